@@ -2,9 +2,11 @@
 #![tactic(auto)]
 
 pub mod kind;
+pub mod listed;
 pub mod row;
 pub mod word;
 
 pub use kind::Kind;
+pub use listed::Listed;
 pub use row::{Memory, Row};
 pub use word::Word;

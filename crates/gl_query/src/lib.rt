@@ -1,0 +1,9 @@
+//! Queries: their syntax trees, what they mean over lists of rows, and which are accepted.
+#![tactic(auto)]
+
+pub mod tree;
+
+pub use tree::{
+    Agg, AggItem, AggItems, Expr, Item, ItemList, Name, Num, Nums, Op, Pick, Query, Statement,
+    TextBytes,
+};
