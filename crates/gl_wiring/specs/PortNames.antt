@@ -1,0 +1,26 @@
+-- The names of the ports of an emitted module, the clock aside, in their order.
+use Rattle.std.specs.Prelude.{ℕ, List, [], ◌∷◌, ◌++◌, map}
+use Rattle.gl_schema.specs.declared.schema.Column.{Column}
+use Rattle.gl_schema.specs.declared.schema.Stream.{Stream}
+use Rattle.gl_schema.specs.declared.schema.Schema.{Schema}
+use Rattle.gl_schema.specs.Ports.{rst, eos, in_valid, in_column, out_valid, out_column, out_eos, fault_group, fault_queue}
+
+-- the columns of a stream
+abbrev pub column_ports : List ℕ → List Column → List (List ℕ)
+column_ports stream [] = []
+column_ports stream (c ∷ cs) = in_column stream c.name ∷ column_ports stream cs
+
+-- a stream: whether a tuple comes, and its columns
+abbrev pub stream_ports : Stream → List (List ℕ)
+stream_ports s = in_valid s.name ∷ column_ports s.name s.columns
+
+abbrev pub streams_ports : List Stream → List (List ℕ)
+streams_ports [] = []
+streams_ports (s ∷ ss) = stream_ports s ++ streams_ports ss
+
+-- the result: whether a row leaves, its columns by their names, the end, and the two fault lines
+abbrev pub result_ports : List (List ℕ) → List (List ℕ)
+result_ports columns = out_valid ∷ (map out_column columns ++ out_eos ∷ fault_group ∷ fault_queue ∷ [])
+
+abbrev pub port_names : Schema → List (List ℕ) → List (List ℕ)
+port_names schema columns = rst ∷ (streams_ports schema.streams ++ eos ∷ result_ports columns)

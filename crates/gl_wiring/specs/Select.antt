@@ -1,0 +1,40 @@
+-- A module whose ports show, one cycle later, what came on some columns of one stream.
+use Rattle.std.specs.Prelude.{◌≡◌, ℕ, suc, List, [], ◌∷◌, Option, Some, None, map, slice_index, slice_get}
+use Rattle.gl_schema.specs.declared.schema.Column.{Column}
+use Rattle.gl_schema.specs.declared.schema.Stream.{Stream}
+use Rattle.gl_schema.specs.declared.schema.Schema.{Schema}
+use Rattle.gl_schema.specs.Ports.{PortValues, eos, in_valid, in_column, out_valid, out_eos, fault_group, fault_queue}
+use Rattle.gl_schema.specs.Seen.{value_at}
+
+-- the words of a row at these places
+abbrev pub picked : List ℕ → List ℕ → List ℕ
+picked places row = map (slice_index row) places
+
+-- the module has the port in every cycle
+abbrev pub HasPort : PortValues → List ℕ → Type 0
+HasPort port name = (t : ℕ) → (v : ℕ) × (port t name ≡ Some v)
+
+-- from simulation cycle 1 on, the second port has in each cycle what the first had in the one before
+abbrev pub Follows : PortValues → List ℕ → List ℕ → Type 0
+Follows port source shown = (t : ℕ) → value_at port (suc (suc t)) shown ≡ value_at port (suc t) source
+
+-- each output follows the column at its place
+abbrev pub ColumnsFollow : PortValues → List ℕ → List Column → List ℕ → List (List ℕ) → Type 0
+ColumnsFollow port stream columns [] [] = Unit {0}
+ColumnsFollow port stream columns [] (o ∷ outs) = ⊥
+ColumnsFollow port stream columns (p ∷ places) [] = ⊥
+ColumnsFollow port stream columns (p ∷ places) (o ∷ outs) =
+    ((c : Column) × (slice_get columns p ≡ Some c) × HasPort port (in_column stream c.name) × Follows port (in_column stream c.name) o)
+    × ColumnsFollow port stream columns places outs
+
+-- valid, the columns and the end follow those of the stream, cleared by reset, and no fault is ever shown
+pub record FollowsStream (s : Stream) (places : List ℕ) (outs : List (List ℕ)) (port : PortValues) : Type 0 where
+  pub has_valid : HasPort port (in_valid s.name)
+  pub has_eos : HasPort port eos
+  pub first_valid : value_at port 1 out_valid ≡ 0
+  pub valid : Follows port (in_valid s.name) out_valid
+  pub first_eos : value_at port 1 out_eos ≡ 0
+  pub end : Follows port eos out_eos
+  pub columns : ColumnsFollow port s.name s.columns places outs
+  pub group : (t : ℕ) → value_at port t fault_group ≡ 0
+  pub queue : (t : ℕ) → value_at port t fault_queue ≡ 0

@@ -1,0 +1,2 @@
+//! From a query to a netlist with the ports of an emitted module.
+#![tactic(auto)]
