@@ -1,0 +1,58 @@
+-- What a part of an emitted netlist adds: ports under these names, and nodes that follow others.
+use Rattle.std.specs.Prelude.{◌≡◌, ℕ, suc, ◌+◌, List, [], ◌∷◌, ◌++◌, Option, Some, None, map, slice_get, find, option_map, bytes_eq}
+use Rattle.gl_bits.specs.Kinds.{width_of}
+use Rattle.gl_schema.specs.declared.schema.Column.{Column}
+use Rattle.gl_schema.specs.Ports.{PortValues, in_column, out_column}
+use Rattle.gl_net.specs.declared.node.Bus.{Bus}
+use Rattle.gl_net.specs.declared.node.Port.{Port}
+use Rattle.gl_net.specs.declared.node.Direction.{Direction}
+use Rattle.gl_net.specs.declared.node.Direction.TheVariants.{In, Out}
+use Rattle.gl_net.specs.Net.{Net, Run, IsRun, IsBus, IsPort, open_at}
+
+-- the names of the ports, in their order
+abbrev pub names_of : Net → List (List ℕ)
+names_of net = map (λ (p : Port). p.name) net.ports
+
+-- the values of the ports by their names
+abbrev pub port_values : Net → Run → PortValues
+port_values net run t name = option_map (λ (p : Port). run.at t p.node) (find (λ (p : Port). bytes_eq p.name name) net.ports)
+
+-- what stays where ports and whole blocks are added
+pub record Extends (old new : Net) : Type 0 where
+  pub runs : (run : Run) → IsRun new run → IsRun old run
+  pub buses : (b : Bus) → IsBus old b → IsBus new b
+  pub undriven : (n : ℕ) → open_at new n ≡ open_at old n
+  pub ports : (direction : Direction) (name : List ℕ) (n : ℕ) → IsPort old direction name n → IsPort new direction name n
+
+-- a bus for each column, which is the input port of the column
+abbrev pub AreInputs : Net → List ℕ → List Column → List Bus → Type 0
+AreInputs net stream [] [] = Unit {0}
+AreInputs net stream [] (b ∷ bs) = ⊥
+AreInputs net stream (c ∷ cs) [] = ⊥
+AreInputs net stream (c ∷ cs) (b ∷ bs) = (IsPort net In (in_column stream c.name) b.node × IsBus net b) × AreInputs net stream cs bs
+
+-- an output port of this name has from cycle 2 on what the node had a cycle earlier
+pub record IsDelayed (net : Net) (name : List ℕ) (source : ℕ) : Type 0 where
+  pub node : ℕ
+  pub port : IsPort net Out name node
+  pub later : (run : Run) → IsRun net run → (t : ℕ) → run.at (suc (suc t)) node ≡ run.at (suc t) source
+
+-- and 0 in cycle 1
+pub record IsDelayedBit (net : Net) (name : List ℕ) (source : ℕ) : Type 0 where
+  pub node : ℕ
+  pub port : IsPort net Out name node
+  pub first : (run : Run) → IsRun net run → run.at 1 node ≡ 0
+  pub later : (run : Run) → IsRun net run → (t : ℕ) → run.at (suc (suc t)) node ≡ run.at (suc t) source
+
+-- an output port of this name that is 0 in every cycle
+pub record IsZero (net : Net) (name : List ℕ) : Type 0 where
+  pub node : ℕ
+  pub port : IsPort net Out name node
+  pub zero : (run : Run) → IsRun net run → (t : ℕ) → run.at t node ≡ 0
+
+-- for each place, under its name, the bus at that place a cycle later
+abbrev pub AreDelayed : Net → List Bus → List ℕ → List (List ℕ) → Type 0
+AreDelayed net buses [] [] = Unit {0}
+AreDelayed net buses [] (n ∷ names) = ⊥
+AreDelayed net buses (p ∷ places) [] = ⊥
+AreDelayed net buses (p ∷ places) (n ∷ names) = ((b : Bus) × (slice_get buses p ≡ Some b) × IsDelayed net (out_column n) b.node) × AreDelayed net buses places names

@@ -1,0 +1,157 @@
+//! Parts of an emitted netlist: its ports, and what stands right behind them.
+
+ghost use Rattle.std.specs.Prelude.{◌≡◌, ℕ, suc, ◌+◌, ◌≤◌, ◌<◌, ◌++◌, ◌∷◌, [], OnOk, IfOk, All, slice_get, drop, Some};
+ghost use Rattle.std.specs.List.{AllByRecursion};
+ghost use Rattle.gl_bits.specs.Words.{IsWidth};
+ghost use Rattle.gl_schema.specs.Schemas.{IsColumn, IsStream};
+ghost use Rattle.gl_schema.specs.Ports.{in_valid, out_column};
+ghost use Rattle.gl_net.specs.Net.{Run, IsRun, IsBus, IsPort};
+ghost use Rattle.gl_net.specs.declared.node.Direction.{Direction};
+ghost use Rattle.gl_wiring.specs.PortNames.{column_ports, stream_ports, streams_ports};
+ghost use Rattle.gl_wiring.specs.Emitted.{names_of, Extends, AreInputs, IsDelayed, IsDelayedBit, IsZero, AreDelayed};
+
+use crate::names::{in_column_name, in_valid_name, out_column_name};
+use gl_bits::{Memory, Word};
+use gl_net::{Bus, Buses, NetBuilder};
+use gl_schema::{NameText, Stream};
+use std::alloc::Global;
+
+/// The input ports of a stream.
+#[derive(Drop, Debug)]
+pub struct Source {
+    pub valid: Bus,
+    pub columns: Buses,
+}
+
+/// An input port.
+pub(crate) fn put_input(net: &mut NetBuilder, name: &[u8], width: u8) -> Result<Bus, Memory>
+    requires { IsWidth width }
+    ensures extends { OnOk result (Extends net.old net.new) }
+    ensures names { OnOk result (names_of net.new ≡ names_of net.old ++ name.now ∷ []) }
+    ensures port { IfOk result (λ b. IsPort net.new Direction.In name.now b.node) }
+    ensures bus { IfOk result (λ b. IsBus net.new b) }
+    ensures width { IfOk result (λ b. b.width ≡ width) }
+{
+    let bus = net.input(name, width)?;
+    Ok(bus)
+}
+
+/// An output port that shows a bus.
+pub(crate) fn put_output(net: &mut NetBuilder, name: &[u8], value: Bus) -> Result<(), Memory>
+    requires { IsBus net.old value }
+    ensures extends { OnOk result (Extends net.old net.new) }
+    ensures names { OnOk result (names_of net.new ≡ names_of net.old ++ name.now ∷ []) }
+    ensures port { OnOk result (IsPort net.new Direction.Out name.now value.node) }
+{
+    net.output(name, value)?;
+    Ok(())
+}
+
+/// A register that has in each cycle what the bus had in the one before.
+fn later(net: &mut NetBuilder, source: Bus) -> Result<Bus, Memory>
+    requires { IsBus net.old source }
+    ensures extends { OnOk result (Extends net.old net.new) }
+    ensures names { OnOk result (names_of net.new ≡ names_of net.old) }
+    ensures bus { IfOk result (λ b. IsBus net.new b) }
+    ensures later { IfOk result (λ b. (run : Run) → IsRun net.new run → (t : ℕ) → run.at (suc (suc t)) b.node ≡ run.at (suc t) source.node) }
+{
+    let register = net.register(source.width, None)?;
+    net.drive(register, source)?;
+    Ok(register)
+}
+
+/// The same for one bit, which reset clears.
+fn later_bit(net: &mut NetBuilder, source: Bus) -> Result<Bus, Memory>
+    requires bus { IsBus net.old source }
+    requires bit { source.width ≡ 1 }
+    ensures extends { OnOk result (Extends net.old net.new) }
+    ensures names { OnOk result (names_of net.new ≡ names_of net.old) }
+    ensures bus { IfOk result (λ b. IsBus net.new b) }
+    ensures first { IfOk result (λ b. (run : Run) → IsRun net.new run → run.at 1 b.node ≡ 0) }
+    ensures later { IfOk result (λ b. (run : Run) → IsRun net.new run → (t : ℕ) → run.at (suc (suc t)) b.node ≡ run.at (suc t) source.node) }
+{
+    let clear = Word::new(0, 1).unwrap();
+    let register = net.register(1, Some(clear))?;
+    net.drive(register, source)?;
+    Ok(register)
+}
+
+/// An output port that shows a bus one cycle later.
+pub(crate) fn put_later(net: &mut NetBuilder, name: &[u8], source: Bus) -> Result<(), Memory>
+    requires { IsBus net.old source }
+    ensures extends { OnOk result (Extends net.old net.new) }
+    ensures names { OnOk result (names_of net.new ≡ names_of net.old ++ name.now ∷ []) }
+    ensures delayed { OnOk result (IsDelayed net.new name.now source.node) }
+{
+    let bus = later(net, source)?;
+    put_output(net, name, bus)?;
+    Ok(())
+}
+
+/// An output port that shows a bit one cycle later, and 0 right after reset.
+pub(crate) fn put_later_bit(net: &mut NetBuilder, name: &[u8], source: Bus) -> Result<(), Memory>
+    requires bus { IsBus net.old source }
+    requires bit { source.width ≡ 1 }
+    ensures extends { OnOk result (Extends net.old net.new) }
+    ensures names { OnOk result (names_of net.new ≡ names_of net.old ++ name.now ∷ []) }
+    ensures delayed { OnOk result (IsDelayedBit net.new name.now source.node) }
+{
+    let bus = later_bit(net, source)?;
+    put_output(net, name, bus)?;
+    Ok(())
+}
+
+/// An output port that is 0.
+pub(crate) fn put_zero(net: &mut NetBuilder, name: &[u8]) -> Result<(), Memory>
+    ensures extends { OnOk result (Extends net.old net.new) }
+    ensures names { OnOk result (names_of net.new ≡ names_of net.old ++ name.now ∷ []) }
+    ensures zero { OnOk result (IsZero net.new name.now) }
+{
+    let zero = net.constant(Word::new(0, 1).unwrap())?;
+    put_output(net, name, zero)?;
+    Ok(())
+}
+
+/// The input ports of the columns of a stream.
+fn put_columns(alloc: Global, net: &mut NetBuilder, stream: &Stream) -> Result<Buses, Memory>
+    requires { AllByRecursion IsColumn stream.now.columns }
+    ensures extends { OnOk result (Extends net.old net.new) }
+    ensures names { OnOk result (names_of net.new ≡ names_of net.old ++ column_ports stream.now.name stream.now.columns) }
+    ensures inputs { IfOk result (λ bs. AreInputs net.new stream.now.name stream.now.columns bs) }
+{
+    let mut buses = Buses::new(alloc);
+    for column in stream.columns.as_slice() {
+        let name = in_column_name(alloc, stream.name.as_slice(), column.name.as_slice())?;
+        let bus = put_input(net, &name, column.kind.width())?;
+        buses.push(bus)?;
+    }
+    Ok(buses)
+}
+
+/// The input ports of a stream.
+pub(crate) fn put_stream(alloc: Global, net: &mut NetBuilder, stream: &Stream) -> Result<Source, Memory>
+    requires { IsStream stream.now }
+    ensures extends { OnOk result (Extends net.old net.new) }
+    ensures names { OnOk result (names_of net.new ≡ names_of net.old ++ stream_ports stream.now) }
+    ensures port { IfOk result (λ s. IsPort net.new Direction.In (in_valid stream.now.name) s.valid.node) }
+    ensures bus { IfOk result (λ s. IsBus net.new s.valid) }
+    ensures bit { IfOk result (λ s. s.valid.width ≡ 1) }
+    ensures inputs { IfOk result (λ s. AreInputs net.new stream.now.name stream.now.columns s.columns) }
+{
+    let name = in_valid_name(alloc, stream.name.as_slice())?;
+    let valid = put_input(net, &name, 1)?;
+    let columns = put_columns(alloc, net, stream)?;
+    Ok(Source { valid, columns })
+}
+
+/// The input ports of streams, one after the other.
+pub(crate) fn put_streams(alloc: Global, net: &mut NetBuilder, streams: &[Stream]) -> Result<(), Memory>
+    requires { AllByRecursion IsStream streams.now }
+    ensures extends { OnOk result (Extends net.old net.new) }
+    ensures names { OnOk result (names_of net.new ≡ names_of net.old ++ streams_ports streams.now) }
+{
+    for stream in streams {
+        put_stream(alloc, net, stream)?;
+    }
+    Ok(())
+}

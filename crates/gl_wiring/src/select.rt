@@ -1,0 +1,1 @@
+//! The netlist of a select of columns of one stream.
