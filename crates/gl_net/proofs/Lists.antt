@@ -1,0 +1,46 @@
+-- Elements of a list that grows at its end, and of one in which an element is replaced.
+use Rattle.std.proofs.Common.{◌≡◌, ℕ, zero, suc, List, [], ◌∷◌, ◌++◌, length, Option, Some, None, refl, ap, inl, inr, ◌⊎◌, arith}
+use Rattle.std.specs.Prelude.{slice_get, slice_set}
+use Rattle.std.proofs.lemmas.Bool.{cases_lt}
+
+pub nat_dec : (a b : ℕ) → (a ≡ b) ⊎ (a ≡ b → ⊥)
+nat_dec a b = elim (cases_lt a b) [
+    inl h ↦ inr (λ e. omega arith)
+  | inr h ↦ elim (cases_lt b a) [ inl h' ↦ inr (λ e. omega arith) | inr h' ↦ inl (omega arith) ] ]
+
+pub get_push_old : {A : Type 0} (xs : List A) (y : A) (n : ℕ) (x : A) → slice_get xs n ≡ Some x → slice_get (xs ++ y ∷ []) n ≡ Some x
+get_push_old [] y n x h = cc
+get_push_old (z ∷ xs) y zero x h = h
+get_push_old (z ∷ xs) y (suc n) x h = get_push_old xs y n x h
+
+pub get_push_new : {A : Type 0} (xs : List A) (y : A) → slice_get (xs ++ y ∷ []) (length xs) ≡ Some y
+get_push_new [] y = refl
+get_push_new (z ∷ xs) y = get_push_new xs y
+
+pub get_push_other : {A : Type 0} (xs : List A) (y : A) (n : ℕ) → (n ≡ length xs → ⊥) → slice_get (xs ++ y ∷ []) n ≡ slice_get xs n
+get_push_other [] y zero h = absurd (h refl)
+get_push_other [] y (suc n) h = refl
+get_push_other (z ∷ xs) y zero h = refl
+get_push_other (z ∷ xs) y (suc n) h = get_push_other xs y n (λ e. h (ap suc e))
+
+pub get_push_cases : {A : Type 0} (xs : List A) (y : A) (n : ℕ) (x : A) → slice_get (xs ++ y ∷ []) n ≡ Some x → (slice_get xs n ≡ Some x) ⊎ ((n ≡ length xs) × (y ≡ x))
+get_push_cases [] y zero x h = inr (refl, cc)
+get_push_cases [] y (suc n) x h = absurd (cc)
+get_push_cases (z ∷ xs) y zero x h = inl h
+get_push_cases (z ∷ xs) y (suc n) x h = elim (get_push_cases xs y n x h) [ inl p ↦ inl p | inr p ↦ inr (ap suc p.0, p.1) ]
+
+pub get_past : {A : Type 0} (xs : List A) → slice_get xs (length xs) ≡ None
+get_past [] = refl
+get_past (z ∷ xs) = get_past xs
+
+pub get_set_same : {A : Type 0} (xs : List A) (n : ℕ) (x y : A) → slice_get xs n ≡ Some x → slice_get (slice_set xs n y) n ≡ Some y
+get_set_same [] n x y h = cc
+get_set_same (z ∷ xs) zero x y h = refl
+get_set_same (z ∷ xs) (suc n) x y h = get_set_same xs n x y h
+
+pub get_set_other : {A : Type 0} (xs : List A) (n k : ℕ) (y : A) → (n ≡ k → ⊥) → slice_get (slice_set xs n y) k ≡ slice_get xs k
+get_set_other [] n k y h = refl
+get_set_other (z ∷ xs) zero zero y h = absurd (h refl)
+get_set_other (z ∷ xs) zero (suc k) y h = refl
+get_set_other (z ∷ xs) (suc n) zero y h = refl
+get_set_other (z ∷ xs) (suc n) (suc k) y h = get_set_other xs n k y (λ e. h (ap suc e))
