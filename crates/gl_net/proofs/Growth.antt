@@ -1,9 +1,8 @@
 -- A netlist whose nodes and ports are all in another one with the same numbers.
-use Rattle.std.proofs.Common.{◌≡◌, ℕ, zero, suc, ◌+◌, ◌<◌, ◌≤◌, List, [], ◌∷◌, ◌++◌, length, Option, Some, None, Bool, true, false, refl, sym, ap, ◌∙◌, subst, inl, inr, ◌⊎◌, arith, zero-add}
+use Rattle.std.proofs.Common.{◌≡◌, ℕ, zero, suc, ◌+◌, ◌<◌, ◌≤◌, List, [], ◌∷◌, ◌++◌, length, Option, Some, None, Bool, true, false, refl, sym, ap, ◌∙◌, subst, inl, inr, ◌⊎◌, arith}
 use Rattle.std.specs.Prelude.{slice_get, slice_set, option_and_then, IfSome, count_by, if◌then◌else◌}
 use Rattle.std.specs.Option.{option_map}
 use Rattle.std.proofs.lemmas.Option.{slice_get_within}
-use Rattle.std.proofs.lemmas.List.Sums.{sum_by-append}
 use Rattle.gl_bits.specs.Words.{Word, IsWidth, IsWord}
 use Rattle.gl_net.specs.declared.node.BinaryOp.{BinaryOp}
 use Rattle.gl_net.specs.declared.node.BinaryOp.TheVariants.{Add, Sub, Mul, And, Xor, Or, Eq, Ne, Lt, Le}
@@ -19,7 +18,7 @@ use Rattle.gl_net.specs.declared.node.Direction.TheVariants.{In, Out}
 use Rattle.gl_net.specs.Net.{Net, Run, Shape, Value, Words, shape_of, shape_in, open_in, open_at, open_shape, Holds, Fits, IsTrace, IsReset, IsRun, IsBus, IsBit, IsStore, IsPort, Grows, Keeps, is_inner, size_of, reset_name, binary_width}
 use Rattle.gl_net.specs.WellFormed.{IsOperand, IsBitOperand, IsStoreOperand, IsDrive, end_at, NodeFits, EndFits, IsWellFormed}
 use Rattle.gl_net.specs.Steps.{Adds, AddsPort, AddsInput}
-use Rattle.gl_net.proofs.Lists.{nat_dec, get_push_old, get_push_new, get_push_other, get_push_cases, get_past}
+use Rattle.gl_net.proofs.Lists.{nat_dec, get_push_old, get_push_new, get_push_other, get_push_cases, get_past, count_by-push}
 
 -- the node behind a shape
 pub shape_there : (o : Option Node) (s : Shape) → option_map shape_of o ≡ Some s → (x : Node) × (o ≡ Some x) × (shape_of x ≡ s)
@@ -38,7 +37,7 @@ module _ (old new : Net) (shapes : (n : ℕ) (s : Shape) → shape_in old.nodes 
   kept_operand : (n : ℕ) (b : Bus) → IsOperand old n b → IsOperand new n b
   kept_operand n b i = record { before = i.before; bus = kept_bus b i.bus }
 
-  kept_drive : (bits w : ℕ) (d : MemoryDrive) → IsDrive old bits w d → IsDrive new bits w d
+  pub kept_drive : (bits w : ℕ) (d : MemoryDrive) → IsDrive old bits w d → IsDrive new bits w d
   kept_drive bits w d i = record {
       write = kept_bus _ i.write; address = kept_bus _ i.address; address_width = i.address_width;
       value = kept_bus _ i.value; value_width = i.value_width }
@@ -121,12 +120,12 @@ operand_of net b i = record { before = bus_before net b i; bus = i }
 pub store_operand_of : (net : Net) (s : Store) → IsStore net s → IsStoreOperand net (length net.nodes) s
 store_operand_of net s i = record { before = store_before net s i; store = i }
 
-count_by-push : {A : Type 0} (p : A → Bool) (xs : List A) (x : A) → count_by p (xs ++ x ∷ []) ≡ count_by p xs + (if p x then 1 else 0)
-count_by-push p xs x = sum_by-append (λ z. if p z then 1 else 0) xs (x ∷ []) ∙ ap (λ k. count_by p xs + k) (zero-add (if p x then 1 else 0))
-
 -- nothing more
 pub same_keeps : (net : Net) → Keeps net net
 same_keeps net = record { runs = λ run r. r; buses = λ b i. i; stores = λ s i. i; undriven = λ n. refl; ports = refl; name = refl }
+
+pub same_grows : (net : Net) → Grows net net
+same_grows net = record { runs = λ run r. r; buses = λ b i. i; stores = λ s i. i }
 
 -- one node more
 module _ (old new : Net) (x : Node) (n : ℕ) (adds : Adds old new x n) where
@@ -209,3 +208,11 @@ binary_is_width Eq w h = record { some' = omega arith; most = omega arith }
 binary_is_width Ne w h = record { some' = omega arith; most = omega arith }
 binary_is_width Lt w h = record { some' = omega arith; most = omega arith }
 binary_is_width Le w h = record { some' = omega arith; most = omega arith }
+
+-- a register with a reset value holds it in cycle 1 of a run
+pub start_value : (old new : Net) (w n : ℕ) (value : Option ℕ) (reset : Option Word) → Adds old new (Register w value None) n
+    → value ≡ option_map (λ word. word.bits) reset → IfSome reset (λ word. (run : Run) → IsRun new run → run.at 1 n ≡ word.bits)
+start_value old new w n value None adds e = tt
+start_value old new w n value (Some word) adds e = λ run r.
+    let h : Holds run n (Register w (Some word.bits) None) = subst (λ v. Holds run n (Register w v None)) e (adds_holds old new _ n adds run r) in
+    h 0 r.reset.first

@@ -1,6 +1,7 @@
 //! The builder of netlists.
 
-ghost use Rattle.std.specs.Prelude.{◌≡◌, ◌≢◌, ℕ, suc, ◌+◌, ◌-◌, ◌<◌, ◌≤◌, List, [], ◌∷◌, ◌++◌, length, slice_get, slice_set, Option, Some, None, true, false, IfSome, MatchOption, IfOk, OnOk, OnErr, IsSome, if◌then◌else◌};
+ghost use Rattle.std.specs.Prelude.{◌≡◌, ◌≢◌, ℕ, suc, ◌+◌, ◌-◌, ◌^◌, ◌<◌, ◌≤◌, List, [], ◌∷◌, ◌++◌, length, slice_get, slice_set, Option, Some, None, true, false, IfSome, MatchOption, IfOk, OnOk, OnErr, IsSome, if◌then◌else◌};
+ghost use Rattle.std.specs.Option.{option_map};
 ghost use Rattle.gl_bits.specs.Words.{Word, IsWidth, not_of, join_of, cut_of, choose_of};
 ghost use Rattle.gl_net.specs.declared.node.Bus.{Bus};
 ghost use Rattle.gl_net.specs.declared.node.Node.{Node};
@@ -195,5 +196,154 @@ impl NetBuilder {
     {
         let bus = self.add(Node::MemoryRead(store, address), store.width)?;
         Ok(bus)
+    }
+
+    /// A register, which is driven later. With a reset word it takes that at the edge of each cycle in which the reset line is
+    /// 1. What it holds in cycle 0 is not known.
+    #[tactic(auto, using(crate::proofs::Growth::same_grows))]
+    pub fn register(&mut self, width: u8, reset: Option<Word>) -> Result<Bus, Memory>
+        requires width { IsWidth width }
+        requires reset { IfSome reset (λ word. word.width ≡ width) }
+        ensures grows { Grows self.old self.new }
+        ensures ports { self.new.ports ≡ self.old.ports }
+        ensures name { self.new.name ≡ self.old.name }
+        ensures others { IfOk result (λ b. (n : ℕ) → n ≢ b.node → open_at self.new n ≡ open_at self.old n) }
+        ensures undriven { IfOk result (λ b. open_at self.new b.node ≡ Some (Value width)) }
+        ensures fresh { IfOk result (λ b. open_at self.old b.node ≡ None) }
+        ensures bus { IfOk result (λ b. IsBus self.new b) }
+        ensures width { IfOk result (λ b. b.width ≡ width) }
+        ensures size { OnOk result (size_of self.new ≡ size_of self.old + 1) }
+        ensures node { IfOk result (λ b. slice_get self.new.nodes b.node ≡ Some (Node.Register width (option_map (λ word. word.bits) reset) None)) }
+        ensures start { IfOk result (λ b. IfSome reset (λ word. (run : Run) → IsRun self.new run → run.at 1 b.node ≡ word.bits)) }
+        ensures err { OnErr result (self.new ≡ self.old) }
+    {
+        let value = reset_value(reset, width);
+        let node = self.push(Node::Register(width, value, None))?;
+        Ok(Bus { node, width })
+    }
+
+    /// Drives a register: at the edge of each cycle it takes what the bus carries, where it is not reset.
+    pub fn drive(&mut self, register: Bus, next: Bus) -> Result<(), Memory>
+        requires undriven { open_at self.old register.node ≡ Some (Value register.width) }
+        requires next { IsBus self.old next }
+        requires widths { next.width ≡ register.width }
+        ensures grows { Grows self.old self.new }
+        ensures ports { self.new.ports ≡ self.old.ports }
+        ensures name { self.new.name ≡ self.old.name }
+        ensures others { (n : ℕ) → n ≢ register.node → open_at self.new n ≡ open_at self.old n }
+        ensures driven { OnOk result (open_at self.new register.node ≡ None) }
+        ensures size { size_of self.new ≡ size_of self.old }
+        ensures value { OnOk result ((run : Run) → IsRun self.new run → (t : ℕ) → run.at (suc (suc t)) register.node ≡ run.at (suc t) next.node) }
+        ensures free { OnOk result (slice_get self.old.nodes register.node ≡ Some (Node.Register register.width None None) → (run : Run) → IsRun self.new run → (t : ℕ) → run.at (suc t) register.node ≡ run.at t next.node) }
+        ensures err { OnErr result (self.new ≡ self.old) }
+    {
+        self.set_next(register, next);
+        Ok(())
+    }
+
+    // The register's node with its drive.
+    #[tactic(auto, unfolding(crate::specs::Net::open_in))]
+    fn set_next(&mut self, register: Bus, next: Bus)
+        requires undriven { open_at self.old register.node ≡ Some (Value register.width) }
+        requires next { IsBus self.old next }
+        requires widths { next.width ≡ register.width }
+        ensures { Drives self.old self.new register next }
+    {
+        write_next(&mut self.nodes, register.node, next);
+    }
+
+    /// A memory of `2 ^ address_bits` words, which is driven later. What its words are in cycle 0 is not known.
+    #[tactic(auto, using(crate::proofs::Growth::same_grows))]
+    pub fn memory(&mut self, address_bits: u8, width: u8) -> Result<Store, Memory>
+        requires bits { IsAddressWidth address_bits }
+        requires width { IsWidth width }
+        ensures grows { Grows self.old self.new }
+        ensures ports { self.new.ports ≡ self.old.ports }
+        ensures name { self.new.name ≡ self.old.name }
+        ensures others { IfOk result (λ s. (n : ℕ) → n ≢ s.node → open_at self.new n ≡ open_at self.old n) }
+        ensures undriven { IfOk result (λ s. open_at self.new s.node ≡ Some (Words address_bits width)) }
+        ensures fresh { IfOk result (λ s. open_at self.old s.node ≡ None) }
+        ensures store { IfOk result (λ s. IsStore self.new s) }
+        ensures bits { IfOk result (λ s. s.address_bits ≡ address_bits) }
+        ensures width { IfOk result (λ s. s.width ≡ width) }
+        ensures size { OnOk result (size_of self.new ≡ size_of self.old + 1) }
+        ensures err { OnErr result (self.new ≡ self.old) }
+    {
+        let node = self.push(Node::Memory(address_bits, width, None))?;
+        Ok(Store {
+            node,
+            address_bits,
+            width,
+        })
+    }
+
+    /// Drives a memory: it takes the value at the address, at the edge of each cycle in which the bit is 1.
+    pub fn drive_memory(&mut self, store: Store, write: Bit, address: Bus, value: Bus) -> Result<(), Memory>
+        requires undriven { open_at self.old store.node ≡ Some (Words store.address_bits store.width) }
+        requires write { IsBit self.old write }
+        requires address { IsBus self.old address }
+        requires address_width { address.width ≡ store.address_bits }
+        requires value { IsBus self.old value }
+        requires value_width { value.width ≡ store.width }
+        ensures grows { Grows self.old self.new }
+        ensures ports { self.new.ports ≡ self.old.ports }
+        ensures name { self.new.name ≡ self.old.name }
+        ensures others { (n : ℕ) → n ≢ store.node → open_at self.new n ≡ open_at self.old n }
+        ensures driven { OnOk result (open_at self.new store.node ≡ None) }
+        ensures size { size_of self.new ≡ size_of self.old }
+        ensures value { OnOk result ((run : Run) → IsRun self.new run → (t k : ℕ) → run.word (suc t) store.node k ≡ stored_of (run.at t write.node) (run.at t address.node) (run.at t value.node) k (run.word t store.node k)) }
+        ensures err { OnErr result (self.new ≡ self.old) }
+    {
+        self.set_drive(
+            store,
+            MemoryDrive {
+                write,
+                address,
+                value,
+            },
+        );
+        Ok(())
+    }
+
+    // The memory's node with its drive.
+    #[tactic(auto, unfolding(crate::specs::Net::open_in))]
+    fn set_drive(&mut self, store: Store, drive: MemoryDrive)
+        requires undriven { open_at self.old store.node ≡ Some (Words store.address_bits store.width) }
+        requires drive { IsDrive self.old store.address_bits store.width drive }
+        ensures { DrivesMemory self.old self.new store drive }
+    {
+        write_drive(&mut self.nodes, store.node, drive);
+    }
+}
+
+// The number of a reset word.
+fn reset_value(reset: Option<Word>, width: u8) -> Option<u128>
+    requires { IfSome reset (λ word. word.width ≡ width) }
+    ensures value { result ≡ option_map (λ word. word.bits) reset }
+    ensures fits { IfSome result (λ value. value < 2 ^ width) }
+{
+    match reset {
+        Some(word) => Some(word.bits()),
+        None => None,
+    }
+}
+
+// The register with its drive in place of the one without.
+fn write_next(nodes: &mut Vec<Node>, at: usize, next: Bus)
+    requires { (w : ℕ) × (reset : Option ℕ) × (slice_get nodes.old.items at ≡ Some (Node.Register w reset None)) }
+    ensures { (w : ℕ) (reset : Option ℕ) → slice_get nodes.old.items at ≡ Some (Node.Register w reset None) → nodes.new.items ≡ slice_set nodes.old.items at (Node.Register w reset (Some next)) }
+{
+    if let Node::Register(width, reset, None) = nodes[at] {
+        nodes[at] = Node::Register(width, reset, Some(next));
+    }
+}
+
+// The memory with its drive in place of the one without.
+fn write_drive(nodes: &mut Vec<Node>, at: usize, drive: MemoryDrive)
+    requires { (a : ℕ) × (w : ℕ) × (slice_get nodes.old.items at ≡ Some (Node.Memory a w None)) }
+    ensures { (a w : ℕ) → slice_get nodes.old.items at ≡ Some (Node.Memory a w None) → nodes.new.items ≡ slice_set nodes.old.items at (Node.Memory a w (Some drive)) }
+{
+    if let Node::Memory(address_bits, width, None) = nodes[at] {
+        nodes[at] = Node::Memory(address_bits, width, Some(drive));
     }
 }
