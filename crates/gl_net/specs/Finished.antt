@@ -7,6 +7,7 @@ use Rattle.gl_net.specs.declared.node.Bus.{Bus}
 use Rattle.gl_net.specs.declared.node.Port.{Port}
 use Rattle.gl_net.specs.declared.node.Direction.TheVariants.{In}
 use Rattle.gl_net.specs.Net.{Net, Shape, Value, shape_in, open_at, IsPort, reset_name}
+use Rattle.gl_net.specs.WellFormed.{IsWellFormed}
 
 -- A to Z, a to z and _
 abbrev pub is_letter : ℕ → Bool
@@ -44,3 +45,8 @@ pub record IsFinished (net : Net) : Type 0 where
   pub no_clock : (place : ℕ) (p : Port) → slice_get net.ports place ≡ Some p → p.name ≢ clock_name
   pub distinct : (i j : ℕ) (p q : Port) → slice_get net.ports i ≡ Some p → slice_get net.ports j ≡ Some q → p.name ≡ q.name → i ≡ j
   pub reset : (n w value : ℕ) (next : Option Bus) → slice_get net.nodes n ≡ Some (Register w (Some value) next) → HasReset net
+
+-- a finished netlist
+pub record IsNetlist (net : Net) : Type 0 where
+  pub formed : IsWellFormed net
+  pub finished : IsFinished net

@@ -29,6 +29,12 @@ pub record AddsInput (old new : Net) (called : List ℕ) (w n : ℕ) : Type 0 wh
   pub ports : new.ports ≡ old.ports ++ record { direction = In; name = called; node = n } ∷ []
   pub name : new.name ≡ old.name
 
+-- the module's name
+pub record Names (old new : Net) (called : List ℕ) : Type 0 where
+  pub nodes : new.nodes ≡ old.nodes
+  pub ports : new.ports ≡ old.ports
+  pub name : new.name ≡ Some called
+
 -- the register with what drives it, in the place of the one without
 pub record Drives (old new : Net) (register next : Bus) : Type 0 where
   pub reset : Option ℕ

@@ -11,8 +11,10 @@ ghost use Rattle.gl_net.specs.declared.node.Port.{Port};
 ghost use Rattle.gl_net.specs.declared.node.Direction.TheVariants.{In, Out};
 ghost use Rattle.gl_net.specs.Net.{Net, Run, IsRun, IsBus, IsBit, IsStore, IsAddressWidth, Grows, Keeps, Value, Words, Holds, shape_of, open_shape, open_at, size_of, is_inner, binary_of, binary_width, stored_of};
 ghost use Rattle.gl_net.specs.WellFormed.{NodeFits, IsDrive};
-ghost use Rattle.gl_net.specs.Steps.{Adds, AddsPort, AddsInput, Drives, DrivesMemory};
+ghost use Rattle.gl_net.specs.Steps.{Adds, AddsPort, AddsInput, Names, Drives, DrivesMemory};
+ghost use Rattle.gl_net.specs.Finished.{IsFinished};
 
+use crate::netlist::{NetFault, Netlist};
 use crate::node::{BinaryOp, Bit, Bus, Direction, MemoryDrive, Node, Port, Store};
 use gl_bits::{Listed, Memory, Word};
 use std::alloc::Global;
@@ -49,6 +51,118 @@ impl NetBuilder {
             nodes: Vec::new(alloc),
             ports: Vec::new(alloc),
             name: None,
+        }
+    }
+
+    /// The number of nodes.
+    pub fn len(&self) -> usize
+        ensures { result ≡ length self.now.nodes }
+    {
+        self.nodes.len()
+    }
+
+    /// An input port of the module, and the node that carries its value.
+    #[tactic(auto, using(crate::proofs::Growth::same_grows))]
+    pub fn input(&mut self, name: &[u8], width: u8) -> Result<Bus, Memory>
+        requires { IsWidth width }
+        ensures grows { Grows self.old self.new }
+        ensures ports { IfOk result (λ b. self.new.ports ≡ self.old.ports ++ record { direction = In; name = name.now; node = b.node } ∷ []) }
+        ensures module_name { self.new.name ≡ self.old.name }
+        ensures undriven { (n : ℕ) → open_at self.new n ≡ open_at self.old n }
+        ensures bus { IfOk result (λ b. IsBus self.new b) }
+        ensures width { IfOk result (λ b. b.width ≡ width) }
+        ensures size { size_of self.new ≡ size_of self.old }
+        ensures err { OnErr result (self.new ≡ self.old) }
+    {
+        let name = copied(self.alloc, name)?;
+        let node = self.push_input(name, width)?;
+        Ok(Bus { node, width })
+    }
+
+    // The port at the end of the ports, and its node at the end of the nodes.
+    fn push_input(&mut self, name: Listed<u8>, width: u8) -> Result<usize, Memory>
+        requires { IsWidth width }
+        ensures ok { IfOk result (λ n. AddsInput self.old self.new name width n) }
+        ensures err { OnErr result (self.new ≡ self.old) }
+    {
+        let node = self.nodes.len();
+        let port = Port {
+            direction: Direction::In,
+            name,
+            node,
+        };
+        push_both(&mut self.nodes, &mut self.ports, port, width)?;
+        Ok(node)
+    }
+
+    /// Makes a node an output port of the module.
+    #[tactic(auto, using(crate::proofs::Growth::same_grows))]
+    pub fn output(&mut self, name: &[u8], value: Bus) -> Result<(), Memory>
+        requires { IsBus self.old value }
+        ensures grows { Grows self.old self.new }
+        ensures nodes { self.new.nodes ≡ self.old.nodes }
+        ensures ports { OnOk result (self.new.ports ≡ self.old.ports ++ record { direction = Out; name = name.now; node = value.node } ∷ []) }
+        ensures module_name { self.new.name ≡ self.old.name }
+        ensures undriven { (n : ℕ) → open_at self.new n ≡ open_at self.old n }
+        ensures size { size_of self.new ≡ size_of self.old }
+        ensures err { OnErr result (self.new ≡ self.old) }
+    {
+        let name = copied(self.alloc, name)?;
+        self.push_output(name, value)?;
+        Ok(())
+    }
+
+    // The port at the end of the ports.
+    fn push_output(&mut self, name: Listed<u8>, value: Bus) -> Result<(), Memory>
+        requires { IsBus self.old value }
+        ensures ok { OnOk result (AddsPort self.old self.new Out name value.node) }
+        ensures err { OnErr result (self.new ≡ self.old) }
+    {
+        let port = Port {
+            direction: Direction::Out,
+            name,
+            node: value.node,
+        };
+        push_port(&mut self.ports, port)?;
+        Ok(())
+    }
+
+    /// Gives the module its name.
+    #[tactic(auto, using(crate::proofs::Growth::same_grows))]
+    pub fn module(&mut self, name: &[u8]) -> Result<(), Memory>
+        ensures grows { Grows self.old self.new }
+        ensures nodes { self.new.nodes ≡ self.old.nodes }
+        ensures ports { self.new.ports ≡ self.old.ports }
+        ensures module_name { OnOk result (self.new.name ≡ Some name.now) }
+        ensures undriven { (n : ℕ) → open_at self.new n ≡ open_at self.old n }
+        ensures size { size_of self.new ≡ size_of self.old }
+        ensures err { OnErr result (self.new ≡ self.old) }
+    {
+        let name = copied(self.alloc, name)?;
+        self.set_name(name);
+        Ok(())
+    }
+
+    fn set_name(&mut self, name: Listed<u8>)
+        ensures { Names self.old self.new name }
+    {
+        self.name = Some(name);
+    }
+
+    /// The finished netlist, with the same nodes, ports and names.
+    pub fn finish(self) -> Result<Netlist, NetFault>
+        requires { IsFinished self }
+        ensures { IfOk result (λ netlist. netlist ≡ self) }
+    {
+        let NetBuilder {
+            alloc: _,
+            nodes,
+            ports,
+            name,
+        } = self;
+        match name {
+            Some(name) => Ok(Netlist { nodes, ports, name }),
+            None => unreachable!(),
         }
     }
 
@@ -345,5 +459,44 @@ fn write_drive(nodes: &mut Vec<Node>, at: usize, drive: MemoryDrive)
 {
     if let Node::Memory(address_bits, width, None) = nodes[at] {
         nodes[at] = Node::Memory(address_bits, width, Some(drive));
+    }
+}
+
+// A copy of a name.
+fn copied(alloc: Global, name: &[u8]) -> Result<Listed<u8>, Memory>
+    ensures { IfOk result (λ copy. copy ≡ name.now) }
+{
+    match Vec::from_slice(alloc, name) {
+        Ok(bytes) => Ok(Listed::from_vec(bytes)),
+        Err(_) => Err(Memory),
+    }
+}
+
+// The port at the end of the list.
+fn push_port(ports: &mut Vec<Port>, port: Port) -> Result<(), Memory>
+    ensures ok { OnOk result (ports.new.items ≡ ports.old.items ++ port ∷ []) }
+    ensures err { OnErr result (ports.new.items ≡ ports.old.items) }
+{
+    match ports.push(port) {
+        Ok(()) => Ok(()),
+        Err(_) => Err(Memory),
+    }
+}
+
+// The port at the end of its list, and an input node that names it.
+fn push_both(nodes: &mut Vec<Node>, ports: &mut Vec<Port>, port: Port, width: u8) -> Result<(), Memory>
+    ensures nodes { OnOk result (nodes.new.items ≡ nodes.old.items ++ Node.Input (length ports.old.items) width ∷ []) }
+    ensures ports { OnOk result (ports.new.items ≡ ports.old.items ++ port ∷ []) }
+    ensures nodes_err { OnErr result (nodes.new.items ≡ nodes.old.items) }
+    ensures ports_err { OnErr result (ports.new.items ≡ ports.old.items) }
+{
+    let place = ports.len();
+    if nodes.reserve(1).is_err() {
+        return Err(Memory);
+    }
+    push_port(ports, port)?;
+    match nodes.push(Node::Input(place, width)) {
+        Ok(()) => Ok(()),
+        Err(_) => unreachable!(),
     }
 }

@@ -2,7 +2,9 @@
 #![tactic(auto)]
 
 pub mod builder;
+pub mod netlist;
 pub mod node;
 
 pub use builder::NetBuilder;
+pub use netlist::{NetFault, Netlist};
 pub use node::{BinaryOp, Bit, Bus, Buses, Direction, MemoryDrive, Node, Port, Store};
