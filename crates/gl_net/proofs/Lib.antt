@@ -1,0 +1,4 @@
+pub mod Lists
+pub mod Growth
+pub mod Drive
+pub mod Ports

@@ -1,0 +1,20 @@
+use Rattle.gl_net.proofs.Drive.{drive_grows, drive_others, drive_open, drive_size, drive_value, drive_free}
+use Rattle.gl_net.proofs.builder.NetBuilder.drive.Goals as goal
+
+pub returns-clause-grows : goal.returns-clause-grows
+returns-clause-grows c = drive_grows _ _ _ _ c.set_next.ensures
+
+pub returns-clause-others : goal.returns-clause-others
+returns-clause-others c = drive_others _ _ _ _ c.set_next.ensures
+
+pub returns-clause-driven : goal.returns-clause-driven
+returns-clause-driven c = drive_open _ _ _ _ c.set_next.ensures
+
+pub returns-clause-size : goal.returns-clause-size
+returns-clause-size c = drive_size _ _ _ _ c.set_next.ensures
+
+pub returns-clause-value : goal.returns-clause-value
+returns-clause-value c = drive_value _ _ _ _ c.set_next.ensures
+
+pub returns-clause-free : goal.returns-clause-free
+returns-clause-free c = drive_free _ _ _ _ c.set_next.ensures

@@ -1,0 +1,20 @@
+use Rattle.gl_net.proofs.Growth.{adds_grows, adds_open_other, adds_open, adds_fresh, adds_shape, adds_size}
+use Rattle.gl_net.proofs.builder.NetBuilder.memory.Goals as goal
+
+pub returns-clause-grows : goal.returns-clause-grows
+returns-clause-grows c = adds_grows _ _ _ _ c.in_ok-node.ensures.ok
+
+pub returns-clause-others : goal.returns-clause-others
+returns-clause-others c = adds_open_other _ _ _ _ c.in_ok-node.ensures.ok
+
+pub returns-clause-undriven : goal.returns-clause-undriven
+returns-clause-undriven c = adds_open _ _ _ _ c.in_ok-node.ensures.ok
+
+pub returns-clause-fresh : goal.returns-clause-fresh
+returns-clause-fresh c = adds_fresh _ _ _ _ c.in_ok-node.ensures.ok
+
+pub returns-clause-store : goal.returns-clause-store
+returns-clause-store c = record { shape = adds_shape _ _ _ _ c.in_ok-node.ensures.ok; bits = c.requires.bits; width = c.requires.width }
+
+pub returns-clause-size : goal.returns-clause-size
+returns-clause-size c = adds_size _ _ _ _ c.in_ok-node.ensures.ok

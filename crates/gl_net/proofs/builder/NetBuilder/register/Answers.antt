@@ -1,0 +1,27 @@
+use Rattle.std.proofs.Common.{refl}
+use Rattle.gl_net.proofs.Growth.{adds_grows, adds_open_other, adds_open, adds_fresh, adds_bus, adds_size, adds_there, start_value}
+use Rattle.gl_net.proofs.builder.NetBuilder.register.Goals as goal
+
+pub returns-clause-grows : goal.returns-clause-grows
+returns-clause-grows c = adds_grows _ _ _ _ c.in_ok-node.ensures.ok
+
+pub returns-clause-others : goal.returns-clause-others
+returns-clause-others c = adds_open_other _ _ _ _ c.in_ok-node.ensures.ok
+
+pub returns-clause-undriven : goal.returns-clause-undriven
+returns-clause-undriven c = adds_open _ _ _ _ c.in_ok-node.ensures.ok
+
+pub returns-clause-fresh : goal.returns-clause-fresh
+returns-clause-fresh c = adds_fresh _ _ _ _ c.in_ok-node.ensures.ok
+
+pub returns-clause-bus : goal.returns-clause-bus
+returns-clause-bus c = adds_bus _ _ _ _ c.in_ok-node.ensures.ok _ refl refl c.requires.width
+
+pub returns-clause-size : goal.returns-clause-size
+returns-clause-size c = adds_size _ _ _ _ c.in_ok-node.ensures.ok
+
+pub returns-clause-node : goal.returns-clause-node
+returns-clause-node c = let h = adds_there _ _ _ _ c.in_ok-node.ensures.ok in rw c.reset_value-value.ensures.value at h
+
+pub returns-clause-start : goal.returns-clause-start
+returns-clause-start c = start_value _ _ _ _ _ _ c.in_ok-node.ensures.ok c.reset_value-value.ensures.value

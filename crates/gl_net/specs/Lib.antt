@@ -1,0 +1,4 @@
+pub mod Net
+pub mod WellFormed
+pub mod Finished
+pub mod Steps
