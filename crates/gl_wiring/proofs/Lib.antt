@@ -1,3 +1,5 @@
 pub mod PortNames
 pub mod Delayed
 pub mod Following
+pub mod Inputs
+pub mod Outputs

@@ -2,7 +2,9 @@
 use Rattle.std.specs.Prelude.{◌≡◌, ℕ, suc, ◌+◌, List, [], ◌∷◌, ◌++◌, Option, Some, None, map, slice_get, find, option_map, bytes_eq}
 use Rattle.gl_bits.specs.Kinds.{width_of}
 use Rattle.gl_schema.specs.declared.schema.Column.{Column}
-use Rattle.gl_schema.specs.Ports.{PortValues, in_column, out_column}
+use Rattle.gl_schema.specs.declared.schema.Stream.{Stream}
+use Rattle.gl_schema.specs.Ports.{PortValues, in_valid, in_column, out_valid, out_column, out_eos, eos, fault_group, fault_queue}
+use Rattle.gl_wiring.specs.declared.parts.Source.{Source}
 use Rattle.gl_net.specs.declared.node.Bus.{Bus}
 use Rattle.gl_net.specs.declared.node.Port.{Port}
 use Rattle.gl_net.specs.declared.node.Direction.{Direction}
@@ -23,6 +25,7 @@ pub record Extends (old new : Net) : Type 0 where
   pub buses : (b : Bus) → IsBus old b → IsBus new b
   pub undriven : (n : ℕ) → open_at new n ≡ open_at old n
   pub ports : (direction : Direction) (name : List ℕ) (n : ℕ) → IsPort old direction name n → IsPort new direction name n
+  pub module_name : new.name ≡ old.name
 
 -- a bus for each column, which is the input port of the column
 abbrev pub AreInputs : Net → List ℕ → List Column → List Bus → Type 0
@@ -56,3 +59,24 @@ AreDelayed net buses [] [] = Unit {0}
 AreDelayed net buses [] (n ∷ names) = ⊥
 AreDelayed net buses (p ∷ places) [] = ⊥
 AreDelayed net buses (p ∷ places) (n ∷ names) = ((b : Bus) × (slice_get buses p ≡ Some b) × IsDelayed net (out_column n) b.node) × AreDelayed net buses places names
+
+-- the ports of stream k are this source
+pub record IsSource (net : Net) (streams : List Stream) (k : ℕ) (source : Source) : Type 0 where
+  pub stream : Stream
+  pub there : slice_get streams k ≡ Some stream
+  pub port : IsPort net In (in_valid stream.name) source.valid.node
+  pub bus : IsBus net source.valid
+  pub bit : source.valid.width ≡ 1
+  pub inputs : AreInputs net stream.name stream.columns source.columns
+
+-- the result's ports follow those of stream k, and the fault lines are 0
+pub record FollowsNodes (net : Net) (streams : List Stream) (k : ℕ) (places : List ℕ) (names : List (List ℕ)) : Type 0 where
+  pub source : Source
+  pub is : IsSource net streams k source
+  pub eos_node : ℕ
+  pub eos_port : IsPort net In eos eos_node
+  pub valid : IsDelayedBit net out_valid source.valid.node
+  pub columns : AreDelayed net source.columns places names
+  pub end : IsDelayedBit net out_eos eos_node
+  pub group : IsZero net fault_group
+  pub queue : IsZero net fault_queue

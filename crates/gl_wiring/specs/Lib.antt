@@ -1,3 +1,4 @@
 pub mod PortNames
 pub mod Delay
 pub mod Select
+pub mod Emitted
