@@ -3,3 +3,5 @@ pub mod Delayed
 pub mod Following
 pub mod Inputs
 pub mod Outputs
+pub mod VerilogNames
+pub mod Finishing

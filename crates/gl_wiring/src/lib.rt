@@ -6,4 +6,4 @@ pub mod parts;
 pub mod select;
 
 pub use names::ResultNames;
-// pub use select::wire_select;
+pub use select::wire_select;

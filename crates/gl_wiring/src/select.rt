@@ -11,10 +11,10 @@ ghost use Rattle.gl_wiring.specs.PortNames.{streams_ports, stream_ports, result_
 ghost use Rattle.gl_wiring.specs.Emitted.{names_of, port_values, Extends, AreInputs, IsDelayedBit, IsZero, AreDelayed, IsSource, FollowsNodes};
 ghost use Rattle.gl_wiring.specs.Select.{FollowsStream};
 
-use crate::names::out_column_name;
+use crate::names::{ResultNames, module_name, out_column_name};
 use crate::parts::{Source, put_input, put_later, put_later_bit, put_stream, put_streams, put_zero};
 use gl_bits::Memory;
-use gl_net::{Bus, NetBuilder};
+use gl_net::{Bus, NetBuilder, NetFault, Netlist};
 use gl_schema::{NameText, Schema, Stream};
 use std::alloc::Global;
 
@@ -137,4 +137,37 @@ fn put_select(
     let end = put_input(net, b"eos", 1)?;
     put_result(alloc, net, &source, end, columns, names)?;
     Ok(())
+}
+
+/// The netlist of a select: the ports of an emitted module for this schema, and one register for
+/// valid, for each picked column and for the end.
+///
+/// `columns` are places in the stream's columns, and `names` has a name for each of them. In every
+/// run from reset the result's ports show in each cycle what the stream's showed in the one before.
+pub fn wire_select(
+    alloc: Global,
+    schema: &Schema,
+    stream: usize,
+    columns: &[usize],
+    names: &ResultNames,
+) -> Result<Netlist, Memory>
+    requires schema { IsSchema schema.now }
+    requires within { stream < length schema.now.streams }
+    requires there { IfSome (slice_get schema.now.streams stream) (λ s. All (λ p. p < length s.columns) columns.now) }
+    requires lengths { length columns.now ≡ length names.now.columns }
+    requires into { IsName names.now.into }
+    requires column_names { AllByRecursion IsName names.now.columns }
+    requires distinct { AreDistinct names.now.columns }
+    ensures name { IfOk result (λ net. net.name ≡ Some (codes "q__" ++ names.now.into)) }
+    ensures ports { IfOk result (λ net. names_of net ≡ port_names schema.now names.now.columns) }
+    ensures follows { IfOk result (λ net. (run : Run) → IsRun net run → IfSome (slice_get schema.now.streams stream) (λ s. FollowsStream s columns.now (map out_column names.now.columns) (port_values net run))) }
+{
+    let mut net = NetBuilder::new(alloc);
+    let name = module_name(alloc, names.into.as_slice())?;
+    net.module(&name)?;
+    put_select(alloc, &mut net, schema, stream, columns, names.columns.as_slice())?;
+    match net.finish() {
+        Ok(net) => Ok(net),
+        Err(NetFault::Memory) => Err(Memory),
+    }
 }
