@@ -2,7 +2,7 @@
 -- After the two-phase view of synchronous logic: within a cycle every node follows from its operands, and registers and
 -- memories change together at the edge that ends the cycle (IEEE 1364-2005, clauses 5, 6 and 9).
 use Rattle.std.specs.Prelude.{◌≡◌, ℕ, suc, ◌+◌, ◌-◌, ◌^◌, ◌<◌, ◌≤◌, List, Option, Some, None, Bool, true, false, if◌then◌else◌, ◌&&◌, nat_eq, bit_and, bit_or, bit_xor, slice_get, option_and_then, codes, count_by}
-use Rattle.std.specs.Option.{option_map}
+use Rattle.std.specs.Option.{option_map, option_map_or}
 use Rattle.gl_bits.specs.Words.{Word, IsWidth, sum_of, difference_of, product_of, not_of, eq_of, lt_of, le_of, join_of, cut_of, choose_of}
 use Rattle.gl_net.specs.declared.node.BinaryOp.{BinaryOp}
 use Rattle.gl_net.specs.declared.node.BinaryOp.TheVariants.{Add, Sub, Mul, And, Xor, Or, Eq, Ne, Lt, Le}
@@ -138,40 +138,46 @@ open_in nodes n = option_and_then open_shape (slice_get nodes n)
 abbrev pub open_at : Net → ℕ → Option Shape
 open_at net n = open_in net.nodes n
 
--- the bus is a node of the netlist that carries a value of its width
-pub record IsBus (net : Net) (b : Bus) : Type 0 where
-  pub shape : shape_in net.nodes b.node ≡ Some (Value b.width)
-  pub width : IsWidth b.width
-
--- the bit is one of width 1
-abbrev pub IsBit : Net → Bit → Type 0
-IsBit net b = IsBus net (record { node = b.node; width = 1 })
-
 -- addresses have 1 to 32 bits
 pub record IsAddressWidth (bits : ℕ) : Type 0 where
   pub some' : 1 ≤ bits
   pub most : bits ≤ 32
 
+-- the bus is a node of the netlist that carries a value of its width
+pub record IsBus (net : Net) (b : Bus) : Type 0 where
+  pub there : shape_in net.nodes b.node ≡ Some (Value b.width)
+  pub width : IsWidth b.width
+
+-- the bit is a node of the netlist that carries one bit
+pub record IsBit (net : Net) (b : Bit) : Type 0 where
+  pub there : shape_in net.nodes b.node ≡ Some (Value 1)
+
 -- the store is a memory of the netlist, with its widths
 pub record IsStore (net : Net) (s : Store) : Type 0 where
-  pub shape : shape_in net.nodes s.node ≡ Some (Words s.address_bits s.width)
+  pub there : shape_in net.nodes s.node ≡ Some (Words s.address_bits s.width)
   pub bits : IsAddressWidth s.address_bits
   pub width : IsWidth s.width
 
 -- what stays wherever nodes, drives, ports or a name are added: every run is one of the old netlist, so no earlier value changes
 pub record Grows (old new : Net) : Type 0 where
   pub runs : (run : Run) → IsRun new run → IsRun old run
-  pub buses : (b : Bus) → IsBus old b → IsBus new b
-  pub stores : (s : Store) → IsStore old s → IsStore new s
+  pub shapes : (n : ℕ) (shape : Shape) → shape_in old.nodes n ≡ Some shape → shape_in new.nodes n ≡ Some shape
 
 -- what stays where a block is added that drives exactly the registers and memories that it makes
 pub record Keeps (old new : Net) : Type 0 where
   pub runs : (run : Run) → IsRun new run → IsRun old run
-  pub buses : (b : Bus) → IsBus old b → IsBus new b
-  pub stores : (s : Store) → IsStore old s → IsStore new s
+  pub shapes : (n : ℕ) (shape : Shape) → shape_in old.nodes n ≡ Some shape → shape_in new.nodes n ≡ Some shape
   pub undriven : (n : ℕ) → open_at new n ≡ open_at old n
   pub ports : new.ports ≡ old.ports
   pub name : new.name ≡ old.name
+
+-- the node is a register without a reset value
+abbrev pub has_no_reset : Node → Bool
+has_no_reset (Register w None next) = true
+has_no_reset _ = false
+
+unfoldable pub is_free : Net → ℕ → Bool
+is_free net n = option_map_or has_no_reset (slice_get net.nodes n) false
 
 -- the nodes apart from the input ports
 abbrev pub is_inner : Node → Bool

@@ -1,6 +1,6 @@
 //! The builder of netlists.
 
-ghost use Rattle.std.specs.Prelude.{◌≡◌, ◌≢◌, ℕ, suc, ◌+◌, ◌-◌, ◌^◌, ◌<◌, ◌≤◌, List, [], ◌∷◌, ◌++◌, length, slice_get, slice_set, Option, Some, None, true, false, IfSome, MatchOption, IfOk, OnOk, OnErr, IsSome, if◌then◌else◌};
+ghost use Rattle.std.specs.Prelude.{◌≡◌, ◌≢◌, ℕ, suc, ◌+◌, ◌-◌, ◌^◌, ◌<◌, ◌≤◌, List, [], ◌∷◌, ◌++◌, length, slice_get, slice_set, Option, Some, None, true, false, IfSome, is_none, MatchOption, IfOk, OnOk, OnErr, IsSome, if◌then◌else◌};
 ghost use Rattle.std.specs.Option.{option_map};
 ghost use Rattle.gl_bits.specs.Words.{Word, IsWidth, not_of, join_of, cut_of, choose_of};
 ghost use Rattle.gl_net.specs.declared.node.Bus.{Bus};
@@ -9,10 +9,10 @@ ghost use Rattle.gl_net.specs.declared.node.MemoryDrive.{MemoryDrive};
 ghost use Rattle.gl_net.specs.declared.node.Store.{Store};
 ghost use Rattle.gl_net.specs.declared.node.Port.{Port};
 ghost use Rattle.gl_net.specs.declared.node.Direction.TheVariants.{In, Out};
-ghost use Rattle.gl_net.specs.Net.{Net, Run, IsRun, IsBus, IsBit, IsStore, IsAddressWidth, Grows, Keeps, Value, Words, Holds, shape_of, open_shape, open_at, size_of, is_inner, binary_of, binary_width, stored_of};
+ghost use Rattle.gl_net.specs.Net.{Net, Run, IsRun, IsBus, IsBit, IsStore, IsAddressWidth, Grows, Keeps, Value, Words, Holds, shape_of, open_shape, open_at, size_of, is_inner, is_free, binary_of, binary_width, stored_of};
 ghost use Rattle.gl_net.specs.WellFormed.{NodeFits, IsDrive};
 ghost use Rattle.gl_net.specs.Steps.{Adds, AddsPort, AddsInput, Names, Drives, DrivesMemory};
-ghost use Rattle.gl_net.specs.Finished.{IsFinished};
+ghost use Rattle.gl_net.specs.Finished.{IsFinished, needs_reset};
 
 use crate::netlist::{NetFault, Netlist};
 use crate::node::{BinaryOp, Bit, Bus, Direction, MemoryDrive, Node, Port, Store};
@@ -42,9 +42,11 @@ impl Model for NetBuilder {
 
 impl NetBuilder {
     /// The empty builder.
-    #[tactic(auto, using(crate::proofs::Growth::empty_fits))]
+    #[tactic(auto, using(crate::proofs::Growth::empty_fits), unfolding(crate::specs::Net::open_in, crate::specs::Net::size_of))]
     pub fn new(alloc: Global) -> NetBuilder
-        ensures { result ≡ record { nodes = []; ports = []; name = None } }
+        ensures empty { result ≡ record { nodes = []; ports = []; name = None } }
+        ensures undriven { (n : ℕ) → open_at result n ≡ None }
+        ensures size { size_of result ≡ 0 }
     {
         NetBuilder {
             alloc,
@@ -59,6 +61,16 @@ impl NetBuilder {
         ensures { result ≡ length self.now.nodes }
     {
         self.nodes.len()
+    }
+
+    /// Whether some register has a reset value, so that the module needs an input `rst`.
+    #[tactic(auto, unfolding(crate::specs::Finished::needs_reset))]
+    pub fn needs_reset(&self) -> bool
+        ensures { result ≡ needs_reset self.now }
+    {
+        self.nodes
+            .iter()
+            .any(|node| matches!(node, Node::Register(_, Some(_), _)))
     }
 
     /// An input port of the module, and the node that carries its value.
@@ -212,7 +224,7 @@ impl NetBuilder {
     }
 
     /// Every bit of the bus inverted.
-    #[tactic(auto, using(crate::proofs::Growth::operand_of))]
+    #[tactic(auto, using(crate::proofs::Growth::bus_read))]
     pub fn not(&mut self, arg: Bus) -> Result<Bus, Memory>
         requires { IsBus self.old arg }
         ensures keeps { Keeps self.old self.new }
@@ -227,7 +239,7 @@ impl NetBuilder {
     }
 
     /// The operation on two buses of one width.
-    #[tactic(auto, using(crate::proofs::Growth::operand_of, crate::proofs::Growth::binary_is_width))]
+    #[tactic(auto, using(crate::proofs::Growth::bus_read, crate::proofs::Growth::binary_is_width))]
     pub fn binary(&mut self, op: BinaryOp, left: Bus, right: Bus) -> Result<Bus, Memory>
         requires left { IsBus self.old left }
         requires right { IsBus self.old right }
@@ -244,7 +256,7 @@ impl NetBuilder {
     }
 
     /// The first bus in the cycles in which the bit is 1, and else the second.
-    #[tactic(auto, using(crate::proofs::Growth::operand_of))]
+    #[tactic(auto, using(crate::proofs::Growth::bus_read))]
     pub fn choose(&mut self, test: Bit, yes: Bus, no: Bus) -> Result<Bus, Memory>
         requires test { IsBit self.old test }
         requires yes { IsBus self.old yes }
@@ -262,7 +274,7 @@ impl NetBuilder {
     }
 
     /// The first bus above the second. At most 128 bits in all.
-    #[tactic(auto, using(crate::proofs::Growth::operand_of))]
+    #[tactic(auto, using(crate::proofs::Growth::bus_read))]
     pub fn join(&mut self, high: Bus, low: Bus) -> Result<Bus, Memory>
         requires high { IsBus self.old high }
         requires low { IsBus self.old low }
@@ -279,7 +291,7 @@ impl NetBuilder {
     }
 
     /// The bits `low` to `high` of the bus, counted from 0 for the lowest.
-    #[tactic(auto, using(crate::proofs::Growth::operand_of))]
+    #[tactic(auto, using(crate::proofs::Growth::bus_read))]
     pub fn cut(&mut self, arg: Bus, high: u8, low: u8) -> Result<Bus, Memory>
         requires arg { IsBus self.old arg }
         requires order { low ≤ high }
@@ -296,7 +308,7 @@ impl NetBuilder {
     }
 
     /// The word of a memory at the address, as it is before the edge that ends the cycle.
-    #[tactic(auto, using(crate::proofs::Growth::operand_of, crate::proofs::Growth::store_operand_of))]
+    #[tactic(auto, using(crate::proofs::Growth::bus_read, crate::proofs::Growth::store_read))]
     pub fn read(&mut self, store: Store, address: Bus) -> Result<Bus, Memory>
         requires store { IsStore self.old store }
         requires address { IsBus self.old address }
@@ -327,7 +339,7 @@ impl NetBuilder {
         ensures bus { IfOk result (λ b. IsBus self.new b) }
         ensures width { IfOk result (λ b. b.width ≡ width) }
         ensures size { OnOk result (size_of self.new ≡ size_of self.old + 1) }
-        ensures node { IfOk result (λ b. slice_get self.new.nodes b.node ≡ Some (Node.Register width (option_map (λ word. word.bits) reset) None)) }
+        ensures free { IfOk result (λ b. is_free self.new b.node ≡ is_none reset) }
         ensures start { IfOk result (λ b. IfSome reset (λ word. (run : Run) → IsRun self.new run → run.at 1 b.node ≡ word.bits)) }
         ensures err { OnErr result (self.new ≡ self.old) }
     {
@@ -348,7 +360,7 @@ impl NetBuilder {
         ensures driven { OnOk result (open_at self.new register.node ≡ None) }
         ensures size { size_of self.new ≡ size_of self.old }
         ensures value { OnOk result ((run : Run) → IsRun self.new run → (t : ℕ) → run.at (suc (suc t)) register.node ≡ run.at (suc t) next.node) }
-        ensures free { OnOk result (slice_get self.old.nodes register.node ≡ Some (Node.Register register.width None None) → (run : Run) → IsRun self.new run → (t : ℕ) → run.at (suc t) register.node ≡ run.at t next.node) }
+        ensures first { OnOk result (is_free self.old register.node ≡ true → (run : Run) → IsRun self.new run → run.at 1 register.node ≡ run.at 0 next.node) }
         ensures err { OnErr result (self.new ≡ self.old) }
     {
         self.set_next(register, next);

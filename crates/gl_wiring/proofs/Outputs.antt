@@ -177,4 +177,4 @@ pub reset_stays : (old new : Net) → Extends old new → (b : Bus) → IsPort o
 reset_stays old new x b port bus width = record {
     node = b.node;
     port = x.ports In reset_name b.node port;
-    bit = (x.buses b bus).shape ∙ ap (λ (w : ℕ). Some (Value w)) width }
+    bit = (x.buses b bus).there ∙ ap (λ (w : ℕ). Some (Value w)) width }

@@ -36,7 +36,7 @@ and_both : (a b : Bool) → a ≡ true → b ≡ true → (a && b) ≡ true
 and_both true b h k = k
 and_both false b h k = absurd cc
 
-byte_by : (capital small digit bar : Bool) → (small || digit || bar) ≡ true → ((capital || (small || bar)) || digit) ≡ true
+byte_by : (capital small digit bar : Bool) → (small || digit || bar) ≡ true → (((capital || small) || bar) || digit) ≡ true
 byte_by true small digit bar h = refl
 byte_by false true digit bar h = refl
 byte_by false false true true h = refl

@@ -1,5 +1,5 @@
 use Rattle.std.proofs.Common.{refl}
-use Rattle.gl_net.proofs.Growth.{adds_grows, adds_open_other, adds_open, adds_fresh, adds_bus, adds_size, adds_there, start_value}
+use Rattle.gl_net.proofs.Growth.{adds_grows, adds_open_other, adds_open, adds_fresh, adds_has, adds_size, register_free, start_value}
 use Rattle.gl_net.proofs.builder.NetBuilder.register.Goals as goal
 
 pub returns-clause-grows : goal.returns-clause-grows
@@ -15,13 +15,13 @@ pub returns-clause-fresh : goal.returns-clause-fresh
 returns-clause-fresh c = adds_fresh _ _ _ _ c.in_ok-node.ensures.ok
 
 pub returns-clause-bus : goal.returns-clause-bus
-returns-clause-bus c = adds_bus _ _ _ _ c.in_ok-node.ensures.ok _ refl refl c.requires.width
+returns-clause-bus c = record { there = adds_has _ _ _ _ c.in_ok-node.ensures.ok _ refl; width = c.requires.width }
 
 pub returns-clause-size : goal.returns-clause-size
 returns-clause-size c = adds_size _ _ _ _ c.in_ok-node.ensures.ok
 
-pub returns-clause-node : goal.returns-clause-node
-returns-clause-node c = let h = adds_there _ _ _ _ c.in_ok-node.ensures.ok in rw c.reset_value-value.ensures.value at h
+pub returns-clause-free : goal.returns-clause-free
+returns-clause-free c = register_free _ _ _ _ _ _ c.in_ok-node.ensures.ok c.reset_value-value.ensures.value
 
 pub returns-clause-start : goal.returns-clause-start
 returns-clause-start c = start_value _ _ _ _ _ _ c.in_ok-node.ensures.ok c.reset_value-value.ensures.value
