@@ -21,6 +21,15 @@ fn mask(width: u8) -> u128
     }
 }
 
+// 1 for true, 0 for false.
+fn truth(holds: bool) -> u128
+    ensures value { result ≡ bit holds }
+    ensures small { result < 2 }
+{
+    u128::from(holds)
+}
+
+#[tactic(auto, using(crate::proofs::Operators::operators))]
 fn invert(width: u8, x: u128) -> u128
     requires width { width ≤ 128 }
     requires fits { x < 2 ^ width }
@@ -29,6 +38,7 @@ fn invert(width: u8, x: u128) -> u128
     mask(width) - x
 }
 
+#[tactic(auto, using(crate::proofs::Operators::operators))]
 fn join(low_width: u8, high: u128, low: u128) -> u128
     requires width { low_width < 128 }
     requires fits { high * 2 ^ low_width + low < 2 ^ 128 }
@@ -37,6 +47,7 @@ fn join(low_width: u8, high: u128, low: u128) -> u128
     high * (1u128 << low_width) + low
 }
 
+#[tactic(auto, using(crate::proofs::Operators::operators))]
 fn select(high: u8, low: u8, x: u128) -> u128
     requires order { low ≤ high }
     requires width { high < 128 }
@@ -45,6 +56,7 @@ fn select(high: u8, low: u8, x: u128) -> u128
     (x >> low) & mask(high + 1 - low)
 }
 
+#[tactic(auto, using(crate::proofs::Operators::operators))]
 fn apply(op: BinaryOp, width: u8, x: u128, y: u128) -> u128
     requires width { width ≤ 128 }
     requires x_fits { x < 2 ^ width }
@@ -58,17 +70,18 @@ fn apply(op: BinaryOp, width: u8, x: u128, y: u128) -> u128
         BinaryOp::And => x & y,
         BinaryOp::Xor => x ^ y,
         BinaryOp::Or => x | y,
-        BinaryOp::Eq => u128::from(x == y),
-        BinaryOp::Ne => u128::from(x != y),
-        BinaryOp::Lt => u128::from(x < y),
-        BinaryOp::Le => u128::from(x <= y),
-        BinaryOp::Gt => u128::from(x > y),
-        BinaryOp::Ge => u128::from(x >= y),
+        BinaryOp::Eq => truth(x == y),
+        BinaryOp::Ne => invert(1, truth(x == y)),
+        BinaryOp::Lt => truth(x < y),
+        BinaryOp::Le => truth(x <= y),
+        BinaryOp::Gt => truth(y < x),
+        BinaryOp::Ge => truth(y <= x),
     }
 }
 
 /// The value of an expression where the nets have these values and the memories these words, both
 /// by the numbers of the declarations.
+#[tactic(auto, using(crate::proofs::Operators::operators))]
 pub fn evaluate(expr: &Expr, values: &[u128], banks: &[Bank]) -> u128
     requires { CanEvaluate values.now banks.now (expr_of expr.now) }
     ensures { result ≡ value_of (nets_of values.now) (memories_of banks.now) (expr_of expr.now) }
