@@ -1,1 +1,3 @@
 pub mod Simulation
+pub mod Updates
+pub mod Starts

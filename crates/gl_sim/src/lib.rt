@@ -2,5 +2,9 @@
 #![tactic(auto)]
 
 pub mod simulator;
+pub mod start;
+pub mod update;
 
 pub use simulator::Sim;
+pub use start::Start;
+pub use update::Update;

@@ -1,3 +1,4 @@
 pub mod Operators
 pub mod Fits
 pub mod Stores
+pub mod Chains
