@@ -1,6 +1,7 @@
 //! Runs a module cycle by cycle.
 #![tactic(auto)]
 
+pub mod cycle;
 pub mod simulator;
 pub mod start;
 pub mod update;
