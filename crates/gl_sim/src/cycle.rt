@@ -12,13 +12,13 @@ use crate::update::{Update, execute};
 use gl_verilog::{Bank, Module, Statement, evaluate};
 
 /// Gives each assigned net its value, in this order of the assignments.
-pub fn settle(module: &Module, order: &[usize], values: &mut Vec<u128>, banks: &[Bank])
-    requires runnable { IsRunnable (module_of module.now) }
-    requires in_range { AllByRecursion (λ k. k < length module.now.assignments) order.now }
-    requires store { IsStore (module_of module.now).declarations values.old.items banks.now }
-    ensures store { IsStore (module_of module.now).declarations values.new.items banks.now }
+pub fn settle(design: &Module, order: &[usize], values: &mut Vec<u128>, banks: &[Bank])
+    requires runnable { IsRunnable (module_of design.now) }
+    requires in_range { AllByRecursion (λ k. k < length design.now.assignments) order.now }
+    requires store { IsStore (module_of design.now).declarations values.old.items banks.now }
+    ensures store { IsStore (module_of design.now).declarations values.new.items banks.now }
 {
-    let assignments = module.assignments.as_slice();
+    let assignments = design.assignments.as_slice();
     for k in order {
         let assignment = &assignments[*k];
         values[assignment.target] = evaluate(&assignment.value, values, banks);
@@ -26,11 +26,11 @@ pub fn settle(module: &Module, order: &[usize], values: &mut Vec<u128>, banks: &
 }
 
 /// Sets the input ports with these numbers.
-pub fn set_inputs(module: &Module, ports: &[usize], inputs: &[u128], values: &mut Vec<u128>, banks: &[Bank])
-    requires ports { ports.now ≡ inputs_of (module_of module.now) }
-    requires fit { FitInputs (module_of module.now) inputs.now }
-    requires store { IsStore (module_of module.now).declarations values.old.items banks.now }
-    ensures store { IsStore (module_of module.now).declarations values.new.items banks.now }
+pub fn set_inputs(design: &Module, ports: &[usize], inputs: &[u128], values: &mut Vec<u128>, banks: &[Bank])
+    requires ports { ports.now ≡ inputs_of (module_of design.now) }
+    requires fit { FitInputs (module_of design.now) inputs.now }
+    requires store { IsStore (module_of design.now).declarations values.old.items banks.now }
+    ensures store { IsStore (module_of design.now).declarations values.new.items banks.now }
 {
     for (i, port) in ports.iter().enumerate() {
         values[*port] = inputs[i];
