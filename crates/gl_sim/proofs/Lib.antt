@@ -1,3 +1,4 @@
 pub mod Waiting
 pub mod Settling
 pub mod Words
+pub mod Edges

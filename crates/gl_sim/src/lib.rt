@@ -2,6 +2,7 @@
 #![tactic(auto)]
 
 pub mod cycle;
+pub mod edge;
 pub mod simulator;
 pub mod start;
 pub mod update;

@@ -127,7 +127,7 @@ pub memory_words : (k : Kind) (bits : ℕ) → IsMemory k bits → words_in k �
 memory_words (Memory b) bits h = ap (λ (n : ℕ). 2 ^ n) h
 memory_words _ bits h = absurd h
 
-pow_within : (i j : ℕ) → i ≤ j → 2 ^ i ≤ 2 ^ j
+pub pow_within : (i j : ℕ) → i ≤ j → 2 ^ i ≤ 2 ^ j
 pow_within i j le = let two : 0 < 2 = omega arith in pow-le-pow_right two le
 
 pub can_evaluate : (ds : List Declaration) (vs : List ℕ) (bs : List (List ℕ)) (e : Expr) → AllByRecursion HasSize ds → IsStore ds vs bs → KeepsWidths ds e → CanEvaluate vs bs e

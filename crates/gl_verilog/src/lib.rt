@@ -6,7 +6,7 @@ pub mod evaluation;
 pub mod module;
 
 pub use bank::Bank;
-pub use evaluation::evaluate;
+pub use evaluation::{evaluate, mask};
 pub use module::{Assignment, BinaryOp, Declaration, Expr, Kind, Module, Statement};
 
 /// The most bits of a word.

@@ -1,0 +1,116 @@
+-- What an edge leaves: registers and words that fit.
+use Rattle.std.proofs.Common.{◌≡◌, ◌≢◌, ℕ, suc, ◌+◌, ◌^◌, ◌<◌, ◌≤◌, Bool, true, false, List, [], ◌∷◌, Option, Some, None, map, refl, sym, ◌∙◌, ap, subst, arith, rules, length, unwrap_or, slice_index, nat_eq, cond, inl, inr}
+use Rattle.std.specs.Prelude.{slice_get, slice_index_or, IsSomeAnd}
+use Rattle.std.specs.List.{AllByRecursion}
+use Rattle.std.proofs.lemmas.Bool.Decides.{eqb_tells}
+use Rattle.gl_verilog.specs.Module as spec
+use Rattle.gl_verilog.specs.Module.{Declaration, Nets, Memories, Nothing, Put, Write, Both, If, value_of, later_or, taken, assigned, written, assigned_by, written_by}
+use Rattle.gl_verilog.specs.Run.{Fit, IsRegister}
+use Rattle.gl_verilog.specs.declared.module.Statement.{Statement}
+use Rattle.gl_verilog.specs.View.{statement_of, chained}
+use Rattle.gl_verilog.specs.Widths.{HasSize, IsMemory, width_of, KeepsWidths, KeepsWidthsIn, words_in}
+use Rattle.gl_verilog.specs.Evaluate.{CanEvaluate, IsStore, nets_of, memories_of}
+use Rattle.gl_verilog.proofs.Fits.{Found, found_in, all_at, in_range, value_fits, can_evaluate, memory_words, pow_within}
+use Rattle.gl_verilog.proofs.Stores.{same_item}
+use Rattle.gl_sim.specs.Updates.{CanExecute}
+
+-- ---- the blocks of a module are the chain of their statements
+
+pub keeps_chain : (ds : List Declaration) (ss : List Statement) → AllByRecursion (KeepsWidthsIn ds) (map statement_of ss) → KeepsWidthsIn ds (chained ss)
+keeps_chain ds [] h = tt
+keeps_chain ds (s ∷ ss) h = (h.0, keeps_chain ds ss h.1)
+
+pub assigned_chain : (v : Nets) (m : Memories) (ss : List Statement) (r : ℕ) → assigned v m (chained ss) r ≡ assigned_by v m (map statement_of ss) r
+assigned_chain v m [] r = refl
+assigned_chain v m (s ∷ ss) r = ap (λ (o : Option ℕ). later_or o (assigned v m (statement_of s) r)) (assigned_chain v m ss r)
+
+pub written_chain : (v : Nets) (m : Memories) (ss : List Statement) (k at : ℕ) → written v m (chained ss) k at ≡ written_by v m (map statement_of ss) k at
+written_chain v m [] k at = refl
+written_chain v m (s ∷ ss) k at = ap (λ (o : Option ℕ). later_or o (written v m (statement_of s) k at)) (written_chain v m ss k at)
+
+-- ---- where statements can be executed
+
+pub can_execute : (ds : List Declaration) (vs : List ℕ) (bs : List (List ℕ)) (s : spec.Statement) → AllByRecursion HasSize ds → IsStore ds vs bs → KeepsWidthsIn ds s → CanExecute vs bs s
+can_execute ds vs bs Nothing z st h = tt
+can_execute ds vs bs (Put register value) z st h =
+    let d = found_in (slice_get ds register) (λ d. IsRegister d.kind × (width_of ds value ≡ d.width)) h.0 in
+    let lt : register < length ds = in_range ds register d.item d.is in
+    (omega (arith, st.nets), can_evaluate ds vs bs value z st h.1)
+can_execute ds vs bs (Write memory address value) z st h =
+    let d = found_in (slice_get ds memory) (λ d. IsMemory d.kind (width_of ds address) × (width_of ds value ≡ d.width)) h.0 in
+    let lt : memory < length ds = in_range ds memory d.item d.is in
+    let size : length (slice_index_or bs memory []) ≡ 2 ^ width_of ds address = st.words memory d.item d.is ∙ memory_words d.item.kind (width_of ds address) d.fact.0 in
+    let bits = (all_at HasSize ds memory d.item z d.is).1 (width_of ds address) d.fact.0 in
+    let at : value_of (nets_of vs) (memories_of bs) address < 2 ^ width_of ds address = value_fits ds (nets_of vs) (memories_of bs) address st.fits h.1 in
+    let small : 2 ^ width_of ds address ≤ 2 ^ 64 = pow_within (width_of ds address) 64 (omega (arith, bits.1)) in
+    (omega (arith, st.memories), omega arith, omega arith, can_evaluate ds vs bs address z st h.1, can_evaluate ds vs bs value z st h.2)
+can_execute ds vs bs (Both first second) z st h = (can_execute ds vs bs first z st h.0, can_execute ds vs bs second z st h.1)
+can_execute ds vs bs (If test yes' no') z st h = (can_evaluate ds vs bs test z st h.1, can_execute ds vs bs yes' z st h.2, can_execute ds vs bs no' z st h.3)
+
+-- ---- what is assigned and written fits
+
+-- nothing, or a number that fits
+abbrev pub FitsIn : ℕ → Option ℕ → Type 0
+FitsIn width None = Unit {0}
+FitsIn width (Some x) = x < 2 ^ width
+
+fits_later : (w : ℕ) (a b : Option ℕ) → FitsIn w a → FitsIn w b → FitsIn w (later_or b a)
+fits_later w a None p q = p
+fits_later w a (Some x) p q = q
+
+fits_taken : (w : ℕ) (test : ℕ) (a b : Option ℕ) → FitsIn w a → FitsIn w b → FitsIn w (taken test a b)
+fits_taken w test a b p q = pick (nat_eq test 1)
+  where
+    pick : (t : Bool) → FitsIn w (cond t a b)
+    pick true = p
+    pick false = q
+
+pub unwrap_fits : (w : ℕ) (o : Option ℕ) (x : ℕ) → FitsIn w o → x < 2 ^ w → unwrap_or o x < 2 ^ w
+unwrap_fits w None x p q = q
+unwrap_fits w (Some y) x p q = p
+
+pub assigned_fits : (ds : List Declaration) (v : Nets) (m : Memories) (s : spec.Statement) (r : ℕ) (d : Declaration) → Fit ds v m → KeepsWidthsIn ds s → slice_get ds r ≡ Some d → FitsIn d.width (assigned v m s r)
+assigned_fits ds v m Nothing r d f h e = tt
+assigned_fits ds v m (Put register value) r d f h e =
+    let c = found_in (slice_get ds register) (λ d. IsRegister d.kind × (width_of ds value ≡ d.width)) h.0 in
+    elim (eqb_tells register r) [
+      | inl same ↦
+          let is : c.item ≡ d = same_item ds r c.item d (subst (λ i. slice_get ds i ≡ Some c.item) same.1 c.is) e in
+          let w : width_of ds value ≡ d.width = c.fact.1 ∙ ap (λ (x : Declaration). x.width) is in
+          rw same.0 (subst (λ n. value_of v m value < 2 ^ n) w (value_fits ds v m value f h.1))
+      | inr other ↦ rw other.0 tt
+    ]
+assigned_fits ds v m (Write memory address value) r d f h e = tt
+assigned_fits ds v m (Both first second) r d f h e = fits_later d.width (assigned v m first r) (assigned v m second r) (assigned_fits ds v m first r d f h.0 e) (assigned_fits ds v m second r d f h.1 e)
+assigned_fits ds v m (If test yes' no') r d f h e = fits_taken d.width (value_of v m test) (assigned v m yes' r) (assigned v m no' r) (assigned_fits ds v m yes' r d f h.2 e) (assigned_fits ds v m no' r d f h.3 e)
+
+pub written_fits : (ds : List Declaration) (v : Nets) (m : Memories) (s : spec.Statement) (k at : ℕ) (d : Declaration) → Fit ds v m → KeepsWidthsIn ds s → slice_get ds k ≡ Some d → FitsIn d.width (written v m s k at)
+written_fits ds v m Nothing k at d f h e = tt
+written_fits ds v m (Put register value) k at d f h e = tt
+written_fits ds v m (Write memory address value) k at d f h e =
+    let c = found_in (slice_get ds memory) (λ d. IsMemory d.kind (width_of ds address) × (width_of ds value ≡ d.width)) h.0 in
+    elim (eqb_tells memory k) [
+      | inl same ↦
+          let is : c.item ≡ d = same_item ds k c.item d (subst (λ i. slice_get ds i ≡ Some c.item) same.1 c.is) e in
+          let w : width_of ds value ≡ d.width = c.fact.1 ∙ ap (λ (x : Declaration). x.width) is in
+          let fits : value_of v m value < 2 ^ d.width = subst (λ n. value_of v m value < 2 ^ n) w (value_fits ds v m value f h.2) in
+          elim (eqb_tells (value_of v m address) at) [
+            | inl here ↦ rw (same.0, here.0) fits
+            | inr there ↦ rw (same.0, there.0) tt
+          ]
+      | inr other ↦ rw other.0 tt
+    ]
+written_fits ds v m (Both first second) k at d f h e = fits_later d.width (written v m first k at) (written v m second k at) (written_fits ds v m first k at d f h.0 e) (written_fits ds v m second k at d f h.1 e)
+written_fits ds v m (If test yes' no') k at d f h e = fits_taken d.width (value_of v m test) (written v m yes' k at) (written v m no' k at) (written_fits ds v m yes' k at d f h.2 e) (written_fits ds v m no' k at d f h.3 e)
+
+-- the store behind an edge
+pub store_clocked : (ds : List Declaration) (vs vs' : List ℕ) (bs bs' : List (List ℕ)) (s : spec.Statement) → IsStore ds vs bs → KeepsWidthsIn ds s → length vs' ≡ length vs → length bs' ≡ length bs → ((k : ℕ) → length (slice_index_or bs' k []) ≡ length (slice_index_or bs k []))
+    → ((r : ℕ) → slice_index vs' r ≡ unwrap_or (assigned (nets_of vs) (memories_of bs) s r) (slice_index vs r)) → ((k at : ℕ) → memories_of bs' k at ≡ unwrap_or (written (nets_of vs) (memories_of bs) s k at) (memories_of bs k at)) → IsStore ds vs' bs'
+store_clocked ds vs vs' bs bs' s st h size banks sizes registers words = record {
+  nets = size ∙ st.nets;
+  memories = banks ∙ st.memories;
+  words = λ k d e. sizes k ∙ st.words k d e;
+  fits = λ n d e.
+    (subst (λ x. x < 2 ^ d.width) (sym (registers n)) (unwrap_fits d.width (assigned (nets_of vs) (memories_of bs) s n) (slice_index vs n) (assigned_fits ds (nets_of vs) (memories_of bs) s n d st.fits h e) (st.fits n d e).0),
+      λ at. subst (λ x. x < 2 ^ d.width) (sym (words n at)) (unwrap_fits d.width (written (nets_of vs) (memories_of bs) s n at) (memories_of bs n at) (written_fits ds (nets_of vs) (memories_of bs) s n at d st.fits h e) ((st.fits n d e).1 at)));
+}
