@@ -12,7 +12,8 @@ use Rattle.gl_verilog.specs.Widths.{HasSize, IsMemory, width_of, KeepsWidths, Ke
 use Rattle.gl_verilog.specs.Evaluate.{CanEvaluate, IsStore, nets_of, memories_of}
 use Rattle.gl_verilog.proofs.Fits.{Found, found_in, all_at, in_range, value_fits, can_evaluate, memory_words, pow_within}
 use Rattle.gl_verilog.proofs.Stores.{same_item}
-use Rattle.gl_sim.specs.Updates.{CanExecute}
+use Rattle.gl_sim.specs.declared.update.Update.{Update}
+use Rattle.gl_sim.specs.Updates.{CanExecute, put_of}
 
 -- ---- the blocks of a module are the chain of their statements
 
@@ -114,3 +115,28 @@ store_clocked ds vs vs' bs bs' s st h size banks sizes registers words = record 
     (subst (λ x. x < 2 ^ d.width) (sym (registers n)) (unwrap_fits d.width (assigned (nets_of vs) (memories_of bs) s n) (slice_index vs n) (assigned_fits ds (nets_of vs) (memories_of bs) s n d st.fits h e) (st.fits n d e).0),
       λ at. subst (λ x. x < 2 ^ d.width) (sym (words n at)) (unwrap_fits d.width (written (nets_of vs) (memories_of bs) s n at) (memories_of bs n at) (written_fits ds (nets_of vs) (memories_of bs) s n at d st.fits h e) ((st.fits n d e).1 at)));
 }
+
+-- what an edge makes of values and banks
+pub record AfterEdge (ds : List Declaration) (blocks : List spec.Statement) (vs vs' : List ℕ) (bs bs' : List (List ℕ)) : Type 0 where
+  pub store : IsStore ds vs' bs'
+  pub registers : (r : ℕ) → slice_index vs' r ≡ unwrap_or (assigned_by (nets_of vs) (memories_of bs) blocks r) (slice_index vs r)
+  pub words : (k at : ℕ) → memories_of bs' k at ≡ unwrap_or (written_by (nets_of vs) (memories_of bs) blocks k at) (memories_of bs k at)
+
+later_or-none : (o : Option ℕ) → later_or o None ≡ o
+later_or-none None = refl
+later_or-none (Some x) = refl
+
+pub after_edge : (ds : List Declaration) (ss : List Statement) (vs vs' : List ℕ) (bs bs' : List (List ℕ)) (us : List Update) → IsStore ds vs bs → AllByRecursion (KeepsWidthsIn ds) (map statement_of ss) → length vs' ≡ length vs
+    → ((r : ℕ) → slice_index vs' r ≡ unwrap_or (assigned (nets_of vs) (memories_of bs) (chained ss) r) (slice_index vs r))
+    → ((k at : ℕ) → put_of us k at ≡ later_or (written (nets_of vs) (memories_of bs) (chained ss) k at) None)
+    → length bs' ≡ length bs → ((k : ℕ) → length (slice_index_or bs' k []) ≡ length (slice_index_or bs k []))
+    → ((k at : ℕ) → memories_of bs' k at ≡ unwrap_or (put_of us k at) (memories_of bs k at))
+    → AfterEdge ds (map statement_of ss) vs vs' bs bs'
+after_edge ds ss vs vs' bs bs' us st h size registers noted banks sizes put =
+    let words : (k at : ℕ) → memories_of bs' k at ≡ unwrap_or (written (nets_of vs) (memories_of bs) (chained ss) k at) (memories_of bs k at) =
+        λ k at. put k at ∙ ap (λ (o : Option ℕ). unwrap_or o (memories_of bs k at)) (noted k at ∙ later_or-none (written (nets_of vs) (memories_of bs) (chained ss) k at)) in
+    record {
+      store = store_clocked ds vs vs' bs bs' (chained ss) st (keeps_chain ds ss h) size banks sizes registers words;
+      registers = λ r. registers r ∙ ap (λ (o : Option ℕ). unwrap_or o (slice_index vs r)) (assigned_chain (nets_of vs) (memories_of bs) ss r);
+      words = λ k at. words k at ∙ ap (λ (o : Option ℕ). unwrap_or o (memories_of bs k at)) (written_chain (nets_of vs) (memories_of bs) ss k at);
+    }
