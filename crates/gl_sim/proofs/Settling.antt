@@ -1,15 +1,17 @@
 -- One assignment, one input, one word after another.
 use Rattle.std.proofs.Common.{◌≡◌, ◌≢◌, ℕ, zero, suc, ◌+◌, ◌^◌, ◌<◌, ◌≤◌, List, [], ◌∷◌, ◌++◌, Option, Some, None, Bool, true, false, map, refl, sym, ◌∙◌, ap, subst, arith, rules, length, drop, get_or, drop-cons, add-one, unwrap_or, slice_index}
-use Rattle.std.specs.Prelude.{if◌then◌else◌, ◌&&◌, not, slice_get, slice_index_or, slice_set, IsSomeAnd}
+use Rattle.std.specs.Prelude.{if◌then◌else◌, ◌&&◌, not, slice_get, slice_index_or, slice_set, IsSomeAnd, IsTrue}
 use Rattle.std.specs.List.{AllByRecursion, AllZip}
 use Rattle.std.proofs.lemmas.List.{drop_all}
 use Rattle.gl_verilog.specs.Module as spec
 use Rattle.gl_verilog.specs.Module.{Nets, Memories, Module, Declaration, value_of}
 use Rattle.gl_verilog.specs.declared.module.Assignment.{Assignment}
 use Rattle.gl_verilog.specs.View.{assignment_of, expr_of, declaration_of}
-use Rattle.gl_verilog.specs.Widths.{is_clock, width_at, HasSize, IsDriven, width_of, KeepsWidths, KeepsWidth}
+use Rattle.gl_verilog.specs.Widths.{IsReadable, is_clock, width_at, HasSize, IsDriven, width_of, KeepsWidths, KeepsWidth}
 use Rattle.gl_verilog.specs.Evaluate.{CanEvaluate, IsStore, nets_of, memories_of}
 use Rattle.gl_verilog.specs.Runnable.{IsRunnable, is_input, inputs_from, inputs_of, FitInputs}
+use Rattle.gl_verilog.specs.Order.{EachRead}
+use Rattle.gl_sim.specs.Ordering.{AreNets}
 use Rattle.gl_verilog.proofs.Fits.{Found, found_in, all_at, in_range, width_at-found, value_fits, can_evaluate}
 use Rattle.gl_verilog.proofs.Stores.{store_put}
 
@@ -110,3 +112,33 @@ store_input m vs inputs bs i st fit lt =
     let fits = zip_at (λ n x. x < 2 ^ width_at m.declarations n) (inputs_of m) inputs i 0 0 fit lt in
     store_put m.declarations vs bs (get_or (inputs_of m) i 0) (get_or inputs i 0) port.declaration st port.is
       (subst (λ w. get_or inputs i 0 < 2 ^ w) (width_at-found m.declarations (get_or (inputs_of m) i 0) port.declaration port.is) fits)
+
+pub length_map : {S T : Type 0} (f : S → T) (xs : List S) (n : ℕ) → n < length (map f xs) → n < length xs
+length_map f [] n lt = lt
+length_map f (x ∷ xs) zero lt = omega arith
+length_map f (x ∷ xs) (suc n) lt = let h : n < length xs = length_map f xs n (omega arith) in omega arith
+
+pub map_length : {S T : Type 0} (f : S → T) (xs : List S) → length (map f xs) ≡ length xs
+map_length f [] = refl
+map_length f (x ∷ xs) = ap (λ n. suc n) (map_length f xs)
+
+-- what holds of each, at a place
+pub holds_at : {S T : Type 0} (P : T → Type 0) (f : S → T) (xs : List S) (k : ℕ) (x : S) → AllByRecursion P (map f xs) → k < length xs → x ≡ get_or xs k x → P (f x)
+holds_at P f xs k x h lt e = all_at P (map f xs) k (f x) h (slice_get-map f xs k x (slice_get-at xs k x lt e))
+
+-- an expression that keeps widths reads declared nets
+pub reads_declared : (ds : List Declaration) (e : spec.Expr) → KeepsWidths ds e → EachRead (λ n. n < length ds) e
+reads_declared ds (spec.Net n) h = let d = found_in (slice_get ds n) IsReadable h in in_range ds n d.item d.is
+reads_declared ds (spec.Literal value width) h = tt
+reads_declared ds (spec.Invert width arg) h = reads_declared ds arg h.1
+reads_declared ds (spec.Binary op width left right) h = (reads_declared ds left h.2, reads_declared ds right h.3)
+reads_declared ds (spec.Choose test yes' no') h = (reads_declared ds test h.2, reads_declared ds yes' h.3, reads_declared ds no' h.4)
+reads_declared ds (spec.Join low_width high low) h = (reads_declared ds high h.2, reads_declared ds low h.3)
+reads_declared ds (spec.Select high low n) h = let d = found_in (slice_get ds n) (λ d. IsReadable d × IsTrue d.is_vector × (high < d.width)) h.0 in in_range ds n d.item d.is
+reads_declared ds (spec.Read memory address) h = reads_declared ds address h.1
+
+pub are_nets : (ds : List Declaration) (assignments : List spec.Assignment) → AllByRecursion (KeepsWidth ds) assignments → AreNets (length ds) assignments
+are_nets ds [] h = tt
+are_nets ds (a ∷ rest) h =
+    let d = found_in (slice_get ds a.target) (λ d. IsDriven d.kind × (width_of ds a.value ≡ d.width)) h.0.0 in
+    ((in_range ds a.target d.item d.is, reads_declared ds a.value h.0.1), are_nets ds rest h.1)

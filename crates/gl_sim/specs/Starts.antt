@@ -1,8 +1,8 @@
 -- What registers and memory words hold before the first cycle.
-use Rattle.std.specs.Prelude.{ℕ, zero, suc, ◌+◌, ◌*◌, ◌%◌, ◌^◌, List, take, slice_get}
+use Rattle.std.specs.Prelude.{ℕ, zero, suc, ◌+◌, ◌*◌, ◌%◌, ◌^◌, List, take, replicate}
 use Rattle.std.specs.List.{sum_by}
 use Rattle.gl_verilog.specs.Module.{Kind, OutputRegister, Register, Memory, Declaration}
-use Rattle.gl_verilog.specs.Widths.{width_at}
+use Rattle.gl_verilog.specs.Widths.{width_at, words_in}
 use Rattle.gl_sim.specs.declared.start.Start.{Start}
 use Rattle.gl_sim.specs.declared.start.Start.TheVariants.{Zero, Drawn}
 
@@ -39,3 +39,7 @@ register_at (Drawn seed) ds n = word_drawn seed (draws_before ds n) (width_at ds
 abbrev pub word_at : Start → List Declaration → ℕ → ℕ → ℕ
 word_at Zero ds k at = 0
 word_at (Drawn seed) ds k at = word_drawn seed (draws_before ds k + 2 * at) (width_at ds k)
+
+-- words of 0, one for each address
+abbrev pub zero_bank : Declaration → List ℕ
+zero_bank d = replicate (words_in d.kind) 0

@@ -14,7 +14,7 @@ use gl_verilog::{Bank, Module, Statement, evaluate};
 /// Gives each assigned net its value, in this order of the assignments.
 pub fn settle(design: &Module, order: &[usize], values: &mut Vec<u128>, banks: &[Bank])
     requires runnable { IsRunnable (module_of design.now) }
-    requires in_range { AllByRecursion (λ k. k < length design.now.assignments) order.now }
+    requires in_range { AllByRecursion (λ k. k < length (module_of design.now).assignments) order.now }
     requires store { IsStore (module_of design.now).declarations values.old.items banks.now }
     ensures store { IsStore (module_of design.now).declarations values.new.items banks.now }
 {

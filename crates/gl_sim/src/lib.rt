@@ -2,7 +2,10 @@
 #![tactic(auto)]
 
 pub mod cycle;
+pub mod draw;
 pub mod edge;
+pub mod order;
+pub mod room;
 pub mod simulator;
 pub mod start;
 pub mod update;
