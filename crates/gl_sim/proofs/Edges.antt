@@ -11,7 +11,7 @@ use Rattle.gl_verilog.specs.View.{statement_of, chained}
 use Rattle.gl_verilog.specs.Widths.{HasSize, IsMemory, width_of, KeepsWidths, KeepsWidthsIn, words_in}
 use Rattle.gl_verilog.specs.Evaluate.{CanEvaluate, IsStore, nets_of, memories_of}
 use Rattle.gl_verilog.proofs.Fits.{Found, found_in, all_at, in_range, value_fits, can_evaluate, memory_words, pow_within}
-use Rattle.gl_verilog.proofs.Stores.{same_item}
+use Rattle.gl_verilog.proofs.Edges.{FitsIn, unwrap_fits, assigned_fits, written_fits}
 use Rattle.gl_sim.specs.declared.update.Update.{Update}
 use Rattle.gl_sim.specs.Updates.{CanExecute, put_of}
 
@@ -47,62 +47,6 @@ can_execute ds vs bs (Write memory address value) z st h =
     (omega (arith, st.memories), omega arith, omega arith, can_evaluate ds vs bs address z st h.1, can_evaluate ds vs bs value z st h.2)
 can_execute ds vs bs (Both first second) z st h = (can_execute ds vs bs first z st h.0, can_execute ds vs bs second z st h.1)
 can_execute ds vs bs (If test yes' no') z st h = (can_evaluate ds vs bs test z st h.1, can_execute ds vs bs yes' z st h.2, can_execute ds vs bs no' z st h.3)
-
--- ---- what is assigned and written fits
-
--- nothing, or a number that fits
-abbrev pub FitsIn : ℕ → Option ℕ → Type 0
-FitsIn width None = Unit {0}
-FitsIn width (Some x) = x < 2 ^ width
-
-fits_later : (w : ℕ) (a b : Option ℕ) → FitsIn w a → FitsIn w b → FitsIn w (later_or b a)
-fits_later w a None p q = p
-fits_later w a (Some x) p q = q
-
-fits_taken : (w : ℕ) (test : ℕ) (a b : Option ℕ) → FitsIn w a → FitsIn w b → FitsIn w (taken test a b)
-fits_taken w test a b p q = pick (nat_eq test 1)
-  where
-    pick : (t : Bool) → FitsIn w (cond t a b)
-    pick true = p
-    pick false = q
-
-pub unwrap_fits : (w : ℕ) (o : Option ℕ) (x : ℕ) → FitsIn w o → x < 2 ^ w → unwrap_or o x < 2 ^ w
-unwrap_fits w None x p q = q
-unwrap_fits w (Some y) x p q = p
-
-pub assigned_fits : (ds : List Declaration) (v : Nets) (m : Memories) (s : spec.Statement) (r : ℕ) (d : Declaration) → Fit ds v m → KeepsWidthsIn ds s → slice_get ds r ≡ Some d → FitsIn d.width (assigned v m s r)
-assigned_fits ds v m Nothing r d f h e = tt
-assigned_fits ds v m (Put register value) r d f h e =
-    let c = found_in (slice_get ds register) (λ d. IsRegister d.kind × (width_of ds value ≡ d.width)) h.0 in
-    elim (eqb_tells register r) [
-      | inl same ↦
-          let is : c.item ≡ d = same_item ds r c.item d (subst (λ i. slice_get ds i ≡ Some c.item) same.1 c.is) e in
-          let w : width_of ds value ≡ d.width = c.fact.1 ∙ ap (λ (x : Declaration). x.width) is in
-          rw same.0 (subst (λ n. value_of v m value < 2 ^ n) w (value_fits ds v m value f h.1))
-      | inr other ↦ rw other.0 tt
-    ]
-assigned_fits ds v m (Write memory address value) r d f h e = tt
-assigned_fits ds v m (Both first second) r d f h e = fits_later d.width (assigned v m first r) (assigned v m second r) (assigned_fits ds v m first r d f h.0 e) (assigned_fits ds v m second r d f h.1 e)
-assigned_fits ds v m (If test yes' no') r d f h e = fits_taken d.width (value_of v m test) (assigned v m yes' r) (assigned v m no' r) (assigned_fits ds v m yes' r d f h.2 e) (assigned_fits ds v m no' r d f h.3 e)
-
-pub written_fits : (ds : List Declaration) (v : Nets) (m : Memories) (s : spec.Statement) (k at : ℕ) (d : Declaration) → Fit ds v m → KeepsWidthsIn ds s → slice_get ds k ≡ Some d → FitsIn d.width (written v m s k at)
-written_fits ds v m Nothing k at d f h e = tt
-written_fits ds v m (Put register value) k at d f h e = tt
-written_fits ds v m (Write memory address value) k at d f h e =
-    let c = found_in (slice_get ds memory) (λ d. IsMemory d.kind (width_of ds address) × (width_of ds value ≡ d.width)) h.0 in
-    elim (eqb_tells memory k) [
-      | inl same ↦
-          let is : c.item ≡ d = same_item ds k c.item d (subst (λ i. slice_get ds i ≡ Some c.item) same.1 c.is) e in
-          let w : width_of ds value ≡ d.width = c.fact.1 ∙ ap (λ (x : Declaration). x.width) is in
-          let fits : value_of v m value < 2 ^ d.width = subst (λ n. value_of v m value < 2 ^ n) w (value_fits ds v m value f h.2) in
-          elim (eqb_tells (value_of v m address) at) [
-            | inl here ↦ rw (same.0, here.0) fits
-            | inr there ↦ rw (same.0, there.0) tt
-          ]
-      | inr other ↦ rw other.0 tt
-    ]
-written_fits ds v m (Both first second) k at d f h e = fits_later d.width (written v m first k at) (written v m second k at) (written_fits ds v m first k at d f h.0 e) (written_fits ds v m second k at d f h.1 e)
-written_fits ds v m (If test yes' no') k at d f h e = fits_taken d.width (value_of v m test) (written v m yes' k at) (written v m no' k at) (written_fits ds v m yes' k at d f h.2 e) (written_fits ds v m no' k at d f h.3 e)
 
 -- the store behind an edge
 pub store_clocked : (ds : List Declaration) (vs vs' : List ℕ) (bs bs' : List (List ℕ)) (s : spec.Statement) → IsStore ds vs bs → KeepsWidthsIn ds s → length vs' ≡ length vs → length bs' ≡ length bs → ((k : ℕ) → length (slice_index_or bs' k []) ≡ length (slice_index_or bs k []))

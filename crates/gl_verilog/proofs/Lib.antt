@@ -2,3 +2,4 @@ pub mod Operators
 pub mod Fits
 pub mod Stores
 pub mod Chains
+pub mod Edges
