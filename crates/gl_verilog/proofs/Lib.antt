@@ -3,3 +3,4 @@ pub mod Fits
 pub mod Stores
 pub mod Chains
 pub mod Edges
+pub mod Settles
