@@ -4,3 +4,4 @@ pub mod Stores
 pub mod Chains
 pub mod Edges
 pub mod Settles
+pub mod Runs
