@@ -1,0 +1,21 @@
+-- What a module costs: the register bits and the memory bits that it declares.
+use Rattle.std.specs.Prelude.{ℕ, ◌*◌, ◌^◌, List}
+use Rattle.std.specs.List.{sum_by}
+use Rattle.gl_verilog.specs.Module.{Kind, OutputRegister, Register, Memory, Declaration, Module}
+
+abbrev pub register_bits_of : Kind → ℕ → ℕ
+register_bits_of OutputRegister width = width
+register_bits_of Register width = width
+register_bits_of _ width = 0
+
+abbrev pub memory_bits_of : Kind → ℕ → ℕ
+memory_bits_of (Memory address_bits) width = 2 ^ address_bits * width
+memory_bits_of _ width = 0
+
+-- the bits of all registers, output registers included
+abbrev pub register_bits : Module → ℕ
+register_bits m = sum_by (λ d. register_bits_of d.kind d.width) m.declarations
+
+-- the bits of all memories
+abbrev pub memory_bits : Module → ℕ
+memory_bits m = sum_by (λ d. memory_bits_of d.kind d.width) m.declarations
