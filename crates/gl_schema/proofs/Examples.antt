@@ -10,7 +10,7 @@ use Rattle.gl_schema.specs.Names.{is_name, is_taken, has_name_bytes, begins_with
 use Rattle.gl_schema.specs.Schemas.{IsSchema, text_word, has_stream, has_column}
 use Rattle.gl_schema.specs.SchemaText.{tokens_of, class_of, kind_text, word, sign}
 use Rattle.gl_schema.specs.SchemaFaults.{schema_of, kind_named, kinds}
-use Rattle.gl_schema.specs.Seen.{lines, line_of, overflow_line, end_line, printed, Shown}
+use Rattle.gl_schema.specs.Seen.{lines, line_of, overflow_line, end_line, printed, needs_quotes, Shown}
 use Rattle.gl_schema.specs.Ports.{pins, pin}
 
 toks : tokens_of (codes "a-b --x\n(u1") ≡ word 0 (codes "a") ∷ sign 1 45 ∷ word 2 (codes "b") ∷ sign 8 40 ∷ word 9 (codes "u1") ∷ []
@@ -41,5 +41,5 @@ unfolding text_word
 ubs = refl
 
 ls : lines (Text 4 ∷ []) (record { cycle = 1; row = Some (text_word 4 (codes "a,b") ∷ []); end = false; group = true; queue = false } ∷ record { cycle = 2; row = None; end = true; group = true; queue = false } ∷ []) ≡ codes "1,overflow\n1,\"a,b\"\n2,end\n"
-unfolding line_of overflow_line end_line printed text_word digits
+unfolding line_of overflow_line end_line printed needs_quotes text_word digits
 ls = refl
