@@ -8,6 +8,7 @@ use Rattle.std.proofs.lemmas.Slice.Eq.{bytes_eq-Decides}
 use Rattle.std.proofs.lemmas.Bool.Decides.{nat_tests}
 use Rattle.gl_bits.specs.declared.kind.Kind.{Kind}
 use Rattle.gl_bits.specs.declared.kind.Kind.TheVariants.{Unsigned, Text}
+use Rattle.gl_bits.specs.Kinds.{IsKind}
 use Rattle.gl_schema.specs.SchemaText.{kind_text}
 use Rattle.gl_schema.specs.SchemaFaults.{kind_named, kinds, one_to}
 use Rattle.gl_schema.specs.KindReading.{kind_read, text_read, small_number, sized, is_digit_from}
@@ -155,6 +156,11 @@ found : (w : List ℕ) (k : Kind) → ReadAs w k → kind_named (kind_text k) �
 found w (Unsigned n) r = unsigned_found n r.low r.high
 found w (Text n) r = text_is_found n r.low r.high
 
+-- a kind is found by its text
+pub kind_is_named : (k : Kind) → IsKind k → kind_named (kind_text k) ≡ Some k
+kind_is_named (Unsigned n) h = unsigned_found n h.0 h.1
+kind_is_named (Text n) h = text_is_found n h.0 h.1
+
 -- the kind that is found first has the word as its text
 find_none : (p : Kind → Bool) (ks : List Kind) → AllByRecursion (λ k. p k ≡ false) ks → find p ks ≡ None
 find_none p [] h = refl
@@ -172,3 +178,11 @@ found_as w (Some k) h = let r = read_tells w k h in sym (ap kind_named (sym (tex
 
 pub kind_found : (w : List ℕ) → kind_read w ≡ kind_named w
 kind_found w = found_as w (kind_read w) refl
+
+is_kind_read : (w : List ℕ) (k : Kind) → ReadAs w k → IsKind k
+is_kind_read w (Unsigned n) r = (r.low, r.high)
+is_kind_read w (Text n) r = (r.low, r.high)
+
+-- the kind that is found is one, and the word is its text
+pub kind_named_is : (w : List ℕ) (k : Kind) → kind_named w ≡ Some k → (kind_text k ≡ w) × IsKind k
+kind_named_is w k h = let r = read_tells w k (kind_found w ∙ h) in (text_of w k r, is_kind_read w k r)

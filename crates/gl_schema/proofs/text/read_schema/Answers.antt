@@ -1,21 +1,19 @@
-use Rattle.std.proofs.Common.{◌≡◌, ℕ, ◌+◌, length, drop, subst, refl, sym, ap, ◌∙◌, arith}
-use Rattle.std.proofs.lemmas.Result.{err_from_is_err_and}
-use Rattle.gl_schema.specs.declared.reading.Reading.{Reading}
-use Rattle.gl_schema.specs.SchemaText.{tokens_from, Between, tokens_of}
-use Rattle.gl_schema.specs.SchemaFaults.{Gives, Fails, schema_of, schema_from}
-use Rattle.gl_schema.proofs.Steps.{goes_on, stops}
+use Rattle.std.proofs.Common.{◌≡◌, List, ℕ, Result, Ok, Err, subst}
+use Rattle.std.specs.Prelude.{IfOk}
+use Rattle.gl_schema.specs.declared.schema.Schema.{Schema}
+use Rattle.gl_schema.specs.declared.fault.SchemaFault.{SchemaFault}
+use Rattle.gl_schema.specs.SchemaText.{IsSchemaText}
+use Rattle.gl_schema.specs.SchemaFaults.{Gives, schema_of}
+use Rattle.gl_schema.proofs.Complete.{read_again}
+use Rattle.gl_schema.proofs.Sound.{read_is}
 use Rattle.gl_schema.proofs.text.read_schema.Goals as goal
 
-pub loop-at-init : goal.loop-at-init
-unfolding schema_of tokens_of
-loop-at-init c = record { inside = tt; same = ap (schema_from (length c.args.text.now) (tokens_from Between 0 c.args.text.now)) c.new-reading.ensures }
+found_in : (text : List ℕ) (r : Result Schema SchemaFault) → Gives r (schema_of text) → IfOk r (IsSchemaText text)
+found_in text (Ok s) h = read_is text s h
+found_in text (Err e) h = tt
 
-pub loop-at-preserved : goal.loop-at-preserved
-loop-at-preserved c = record {
-  inside = c.in_ok-standing.ensures.0;
-  same = goes_on c.args.text.now (length c.args.text.now) c.loop-at.at c.loop-at.standing c.loop-at.reading c.in_ok-standing.field-0-0 c.in_ok-standing.field-0-1 (omega arith) c.in_ok-standing.ensures ∙ c.loop-at.invariant.same }
+pub returns-clause-found : goal.returns-clause-found
+returns-clause-found c = found_in c.args.text.now c.read.result c.read.ensures
 
-pub returns-in_err-standing : goal.returns-in_err-standing
-returns-in_err-standing c =
-    let failed = subst (Fails c.in_err-standing.field-0.0) c.loop-at.invariant.same (stops c.args.text.now (length c.args.text.now) c.loop-at.at c.loop-at.standing c.loop-at.reading c.in_err-standing.field-0.0 (omega arith) c.in_err-standing.ensures) in
-    let p = err_from_is_err_and c.from_residual.result c.from_residual.ensures.1 in rw (p.1, p.2) (record { exact = failed })
+pub returns-clause-only : goal.returns-clause-only
+returns-clause-only c schema is = subst (Gives c.read.result) (read_again c.args.text.now schema is) c.read.ensures

@@ -2,7 +2,7 @@ use Rattle.std.proofs.Common.{◌≡◌, length, drop}
 use Rattle.gl_schema.specs.SchemaText.{tokens_from}
 use Rattle.gl_schema.specs.SchemaFaults.{schema_from, schema_of}
 use Rattle.gl_schema.specs.Lexing.{open_at, IsInside}
-use Rattle.gl_schema.proofs.text.read_schema.Given as goal
+use Rattle.gl_schema.proofs.text.read.Given as goal
 
 -- what is left to read gives what the whole text gives
 abbrev pub invariant-loop-at : goal.invariant-loop-at
