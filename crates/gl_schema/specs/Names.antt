@@ -14,13 +14,17 @@ is_digit b = nat_le 48 b && nat_le b 57
 abbrev pub is_name_byte : ℕ → Bool
 is_name_byte b = is_lower b || is_digit b || (b == 95)
 
+-- each byte may stand in a name
+unfoldable pub has_name_bytes : List ℕ → Bool
+has_name_bytes bytes = list_all is_name_byte bytes
+
 -- the first byte is a small letter
-abbrev pub begins_with_letter : List ℕ → Bool
+unfoldable pub begins_with_letter : List ℕ → Bool
 begins_with_letter [] = false
 begins_with_letter (b ∷ bs) = is_lower b
 
 -- an underscore stands last or before another underscore
-abbrev pub has_loose_underscore : List ℕ → Bool
+unfoldable pub has_loose_underscore : List ℕ → Bool
 has_loose_underscore [] = false
 has_loose_underscore (a ∷ []) = a == 95
 has_loose_underscore (a ∷ b ∷ bs) = ((a == 95) && (b == 95)) || has_loose_underscore (b ∷ bs)
@@ -36,14 +40,14 @@ keywords = codes "select" ∷ codes "from" ∷ codes "where" ∷ codes "group" �
 unfoldable pub reserved : List (List ℕ)
 reserved = codes "end" ∷ codes "tick" ∷ codes "valid" ∷ codes "eos" ∷ []
 
--- one of these words
-abbrev pub is_among : List (List ℕ) → List ℕ → Bool
-is_among words bytes = list_any (bytes_eq bytes) words
+-- a word with another meaning
+unfoldable pub is_taken : List ℕ → Bool
+is_taken bytes = list_any (bytes_eq bytes) keywords || list_any (bytes_eq bytes) reserved
 
 -- a small letter, then small letters, digits and single underscores, none last: at most 32 bytes, and no word with another meaning
 unfoldable pub is_name : List ℕ → Bool
-is_name bytes = begins_with_letter bytes && list_all is_name_byte bytes && not (has_loose_underscore bytes) && nat_le (length bytes) 32
-    && not (is_among keywords bytes) && not (is_among reserved bytes)
+is_name bytes = nat_le (length bytes) 32 && begins_with_letter bytes && has_name_bytes bytes && not (has_loose_underscore bytes)
+    && not (is_taken bytes)
 
 abbrev pub IsName : List ℕ → Type 0
 IsName bytes = IsTrue (is_name bytes)

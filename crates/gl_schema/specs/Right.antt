@@ -1,5 +1,6 @@
 -- A run is right: its rows are a result of what came in, and it ends in time.
-use Rattle.std.specs.Prelude.{◌≡◌, ℕ, ◌+◌, ◌<◌, ◌≤◌, Bool, true, false, List, Option, None, IsTrue, IsFalse}
+use Rattle.std.specs.Prelude.{◌≡◌, ℕ, ◌+◌, ◌<◌, ◌≤◌, Bool, List, [], ◌∷◌, Option, Some, None, IsSome, IsTrue, IsFalse, filter_map, if◌then◌else◌}
+use Rattle.std.specs.List.{AllByRecursion}
 use Rattle.gl_schema.specs.Beats.{Beat, last_cycle, input_of}
 use Rattle.gl_schema.specs.Ports.{PortValues}
 use Rattle.gl_schema.specs.Seen.{Shown, shown, seen, rows_of}
@@ -19,3 +20,17 @@ pub record IsRight (means : Meaning) (latency : ℕ) (beats : List Beat) (outs :
   pub none_later : (n : ℕ) → ended < n → (shown port outs n).row ≡ None
   pub no_overflow : (n : ℕ) → IsFalse (shown port outs n).queue
   pub meets : means (λ k. input_of k beats) (rows_of (seen port outs ended)) (shown port outs ended).group
+
+-- the cycle of an end
+abbrev pub end_in : Shown → Option ℕ
+end_in s = if s.end then Some s.cycle else None
+
+-- the same, told of the file cycles 0 to n: the end is seen in one of them, and so on
+pub record IsRightTo (means : Meaning) (latency : ℕ) (beats : List Beat) (outs : List (List ℕ)) (port : PortValues) (n : ℕ) : Type 0 where
+  pub ended : ℕ
+  pub soonest : last_cycle beats ≤ ended
+  pub in_time : ended ≤ last_cycle beats + latency
+  pub ends : filter_map end_in (seen port outs n) ≡ ended ∷ []
+  pub none_later : AllByRecursion (λ s. IsSome s.row → s.cycle ≤ ended) (seen port outs n)
+  pub no_overflow : AllByRecursion (λ s. IsFalse s.queue) (seen port outs n)
+  pub meets : means (λ k. input_of k beats) (rows_of (seen port outs n)) (shown port outs ended).group

@@ -10,8 +10,8 @@ use Rattle.gl_schema.specs.declared.fault.SchemaFault.TheVariants.{Syntax, BadNa
 use Rattle.gl_schema.specs.declared.reading.Place.{Place}
 use Rattle.gl_schema.specs.declared.reading.Place.TheVariants as place
 use Rattle.gl_schema.specs.declared.reading.Reading.{Reading}
-use Rattle.gl_schema.specs.Names.{is_name, is_among}
-use Rattle.gl_schema.specs.Schemas.{column_names, stream_names}
+use Rattle.gl_schema.specs.Names.{is_name}
+use Rattle.gl_schema.specs.Schemas.{has_stream, has_column}
 use Rattle.gl_schema.specs.SchemaText.{Token, Mark, Word, Sign, kind_text, tokens_of}
 
 -- the numbers from one to n, in order
@@ -37,12 +37,12 @@ stream_next r at w = if not (bytes_eq w (codes "stream")) then Err (Syntax at) e
 
 -- in a stream's place a name that no stream has
 abbrev pub name_next : Reading → ℕ → List ℕ → Result Reading SchemaFault
-name_next r at w = if not (is_name w) then Err (BadName at) else if is_among (stream_names r.streams) w then Err (Twice at) else goes_to r (place.Opening w)
+name_next r at w = if not (is_name w) then Err (BadName at) else if has_stream r.streams w then Err (Twice at) else goes_to r (place.Opening w)
 
 -- in a column's place a name that no column of the stream has, but no 33rd one
 abbrev pub column_next : Reading → Stream → ℕ → List ℕ → Result Reading SchemaFault
 column_next r s at w = if not (is_name w) then Err (BadName at) else if nat_le 32 (length s.columns) then Err (TooMany at)
-    else if is_among (column_names s.columns) w then Err (Twice at) else goes_to r (place.Kind s w)
+    else if has_column s.columns w then Err (Twice at) else goes_to r (place.Kind s w)
 
 -- a stream with one more column
 abbrev pub with_column : Stream → List ℕ → Kind → Stream

@@ -6,6 +6,8 @@ use Rattle.gl_bits.specs.declared.kind.Kind.TheVariants.{Unsigned, Text}
 use Rattle.gl_schema.specs.declared.schema.Column.{Column}
 use Rattle.gl_schema.specs.declared.schema.Stream.{Stream}
 use Rattle.gl_schema.specs.declared.schema.Schema.{Schema}
+use Rattle.gl_schema.specs.declared.lexing.Class.{Class}
+use Rattle.gl_schema.specs.declared.lexing.Class.TheVariants.{Letter, Blank, Dash, Other}
 use Rattle.gl_schema.specs.Names.{is_digit, is_lower}
 use Rattle.gl_schema.specs.Schemas.{IsSchema}
 
@@ -24,13 +26,6 @@ word at bytes = record { at = at; mark = Word bytes }
 
 abbrev pub sign : ℕ → ℕ → Token
 sign at byte = record { at = at; mark = Sign byte }
-
--- what a byte is: part of a word, white space, a dash, of which two begin a comment, or another sign
-pub data Class : Type 0 where
-  Letter : Class
-  Blank : Class
-  Dash : Class
-  Other : Class
 
 -- a letter of either case, a digit or an underscore
 abbrev pub is_word_byte : ℕ → Bool

@@ -1,6 +1,7 @@
 -- What is seen on the output ports of a module, and the lines that tell it.
-use Rattle.std.specs.Prelude.{◌≡◌, ℕ, zero, suc, ◌/◌, ◌%◌, ◌*◌, Bool, true, false, not, ◌&&◌, ◌||◌, List, [], ◌∷◌, ◌++◌, map, Option, Some, None, codes, unwrap_or, ◌==◌, if◌then◌else◌, decimal, filter_map}
+use Rattle.std.specs.Prelude.{◌≡◌, ℕ, zero, suc, Bool, true, false, not, ◌&&◌, ◌||◌, List, [], ◌∷◌, ◌++◌, map, Option, Some, None, codes, unwrap_or, ◌==◌, if◌then◌else◌, decimal, filter_map}
 use Rattle.std.specs.List.{list_any, flat_map}
+use Rattle.std.specs.Int.{bytes_high_first}
 use Rattle.gl_bits.specs.declared.kind.Kind.{Kind}
 use Rattle.gl_bits.specs.declared.kind.Kind.TheVariants.{Unsigned, Text}
 use Rattle.gl_schema.specs.Ports.{PortValues, out_valid, out_eos, fault_group, fault_queue}
@@ -43,11 +44,6 @@ seen port outs (suc n) = seen port outs n ++ shown port outs (suc n) ∷ []
 abbrev pub rows_of : List Shown → List (List ℕ)
 rows_of all = filter_map (λ s. s.row) all
 
--- the n bytes of a word, the highest first
-abbrev pub bytes_of : ℕ → ℕ → List ℕ
-bytes_of zero v = []
-bytes_of (suc n) v = bytes_of n (v / 256) ++ (v % 256) ∷ []
-
 -- a byte in front of a text, but no zero byte in front of nothing
 abbrev pub before : ℕ → List ℕ → List ℕ
 before zero [] = []
@@ -60,18 +56,24 @@ unpadded [] = []
 unpadded (b ∷ bs) = before b (unpadded bs)
 
 -- a double quote is written twice
+abbrev pub doubled_byte : ℕ → List ℕ
+doubled_byte b = if b == 34 then 34 ∷ 34 ∷ [] else b ∷ []
+
 abbrev pub doubled : List ℕ → List ℕ
-doubled [] = []
-doubled (b ∷ bs) = (if b == 34 then 34 ∷ 34 ∷ [] else b ∷ []) ++ doubled bs
+doubled bytes = flat_map doubled_byte bytes
 
--- in double quotes where it has a comma or a double quote, as in a record of comma-separated values
+-- a text has a comma or a double quote
+unfoldable pub needs_quotes : List ℕ → Bool
+needs_quotes text = list_any (λ b. (b == 44) || (b == 34)) text
+
+-- in double quotes where it needs them, as in a record of comma-separated values (RFC 4180)
 abbrev pub quoted : List ℕ → List ℕ
-quoted text = if list_any (λ b. (b == 44) || (b == 34)) text then 34 ∷ (doubled text ++ 34 ∷ []) else text
+quoted text = if needs_quotes text then 34 ∷ (doubled text ++ 34 ∷ []) else text
 
--- a value of a kind as it is printed: a number in decimal, a text without its padding
+-- a value of a kind as it is printed: a number in decimal, the bytes of a text, the highest first, without its padding
 unfoldable pub printed : Kind → ℕ → List ℕ
 printed (Unsigned w) v = decimal v
-printed (Text n) v = quoted (unpadded (bytes_of n v))
+printed (Text n) v = quoted (unpadded (bytes_high_first n v))
 
 -- the values of a row, each behind a comma
 abbrev pub values_text : List Kind → List ℕ → List ℕ

@@ -1,5 +1,9 @@
 //! Why a text has no schema.
 
+ghost use Rattle.std.specs.Prelude.{◌≡◌};
+ghost use Rattle.gl_schema.specs.declared.fault.SchemaFault.TheVariants.{Memory};
+
+use std::alloc::AllocError;
 use thiserror::Error;
 
 /// The first fault of a text from the left, with the byte where it stands.
@@ -23,4 +27,20 @@ pub enum SchemaFault {
     /// There is no memory left.
     #[error("out of memory")]
     Memory,
+}
+
+impl From<AllocError> for SchemaFault {
+    ghost from_gives = { λ _ e. e ≡ Memory };
+
+    fn from(_e: AllocError) -> SchemaFault {
+        SchemaFault::Memory
+    }
+}
+
+impl From<gl_bits::Memory> for SchemaFault {
+    ghost from_gives = { λ _ e. e ≡ Memory };
+
+    fn from(_e: gl_bits::Memory) -> SchemaFault {
+        SchemaFault::Memory
+    }
 }

@@ -2,8 +2,17 @@
 #![tactic(auto)]
 
 pub mod fault;
+pub mod kind;
+mod lexing;
+pub mod name;
 mod reading;
+pub mod right;
 pub mod schema;
+pub mod text;
 
 pub use fault::SchemaFault;
+pub use kind::kind_named;
+pub use name::is_name;
+pub use right::right_at_each_cycle;
 pub use schema::{Column, Columns, NameText, Schema, Stream, Streams};
+pub use text::{one_schema, read_schema};

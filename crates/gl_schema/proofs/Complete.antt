@@ -1,0 +1,142 @@
+-- What spells a schema is read as that schema.
+use Rattle.std.proofs.Common.{◌≡◌, ℕ, zero, suc, ◌+◌, ◌<◌, ◌≤◌, Bool, true, false, List, [], ◌∷◌, ◌++◌, length, Option, Some, None, Result, Ok, Err, refl, sym, ap, ◌∙◌, subst, arith, append_assoc}
+use Rattle.std.specs.Prelude.{map, codes, bytes_eq, nat_le}
+use Rattle.std.specs.List.{AllByRecursion, IsDistinct, flat_map}
+use Rattle.std.proofs.lemmas.Bool.{lt-leb}
+use Rattle.std.proofs.lemmas.List.{length-append, append-nil}
+use Rattle.gl_bits.specs.declared.kind.Kind.{Kind}
+use Rattle.gl_bits.specs.declared.kind.Kind.TheVariants.{Unsigned, Text}
+use Rattle.gl_bits.specs.Kinds.{IsKind}
+use Rattle.gl_schema.specs.declared.fault.SchemaFault.{SchemaFault}
+use Rattle.gl_schema.specs.declared.schema.Column.{Column}
+use Rattle.gl_schema.specs.declared.schema.Stream.{Stream}
+use Rattle.gl_schema.specs.declared.schema.Schema.{Schema}
+use Rattle.gl_schema.specs.declared.reading.Reading.{Reading}
+use Rattle.gl_schema.specs.declared.reading.Place.{Place}
+use Rattle.gl_schema.specs.declared.reading.Place.TheVariants as place
+use Rattle.gl_schema.specs.Names.{IsName}
+use Rattle.gl_schema.specs.Schemas.{IsColumn, IsStream, IsSchema, has_stream, has_column, column_names, stream_names}
+use Rattle.gl_schema.specs.SchemaText.{Mark, Word, Sign, Token, tokens_of, kind_text, spell_column, spell_columns, spell_stream, spell, IsSchemaText}
+use Rattle.gl_schema.specs.SchemaFaults.{mark_at, schema_from, schema_of, start, kind_named, with_column, ◌>>=◌}
+use Rattle.gl_schema.proofs.Distinct.{new_named}
+use Rattle.gl_schema.proofs.KindTable.{kind_is_named}
+
+-- the marks of a token list
+abbrev marks : List Token → List Mark
+marks ts = map (λ t. t.mark) ts
+
+-- tokens with what is left behind the first ones
+record Left (len : ℕ) (ts : List Token) (rest : List Mark) (r q : Reading) : Type 0 where
+  others : List Token
+  marked : marks others ≡ rest
+  same : schema_from len ts r ≡ schema_from len others q
+
+-- these marks, wherever they stand and whatever follows, take reading from r to q
+record Reads (ms : List Mark) (r q : Reading) : Type 0 where
+  takes : (len : ℕ) (ts : List Token) (rest : List Mark) → marks ts ≡ ms ++ rest → Left len ts rest r q
+
+reads_none : (r : Reading) → Reads [] r r
+reads_none r = record { takes = λ len ts rest e. record { others = ts; marked = e; same = refl } }
+
+first_is : (t : Token) (ts : List Token) (m : Mark) (rest : List Mark) → marks (t ∷ ts) ≡ m ∷ rest → (t.mark ≡ m) × (marks ts ≡ rest)
+first_is t ts m rest e = (cc, cc)
+
+took_one : (m : Mark) (r q : Reading) → ((at : ℕ) → mark_at m r at ≡ Ok q) → (len : ℕ) (ts : List Token) (rest : List Mark) → marks ts ≡ m ∷ rest → Left len ts rest r q
+took_one m r q step len [] rest e = absurd cc
+took_one m r q step len (t ∷ ts) rest e = let p = first_is t ts m rest e in
+    record { others = ts; marked = p.1; same = ap (λ (x : Result Reading SchemaFault). x >>= schema_from len ts) (ap (λ (x : Mark). mark_at x r t.at) p.0 ∙ step t.at) }
+
+reads_one : (m : Mark) (r q : Reading) → ((at : ℕ) → mark_at m r at ≡ Ok q) → Reads (m ∷ []) r q
+reads_one m r q step = record { takes = took_one m r q step }
+
+reads_then : (a b : List Mark) (r q p : Reading) → Reads a r q → Reads b q p → Reads (a ++ b) r p
+reads_then a b r q p f g = record { takes = λ len ts rest e.
+    let x = f.takes len ts (b ++ rest) (e ∙ append_assoc a b rest) in
+    let y = g.takes len x.others rest x.marked in
+    record { others = y.others; marked = y.marked; same = x.same ∙ y.same } }
+
+abbrev at : List Stream → Place → Reading
+at streams p = record { streams = streams; place = p }
+
+step_stream : (done : List Stream) → length done < 8 → (i : ℕ) → mark_at (Word (codes "stream")) (at done place.Stream) i ≡ Ok (at done place.Name)
+step_stream done lt i = rw (lt-leb 8 (length done) lt) refl
+
+step_name : (done : List Stream) (n : List ℕ) → IsName n → has_stream done n ≡ false → (i : ℕ) → mark_at (Word n) (at done place.Name) i ≡ Ok (at done (place.Opening n))
+step_name done n name new i = rw (name, new) refl
+
+step_column : (done : List Stream) (s : Stream) (n : List ℕ) → IsName n → length s.columns < 32 → has_column s.columns n ≡ false → (i : ℕ) → mark_at (Word n) (at done (place.Column s)) i ≡ Ok (at done (place.Kind s n))
+step_column done s n name lt new i = rw (name, lt-leb 32 (length s.columns) lt, new) refl
+
+step_kind : (done : List Stream) (s : Stream) (n : List ℕ) (k : Kind) → IsKind k → (i : ℕ) → mark_at (Word (kind_text k)) (at done (place.Kind s n)) i ≡ Ok (at done (place.Comma (with_column s n k)))
+step_kind done s n k kind i = rw (kind_is_named k kind) refl
+
+new_column : (front : List Column) (c : Column) (cs : List Column) → IsDistinct bytes_eq (column_names (front ++ c ∷ cs)) → has_column front c.name ≡ false
+unfolding has_column
+new_column front c cs distinct = new_named (λ c. c.name) front c cs distinct
+
+new_stream : (done : List Stream) (s : Stream) (ss : List Stream) → IsDistinct bytes_eq (stream_names (done ++ s ∷ ss)) → has_stream done s.name ≡ false
+unfolding has_stream
+new_stream done s ss distinct = new_named (λ s. s.name) done s ss distinct
+
+-- a stream of this name with these columns
+abbrev stream_of : List ℕ → List Column → Stream
+stream_of name columns = record { name = name; columns = columns }
+
+-- a column behind others
+reads_column : (done : List Stream) (name : List ℕ) (front : List Column) (c : Column) → IsColumn c → length front < 32 → has_column front c.name ≡ false
+    → Reads (spell_column c) (at done (place.Column (stream_of name front))) (at done (place.Comma (stream_of name (front ++ c ∷ []))))
+reads_column done name front c is lt new = reads_then (Word c.name ∷ []) (Word (kind_text c.kind) ∷ []) _ (at done (place.Kind (stream_of name front) c.name)) _
+    (reads_one _ _ _ (step_column done (stream_of name front) c.name is.name lt new))
+    (reads_one _ _ _ (step_kind done (stream_of name front) c.name c.kind is.kind))
+
+-- columns behind others
+reads_columns : (done : List Stream) (name : List ℕ) (front : List Column) (c : Column) (cs : List Column) → AllByRecursion IsColumn (c ∷ cs) → length (front ++ c ∷ cs) ≤ 32 → IsDistinct bytes_eq (column_names (front ++ c ∷ cs))
+    → Reads (spell_columns (c ∷ cs)) (at done (place.Column (stream_of name front))) (at done (place.Comma (stream_of name (front ++ c ∷ cs))))
+reads_columns done name front c [] all le distinct = reads_column done name front c all.0 (omega (arith, length-append front (c ∷ []))) (new_column front c [] distinct)
+reads_columns done name front c (d ∷ cs) all le distinct =
+    let e : (front ++ c ∷ []) ++ d ∷ cs ≡ front ++ c ∷ d ∷ cs = append_assoc front (c ∷ []) (d ∷ cs) in
+    let more = reads_columns done name (front ++ c ∷ []) d cs all.1 (subst (λ (x : List Column). length x ≤ 32) (sym e) le) (subst (λ (x : List Column). IsDistinct bytes_eq (column_names x)) (sym e) distinct) in
+    reads_then (spell_column c) (Sign 44 ∷ spell_columns (d ∷ cs)) _ (at done (place.Comma (stream_of name (front ++ c ∷ [])))) _
+      (reads_column done name front c all.0 (omega (arith, length-append front (c ∷ d ∷ cs))) (new_column front c (d ∷ cs) distinct))
+      (reads_then (Sign 44 ∷ []) (spell_columns (d ∷ cs)) _ (at done (place.Column (stream_of name (front ++ c ∷ [])))) _
+        (reads_one _ _ _ (λ i. refl))
+        (subst (λ (x : List Column). Reads (spell_columns (d ∷ cs)) (at done (place.Column (stream_of name (front ++ c ∷ [])))) (at done (place.Comma (stream_of name x)))) e more))
+
+-- columns of a stream, of which there is one at least
+reads_all_columns : (done : List Stream) (name : List ℕ) (cs : List Column) → 1 ≤ length cs → AllByRecursion IsColumn cs → length cs ≤ 32 → IsDistinct bytes_eq (column_names cs)
+    → Reads (spell_columns cs) (at done (place.Column (stream_of name []))) (at done (place.Comma (stream_of name cs)))
+reads_all_columns done name [] some' all le distinct = absurd (omega arith)
+reads_all_columns done name (c ∷ cs) some' all le distinct = reads_columns done name [] c cs all le distinct
+
+-- a stream behind others
+reads_stream : (done : List Stream) (s : Stream) → IsStream s → length done < 8 → has_stream done s.name ≡ false → Reads (spell_stream s) (at done place.Stream) (at (done ++ s ∷ []) place.Stream)
+reads_stream done s is lt new =
+    reads_then (Word (codes "stream") ∷ []) (Word s.name ∷ Sign 40 ∷ (spell_columns s.columns ++ Sign 41 ∷ Sign 59 ∷ [])) _ (at done place.Name) _ (reads_one _ _ _ (step_stream done lt))
+   (reads_then (Word s.name ∷ []) (Sign 40 ∷ (spell_columns s.columns ++ Sign 41 ∷ Sign 59 ∷ [])) _ (at done (place.Opening s.name)) _ (reads_one _ _ _ (step_name done s.name is.name new))
+   (reads_then (Sign 40 ∷ []) (spell_columns s.columns ++ Sign 41 ∷ Sign 59 ∷ []) _ (at done (place.Column (stream_of s.name []))) _ (reads_one _ _ _ (λ i. refl))
+   (reads_then (spell_columns s.columns) (Sign 41 ∷ Sign 59 ∷ []) _ (at done (place.Comma s)) _ (reads_all_columns done s.name s.columns is.some' is.columns is.most is.distinct)
+   (reads_then (Sign 41 ∷ []) (Sign 59 ∷ []) _ (at done (place.Close s)) _ (reads_one _ _ _ (λ i. refl))
+   (reads_one _ _ _ (λ i. refl))))))
+
+-- streams behind others
+reads_streams : (done ss : List Stream) → AllByRecursion IsStream ss → length (done ++ ss) ≤ 8 → IsDistinct bytes_eq (stream_names (done ++ ss)) → Reads (flat_map spell_stream ss) (at done place.Stream) (at (done ++ ss) place.Stream)
+reads_streams done [] all le distinct = subst (λ (x : List Stream). Reads [] (at done place.Stream) (at x place.Stream)) (sym (append-nil done)) (reads_none (at done place.Stream))
+reads_streams done (s ∷ ss) all le distinct =
+    let e : (done ++ s ∷ []) ++ ss ≡ done ++ s ∷ ss = append_assoc done (s ∷ []) ss in
+    let more = reads_streams (done ++ s ∷ []) ss all.1 (subst (λ (x : List Stream). length x ≤ 8) (sym e) le) (subst (λ (x : List Stream). IsDistinct bytes_eq (stream_names x)) (sym e) distinct) in
+    reads_then (spell_stream s) (flat_map spell_stream ss) _ (at (done ++ s ∷ []) place.Stream) _
+      (reads_stream done s all.0 (omega (arith, length-append done (s ∷ ss))) (new_stream done s ss distinct))
+      (subst (λ (x : List Stream). Reads (flat_map spell_stream ss) (at (done ++ s ∷ []) place.Stream) (at x place.Stream)) e more)
+
+ended : (len : ℕ) (ts : List Token) (ss : List Stream) → marks ts ≡ [] → 1 ≤ length ss → schema_from len ts (at ss place.Stream) ≡ Ok (record { streams = ss })
+ended len [] [] e some' = absurd (omega arith)
+ended len [] (s ∷ ss) e some' = refl
+ended len (t ∷ ts) ss e some' = absurd cc
+
+-- a text of a schema is read as it
+pub read_again : (text : List ℕ) (schema : Schema) → IsSchemaText text schema → schema_of text ≡ Ok schema
+unfolding schema_of
+read_again text schema is =
+    let all = reads_streams [] schema.streams is.schema'.streams is.schema'.most is.schema'.distinct in
+    let left = all.takes (length text) (tokens_of text) [] (is.spelled ∙ sym (append-nil (spell schema))) in
+    left.same ∙ ended (length text) left.others schema.streams left.marked is.schema'.some'

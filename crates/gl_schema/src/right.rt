@@ -1,0 +1,16 @@
+//! Laws about right runs.
+
+ghost use Rattle.std.specs.Prelude.{ℕ, ◌+◌, ◌≤◌, List, Bool, IsTrue};
+ghost use Rattle.gl_schema.specs.Beats as beats;
+ghost use Rattle.gl_schema.specs.Ports.{PortValues};
+ghost use Rattle.gl_schema.specs.Right.{IsRight, IsRightTo};
+
+/// A right run is right at each cycle from the latency after the last beat on: in the cycles that
+/// were seen by then the end came once, and the rows are a result, whatever test tells results.
+pub fn right_at_each_cycle()
+    ensures { (test : (ℕ → List (List ℕ)) → List (List ℕ) → Bool → Bool) (latency : ℕ) (all : List beats.Beat) (outs : List (List ℕ)) (port : PortValues) (n : ℕ)
+        → beats.last_cycle all + latency ≤ n
+        → IsRight (λ ins rows spill. IsTrue (test ins rows spill)) latency all outs port
+        → IsRightTo (λ ins rows spill. IsTrue (test ins rows spill)) latency all outs port n }
+{
+}
