@@ -1,0 +1,12 @@
+use Rattle.std.proofs.Common.{◌≡◌, ◌-◌, ◌<◌, length, drop, Vec}
+use Rattle.std.specs.Prelude.{map}
+use Rattle.gl_verilog.specs.View.{assignment_of}
+use Rattle.gl_verilog.specs.Order.{IsOrdered}
+use Rattle.gl_verilog_check.specs.Kept.{AreMarks}
+use Rattle.gl_verilog_check.proofs.runnable.marks_of.Given as goal
+
+abbrev pub invariant-loop-done : goal.invariant-loop-done
+invariant-loop-done l = record {
+  marks : AreMarks (map assignment_of (drop (length l.assignments - l.done) l.assignments)) l.marks.items;
+  ordered : IsOrdered (map assignment_of (drop (length l.assignments - l.done) l.assignments));
+}

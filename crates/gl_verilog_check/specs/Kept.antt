@@ -1,0 +1,143 @@
+-- Tests of a module: the width of an expression whose operators keep their widths, or nothing.
+use Rattle.std.specs.Prelude.{◌≡◌, ◌||◌, unwrap_or, slice_set, ℕ, ◌+◌, ◌-◌, ◌^◌, Bool, true, false, not, ◌&&◌, List, Option, Some, None, slice_get, option_and_then, nat_eq, nat_le, nat_lt, if◌then◌else◌}
+use Rattle.gl_verilog.specs.Module.{Kind, Input, OutputWire, OutputRegister, Wire, Register, Memory, Declaration, BinaryOp, Expr, Net, Literal, Invert, Binary, Choose, Join, Select, Read, Statement, Nothing, Put, Write, Both, If, Assignment}
+use Rattle.gl_verilog.specs.Order.{IsUndriven, IsOrdered}
+use Rattle.gl_verilog.specs.Widths.{is_clock, width_after, width_of, KeepsWidths, KeepsWidth, KeepsWidthsIn, HasSize, IsDriven}
+use Rattle.std.specs.List.{AllByRecursion}
+
+abbrev pub clock_test : Declaration → Bool
+clock_test d = is_clock d
+
+abbrev pub is_memory : Kind → Bool
+is_memory (Memory bits) = true
+is_memory _ = false
+
+-- a width of 1 to 128 bits
+abbrev pub is_width : ℕ → Bool
+is_width w = nat_le 1 w && nat_le w 128
+
+-- the width, where the test holds
+abbrev pub only : Bool → ℕ → Option ℕ
+only true w = Some w
+only false w = None
+
+-- the width of a net or register that may be read
+abbrev pub net_width : Declaration → Option ℕ
+net_width d = only (not (is_memory d.kind) && not (is_clock d)) d.width
+
+-- the width of a part of a vector
+abbrev pub part_width : ℕ → ℕ → Declaration → Option ℕ
+part_width high low d = only (not (is_memory d.kind) && not (is_clock d) && d.is_vector && nat_lt high d.width && nat_le low high) (high + 1 - low)
+
+abbrev pub has_address : Kind → ℕ → Bool
+has_address (Memory bits) address = nat_eq bits address
+has_address _ address = false
+
+-- the width of a memory's words, where its addresses have this width
+abbrev pub word_width : ℕ → Declaration → Option ℕ
+word_width address d = only (has_address d.kind address) d.width
+
+abbrev pub invert_width : ℕ → ℕ → Option ℕ
+invert_width width w = only (nat_eq w width) width
+
+abbrev pub choose_width : ℕ → ℕ → ℕ → Option ℕ
+choose_width test a b = only (nat_eq test 1 && nat_eq b a) a
+
+abbrev pub join_width : ℕ → ℕ → ℕ → Option ℕ
+join_width low_width high low = only (nat_eq low low_width && nat_le (high + low_width) 128) (high + low_width)
+
+abbrev pub literal_width : ℕ → ℕ → Option ℕ
+literal_width value width = only (is_width width && nat_lt value (2 ^ width)) width
+
+abbrev pub both_width : BinaryOp → ℕ → ℕ → ℕ → Option ℕ
+both_width op width x y = only (nat_eq x width && nat_eq y width) (width_after op width)
+
+-- the width of an expression, where it keeps all widths
+abbrev pub kept : List Declaration → Expr → Option ℕ
+kept ds (Net n) = option_and_then net_width (slice_get ds n)
+kept ds (Literal value width) = literal_width value width
+kept ds (Invert width arg) = option_and_then (invert_width width) (kept ds arg)
+kept ds (Binary op width left right) = option_and_then (λ x. option_and_then (λ y. both_width op width x y) (kept ds right)) (kept ds left)
+kept ds (Choose test yes' no') = option_and_then (λ t. option_and_then (λ a. option_and_then (λ b. choose_width t a b) (kept ds no')) (kept ds yes')) (kept ds test)
+kept ds (Join low_width high low) = option_and_then (λ h. option_and_then (λ l. join_width low_width h l) (kept ds low)) (kept ds high)
+kept ds (Select high low n) = option_and_then (part_width high low) (slice_get ds n)
+kept ds (Read memory address) = option_and_then (λ w. option_and_then (word_width w) (slice_get ds memory)) (kept ds address)
+
+abbrev pub is_driven : Kind → Bool
+is_driven OutputWire = true
+is_driven Wire = true
+is_driven _ = false
+
+abbrev pub is_register : Kind → Bool
+is_register OutputRegister = true
+is_register Register = true
+is_register _ = false
+
+-- a value of this width may be assigned to the declaration
+abbrev pub takes : (Kind → Bool) → ℕ → Declaration → Option ℕ
+takes may w d = only (may d.kind && nat_eq w d.width) w
+
+abbrev pub only_taken : Bool → ℕ → Declaration → Option ℕ
+only_taken may w d = only (may && nat_eq w d.width) w
+
+-- the width of an assignment to a net
+abbrev pub assigned_width : List Declaration → Assignment → Option ℕ
+assigned_width ds a = option_and_then (λ w. option_and_then (takes is_driven w) (slice_get ds a.target)) (kept ds a.value)
+
+-- the width of what a register takes
+abbrev pub put_width : List Declaration → ℕ → Expr → Option ℕ
+put_width ds r value = option_and_then (λ w. option_and_then (takes is_register w) (slice_get ds r)) (kept ds value)
+
+-- a memory of this address width, and of this width
+abbrev pub takes_word : ℕ → ℕ → Declaration → Option ℕ
+takes_word address w d = only (has_address d.kind address && nat_eq w d.width) w
+
+-- the width of what a word of a memory takes
+abbrev pub write_width : List Declaration → ℕ → Expr → Expr → Option ℕ
+write_width ds memory address value = option_and_then (λ a. option_and_then (λ w. option_and_then (takes_word a w) (slice_get ds memory)) (kept ds value)) (kept ds address)
+
+abbrev pub memory_fits : Kind → Bool
+memory_fits (Memory bits) = nat_le 1 bits && nat_le bits 32
+memory_fits _ = true
+
+-- 1 to 128 bits, and for a memory 1 to 32 address bits
+abbrev pub has_size : Declaration → Bool
+has_size d = is_width d.width && memory_fits d.kind
+
+-- whether an expression reads a net that is marked, or one past the marks
+abbrev pub reads : List Bool → Expr → Bool
+reads marks (Net n) = unwrap_or (slice_get marks n) true
+reads marks (Literal value width) = false
+reads marks (Invert width arg) = reads marks arg
+reads marks (Binary op width left right) = reads marks left || reads marks right
+reads marks (Choose test yes' no') = reads marks test || (reads marks yes' || reads marks no')
+reads marks (Join low_width high low) = reads marks high || reads marks low
+reads marks (Select high low n) = unwrap_or (slice_get marks n) true
+reads marks (Read memory address) = reads marks address
+
+-- exactly the nets that these assignments drive are marked
+pub record AreMarks (assignments : List Assignment) (marks : List Bool) : Type 0 where
+  pub undriven : (n : ℕ) → slice_get marks n ≡ Some false → IsUndriven assignments n
+  pub driven : (n : ℕ) → slice_get marks n ≡ Some true → IsUndriven assignments n → ⊥
+
+-- one more net is marked, which no mark was on, and what drives it reads no marked net
+pub record Marked (old new : List Bool) (a : Assignment) : Type 0 where
+  pub fresh : slice_get old a.target ≡ Some false
+  pub set : new ≡ slice_set old a.target true
+  pub apart : reads new a.value ≡ false
+
+-- every net that wants a driver is marked
+abbrev pub AllDriven : List Declaration → List Bool → Type 0
+AllDriven ds marks = (n : ℕ) (d : Declaration) → slice_get ds n ≡ Some d → is_driven d.kind ≡ true → slice_get marks n ≡ Some true
+
+-- an expression of one bit
+abbrev pub IsTest : List Declaration → Expr → Type 0
+IsTest ds e = (width_of ds e ≡ 1) × KeepsWidths ds e
+
+-- the parts of a module that can run
+pub record PartsRun (ds : List Declaration) (as' : List Assignment) (bs : List Statement) : Type 0 where
+  pub sizes : AllByRecursion HasSize ds
+  pub assignments : AllByRecursion (KeepsWidth ds) as'
+  pub blocks : AllByRecursion (KeepsWidthsIn ds) bs
+  pub driven : (n : ℕ) (d : Declaration) → slice_get ds n ≡ Some d → IsDriven d.kind → IsUndriven as' n → ⊥
+  pub ordered : IsOrdered as'

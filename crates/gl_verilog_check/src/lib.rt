@@ -1,0 +1,7 @@
+//! Whether a module can run: widths are kept, each net is driven, and no net depends on itself.
+#![tactic(auto)]
+
+pub mod runnable;
+pub mod widths;
+
+pub use runnable::is_runnable;
