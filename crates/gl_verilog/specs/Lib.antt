@@ -1,2 +1,3 @@
 pub mod Module
 pub mod Run
+pub mod Tokens
