@@ -1,3 +1,10 @@
 pub mod Module
 pub mod Run
+pub mod View
 pub mod Tokens
+pub mod Written
+pub mod Limits
+pub mod Resolve
+pub mod Valid
+pub mod Text
+pub mod Cost

@@ -1,5 +1,9 @@
 //! The Verilog subset: when a text has a module, and what the runs of a module are.
 #![tactic(auto)]
 
+pub mod module;
+
+pub use module::{Assignment, BinaryOp, Declaration, Expr, Kind, Module, Statement};
+
 /// The most bits of a word.
 pub const MOST_WIDTH: u8 = 128;
