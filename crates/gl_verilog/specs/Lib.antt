@@ -8,3 +8,4 @@ pub mod Resolve
 pub mod Valid
 pub mod Text
 pub mod Cost
+pub mod Machine

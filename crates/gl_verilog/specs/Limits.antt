@@ -68,8 +68,8 @@ AreShort Ended = Unit {0}
 -- an item has at most 64 brackets and `begin` open at once and at most 1,024 `if`; of every other item
 -- one bracket at most is open at once
 abbrev pub KeepsLimits : WrittenItem → Type 0
-KeepsLimits (Wires range name more) = Unit {0}
-KeepsLimits (Registers range name more) = Unit {0}
+KeepsLimits (Wires range names) = Unit {0}
+KeepsLimits (Registers range names) = Unit {0}
 KeepsLimits (MemoryOf range name last) = Unit {0}
 KeepsLimits (Assign target value) = (depth_of value ≤ 64) × IsShort value
 KeepsLimits (Always clock body) = (depth_in body ≤ 64) × (ifs_in body ≤ 1024) × AreShort body

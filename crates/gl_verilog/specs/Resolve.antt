@@ -144,16 +144,16 @@ clocked ds clock = if bytes_eq clock (codes "clk") then number_of ds clock else 
 
 abbrev pub resolve_items : List Declaration → List WrittenItem → Option Resolved
 resolve_items ds [] = Some (record { declarations = ds; assignments = []; blocks = [] })
-resolve_items ds (Wires range name more ∷ is) = resolve_items (ds ++ map (declare Wire range) (name ∷ more)) is
-resolve_items ds (Registers range name more ∷ is) = resolve_items (ds ++ map (declare Register range) (name ∷ more)) is
+resolve_items ds (Wires range names ∷ is) = resolve_items (ds ++ map (declare Wire range) names) is
+resolve_items ds (Registers range names ∷ is) = resolve_items (ds ++ map (declare Register range) names) is
 resolve_items ds (MemoryOf range name last ∷ is) = option_and_then (λ j. resolve_items (ds ++ declare (Memory j) range name ∷ []) is) (address_bits_of (decimal_number last + 1))
 resolve_items ds (Assign target value ∷ is) = three with_assignment (number_of ds target) (resolve_expr ds value) (resolve_items ds is)
 resolve_items ds (Always clock body ∷ is) = three with_block (clocked ds clock) (resolve_statement ds body) (resolve_items ds is)
 
 abbrev pub module_from : WrittenModule → Resolved → Module
-module_from w r = record { name = w.name; ports = length w.ports + 1; declarations = r.declarations; assignments = r.assignments; blocks = r.blocks }
+module_from w r = record { name = w.name; ports = length w.ports; declarations = r.declarations; assignments = r.assignments; blocks = r.blocks }
 
 -- the module that is meant; None where a name is not declared before it is used, a block has another clock than `clk`,
 -- or a memory has not 2^j words
 abbrev pub resolve : WrittenModule → Option Module
-resolve w = option_map (module_from w) (resolve_items (map declare_port (w.port ∷ w.ports)) w.items)
+resolve w = option_map (module_from w) (resolve_items (map declare_port w.ports) w.items)

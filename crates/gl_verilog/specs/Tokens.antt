@@ -50,7 +50,7 @@ pub data Sign : Type 0 where
   AmpersandAmpersand : Sign
   BarBar : Sign
 
--- a token; a sized literal has its size's digits, its radix, and its digits without `_`; `Never` stands in no module
+-- a token; a sized literal has its size's digits, its radix, and its digits, which `_` may part; `Never` stands in no module
 pub data Token : Type 0 where
   Reserved : (word : Keyword) → Token
   Name : (bytes : List ℕ) → Token
@@ -65,10 +65,14 @@ pub data Token : Type 0 where
 abbrev pub digit_of : ℕ → ℕ
 digit_of b = if nat_le b 57 then b - 48 else (if nat_le b 70 then b - 55 else b - 87)
 
+-- the number so far, and one more digit; `_` counts for nothing
+abbrev pub with_digit : ℕ → ℕ → ℕ → ℕ
+with_digit radix before d = if nat_eq d 95 then before else before * radix + digit_of d
+
 -- the number that digits of a radix write, behind those that were read
 abbrev pub number_from : ℕ → ℕ → List ℕ → ℕ
 number_from radix before [] = before
-number_from radix before (d ∷ ds) = number_from radix (before * radix + digit_of d) ds
+number_from radix before (d ∷ ds) = number_from radix (with_digit radix before d) ds
 
 abbrev pub number_in : ℕ → List ℕ → ℕ
 number_in radix digits = number_from radix 0 digits
@@ -182,14 +186,9 @@ is_hex_letter b = (nat_le 97 b && nat_le b 102) || (nat_le 65 b && nat_le b 70)
 abbrev pub is_digit_of : ℕ → ℕ → Bool
 is_digit_of radix b = (is_digit b || is_hex_letter b) && nat_lt (digit_of b) radix
 
--- a byte behind a literal's first digit
-pub data Role : Type 0 where
-  IsDigit : Role
-  IsGap : Role
-  IsOther : Role
-
-abbrev pub role_of : ℕ → ℕ → Role
-role_of radix b = if is_digit_of radix b then IsDigit else (if nat_eq b 95 then IsGap else IsOther)
+-- a byte that goes on a literal's digits
+abbrev pub goes_on : ℕ → ℕ → Bool
+goes_on radix b = is_digit_of radix b || nat_eq b 95
 
 -- ---- reading byte by byte
 
@@ -250,10 +249,9 @@ abbrev pub at_base : Bool → List ℕ → ℕ → ℕ → ℕ → Move
 at_base true n base radix b = to (InDigits n radix (b ∷ [])) []
 at_base false n base radix b = after (number_token n ∷ Never ∷ []) (in_word (class_of b) (base ∷ []) b)
 
-abbrev pub in_digits : Role → List ℕ → ℕ → List ℕ → ℕ → Move
-in_digits IsDigit n radix ds b = to (InDigits n radix (ds ++ b ∷ [])) []
-in_digits IsGap n radix ds b = to (InDigits n radix ds) []
-in_digits IsOther n radix ds b = after (sized_token n radix ds ∷ []) (fresh b)
+abbrev pub in_digits : Bool → List ℕ → ℕ → List ℕ → ℕ → Move
+in_digits true n radix ds b = to (InDigits n radix (ds ++ b ∷ [])) []
+in_digits false n radix ds b = after (sized_token n radix ds ∷ []) (fresh b)
 
 abbrev pub after_half : Follow → ℕ → ℕ → Move
 after_half (IsPair token) b c = to Between (token ∷ [])
@@ -279,7 +277,7 @@ move (InWord w) b = in_word (class_of b) w b
 move (InNumber n) b = in_number (class_of b) n b
 move (AtQuote n) b = at_quote (radix_of b) n b
 move (AtBase n base radix) b = at_base (is_digit_of radix b) n base radix b
-move (InDigits n radix ds) b = in_digits (role_of radix b) n radix ds b
+move (InDigits n radix ds) b = in_digits (goes_on radix b) n radix ds b
 move (Half b) c = after_half (follow_of b c) b c
 move InLine b = to (in_line (nat_eq b 10)) []
 move InBlock b = to (in_block (nat_eq b 42)) []

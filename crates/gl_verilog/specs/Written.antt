@@ -199,15 +199,14 @@ pub record WrittenPort : Type 0 where
   pub name : List ℕ
 
 pub data WrittenItem : Type 0 where
-  Wires : (range : Range) (name : List ℕ) (more : List (List ℕ)) → WrittenItem
-  Registers : (range : Range) (name : List ℕ) (more : List (List ℕ)) → WrittenItem
+  Wires : (range : Range) (names : List (List ℕ)) → WrittenItem
+  Registers : (range : Range) (names : List (List ℕ)) → WrittenItem
   MemoryOf : (range : Range) (name last : List ℕ) → WrittenItem
   Assign : (target : List ℕ) (value : WrittenExpr) → WrittenItem
   Always : (clock : List ℕ) (body : WrittenStatement) → WrittenItem
 
 pub record WrittenModule : Type 0 where
   pub name : List ℕ
-  pub port : WrittenPort
   pub ports : List WrittenPort
   pub items : List WrittenItem
 
@@ -228,19 +227,27 @@ spell_range (Some high) = Mark OpenBracket ∷ Number high ∷ Mark Colon ∷ Nu
 abbrev pub spell_port : WrittenPort → List Token
 spell_port p = spell_direction p.direction ++ (spell_range p.range ++ Name p.name ∷ [])
 
--- the ports behind the first, each behind a comma
+-- ports with a comma between each two; those behind the first have it before them
+abbrev pub spell_more_ports : List WrittenPort → List Token
+spell_more_ports [] = []
+spell_more_ports (p ∷ ps) = Mark Comma ∷ (spell_port p ++ spell_more_ports ps)
+
 abbrev pub spell_ports : List WrittenPort → List Token
 spell_ports [] = []
-spell_ports (p ∷ ps) = Mark Comma ∷ (spell_port p ++ spell_ports ps)
+spell_ports (p ∷ ps) = spell_port p ++ spell_more_ports ps
 
--- the names behind the first, each behind a comma
+-- names in the same way
+abbrev pub spell_more_names : List (List ℕ) → List Token
+spell_more_names [] = []
+spell_more_names (n ∷ ns) = Mark Comma ∷ Name n ∷ spell_more_names ns
+
 abbrev pub spell_names : List (List ℕ) → List Token
 spell_names [] = []
-spell_names (n ∷ ns) = Mark Comma ∷ Name n ∷ spell_names ns
+spell_names (n ∷ ns) = Name n ∷ spell_more_names ns
 
 abbrev pub spell_item : WrittenItem → List Token
-spell_item (Wires range name more) = Reserved WireWord ∷ (spell_range range ++ Name name ∷ (spell_names more ++ Mark Semicolon ∷ []))
-spell_item (Registers range name more) = Reserved RegWord ∷ (spell_range range ++ Name name ∷ (spell_names more ++ Mark Semicolon ∷ []))
+spell_item (Wires range names) = Reserved WireWord ∷ (spell_range range ++ (spell_names names ++ Mark Semicolon ∷ []))
+spell_item (Registers range names) = Reserved RegWord ∷ (spell_range range ++ (spell_names names ++ Mark Semicolon ∷ []))
 spell_item (MemoryOf range name last) = Reserved RegWord ∷ (spell_range range ++ Name name ∷ Mark OpenBracket ∷ Number zero_digit ∷ Mark Colon ∷ Number last ∷ Mark CloseBracket ∷ Mark Semicolon ∷ [])
 spell_item (Assign target value) = Reserved AssignWord ∷ Name target ∷ Mark Equals ∷ (spell_expr value ++ Mark Semicolon ∷ [])
 spell_item (Always clock body) = Reserved AlwaysWord ∷ Mark At ∷ Mark OpenParen ∷ Reserved PosedgeWord ∷ Name clock ∷ Mark CloseParen ∷ spell_statement body
@@ -250,16 +257,23 @@ spell_items [] = []
 spell_items (i ∷ is) = spell_item i ++ spell_items is
 
 abbrev pub spell : WrittenModule → List Token
-spell m = Reserved ModuleWord ∷ Name m.name ∷ Mark OpenParen ∷ (spell_port m.port ++ (spell_ports m.ports ++ Mark CloseParen ∷ Mark Semicolon ∷ (spell_items m.items ++ Reserved EndModuleWord ∷ [])))
+spell m = Reserved ModuleWord ∷ Name m.name ∷ Mark OpenParen ∷ (spell_ports m.ports ++ Mark CloseParen ∷ Mark Semicolon ∷ (spell_items m.items ++ Reserved EndModuleWord ∷ []))
+
+-- one or more
+abbrev pub IsNonempty : {A : Type 0} → List A → Type 0
+IsNonempty [] = ⊥
+IsNonempty (x ∷ xs) = Unit {0}
 
 -- the grammar of an item
 abbrev pub IsItem : WrittenItem → Type 0
-IsItem (Wires range name more) = Unit {0}
-IsItem (Registers range name more) = Unit {0}
+IsItem (Wires range names) = IsNonempty names
+IsItem (Registers range names) = IsNonempty names
 IsItem (MemoryOf range name last) = Unit {0}
 IsItem (Assign target value) = IsExpr value
 IsItem (Always clock body) = IsStatement body
 
--- expressions and statements are grouped as the grammar groups them; the rest of the grammar is in the spelling
-abbrev pub IsWritten : WrittenModule → Type 0
-IsWritten m = AllByRecursion IsItem m.items
+-- expressions and statements are grouped as the grammar groups them, and lists of names and of ports are not empty; the
+-- rest of the grammar is in the spelling
+pub record IsWritten (m : WrittenModule) : Type 0 where
+  pub ports : IsNonempty m.ports
+  pub items : AllByRecursion IsItem m.items
