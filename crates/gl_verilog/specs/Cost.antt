@@ -1,30 +1,21 @@
--- What a module declares of storage.
-use Rattle.std.specs.Prelude.{ℕ, ◌+◌, ◌*◌, ◌^◌, List, [], ◌∷◌}
-use Rattle.gl_verilog.specs.Module.{Module, Declaration, Kind, OutputRegister, Register, Memory}
+-- What a module costs: the register bits and the memory bits that it declares.
+use Rattle.std.specs.Prelude.{ℕ, ◌*◌, ◌^◌, List}
+use Rattle.std.specs.List.{sum_by}
+use Rattle.gl_verilog.specs.Module.{Kind, OutputRegister, Register, Memory, Declaration, Module}
 
--- the bits of a declared register
-abbrev pub register_bits : Kind → ℕ → ℕ
-register_bits OutputRegister width = width
-register_bits Register width = width
-register_bits _ width = 0
+abbrev pub register_bits_of : Kind → ℕ → ℕ
+register_bits_of OutputRegister width = width
+register_bits_of Register width = width
+register_bits_of _ width = 0
 
--- the bits of all words of a declared memory
-abbrev pub memory_bits : Kind → ℕ → ℕ
-memory_bits (Memory address_bits) width = width * 2 ^ address_bits
-memory_bits _ width = 0
+abbrev pub memory_bits_of : Kind → ℕ → ℕ
+memory_bits_of (Memory address_bits) width = 2 ^ address_bits * width
+memory_bits_of _ width = 0
 
-abbrev pub registers_of : List Declaration → ℕ
-registers_of [] = 0
-registers_of (d ∷ ds) = register_bits d.kind d.width + registers_of ds
+-- the bits of all registers, output registers included
+abbrev pub register_bits : Module → ℕ
+register_bits m = sum_by (λ d. register_bits_of d.kind d.width) m.declarations
 
-abbrev pub memories_of : List Declaration → ℕ
-memories_of [] = 0
-memories_of (d ∷ ds) = memory_bits d.kind d.width + memories_of ds
-
--- register bits and memory bits
-pub record Cost : Type 0 where
-  pub registers : ℕ
-  pub memories : ℕ
-
-abbrev pub cost_of : Module → Cost
-cost_of m = record { registers = registers_of m.declarations; memories = memories_of m.declarations }
+-- the bits of all memories
+abbrev pub memory_bits : Module → ℕ
+memory_bits m = sum_by (λ d. memory_bits_of d.kind d.width) m.declarations

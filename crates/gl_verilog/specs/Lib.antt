@@ -1,11 +1,15 @@
 pub mod Module
 pub mod Run
 pub mod View
+pub mod Widths
+pub mod Order
+pub mod Runnable
+pub mod Cost
+pub mod Evaluate
 pub mod Tokens
 pub mod Written
 pub mod Limits
 pub mod Resolve
 pub mod Valid
 pub mod Text
-pub mod Cost
 pub mod Machine

@@ -1,42 +1,17 @@
 -- From a written module to its module: names become the numbers of their declarations, digits become numbers, and
 -- operators keep their operands' width. A name resolves where it is declared before it is used.
-use Rattle.std.specs.Prelude.{ℕ, zero, suc, ◌+◌, ◌-◌, ◌^◌, true, false, List, [], ◌∷◌, ◌++◌, map, length, Option, Some, None, option_map, option_and_then, slice_get, nat_eq, if◌then◌else◌, codes}
+use Rattle.std.specs.Prelude.{ℕ, zero, suc, ◌+◌, ◌^◌, true, false, List, [], ◌∷◌, ◌++◌, map, length, Option, Some, None, option_map, option_and_then, nat_eq, if◌then◌else◌, codes}
 use Rattle.std.specs.Str.{bytes_eq}
 use Rattle.gl_verilog.specs.Tokens.{number_in}
+use Rattle.gl_verilog.specs.Widths.{width_of}
 use Rattle.gl_verilog.specs.Written.{PrefixOp, BitNot, LogicalNot, InfixOp, Times, Added, Subtracted, Below, AtMost, Above, AtLeast, Equal, NotEqual, BitAnd, BitXor, BitOr, LogicalAnd, LogicalOr, WrittenExpr, Named, Constant, BitOf, PartOf, WordOf, Braces, Parts, Parens, Prefix, Infix, Conditional, WrittenStatement, Update, UpdateWord, IfThen, IfElse, Block, Listed, Ended, Direction, In, InWire, Out, OutWire, OutReg, Range, WrittenPort, WrittenItem, Wires, Registers, MemoryOf, Assign, Always, WrittenModule}
-use Rattle.gl_verilog.specs.Module.{Module, Declaration, Assignment, Kind, Input, OutputWire, OutputRegister, Wire, Register, Memory, BinaryOp, Add, Sub, Mul, And, Xor, Or, Eq, Ne, Lt, Le, Gt, Ge, Expr, Net, Literal, Invert, Binary, Choose, Join, Select, Read, Statement, Nothing, Put, Write, Both, If, number_of}
+use Rattle.gl_verilog.specs.Module.{Module, Declaration, Assignment, Kind, Input, OutputWire, OutputRegister, Wire, Register, Memory, Add, Sub, Mul, And, Xor, Or, Eq, Ne, Lt, Le, Gt, Ge, Expr, Net, Literal, Invert, Binary, Choose, Join, Select, Read, Statement, Nothing, Put, Write, Both, If, number_of}
 
--- ---- widths
+-- ---- names
 
--- the declared width of a net, and of a word of a memory
-abbrev pub width_at : List Declaration → ℕ → ℕ
-width_at ds n = elim (slice_get ds n) [ None ↦ 0 | Some d ↦ d.width ]
-
--- what an operator gives for operands of a width
-abbrev pub width_by : BinaryOp → ℕ → ℕ
-width_by Add w = w
-width_by Sub w = w
-width_by Mul w = w
-width_by And w = w
-width_by Xor w = w
-width_by Or w = w
-width_by Eq w = 1
-width_by Ne w = 1
-width_by Lt w = 1
-width_by Le w = 1
-width_by Gt w = 1
-width_by Ge w = 1
-
--- the width of an expression
-abbrev pub width_of : List Declaration → Expr → ℕ
-width_of ds (Net n) = width_at ds n
-width_of ds (Literal value width) = width
-width_of ds (Invert width arg) = width
-width_of ds (Binary op width left right) = width_by op width
-width_of ds (Choose test yes' no') = width_of ds yes'
-width_of ds (Join low_width high low) = width_of ds high + low_width
-width_of ds (Select high low n) = high + 1 - low
-width_of ds (Read memory address) = width_at ds memory
+-- the number of a name in an expression; only a block may name the clock
+abbrev pub number_read : List Declaration → List ℕ → Option ℕ
+number_read ds name = if bytes_eq name (codes "clk") then None else number_of ds name
 
 -- ---- expressions
 
@@ -76,11 +51,11 @@ decimal_number digits = number_in 10 digits
 
 -- the expression that is meant where these are the declarations before it
 abbrev pub resolve_expr : List Declaration → WrittenExpr → Option Expr
-resolve_expr ds (Named name) = option_map Net (number_of ds name)
+resolve_expr ds (Named name) = option_map Net (number_read ds name)
 resolve_expr ds (Constant size radix digits) = Some (Literal (number_in radix digits) (decimal_number size))
-resolve_expr ds (BitOf name place) = option_map (Select (decimal_number place) (decimal_number place)) (number_of ds name)
-resolve_expr ds (PartOf name high low) = option_map (Select (decimal_number high) (decimal_number low)) (number_of ds name)
-resolve_expr ds (WordOf name address) = both Read (number_of ds name) (resolve_expr ds address)
+resolve_expr ds (BitOf name place) = option_map (Select (decimal_number place) (decimal_number place)) (number_read ds name)
+resolve_expr ds (PartOf name high low) = option_map (Select (decimal_number high) (decimal_number low)) (number_read ds name)
+resolve_expr ds (WordOf name address) = both Read (number_read ds name) (resolve_expr ds address)
 resolve_expr ds (Braces parts) = resolve_expr ds parts
 resolve_expr ds (Parts first rest) = both (joined ds) (resolve_expr ds first) (resolve_expr ds rest)
 resolve_expr ds (Parens inner) = resolve_expr ds inner
@@ -153,7 +128,7 @@ resolve_items ds (Always clock body ∷ is) = three with_block (clocked ds clock
 abbrev pub module_from : WrittenModule → Resolved → Module
 module_from w r = record { name = w.name; ports = length w.ports; declarations = r.declarations; assignments = r.assignments; blocks = r.blocks }
 
--- the module that is meant; None where a name is not declared before it is used, a block has another clock than `clk`,
--- or a memory has not 2^j words
+-- the module that is meant; None where a name is not declared before it is used, the clock stands in an expression, a
+-- block has another clock than `clk`, or a memory has not 2^j words
 abbrev pub resolve : WrittenModule → Option Module
 resolve w = option_map (module_from w) (resolve_items (map declare_port w.ports) w.items)

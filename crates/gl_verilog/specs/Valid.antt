@@ -1,12 +1,10 @@
 -- Which modules are valid: names, widths, kinds, drivers, and no loop.
 -- After IEEE 1364-2005, clauses 4 to 6 and 9, with the subset's own rule that all operands have equal widths.
-use Rattle.std.specs.Prelude.{◌≡◌, ℕ, ◌+◌, ◌^◌, ◌<◌, ◌≤◌, Bool, true, false, List, [], ◌∷◌, Some, None, slice_get, nat_eq, ◌&&◌, ◌||◌, if◌then◌else◌, codes}
+use Rattle.std.specs.Prelude.{◌≡◌, ℕ, ◌+◌, Bool, true, false, List, [], ◌∷◌, Some, slice_get, nat_eq, ◌&&◌, ◌||◌, if◌then◌else◌}
 use Rattle.std.specs.List.{AllByRecursion}
 use Rattle.std.specs.Str.{bytes_eq}
-use Rattle.gl_bits.specs.Words.{IsWidth}
 use Rattle.gl_verilog.specs.Module.{Module, Declaration, Assignment, Kind, Input, OutputWire, OutputRegister, Wire, Register, Memory, Expr, Net, Literal, Invert, Binary, Choose, Join, Select, Read, Statement, Nothing, Put, Write, Both, If}
-use Rattle.gl_verilog.specs.Run.{IsRegister}
-use Rattle.gl_verilog.specs.Resolve.{width_of}
+use Rattle.gl_verilog.specs.Widths.{HasSize, KeepsWidth, KeepsWidthsIn}
 
 -- ---- names
 
@@ -19,66 +17,6 @@ Differs d (e ∷ es) = (bytes_eq d.name e.name ≡ false) × Differs d es
 abbrev pub AreDistinct : List Declaration → Type 0
 AreDistinct [] = Unit {0}
 AreDistinct (d ∷ ds) = Differs d ds × AreDistinct ds
-
--- the clock, which only blocks may name
-abbrev pub is_clock : Declaration → Bool
-is_clock d = bytes_eq d.name (codes "clk")
-
--- ---- widths
-
--- what may be read by its name alone: all but the clock and memories
-abbrev pub IsReadableKind : Kind → Type 0
-IsReadableKind (Memory address_bits) = ⊥
-IsReadableKind _ = Unit {0}
-
-abbrev pub IsReadable : Declaration → Type 0
-IsReadable d = (is_clock d ≡ false) × IsReadableKind d.kind
-
-abbrev pub IsKindOfMemory : ℕ → Kind → Type 0
-IsKindOfMemory address_bits (Memory j) = j ≡ address_bits
-IsKindOfMemory address_bits _ = ⊥
-
--- a memory with so many address bits
-abbrev pub IsMemory : ℕ → Declaration → Type 0
-IsMemory address_bits d = (is_clock d ≡ false) × IsKindOfMemory address_bits d.kind
-
--- the declaration of this number is there, and is so
-abbrev pub At : List Declaration → ℕ → (Declaration → Type 0) → Type 0
-At ds n P = elim (slice_get ds n) [ None ↦ ⊥ | Some d ↦ P d ]
-
--- bits `low` to `high` of a vector
-abbrev pub HasPart : ℕ → ℕ → Declaration → Type 0
-HasPart high low d = IsReadable d × (d.is_vector ≡ true) × (low ≤ high) × (high < d.width)
-
--- operands have equal widths, a test has one bit, a literal fits its width, nothing is over 128 bits
-abbrev pub IsTyped : List Declaration → Expr → Type 0
-IsTyped ds (Net n) = At ds n IsReadable
-IsTyped ds (Literal value width) = IsWidth width × (value < 2 ^ width)
-IsTyped ds (Invert width arg) = (width_of ds arg ≡ width) × IsTyped ds arg
-IsTyped ds (Binary op width left right) = (width_of ds left ≡ width) × (width_of ds right ≡ width) × IsTyped ds left × IsTyped ds right
-IsTyped ds (Choose test yes' no') = (width_of ds test ≡ 1) × (width_of ds yes' ≡ width_of ds no') × IsTyped ds test × IsTyped ds yes' × IsTyped ds no'
-IsTyped ds (Join low_width high low) = (width_of ds low ≡ low_width) × (width_of ds high + low_width ≤ 128) × IsTyped ds high × IsTyped ds low
-IsTyped ds (Select high low n) = At ds n (HasPart high low)
-IsTyped ds (Read memory address) = At ds memory (IsMemory (width_of ds address)) × IsTyped ds address
-
--- ---- targets
-
-abbrev pub IsWireKind : Kind → Type 0
-IsWireKind OutputWire = Unit {0}
-IsWireKind Wire = Unit {0}
-IsWireKind _ = ⊥
-
--- an assignment drives a wire by an expression of its width
-abbrev pub IsTypedAssignment : List Declaration → Assignment → Type 0
-IsTypedAssignment ds a = At ds a.target (λ d. IsWireKind d.kind × (width_of ds a.value ≡ d.width)) × IsTyped ds a.value
-
--- an update is to a register, or to a word of a memory, and has its width; a test has one bit
-abbrev pub IsTypedStatement : List Declaration → Statement → Type 0
-IsTypedStatement ds Nothing = Unit {0}
-IsTypedStatement ds (Put register value) = At ds register (λ d. IsRegister d.kind × (width_of ds value ≡ d.width)) × IsTyped ds value
-IsTypedStatement ds (Write memory address value) = At ds memory (λ d. IsKindOfMemory (width_of ds address) d.kind × (width_of ds value ≡ d.width)) × IsTyped ds address × IsTyped ds value
-IsTypedStatement ds (Both first second) = IsTypedStatement ds first × IsTypedStatement ds second
-IsTypedStatement ds (If test yes' no') = (width_of ds test ≡ 1) × IsTyped ds test × IsTypedStatement ds yes' × IsTypedStatement ds no'
 
 -- ---- drivers
 
@@ -119,13 +57,13 @@ writes_of [] k = 0
 writes_of (b ∷ bs) k = writes_in b k + writes_of bs k
 
 -- a wire has one assignment, a register one block that assigns it once in each list, a memory one write
-abbrev pub IsDriven : Module → ℕ → Kind → Type 0
-IsDriven m n Input = Unit {0}
-IsDriven m n OutputWire = drivers_of m.assignments n ≡ 1
-IsDriven m n Wire = drivers_of m.assignments n ≡ 1
-IsDriven m n OutputRegister = (blocks_of m.blocks n ≡ 1) × AllByRecursion (AssignsOnce n) m.blocks
-IsDriven m n Register = (blocks_of m.blocks n ≡ 1) × AllByRecursion (AssignsOnce n) m.blocks
-IsDriven m n (Memory address_bits) = writes_of m.blocks n ≡ 1
+abbrev pub HasDriver : Module → ℕ → Kind → Type 0
+HasDriver m n Input = Unit {0}
+HasDriver m n OutputWire = drivers_of m.assignments n ≡ 1
+HasDriver m n Wire = drivers_of m.assignments n ≡ 1
+HasDriver m n OutputRegister = (blocks_of m.blocks n ≡ 1) × AllByRecursion (AssignsOnce n) m.blocks
+HasDriver m n Register = (blocks_of m.blocks n ≡ 1) × AllByRecursion (AssignsOnce n) m.blocks
+HasDriver m n (Memory address_bits) = writes_of m.blocks n ≡ 1
 
 -- ---- loops
 
@@ -158,8 +96,8 @@ HasNoLoop assignments = (n : ℕ) (by_way : List ℕ) → IsChain assignments n 
 
 pub record IsValid (m : Module) : Type 0 where
   pub names : AreDistinct m.declarations
-  pub widths : AllByRecursion (λ d. IsWidth d.width) m.declarations
-  pub assignments : AllByRecursion (IsTypedAssignment m.declarations) m.assignments
-  pub blocks : AllByRecursion (IsTypedStatement m.declarations) m.blocks
-  pub driven : (n : ℕ) (d : Declaration) → slice_get m.declarations n ≡ Some d → IsDriven m n d.kind
+  pub sizes : AllByRecursion HasSize m.declarations
+  pub assignments : AllByRecursion (KeepsWidth m.declarations) m.assignments
+  pub blocks : AllByRecursion (KeepsWidthsIn m.declarations) m.blocks
+  pub driven : (n : ℕ) (d : Declaration) → slice_get m.declarations n ≡ Some d → HasDriver m n d.kind
   pub acyclic : HasNoLoop m.assignments
