@@ -3,6 +3,7 @@
 
 pub mod bank;
 pub mod evaluation;
+pub mod law;
 pub mod module;
 
 pub use bank::Bank;
