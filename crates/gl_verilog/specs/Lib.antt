@@ -6,3 +6,10 @@ pub mod Order
 pub mod Runnable
 pub mod Cost
 pub mod Evaluate
+pub mod Tokens
+pub mod Written
+pub mod Limits
+pub mod Resolve
+pub mod Valid
+pub mod Text
+pub mod Machine
