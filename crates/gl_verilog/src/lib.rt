@@ -3,11 +3,8 @@
 
 pub mod bank;
 pub mod evaluation;
-<<<<<<< HEAD
 pub mod laws;
-=======
 pub mod law;
->>>>>>> 1f0b089aa899d8e3c9043c45650206d2797375b9
 pub mod module;
 
 pub use bank::Bank;
