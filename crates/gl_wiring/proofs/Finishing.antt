@@ -1,11 +1,11 @@
 -- A netlist with the ports of an emitted module can be finished.
 use Rattle.std.proofs.Common.{◌≡◌, ◌≢◌, ℕ, zero, suc, ◌<◌, Bool, true, false, List, [], ◌∷◌, ◌++◌, Option, Some, None, refl, sym, ap, subst, ◌∙◌, arith, codes}
 use Rattle.std.specs.Prelude.{map, slice_get, bytes_eq, IsSomeAnd}
-use Rattle.std.specs.List.{AllByRecursion}
+use Rattle.std.specs.List.{AllByRecursion, IsDistinct}
 use Rattle.std.proofs.lemmas.Slice.Eq.{bytes_eq-Decides}
 use Rattle.gl_schema.specs.declared.schema.Schema.{Schema}
 use Rattle.gl_schema.specs.Names as schema
-use Rattle.gl_schema.specs.Schemas.{IsSchema, AreDistinct}
+use Rattle.gl_schema.specs.Schemas.{IsSchema}
 use Rattle.gl_net.specs.declared.node.Port.{Port}
 use Rattle.gl_net.specs.Net.{Net, open_at, open_in}
 use Rattle.gl_net.specs.Finished.{IsName, HasReset, IsFinished, clock_name}
@@ -36,11 +36,11 @@ clock_differs : (n : List ℕ) → bytes_eq n clock_name ≡ false → n ≡ clo
 clock_differs n h e = let t = (bytes_eq-Decides n clock_name).1 e in let f : true ≡ false = sym t ∙ h in cc
 
 -- no two ports of the netlist have one name
-pub apart : (s : Schema) (cs : List (List ℕ)) (net : Net) → IsSchema s → AllByRecursion schema.IsName cs → AreDistinct cs → names_of net ≡ port_names s cs → (i j : ℕ) (p q : Port) → slice_get net.ports i ≡ Some p → slice_get net.ports j ≡ Some q → p.name ≡ q.name → i ≡ j
+pub apart : (s : Schema) (cs : List (List ℕ)) (net : Net) → IsSchema s → AllByRecursion schema.IsName cs → IsDistinct bytes_eq cs → names_of net ≡ port_names s cs → (i j : ℕ) (p q : Port) → slice_get net.ports i ≡ Some p → slice_get net.ports j ≡ Some q → p.name ≡ q.name → i ≡ j
 apart s cs net is all distinct names i j p q at there e =
     ports_apart net.ports i j p q (subst AreApart (sym names) (apart_distinct (port_names s cs) (port_names-distinct s cs is all distinct))) at there e
 
-pub finished : (s : Schema) (cs : List (List ℕ)) (into : List ℕ) (net : Net) → IsSchema s → AllByRecursion schema.IsName cs → AreDistinct cs → schema.IsName into → names_of net ≡ port_names s cs → net.name ≡ Some (codes "q__" ++ into) → ((n : ℕ) → open_at net n ≡ None) → HasReset net → IsFinished net
+pub finished : (s : Schema) (cs : List (List ℕ)) (into : List ℕ) (net : Net) → IsSchema s → AllByRecursion schema.IsName cs → IsDistinct bytes_eq cs → schema.IsName into → names_of net ≡ port_names s cs → net.name ≡ Some (codes "q__" ++ into) → ((n : ℕ) → open_at net n ≡ None) → HasReset net → IsFinished net
 finished s cs into net is all distinct named names name driven reset =
     let each : AllByRecursion IsPortName (names_of net) = subst (AllByRecursion IsPortName) (sym names) (ports_named s cs is all) in
     record {

@@ -1,14 +1,14 @@
 -- No two ports of an emitted module have one name.
 use Rattle.std.proofs.Common.{◌≡◌, ℕ, Bool, true, false, not, ◌&&◌, ◌||◌, List, [], ◌∷◌, ◌++◌, length, map, codes, refl, sym, ap, ◌∙◌, subst, drop, ◌⊎◌, inl, inr, append_assoc, arith}
 use Rattle.std.specs.Prelude.{nat_le, bytes_eq, ◌==◌, if◌then◌else◌}
-use Rattle.std.specs.List.{AllByRecursion, list_all}
+use Rattle.std.specs.List.{AllByRecursion, IsDistinct, list_any}
 use Rattle.std.proofs.lemmas.List.{append_cancel_left}
 use Rattle.std.proofs.lemmas.Slice.Eq.{bytes_eq-Decides}
 use Rattle.gl_schema.specs.declared.schema.Column.{Column}
 use Rattle.gl_schema.specs.declared.schema.Stream.{Stream}
 use Rattle.gl_schema.specs.declared.schema.Schema.{Schema}
-use Rattle.gl_schema.specs.Names.{IsName, is_name, is_among, reserved, keywords, has_loose_underscore, begins_with_letter, is_name_byte}
-use Rattle.gl_schema.specs.Schemas.{IsColumn, IsStream, IsSchema, AreDistinct, column_names, stream_names}
+use Rattle.gl_schema.specs.Names.{IsName, is_name, is_taken, reserved, keywords, has_loose_underscore, begins_with_letter, has_name_bytes}
+use Rattle.gl_schema.specs.Schemas.{IsColumn, IsStream, IsSchema, column_names, stream_names}
 use Rattle.gl_schema.specs.Ports.{rst, eos, in_valid, in_column, out_valid, out_column, out_eos, fault_group, fault_queue}
 use Rattle.gl_wiring.specs.PortNames.{column_ports, stream_ports, streams_ports, result_ports, port_names}
 
@@ -39,17 +39,16 @@ both_false false b h k = k
 bytes_eq-false : (n m : List ℕ) → (n ≡ m → ⊥) → bytes_eq n m ≡ false
 bytes_eq-false n m differ = not_true (bytes_eq n m) (λ h. differ ((bytes_eq-Decides n m).0 h))
 
-pub is_among-apart : (names : List (List ℕ)) (n : List ℕ) → Apart n names → is_among names n ≡ false
-is_among-apart [] n apart = refl
-is_among-apart (m ∷ ms) n apart = both_false (bytes_eq n m) (is_among ms n) (bytes_eq-false n m apart.0) (is_among-apart ms n apart.1)
+pub all_apart : (names : List (List ℕ)) (n : List ℕ) → Apart n names → AllByRecursion (λ m. bytes_eq n m ≡ false) names
+all_apart [] n apart = tt
+all_apart (m ∷ ms) n apart = (bytes_eq-false n m apart.0, all_apart ms n apart.1)
 
 false_true : (b : Bool) → b ≡ true → b ≡ false → ⊥
 false_true b h k = cc
 
-pub apart-is_among : (names : List (List ℕ)) (n : List ℕ) → is_among names n ≡ false → Apart n names
-apart-is_among [] n absent = tt
-apart-is_among (m ∷ ms) n absent =
-    (λ e. false_true (bytes_eq n m) ((bytes_eq-Decides n m).1 e) (or_left (bytes_eq n m) (is_among ms n) absent), apart-is_among ms n (or_right (bytes_eq n m) (is_among ms n) absent))
+pub apart_all : (names : List (List ℕ)) (n : List ℕ) → AllByRecursion (λ m. bytes_eq n m ≡ false) names → Apart n names
+apart_all [] n absent = tt
+apart_all (m ∷ ms) n absent = (λ e. false_true (bytes_eq n m) ((bytes_eq-Decides n m).1 e) absent.0, apart_all ms n absent.1)
 
 -- two texts that compare as different are
 texts_differ : (n m : List ℕ) → bytes_eq n m ≡ false → n ≡ m → ⊥
@@ -60,13 +59,15 @@ abbrev pub AreApart : List (List ℕ) → Type 0
 AreApart [] = Unit {0}
 AreApart (n ∷ ns) = Apart n ns × AreApart ns
 
-pub apart_distinct : (names : List (List ℕ)) → AreDistinct names → AreApart names
+pub apart_distinct : (names : List (List ℕ)) → IsDistinct bytes_eq names → AreApart names
+unfolding IsDistinct
 apart_distinct [] h = tt
-apart_distinct (n ∷ ns) h = (apart-is_among ns n h.0, apart_distinct ns h.1)
+apart_distinct (n ∷ ns) h = (apart_all ns n h.0, apart_distinct ns h.1)
 
-pub distinct_apart : (names : List (List ℕ)) → AreApart names → AreDistinct names
+pub distinct_apart : (names : List (List ℕ)) → AreApart names → IsDistinct bytes_eq names
+unfolding IsDistinct
 distinct_apart [] h = tt
-distinct_apart (n ∷ ns) h = (is_among-apart ns n h.0, distinct_apart ns h.1)
+distinct_apart (n ∷ ns) h = (all_apart ns n h.0, distinct_apart ns h.1)
 
 All-append : {A : Type 0} (P : A → Type 0) (xs ys : List A) → AllByRecursion P xs → AllByRecursion P ys → AllByRecursion P (xs ++ ys)
 All-append P [] ys h k = k
@@ -98,7 +99,7 @@ stream_of : List ℕ → List ℕ
 stream_of name = before_double (drop 4 name)
 
 before_double-name : (s rest : List ℕ) → has_loose_underscore s ≡ false → before_double (s ++ 95 ∷ 95 ∷ rest) ≡ s
-unfolding before_double
+unfolding before_double has_loose_underscore
 before_double-name [] rest h = refl
 before_double-name (a ∷ []) rest h = rw h refl
 before_double-name (a ∷ b ∷ bs) rest h =
@@ -120,22 +121,17 @@ not_of_true false h = refl
 
 -- what a name is, part by part
 record Name (n : List ℕ) : Type 0 where
-  letter : begins_with_letter n ≡ true
   single : has_loose_underscore n ≡ false
-  free : is_among reserved n ≡ false
+  free : list_any (bytes_eq n) reserved ≡ false
 
 name_parts : (n : List ℕ) → IsName n → Name n
-unfolding is_name
+unfolding is_name is_taken
 name_parts n h =
-    let all = h in
-    let to5 = and_left (begins_with_letter n && list_all is_name_byte n && not (has_loose_underscore n) && nat_le (length n) 32 && not (is_among keywords n)) (not (is_among reserved n)) all in
-    let to4 = and_left (begins_with_letter n && list_all is_name_byte n && not (has_loose_underscore n) && nat_le (length n) 32) (not (is_among keywords n)) to5 in
-    let to3 = and_left (begins_with_letter n && list_all is_name_byte n && not (has_loose_underscore n)) (nat_le (length n) 32) to4 in
-    let to2 = and_left (begins_with_letter n && list_all is_name_byte n) (not (has_loose_underscore n)) to3 in
+    let to3 = and_left (nat_le (length n) 32 && begins_with_letter n && has_name_bytes n && not (has_loose_underscore n)) (not (is_taken n)) h in
+    let taken = not_of_true (is_taken n) (and_right (nat_le (length n) 32 && begins_with_letter n && has_name_bytes n && not (has_loose_underscore n)) (not (is_taken n)) h) in
     record {
-      letter = and_left (begins_with_letter n) (list_all is_name_byte n) to2;
-      single = not_of_true (has_loose_underscore n) (and_right (begins_with_letter n && list_all is_name_byte n) (not (has_loose_underscore n)) to3);
-      free = not_of_true (is_among reserved n) (and_right (begins_with_letter n && list_all is_name_byte n && not (has_loose_underscore n) && nat_le (length n) 32 && not (is_among keywords n)) (not (is_among reserved n)) all) }
+      single = not_of_true (has_loose_underscore n) (and_right (nat_le (length n) 32 && begins_with_letter n && has_name_bytes n) (not (has_loose_underscore n)) to3);
+      free = or_right (list_any (bytes_eq n) keywords) (list_any (bytes_eq n) reserved) taken }
 
 in_valid-stream : (s : List ℕ) → has_loose_underscore s ≡ false → stream_of (in_valid s) ≡ s
 unfolding in_valid stream_of
@@ -195,17 +191,17 @@ columns_apart : (s : List ℕ) (cs : List Column) → AreApart (column_names cs)
 columns_apart s [] h = tt
 columns_apart s (c ∷ cs) h = (column_apart s c.name cs h.0, columns_apart s cs h.1)
 
-is_reserved : (n m : List ℕ) → IsName n → is_among reserved m ≡ true → m ≡ n → ⊥
+is_reserved : (n m : List ℕ) → IsName n → list_any (bytes_eq m) reserved ≡ true → m ≡ n → ⊥
 is_reserved n m h taken e =
-    let free : is_among reserved n ≡ false = (name_parts n h).free in
-    let same : is_among reserved n ≡ true = subst (λ k. is_among reserved k ≡ true) e taken in
-    false_true (is_among reserved n) same free
+    let free : list_any (bytes_eq n) reserved ≡ false = (name_parts n h).free in
+    let same : list_any (bytes_eq n) reserved ≡ true = subst (λ k. list_any (bytes_eq k) reserved ≡ true) e taken in
+    false_true (list_any (bytes_eq n) reserved) same free
 
-valid_is_reserved : is_among reserved (codes "valid") ≡ true
+valid_is_reserved : list_any (bytes_eq (codes "valid")) reserved ≡ true
 unfolding reserved
 valid_is_reserved = refl
 
-eos_is_reserved : is_among reserved (codes "eos") ≡ true
+eos_is_reserved : list_any (bytes_eq (codes "eos")) reserved ≡ true
 unfolding reserved
 eos_is_reserved = refl
 
@@ -353,7 +349,7 @@ inputs_apart ss cs all =
       (streams_first ss all)
 
 -- no two ports of an emitted module have one name
-pub port_names-distinct : (schema : Schema) (cs : List (List ℕ)) → IsSchema schema → AllByRecursion IsName cs → AreDistinct cs → AreDistinct (port_names schema cs)
+pub port_names-distinct : (schema : Schema) (cs : List (List ℕ)) → IsSchema schema → AllByRecursion IsName cs → IsDistinct bytes_eq cs → IsDistinct bytes_eq (port_names schema cs)
 port_names-distinct schema cs is all distinct =
     let streams = streams_ports schema.streams in
     let result = result_apart cs all (apart_distinct cs distinct) in

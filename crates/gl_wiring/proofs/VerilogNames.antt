@@ -7,7 +7,7 @@ use Rattle.gl_schema.specs.declared.schema.Column.{Column}
 use Rattle.gl_schema.specs.declared.schema.Stream.{Stream}
 use Rattle.gl_schema.specs.declared.schema.Schema.{Schema}
 use Rattle.gl_schema.specs.Names as schema
-use Rattle.gl_schema.specs.Names.{is_lower, is_name_byte, is_name, has_loose_underscore, begins_with_letter, is_among}
+use Rattle.gl_schema.specs.Names.{is_lower, is_name_byte, is_name, has_loose_underscore, begins_with_letter, has_name_bytes, is_taken}
 use Rattle.gl_schema.specs.Schemas.{IsColumn, IsStream, IsSchema}
 use Rattle.gl_schema.specs.Ports.{rst, eos, in_valid, in_column, out_valid, out_column, out_eos, fault_group, fault_queue}
 use Rattle.gl_net.specs.Finished as net
@@ -52,15 +52,13 @@ word_bytes [] h = refl
 word_bytes (c ∷ cs) h = and_both (is_word_byte c) (list_all is_word_byte cs) (word_byte c (and_left (is_name_byte c) (list_all is_name_byte cs) h)) (word_bytes cs (and_right (is_name_byte c) (list_all is_name_byte cs) h))
 
 plain : (n : List ℕ) → schema.IsName n → Plain n
-unfolding is_name
+unfolding is_name has_name_bytes
 plain n h =
-    let to5 = and_left (begins_with_letter n && list_all is_name_byte n && not (has_loose_underscore n) && nat_le (length n) 32 && not (is_among schema.keywords n)) (not (is_among schema.reserved n)) h in
-    let to4 = and_left (begins_with_letter n && list_all is_name_byte n && not (has_loose_underscore n) && nat_le (length n) 32) (not (is_among schema.keywords n)) to5 in
-    let to3 = and_left (begins_with_letter n && list_all is_name_byte n && not (has_loose_underscore n)) (nat_le (length n) 32) to4 in
-    let to2 = and_left (begins_with_letter n && list_all is_name_byte n) (not (has_loose_underscore n)) to3 in
+    let to3 = and_left (nat_le (length n) 32 && begins_with_letter n && has_name_bytes n && not (has_loose_underscore n)) (not (is_taken n)) h in
+    let to2 = and_left (nat_le (length n) 32 && begins_with_letter n && has_name_bytes n) (not (has_loose_underscore n)) to3 in
     record {
-      bytes = word_bytes n (and_right (begins_with_letter n) (list_all is_name_byte n) to2);
-      short = leb-true (length n) 32 (and_right (begins_with_letter n && list_all is_name_byte n && not (has_loose_underscore n)) (nat_le (length n) 32) to4) }
+      bytes = word_bytes n (and_right (nat_le (length n) 32 && begins_with_letter n) (has_name_bytes n) to2);
+      short = leb-true (length n) 32 (and_left (nat_le (length n) 32) (begins_with_letter n) (and_left (nat_le (length n) 32 && begins_with_letter n) (has_name_bytes n) to2)) }
 
 -- a name in front of which these bytes stand, and behind it those
 around : (a n b : List ℕ) → list_all is_word_byte a ≡ true → list_all is_word_byte n ≡ true → list_all is_word_byte b ≡ true → list_all is_word_byte (a ++ n ++ b) ≡ true

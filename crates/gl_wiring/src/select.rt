@@ -1,9 +1,9 @@
 //! The netlist of a select of columns of one stream.
 
-ghost use Rattle.std.specs.Prelude.{◌≡◌, ℕ, suc, ◌+◌, ◌≤◌, ◌<◌, ◌++◌, ◌∷◌, [], OnOk, IfOk, All, length, map, slice_get, Some, None, codes, IfSome, take, drop};
-ghost use Rattle.std.specs.List.{AllByRecursion};
+ghost use Rattle.std.specs.Prelude.{◌≡◌, ℕ, suc, ◌+◌, ◌≤◌, ◌<◌, ◌++◌, ◌∷◌, [], OnOk, IfOk, All, length, map, slice_get, Some, None, codes, IfSome, take, drop, bytes_eq};
+ghost use Rattle.std.specs.List.{AllByRecursion, IsDistinct};
 ghost use Rattle.gl_schema.specs.Names.{IsName};
-ghost use Rattle.gl_schema.specs.Schemas.{IsSchema, IsStream, AreDistinct};
+ghost use Rattle.gl_schema.specs.Schemas.{IsSchema, IsStream};
 ghost use Rattle.gl_schema.specs.Ports.{in_valid, out_valid, out_column, out_eos, rst, eos, fault_group, fault_queue};
 ghost use Rattle.gl_net.specs.Net.{Run, IsRun, IsBus, IsPort, open_at};
 ghost use Rattle.gl_net.specs.Finished.{HasReset};
@@ -157,7 +157,7 @@ pub fn wire_select(
     requires lengths { length columns.now ≡ length names.now.columns }
     requires into { IsName names.now.into }
     requires column_names { AllByRecursion IsName names.now.columns }
-    requires distinct { AreDistinct names.now.columns }
+    requires distinct { IsDistinct bytes_eq names.now.columns }
     ensures name { IfOk result (λ net. net.name ≡ Some (codes "q__" ++ names.now.into)) }
     ensures ports { IfOk result (λ net. names_of net ≡ port_names schema.now names.now.columns) }
     ensures follows { IfOk result (λ net. (run : Run) → IsRun net run → IfSome (slice_get schema.now.streams stream) (λ s. FollowsStream s columns.now (map out_column names.now.columns) (port_values net run))) }
