@@ -1,13 +1,8 @@
-// A library with one function.
+//! From texts to texts.
 #![tactic(auto)]
 
-ghost use Rattle.std.specs.Prelude.{◌≡◌};
-ghost use Rattle.gl_compiler.specs.Echo.{echo_of};
+pub mod compiling;
+pub mod pins;
+pub mod select;
 
-// The `ensures` clause is the contract: what `echo` returns is `echo_of` of its argument, a definition
-// in `specs/Echo.antt`, which a caller's clause can cite too.
-pub fn echo(x: usize) -> usize
-    ensures { result ≡ echo_of x }
-{
-    x
-}
+pub use compiling::{CompileFault, Compiled, compile, compile_query};
