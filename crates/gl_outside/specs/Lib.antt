@@ -1,4 +1,5 @@
 pub mod Counts
+pub mod Held
 pub mod Told
 pub mod Taken
 pub mod Fetched
