@@ -4,3 +4,4 @@ pub mod Told
 pub mod Taken
 pub mod Fetched
 pub mod Reads
+pub mod Seen
