@@ -4,7 +4,8 @@ ghost use Rattle.std.specs.Prelude.{◌≡◌, ℕ, ◌<◌, ◌≤◌, List, le
 ghost use Rattle.std.specs.Io.{ReadsAtMost};
 ghost use Rattle.gl_outside.specs.Counts.{Rose};
 ghost use Rattle.gl_outside.specs.Told.{Told, Untold};
-ghost use Rattle.gl_outside.specs.Fetched.{IfGot, OnEnd, OnMissing, OnFailed, OnRefusal, OnNoRefusal};
+ghost use Rattle.gl_outside.specs.Seen.{refusal_of};
+ghost use Rattle.gl_outside.specs.Fetched.{OnMissing, OnFailed, OnRefusal, OnNoRefusal};
 
 use crate::shelf::{Fetch, Shelf};
 use crate::words::Words;
@@ -101,7 +102,7 @@ impl<R: Files + Drop> FileShelf<R> {
     // Notes a refusal in its count.
     fn refuse(&mut self, name: &str, kind: ErrorKind) -> Fetch
         requires { Contains self.old.names name.now }
-        ensures refusal { IfGot result (λ _. ⊥) × OnEnd result ⊥ }
+        ensures answer { result ≡ refusal_of kind }
         ensures names { self.new.names ≡ self.old.names }
         ensures missing { OnMissing result (Rose self.old.misses self.new.misses) }
         ensures failed { OnFailed result (Rose self.old.faults self.new.faults) }
