@@ -7,6 +7,7 @@ ghost use Rattle.gl_outside.specs.Told.{Told, Untold};
 ghost use Rattle.gl_outside.specs.Seen.{refusal_of};
 ghost use Rattle.gl_outside.specs.Fetched.{OnMissing, OnFailed, OnRefusal, OnNoRefusal};
 
+use crate::counter::one_more;
 use crate::shelf::{Fetch, Shelf};
 use crate::words::Words;
 use std::fs::Files;
@@ -115,12 +116,12 @@ impl<R: Files + Drop> FileShelf<R> {
         match kind {
             ErrorKind::OutOfMemory => Fetch::Memory,
             ErrorKind::NotFound => {
-                self.misses = self.misses.saturating_add(1);
+                self.misses = one_more(self.misses);
                 self.last = Some(place);
                 Fetch::Missing
             }
             _ => {
-                self.faults = self.faults.saturating_add(1);
+                self.faults = one_more(self.faults);
                 self.last = Some(place);
                 Fetch::Failed
             }

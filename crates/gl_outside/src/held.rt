@@ -6,6 +6,7 @@ ghost use Rattle.gl_outside.specs.Told.{Lacks, Holds, IfTold};
 ghost use Rattle.gl_outside.specs.Fetched.{IfGot, OnMissing, OnRefusal, OnNoRefusal};
 ghost use Rattle.gl_outside.specs.Held.{told_of, given};
 
+use crate::counter::one_more;
 use crate::shelf::Fetch;
 use crate::words::{Memory, Words};
 use std::alloc::Global;
@@ -106,7 +107,7 @@ impl HeldTexts {
         match text_of(self.texts.as_slice(), name) {
             Some(text) => copy_from(text.bytes.as_slice(), at, into),
             None => {
-                self.misses = self.misses.saturating_add(1);
+                self.misses = one_more(self.misses);
                 self.refuse(name);
                 Fetch::Missing
             }

@@ -1,6 +1,7 @@
 //! The outside of Glacier: shelves of texts by name, sinks of bytes, and lists of words.
 #![tactic(auto)]
 
+mod counter;
 pub mod file_shelf;
 mod held;
 pub mod memory_shelf;

@@ -6,6 +6,7 @@ ghost use Rattle.gl_outside.specs.Told.{Told, IsLacking, IfTold};
 ghost use Rattle.gl_outside.specs.Fetched.{IfGot, OnEnd, OnMissing, OnFailed, OnRefusal, OnNoRefusal};
 ghost use Rattle.gl_outside.specs.Held.{told_of, given, served, next_count};
 
+use crate::counter::one_more;
 use crate::held::HeldTexts;
 use crate::shelf::{Fetch, Shelf, TEXT_LIMIT};
 use crate::words::{Memory, Words};
@@ -97,9 +98,9 @@ impl Shelf for MemoryShelf {
         ensures names { self.new.held.names ≡ self.old.held.names }
         ensures texts { (n : List ℕ) → told_of self.new.held.texts n ≡ told_of self.old.held.texts n }
     {
-        self.calls = self.calls.saturating_add(1);
+        self.calls = one_more(self.calls);
         if self.failing.contains(&self.calls) {
-            self.faults = self.faults.saturating_add(1);
+            self.faults = one_more(self.faults);
             self.held.refuse(name);
             return Fetch::Failed;
         }

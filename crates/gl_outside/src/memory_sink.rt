@@ -5,6 +5,7 @@ ghost use Rattle.gl_outside.specs.Counts.{Rose};
 ghost use Rattle.gl_outside.specs.Taken.{Appends, IfTook, OnFailed};
 ghost use Rattle.gl_outside.specs.Held.{put_of, next_count};
 
+use crate::counter::one_more;
 use crate::sink::{Put, Sink};
 use crate::words::Memory;
 use std::alloc::Global;
@@ -88,10 +89,10 @@ impl Sink for MemorySink {
         ensures cause { OnFailed result (Rose self.old.faults self.new.faults) }
         ensures never_falls { self.old.faults ≤ self.new.faults }
     {
-        self.calls = self.calls.saturating_add(1);
+        self.calls = one_more(self.calls);
         let left = self.room - self.bytes.len();
         if self.failing.contains(&self.calls) || left < piece.len() {
-            self.faults = self.faults.saturating_add(1);
+            self.faults = one_more(self.faults);
             return Put::Failed;
         }
         match self.bytes.extend_from_slice(piece) {

@@ -3,6 +3,7 @@
 ghost use Rattle.std.specs.Prelude.{◌≡◌, None};
 ghost use Rattle.std.specs.Io.{WritesAtMost};
 
+use crate::counter::one_more;
 use crate::sink::{Put, Sink};
 use std::io;
 use std::io::Write;
@@ -53,7 +54,7 @@ impl<W: Write + Drop> Sink for StreamSink<W> {
         match write_through(&mut self.writer, piece) {
             Ok(count) if count > 0 => Put::Took(count),
             _ => {
-                self.faults = self.faults.saturating_add(1);
+                self.faults = one_more(self.faults);
                 Put::Failed
             }
         }
