@@ -2,3 +2,4 @@ pub mod Counting
 pub mod Places
 pub mod Readings
 pub mod Takes
+pub mod Tellings

@@ -1,5 +1,5 @@
 -- Places of a word in a list.
-use Rattle.std.proofs.Common.{◌≡◌, ◌≢◌, ℕ, zero, suc, ◌<◌, ◌≤◌, ◌∙◌, List, [], ◌∷◌, length, get_or, Some, refl, ap, arith}
+use Rattle.std.proofs.Common.{◌≡◌, ◌≢◌, ℕ, zero, suc, ◌<◌, ◌≤◌, ◌∙◌, List, [], ◌∷◌, length, get_or, Some, map, refl, ap, arith}
 use Rattle.std.specs.Prelude.{slice_get, Contains}
 
 -- the place at which it is found
@@ -25,5 +25,11 @@ found_is {X} xs k x e = (k, short xs k e, at xs k e)
     at [] j e = absurd cc
     at (y ∷ ys) zero e = cc
     at (y ∷ ys) (suc j) e = at ys j e
+
+-- the word at a place, seen by f
+pub get_mapped : {X Y : Type 0} (f : X → Y) (xs : List X) (k : ℕ) (x : X) → k < length xs → x ≡ get_or xs k x → Some (f x) ≡ slice_get (map f xs) k
+get_mapped f [] k x h e = absurd (omega arith)
+get_mapped f (y ∷ ys) zero x h e = ap (λ z. Some (f z)) e
+get_mapped f (y ∷ ys) (suc k) x h e = get_mapped f ys k x (omega arith) e
 
 pub ruleset places = (not_absent, found_is)

@@ -1,9 +1,8 @@
 -- A text that is read from its front on.
-use Rattle.std.proofs.Common.{◌≡◌, ℕ, ◌+◌, ◌-◌, ◌≤◌, ◌<◌, List, [], ◌++◌, length, take, drop, refl, ap, ◌∙◌, arith, length-append}
+use Rattle.std.proofs.Common.{take-add, ◌≡◌, ℕ, ◌+◌, ◌-◌, ◌≤◌, ◌<◌, List, [], ◌++◌, length, take, drop, refl, ap, ◌∙◌, arith, length-append}
 use Rattle.std.specs.Prelude.{slice_range}
 use Rattle.std.proofs.lemmas.List.{length-take, length-drop, take_all}
 use Rattle.gl_outside.specs.Told.{Told, Untold, Lacks, Holds, IfTold}
-use Rattle.gl_outside.proofs.Takes.{take-add}
 
 -- these bytes are a front of the text, and there are none where no text has the name
 abbrev pub IsFrontOf : Told → List ℕ → Type 0

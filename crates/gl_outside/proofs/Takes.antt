@@ -1,5 +1,5 @@
 -- Bytes taken one piece after the other.
-use Rattle.std.proofs.Common.{◌≡◌, ℕ, zero, suc, zero-add, ◌+◌, ◌≤◌, List, [], ◌∷◌, ◌++◌, length, take, drop, Option, Some, None, Result, Ok, Err, OnErr, refl, sym, ap, subst, ◌∙◌, append_assoc, arith}
+use Rattle.std.proofs.Common.{◌≡◌, ℕ, ◌+◌, ◌≤◌, List, [], ◌++◌, length, take, drop, Option, Some, None, Result, Ok, Err, OnErr, sym, ap, subst, ◌∙◌, append_assoc, take-add}
 use Rattle.std.proofs.lemmas.List.{append-nil, take-append-drop, take_all}
 use Rattle.gl_outside.specs.Taken.{Appends, AppendsFront}
 
@@ -13,11 +13,6 @@ appends_then (Some o) b c x y p q = let q' = subst (λ t. Appends t c y) p q in 
 
 pub appends_same : (a b : Option (List ℕ)) (x y : List ℕ) → x ≡ y → Appends a b x → Appends a b y
 appends_same a b x y e p = subst (Appends a b) e p
-
-pub take-add : (k n : ℕ) (xs : List ℕ) → take (k + n) xs ≡ take k xs ++ take n (drop k xs)
-take-add zero n xs = rw zero-add refl
-take-add (suc k) n [] = let e : suc k + n ≡ suc (k + n) = omega arith in rw (e, take_all {A = ℕ} n [] (omega arith)) refl
-take-add (suc k) n (x ∷ xs) = let e : suc k + n ≡ suc (k + n) = omega arith in rw e (ap (λ (y : List ℕ). x ∷ y) (take-add k n xs))
 
 -- a front, and then nothing more or a piece of what is left
 pub front_is : (a b : Option (List ℕ)) (bytes : List ℕ) (k : ℕ) → Appends a b (take k bytes) → AppendsFront a b bytes

@@ -1,14 +1,27 @@
 //! The outside of Glacier: shelves of texts by name, sinks of bytes, and lists of words.
 #![tactic(auto)]
 
+mod counter;
+pub mod file_shelf;
+mod held;
+pub mod memory_shelf;
+pub mod memory_sink;
 pub mod reading;
 pub mod shelf;
 pub mod sink;
+pub mod stream_sink;
 pub mod words;
 pub mod writing;
 
+pub use file_shelf::FileShelf;
+pub use memory_shelf::{MemoryShelf, NeverFailsShelf};
+pub use memory_sink::{MemorySink, NeverFailsSink};
 pub use reading::{ReadFault, read_all};
 pub use shelf::{Fetch, Shelf, TEXT_LIMIT};
 pub use sink::{Put, Sink};
+pub use stream_sink::StreamSink;
 pub use words::{Memory, Words};
 pub use writing::{WriteFault, write_all_of};
+
+#[cfg(test)]
+mod tests;

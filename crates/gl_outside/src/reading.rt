@@ -1,6 +1,6 @@
 //! Whole texts from a shelf.
 
-ghost use Rattle.std.specs.Prelude.{◌≡◌, ℕ, ◌+◌, ◌<◌, ◌≤◌, ◌++◌, List, [], length, Some, IfOk, OnOk, Contains, vec_len};
+ghost use Rattle.std.specs.Prelude.{◌≡◌, ℕ, ◌+◌, ◌<◌, ◌≤◌, ◌++◌, List, [], length, Some, IfOk, IfErr, OnOk, Contains, vec_len};
 ghost use Rattle.gl_outside.specs.Counts.{Rose};
 ghost use Rattle.gl_outside.specs.Told.{IsLacking, IfTold};
 ghost use Rattle.gl_outside.specs.Reads.{OnMissing, OnFailed, OnTooLong, OnRefusal, OnNoRefusal};
@@ -52,12 +52,21 @@ pub fn read_all<S: Shelf>(alloc: Global, shelf: &mut S, name: &str) -> Result<Ve
     ensures names { S.names shelf.new ≡ S.names shelf.old }
     ensures texts { (n : List ℕ) → S.told shelf.new n ≡ S.told shelf.old n }
 {
-    let Ok(mut piece) = vec![in alloc; 0u8; PIECE] else {
-        return Err(ReadFault::Memory);
-    };
+    let mut piece = new_piece(alloc)?;
     let mut text = Vec::new(alloc);
     read_into(shelf, name, piece.as_mut_slice(), &mut text)?;
     Ok(text)
+}
+
+// The buffer for a piece.
+fn new_piece(alloc: Global) -> Result<Vec<u8>, ReadFault>
+    ensures piece { IfOk result (λ v. vec_len v ≡ PIECE) }
+    ensures memory { IfErr result (λ fault. fault ≡ ReadFault.Memory) }
+{
+    match vec![in alloc; 0u8; PIECE] {
+        Ok(piece) => Ok(piece),
+        Err(_) => Err(ReadFault::Memory),
+    }
 }
 
 // Adds a piece to the text, unless the text then passes the limit.

@@ -1,0 +1,126 @@
+//! Sinks in memory.
+
+ghost use Rattle.std.specs.Prelude.{◌≡◌, ℕ, ◌<◌, ◌≤◌, ◌++◌, ◌∷◌, List, [], length, take, Option, Some, None, OnOk, OnErr, IfOk};
+ghost use Rattle.gl_outside.specs.Counts.{Rose};
+ghost use Rattle.gl_outside.specs.Taken.{Appends, IfTook, OnFailed};
+ghost use Rattle.gl_outside.specs.Held.{put_of, next_count};
+
+use crate::counter::one_more;
+use crate::sink::{Put, Sink};
+use crate::words::Memory;
+use std::alloc::Global;
+use std::marker::Model;
+
+/// A sink in memory, some of whose puts fail. Its room is reserved when it is made; a put takes
+/// its piece whole, and one that would pass the room is a fault. It tells its bytes.
+///
+/// In clauses it is seen as its bytes, its room, the numbers of the puts that fail (from 1), the
+/// puts so far, and the faults.
+#[derive(Drop, Debug)]
+pub struct MemorySink {
+    bytes: Vec<u8>,
+    room: usize,
+    failing: Vec<u64>,
+    calls: u64,
+    faults: u64,
+}
+
+impl Model for MemorySink {
+    ghost use Rattle.std.specs.Prelude.{◌≤◌, vec_len, vec_capacity};
+    ghost use Rattle.gl_outside.specs.Held.{SinkState};
+
+    ghost Value = { SinkState };
+
+    ghost view = { λ s. record { bytes = s.bytes.items; room = s.room; failing = s.failing.items; calls = s.calls; faults = s.faults } };
+
+    ghost invariant = { λ s. (vec_len s.bytes ≤ s.room) × (s.room ≤ vec_capacity s.bytes) };
+}
+
+impl MemorySink {
+    /// A sink with room for so many bytes.
+    pub fn new(alloc: Global, room: usize) -> Result<MemorySink, Memory>
+        ensures { IfOk result (λ s. s ≡ record { bytes = []; room = room; failing = []; calls = 0; faults = 0 }) }
+    {
+        match Vec::with_capacity(alloc, room) {
+            Ok(bytes) => Ok(MemorySink {
+                bytes,
+                room,
+                failing: Vec::new(alloc),
+                calls: 0,
+                faults: 0,
+            }),
+            Err(_) => Err(Memory),
+        }
+    }
+
+    /// Lets the put of this number fail.
+    pub fn fail(&mut self, call: u64) -> Result<(), Memory>
+        ensures ok { OnOk result (self.new ≡ record self.old { failing = self.old.failing ++ call ∷ [] }) }
+        ensures err { OnErr result (self.new ≡ self.old) }
+    {
+        match self.failing.push(call) {
+            Ok(()) => Ok(()),
+            Err(_) => Err(Memory),
+        }
+    }
+
+    /// The bytes taken so far.
+    pub fn bytes(&self) -> &[u8]
+        ensures { result.now ≡ self.now.bytes }
+    {
+        self.bytes.as_slice()
+    }
+}
+
+impl Sink for MemorySink {
+    ghost taken = { λ s. Some s.bytes };
+
+    ghost faults = { λ s. s.faults };
+
+    fn put(&mut self, piece: &[u8]) -> Put
+        requires { 0 < length piece.now }
+        ensures answer { result ≡ put_of self.old piece.now }
+        ensures calls { self.new.calls ≡ next_count self.old.calls }
+        ensures failing { self.new.failing ≡ self.old.failing }
+        ensures room { self.new.room ≡ self.old.room }
+        ensures amount { IfTook result (λ n. (1 ≤ n) × (n ≤ length piece.now)) }
+        ensures took { IfTook result (λ n. Appends (Some self.old.bytes) (Some self.new.bytes) (take n piece.now)) }
+        ensures untouched { OnFailed result (Appends (Some self.old.bytes) (Some self.new.bytes) []) }
+        ensures cause { OnFailed result (Rose self.old.faults self.new.faults) }
+        ensures never_falls { self.old.faults ≤ self.new.faults }
+    {
+        self.calls = one_more(self.calls);
+        let left = self.room - self.bytes.len();
+        if self.failing.contains(&self.calls) || left < piece.len() {
+            self.faults = one_more(self.faults);
+            return Put::Failed;
+        }
+        match self.bytes.extend_from_slice(piece) {
+            Ok(()) => Put::Took(piece.len()),
+            Err(_) => unreachable!(),
+        }
+    }
+}
+
+/// A sink that takes every piece whole and keeps nothing: its count of faults is the constant 0.
+/// It tells nothing.
+#[derive(Clone, Copy, PartialEq, Eq, Debug)]
+pub struct NeverFailsSink;
+
+impl Sink for NeverFailsSink {
+    ghost taken = { λ _. None };
+
+    ghost faults = { λ _. 0 };
+
+    fn put(&mut self, piece: &[u8]) -> Put
+        requires { 0 < length piece.now }
+        ensures answer { result ≡ Put.Took (length piece.now) }
+        ensures amount { IfTook result (λ n. (1 ≤ n) × (n ≤ length piece.now)) }
+        ensures took { IfTook result (λ n. Appends None None (take n piece.now)) }
+        ensures untouched { OnFailed result (Appends None None []) }
+        ensures cause { OnFailed result (Rose 0 0) }
+        ensures never_falls { 0 ≤ 0 }
+    {
+        Put::Took(piece.len())
+    }
+}
