@@ -15,8 +15,8 @@ use Rattle.gl_net.specs.declared.node.Store.{Store}
 use Rattle.gl_net.specs.declared.node.Port.{Port}
 use Rattle.gl_net.specs.declared.node.Direction.{Direction}
 use Rattle.gl_net.specs.declared.node.Direction.TheVariants.{In, Out}
-use Rattle.gl_net.specs.Net.{Net, Run, Shape, Value, Words, shape_of, shape_in, open_in, open_at, open_shape, Holds, Fits, IsTrace, IsReset, IsRun, IsBus, IsBit, IsStore, IsPort, Grows, Keeps, is_inner, size_of, reset_name, binary_width}
-use Rattle.gl_net.specs.WellFormed.{IsOperand, IsBitOperand, IsStoreOperand, IsDrive, end_at, NodeFits, EndFits, IsWellFormed}
+use Rattle.gl_net.specs.Net.{Net, Run, Shape, Value, Words, shape_of, shape_in, open_in, open_at, open_shape, Holds, Fits, IsTrace, IsReset, IsRun, IsShape, HasShape, IsBus, IsPort, Grows, Keeps, is_inner, size_of, reset_name, binary_width}
+use Rattle.gl_net.specs.WellFormed.{IsOperand, IsDrive, end_at, NodeFits, EndFits, IsWellFormed}
 use Rattle.gl_net.specs.Steps.{Adds, AddsPort, AddsInput}
 use Rattle.gl_net.proofs.Lists.{nat_dec, get_push_old, get_push_new, get_push_other, get_push_cases, get_past, count_by-push}
 
@@ -28,23 +28,20 @@ shape_there (Some x) s h = (x, refl, cc)
 -- what stays of nodes and ports where the shape of each node stays, and each port
 module _ (old new : Net) (shapes : (n : ℕ) (s : Shape) → shape_in old.nodes n ≡ Some s → shape_in new.nodes n ≡ Some s)
     (ends : (k : ℕ) (e : Direction × ℕ) → end_at old k ≡ Some e → end_at new k ≡ Some e) where
-  pub kept_bus : (b : Bus) → IsBus old b → IsBus new b
-  kept_bus b i = record { shape = shapes b.node _ i.shape; width = i.width }
+  pub kept : (n : ℕ) (s : Shape) → HasShape old n s → HasShape new n s
+  kept n s h = record { there = shapes n s h.there; proper = h.proper }
 
-  pub kept_store : (s : Store) → IsStore old s → IsStore new s
-  kept_store s i = record { shape = shapes s.node _ i.shape; bits = i.bits; width = i.width }
-
-  kept_operand : (n : ℕ) (b : Bus) → IsOperand old n b → IsOperand new n b
-  kept_operand n b i = record { before = i.before; bus = kept_bus b i.bus }
+  kept_operand : (n m : ℕ) (s : Shape) → IsOperand old n m s → IsOperand new n m s
+  kept_operand n m s h = record { before = h.before; has = kept m s h.has }
 
   pub kept_drive : (bits w : ℕ) (d : MemoryDrive) → IsDrive old bits w d → IsDrive new bits w d
   kept_drive bits w d i = record {
-      write = kept_bus _ i.write; address = kept_bus _ i.address; address_width = i.address_width;
-      value = kept_bus _ i.value; value_width = i.value_width }
+      write = kept _ _ i.write; address = kept _ _ i.address; address_width = i.address_width;
+      value = kept _ _ i.value; value_width = i.value_width }
 
   kept_next : (w : ℕ) (next : Option Bus) → IfSome next (λ b. IsBus old b × (b.width ≡ w)) → IfSome next (λ b. IsBus new b × (b.width ≡ w))
   kept_next w None h = h
-  kept_next w (Some b) h = (kept_bus b h.0, h.1)
+  kept_next w (Some b) h = (kept _ _ h.0, h.1)
 
   kept_drives : (bits w : ℕ) (drive : Option MemoryDrive) → IfSome drive (λ d. IsDrive old bits w d) → IfSome drive (λ d. IsDrive new bits w d)
   kept_drives bits w None h = h
@@ -53,14 +50,14 @@ module _ (old new : Net) (shapes : (n : ℕ) (s : Shape) → shape_in old.nodes 
   pub kept_node : (n : ℕ) (x : Node) → NodeFits old n x → NodeFits new n x
   kept_node n (Input k w) h = (h.0, ends k _ h.1)
   kept_node n (Constant word) h = h
-  kept_node n (Not x) h = kept_operand n x h
-  kept_node n (Binary op x y) h = (kept_operand n x h.0, kept_operand n y h.1, h.2)
-  kept_node n (Choose test x y) h = (kept_operand n _ h.0, kept_operand n x h.1, kept_operand n y h.2, h.3)
-  kept_node n (Join x y) h = (kept_operand n x h.0, kept_operand n y h.1, h.2)
-  kept_node n (Cut x high low) h = (kept_operand n x h.0, h.1, h.2)
+  kept_node n (Not x) h = kept_operand n _ _ h
+  kept_node n (Binary op x y) h = (kept_operand n _ _ h.0, kept_operand n _ _ h.1, h.2)
+  kept_node n (Choose test x y) h = (kept_operand n _ _ h.0, kept_operand n _ _ h.1, kept_operand n _ _ h.2, h.3)
+  kept_node n (Join x y) h = (kept_operand n _ _ h.0, kept_operand n _ _ h.1, h.2)
+  kept_node n (Cut x high low) h = (kept_operand n _ _ h.0, h.1, h.2)
   kept_node n (Register w reset next) h = (h.0, h.1, kept_next w next h.2)
   kept_node n (Memory bits w drive) h = (h.0, h.1, kept_drives bits w drive h.2)
-  kept_node n (MemoryRead store x) h = (record { before = h.0.before; store = kept_store store h.0.store }, kept_operand n x h.1, h.2)
+  kept_node n (MemoryRead store x) h = (kept_operand n _ _ h.0, kept_operand n _ _ h.1, h.2)
 
 -- a port stays where input nodes and shapes stay
 pub kept_end : (old new : Net) → ((n k w : ℕ) → slice_get old.nodes n ≡ Some (Input k w) → slice_get new.nodes n ≡ Some (Input k w))
@@ -96,8 +93,7 @@ module _ (old new : Net) (ext : Extends old new) where
   pub ext_grows : Grows old new
   ext_grows = record {
       runs = λ run r. record { trace = ext_trace run r.trace; reset = r.reset };
-      buses = kept_bus old new ext_shape ext_end;
-      stores = kept_store old new ext_shape ext_end }
+      shapes = kept old new ext_shape ext_end }
 
   pub ext_node : (n : ℕ) (x : Node) → NodeFits old n x → NodeFits new n x
   ext_node = kept_node old new ext_shape ext_end
@@ -105,27 +101,17 @@ module _ (old new : Net) (ext : Extends old new) where
   pub ext_port : (k : ℕ) (d : Direction) (n : ℕ) → EndFits old k d n → EndFits new k d n
   ext_port = kept_end old new (λ n k w h. ext.nodes n _ h) ext_shape
 
--- a bus stands before the end of the list
-pub bus_before : (net : Net) (b : Bus) → IsBus net b → b.node < length net.nodes
+-- what is there stands before the end of the list
+pub operand_of : (net : Net) (n : ℕ) (s : Shape) → HasShape net n s → IsOperand net (length net.nodes) n s
 unfolding shape_in
-bus_before net b i = let x = shape_there (slice_get net.nodes b.node) _ i.shape in slice_get_within net.nodes b.node x.0 x.1
-
-pub store_before : (net : Net) (s : Store) → IsStore net s → s.node < length net.nodes
-unfolding shape_in
-store_before net s i = let x = shape_there (slice_get net.nodes s.node) _ i.shape in slice_get_within net.nodes s.node x.0 x.1
-
-pub operand_of : (net : Net) (b : Bus) → IsBus net b → IsOperand net (length net.nodes) b
-operand_of net b i = record { before = bus_before net b i; bus = i }
-
-pub store_operand_of : (net : Net) (s : Store) → IsStore net s → IsStoreOperand net (length net.nodes) s
-store_operand_of net s i = record { before = store_before net s i; store = i }
+operand_of net n s h = let x = shape_there (slice_get net.nodes n) s h.there in record { before = slice_get_within net.nodes n x.0 x.1; has = h }
 
 -- nothing more
 pub same_keeps : (net : Net) → Keeps net net
-same_keeps net = record { runs = λ run r. r; buses = λ b i. i; stores = λ s i. i; undriven = λ n. refl; ports = refl; name = refl }
+same_keeps net = record { runs = λ run r. r; shapes = λ n s h. h; undriven = λ n. refl; ports = refl; name = refl }
 
 pub same_grows : (net : Net) → Grows net net
-same_grows net = record { runs = λ run r. r; buses = λ b i. i; stores = λ s i. i }
+same_grows net = record { runs = λ run r. r; shapes = λ n s h. h }
 
 -- one node more
 module _ (old new : Net) (x : Node) (n : ℕ) (adds : Adds old new x n) where
@@ -167,15 +153,15 @@ module _ (old new : Net) (x : Node) (n : ℕ) (adds : Adds old new x n) where
 
   pub adds_keeps : open_shape x ≡ None → Keeps old new
   adds_keeps e = record {
-      runs = adds_grows.runs; buses = adds_grows.buses; stores = adds_grows.stores;
+      runs = adds_grows.runs; shapes = adds_grows.shapes;
       undriven = adds_closed e; ports = adds.ports; name = adds.name }
 
   pub adds_size : size_of new ≡ size_of old + (if is_inner x then 1 else 0)
   unfolding size_of
   adds_size = rw adds.nodes (count_by-push is_inner old.nodes x)
 
-  pub adds_bus : (b : Bus) → b.node ≡ n → shape_of x ≡ Value b.width → IsWidth b.width → IsBus new b
-  adds_bus b e s w = record { shape = subst (λ k. shape_in new.nodes k ≡ Some (Value b.width)) (sym e) (adds_shape ∙ ap Some s); width = w }
+  pub adds_has : (s : Shape) → shape_of x ≡ s → IsShape s → HasShape new n s
+  adds_has s e i = record { there = adds_shape ∙ ap Some e; proper = i }
 
 pub adds_fits : (old new : Net) (x : Node) (n : ℕ) → Adds old new x n → IsWellFormed old → NodeFits old (length old.nodes) x → IsWellFormed new
 adds_fits old new x n adds w f = record {

@@ -11,21 +11,21 @@ use Rattle.gl_net.specs.declared.node.Store.{Store}
 use Rattle.gl_net.specs.declared.node.Port.{Port}
 use Rattle.gl_net.specs.declared.node.Direction.{Direction}
 use Rattle.gl_net.specs.declared.node.Direction.TheVariants.{In, Out}
-use Rattle.gl_net.specs.Net.{Net, Shape, Value, Words, shape_in, IsBus, IsBit, IsStore, IsAddressWidth}
+use Rattle.gl_net.specs.Net.{Net, Shape, Value, Words, shape_in, HasShape, IsBus, IsBit, IsAddressWidth}
 
--- the node with the number n reads the bus: an earlier node, which carries a value of its width
-pub record IsOperand (net : Net) (n : ℕ) (b : Bus) : Type 0 where
-  pub before : b.node < n
-  pub bus : IsBus net b
+-- the node with the number n reads one of this shape, which stands before it
+pub record IsOperand (net : Net) (n operand : ℕ) (shape : Shape) : Type 0 where
+  pub before : operand < n
+  pub has : HasShape net operand shape
 
--- the same of a bit
-abbrev pub IsBitOperand : Net → ℕ → Bit → Type 0
-IsBitOperand net n b = IsOperand net n (record { node = b.node; width = 1 })
+abbrev pub ReadsBus : Net → ℕ → Bus → Type 0
+ReadsBus net n b = IsOperand net n b.node (Value b.width)
 
--- and of a memory
-pub record IsStoreOperand (net : Net) (n : ℕ) (s : Store) : Type 0 where
-  pub before : s.node < n
-  pub store : IsStore net s
+abbrev pub ReadsBit : Net → ℕ → Bit → Type 0
+ReadsBit net n b = IsOperand net n b.node (Value 1)
+
+abbrev pub ReadsStore : Net → ℕ → Store → Type 0
+ReadsStore net n s = IsOperand net n s.node (Words s.address_bits s.width)
 
 -- what a memory takes has the widths of the memory
 pub record IsDrive (net : Net) (bits w : ℕ) (d : MemoryDrive) : Type 0 where
@@ -43,15 +43,15 @@ end_at net place = option_map (λ p. (p.direction, p.node)) (slice_get net.ports
 abbrev pub NodeFits : Net → ℕ → Node → Type 0
 NodeFits net n (Input place w) = IsWidth w × (end_at net place ≡ Some (In, n))
 NodeFits net n (Constant word) = IsWord word
-NodeFits net n (Not x) = IsOperand net n x
-NodeFits net n (Binary op x y) = IsOperand net n x × IsOperand net n y × (x.width ≡ y.width)
-NodeFits net n (Choose test x y) = IsBitOperand net n test × IsOperand net n x × IsOperand net n y × (x.width ≡ y.width)
-NodeFits net n (Join x y) = IsOperand net n x × IsOperand net n y × (x.width + y.width ≤ 128)
-NodeFits net n (Cut x high low) = IsOperand net n x × (low ≤ high) × (high < x.width)
+NodeFits net n (Not x) = ReadsBus net n x
+NodeFits net n (Binary op x y) = ReadsBus net n x × ReadsBus net n y × (x.width ≡ y.width)
+NodeFits net n (Choose test x y) = ReadsBit net n test × ReadsBus net n x × ReadsBus net n y × (x.width ≡ y.width)
+NodeFits net n (Join x y) = ReadsBus net n x × ReadsBus net n y × (x.width + y.width ≤ 128)
+NodeFits net n (Cut x high low) = ReadsBus net n x × (low ≤ high) × (high < x.width)
 NodeFits net n (Register w reset next) =
     IsWidth w × IfSome reset (λ v. v < 2 ^ w) × IfSome next (λ b. IsBus net b × (b.width ≡ w))
 NodeFits net n (Memory bits w drive) = IsAddressWidth bits × IsWidth w × IfSome drive (λ d. IsDrive net bits w d)
-NodeFits net n (MemoryRead store x) = IsStoreOperand net n store × IsOperand net n x × (x.width ≡ store.address_bits)
+NodeFits net n (MemoryRead store x) = ReadsStore net n store × ReadsBus net n x × (x.width ≡ store.address_bits)
 
 -- a port that leads in stands for one input node, which names it; one that leads out shows a node that carries a value
 abbrev pub EndFits : Net → ℕ → Direction → ℕ → Type 0

@@ -296,7 +296,7 @@ impl NetBuilder {
     }
 
     /// The word of a memory at the address, as it is before the edge that ends the cycle.
-    #[tactic(auto, using(crate::proofs::Growth::operand_of, crate::proofs::Growth::store_operand_of))]
+    #[tactic(auto, using(crate::proofs::Growth::operand_of))]
     pub fn read(&mut self, store: Store, address: Bus) -> Result<Bus, Memory>
         requires store { IsStore self.old store }
         requires address { IsBus self.old address }

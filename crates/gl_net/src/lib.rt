@@ -8,3 +8,6 @@ pub mod node;
 pub use builder::NetBuilder;
 pub use netlist::{NetFault, Netlist};
 pub use node::{BinaryOp, Bit, Bus, Buses, Direction, MemoryDrive, Node, Port, Store};
+
+#[cfg(test)]
+mod tests;

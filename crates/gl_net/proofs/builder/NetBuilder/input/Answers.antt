@@ -1,5 +1,4 @@
-use Rattle.std.proofs.Common.{refl}
-use Rattle.gl_net.proofs.Ports.{input_grows, input_open, input_bus, input_size}
+use Rattle.gl_net.proofs.Ports.{input_grows, input_open, input_has, input_size}
 use Rattle.gl_net.proofs.builder.NetBuilder.input.Goals as goal
 
 pub returns-clause-grows : goal.returns-clause-grows
@@ -9,7 +8,7 @@ pub returns-clause-undriven : goal.returns-clause-undriven
 returns-clause-undriven c = input_open _ _ _ _ _ c.in_ok-node.ensures.ok
 
 pub returns-clause-bus : goal.returns-clause-bus
-returns-clause-bus c = input_bus _ _ _ _ _ c.in_ok-node.ensures.ok _ refl refl c.requires
+returns-clause-bus c = input_has _ _ _ _ _ c.in_ok-node.ensures.ok c.requires
 
 pub returns-clause-size : goal.returns-clause-size
 returns-clause-size c = input_size _ _ _ _ _ c.in_ok-node.ensures.ok

@@ -1,4 +1,5 @@
-use Rattle.gl_net.proofs.Growth.{adds_grows, adds_open_other, adds_open, adds_fresh, adds_shape, adds_size}
+use Rattle.std.proofs.Common.{refl}
+use Rattle.gl_net.proofs.Growth.{adds_grows, adds_open_other, adds_open, adds_fresh, adds_has, adds_size}
 use Rattle.gl_net.proofs.builder.NetBuilder.memory.Goals as goal
 
 pub returns-clause-grows : goal.returns-clause-grows
@@ -14,7 +15,7 @@ pub returns-clause-fresh : goal.returns-clause-fresh
 returns-clause-fresh c = adds_fresh _ _ _ _ c.in_ok-node.ensures.ok
 
 pub returns-clause-store : goal.returns-clause-store
-returns-clause-store c = record { shape = adds_shape _ _ _ _ c.in_ok-node.ensures.ok; bits = c.requires.bits; width = c.requires.width }
+returns-clause-store c = adds_has _ _ _ _ c.in_ok-node.ensures.ok _ refl (c.requires.bits, c.requires.width)
 
 pub returns-clause-size : goal.returns-clause-size
 returns-clause-size c = adds_size _ _ _ _ c.in_ok-node.ensures.ok

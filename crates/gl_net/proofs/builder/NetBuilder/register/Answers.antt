@@ -1,5 +1,5 @@
 use Rattle.std.proofs.Common.{refl}
-use Rattle.gl_net.proofs.Growth.{adds_grows, adds_open_other, adds_open, adds_fresh, adds_bus, adds_size, adds_there, start_value}
+use Rattle.gl_net.proofs.Growth.{adds_grows, adds_open_other, adds_open, adds_fresh, adds_has, adds_size, adds_there, start_value}
 use Rattle.gl_net.proofs.builder.NetBuilder.register.Goals as goal
 
 pub returns-clause-grows : goal.returns-clause-grows
@@ -15,7 +15,7 @@ pub returns-clause-fresh : goal.returns-clause-fresh
 returns-clause-fresh c = adds_fresh _ _ _ _ c.in_ok-node.ensures.ok
 
 pub returns-clause-bus : goal.returns-clause-bus
-returns-clause-bus c = adds_bus _ _ _ _ c.in_ok-node.ensures.ok _ refl refl c.requires.width
+returns-clause-bus c = adds_has _ _ _ _ c.in_ok-node.ensures.ok _ refl c.requires.width
 
 pub returns-clause-size : goal.returns-clause-size
 returns-clause-size c = adds_size _ _ _ _ c.in_ok-node.ensures.ok
