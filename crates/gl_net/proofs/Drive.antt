@@ -13,7 +13,7 @@ use Rattle.gl_net.specs.Net.{Net, Run, Shape, Value, Words, shape_of, shape_in, 
 use Rattle.gl_net.specs.WellFormed.{IsDrive, end_at, NodeFits, EndFits, IsWellFormed}
 use Rattle.gl_net.specs.Steps.{Drives, DrivesMemory}
 use Rattle.gl_net.proofs.Lists.{nat_dec, get_set_same, get_set_other, count_by-set}
-use Rattle.gl_net.proofs.Growth.{kept, kept_drive, kept_node, kept_end}
+use Rattle.gl_net.proofs.Growth.{kept_bus, kept_drive, kept_node, kept_end}
 
 -- x at the place gives way to y
 record Replaces (old new : Net) (at : ℕ) (x y : Node) : Type 0 where
@@ -65,7 +65,7 @@ module _ (old new : Net) (at : ℕ) (x y : Node) (r : Replaces old new at x y) w
   replaced_grows : ((run : Run) → Holds run at y → Holds run at x) → Grows old new
   replaced_grows weaker = record {
       runs = λ run q. record { trace = old_trace weaker run q.trace; reset = q.reset };
-      shapes = kept old new same_shapes same_end }
+      shapes = same_shapes }
 
   replaced_open : open_shape y ≡ None → open_at new at ≡ None
   unfolding open_in
@@ -167,7 +167,7 @@ register_fits nodes ports name at w r next h i e f =
     let q : Replaces (record { nodes = nodes; ports = ports; name = name }) (record { nodes = slice_set nodes at (Register w r (Some next)); ports = ports; name = name }) at (Register w r None) (Register w r (Some next))
         = record { there = h; nodes = refl; ports = refl; shape = refl; inner = refl; inner' = refl } in
     let g : NodeFits (record { nodes = nodes; ports = ports; name = name }) at (Register w r None) = f.nodes at _ h in
-    replaced_fits _ _ _ _ _ q f (g.0, g.1, (kept _ _ (same_shapes _ _ _ _ _ q) (same_end _ _ _ _ _ q) _ _ i, e))
+    replaced_fits _ _ _ _ _ q f (g.0, g.1, (kept_bus _ _ (same_shapes _ _ _ _ _ q) (same_end _ _ _ _ _ q) next i, e))
 
 module _ (old new : Net) (s : Store) (drive : MemoryDrive) (d : DrivesMemory old new s drive) where
   memory_replaces : Replaces old new s.node (Memory s.address_bits s.width None) (Memory s.address_bits s.width (Some drive))

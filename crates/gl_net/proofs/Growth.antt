@@ -15,8 +15,8 @@ use Rattle.gl_net.specs.declared.node.Store.{Store}
 use Rattle.gl_net.specs.declared.node.Port.{Port}
 use Rattle.gl_net.specs.declared.node.Direction.{Direction}
 use Rattle.gl_net.specs.declared.node.Direction.TheVariants.{In, Out}
-use Rattle.gl_net.specs.Net.{Net, Run, Shape, Value, Words, shape_of, shape_in, open_in, open_at, open_shape, Holds, Fits, IsTrace, IsReset, IsRun, IsShape, HasShape, IsBus, IsPort, Grows, Keeps, is_inner, size_of, reset_name, binary_width}
-use Rattle.gl_net.specs.WellFormed.{IsOperand, IsDrive, end_at, NodeFits, EndFits, IsWellFormed}
+use Rattle.gl_net.specs.Net.{Net, Run, Shape, Value, Words, shape_of, shape_in, open_in, open_at, open_shape, Holds, Fits, IsTrace, IsReset, IsRun, IsBus, IsBit, IsStore, IsPort, Grows, Keeps, is_inner, size_of, reset_name, binary_width}
+use Rattle.gl_net.specs.WellFormed.{ReadsBus, ReadsBit, ReadsStore, IsDrive, end_at, NodeFits, EndFits, IsWellFormed}
 use Rattle.gl_net.specs.Steps.{Adds, AddsPort, AddsInput}
 use Rattle.gl_net.proofs.Lists.{nat_dec, get_push_old, get_push_new, get_push_other, get_push_cases, get_past, count_by-push}
 
@@ -28,20 +28,30 @@ shape_there (Some x) s h = (x, refl, cc)
 -- what stays of nodes and ports where the shape of each node stays, and each port
 module _ (old new : Net) (shapes : (n : ℕ) (s : Shape) → shape_in old.nodes n ≡ Some s → shape_in new.nodes n ≡ Some s)
     (ends : (k : ℕ) (e : Direction × ℕ) → end_at old k ≡ Some e → end_at new k ≡ Some e) where
-  pub kept : (n : ℕ) (s : Shape) → HasShape old n s → HasShape new n s
-  kept n s h = record { there = shapes n s h.there; proper = h.proper }
+  pub kept_bus : (b : Bus) → IsBus old b → IsBus new b
+  kept_bus b i = record { there = shapes b.node _ i.there; width = i.width }
 
-  kept_operand : (n m : ℕ) (s : Shape) → IsOperand old n m s → IsOperand new n m s
-  kept_operand n m s h = record { before = h.before; has = kept m s h.has }
+  pub kept_bit : (b : Bit) → IsBit old b → IsBit new b
+  kept_bit b i = record { there = shapes b.node _ i.there }
+
+  reads_bus : (n : ℕ) (b : Bus) → ReadsBus old n b → ReadsBus new n b
+  reads_bus n b r = record { before = r.before; bus = kept_bus b r.bus }
+
+  reads_bit : (n : ℕ) (b : Bit) → ReadsBit old n b → ReadsBit new n b
+  reads_bit n b r = record { before = r.before; bit = kept_bit b r.bit }
+
+  reads_store : (n : ℕ) (s : Store) → ReadsStore old n s → ReadsStore new n s
+  reads_store n s r = record {
+      before = r.before; store = record { there = shapes s.node _ r.store.there; bits = r.store.bits; width = r.store.width } }
 
   pub kept_drive : (bits w : ℕ) (d : MemoryDrive) → IsDrive old bits w d → IsDrive new bits w d
   kept_drive bits w d i = record {
-      write = kept _ _ i.write; address = kept _ _ i.address; address_width = i.address_width;
-      value = kept _ _ i.value; value_width = i.value_width }
+      write = kept_bit _ i.write; address = kept_bus _ i.address; address_width = i.address_width;
+      value = kept_bus _ i.value; value_width = i.value_width }
 
   kept_next : (w : ℕ) (next : Option Bus) → IfSome next (λ b. IsBus old b × (b.width ≡ w)) → IfSome next (λ b. IsBus new b × (b.width ≡ w))
   kept_next w None h = h
-  kept_next w (Some b) h = (kept _ _ h.0, h.1)
+  kept_next w (Some b) h = (kept_bus b h.0, h.1)
 
   kept_drives : (bits w : ℕ) (drive : Option MemoryDrive) → IfSome drive (λ d. IsDrive old bits w d) → IfSome drive (λ d. IsDrive new bits w d)
   kept_drives bits w None h = h
@@ -50,14 +60,14 @@ module _ (old new : Net) (shapes : (n : ℕ) (s : Shape) → shape_in old.nodes 
   pub kept_node : (n : ℕ) (x : Node) → NodeFits old n x → NodeFits new n x
   kept_node n (Input k w) h = (h.0, ends k _ h.1)
   kept_node n (Constant word) h = h
-  kept_node n (Not x) h = kept_operand n _ _ h
-  kept_node n (Binary op x y) h = (kept_operand n _ _ h.0, kept_operand n _ _ h.1, h.2)
-  kept_node n (Choose test x y) h = (kept_operand n _ _ h.0, kept_operand n _ _ h.1, kept_operand n _ _ h.2, h.3)
-  kept_node n (Join x y) h = (kept_operand n _ _ h.0, kept_operand n _ _ h.1, h.2)
-  kept_node n (Cut x high low) h = (kept_operand n _ _ h.0, h.1, h.2)
+  kept_node n (Not x) h = reads_bus n x h
+  kept_node n (Binary op x y) h = (reads_bus n x h.0, reads_bus n y h.1, h.2)
+  kept_node n (Choose test x y) h = (reads_bit n test h.0, reads_bus n x h.1, reads_bus n y h.2, h.3)
+  kept_node n (Join x y) h = (reads_bus n x h.0, reads_bus n y h.1, h.2)
+  kept_node n (Cut x high low) h = (reads_bus n x h.0, h.1, h.2)
   kept_node n (Register w reset next) h = (h.0, h.1, kept_next w next h.2)
   kept_node n (Memory bits w drive) h = (h.0, h.1, kept_drives bits w drive h.2)
-  kept_node n (MemoryRead store x) h = (kept_operand n _ _ h.0, kept_operand n _ _ h.1, h.2)
+  kept_node n (MemoryRead store x) h = (reads_store n store h.0, reads_bus n x h.1, h.2)
 
 -- a port stays where input nodes and shapes stay
 pub kept_end : (old new : Net) → ((n k w : ℕ) → slice_get old.nodes n ≡ Some (Input k w) → slice_get new.nodes n ≡ Some (Input k w))
@@ -93,7 +103,7 @@ module _ (old new : Net) (ext : Extends old new) where
   pub ext_grows : Grows old new
   ext_grows = record {
       runs = λ run r. record { trace = ext_trace run r.trace; reset = r.reset };
-      shapes = kept old new ext_shape ext_end }
+      shapes = ext_shape }
 
   pub ext_node : (n : ℕ) (x : Node) → NodeFits old n x → NodeFits new n x
   ext_node = kept_node old new ext_shape ext_end
@@ -102,9 +112,18 @@ module _ (old new : Net) (ext : Extends old new) where
   ext_port = kept_end old new (λ n k w h. ext.nodes n _ h) ext_shape
 
 -- what is there stands before the end of the list
-pub operand_of : (net : Net) (n : ℕ) (s : Shape) → HasShape net n s → IsOperand net (length net.nodes) n s
+there_before : (net : Net) (n : ℕ) (s : Shape) → shape_in net.nodes n ≡ Some s → n < length net.nodes
 unfolding shape_in
-operand_of net n s h = let x = shape_there (slice_get net.nodes n) s h.there in record { before = slice_get_within net.nodes n x.0 x.1; has = h }
+there_before net n s h = let x = shape_there (slice_get net.nodes n) s h in slice_get_within net.nodes n x.0 x.1
+
+pub bus_read : (net : Net) (b : Bus) → IsBus net b → ReadsBus net (length net.nodes) b
+bus_read net b i = record { before = there_before net _ _ i.there; bus = i }
+
+pub bit_read : (net : Net) (b : Bit) → IsBit net b → ReadsBit net (length net.nodes) b
+bit_read net b i = record { before = there_before net _ _ i.there; bit = i }
+
+pub store_read : (net : Net) (s : Store) → IsStore net s → ReadsStore net (length net.nodes) s
+store_read net s i = record { before = there_before net _ _ i.there; store = i }
 
 -- nothing more
 pub same_keeps : (net : Net) → Keeps net net
@@ -160,8 +179,8 @@ module _ (old new : Net) (x : Node) (n : ℕ) (adds : Adds old new x n) where
   unfolding size_of
   adds_size = rw adds.nodes (count_by-push is_inner old.nodes x)
 
-  pub adds_has : (s : Shape) → shape_of x ≡ s → IsShape s → HasShape new n s
-  adds_has s e i = record { there = adds_shape ∙ ap Some e; proper = i }
+  pub adds_has : (s : Shape) → shape_of x ≡ s → shape_in new.nodes n ≡ Some s
+  adds_has s e = adds_shape ∙ ap Some e
 
 pub adds_fits : (old new : Net) (x : Node) (n : ℕ) → Adds old new x n → IsWellFormed old → NodeFits old (length old.nodes) x → IsWellFormed new
 adds_fits old new x n adds w f = record {

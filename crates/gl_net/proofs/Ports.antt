@@ -9,7 +9,7 @@ use Rattle.gl_net.specs.declared.node.Bus.{Bus}
 use Rattle.gl_net.specs.declared.node.Port.{Port}
 use Rattle.gl_net.specs.declared.node.Direction.{Direction}
 use Rattle.gl_net.specs.declared.node.Direction.TheVariants.{In, Out}
-use Rattle.gl_net.specs.Net.{Net, Run, Shape, Value, shape_of, shape_in, open_in, open_at, open_shape, IsRun, HasShape, Grows, is_inner, size_of}
+use Rattle.gl_net.specs.Net.{Net, Run, Shape, Value, shape_of, shape_in, open_in, open_at, open_shape, IsRun, Grows, is_inner, size_of}
 use Rattle.gl_net.specs.WellFormed.{end_at, NodeFits, EndFits, IsWellFormed}
 use Rattle.gl_net.specs.Steps.{AddsPort, AddsInput, Names}
 use Rattle.gl_net.proofs.Lists.{nat_dec, get_push_old, get_push_new, get_push_other, get_push_cases, get_past, count_by-push}
@@ -35,9 +35,9 @@ module _ (old new : Net) (called : List ℕ) (w n : ℕ) (adds : AddsInput old n
           rw (h, a, b) refl)
     | inr h ↦ rw adds.nodes (ap (option_and_then open_shape) (get_push_other old.nodes _ k h)) ]
 
-  pub input_has : IsWidth w → HasShape new n (Value w)
+  pub input_has : shape_in new.nodes n ≡ Some (Value w)
   unfolding shape_in
-  input_has i = let a = input_there in record { there = rw a refl; proper = i }
+  input_has = let a = input_there in rw a refl
 
   pub input_size : size_of new ≡ size_of old
   unfolding size_of

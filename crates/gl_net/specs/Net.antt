@@ -143,34 +143,30 @@ pub record IsAddressWidth (bits : ℕ) : Type 0 where
   pub some' : 1 ≤ bits
   pub most : bits ≤ 32
 
-abbrev pub IsShape : Shape → Type 0
-IsShape (Value w) = IsWidth w
-IsShape (Words bits w) = IsAddressWidth bits × IsWidth w
+-- the bus is a node of the netlist that carries a value of its width
+pub record IsBus (net : Net) (b : Bus) : Type 0 where
+  pub there : shape_in net.nodes b.node ≡ Some (Value b.width)
+  pub width : IsWidth b.width
 
--- the node with this number is there and has this shape
-pub record HasShape (net : Net) (n : ℕ) (shape : Shape) : Type 0 where
-  pub there : shape_in net.nodes n ≡ Some shape
-  pub proper : IsShape shape
+-- the bit is a node of the netlist that carries one bit
+pub record IsBit (net : Net) (b : Bit) : Type 0 where
+  pub there : shape_in net.nodes b.node ≡ Some (Value 1)
 
--- a bus, a bit and a store are nodes of the netlist, with their widths
-abbrev pub IsBus : Net → Bus → Type 0
-IsBus net b = HasShape net b.node (Value b.width)
-
-abbrev pub IsBit : Net → Bit → Type 0
-IsBit net b = HasShape net b.node (Value 1)
-
-abbrev pub IsStore : Net → Store → Type 0
-IsStore net s = HasShape net s.node (Words s.address_bits s.width)
+-- the store is a memory of the netlist, with its widths
+pub record IsStore (net : Net) (s : Store) : Type 0 where
+  pub there : shape_in net.nodes s.node ≡ Some (Words s.address_bits s.width)
+  pub bits : IsAddressWidth s.address_bits
+  pub width : IsWidth s.width
 
 -- what stays wherever nodes, drives, ports or a name are added: every run is one of the old netlist, so no earlier value changes
 pub record Grows (old new : Net) : Type 0 where
   pub runs : (run : Run) → IsRun new run → IsRun old run
-  pub shapes : (n : ℕ) (shape : Shape) → HasShape old n shape → HasShape new n shape
+  pub shapes : (n : ℕ) (shape : Shape) → shape_in old.nodes n ≡ Some shape → shape_in new.nodes n ≡ Some shape
 
 -- what stays where a block is added that drives exactly the registers and memories that it makes
 pub record Keeps (old new : Net) : Type 0 where
   pub runs : (run : Run) → IsRun new run → IsRun old run
-  pub shapes : (n : ℕ) (shape : Shape) → HasShape old n shape → HasShape new n shape
+  pub shapes : (n : ℕ) (shape : Shape) → shape_in old.nodes n ≡ Some shape → shape_in new.nodes n ≡ Some shape
   pub undriven : (n : ℕ) → open_at new n ≡ open_at old n
   pub ports : new.ports ≡ old.ports
   pub name : new.name ≡ old.name

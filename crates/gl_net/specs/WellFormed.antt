@@ -11,21 +11,20 @@ use Rattle.gl_net.specs.declared.node.Store.{Store}
 use Rattle.gl_net.specs.declared.node.Port.{Port}
 use Rattle.gl_net.specs.declared.node.Direction.{Direction}
 use Rattle.gl_net.specs.declared.node.Direction.TheVariants.{In, Out}
-use Rattle.gl_net.specs.Net.{Net, Shape, Value, Words, shape_in, HasShape, IsBus, IsBit, IsAddressWidth}
+use Rattle.gl_net.specs.Net.{Net, Shape, Value, Words, shape_in, IsBus, IsBit, IsStore, IsAddressWidth}
 
--- the node with the number n reads one of this shape, which stands before it
-pub record IsOperand (net : Net) (n operand : ℕ) (shape : Shape) : Type 0 where
-  pub before : operand < n
-  pub has : HasShape net operand shape
+-- the node with the number n reads a bus, a bit or a store, which stands before it
+pub record ReadsBus (net : Net) (n : ℕ) (b : Bus) : Type 0 where
+  pub before : b.node < n
+  pub bus : IsBus net b
 
-abbrev pub ReadsBus : Net → ℕ → Bus → Type 0
-ReadsBus net n b = IsOperand net n b.node (Value b.width)
+pub record ReadsBit (net : Net) (n : ℕ) (b : Bit) : Type 0 where
+  pub before : b.node < n
+  pub bit : IsBit net b
 
-abbrev pub ReadsBit : Net → ℕ → Bit → Type 0
-ReadsBit net n b = IsOperand net n b.node (Value 1)
-
-abbrev pub ReadsStore : Net → ℕ → Store → Type 0
-ReadsStore net n s = IsOperand net n s.node (Words s.address_bits s.width)
+pub record ReadsStore (net : Net) (n : ℕ) (s : Store) : Type 0 where
+  pub before : s.node < n
+  pub store : IsStore net s
 
 -- what a memory takes has the widths of the memory
 pub record IsDrive (net : Net) (bits w : ℕ) (d : MemoryDrive) : Type 0 where

@@ -212,7 +212,7 @@ impl NetBuilder {
     }
 
     /// Every bit of the bus inverted.
-    #[tactic(auto, using(crate::proofs::Growth::operand_of))]
+    #[tactic(auto, using(crate::proofs::Growth::bus_read))]
     pub fn not(&mut self, arg: Bus) -> Result<Bus, Memory>
         requires { IsBus self.old arg }
         ensures keeps { Keeps self.old self.new }
@@ -227,7 +227,7 @@ impl NetBuilder {
     }
 
     /// The operation on two buses of one width.
-    #[tactic(auto, using(crate::proofs::Growth::operand_of, crate::proofs::Growth::binary_is_width))]
+    #[tactic(auto, using(crate::proofs::Growth::bus_read, crate::proofs::Growth::binary_is_width))]
     pub fn binary(&mut self, op: BinaryOp, left: Bus, right: Bus) -> Result<Bus, Memory>
         requires left { IsBus self.old left }
         requires right { IsBus self.old right }
@@ -244,7 +244,7 @@ impl NetBuilder {
     }
 
     /// The first bus in the cycles in which the bit is 1, and else the second.
-    #[tactic(auto, using(crate::proofs::Growth::operand_of))]
+    #[tactic(auto, using(crate::proofs::Growth::bus_read))]
     pub fn choose(&mut self, test: Bit, yes: Bus, no: Bus) -> Result<Bus, Memory>
         requires test { IsBit self.old test }
         requires yes { IsBus self.old yes }
@@ -262,7 +262,7 @@ impl NetBuilder {
     }
 
     /// The first bus above the second. At most 128 bits in all.
-    #[tactic(auto, using(crate::proofs::Growth::operand_of))]
+    #[tactic(auto, using(crate::proofs::Growth::bus_read))]
     pub fn join(&mut self, high: Bus, low: Bus) -> Result<Bus, Memory>
         requires high { IsBus self.old high }
         requires low { IsBus self.old low }
@@ -279,7 +279,7 @@ impl NetBuilder {
     }
 
     /// The bits `low` to `high` of the bus, counted from 0 for the lowest.
-    #[tactic(auto, using(crate::proofs::Growth::operand_of))]
+    #[tactic(auto, using(crate::proofs::Growth::bus_read))]
     pub fn cut(&mut self, arg: Bus, high: u8, low: u8) -> Result<Bus, Memory>
         requires arg { IsBus self.old arg }
         requires order { low ≤ high }
@@ -296,7 +296,7 @@ impl NetBuilder {
     }
 
     /// The word of a memory at the address, as it is before the edge that ends the cycle.
-    #[tactic(auto, using(crate::proofs::Growth::operand_of))]
+    #[tactic(auto, using(crate::proofs::Growth::bus_read, crate::proofs::Growth::store_read))]
     pub fn read(&mut self, store: Store, address: Bus) -> Result<Bus, Memory>
         requires store { IsStore self.old store }
         requires address { IsBus self.old address }

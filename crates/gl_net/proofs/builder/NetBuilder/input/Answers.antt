@@ -8,7 +8,7 @@ pub returns-clause-undriven : goal.returns-clause-undriven
 returns-clause-undriven c = input_open _ _ _ _ _ c.in_ok-node.ensures.ok
 
 pub returns-clause-bus : goal.returns-clause-bus
-returns-clause-bus c = input_has _ _ _ _ _ c.in_ok-node.ensures.ok c.requires
+returns-clause-bus c = record { there = input_has _ _ _ _ _ c.in_ok-node.ensures.ok; width = c.requires }
 
 pub returns-clause-size : goal.returns-clause-size
 returns-clause-size c = input_size _ _ _ _ _ c.in_ok-node.ensures.ok

@@ -15,7 +15,7 @@ pub returns-clause-fresh : goal.returns-clause-fresh
 returns-clause-fresh c = adds_fresh _ _ _ _ c.in_ok-node.ensures.ok
 
 pub returns-clause-store : goal.returns-clause-store
-returns-clause-store c = adds_has _ _ _ _ c.in_ok-node.ensures.ok _ refl (c.requires.bits, c.requires.width)
+returns-clause-store c = record { there = adds_has _ _ _ _ c.in_ok-node.ensures.ok _ refl; bits = c.requires.bits; width = c.requires.width }
 
 pub returns-clause-size : goal.returns-clause-size
 returns-clause-size c = adds_size _ _ _ _ c.in_ok-node.ensures.ok

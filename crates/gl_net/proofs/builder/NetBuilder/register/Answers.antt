@@ -15,7 +15,7 @@ pub returns-clause-fresh : goal.returns-clause-fresh
 returns-clause-fresh c = adds_fresh _ _ _ _ c.in_ok-node.ensures.ok
 
 pub returns-clause-bus : goal.returns-clause-bus
-returns-clause-bus c = adds_has _ _ _ _ c.in_ok-node.ensures.ok _ refl c.requires.width
+returns-clause-bus c = record { there = adds_has _ _ _ _ c.in_ok-node.ensures.ok _ refl; width = c.requires.width }
 
 pub returns-clause-size : goal.returns-clause-size
 returns-clause-size c = adds_size _ _ _ _ c.in_ok-node.ensures.ok
