@@ -9,7 +9,7 @@ use Rattle.gl_net.specs.declared.node.Bus.{Bus}
 use Rattle.gl_net.specs.declared.node.Store.{Store}
 use Rattle.gl_net.specs.declared.node.Port.{Port}
 use Rattle.gl_net.specs.declared.node.Direction.{Direction}
-use Rattle.gl_net.specs.Net.{Net, Run, Shape, Value, Words, shape_of, shape_in, open_in, open_at, open_shape, Holds, Fits, IsTrace, IsReset, IsRun, IsBus, Grows, stored_of, is_inner, size_of}
+use Rattle.gl_net.specs.Net.{Net, Run, Shape, Value, Words, shape_of, shape_in, open_in, open_at, open_shape, Holds, Fits, IsTrace, IsReset, IsRun, IsBus, Grows, stored_of, is_inner, size_of, has_no_reset, is_free}
 use Rattle.gl_net.specs.WellFormed.{IsDrive, end_at, NodeFits, EndFits, IsWellFormed}
 use Rattle.gl_net.specs.Steps.{Drives, DrivesMemory}
 use Rattle.gl_net.proofs.Lists.{nat_dec, get_set_same, get_set_other, count_by-set}
@@ -153,11 +153,16 @@ module _ (old new : Net) (b next : Bus) (d : Drives old new b next) where
   pub drive_value : (run : Run) → IsRun new run → (t : ℕ) → run.at (suc (suc t)) b.node ≡ run.at (suc t) next.node
   drive_value run q t = driven run b.node b.width d.reset next (q.trace.holds b.node _ (now_there _ _ _ _ _ drives_replaces)) (suc t) (q.reset.later t)
 
-  pub drive_free : slice_get old.nodes b.node ≡ Some (Register b.width None None) → (run : Run) → IsRun new run → (t : ℕ) → run.at (suc t) b.node ≡ run.at t next.node
-  drive_free h run q t =
-      let e : d.reset ≡ None = (let a = d.there in cc) in
-      let f : Holds run b.node (Register b.width None (Some next)) =
-          subst (λ r. Holds run b.node (Register b.width r (Some next))) e (q.trace.holds b.node _ (now_there _ _ _ _ _ drives_replaces)) in f t
+  pub drive_first : is_free old b.node ≡ true → (run : Run) → IsRun new run → run.at 1 b.node ≡ run.at 0 next.node
+  unfolding is_free
+  drive_first f run q =
+      let e : d.reset ≡ None = free_reset d.reset (let a = d.there in rw a at f) in
+      let h : Holds run b.node (Register b.width None (Some next)) =
+          subst (λ r. Holds run b.node (Register b.width r (Some next))) e (q.trace.holds b.node _ (now_there _ _ _ _ _ drives_replaces)) in h 0
+    where
+      free_reset : (r : Option ℕ) → has_no_reset (Register b.width r None) ≡ true → r ≡ None
+      free_reset None f = refl
+      free_reset (Some v) f = absurd (cc)
 
 pub register_fits : (nodes : List Node) (ports : List Port) (name : Option (List ℕ)) (at w : ℕ) (r : Option ℕ) (next : Bus)
     → slice_get nodes at ≡ Some (Register w r None) → IsBus (record { nodes = nodes; ports = ports; name = name }) next → next.width ≡ w

@@ -1,6 +1,6 @@
 -- A netlist whose nodes and ports are all in another one with the same numbers.
 use Rattle.std.proofs.Common.{◌≡◌, ℕ, zero, suc, ◌+◌, ◌<◌, ◌≤◌, List, [], ◌∷◌, ◌++◌, length, Option, Some, None, Bool, true, false, refl, sym, ap, ◌∙◌, subst, inl, inr, ◌⊎◌, arith}
-use Rattle.std.specs.Prelude.{slice_get, slice_set, option_and_then, IfSome, count_by, if◌then◌else◌}
+use Rattle.std.specs.Prelude.{slice_get, slice_set, option_and_then, IfSome, is_none, count_by, if◌then◌else◌}
 use Rattle.std.specs.Option.{option_map}
 use Rattle.std.proofs.lemmas.Option.{slice_get_within}
 use Rattle.gl_bits.specs.Words.{Word, IsWidth, IsWord}
@@ -15,7 +15,7 @@ use Rattle.gl_net.specs.declared.node.Store.{Store}
 use Rattle.gl_net.specs.declared.node.Port.{Port}
 use Rattle.gl_net.specs.declared.node.Direction.{Direction}
 use Rattle.gl_net.specs.declared.node.Direction.TheVariants.{In, Out}
-use Rattle.gl_net.specs.Net.{Net, Run, Shape, Value, Words, shape_of, shape_in, open_in, open_at, open_shape, Holds, Fits, IsTrace, IsReset, IsRun, IsBus, IsBit, IsStore, IsPort, Grows, Keeps, is_inner, size_of, reset_name, binary_width}
+use Rattle.gl_net.specs.Net.{Net, Run, Shape, Value, Words, shape_of, shape_in, open_in, open_at, open_shape, Holds, Fits, IsTrace, IsReset, IsRun, IsBus, IsBit, IsStore, IsPort, Grows, Keeps, is_inner, size_of, has_no_reset, is_free, binary_width}
 use Rattle.gl_net.specs.WellFormed.{ReadsBus, ReadsBit, ReadsStore, IsDrive, end_at, NodeFits, EndFits, IsWellFormed}
 use Rattle.gl_net.specs.Steps.{Adds, AddsPort, AddsInput}
 use Rattle.gl_net.proofs.Lists.{nat_dec, get_push_old, get_push_new, get_push_other, get_push_cases, get_past, count_by-push}
@@ -221,3 +221,12 @@ start_value old new w n value None adds e = tt
 start_value old new w n value (Some word) adds e = λ run r.
     let h : Holds run n (Register w (Some word.bits) None) = subst (λ v. Holds run n (Register w v None)) e (adds_holds old new _ n adds run r) in
     h 0 r.reset.first
+
+pub register_free : (old new : Net) (w n : ℕ) (value : Option ℕ) (reset : Option Word) → Adds old new (Register w value None) n
+    → value ≡ option_map (λ word. word.bits) reset → is_free new n ≡ is_none reset
+unfolding is_free
+register_free old new w n value reset adds e = let h = adds_there old new _ n adds in rw (h, e) (same_kind reset)
+  where
+    same_kind : (r : Option Word) → has_no_reset (Register w (option_map (λ word. word.bits) r) None) ≡ is_none r
+    same_kind None = refl
+    same_kind (Some word) = refl

@@ -2,7 +2,7 @@
 -- After the two-phase view of synchronous logic: within a cycle every node follows from its operands, and registers and
 -- memories change together at the edge that ends the cycle (IEEE 1364-2005, clauses 5, 6 and 9).
 use Rattle.std.specs.Prelude.{◌≡◌, ℕ, suc, ◌+◌, ◌-◌, ◌^◌, ◌<◌, ◌≤◌, List, Option, Some, None, Bool, true, false, if◌then◌else◌, ◌&&◌, nat_eq, bit_and, bit_or, bit_xor, slice_get, option_and_then, codes, count_by}
-use Rattle.std.specs.Option.{option_map}
+use Rattle.std.specs.Option.{option_map, option_map_or}
 use Rattle.gl_bits.specs.Words.{Word, IsWidth, sum_of, difference_of, product_of, not_of, eq_of, lt_of, le_of, join_of, cut_of, choose_of}
 use Rattle.gl_net.specs.declared.node.BinaryOp.{BinaryOp}
 use Rattle.gl_net.specs.declared.node.BinaryOp.TheVariants.{Add, Sub, Mul, And, Xor, Or, Eq, Ne, Lt, Le}
@@ -170,6 +170,14 @@ pub record Keeps (old new : Net) : Type 0 where
   pub undriven : (n : ℕ) → open_at new n ≡ open_at old n
   pub ports : new.ports ≡ old.ports
   pub name : new.name ≡ old.name
+
+-- the node is a register without a reset value
+abbrev pub has_no_reset : Node → Bool
+has_no_reset (Register w None next) = true
+has_no_reset _ = false
+
+unfoldable pub is_free : Net → ℕ → Bool
+is_free net n = option_map_or has_no_reset (slice_get net.nodes n) false
 
 -- the nodes apart from the input ports
 abbrev pub is_inner : Node → Bool

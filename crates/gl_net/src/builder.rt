@@ -1,6 +1,6 @@
 //! The builder of netlists.
 
-ghost use Rattle.std.specs.Prelude.{◌≡◌, ◌≢◌, ℕ, suc, ◌+◌, ◌-◌, ◌^◌, ◌<◌, ◌≤◌, List, [], ◌∷◌, ◌++◌, length, slice_get, slice_set, Option, Some, None, true, false, IfSome, MatchOption, IfOk, OnOk, OnErr, IsSome, if◌then◌else◌};
+ghost use Rattle.std.specs.Prelude.{◌≡◌, ◌≢◌, ℕ, suc, ◌+◌, ◌-◌, ◌^◌, ◌<◌, ◌≤◌, List, [], ◌∷◌, ◌++◌, length, slice_get, slice_set, Option, Some, None, true, false, IfSome, is_none, MatchOption, IfOk, OnOk, OnErr, IsSome, if◌then◌else◌};
 ghost use Rattle.std.specs.Option.{option_map};
 ghost use Rattle.gl_bits.specs.Words.{Word, IsWidth, not_of, join_of, cut_of, choose_of};
 ghost use Rattle.gl_net.specs.declared.node.Bus.{Bus};
@@ -9,7 +9,7 @@ ghost use Rattle.gl_net.specs.declared.node.MemoryDrive.{MemoryDrive};
 ghost use Rattle.gl_net.specs.declared.node.Store.{Store};
 ghost use Rattle.gl_net.specs.declared.node.Port.{Port};
 ghost use Rattle.gl_net.specs.declared.node.Direction.TheVariants.{In, Out};
-ghost use Rattle.gl_net.specs.Net.{Net, Run, IsRun, IsBus, IsBit, IsStore, IsAddressWidth, Grows, Keeps, Value, Words, Holds, shape_of, open_shape, open_at, size_of, is_inner, binary_of, binary_width, stored_of};
+ghost use Rattle.gl_net.specs.Net.{Net, Run, IsRun, IsBus, IsBit, IsStore, IsAddressWidth, Grows, Keeps, Value, Words, Holds, shape_of, open_shape, open_at, size_of, is_inner, is_free, binary_of, binary_width, stored_of};
 ghost use Rattle.gl_net.specs.WellFormed.{NodeFits, IsDrive};
 ghost use Rattle.gl_net.specs.Steps.{Adds, AddsPort, AddsInput, Names, Drives, DrivesMemory};
 ghost use Rattle.gl_net.specs.Finished.{IsFinished};
@@ -327,7 +327,7 @@ impl NetBuilder {
         ensures bus { IfOk result (λ b. IsBus self.new b) }
         ensures width { IfOk result (λ b. b.width ≡ width) }
         ensures size { OnOk result (size_of self.new ≡ size_of self.old + 1) }
-        ensures node { IfOk result (λ b. slice_get self.new.nodes b.node ≡ Some (Node.Register width (option_map (λ word. word.bits) reset) None)) }
+        ensures free { IfOk result (λ b. is_free self.new b.node ≡ is_none reset) }
         ensures start { IfOk result (λ b. IfSome reset (λ word. (run : Run) → IsRun self.new run → run.at 1 b.node ≡ word.bits)) }
         ensures err { OnErr result (self.new ≡ self.old) }
     {
@@ -348,7 +348,7 @@ impl NetBuilder {
         ensures driven { OnOk result (open_at self.new register.node ≡ None) }
         ensures size { size_of self.new ≡ size_of self.old }
         ensures value { OnOk result ((run : Run) → IsRun self.new run → (t : ℕ) → run.at (suc (suc t)) register.node ≡ run.at (suc t) next.node) }
-        ensures free { OnOk result (slice_get self.old.nodes register.node ≡ Some (Node.Register register.width None None) → (run : Run) → IsRun self.new run → (t : ℕ) → run.at (suc t) register.node ≡ run.at t next.node) }
+        ensures first { OnOk result (is_free self.old register.node ≡ true → (run : Run) → IsRun self.new run → run.at 1 register.node ≡ run.at 0 next.node) }
         ensures err { OnErr result (self.new ≡ self.old) }
     {
         self.set_next(register, next);

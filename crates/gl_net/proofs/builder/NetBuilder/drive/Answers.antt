@@ -1,4 +1,4 @@
-use Rattle.gl_net.proofs.Drive.{drive_grows, drive_others, drive_open, drive_size, drive_value, drive_free}
+use Rattle.gl_net.proofs.Drive.{drive_grows, drive_others, drive_open, drive_size, drive_value, drive_first}
 use Rattle.gl_net.proofs.builder.NetBuilder.drive.Goals as goal
 
 pub returns-clause-grows : goal.returns-clause-grows
@@ -16,5 +16,5 @@ returns-clause-size c = drive_size _ _ _ _ c.set_next.ensures
 pub returns-clause-value : goal.returns-clause-value
 returns-clause-value c = drive_value _ _ _ _ c.set_next.ensures
 
-pub returns-clause-free : goal.returns-clause-free
-returns-clause-free c = drive_free _ _ _ _ c.set_next.ensures
+pub returns-clause-first : goal.returns-clause-first
+returns-clause-first c = drive_first _ _ _ _ c.set_next.ensures

@@ -1,5 +1,5 @@
 use Rattle.std.proofs.Common.{refl}
-use Rattle.gl_net.proofs.Growth.{adds_grows, adds_open_other, adds_open, adds_fresh, adds_has, adds_size, adds_there, start_value}
+use Rattle.gl_net.proofs.Growth.{adds_grows, adds_open_other, adds_open, adds_fresh, adds_has, adds_size, register_free, start_value}
 use Rattle.gl_net.proofs.builder.NetBuilder.register.Goals as goal
 
 pub returns-clause-grows : goal.returns-clause-grows
@@ -20,8 +20,8 @@ returns-clause-bus c = record { there = adds_has _ _ _ _ c.in_ok-node.ensures.ok
 pub returns-clause-size : goal.returns-clause-size
 returns-clause-size c = adds_size _ _ _ _ c.in_ok-node.ensures.ok
 
-pub returns-clause-node : goal.returns-clause-node
-returns-clause-node c = let h = adds_there _ _ _ _ c.in_ok-node.ensures.ok in rw c.reset_value-value.ensures.value at h
+pub returns-clause-free : goal.returns-clause-free
+returns-clause-free c = register_free _ _ _ _ _ _ c.in_ok-node.ensures.ok c.reset_value-value.ensures.value
 
 pub returns-clause-start : goal.returns-clause-start
 returns-clause-start c = start_value _ _ _ _ _ _ c.in_ok-node.ensures.ok c.reset_value-value.ensures.value
