@@ -1,9 +1,10 @@
 -- What a netlist needs to be finished: names of the Verilog subset, one for each port, and a drive for all that takes one.
 -- Names after IEEE 1364-2005, clause 3.7 (simple identifiers), without the keywords that the subset uses (annex B).
-use Rattle.std.specs.Prelude.{◌≡◌, ◌≢◌, ℕ, ◌≤◌, Bool, ◌||◌, ◌&&◌, List, [], ◌∷◌, length, Option, Some, None, slice_get, nat_eq, nat_le, codes, All, IsTrue, IsSomeAnd, Contains}
+use Rattle.std.specs.Prelude.{◌≡◌, ◌≢◌, ℕ, ◌≤◌, Bool, true, false, ◌||◌, ◌&&◌, List, [], ◌∷◌, length, Option, Some, None, slice_get, nat_eq, nat_le, codes, IsTrue, IsSomeAnd}
+use Rattle.std.specs.List.{list_any, list_all}
+use Rattle.std.specs.Str.{bytes_eq}
 use Rattle.gl_net.specs.declared.node.Node.{Node}
 use Rattle.gl_net.specs.declared.node.Node.TheVariants.{Register}
-use Rattle.gl_net.specs.declared.node.Bus.{Bus}
 use Rattle.gl_net.specs.declared.node.Port.{Port}
 use Rattle.gl_net.specs.declared.node.Direction.TheVariants.{In}
 use Rattle.gl_net.specs.Net.{Net, Shape, Value, shape_in, open_at, IsPort, reset_name}
@@ -16,6 +17,11 @@ is_letter c = (nat_le 65 c && nat_le c 90) || (nat_le 97 c && nat_le c 122) || n
 abbrev pub is_digit : ℕ → Bool
 is_digit c = nat_le 48 c && nat_le c 57
 
+abbrev pub begins_with_letter : List ℕ → Bool
+begins_with_letter [] = false
+begins_with_letter (c ∷ cs) = is_letter c
+
+-- the keywords of the Verilog subset
 abbrev pub keywords : List (List ℕ)
 keywords =
     codes "module" ∷ codes "endmodule" ∷ codes "input" ∷ codes "output" ∷ codes "wire" ∷ codes "reg" ∷ codes "assign" ∷ codes "always"
@@ -23,14 +29,22 @@ keywords =
 
 -- a letter, and then letters and digits, at most 128 in all, that are no keyword
 pub record IsName (name : List ℕ) : Type 0 where
-  pub first : IsSomeAnd (slice_get name 0) (λ c. IsTrue (is_letter c))
-  pub letters : All (λ c. IsTrue (is_letter c || is_digit c)) name
+  pub first : IsTrue (begins_with_letter name)
+  pub each : IsTrue (list_all (λ c. is_letter c || is_digit c) name)
   pub short : length name ≤ 128
-  pub free : ¬ Contains keywords name
+  pub free : list_any (bytes_eq name) keywords ≡ false
 
 -- the clock, which the written module has as its first port
 abbrev pub clock_name : List ℕ
 clock_name = codes "clk"
+
+-- some register has a reset value
+abbrev pub has_reset_value : Node → Bool
+has_reset_value (Register w (Some value) next) = true
+has_reset_value _ = false
+
+unfoldable pub needs_reset : Net → Bool
+needs_reset net = list_any has_reset_value net.nodes
 
 -- an input `rst` of one bit
 pub record HasReset (net : Net) : Type 0 where
@@ -44,7 +58,7 @@ pub record IsFinished (net : Net) : Type 0 where
   pub port_names : (place : ℕ) (p : Port) → slice_get net.ports place ≡ Some p → IsName p.name
   pub no_clock : (place : ℕ) (p : Port) → slice_get net.ports place ≡ Some p → p.name ≢ clock_name
   pub distinct : (i j : ℕ) (p q : Port) → slice_get net.ports i ≡ Some p → slice_get net.ports j ≡ Some q → p.name ≡ q.name → i ≡ j
-  pub reset : (n w value : ℕ) (next : Option Bus) → slice_get net.nodes n ≡ Some (Register w (Some value) next) → HasReset net
+  pub reset : needs_reset net ≡ true → HasReset net
 
 -- a finished netlist
 pub record IsNetlist (net : Net) : Type 0 where

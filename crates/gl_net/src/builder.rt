@@ -12,7 +12,7 @@ ghost use Rattle.gl_net.specs.declared.node.Direction.TheVariants.{In, Out};
 ghost use Rattle.gl_net.specs.Net.{Net, Run, IsRun, IsBus, IsBit, IsStore, IsAddressWidth, Grows, Keeps, Value, Words, Holds, shape_of, open_shape, open_at, size_of, is_inner, is_free, binary_of, binary_width, stored_of};
 ghost use Rattle.gl_net.specs.WellFormed.{NodeFits, IsDrive};
 ghost use Rattle.gl_net.specs.Steps.{Adds, AddsPort, AddsInput, Names, Drives, DrivesMemory};
-ghost use Rattle.gl_net.specs.Finished.{IsFinished};
+ghost use Rattle.gl_net.specs.Finished.{IsFinished, needs_reset};
 
 use crate::netlist::{NetFault, Netlist};
 use crate::node::{BinaryOp, Bit, Bus, Direction, MemoryDrive, Node, Port, Store};
@@ -42,9 +42,11 @@ impl Model for NetBuilder {
 
 impl NetBuilder {
     /// The empty builder.
-    #[tactic(auto, using(crate::proofs::Growth::empty_fits))]
+    #[tactic(auto, using(crate::proofs::Growth::empty_fits), unfolding(crate::specs::Net::open_in, crate::specs::Net::size_of))]
     pub fn new(alloc: Global) -> NetBuilder
-        ensures { result ≡ record { nodes = []; ports = []; name = None } }
+        ensures empty { result ≡ record { nodes = []; ports = []; name = None } }
+        ensures undriven { (n : ℕ) → open_at result n ≡ None }
+        ensures size { size_of result ≡ 0 }
     {
         NetBuilder {
             alloc,
@@ -59,6 +61,16 @@ impl NetBuilder {
         ensures { result ≡ length self.now.nodes }
     {
         self.nodes.len()
+    }
+
+    /// Whether some register has a reset value, so that the module needs an input `rst`.
+    #[tactic(auto, unfolding(crate::specs::Finished::needs_reset))]
+    pub fn needs_reset(&self) -> bool
+        ensures { result ≡ needs_reset self.now }
+    {
+        self.nodes
+            .iter()
+            .any(|node| matches!(node, Node::Register(_, Some(_), _)))
     }
 
     /// An input port of the module, and the node that carries its value.
@@ -392,7 +404,13 @@ impl NetBuilder {
     }
 
     /// Drives a memory: it takes the value at the address, at the edge of each cycle in which the bit is 1.
-    pub fn drive_memory(&mut self, store: Store, write: Bit, address: Bus, value: Bus) -> Result<(), Memory>
+    pub fn drive_memory(
+        &mut self,
+        store: Store,
+        write: Bit,
+        address: Bus,
+        value: Bus,
+    ) -> Result<(), Memory>
         requires undriven { open_at self.old store.node ≡ Some (Words store.address_bits store.width) }
         requires write { IsBit self.old write }
         requires address { IsBus self.old address }
@@ -484,7 +502,12 @@ fn push_port(ports: &mut Vec<Port>, port: Port) -> Result<(), Memory>
 }
 
 // The port at the end of its list, and an input node that names it.
-fn push_both(nodes: &mut Vec<Node>, ports: &mut Vec<Port>, port: Port, width: u8) -> Result<(), Memory>
+fn push_both(
+    nodes: &mut Vec<Node>,
+    ports: &mut Vec<Port>,
+    port: Port,
+    width: u8,
+) -> Result<(), Memory>
     ensures nodes { OnOk result (nodes.new.items ≡ nodes.old.items ++ Node.Input (length ports.old.items) width ∷ []) }
     ensures ports { OnOk result (ports.new.items ≡ ports.old.items ++ port ∷ []) }
     ensures nodes_err { OnErr result (nodes.new.items ≡ nodes.old.items) }
