@@ -34,9 +34,10 @@ module _ (old new : Net) (at : ℕ) (x y : Node) (r : Replaces old new at x y) w
   same_shape : (k : ℕ) → shape_in new.nodes k ≡ shape_in old.nodes k
   unfolding shape_in
   same_shape k = elim (nat_dec at k) [
-      inl e ↦ subst (λ i. shape_in new.nodes i ≡ shape_in old.nodes i) e
+    | inl e ↦ subst (λ i. shape_in new.nodes i ≡ shape_in old.nodes i) e
         (let a = now_there in let b = r.there in rw (a, b) (ap Some r.shape))
-    | inr ne ↦ ap (option_map shape_of) (others k ne) ]
+    | inr ne ↦ ap (option_map shape_of) (others k ne)
+  ]
 
   same_end : (k : ℕ) (e : Direction × ℕ) → end_at old k ≡ Some e → end_at new k ≡ Some e
   unfolding end_at
@@ -54,18 +55,27 @@ module _ (old new : Net) (at : ℕ) (x y : Node) (r : Replaces old new at x y) w
   -- a run of the new netlist is one of the old, where the new node says all that the old one said
   old_trace : ((run : Run) → Holds run at y → Holds run at x) → (run : Run) → IsTrace new run → IsTrace old run
   old_trace weaker run tr = record {
-      fits = λ k z h. elim (nat_dec at k) [
-          inl e ↦ subst (λ u. Fits run k (shape_of u)) (was_there k z e h) (subst (Fits run k) r.shape (tr.fits k y (is_there k e)))
-        | inr ne ↦ tr.fits k z (others k ne ∙ h) ];
-      holds = λ k z h. elim (nat_dec at k) [
-          inl e ↦ subst (λ u. Holds run k u) (was_there k z e h) (subst (λ i. Holds run i x) e (weaker run (tr.holds at y now_there)))
-        | inr ne ↦ tr.holds k z (others k ne ∙ h) ];
-      line = λ n p. tr.line n (record { place = p.place; there = rw r.ports p.there }) }
+    fits = λ k z h. elim (nat_dec at k) [
+      | inl e ↦ subst (λ u. Fits run k (shape_of u)) (was_there k z e h) (subst (Fits run k) r.shape (tr.fits k y (is_there k e)))
+      | inr ne ↦ tr.fits k z (others k ne ∙ h)
+    ];
+    holds = λ k z h. elim (nat_dec at k) [
+      | inl e ↦ subst (λ u. Holds run k u) (was_there k z e h) (subst (λ i. Holds run i x) e (weaker run (tr.holds at y now_there)))
+      | inr ne ↦ tr.holds k z (others k ne ∙ h)
+    ];
+    line = λ n p. tr.line n (record { place = p.place; there = rw r.ports p.there });
+  }
 
   replaced_grows : ((run : Run) → Holds run at y → Holds run at x) → Grows old new
   replaced_grows weaker = record {
+<<<<<<< HEAD
       runs = λ run q. record { trace = old_trace weaker run q.trace; reset = q.reset };
       shapes = same_shapes }
+=======
+    runs = λ run q. record { trace = old_trace weaker run q.trace; reset = q.reset };
+    shapes = same_shapes;
+  }
+>>>>>>> e6e8dfeb2ba475541de69dc30ca7659dd4fe5a81
 
   replaced_open : open_shape y ≡ None → open_at new at ≡ None
   unfolding open_in
@@ -82,16 +92,19 @@ module _ (old new : Net) (at : ℕ) (x y : Node) (r : Replaces old new at x y) w
   -- an input node is not replaced
   inputs : (n k w : ℕ) → slice_get old.nodes n ≡ Some (Input k w) → slice_get new.nodes n ≡ Some (Input k w)
   inputs n k w h = elim (nat_dec at n) [
-      inl e ↦ absurd (let q : x ≡ Input k w = was_there n _ e h in let i : is_inner (Input k w) ≡ true = subst (λ u. is_inner u ≡ true) q r.inner in cc)
-    | inr ne ↦ others n ne ∙ h ]
+    | inl e ↦ absurd (let q : x ≡ Input k w = was_there n _ e h in let i : is_inner (Input k w) ≡ true = subst (λ u. is_inner u ≡ true) q r.inner in cc)
+    | inr ne ↦ others n ne ∙ h
+  ]
 
   replaced_fits : IsWellFormed old → NodeFits new at y → IsWellFormed new
   replaced_fits w f = record {
-      nodes = λ k z h. elim (nat_dec at k) [
-          inl e ↦ (let q : slice_get new.nodes k ≡ Some y = is_there k e in let s : y ≡ z = cc in
-              subst (λ u. NodeFits new k u) s (subst (λ i. NodeFits new i y) e f))
-        | inr ne ↦ kept_node old new same_shapes same_end k z (w.nodes k z (sym (others k ne) ∙ h)) ];
-      ends = λ k p h. kept_end old new inputs same_shapes k p.direction p.node (w.ends k p (rw r.ports at h)) }
+    nodes = λ k z h. elim (nat_dec at k) [
+      | inl e ↦ (let q : slice_get new.nodes k ≡ Some y = is_there k e in let s : y ≡ z = cc in
+          subst (λ u. NodeFits new k u) s (subst (λ i. NodeFits new i y) e f))
+      | inr ne ↦ kept_node old new same_shapes same_end k z (w.nodes k z (sym (others k ne) ∙ h))
+    ];
+    ends = λ k p h. kept_end old new inputs same_shapes k p.direction p.node (w.ends k p (rw r.ports at h));
+  }
 
 -- the register behind an open width
 pub register_there : (o : Option Node) (w : ℕ) → option_and_then open_shape o ≡ Some (Value w) → (r : Option ℕ) × (o ≡ Some (Register w r None))
@@ -158,7 +171,11 @@ module _ (old new : Net) (b next : Bus) (d : Drives old new b next) where
   drive_first f run q =
       let e : d.reset ≡ None = free_reset d.reset (let a = d.there in rw a at f) in
       let h : Holds run b.node (Register b.width None (Some next)) =
+<<<<<<< HEAD
           subst (λ r. Holds run b.node (Register b.width r (Some next))) e (q.trace.holds b.node _ (now_there _ _ _ _ _ drives_replaces)) in h 0
+=======
+      subst (λ r. Holds run b.node (Register b.width r (Some next))) e (q.trace.holds b.node _ (now_there _ _ _ _ _ drives_replaces)) in h 0
+>>>>>>> e6e8dfeb2ba475541de69dc30ca7659dd4fe5a81
     where
       free_reset : (r : Option ℕ) → has_no_reset (Register b.width r None) ≡ true → r ≡ None
       free_reset None f = refl
@@ -170,7 +187,7 @@ pub register_fits : (nodes : List Node) (ports : List Port) (name : Option (List
     → IsWellFormed (record { nodes = slice_set nodes at (Register w r (Some next)); ports = ports; name = name })
 register_fits nodes ports name at w r next h i e f =
     let q : Replaces (record { nodes = nodes; ports = ports; name = name }) (record { nodes = slice_set nodes at (Register w r (Some next)); ports = ports; name = name }) at (Register w r None) (Register w r (Some next))
-        = record { there = h; nodes = refl; ports = refl; shape = refl; inner = refl; inner' = refl } in
+    = record { there = h; nodes = refl; ports = refl; shape = refl; inner = refl; inner' = refl } in
     let g : NodeFits (record { nodes = nodes; ports = ports; name = name }) at (Register w r None) = f.nodes at _ h in
     replaced_fits _ _ _ _ _ q f (g.0, g.1, (kept_bus _ _ (same_shapes _ _ _ _ _ q) (same_end _ _ _ _ _ q) next i, e))
 
@@ -200,6 +217,6 @@ pub memory_fits : (nodes : List Node) (ports : List Port) (name : Option (List �
     → IsWellFormed (record { nodes = slice_set nodes at (Memory a w (Some drive)); ports = ports; name = name })
 memory_fits nodes ports name at a w drive h i f =
     let q : Replaces (record { nodes = nodes; ports = ports; name = name }) (record { nodes = slice_set nodes at (Memory a w (Some drive)); ports = ports; name = name }) at (Memory a w None) (Memory a w (Some drive))
-        = record { there = h; nodes = refl; ports = refl; shape = refl; inner = refl; inner' = refl } in
+    = record { there = h; nodes = refl; ports = refl; shape = refl; inner = refl; inner' = refl } in
     let g : NodeFits (record { nodes = nodes; ports = ports; name = name }) at (Memory a w None) = f.nodes at _ h in
     replaced_fits _ _ _ _ _ q f (g.0, g.1, kept_drive _ _ (same_shapes _ _ _ _ _ q) (same_end _ _ _ _ _ q) a w drive i)

@@ -42,12 +42,27 @@ module _ (old new : Net) (shapes : (n : ℕ) (s : Shape) → shape_in old.nodes 
 
   reads_store : (n : ℕ) (s : Store) → ReadsStore old n s → ReadsStore new n s
   reads_store n s r = record {
+<<<<<<< HEAD
       before = r.before; store = record { there = shapes s.node _ r.store.there; bits = r.store.bits; width = r.store.width } }
 
   pub kept_drive : (bits w : ℕ) (d : MemoryDrive) → IsDrive old bits w d → IsDrive new bits w d
   kept_drive bits w d i = record {
       write = kept_bit _ i.write; address = kept_bus _ i.address; address_width = i.address_width;
       value = kept_bus _ i.value; value_width = i.value_width }
+=======
+    before = r.before;
+    store = record { there = shapes s.node _ r.store.there; bits = r.store.bits; width = r.store.width };
+  }
+
+  pub kept_drive : (bits w : ℕ) (d : MemoryDrive) → IsDrive old bits w d → IsDrive new bits w d
+  kept_drive bits w d i = record {
+    write = kept_bit _ i.write;
+    address = kept_bus _ i.address;
+    address_width = i.address_width;
+    value = kept_bus _ i.value;
+    value_width = i.value_width;
+  }
+>>>>>>> e6e8dfeb2ba475541de69dc30ca7659dd4fe5a81
 
   kept_next : (w : ℕ) (next : Option Bus) → IfSome next (λ b. IsBus old b × (b.width ≡ w)) → IfSome next (λ b. IsBus new b × (b.width ≡ w))
   kept_next w None h = h
@@ -96,14 +111,21 @@ module _ (old new : Net) (ext : Extends old new) where
 
   pub ext_trace : (run : Run) → IsTrace new run → IsTrace old run
   ext_trace run tr = record {
-      fits = λ n x h. tr.fits n x (ext.nodes n x h);
-      holds = λ n x h. tr.holds n x (ext.nodes n x h);
-      line = λ n p. tr.line n (record { place = p.place; there = ext.ports p.place _ p.there }) }
+    fits = λ n x h. tr.fits n x (ext.nodes n x h);
+    holds = λ n x h. tr.holds n x (ext.nodes n x h);
+    line = λ n p. tr.line n (record { place = p.place; there = ext.ports p.place _ p.there });
+  }
 
   pub ext_grows : Grows old new
   ext_grows = record {
+<<<<<<< HEAD
       runs = λ run r. record { trace = ext_trace run r.trace; reset = r.reset };
       shapes = ext_shape }
+=======
+    runs = λ run r. record { trace = ext_trace run r.trace; reset = r.reset };
+    shapes = ext_shape;
+  }
+>>>>>>> e6e8dfeb2ba475541de69dc30ca7659dd4fe5a81
 
   pub ext_node : (n : ℕ) (x : Node) → NodeFits old n x → NodeFits new n x
   ext_node = kept_node old new ext_shape ext_end
@@ -136,8 +158,9 @@ same_grows net = record { runs = λ run r. r; shapes = λ n s h. h }
 module _ (old new : Net) (x : Node) (n : ℕ) (adds : Adds old new x n) where
   pub adds_extends : Extends old new
   adds_extends = record {
-      nodes = λ k y h. rw adds.nodes (get_push_old old.nodes x k y h);
-      ports = λ k p h. rw adds.ports h }
+    nodes = λ k y h. rw adds.nodes (get_push_old old.nodes x k y h);
+    ports = λ k p h. rw adds.ports h;
+  }
 
   pub adds_there : slice_get new.nodes n ≡ Some x
   adds_there = rw (adds.nodes, adds.number) (get_push_new old.nodes x)
@@ -166,14 +189,24 @@ module _ (old new : Net) (x : Node) (n : ℕ) (adds : Adds old new x n) where
 
   pub adds_closed : open_shape x ≡ None → (k : ℕ) → open_at new k ≡ open_at old k
   adds_closed e k = elim (nat_dec k n) [
-      inl h ↦ (let a : open_at new k ≡ None = subst (λ i. open_at new i ≡ None) (sym h) (adds_open ∙ e) in
-          let b : open_at old k ≡ None = subst (λ i. open_at old i ≡ None) (sym h) adds_fresh in a ∙ sym b)
-    | inr h ↦ adds_open_other k h ]
+    | inl h ↦ (let a : open_at new k ≡ None = subst (λ i. open_at new i ≡ None) (sym h) (adds_open ∙ e) in
+        let b : open_at old k ≡ None = subst (λ i. open_at old i ≡ None) (sym h) adds_fresh in a ∙ sym b)
+    | inr h ↦ adds_open_other k h
+  ]
 
   pub adds_keeps : open_shape x ≡ None → Keeps old new
   adds_keeps e = record {
+<<<<<<< HEAD
       runs = adds_grows.runs; shapes = adds_grows.shapes;
       undriven = adds_closed e; ports = adds.ports; name = adds.name }
+=======
+    runs = adds_grows.runs;
+    shapes = adds_grows.shapes;
+    undriven = adds_closed e;
+    ports = adds.ports;
+    name = adds.name;
+  }
+>>>>>>> e6e8dfeb2ba475541de69dc30ca7659dd4fe5a81
 
   pub adds_size : size_of new ≡ size_of old + (if is_inner x then 1 else 0)
   unfolding size_of
@@ -184,10 +217,12 @@ module _ (old new : Net) (x : Node) (n : ℕ) (adds : Adds old new x n) where
 
 pub adds_fits : (old new : Net) (x : Node) (n : ℕ) → Adds old new x n → IsWellFormed old → NodeFits old (length old.nodes) x → IsWellFormed new
 adds_fits old new x n adds w f = record {
-    nodes = λ k y e. elim (get_push_cases old.nodes x k y (rw adds.nodes at e)) [
-        inl h ↦ ext_node old new ext k y (w.nodes k y h)
-      | inr h ↦ (let g : NodeFits old k x = subst (λ i. NodeFits old i x) (sym h.0) f in subst (NodeFits new k) h.1 (ext_node old new ext k x g)) ];
-    ends = λ k p e. ext_port old new ext k p.direction p.node (w.ends k p (rw adds.ports at e)) }
+  nodes = λ k y e. elim (get_push_cases old.nodes x k y (rw adds.nodes at e)) [
+    | inl h ↦ ext_node old new ext k y (w.nodes k y h)
+    | inr h ↦ (let g : NodeFits old k x = subst (λ i. NodeFits old i x) (sym h.0) f in subst (NodeFits new k) h.1 (ext_node old new ext k x g))
+  ];
+  ends = λ k p e. ext_port old new ext k p.direction p.node (w.ends k p (rw adds.ports at e));
+}
   where
     ext : Extends old new
     ext = adds_extends old new x n adds

@@ -6,8 +6,9 @@ use Rattle.std.proofs.lemmas.Bool.{cases_lt}
 
 pub nat_dec : (a b : ℕ) → (a ≡ b) ⊎ (a ≡ b → ⊥)
 nat_dec a b = elim (cases_lt a b) [
-    inl h ↦ inr (λ e. omega arith)
-  | inr h ↦ elim (cases_lt b a) [ inl h' ↦ inr (λ e. omega arith) | inr h' ↦ inl (omega arith) ] ]
+  | inl h ↦ inr (λ e. omega arith)
+  | inr h ↦ elim (cases_lt b a) [ inl h' ↦ inr (λ e. omega arith) | inr h' ↦ inl (omega arith) ]
+]
 
 pub get_push_old : {A : Type 0} (xs : List A) (y : A) (n : ℕ) (x : A) → slice_get xs n ≡ Some x → slice_get (xs ++ y ∷ []) n ≡ Some x
 get_push_old [] y n x h = cc

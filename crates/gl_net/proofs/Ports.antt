@@ -18,8 +18,9 @@ use Rattle.gl_net.proofs.Growth.{Extends, ext_grows, ext_node, ext_port}
 module _ (old new : Net) (called : List ℕ) (w n : ℕ) (adds : AddsInput old new called w n) where
   input_extends : Extends old new
   input_extends = record {
-      nodes = λ k y h. rw adds.nodes (get_push_old old.nodes _ k y h);
-      ports = λ k p h. rw adds.ports (get_push_old old.ports _ k p h) }
+    nodes = λ k y h. rw adds.nodes (get_push_old old.nodes _ k y h);
+    ports = λ k p h. rw adds.ports (get_push_old old.ports _ k p h);
+  }
 
   input_there : slice_get new.nodes n ≡ Some (Input (length old.ports) w)
   input_there = rw (adds.nodes, adds.number) (get_push_new old.nodes _)
@@ -30,10 +31,11 @@ module _ (old new : Net) (called : List ℕ) (w n : ℕ) (adds : AddsInput old n
   pub input_open : (k : ℕ) → open_at new k ≡ open_at old k
   unfolding open_in
   input_open k = elim (nat_dec k (length old.nodes)) [
-      inl h ↦ (let a : slice_get new.nodes (length old.nodes) ≡ Some (Input (length old.ports) w) = rw adds.nodes (get_push_new old.nodes _) in
-          let b : slice_get old.nodes (length old.nodes) ≡ None = get_past old.nodes in
-          rw (h, a, b) refl)
-    | inr h ↦ rw adds.nodes (ap (option_and_then open_shape) (get_push_other old.nodes _ k h)) ]
+    | inl h ↦ (let a : slice_get new.nodes (length old.nodes) ≡ Some (Input (length old.ports) w) = rw adds.nodes (get_push_new old.nodes _) in
+        let b : slice_get old.nodes (length old.nodes) ≡ None = get_past old.nodes in
+        rw (h, a, b) refl)
+    | inr h ↦ rw adds.nodes (ap (option_and_then open_shape) (get_push_other old.nodes _ k h))
+  ]
 
   pub input_has : shape_in new.nodes n ≡ Some (Value w)
   unfolding shape_in
@@ -46,16 +48,19 @@ module _ (old new : Net) (called : List ℕ) (w n : ℕ) (adds : AddsInput old n
   pub input_keeps_form : IsWellFormed old → IsWidth w → IsWellFormed new
   unfolding end_at
   input_keeps_form f i = record {
-      nodes = λ k y e. elim (get_push_cases old.nodes _ k y (rw adds.nodes at e)) [
-          inl h ↦ ext_node old new input_extends k y (f.nodes k y h)
-        | inr h ↦ (let a : slice_get new.ports (length old.ports) ≡ Some (record { direction = In; name = called; node = n }) = rw adds.ports (get_push_new old.ports _) in
-            let q : n ≡ k = adds.number ∙ sym h.0 in
-            let g : NodeFits new k (Input (length old.ports) w) = (i, rw a (ap (λ j. Some (In, j)) q)) in
-            subst (NodeFits new k) h.1 g) ];
-      ends = λ k p e. elim (get_push_cases old.ports _ k p (rw adds.ports at e)) [
-          inl h ↦ ext_port old new input_extends k p.direction p.node (f.ends k p h)
-        | inr h ↦ (let g : EndFits new (length old.ports) In n = (w, input_there) in
-            subst (λ (r : Port). EndFits new k r.direction r.node) h.1 (subst (λ j. EndFits new j In n) (sym h.0) g)) ] }
+    nodes = λ k y e. elim (get_push_cases old.nodes _ k y (rw adds.nodes at e)) [
+      | inl h ↦ ext_node old new input_extends k y (f.nodes k y h)
+      | inr h ↦ (let a : slice_get new.ports (length old.ports) ≡ Some (record { direction = In; name = called; node = n }) = rw adds.ports (get_push_new old.ports _) in
+          let q : n ≡ k = adds.number ∙ sym h.0 in
+          let g : NodeFits new k (Input (length old.ports) w) = (i, rw a (ap (λ j. Some (In, j)) q)) in
+          subst (NodeFits new k) h.1 g)
+    ];
+    ends = λ k p e. elim (get_push_cases old.ports _ k p (rw adds.ports at e)) [
+      | inl h ↦ ext_port old new input_extends k p.direction p.node (f.ends k p h)
+      | inr h ↦ (let g : EndFits new (length old.ports) In n = (w, input_there) in
+          subst (λ (r : Port). EndFits new k r.direction r.node) h.1 (subst (λ j. EndFits new j In n) (sym h.0) g))
+    ];
+  }
 
 module _ (old new : Net) (direction : Direction) (called : List ℕ) (node : ℕ) (adds : AddsPort old new direction called node) where
   port_extends : Extends old new
@@ -73,11 +78,13 @@ module _ (old new : Net) (direction : Direction) (called : List ℕ) (node : ℕ
 
   pub port_keeps_form : IsWellFormed old → EndFits old (length old.ports) direction node → IsWellFormed new
   port_keeps_form f g = record {
-      nodes = λ k y e. ext_node old new port_extends k y (f.nodes k y (rw adds.nodes at e));
-      ends = λ k p e. elim (get_push_cases old.ports _ k p (rw adds.ports at e)) [
-          inl h ↦ ext_port old new port_extends k p.direction p.node (f.ends k p h)
-        | inr h ↦ subst (λ (r : Port). EndFits new k r.direction r.node) h.1
-            (subst (λ j. EndFits new j direction node) (sym h.0) (ext_port old new port_extends (length old.ports) direction node g)) ] }
+    nodes = λ k y e. ext_node old new port_extends k y (f.nodes k y (rw adds.nodes at e));
+    ends = λ k p e. elim (get_push_cases old.ports _ k p (rw adds.ports at e)) [
+      | inl h ↦ ext_port old new port_extends k p.direction p.node (f.ends k p h)
+      | inr h ↦ subst (λ (r : Port). EndFits new k r.direction r.node) h.1
+          (subst (λ j. EndFits new j direction node) (sym h.0) (ext_port old new port_extends (length old.ports) direction node g))
+    ];
+  }
 
 module _ (old new : Net) (called : List ℕ) (names : Names old new called) where
   name_extends : Extends old new
@@ -95,5 +102,6 @@ module _ (old new : Net) (called : List ℕ) (names : Names old new called) wher
 
   pub name_keeps_form : IsWellFormed old → IsWellFormed new
   name_keeps_form f = record {
-      nodes = λ k y e. ext_node old new name_extends k y (f.nodes k y (rw names.nodes at e));
-      ends = λ k p e. ext_port old new name_extends k p.direction p.node (f.ends k p (rw names.ports at e)) }
+    nodes = λ k y e. ext_node old new name_extends k y (f.nodes k y (rw names.nodes at e));
+    ends = λ k p e. ext_port old new name_extends k p.direction p.node (f.ends k p (rw names.ports at e));
+  }

@@ -2,3 +2,4 @@ pub mod Net
 pub mod WellFormed
 pub mod Finished
 pub mod Steps
+pub mod Laws

@@ -404,7 +404,13 @@ impl NetBuilder {
     }
 
     /// Drives a memory: it takes the value at the address, at the edge of each cycle in which the bit is 1.
-    pub fn drive_memory(&mut self, store: Store, write: Bit, address: Bus, value: Bus) -> Result<(), Memory>
+    pub fn drive_memory(
+        &mut self,
+        store: Store,
+        write: Bit,
+        address: Bus,
+        value: Bus,
+    ) -> Result<(), Memory>
         requires undriven { open_at self.old store.node ≡ Some (Words store.address_bits store.width) }
         requires write { IsBit self.old write }
         requires address { IsBus self.old address }
@@ -496,7 +502,12 @@ fn push_port(ports: &mut Vec<Port>, port: Port) -> Result<(), Memory>
 }
 
 // The port at the end of its list, and an input node that names it.
-fn push_both(nodes: &mut Vec<Node>, ports: &mut Vec<Port>, port: Port, width: u8) -> Result<(), Memory>
+fn push_both(
+    nodes: &mut Vec<Node>,
+    ports: &mut Vec<Port>,
+    port: Port,
+    width: u8,
+) -> Result<(), Memory>
     ensures nodes { OnOk result (nodes.new.items ≡ nodes.old.items ++ Node.Input (length ports.old.items) width ∷ []) }
     ensures ports { OnOk result (ports.new.items ≡ ports.old.items ++ port ∷ []) }
     ensures nodes_err { OnErr result (nodes.new.items ≡ nodes.old.items) }

@@ -2,6 +2,7 @@
 #![tactic(auto)]
 
 pub mod builder;
+pub mod laws;
 pub mod netlist;
 pub mod node;
 
