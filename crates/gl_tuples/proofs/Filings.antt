@@ -37,11 +37,11 @@ pair_second a c b d e = ap (λ r. second_of r b) e
     second_of (Ok x) d = x.1
     second_of (Err e) d = d
 
-bind_ok : {A B : Type 0} (r : Result A TupleFault) (f : A → Result B TupleFault) (y : B) → (r >>= f) ≡ Ok y → (x : A) × (r ≡ Ok x) × (f x ≡ Ok y)
+pub bind_ok : {A B : Type 0} (r : Result A TupleFault) (f : A → Result B TupleFault) (y : B) → (r >>= f) ≡ Ok y → (x : A) × (r ≡ Ok x) × (f x ≡ Ok y)
 bind_ok (Ok x) f y h = (x, refl, h)
 bind_ok (Err e) f y h = absurd cc
 
-ok_is : {A : Type 0} (x y : A) → ◌≡◌ {A = Result A TupleFault} (Ok x) (Ok y) → x ≡ y
+pub ok_is : {A : Type 0} (x y : A) → ◌≡◌ {A = Result A TupleFault} (Ok x) (Ok y) → x ≡ y
 ok_is x y h = cc
 
 -- what a record that is added tells: its cycle and what it brings, and that neither breaks a rule
@@ -67,7 +67,7 @@ next_tells schema f fields g h =
     let k = bind_ok (beat_with (f.records + 1) (beat_of (length schema.streams) c.0 (f.records + 1) f.current) e.0) _ g e.2 in
     record { cycle = c.0; entry = e.0; beat = k.0; opened = b.1; cycled = c.1; rises = d.1; entered = e.1; filled = k.1; is = ok_is _ g k.2 }
 
-guard_ok : {A : Type 0} (b : Bool) (e : TupleFault) (x y : A) → cond b (Err e) (Ok x) ≡ Ok y → (b ≡ false) × (x ≡ y)
+pub guard_ok : {A : Type 0} (b : Bool) (e : TupleFault) (x y : A) → cond b (Err e) (Ok x) ≡ Ok y → (b ≡ false) × (x ≡ y)
 guard_ok true e x y h = absurd cc
 guard_ok false e x y h = (refl, ok_is x y h)
 

@@ -1,6 +1,8 @@
 //! Beats from the text of a tuple file.
 
+ghost use Rattle.std.specs.Prelude.{IfOk};
 ghost use Rattle.gl_schema.specs.Schemas.{IsSchema};
+ghost use Rattle.gl_tuples.specs.Gaps.{AreFileBeats};
 ghost use Rattle.gl_tuples.specs.Entries.{Gives};
 ghost use Rattle.gl_tuples.specs.Filing.{beats_of, records_of};
 
@@ -15,7 +17,17 @@ use std::alloc::Global;
 /// `cycle,stream,v1,..` or, as the last, `cycle,end`. Else the first rule that a record breaks.
 pub fn read_tuples(alloc: Global, schema: &Schema, text: &[u8]) -> Result<Beats, TupleFault>
     requires { IsSchema schema.now }
+    // The beats are of this schema.
+    ensures found { IfOk result (λ beats. AreFileBeats schema.now beats) }
+    // The beats, or which rule is the first that is broken, and by which record.
     ensures exact { Gives result (beats_of schema.now (records_of text.now)) }
+{
+    read(alloc, schema, text)
+}
+
+fn read(alloc: Global, schema: &Schema, text: &[u8]) -> Result<Beats, TupleFault>
+    requires { IsSchema schema.now }
+    ensures { Gives result (beats_of schema.now (records_of text.now)) }
 {
     let reader = ReaderBuilder::new()
         .has_headers(false)

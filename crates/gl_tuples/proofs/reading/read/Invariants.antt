@@ -3,7 +3,7 @@ use Rattle.csv.specs.Reading.{Reached, Ready, default_config, source_of, strip_b
 use Rattle.csv.specs.declared.parser.State.TheVariants as st
 use Rattle.csv.specs.declared.reader.Trim.TheVariants as trim
 use Rattle.gl_tuples.specs.Filing.{filing_after, no_records}
-use Rattle.gl_tuples.proofs.reading.read_tuples.Given as goal
+use Rattle.gl_tuples.proofs.reading.read.Given as goal
 
 -- the records so far were taken from the text and added in order
 abbrev pub invariant-loop-fields : goal.invariant-loop-fields
