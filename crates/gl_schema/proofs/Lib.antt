@@ -1,4 +1,3 @@
-pub mod Examples
 pub mod Words
 pub mod Steps
 pub mod KindTable

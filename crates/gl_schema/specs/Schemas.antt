@@ -58,9 +58,13 @@ IsRowOf (c ∷ cs) (n ∷ ns) = (n < 2 ^ width_of c.kind) × IsRowOf cs ns
 abbrev pub number_of : List ℕ → ℕ
 number_of bytes = fold (λ n b. 256 * n + b) 0 bytes
 
--- the word of a text in n bytes: zero bytes follow the text
+-- a text in n bytes: zero bytes follow it
+abbrev pub padded : ℕ → List ℕ → List ℕ
+padded n text = text ++ replicate (n - length text) 0
+
+-- its word
 unfoldable pub text_word : ℕ → List ℕ → ℕ
-text_word n text = number_of (text ++ replicate (n - length text) 0)
+text_word n text = number_of (padded n text)
 
 -- a text that a kind of n bytes has: at most n bytes 0x20 to 0x7E
 pub record IsText (n : ℕ) (text : List ℕ) : Type 0 where

@@ -16,3 +16,6 @@ pub use name::is_name;
 pub use right::right_at_each_cycle;
 pub use schema::{Column, Columns, NameText, Schema, Stream, Streams};
 pub use text::{one_schema, read_schema};
+
+#[cfg(test)]
+mod tests;

@@ -1,1 +1,4 @@
+pub mod Values
+pub mod Entries
 pub mod Filing
+pub mod Gaps

@@ -1,6 +1,8 @@
 //! Beats: the cycles in which tuples come, and the end.
 
-ghost use Rattle.std.specs.Prelude.{◌≡◌, length};
+ghost use Rattle.std.specs.Prelude.{◌≡◌, ◌+◌, ◌↔◌, length, nat_lt, IsOk};
+ghost use Rattle.gl_schema.specs.Beats.{KeepsGap};
+ghost use Rattle.gl_tuples.specs.Gaps.{close_answer, first_close, plain_beats};
 
 use crate::fault::TupleFault;
 use gl_bits::{Listed, Row};
@@ -63,19 +65,31 @@ impl Beats {
 
     /// Whether each beat is at least `gap` cycles after the one before; else `TooClose` with the
     /// number of the first that is not. Takes no memory.
-    pub fn keep(&self, gap: u32) -> Result<(), TupleFault> {
+    pub fn keep(&self, gap: u32) -> Result<(), TupleFault>
+        ensures exact { result ≡ close_answer (first_close gap self.now) }
+        ensures keeps { IsOk result ↔ KeepsGap gap (plain_beats self.now) }
+    {
         kept(self.beats.as_slice(), gap)
     }
 }
 
-fn kept(beats: &[Beat], gap: u32) -> Result<(), TupleFault> {
+fn kept(beats: &[Beat], gap: u32) -> Result<(), TupleFault>
+    ensures { result ≡ close_answer (first_close gap beats.now) }
+{
     for at in 1..beats.len() {
-        let earliest = u64::from(beats[at - 1].cycle) + u64::from(gap);
-        if u64::from(beats[at].cycle) < earliest {
+        let beat = &beats[at];
+        if is_close(&beats[at - 1], beat, gap) {
             return Err(TupleFault::TooClose {
-                number: beats[at].number,
+                number: beat.number,
             });
         }
     }
     Ok(())
+}
+
+/// Whether a beat is nearer than the gap to the one before.
+fn is_close(before: &Beat, beat: &Beat, gap: u32) -> bool
+    ensures { result ≡ nat_lt beat.now.cycle (before.now.cycle + gap) }
+{
+    u64::from(beat.cycle) < u64::from(before.cycle) + u64::from(gap)
 }

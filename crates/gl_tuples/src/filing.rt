@@ -1,87 +1,60 @@
 //! Records, one after another, made into beats.
 
-ghost use Rattle.std.specs.Prelude.{◌≡◌, ◌<◌, ◌≤◌, ◌^◌, length, slice_get, Some, IfOk};
-ghost use Rattle.std.specs.List.{AllByRecursion};
-ghost use Rattle.gl_schema.specs.Schemas.{IsSchema, IsColumn};
-ghost use Rattle.gl_tuples.specs.Filing.{IsEntry};
+ghost use Rattle.std.specs.Prelude.{◌≡◌, ◌+◌, ◌<◌, ◌≤◌, ◌^◌, length, slice_get, option_map, replicate, None, Ok};
+ghost use Rattle.gl_schema.specs.Schemas.{IsSchema};
+ghost use Rattle.gl_tuples.specs.Entries.{Gives};
+ghost use Rattle.gl_tuples.specs.Filing as spec;
+ghost use Rattle.csv.specs.Records.{fields_of};
 
 use crate::beats::{Beat, Beats, StreamRows};
+use crate::entry::Entry;
 use crate::fault::TupleFault;
-use crate::value::{number_of, word_of};
+use crate::record::{check_text, cycle_of, entry_of};
 use csv::ByteRecord;
-use gl_bits::Row;
-use gl_schema::{Column, Schema, Stream};
+use gl_bits::{Listed, Row};
+use gl_schema::Schema;
 use std::alloc::Global;
-
-/// The last cycle that a file may have.
-const LAST_CYCLE: u128 = 10_000_000;
-
-/// What a record brings: the row of a stream, by the stream's number, or the end.
-#[derive(Drop, Debug)]
-pub enum Entry {
-    Tuple(usize, Row),
-    End,
-}
-
-/// The beat that records are added to.
-#[derive(Drop, Debug)]
-struct Open {
-    cycle: u32,
-    number: u64,
-    rows: Vec<Option<Row>>,
-    end: bool,
-}
 
 /// The beats of the records so far: those that are whole, and that of the last record.
 #[derive(Drop, Debug)]
 pub struct Filing {
-    whole: Vec<Beat>,
-    open: Option<Open>,
-    records: u64,
+    pub whole: Listed<Beat>,
+    pub current: Option<Beat>,
+    pub records: u64,
 }
 
 impl Filing {
     /// Before the first record.
-    pub fn new(alloc: Global) -> Filing {
+    pub fn new(alloc: Global) -> Filing
+        ensures { result ≡ spec.no_records }
+    {
         Filing {
-            whole: Vec::new(alloc),
-            open: None,
+            whole: Listed::new(alloc),
+            current: None,
             records: 0,
         }
     }
 
     /// Adds a record, or answers the first rule that it breaks.
+    #[tactic(auto, using(crate::proofs::Fields::fails_then), unfolding(crate::specs::Filing::next_filing))]
     pub fn take(
         self,
         alloc: Global,
         schema: &Schema,
-        record: &ByteRecord,
+        fields: &ByteRecord,
     ) -> Result<Filing, TupleFault>
-        requires { IsSchema schema.now }
+        requires schema { IsSchema schema.now }
+        requires counted { self.records + 1 < 2 ^ 64 }
+        requires rows { spec.HasRows (length schema.now.streams) self.current }
+        ensures { Gives result (spec.next_filing schema.now self (fields_of fields.now)) }
     {
-        let number = self.records.saturating_add(1);
-        check_text(record, number)?;
-        self.check_open(number)?;
-        let cycle = cycle_of(record, number)?;
-        self.check_cycle(cycle, number)?;
-        let entry = entry_of(alloc, schema, record, number)?;
+        let number = self.records + 1;
+        check_text(fields, number)?;
+        check_open(&self.current, number)?;
+        let cycle = cycle_of(fields, number)?;
+        check_cycle(&self.current, cycle, number)?;
+        let entry = entry_of(alloc, schema, fields, number)?;
         self.add(alloc, schema.streams.len(), cycle, number, entry)
-    }
-
-    /// No end came before.
-    fn check_open(&self, number: u64) -> Result<(), TupleFault> {
-        match &self.open {
-            Some(open) if open.end => Err(TupleFault::AfterEnd { number }),
-            _ => Ok(()),
-        }
-    }
-
-    /// The cycle is not below the one before.
-    fn check_cycle(&self, cycle: u32, number: u64) -> Result<(), TupleFault> {
-        match &self.open {
-            Some(open) if cycle < open.cycle => Err(TupleFault::CycleFalls { number }),
-            _ => Ok(()),
-        }
     }
 
     fn add(
@@ -92,153 +65,118 @@ impl Filing {
         number: u64,
         entry: Entry,
     ) -> Result<Filing, TupleFault>
-        requires { IsEntry streams entry }
+        requires rows { spec.HasRows streams self.current }
+        requires stream { spec.IsEntry streams entry }
+        ensures { Gives result (spec.added streams self number cycle entry) }
     {
-        let Filing { mut whole, open, records: _ } = self;
-        let open = match open {
-            Some(open) if open.cycle == cycle => open,
-            Some(open) => {
-                push_beat(&mut whole, open.close())?;
-                Open::new(alloc, streams, cycle, number)?
-            }
-            None => Open::new(alloc, streams, cycle, number)?,
-        };
+        let Filing { whole, current, records: _ } = self;
+        let (whole, beat) = turned(alloc, streams, whole, current, cycle, number)?;
+        let beat = beat_with(beat, entry, number)?;
         Ok(Filing {
             whole,
-            open: Some(open.with(entry, number)?),
+            current: Some(beat),
             records: number,
         })
     }
 
     /// The beats of all records. The last one has the end.
-    pub fn end(self, alloc: Global, streams: usize) -> Result<Beats, TupleFault> {
-        let Filing { mut whole, open, records: _ } = self;
-        let mut last = match open {
-            Some(open) => open,
-            None => Open::new(alloc, streams, 0, 0)?,
+    pub fn end(self, alloc: Global, streams: usize) -> Result<Beats, TupleFault>
+        ensures { Gives result (Ok (spec.ended streams self)) }
+    {
+        let Filing { mut whole, current, records: _ } = self;
+        let mut last = match current {
+            Some(beat) => beat,
+            None => empty_beat(alloc, streams, 0, 0)?,
         };
         last.end = true;
-        push_beat(&mut whole, last.close())?;
-        Ok(Beats::from_vec(whole))
+        whole.push(last)?;
+        Ok(Beats::from_vec(whole.into_vec()))
     }
 }
 
-impl Open {
-    /// A beat without rows.
-    fn new(alloc: Global, streams: usize, cycle: u32, number: u64) -> Result<Open, TupleFault> {
-        let mut rows = Vec::with_capacity(alloc, streams)?;
-        for _ in 0..streams {
-            push_row(&mut rows, None)?;
-        }
-        Ok(Open {
-            cycle,
-            number,
-            rows,
-            end: false,
-        })
+/// No end came before.
+fn check_open(current: &Option<Beat>, number: u64) -> Result<(), TupleFault>
+    ensures { Gives result (spec.open_checked number current.now) }
+{
+    match current {
+        Some(beat) if beat.end => Err(TupleFault::AfterEnd { number }),
+        _ => Ok(()),
     }
+}
 
-    /// The beat with what the record of this number brings.
-    fn with(mut self, entry: Entry, number: u64) -> Result<Open, TupleFault> {
-        match entry {
-            Entry::End => self.end = true,
-            Entry::Tuple(stream, row) => {
-                if stream >= self.rows.len() || self.rows[stream].is_some() {
-                    return Err(TupleFault::StreamTwice { number });
-                }
-                self.rows[stream] = Some(row);
+/// The cycle is not below the one before.
+fn check_cycle(current: &Option<Beat>, cycle: u32, number: u64) -> Result<(), TupleFault>
+    ensures { Gives result (spec.cycle_checked number cycle current.now) }
+{
+    match current {
+        Some(beat) if cycle < beat.cycle => Err(TupleFault::CycleFalls { number }),
+        _ => Ok(()),
+    }
+}
+
+/// The whole beats in front of a cycle, and the beat of the cycle.
+fn turned(
+    alloc: Global,
+    streams: usize,
+    whole: Listed<Beat>,
+    current: Option<Beat>,
+    cycle: u32,
+    number: u64,
+) -> Result<(Listed<Beat>, Beat), TupleFault>
+    ensures { Gives result (Ok (spec.whole_before cycle whole current, spec.beat_of streams cycle number current)) }
+{
+    let mut whole = whole;
+    match current {
+        Some(beat) => {
+            if beat.cycle == cycle {
+                return Ok((whole, beat));
             }
+            whole.push(beat)?;
         }
-        Ok(self)
+        None => {}
     }
-
-    fn close(self) -> Beat {
-        let Open { cycle, number, rows, end } = self;
-        Beat {
-            cycle,
-            number,
-            rows: StreamRows::from_vec(rows),
-            tick: false,
-            end,
-        }
-    }
+    Ok((whole, empty_beat(alloc, streams, cycle, number)?))
 }
 
-fn push_beat(beats: &mut Vec<Beat>, beat: Beat) -> Result<(), TupleFault> {
-    beats.push(beat).map_err(|_| TupleFault::Memory)
-}
-
-fn push_row(rows: &mut Vec<Option<Row>>, row: Option<Row>) -> Result<(), TupleFault> {
-    rows.push(row).map_err(|_| TupleFault::Memory)
-}
-
-/// Each field is UTF-8.
-fn check_text(record: &ByteRecord, number: u64) -> Result<(), TupleFault> {
-    for field in record.iter() {
-        if str::from_utf8(field).is_err() {
-            return Err(TupleFault::NotUtf8 { number });
-        }
-    }
-    Ok(())
-}
-
-/// The cycle of a record, which its first field spells.
-fn cycle_of(record: &ByteRecord, number: u64) -> Result<u32, TupleFault> {
-    let Some(cycle) = record.get(0).and_then(|field| number_of(field)) else {
-        return Err(TupleFault::BadCycle { number });
-    };
-    if cycle > LAST_CYCLE {
-        return Err(TupleFault::CycleTooLarge { number });
-    }
-    Ok(cycle as u32)
-}
-
-/// What a record brings behind its cycle.
-fn entry_of(
-    alloc: Global,
-    schema: &Schema,
-    record: &ByteRecord,
-    number: u64,
-) -> Result<Entry, TupleFault>
-    requires { IsSchema schema.now }
-    ensures { IfOk result (IsEntry (length schema.now.streams)) }
+/// A beat without rows.
+fn empty_beat(alloc: Global, streams: usize, cycle: u32, number: u64) -> Result<Beat, TupleFault>
+    ensures { Gives result (Ok (spec.empty_beat streams cycle number)) }
 {
-    let Some(name) = record.get(1) else {
-        return Err(TupleFault::FieldCount { number });
-    };
-    if name == b"end".as_slice() {
-        return if record.len() == 2 {
-            Ok(Entry::End)
-        } else {
-            Err(TupleFault::FieldCount { number })
-        };
-    }
-    let streams = schema.streams.as_slice();
-    let Some(at) = streams.iter().position(|stream| stream.name.as_slice() == name) else {
-        return Err(TupleFault::UnknownStream { number });
-    };
-    let row = row_of(alloc, streams[at].columns.as_slice(), record, number)?;
-    Ok(Entry::Tuple(at, row))
+    Ok(Beat {
+        cycle,
+        number,
+        rows: no_rows(alloc, streams)?,
+        tick: false,
+        end: false,
+    })
 }
 
-/// The row of the fields behind the stream's name.
-fn row_of(
-    alloc: Global,
-    columns: &[Column],
-    record: &ByteRecord,
-    number: u64,
-) -> Result<Row, TupleFault>
-    requires columns { AllByRecursion IsColumn columns.now }
+fn no_rows(alloc: Global, streams: usize) -> Result<StreamRows, TupleFault>
+    ensures { Gives result (Ok (replicate streams None)) }
 {
-    if record.len() != 2 + columns.len() {
-        return Err(TupleFault::FieldCount { number });
+    let mut rows = StreamRows::new(alloc);
+    for _ in 0..streams {
+        rows.push(None)?;
     }
-    let mut row = Row::new(alloc);
-    for (at, column) in columns.iter().enumerate() {
-        let Some(word) = record.get(2 + at).and_then(|field| word_of(column.kind, field)) else {
-            return Err(TupleFault::BadValue { number });
-        };
-        row.push(word)?;
+    Ok(rows)
+}
+
+/// A beat with what the record of this number brings.
+fn beat_with(beat: Beat, entry: Entry, number: u64) -> Result<Beat, TupleFault>
+    requires { spec.IsEntry (length beat.rows) entry }
+    ensures { Gives result (spec.beat_with number beat entry) }
+{
+    let mut beat = beat;
+    match entry {
+        Entry::End => beat.end = true,
+        Entry::Tuple(stream, row) => {
+            let mut rows = beat.rows.into_vec();
+            if rows[stream].is_some() {
+                return Err(TupleFault::StreamTwice { number });
+            }
+            rows[stream] = Some(row);
+            beat.rows = StreamRows::from_vec(rows);
+        }
     }
-    Ok(row)
+    Ok(beat)
 }

@@ -2,10 +2,12 @@
 #![tactic(auto)]
 
 pub mod beats;
+mod entry;
 pub mod fault;
 mod filing;
 pub mod line;
 pub mod reading;
+mod record;
 mod value;
 
 pub use beats::{Beat, Beats, StreamRows};

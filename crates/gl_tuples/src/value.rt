@@ -1,56 +1,132 @@
 //! Values of fields.
 
-ghost use Rattle.std.specs.Prelude.{◌≡◌, ◌<◌, ◌≤◌, ◌^◌, IfSome};
+ghost use Rattle.std.specs.Prelude.{◌≡◌, ℕ, ◌<◌, ◌≤◌, ◌^◌, ◌*◌, ◌+◌, length, slice_index, Some, option_map, min};
 ghost use Rattle.gl_bits.specs.Kinds.{IsKind, width_of};
+ghost use Rattle.gl_schema.specs.Schemas as schemas;
+ghost use Rattle.gl_schema.specs.Names as names;
+ghost use Rattle.gl_tuples.specs.Values as spec;
 
 use gl_bits::{Kind, Word};
 
 /// What stands for every number that 64 bits do not hold.
 const TOO_LARGE: u128 = 0x1_0000_0000_0000_0000;
 
+/// Whether a field is UTF-8.
+#[tactic(auto, using(crate::proofs::Numbers::utf8_steps), unfolding(crate::specs::Values::is_utf8))]
+pub fn is_utf8(field: &[u8]) -> bool
+    ensures { result ≡ spec.is_utf8 field.now }
+{
+    str::from_utf8(field).is_ok()
+}
+
 /// The number that one or more decimal digits spell, or `TOO_LARGE` where that is 2^64 or more;
 /// None for any other field.
+#[tactic(auto, unfolding(crate::specs::Values::number_of))]
 pub fn number_of(field: &[u8]) -> Option<u128>
-    ensures { IfSome result (λ n. n ≤ 2 ^ 64) }
+    ensures { result ≡ option_map (λ n. min n (2 ^ 64)) (spec.number_of field.now) }
 {
-    if field.is_empty() {
-        return None;
+    if is_number(field) {
+        Some(number_in(field))
+    } else {
+        None
     }
+}
+
+#[tactic(auto, unfolding(crate::specs::Values::is_number))]
+fn is_number(field: &[u8]) -> bool
+    ensures { result ≡ spec.is_number field.now }
+{
+    !field.is_empty() && are_digits(field)
+}
+
+#[tactic(auto, unfolding(crate::specs::Values::are_digits))]
+fn are_digits(field: &[u8]) -> bool
+    ensures { result ≡ spec.are_digits field.now }
+{
+    field.iter().all(|byte| is_digit(*byte))
+}
+
+fn is_digit(byte: u8) -> bool
+    ensures { result ≡ names.is_digit byte }
+{
+    matches!(byte, b'0'..=b'9')
+}
+
+fn number_in(digits: &[u8]) -> u128
+    ensures { result ≡ min (spec.number_in digits.now) (2 ^ 64) }
+{
     let mut number: u128 = 0;
-    for digit in field {
-        if !digit.is_ascii_digit() {
-            return None;
-        }
-        number = (10 * number + u128::from(*digit - b'0')).min(TOO_LARGE);
+    for digit in digits {
+        number = (10 * number + u128::from(digit.saturating_sub(b'0'))).min(TOO_LARGE);
     }
-    Some(number)
+    number
 }
 
 /// The word of a field in a column of this kind.
+#[tactic(auto, unfolding(crate::specs::Values::word_of))]
 pub fn word_of(kind: Kind, field: &[u8]) -> Option<Word>
     requires { IsKind kind }
+    ensures { result ≡ spec.word_of kind field.now }
 {
     match kind {
-        Kind::Unsigned(width) => Word::new(number_of(field)?, width),
-        Kind::Text(bytes) => text_word(field, bytes),
+        Kind::Unsigned(width) => number_word(number_of(field)?, width),
+        Kind::Text(bytes) => {
+            if field.len() <= usize::from(bytes) && is_plain(field) {
+                text_word(field, bytes)
+            } else {
+                None
+            }
+        }
     }
 }
 
-/// The word of a text of at most this many bytes 0x20 to 0x7E, zero bytes behind it.
-fn text_word(field: &[u8], bytes: u8) -> Option<Word>
-    requires most { bytes ≤ 8 }
+/// The word of a number, where it is as wide.
+fn number_word(number: u128, width: u8) -> Option<Word>
+    requires width { (1 ≤ width) × (width ≤ 64) }
+    ensures { result ≡ spec.fitting width (Some number) }
 {
-    if field.len() > usize::from(bytes) || !is_plain(field) {
-        return None;
-    }
-    let mut bits: u64 = 0;
-    for at in 0..usize::from(bytes) {
-        let byte = field.get(at).copied().unwrap_or(0);
-        bits = bits << 8 | u64::from(byte);
-    }
-    Word::new(u128::from(bits), 8 * bytes)
+    Word::new(number, width)
 }
 
-fn is_plain(field: &[u8]) -> bool {
-    field.iter().all(|byte| matches!(*byte, b' '..=b'~'))
+/// The word of a text in this many bytes, zero bytes behind it.
+fn text_word(field: &[u8], bytes: u8) -> Option<Word>
+    requires bytes { (1 ≤ bytes) × (bytes ≤ 8) }
+    requires short { length field.now ≤ bytes }
+    ensures { result ≡ Some (record { bits = schemas.text_word bytes field.now; width = 8 * bytes }) }
+{
+    Word::new(u128::from(text_number(field, usize::from(bytes))), 8 * bytes)
+}
+
+#[tactic(auto, unfolding(gl_schema::specs::Schemas::text_word))]
+fn text_number(field: &[u8], bytes: usize) -> u64
+    requires most { bytes ≤ 8 }
+    requires short { length field.now ≤ bytes }
+    ensures value { result ≡ schemas.text_word bytes field.now }
+    ensures small { result < 2 ^ (8 * bytes) }
+{
+    let mut bits: u64 = 0;
+    for at in 0..bytes {
+        bits = 256 * bits + u64::from(byte_at(field, at));
+    }
+    bits
+}
+
+/// The byte at a place, 0 behind the end.
+fn byte_at(field: &[u8], at: usize) -> u8
+    ensures { result ≡ slice_index field.now at }
+{
+    if at < field.len() { field[at] } else { 0 }
+}
+
+#[tactic(auto, unfolding(crate::specs::Values::is_plain))]
+fn is_plain(field: &[u8]) -> bool
+    ensures { result ≡ spec.is_plain field.now }
+{
+    field.iter().all(|byte| is_printable(*byte))
+}
+
+fn is_printable(byte: u8) -> bool
+    ensures { result ≡ (spec.is_printable byte) }
+{
+    matches!(byte, b' '..=b'~')
 }

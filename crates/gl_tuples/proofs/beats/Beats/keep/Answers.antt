@@ -1,0 +1,13 @@
+use Rattle.std.proofs.Common.{◌≡◌, ◌∙◌, ap, sym, subst, List, Result, ◌↔◌}
+use Rattle.std.specs.Prelude.{IsOk}
+use Rattle.gl_schema.specs.Beats.{KeepsGap}
+use Rattle.gl_tuples.specs.declared.beats.Beat.{Beat}
+use Rattle.gl_tuples.specs.declared.fault.TupleFault.{TupleFault}
+use Rattle.gl_tuples.specs.Gaps.{close_answer, first_close, plain_beats}
+use Rattle.gl_tuples.proofs.Closeness.{keeps_is}
+use Rattle.gl_tuples.proofs.beats.Beats.keep.Goals as goal
+
+pub returns-clause-keeps : goal.returns-clause-keeps
+returns-clause-keeps c =
+    let e : c.kept.result ≡ close_answer (first_close c.args.gap c.args.self.now) = c.kept.ensures ∙ ap (λ (bs : List Beat). close_answer (first_close c.args.gap bs)) (c.as_slice.ensures.value ∙ c.self.view_is) in
+    subst (λ (r : Result (Unit {0}) TupleFault). IsOk r ↔ KeepsGap c.args.gap (plain_beats c.args.self.now)) (sym e) (keeps_is c.args.gap c.args.self.now)
