@@ -1,9 +1,8 @@
 -- An interleaving keeps both orders.
-use Rattle.std.proofs.Common.{◌≡◌, ℕ, suc, List, [], ◌∷◌, ◌++◌, Bool, true, false, length, refl, sym, ap, ◌∙◌}
-use Rattle.std.specs.Prelude.{map, not, IsPermutation}
+use Rattle.std.proofs.Common.{suc, List, [], ◌∷◌, ◌++◌, true, false, refl, ap}
 use Rattle.std.proofs.lemmas.List.Sorted.{IsPermutation-refl, IsPermutation-cons, IsPermutation-middle, IsPermutation-trans}
 use Rattle.gl_bits.specs.Lists.{IsInterleaving, nothing, from_first, from_second}
-use Rattle.gl_bits.specs.Laws.{marked, IsPutTogether}
+use Rattle.gl_bits.specs.Laws.{IsPutTogether}
 
 pub put_together : {A : Type 0} (xs ys zs : List A) → IsInterleaving xs ys zs → IsPutTogether xs ys zs
 put_together _ _ _ nothing = record { marks = []; all = refl; first = refl; second = refl; elements = IsPermutation-refl [] }

@@ -2,3 +2,4 @@ pub mod Wrapping
 pub mod Slicing
 pub mod Grouping
 pub mod Interleaving
+pub mod Totalling

@@ -1,10 +1,11 @@
 -- Slices: the slice at a place, what is in one, and how they go on.
-use Rattle.std.proofs.Common.{◌≡◌, ℕ, zero, suc, ◌+◌, ◌-◌, ◌*◌, ◌/◌, ◌%◌, ◌<◌, ◌≤◌, List, [], ◌∷◌, Bool, true, false, cond, length, length-drop, take, drop, refl, sym, ap, ◌∙◌, subst, arith, add-one, add-zero, zero-add, drop-drop, inl, inr, ◌⊎◌}
-use Rattle.std.specs.Prelude.{Option, Some, None, map, slice_get, nat_lt, if◌then◌else◌}
+use Rattle.std.proofs.Common.{◌≡◌, ℕ, zero, suc, ◌+◌, ◌*◌, ◌/◌, ◌%◌, ◌<◌, ◌≤◌, List, [], ◌∷◌, cond, length, length-drop, take, drop, refl, sym, ap, ◌∙◌, arith, add-zero, zero-add, drop-drop, take_all, append_assoc, append-nil, ◌++◌, min, ◌≢◌, inl, inr}
+use Rattle.std.specs.Prelude.{Option, Some, None, slice_get}
 use Rattle.std.specs.List.{filter_map, cons_option, range_with_len}
 use Rattle.std.proofs.lemmas.Bool.Decides.{leb_tells}
+use Rattle.std.proofs.lemmas.List.{drop_all}
 use Rattle.std.proofs.lemmas.Bool.{lt-ltb, le-ltb}
-use Rattle.std.proofs.Math.Nat.{le-mul_of_pos_right, mul-le-mul_right}
+use Rattle.std.proofs.Math.Nat.{le-mul_of_pos_right}
 use Rattle.std.proofs.lemmas.Nat.{div-add-mod', mod_below}
 use Rattle.gl_bits.specs.Lists.{part, slice_at, slices}
 use Rattle.gl_bits.specs.Laws.{IsInSlice}
@@ -129,3 +130,41 @@ slices-cons size advance x xs some = same_by_gets _ _ each
         let none : 0 * advance ≡ 0 = omega arith in
         get-slices size advance (x ∷ xs) 0 some ∙ slice_at-some size advance (x ∷ xs) 0 (omega arith) ∙ ap (λ n. Some (part size n (x ∷ xs))) none
     each (suc j) = get-slices size advance (x ∷ xs) (suc j) some ∙ slice_at-suc size advance (x ∷ xs) j ∙ sym (get-slices size advance (drop advance (x ∷ xs)) j some)
+
+-- ---- the loop over what is left
+
+drop-min : {A : Type 0} (n : ℕ) (xs : List A) → drop (min n (length xs)) xs ≡ drop n xs
+drop-min n xs = elim (leb_tells n (length xs)) [
+  | inl t ↦ (let e : min n (length xs) ≡ n = omega arith in ap (λ m. drop m xs) e)
+  | inr t ↦ (let e : min n (length xs) ≡ length xs = omega arith in ap (λ m. drop m xs) e ∙ drop_all (length xs) xs (omega arith) ∙ sym (drop_all n xs (omega arith)))
+]
+
+take-min : {A : Type 0} (n : ℕ) (xs : List A) → take (min n (length xs)) xs ≡ take n xs
+take-min n xs = elim (leb_tells n (length xs)) [
+  | inl t ↦ (let e : min n (length xs) ≡ n = omega arith in ap (λ m. take m xs) e)
+  | inr t ↦ (let e : min n (length xs) ≡ length xs = omega arith in ap (λ m. take m xs) e ∙ take_all (length xs) xs (omega arith) ∙ sym (take_all n xs (omega arith)))
+]
+
+pub slices_end : {A : Type 0} (size advance : ℕ) (xs : List A) → length xs ≡ 0 → slices size advance xs ≡ []
+slices_end size advance [] e = slices-nil size advance
+slices_end size advance (x ∷ xs) e = absurd (omega arith)
+
+pub slices_next : {A : Type 0} (size advance : ℕ) (xs : List A) → 1 ≤ advance → length xs ≢ 0 → take (min size (length xs)) xs ∷ slices size advance (drop (min advance (length xs)) xs) ≡ slices size advance xs
+slices_next size advance [] some more = absurd (more refl)
+slices_next size advance (x ∷ xs) some more =
+    ap (λ l. l ∷ slices size advance (drop (min advance (length (x ∷ xs))) (x ∷ xs))) (take-min size (x ∷ xs))
+    ∙ ap (λ l. take size (x ∷ xs) ∷ slices size advance l) (drop-min advance (x ∷ xs))
+    ∙ sym (slices-cons size advance x xs some)
+
+pub slices_kept : {A : Type 0} (size advance : ℕ) (all outs : List (List A)) (rest slice later : List A) → 1 ≤ advance → length rest ≢ 0
+    → slice ≡ take (min size (length rest)) rest → later ≡ drop (min advance (length rest)) rest → outs ++ slices size advance rest ≡ all → outs ++ slice ∷ [] ++ slices size advance later ≡ all
+slices_kept size advance all outs rest slice later some more front back kept =
+    append_assoc outs (slice ∷ []) (slices size advance later)
+    ∙ ap (λ l. outs ++ l ∷ slices size advance later) front
+    ∙ ap (λ l. outs ++ take (min size (length rest)) rest ∷ slices size advance l) back
+    ∙ ap (λ l. outs ++ l) (slices_next size advance rest some more)
+    ∙ kept
+
+pub slices_done : {A : Type 0} (size advance : ℕ) (all outs : List (List A)) (rest : List A) → length rest ≡ 0 → outs ++ slices size advance rest ≡ all → outs ≡ all
+slices_done size advance all outs rest none kept =
+    sym (append-nil outs) ∙ ap (λ l. outs ++ l) (sym (slices_end size advance rest none)) ∙ kept

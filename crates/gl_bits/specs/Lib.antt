@@ -3,3 +3,4 @@ pub mod Kinds
 pub mod Lists
 pub mod Totals
 pub mod Laws
+pub mod Tables

@@ -1,4 +1,4 @@
-use Rattle.std.proofs.Common.{◌≡◌, ◌≤◌, rules}
+use Rattle.std.proofs.Common.{rules}
 use Rattle.gl_bits.proofs.Wrapping.{word_wider}
 use Rattle.gl_bits.proofs.word.Word.extend.Goals as goal
 
