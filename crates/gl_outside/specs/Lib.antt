@@ -1,0 +1,5 @@
+pub mod Counts
+pub mod Told
+pub mod Taken
+pub mod Fetched
+pub mod Reads

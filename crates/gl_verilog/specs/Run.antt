@@ -1,0 +1,31 @@
+-- The runs of a module, cycle by cycle. After the scheduling of IEEE 1364-2005, clause 11: assignments settle, then at
+-- the clock's rising edge all nonblocking updates happen at once.
+use Rattle.std.specs.Prelude.{◌≡◌, ℕ, ◌+◌, ◌^◌, ◌<◌, List, Option, Some, slice_get, take, unwrap_or}
+use Rattle.std.specs.Option.{option_map}
+use Rattle.std.specs.List.{AllByRecursion}
+use Rattle.gl_verilog.specs.Module.{Module, Declaration, Assignment, Kind, OutputRegister, Register, Nets, Memories, value_of, assigned_by, written_by, number_of}
+
+-- a kind that keeps its value until a block assigns it
+abbrev pub IsRegister : Kind → Type 0
+IsRegister OutputRegister = Unit {0}
+IsRegister Register = Unit {0}
+IsRegister _ = ⊥
+
+-- every assigned net has the value of its expression
+abbrev pub IsSettled : List Assignment → Nets → Memories → Type 0
+IsSettled assignments v m = AllByRecursion (λ a. v a.target ≡ value_of v m a.value) assignments
+
+-- each net, and each word of a memory, is below 2 ^ its width
+abbrev pub Fit : List Declaration → Nets → Memories → Type 0
+Fit declarations v m = (n : ℕ) (d : Declaration) → slice_get declarations n ≡ Some d → (v n < 2 ^ d.width) × ((at : ℕ) → m n at < 2 ^ d.width)
+
+-- `value t` is what the nets hold in cycle t, `word t` what the memories hold; the start and the inputs are arbitrary
+pub record IsRun (m : Module) (value : ℕ → Nets) (word : ℕ → Memories) : Type 0 where
+  pub settled : (t : ℕ) → IsSettled m.assignments (value t) (word t)
+  pub registers : (t n : ℕ) (d : Declaration) → slice_get m.declarations n ≡ Some d → IsRegister d.kind → value (t + 1) n ≡ unwrap_or (assigned_by (value t) (word t) m.blocks n) (value t n)
+  pub memories : (t k at : ℕ) → word (t + 1) k at ≡ unwrap_or (written_by (value t) (word t) m.blocks k at) (word t k at)
+  pub fits : (t : ℕ) → Fit m.declarations (value t) (word t)
+
+-- the value of a port by its name in a cycle; None where the module has no such port
+abbrev pub port_of : Module → (ℕ → Nets) → ℕ → List ℕ → Option ℕ
+port_of m value t name = option_map (value t) (number_of (take m.ports m.declarations) name)
