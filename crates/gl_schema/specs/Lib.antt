@@ -1,0 +1,10 @@
+pub mod Names
+pub mod Schemas
+pub mod SchemaText
+pub mod SchemaFaults
+pub mod KindReading
+pub mod Lexing
+pub mod Beats
+pub mod Ports
+pub mod Seen
+pub mod Right

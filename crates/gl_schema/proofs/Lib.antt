@@ -1,0 +1,4 @@
+pub mod Examples
+pub mod Words
+pub mod Steps
+pub mod KindTable

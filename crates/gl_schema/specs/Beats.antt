@@ -1,0 +1,69 @@
+-- Beats: the cycles in which tuples come, and the end.
+use Rattle.std.specs.Prelude.{◌≡◌, ℕ, ◌+◌, ◌<◌, ◌≤◌, Bool, true, false, List, [], ◌∷◌, Option, Some, None, IfSome, is_some, unwrap_or, slice_get, IsTrue, IsFalse, filter_map, find, ◌==◌}
+use Rattle.std.specs.List.{AllByRecursion, list_any}
+use Rattle.std.specs.Option.{option_map_or}
+use Rattle.gl_schema.specs.declared.schema.Stream.{Stream}
+use Rattle.gl_schema.specs.declared.schema.Schema.{Schema}
+use Rattle.gl_schema.specs.Schemas.{IsRowOf}
+
+-- a cycle with a row of some streams, one entry for each stream, or with the end
+pub record Beat : Type 0 where
+  pub cycle : ℕ
+  pub rows : List (Option (List ℕ))
+  pub tick : Bool
+  pub end : Bool
+
+-- one entry for each stream, and what is there is a row of it
+abbrev pub AreRowsOf : List Stream → List (Option (List ℕ)) → Type 0
+AreRowsOf [] [] = Unit {0}
+AreRowsOf [] (r ∷ rs) = ⊥
+AreRowsOf (s ∷ ss) [] = ⊥
+AreRowsOf (s ∷ ss) (r ∷ rs) = IfSome r (IsRowOf s.columns) × AreRowsOf ss rs
+
+-- a beat of a schema: its rows fit, and there is a row or the end; no schema has ticks
+pub record IsBeat (schema : Schema) (b : Beat) : Type 0 where
+  pub rows : AreRowsOf schema.streams b.rows
+  pub some' : IsFalse b.end → IsTrue (list_any is_some b.rows)
+  pub still : IsFalse b.tick
+
+-- cycles rise, and the last beat alone has the end
+abbrev pub AreInOrder : List Beat → Type 0
+AreInOrder [] = ⊥
+AreInOrder (b ∷ []) = IsTrue b.end
+AreInOrder (b ∷ c ∷ bs) = IsFalse b.end × (b.cycle < c.cycle) × AreInOrder (c ∷ bs)
+
+-- the beats of a schema
+pub record AreBeats (schema : Schema) (beats : List Beat) : Type 0 where
+  pub each : AllByRecursion (IsBeat schema) beats
+  pub order : AreInOrder beats
+
+-- the row of stream k in a beat
+abbrev pub row_in : ℕ → Beat → Option (List ℕ)
+row_in k b = unwrap_or (slice_get b.rows k) None
+
+-- the input of stream k: its rows, in order of the beats
+abbrev pub input_of : ℕ → List Beat → List (List ℕ)
+input_of k beats = filter_map (row_in k) beats
+
+-- the cycle of the last beat
+abbrev pub last_cycle : List Beat → ℕ
+last_cycle [] = 0
+last_cycle (b ∷ []) = b.cycle
+last_cycle (b ∷ c ∷ bs) = last_cycle (c ∷ bs)
+
+-- each beat is at least gap cycles after the one before
+abbrev pub KeepsGap : ℕ → List Beat → Type 0
+KeepsGap gap [] = Unit {0}
+KeepsGap gap (b ∷ []) = Unit {0}
+KeepsGap gap (b ∷ c ∷ bs) = (b.cycle + gap ≤ c.cycle) × KeepsGap gap (c ∷ bs)
+
+-- the beat of a cycle
+abbrev pub beat_at : List Beat → ℕ → Option Beat
+beat_at beats n = find (λ b. b.cycle == n) beats
+
+-- what comes in a cycle: the rows of its beat, one entry for each stream or none at all, and whether the end does
+abbrev pub rows_at : List Beat → ℕ → List (Option (List ℕ))
+rows_at beats n = option_map_or (λ b. b.rows) (beat_at beats n) []
+
+abbrev pub ends_at : List Beat → ℕ → Bool
+ends_at beats n = option_map_or (λ b. b.end) (beat_at beats n) false

@@ -1,0 +1,76 @@
+-- What beats put on the input ports of a module. Simulation cycle 0 is reset, and file cycle n is simulation cycle n + 1.
+use Rattle.std.specs.Prelude.{◌≡◌, ℕ, zero, suc, Bool, true, false, List, [], ◌∷◌, ◌++◌, Option, Some, None, codes, is_some, unwrap_or, IfSome}
+use Rattle.std.specs.List.{AllByRecursion}
+use Rattle.gl_bits.specs.Words.{bit}
+use Rattle.gl_schema.specs.declared.schema.Column.{Column}
+use Rattle.gl_schema.specs.declared.schema.Stream.{Stream}
+use Rattle.gl_schema.specs.declared.schema.Schema.{Schema}
+use Rattle.gl_schema.specs.Beats.{Beat, rows_at, ends_at}
+
+-- the names of the ports: reset and the end of the input
+unfoldable pub rst : List ℕ
+rst = codes "rst"
+
+unfoldable pub eos : List ℕ
+eos = codes "eos"
+
+-- of a stream: whether a tuple comes, and its columns
+unfoldable pub in_valid : List ℕ → List ℕ
+in_valid stream = codes "in__" ++ stream ++ codes "__valid"
+
+unfoldable pub in_column : List ℕ → List ℕ → List ℕ
+in_column stream column = codes "in__" ++ stream ++ codes "__" ++ column
+
+-- of the result: whether a row leaves, its columns, and the end
+unfoldable pub out_valid : List ℕ
+out_valid = codes "out__valid"
+
+unfoldable pub out_column : List ℕ → List ℕ
+out_column column = codes "out__" ++ column
+
+unfoldable pub out_eos : List ℕ
+out_eos = codes "out__eos"
+
+-- that a further group came, and that a queue overflowed
+unfoldable pub fault_group : List ℕ
+fault_group = codes "fault__group"
+
+unfoldable pub fault_queue : List ℕ
+fault_queue = codes "fault__queue"
+
+-- a port and the value put on it
+pub record Pin : Type 0 where
+  pub name : List ℕ
+  pub value : ℕ
+
+abbrev pub pin : List ℕ → ℕ → Pin
+pin name value = record { name = name; value = value }
+
+-- a row on the columns of a stream, 0 on each column that it has no word for
+abbrev pub column_pins : List ℕ → List Column → List ℕ → List Pin
+column_pins stream [] row = []
+column_pins stream (c ∷ cs) [] = pin (in_column stream c.name) 0 ∷ column_pins stream cs []
+column_pins stream (c ∷ cs) (n ∷ ns) = pin (in_column stream c.name) n ∷ column_pins stream cs ns
+
+-- a stream with a tuple: valid is 1 and the row is on its columns; without one all its ports are 0
+abbrev pub stream_pins : Stream → Option (List ℕ) → List Pin
+stream_pins s row = pin (in_valid s.name) (bit (is_some row)) ∷ column_pins s.name s.columns (unwrap_or row [])
+
+-- all streams, with one entry each, or with none
+abbrev pub streams_pins : List Stream → List (Option (List ℕ)) → List Pin
+streams_pins [] rows = []
+streams_pins (s ∷ ss) [] = stream_pins s None ++ streams_pins ss []
+streams_pins (s ∷ ss) (r ∷ rs) = stream_pins s r ++ streams_pins ss rs
+
+-- all input ports but the clock, with their values in a simulation cycle: in reset rst alone is 1
+abbrev pub pins : Schema → List Beat → ℕ → List Pin
+pins schema beats zero = pin rst 1 ∷ (streams_pins schema.streams [] ++ pin eos 0 ∷ [])
+pins schema beats (suc n) = pin rst 0 ∷ (streams_pins schema.streams (rows_at beats n) ++ pin eos (bit (ends_at beats n)) ∷ [])
+
+-- the ports of a module in a run: the value in a simulation cycle of the port of a name, None where the module lacks it
+abbrev pub PortValues : Type 0
+PortValues = ℕ → List ℕ → Option ℕ
+
+-- in every cycle each of these ports that the module has carries its value
+pub record IsStimulus (schema : Schema) (beats : List Beat) (port : PortValues) : Type 0 where
+  pub carries : (t : ℕ) → AllByRecursion (λ p. IfSome (port t p.name) (λ v. v ≡ p.value)) (pins schema beats t)

@@ -1,0 +1,68 @@
+-- Schemas: streams of named columns, and the rows of a stream.
+use Rattle.std.specs.Prelude.{◌≡◌, ℕ, zero, suc, ◌+◌, ◌*◌, ◌^◌, ◌<◌, ◌≤◌, ◌-◌, Bool, true, false, List, [], ◌∷◌, ◌++◌, length, map, replicate, bytes_eq}
+use Rattle.std.specs.List.{AllByRecursion, IsDistinct, fold, list_any}
+use Rattle.gl_bits.specs.declared.kind.Kind.{Kind}
+use Rattle.gl_bits.specs.declared.kind.Kind.TheVariants.{Unsigned, Text}
+use Rattle.gl_bits.specs.Kinds.{IsKind, width_of}
+use Rattle.gl_schema.specs.declared.schema.Column.{Column}
+use Rattle.gl_schema.specs.declared.schema.Stream.{Stream}
+use Rattle.gl_schema.specs.declared.schema.Schema.{Schema}
+use Rattle.gl_schema.specs.Names.{IsName}
+
+-- the names of columns and of streams, in order
+abbrev pub column_names : List Column → List (List ℕ)
+column_names columns = map (λ c. c.name) columns
+
+abbrev pub stream_names : List Stream → List (List ℕ)
+stream_names streams = map (λ s. s.name) streams
+
+-- a column, or a stream, has this name
+unfoldable pub has_column : List Column → List ℕ → Bool
+has_column columns name = list_any (λ c. bytes_eq name c.name) columns
+
+unfoldable pub has_stream : List Stream → List ℕ → Bool
+has_stream streams name = list_any (λ s. bytes_eq name s.name) streams
+
+-- the kinds of columns, in order
+abbrev pub kinds_of : List Column → List Kind
+kinds_of columns = map (λ c. c.kind) columns
+
+-- a column has a name and a kind
+pub record IsColumn (c : Column) : Type 0 where
+  pub name : IsName c.name
+  pub kind : IsKind c.kind
+
+-- a stream has a name and 1 to 32 columns, no two of one name
+pub record IsStream (s : Stream) : Type 0 where
+  pub name : IsName s.name
+  pub some' : 1 ≤ length s.columns
+  pub most : length s.columns ≤ 32
+  pub columns : AllByRecursion IsColumn s.columns
+  pub distinct : IsDistinct bytes_eq (column_names s.columns)
+
+-- a schema has 1 to 8 streams, no two of one name
+pub record IsSchema (schema : Schema) : Type 0 where
+  pub some' : 1 ≤ length schema.streams
+  pub most : length schema.streams ≤ 8
+  pub streams : AllByRecursion IsStream schema.streams
+  pub distinct : IsDistinct bytes_eq (stream_names schema.streams)
+
+-- the numbers of a row's words, one for each column, each as wide as its column
+abbrev pub IsRowOf : List Column → List ℕ → Type 0
+IsRowOf [] [] = Unit {0}
+IsRowOf [] (n ∷ ns) = ⊥
+IsRowOf (c ∷ cs) [] = ⊥
+IsRowOf (c ∷ cs) (n ∷ ns) = (n < 2 ^ width_of c.kind) × IsRowOf cs ns
+
+-- the number that bytes spell, the first byte highest
+abbrev pub number_of : List ℕ → ℕ
+number_of bytes = fold (λ n b. 256 * n + b) 0 bytes
+
+-- the word of a text in n bytes: zero bytes follow the text
+unfoldable pub text_word : ℕ → List ℕ → ℕ
+text_word n text = number_of (text ++ replicate (n - length text) 0)
+
+-- a text that a kind of n bytes has: at most n bytes 0x20 to 0x7E
+pub record IsText (n : ℕ) (text : List ℕ) : Type 0 where
+  pub short : length text ≤ n
+  pub plain : AllByRecursion (λ b. (32 ≤ b) × (b ≤ 126)) text

@@ -1,0 +1,41 @@
+//! Kinds as they are written.
+
+ghost use Rattle.std.specs.Prelude.{◌≡◌};
+ghost use Rattle.gl_schema.specs.SchemaFaults as spec;
+ghost use Rattle.gl_schema.specs.KindReading as read;
+
+use gl_bits::Kind;
+
+/// The kind that a word is the text of: `u1` to `u64`, `text1` to `text8`.
+pub fn kind_named(word: &[u8]) -> Option<Kind>
+    ensures { result ≡ spec.kind_named word.now }
+{
+    kind_read(word)
+}
+
+fn kind_read(word: &[u8]) -> Option<Kind>
+    ensures { result ≡ read.kind_read word.now }
+{
+    match word {
+        [b'u', digits @ ..] => match small_number(digits) {
+            width @ 1..=64 => Some(Kind::Unsigned(width)),
+            _ => None,
+        },
+        [b't', b'e', b'x', b't', digits @ ..] => match small_number(digits) {
+            bytes @ 1..=8 => Some(Kind::Text(bytes)),
+            _ => None,
+        },
+        _ => None,
+    }
+}
+
+/// The number that one or two digits spell, the first not 0; 0 for anything else.
+fn small_number(digits: &[u8]) -> u8
+    ensures { result ≡ read.small_number digits.now }
+{
+    match digits {
+        [ones @ b'1'..=b'9'] => *ones - b'0',
+        [tens @ b'1'..=b'9', ones @ b'0'..=b'9'] => 10 * (*tens - b'0') + (*ones - b'0'),
+        _ => 0,
+    }
+}
