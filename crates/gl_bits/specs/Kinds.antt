@@ -1,5 +1,5 @@
 -- Kinds of columns: unsigned numbers and short texts.
-use Rattle.std.specs.Prelude.{ℕ, ◌*◌, ◌≤◌, Bool, nat_lt}
+use Rattle.std.specs.Prelude.{ℕ, ◌*◌, ◌≤◌, Bool, nat_le, nat_lt}
 use Rattle.gl_bits.specs.declared.kind.Kind.{Kind}
 use Rattle.gl_bits.specs.declared.kind.Kind.TheVariants.{Unsigned, Text}
 
@@ -20,3 +20,6 @@ number_of kind word = word
 -- words of one kind compare as their numbers
 abbrev pub is_below : Kind → ℕ → ℕ → Bool
 is_below kind x y = nat_lt (number_of kind x) (number_of kind y)
+
+abbrev pub is_at_most : Kind → ℕ → ℕ → Bool
+is_at_most kind x y = nat_le (number_of kind x) (number_of kind y)
