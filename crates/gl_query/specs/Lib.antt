@@ -3,3 +3,4 @@ pub mod Values
 pub mod Columns
 pub mod Accepted
 pub mod Results
+pub mod Laws

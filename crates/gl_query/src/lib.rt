@@ -1,6 +1,7 @@
 //! Queries: their syntax trees, what they mean over lists of rows, and which are accepted.
 #![tactic(auto)]
 
+pub mod laws;
 pub mod tree;
 
 pub use tree::{
