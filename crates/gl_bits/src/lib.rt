@@ -11,6 +11,7 @@ pub mod word;
 
 pub use kind::Kind;
 pub use listed::Listed;
+pub use lists::{Group, Table};
 pub use row::{Memory, Row};
 pub use word::Word;
 

@@ -25,10 +25,13 @@ abbrev pub picked : List Column → PickShape → Row → Row
 picked columns shape.All row = row
 picked columns (shape.Items items) row = map (λ (i : ItemShape). value_of columns (kind_alone i.expr) i.expr row) items
 
--- a filter keeps the rows where it is 1
+-- a filter keeps the rows where it is 1; without one all rows stay
+abbrev pub keeps : List Column → Option ExprShape → Row → Bool
+keeps columns None row = true
+keeps columns (Some e) row = nat_eq (value_of columns (Unsigned 1) e row) 1
+
 abbrev pub kept : List Column → Option ExprShape → List Row → List Row
-kept columns None rows = rows
-kept columns (Some e) rows = filter (λ row. nat_eq (value_of columns (Unsigned 1) e row) 1) rows
+kept columns condition rows = filter (keeps columns condition) rows
 
 -- the values of an expression over rows
 abbrev pub values_of : List Column → ExprShape → List Row → List ℕ

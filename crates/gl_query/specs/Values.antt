@@ -10,12 +10,14 @@ use Rattle.gl_schema.specs.declared.schema.Column.{Column}
 use Rattle.gl_schema.specs.Schemas.{has_column, text_word}
 use Rattle.gl_query.specs.declared.tree.Op.{Op}
 use Rattle.gl_query.specs.declared.tree.Op.TheVariants as op
+use Rattle.gl_query.specs.declared.tree.Sort.{Sort}
+use Rattle.gl_query.specs.declared.tree.Sort.TheVariants.{Arithmetic, Comparison, Logic}
 use Rattle.gl_query.specs.Shapes.{ExprShape}
 use Rattle.gl_query.specs.Shapes as shape
 
 -- ---- columns by name
 
--- the number of the column with a name
+-- the number of the first column with a name; the number of columns where there is none
 abbrev pub column_number : List Column → List ℕ → ℕ
 column_number columns name = position_or_len (λ c. bytes_eq name c.name) columns
 
@@ -25,12 +27,7 @@ column_kind columns name = unwrap_or (option_map (λ c. c.kind) (slice_get colum
 
 -- ---- kinds
 
--- what an operator does: it reckons, compares or joins conditions
-pub data Sort : Type 0 where
-  Arithmetic : Sort
-  Comparison : Sort
-  Logic : Sort
-
+-- what an operator does
 abbrev pub sort_of : Op → Sort
 sort_of op.Add = Arithmetic
 sort_of op.Sub = Arithmetic

@@ -5,6 +5,6 @@ pub mod laws;
 pub mod tree;
 
 pub use tree::{
-    Agg, AggItem, AggItems, Expr, Item, ItemList, Name, Num, Nums, Op, Pick, Query, Statement,
+    Agg, AggItem, AggItems, Expr, Item, ItemList, Name, Num, Nums, Op, Pick, Query, Sort, Statement,
     TextBytes,
 };
