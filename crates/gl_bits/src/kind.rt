@@ -1,7 +1,7 @@
 //! Kinds of columns.
 
 ghost use Rattle.std.specs.Prelude.{◌≡◌};
-ghost use Rattle.gl_bits.specs.Kinds.{IsKind, width_of};
+ghost use Rattle.gl_bits.specs.Kinds.{IsKind, is_below, width_of};
 
 /// What a column holds.
 #[derive(Clone, Copy, PartialEq, Eq, Debug)]
@@ -23,5 +23,13 @@ impl Kind {
             Kind::Unsigned(width) => width,
             Kind::Text(bytes) => 8 * bytes,
         }
+    }
+
+    /// Whether the number of one word of the kind is below that of another.
+    pub fn is_below(self, first: u128, second: u128) -> bool
+        ensures { result ≡ is_below self first second }
+    {
+        let _ = self;
+        first < second
     }
 }

@@ -2,11 +2,18 @@
 #![tactic(auto)]
 
 pub mod kind;
+pub mod laws;
 pub mod listed;
+pub mod lists;
 pub mod row;
+pub mod totals;
 pub mod word;
 
 pub use kind::Kind;
 pub use listed::Listed;
+pub use lists::{Group, Table};
 pub use row::{Memory, Row};
 pub use word::Word;
+
+#[cfg(test)]
+mod tests;

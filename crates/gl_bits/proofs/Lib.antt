@@ -1,0 +1,5 @@
+pub mod Wrapping
+pub mod Slicing
+pub mod Grouping
+pub mod Interleaving
+pub mod Totalling

@@ -1,0 +1,76 @@
+-- What the loops over values keep.
+use Rattle.std.proofs.Common.{◌≡◌, ℕ, zero, suc, ◌+◌, ◌*◌, ◌/◌, ◌%◌, ◌^◌, ◌<◌, ◌≤◌, List, [], ◌∷◌, length, take, get_or, refl, sym, ap, ◌∙◌, arith, take_all, ne_eqb, ◌⊎◌, inl, inr}
+use Rattle.std.specs.Prelude.{sum, fold, map, ◌≢◌}
+use Rattle.std.proofs.Math.Nat.{mod-add-mod, add-mod-mod, zero-mod}
+use Rattle.gl_bits.proofs.Wrapping.{wraps_within}
+use Rattle.gl_bits.specs.declared.kind.Kind.{Kind}
+use Rattle.gl_bits.specs.Kinds.{number_of, width_of}
+use Rattle.gl_bits.specs.Totals.{average_of, count_of, sum_total, weighted, weighted_sum}
+
+-- one more value
+pub fold_more : {A B : Type 0} (f : B → A → B) (a : B) (xs : List A) (i : ℕ) (d : A) → i < length xs → fold f a (take (i + 1) xs) ≡ f (fold f a (take i xs)) (get_or xs i d)
+fold_more f a [] i d lt = absurd (omega arith)
+fold_more f a (x ∷ xs) zero d lt = refl
+fold_more {A = A} {B = B} f a (x ∷ xs) (suc i) d lt = later (fold_more f (f a x) xs i d (omega arith))
+  where
+    later : fold f (f a x) (take (i + 1) xs) ≡ f (fold f (f a x) (take i xs)) (get_or xs i d) → fold f a (take (suc i + 1) (x ∷ xs)) ≡ f (fold f (f a x) (take i xs)) (get_or xs i d)
+    later h =
+        let here : i + 1 ≡ suc i = omega arith in
+        let there : suc i + 1 ≡ suc (suc i) = omega arith in
+        ap (λ n. fold f a (take n (x ∷ xs))) there ∙ ap (λ n. fold f (f a x) (take n xs)) (sym here) ∙ h
+
+pub sum_more : (xs : List ℕ) (i : ℕ) → i < length xs → (sum (take i xs) % 2 ^ 128 + get_or xs i 0) % 2 ^ 128 ≡ sum (take (i + 1) xs) % 2 ^ 128
+sum_more xs i lt = mod-add-mod (sum (take i xs)) (2 ^ 128) (get_or xs i 0) ∙ ap (λ n. n % 2 ^ 128) (sym (fold_more (λ a x. a + x) 0 xs i 0 lt))
+
+-- the sum that a loop ends with, in a width
+pub sum_wrapped : (w i : ℕ) (xs : List ℕ) → w ≤ 128 → length xs ≤ i → sum (take i xs) % 2 ^ 128 % 2 ^ w ≡ sum_total w xs
+unfolding sum_total
+sum_wrapped w i xs most past = wraps_within (sum (take i xs)) w most ∙ ap (λ l. sum l % 2 ^ w) (take_all i xs past)
+
+numbers_themselves : (kind : Kind) (xs : List ℕ) → map (number_of kind) xs ≡ xs
+numbers_themselves kind [] = refl
+numbers_themselves kind (x ∷ xs) = ap (λ l. x ∷ l) (numbers_themselves kind xs)
+
+pub average_some : (kind : Kind) (xs : List ℕ) (n : ℕ) → n ≡ count_of xs → n ≢ 0 → sum_total (width_of kind + 32) xs / n % 2 ^ width_of kind ≡ average_of kind xs
+unfolding average_of sum_total
+average_some kind xs n e some =
+    rw (numbers_themselves kind xs, ← e, ne_eqb n 0 some) refl
+
+pub average_none : (kind : Kind) (xs : List ℕ) → count_of xs ≡ 0 → average_of kind xs ≡ 0
+unfolding average_of
+average_none kind xs e = rw e (zero-mod (2 ^ width_of kind))
+
+-- one more value by its weight
+pub weigh_more : (total n x : ℕ) (ns xs : List ℕ) → ((total + n * x % 2 ^ 128) % 2 ^ 128 + weighted ns xs) % 2 ^ 128 ≡ (total + weighted (n ∷ ns) (x ∷ xs)) % 2 ^ 128
+weigh_more total n x ns xs =
+    mod-add-mod (total + n * x % 2 ^ 128) (2 ^ 128) (weighted ns xs)
+    ∙ ap (λ m. m % 2 ^ 128) turned
+    ∙ add-mod-mod (total + weighted ns xs) (n * x) (2 ^ 128)
+    ∙ ap (λ m. m % 2 ^ 128) back
+  where
+    turned : total + n * x % 2 ^ 128 + weighted ns xs ≡ total + weighted ns xs + n * x % 2 ^ 128
+    turned = omega arith
+
+    back : total + weighted ns xs + n * x ≡ total + (n * x + weighted ns xs)
+    back = omega arith
+
+weighted-none : (ns xs : List ℕ) → (length ns ≡ 0) ⊎ (length xs ≡ 0) → weighted ns xs ≡ 0
+weighted-none [] xs e = refl
+weighted-none (n ∷ ns) [] e = refl
+weighted-none (n ∷ ns) (x ∷ xs) (inl e) = absurd (omega arith)
+weighted-none (n ∷ ns) (x ∷ xs) (inr e) = absurd (omega arith)
+
+-- the sum that such a loop ends with, in a width
+pub weighed : (w total : ℕ) (ns xs weights values : List ℕ) → w ≤ 128 → (length ns ≡ 0) ⊎ (length xs ≡ 0) → (total + weighted ns xs) % 2 ^ 128 ≡ weighted weights values % 2 ^ 128 → total % 2 ^ w ≡ weighted_sum w weights values
+unfolding weighted_sum
+weighed w total ns xs weights values most done same =
+    let none : weighted ns xs ≡ 0 = weighted-none ns xs done in
+    let here : total ≡ total + weighted ns xs = omega arith in
+    sym (wraps_within total w most)
+    ∙ ap (λ n. n % 2 ^ 128 % 2 ^ w) here
+    ∙ ap (λ n. n % 2 ^ w) same
+    ∙ wraps_within (weighted weights values) w most
+
+pub ruleset sums = (sum_more, sum_wrapped)
+
+pub ruleset folds = (fold_more)

@@ -1,0 +1,104 @@
+-- Which statements are accepted over a schema.
+use Rattle.std.specs.Prelude.{◌≡◌, ℕ, ◌+◌, ◌*◌, ◌^◌, ◌<◌, ◌≤◌, List, [], ◌∷◌, length, map, Option, Some, None, IsSome, IsTrue, bytes_eq}
+use Rattle.std.specs.List.{AllByRecursion, IsDistinct}
+use Rattle.gl_bits.specs.declared.kind.Kind.TheVariants.{Unsigned}
+use Rattle.gl_bits.specs.Kinds.{width_of}
+use Rattle.gl_schema.specs.declared.schema.Column.{Column}
+use Rattle.gl_schema.specs.declared.schema.Stream.{Stream}
+use Rattle.gl_schema.specs.declared.schema.Schema.{Schema}
+use Rattle.gl_schema.specs.Schemas.{column_names, has_column, has_stream, kinds_of}
+use Rattle.gl_query.specs.declared.tree.Statement.{Statement}
+use Rattle.gl_query.specs.Shapes.{ExprShape, AggShape, ItemShape, AggItemShape, PickShape, QueryShape, query_shape}
+use Rattle.gl_query.specs.Shapes as shape
+use Rattle.gl_query.specs.Values.{HasKind, IsUnsigned, kind_alone, kind_of}
+use Rattle.gl_query.specs.Columns.{columns_of, picked_columns, is_closing, pace_of, variable}
+
+-- at most 32 columns, no two of one name
+pub record AreResultColumns (columns : List Column) : Type 0 where
+  pub most : length columns ≤ 32
+  pub distinct : IsDistinct bytes_eq (column_names columns)
+
+-- an argument that is added or averaged is no text
+pub record IsSummed (columns : List Column) (e : ExprShape) : Type 0 where
+  pub typed : HasKind columns (kind_alone e) e
+  pub unsigned : IsUnsigned (kind_of columns (kind_alone e) e)
+
+-- at most 64 weights, each a number of the argument's kind
+pub record IsWeighted (columns : List Column) (e : ExprShape) (weights : List ℕ) : Type 0 where
+  pub summed : IsSummed columns e
+  pub most : length weights ≤ 64
+  pub fit : AllByRecursion (λ n. n < 2 ^ width_of (kind_of columns (kind_alone e) e)) weights
+
+abbrev pub IsAgg : List Column → AggShape → Type 0
+IsAgg columns shape.Count = Unit {0}
+IsAgg columns (shape.Sum e) = IsSummed columns e
+IsAgg columns (shape.Min e) = HasKind columns (kind_alone e) e
+IsAgg columns (shape.Max e) = HasKind columns (kind_alone e) e
+IsAgg columns (shape.Avg e) = IsSummed columns e
+IsAgg columns (shape.Wsum e weights) = IsWeighted columns e weights
+
+-- what a select picks has kinds, and at most 32 names, each once
+pub record AreItems (columns : List Column) (items : List ItemShape) : Type 0 where
+  pub typed : AllByRecursion (λ (i : ItemShape). HasKind columns (kind_alone i.expr) i.expr) items
+  pub result : AreResultColumns (picked_columns columns (shape.Items items))
+
+abbrev pub IsPick : List Column → PickShape → Type 0
+IsPick columns shape.All = Unit {0}
+IsPick columns (shape.Items items) = AreItems columns items
+
+-- a condition is one bit
+pub record IsCondition (columns : List Column) (e : ExprShape) : Type 0 where
+  pub typed : HasKind columns (Unsigned 1) e
+  pub bit : kind_of columns (Unsigned 1) e ≡ Unsigned 1
+
+abbrev pub IsFilter : List Column → Option ExprShape → Type 0
+IsFilter columns None = Unit {0}
+IsFilter columns (Some e) = IsCondition columns e
+
+-- SIZE and ADVANCE are 1 to 65,536, and at most 64 windows are open at once
+pub record IsWindow (size advance : ℕ) : Type 0 where
+  pub some_size : 1 ≤ size
+  pub most_size : size ≤ 65536
+  pub some_advance : 1 ≤ advance
+  pub most_advance : advance ≤ 65536
+  pub copies : size ≤ 64 * advance
+
+pub record IsRows (source : List Column) (pick : PickShape) (filter : Option ExprShape) : Type 0 where
+  pub picks : IsPick source pick
+  pub filters : IsFilter source filter
+
+pub record IsTotal (source : List Column) (aggs : List AggItemShape) (result : List Column) : Type 0 where
+  pub typed : AllByRecursion (λ (i : AggItemShape). IsAgg source i.agg) aggs
+  pub columns : AreResultColumns result
+
+-- the key is a column, GROUPS is 1 to 256, and the key's name is no other column's
+pub record IsGrouping (source : List Column) (key : List ℕ) (groups : ℕ) (result : List Column) : Type 0 where
+  pub known : IsTrue (has_column source key)
+  pub some_groups : 1 ≤ groups
+  pub most_groups : groups ≤ 256
+  pub columns : AreResultColumns result
+
+-- both sides give one row, or one for each row of the same source
+pub record KeepPace (l r : QueryShape) : Type 0 where
+  pub paced : IsSome (pace_of l)
+  pub same : pace_of l ≡ pace_of r
+
+-- a query is accepted over the sources that it sees
+abbrev pub IsAcceptedOver : List Stream → QueryShape → Type 0
+IsAcceptedOver sources (shape.Read name) = IsTrue (has_stream sources name)
+IsAcceptedOver sources (shape.Rows pick filter source) = IsAcceptedOver sources source × IsRows (columns_of sources source) pick filter
+IsAcceptedOver sources (shape.Total aggs source) =
+    IsAcceptedOver sources source × IsTotal (columns_of sources source) aggs (columns_of sources (shape.Total aggs source))
+IsAcceptedOver sources (shape.Each var source size advance body) =
+    IsAcceptedOver sources source × IsWindow size advance × IsAcceptedOver (variable var (columns_of sources source)) body × IsTrue (is_closing body)
+IsAcceptedOver sources (shape.PerGroup var source key groups body) =
+    IsAcceptedOver sources source × IsGrouping (columns_of sources source) key groups (columns_of sources (shape.PerGroup var source key groups body))
+    × IsAcceptedOver (variable var (columns_of sources source)) body × IsTrue (is_closing body)
+IsAcceptedOver sources (shape.Union l r) =
+    IsAcceptedOver sources l × IsAcceptedOver sources r × (kinds_of (columns_of sources l) ≡ kinds_of (columns_of sources r))
+IsAcceptedOver sources (shape.Concat l r) =
+    IsAcceptedOver sources l × IsAcceptedOver sources r × KeepPace l r × AreResultColumns (columns_of sources (shape.Concat l r))
+
+-- a statement is accepted over a schema
+abbrev pub IsAccepted : Schema → Statement → Type 0
+IsAccepted schema statement = IsAcceptedOver schema.streams (query_shape statement.query)

@@ -1,0 +1,76 @@
+-- The columns of a query, when it closes, and its pace.
+use Rattle.std.specs.Prelude.{ℕ, Bool, true, false, ◌&&◌, List, [], ◌∷◌, ◌++◌, map, Option, Some, None, find, unwrap_or, option_map, bytes_eq, if◌then◌else◌}
+use Rattle.gl_bits.specs.declared.kind.Kind.{Kind}
+use Rattle.gl_bits.specs.declared.kind.Kind.TheVariants.{Unsigned, Text}
+use Rattle.gl_schema.specs.declared.schema.Column.{Column}
+use Rattle.gl_schema.specs.declared.schema.Stream.{Stream}
+use Rattle.gl_query.specs.Shapes.{AggShape, ItemShape, AggItemShape, PickShape, QueryShape}
+use Rattle.gl_query.specs.Shapes as shape
+use Rattle.gl_query.specs.Values.{column_kind, kind_alone, kind_of}
+
+-- the columns of a source by its name
+abbrev pub source_columns : List Stream → List ℕ → List Column
+source_columns sources name = unwrap_or (option_map (λ s. s.columns) (find (λ s. bytes_eq name s.name) sources)) []
+
+-- what a body sees: its own variable alone
+abbrev pub variable : List ℕ → List Column → List Stream
+variable var columns = record { name = var; columns = columns } ∷ []
+
+-- `count` gives 32 bits, every other aggregate the kind of its argument
+abbrev pub agg_kind : List Column → AggShape → Kind
+agg_kind columns shape.Count = Unsigned 32
+agg_kind columns (shape.Sum e) = kind_of columns (kind_alone e) e
+agg_kind columns (shape.Min e) = kind_of columns (kind_alone e) e
+agg_kind columns (shape.Max e) = kind_of columns (kind_alone e) e
+agg_kind columns (shape.Avg e) = kind_of columns (kind_alone e) e
+agg_kind columns (shape.Wsum e weights) = kind_of columns (kind_alone e) e
+
+abbrev pub item_column : List Column → ItemShape → Column
+item_column columns i = record { name = i.name; kind = kind_of columns (kind_alone i.expr) i.expr }
+
+abbrev pub agg_column : List Column → AggItemShape → Column
+agg_column columns i = record { name = i.name; kind = agg_kind columns i.agg }
+
+abbrev pub picked_columns : List Column → PickShape → List Column
+picked_columns columns shape.All = columns
+picked_columns columns (shape.Items items) = map (item_column columns) items
+
+-- the columns of a query over the sources that it sees
+abbrev pub columns_of : List Stream → QueryShape → List Column
+columns_of sources (shape.Read name) = source_columns sources name
+columns_of sources (shape.Rows pick filter source) = picked_columns (columns_of sources source) pick
+columns_of sources (shape.Total aggs source) = map (agg_column (columns_of sources source)) aggs
+columns_of sources (shape.Each var source size advance body) = columns_of (variable var (columns_of sources source)) body
+columns_of sources (shape.PerGroup var source key groups body) =
+    record { name = key; kind = column_kind (columns_of sources source) key } ∷ columns_of (variable var (columns_of sources source)) body
+columns_of sources (shape.Union l r) = columns_of sources l
+columns_of sources (shape.Concat l r) = columns_of sources l ++ columns_of sources r
+
+-- a closing query gives its rows at the end of its input
+abbrev pub is_closing : QueryShape → Bool
+is_closing (shape.Read name) = false
+is_closing (shape.Rows pick filter source) = is_closing source
+is_closing (shape.Total aggs source) = true
+is_closing (shape.Each var source size advance body) = is_closing source
+is_closing (shape.PerGroup var source key groups body) = true
+is_closing (shape.Union l r) = is_closing l && is_closing r
+is_closing (shape.Concat l r) = is_closing l && is_closing r
+
+-- how many rows a query gives: one, or one for each row of a source
+pub data Pace : Type 0 where
+  Once : Pace
+  Step : (source : List ℕ) → Pace
+
+-- Rows that filter, windows, groups and unions have no pace
+abbrev pub unfiltered : {A B : Type 0} → Option A → Option B → Option B
+unfiltered None pace = pace
+unfiltered (Some e) pace = None
+
+abbrev pub pace_of : QueryShape → Option Pace
+pace_of (shape.Read name) = Some (Step name)
+pace_of (shape.Rows pick filter source) = unfiltered filter (pace_of source)
+pace_of (shape.Total aggs source) = Some Once
+pace_of (shape.Each var source size advance body) = None
+pace_of (shape.PerGroup var source key groups body) = None
+pace_of (shape.Union l r) = None
+pace_of (shape.Concat l r) = pace_of l

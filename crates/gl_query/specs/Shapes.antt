@@ -1,0 +1,107 @@
+-- Statements without their places. Two statements are alike where their shapes are equal.
+use Rattle.std.specs.Prelude.{◌≡◌, ℕ, List, map, Option, option_map}
+use Rattle.gl_bits.specs.declared.kind.Kind.{Kind}
+use Rattle.gl_query.specs.declared.tree.Op.{Op}
+use Rattle.gl_query.specs.declared.tree.Name.{Name}
+use Rattle.gl_query.specs.declared.tree.Num.{Num}
+use Rattle.gl_query.specs.declared.tree.Expr.{Expr}
+use Rattle.gl_query.specs.declared.tree.Expr.TheVariants as expr
+use Rattle.gl_query.specs.declared.tree.Agg.{Agg}
+use Rattle.gl_query.specs.declared.tree.Agg.TheVariants as agg
+use Rattle.gl_query.specs.declared.tree.Item.{Item}
+use Rattle.gl_query.specs.declared.tree.AggItem.{AggItem}
+use Rattle.gl_query.specs.declared.tree.Pick.{Pick}
+use Rattle.gl_query.specs.declared.tree.Pick.TheVariants as pick
+use Rattle.gl_query.specs.declared.tree.Query.{Query}
+use Rattle.gl_query.specs.declared.tree.Query.TheVariants as query
+use Rattle.gl_query.specs.declared.tree.Statement.{Statement}
+
+-- an expression over one row
+pub data ExprShape : Type 0 where
+  Column : (name : List ℕ) → ExprShape
+  Number : (n : ℕ) → ExprShape
+  Letters : (text : List ℕ) → ExprShape
+  Not : (e : ExprShape) → ExprShape
+  Cast : (kind : Kind) (e : ExprShape) → ExprShape
+  Binary : (op : Op) (l r : ExprShape) → ExprShape
+
+-- an aggregate over the rows of a list
+pub data AggShape : Type 0 where
+  Count : AggShape
+  Sum : (e : ExprShape) → AggShape
+  Min : (e : ExprShape) → AggShape
+  Max : (e : ExprShape) → AggShape
+  Avg : (e : ExprShape) → AggShape
+  Wsum : (e : ExprShape) (weights : List ℕ) → AggShape
+
+-- an item of a select, or an aggregate, under its name
+pub record ItemShape : Type 0 where
+  pub expr : ExprShape
+  pub name : List ℕ
+
+pub record AggItemShape : Type 0 where
+  pub agg : AggShape
+  pub name : List ℕ
+
+-- every column, or these items
+pub data PickShape : Type 0 where
+  All : PickShape
+  Items : (items : List ItemShape) → PickShape
+
+-- a query in its seven forms
+pub data QueryShape : Type 0 where
+  Read : (name : List ℕ) → QueryShape
+  Rows : (pick : PickShape) (filter : Option ExprShape) (source : QueryShape) → QueryShape
+  Total : (aggs : List AggItemShape) (source : QueryShape) → QueryShape
+  Each : (var : List ℕ) (source : QueryShape) (size advance : ℕ) (body : QueryShape) → QueryShape
+  PerGroup : (var : List ℕ) (source : QueryShape) (key : List ℕ) (groups : ℕ) (body : QueryShape) → QueryShape
+  Union : (l r : QueryShape) → QueryShape
+  Concat : (l r : QueryShape) → QueryShape
+
+pub record StatementShape : Type 0 where
+  pub query : QueryShape
+  pub name : List ℕ
+
+-- ---- the shapes of trees
+
+abbrev pub expr_shape : Expr → ExprShape
+expr_shape (expr.Column name) = Column name.text
+expr_shape (expr.Number n) = Number n.value
+expr_shape (expr.Letters text at) = Letters text
+expr_shape (expr.Not' p e at) = Not (expr_shape e)
+expr_shape (expr.Cast' p e kind at) = Cast kind (expr_shape e)
+expr_shape (expr.Binary' op p l q r at) = Binary op (expr_shape l) (expr_shape r)
+
+abbrev pub agg_shape : Agg → AggShape
+agg_shape (agg.Count at) = Count
+agg_shape (agg.Sum e) = Sum (expr_shape e)
+agg_shape (agg.Min e) = Min (expr_shape e)
+agg_shape (agg.Max e) = Max (expr_shape e)
+agg_shape (agg.Avg e) = Avg (expr_shape e)
+agg_shape (agg.Wsum e weights) = Wsum (expr_shape e) (map (λ (n : Num). n.value) weights)
+
+abbrev pub item_shape : Item → ItemShape
+item_shape i = record { expr = expr_shape i.expr; name = i.name.text }
+
+abbrev pub agg_item_shape : AggItem → AggItemShape
+agg_item_shape i = record { agg = agg_shape i.agg; name = i.name.text }
+
+abbrev pub pick_shape : Pick → PickShape
+pick_shape pick.All = All
+pick_shape (pick.Items items) = Items (map item_shape items)
+
+abbrev pub query_shape : Query → QueryShape
+query_shape (query.Read name) = Read name.text
+query_shape (query.Rows' pick filter p source) = Rows (pick_shape pick) (option_map expr_shape filter) (query_shape source)
+query_shape (query.Total' aggs p source) = Total (map agg_item_shape aggs) (query_shape source)
+query_shape (query.Each' var p source size advance q body at) = Each var.text (query_shape source) size.value advance.value (query_shape body)
+query_shape (query.PerGroup' var p source key groups q body at) = PerGroup var.text (query_shape source) key.text groups.value (query_shape body)
+query_shape (query.Union' p l q r at) = Union (query_shape l) (query_shape r)
+query_shape (query.Concat' p l q r at) = Concat (query_shape l) (query_shape r)
+
+abbrev pub statement_shape : Statement → StatementShape
+statement_shape s = record { query = query_shape s.query; name = s.name.text }
+
+-- equal but for their places
+abbrev pub AreAlike : Statement → Statement → Type 0
+AreAlike s t = statement_shape s ≡ statement_shape t
