@@ -3,3 +3,5 @@ pub mod Settling
 pub mod Words
 pub mod Edges
 pub mod Fresh
+pub mod Placing
+pub mod Follows

@@ -29,15 +29,3 @@ fn draw_word(state: &mut u64, width: u8) -> u128
     let low = draw(state);
     ((u128::from(high) << 64) + u128::from(low)) & mask(width)
 }
-
-// Draws each word of a bank, by rising address.
-fn draw_bank(state: &mut u64, width: u8, bank: &mut Bank)
-    requires { width ≤ 128 }
-    ensures size { length bank.new ≡ length bank.old }
-    ensures fits { (at : ℕ) → at < length bank.old → slice_index bank.new at < 2 ^ width }
-{
-    for at in 0..bank.len() {
-        let word = draw_word(state, width);
-        bank.set(at, word);
-    }
-}

@@ -1,8 +1,11 @@
 //! A module and what it holds.
 
-ghost use Rattle.std.specs.Prelude.{◌≡◌, ◌<◌, length, slice_index, IfOk};
+ghost use Rattle.std.specs.Prelude.{◌≡◌, ℕ, ◌+◌, ◌<◌, length, slice_index, IfOk};
 ghost use Rattle.gl_verilog.specs.View.{module_of};
-ghost use Rattle.gl_verilog.specs.Runnable.{IsRunnable, FitInputs};
+ghost use Rattle.gl_verilog.specs.Runnable.{IsRunnable, FitInputs, HasInputs};
+ghost use Rattle.gl_verilog.specs.Module.{Nets, Memories};
+ghost use Rattle.gl_verilog.specs.Run.{IsRun};
+ghost use Rattle.gl_sim.specs.Simulation.{IsAt, Shows};
 
 use crate::cycle::{keep, set_inputs, settle};
 use crate::edge::clock;
@@ -73,6 +76,10 @@ impl Sim {
     pub fn step(&mut self, inputs: &[u128])
         requires { FitInputs (module_of self.old.design) inputs.now }
         ensures design { self.new.design ≡ self.old.design }
+
+        // A run that holds the same registers and words, and has these inputs in its cycle t, is
+        // followed through that cycle.
+        ensures follows { (value : ℕ → Nets) (word : ℕ → Memories) (t : ℕ) → IsRun (module_of self.old.design) value word → IsAt self.old value word t → HasInputs (module_of self.old.design) (value t) inputs.now → Shows self.new (value t) × IsAt self.new value word (t + 1) }
     {
         set_inputs(&self.design, &self.ports, inputs, &mut self.values, &self.banks);
         settle(&self.design, &self.order, &mut self.values, &self.banks);

@@ -15,7 +15,7 @@ invariant_of-result c =
     let count : length c.as_slice-declarations.result.now ≡ length ds = ap (λ (xs : List Declaration). length xs) c.as_slice-declarations.ensures ∙ sym (map_length declaration_of c.args.design.declarations) in
     (record {
       runnable = c.requires;
-      order = c.in_ok-order.ensures.in_range;
+      order = c.in_ok-order.ensures;
       ports = c.in_ok-ports.ensures ∙ ap (λ (xs : List Declaration). inputs_from 0 (map declaration_of xs)) c.as_slice-declarations.ensures;
       store = store_zero ds c.in_ok-values.values.items c.in_ok-banks.banks.items (c.in_ok-values.ensures ∙ ap (λ (n : ℕ). replicate n 0) count) (c.in_ok-banks.ensures ∙ ap (λ (xs : List Declaration). map zero_bank (map declaration_of xs)) c.as_slice-declarations.ensures);
       shown = ap (λ (xs : List ℕ). length xs) c.in_ok-shown.ensures ∙ zeros_length _ ∙ count;
