@@ -5,3 +5,4 @@ pub mod Edges
 pub mod Fresh
 pub mod Placing
 pub mod Follows
+pub mod Draws

@@ -6,8 +6,10 @@ ghost use Rattle.gl_verilog.specs.Runnable.{IsRunnable, FitInputs, HasInputs};
 ghost use Rattle.gl_verilog.specs.Module.{Nets, Memories};
 ghost use Rattle.gl_verilog.specs.Run.{IsRun};
 ghost use Rattle.gl_sim.specs.Simulation.{IsAt, Shows};
+ghost use Rattle.gl_sim.specs.Starts.{StartsFrom};
 
 use crate::cycle::{keep, set_inputs, settle};
+use crate::draw::begin;
 use crate::edge::clock;
 use crate::order::order_of;
 use crate::room::{banks_of, ports_of, updates_of, zeros};
@@ -51,6 +53,8 @@ impl Sim {
     pub fn new(alloc: Global, design: Module, start: Start) -> Result<Sim, Memory>
         requires { IsRunnable (module_of design) }
         ensures design { IfOk result (λ s. s.design ≡ design) }
+        ensures started { IfOk result (λ s. (value : ℕ → Nets) (word : ℕ → Memories) → StartsFrom start (module_of design) value word → IsAt s value word 0) }
+        ensures shown { IfOk result (λ s. (port : ℕ) → slice_index s.shown port ≡ 0) }
     {
         let order = order_of(alloc, &design)?;
         let declarations = design.declarations.as_slice();
@@ -59,6 +63,7 @@ impl Sim {
         let shown = zeros(alloc, declarations.len())?;
         let mut banks = banks_of(alloc, declarations)?;
         let waiting = updates_of(alloc, design.blocks.as_slice())?;
+        begin(&design, start, &mut values, &mut banks);
         Ok(Sim {
             design,
             order,
