@@ -1,5 +1,5 @@
 -- One assignment, one input, one word after another.
-use Rattle.std.proofs.Common.{◌≡◌, ◌≢◌, ℕ, zero, suc, ◌+◌, ◌^◌, ◌<◌, ◌≤◌, List, [], ◌∷◌, ◌++◌, Option, Some, None, Bool, true, false, map, refl, sym, ◌∙◌, ap, subst, arith, rules, length, drop, get_or, drop-cons, add-one, unwrap_or, slice_index}
+use Rattle.std.proofs.Common.{◌≡◌, ◌≢◌, ℕ, zero, suc, ◌+◌, ◌^◌, ◌<◌, ◌≤◌, List, [], ◌∷◌, ◌++◌, Option, Some, None, Bool, true, false, map, refl, sym, ◌∙◌, ap, subst, arith, rules, length, drop, get_or, drop-cons, add-one, unwrap_or, slice_index, inl, inr}
 use Rattle.std.specs.Prelude.{if◌then◌else◌, ◌&&◌, not, slice_get, slice_index_or, slice_set, IsSomeAnd, IsTrue}
 use Rattle.std.specs.List.{AllByRecursion, AllZip}
 use Rattle.std.proofs.lemmas.List.{drop_all}
@@ -10,8 +10,12 @@ use Rattle.gl_verilog.specs.View.{assignment_of, expr_of, declaration_of}
 use Rattle.gl_verilog.specs.Widths.{IsReadable, is_clock, width_at, HasSize, IsDriven, width_of, KeepsWidths, KeepsWidth}
 use Rattle.gl_verilog.specs.Evaluate.{CanEvaluate, IsStore, nets_of, memories_of}
 use Rattle.gl_verilog.specs.Runnable.{IsRunnable, is_input, inputs_from, inputs_of, FitInputs}
-use Rattle.gl_verilog.specs.Order.{EachRead}
-use Rattle.gl_sim.specs.Ordering.{AreNets}
+use Rattle.gl_verilog.specs.Order.{EachRead, with_net, evaluated}
+use Rattle.gl_sim.specs.Inputs.{with_inputs}
+use Rattle.std.proofs.lemmas.Bool.Decides.{eqb_tells}
+use Rattle.std.proofs.lemmas.List.{get_or-set_same, get_or-set_other}
+use mathlib.Core.Path.{fun_ext}
+use Rattle.gl_sim.specs.Ordering.{AreNets, picked}
 use Rattle.gl_verilog.proofs.Fits.{Found, found_in, all_at, in_range, width_at-found, value_fits, can_evaluate}
 use Rattle.gl_verilog.proofs.Stores.{store_put}
 
@@ -142,3 +146,51 @@ are_nets ds [] h = tt
 are_nets ds (a ∷ rest) h =
     let d = found_in (slice_get ds a.target) (λ d. IsDriven d.kind × (width_of ds a.value ≡ d.width)) h.0.0 in
     ((in_range ds a.target d.item d.is, reads_declared ds a.value h.0.1), are_nets ds rest h.1)
+
+-- the list from a place on
+pub drop_here : {T : Type 0} (xs : List T) (i : ℕ) (x : T) → slice_get xs i ≡ Some x → drop i xs ≡ x ∷ drop (i + 1) xs
+drop_here [] i x e = absurd cc
+drop_here (y ∷ xs) zero x e = let same : y ≡ x = cc in rw same refl
+drop_here (y ∷ xs) (suc i) x e =
+    let n : suc i + 1 ≡ suc (i + 1) = omega arith in
+    subst (λ k. drop i xs ≡ x ∷ drop k (y ∷ xs)) (sym n) (drop_here xs i x e)
+
+pub drop-map : {S T : Type 0} (f : S → T) (xs : List S) (i : ℕ) → drop i (map f xs) ≡ map f (drop i xs)
+drop-map f xs zero = refl
+drop-map f [] (suc i) = refl
+drop-map f (x ∷ xs) (suc i) = drop-map f xs i
+
+-- ---- as functions of the nets
+
+-- a value put into the list is a net's new value
+pub nets_of-set : (vs : List ℕ) (t x : ℕ) → t < length vs → nets_of (slice_set vs t x) ≡ with_net (nets_of vs) t x
+nets_of-set vs t x lt = fun_ext (λ n. elim (eqb_tells t n) [
+  | inl same ↦ rw same.0 (subst (λ i. slice_index (slice_set vs t x) i ≡ x) same.1 (get_or-set_same vs t x 0 lt))
+  | inr other ↦ rw other.0 (get_or-set_other vs t n x 0 (λ q. other.1 (sym q)))
+])
+
+pub picked-here : (as' : List spec.Assignment) (order : List ℕ) (i : ℕ) (a : spec.Assignment) → i < length order → slice_get as' (get_or order i 0) ≡ Some a → picked as' (drop i order) ≡ a ∷ picked as' (drop (i + 1) order)
+picked-here as' order i a lt e = ap (λ (ks : List ℕ). picked as' ks) (rw_here order i lt) ∙ rw e refl
+  where
+    rw_here : (xs : List ℕ) (i : ℕ) → i < length xs → drop i xs ≡ get_or xs i 0 ∷ drop (i + 1) xs
+    rw_here xs i lt = rw add-one (drop-cons xs i 0 lt)
+
+-- one assignment more
+pub settled_more : (as' : List spec.Assignment) (order : List ℕ) (m : Memories) (v v' : Nets) (i : ℕ) (a : spec.Assignment) → i < length order → slice_get as' (get_or order i 0) ≡ Some a → v' ≡ with_net v a.target (value_of v m a.value) → evaluated (picked as' (drop (i + 1) order)) m v' ≡ evaluated (picked as' (drop i order)) m v
+settled_more as' order m v v' i a lt e is =
+    ap (λ (w : Nets). evaluated (picked as' (drop (i + 1) order)) m w) is ∙ ap (λ (xs : List spec.Assignment). evaluated xs m v) (sym (picked-here as' order i a lt e))
+
+pub settled_end : (as' : List spec.Assignment) (order : List ℕ) (m : Memories) (v : Nets) (i : ℕ) → length order ≤ i → evaluated (picked as' (drop i order)) m v ≡ v
+settled_end as' order m v i le = ap (λ (ks : List ℕ). evaluated (picked as' ks) m v) (drop_all i order le)
+
+-- one input more
+pub inputs_more : (ports inputs : List ℕ) (v v' : Nets) (i : ℕ) → i < length ports → i < length inputs → v' ≡ with_net v (get_or ports i 0) (get_or inputs i 0) → with_inputs (drop (i + 1) ports) (drop (i + 1) inputs) v' ≡ with_inputs (drop i ports) (drop i inputs) v
+inputs_more [] inputs v v' i lt lt' is = absurd (omega arith)
+inputs_more (p ∷ ports) [] v v' i lt lt' is = absurd (omega arith)
+inputs_more (p ∷ ports) (x ∷ inputs) v v' zero lt lt' is = ap (λ (w : Nets). with_inputs ports inputs w) is
+inputs_more (p ∷ ports) (x ∷ inputs) v v' (suc i) lt lt' is =
+    let n : suc i + 1 ≡ suc (i + 1) = omega arith in
+    subst (λ k. with_inputs (drop k (p ∷ ports)) (drop k (x ∷ inputs)) v' ≡ with_inputs (drop i ports) (drop i inputs) v) (sym n) (inputs_more ports inputs v v' i (omega arith) (omega arith) is)
+
+pub inputs_end : (ports inputs : List ℕ) (v : Nets) (i : ℕ) → length ports ≤ i → with_inputs (drop i ports) (drop i inputs) v ≡ v
+inputs_end ports inputs v i le = ap (λ (ps : List ℕ). with_inputs ps (drop i inputs) v) (drop_all i ports le)

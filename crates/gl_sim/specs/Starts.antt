@@ -1,7 +1,10 @@
 -- What registers and memory words hold before the first cycle.
-use Rattle.std.specs.Prelude.{ℕ, zero, suc, ◌+◌, ◌*◌, ◌%◌, ◌^◌, List, take, replicate}
+use Rattle.std.specs.Prelude.{◌≡◌, ◌≢◌, ◌<◌, Some, slice_get, slice_index, ℕ, zero, suc, ◌+◌, ◌*◌, ◌%◌, ◌^◌, List, take, replicate}
 use Rattle.std.specs.List.{sum_by}
-use Rattle.gl_verilog.specs.Module.{Kind, OutputRegister, Register, Memory, Declaration}
+use Rattle.gl_verilog.specs.Module.{Kind, OutputRegister, Register, Memory, Declaration, Module, Nets, Memories}
+use Rattle.gl_verilog.specs.Run.{IsRegister}
+use Rattle.gl_verilog.specs.Evaluate.{IsStore, memories_of}
+use Rattle.gl_verilog.specs.Runnable.{SameState}
 use Rattle.gl_verilog.specs.Widths.{width_at, words_in}
 use Rattle.gl_sim.specs.declared.start.Start.{Start}
 use Rattle.gl_sim.specs.declared.start.Start.TheVariants.{Zero, Drawn}
@@ -43,3 +46,23 @@ word_at (Drawn seed) ds k at = word_drawn seed (draws_before ds k + 2 * at) (wid
 -- words of 0, one for each address
 abbrev pub zero_bank : Declaration → List ℕ
 zero_bank d = replicate (words_in d.kind) 0
+
+-- a run that begins with these registers and words
+abbrev pub StartsFrom : Start → Module → (ℕ → Nets) → (ℕ → Memories) → Type 0
+StartsFrom start m value word = SameState m.declarations (register_at start m.declarations) (word_at start m.declarations) (value 0) (word 0)
+
+-- one declaration drawn: two numbers for its register, or for each of its words
+pub record DrawsOne (ds : List Declaration) (n : ℕ) (d : Declaration) (state state' : ℕ) (values values' : List ℕ) (banks banks' : List (List ℕ)) : Type 0 where
+  pub moved : state' ≡ draw state (draws_for d.kind)
+  pub store : IsStore ds values' banks'
+  pub register : IsRegister d.kind → slice_index values' n ≡ word_drawn state 0 d.width
+  pub words : (at : ℕ) → at < words_in d.kind → memories_of banks' n at ≡ word_drawn state (2 * at) d.width
+  pub other_values : (k : ℕ) → k ≢ n → slice_index values' k ≡ slice_index values k
+  pub other_words : (k at : ℕ) → k ≢ n → memories_of banks' k at ≡ memories_of banks k at
+
+-- the declarations before n drawn
+pub record IsDrawnTo (ds : List Declaration) (seed n state : ℕ) (values : List ℕ) (banks : List (List ℕ)) : Type 0 where
+  pub moved : state ≡ draw seed (draws_before ds n)
+  pub store : IsStore ds values banks
+  pub registers : (k : ℕ) (d : Declaration) → k < n → slice_get ds k ≡ Some d → IsRegister d.kind → slice_index values k ≡ register_at (Drawn seed) ds k
+  pub words : (k : ℕ) (d : Declaration) (at : ℕ) → k < n → slice_get ds k ≡ Some d → at < words_in d.kind → memories_of banks k at ≡ word_at (Drawn seed) ds k at

@@ -5,7 +5,10 @@ ghost use Rattle.std.specs.List.{AllByRecursion, AllZip};
 ghost use Rattle.gl_verilog.specs.Module.{assigned, written, later_or};
 ghost use Rattle.gl_verilog.specs.View.{module_of, chained};
 ghost use Rattle.gl_verilog.specs.Evaluate.{nets_of, memories_of, IsStore};
+ghost use Rattle.gl_verilog.specs.Order.{evaluated};
 ghost use Rattle.gl_verilog.specs.Runnable.{IsRunnable, inputs_of, FitInputs};
+ghost use Rattle.gl_sim.specs.Inputs.{with_inputs};
+ghost use Rattle.gl_sim.specs.Ordering.{IsOrderOf, picked};
 ghost use Rattle.gl_sim.specs.Updates.{put_of, AreInside, writes_in, CanExecute};
 
 use crate::update::{Update, execute};
@@ -14,9 +17,10 @@ use gl_verilog::{Bank, Module, Statement, evaluate};
 /// Gives each assigned net its value, in this order of the assignments.
 pub fn settle(design: &Module, order: &[usize], values: &mut Vec<u128>, banks: &[Bank])
     requires runnable { IsRunnable (module_of design.now) }
-    requires in_range { AllByRecursion (λ k. k < length (module_of design.now).assignments) order.now }
+    requires order { IsOrderOf (module_of design.now).assignments order.now }
     requires store { IsStore (module_of design.now).declarations values.old.items banks.now }
     ensures store { IsStore (module_of design.now).declarations values.new.items banks.now }
+    ensures settled { nets_of values.new.items ≡ evaluated (picked (module_of design.now).assignments order.now) (memories_of banks.now) (nets_of values.old.items) }
 {
     let assignments = design.assignments.as_slice();
     for k in order {
@@ -31,6 +35,7 @@ pub fn set_inputs(design: &Module, ports: &[usize], inputs: &[u128], values: &mu
     requires fit { FitInputs (module_of design.now) inputs.now }
     requires store { IsStore (module_of design.now).declarations values.old.items banks.now }
     ensures store { IsStore (module_of design.now).declarations values.new.items banks.now }
+    ensures set { nets_of values.new.items ≡ with_inputs ports.now inputs.now (nets_of values.old.items) }
 {
     for (i, port) in ports.iter().enumerate() {
         values[*port] = inputs[i];

@@ -1,10 +1,10 @@
 //! An order in which each assignment can be evaluated once.
 
-ghost use Rattle.std.specs.Prelude.{◌≡◌, ◌<◌, length, map, IfOk, OnOk};
-ghost use Rattle.std.specs.List.{AllByRecursion};
+ghost use Rattle.std.specs.Prelude.{◌≡◌, ◌<◌, length, map, replicate, false, IfOk, OnOk};
+ghost use Rattle.std.specs.List.{AllByRecursion, list_any};
 ghost use Rattle.gl_verilog.specs.View.{expr_of, assignment_of, module_of};
 ghost use Rattle.gl_verilog.specs.Order.{EachRead};
-ghost use Rattle.gl_sim.specs.Ordering.{is_known, AreNets, IsPlacing};
+ghost use Rattle.gl_sim.specs.Ordering.{is_known, AreNets, IsPlacing, IsOrderOf, IsStuck, StuckAt, FewerOr, marked};
 ghost use Rattle.gl_verilog.specs.Runnable.{IsRunnable};
 
 use gl_bits::Memory;
@@ -41,9 +41,13 @@ fn try_place(
     requires within { k < length assignments.now }
     requires placing { IsPlacing (map assignment_of assignments.now) (length waiting.old.items) waiting.old.items order.old.items }
     ensures placing { OnOk result (IsPlacing (map assignment_of assignments.now) (length waiting.old.items) waiting.new.items order.new.items) }
+    ensures progress { OnOk result (FewerOr waiting.old.items waiting.new.items (StuckAt waiting.old.items (map assignment_of assignments.now) k)) }
 {
     let assignment = &assignments[k];
-    if !waiting[assignment.target] || !is_ready(&assignment.value, waiting) {
+    if !waiting[assignment.target] {
+        return Ok(());
+    }
+    if !is_ready(&assignment.value, waiting) {
         return Ok(());
     }
     if order.push(k).is_err() {
@@ -62,6 +66,7 @@ fn place_ready(
     requires nets { AreNets (length waiting.old.items) (map assignment_of assignments.now) }
     requires placing { IsPlacing (map assignment_of assignments.now) (length waiting.old.items) waiting.old.items order.old.items }
     ensures placing { OnOk result (IsPlacing (map assignment_of assignments.now) (length waiting.old.items) waiting.new.items order.new.items) }
+    ensures progress { OnOk result (FewerOr waiting.old.items waiting.new.items (AllByRecursion (IsStuck waiting.old.items) (map assignment_of assignments.now))) }
 {
     for k in 0..assignments.len() {
         try_place(assignments, k, waiting, order)?;
@@ -72,7 +77,7 @@ fn place_ready(
 // The nets that assignments drive, marked.
 fn driven(alloc: Global, count: usize, assignments: &[Assignment]) -> Result<Vec<bool>, Memory>
     requires { AreNets count (map assignment_of assignments.now) }
-    ensures { IfOk result (λ v. length v.items ≡ count) }
+    ensures { IfOk result (λ v. v.items ≡ marked (map assignment_of assignments.now) (replicate count false)) }
 {
     let mut waiting = match vec![in alloc; false; count] {
         Ok(waiting) => waiting,
@@ -84,18 +89,24 @@ fn driven(alloc: Global, count: usize, assignments: &[Assignment]) -> Result<Vec
     Ok(waiting)
 }
 
+// Whether some net waits.
+fn any_waits(waiting: &[bool]) -> bool
+    ensures { result ≡ list_any (λ w. w) waiting.now }
+{
+    waiting.iter().any(|waits| *waits)
+}
+
 /// The numbers of the assignments in an order in which each reads only nets that are known by then.
+/// It passes over the text until all have their place, so a text in such an order takes one pass.
 pub fn order_of(alloc: Global, design: &Module) -> Result<Vec<usize>, Memory>
     requires { IsRunnable (module_of design.now) }
-    ensures in_range { IfOk result (λ v. AllByRecursion (λ k. k < length (module_of design.now).assignments) v.items) }
+    ensures { IfOk result (λ v. IsOrderOf (module_of design.now).assignments v.items) }
 {
     let assignments = design.assignments.as_slice();
     let mut waiting = driven(alloc, design.declarations.len(), assignments)?;
     let mut order = Vec::new(alloc);
-    for _ in 0..assignments.len() {
-        if order.len() < assignments.len() {
-            place_ready(assignments, &mut waiting, &mut order)?;
-        }
+    'passes: while any_waits(&waiting) {
+        place_ready(assignments, &mut waiting, &mut order)?;
     }
     Ok(order)
 }

@@ -1,10 +1,15 @@
 //! A module and what it holds.
 
-ghost use Rattle.std.specs.Prelude.{◌≡◌, ◌<◌, length, slice_index, IfOk};
+ghost use Rattle.std.specs.Prelude.{◌≡◌, ℕ, ◌+◌, ◌<◌, length, slice_index, IfOk};
 ghost use Rattle.gl_verilog.specs.View.{module_of};
-ghost use Rattle.gl_verilog.specs.Runnable.{IsRunnable, FitInputs};
+ghost use Rattle.gl_verilog.specs.Runnable.{IsRunnable, FitInputs, HasInputs};
+ghost use Rattle.gl_verilog.specs.Module.{Nets, Memories};
+ghost use Rattle.gl_verilog.specs.Run.{IsRun};
+ghost use Rattle.gl_sim.specs.Simulation.{IsAt, Shows};
+ghost use Rattle.gl_sim.specs.Starts.{StartsFrom};
 
 use crate::cycle::{keep, set_inputs, settle};
+use crate::draw::begin;
 use crate::edge::clock;
 use crate::order::order_of;
 use crate::room::{banks_of, ports_of, updates_of, zeros};
@@ -48,6 +53,8 @@ impl Sim {
     pub fn new(alloc: Global, design: Module, start: Start) -> Result<Sim, Memory>
         requires { IsRunnable (module_of design) }
         ensures design { IfOk result (λ s. s.design ≡ design) }
+        ensures started { IfOk result (λ s. (value : ℕ → Nets) (word : ℕ → Memories) → StartsFrom start (module_of design) value word → IsAt s value word 0) }
+        ensures shown { IfOk result (λ s. (port : ℕ) → slice_index s.shown port ≡ 0) }
     {
         let order = order_of(alloc, &design)?;
         let declarations = design.declarations.as_slice();
@@ -56,6 +63,7 @@ impl Sim {
         let shown = zeros(alloc, declarations.len())?;
         let mut banks = banks_of(alloc, declarations)?;
         let waiting = updates_of(alloc, design.blocks.as_slice())?;
+        begin(&design, start, &mut values, &mut banks);
         Ok(Sim {
             design,
             order,
@@ -73,6 +81,10 @@ impl Sim {
     pub fn step(&mut self, inputs: &[u128])
         requires { FitInputs (module_of self.old.design) inputs.now }
         ensures design { self.new.design ≡ self.old.design }
+
+        // A run that holds the same registers and words, and has these inputs in its cycle t, is
+        // followed through that cycle.
+        ensures follows { (value : ℕ → Nets) (word : ℕ → Memories) (t : ℕ) → IsRun (module_of self.old.design) value word → IsAt self.old value word t → HasInputs (module_of self.old.design) (value t) inputs.now → Shows self.new (value t) × IsAt self.new value word (t + 1) }
     {
         set_inputs(&self.design, &self.ports, inputs, &mut self.values, &self.banks);
         settle(&self.design, &self.order, &mut self.values, &self.banks);

@@ -8,12 +8,12 @@ use Rattle.std.proofs.lemmas.List.Sorted.{IsPermutation-sym}
 use Rattle.gl_verilog.specs.Module.{Declaration, Kind, Input, OutputWire, OutputRegister, Wire, Register, Memory, Assignment, Module, Nets, Memories, Statement, Nothing, Put, Write, Both, If, value_of, later_or, taken, assigned, assigned_by, written_by}
 use Rattle.gl_verilog.specs.Run.{Fit, IsRun, IsRegister, IsSettled}
 use Rattle.gl_verilog.specs.Widths.{IsNet, IsDriven, IsReadable, is_clock, KeepsWidth, words_in, width_of}
-use Rattle.gl_verilog.specs.Order.{IsUndriven}
+use Rattle.gl_verilog.specs.Order.{IsUndriven, evaluated}
 use Rattle.gl_verilog.specs.Runnable.{IsRunnable, SameNets, SameState, SameInputs, RunsAgree, RunsFrom, HasRuns, LeavesAlone, KeepsStart}
 use Rattle.gl_verilog.proofs.Fits.{Found, found_in}
 use Rattle.gl_verilog.proofs.Stores.{same_item}
 use Rattle.gl_verilog.proofs.Edges.{Alike, FitsIn, unwrap_fits, assigned_by-alike, written_by-alike, assigned_by_fits, written_by_fits}
-use Rattle.gl_verilog.proofs.Settles.{settles_one_way, each_in_order, evaluated, evaluated-undriven, evaluated-fits, evaluated-settled}
+use Rattle.gl_verilog.proofs.Settles.{settles_one_way, each_in_order, evaluated-undriven, evaluated-fits, evaluated-settled}
 
 -- ---- two runs agree
 
@@ -26,7 +26,7 @@ is_net Wire h = tt
 is_net (Memory bits) h = absurd h
 
 -- the state behind the edge of two cycles that are alike
-state_alike : (m : Module) (value value' : ℕ → Nets) (word word' : ℕ → Memories) (t : ℕ) → IsRunnable m → IsRun m value word → IsRun m value' word' → Alike m.declarations (value t) (value' t) (word t) (word' t) → SameState m.declarations (value t) (word t) (value' t) (word' t) → SameState m.declarations (value (t + 1)) (word (t + 1)) (value' (t + 1)) (word' (t + 1))
+pub state_alike : (m : Module) (value value' : ℕ → Nets) (word word' : ℕ → Memories) (t : ℕ) → IsRunnable m → IsRun m value word → IsRun m value' word' → Alike m.declarations (value t) (value' t) (word t) (word' t) → SameState m.declarations (value t) (word t) (value' t) (word' t) → SameState m.declarations (value (t + 1)) (word (t + 1)) (value' (t + 1)) (word' (t + 1))
 state_alike m value value' word word' t h run run' a s = record {
   registers = λ n d e r. run.registers t n d e r ∙ rw (assigned_by-alike m.declarations (value t) (value' t) (word t) (word' t) m.blocks n a h.blocks, s.registers n d e r) (sym (run'.registers t n d e r));
   words = λ k d at e lt. run.memories t k at ∙ rw (written_by-alike m.declarations (value t) (value' t) (word t) (word' t) m.blocks k at a h.blocks, s.words k d at e lt) (sym (run'.memories t k at));
@@ -129,13 +129,13 @@ set_with-fits ds regs ins m m' f g = λ n d e. (either n d (holds_register (slic
     either n d false p q = q
 
 -- what is no wire is driven by no assignment
-undriven : (ds : List Declaration) (o : List Assignment) (n : ℕ) (d : Declaration) → AllByRecursion (KeepsWidth ds) o → slice_get ds n ≡ Some d → (IsDriven d.kind → ⊥) → IsUndriven o n
+pub undriven : (ds : List Declaration) (o : List Assignment) (n : ℕ) (d : Declaration) → AllByRecursion (KeepsWidth ds) o → slice_get ds n ≡ Some d → (IsDriven d.kind → ⊥) → IsUndriven o n
 undriven ds [] n d h e no' = tt
 undriven ds (a ∷ rest) n d h e no' =
     let c = found_in (slice_get ds a.target) (λ d. IsDriven d.kind × (width_of ds a.value ≡ d.width)) h.0.0 in
     ((λ same. no' (subst (λ (x : Declaration). IsDriven x.kind) (same_item ds n c.item d (subst (λ i. slice_get ds i ≡ Some c.item) same c.is) e) c.fact.0)), undriven ds rest n d h.1 e no')
 
-register_undriven : (k : Kind) → IsRegister k → IsDriven k → ⊥
+pub register_undriven : (k : Kind) → IsRegister k → IsDriven k → ⊥
 register_undriven OutputRegister r d = d
 register_undriven Register r d = d
 register_undriven Input r d = d

@@ -9,7 +9,7 @@ use Rattle.std.proofs.lemmas.List.Sorted.{All-permutation, IsPermutation-sym}
 use Rattle.gl_verilog.specs.Module.{Declaration, Kind, Input, OutputWire, OutputRegister, Wire, Register, Memory, Assignment, Module, Nets, Memories, Expr, Net, Literal, Invert, Binary, Choose, Join, Select, Read, value_of}
 use Rattle.gl_verilog.specs.Run.{Fit, IsRegister, IsSettled}
 use Rattle.gl_verilog.specs.Widths.{HasSize, IsNet, IsDriven, IsReadable, is_clock, width_of, KeepsWidths, KeepsWidth, words_in}
-use Rattle.gl_verilog.specs.Order.{EachRead, IsUndriven, IsOrdered, CanBeOrdered}
+use Rattle.gl_verilog.specs.Order.{EachRead, IsUndriven, IsOrdered, CanBeOrdered, with_net, evaluated}
 use Rattle.gl_verilog.specs.Runnable.{IsRunnable, SameNets, SameState, SameInputs, SettlesOneWay, Settles}
 use Rattle.gl_verilog.proofs.Fits.{Found, found_in, value_fits}
 use Rattle.gl_verilog.proofs.Stores.{same_item}
@@ -86,7 +86,7 @@ same_more ds v v' a rest here s = λ n d e r u. elim (eqb_tells a.target n) [
   | inr other ↦ s n d e r (other.1, u)
 ]
 
-settle_same : (ds : List Declaration) (v v' : Nets) (m m' : Memories) (o : List Assignment) → Fit ds v m → SameWords ds m m' → AllByRecursion (KeepsWidth ds) o → IsOrdered o → IsSettled o v m → IsSettled o v' m' → SameUndriven ds o v v' → SameUndriven ds [] v v'
+pub settle_same : (ds : List Declaration) (v v' : Nets) (m m' : Memories) (o : List Assignment) → Fit ds v m → SameWords ds m m' → AllByRecursion (KeepsWidth ds) o → IsOrdered o → IsSettled o v m → IsSettled o v' m' → SameUndriven ds o v v' → SameUndriven ds [] v v'
 settle_same ds v v' m m' [] f w h i s s' u = u
 settle_same ds v v' m m' (a ∷ rest) f w h i s s' u =
     settle_same ds v v' m m' rest f w h.1 i.2 s.1 s'.1
@@ -117,20 +117,11 @@ settles_one_way m h = λ v v' words words' fit s s' inputs state n d e r.
 
 -- ---- one way at least
 
--- the net has this value, all others as before
-abbrev pub with_net : Nets → ℕ → ℕ → Nets
-with_net v t x = λ n. cond (nat_eq t n) x (v n)
-
 pub with_net-same : (v : Nets) (t x : ℕ) → with_net v t x t ≡ x
 with_net-same v t x = elim (eqb_tells t t) [ inl same ↦ rw same.0 refl | inr other ↦ absurd (other.1 refl) ]
 
 pub with_net-other : (v : Nets) (t x n : ℕ) → t ≢ n → with_net v t x n ≡ v n
 with_net-other v t x n ne = elim (eqb_tells t n) [ inl same ↦ absurd (ne same.1) | inr other ↦ rw other.0 refl ]
-
--- the assignments evaluated once each, in order
-abbrev pub evaluated : List Assignment → Memories → Nets → Nets
-evaluated [] m v = v
-evaluated (a ∷ rest) m v = evaluated rest m (with_net v a.target (value_of v m a.value))
 
 pub evaluated-undriven : (o : List Assignment) (m : Memories) (v : Nets) (n : ℕ) → IsUndriven o n → evaluated o m v n ≡ v n
 evaluated-undriven [] m v n u = refl

@@ -1,8 +1,8 @@
 -- Assignments in an order in which each can be evaluated once.
-use Rattle.std.specs.Prelude.{◌≢◌, ℕ, List, [], ◌∷◌}
+use Rattle.std.specs.Prelude.{◌≢◌, ℕ, nat_eq, if◌then◌else◌, List, [], ◌∷◌}
 use Rattle.std.specs.List.{AllByRecursion}
 use Rattle.std.specs.List.Sorted.{IsPermutation}
-use Rattle.gl_verilog.specs.Module.{Expr, Net, Literal, Invert, Binary, Choose, Join, Select, Read, Assignment}
+use Rattle.gl_verilog.specs.Module.{Expr, Net, Literal, Invert, Binary, Choose, Join, Select, Read, Assignment, Nets, Memories, value_of}
 
 -- P holds of each net that an expression reads; a memory is none
 abbrev pub EachRead : (ℕ → Type 0) → Expr → Type 0
@@ -29,3 +29,12 @@ pub record CanBeOrdered (assignments : List Assignment) : Type 0 where
   pub order : List Assignment
   pub same : IsPermutation assignments order
   pub ordered : IsOrdered order
+
+-- the net has this value, all others as before
+abbrev pub with_net : Nets → ℕ → ℕ → Nets
+with_net v t x = λ n. if nat_eq t n then x else v n
+
+-- the assignments evaluated once each, in this order
+abbrev pub evaluated : List Assignment → Memories → Nets → Nets
+evaluated [] m v = v
+evaluated (a ∷ rest) m v = evaluated rest m (with_net v a.target (value_of v m a.value))

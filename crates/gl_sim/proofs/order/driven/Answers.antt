@@ -7,5 +7,5 @@ use Rattle.gl_sim.proofs.order.driven.Goals as goal
 pub index_mut-requires : goal.index_mut-requires
 index_mut-requires c =
     let nets = holds_at (λ a. (a.target < c.args.count) × EachRead (λ n. n < c.args.count) a.value) assignment_of c.args.assignments.now c.loop-assignment.assignment-index c.assignment-item.result c.requires c.loop-assignment-test.true c.assignment-item.is in
-    let size = c.loop-assignment.invariant in
+    let size = c.loop-assignment.invariant.size in
     search (rules, nets.0)

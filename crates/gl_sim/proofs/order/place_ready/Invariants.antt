@@ -1,7 +1,10 @@
 use Rattle.std.proofs.Common.{◌≡◌, length, map}
 use Rattle.gl_verilog.specs.View.{assignment_of}
-use Rattle.gl_sim.specs.Ordering.{IsPlacing}
+use Rattle.gl_sim.specs.Ordering.{IsPlacing, FewerOr, StuckBelow}
 use Rattle.gl_sim.proofs.order.place_ready.Given as goal
 
 abbrev pub invariant-loop-k : goal.invariant-loop-k
-invariant-loop-k l = IsPlacing (map assignment_of l.assignments) (length l.initial.waiting.items) l.waiting.items l.order.items
+invariant-loop-k l = record {
+  placing : IsPlacing (map assignment_of l.assignments) (length l.initial.waiting.items) l.waiting.items l.order.items;
+  progress : FewerOr l.initial.waiting.items l.waiting.items (StuckBelow l.initial.waiting.items (map assignment_of l.assignments) l.k);
+}
