@@ -3,3 +3,11 @@ pub mod Steps
 pub mod ReadExpressions
 pub mod ReadStatements
 pub mod ReadModules
+pub mod Fits
+pub mod Stores
+pub mod Chains
+pub mod Edges
+pub mod Settles
+pub mod Runs
+pub mod Acyclic
+pub mod Pieces

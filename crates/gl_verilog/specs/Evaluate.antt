@@ -1,6 +1,8 @@
 -- Values and words that lists hold, and where an expression can be evaluated over them.
-use Rattle.std.specs.Prelude.{ℕ, ◌+◌, ◌*◌, ◌^◌, ◌<◌, ◌≤◌, List, [], length, slice_index, slice_index_or}
-use Rattle.gl_verilog.specs.Module.{Expr, Net, Literal, Invert, Binary, Choose, Join, Select, Read, Nets, Memories, value_of}
+use Rattle.std.specs.Prelude.{◌≡◌, Some, slice_get, ℕ, ◌+◌, ◌*◌, ◌^◌, ◌<◌, ◌≤◌, List, [], length, slice_index, slice_index_or}
+use Rattle.gl_verilog.specs.Module.{Declaration, Expr, Net, Literal, Invert, Binary, Choose, Join, Select, Read, Nets, Memories, value_of}
+use Rattle.gl_verilog.specs.Run.{Fit}
+use Rattle.gl_verilog.specs.Widths.{words_in}
 
 -- the value of each net, by its number
 abbrev pub nets_of : List ℕ → Nets
@@ -20,3 +22,10 @@ CanEvaluate vs bs (Choose test yes' no') = CanEvaluate vs bs test × CanEvaluate
 CanEvaluate vs bs (Join low_width high low) = (low_width < 128) × (value_of (nets_of vs) (memories_of bs) high * 2 ^ low_width + value_of (nets_of vs) (memories_of bs) low < 2 ^ 128) × CanEvaluate vs bs high × CanEvaluate vs bs low
 CanEvaluate vs bs (Select high low n) = (n < length vs) × (low ≤ high) × (high < 128)
 CanEvaluate vs bs (Read memory address) = (memory < length bs) × (value_of (nets_of vs) (memories_of bs) address < length (slice_index_or bs memory [])) × (value_of (nets_of vs) (memories_of bs) address < 2 ^ 64) × CanEvaluate vs bs address
+
+-- the lists hold a value for each declaration, which fits its width, and each word of each memory
+pub record IsStore (ds : List Declaration) (values : List ℕ) (banks : List (List ℕ)) : Type 0 where
+  pub nets : length values ≡ length ds
+  pub memories : length banks ≡ length ds
+  pub words : (k : ℕ) (d : Declaration) → slice_get ds k ≡ Some d → length (slice_index_or banks k []) ≡ words_in d.kind
+  pub fits : Fit ds (nets_of values) (memories_of banks)

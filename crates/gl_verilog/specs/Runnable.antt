@@ -1,9 +1,9 @@
 -- The modules that have a run from any start and any inputs, and only one.
-use Rattle.std.specs.Prelude.{◌≡◌, ◌≢◌, ℕ, ◌+◌, ◌^◌, ◌<◌, ◌≤◌, Bool, true, false, List, [], ◌∷◌, Some, length, slice_get, if◌then◌else◌, not, ◌&&◌}
+use Rattle.std.specs.Prelude.{◌≡◌, ◌≢◌, ℕ, ◌+◌, ◌^◌, ◌<◌, Bool, true, false, List, [], ◌∷◌, Some, slice_get, if◌then◌else◌, not, ◌&&◌}
 use Rattle.std.specs.List.{AllByRecursion, AllZip}
-use Rattle.gl_verilog.specs.Module.{Kind, Input, Declaration, Assignment, Module, Nets, Memories}
+use Rattle.gl_verilog.specs.Module.{Kind, Input, Declaration, Module, Nets, Memories, Statement, Nothing, Put, Write, Both, If}
 use Rattle.gl_verilog.specs.Run.{IsRun, IsRegister, IsSettled, Fit}
-use Rattle.gl_verilog.specs.Widths.{HasSize, IsNet, IsDriven, IsReadable, KeepsWidth, KeepsWidthsIn, is_clock, width_at, words_in}
+use Rattle.gl_verilog.specs.Widths.{HasSize, IsDriven, IsReadable, KeepsWidth, KeepsWidthsIn, is_clock, width_at, words_in}
 use Rattle.gl_verilog.specs.Order.{IsUndriven, CanBeOrdered}
 
 -- widths are kept, every net that an assignment may drive has one, and no net depends on itself through assignments
@@ -74,3 +74,15 @@ pub record RunsFrom (m : Module) (start : Nets) (words : Memories) (inputs : ℕ
 -- there is a run from any start and any inputs that fit
 abbrev pub HasRuns : Module → Type 0
 HasRuns m = (start : Nets) (words : Memories) (inputs : ℕ → Nets) → Fit m.declarations start words → ((t : ℕ) → Fit m.declarations (inputs t) words) → RunsFrom m start words inputs
+
+-- a statement assigns no value to the register
+abbrev pub LeavesAlone : ℕ → Statement → Type 0
+LeavesAlone r Nothing = Unit {0}
+LeavesAlone r (Put register value) = register ≢ r
+LeavesAlone r (Write memory address value) = Unit {0}
+LeavesAlone r (Both first second) = LeavesAlone r first × LeavesAlone r second
+LeavesAlone r (If test yes' no') = LeavesAlone r yes' × LeavesAlone r no'
+
+-- a register that no block assigns keeps its start in every run
+abbrev pub KeepsStart : Module → Type 0
+KeepsStart m = (value : ℕ → Nets) (word : ℕ → Memories) → IsRun m value word → (r : ℕ) (d : Declaration) → slice_get m.declarations r ≡ Some d → IsRegister d.kind → AllByRecursion (LeavesAlone r) m.blocks → (t : ℕ) → value t r ≡ value 0 r

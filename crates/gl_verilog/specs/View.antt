@@ -1,5 +1,5 @@
 -- The module that a value of the program stands for: its tree, without where the parts lie in memory.
-use Rattle.std.specs.Prelude.{map}
+use Rattle.std.specs.Prelude.{List, [], ◌∷◌, map}
 use Rattle.gl_verilog.specs.Module as spec
 use Rattle.gl_verilog.specs.declared.module.Kind.{Kind}
 use Rattle.gl_verilog.specs.declared.module.Kind.TheVariants as kind_is
@@ -70,3 +70,8 @@ module_of m = record {
   assignments = map assignment_of m.assignments;
   blocks = map statement_of m.blocks;
 }
+
+-- the chain of a list of statements
+abbrev pub chained : List Statement → spec.Statement
+chained [] = spec.Nothing
+chained (s ∷ rest) = spec.Both (statement_of s) (chained rest)

@@ -3,11 +3,12 @@
 
 pub mod bank;
 pub mod evaluation;
-pub mod law;
+pub mod laws;
 pub mod module;
+pub mod texts;
 
 pub use bank::Bank;
-pub use evaluation::evaluate;
+pub use evaluation::{evaluate, mask};
 pub use module::{Assignment, BinaryOp, Declaration, Expr, Kind, Module, Statement};
 
 /// The most bits of a word.

@@ -1,0 +1,4 @@
+pub mod Simulation
+pub mod Updates
+pub mod Starts
+pub mod Ordering

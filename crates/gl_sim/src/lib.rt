@@ -1,0 +1,15 @@
+//! Runs a module cycle by cycle.
+#![tactic(auto)]
+
+pub mod cycle;
+pub mod draw;
+pub mod edge;
+pub mod order;
+pub mod room;
+pub mod simulator;
+pub mod start;
+pub mod update;
+
+pub use simulator::Sim;
+pub use start::Start;
+pub use update::Update;
