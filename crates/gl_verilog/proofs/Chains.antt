@@ -1,5 +1,5 @@
 -- A list of statements is the chain of its items.
-use Rattle.std.proofs.Common.{◌≡◌, List, [], ◌∷◌, Vec, Global, refl, ap, ◌∙◌}
+use Rattle.std.proofs.Common.{◌≡◌, List, Vec, Global, refl, ap, ◌∙◌}
 use mathlib.Core.Former.{Count}
 use Rattle.gl_verilog.specs.Module as spec
 use Rattle.gl_verilog.specs.declared.module.Statement.{Statement, Block, Block', Row_of-Statement, end_of-Statement, more_of-Statement, items-the_row-Statement, items_hidden-the_row-Statement-0}

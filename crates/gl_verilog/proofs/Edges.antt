@@ -1,15 +1,15 @@
 -- What statements assign and write: it fits, and it is the same where the nets and the words are.
-use Rattle.std.proofs.Common.{◌≡◌, ◌≢◌, ℕ, zero, suc, ◌+◌, ◌^◌, ◌<◌, ◌≤◌, Bool, true, false, List, [], ◌∷◌, Option, Some, None, map, refl, sym, ◌∙◌, ap, subst, arith, rules, length, unwrap_or, nat_eq, cond, inl, inr}
-use Rattle.std.specs.Prelude.{slice_get, IsSomeAnd, IsTrue}
+use Rattle.std.proofs.Common.{◌≡◌, ℕ, ◌^◌, ◌<◌, Bool, true, false, List, [], ◌∷◌, Option, Some, None, refl, sym, ◌∙◌, ap, subst, unwrap_or, nat_eq, cond, inl, inr}
+use Rattle.std.specs.Prelude.{slice_get, IsTrue}
 use Rattle.std.specs.List.{AllByRecursion}
 use Rattle.std.proofs.lemmas.Bool.Decides.{eqb_tells}
-use Rattle.gl_verilog.specs.Module.{Declaration, Nets, Memories, Expr, Net, Literal, Invert, Binary, Choose, Join, Select, Read, Statement, Nothing, Put, Write, Both, If, value_of, binary_of, later_or, taken, assigned, written, assigned_by, written_by}
-use Rattle.gl_bits.specs.Words.{not_of, join_of, cut_of, choose_of}
+use Rattle.gl_verilog.specs.Module.{Declaration, Nets, Memories, Expr, Net, Literal, Invert, Binary, Choose, Join, Select, Read, Statement, Nothing, Put, Write, Both, If, value_of, later_or, taken, assigned, written, assigned_by, written_by}
+use Rattle.gl_bits.specs.Words.{not_of, cut_of}
 use Rattle.gl_verilog.specs.Run.{Fit, IsRegister}
-use Rattle.gl_verilog.specs.Widths.{HasSize, IsReadable, IsMemory, width_of, KeepsWidths, KeepsWidthsIn, words_in}
+use Rattle.gl_verilog.specs.Widths.{IsReadable, IsMemory, width_of, KeepsWidths, KeepsWidthsIn, words_in}
 use Rattle.gl_verilog.specs.Order.{EachRead}
-use Rattle.gl_verilog.specs.Runnable.{SameNets, SameState}
-use Rattle.gl_verilog.proofs.Fits.{Found, found_in, value_fits, memory_words}
+use Rattle.gl_verilog.specs.Runnable.{SameNets}
+use Rattle.gl_verilog.proofs.Fits.{found_in, value_fits, memory_words}
 use Rattle.gl_verilog.proofs.Stores.{same_item}
 
 -- ---- what is assigned and written fits

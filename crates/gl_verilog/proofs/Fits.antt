@@ -1,8 +1,8 @@
 -- The value of an expression fits its width.
-use Rattle.std.proofs.Common.{◌≡◌, ◌≢◌, ℕ, zero, suc, ◌+◌, ◌-◌, ◌*◌, ◌/◌, ◌%◌, ◌^◌, ◌<◌, ◌≤◌, Bool, true, false, cond, List, [], ◌∷◌, Option, Some, None, bit_and, bit_or, bit_xor, nat_eq, nat_lt, nat_le, refl, sym, ◌∙◌, ap, subst, arith, rules, length}
-use Rattle.std.specs.Prelude.{slice_get, slice_index_or, slice_index, IsSomeAnd, IsTrue}
+use Rattle.std.proofs.Common.{◌≡◌, ℕ, zero, suc, ◌+◌, ◌-◌, ◌*◌, ◌/◌, ◌^◌, ◌<◌, ◌≤◌, Bool, true, false, cond, List, [], ◌∷◌, Option, Some, None, nat_eq, nat_lt, nat_le, refl, sym, ◌∙◌, ap, subst, arith, length}
+use Rattle.std.specs.Prelude.{slice_get, slice_index_or, IsSomeAnd, IsTrue}
 use Rattle.std.specs.List.{AllByRecursion}
-use Rattle.std.proofs.lemmas.Nat.{pow_pos, pow-add, mod_below, and_le_l, or_lt, xor_lt, mul-add-lt, pow_below}
+use Rattle.std.proofs.lemmas.Nat.{pow_pos, pow-add, mod_below, and_le_l, or_lt, xor_lt, mul-add-lt}
 use Rattle.std.proofs.Math.Nat.{pow-le-pow_right}
 use Rattle.gl_bits.specs.Words.{IsWidth, sum_of, difference_of, product_of, not_of, join_of, cut_of, eq_of, lt_of, le_of, bit, choose_of}
 use Rattle.gl_verilog.specs.Module.{Declaration, Kind, Memory, BinaryOp, Add, Sub, Mul, And, Xor, Or, Eq, Ne, Lt, Le, Gt, Ge, Expr, Net, Literal, Invert, Binary, Choose, Join, Select, Read, Nets, Memories, value_of, binary_of}
@@ -103,6 +103,7 @@ is_width ds (Binary op width left right) s h = after op (subst IsWidth h.0 (is_w
   where
     one : IsWidth 1
     one = record { some' = omega arith; most = omega arith }
+
     after : (op : BinaryOp) → IsWidth width → IsWidth (width_after op width)
     after Add w = w
     after Sub w = w

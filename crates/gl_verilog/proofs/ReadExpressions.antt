@@ -1,10 +1,10 @@
 -- An expression that is spelled is read again.
-use Rattle.std.proofs.Common.{◌≡◌, ℕ, suc, ◌+◌, ◌-◌, ◌<◌, ◌≤◌, Bool, true, false, cond, List, [], ◌∷◌, ◌++◌, Option, Some, None, max, refl, sym, ap, ◌∙◌, append_assoc, arith}
+use Rattle.std.proofs.Common.{◌≡◌, ℕ, ◌+◌, ◌-◌, ◌<◌, ◌≤◌, List, [], ◌∷◌, ◌++◌, Some, refl, sym, ap, ◌∙◌, append_assoc, arith}
 use Rattle.std.proofs.lemmas.Bool.{le-leb, lt-leb}
-use Rattle.gl_verilog.specs.Tokens.{Token, Name, Number, Sized, Mark, Sign, OpenParen, CloseParen, OpenBracket, CloseBracket, OpenBrace, CloseBrace, Comma, Colon, Question, Tilde, Exclamation}
+use Rattle.gl_verilog.specs.Tokens.{Token, Name, Number, Sized, Mark, OpenParen, CloseParen, OpenBracket, CloseBracket, OpenBrace, CloseBrace, Comma, Colon, Question}
 use Rattle.gl_verilog.specs.Written.{PrefixOp, BitNot, LogicalNot, InfixOp, Times, Added, Subtracted, Below, AtMost, Above, AtLeast, Equal, NotEqual, BitAnd, BitXor, BitOr, LogicalAnd, LogicalOr, WrittenExpr, Named, Constant, BitOf, PartOf, WordOf, Braces, Parts, Parens, Prefix, Infix, Conditional, looseness, level, IsGrouped, prefix_token, infix_token, spell_expr}
 use Rattle.gl_verilog.specs.Limits.{depth_of, operators_of}
-use Rattle.gl_verilog.specs.Machine.{State, Frame, InParens, InBraces, InIndex, PrefixOf, InfixOf, TestOf, ColonOf, AssignTo, UpdateTo, AddressFor, UpdateWordTo, IfTest, ThenOf, ElseOf, InBegin, BodyOf, Stage, AtIndex, AtPlace, WantLow, AtPart, step, reduce, parts_of, at_infix, Open}
+use Rattle.gl_verilog.specs.Machine.{State, Frame, InParens, InBraces, InIndex, PrefixOf, InfixOf, TestOf, ColonOf, AssignTo, UpdateTo, AddressFor, UpdateWordTo, IfTest, ThenOf, ElseOf, InBegin, BodyOf, AtIndex, AtPlace, WantLow, AtPart, step, reduce, parts_of, Open}
 use Rattle.gl_verilog.proofs.Steps.{steps, steps-one, steps-same, wanting, having}
 
 -- what is still open at an expression's end, and its last operand
@@ -93,7 +93,6 @@ reduce-waits (Parens a) p fs g le = refl
 reduce-waits (Prefix op a) p fs g le = reduce-waits a p (PrefixOf op ∷ fs) g.1 (omega (arith, g.0)) ∙ reduce-prefix p op fs a
 reduce-waits (Infix op l r) p fs g le = reduce-waits r p (InfixOf op l ∷ fs) g.3 (omega (arith, g.1)) ∙ reduce-infix p op l fs r le
 reduce-waits (Conditional c x y) p fs g le = reduce-waits y p (ColonOf c x ∷ fs) g.5 (omega (arith, g.2)) ∙ reduce-colon p c x fs y le
-
 
 -- ---- single steps
 
@@ -337,12 +336,12 @@ reads (Braces a) = both_ways (Braces a) (omega arith) (λ s fs k o rest lv g b d
 reads (Parts a c) = record {
   alone = λ s fs k o rest lv g b d m i. absurd (omega (arith, lv));
   in_braces = λ s fs k o done rest g d m i.
-    ap (steps (wanting s (InBraces done ∷ fs) (k + 1) o)) (append_assoc (spell_expr a) (Mark Comma ∷ spell_expr c) (Mark CloseBrace ∷ rest))
-    ∙ (reads a).alone s (InBraces done ∷ fs) (k + 1) o (Mark Comma ∷ (spell_expr c ++ Mark CloseBrace ∷ rest)) g.0 g.1 tt (omega (arith, d)) (omega (arith, m)) i
-    ∙ steps-one _ _ (Mark Comma) (spell_expr c ++ Mark CloseBrace ∷ rest) (at-comma s (waits a (InBraces done ∷ fs)) fs (k + 1) (o + operators_of a) done (last_of a) a (reduce-waits a 11 (InBraces done ∷ fs) g.1 g.0 ∙ reduce-braces done fs a)) (omega (arith, d)) (omega (arith, m)) i
-    ∙ (reads c).in_braces s fs k (o + operators_of a) (done ++ a ∷ []) rest g.2 (omega (arith, d)) (omega (arith, m)) i
-    ∙ ap (λ (x : ℕ). steps (having s fs k x (Braces (parts_of (done ++ a ∷ []) c))) rest) (let z : o + operators_of a + operators_of c ≡ o + (operators_of a + operators_of c) = omega arith in z)
-    ∙ ap (λ (x : WrittenExpr). steps (having s fs k (o + (operators_of a + operators_of c)) (Braces x)) rest) (parts_of-append done a c);
+      ap (steps (wanting s (InBraces done ∷ fs) (k + 1) o)) (append_assoc (spell_expr a) (Mark Comma ∷ spell_expr c) (Mark CloseBrace ∷ rest))
+      ∙ (reads a).alone s (InBraces done ∷ fs) (k + 1) o (Mark Comma ∷ (spell_expr c ++ Mark CloseBrace ∷ rest)) g.0 g.1 tt (omega (arith, d)) (omega (arith, m)) i
+      ∙ steps-one _ _ (Mark Comma) (spell_expr c ++ Mark CloseBrace ∷ rest) (at-comma s (waits a (InBraces done ∷ fs)) fs (k + 1) (o + operators_of a) done (last_of a) a (reduce-waits a 11 (InBraces done ∷ fs) g.1 g.0 ∙ reduce-braces done fs a)) (omega (arith, d)) (omega (arith, m)) i
+      ∙ (reads c).in_braces s fs k (o + operators_of a) (done ++ a ∷ []) rest g.2 (omega (arith, d)) (omega (arith, m)) i
+      ∙ ap (λ (x : ℕ). steps (having s fs k x (Braces (parts_of (done ++ a ∷ []) c))) rest) (let z : o + operators_of a + operators_of c ≡ o + (operators_of a + operators_of c) = omega arith in z)
+      ∙ ap (λ (x : WrittenExpr). steps (having s fs k (o + (operators_of a + operators_of c)) (Braces x)) rest) (parts_of-append done a c);
 }
 reads (Parens a) = both_ways (Parens a) (omega arith) (λ s fs k o rest lv g b d m i.
     steps-one _ _ (Mark OpenParen) ((spell_expr a ++ Mark CloseParen ∷ []) ++ rest) (want-paren s fs k o) (omega (arith, d)) (omega (arith, m)) i

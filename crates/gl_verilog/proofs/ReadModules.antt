@@ -1,14 +1,14 @@
 -- A module that is spelled is read again, so no text has two modules.
-use Rattle.std.proofs.Common.{◌≡◌, ℕ, ◌+◌, ◌-◌, ◌≤◌, Bool, true, false, List, [], ◌∷◌, ◌++◌, Option, Some, None, Result, Ok, Err, length, max, refl, sym, ap, ◌∙◌, append_assoc, arith}
+use Rattle.std.proofs.Common.{◌≡◌, ℕ, ◌+◌, ◌≤◌, List, [], ◌∷◌, ◌++◌, Some, None, Result, Ok, refl, sym, ap, ◌∙◌, append_assoc, arith}
 use Rattle.std.specs.List.{AllByRecursion}
 use Rattle.std.proofs.lemmas.List.{append-nil}
-use Rattle.gl_verilog.specs.Tokens.{Token, Reserved, Name, Number, Mark, Keyword, ModuleWord, EndModuleWord, WireWord, RegWord, AssignWord, AlwaysWord, PosedgeWord, Sign, OpenParen, CloseParen, OpenBracket, CloseBracket, Semicolon, Comma, Colon, At, Equals, tokens_of}
-use Rattle.gl_verilog.specs.Written.{WrittenExpr, IsExpr, level, IsGrouped, spell_expr, WrittenStatement, IsStatement, spell_statement, Direction, In, InWire, Out, OutWire, OutReg, Range, WrittenPort, WrittenItem, Wires, Registers, MemoryOf, Assign, Always, WrittenModule, spell_range, spell_port, spell_ports, spell_more_ports, spell_names, spell_more_names, spell_item, spell_items, spell, IsNonempty, IsItem, IsWritten, zero_digit}
-use Rattle.gl_verilog.specs.Limits.{depth_of, operators_of, depth_in, ifs_in, AreShort, KeepsLimits, IsWithinLimits}
-use Rattle.gl_verilog.specs.Machine.{State, Frame, AssignTo, BodyOf, Sort, WireSort, RegisterSort, Owner, OfPort, OfItem, Stage, WantModule, WantPort, AfterPort, AfterName, WantItem, WantEquals, HaveStatement, Complete, step, reduce, item_of, at_end, Open, start, finish, run, or_fault, Fault, Syntax}
-use Rattle.gl_verilog.proofs.Steps.{steps, steps-one, steps-nil, steps-same, run-steps, wanting, having}
-use Rattle.gl_verilog.proofs.ReadExpressions.{waits, last_of, opened, reduce-waits, IsRead, reads}
-use Rattle.gl_verilog.proofs.ReadStatements.{holds, final_of, settled_at, end-holds, stating, stated, IsReadAs, reads_statement}
+use Rattle.gl_verilog.specs.Tokens.{Token, Reserved, Name, Number, Mark, ModuleWord, EndModuleWord, WireWord, RegWord, AssignWord, AlwaysWord, PosedgeWord, OpenParen, CloseParen, OpenBracket, CloseBracket, Semicolon, Comma, Colon, At, Equals}
+use Rattle.gl_verilog.specs.Written.{WrittenExpr, IsExpr, spell_expr, WrittenStatement, spell_statement, Direction, In, InWire, Out, OutWire, OutReg, Range, WrittenPort, WrittenItem, Wires, Registers, MemoryOf, Assign, Always, WrittenModule, spell_range, spell_port, spell_ports, spell_more_ports, spell_more_names, spell_item, spell_items, spell, IsNonempty, IsItem, IsWritten, zero_digit}
+use Rattle.gl_verilog.specs.Limits.{depth_of, operators_of, ifs_in, KeepsLimits, IsWithinLimits}
+use Rattle.gl_verilog.specs.Machine.{State, Frame, AssignTo, BodyOf, Sort, WireSort, RegisterSort, Stage, WantPort, AfterPort, AfterName, WantItem, Complete, step, reduce, item_of, at_end, start, run, Fault}
+use Rattle.gl_verilog.proofs.Steps.{steps, steps-one, steps-same, run-steps, wanting, having}
+use Rattle.gl_verilog.proofs.ReadExpressions.{waits, last_of, opened, reduce-waits, reads}
+use Rattle.gl_verilog.proofs.ReadStatements.{holds, final_of, settled_at, end-holds, stating, stated, reads_statement}
 use Rattle.gl_verilog.specs.Module.{Module}
 use Rattle.gl_verilog.specs.Resolve.{resolve}
 use Rattle.gl_verilog.specs.Text.{HasModule}

@@ -1,11 +1,11 @@
 -- A statement that is spelled is read again.
-use Rattle.std.proofs.Common.{◌≡◌, ℕ, ◌+◌, ◌-◌, ◌≤◌, Bool, true, false, List, [], ◌∷◌, ◌++◌, Option, Some, None, max, refl, sym, ap, ◌∙◌, append_assoc, arith}
-use Rattle.gl_verilog.specs.Tokens.{Token, Reserved, Name, Mark, Keyword, BeginWord, EndWord, IfWord, ElseWord, Sign, OpenParen, CloseParen, OpenBracket, CloseBracket, Semicolon, LessEquals}
-use Rattle.gl_verilog.specs.Written.{WrittenExpr, level, IsGrouped, IsExpr, spell_expr, WrittenStatement, Update, UpdateWord, IfThen, IfElse, Block, Listed, Ended, ends_open, Place, Single, InBlock, IsStatementAt, spell_statement}
+use Rattle.std.proofs.Common.{◌≡◌, ℕ, ◌+◌, ◌-◌, ◌≤◌, false, List, [], ◌∷◌, ◌++◌, Some, refl, sym, ap, ◌∙◌, append_assoc, arith}
+use Rattle.gl_verilog.specs.Tokens.{Token, Reserved, Name, Mark, BeginWord, EndWord, IfWord, ElseWord, OpenParen, CloseParen, OpenBracket, CloseBracket, Semicolon, LessEquals}
+use Rattle.gl_verilog.specs.Written.{WrittenExpr, IsExpr, spell_expr, WrittenStatement, Update, UpdateWord, IfThen, IfElse, Block, Listed, Ended, ends_open, Single, InBlock, IsStatementAt, spell_statement}
 use Rattle.gl_verilog.specs.Limits.{depth_of, operators_of, IsShort, depth_in, ifs_in, AreShort}
-use Rattle.gl_verilog.specs.Machine.{State, Frame, UpdateTo, AddressFor, UpdateWordTo, IfTest, ThenOf, ElseOf, InBegin, Stage, WantStatement, AfterTarget, WantArrow, WantTest, HaveStatement, WantOperand, step, reduce, at_else, at_end, listed, Open}
+use Rattle.gl_verilog.specs.Machine.{State, Frame, UpdateTo, AddressFor, UpdateWordTo, IfTest, ThenOf, ElseOf, InBegin, WantStatement, AfterTarget, WantArrow, WantTest, HaveStatement, step, reduce, at_else, at_end, listed, Open}
 use Rattle.gl_verilog.proofs.Steps.{steps, steps-one, steps-same, wanting, having}
-use Rattle.gl_verilog.proofs.ReadExpressions.{waits, last_of, opened, reduce-waits, IsRead, reads}
+use Rattle.gl_verilog.proofs.ReadExpressions.{waits, last_of, opened, reduce-waits, reads}
 
 -- what is still open at a statement's end, and its last part
 abbrev pub holds : WrittenStatement → List Frame → List Frame
@@ -244,66 +244,66 @@ pub record IsReadAs (st : WrittenStatement) : Type 0 where
 pub reads_statement : (st : WrittenStatement) → IsReadAs st
 reads_statement (Update n e) = record {
   single = λ s fs k i rest g d m o.
-    steps-one _ _ (Name n) (Mark LessEquals ∷ ((spell_expr e ++ Mark Semicolon ∷ []) ++ rest)) (state-name s fs k i n) (omega (arith, d)) (omega arith) (omega (arith, m))
-    ∙ steps-one _ _ (Mark LessEquals) ((spell_expr e ++ Mark Semicolon ∷ []) ++ rest) (target-arrow s fs k i n) (omega (arith, d)) (omega arith) (omega (arith, m))
-    ∙ ap (steps (wanting (at_ifs s i) (UpdateTo n ∷ fs) k 0)) (append_assoc (spell_expr e) (Mark Semicolon ∷ []) rest)
-    ∙ read-update s fs k i n e rest g d (omega (arith, m)) o
-    ∙ ap (λ (j : ℕ). steps (stated s fs k j (Update n e)) rest) (let z : i ≡ i + 0 = omega arith in z);
+      steps-one _ _ (Name n) (Mark LessEquals ∷ ((spell_expr e ++ Mark Semicolon ∷ []) ++ rest)) (state-name s fs k i n) (omega (arith, d)) (omega arith) (omega (arith, m))
+      ∙ steps-one _ _ (Mark LessEquals) ((spell_expr e ++ Mark Semicolon ∷ []) ++ rest) (target-arrow s fs k i n) (omega (arith, d)) (omega arith) (omega (arith, m))
+      ∙ ap (steps (wanting (at_ifs s i) (UpdateTo n ∷ fs) k 0)) (append_assoc (spell_expr e) (Mark Semicolon ∷ []) rest)
+      ∙ read-update s fs k i n e rest g d (omega (arith, m)) o
+      ∙ ap (λ (j : ℕ). steps (stated s fs k j (Update n e)) rest) (let z : i ≡ i + 0 = omega arith in z);
   in_block = λ s fs k i done rest g d m o. absurd g;
 }
 reads_statement (UpdateWord n a e) = record {
   single = λ s fs k i rest g d m o.
-    steps-one _ _ (Name n) (Mark OpenBracket ∷ ((spell_expr a ++ Mark CloseBracket ∷ Mark LessEquals ∷ (spell_expr e ++ Mark Semicolon ∷ [])) ++ rest)) (state-name s fs k i n) (omega (arith, d)) (omega arith) (omega (arith, m))
-    ∙ steps-one _ _ (Mark OpenBracket) ((spell_expr a ++ Mark CloseBracket ∷ Mark LessEquals ∷ (spell_expr e ++ Mark Semicolon ∷ [])) ++ rest) (target-index s fs k i n) (omega (arith, d)) (omega arith) (omega (arith, m))
-    ∙ ap (steps (wanting (at_ifs s i) (AddressFor n ∷ fs) (k + 1) 0)) (append_assoc (spell_expr a) (Mark CloseBracket ∷ Mark LessEquals ∷ (spell_expr e ++ Mark Semicolon ∷ [])) rest)
-    ∙ read-address s fs k i n a (Mark LessEquals ∷ ((spell_expr e ++ Mark Semicolon ∷ []) ++ rest)) g.0 (omega (arith, d)) (omega (arith, m)) o.0
-    ∙ steps-one _ _ (Mark LessEquals) ((spell_expr e ++ Mark Semicolon ∷ []) ++ rest) (word-arrow s fs k i n a) (omega (arith, d)) (omega arith) (omega (arith, m))
-    ∙ ap (steps (wanting (at_ifs s i) (UpdateWordTo n a ∷ fs) k 0)) (append_assoc (spell_expr e) (Mark Semicolon ∷ []) rest)
-    ∙ read-word s fs k i n a e rest g.1 (omega (arith, d)) (omega (arith, m)) o.1
-    ∙ ap (λ (j : ℕ). steps (stated s fs k j (UpdateWord n a e)) rest) (let z : i ≡ i + 0 = omega arith in z);
+      steps-one _ _ (Name n) (Mark OpenBracket ∷ ((spell_expr a ++ Mark CloseBracket ∷ Mark LessEquals ∷ (spell_expr e ++ Mark Semicolon ∷ [])) ++ rest)) (state-name s fs k i n) (omega (arith, d)) (omega arith) (omega (arith, m))
+      ∙ steps-one _ _ (Mark OpenBracket) ((spell_expr a ++ Mark CloseBracket ∷ Mark LessEquals ∷ (spell_expr e ++ Mark Semicolon ∷ [])) ++ rest) (target-index s fs k i n) (omega (arith, d)) (omega arith) (omega (arith, m))
+      ∙ ap (steps (wanting (at_ifs s i) (AddressFor n ∷ fs) (k + 1) 0)) (append_assoc (spell_expr a) (Mark CloseBracket ∷ Mark LessEquals ∷ (spell_expr e ++ Mark Semicolon ∷ [])) rest)
+      ∙ read-address s fs k i n a (Mark LessEquals ∷ ((spell_expr e ++ Mark Semicolon ∷ []) ++ rest)) g.0 (omega (arith, d)) (omega (arith, m)) o.0
+      ∙ steps-one _ _ (Mark LessEquals) ((spell_expr e ++ Mark Semicolon ∷ []) ++ rest) (word-arrow s fs k i n a) (omega (arith, d)) (omega arith) (omega (arith, m))
+      ∙ ap (steps (wanting (at_ifs s i) (UpdateWordTo n a ∷ fs) k 0)) (append_assoc (spell_expr e) (Mark Semicolon ∷ []) rest)
+      ∙ read-word s fs k i n a e rest g.1 (omega (arith, d)) (omega (arith, m)) o.1
+      ∙ ap (λ (j : ℕ). steps (stated s fs k j (UpdateWord n a e)) rest) (let z : i ≡ i + 0 = omega arith in z);
   in_block = λ s fs k i done rest g d m o. absurd g;
 }
 reads_statement (IfThen c a) = record {
   single = λ s fs k i rest g d m o.
-    ap (λ (x : List Token). steps (stating s fs k i) (Reserved IfWord ∷ Mark OpenParen ∷ x)) (append_assoc (spell_expr c) (Mark CloseParen ∷ spell_statement a) rest)
-    ∙ read-test s fs k i c (spell_statement a ++ rest) g.0 (omega (arith, d)) (omega (arith, m)) o.0
-    ∙ (reads_statement a).single s (ThenOf c ∷ fs) k (i + 1) rest g.1 (omega (arith, d)) (omega (arith, m)) o.1
-    ∙ ap (λ (j : ℕ). steps (stated s (holds a (ThenOf c ∷ fs)) k j (final_of a)) rest) (let z : i + 1 + ifs_in a ≡ i + (ifs_in a + 1) = omega arith in z);
+      ap (λ (x : List Token). steps (stating s fs k i) (Reserved IfWord ∷ Mark OpenParen ∷ x)) (append_assoc (spell_expr c) (Mark CloseParen ∷ spell_statement a) rest)
+      ∙ read-test s fs k i c (spell_statement a ++ rest) g.0 (omega (arith, d)) (omega (arith, m)) o.0
+      ∙ (reads_statement a).single s (ThenOf c ∷ fs) k (i + 1) rest g.1 (omega (arith, d)) (omega (arith, m)) o.1
+      ∙ ap (λ (j : ℕ). steps (stated s (holds a (ThenOf c ∷ fs)) k j (final_of a)) rest) (let z : i + 1 + ifs_in a ≡ i + (ifs_in a + 1) = omega arith in z);
   in_block = λ s fs k i done rest g d m o. absurd g;
 }
 reads_statement (IfElse c a b) = record {
   single = λ s fs k i rest g d m o.
-    ap (λ (x : List Token). steps (stating s fs k i) (Reserved IfWord ∷ Mark OpenParen ∷ x)) (append_assoc (spell_expr c) (Mark CloseParen ∷ (spell_statement a ++ Reserved ElseWord ∷ spell_statement b)) rest)
-    ∙ read-test s fs k i c ((spell_statement a ++ Reserved ElseWord ∷ spell_statement b) ++ rest) g.0 (omega (arith, d)) (omega (arith, m)) o.0
-    ∙ ap (steps (stating s (ThenOf c ∷ fs) k (i + 1))) (append_assoc (spell_statement a) (Reserved ElseWord ∷ spell_statement b) rest)
-    ∙ (reads_statement a).single s (ThenOf c ∷ fs) k (i + 1) (Reserved ElseWord ∷ (spell_statement b ++ rest)) g.2 (omega (arith, d)) (omega (arith, m)) o.1
-    ∙ steps-one _ _ (Reserved ElseWord) (spell_statement b ++ rest) (take-else s (holds a (ThenOf c ∷ fs)) (ElseOf c a ∷ fs) k (i + 1 + ifs_in a) (final_of a) (else-holds a (ThenOf c ∷ fs) g.1 ∙ else-then c fs a)) (omega (arith, d)) (omega arith) (omega (arith, m))
-    ∙ (reads_statement b).single s (ElseOf c a ∷ fs) k (i + 1 + ifs_in a) rest g.3 (omega (arith, d)) (omega (arith, m)) o.2
-    ∙ ap (λ (j : ℕ). steps (stated s (holds b (ElseOf c a ∷ fs)) k j (final_of b)) rest) (let z : i + 1 + ifs_in a + ifs_in b ≡ i + (ifs_in a + ifs_in b + 1) = omega arith in z);
+      ap (λ (x : List Token). steps (stating s fs k i) (Reserved IfWord ∷ Mark OpenParen ∷ x)) (append_assoc (spell_expr c) (Mark CloseParen ∷ (spell_statement a ++ Reserved ElseWord ∷ spell_statement b)) rest)
+      ∙ read-test s fs k i c ((spell_statement a ++ Reserved ElseWord ∷ spell_statement b) ++ rest) g.0 (omega (arith, d)) (omega (arith, m)) o.0
+      ∙ ap (steps (stating s (ThenOf c ∷ fs) k (i + 1))) (append_assoc (spell_statement a) (Reserved ElseWord ∷ spell_statement b) rest)
+      ∙ (reads_statement a).single s (ThenOf c ∷ fs) k (i + 1) (Reserved ElseWord ∷ (spell_statement b ++ rest)) g.2 (omega (arith, d)) (omega (arith, m)) o.1
+      ∙ steps-one _ _ (Reserved ElseWord) (spell_statement b ++ rest) (take-else s (holds a (ThenOf c ∷ fs)) (ElseOf c a ∷ fs) k (i + 1 + ifs_in a) (final_of a) (else-holds a (ThenOf c ∷ fs) g.1 ∙ else-then c fs a)) (omega (arith, d)) (omega arith) (omega (arith, m))
+      ∙ (reads_statement b).single s (ElseOf c a ∷ fs) k (i + 1 + ifs_in a) rest g.3 (omega (arith, d)) (omega (arith, m)) o.2
+      ∙ ap (λ (j : ℕ). steps (stated s (holds b (ElseOf c a ∷ fs)) k j (final_of b)) rest) (let z : i + 1 + ifs_in a + ifs_in b ≡ i + (ifs_in a + ifs_in b + 1) = omega arith in z);
   in_block = λ s fs k i done rest g d m o. absurd g;
 }
 reads_statement (Block l) = record {
   single = λ s fs k i rest g d m o.
-    steps-one _ _ (Reserved BeginWord) ((spell_statement l ++ Reserved EndWord ∷ []) ++ rest) (state-begin s fs k i) (omega (arith, d)) (omega arith) (omega (arith, m))
-    ∙ ap (steps (stating s (InBegin [] ∷ fs) (k + 1) i)) (append_assoc (spell_statement l) (Reserved EndWord ∷ []) rest)
-    ∙ (reads_statement l).in_block s fs k i [] rest g (omega (arith, d)) m o;
+      steps-one _ _ (Reserved BeginWord) ((spell_statement l ++ Reserved EndWord ∷ []) ++ rest) (state-begin s fs k i) (omega (arith, d)) (omega arith) (omega (arith, m))
+      ∙ ap (steps (stating s (InBegin [] ∷ fs) (k + 1) i)) (append_assoc (spell_statement l) (Reserved EndWord ∷ []) rest)
+      ∙ (reads_statement l).in_block s fs k i [] rest g (omega (arith, d)) m o;
   in_block = λ s fs k i done rest g d m o. absurd g;
 }
 reads_statement (Listed a b) = record {
   single = λ s fs k i rest g d m o. absurd g;
   in_block = λ s fs k i done rest g d m o.
-    ap (steps (stating s (InBegin done ∷ fs) (k + 1) i)) (append_assoc (spell_statement a) (spell_statement b) (Reserved EndWord ∷ rest))
-    ∙ (reads_statement a).single s (InBegin done ∷ fs) (k + 1) i (spell_statement b ++ Reserved EndWord ∷ rest) g.0 (omega (arith, d)) (omega (arith, m)) o.0
-    ∙ goes_on b s (holds a (InBegin done ∷ fs)) fs (k + 1) (i + ifs_in a) done (final_of a) a rest g.1 (end-holds a (InBegin done ∷ fs) ∙ end-begin done fs a)
-    ∙ (reads_statement b).in_block s fs k (i + ifs_in a) (done ++ a ∷ []) rest g.1 (omega (arith, d)) (omega (arith, m)) o.1
-    ∙ ap (λ (j : ℕ). steps (stated s fs k j (Block (onto (done ++ a ∷ []) b))) rest) (let z : i + ifs_in a + ifs_in b ≡ i + (ifs_in a + ifs_in b) = omega arith in z)
-    ∙ ap (λ (l : WrittenStatement). steps (stated s fs k (i + (ifs_in a + ifs_in b)) (Block l)) rest) (onto-append done a b);
+      ap (steps (stating s (InBegin done ∷ fs) (k + 1) i)) (append_assoc (spell_statement a) (spell_statement b) (Reserved EndWord ∷ rest))
+      ∙ (reads_statement a).single s (InBegin done ∷ fs) (k + 1) i (spell_statement b ++ Reserved EndWord ∷ rest) g.0 (omega (arith, d)) (omega (arith, m)) o.0
+      ∙ goes_on b s (holds a (InBegin done ∷ fs)) fs (k + 1) (i + ifs_in a) done (final_of a) a rest g.1 (end-holds a (InBegin done ∷ fs) ∙ end-begin done fs a)
+      ∙ (reads_statement b).in_block s fs k (i + ifs_in a) (done ++ a ∷ []) rest g.1 (omega (arith, d)) (omega (arith, m)) o.1
+      ∙ ap (λ (j : ℕ). steps (stated s fs k j (Block (onto (done ++ a ∷ []) b))) rest) (let z : i + ifs_in a + ifs_in b ≡ i + (ifs_in a + ifs_in b) = omega arith in z)
+      ∙ ap (λ (l : WrittenStatement). steps (stated s fs k (i + (ifs_in a + ifs_in b)) (Block l)) rest) (onto-append done a b);
 }
 reads_statement Ended = record {
   single = λ s fs k i rest g d m o. absurd g;
   in_block = λ s fs k i done rest g d m o.
-    steps-one _ _ (Reserved EndWord) rest (state-end s fs (k + 1) i done) (omega (arith, d)) (omega arith) (omega (arith, m))
-    ∙ ap (λ (j : ℕ). steps (stated s fs j i (Block (listed done))) rest) (let z : k + 1 - 1 ≡ k = omega arith in z)
-    ∙ ap (λ (j : ℕ). steps (stated s fs k j (Block (listed done))) rest) (let z : i ≡ i + 0 = omega arith in z)
-    ∙ ap (λ (l : WrittenStatement). steps (stated s fs k (i + 0) (Block l)) rest) (onto-ended done);
+      steps-one _ _ (Reserved EndWord) rest (state-end s fs (k + 1) i done) (omega (arith, d)) (omega arith) (omega (arith, m))
+      ∙ ap (λ (j : ℕ). steps (stated s fs j i (Block (listed done))) rest) (let z : k + 1 - 1 ≡ k = omega arith in z)
+      ∙ ap (λ (j : ℕ). steps (stated s fs k j (Block (listed done))) rest) (let z : i ≡ i + 0 = omega arith in z)
+      ∙ ap (λ (l : WrittenStatement). steps (stated s fs k (i + 0) (Block l)) rest) (onto-ended done);
 }

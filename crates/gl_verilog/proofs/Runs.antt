@@ -1,10 +1,10 @@
 -- Laws of runs.
-use Rattle.std.proofs.Common.{◌≡◌, ◌≢◌, ℕ, zero, suc, ◌+◌, ◌^◌, ◌<◌, ◌≤◌, Bool, true, false, List, [], ◌∷◌, Option, Some, None, refl, sym, ◌∙◌, ap, subst, arith, rules, length, unwrap_or, nat_eq, cond, inl, inr, add-one}
-use Rattle.std.specs.Prelude.{slice_get, IsSomeAnd}
+use Rattle.std.proofs.Common.{◌≡◌, ℕ, zero, suc, ◌+◌, ◌^◌, ◌<◌, Bool, true, false, List, [], ◌∷◌, Option, Some, None, refl, sym, ◌∙◌, subst, unwrap_or, nat_eq, cond, inl, inr, add-one}
+use Rattle.std.specs.Prelude.{slice_get}
 use Rattle.std.specs.List.{AllByRecursion}
-use Rattle.std.specs.List.Sorted.{IsPermutation}
 use Rattle.std.proofs.lemmas.Bool.Decides.{eqb_tells}
 use Rattle.std.proofs.lemmas.List.Sorted.{IsPermutation-sym}
+<<<<<<< HEAD
 use Rattle.gl_verilog.specs.Module.{Declaration, Kind, Input, OutputWire, OutputRegister, Wire, Register, Memory, Assignment, Module, Nets, Memories, Statement, Nothing, Put, Write, Both, If, value_of, later_or, taken, assigned, assigned_by, written_by}
 use Rattle.gl_verilog.specs.Run.{Fit, IsRun, IsRegister, IsSettled}
 use Rattle.gl_verilog.specs.Widths.{IsNet, IsDriven, IsReadable, is_clock, KeepsWidth, words_in, width_of}
@@ -14,6 +14,17 @@ use Rattle.gl_verilog.proofs.Fits.{Found, found_in}
 use Rattle.gl_verilog.proofs.Stores.{same_item}
 use Rattle.gl_verilog.proofs.Edges.{Alike, FitsIn, unwrap_fits, assigned_by-alike, written_by-alike, assigned_by_fits, written_by_fits}
 use Rattle.gl_verilog.proofs.Settles.{settles_one_way, each_in_order, evaluated-undriven, evaluated-fits, evaluated-settled}
+=======
+use Rattle.gl_verilog.specs.Module.{Declaration, Kind, Input, OutputWire, OutputRegister, Wire, Register, Memory, Assignment, Module, Nets, Memories, Statement, Nothing, Put, Write, Both, If, value_of, assigned, assigned_by, written_by}
+use Rattle.gl_verilog.specs.Run.{Fit, IsRun, IsRegister}
+use Rattle.gl_verilog.specs.Widths.{IsNet, IsDriven, KeepsWidth, width_of}
+use Rattle.gl_verilog.specs.Order.{IsUndriven}
+use Rattle.gl_verilog.specs.Runnable.{IsRunnable, SameState, SameInputs, RunsAgree, RunsFrom, HasRuns, LeavesAlone, KeepsStart}
+use Rattle.gl_verilog.proofs.Fits.{found_in}
+use Rattle.gl_verilog.proofs.Stores.{same_item}
+use Rattle.gl_verilog.proofs.Edges.{Alike, unwrap_fits, assigned_by-alike, written_by-alike, assigned_by_fits, written_by_fits}
+use Rattle.gl_verilog.proofs.Settles.{settles_one_way, each_in_order, evaluated, evaluated-undriven, evaluated-fits, evaluated-settled}
+>>>>>>> ea0a4605c2dce7a7c4f40f7e646d9562d8af4ae2
 
 -- ---- two runs agree
 
@@ -38,7 +49,7 @@ states_agree m value value' word word' h run run' start inputs (suc t) =
     let before = states_agree m value value' word word' h run run' start inputs t in
     let nets = settles_one_way m h (value t) (value' t) (word t) (word' t) (run.fits t) (run.settled t) (run'.settled t) (inputs t) before in
     subst (λ u. SameState m.declarations (value u) (word u) (value' u) (word' u)) (add-one t)
-      (state_alike m value value' word word' t h run run' (record { fits = run.fits t; nets = nets; words = before.words }) before)
+    (state_alike m value value' word word' t h run run' (record { fits = run.fits t; nets = nets; words = before.words }) before)
 
 pub runs_agree : (m : Module) → IsRunnable m → RunsAgree m
 runs_agree m h = λ value value' word word' run run' start inputs t.
@@ -69,7 +80,7 @@ keeps_start m = λ value word run r d e reg alone t. steps value word run r d e 
     steps value word run r d e reg alone zero = refl
     steps value word run r d e reg alone (suc t) =
         subst (λ u. value u r ≡ value 0 r) (add-one t)
-          (run.registers t r d e reg ∙ rw (left_alone_by (value t) (word t) m.blocks r alone) (steps value word run r d e reg alone t))
+        (run.registers t r d e reg ∙ rw (left_alone_by (value t) (word t) m.blocks r alone) (steps value word run r d e reg alone t))
 
 -- ---- a run from any start and any inputs
 
@@ -148,6 +159,7 @@ has_runs m h = λ start words inputs fit fits. from_start start words inputs fit
   where
     order : List Assignment
     order = h.ordered.order
+
     kept : AllByRecursion (KeepsWidth m.declarations) h.ordered.order
     kept = each_in_order (KeepsWidth m.declarations) m.assignments h.ordered.order h.ordered.same h.assignments
 
@@ -158,9 +170,10 @@ has_runs m h = λ start words inputs fit fits. from_start start words inputs fit
         let v = settled_with m h.ordered.order (inputs t) s in
         let before = held_fits start inputs f g t in
         let next = clocked m h.ordered.order (inputs t) s in
-        let fit : Fit m.declarations next.registers next.words = λ n d e.
-            (unwrap_fits d.width (assigned_by v s.words m.blocks n) (v n) (assigned_by_fits m.declarations v s.words m.blocks n d before.1 h.blocks e) (before.1 n d e).0,
-              λ at. unwrap_fits d.width (written_by v s.words m.blocks n at) (s.words n at) (written_by_fits m.declarations v s.words m.blocks n at d before.1 h.blocks e) ((before.1 n d e).1 at)) in
+        let fit : Fit m.declarations next.registers next.words = λ n d e. (
+          unwrap_fits d.width (assigned_by v s.words m.blocks n) (v n) (assigned_by_fits m.declarations v s.words m.blocks n d before.1 h.blocks e) (before.1 n d e).0,
+          λ at. unwrap_fits d.width (written_by v s.words m.blocks n at) (s.words n at) (written_by_fits m.declarations v s.words m.blocks n at d before.1 h.blocks e) ((before.1 n d e).1 at),
+        ) in
         (fit, evaluated-fits m.declarations h.ordered.order next.words (set_with m.declarations next.registers (inputs (suc t))) (set_with-fits m.declarations next.registers (inputs (suc t)) next.words start.words fit (g (suc t))) kept)
 
     from_start : (start : Nets) (words : Memories) (inputs : ℕ → Nets) → Fit m.declarations start words → ((t : ℕ) → Fit m.declarations (inputs t) words) → RunsFrom m start words inputs
@@ -169,7 +182,7 @@ has_runs m h = λ start words inputs fit fits. from_start start words inputs fit
         let value : ℕ → Nets = λ t. settled_with m h.ordered.order (inputs t) (s t) in
         let good = held_fits (record { registers = start; words = words }) inputs fit fits in
         let at_register : (t n : ℕ) (d : Declaration) → slice_get m.declarations n ≡ Some d → IsRegister d.kind → value t n ≡ (s t).registers n =
-            λ t n d e r. evaluated-undriven h.ordered.order (s t).words (set_with m.declarations (s t).registers (inputs t)) n (undriven m.declarations h.ordered.order n d kept e (register_undriven d.kind r)) ∙ set_with-register m.declarations (s t).registers (inputs t) n d e r in
+        λ t n d e r. evaluated-undriven h.ordered.order (s t).words (set_with m.declarations (s t).registers (inputs t)) n (undriven m.declarations h.ordered.order n d kept e (register_undriven d.kind r)) ∙ set_with-register m.declarations (s t).registers (inputs t) n d e r in
         record {
           value = value;
           word = λ t. (s t).words;

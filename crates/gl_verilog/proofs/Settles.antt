@@ -1,5 +1,5 @@
 -- Assignments in order settle in exactly one way.
-use Rattle.std.proofs.Common.{◌≡◌, ◌≢◌, ℕ, zero, suc, ◌+◌, ◌^◌, ◌<◌, ◌≤◌, Bool, true, false, List, [], ◌∷◌, Option, Some, None, All, refl, sym, ◌∙◌, ap, subst, arith, rules, length, nat_eq, cond, inl, inr, ◌⊎◌}
+use Rattle.std.proofs.Common.{◌≡◌, ◌≢◌, ℕ, ◌^◌, ◌<◌, List, [], ◌∷◌, Option, Some, None, All, refl, sym, ◌∙◌, ap, subst, nat_eq, cond, inl, inr}
 use Rattle.std.specs.Prelude.{slice_get, IsSomeAnd, IsTrue}
 use Rattle.std.specs.List.{AllByRecursion}
 use Rattle.std.specs.List.Sorted.{IsPermutation}
@@ -8,12 +8,19 @@ use Rattle.std.proofs.lemmas.List.Elements.{All-nil, All-cons, All-head, All-tai
 use Rattle.std.proofs.lemmas.List.Sorted.{All-permutation, IsPermutation-sym}
 use Rattle.gl_verilog.specs.Module.{Declaration, Kind, Input, OutputWire, OutputRegister, Wire, Register, Memory, Assignment, Module, Nets, Memories, Expr, Net, Literal, Invert, Binary, Choose, Join, Select, Read, value_of}
 use Rattle.gl_verilog.specs.Run.{Fit, IsRegister, IsSettled}
+<<<<<<< HEAD
 use Rattle.gl_verilog.specs.Widths.{HasSize, IsNet, IsDriven, IsReadable, is_clock, width_of, KeepsWidths, KeepsWidth, words_in}
 use Rattle.gl_verilog.specs.Order.{EachRead, IsUndriven, IsOrdered, CanBeOrdered, with_net, evaluated}
 use Rattle.gl_verilog.specs.Runnable.{IsRunnable, SameNets, SameState, SameInputs, SettlesOneWay, Settles}
 use Rattle.gl_verilog.proofs.Fits.{Found, found_in, value_fits}
+=======
+use Rattle.gl_verilog.specs.Widths.{IsNet, IsDriven, IsReadable, width_of, KeepsWidths, KeepsWidth}
+use Rattle.gl_verilog.specs.Order.{EachRead, IsUndriven, IsOrdered}
+use Rattle.gl_verilog.specs.Runnable.{IsRunnable, SameState, SameInputs, SettlesOneWay}
+use Rattle.gl_verilog.proofs.Fits.{found_in, value_fits}
+>>>>>>> ea0a4605c2dce7a7c4f40f7e646d9562d8af4ae2
 use Rattle.gl_verilog.proofs.Stores.{same_item}
-use Rattle.gl_verilog.proofs.Edges.{SameWords, value_of-same, reads_same}
+use Rattle.gl_verilog.proofs.Edges.{SameWords, value_of-same}
 
 -- ---- what holds of each holds in any order
 
@@ -75,9 +82,9 @@ SameUndriven ds rest v v' = (n : ℕ) (d : Declaration) → slice_get ds n ≡ S
 pub value_undriven : (ds : List Declaration) (v v' : Nets) (m m' : Memories) (e : Expr) (rest : List Assignment) → Fit ds v m → SameWords ds m m' → SameUndriven ds rest v v' → KeepsWidths ds e → EachRead (IsUndriven rest) e → value_of v m e ≡ value_of v' m' e
 value_undriven ds v v' m m' e rest f w s h r =
     value_of-same ds v v' m m' e f w h
-      (reads_and (λ n. IsSomeAnd (slice_get ds n) IsReadable × IsUndriven rest n) (λ n. v n ≡ v' n) e
-        (λ n p. let d = found_in (slice_get ds n) IsReadable p.0 in s n d.item d.is d.fact p.1)
-        (reads_both (λ n. IsSomeAnd (slice_get ds n) IsReadable) (IsUndriven rest) e (reads_readable ds e h) r))
+    (reads_and (λ n. IsSomeAnd (slice_get ds n) IsReadable × IsUndriven rest n) (λ n. v n ≡ v' n) e
+    (λ n p. let d = found_in (slice_get ds n) IsReadable p.0 in s n d.item d.is d.fact p.1)
+    (reads_both (λ n. IsSomeAnd (slice_get ds n) IsReadable) (IsUndriven rest) e (reads_readable ds e h) r))
 
 -- one assignment more is settled in both
 pub same_more : (ds : List Declaration) (v v' : Nets) (a : Assignment) (rest : List Assignment) → v a.target ≡ v' a.target → SameUndriven ds (a ∷ rest) v v' → SameUndriven ds rest v v'
@@ -90,7 +97,7 @@ pub settle_same : (ds : List Declaration) (v v' : Nets) (m m' : Memories) (o : L
 settle_same ds v v' m m' [] f w h i s s' u = u
 settle_same ds v v' m m' (a ∷ rest) f w h i s s' u =
     settle_same ds v v' m m' rest f w h.1 i.2 s.1 s'.1
-      (same_more ds v v' a rest (s.0 ∙ value_undriven ds v v' m m' a.value (a ∷ rest) f w u h.0.1 i.0 ∙ sym s'.0) u)
+    (same_more ds v v' a rest (s.0 ∙ value_undriven ds v v' m m' a.value (a ∷ rest) f w u h.0.1 i.0 ∙ sym s'.0) u)
 
 -- ---- what is not driven by assignments is an input or a register
 
@@ -108,12 +115,12 @@ undriven_same m v v' words words' o h whole inputs state = λ n d e r u. by_kind
 pub settles_one_way : (m : Module) → IsRunnable m → SettlesOneWay m
 settles_one_way m h = λ v v' words words' fit s s' inputs state n d e r.
     settle_same m.declarations v v' words words' h.ordered.order fit state.words
-      (each_in_order (KeepsWidth m.declarations) m.assignments h.ordered.order h.ordered.same h.assignments)
-      h.ordered.ordered
-      (each_in_order (λ a. v a.target ≡ value_of v words a.value) m.assignments h.ordered.order h.ordered.same s)
-      (each_in_order (λ a. v' a.target ≡ value_of v' words' a.value) m.assignments h.ordered.order h.ordered.same s')
-      (undriven_same m v v' words words' h.ordered.order h (λ n. each_in_order (λ a. a.target ≢ n) h.ordered.order m.assignments (IsPermutation-sym m.assignments h.ordered.order h.ordered.same)) inputs state)
-      n d e r tt
+    (each_in_order (KeepsWidth m.declarations) m.assignments h.ordered.order h.ordered.same h.assignments)
+    h.ordered.ordered
+    (each_in_order (λ a. v a.target ≡ value_of v words a.value) m.assignments h.ordered.order h.ordered.same s)
+    (each_in_order (λ a. v' a.target ≡ value_of v' words' a.value) m.assignments h.ordered.order h.ordered.same s')
+    (undriven_same m v v' words words' h.ordered.order h (λ n. each_in_order (λ a. a.target ≢ n) h.ordered.order m.assignments (IsPermutation-sym m.assignments h.ordered.order h.ordered.same)) inputs state)
+    n d e r tt
 
 -- ---- one way at least
 
@@ -128,13 +135,16 @@ evaluated-undriven [] m v n u = refl
 evaluated-undriven (a ∷ rest) m v n u = evaluated-undriven rest m (with_net v a.target (value_of v m a.value)) n u.1 ∙ with_net-other v a.target (value_of v m a.value) n u.0
 
 pub with_net-fits : (ds : List Declaration) (v : Nets) (m : Memories) (a : Assignment) → Fit ds v m → KeepsWidth ds a → Fit ds (with_net v a.target (value_of v m a.value)) m
-with_net-fits ds v m a f h = λ n d e. (elim (eqb_tells a.target n) [
-  | inl same ↦
-      let c = found_in (slice_get ds a.target) (λ d. IsDriven d.kind × (width_of ds a.value ≡ d.width)) h.0 in
-      let is : c.item ≡ d = same_item ds n c.item d (subst (λ i. slice_get ds i ≡ Some c.item) same.1 c.is) e in
-      rw same.0 (subst (λ w. value_of v m a.value < 2 ^ w) (c.fact.1 ∙ ap (λ (x : Declaration). x.width) is) (value_fits ds v m a.value f h.1))
-  | inr other ↦ rw other.0 (f n d e).0
-], (f n d e).1)
+with_net-fits ds v m a f h = λ n d e. (
+  elim (eqb_tells a.target n) [
+    | inl same ↦
+        let c = found_in (slice_get ds a.target) (λ d. IsDriven d.kind × (width_of ds a.value ≡ d.width)) h.0 in
+        let is : c.item ≡ d = same_item ds n c.item d (subst (λ i. slice_get ds i ≡ Some c.item) same.1 c.is) e in
+        rw same.0 (subst (λ w. value_of v m a.value < 2 ^ w) (c.fact.1 ∙ ap (λ (x : Declaration). x.width) is) (value_fits ds v m a.value f h.1))
+    | inr other ↦ rw other.0 (f n d e).0
+  ],
+  (f n d e).1,
+)
 
 pub evaluated-fits : (ds : List Declaration) (o : List Assignment) (m : Memories) (v : Nets) → Fit ds v m → AllByRecursion (KeepsWidth ds) o → Fit ds (evaluated o m v) m
 evaluated-fits ds [] m v f h = f
@@ -145,7 +155,8 @@ evaluated-settled ds [] m v f h i = tt
 evaluated-settled ds (a ∷ rest) m v f h i =
     let x = value_of v m a.value in
     let w = evaluated rest m (with_net v a.target x) in
-    let kept : SameUndriven ds (a ∷ rest) v w = λ n d e r u. sym (evaluated-undriven rest m (with_net v a.target x) n u.1 ∙ with_net-other v a.target x n u.0) in
-    (evaluated-undriven rest m (with_net v a.target x) a.target i.1 ∙ with_net-same v a.target x
-        ∙ value_undriven ds v w m m a.value (a ∷ rest) f (λ k d at e lt. refl) kept h.0.1 i.0,
-      evaluated-settled ds rest m (with_net v a.target x) (with_net-fits ds v m a f h.0) h.1 i.2)
+    let kept : SameUndriven ds (a ∷ rest) v w = λ n d e r u. sym (evaluated-undriven rest m (with_net v a.target x) n u.1 ∙ with_net-other v a.target x n u.0) in (
+      evaluated-undriven rest m (with_net v a.target x) a.target i.1 ∙ with_net-same v a.target x
+          ∙ value_undriven ds v w m m a.value (a ∷ rest) f (λ k d at e lt. refl) kept h.0.1 i.0,
+      evaluated-settled ds rest m (with_net v a.target x) (with_net-fits ds v m a f h.0) h.1 i.2,
+    )

@@ -1,10 +1,9 @@
 -- Tokens one after the other, within the limits.
-use Rattle.std.proofs.Common.{◌≡◌, ℕ, ◌+◌, ◌-◌, ◌≤◌, Bool, true, false, cond, List, [], ◌∷◌, Option, Some, None, Result, Ok, Err, refl, ap, ◌∙◌, length, suc, arith}
-use Rattle.std.specs.Prelude.{nat_lt, ◌||◌}
+use Rattle.std.proofs.Common.{◌≡◌, ℕ, ◌+◌, ◌≤◌, Bool, true, false, cond, List, [], ◌∷◌, Option, Some, None, refl, ap, ◌∙◌, length, suc, arith}
 use Rattle.std.proofs.lemmas.Bool.{le-ltb}
 use Rattle.gl_verilog.specs.Tokens.{Token}
-use Rattle.gl_verilog.specs.Written.{WrittenExpr, WrittenModule}
-use Rattle.gl_verilog.specs.Machine.{State, Stage, WantOperand, HaveOperand, Frame, step, finish, is_past, run, or_fault, Fault, Syntax}
+use Rattle.gl_verilog.specs.Written.{WrittenExpr}
+use Rattle.gl_verilog.specs.Machine.{State, WantOperand, HaveOperand, Frame, step, finish, is_past, run, or_fault, Syntax}
 
 -- goes on within the limits
 abbrev pub kept : Option State → (State → Option State) → Option State

@@ -1,7 +1,7 @@
 -- What a module costs: the register bits and the memory bits that it declares.
-use Rattle.std.specs.Prelude.{ℕ, ◌*◌, ◌^◌, List}
+use Rattle.std.specs.Prelude.{ℕ, ◌*◌, ◌^◌}
 use Rattle.std.specs.List.{sum_by}
-use Rattle.gl_verilog.specs.Module.{Kind, OutputRegister, Register, Memory, Declaration, Module}
+use Rattle.gl_verilog.specs.Module.{Kind, OutputRegister, Register, Memory, Module}
 
 abbrev pub register_bits_of : Kind → ℕ → ℕ
 register_bits_of OutputRegister width = width

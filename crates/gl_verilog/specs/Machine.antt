@@ -271,20 +271,34 @@ abbrev pub want_test : State → Token → Option State
 want_test s (Mark OpenParen) = bracket s IfTest
 want_test s t = None
 
--- an `else` goes to the nearest `if` that has none
-unfoldable pub at_else : List Frame → WrittenStatement → Option (List Frame)
-at_else (ThenOf test ∷ fs) st = Some (ElseOf test st ∷ fs)
-at_else (ElseOf test yes' ∷ fs) st = at_else fs (IfElse test yes' st)
-at_else fs st = None
-
 abbrev pub Open : Type 0 → Type 0
 Open A = List Frame × A
 
+abbrev pub is_if : Frame → Bool
+is_if (ThenOf test) = true
+is_if (ElseOf test yes') = true
+is_if f = false
+
+-- a statement is the last part of the `if` that it stands in
+abbrev pub if_of : Frame → WrittenStatement → WrittenStatement
+if_of (ThenOf test) st = IfThen test st
+if_of (ElseOf test yes') st = IfElse test yes' st
+if_of f st = st
+
+abbrev pub else_at : Frame → List Frame → WrittenStatement → Option (List Frame) → Option (List Frame)
+else_at (ThenOf test) fs st more = Some (ElseOf test st ∷ fs)
+else_at (ElseOf test yes') fs st more = more
+else_at f fs st more = None
+
+-- an `else` goes to the nearest `if` that has none
+unfoldable pub at_else : List Frame → WrittenStatement → Option (List Frame)
+at_else [] st = None
+at_else (f ∷ fs) st = else_at f fs st (at_else fs (if_of f st))
+
 -- what is behind a statement ends the `if` that it stands in
 unfoldable pub at_end : List Frame → WrittenStatement → Open WrittenStatement
-at_end (ThenOf test ∷ fs) st = at_end fs (IfThen test st)
-at_end (ElseOf test yes' ∷ fs) st = at_end fs (IfElse test yes' st)
-at_end fs st = (fs, st)
+at_end [] st = ([], st)
+at_end (f ∷ fs) st = if is_if f then at_end fs (if_of f st) else (f ∷ fs, st)
 
 abbrev pub after_else : State → Option (List Frame) → Option State
 after_else s None = None
@@ -314,12 +328,23 @@ want_operand s (Mark Tilde) = operator s (PrefixOf BitNot)
 want_operand s (Mark Exclamation) = operator s (PrefixOf LogicalNot)
 want_operand s t = None
 
+-- whether a frame is an operator that binds at least as tight as the level
+abbrev pub binds : ℕ → Frame → Bool
+binds p (PrefixOf op) = true
+binds p (InfixOf op l) = nat_le (looseness op) p
+binds p (ColonOf c x) = nat_le 11 p
+binds p f = false
+
+abbrev pub applied : Frame → WrittenExpr → WrittenExpr
+applied (PrefixOf op) e = Prefix op e
+applied (InfixOf op l) e = Infix op l e
+applied (ColonOf c x) e = Conditional c x e
+applied f e = e
+
 -- applies what binds at least as tight as the level
 unfoldable pub reduce : ℕ → List Frame → WrittenExpr → Open WrittenExpr
-reduce p (PrefixOf op ∷ fs) e = reduce p fs (Prefix op e)
-reduce p (InfixOf op l ∷ fs) e = if nat_le (looseness op) p then reduce p fs (Infix op l e) else (InfixOf op l ∷ fs, e)
-reduce p (ColonOf c x ∷ fs) e = if nat_le 11 p then reduce p fs (Conditional c x e) else (ColonOf c x ∷ fs, e)
-reduce p fs e = (fs, e)
+reduce p [] e = ([], e)
+reduce p (f ∷ fs) e = if binds p f then reduce p fs (applied f e) else (f ∷ fs, e)
 
 abbrev pub at_infix : State → InfixOp → Open WrittenExpr → Option State
 at_infix s op r = operator (record s { frames = r.0 }) (InfixOf op r.1)

@@ -1,9 +1,9 @@
 -- The modules that have a run from any start and any inputs, and only one.
-use Rattle.std.specs.Prelude.{◌≡◌, ◌≢◌, ℕ, ◌+◌, ◌^◌, ◌<◌, ◌≤◌, Bool, true, false, List, [], ◌∷◌, Some, length, slice_get, if◌then◌else◌, not, ◌&&◌}
+use Rattle.std.specs.Prelude.{◌≡◌, ◌≢◌, ℕ, ◌+◌, ◌^◌, ◌<◌, Bool, true, false, List, [], ◌∷◌, Some, slice_get, if◌then◌else◌, not, ◌&&◌}
 use Rattle.std.specs.List.{AllByRecursion, AllZip}
-use Rattle.gl_verilog.specs.Module.{Kind, Input, Declaration, Assignment, Module, Nets, Memories, Statement, Nothing, Put, Write, Both, If}
+use Rattle.gl_verilog.specs.Module.{Kind, Input, Declaration, Module, Nets, Memories, Statement, Nothing, Put, Write, Both, If}
 use Rattle.gl_verilog.specs.Run.{IsRun, IsRegister, IsSettled, Fit}
-use Rattle.gl_verilog.specs.Widths.{HasSize, IsNet, IsDriven, IsReadable, KeepsWidth, KeepsWidthsIn, is_clock, width_at, words_in}
+use Rattle.gl_verilog.specs.Widths.{HasSize, IsDriven, IsReadable, KeepsWidth, KeepsWidthsIn, is_clock, width_at, words_in}
 use Rattle.gl_verilog.specs.Order.{IsUndriven, CanBeOrdered}
 
 -- widths are kept, every net that an assignment may drive has one, and no net depends on itself through assignments

@@ -83,14 +83,18 @@ abbrev pub depends : List Assignment → ℕ → ℕ → Bool
 depends [] t n = false
 depends (a ∷ as') t n = (nat_eq a.target t && mentions a.value n) || depends as' t n
 
--- a net depends on another by way of these
-abbrev pub IsChain : List Assignment → ℕ → List ℕ → ℕ → Type 0
-IsChain assignments t [] n = depends assignments t n ≡ true
-IsChain assignments t (u ∷ us) n = (depends assignments t u ≡ true) × IsChain assignments u us n
+-- one is related to another by way of these
+abbrev pub IsChain : (ℕ → ℕ → Bool) → ℕ → List ℕ → ℕ → Type 0
+IsChain related x [] y = related x y ≡ true
+IsChain related x (u ∷ us) y = (related x u ≡ true) × IsChain related u us y
 
--- no net depends on itself
+-- none is related to itself by way of any
+abbrev pub HasNoCycle : (ℕ → ℕ → Bool) → Type 0
+HasNoCycle related = (n : ℕ) (by_way : List ℕ) → IsChain related n by_way n → ⊥
+
+-- no net depends on itself through assignments
 abbrev pub HasNoLoop : List Assignment → Type 0
-HasNoLoop assignments = (n : ℕ) (by_way : List ℕ) → IsChain assignments n by_way n → ⊥
+HasNoLoop assignments = HasNoCycle (depends assignments)
 
 -- ---- all of it
 

@@ -1,10 +1,10 @@
 -- The widths of expressions, and the expressions, statements and assignments that keep them: the operands of an operator
 -- have one width, so no rule of extension arises. After IEEE 1364-2005, clause 5.4 (expression bit lengths).
-use Rattle.std.specs.Prelude.{◌≡◌, ℕ, ◌+◌, ◌-◌, ◌^◌, ◌<◌, ◌≤◌, Bool, true, false, List, Option, IsSomeAnd, slice_get, codes, IsTrue}
+use Rattle.std.specs.Prelude.{◌≡◌, ℕ, ◌+◌, ◌-◌, ◌^◌, ◌<◌, ◌≤◌, Bool, false, List, IsSomeAnd, slice_get, codes, IsTrue}
 use Rattle.std.specs.Option.{option_map_or}
 use Rattle.std.specs.Str.{bytes_eq}
 use Rattle.gl_bits.specs.Words.{IsWidth}
-use Rattle.gl_verilog.specs.Module.{Kind, Input, OutputWire, OutputRegister, Wire, Register, Memory, Declaration, BinaryOp, Add, Sub, Mul, And, Xor, Or, Eq, Ne, Lt, Le, Gt, Ge, Expr, Net, Literal, Invert, Binary, Choose, Join, Select, Read, Statement, Nothing, Put, Write, Both, If, Assignment}
+use Rattle.gl_verilog.specs.Module.{Kind, OutputWire, Wire, Memory, Declaration, BinaryOp, Add, Sub, Mul, And, Xor, Or, Expr, Net, Literal, Invert, Binary, Choose, Join, Select, Read, Statement, Nothing, Put, Write, Both, If, Assignment}
 use Rattle.gl_verilog.specs.Run.{IsRegister}
 
 -- a kind with one value

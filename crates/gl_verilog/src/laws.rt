@@ -6,23 +6,19 @@ ghost use Rattle.gl_verilog.specs.Runnable.{IsRunnable, SettlesOneWay, RunsAgree
 /// Given its inputs, registers and words, a cycle settles in one way at most.
 pub fn settles_one_way()
     ensures { (m : Design) → IsRunnable m → SettlesOneWay m }
-{
-}
+{}
 
 /// Two runs with the same start and the same inputs are the same, but for the clock.
 pub fn runs_agree()
     ensures { (m : Design) → IsRunnable m → RunsAgree m }
-{
-}
+{}
 
 /// There is a run from any start and any inputs.
 pub fn has_runs()
     ensures { (m : Design) → IsRunnable m → HasRuns m }
-{
-}
+{}
 
 /// A register that no block assigns keeps its start.
 pub fn keeps_start()
     ensures { (m : Design) → KeepsStart m }
-{
-}
+{}
