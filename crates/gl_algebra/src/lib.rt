@@ -2,8 +2,10 @@
 //! of rows.
 #![tactic(auto)]
 
+pub mod figures;
 pub mod node;
 pub mod number;
 
+pub use figures::Figures;
 pub use node::{ColOp, Kinds, Op2, Operand, Operands, Ops, PlanAgg, PlanAggs, PlanNode, Weights};
 pub use number::PlanId;
