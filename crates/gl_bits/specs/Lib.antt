@@ -1,2 +1,5 @@
 pub mod Words
 pub mod Kinds
+pub mod Lists
+pub mod Totals
+pub mod Laws

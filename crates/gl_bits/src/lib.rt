@@ -2,6 +2,7 @@
 #![tactic(auto)]
 
 pub mod kind;
+pub mod laws;
 pub mod listed;
 pub mod row;
 pub mod word;

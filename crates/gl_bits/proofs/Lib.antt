@@ -1,0 +1,4 @@
+pub mod Wrapping
+pub mod Slicing
+pub mod Grouping
+pub mod Interleaving

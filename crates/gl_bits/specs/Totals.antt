@@ -1,0 +1,47 @@
+-- Totals over the values of a column, each a word of one kind. Each is 0 over no values.
+use Rattle.std.specs.Prelude.{ℕ, ◌+◌, ◌*◌, ◌/◌, ◌%◌, ◌^◌, List, [], ◌∷◌, length, map, fold, sum, nat_eq, if◌then◌else◌}
+use Rattle.gl_bits.specs.declared.kind.Kind.{Kind}
+use Rattle.gl_bits.specs.Kinds.{width_of, number_of, is_below}
+
+-- how many, which wraps in 32 bits
+unfoldable pub count_of : {A : Type 0} → List A → ℕ
+count_of xs = length xs % 2 ^ 32
+
+-- the sum, which wraps in the width
+unfoldable pub sum_total : ℕ → List ℕ → ℕ
+sum_total width xs = sum xs % 2 ^ width
+
+-- of two words of a kind the lesser, or the greater, by their numbers
+abbrev pub lesser : Kind → ℕ → ℕ → ℕ
+lesser kind x y = if is_below kind y x then y else x
+
+abbrev pub greater : Kind → ℕ → ℕ → ℕ
+greater kind x y = if is_below kind x y then y else x
+
+-- the least word, by its number
+unfoldable pub least_of : Kind → List ℕ → ℕ
+least_of kind [] = 0
+least_of kind (x ∷ xs) = fold (lesser kind) x xs
+
+-- the greatest word, by its number
+unfoldable pub greatest_of : Kind → List ℕ → ℕ
+greatest_of kind [] = 0
+greatest_of kind (x ∷ xs) = fold (greater kind) x xs
+
+-- the quotient, or 0 where there is nothing to divide by
+abbrev pub quotient_of : ℕ → ℕ → ℕ
+quotient_of top bottom = if nat_eq bottom 0 then 0 else top / bottom
+
+-- the sum of the numbers, in 32 bits more than the width, by their count, in the width
+unfoldable pub average_of : Kind → List ℕ → ℕ
+average_of kind xs = quotient_of (sum (map (number_of kind) xs) % 2 ^ (width_of kind + 32)) (count_of xs) % 2 ^ width_of kind
+
+-- the values by their weights, the oldest first; values past the last weight count 0
+abbrev pub weighted : List ℕ → List ℕ → ℕ
+weighted [] xs = 0
+weighted (n ∷ weights) [] = 0
+weighted (n ∷ weights) (x ∷ xs) = n * x + weighted weights xs
+
+-- their sum, which wraps in the width
+unfoldable pub weighted_sum : ℕ → List ℕ → List ℕ → ℕ
+weighted_sum width weights xs = weighted weights xs % 2 ^ width
