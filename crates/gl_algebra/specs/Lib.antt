@@ -5,3 +5,4 @@ pub mod Fits
 pub mod FigureTable
 pub mod Weights
 pub mod Values
+pub mod Results

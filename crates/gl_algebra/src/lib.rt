@@ -5,7 +5,9 @@
 pub mod figures;
 pub mod node;
 pub mod number;
+pub mod plan;
 
 pub use figures::Figures;
 pub use node::{ColOp, Kinds, Op2, Operand, Operands, Ops, PlanAgg, PlanAggs, PlanNode, Weights};
 pub use number::PlanId;
+pub use plan::Plan;

@@ -1,0 +1,5 @@
+pub mod ListLemmas
+pub mod NodeEquality
+pub mod NodewiseLemmas
+pub mod ShapeLemmas
+pub mod PlanLemmas
