@@ -3,3 +3,4 @@ pub mod NodeEquality
 pub mod NodewiseLemmas
 pub mod ShapeLemmas
 pub mod PlanLemmas
+pub mod SoundLemmas

@@ -89,28 +89,36 @@ union_figures p q = merged (delayed (wait_of p q) p) (delayed (wait_of q p) q)
 abbrev pub is_fixed : Figures → Bool
 is_fixed f = nat_eq f.a f.lt && nat_eq f.lt f.le
 
--- two sides that begin together, side by side: in step where both come a fixed time after their beats, else one row with the end
-abbrev pub joined : Figures → Figures → Figures
-joined p q =
-    if is_fixed p && is_fixed q
-    then record {
-      a = p.a;
-      lt = p.a;
-      le = p.a;
-      nt = p.nt;
-      ne = p.ne;
-      gt = max p.gt q.gt;
-      ge = max p.ge q.ge;
-    }
-    else record {
-      a = p.a + 1;
-      lt = p.a + 1;
-      le = max p.le q.le + 2;
+-- two sides that begin together and come a fixed time after their beats, in step
+abbrev pub in_step : Figures → Figures → Figures
+in_step p q = record {
+  a = p.a;
+  lt = p.a;
+  le = p.a;
+  nt = p.nt;
+  ne = p.ne;
+  gt = max p.gt q.gt;
+  ge = max p.ge q.ge;
+}
+
+-- two sides that begin together and give one row with the end
+abbrev pub at_end : Figures → Figures → Figures
+at_end p q =
+    let a = p.a + 1 in
+    let le = max p.le q.le + 2 in
+    record {
+      a = a;
+      lt = a;
+      le = le;
       nt = 0;
       ne = 1;
       gt = max p.gt q.gt;
-      ge = max (max p.ge q.ge) (max p.le q.le + 2 - (p.a + 1) + 1);
+      ge = max (max p.ge q.ge) (le - a + 1);
     }
+
+-- two sides that begin together, side by side
+abbrev pub joined : Figures → Figures → Figures
+joined p q = if is_fixed p && is_fixed q then in_step p q else at_end p q
 
 abbrev pub beside_figures : Figures → Figures → Figures
 beside_figures p q = joined (delayed (wait_of p q) p) (delayed (wait_of q p) q)
