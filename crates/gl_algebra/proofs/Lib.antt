@@ -4,3 +4,4 @@ pub mod NodewiseLemmas
 pub mod ShapeLemmas
 pub mod PlanLemmas
 pub mod SoundLemmas
+pub mod FigureLemmas

@@ -3,6 +3,7 @@ use Rattle.std.proofs.Common.{◌≡◌, ℕ, Bool, true, false, ◌&&◌, List,
 use Rattle.std.specs.Bool.{Decides}
 use Rattle.std.specs.Cmp.{IsEquivalence, unsigned_Decides}
 use Rattle.std.specs.Cmp.Lexicographic.{pointwise, pointwise_decides}
+use Rattle.gl_algebra.proofs.ListLemmas.{both}
 use Rattle.gl_bits.specs.Words.{Word}
 use Rattle.gl_bits.specs.declared.kind.Kind.{Kind}
 use Rattle.gl_bits.specs.declared.kind.Kind.TheVariants.{Unsigned, Text}
@@ -29,11 +30,6 @@ use Rattle.gl_algebra.specs.declared.node.PlanNode.{PlanNode}
 use Rattle.gl_algebra.specs.declared.node.PlanNode.TheVariants.{Stream, Body, Compute, Select, Project, Aggregate, Union, Beside, Window, Group}
 use Rattle.gl_algebra.specs.contracts.node.PlanNodePartialEq.TheImpl as OfPlanNode
 use Rattle.gl_algebra.specs.contracts.node.PlanNodeEq.TheImpl.Laws as PlanNodeLaws
-
--- both parts of a test that holds
-both : (a b : Bool) → (a && b) ≡ true → (a ≡ true) × (b ≡ true)
-both true b h = (refl, h)
-both false b h = absurd (cc)
 
 -- a test that holds of one thing alone, and of each thing and itself, decides
 decides_from : {K : Type 0} (E : K → K → Bool) → IsEquivalence E → ((x y : K) → E x y ≡ true → x ≡ y) → (x y : K) → Decides (E x y) (x ≡ y)

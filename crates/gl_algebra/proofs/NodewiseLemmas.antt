@@ -15,6 +15,10 @@ agree v w limit same [] below = tt
 agree v w limit same (number ∷ numbers) below =
     (same number (All-head (λ n. n < limit) number numbers below), agree v w limit same numbers (All-tail (λ n. n < limit) number numbers below))
 
+pub agree_self {ℓ} : {A : Type ℓ} (v : ℕ → A) (numbers : List ℕ) → Agree v v numbers
+agree_self v [] = tt
+agree_self v (number ∷ numbers) = (refl, agree_self v numbers)
+
 -- two steps give a node the same value where the nodes that it names have the same values
 abbrev pub SameSteps {ℓ} : {A : Type ℓ} → ((ℕ → A) → PlanNode → A) → ((ℕ → A) → PlanNode → A) → List PlanNode → ℕ → Type ℓ
 SameSteps {A} step step' nodes limit = (number : ℕ) (node : PlanNode) → number < limit → slice_get nodes number ≡ Some node

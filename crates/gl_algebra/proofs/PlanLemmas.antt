@@ -65,3 +65,23 @@ plan-insert nodes node plan fits =
       passes e ↦ rw e plan
     | fails e ↦ rw e (plan-append nodes node plan fits e)
     ]
+
+-- a number below the length has a node
+pub node_at : (nodes : List PlanNode) (number : ℕ) → number < length nodes → (node : PlanNode) × (slice_get nodes number ≡ Some node)
+node_at [] number below = absurd (omega arith)
+node_at (x ∷ xs) zero below = (x, refl)
+node_at (x ∷ xs) (suc number) below = node_at xs number (omega arith)
+
+-- what holds of a node where it holds of all before it holds of every node
+module _ {ℓ} (nodes : List PlanNode) (plan : IsPlan nodes) (P : ℕ → Type ℓ)
+    (next : (number : ℕ) (node : PlanNode) → slice_get nodes number ≡ Some node → Fits nodes number node
+      → ((child : ℕ) → child < number → P child) → P number) where
+
+  below_bound : (bound number : ℕ) → number < bound → number < length nodes → P number
+  below_bound zero number below within = absurd (omega arith)
+  below_bound (suc bound) number below within =
+      let found = node_at nodes number within in
+      next number found.0 found.1 (plan.fits number found.0 found.1) (λ child before. below_bound bound child (omega arith) (omega arith))
+
+  pub by_nodes : (number : ℕ) → number < length nodes → P number
+  by_nodes number within = below_bound (suc number) number (omega arith) within

@@ -1,5 +1,6 @@
 -- When a node fits a plan, and what a plan is.
 use Rattle.std.specs.Prelude.{ℕ, ◌≡◌, ◌≢◌, ◌<◌, ◌≤◌, ◌+◌, ◌-◌, ◌/◌, List, length, slice_get, Some, All, IsTrue}
+use Rattle.std.specs.Int.{div_ceil}
 use Rattle.gl_bits.specs.Kinds.{IsKind}
 use Rattle.gl_algebra.specs.declared.node.PlanNode.{PlanNode}
 use Rattle.gl_algebra.specs.declared.node.PlanNode.TheVariants.{Stream, Body, Compute, Select, Project, Aggregate, Union, Beside, Window, Group}
@@ -14,7 +15,7 @@ pub record IsWithin (limit number : ℕ) : Type 0 where
 
 -- the windows that can be open at once: the size by the advance, rounded up
 abbrev pub copies_of_window : ℕ → ℕ → ℕ
-copies_of_window size advance = (size + (advance - 1)) / advance
+copies_of_window size advance = div_ceil size advance
 
 -- the limits: of a window's size and advance, of its copies, of groups
 abbrev pub most_rows : ℕ

@@ -6,3 +6,4 @@ pub mod FigureTable
 pub mod Weights
 pub mod Values
 pub mod Results
+pub mod Laws

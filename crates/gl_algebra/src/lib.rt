@@ -3,6 +3,7 @@
 #![tactic(auto)]
 
 pub mod figures;
+pub mod laws;
 pub mod node;
 pub mod number;
 pub mod plan;
