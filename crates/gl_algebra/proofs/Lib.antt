@@ -5,3 +5,6 @@ pub mod ShapeLemmas
 pub mod PlanLemmas
 pub mod SoundLemmas
 pub mod FigureLemmas
+pub mod ResultLemmas
+pub mod UniqueLemmas
+pub mod TableLemmas
