@@ -7,3 +7,4 @@ pub mod Weights
 pub mod Values
 pub mod Results
 pub mod Laws
+pub mod Worked

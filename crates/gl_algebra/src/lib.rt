@@ -12,3 +12,6 @@ pub use figures::Figures;
 pub use node::{ColOp, Kinds, Op2, Operand, Operands, Ops, PlanAgg, PlanAggs, PlanNode, Weights};
 pub use number::PlanId;
 pub use plan::Plan;
+
+#[cfg(test)]
+mod tests;
