@@ -8,3 +8,5 @@ pub mod FigureLemmas
 pub mod ResultLemmas
 pub mod UniqueLemmas
 pub mod TableLemmas
+pub mod CallerLemmas
+pub mod EveryNodeLemmas

@@ -8,3 +8,4 @@ pub mod Values
 pub mod Results
 pub mod Laws
 pub mod Worked
+pub mod EveryNode

@@ -1,5 +1,5 @@
 -- What other nodes need to know of a node: its columns, whether it waits for the end, how steadily its rows come, and its leaves.
-use Rattle.std.specs.Prelude.{ℕ, Bool, true, false, ◌&&◌, List, [], ◌∷◌, ◌++◌, map}
+use Rattle.std.specs.Prelude.{ℕ, ◌≡◌, ◌<◌, length, Bool, true, false, ◌&&◌, List, [], ◌∷◌, ◌++◌, map}
 use Rattle.gl_bits.specs.declared.kind.Kind.{Kind}
 use Rattle.gl_algebra.specs.declared.node.PlanNode.{PlanNode}
 use Rattle.gl_algebra.specs.declared.node.PlanNode.TheVariants.{Stream, Body, Compute, Select, Project, Aggregate, Union, Beside, Window, Group}
@@ -67,3 +67,12 @@ kinds_of nodes number = (shape_of nodes number).kinds
 -- a closing node gives nothing before the end
 abbrev pub is_closing : List PlanNode → ℕ → Bool
 is_closing nodes number = (shape_of nodes number).closing
+
+-- a node that is there, with its shape
+pub record HasShape (nodes : List PlanNode) (number : ℕ) (shape : Shape) : Type 0 where
+  pub within : number < length nodes
+  pub is : shape_of nodes number ≡ shape
+
+-- each node of the first plan is in the second one, with the same shape
+abbrev pub KeepsShapes : List PlanNode → List PlanNode → Type 0
+KeepsShapes old new = (number : ℕ) (shape : Shape) → HasShape old number shape → HasShape new number shape
