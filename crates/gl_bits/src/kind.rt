@@ -4,7 +4,7 @@ ghost use Rattle.std.specs.Prelude.{◌≡◌};
 ghost use Rattle.gl_bits.specs.Kinds.{IsKind, is_below, width_of};
 
 /// What a column holds.
-#[derive(Clone, Copy, PartialEq, Eq, Debug)]
+#[derive(Clone, Copy, PartialEq, Eq, Hash, Debug)]
 pub enum Kind {
     /// An unsigned number of 1 to 64 bits, written `u1` to `u64`.
     Unsigned(u8),

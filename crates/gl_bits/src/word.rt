@@ -3,10 +3,11 @@
 ghost use Rattle.std.specs.Prelude.{◌≡◌, ◌+◌, ◌-◌, ◌%◌, ◌^◌, ◌<◌, ◌≤◌, ◌↔◌, IfSome, IsSome, bit_and, bit_or, bit_xor};
 ghost use Rattle.gl_bits.specs.Words.{IsWord, bit as bit_of, choose_of, cut_of, difference_of, eq_of, join_of, lt_of, not_of, product_of, sum_of};
 
+use std::hash::Hash;
 use std::marker::Model;
 
 /// A number below `2^width`, with its width of 1 to 128 bits.
-#[derive(Clone, Copy, PartialEq, Eq, Debug)]
+#[derive(Clone, Copy, PartialEq, Eq, Hash, Debug)]
 pub struct Word {
     bits: u128,
     width: u8,

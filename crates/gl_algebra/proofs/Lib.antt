@@ -1,0 +1,12 @@
+pub mod ListLemmas
+pub mod NodeEquality
+pub mod NodewiseLemmas
+pub mod ShapeLemmas
+pub mod PlanLemmas
+pub mod SoundLemmas
+pub mod FigureLemmas
+pub mod ResultLemmas
+pub mod UniqueLemmas
+pub mod TableLemmas
+pub mod CallerLemmas
+pub mod EveryNodeLemmas

@@ -1,0 +1,57 @@
+-- The meaning of a node is its row over the meanings of the nodes that it names, and later nodes change none.
+use Rattle.std.proofs.Common.{◌≡◌, ℕ, suc, ◌+◌, ◌<◌, ◌≤◌, Bool, false, List, [], ◌∷◌, ◌++◌, map, length, Some, slice_get, slice_index, refl, sym, ap, ◌∙◌, subst, arith}
+use Rattle.gl_bits.specs.Lists.{slices, groups, has_further, IsInterleaving}
+use Rattle.gl_algebra.specs.declared.node.PlanNode.{PlanNode}
+use Rattle.gl_algebra.specs.declared.node.PlanNode.TheVariants.{Stream, Body, Compute, Select, Project, Aggregate, Union, Beside, Window, Group}
+use Rattle.gl_algebra.specs.Nodewise.{named_by, nodewise}
+use Rattle.gl_algebra.specs.Shapes.{Shape, shape_of}
+use Rattle.gl_algebra.specs.Results.{Row, Inputs, given, Results, Meaning, NoMeaning, IsChanged, IsOfBoth, IsOfParts, IsOfGroup, AreBeside, computed, selected, projected, totalled, meaning_from, IsPlanResult}
+use Rattle.gl_algebra.proofs.NodewiseLemmas.{Agree, AreInOrder, SameSteps, agree, agree_self, nodewise-kept, nodewise-node}
+use Rattle.gl_algebra.proofs.ShapeLemmas.{shape-kept}
+
+-- a meaning follows from the shapes and meanings of the nodes that a node names
+pub meaning_local : (s t : ℕ → Shape) (v w : ℕ → Meaning) (node : PlanNode) → Agree s t (named_by node) → Agree v w (named_by node)
+    → meaning_from s v node ≡ meaning_from t w node
+meaning_local s t v w (Stream number kinds) g h = refl
+meaning_local s t v w (Body kinds) g h = refl
+meaning_local s t v w (Compute child ops) g h = λ i inputs. IsChanged (h.0 i inputs) (map (computed (g.0 i).kinds ops))
+meaning_local s t v w (Select child column) g h = λ i inputs. IsChanged (h.0 i inputs) (selected column)
+meaning_local s t v w (Project child items) g h = λ i inputs. IsChanged (h.0 i inputs) (map (projected items))
+meaning_local s t v w (Aggregate child aggs) g h = λ i inputs. IsChanged (h.0 i inputs) (totalled (g.0 i).kinds aggs)
+meaning_local s t v w (Union left right) g h = λ i inputs. IsOfBoth (h.0 i inputs) (h.1.0 i inputs) IsInterleaving
+meaning_local s t v w (Beside left right) g h = λ i inputs. IsOfBoth (h.0 i inputs) (h.1.0 i inputs) AreBeside
+meaning_local s t v w (Window source body size advance) g h = λ i inputs.
+    IsOfParts (h.0 i inputs) (slices size advance) (λ slice. h.1.0 i (given inputs slice)) (λ rows. false)
+meaning_local s t v w (Group source body key count) g h = λ i inputs.
+    IsOfParts (h.0 i inputs) (groups count (λ row. slice_index row key))
+      (IsOfGroup (λ rows. h.1.0 i (given inputs rows))) (has_further count (λ row. slice_index row key))
+
+pub meaning_steps : (nodes : List PlanNode) (limit : ℕ) → SameSteps (meaning_from (shape_of nodes)) (meaning_from (shape_of nodes)) nodes limit
+meaning_steps nodes limit number node below is v w same =
+    meaning_local (shape_of nodes) (shape_of nodes) v w node (agree_self (shape_of nodes) (named_by node)) same
+
+-- a node's meaning is its row over those of all nodes
+pub meaning-node : (nodes : List PlanNode) (limit : ℕ) → AreInOrder nodes limit → (number : ℕ) (node : PlanNode)
+    → number < limit → slice_get nodes number ≡ Some node
+    → IsPlanResult nodes number ≡ meaning_from (shape_of nodes) (IsPlanResult nodes) node
+unfolding IsPlanResult
+meaning-node nodes limit order number node below is =
+    nodewise-node (meaning_from (shape_of nodes)) NoMeaning nodes limit order (meaning_steps nodes limit) number node below is
+
+module _ (nodes nodes' : List PlanNode) (limit : ℕ) (order : AreInOrder nodes limit)
+    (kept : (number : ℕ) → number < limit → slice_get nodes' number ≡ slice_get nodes number) where
+
+  -- lists that agree below a limit give the same meanings there
+  pub meaning-kept : (number : ℕ) → number < limit → IsPlanResult nodes number ≡ IsPlanResult nodes' number
+  unfolding IsPlanResult
+  meaning-kept number below =
+      nodewise-kept (meaning_from (shape_of nodes)) (meaning_from (shape_of nodes')) NoMeaning nodes nodes' limit order
+        (λ at node in_limit is v w same. meaning_local (shape_of nodes) (shape_of nodes') v w node
+          (agree (shape_of nodes) (shape_of nodes') at
+            (λ child before. shape-kept nodes nodes' limit order kept child (omega arith)) (named_by node) (order at node in_limit is))
+          same)
+        kept number below
+
+-- equal meanings have the same results
+pub moved : (m n : Meaning) → m ≡ n → (inputs : Inputs) (out : List Row) (spill : Bool) → m inputs out spill → n inputs out spill
+moved m n same inputs out spill = subst (λ (x : Meaning). x inputs out spill) same

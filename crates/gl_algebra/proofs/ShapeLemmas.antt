@@ -1,0 +1,65 @@
+-- Shapes and fitting: later nodes change neither.
+use Rattle.std.proofs.Common.{◌≡◌, ◌≢◌, ℕ, ◌+◌, ◌<◌, ◌≤◌, List, [], ◌∷◌, ◌++◌, length, map, Some, slice_get, All, refl, sym, ap, ◌∙◌, subst, arith}
+use Rattle.gl_bits.specs.declared.kind.Kind.{Kind}
+use Rattle.gl_algebra.specs.declared.node.PlanNode.{PlanNode}
+use Rattle.gl_algebra.specs.declared.node.PlanNode.TheVariants.{Stream, Body, Compute, Select, Project, Aggregate, Union, Beside, Window, Group}
+use Rattle.gl_algebra.specs.Columns.{bit_kind, kind_of_column, kind_of_operand, kind_of_op, kind_of_agg, OpFits, OperandFits, AggFits}
+use Rattle.gl_algebra.specs.Nodewise.{named_by, nodewise}
+use Rattle.gl_algebra.specs.Shapes.{Shape, unsteady, no_shape, shape_from, shape_of}
+use Rattle.gl_algebra.specs.Fits.{IsBodyFor, IsWithin, most_rows, most_copies, most_groups, copies_of_window, Suits, Fits}
+use Rattle.gl_algebra.proofs.NodewiseLemmas.{Agree, AreInOrder, SameSteps, agree, nodewise-kept, nodewise-node}
+
+module _ (s t : ℕ → Shape) where
+  -- a node's shape follows from those of the nodes that it names
+  pub shape_local : (node : PlanNode) → Agree s t (named_by node) → shape_from s node ≡ shape_from t node
+  shape_local (Stream number kinds) h = refl
+  shape_local (Body kinds) h = refl
+  shape_local (Compute child ops) h = ap (λ (x : Shape). shape_from (λ _. x) (Compute child ops)) h.0
+  shape_local (Select child column) h = ap (λ (x : Shape). shape_from (λ _. x) (Select child column)) h.0
+  shape_local (Project child items) h = ap (λ (x : Shape). shape_from (λ _. x) (Project child items)) h.0
+  shape_local (Aggregate child aggs) h = ap (λ (x : Shape). shape_from (λ _. x) (Aggregate child aggs)) h.0
+  shape_local (Union left right) h = rw (h.0, h.1.0)
+  shape_local (Beside left right) h = rw (h.0, h.1.0)
+  shape_local (Window source body size advance) h = rw (h.0, h.1.0)
+  shape_local (Group source body key groups) h = rw (h.0, h.1.0)
+
+  -- so does whether it suits them
+  pub suits_local : (node : PlanNode) → Agree s t (named_by node) → Suits s node → Suits t node
+  suits_local (Stream number kinds) h suits = suits
+  suits_local (Body kinds) h suits = suits
+  suits_local (Compute child ops) h suits = subst (λ (x : Shape). All (OpFits x.kinds) ops) h.0 suits
+  suits_local (Select child column) h suits = subst (λ (x : Shape). slice_get x.kinds column ≡ Some bit_kind) h.0 suits
+  suits_local (Project child items) h suits = subst (λ (x : Shape). All (OperandFits x.kinds) items) h.0 suits
+  suits_local (Aggregate child aggs) h suits = subst (λ (x : Shape). All (AggFits x.kinds) aggs) h.0 suits
+  suits_local (Union left right) h suits = rw (← h.0, ← h.1.0) suits
+  suits_local (Beside left right) h suits = rw (← h.0, ← h.1.0) suits
+  suits_local (Window source body size advance) h suits = rw (← h.0, ← h.1.0) suits
+  suits_local (Group source body key groups) h suits = rw (← h.0, ← h.1.0) suits
+
+pub shape_steps : (nodes : List PlanNode) (limit : ℕ) → SameSteps shape_from shape_from nodes limit
+shape_steps nodes limit number node below is v w same = shape_local v w node same
+
+module _ (nodes nodes' : List PlanNode) (limit : ℕ) (order : AreInOrder nodes limit)
+    (kept : (number : ℕ) → number < limit → slice_get nodes' number ≡ slice_get nodes number) where
+
+  -- lists that agree below a limit give the same shapes there
+  pub shape-kept : (number : ℕ) → number < limit → shape_of nodes number ≡ shape_of nodes' number
+  unfolding shape_of
+  shape-kept number below =
+      nodewise-kept shape_from shape_from no_shape nodes nodes' limit order (shape_steps nodes limit) kept number below
+
+  -- and a node that names nodes below it fits one as it fits the other
+  pub fits-kept : (number : ℕ) (node : PlanNode) → number ≤ limit → Fits nodes number node → Fits nodes' number node
+  fits-kept number node within fits = record {
+    before = fits.before;
+    suits = suits_local (shape_of nodes) (shape_of nodes') node
+      (agree (shape_of nodes) (shape_of nodes') number (λ child below. shape-kept child (omega arith)) (named_by node) fits.before)
+      fits.suits;
+  }
+
+-- a node's shape is its row over the shapes of all nodes
+pub shape-node : (nodes : List PlanNode) (limit : ℕ) → AreInOrder nodes limit → (number : ℕ) (node : PlanNode)
+    → number < limit → slice_get nodes number ≡ Some node → shape_of nodes number ≡ shape_from (shape_of nodes) node
+unfolding shape_of
+shape-node nodes limit order number node below is =
+    nodewise-node shape_from no_shape nodes limit order (shape_steps nodes limit) number node below is

@@ -1,0 +1,134 @@
+-- Every row of the table gives sound figures from sound ones.
+use Rattle.std.proofs.Common.{◌≡◌, ℕ, zero, suc, ◌+◌, ◌-◌, ◌*◌, ◌<◌, ◌≤◌, max, Bool, true, false, ◌&&◌, cond, nat_eq, nat_lt, List, [], ◌∷◌, refl, sym, ap, ◌∙◌, subst, arith}
+use Rattle.std.proofs.Math.Nat.{mul-le-mul_right}
+use borrow.Author.Tests.{ltb-true}
+use Rattle.gl_algebra.proofs.ListLemmas.{tested, passes, fails}
+use Rattle.gl_algebra.specs.declared.figures.Figures.{Figures}
+use Rattle.gl_algebra.specs.FigureTable.{IsSound, last_of, settled, delayed, aggregate_figures, merged, is_fixed, in_step, at_end, joined, spacer_figures, spaced, needs_spacer, stride_of, window_gap, group_gap, windows_over, groups_over}
+
+-- the last cycle lies between the first and the one without the rule for no tuples
+last_of-least : (tuples first last : ℕ) → first ≤ last → first ≤ last_of tuples first last
+last_of-least zero first last h = omega arith
+last_of-least (suc tuples) first last h = h
+
+last_of-most : (tuples first last : ℕ) → first ≤ last → last_of tuples first last ≤ last
+last_of-most zero first last h = h
+last_of-most (suc tuples) first last h = omega arith
+
+pub settled_sound : (f : Figures) → IsSound f → IsSound (settled f)
+settled_sound f sound =
+    let least = last_of-least f.nt f.a f.lt sound.tuples_last in
+    let most = last_of-most f.nt f.a f.lt sound.tuples_last in
+    record {
+      tuples_last = least;
+      end_last = omega arith;
+      tuples = sound.tuples;
+      tuples_gap = omega arith;
+      end_gap = sound.end_gap;
+    }
+
+pub delayed_sound : (cycles : ℕ) (f : Figures) → IsSound f → IsSound (delayed cycles f)
+delayed_sound cycles f sound = record {
+  tuples_last = omega arith;
+  end_last = omega arith;
+  tuples = sound.tuples;
+  tuples_gap = omega arith;
+  end_gap = omega arith;
+}
+
+pub aggregate_sound : (delay : ℕ) (f : Figures) → IsSound f → IsSound (aggregate_figures delay f)
+aggregate_sound delay f sound = record {
+  tuples_last = omega arith;
+  end_last = omega arith;
+  tuples = omega arith;
+  tuples_gap = omega arith;
+  end_gap = omega arith;
+}
+
+-- the last cycle with a first that may lie past the end where there is no tuple
+last_of-within : (tuples first last least most : ℕ) → least ≤ first → first ≤ most → (0 < tuples → first ≤ last) → last ≤ most
+    → (first ≤ last_of tuples first last) × (last_of tuples first last ≤ most)
+last_of-within zero first last least most l m h e = (omega arith, m)
+last_of-within (suc tuples) first last least most l m h e = (h (omega arith), e)
+
+pub merged_sound : (p q : Figures) → IsSound p → IsSound q → IsSound (merged p q)
+merged_sound p q sound sound' =
+    let within = last_of-within (p.nt + q.nt) (p.a + 1) (max p.lt q.lt + p.nt + q.nt) 0 (max p.le q.le + p.ne + q.ne + 1)
+          (omega arith) (omega arith) (λ some. omega arith) (omega arith) in
+    record {
+      tuples_last = within.0;
+      end_last = within.1;
+      tuples = omega arith;
+      tuples_gap = omega arith;
+      end_gap = omega arith;
+    }
+
+in_step_sound : (p q : Figures) → IsSound p → IsSound q → IsSound (in_step p q)
+in_step_sound p q sound sound' = record {
+  tuples_last = omega arith;
+  end_last = omega arith;
+  tuples = sound.tuples;
+  tuples_gap = omega arith;
+  end_gap = omega arith;
+}
+
+at_end_sound : (p q : Figures) → IsSound p → IsSound q → IsSound (at_end p q)
+at_end_sound p q sound sound' = record {
+  tuples_last = omega arith;
+  end_last = omega arith;
+  tuples = omega arith;
+  tuples_gap = omega arith;
+  end_gap = omega arith;
+}
+
+pub joined_sound : (p q : Figures) → IsSound p → IsSound q → IsSound (joined p q)
+joined_sound p q sound sound' =
+    elim (is_fixed p && is_fixed q) as (λ b. IsSound (cond b (in_step p q) (at_end p q))) [
+      true ↦ in_step_sound p q sound sound'
+    | false ↦ at_end_sound p q sound sound'
+    ]
+
+pub spacer_sound : (gap : ℕ) (f : Figures) → 1 ≤ gap → IsSound f → IsSound (spacer_figures gap f)
+spacer_sound gap f some sound =
+    let product : (f.nt - 1) * gap ≤ f.ne * gap = mul-le-mul_right gap (omega (arith, sound.tuples)) in
+    let within = last_of-within f.nt (f.a + 1) (f.lt + 1 + (f.nt - 1) * gap) 0 (f.le + 1 + f.ne * gap)
+          (omega arith) (omega arith) (λ some. omega arith) (omega arith) in
+    record {
+      tuples_last = within.0;
+      end_last = within.1;
+      tuples = sound.tuples;
+      tuples_gap = omega arith;
+      end_gap = omega arith;
+    }
+
+pub spaced_sound : (gap : ℕ) (f : Figures) → IsSound f → IsSound (spaced gap f)
+spaced_sound gap f sound =
+    elim (tested (nat_lt 1 gap)) [
+      passes e ↦ let more : 1 < gap = ltb-true 1 gap e in
+        elim (tested (nat_lt f.a f.le)) [
+          passes e' ↦ rw (e, e') (spacer_sound gap f (omega arith) sound)
+        | fails e' ↦ rw (e, e') sound
+        ]
+    | fails e ↦ rw e sound
+    ]
+
+pub windows_sound : (copies : ℕ) (f s : Figures) → 1 ≤ copies → IsSound f → IsSound s → IsSound (windows_over copies f s)
+windows_sound copies f s some sound sound' =
+    let least = last_of-least (f.nt * s.ne) (f.a + s.a + 2) (f.lt + s.le + 2) (omega arith) in
+    let most = last_of-most (f.nt * s.ne) (f.a + s.a + 2) (f.lt + s.le + 2) (omega arith) in
+    record {
+      tuples_last = least;
+      end_last = omega arith;
+      tuples = mul-le-mul_right s.ne (omega arith);
+      tuples_gap = omega arith;
+      end_gap = omega arith;
+    }
+
+pub groups_sound : (groups : ℕ) (f s : Figures) → IsSound f → IsSound s → IsSound (groups_over groups f s)
+groups_sound groups f s sound sound' = record {
+  tuples_last = omega arith;
+  end_last = omega arith;
+  tuples = omega arith;
+  tuples_gap = omega arith;
+  end_gap = omega arith;
+}

@@ -1,0 +1,108 @@
+-- What a plan has for a node follows the tables, and later nodes change none of it.
+use Rattle.std.proofs.Common.{◌≡◌, ℕ, suc, ◌+◌, ◌-◌, ◌*◌, ◌<◌, ◌≤◌, Bool, List, [], ◌∷◌, ◌++◌, length, Some, slice_get, refl, sym, ap, ◌∙◌, subst, arith}
+use Rattle.gl_algebra.specs.declared.figures.Figures.{Figures}
+use Rattle.gl_algebra.specs.declared.node.PlanNode.{PlanNode}
+use Rattle.gl_algebra.specs.declared.node.PlanNode.TheVariants.{Stream, Body, Compute, Select, Project, Aggregate, Union, Beside, Window, Group}
+use Rattle.gl_algebra.specs.FigureTable.{figures_of}
+use Rattle.gl_algebra.specs.Fits.{IsPlan}
+use Rattle.gl_algebra.specs.Laws.{FollowsTables, NodesFollowTables, IsKept, EarlierNodesAreKept}
+use Rattle.gl_algebra.specs.Nodewise.{named_by, nodewise}
+use Rattle.gl_algebra.specs.Results.{meaning_from, IsPlanResult}
+use Rattle.gl_algebra.specs.Shapes.{Shape, shape_from, shape_of}
+use Rattle.gl_algebra.specs.Weights.{weight_from, weight_of, copies_from, copies_of}
+use Rattle.std.proofs.lemmas.Option.{slice_get_within}
+use Rattle.gl_algebra.proofs.FigureLemmas.{figures-node, figures-kept}
+use Rattle.gl_algebra.proofs.ListLemmas.{get-append}
+use Rattle.gl_algebra.proofs.NodewiseLemmas.{Agree, AreInOrder, agree, agree_self, nodewise-kept, nodewise-node}
+use Rattle.gl_algebra.proofs.PlanLemmas.{in_order}
+use Rattle.gl_algebra.proofs.ResultLemmas.{meaning-node, meaning-kept, moved}
+use Rattle.gl_algebra.proofs.ShapeLemmas.{shape_local, shape-node, shape-kept}
+
+weight_local : (s t : ℕ → Shape) (f g : ℕ → Figures) (v w : ℕ → ℕ) (node : PlanNode)
+    → Agree s t (named_by node) → Agree f g (named_by node) → Agree v w (named_by node)
+    → weight_from s f v node ≡ weight_from t g w node
+weight_local s t f g v w (Stream number kinds) a b c = refl
+weight_local s t f g v w (Body kinds) a b c = refl
+weight_local s t f g v w (Compute child ops) a b c = rw (a.0, c.0)
+weight_local s t f g v w (Select child column) a b c = rw (a.0, c.0)
+weight_local s t f g v w (Project child items) a b c = rw (a.0, c.0)
+weight_local s t f g v w (Aggregate child aggs) a b c = rw (a.0, c.0)
+weight_local s t f g v w (Union left right) a b c = rw (a.0, b.0, b.1.0, c.0, c.1.0)
+weight_local s t f g v w (Beside left right) a b c = rw (a.0, a.1.0, b.0, b.1.0, c.0, c.1.0)
+weight_local s t f g v w (Window source body size advance) a b c = rw (a.0, a.1.0, b.0, b.1.0, c.0, c.1.0)
+weight_local s t f g v w (Group source body key groups) a b c = rw (a.0, a.1.0, b.0, b.1.0, c.0, c.1.0)
+
+copies_local : (v w : ℕ → ℕ) (node : PlanNode) → Agree v w (named_by node) → copies_from v node ≡ copies_from w node
+copies_local v w (Stream number kinds) h = refl
+copies_local v w (Body kinds) h = refl
+copies_local v w (Compute child ops) h = rw h.0
+copies_local v w (Select child column) h = rw h.0
+copies_local v w (Project child items) h = rw h.0
+copies_local v w (Aggregate child aggs) h = rw h.0
+copies_local v w (Union left right) h = rw (h.0, h.1.0)
+copies_local v w (Beside left right) h = rw (h.0, h.1.0)
+copies_local v w (Window source body size advance) h = rw (h.0, h.1.0)
+copies_local v w (Group source body key groups) h = rw (h.0, h.1.0)
+
+module _ (nodes : List PlanNode) (limit : ℕ) (order : AreInOrder nodes limit) (number : ℕ) (node : PlanNode)
+    (below : number < limit) (is : slice_get nodes number ≡ Some node) where
+
+  pub weight-node : weight_of nodes number ≡ weight_from (shape_of nodes) (figures_of nodes) (weight_of nodes) node
+  unfolding weight_of
+  weight-node =
+      nodewise-node (weight_from (shape_of nodes) (figures_of nodes)) 0 nodes limit order
+        (λ at x in_limit was v w same. weight_local (shape_of nodes) (shape_of nodes) (figures_of nodes) (figures_of nodes) v w x
+          (agree_self (shape_of nodes) (named_by x)) (agree_self (figures_of nodes) (named_by x)) same)
+        number node below is
+
+  pub copies-node : copies_of nodes number ≡ copies_from (copies_of nodes) node
+  unfolding copies_of
+  copies-node =
+      nodewise-node copies_from 0 nodes limit order (λ at x in_limit was v w same. copies_local v w x same) number node below is
+
+pub nodes_follow_tables : NodesFollowTables
+nodes_follow_tables nodes number node plan is =
+    let within = slice_get_within nodes number node is in
+    let order = in_order nodes plan (length nodes) in
+    let meaning = meaning-node nodes (length nodes) order number node within is in
+    record {
+      shape = shape-node nodes (length nodes) order number node within is;
+      figures = figures-node nodes (length nodes) order number node within is;
+      weight = weight-node nodes (length nodes) order number node within is;
+      copies = copies-node nodes (length nodes) order number node within is;
+      results = λ inputs out spill. (moved _ _ meaning inputs out spill, moved _ _ (sym meaning) inputs out spill);
+    }
+
+module _ (nodes nodes' : List PlanNode) (limit : ℕ) (order : AreInOrder nodes limit)
+    (kept : (number : ℕ) → number < limit → slice_get nodes' number ≡ slice_get nodes number) where
+
+  pub weight-kept : (number : ℕ) → number < limit → weight_of nodes number ≡ weight_of nodes' number
+  unfolding weight_of
+  weight-kept number below =
+      nodewise-kept (weight_from (shape_of nodes) (figures_of nodes)) (weight_from (shape_of nodes') (figures_of nodes')) 0 nodes nodes' limit order
+        (λ at node in_limit is v w same. weight_local (shape_of nodes) (shape_of nodes') (figures_of nodes) (figures_of nodes') v w node
+          (agree (shape_of nodes) (shape_of nodes') at
+            (λ child before. shape-kept nodes nodes' limit order kept child (omega arith)) (named_by node) (order at node in_limit is))
+          (agree (figures_of nodes) (figures_of nodes') at
+            (λ child before. figures-kept nodes nodes' limit order kept child (omega arith)) (named_by node) (order at node in_limit is))
+          same)
+        kept number below
+
+  pub copies-kept : (number : ℕ) → number < limit → copies_of nodes number ≡ copies_of nodes' number
+  unfolding copies_of
+  copies-kept number below =
+      nodewise-kept copies_from copies_from 0 nodes nodes' limit order
+        (λ at node in_limit is v w same. copies_local v w node same) kept number below
+
+pub earlier_nodes_are_kept : EarlierNodesAreKept
+earlier_nodes_are_kept nodes more number plan within =
+    let order = in_order nodes plan (length nodes) in
+    let kept = get-append nodes more in
+    let meaning = meaning-kept nodes (nodes ++ more) (length nodes) order kept number within in
+    record {
+      shape = sym (shape-kept nodes (nodes ++ more) (length nodes) order kept number within);
+      figures = sym (figures-kept nodes (nodes ++ more) (length nodes) order kept number within);
+      weight = sym (weight-kept nodes (nodes ++ more) (length nodes) order kept number within);
+      copies = sym (copies-kept nodes (nodes ++ more) (length nodes) order kept number within);
+      results = λ inputs out spill. (moved _ _ (sym meaning) inputs out spill, moved _ _ meaning inputs out spill);
+    }

@@ -1,0 +1,116 @@
+-- The kinds of columns: of operands, of operations, of aggregates, and when they fit the columns that they are applied to.
+use Rattle.std.specs.Prelude.{ℕ, ◌≡◌, ◌<◌, ◌≤◌, ◌+◌, List, [], ◌∷◌, length, slice_index_or, All, ⊤}
+use Rattle.gl_bits.specs.Words.{Word, IsWord}
+use Rattle.gl_bits.specs.Kinds.{width_of, IsKind}
+use Rattle.gl_bits.specs.declared.kind.Kind.{Kind}
+use Rattle.gl_bits.specs.declared.kind.Kind.TheVariants.{Unsigned, Text}
+use Rattle.gl_algebra.specs.declared.node.Operand.{Operand}
+use Rattle.gl_algebra.specs.declared.node.Operand.TheVariants.{Column, Literal}
+use Rattle.gl_algebra.specs.declared.node.Op2.{Op2}
+use Rattle.gl_algebra.specs.declared.node.Op2.TheVariants.{Add, Sub, Mul, Eq, Ne, Lt, Le, Gt, Ge, And, Or}
+use Rattle.gl_algebra.specs.declared.node.ColOp.{ColOp}
+use Rattle.gl_algebra.specs.declared.node.ColOp.TheVariants.{Not, Cast, Binary}
+use Rattle.gl_algebra.specs.declared.node.PlanAgg.{PlanAgg}
+use Rattle.gl_algebra.specs.declared.node.PlanAgg.TheVariants.{Count, Sum, Min, Max, Avg, Wsum}
+
+-- the kind of one bit
+abbrev pub bit_kind : Kind
+bit_kind = Unsigned 1
+
+-- the kind of a column
+abbrev pub kind_of_column : List Kind → ℕ → Kind
+kind_of_column kinds column = slice_index_or kinds column bit_kind
+
+-- the kind of an operand over columns of these kinds
+abbrev pub kind_of_operand : List Kind → Operand → Kind
+kind_of_operand kinds (Column column) = kind_of_column kinds column
+kind_of_operand kinds (Literal word kind) = kind
+
+-- sums, differences and products have their operands' kind; comparisons, AND and OR give one bit
+abbrev pub kind_under : Op2 → Kind → Kind
+kind_under Add kind = kind
+kind_under Sub kind = kind
+kind_under Mul kind = kind
+kind_under Eq kind = bit_kind
+kind_under Ne kind = bit_kind
+kind_under Lt kind = bit_kind
+kind_under Le kind = bit_kind
+kind_under Gt kind = bit_kind
+kind_under Ge kind = bit_kind
+kind_under And kind = bit_kind
+kind_under Or kind = bit_kind
+
+-- the kind of the column that an operation makes
+abbrev pub kind_of_op : List Kind → ColOp → Kind
+kind_of_op kinds (Not operand) = bit_kind
+kind_of_op kinds (Cast operand kind) = kind
+kind_of_op kinds (Binary operator left right) = kind_under operator (kind_of_operand kinds left)
+
+-- the kind of the column that an aggregate makes
+abbrev pub kind_of_agg : List Kind → PlanAgg → Kind
+kind_of_agg kinds Count = Unsigned 32
+kind_of_agg kinds (Sum operand) = kind_of_operand kinds operand
+kind_of_agg kinds (Min operand) = kind_of_operand kinds operand
+kind_of_agg kinds (Max operand) = kind_of_operand kinds operand
+kind_of_agg kinds (Avg operand) = kind_of_operand kinds operand
+kind_of_agg kinds (Wsum operand weights) = kind_of_operand kinds operand
+
+-- a kind of numbers
+abbrev pub IsUnsigned : Kind → Type 0
+IsUnsigned (Unsigned width) = ⊤
+IsUnsigned (Text bytes) = ⊥
+
+-- a column that is there, or a literal of its kind's width
+abbrev pub OperandFits : List Kind → Operand → Type 0
+OperandFits kinds (Column column) = column < length kinds
+OperandFits kinds (Literal word kind) = IsWord word × IsKind kind × (word.width ≡ width_of kind)
+
+-- a cast goes from numbers to numbers, or from texts to texts
+abbrev pub CastFits : Kind → Kind → Type 0
+CastFits (Unsigned from) (Unsigned to) = ⊤
+CastFits (Unsigned from) (Text to) = ⊥
+CastFits (Text from) (Unsigned to) = ⊥
+CastFits (Text from) (Text to) = ⊤
+
+-- what both operands of an operator are: numbers, of any kind, or bits
+abbrev pub OperatorFits : Op2 → Kind → Type 0
+OperatorFits Add kind = IsUnsigned kind
+OperatorFits Sub kind = IsUnsigned kind
+OperatorFits Mul kind = IsUnsigned kind
+OperatorFits Eq kind = ⊤
+OperatorFits Ne kind = ⊤
+OperatorFits Lt kind = ⊤
+OperatorFits Le kind = ⊤
+OperatorFits Gt kind = ⊤
+OperatorFits Ge kind = ⊤
+OperatorFits And kind = kind ≡ bit_kind
+OperatorFits Or kind = kind ≡ bit_kind
+
+-- an operation whose operands are there and have the kinds that it takes
+abbrev pub OpFits : List Kind → ColOp → Type 0
+OpFits kinds (Not operand) = OperandFits kinds operand × (kind_of_operand kinds operand ≡ bit_kind)
+OpFits kinds (Cast operand kind) = OperandFits kinds operand × IsKind kind × CastFits (kind_of_operand kinds operand) kind
+OpFits kinds (Binary operator left right) =
+    OperandFits kinds left × OperandFits kinds right
+    × (kind_of_operand kinds left ≡ kind_of_operand kinds right)
+    × OperatorFits operator (kind_of_operand kinds left)
+
+-- the most weights
+abbrev pub most_weights : ℕ
+most_weights = 64
+
+-- a weight is a number of its operand's kind
+pub record WeightFits (kind : Kind) (weight : Word) : Type 0 where
+  pub word : IsWord weight
+  pub width : weight.width ≡ width_of kind
+
+-- an aggregate whose operand is there and has a kind that it takes
+abbrev pub AggFits : List Kind → PlanAgg → Type 0
+AggFits kinds Count = ⊤
+AggFits kinds (Sum operand) = OperandFits kinds operand × IsUnsigned (kind_of_operand kinds operand)
+AggFits kinds (Min operand) = OperandFits kinds operand
+AggFits kinds (Max operand) = OperandFits kinds operand
+AggFits kinds (Avg operand) = OperandFits kinds operand × IsUnsigned (kind_of_operand kinds operand)
+AggFits kinds (Wsum operand weights) =
+    OperandFits kinds operand × IsUnsigned (kind_of_operand kinds operand)
+    × (length weights ≤ most_weights) × All (WeightFits (kind_of_operand kinds operand)) weights

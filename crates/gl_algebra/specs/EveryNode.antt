@@ -1,0 +1,51 @@
+-- The shapes of a small plan with a node of every kind.
+use Rattle.std.specs.Prelude.{ℕ, true, false, List, [], ◌∷◌}
+use Rattle.gl_bits.specs.declared.kind.Kind.{Kind}
+use Rattle.gl_bits.specs.declared.kind.Kind.TheVariants.{Unsigned}
+use Rattle.gl_algebra.specs.declared.node.ColOp.{ColOp}
+use Rattle.gl_algebra.specs.declared.node.ColOp.TheVariants.{Binary}
+use Rattle.gl_algebra.specs.declared.node.Op2.TheVariants.{Eq}
+use Rattle.gl_algebra.specs.declared.node.Operand.{Operand}
+use Rattle.gl_algebra.specs.declared.node.Operand.TheVariants.{Column}
+use Rattle.gl_algebra.specs.declared.node.PlanAgg.{PlanAgg}
+use Rattle.gl_algebra.specs.declared.node.PlanAgg.TheVariants.{Sum}
+use Rattle.gl_algebra.specs.declared.node.PlanNode.TheVariants.{Stream, Body}
+use Rattle.gl_algebra.specs.Shapes.{Shape, unsteady, once, with_stream, with_body}
+
+-- one number
+abbrev pub number : List Kind
+number = Unsigned 8 ∷ []
+
+-- a number, and a bit
+abbrev pub number_and_bit : List Kind
+number_and_bit = Unsigned 8 ∷ Unsigned 1 ∷ []
+
+-- whether the number is itself
+abbrev pub tests : List ColOp
+tests = Binary Eq (Column 0) (Column 0) ∷ []
+
+-- the number alone
+abbrev pub items : List Operand
+items = Column 0 ∷ []
+
+-- the sum of the numbers
+abbrev pub sums : List PlanAgg
+sums = Sum (Column 0) ∷ []
+
+abbrev pub of_stream : Shape
+of_stream = record { kinds = number; closing = false; pace = with_stream 0; leaves = Stream 0 number ∷ [] }
+
+abbrev pub of_body : Shape
+of_body = record { kinds = number; closing = false; pace = with_body; leaves = Body number ∷ [] }
+
+abbrev pub of_tests : Shape
+of_tests = record { kinds = number_and_bit; closing = false; pace = with_body; leaves = Body number ∷ [] }
+
+abbrev pub of_choice : Shape
+of_choice = record { kinds = number_and_bit; closing = false; pace = unsteady; leaves = Body number ∷ [] }
+
+abbrev pub of_items : Shape
+of_items = record { kinds = number; closing = false; pace = unsteady; leaves = Body number ∷ [] }
+
+abbrev pub of_sums : Shape
+of_sums = record { kinds = number; closing = true; pace = once; leaves = Body number ∷ [] }

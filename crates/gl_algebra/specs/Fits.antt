@@ -1,0 +1,60 @@
+-- When a node fits a plan, and what a plan is.
+use Rattle.std.specs.Prelude.{ℕ, ◌≡◌, ◌≢◌, ◌<◌, ◌≤◌, ◌+◌, ◌-◌, ◌/◌, List, length, slice_get, Some, All, IsTrue}
+use Rattle.std.specs.Int.{div_ceil}
+use Rattle.gl_bits.specs.Kinds.{IsKind}
+use Rattle.gl_algebra.specs.declared.node.PlanNode.{PlanNode}
+use Rattle.gl_algebra.specs.declared.node.PlanNode.TheVariants.{Stream, Body, Compute, Select, Project, Aggregate, Union, Beside, Window, Group}
+use Rattle.gl_algebra.specs.Columns.{bit_kind, OperandFits, OpFits, AggFits}
+use Rattle.gl_algebra.specs.Nodewise.{named_by}
+use Rattle.gl_algebra.specs.Shapes.{Shape, unsteady, shape_of}
+
+-- a number from 1 to a limit
+pub record IsWithin (limit number : ℕ) : Type 0 where
+  pub least : 1 ≤ number
+  pub most : number ≤ limit
+
+-- the windows that can be open at once: the size by the advance, rounded up
+abbrev pub copies_of_window : ℕ → ℕ → ℕ
+copies_of_window size advance = div_ceil size advance
+
+-- the limits: of a window's size and advance, of its copies, of groups
+abbrev pub most_rows : ℕ
+most_rows = 65536
+
+abbrev pub most_copies : ℕ
+most_copies = 64
+
+abbrev pub most_groups : ℕ
+most_groups = 256
+
+-- a body for rows of a source: it waits for the end, and it reads nothing but its input, which has the source's columns
+pub record IsBodyFor (source body : Shape) : Type 0 where
+  pub closing : IsTrue body.closing
+  pub leaves : All (λ leaf. leaf ≡ Body source.kinds) body.leaves
+
+-- the columns, kinds, paces, bodies and limits of a node suit the nodes that it names, which have these shapes
+abbrev pub Suits : (ℕ → Shape) → PlanNode → Type 0
+Suits shapes (Stream number kinds) = All IsKind kinds
+Suits shapes (Body kinds) = All IsKind kinds
+Suits shapes (Compute child ops) = All (OpFits (shapes child).kinds) ops
+Suits shapes (Select child column) = slice_get (shapes child).kinds column ≡ Some bit_kind
+Suits shapes (Project child items) = All (OperandFits (shapes child).kinds) items
+Suits shapes (Aggregate child aggs) = All (AggFits (shapes child).kinds) aggs
+Suits shapes (Union left right) = (shapes left).kinds ≡ (shapes right).kinds
+Suits shapes (Beside left right) = ((shapes left).pace ≡ (shapes right).pace) × ((shapes left).pace ≢ unsteady)
+Suits shapes (Window source body size advance) =
+    IsBodyFor (shapes source) (shapes body)
+    × IsWithin most_rows size × IsWithin most_rows advance × (copies_of_window size advance ≤ most_copies)
+Suits shapes (Group source body key groups) =
+    IsBodyFor (shapes source) (shapes body)
+    × (key < length (shapes source).kinds) × IsWithin most_groups groups
+
+-- a node fits as the node of this number: the nodes that it names stand before it, and it suits them
+pub record Fits (nodes : List PlanNode) (number : ℕ) (node : PlanNode) : Type 0 where
+  pub before : All (λ child. child < number) (named_by node)
+  pub suits : Suits (shape_of nodes) node
+
+-- a plan: each node fits, and no two are equal
+pub record IsPlan (nodes : List PlanNode) : Type 0 where
+  pub fits : (number : ℕ) (node : PlanNode) → slice_get nodes number ≡ Some node → Fits nodes number node
+  pub distinct : (i j : ℕ) (node : PlanNode) → slice_get nodes i ≡ Some node → slice_get nodes j ≡ Some node → i ≡ j

@@ -1,0 +1,81 @@
+-- Laws of plans.
+use Rattle.std.specs.Prelude.{ℕ, ◌≡◌, ◌<◌, ◌≤◌, ◌+◌, ◌↔◌, Bool, false, true, ◌||◌, List, [], ◌∷◌, ◌++◌, length, Some, slice_get, All, IsTrue}
+use Rattle.gl_algebra.specs.declared.figures.Figures.{Figures}
+use Rattle.gl_algebra.specs.declared.node.PlanNode.{PlanNode}
+use Rattle.gl_algebra.specs.declared.node.PlanNode.TheVariants.{Stream, Body, Compute, Select, Project, Aggregate, Union, Beside, Window, Group}
+use Rattle.gl_algebra.specs.FigureTable.{IsSound, figures_from, figures_of, spacer_figures}
+use Rattle.gl_algebra.specs.Fits.{Suits, IsPlan}
+use Rattle.gl_algebra.specs.Nodewise.{named_by, nodewise}
+use Rattle.gl_algebra.specs.Results.{Row, Inputs, meaning_from, IsPlanResult}
+use Rattle.gl_algebra.specs.Shapes.{Shape, shape_from, shape_of, is_closing}
+use Rattle.gl_algebra.specs.Weights.{weight_from, weight_of, copies_from, copies_of}
+
+-- each row of the table gives sound figures from sound ones
+abbrev pub RowsKeepSound : Type 0
+RowsKeepSound = (shapes : ℕ → Shape) (figures : ℕ → Figures) (node : PlanNode) → Suits shapes node
+    → All (λ child. IsSound (figures child)) (named_by node) → IsSound (figures_from shapes figures node)
+
+-- so does a spacer
+abbrev pub SpacersKeepSound : Type 0
+SpacersKeepSound = (gap : ℕ) (f : Figures) → 1 ≤ gap → IsSound f → IsSound (spacer_figures gap f)
+
+-- the figures of each node of a plan are sound
+abbrev pub FiguresAreSound : Type 0
+FiguresAreSound = (nodes : List PlanNode) (number : ℕ) → IsPlan nodes → number < length nodes → IsSound (figures_of nodes number)
+
+-- a closing node gives nothing before the end
+abbrev pub ClosingNodesWait : Type 0
+ClosingNodesWait = (nodes : List PlanNode) (number : ℕ) → IsPlan nodes → number < length nodes
+    → IsTrue (is_closing nodes number) → (figures_of nodes number).nt ≡ 0
+
+-- whether a node is a union or has one below it, in a body too
+abbrev pub has_union_from : (ℕ → Bool) → PlanNode → Bool
+has_union_from unions (Stream number kinds) = false
+has_union_from unions (Body kinds) = false
+has_union_from unions (Compute child ops) = unions child
+has_union_from unions (Select child column) = unions child
+has_union_from unions (Project child items) = unions child
+has_union_from unions (Aggregate child aggs) = unions child
+has_union_from unions (Union left right) = true
+has_union_from unions (Beside left right) = unions left || unions right
+has_union_from unions (Window source body size advance) = unions source || unions body
+has_union_from unions (Group source body key groups) = unions source || unions body
+
+unfoldable pub has_union : List PlanNode → ℕ → Bool
+has_union nodes = nodewise has_union_from false nodes
+
+-- one result is the other
+pub record AreSame (out out' : List Row) (spill spill' : Bool) : Type 0 where
+  pub rows : out ≡ out'
+  pub spills : spill ≡ spill'
+
+-- a node without a union has one result at most for inputs
+abbrev pub ResultsAreUnique : Type 0
+ResultsAreUnique = (nodes : List PlanNode) (number : ℕ) → IsPlan nodes → number < length nodes → has_union nodes number ≡ false
+    → (inputs : Inputs) (out out' : List Row) (spill spill' : Bool)
+    → IsPlanResult nodes number inputs out spill → IsPlanResult nodes number inputs out' spill' → AreSame out out' spill spill'
+
+-- what a plan has for a node follows the node's row of each table
+pub record FollowsTables (nodes : List PlanNode) (number : ℕ) (node : PlanNode) : Type 0 where
+  pub shape : shape_of nodes number ≡ shape_from (shape_of nodes) node
+  pub figures : figures_of nodes number ≡ figures_from (shape_of nodes) (figures_of nodes) node
+  pub weight : weight_of nodes number ≡ weight_from (shape_of nodes) (figures_of nodes) (weight_of nodes) node
+  pub copies : copies_of nodes number ≡ copies_from (copies_of nodes) node
+  pub results : (inputs : Inputs) (out : List Row) (spill : Bool) → IsPlanResult nodes number inputs out spill
+      ↔ meaning_from (shape_of nodes) (IsPlanResult nodes) node inputs out spill
+
+abbrev pub NodesFollowTables : Type 0
+NodesFollowTables = (nodes : List PlanNode) (number : ℕ) (node : PlanNode) → IsPlan nodes → slice_get nodes number ≡ Some node
+    → FollowsTables nodes number node
+
+-- nodes that are added change nothing of the nodes before them
+pub record IsKept (nodes more : List PlanNode) (number : ℕ) : Type 0 where
+  pub shape : shape_of (nodes ++ more) number ≡ shape_of nodes number
+  pub figures : figures_of (nodes ++ more) number ≡ figures_of nodes number
+  pub weight : weight_of (nodes ++ more) number ≡ weight_of nodes number
+  pub copies : copies_of (nodes ++ more) number ≡ copies_of nodes number
+  pub results : (inputs : Inputs) (out : List Row) (spill : Bool) → IsPlanResult (nodes ++ more) number inputs out spill
+      ↔ IsPlanResult nodes number inputs out spill
+
+abbrev pub EarlierNodesAreKept : Type 0
+EarlierNodesAreKept = (nodes more : List PlanNode) (number : ℕ) → IsPlan nodes → number < length nodes → IsKept nodes more number

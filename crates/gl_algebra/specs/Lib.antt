@@ -1,0 +1,11 @@
+pub mod Nodewise
+pub mod Columns
+pub mod Shapes
+pub mod Fits
+pub mod FigureTable
+pub mod Weights
+pub mod Values
+pub mod Results
+pub mod Laws
+pub mod Worked
+pub mod EveryNode

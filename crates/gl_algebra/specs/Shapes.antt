@@ -1,0 +1,78 @@
+-- What other nodes need to know of a node: its columns, whether it waits for the end, how steadily its rows come, and its leaves.
+use Rattle.std.specs.Prelude.{ℕ, ◌≡◌, ◌<◌, length, Bool, true, false, ◌&&◌, List, [], ◌∷◌, ◌++◌, map}
+use Rattle.gl_bits.specs.declared.kind.Kind.{Kind}
+use Rattle.gl_algebra.specs.declared.node.PlanNode.{PlanNode}
+use Rattle.gl_algebra.specs.declared.node.PlanNode.TheVariants.{Stream, Body, Compute, Select, Project, Aggregate, Union, Beside, Window, Group}
+use Rattle.gl_algebra.specs.Columns.{kind_of_column, kind_of_operand, kind_of_op, kind_of_agg}
+use Rattle.gl_algebra.specs.Nodewise.{nodewise}
+
+-- how rows come: one with each row of a stream or of the body's input, one with the end alone, or neither
+pub data Pace : Type 0 where
+  unsteady : Pace
+  once : Pace
+  with_stream : ℕ → Pace
+  with_body : Pace
+
+pub record Shape : Type 0 where
+  -- the kinds of the columns, in order
+  pub kinds : List Kind
+
+  -- nothing comes before the end
+  pub closing : Bool
+
+  pub pace : Pace
+
+  -- the streams and body inputs that the rows come from, those in bodies left out
+  pub leaves : List PlanNode
+
+-- the shape of what is no node
+abbrev pub no_shape : Shape
+no_shape = record { kinds = []; closing = false; pace = unsteady; leaves = [] }
+
+-- a node's shape, from those of the nodes that it names
+abbrev pub shape_from : (ℕ → Shape) → PlanNode → Shape
+shape_from shapes (Stream number kinds) =
+    record { kinds = kinds; closing = false; pace = with_stream number; leaves = Stream number kinds ∷ [] }
+shape_from shapes (Body kinds) =
+    record { kinds = kinds; closing = false; pace = with_body; leaves = Body kinds ∷ [] }
+shape_from shapes (Compute child ops) =
+    let of_child = shapes child in
+    record of_child { kinds = of_child.kinds ++ map (kind_of_op of_child.kinds) ops }
+shape_from shapes (Select child column) = record (shapes child) { pace = unsteady }
+shape_from shapes (Project child items) =
+    let of_child = shapes child in record of_child { kinds = map (kind_of_operand of_child.kinds) items }
+shape_from shapes (Aggregate child aggs) =
+    let of_child = shapes child in
+    record of_child { kinds = map (kind_of_agg of_child.kinds) aggs; closing = true; pace = once }
+shape_from shapes (Union left right) =
+    let l = shapes left in let r = shapes right in
+    record { kinds = l.kinds; closing = l.closing && r.closing; pace = unsteady; leaves = l.leaves ++ r.leaves }
+shape_from shapes (Beside left right) =
+    let l = shapes left in let r = shapes right in
+    record { kinds = l.kinds ++ r.kinds; closing = l.closing && r.closing; pace = l.pace; leaves = l.leaves ++ r.leaves }
+shape_from shapes (Window source body size advance) =
+    record (shapes source) { kinds = (shapes body).kinds; pace = unsteady }
+shape_from shapes (Group source body key groups) =
+    record (shapes source) {
+      kinds = kind_of_column (shapes source).kinds key ∷ (shapes body).kinds; closing = true; pace = unsteady }
+
+-- the shape of a node
+unfoldable pub shape_of : List PlanNode → ℕ → Shape
+shape_of nodes = nodewise shape_from no_shape nodes
+
+-- the kinds of a node's columns
+abbrev pub kinds_of : List PlanNode → ℕ → List Kind
+kinds_of nodes number = (shape_of nodes number).kinds
+
+-- a closing node gives nothing before the end
+abbrev pub is_closing : List PlanNode → ℕ → Bool
+is_closing nodes number = (shape_of nodes number).closing
+
+-- a node that is there, with its shape
+pub record HasShape (nodes : List PlanNode) (number : ℕ) (shape : Shape) : Type 0 where
+  pub within : number < length nodes
+  pub is : shape_of nodes number ≡ shape
+
+-- each node of the first plan is in the second one, with the same shape
+abbrev pub KeepsShapes : List PlanNode → List PlanNode → Type 0
+KeepsShapes old new = (number : ℕ) (shape : Shape) → HasShape old number shape → HasShape new number shape

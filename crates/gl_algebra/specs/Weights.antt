@@ -1,0 +1,110 @@
+-- The weight of a node, which bounds its hardware, and the copies of bodies that it has.
+use Rattle.std.specs.Prelude.{ℕ, ◌+◌, ◌-◌, ◌*◌, max, sum_by, List, length, if◌then◌else◌}
+use Rattle.gl_bits.specs.Kinds.{width_of}
+use Rattle.gl_bits.specs.declared.kind.Kind.{Kind}
+use Rattle.gl_algebra.specs.declared.figures.Figures.{Figures}
+use Rattle.gl_algebra.specs.declared.node.PlanNode.{PlanNode}
+use Rattle.gl_algebra.specs.declared.node.PlanNode.TheVariants.{Stream, Body, Compute, Select, Project, Aggregate, Union, Beside, Window, Group}
+use Rattle.gl_algebra.specs.declared.node.PlanAgg.{PlanAgg}
+use Rattle.gl_algebra.specs.declared.node.PlanAgg.TheVariants.{Count, Sum, Min, Max, Avg, Wsum}
+use Rattle.gl_algebra.specs.Columns.{kind_of_operand}
+use Rattle.gl_algebra.specs.FigureTable.{figures_of, delay_of_aggs, wait_of, needs_spacer, window_gap, group_gap}
+use Rattle.gl_algebra.specs.Fits.{copies_of_window}
+use Rattle.gl_algebra.specs.Nodewise.{nodewise}
+use Rattle.gl_algebra.specs.Shapes.{Shape, shape_of, shape_from}
+
+-- the lines of a wire: its columns, valid and end
+abbrev pub lines_of : Shape → ℕ
+lines_of shape = length shape.kinds + 2
+
+-- the part of an aggregate, its delay aside
+abbrev pub weight_of_agg : List Kind → PlanAgg → ℕ
+weight_of_agg kinds Count = 24
+weight_of_agg kinds (Sum operand) = 24
+weight_of_agg kinds (Min operand) = 24
+weight_of_agg kinds (Max operand) = 24
+weight_of_agg kinds (Avg operand) = 16 * (width_of (kind_of_operand kinds operand) + 34)
+weight_of_agg kinds (Wsum operand weights) = 24 + 8 * length weights
+
+-- the delay that is added to the shorter of two sides
+abbrev pub pad_of : Figures → Figures → ℕ
+pad_of p q = max (wait_of p q) (wait_of q p)
+
+-- the part of the spacer before a body of this gap, where one stands, over a source of so many lines
+abbrev pub weight_of_spacer : ℕ → Figures → ℕ → ℕ
+weight_of_spacer gap f lines = if needs_spacer gap f then 8 * lines * (f.ne + 6) else 0
+
+-- so many copies of a body of this weight, with what stands before and behind each
+abbrev pub weight_of_copies : ℕ → ℕ → ℕ → ℕ → ℕ
+weight_of_copies copies weight source own = copies * (weight + 8 * (source + own + 4)) + 8 * (source + own + 16)
+
+-- a node's own part, where it has so many lines, from the weights of bodies
+abbrev pub own_weight : (ℕ → Shape) → (ℕ → Figures) → (ℕ → ℕ) → ℕ → PlanNode → ℕ
+own_weight shapes figures weights lines (Stream number kinds) = lines
+own_weight shapes figures weights lines (Body kinds) = lines
+own_weight shapes figures weights lines (Compute child ops) = 4 * (lines + length ops)
+own_weight shapes figures weights lines (Select child column) = 4 * lines
+own_weight shapes figures weights lines (Project child items) = 4 * lines
+own_weight shapes figures weights lines (Aggregate child aggs) =
+    let kinds = (shapes child).kinds in
+    4 * lines + sum_by (λ agg. 2 * delay_of_aggs kinds aggs + weight_of_agg kinds agg) aggs
+own_weight shapes figures weights lines (Union left right) =
+    8 * lines * (pad_of (figures left) (figures right) + (figures left).ne + (figures right).ne + 4)
+own_weight shapes figures weights lines (Beside left right) =
+    8 * lines * (pad_of (figures left) (figures right) + 4)
+own_weight shapes figures weights lines (Window source body size advance) =
+    let source_lines = lines_of (shapes source) in
+    weight_of_copies (copies_of_window size advance) (weights body) source_lines lines
+    + 4 * (figures body).a
+    + weight_of_spacer (window_gap (figures body)) (figures source) source_lines
+own_weight shapes figures weights lines (Group source body key groups) =
+    let source_lines = lines_of (shapes source) in
+    weight_of_copies groups (weights body) source_lines lines
+    + weight_of_spacer (group_gap (figures body)) (figures source) source_lines
+
+-- the sum over a node's children: a shared child counts for each use, and a body is none
+abbrev pub sum_over_children : (ℕ → ℕ) → PlanNode → ℕ
+sum_over_children values (Stream number kinds) = 0
+sum_over_children values (Body kinds) = 0
+sum_over_children values (Compute child ops) = values child
+sum_over_children values (Select child column) = values child
+sum_over_children values (Project child items) = values child
+sum_over_children values (Aggregate child aggs) = values child
+sum_over_children values (Union left right) = values left + values right
+sum_over_children values (Beside left right) = values left + values right
+sum_over_children values (Window source body size advance) = values source
+sum_over_children values (Group source body key groups) = values source
+
+-- a node's weight, from those of the nodes that it names
+abbrev pub weight_from : (ℕ → Shape) → (ℕ → Figures) → (ℕ → ℕ) → PlanNode → ℕ
+weight_from shapes figures weights node =
+    sum_over_children weights node + own_weight shapes figures weights (lines_of (shape_from shapes node)) node
+
+-- the weight of a node
+unfoldable pub weight_of : List PlanNode → ℕ → ℕ
+weight_of nodes = nodewise (weight_from (shape_of nodes) (figures_of nodes)) 0 nodes
+
+-- the weight of a plan with its output
+abbrev pub weight_with_output : List PlanNode → ℕ → ℕ
+weight_with_output nodes root = weight_of nodes root + 8 * (lines_of (shape_of nodes root) + 8)
+
+-- the copies that a node itself has of its body, with those in each
+abbrev pub own_copies : (ℕ → ℕ) → PlanNode → ℕ
+own_copies copies (Stream number kinds) = 0
+own_copies copies (Body kinds) = 0
+own_copies copies (Compute child ops) = 0
+own_copies copies (Select child column) = 0
+own_copies copies (Project child items) = 0
+own_copies copies (Aggregate child aggs) = 0
+own_copies copies (Union left right) = 0
+own_copies copies (Beside left right) = 0
+own_copies copies (Window source body size advance) = copies_of_window size advance * (1 + copies body)
+own_copies copies (Group source body key groups) = groups * (1 + copies body)
+
+-- a node's copies, from those of the nodes that it names
+abbrev pub copies_from : (ℕ → ℕ) → PlanNode → ℕ
+copies_from copies node = sum_over_children copies node + own_copies copies node
+
+-- the copies of a node
+unfoldable pub copies_of : List PlanNode → ℕ → ℕ
+copies_of nodes = nodewise copies_from 0 nodes

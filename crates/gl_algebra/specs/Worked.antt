@@ -1,0 +1,98 @@
+-- Worked plans, with the figures, weights and copies that follow from the tables by hand.
+use Rattle.std.specs.Prelude.{ℕ, ◌≡◌, List, [], ◌∷◌}
+use Rattle.gl_bits.specs.Words.{Word}
+use Rattle.gl_bits.specs.declared.kind.Kind.{Kind}
+use Rattle.gl_bits.specs.declared.kind.Kind.TheVariants.{Unsigned, Text}
+use Rattle.gl_algebra.specs.declared.figures.Figures.{Figures}
+use Rattle.gl_algebra.specs.declared.node.Operand.TheVariants.{Column, Literal}
+use Rattle.gl_algebra.specs.declared.node.Op2.TheVariants as Op2
+use Rattle.gl_algebra.specs.declared.node.ColOp.TheVariants.{Not, Cast, Binary}
+use Rattle.gl_algebra.specs.declared.node.PlanAgg.TheVariants.{Count, Sum, Min, Max, Avg, Wsum}
+use Rattle.gl_algebra.specs.declared.node.PlanNode.{PlanNode}
+use Rattle.gl_algebra.specs.declared.node.PlanNode.TheVariants.{Stream, Body, Compute, Select, Project, Aggregate, Union, Beside, Window, Group}
+use Rattle.gl_algebra.specs.FigureTable.{figures_of, latency_of, gap_of}
+use Rattle.gl_algebra.specs.Weights.{weight_with_output, copies_of}
+
+-- a symbol, a price and a volume
+abbrev pub trade_kinds : List Kind
+trade_kinds = Text 4 ∷ Unsigned 32 ∷ Unsigned 32 ∷ []
+
+-- counts of one symbol in windows of 4 rows, one from each second row on
+abbrev pub counts_in_windows : List PlanNode
+counts_in_windows =
+    Stream 0 trade_kinds
+    ∷ Body trade_kinds
+    ∷ Compute 1 (Binary Op2.Eq (Column 0) (Literal (record { bits = 1430408782; width = 32 }) (Text 4)) ∷ [])
+    ∷ Select 2 3
+    ∷ Project 3 (Column 0 ∷ Column 1 ∷ Column 2 ∷ [])
+    ∷ Aggregate 4 (Count ∷ [])
+    ∷ Window 0 5 4 2
+    ∷ []
+
+-- averages by symbol, of so many symbols
+abbrev pub averages_by_symbol : ℕ → List PlanNode
+averages_by_symbol symbols =
+    Stream 0 trade_kinds ∷ Body trade_kinds ∷ Aggregate 1 (Avg (Column 1) ∷ []) ∷ Group 0 2 0 symbols ∷ []
+
+-- the greatest sums of 2 neighbours in each 4 rows
+abbrev pub greatest_sums : List PlanNode
+greatest_sums =
+    Stream 0 trade_kinds ∷ Body trade_kinds ∷ Aggregate 1 (Sum (Column 1) ∷ []) ∷ Window 1 2 2 1
+    ∷ Body (Unsigned 32 ∷ []) ∷ Aggregate 3 (Max (Column 0) ∷ []) ∷ Window 0 5 4 4 ∷ []
+
+-- the same over two streams as one, in each 2 rows: a spacer stands before the outer windows
+abbrev pub greatest_sums_of_both : List PlanNode
+greatest_sums_of_both =
+    Stream 0 trade_kinds ∷ Project 0 (Column 1 ∷ []) ∷ Stream 1 trade_kinds ∷ Project 2 (Column 1 ∷ []) ∷ Union 1 3
+    ∷ Body (Unsigned 32 ∷ []) ∷ Aggregate 5 (Sum (Column 0) ∷ []) ∷ Window 5 6 2 1
+    ∷ Aggregate 7 (Max (Column 0) ∷ []) ∷ Window 4 8 2 2 ∷ []
+
+-- counts in windows of two streams as one
+abbrev pub counts_of_both : List PlanNode
+counts_of_both =
+    Stream 0 trade_kinds ∷ Body trade_kinds ∷ Aggregate 1 (Count ∷ []) ∷ Window 0 2 2 1
+    ∷ Stream 1 trade_kinds ∷ Window 4 2 2 1 ∷ Union 3 5 ∷ []
+
+-- a sum beside a count of the volumes above 10
+abbrev pub sum_beside_count : List PlanNode
+sum_beside_count =
+    Stream 0 trade_kinds ∷ Aggregate 0 (Sum (Column 1) ∷ []) ∷ Stream 1 trade_kinds
+    ∷ Compute 2 (Binary Op2.Gt (Column 2) (Literal (record { bits = 10; width = 32 }) (Unsigned 32)) ∷ [])
+    ∷ Select 3 3 ∷ Project 4 (Column 0 ∷ Column 1 ∷ Column 2 ∷ []) ∷ Aggregate 5 (Count ∷ []) ∷ Beside 1 6 ∷ []
+
+-- a column beside a sum of two
+abbrev pub price_beside_sum : List PlanNode
+price_beside_sum =
+    Stream 0 trade_kinds ∷ Project 0 (Column 1 ∷ []) ∷ Compute 0 (Binary Op2.Add (Column 1) (Column 2) ∷ [])
+    ∷ Project 2 (Column 3 ∷ []) ∷ Beside 1 3 ∷ []
+
+-- sums by symbol, of 4 symbols
+abbrev pub sums_by_symbol : List PlanNode
+sums_by_symbol = Stream 0 trade_kinds ∷ Body trade_kinds ∷ Aggregate 1 (Sum (Column 2) ∷ []) ∷ Group 0 2 0 4 ∷ []
+
+-- the prices of two streams
+abbrev pub prices_of_both : List PlanNode
+prices_of_both = Stream 0 trade_kinds ∷ Project 0 (Column 1 ∷ []) ∷ Stream 1 trade_kinds ∷ Project 2 (Column 1 ∷ []) ∷ Union 1 3 ∷ []
+
+-- a root's latency, gap and copies
+pub record Has (nodes : List PlanNode) (root latency gap copies : ℕ) : Type 0 where
+  pub is_late : latency_of nodes root ≡ latency
+  pub is_apart : gap_of nodes root ≡ gap
+  pub is_copied : copies_of nodes root ≡ copies
+
+pub record WorkedFigures : Type 0 where
+  pub counts : figures_of counts_in_windows 6 ≡ record { a = 5; lt = 5; le = 7; nt = 1; ne = 2; gt = 1; ge = 3 }
+  pub counts_in_windows : Has counts_in_windows 6 8 1 2
+  pub greatest_sums : Has greatest_sums 6 10 3 3
+  pub greatest_sums_of_both : Has greatest_sums_of_both 9 20 7 3
+  pub counts_of_both : Has counts_of_both 6 11 2 4
+  pub sum_beside_count : Has sum_beside_count 7 4 1 0
+  pub price_beside_sum : Has price_beside_sum 4 2 1 0
+  pub sums_by_symbol : Has sums_by_symbol 3 8 1 4
+  pub prices_of_both : Has prices_of_both 4 4 2 0
+
+-- 262,144 is the most
+pub record WorkedWeights : Type 0 where
+  pub most : weight_with_output (averages_by_symbol 200) 3 ≡ 262101
+  pub more : weight_with_output (averages_by_symbol 201) 3 ≡ 263410
+  pub all : weight_with_output (averages_by_symbol 256) 3 ≡ 335405

@@ -1,0 +1,127 @@
+//! The nodes of a plan.
+
+use crate::number::PlanId;
+use gl_bits::{Kind, Listed, Word};
+use std::hash::Hash;
+
+/// Kinds of columns, in order.
+pub type Kinds = Listed<Kind>;
+
+/// Operations, each of which makes one column, in order.
+pub type Ops = Listed<ColOp>;
+
+/// Operands, in order.
+pub type Operands = Listed<Operand>;
+
+/// Aggregates, each of which makes one column, in order.
+pub type PlanAggs = Listed<PlanAgg>;
+
+/// The weights of the values of a list, the oldest value's first.
+pub type Weights = Listed<Word>;
+
+/// A binary operator.
+#[derive(Clone, Copy, PartialEq, Eq, Hash, Debug)]
+pub enum Op2 {
+    Add,
+    Sub,
+    Mul,
+    Eq,
+    Ne,
+    Lt,
+    Le,
+    Gt,
+    Ge,
+    And,
+    Or,
+}
+
+/// What an operation or an aggregate takes of a row.
+#[derive(Clone, Copy, PartialEq, Eq, Hash, Debug)]
+pub enum Operand {
+    /// The column of this number, the first being 0.
+    Column(u16),
+    /// A number, and its kind, whose width is the word's.
+    Literal(Word, Kind),
+}
+
+/// An operation on a row, which makes one column.
+#[derive(Clone, Copy, PartialEq, Eq, Hash, Debug)]
+pub enum ColOp {
+    /// The other bit.
+    Not(Operand),
+    /// The value as another kind.
+    Cast(Operand, Kind),
+    /// Two operands under an operator.
+    Binary(Op2, Operand, Operand),
+}
+
+/// An aggregate over the rows of a list, which makes one column.
+#[derive(Drop, PartialEq, Eq, Hash, Debug)]
+pub enum PlanAgg {
+    /// The number of rows.
+    Count,
+    /// The sum of the values.
+    Sum(Operand),
+    /// The least value.
+    Min(Operand),
+    /// The greatest value.
+    Max(Operand),
+    /// The sum by the number of rows.
+    Avg(Operand),
+    /// The sum of the values by their weights.
+    Wsum(Operand, Weights),
+}
+
+/// A node of a plan. Where it speaks of another node, its child, it does so by that node's number.
+#[derive(Drop, PartialEq, Eq, Hash, Debug)]
+pub enum PlanNode {
+    /// The rows of the schema's stream of this number, the first being 0, whose columns have these kinds.
+    Stream(u8, Kinds),
+    /// The rows that a body is given, whose columns have these kinds.
+    Body(Kinds),
+    /// Each row of the child with one more column for each operation.
+    Compute {
+        child: PlanId,
+        ops: Ops,
+    },
+    /// The rows of the child whose column of this number is 1.
+    Select {
+        child: PlanId,
+        column: u16,
+    },
+    /// Of each row of the child these values.
+    Project {
+        child: PlanId,
+        items: Operands,
+    },
+    /// One row: the aggregates over all rows of the child.
+    Aggregate {
+        child: PlanId,
+        aggs: PlanAggs,
+    },
+    /// The rows of both children, in any order that keeps each child's.
+    Union {
+        left: PlanId,
+        right: PlanId,
+    },
+    /// The rows of both children side by side.
+    Beside {
+        left: PlanId,
+        right: PlanId,
+    },
+    /// What the body makes of each window of the source: of the `size` rows or fewer that begin at every row whose place is a
+    /// multiple of `advance`.
+    Window {
+        source: PlanId,
+        body: PlanId,
+        size: u32,
+        advance: u32,
+    },
+    /// What the body makes of each of the first `groups` groups of the source by the column `key`, the key first in each row.
+    Group {
+        source: PlanId,
+        body: PlanId,
+        key: u8,
+        groups: u16,
+    },
+}
