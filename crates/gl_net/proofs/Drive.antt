@@ -68,14 +68,9 @@ module _ (old new : Net) (at : ℕ) (x y : Node) (r : Replaces old new at x y) w
 
   replaced_grows : ((run : Run) → Holds run at y → Holds run at x) → Grows old new
   replaced_grows weaker = record {
-<<<<<<< HEAD
-      runs = λ run q. record { trace = old_trace weaker run q.trace; reset = q.reset };
-      shapes = same_shapes }
-=======
     runs = λ run q. record { trace = old_trace weaker run q.trace; reset = q.reset };
     shapes = same_shapes;
   }
->>>>>>> e6e8dfeb2ba475541de69dc30ca7659dd4fe5a81
 
   replaced_open : open_shape y ≡ None → open_at new at ≡ None
   unfolding open_in
@@ -171,11 +166,7 @@ module _ (old new : Net) (b next : Bus) (d : Drives old new b next) where
   drive_first f run q =
       let e : d.reset ≡ None = free_reset d.reset (let a = d.there in rw a at f) in
       let h : Holds run b.node (Register b.width None (Some next)) =
-<<<<<<< HEAD
-          subst (λ r. Holds run b.node (Register b.width r (Some next))) e (q.trace.holds b.node _ (now_there _ _ _ _ _ drives_replaces)) in h 0
-=======
       subst (λ r. Holds run b.node (Register b.width r (Some next))) e (q.trace.holds b.node _ (now_there _ _ _ _ _ drives_replaces)) in h 0
->>>>>>> e6e8dfeb2ba475541de69dc30ca7659dd4fe5a81
     where
       free_reset : (r : Option ℕ) → has_no_reset (Register b.width r None) ≡ true → r ≡ None
       free_reset None f = refl

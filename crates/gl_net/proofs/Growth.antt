@@ -42,14 +42,6 @@ module _ (old new : Net) (shapes : (n : ℕ) (s : Shape) → shape_in old.nodes 
 
   reads_store : (n : ℕ) (s : Store) → ReadsStore old n s → ReadsStore new n s
   reads_store n s r = record {
-<<<<<<< HEAD
-      before = r.before; store = record { there = shapes s.node _ r.store.there; bits = r.store.bits; width = r.store.width } }
-
-  pub kept_drive : (bits w : ℕ) (d : MemoryDrive) → IsDrive old bits w d → IsDrive new bits w d
-  kept_drive bits w d i = record {
-      write = kept_bit _ i.write; address = kept_bus _ i.address; address_width = i.address_width;
-      value = kept_bus _ i.value; value_width = i.value_width }
-=======
     before = r.before;
     store = record { there = shapes s.node _ r.store.there; bits = r.store.bits; width = r.store.width };
   }
@@ -62,7 +54,6 @@ module _ (old new : Net) (shapes : (n : ℕ) (s : Shape) → shape_in old.nodes 
     value = kept_bus _ i.value;
     value_width = i.value_width;
   }
->>>>>>> e6e8dfeb2ba475541de69dc30ca7659dd4fe5a81
 
   kept_next : (w : ℕ) (next : Option Bus) → IfSome next (λ b. IsBus old b × (b.width ≡ w)) → IfSome next (λ b. IsBus new b × (b.width ≡ w))
   kept_next w None h = h
@@ -118,14 +109,9 @@ module _ (old new : Net) (ext : Extends old new) where
 
   pub ext_grows : Grows old new
   ext_grows = record {
-<<<<<<< HEAD
-      runs = λ run r. record { trace = ext_trace run r.trace; reset = r.reset };
-      shapes = ext_shape }
-=======
     runs = λ run r. record { trace = ext_trace run r.trace; reset = r.reset };
     shapes = ext_shape;
   }
->>>>>>> e6e8dfeb2ba475541de69dc30ca7659dd4fe5a81
 
   pub ext_node : (n : ℕ) (x : Node) → NodeFits old n x → NodeFits new n x
   ext_node = kept_node old new ext_shape ext_end
@@ -196,17 +182,12 @@ module _ (old new : Net) (x : Node) (n : ℕ) (adds : Adds old new x n) where
 
   pub adds_keeps : open_shape x ≡ None → Keeps old new
   adds_keeps e = record {
-<<<<<<< HEAD
-      runs = adds_grows.runs; shapes = adds_grows.shapes;
-      undriven = adds_closed e; ports = adds.ports; name = adds.name }
-=======
     runs = adds_grows.runs;
     shapes = adds_grows.shapes;
     undriven = adds_closed e;
     ports = adds.ports;
     name = adds.name;
   }
->>>>>>> e6e8dfeb2ba475541de69dc30ca7659dd4fe5a81
 
   pub adds_size : size_of new ≡ size_of old + (if is_inner x then 1 else 0)
   unfolding size_of

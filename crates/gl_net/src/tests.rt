@@ -10,9 +10,6 @@ use std::alloc::Global;
 use std::test::Fail;
 
 // A count of the cycles in which `enable` is 1, since the last one in which `clear` was 1.
-<<<<<<< HEAD
-fn count_cycles(net: &mut NetBuilder, enable: Bit, clear: Bit, zero: Word, one: Word) -> Result<Bus, Memory>
-=======
 fn count_cycles(
     net: &mut NetBuilder,
     enable: Bit,
@@ -20,7 +17,6 @@ fn count_cycles(
     zero: Word,
     one: Word,
 ) -> Result<Bus, Memory>
->>>>>>> e6e8dfeb2ba475541de69dc30ca7659dd4fe5a81
     requires enable { IsBit net.old enable }
     requires clear { IsBit net.old clear }
     requires zero { zero.bits ≡ 0 }
@@ -32,15 +28,8 @@ fn count_cycles(
     ensures width { IfOk result (λ b. b.width ≡ 8) }
     ensures size { OnOk result (size_of net.new ≡ size_of net.old + 6) }
     ensures start { IfOk result (λ b. (run : Run) → IsRun net.new run → run.at 1 b.node ≡ 0) }
-<<<<<<< HEAD
-    ensures next {
-        IfOk result (λ b. (run : Run) → IsRun net.new run → (t : ℕ) → run.at (suc (suc t)) b.node
-            ≡ choose_of (run.at (suc t) clear.node) 0 (choose_of (run.at (suc t) enable.node) (sum_of 8 (run.at (suc t) b.node) 1) (run.at (suc t) b.node)))
-    }
-=======
     ensures next { IfOk result (λ b. (run : Run) → IsRun net.new run → (t : ℕ) → run.at (suc (suc t)) b.node
         ≡ choose_of (run.at (suc t) clear.node) 0 (choose_of (run.at (suc t) enable.node) (sum_of 8 (run.at (suc t) b.node) 1) (run.at (suc t) b.node))) }
->>>>>>> e6e8dfeb2ba475541de69dc30ca7659dd4fe5a81
 {
     let count = net.register(8, Some(zero))?;
     let step = net.constant(one)?;
@@ -63,15 +52,8 @@ fn hold_word(net: &mut NetBuilder, write: Bit, address: Bus, value: Bus) -> Resu
     ensures bus { IfOk result (λ b. IsBus net.new b) }
     ensures width { IfOk result (λ b. b.width ≡ value.width) }
     ensures size { OnOk result (size_of net.new ≡ size_of net.old + 2) }
-<<<<<<< HEAD
-    ensures law {
-        IfOk result (λ b. (run : Run) → IsRun net.new run → (t : ℕ) → run.at t write.node ≡ 1 → run.at t address.node ≡ run.at (suc t) address.node
-            → run.at (suc t) b.node ≡ run.at t value.node)
-    }
-=======
     ensures law { IfOk result (λ b. (run : Run) → IsRun net.new run → (t : ℕ) → run.at t write.node ≡ 1 → run.at t address.node ≡ run.at (suc t) address.node
         → run.at (suc t) b.node ≡ run.at t value.node) }
->>>>>>> e6e8dfeb2ba475541de69dc30ca7659dd4fe5a81
 {
     let store = net.memory(4, value.width)?;
     let word = net.read(store, address)?;
@@ -121,16 +103,10 @@ fn mixed_netlist(alloc: Global) -> Result<Netlist, Memory> {
     let reset = net.input(b"rst", 1)?;
     let data = net.input(b"data", 8)?;
     let larger = pick_larger(&mut net, data, none)?;
-<<<<<<< HEAD
-    let count = count_cycles(&mut net, reset.bit(), reset.bit(), zero, one)?;
-    let address = net.cut(count, 3, 0)?;
-    let word = hold_word(&mut net, reset.bit(), address, larger)?;
-=======
     let start = reset.bit();
     let count = count_cycles(&mut net, start, start, zero, one)?;
     let address = net.cut(count, 3, 0)?;
     let word = hold_word(&mut net, start, address, larger)?;
->>>>>>> e6e8dfeb2ba475541de69dc30ca7659dd4fe5a81
     net.output(b"count", count)?;
     net.output(b"word", word)?;
     net.module(b"mixed")?;

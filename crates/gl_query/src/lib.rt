@@ -1,11 +1,8 @@
 //! Queries: their syntax trees, what they mean over lists of rows, and which are accepted.
 #![tactic(auto)]
 
-<<<<<<< HEAD
 pub mod fault;
-=======
 pub mod laws;
->>>>>>> e4cdb57cba33eea1e5219bfad736101d4cc4119e
 pub mod tree;
 
 pub use fault::QueryFault;

@@ -8,17 +8,10 @@ use Rattle.std.proofs.lemmas.List.Elements.{All-nil, All-cons, All-head, All-tai
 use Rattle.std.proofs.lemmas.List.Sorted.{All-permutation, IsPermutation-sym}
 use Rattle.gl_verilog.specs.Module.{Declaration, Kind, Input, OutputWire, OutputRegister, Wire, Register, Memory, Assignment, Module, Nets, Memories, Expr, Net, Literal, Invert, Binary, Choose, Join, Select, Read, value_of}
 use Rattle.gl_verilog.specs.Run.{Fit, IsRegister, IsSettled}
-<<<<<<< HEAD
 use Rattle.gl_verilog.specs.Widths.{HasSize, IsNet, IsDriven, IsReadable, is_clock, width_of, KeepsWidths, KeepsWidth, words_in}
 use Rattle.gl_verilog.specs.Order.{EachRead, IsUndriven, IsOrdered, CanBeOrdered, with_net, evaluated}
 use Rattle.gl_verilog.specs.Runnable.{IsRunnable, SameNets, SameState, SameInputs, SettlesOneWay, Settles}
 use Rattle.gl_verilog.proofs.Fits.{Found, found_in, value_fits}
-=======
-use Rattle.gl_verilog.specs.Widths.{IsNet, IsDriven, IsReadable, width_of, KeepsWidths, KeepsWidth}
-use Rattle.gl_verilog.specs.Order.{EachRead, IsUndriven, IsOrdered}
-use Rattle.gl_verilog.specs.Runnable.{IsRunnable, SameState, SameInputs, SettlesOneWay}
-use Rattle.gl_verilog.proofs.Fits.{found_in, value_fits}
->>>>>>> ea0a4605c2dce7a7c4f40f7e646d9562d8af4ae2
 use Rattle.gl_verilog.proofs.Stores.{same_item}
 use Rattle.gl_verilog.proofs.Edges.{SameWords, value_of-same}
 

@@ -4,10 +4,6 @@
 pub mod bank;
 pub mod evaluation;
 pub mod laws;
-<<<<<<< HEAD
-pub mod law;
-=======
->>>>>>> ea0a4605c2dce7a7c4f40f7e646d9562d8af4ae2
 pub mod module;
 pub mod texts;
 

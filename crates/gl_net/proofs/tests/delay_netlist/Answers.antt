@@ -25,22 +25,6 @@ apart p q ne i (suc (suc j)) r s h k e = absurd (cc)
 pub finish-requires : goal.finish-requires
 finish-requires c =
     let ports = two_ports _ _ _ _ _ (c.in_ok-module.ensures.ports ∙ c.in_ok-output.ensures.ports)
-<<<<<<< HEAD
-        (c.in_ok-drive.ensures.ports ∙ c.in_ok-later.ensures.ports ∙ c.in_ok-data.ensures.ports) (ap (λ (v : Net). v.ports) c.new-net.ensures.empty) in
-    record {
-        driven = λ n.
-            let old : open_at c.input.new.self n ≡ None = c.in_ok-data.ensures.undriven n ∙ c.new-net.ensures.undriven n in
-            let now : open_at c.module.new.self n ≡ open_at c.drive.new.self n = c.in_ok-module.ensures.undriven n ∙ c.in_ok-output.ensures.undriven n in
-            now ∙ elim (nat_dec n c.in_ok-later.later.node) [
-                inl e ↦ subst (λ k. open_at c.drive.new.self k ≡ None) (sym e) c.in_ok-drive.ensures.driven
-              | inr ne ↦ c.in_ok-drive.ensures.others n ne ∙ c.in_ok-later.ensures.others n ne ∙ old ];
-        module_name = let e = c.in_ok-module.ensures.module_name in rw e (record { first = search rules; each = search rules; short = search rules; free = search rules });
-        port_names = λ k r h. either _ _ (λ p. IsName p.name) (record { first = search rules; each = search rules; short = search rules; free = search rules })
-            (record { first = search rules; each = search rules; short = search rules; free = search rules }) k r (rw ports at h);
-        no_clock = λ k r h. either _ _ (λ p. p.name ≢ clock_name) (λ e. absurd (cc)) (λ e. absurd (cc)) k r (rw ports at h);
-        distinct = λ i j r s h k. apart _ _ (λ e. absurd (cc)) i j r s (rw ports at h) (rw ports at k);
-        reset = λ e. absurd (cc) }
-=======
     (c.in_ok-drive.ensures.ports ∙ c.in_ok-later.ensures.ports ∙ c.in_ok-data.ensures.ports) (ap (λ (v : Net). v.ports) c.new-net.ensures.empty) in
     record {
       driven = λ n.
@@ -57,4 +41,3 @@ finish-requires c =
       distinct = λ i j r s h k. apart _ _ (λ e. absurd (cc)) i j r s (rw ports at h) (rw ports at k);
       reset = λ e. absurd (cc);
     }
->>>>>>> e6e8dfeb2ba475541de69dc30ca7659dd4fe5a81

@@ -8,8 +8,4 @@ pub invariant_of-self-2 : goal.invariant_of-self-2
 invariant_of-self-2 c =
     let b = subst (λ (v : Net). IsBus v c.args.value) (sym c.self.view_is) c.requires in
     port_keeps_form _ _ Out c.args.name c.args.value.node
-<<<<<<< HEAD
-        (record { nodes = refl; ports = c.in_ok-push_port.ensures.ok; name = refl }) c.self.invariant (c.args.value.width, b.there)
-=======
     (record { nodes = refl; ports = c.in_ok-push_port.ensures.ok; name = refl }) c.self.invariant (c.args.value.width, b.there)
->>>>>>> e6e8dfeb2ba475541de69dc30ca7659dd4fe5a81
