@@ -112,10 +112,19 @@ pub fn compile_query(alloc: Global, schema: Schema, query: &[u8]) -> Result<Comp
         Err(_) => return Err(CompileFault::Memory),
     };
     let text = text_of(alloc, &schema, &select)?;
-    let Select { stream: _, columns: _, names: _, kinds } = select;
+    let Select {
+        stream: _,
+        columns: _,
+        names: _,
+        kinds,
+    } = select;
     Ok(Compiled {
         text,
-        printed: Printed { latency: 1, gap: 1, copies: 0 },
+        printed: Printed {
+            latency: 1,
+            gap: 1,
+            copies: 0,
+        },
         schema,
         statement,
         kinds,

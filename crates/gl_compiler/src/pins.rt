@@ -32,7 +32,9 @@ pub(crate) struct Shows {
 
 // The column of a stream whose port's name ends so.
 fn column_named(columns: &[Column], rest: &[u8]) -> Option<usize> {
-    columns.iter().position(|column| column.name.as_slice() == rest)
+    columns
+        .iter()
+        .position(|column| column.name.as_slice() == rest)
 }
 
 // What the port of a stream carries, if its name is `STREAM__REST`.

@@ -34,26 +34,39 @@ fn copied(alloc: Global, name: &NameText) -> Result<NameText, Memory> {
 
 // The number of the stream of a name.
 fn stream_of(streams: &[Stream], name: &[u8]) -> Option<usize> {
-    streams.iter().position(|stream| stream.name.as_slice() == name)
+    streams
+        .iter()
+        .position(|stream| stream.name.as_slice() == name)
 }
 
 // The place of the column of a name.
 fn column_of(columns: &[Column], name: &[u8]) -> Option<usize> {
-    columns.iter().position(|column| column.name.as_slice() == name)
+    columns
+        .iter()
+        .position(|column| column.name.as_slice() == name)
 }
 
 // The name of a column that stands under its own name.
 fn own_column(item: &Item) -> Option<&Name> {
     match &item.expr {
         Expr::Column(name) => {
-            if name.text.as_slice() == item.name.text.as_slice() { Some(name) } else { None }
+            if name.text.as_slice() == item.name.text.as_slice() {
+                Some(name)
+            } else {
+                None
+            }
         }
         _ => None,
     }
 }
 
 // Adds the column of an item, if it is one under its own name.
-fn add_item(alloc: Global, stream: &Stream, item: &Item, select: &mut Select) -> Result<bool, Memory> {
+fn add_item(
+    alloc: Global,
+    stream: &Stream,
+    item: &Item,
+    select: &mut Select,
+) -> Result<bool, Memory> {
     let Some(name) = own_column(item) else {
         return Ok(false);
     };
@@ -74,7 +87,12 @@ fn add_item(alloc: Global, stream: &Stream, item: &Item, select: &mut Select) ->
 }
 
 // Adds the columns of all items.
-fn add_items(alloc: Global, stream: &Stream, items: &[Item], select: &mut Select) -> Result<bool, Memory> {
+fn add_items(
+    alloc: Global,
+    stream: &Stream,
+    items: &[Item],
+    select: &mut Select,
+) -> Result<bool, Memory> {
     for item in items {
         if !add_item(alloc, stream, item, select)? {
             return Ok(false);
@@ -84,7 +102,13 @@ fn add_items(alloc: Global, stream: &Stream, items: &[Item], select: &mut Select
 }
 
 // The select of these items of a stream, if they are columns of it.
-fn select_from(alloc: Global, schema: &Schema, items: &[Item], source: &Name, into: &Name) -> Result<Option<Select>, Memory> {
+fn select_from(
+    alloc: Global,
+    schema: &Schema,
+    items: &[Item],
+    source: &Name,
+    into: &Name,
+) -> Result<Option<Select>, Memory> {
     let streams = schema.streams.as_slice();
     let Some(stream) = stream_of(streams, source.text.as_slice()) else {
         return Ok(None);
@@ -101,12 +125,25 @@ fn select_from(alloc: Global, schema: &Schema, items: &[Item], source: &Name, in
         },
         kinds: Listed::new(alloc),
     };
-    if add_items(alloc, read, items, &mut select)? { Ok(Some(select)) } else { Ok(None) }
+    if add_items(alloc, read, items, &mut select)? {
+        Ok(Some(select))
+    } else {
+        Ok(None)
+    }
 }
 
 /// The select that a statement is, if it is one of columns of one stream under their own names.
-pub(crate) fn select_of(alloc: Global, schema: &Schema, statement: &Statement) -> Result<Option<Select>, Memory> {
-    let Query::Rows { pick: Pick::Items(items), filter: None, source } = &statement.query else {
+pub(crate) fn select_of(
+    alloc: Global,
+    schema: &Schema,
+    statement: &Statement,
+) -> Result<Option<Select>, Memory> {
+    let Query::Rows {
+        pick: Pick::Items(items),
+        filter: None,
+        source,
+    } = &statement.query
+    else {
         return Ok(None);
     };
     let Query::Read(stream) = &**source else {

@@ -53,7 +53,11 @@ fn before_comma<'a>(word: &Word<'a>) -> Result<&'a [u8], QueryFault> {
 fn items_of(alloc: Global, words: &[Word]) -> Result<ItemList, QueryFault> {
     let mut items = Vec::new(alloc);
     for (place, word) in words.iter().enumerate() {
-        let bytes = if words.len() - place == 1 { word.bytes } else { before_comma(word)? };
+        let bytes = if words.len() - place == 1 {
+            word.bytes
+        } else {
+            before_comma(word)?
+        };
         let item = item_of(alloc, bytes, word.at)?;
         if items.push(item).is_err() {
             return Err(QueryFault::Memory);

@@ -147,7 +147,13 @@ fn put_update(out: &mut Vec<u8>, family: usize, number: usize, next: Bus) -> Res
 }
 
 // `if (rst) N <= VALUE; else `
-fn put_reset(out: &mut Vec<u8>, family: usize, number: usize, value: u128, width: u8) -> Result<(), Memory> {
+fn put_reset(
+    out: &mut Vec<u8>,
+    family: usize,
+    number: usize,
+    value: u128,
+    width: u8,
+) -> Result<(), Memory> {
     put(out, b"if (rst) ")?;
     put_net(out, family, number)?;
     put(out, b" <= ")?;
@@ -156,7 +162,12 @@ fn put_reset(out: &mut Vec<u8>, family: usize, number: usize, value: u128, width
 }
 
 // `if (W) M[A] <= V;`
-fn put_write(out: &mut Vec<u8>, family: usize, number: usize, drive: MemoryDrive) -> Result<(), Memory> {
+fn put_write(
+    out: &mut Vec<u8>,
+    family: usize,
+    number: usize,
+    drive: MemoryDrive,
+) -> Result<(), Memory> {
     put(out, b"if (")?;
     put_net(out, family, drive.write.node)?;
     put(out, b") ")?;
@@ -167,7 +178,12 @@ fn put_write(out: &mut Vec<u8>, family: usize, number: usize, drive: MemoryDrive
 }
 
 /// The clocked block of a register or of a memory.
-pub(crate) fn put_block(out: &mut Vec<u8>, family: usize, number: usize, node: &Node) -> Result<(), Memory> {
+pub(crate) fn put_block(
+    out: &mut Vec<u8>,
+    family: usize,
+    number: usize,
+    node: &Node,
+) -> Result<(), Memory> {
     match *node {
         Node::Register(_, None, Some(next)) => {
             put(out, b"always @(posedge clk) ")?;

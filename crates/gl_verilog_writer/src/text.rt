@@ -14,7 +14,9 @@ fn put_family(out: &mut Vec<u8>, family: usize) -> Result<(), Memory> {
 
 // Whether some port's name begins so.
 fn begins_port(ports: &[Port], front: &[u8]) -> bool {
-    ports.iter().any(|port| port.name.as_slice().starts_with(front))
+    ports
+        .iter()
+        .any(|port| port.name.as_slice().starts_with(front))
 }
 
 // The first family whose names are no ports' names. Each port rules out one family at most.
@@ -68,7 +70,12 @@ fn put_declarations(out: &mut Vec<u8>, family: usize, nodes: &[Node]) -> Result<
     Ok(())
 }
 
-fn put_assignments(out: &mut Vec<u8>, family: usize, nodes: &[Node], ports: &[Port]) -> Result<(), Memory> {
+fn put_assignments(
+    out: &mut Vec<u8>,
+    family: usize,
+    nodes: &[Node],
+    ports: &[Port],
+) -> Result<(), Memory> {
     for (number, node) in nodes.iter().enumerate() {
         put_assignment(out, family, ports, number, node)?;
     }

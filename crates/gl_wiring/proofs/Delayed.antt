@@ -35,13 +35,13 @@ ends_last (b ∷ c ∷ bs) k = rw (ne_eqb b.cycle (last_cycle (c ∷ bs)) (λ e.
 ends_only : (beats : List Beat) (n : ℕ) → AreInOrder beats → ends_at beats n ≡ true → n ≡ last_cycle beats
 ends_only [] n k e = absurd k
 ends_only (b ∷ []) n k e = elim (cases_eq b.cycle n) [
-    | inl h ↦ sym h
-    | inr h ↦ absurd (let g : false ≡ true = rw (ne_eqb b.cycle n h) at e in cc)
-  ]
+  | inl h ↦ sym h
+  | inr h ↦ absurd (let g : false ≡ true = rw (ne_eqb b.cycle n h) at e in cc)
+]
 ends_only (b ∷ c ∷ bs) n k e = elim (cases_eq b.cycle n) [
-    | inl h ↦ absurd (let g : b.end ≡ true = rw (eq-eqb b.cycle n h) at e in let f : b.end ≡ false = k.0 in cc)
-    | inr h ↦ ends_only (c ∷ bs) n k.2 (rw (ne_eqb b.cycle n h) at e)
-  ]
+  | inl h ↦ absurd (let g : b.end ≡ true = rw (eq-eqb b.cycle n h) at e in let f : b.end ≡ false = k.0 in cc)
+  | inr h ↦ ends_only (c ∷ bs) n k.2 (rw (ne_eqb b.cycle n h) at e)
+]
 
 -- ---- the rows of one stream, cycle by cycle
 

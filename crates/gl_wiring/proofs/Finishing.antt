@@ -49,4 +49,5 @@ finished s cs into net is all distinct named names name driven reset =
       port_names = λ place p at. (port_is IsPortName net.ports place p each at).name;
       no_clock = λ place p at. clock_differs p.name (port_is IsPortName net.ports place p each at).clock;
       distinct = apart s cs net is all distinct names;
-      reset = λ needs. reset }
+      reset = λ needs. reset;
+    }

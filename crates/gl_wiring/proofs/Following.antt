@@ -78,7 +78,7 @@ module _ (schema : Schema) (k : ℕ) (s : Stream) (there : slice_get schema.stre
   pub column_is : (n p : ℕ) (c : Column) → slice_get s.columns p ≡ Some c → HasPort port (in_column s.name c.name) → value_at port (suc n) (in_column s.name c.name) ≡ slice_index (unwrap_or (row_at k beats n) []) p
   column_is n p c at has =
       carried port (suc n) (in_column s.name c.name) (slice_index (unwrap_or (row_at k beats n) []) p) has
-        (column_at (Carries port (suc n)) s.name s.columns (unwrap_or (row_at k beats n) []) p c at (stream_pins_of n).1)
+      (column_at (Carries port (suc n)) s.name s.columns (unwrap_or (row_at k beats n) []) p c at (stream_pins_of n).1)
 
   pub eos_is : (n : ℕ) → HasPort port eos → value_at port (suc n) eos ≡ bit (ends_at beats n)
   eos_is n has =
@@ -103,10 +103,10 @@ module _ (schema : Schema) (k : ℕ) (s : Stream) (there : slice_get schema.stre
   pub shows_later : (places : List ℕ) (outs : List (List ℕ)) → FollowsStream s places outs port → ShowsLater k (picked places) beats outs port
   unfolding shown
   shows_later places outs f = record {
-      first_row = rw f.first_valid refl;
-      first_end = rw f.first_eos refl;
-      next_row = λ n. shown_row places n outs (row_at k beats n) [] (f.valid n ∙ valid_is n f.has_valid) (outs_are n places outs f.columns);
-      next_end = λ n. ap (λ (v : ℕ). v == 1) (f.end n ∙ eos_is n f.has_eos) ∙ bit_high (ends_at beats n);
-      group = λ n. rw (f.group (suc n)) refl;
-      queue = λ n. rw (f.queue (suc n)) refl;
-    }
+    first_row = rw f.first_valid refl;
+    first_end = rw f.first_eos refl;
+    next_row = λ n. shown_row places n outs (row_at k beats n) [] (f.valid n ∙ valid_is n f.has_valid) (outs_are n places outs f.columns);
+    next_end = λ n. ap (λ (v : ℕ). v == 1) (f.end n ∙ eos_is n f.has_eos) ∙ bit_high (ends_at beats n);
+    group = λ n. rw (f.group (suc n)) refl;
+    queue = λ n. rw (f.queue (suc n)) refl;
+  }

@@ -61,11 +61,12 @@ column_is cs i c all lt e = subst IsColumn (sym e) (all_at IsColumn cs i c all l
 -- what has been added stays behind what is added next
 pub extends_then : (a b c : Net) → Extends a b → Extends b c → Extends a c
 extends_then a b c x y = record {
-    runs = λ run h. x.runs run (y.runs run h);
-    buses = λ b h. y.buses b (x.buses b h);
-    undriven = λ n. y.undriven n ∙ x.undriven n;
-    ports = λ d name n h. y.ports d name n (x.ports d name n h);
-    module_name = y.module_name ∙ x.module_name }
+  runs = λ run h. x.runs run (y.runs run h);
+  buses = λ b h. y.buses b (x.buses b h);
+  undriven = λ n. y.undriven n ∙ x.undriven n;
+  ports = λ d name n h. y.ports d name n (x.ports d name n h);
+  module_name = y.module_name ∙ x.module_name;
+}
 
 pub taken_more : {A : Type 0} (xs : List A) (i : ℕ) (x : A) → i < length xs → x ≡ get_or xs i x → take (i + 1) xs ≡ take i xs ++ x ∷ []
 taken_more {A} xs i x lt e = take_more xs i x lt ∙ ap (λ (y : A). take i xs ++ y ∷ []) (sym e)
@@ -74,4 +75,4 @@ taken_more {A} xs i x lt e = take_more xs i x lt ∙ ap (λ (y : A). take i xs +
 pub outputs_next : (all mid new : List (List ℕ)) (names : List (List ℕ)) (i : ℕ) (n : List ℕ) → mid ≡ all ++ map out_column (take i names) → new ≡ mid ++ out_column n ∷ [] → take (i + 1) names ≡ take i names ++ n ∷ [] → new ≡ all ++ map out_column (take (i + 1) names)
 outputs_next all mid new names i n m e more =
     e ∙ ap (λ (x : List (List ℕ)). x ++ out_column n ∷ []) m ∙ append_assoc all (map out_column (take i names)) (out_column n ∷ [])
-      ∙ ap (λ (x : List (List ℕ)). all ++ x) (sym (map-append out_column (take i names) (n ∷ [])) ∙ ap (map out_column) (sym more))
+    ∙ ap (λ (x : List (List ℕ)). all ++ x) (sym (map-append out_column (take i names) (n ∷ [])) ∙ ap (map out_column) (sym more))

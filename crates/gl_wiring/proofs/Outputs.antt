@@ -32,8 +32,8 @@ streams_split all n1 n2 n3 ss a b k s lt e ea eb e1 e2 e3 =
     let parts : streams_ports ss ≡ streams_ports (take k ss) ++ (stream_ports s ++ streams_ports (drop (k + 1) ss)) = ap streams_ports whole ∙ streams_ports-append (take k ss) (s ∷ drop (k + 1) ss) in
     let left : n3 ≡ ((all ++ streams_ports (take k ss)) ++ stream_ports s) ++ streams_ports (drop (k + 1) ss) = cc in
     left ∙ append_assoc (all ++ streams_ports (take k ss)) (stream_ports s) (streams_ports (drop (k + 1) ss))
-      ∙ append_assoc all (streams_ports (take k ss)) (stream_ports s ++ streams_ports (drop (k + 1) ss))
-      ∙ ap (λ (t : List (List ℕ)). all ++ t) (sym parts)
+    ∙ append_assoc all (streams_ports (take k ss)) (stream_ports s ++ streams_ports (drop (k + 1) ss))
+    ∙ ap (λ (t : List (List ℕ)). all ++ t) (sym parts)
 
 pub at_is : {A : Type 0} (xs : List A) (i : ℕ) (x : A) → i < length xs → x ≡ get_or xs i x → slice_get xs i ≡ Some x
 at_is [] i x lt e = absurd (omega arith)
@@ -86,8 +86,8 @@ pub port_value : (net : Net) (run : Run) (t : ℕ) (d : Direction) (name : List 
 port_value net run t d name n apart p =
     let port : Port = record { direction = d; name = name; node = n } in
     ap (option_map (λ (q : Port). run.at t q.node))
-      (find_at (λ (q : Port). bytes_eq q.name name) net.ports p.place port p.there ((bytes_eq-Decides name name).1 refl)
-        (λ j q at e. apart j p.place q port at p.there ((bytes_eq-Decides q.name name).0 e)))
+    (find_at (λ (q : Port). bytes_eq q.name name) net.ports p.place port p.there ((bytes_eq-Decides name name).1 refl)
+    (λ j q at e. apart j p.place q port at p.there ((bytes_eq-Decides q.name name).0 e)))
 
 port_at : (net : Net) (run : Run) (t : ℕ) (d : Direction) (name : List ℕ) (n : ℕ) → AreApart net → IsPort net d name n → value_at (port_values net run) t name ≡ run.at t n
 port_at net run t d name n apart p = rw (port_value net run t d name n apart p) refl
@@ -115,9 +115,10 @@ columns_follow net run s cs bs [] [] apart h inputs d = tt
 columns_follow net run s cs bs [] (n ∷ ns) apart h inputs d = absurd d
 columns_follow net run s cs bs (p ∷ ps) [] apart h inputs d = absurd d
 columns_follow net run s cs bs (p ∷ ps) (n ∷ ns) apart h inputs d =
-    let c = input_at net s cs bs p d.0.0 inputs d.0.1 in
-    ((c.0, c.1, has_port net run In (in_column s c.0.name) d.0.0.node apart c.2, follows net run (in_column s c.0.name) (out_column n) d.0.0.node apart h c.2 d.0.2),
-     columns_follow net run s cs bs ps ns apart h inputs d.1)
+    let c = input_at net s cs bs p d.0.0 inputs d.0.1 in (
+      (c.0, c.1, has_port net run In (in_column s c.0.name) d.0.0.node apart c.2, follows net run (in_column s c.0.name) (out_column n) d.0.0.node apart h c.2 d.0.2),
+      columns_follow net run s cs bs ps ns apart h inputs d.1,
+    )
 
 -- the ports of a netlist whose nodes follow a stream follow it, in every run
 pub nodes_follow : (net : Net) (ss : List Stream) (k : ℕ) (ps : List ℕ) (ns : List (List ℕ)) → AreApart net → (f : FollowsNodes net ss k ps ns) → (run : Run) → IsRun net run → FollowsStream f.is.stream ps (map out_column ns) (port_values net run)
@@ -132,7 +133,8 @@ nodes_follow net ss k ps ns apart f run h =
       end = bit_follows net run eos out_eos f.eos_node apart h f.eos_port f.end;
       columns = columns_follow net run s.name s.columns f.source.columns ps ns apart h f.is.inputs f.columns;
       group = λ t. port_at net run t Out fault_group f.group.node apart f.group.port ∙ f.group.zero run h t;
-      queue = λ t. port_at net run t Out fault_queue f.queue.node apart f.queue.port ∙ f.queue.zero run h t }
+      queue = λ t. port_at net run t Out fault_queue f.queue.node apart f.queue.port ∙ f.queue.zero run h t;
+    }
 
 -- the names of a result, one after the other
 pub result_names : (n0 n1 n2 n3 n4 n5 : List (List ℕ)) (a c d e : List ℕ) (b : List (List ℕ)) → n1 ≡ n0 ++ a ∷ [] → n2 ≡ n1 ++ b → n3 ≡ n2 ++ c ∷ [] → n4 ≡ n3 ++ d ∷ [] → n5 ≡ n4 ++ e ∷ [] → n5 ≡ n0 ++ a ∷ (b ++ c ∷ d ∷ e ∷ [])
@@ -162,12 +164,13 @@ places_within net ss k source ps is h =
 
 pub source_stays : (old new : Net) (ss : List Stream) (k : ℕ) (source : Source) → Extends old new → IsSource old ss k source → IsSource new ss k source
 source_stays old new ss k source x is = record {
-    stream = is.stream;
-    there = is.there;
-    port = x.ports In (in_valid is.stream.name) source.valid.node is.port;
-    bus = x.buses source.valid is.bus;
-    bit = is.bit;
-    inputs = inputs_stay old new is.stream.name is.stream.columns source.columns x is.inputs }
+  stream = is.stream;
+  there = is.there;
+  port = x.ports In (in_valid is.stream.name) source.valid.node is.port;
+  bus = x.buses source.valid is.bus;
+  bit = is.bit;
+  inputs = inputs_stay old new is.stream.name is.stream.columns source.columns x is.inputs;
+}
 
 pub all_names : (n0 n1 n2 n3 n4 : List (List ℕ)) (a : List ℕ) (s : List (List ℕ)) (b : List ℕ) (r : List (List ℕ)) → n0 ≡ [] → n1 ≡ n0 ++ a ∷ [] → n2 ≡ n1 ++ s → n3 ≡ n2 ++ b ∷ [] → n4 ≡ n3 ++ r → n4 ≡ a ∷ (s ++ b ∷ r)
 all_names n0 n1 n2 n3 n4 a s b r e0 e1 e2 e3 e4 = rw (e4, e3, e2, e1, e0) (simp append_assoc)
@@ -175,6 +178,7 @@ all_names n0 n1 n2 n3 n4 a s b r e0 e1 e2 e3 e4 = rw (e4, e3, e2, e1, e0) (simp 
 -- the reset input of one bit stays one
 pub reset_stays : (old new : Net) → Extends old new → (b : Bus) → IsPort old In reset_name b.node → IsBus old b → b.width ≡ 1 → HasReset new
 reset_stays old new x b port bus width = record {
-    node = b.node;
-    port = x.ports In reset_name b.node port;
-    bit = (x.buses b bus).there ∙ ap (λ (w : ℕ). Some (Value w)) width }
+  node = b.node;
+  port = x.ports In reset_name b.node port;
+  bit = (x.buses b bus).there ∙ ap (λ (w : ℕ). Some (Value w)) width;
+}

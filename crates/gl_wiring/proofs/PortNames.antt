@@ -131,7 +131,8 @@ name_parts n h =
     let taken = not_of_true (is_taken n) (and_right (nat_le (length n) 32 && begins_with_letter n && has_name_bytes n && not (has_loose_underscore n)) (not (is_taken n)) h) in
     record {
       single = not_of_true (has_loose_underscore n) (and_right (nat_le (length n) 32 && begins_with_letter n && has_name_bytes n) (not (has_loose_underscore n)) to3);
-      free = or_right (list_any (bytes_eq n) keywords) (list_any (bytes_eq n) reserved) taken }
+      free = or_right (list_any (bytes_eq n) keywords) (list_any (bytes_eq n) reserved) taken;
+    }
 
 in_valid-stream : (s : List ℕ) → has_loose_underscore s ≡ false → stream_of (in_valid s) ≡ s
 unfolding in_valid stream_of
@@ -222,21 +223,21 @@ other_apart : (n : List ℕ) (s : Stream) (ss : List Stream) → IsOf s.name n �
 other_apart n s [] of apart all = tt
 other_apart n s (r ∷ rs) of apart all =
     All-append (λ m. n ≡ m → ⊥) (stream_ports r) (streams_ports rs)
-      (All-map (IsOf r.name) (λ m. n ≡ m → ⊥) (stream_ports r) (λ m is e. apart.0 (sym of.stream ∙ ap stream_of e ∙ is.stream)) (stream_ports-of r all.0))
-      (other_apart n s rs of apart.1 all.1)
+    (All-map (IsOf r.name) (λ m. n ≡ m → ⊥) (stream_ports r) (λ m is e. apart.0 (sym of.stream ∙ ap stream_of e ∙ is.stream)) (stream_ports-of r all.0))
+    (other_apart n s rs of apart.1 all.1)
 
 streams_apart : (ss : List Stream) → AllByRecursion IsStream ss → AreApart (stream_names ss) → AreApart (streams_ports ss)
 streams_apart [] all h = tt
 streams_apart (s ∷ ss) all h =
     apart-append (stream_ports s) (streams_ports ss) (stream_apart s all.0) (streams_apart ss all.1 h.1)
-      (All-map (IsOf s.name) (λ n. Apart n (streams_ports ss)) (stream_ports s) (λ n is. other_apart n s ss is h.0 all.1) (stream_ports-of s all.0))
+    (All-map (IsOf s.name) (λ n. Apart n (streams_ports ss)) (stream_ports s) (λ n is. other_apart n s ss is h.0 all.1) (stream_ports-of s all.0))
 
 streams_first : (ss : List Stream) → AllByRecursion IsStream ss → AllByRecursion (λ n. first_byte n ≡ 105) (streams_ports ss)
 streams_first [] all = tt
 streams_first (s ∷ ss) all =
     All-append (λ n. first_byte n ≡ 105) (stream_ports s) (streams_ports ss)
-      (All-map (IsOf s.name) (λ n. first_byte n ≡ 105) (stream_ports s) (λ n is. is.first) (stream_ports-of s all.0))
-      (streams_first ss all.1)
+    (All-map (IsOf s.name) (λ n. first_byte n ≡ 105) (stream_ports s) (λ n is. is.first) (stream_ports-of s all.0))
+    (streams_first ss all.1)
 
 -- ---- the ports of the result
 
@@ -255,10 +256,13 @@ first_apart n m h k e = let same = ap first_byte e in absurd (omega (arith, h, k
 -- none of the lines behind the columns is a column's port
 tail_apart : (c : List ℕ) → IsName c → Apart (out_column c) (out_eos ∷ fault_group ∷ fault_queue ∷ [])
 unfolding fault_group fault_queue
-tail_apart c h =
-    (λ e. is_reserved c (codes "eos") h eos_is_reserved (out_eos-column c (sym e)),
-     (λ e. first_apart (out_column c) fault_group (out_column-first c) refl e,
-      (λ e. first_apart (out_column c) fault_queue (out_column-first c) refl e, tt)))
+tail_apart c h = (
+  λ e. is_reserved c (codes "eos") h eos_is_reserved (out_eos-column c (sym e)),
+  (
+    λ e. first_apart (out_column c) fault_group (out_column-first c) refl e,
+    (λ e. first_apart (out_column c) fault_queue (out_column-first c) refl e, tt),
+  ),
+)
 
 outs_apart : (n : List ℕ) (cs : List (List ℕ)) → Apart n cs → Apart (out_column n) (map out_column cs)
 outs_apart n [] h = tt
@@ -285,9 +289,10 @@ valid_columns [] h = tt
 valid_columns (c ∷ cs) h = (λ e. no_valid c h.0 (out_valid-column c e), valid_columns cs h.1)
 
 result_apart : (cs : List (List ℕ)) → AllByRecursion IsName cs → AreApart cs → AreApart (result_ports cs)
-result_apart cs all h =
-    (All-append (λ m. out_valid ≡ m → ⊥) (map out_column cs) (out_eos ∷ fault_group ∷ fault_queue ∷ []) (valid_columns cs all) valid_tail,
-     apart-append (map out_column cs) (out_eos ∷ fault_group ∷ fault_queue ∷ []) (columns_are_apart cs h) tail_are_apart (columns_tail cs all))
+result_apart cs all h = (
+  All-append (λ m. out_valid ≡ m → ⊥) (map out_column cs) (out_eos ∷ fault_group ∷ fault_queue ∷ []) (valid_columns cs all) valid_tail,
+  apart-append (map out_column cs) (out_eos ∷ fault_group ∷ fault_queue ∷ []) (columns_are_apart cs h) tail_are_apart (columns_tail cs all),
+)
 
 -- the first byte of a port of the result is an o or an f
 abbrev IsResultByte : ℕ → Type 0
@@ -344,17 +349,20 @@ rst_apart cs = All-map (λ n. IsResultByte (first_byte n)) (λ m. rst ≡ m → 
 inputs_apart : (ss : List Stream) (cs : List (List ℕ)) → AllByRecursion IsStream ss → AllByRecursion (λ n. Apart n (eos ∷ result_ports cs)) (streams_ports ss)
 inputs_apart ss cs all =
     All-map (λ n. first_byte n ≡ 105) (λ n. Apart n (eos ∷ result_ports cs)) (streams_ports ss)
-      (λ n h. (λ e. no_byte 101 (λ k. absurd (omega arith)) eos n eos_first h (sym e),
-               All-map (λ m. IsResultByte (first_byte m)) (λ m. n ≡ m → ⊥) (result_ports cs) (λ m k. no_result 105 differ-105 n m h k) (result_first cs)))
-      (streams_first ss all)
+    (λ n h. (
+      λ e. no_byte 101 (λ k. absurd (omega arith)) eos n eos_first h (sym e),
+      All-map (λ m. IsResultByte (first_byte m)) (λ m. n ≡ m → ⊥) (result_ports cs) (λ m k. no_result 105 differ-105 n m h k) (result_first cs),
+    ))
+    (streams_first ss all)
 
 -- no two ports of an emitted module have one name
 pub port_names-distinct : (schema : Schema) (cs : List (List ℕ)) → IsSchema schema → AllByRecursion IsName cs → IsDistinct bytes_eq cs → IsDistinct bytes_eq (port_names schema cs)
 port_names-distinct schema cs is all distinct =
     let streams = streams_ports schema.streams in
     let result = result_apart cs all (apart_distinct cs distinct) in
-    distinct_apart (port_names schema cs)
-      (All-append (λ m. rst ≡ m → ⊥) streams (eos ∷ result_ports cs)
-         (All-map (λ n. first_byte n ≡ 105) (λ m. rst ≡ m → ⊥) streams (λ m k. no_byte 114 (λ j. absurd (omega arith)) rst m rst_first k) (streams_first schema.streams is.streams))
-         (rst_eos, rst_apart cs),
-       apart-append streams (eos ∷ result_ports cs) (streams_apart schema.streams is.streams (apart_distinct (stream_names schema.streams) is.distinct)) (eos_apart cs, result) (inputs_apart schema.streams cs is.streams))
+    distinct_apart (port_names schema cs) (
+      All-append (λ m. rst ≡ m → ⊥) streams (eos ∷ result_ports cs)
+          (All-map (λ n. first_byte n ≡ 105) (λ m. rst ≡ m → ⊥) streams (λ m k. no_byte 114 (λ j. absurd (omega arith)) rst m rst_first k) (streams_first schema.streams is.streams))
+          (rst_eos, rst_apart cs),
+      apart-append streams (eos ∷ result_ports cs) (streams_apart schema.streams is.streams (apart_distinct (stream_names schema.streams) is.distinct)) (eos_apart cs, result) (inputs_apart schema.streams cs is.streams),
+    )

@@ -58,7 +58,8 @@ plain n h =
     let to2 = and_left (nat_le (length n) 32 && begins_with_letter n && has_name_bytes n) (not (has_loose_underscore n)) to3 in
     record {
       bytes = word_bytes n (and_right (nat_le (length n) 32 && begins_with_letter n) (has_name_bytes n) to2);
-      short = leb-true (length n) 32 (and_left (nat_le (length n) 32) (begins_with_letter n) (and_left (nat_le (length n) 32 && begins_with_letter n) (has_name_bytes n) to2)) }
+      short = leb-true (length n) 32 (and_left (nat_le (length n) 32) (begins_with_letter n) (and_left (nat_le (length n) 32 && begins_with_letter n) (has_name_bytes n) to2));
+    }
 
 -- a name in front of which these bytes stand, and behind it those
 around : (a n b : List ℕ) → list_all is_word_byte a ≡ true → list_all is_word_byte n ≡ true → list_all is_word_byte b ≡ true → list_all is_word_byte (a ++ n ++ b) ≡ true
@@ -76,40 +77,47 @@ pub record IsPortName (n : List ℕ) : Type 0 where
 in_valid-name : (s : List ℕ) → schema.IsName s → IsPortName (in_valid s)
 unfolding in_valid
 in_valid-name s h = record {
-    name = record {
-      first = refl;
-      each = around (codes "in__") s (codes "__valid") refl (plain s h).bytes refl;
-      short = omega (arith, length-append (codes "in__" ++ s) (codes "__valid"), length-append (codes "in__") s, (plain s h).short);
-      free = refl };
-    clock = refl }
+  name = record {
+    first = refl;
+    each = around (codes "in__") s (codes "__valid") refl (plain s h).bytes refl;
+    short = omega (arith, length-append (codes "in__" ++ s) (codes "__valid"), length-append (codes "in__") s, (plain s h).short);
+    free = refl;
+  };
+  clock = refl;
+}
 
 in_column-name : (s c : List ℕ) → schema.IsName s → schema.IsName c → IsPortName (in_column s c)
 unfolding in_column
 in_column-name s c h k = record {
-    name = record {
-      first = refl;
-      each = behind (codes "in__" ++ s ++ codes "__") c (around (codes "in__") s (codes "__") refl (plain s h).bytes refl) (plain c k).bytes;
-      short = omega (arith, length-append (codes "in__" ++ s ++ codes "__") c, length-append (codes "in__" ++ s) (codes "__"), length-append (codes "in__") s, (plain s h).short, (plain c k).short);
-      free = refl };
-    clock = refl }
+  name = record {
+    first = refl;
+    each = behind (codes "in__" ++ s ++ codes "__") c (around (codes "in__") s (codes "__") refl (plain s h).bytes refl) (plain c k).bytes;
+    short = omega (arith, length-append (codes "in__" ++ s ++ codes "__") c, length-append (codes "in__" ++ s) (codes "__"), length-append (codes "in__") s, (plain s h).short, (plain c k).short);
+    free = refl;
+  };
+  clock = refl;
+}
 
 out_column-name : (c : List ℕ) → schema.IsName c → IsPortName (out_column c)
 unfolding out_column
 out_column-name c k = record {
-    name = record {
-      first = refl;
-      each = behind (codes "out__") c refl (plain c k).bytes;
-      short = omega (arith, length-append (codes "out__") c, (plain c k).short);
-      free = refl };
-    clock = refl }
+  name = record {
+    first = refl;
+    each = behind (codes "out__") c refl (plain c k).bytes;
+    short = omega (arith, length-append (codes "out__") c, (plain c k).short);
+    free = refl;
+  };
+  clock = refl;
+}
 
 -- the module's name
 pub module_name-name : (into : List ℕ) → schema.IsName into → IsName (codes "q__" ++ into)
 module_name-name into h = record {
-    first = refl;
-    each = behind (codes "q__") into refl (plain into h).bytes;
-    short = omega (arith, length-append (codes "q__") into, (plain into h).short);
-    free = refl }
+  first = refl;
+  each = behind (codes "q__") into refl (plain into h).bytes;
+  short = omega (arith, length-append (codes "q__") into, (plain into h).short);
+  free = refl;
+}
 
 rst-name : IsPortName rst
 unfolding rst
@@ -154,7 +162,8 @@ outs_named (c ∷ cs) all = (out_column-name c all.0, outs_named cs all.1)
 
 -- all ports have names of the subset
 pub ports_named : (s : Schema) (cs : List (List ℕ)) → IsSchema s → AllByRecursion schema.IsName cs → AllByRecursion IsPortName (port_names s cs)
-ports_named s cs is all =
-    (rst-name,
-     All-append IsPortName (streams_ports s.streams) (eos ∷ result_ports cs) (streams_named s.streams is.streams)
-       (eos-name, (out_valid-name, All-append IsPortName (map out_column cs) (out_eos ∷ fault_group ∷ fault_queue ∷ []) (outs_named cs all) (out_eos-name, (fault_group-name, (fault_queue-name, tt))))))
+ports_named s cs is all = (
+  rst-name,
+  All-append IsPortName (streams_ports s.streams) (eos ∷ result_ports cs) (streams_named s.streams is.streams)
+      (eos-name, (out_valid-name, All-append IsPortName (map out_column cs) (out_eos ∷ fault_group ∷ fault_queue ∷ []) (outs_named cs all) (out_eos-name, (fault_group-name, (fault_queue-name, tt))))),
+)

@@ -129,7 +129,11 @@ fn put_columns(alloc: Global, net: &mut NetBuilder, stream: &Stream) -> Result<B
 }
 
 /// The input ports of a stream.
-pub(crate) fn put_stream(alloc: Global, net: &mut NetBuilder, stream: &Stream) -> Result<Source, Memory>
+pub(crate) fn put_stream(
+    alloc: Global,
+    net: &mut NetBuilder,
+    stream: &Stream,
+) -> Result<Source, Memory>
     requires { IsStream stream.now }
     ensures extends { OnOk result (Extends net.old net.new) }
     ensures names { OnOk result (names_of net.new ≡ names_of net.old ++ stream_ports stream.now) }
@@ -145,7 +149,11 @@ pub(crate) fn put_stream(alloc: Global, net: &mut NetBuilder, stream: &Stream) -
 }
 
 /// The input ports of streams, one after the other.
-pub(crate) fn put_streams(alloc: Global, net: &mut NetBuilder, streams: &[Stream]) -> Result<(), Memory>
+pub(crate) fn put_streams(
+    alloc: Global,
+    net: &mut NetBuilder,
+    streams: &[Stream],
+) -> Result<(), Memory>
     requires { AllByRecursion IsStream streams.now }
     ensures extends { OnOk result (Extends net.old net.new) }
     ensures names { OnOk result (names_of net.new ≡ names_of net.old ++ streams_ports streams.now) }

@@ -12,7 +12,9 @@ ghost use Rattle.gl_wiring.specs.Emitted.{names_of, port_values, Extends, AreInp
 ghost use Rattle.gl_wiring.specs.Select.{FollowsStream};
 
 use crate::names::{ResultNames, module_name, out_column_name};
-use crate::parts::{Source, put_input, put_later, put_later_bit, put_stream, put_streams, put_zero};
+use crate::parts::{
+    Source, put_input, put_later, put_later_bit, put_stream, put_streams, put_zero,
+};
 use gl_bits::Memory;
 use gl_net::{Bus, NetBuilder, NetFault, Netlist};
 use gl_schema::{NameText, Schema, Stream};
@@ -43,7 +45,12 @@ fn bus_at(source: &Source, at: usize) -> Bus
 }
 
 // The input ports of all streams, and which of them are those of one of the streams.
-fn put_all_streams(alloc: Global, net: &mut NetBuilder, schema: &Schema, stream: usize) -> Result<Source, Memory>
+fn put_all_streams(
+    alloc: Global,
+    net: &mut NetBuilder,
+    schema: &Schema,
+    stream: usize,
+) -> Result<Source, Memory>
     requires schema { IsSchema schema.now }
     requires there { stream < length schema.now.streams }
     ensures extends { OnOk result (Extends net.old net.new) }
@@ -165,7 +172,14 @@ pub fn wire_select(
     let mut net = NetBuilder::new(alloc);
     let name = module_name(alloc, names.into.as_slice())?;
     net.module(&name)?;
-    put_select(alloc, &mut net, schema, stream, columns, names.columns.as_slice())?;
+    put_select(
+        alloc,
+        &mut net,
+        schema,
+        stream,
+        columns,
+        names.columns.as_slice(),
+    )?;
     match net.finish() {
         Ok(net) => Ok(net),
         Err(NetFault::Memory) => Err(Memory),

@@ -30,4 +30,5 @@ loop-column-preserved c =
     record {
       extends = extends_then c.args.net.now mid net inv.extends e.extends;
       names = names_next (names_of mid) (names_of net) s cs i column lt is names ∙ inv.names;
-      inputs = rw (taken_next cs i column lt is, c.in_ok-push.ensures.ok) pushed }
+      inputs = rw (taken_next cs i column lt is, c.in_ok-push.ensures.ok) pushed;
+    }

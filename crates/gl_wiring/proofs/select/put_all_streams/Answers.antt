@@ -17,8 +17,8 @@ returns-clause-names c =
     let before = subst (λ (xs : List Stream). c.streams_before.result.now ≡ take k xs) here c.streams_before.ensures in
     let behind = subst (λ (xs : List Stream). c.streams_behind.result.now ≡ drop (k + 1) xs) here c.streams_behind.ensures in
     streams_split (names_of c.args.net.now) (names_of c.put_streams.new.net) (names_of c.put_stream.new.net) (names_of c.put_streams-2.new.net)
-      ss c.streams_before.result.now c.streams_behind.result.now k s c.requires.there is before behind
-      c.in_ok-put_streams.ensures.names c.in_ok-source.ensures.names c.in_ok-put_streams-2.ensures.names
+    ss c.streams_before.result.now c.streams_behind.result.now k s c.requires.there is before behind
+    c.in_ok-put_streams.ensures.names c.in_ok-source.ensures.names c.in_ok-put_streams-2.ensures.names
 
 pub returns-clause-source : goal.returns-clause-source
 returns-clause-source c =
@@ -36,4 +36,5 @@ returns-clause-source c =
       port = x.ports In (in_valid s.name) source.valid.node e.port;
       bus = x.buses source.valid e.bus;
       bit = e.bit;
-      inputs = inputs_stay c.put_stream.new.net c.put_streams-2.new.net s.name s.columns source.columns x e.inputs }
+      inputs = inputs_stay c.put_stream.new.net c.put_streams-2.new.net s.name s.columns source.columns x e.inputs;
+    }

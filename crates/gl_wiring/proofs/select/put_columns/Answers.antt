@@ -27,4 +27,5 @@ loop-at-preserved c =
     record {
       extends = extends_then c.args.net.now mid net inv.extends e.extends;
       names = outputs_next (names_of c.args.net.now) (names_of mid) (names_of net) names i name inv.names (e.names ∙ ap (λ (n : List ℕ). names_of mid ++ n ∷ []) named) more;
-      delayed = rw (more, take_more places i 0 lt) (all_delayed_push net buses (take i places) (take i names) (get_or places i 0) name bus (all_delayed_stay mid net buses (take i places) (take i names) e.extends inv.delayed) there delayed) }
+      delayed = rw (more, take_more places i 0 lt) (all_delayed_push net buses (take i places) (take i names) (get_or places i 0) name bus (all_delayed_stay mid net buses (take i places) (take i names) e.extends inv.delayed) there delayed);
+    }

@@ -10,8 +10,8 @@ pub returns-clause-names : goal.returns-clause-names
 unfolding out_valid out_eos fault_group fault_queue
 returns-clause-names c =
     result_names (names_of c.args.net.now) (names_of c.put_later_bit.new.net) (names_of c.put_columns.new.net) (names_of c.put_later_bit-2.new.net) (names_of c.put_zero.new.net) (names_of c.put_zero-2.new.net)
-      out_valid out_eos fault_group fault_queue (map out_column c.args.names.now)
-      c.in_ok-put_later_bit.ensures.names c.in_ok-put_columns.ensures.names c.in_ok-put_later_bit-2.ensures.names c.in_ok-put_zero.ensures.names c.in_ok-put_zero-2.ensures.names
+    out_valid out_eos fault_group fault_queue (map out_column c.args.names.now)
+    c.in_ok-put_later_bit.ensures.names c.in_ok-put_columns.ensures.names c.in_ok-put_later_bit-2.ensures.names c.in_ok-put_zero.ensures.names c.in_ok-put_zero-2.ensures.names
 
 pub returns-clause-valid : goal.returns-clause-valid
 unfolding out_valid

@@ -25,9 +25,9 @@ pub returns-clause-names : goal.returns-clause-names
 unfolding rst eos
 returns-clause-names c =
     all_names (names_of c.args.net.now) (names_of c.put_input.new.net) (names_of c.put_all_streams.new.net) (names_of c.put_input-2.new.net) (names_of c.put_result.new.net)
-      rst (streams_ports c.args.schema.now.streams) eos (result_ports c.args.names.now)
-      (ap (map (λ (p : Port). p.name)) c.requires.empty)
-      c.in_ok-put_input.ensures.names c.in_ok-source.ensures.names c.in_ok-end.ensures.names c.in_ok-put_result.ensures.names
+    rst (streams_ports c.args.schema.now.streams) eos (result_ports c.args.names.now)
+    (ap (map (λ (p : Port). p.name)) c.requires.empty)
+    c.in_ok-put_input.ensures.names c.in_ok-source.ensures.names c.in_ok-end.ensures.names c.in_ok-put_result.ensures.names
 
 pub returns-clause-follows : goal.returns-clause-follows
 unfolding eos
@@ -42,7 +42,12 @@ returns-clause-follows c =
       is = source_stays n2 n4 c.args.schema.now.streams c.args.stream source (extends_then n2 n3 n4 x y) c.in_ok-source.ensures.source;
       eos_node = c.in_ok-end.end.node;
       eos_port = y.ports In eos c.in_ok-end.end.node c.in_ok-end.ensures.port;
-      valid = e.valid; columns = e.delayed; end = e.end; group = e.group; queue = e.queue }
+      valid = e.valid;
+      columns = e.delayed;
+      end = e.end;
+      group = e.group;
+      queue = e.queue;
+    }
 
 pub returns-clause-reset : goal.returns-clause-reset
 unfolding rst

@@ -34,5 +34,5 @@ returns-in-Ok-clause-follows c =
     let nodes : FollowsNodes net s.streams k places names.columns = subst (λ (cs : List (List ℕ)). FollowsNodes net s.streams k places cs) here e.follows in
     let unlike = apart s names.columns net c.requires.schema c.requires.column_names c.requires.distinct columns in
     let law : (run : Run) → IsRun net run → IfSome (slice_get s.streams k) (λ r. FollowsStream r places (map out_column names.columns) (port_values net run)) =
-      λ run h. rw nodes.is.there (nodes_follow net s.streams k places names.columns unlike nodes run h) in
+    λ run h. rw nodes.is.there (nodes_follow net s.streams k places names.columns unlike nodes run h) in
     subst (λ (n : Net). (run : Run) → IsRun n run → IfSome (slice_get s.streams k) (λ r. FollowsStream r places (map out_column names.columns) (port_values n run))) (sym c.in-Ok.ensures) law
