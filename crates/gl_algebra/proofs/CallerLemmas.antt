@@ -14,15 +14,15 @@ module _ (old new : List PlanNode) (node : PlanNode) (plan : IsPlan old) (grows 
   -- a node of the old plan is one of the new, and its shape is as it was
   pub get-grown : (number : ℕ) → number < length old → slice_get new number ≡ slice_get old number
   get-grown number below = elim grows [
-      inl same ↦ ap (λ (nodes : List PlanNode). slice_get nodes number) same
+    | inl same ↦ ap (λ (nodes : List PlanNode). slice_get nodes number) same
     | inr more ↦ ap (λ (nodes : List PlanNode). slice_get nodes number) more ∙ get-append old (node ∷ []) number below
-    ]
+  ]
 
   pub length-grown : length old ≤ length new
   length-grown = elim grows [
-      inl same ↦ rw same (omega arith)
+    | inl same ↦ rw same (omega arith)
     | inr more ↦ rw (more, length-append) (omega arith)
-    ]
+  ]
 
   pub shape-grown : (number : ℕ) → number < length old → shape_of new number ≡ shape_of old number
   shape-grown number below = sym (shape-kept old new (length old) (in_order old plan (length old)) get-grown number below)
@@ -42,5 +42,5 @@ module _ (old new : List PlanNode) (node : PlanNode) (plan : IsPlan old) (grows 
         within = within;
         is = shape-node new (length new) (in_order new plan' (length new)) id node within at
             ∙ shape_local (shape_of new) (shape_of old) node
-                (agree (shape_of new) (shape_of old) (length old) shape-grown (named_by node) fits.before);
+            (agree (shape_of new) (shape_of old) (length old) shape-grown (named_by node) fits.before);
       }

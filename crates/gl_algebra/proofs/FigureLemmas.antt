@@ -57,27 +57,27 @@ rows_keep_sound s f (Project child items) suits sound = settled_sound (f child) 
 rows_keep_sound s f (Aggregate child aggs) suits sound = aggregate_sound (delay_of_aggs (s child).kinds aggs) (f child) (sound 0 0 (lit< tt))
 rows_keep_sound s f (Union left right) suits sound =
     merged_sound (delayed (wait_of (f left) (f right)) (f left)) (delayed (wait_of (f right) (f left)) (f right))
-      (delayed_sound (wait_of (f left) (f right)) (f left) (sound 0 0 (lit< tt)))
-      (delayed_sound (wait_of (f right) (f left)) (f right) (sound 1 0 (lit< tt)))
+    (delayed_sound (wait_of (f left) (f right)) (f left) (sound 0 0 (lit< tt)))
+    (delayed_sound (wait_of (f right) (f left)) (f right) (sound 1 0 (lit< tt)))
 rows_keep_sound s f (Beside left right) suits sound =
     joined_sound (delayed (wait_of (f left) (f right)) (f left)) (delayed (wait_of (f right) (f left)) (f right))
-      (delayed_sound (wait_of (f left) (f right)) (f left) (sound 0 0 (lit< tt)))
-      (delayed_sound (wait_of (f right) (f left)) (f right) (sound 1 0 (lit< tt)))
+    (delayed_sound (wait_of (f left) (f right)) (f left) (sound 0 0 (lit< tt)))
+    (delayed_sound (wait_of (f right) (f left)) (f right) (sound 1 0 (lit< tt)))
 rows_keep_sound s f (Window source body size advance) suits sound =
     windows_sound (copies_of_window size advance) (spaced (window_gap (f body)) (f source)) (f body)
-      (one_copy size advance suits.1.least suits.2.least)
-      (spaced_sound (window_gap (f body)) (f source) (sound 0 0 (lit< tt)))
-      (sound 1 0 (lit< tt))
+    (one_copy size advance suits.1.least suits.2.least)
+    (spaced_sound (window_gap (f body)) (f source) (sound 0 0 (lit< tt)))
+    (sound 1 0 (lit< tt))
 rows_keep_sound s f (Group source body key groups) suits sound =
     groups_sound groups (spaced (group_gap (f body)) (f source)) (f body)
-      (spaced_sound (group_gap (f body)) (f source) (sound 0 0 (lit< tt)))
-      (sound 1 0 (lit< tt))
+    (spaced_sound (group_gap (f body)) (f source) (sound 0 0 (lit< tt)))
+    (sound 1 0 (lit< tt))
 
 -- the step of the table in a list
 pub figures_steps : (nodes : List PlanNode) (limit : ℕ) → SameSteps (figures_from (shape_of nodes)) (figures_from (shape_of nodes)) nodes limit
 figures_steps nodes limit number node below is v w same =
     figures_local (shape_of nodes) (shape_of nodes) v w node
-      (agree_self (shape_of nodes) (named_by node)) same
+    (agree_self (shape_of nodes) (named_by node)) same
 
 -- a node's figures are its row over those of all nodes
 pub figures-node : (nodes : List PlanNode) (limit : ℕ) → AreInOrder nodes limit → (number : ℕ) (node : PlanNode)
@@ -89,26 +89,25 @@ figures-node nodes limit order number node below is =
 
 module _ (nodes nodes' : List PlanNode) (limit : ℕ) (order : AreInOrder nodes limit)
     (kept : (number : ℕ) → number < limit → slice_get nodes' number ≡ slice_get nodes number) where
-
   -- lists that agree below a limit give the same figures there
   pub figures-kept : (number : ℕ) → number < limit → figures_of nodes number ≡ figures_of nodes' number
   unfolding figures_of
   figures-kept number below =
       nodewise-kept (figures_from (shape_of nodes)) (figures_from (shape_of nodes')) input_figures nodes nodes' limit order
-        (λ at node in_limit is v w same. figures_local (shape_of nodes) (shape_of nodes') v w node
-          (agree (shape_of nodes) (shape_of nodes') at
-            (λ child before. shape-kept nodes nodes' limit order kept child (omega arith)) (named_by node) (order at node in_limit is))
-          same)
-        kept number below
+      (λ at node in_limit is v w same. figures_local (shape_of nodes) (shape_of nodes') v w node
+      (agree (shape_of nodes) (shape_of nodes') at
+      (λ child before. shape-kept nodes nodes' limit order kept child (omega arith)) (named_by node) (order at node in_limit is))
+      same)
+      kept number below
 
 -- the figures of a plan's nodes are sound
 pub figures_are_sound : FiguresAreSound
 figures_are_sound nodes number plan within =
     by_nodes nodes plan (λ n. IsSound (figures_of nodes n))
-      (λ n node is fits before.
-        rw (figures-node nodes (suc n) (in_order nodes plan (suc n)) n node (omega arith) is)
-          (rows_keep_sound (shape_of nodes) (figures_of nodes) node fits.suits (λ k d h. before _ (fits.before k d h))))
-      number within
+    (λ n node is fits before.
+    rw (figures-node nodes (suc n) (in_order nodes plan (suc n)) n node (omega arith) is)
+    (rows_keep_sound (shape_of nodes) (figures_of nodes) node fits.suits (λ k d h. before _ (fits.before k d h))))
+    number within
 
 -- a spacer changes nothing of how many tuples come
 spaced-nt : (gap : ℕ) (f : Figures) → (spaced gap f).nt ≡ f.nt
@@ -139,10 +138,10 @@ rows_wait s f (Group source body key groups) wait closing = refl
 pub closing_nodes_wait : ClosingNodesWait
 closing_nodes_wait nodes number plan within =
     by_nodes nodes plan (λ n. IsTrue (is_closing nodes n) → (figures_of nodes n).nt ≡ 0)
-      (λ n node is fits before closing.
-        let order = in_order nodes plan (suc n) in
-        let shape = shape-node nodes (suc n) order n node (omega arith) is in
-        rw (figures-node nodes (suc n) order n node (omega arith) is)
-          (rows_wait (shape_of nodes) (figures_of nodes) node (λ k d h. before _ (fits.before k d h))
-            (subst (λ (x : Shape). IsTrue x.closing) shape closing)))
-      number within
+    (λ n node is fits before closing.
+    let order = in_order nodes plan (suc n) in
+    let shape = shape-node nodes (suc n) order n node (omega arith) is in
+    rw (figures-node nodes (suc n) order n node (omega arith) is)
+    (rows_wait (shape_of nodes) (figures_of nodes) node (λ k d h. before _ (fits.before k d h))
+    (subst (λ (x : Shape). IsTrue x.closing) shape closing)))
+    number within

@@ -26,7 +26,7 @@ place_in_append [] x (suc i) y h = absurd (cc)
 place_in_append (z ∷ zs) x zero y h = earlier (omega arith) h
 place_in_append (z ∷ zs) x (suc i) y h =
     elim (place_in_append zs x i y h) [
-      earlier below is ↦ earlier (omega arith) is
+      | earlier below is ↦ earlier (omega arith) is
       | last at same ↦ last (omega arith) same
     ]
 
@@ -52,8 +52,8 @@ module _ {K : Type 0} (test : K → Bool) where
   first_passes [] h = absurd (cc)
   first_passes (y ∷ ys) h =
       elim (tested (test y)) [
-        passes e ↦ (y, rw e refl, e)
-      | fails e ↦ let rest = first_passes ys (rw e at h) in (rest.0, rw (e, one-add) rest.1, rest.2)
+        | passes e ↦ (y, rw e refl, e)
+        | fails e ↦ let rest = first_passes ys (rw e at h) in (rest.0, rw (e, one-add) rest.1, rest.2)
       ]
 
   -- without one the place is the length
@@ -61,8 +61,8 @@ module _ {K : Type 0} (test : K → Bool) where
   place_of_none [] h = refl
   place_of_none (y ∷ ys) h =
       elim (tested (test y)) [
-        passes e ↦ absurd (let lost = rw e at h in cc)
-      | fails e ↦ rw (e, one-add, place_of_none ys (rw e at h))
+        | passes e ↦ absurd (let lost = rw e at h in cc)
+        | fails e ↦ rw (e, one-add, place_of_none ys (rw e at h))
       ]
 
 -- what inserting an element that equals itself alone leaves: the list where it has the element, else one with it at the end
@@ -75,19 +75,19 @@ module _ {K : Type 0} (eq : K → K → Bool) (same : (x y : K) → eq x y ≡ t
   pub inserted : (xs : List K) (x : K) → IsInserted eq xs x
   inserted xs x =
       elim (tested (list_any (eq x) xs)) [
-        passes e ↦
-          let first = first_passes (eq x) xs e in
-          record {
-            number = rw e (first.1 ∙ ap Some (sym (same x first.0 first.2)));
-            known = λ _. rw e refl;
-            grows = inl (rw e refl);
-          }
-      | fails e ↦
-          record {
-            number = rw (e, place_of_none (eq x) xs e) (get-last xs x);
-            known = λ h. absurd (cc);
-            grows = inr (rw e refl);
-          }
+        | passes e ↦
+            let first = first_passes (eq x) xs e in
+            record {
+              number = rw e (first.1 ∙ ap Some (sym (same x first.0 first.2)));
+              known = λ _. rw e refl;
+              grows = inl (rw e refl);
+            }
+        | fails e ↦
+            record {
+              number = rw (e, place_of_none (eq x) xs e) (get-last xs x);
+              known = λ h. absurd (cc);
+              grows = inr (rw e refl);
+            }
       ]
 
 -- both parts of a test that holds

@@ -32,7 +32,6 @@ AreInOrder nodes limit = (number : ℕ) (node : PlanNode) → number < limit →
 module _ {ℓ} {A : Type ℓ} (step step' : (ℕ → A) → PlanNode → A) (absent : A) (nodes nodes' : List PlanNode) (limit : ℕ)
     (order : AreInOrder nodes limit) (steps : SameSteps step step' nodes limit)
     (kept : (number : ℕ) → number < limit → slice_get nodes' number ≡ slice_get nodes number) where
-
   -- depths past a node's number all give the node's value
   at_depths : (depth depth' number : ℕ) → number < limit → number < depth → number < depth'
       → value_to_depth step absent nodes depth number ≡ value_to_depth step' absent nodes' depth' number
@@ -41,15 +40,15 @@ module _ {ℓ} {A : Type ℓ} (step step' : (ℕ → A) → PlanNode → A) (abs
   at_depths (suc depth) zero number in_limit in_depth in_depth' = absurd (omega arith)
   at_depths (suc depth) (suc depth') number in_limit in_depth in_depth' =
       let here : (found : Option PlanNode) → slice_get nodes number ≡ found
-            → value_at_node (step (value_to_depth step absent nodes depth)) absent found
-              ≡ value_at_node (step' (value_to_depth step' absent nodes' depth')) absent found =
-          elim [
-            None ↦ λ is. refl
-          | Some node ↦ λ is. steps number node in_limit is _ _
-              (agree (value_to_depth step absent nodes depth) (value_to_depth step' absent nodes' depth') number
-                (λ child below. at_depths depth depth' child (omega arith) (omega arith) (omega arith))
-                (named_by node) (order number node in_limit is))
-          ] in
+      → value_at_node (step (value_to_depth step absent nodes depth)) absent found
+      ≡ value_at_node (step' (value_to_depth step' absent nodes' depth')) absent found =
+      elim [
+        | None ↦ λ is. refl
+        | Some node ↦ λ is. steps number node in_limit is _ _
+            (agree (value_to_depth step absent nodes depth) (value_to_depth step' absent nodes' depth') number
+            (λ child below. at_depths depth depth' child (omega arith) (omega arith) (omega arith))
+            (named_by node) (order number node in_limit is))
+      ] in
       here (slice_get nodes number) refl
       ∙ ap (λ found. value_at_node (step' (value_to_depth step' absent nodes' depth')) absent found) (sym (kept number in_limit))
 
@@ -60,7 +59,6 @@ module _ {ℓ} {A : Type ℓ} (step step' : (ℕ → A) → PlanNode → A) (abs
 
 module _ {ℓ} {A : Type ℓ} (step : (ℕ → A) → PlanNode → A) (absent : A) (nodes : List PlanNode) (limit : ℕ)
     (order : AreInOrder nodes limit) (steps : SameSteps step step nodes limit) where
-
   -- a node's value is its step over the values of all nodes
   pub nodewise-node : (number : ℕ) (node : PlanNode) → number < limit → slice_get nodes number ≡ Some node
       → nodewise step absent nodes number ≡ step (nodewise step absent nodes) node
@@ -68,7 +66,7 @@ module _ {ℓ} {A : Type ℓ} (step : (ℕ → A) → PlanNode → A) (absent : 
   nodewise-node number node in_limit is =
       ap (λ found. value_at_node (step (value_to_depth step absent nodes number)) absent found) is
       ∙ steps number node in_limit is _ _
-          (agree (value_to_depth step absent nodes number) (λ child. value_to_depth step absent nodes (suc child) child) number
-            (λ child below. at_depths step step absent nodes nodes limit order steps (λ _ _. refl)
-              number (suc child) child (omega arith) below (omega arith))
-            (named_by node) (order number node in_limit is))
+      (agree (value_to_depth step absent nodes number) (λ child. value_to_depth step absent nodes (suc child) child) number
+      (λ child below. at_depths step step absent nodes nodes limit order steps (λ _ _. refl)
+      number (suc child) child (omega arith) below (omega arith))
+      (named_by node) (order number node in_limit is))

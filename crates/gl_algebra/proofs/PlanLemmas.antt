@@ -32,38 +32,38 @@ pub plan-append : (nodes : List PlanNode) (node : PlanNode) → IsPlan nodes →
     → list_any (eq node) nodes ≡ false → IsPlan (nodes ++ node ∷ [])
 plan-append nodes node plan fits fresh = record { fits = keeps; distinct = apart }
   where
-  wider : (number : ℕ) (x : PlanNode) → number ≤ length nodes → Fits nodes number x → Fits (nodes ++ node ∷ []) number x
-  wider = fits-kept nodes (nodes ++ node ∷ []) (length nodes) (in_order nodes plan (length nodes)) (get-append nodes (node ∷ []))
+    wider : (number : ℕ) (x : PlanNode) → number ≤ length nodes → Fits nodes number x → Fits (nodes ++ node ∷ []) number x
+    wider = fits-kept nodes (nodes ++ node ∷ []) (length nodes) (in_order nodes plan (length nodes)) (get-append nodes (node ∷ []))
 
-  keeps : (number : ℕ) (x : PlanNode) → slice_get (nodes ++ node ∷ []) number ≡ Some x → Fits (nodes ++ node ∷ []) number x
-  keeps number x is =
-      elim (place_in_append nodes node number x is) [
-        earlier below at ↦ wider number x (omega arith) (plan.fits number x at)
-      | last at same ↦ rw (at, same) (wider (length nodes) node (omega arith) fits)
-      ]
+    keeps : (number : ℕ) (x : PlanNode) → slice_get (nodes ++ node ∷ []) number ≡ Some x → Fits (nodes ++ node ∷ []) number x
+    keeps number x is =
+        elim (place_in_append nodes node number x is) [
+          | earlier below at ↦ wider number x (omega arith) (plan.fits number x at)
+          | last at same ↦ rw (at, same) (wider (length nodes) node (omega arith) fits)
+        ]
 
-  absent : (i : ℕ) → slice_get nodes i ≡ Some node → ⊥
-  absent i is = let e = any_from_get nodes node i is in cc
+    absent : (i : ℕ) → slice_get nodes i ≡ Some node → ⊥
+    absent i is = let e = any_from_get nodes node i is in cc
 
-  apart : (i j : ℕ) (x : PlanNode) → slice_get (nodes ++ node ∷ []) i ≡ Some x → slice_get (nodes ++ node ∷ []) j ≡ Some x → i ≡ j
-  apart i j x is js =
-      elim (place_in_append nodes node i x is) [
-        earlier below at ↦ elim (place_in_append nodes node j x js) [
-            earlier below' at' ↦ plan.distinct i j x at at'
-          | last at' same' ↦ absurd (absent i (at ∙ ap Some same'))
+    apart : (i j : ℕ) (x : PlanNode) → slice_get (nodes ++ node ∷ []) i ≡ Some x → slice_get (nodes ++ node ∷ []) j ≡ Some x → i ≡ j
+    apart i j x is js =
+        elim (place_in_append nodes node i x is) [
+          | earlier below at ↦ elim (place_in_append nodes node j x js) [
+            | earlier below' at' ↦ plan.distinct i j x at at'
+            | last at' same' ↦ absurd (absent i (at ∙ ap Some same'))
           ]
-      | last at same ↦ elim (place_in_append nodes node j x js) [
-            earlier below' at' ↦ absurd (absent j (at' ∙ ap Some same))
-          | last at' same' ↦ at ∙ sym at'
+          | last at same ↦ elim (place_in_append nodes node j x js) [
+            | earlier below' at' ↦ absurd (absent j (at' ∙ ap Some same))
+            | last at' same' ↦ at ∙ sym at'
           ]
-      ]
+        ]
 
 -- a plan stays one, whether it had the node or not
 pub plan-insert : (nodes : List PlanNode) (node : PlanNode) → IsPlan nodes → Fits nodes (length nodes) node → IsPlan (insert_key eq nodes node)
 plan-insert nodes node plan fits =
     elim (tested (list_any (eq node) nodes)) [
-      passes e ↦ rw e plan
-    | fails e ↦ rw e (plan-append nodes node plan fits e)
+      | passes e ↦ rw e plan
+      | fails e ↦ rw e (plan-append nodes node plan fits e)
     ]
 
 -- a number below the length has a node
@@ -75,8 +75,7 @@ node_at (x ∷ xs) (suc number) below = node_at xs number (omega arith)
 -- what holds of a node where it holds of all before it holds of every node
 module _ {ℓ} (nodes : List PlanNode) (plan : IsPlan nodes) (P : ℕ → Type ℓ)
     (next : (number : ℕ) (node : PlanNode) → slice_get nodes number ≡ Some node → Fits nodes number node
-      → ((child : ℕ) → child < number → P child) → P number) where
-
+    → ((child : ℕ) → child < number → P child) → P number) where
   below_bound : (bound number : ℕ) → number < bound → number < length nodes → P number
   below_bound zero number below within = absurd (omega arith)
   below_bound (suc bound) number below within =

@@ -24,7 +24,7 @@ meaning_local s t v w (Window source body size advance) g h = λ i inputs.
     IsOfParts (h.0 i inputs) (slices size advance) (λ slice. h.1.0 i (given inputs slice)) (λ rows. false)
 meaning_local s t v w (Group source body key count) g h = λ i inputs.
     IsOfParts (h.0 i inputs) (groups count (λ row. slice_index row key))
-      (IsOfGroup (λ rows. h.1.0 i (given inputs rows))) (has_further count (λ row. slice_index row key))
+    (IsOfGroup (λ rows. h.1.0 i (given inputs rows))) (has_further count (λ row. slice_index row key))
 
 pub meaning_steps : (nodes : List PlanNode) (limit : ℕ) → SameSteps (meaning_from (shape_of nodes)) (meaning_from (shape_of nodes)) nodes limit
 meaning_steps nodes limit number node below is v w same =
@@ -40,17 +40,16 @@ meaning-node nodes limit order number node below is =
 
 module _ (nodes nodes' : List PlanNode) (limit : ℕ) (order : AreInOrder nodes limit)
     (kept : (number : ℕ) → number < limit → slice_get nodes' number ≡ slice_get nodes number) where
-
   -- lists that agree below a limit give the same meanings there
   pub meaning-kept : (number : ℕ) → number < limit → IsPlanResult nodes number ≡ IsPlanResult nodes' number
   unfolding IsPlanResult
   meaning-kept number below =
       nodewise-kept (meaning_from (shape_of nodes)) (meaning_from (shape_of nodes')) NoMeaning nodes nodes' limit order
-        (λ at node in_limit is v w same. meaning_local (shape_of nodes) (shape_of nodes') v w node
-          (agree (shape_of nodes) (shape_of nodes') at
-            (λ child before. shape-kept nodes nodes' limit order kept child (omega arith)) (named_by node) (order at node in_limit is))
-          same)
-        kept number below
+      (λ at node in_limit is v w same. meaning_local (shape_of nodes) (shape_of nodes') v w node
+      (agree (shape_of nodes) (shape_of nodes') at
+      (λ child before. shape-kept nodes nodes' limit order kept child (omega arith)) (named_by node) (order at node in_limit is))
+      same)
+      kept number below
 
 -- equal meanings have the same results
 pub moved : (m n : Meaning) → m ≡ n → (inputs : Inputs) (out : List Row) (spill : Bool) → m inputs out spill → n inputs out spill

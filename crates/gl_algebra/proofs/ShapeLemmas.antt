@@ -41,7 +41,6 @@ shape_steps nodes limit number node below is v w same = shape_local v w node sam
 
 module _ (nodes nodes' : List PlanNode) (limit : ℕ) (order : AreInOrder nodes limit)
     (kept : (number : ℕ) → number < limit → slice_get nodes' number ≡ slice_get nodes number) where
-
   -- lists that agree below a limit give the same shapes there
   pub shape-kept : (number : ℕ) → number < limit → shape_of nodes number ≡ shape_of nodes' number
   unfolding shape_of
@@ -53,8 +52,8 @@ module _ (nodes nodes' : List PlanNode) (limit : ℕ) (order : AreInOrder nodes 
   fits-kept number node within fits = record {
     before = fits.before;
     suits = suits_local (shape_of nodes) (shape_of nodes') node
-      (agree (shape_of nodes) (shape_of nodes') number (λ child below. shape-kept child (omega arith)) (named_by node) fits.before)
-      fits.suits;
+        (agree (shape_of nodes) (shape_of nodes') number (λ child below. shape-kept child (omega arith)) (named_by node) fits.before)
+        fits.suits;
   }
 
 -- a node's shape is its row over the shapes of all nodes

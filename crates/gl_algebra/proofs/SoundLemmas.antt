@@ -54,7 +54,7 @@ last_of-within (suc tuples) first last least most l m h e = (h (omega arith), e)
 pub merged_sound : (p q : Figures) → IsSound p → IsSound q → IsSound (merged p q)
 merged_sound p q sound sound' =
     let within = last_of-within (p.nt + q.nt) (p.a + 1) (max p.lt q.lt + p.nt + q.nt) 0 (max p.le q.le + p.ne + q.ne + 1)
-          (omega arith) (omega arith) (λ some. omega arith) (omega arith) in
+    (omega arith) (omega arith) (λ some. omega arith) (omega arith) in
     record {
       tuples_last = within.0;
       end_last = within.1;
@@ -84,15 +84,15 @@ at_end_sound p q sound sound' = record {
 pub joined_sound : (p q : Figures) → IsSound p → IsSound q → IsSound (joined p q)
 joined_sound p q sound sound' =
     elim (is_fixed p && is_fixed q) as (λ b. IsSound (cond b (in_step p q) (at_end p q))) [
-      true ↦ in_step_sound p q sound sound'
-    | false ↦ at_end_sound p q sound sound'
+      | true ↦ in_step_sound p q sound sound'
+      | false ↦ at_end_sound p q sound sound'
     ]
 
 pub spacer_sound : (gap : ℕ) (f : Figures) → 1 ≤ gap → IsSound f → IsSound (spacer_figures gap f)
 spacer_sound gap f some sound =
     let product : (f.nt - 1) * gap ≤ f.ne * gap = mul-le-mul_right gap (omega (arith, sound.tuples)) in
     let within = last_of-within f.nt (f.a + 1) (f.lt + 1 + (f.nt - 1) * gap) 0 (f.le + 1 + f.ne * gap)
-          (omega arith) (omega arith) (λ some. omega arith) (omega arith) in
+    (omega arith) (omega arith) (λ some. omega arith) (omega arith) in
     record {
       tuples_last = within.0;
       end_last = within.1;
@@ -104,12 +104,12 @@ spacer_sound gap f some sound =
 pub spaced_sound : (gap : ℕ) (f : Figures) → IsSound f → IsSound (spaced gap f)
 spaced_sound gap f sound =
     elim (tested (nat_lt 1 gap)) [
-      passes e ↦ let more : 1 < gap = ltb-true 1 gap e in
-        elim (tested (nat_lt f.a f.le)) [
-          passes e' ↦ rw (e, e') (spacer_sound gap f (omega arith) sound)
-        | fails e' ↦ rw (e, e') sound
-        ]
-    | fails e ↦ rw e sound
+      | passes e ↦ let more : 1 < gap = ltb-true 1 gap e in
+          elim (tested (nat_lt f.a f.le)) [
+            | passes e' ↦ rw (e, e') (spacer_sound gap f (omega arith) sound)
+            | fails e' ↦ rw (e, e') sound
+          ]
+      | fails e ↦ rw e sound
     ]
 
 pub windows_sound : (copies : ℕ) (f s : Figures) → 1 ≤ copies → IsSound f → IsSound s → IsSound (windows_over copies f s)

@@ -46,14 +46,13 @@ copies_local v w (Group source body key groups) h = rw (h.0, h.1.0)
 
 module _ (nodes : List PlanNode) (limit : ℕ) (order : AreInOrder nodes limit) (number : ℕ) (node : PlanNode)
     (below : number < limit) (is : slice_get nodes number ≡ Some node) where
-
   pub weight-node : weight_of nodes number ≡ weight_from (shape_of nodes) (figures_of nodes) (weight_of nodes) node
   unfolding weight_of
   weight-node =
       nodewise-node (weight_from (shape_of nodes) (figures_of nodes)) 0 nodes limit order
-        (λ at x in_limit was v w same. weight_local (shape_of nodes) (shape_of nodes) (figures_of nodes) (figures_of nodes) v w x
-          (agree_self (shape_of nodes) (named_by x)) (agree_self (figures_of nodes) (named_by x)) same)
-        number node below is
+      (λ at x in_limit was v w same. weight_local (shape_of nodes) (shape_of nodes) (figures_of nodes) (figures_of nodes) v w x
+      (agree_self (shape_of nodes) (named_by x)) (agree_self (figures_of nodes) (named_by x)) same)
+      number node below is
 
   pub copies-node : copies_of nodes number ≡ copies_from (copies_of nodes) node
   unfolding copies_of
@@ -75,24 +74,23 @@ nodes_follow_tables nodes number node plan is =
 
 module _ (nodes nodes' : List PlanNode) (limit : ℕ) (order : AreInOrder nodes limit)
     (kept : (number : ℕ) → number < limit → slice_get nodes' number ≡ slice_get nodes number) where
-
   pub weight-kept : (number : ℕ) → number < limit → weight_of nodes number ≡ weight_of nodes' number
   unfolding weight_of
   weight-kept number below =
       nodewise-kept (weight_from (shape_of nodes) (figures_of nodes)) (weight_from (shape_of nodes') (figures_of nodes')) 0 nodes nodes' limit order
-        (λ at node in_limit is v w same. weight_local (shape_of nodes) (shape_of nodes') (figures_of nodes) (figures_of nodes') v w node
-          (agree (shape_of nodes) (shape_of nodes') at
-            (λ child before. shape-kept nodes nodes' limit order kept child (omega arith)) (named_by node) (order at node in_limit is))
-          (agree (figures_of nodes) (figures_of nodes') at
-            (λ child before. figures-kept nodes nodes' limit order kept child (omega arith)) (named_by node) (order at node in_limit is))
-          same)
-        kept number below
+      (λ at node in_limit is v w same. weight_local (shape_of nodes) (shape_of nodes') (figures_of nodes) (figures_of nodes') v w node
+      (agree (shape_of nodes) (shape_of nodes') at
+      (λ child before. shape-kept nodes nodes' limit order kept child (omega arith)) (named_by node) (order at node in_limit is))
+      (agree (figures_of nodes) (figures_of nodes') at
+      (λ child before. figures-kept nodes nodes' limit order kept child (omega arith)) (named_by node) (order at node in_limit is))
+      same)
+      kept number below
 
   pub copies-kept : (number : ℕ) → number < limit → copies_of nodes number ≡ copies_of nodes' number
   unfolding copies_of
   copies-kept number below =
       nodewise-kept copies_from copies_from 0 nodes nodes' limit order
-        (λ at node in_limit is v w same. copies_local v w node same) kept number below
+      (λ at node in_limit is v w same. copies_local v w node same) kept number below
 
 pub earlier_nodes_are_kept : EarlierNodesAreKept
 earlier_nodes_are_kept nodes more number plan within =

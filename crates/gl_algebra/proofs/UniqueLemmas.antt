@@ -91,14 +91,14 @@ rows_one s m u (Beside left right) one none inputs =
 rows_one s m u (Window source body size advance) one none inputs =
     let sides = neither (u source) (u body) none in
     parts_one (m source inputs) (slices size advance) (λ slice. m body (given inputs slice)) (λ rows. false)
-      (one 0 0 (lit< tt) sides.0 inputs) (λ slice. one 1 0 (lit< tt) sides.1 (given inputs slice))
+    (one 0 0 (lit< tt) sides.0 inputs) (λ slice. one 1 0 (lit< tt) sides.1 (given inputs slice))
 rows_one s m u (Group source body key count) one none inputs =
     let sides = neither (u source) (u body) none in
     parts_one (m source inputs) (groups count (λ row. slice_index row key))
-      (IsOfGroup (λ rows. m body (given inputs rows))) (has_further count (λ row. slice_index row key))
-      (one 0 0 (lit< tt) sides.0 inputs)
-      (λ (group : GroupOf Row). changed_one (m body (given inputs group.rows)) (map (λ row. group.key ∷ row))
-        (one 1 0 (lit< tt) sides.1 (given inputs group.rows)))
+    (IsOfGroup (λ rows. m body (given inputs rows))) (has_further count (λ row. slice_index row key))
+    (one 0 0 (lit< tt) sides.0 inputs)
+    (λ (group : GroupOf Row). changed_one (m body (given inputs group.rows)) (map (λ row. group.key ∷ row))
+    (one 1 0 (lit< tt) sides.1 (given inputs group.rows)))
 
 union_local : (v w : ℕ → Bool) (node : PlanNode) → Agree v w (named_by node) → has_union_from v node ≡ has_union_from w node
 union_local v w (Stream number kinds) h = refl
@@ -121,11 +121,11 @@ union-node nodes limit order number node below is =
 pub results_are_unique : ResultsAreUnique
 results_are_unique nodes number plan within =
     by_nodes nodes plan (λ n. has_union nodes n ≡ false → IsFunction (IsPlanResult nodes n))
-      (λ n node is fits before none inputs out out' spill spill' r r'.
-        let order = in_order nodes plan (suc n) in
-        let meaning = meaning-node nodes (suc n) order n node (omega arith) is in
-        rows_one (shape_of nodes) (IsPlanResult nodes) (has_union nodes) node (λ k d h. before _ (fits.before k d h))
-          (sym (union-node nodes (suc n) order n node (omega arith) is) ∙ none)
-          inputs out out' spill spill'
-          (moved _ _ meaning inputs out spill r) (moved _ _ meaning inputs out' spill' r'))
-      number within
+    (λ n node is fits before none inputs out out' spill spill' r r'.
+    let order = in_order nodes plan (suc n) in
+    let meaning = meaning-node nodes (suc n) order n node (omega arith) is in
+    rows_one (shape_of nodes) (IsPlanResult nodes) (has_union nodes) node (λ k d h. before _ (fits.before k d h))
+    (sym (union-node nodes (suc n) order n node (omega arith) is) ∙ none)
+    inputs out out' spill spill'
+    (moved _ _ meaning inputs out spill r) (moved _ _ meaning inputs out' spill' r'))
+    number within

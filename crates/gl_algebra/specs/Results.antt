@@ -133,7 +133,7 @@ meaning_from shapes meanings (Node.Window source body size advance) inputs =
     IsOfParts (meanings source inputs) (slices size advance) (λ slice. meanings body (given inputs slice)) (λ rows. false)
 meaning_from shapes meanings (Node.Group source body key count) inputs =
     IsOfParts (meanings source inputs) (groups count (λ row. slice_index row key))
-      (IsOfGroup (λ rows. meanings body (given inputs rows))) (has_further count (λ row. slice_index row key))
+    (IsOfGroup (λ rows. meanings body (given inputs rows))) (has_further count (λ row. slice_index row key))
 
 -- no result
 abbrev pub NoMeaning : Meaning

@@ -16,12 +16,9 @@ pub data Pace : Type 0 where
 pub record Shape : Type 0 where
   -- the kinds of the columns, in order
   pub kinds : List Kind
-
   -- nothing comes before the end
   pub closing : Bool
-
   pub pace : Pace
-
   -- the streams and body inputs that the rows come from, those in bodies left out
   pub leaves : List PlanNode
 
@@ -54,7 +51,10 @@ shape_from shapes (Window source body size advance) =
     record (shapes source) { kinds = (shapes body).kinds; pace = unsteady }
 shape_from shapes (Group source body key groups) =
     record (shapes source) {
-      kinds = kind_of_column (shapes source).kinds key ∷ (shapes body).kinds; closing = true; pace = unsteady }
+      kinds = kind_of_column (shapes source).kinds key ∷ (shapes body).kinds;
+      closing = true;
+      pace = unsteady;
+    }
 
 -- the shape of a node
 unfoldable pub shape_of : List PlanNode → ℕ → Shape

@@ -16,8 +16,7 @@ use std::test::Fail;
 fn worked_plans()
     ensures figures { WorkedFigures }
     ensures weights { WorkedWeights }
-{
-}
+{}
 
 // The kinds of one number.
 fn kinds(alloc: Global) -> Result<Kinds, Fail>

@@ -1,8 +1,8 @@
 //! Worked rows of words, windows, groups and totals.
 
 use crate::kind::Kind;
-use crate::lists::{Table, copy_of_row, groups_of, slice_of, slices_of, some_further};
 use crate::listed::Listed;
+use crate::lists::{Table, copy_of_row, groups_of, slice_of, slices_of, some_further};
 use crate::totals::{average, count, greatest, least, sum, weigh};
 use crate::word::Word;
 use std::alloc::Global;

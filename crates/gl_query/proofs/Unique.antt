@@ -22,7 +22,7 @@ one_joined body one (part ∷ parts) out out' spill spill' (first, later, p, q, 
     let b = one_joined body one parts later later' q q' rest rest' in
     record {
       rows = e ∙ ap (λ l. l ++ later) a.rows ∙ ap (λ l. first' ++ l) b.rows ∙ sym e';
-      spills = s ∙ ap (λ x. x || q) a.spills ∙ ap (λ x. p' || x) b.spills ∙ sym s'
+      spills = s ∙ ap (λ x. x || q) a.spills ∙ ap (λ x. p' || x) b.spills ∙ sym s';
     }
 
 one_in_parts : {A : Type 0} (source : Results) (parts : List Row → List A) (left_out : List Row → Bool) (body : A → Results) → HasOne source → ((x : A) → HasOne (body x)) → HasOne (IsInParts source parts left_out body)
@@ -33,8 +33,8 @@ one_in_parts source parts left_out body one each out out' spill spill' a b =
     record {
       rows = j.rows;
       spills =
-        a.spills ∙ ap (λ x. x || a.inside || left_out a.rows) s.spills ∙ ap (λ x. b.before || x || left_out a.rows) j.spills
-        ∙ ap (λ r. b.before || b.inside || left_out r) s.rows ∙ sym b.spills
+          a.spills ∙ ap (λ x. x || a.inside || left_out a.rows) s.spills ∙ ap (λ x. b.before || x || left_out a.rows) j.spills
+          ∙ ap (λ r. b.before || b.inside || left_out r) s.rows ∙ sym b.spills;
     }
 
 one_of_both : (left right : Results) → HasOne left → HasOne right → HasOne (IsOfBoth left right AreBeside)
@@ -43,7 +43,7 @@ one_of_both left right one other out out' spill spill' a b =
     let r = other a.right_rows b.right_rows a.right_spill b.right_spill a.right_is b.right_is in
     record {
       rows = a.join.is ∙ ap (λ rows. beside rows a.right_rows) l.rows ∙ ap (λ rows. beside b.left_rows rows) r.rows ∙ sym b.join.is;
-      spills = a.spills ∙ ap (λ x. x || a.right_spill) l.spills ∙ ap (λ x. b.left_spill || x) r.spills ∙ sym b.spills
+      spills = a.spills ∙ ap (λ x. x || a.right_spill) l.spills ∙ ap (λ x. b.left_spill || x) r.spills ∙ sym b.spills;
     }
 
 pub unique : HasOneResult

@@ -157,7 +157,7 @@ IsResultIn (shape.PerGroup var source key n body) env out spill =
     let columns = columns_in env source in
     let key_of : Row → ℕ = λ row. slice_index row (column_number columns key) in
     IsInParts (IsResultIn source env) (groups n key_of) (has_further n key_of)
-      (λ (g : Group Row). WithKey (IsResultIn body (only var columns g.rows)) g.key) out spill
+    (λ (g : Group Row). WithKey (IsResultIn body (only var columns g.rows)) g.key) out spill
 IsResultIn (shape.Union l r) env out spill = IsOfBoth (IsResultIn l env) (IsResultIn r env) IsInterleaving out spill
 IsResultIn (shape.Concat l r) env out spill = IsOfBoth (IsResultIn l env) (IsResultIn r env) AreBeside out spill
 

@@ -178,4 +178,4 @@ value_of columns place (shape.Not e) row = not_of 1 (value_of columns (Unsigned 
 value_of columns place (shape.Cast kind e) row = cast_of (kind_of columns (kind_alone e) e) kind (value_of columns (kind_alone e) e row)
 value_of columns place (shape.Binary op l r) row =
     operate op (kind_of columns (left_place columns op place l r) l)
-      (value_of columns (left_place columns op place l r) l row) (value_of columns (right_place columns op place l r) r row)
+    (value_of columns (left_place columns op place l r) l row) (value_of columns (right_place columns op place l r) r row)

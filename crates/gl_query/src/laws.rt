@@ -5,5 +5,4 @@ ghost use Rattle.gl_query.specs.Laws.{HasOneResult};
 /// A query without UNION has at most one result over given rows: its rows and its spill.
 pub fn results_are_unique()
     ensures { HasOneResult }
-{
-}
+{}

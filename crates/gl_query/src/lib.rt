@@ -7,6 +7,6 @@ pub mod tree;
 
 pub use fault::QueryFault;
 pub use tree::{
-    Agg, AggItem, AggItems, Expr, Item, ItemList, Name, Num, Nums, Op, Pick, Query, Sort, Statement,
-    TextBytes,
+    Agg, AggItem, AggItems, Expr, Item, ItemList, Name, Num, Nums, Op, Pick, Query, Sort,
+    Statement, TextBytes,
 };

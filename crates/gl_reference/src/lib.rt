@@ -7,5 +7,3 @@ pub mod kinds;
 pub mod results;
 pub mod rows;
 pub mod values;
-
-

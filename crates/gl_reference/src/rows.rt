@@ -9,8 +9,7 @@ ghost use Rattle.gl_query.specs.Results.{agg_value, beside, kept, picked, total_
 use crate::kinds::{is_kind, kind_alone, kind_of};
 use crate::values::{keeps, value_of};
 use gl_bits::lists::copy_of_row;
-use gl_bits::totals;
-use gl_bits::{Kind, Listed, Memory, Table};
+use gl_bits::{Kind, Listed, Memory, Table, totals};
 use gl_query::{Agg, AggItem, Expr, Item, Num, Pick};
 use gl_schema::Column;
 use std::alloc::{AllocError, Global};
@@ -230,11 +229,7 @@ pub fn with_key(alloc: Global, key: u128, rows: &[Listed<u128>]) -> Result<Table
 
 /// Rows side by side.
 #[tactic(auto, using(crate::proofs::Siding::beside_more))]
-pub fn beside(
-    alloc: Global,
-    left: &[Listed<u128>],
-    right: &[Listed<u128>],
-) -> Result<Table, Memory>
+pub fn beside(alloc: Global, left: &[Listed<u128>], right: &[Listed<u128>]) -> Result<Table, Memory>
     requires { length left.now ≡ length right.now }
     ensures { IfOk result (λ v. v ≡ beside left.now right.now) }
 {

@@ -50,10 +50,12 @@ reads_one : (m : Mark) (r q : Reading) → ((at : ℕ) → mark_at m r at ≡ Ok
 reads_one m r q step = record { takes = took_one m r q step }
 
 reads_then : (a b : List Mark) (r q p : Reading) → Reads a r q → Reads b q p → Reads (a ++ b) r p
-reads_then a b r q p f g = record { takes = λ len ts rest e.
-    let x = f.takes len ts (b ++ rest) (e ∙ append_assoc a b rest) in
-    let y = g.takes len x.others rest x.marked in
-    record { others = y.others; marked = y.marked; same = x.same ∙ y.same } }
+reads_then a b r q p f g = record {
+  takes = λ len ts rest e.
+      let x = f.takes len ts (b ++ rest) (e ∙ append_assoc a b rest) in
+      let y = g.takes len x.others rest x.marked in
+      record { others = y.others; marked = y.marked; same = x.same ∙ y.same };
+}
 
 abbrev at : List Stream → Place → Reading
 at streams p = record { streams = streams; place = p }
@@ -97,10 +99,10 @@ reads_columns done name front c (d ∷ cs) all le distinct =
     let e : (front ++ c ∷ []) ++ d ∷ cs ≡ front ++ c ∷ d ∷ cs = append_assoc front (c ∷ []) (d ∷ cs) in
     let more = reads_columns done name (front ++ c ∷ []) d cs all.1 (subst (λ (x : List Column). length x ≤ 32) (sym e) le) (subst (λ (x : List Column). IsDistinct bytes_eq (column_names x)) (sym e) distinct) in
     reads_then (spell_column c) (Sign 44 ∷ spell_columns (d ∷ cs)) _ (at done (place.Comma (stream_of name (front ++ c ∷ [])))) _
-      (reads_column done name front c all.0 (omega (arith, length-append front (c ∷ d ∷ cs))) (new_column front c (d ∷ cs) distinct))
-      (reads_then (Sign 44 ∷ []) (spell_columns (d ∷ cs)) _ (at done (place.Column (stream_of name (front ++ c ∷ [])))) _
-        (reads_one _ _ _ (λ i. refl))
-        (subst (λ (x : List Column). Reads (spell_columns (d ∷ cs)) (at done (place.Column (stream_of name (front ++ c ∷ [])))) (at done (place.Comma (stream_of name x)))) e more))
+    (reads_column done name front c all.0 (omega (arith, length-append front (c ∷ d ∷ cs))) (new_column front c (d ∷ cs) distinct))
+    (reads_then (Sign 44 ∷ []) (spell_columns (d ∷ cs)) _ (at done (place.Column (stream_of name (front ++ c ∷ [])))) _
+    (reads_one _ _ _ (λ i. refl))
+    (subst (λ (x : List Column). Reads (spell_columns (d ∷ cs)) (at done (place.Column (stream_of name (front ++ c ∷ [])))) (at done (place.Comma (stream_of name x)))) e more))
 
 -- columns of a stream, of which there is one at least
 reads_all_columns : (done : List Stream) (name : List ℕ) (cs : List Column) → 1 ≤ length cs → AllByRecursion IsColumn cs → length cs ≤ 32 → IsDistinct bytes_eq (column_names cs)
@@ -112,11 +114,11 @@ reads_all_columns done name (c ∷ cs) some' all le distinct = reads_columns don
 reads_stream : (done : List Stream) (s : Stream) → IsStream s → length done < 8 → has_stream done s.name ≡ false → Reads (spell_stream s) (at done place.Stream) (at (done ++ s ∷ []) place.Stream)
 reads_stream done s is lt new =
     reads_then (Word (codes "stream") ∷ []) (Word s.name ∷ Sign 40 ∷ (spell_columns s.columns ++ Sign 41 ∷ Sign 59 ∷ [])) _ (at done place.Name) _ (reads_one _ _ _ (step_stream done lt))
-   (reads_then (Word s.name ∷ []) (Sign 40 ∷ (spell_columns s.columns ++ Sign 41 ∷ Sign 59 ∷ [])) _ (at done (place.Opening s.name)) _ (reads_one _ _ _ (step_name done s.name is.name new))
-   (reads_then (Sign 40 ∷ []) (spell_columns s.columns ++ Sign 41 ∷ Sign 59 ∷ []) _ (at done (place.Column (stream_of s.name []))) _ (reads_one _ _ _ (λ i. refl))
-   (reads_then (spell_columns s.columns) (Sign 41 ∷ Sign 59 ∷ []) _ (at done (place.Comma s)) _ (reads_all_columns done s.name s.columns is.some' is.columns is.most is.distinct)
-   (reads_then (Sign 41 ∷ []) (Sign 59 ∷ []) _ (at done (place.Close s)) _ (reads_one _ _ _ (λ i. refl))
-   (reads_one _ _ _ (λ i. refl))))))
+    (reads_then (Word s.name ∷ []) (Sign 40 ∷ (spell_columns s.columns ++ Sign 41 ∷ Sign 59 ∷ [])) _ (at done (place.Opening s.name)) _ (reads_one _ _ _ (step_name done s.name is.name new))
+    (reads_then (Sign 40 ∷ []) (spell_columns s.columns ++ Sign 41 ∷ Sign 59 ∷ []) _ (at done (place.Column (stream_of s.name []))) _ (reads_one _ _ _ (λ i. refl))
+    (reads_then (spell_columns s.columns) (Sign 41 ∷ Sign 59 ∷ []) _ (at done (place.Comma s)) _ (reads_all_columns done s.name s.columns is.some' is.columns is.most is.distinct)
+    (reads_then (Sign 41 ∷ []) (Sign 59 ∷ []) _ (at done (place.Close s)) _ (reads_one _ _ _ (λ i. refl))
+    (reads_one _ _ _ (λ i. refl))))))
 
 -- streams behind others
 reads_streams : (done ss : List Stream) → AllByRecursion IsStream ss → length (done ++ ss) ≤ 8 → IsDistinct bytes_eq (stream_names (done ++ ss)) → Reads (flat_map spell_stream ss) (at done place.Stream) (at (done ++ ss) place.Stream)
@@ -125,8 +127,8 @@ reads_streams done (s ∷ ss) all le distinct =
     let e : (done ++ s ∷ []) ++ ss ≡ done ++ s ∷ ss = append_assoc done (s ∷ []) ss in
     let more = reads_streams (done ++ s ∷ []) ss all.1 (subst (λ (x : List Stream). length x ≤ 8) (sym e) le) (subst (λ (x : List Stream). IsDistinct bytes_eq (stream_names x)) (sym e) distinct) in
     reads_then (spell_stream s) (flat_map spell_stream ss) _ (at (done ++ s ∷ []) place.Stream) _
-      (reads_stream done s all.0 (omega (arith, length-append done (s ∷ ss))) (new_stream done s ss distinct))
-      (subst (λ (x : List Stream). Reads (flat_map spell_stream ss) (at (done ++ s ∷ []) place.Stream) (at x place.Stream)) e more)
+    (reads_stream done s all.0 (omega (arith, length-append done (s ∷ ss))) (new_stream done s ss distinct))
+    (subst (λ (x : List Stream). Reads (flat_map spell_stream ss) (at (done ++ s ∷ []) place.Stream) (at x place.Stream)) e more)
 
 ended : (len : ℕ) (ts : List Token) (ss : List Stream) → marks ts ≡ [] → 1 ≤ length ss → schema_from len ts (at ss place.Stream) ≡ Ok (record { streams = ss })
 ended len [] [] e some' = absurd (omega arith)

@@ -96,8 +96,9 @@ small_same (a ∷ b ∷ c ∷ cs) y e low = absurd (omega arith)
 -- a size that is read is a kind's
 sized_tells : (kind : ℕ → Kind) (most n : ℕ) (k : Kind) → sized kind most n ≡ Some k → (1 ≤ n) × (n ≤ most) × (kind n ≡ k)
 sized_tells kind most n k h = elim (cases_Bool (nat_le 1 n && nat_le n most)) [
-    inl t ↦ (let p = and_parts (nat_le 1 n) (nat_le n most) t in (leb-true 1 n p.0, leb-true n most p.1, cc (rw t at h)))
-  | inr f ↦ absurd (cc (rw f at h)) ]
+  | inl t ↦ (let p = and_parts (nat_le 1 n) (nat_le n most) t in (leb-true 1 n p.0, leb-true n most p.1, cc (rw t at h)))
+  | inr f ↦ absurd (cc (rw f at h))
+]
 
 -- what a word that is read tells: how it begins, and the number that its digits spell
 record Begins (front w : List ℕ) (n most : ℕ) : Type 0 where
@@ -132,14 +133,16 @@ text_tells (a ∷ []) k h = absurd cc
 text_tells (a ∷ b ∷ []) k h = absurd cc
 text_tells (a ∷ b ∷ c ∷ []) k h = absurd cc
 text_tells (a ∷ b ∷ c ∷ d ∷ ds) k h = elim (cases_Bool ((a == 116) && (b == 101) && (c == 120) && (d == 116))) [
-    inl t ↦ subst (λ (w : List ℕ). ReadAs w k) (four_same a b c d ds t) (tells_text ds k (rw t at h))
-  | inr f ↦ absurd (cc (rw f at h)) ]
+  | inl t ↦ subst (λ (w : List ℕ). ReadAs w k) (four_same a b c d ds t) (tells_text ds k (rw t at h))
+  | inr f ↦ absurd (cc (rw f at h))
+]
 
 read_tells : (w : List ℕ) (k : Kind) → kind_read w ≡ Some k → ReadAs w k
 read_tells [] k h = absurd cc
 read_tells (a ∷ ds) k h = elim (cases_Bool (a == 117)) [
-    inl t ↦ subst (λ (x : ℕ). ReadAs (x ∷ ds) k) (sym (eqb-true a 117 t)) (tells_unsigned ds k (rw t at h))
-  | inr f ↦ text_tells (a ∷ ds) k (rw f at h) ]
+  | inl t ↦ subst (λ (x : ℕ). ReadAs (x ∷ ds) k) (sym (eqb-true a 117 t)) (tells_unsigned ds k (rw t at h))
+  | inr f ↦ text_tells (a ∷ ds) k (rw f at h)
+]
 
 begins_same : (front v w : List ℕ) (n most : ℕ) → Begins front v n most → Begins front w n most → v ≡ w
 begins_same front v w n most p q = p.word ∙ ap (λ (ds : List ℕ). front ++ ds) (small_same p.digits' q.digits' (p.spells ∙ sym q.spells) (omega (arith, p.spells, p.low))) ∙ sym q.word

@@ -74,8 +74,9 @@ behind_end outs port e n f le h none = ap (λ n. filter_map h (seen port outs n)
 
 row_in_time : (outs : List (List ℕ)) (port : PortValues) (e : ℕ) → Facts outs port e → (n : ℕ) → IsSome (shown port outs n).row → (shown port outs n).cycle ≤ e
 row_in_time outs port e f n s = elim (cases_lt e n) [
-    inl lt ↦ absurd (no_row (f.none_later n lt) s)
-  | inr le ↦ omega (arith, cycle_is port outs n) ]
+  | inl lt ↦ absurd (no_row (f.none_later n lt) s)
+  | inr le ↦ omega (arith, cycle_is port outs n)
+]
 
 -- at each cycle from the latency after the last beat on
 pub right_to : (means : Meaning) (latency : ℕ) (beats : List Beat) (outs : List (List ℕ)) (port : PortValues) (n : ℕ) → last_cycle beats + latency ≤ n → IsRight means latency beats outs port → IsRightTo means latency beats outs port n

@@ -108,7 +108,8 @@ at streams p = record { streams = streams; place = p }
 moves : (ss : List Stream) (p : Place) (m : Mark) (p' : Place) (q : Reading) → ◌≡◌ {A = Result Reading SchemaFault} (Ok (at ss p')) (Ok q) → AreStreams ss → begun p' ≡ begun p ++ m ∷ [] → FitsPlace ss p' → Step (at ss p) m q
 moves ss p m p' q e streams more fits = subst (Step (at ss p) m) (ok_is (at ss p') q e) (record {
   grows = ap (λ (x : List Mark). flat_map spell_stream ss ++ x) more ∙ sym (append_assoc (flat_map spell_stream ss) (begun p) (m ∷ []));
-  fits = record { streams = streams; place' = fits } })
+  fits = record { streams = streams; place' = fits };
+})
 
 -- columns, and one more
 columns_open : (cs : List Column) (c : Column) → spell_columns (cs ++ c ∷ []) ≡ open_columns cs ++ spell_column c
@@ -166,14 +167,15 @@ with_fits ss s n k is next kind =
     let long = length-append s.columns (c ∷ []) in
     record {
       begun' = record { room = is.room; name = is.name; new = is.new; most = omega (arith, long, next.room); columns = All_push s.columns c is.columns (record { name = next.name; kind = kind }); distinct = more_columns s.columns c is.distinct next.new };
-      some' = omega (arith, long) }
+      some' = omega (arith, long);
+    }
 
 kind_step : (ss : List Stream) (s : Stream) (n : List ℕ) (at' : ℕ) (w : List ℕ) (o : Option Kind) (q : Reading) → AreStreams ss → IsBegun ss s → IsNext s n → kind_named w ≡ o → kind_next (at ss (place.Kind s n)) s n at' o ≡ Ok q → Step (at ss (place.Kind s n)) (Word w) q
 kind_step ss s n i w None q fits is next named h = absurd cc
 kind_step ss s n i w (Some k) q fits is next named h =
     let p = kind_named_is w k named in
     let more : spell_columns (s.columns ++ record { name = n; kind = k } ∷ []) ≡ (open_columns s.columns ++ Word n ∷ []) ++ Word w ∷ [] =
-          columns_open s.columns (record { name = n; kind = k }) ∙ ap (λ (x : List ℕ). open_columns s.columns ++ Word n ∷ Word x ∷ []) p.0 ∙ sym (append_assoc (open_columns s.columns) (Word n ∷ []) (Word w ∷ [])) in
+    columns_open s.columns (record { name = n; kind = k }) ∙ ap (λ (x : List ℕ). open_columns s.columns ++ Word n ∷ Word x ∷ []) p.0 ∙ sym (append_assoc (open_columns s.columns) (Word n ∷ []) (Word w ∷ [])) in
     moves ss (place.Kind s n) (Word w) (place.Comma (with_column s n k)) q h fits (ap (λ (x : List Mark). Word (codes "stream") ∷ Word s.name ∷ Sign 40 ∷ x) more) (with_fits ss s n k is next p.1)
 
 open_step : (ss : List Stream) (n : List ℕ) (at' b : ℕ) (q : Reading) → AreStreams ss → IsNamed ss n → mark_at (Sign b) (at ss (place.Opening n)) at' ≡ Ok q → Step (at ss (place.Opening n)) (Sign b) q
@@ -181,15 +183,16 @@ unfolding IsDistinct
 open_step ss n i b q fits is h =
     let a = only_ok (b == 40) (Syntax i) _ q h in
     moves ss (place.Opening n) (Sign b) (place.Column (record { name = n; columns = [] })) q a.1 fits (ap (λ (x : ℕ). Word (codes "stream") ∷ Word n ∷ Sign x ∷ []) (sym (eqb-true b 40 a.0)))
-      (record { room = is.room; name = is.name; new = is.new; most = omega arith; columns = tt; distinct = tt })
+    (record { room = is.room; name = is.name; new = is.new; most = omega arith; columns = tt; distinct = tt })
 
 comma_step : (ss : List Stream) (s : Stream) (at' b : ℕ) (q : Reading) → AreStreams ss → HasColumns ss s → mark_at (Sign b) (at ss (place.Comma s)) at' ≡ Ok q → Step (at ss (place.Comma s)) (Sign b) q
 comma_step ss s i b q fits is h = elim (cases_Bool (b == 44)) [
-    inl t ↦ moves ss (place.Comma s) (Sign b) (place.Column s) q (rw t at h) fits
+  | inl t ↦ moves ss (place.Comma s) (Sign b) (place.Column s) q (rw t at h) fits
       (ap (λ (x : List Mark). Word (codes "stream") ∷ Word s.name ∷ Sign 40 ∷ x) (columns_comma s.columns is.some' ∙ ap (λ (x : ℕ). spell_columns s.columns ++ Sign x ∷ []) (sym (eqb-true b 44 t)))) is.begun'
   | inr f ↦ (let a = only_ok (b == 41) (Syntax i) _ q (rw f at h) in
       moves ss (place.Comma s) (Sign b) (place.Close s) q a.1 fits
-        (ap (λ (x : List Mark). Word (codes "stream") ∷ Word s.name ∷ Sign 40 ∷ x) (ap (λ (x : ℕ). spell_columns s.columns ++ Sign x ∷ []) (sym (eqb-true b 41 a.0)))) is) ]
+      (ap (λ (x : List Mark). Word (codes "stream") ∷ Word s.name ∷ Sign 40 ∷ x) (ap (λ (x : ℕ). spell_columns s.columns ++ Sign x ∷ []) (sym (eqb-true b 41 a.0)))) is)
+]
 
 is_stream : (ss : List Stream) (s : Stream) → HasColumns ss s → IsStream s
 is_stream ss s is = record { name = is.begun'.name; some' = is.some'; most = is.begun'.most; columns = is.begun'.columns; distinct = is.begun'.distinct }
@@ -204,7 +207,8 @@ close_step ss s i b q fits is h =
     let long = length-append ss (s ∷ []) in
     subst (Step (at ss (place.Close s)) (Sign b)) (ok_is (at (ss ++ s ∷ []) place.Stream) q a.1) (record {
       grows = closed_text ss s ∙ ap (λ (x : ℕ). (flat_map spell_stream ss ++ begun (place.Close s)) ++ Sign x ∷ []) (sym (eqb-true b 59 a.0));
-      fits = record { streams = record { most = omega (arith, long, is.begun'.room); streams = All_push_stream ss s fits.streams (is_stream ss s is); distinct = more_streams ss s fits.distinct is.begun'.new }; place' = tt } })
+      fits = record { streams = record { most = omega (arith, long, is.begun'.room); streams = All_push_stream ss s fits.streams (is_stream ss s is); distinct = more_streams ss s fits.distinct is.begun'.new }; place' = tt };
+    })
 
 word_step : (ss : List Stream) (p : Place) (i : ℕ) (w : List ℕ) (q : Reading) → AreStreams ss → FitsPlace ss p → mark_at (Word w) (at ss p) i ≡ Ok q → Step (at ss p) (Word w) q
 word_step ss place.Stream i w q fits is h = stream_step ss i w q fits h
@@ -239,7 +243,8 @@ end_read place.Stream (s ∷ ss) len schema fits h =
     let e : record { streams = s ∷ ss } ≡ schema = cc in
     subst (Read (at (s ∷ ss) place.Stream) []) e (record {
       is = record { some' = omega arith; most = fits.most; streams = fits.streams; distinct = fits.distinct };
-      spelled = sym (append-nil (written (at (s ∷ ss) place.Stream)) ∙ append-nil (flat_map spell_stream (s ∷ ss))) })
+      spelled = sym (append-nil (written (at (s ∷ ss) place.Stream)) ∙ append-nil (flat_map spell_stream (s ∷ ss)));
+    })
 end_read place.Name ss len schema fits h = absurd cc
 end_read (place.Opening n) ss len schema fits h = absurd cc
 end_read (place.Column s) ss len schema fits h = absurd cc

@@ -28,8 +28,8 @@ pub goes_on : (text : List ℕ) (len at : ℕ) (s : Standing) (r : Reading) (t :
 goes_on text len at s r t q lt took =
     let m : Move = move (open_at text at s) (class_of (get_or text at 0)) at (get_or text at 0) in
     sym (ap (λ (ts : List Token). schema_from len ts r) (tokens_next text at (open_at text at s) lt) ∙ schema_from-append len m.tokens (tokens_from m.left (at + 1) (drop (at + 1) text)) r
-      ∙ ap (λ (x : Result Reading SchemaFault). x >>= schema_from len (tokens_from m.left (at + 1) (drop (at + 1) text))) took.2
-      ∙ ap (λ (o : Open). schema_from len (tokens_from o (at + 1) (drop (at + 1) text)) q) (sym took.1))
+    ∙ ap (λ (x : Result Reading SchemaFault). x >>= schema_from len (tokens_from m.left (at + 1) (drop (at + 1) text))) took.2
+    ∙ ap (λ (o : Open). schema_from len (tokens_from o (at + 1) (drop (at + 1) text)) q) (sym took.1))
 
 pub stops : (text : List ℕ) (len at : ℕ) (s : Standing) (r : Reading) (e : SchemaFault) → at < length text → Takes text (at + 1) (move (open_at text at s) (class_of (get_or text at 0)) at (get_or text at 0)) r (Err e)
     → Fails e (schema_from len (tokens_from (open_at text at s) at (drop at text)) r)

@@ -29,11 +29,12 @@ row_shown port outs t = if is_high port t out_valid then Some (map (value_at por
 -- what file cycle n shows: it is simulation cycle n + 1
 unfoldable pub shown : PortValues → List (List ℕ) → ℕ → Shown
 shown port outs n = record {
-    cycle = n;
-    row = row_shown port outs (suc n);
-    end = is_high port (suc n) out_eos;
-    group = is_high port (suc n) fault_group;
-    queue = is_high port (suc n) fault_queue }
+  cycle = n;
+  row = row_shown port outs (suc n);
+  end = is_high port (suc n) out_eos;
+  group = is_high port (suc n) fault_group;
+  queue = is_high port (suc n) fault_queue;
+}
 
 -- file cycles 0 to n
 abbrev pub seen : PortValues → List (List ℕ) → ℕ → List Shown

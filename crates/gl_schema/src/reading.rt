@@ -62,7 +62,9 @@ impl Reading {
             Place::Name => name_stream(alloc, streams, at, word),
             Place::Column(stream) => name_column(alloc, streams, stream, at, word),
             Place::Kind(stream, name) => end_column(streams, stream, name, at, word),
-            Place::Opening(_) | Place::Comma(_) | Place::Close(_) => Err(SchemaFault::Syntax { at }),
+            Place::Opening(_) | Place::Comma(_) | Place::Close(_) => Err(SchemaFault::Syntax {
+                at,
+            }),
         }
     }
 
@@ -114,7 +116,12 @@ fn begin_stream(streams: Streams, at: u64, word: &[u8]) -> Result<Reading, Schem
     })
 }
 
-fn name_stream(alloc: Global, streams: Streams, at: u64, word: &[u8]) -> Result<Reading, SchemaFault>
+fn name_stream(
+    alloc: Global,
+    streams: Streams,
+    at: u64,
+    word: &[u8],
+) -> Result<Reading, SchemaFault>
     ensures { Gives result (spec.name_next (record { streams = streams; place = Place.Name }) at word.now) }
 {
     if !is_name(word) {

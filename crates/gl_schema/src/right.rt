@@ -12,5 +12,4 @@ pub fn right_at_each_cycle()
         → beats.last_cycle all + latency ≤ n
         → IsRight (λ ins rows spill. IsTrue (test ins rows spill)) latency all outs port
         → IsRightTo (λ ins rows spill. IsTrue (test ins rows spill)) latency all outs port n }
-{
-}
+{}

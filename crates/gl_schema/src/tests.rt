@@ -7,8 +7,8 @@ ghost use Rattle.gl_schema.specs.Schemas.{text_word};
 ghost use Rattle.gl_schema.specs.Ports as ports;
 ghost use Rattle.gl_schema.specs.Seen as seen;
 
-use gl_bits::Kind;
 use crate::{SchemaFault, is_name, kind_named, one_schema, read_schema, right_at_each_cycle};
+use gl_bits::Kind;
 use std::alloc::Global;
 use std::test::Fail;
 
@@ -34,11 +34,17 @@ fn the_first_fault_is_told(rt: HostRuntime) -> Result<(), Fail> {
         ("stream S (v u1);", "no name at 7"),
         ("stream s_ (v u1);", "no name at 7"),
         ("stream a__b (v u1);", "no name at 7"),
-        ("stream abcdefghijklmnopqrstuvwxyz0123456 (v u1);", "no name at 7"),
+        (
+            "stream abcdefghijklmnopqrstuvwxyz0123456 (v u1);",
+            "no name at 7",
+        ),
         ("stream abcdefghijklmnopqrstuvwxyz012345 (v u1);", "read"),
         ("stream 1s (v u1);", "no name at 7"),
         ("stream s (v u8, w u8, v u8);", "a name that is taken at 22"),
-        ("stream s (v u8); stream s (v u8);", "a name that is taken at 24"),
+        (
+            "stream s (v u8); stream s (v u8);",
+            "a name that is taken at 24",
+        ),
         ("stream s (v u8); stream t (v u8)", "syntax at 32"),
         ("stream s (v u8) stream t (v u8);", "syntax at 16"),
         ("stream s (v u8,);", "syntax at 15"),
@@ -125,15 +131,21 @@ fn a_schema_has_its_streams_and_columns(rt: HostRuntime) -> Result<(), Fail> {
     assert_eq!(rt; schema.streams.len(), 2);
     let mut told = String::new(rt.alloc());
     for stream in schema.streams.as_slice() {
-        write!(&mut told, "{:?}", str::from_utf8(stream.name.as_slice()).unwrap_or("?"))?;
+        write!(
+            &mut told,
+            "{:?}",
+            str::from_utf8(stream.name.as_slice()).unwrap_or("?")
+        )?;
         for column in stream.columns.as_slice() {
             let name = str::from_utf8(column.name.as_slice()).unwrap_or("?");
             let kind = column.kind;
             write!(&mut told, " {name} {kind:?}")?;
         }
     }
-    assert_eq!(rt; told.as_str(),
-        "\"trades\" symbol Text(4) price Unsigned(32) volume Unsigned(32)\"other\" v Unsigned(64)");
+    assert_eq!(rt;
+        told.as_str(),
+        "\"trades\" symbol Text(4) price Unsigned(32) volume Unsigned(32)\"other\" v Unsigned(64)"
+    );
     Ok(())
 }
 
@@ -151,8 +163,7 @@ fn single_words(rt: HostRuntime) {
 fn worked_lines()
     ensures { seen.lines (kinds.Text 4 ∷ kinds.Unsigned 8 ∷ []) (record { cycle = 1; row = Some (text_word 4 (codes "a,b") ∷ 200 ∷ []); end = false; group = true; queue = false } ∷ record { cycle = 2; row = Some (text_word 4 (codes "\"x") ∷ 0 ∷ []); end = true; group = true; queue = false } ∷ [])
         ≡ codes "1,overflow\n1,\"a,b\",200\n2,\"\"\"x\",0\n2,end\n" }
-{
-}
+{}
 
 // A tuple of the first of two streams, and then the end, on the ports of a module.
 fn worked_pins()
@@ -162,8 +173,7 @@ fn worked_pins()
         ≡ ports.pin (codes "rst") 0 ∷ ports.pin (codes "in__s__valid") 1 ∷ ports.pin (codes "in__s__v") 7 ∷ ports.pin (codes "in__t__valid") 0 ∷ ports.pin (codes "in__t__w") 0 ∷ ports.pin (codes "eos") 0 ∷ [] }
     ensures last { ports.pins (record { streams = record { name = codes "s"; columns = record { name = codes "v"; kind = kinds.Unsigned 8 } ∷ [] } ∷ record { name = codes "t"; columns = record { name = codes "w"; kind = kinds.Unsigned 8 } ∷ [] } ∷ [] }) (record { cycle = 0; rows = Some (7 ∷ []) ∷ None ∷ []; tick = false; end = false } ∷ record { cycle = 2; rows = None ∷ None ∷ []; tick = false; end = true } ∷ []) 3
         ≡ ports.pin (codes "rst") 0 ∷ ports.pin (codes "in__s__valid") 0 ∷ ports.pin (codes "in__s__v") 0 ∷ ports.pin (codes "in__t__valid") 0 ∷ ports.pin (codes "in__t__w") 0 ∷ ports.pin (codes "eos") 1 ∷ [] }
-{
-}
+{}
 
 #[test]
 fn definitions_on_worked_rows() {

@@ -38,5 +38,4 @@ fn read(alloc: Global, text: &[u8]) -> Result<Schema, SchemaFault>
 /// A text has at most one schema.
 pub fn one_schema()
     ensures { (text : List ℕ) (s t : types.Schema) → IsSchemaText text s → IsSchemaText text t → s ≡ t }
-{
-}
+{}

@@ -92,16 +92,19 @@ store_bank ds vs bs k b d st e size fits =
         | inl same ↦
             let is : d ≡ d' = same_item ds k d d' e (subst (λ i. slice_get ds i ≡ Some d') (sym same) e') in
             subst (λ i. length (slice_index_or (slice_set bs k b) i []) ≡ words_in d'.kind) same
-              (ap (λ (x : List ℕ). length x) (get_or-set_same bs k b [] within) ∙ size ∙ ap (λ (x : Declaration). words_in x.kind) is)
+            (ap (λ (x : List ℕ). length x) (get_or-set_same bs k b [] within) ∙ size ∙ ap (λ (x : Declaration). words_in x.kind) is)
         | inr other ↦ ap (λ (x : List ℕ). length x) (get_or-set_other bs k k' b [] (λ q. other (sym q))) ∙ st.words k' d' e'
       ];
-      fits = λ n d' e'. ((st.fits n d' e').0, λ at. elim (cases_eq k n) [
-        | inl same ↦
-            let is : d ≡ d' = same_item ds k d d' e (subst (λ i. slice_get ds i ≡ Some d') (sym same) e') in
-            subst (λ i. memories_of (slice_set bs k b) i at < 2 ^ d'.width) same
+      fits = λ n d' e'. (
+        (st.fits n d' e').0,
+        λ at. elim (cases_eq k n) [
+          | inl same ↦
+              let is : d ≡ d' = same_item ds k d d' e (subst (λ i. slice_get ds i ≡ Some d') (sym same) e') in
+              subst (λ i. memories_of (slice_set bs k b) i at < 2 ^ d'.width) same
               (subst (λ (x : List ℕ). slice_index x at < 2 ^ d'.width) (sym (get_or-set_same bs k b [] within)) (subst (λ (x : Declaration). slice_index b at < 2 ^ x.width) is (fits at)))
-        | inr other ↦ subst (λ (x : List ℕ). slice_index x at < 2 ^ d'.width) (sym (get_or-set_other bs k n b [] (λ q. other (sym q)))) ((st.fits n d' e').1 at)
-      ]);
+          | inr other ↦ subst (λ (x : List ℕ). slice_index x at < 2 ^ d'.width) (sym (get_or-set_other bs k n b [] (λ q. other (sym q)))) ((st.fits n d' e').1 at)
+        ],
+      );
     }
 
 no_words : (k : Kind) → IsRegister k → words_in k ≡ 0
@@ -150,8 +153,10 @@ draws_memory ds n d bits st st' b vs bs store e is h =
     past [] at le = refl
     past (x ∷ xs) zero le = absurd (omega arith)
     past (x ∷ xs) (suc at) le = past xs at (omega arith)
+
     below : (at : ℕ) → (at < words_in d.kind) ⊎ (words_in d.kind ≤ at)
     below at = cases_lt at (words_in d.kind)
+
     fits : (at : ℕ) → slice_index b at < 2 ^ d.width
     fits at = elim (below at) [
       | inl lt ↦ subst (λ y. y < 2 ^ d.width) (sym (h.words at lt)) (word_drawn-fits st (2 * at) d.width)
@@ -196,9 +201,9 @@ drawn_to-more ds seed n d st st' vs vs' bs bs' e h one = record {
         let is : d ≡ c = same_item ds n d c e (subst (λ i. slice_get ds i ≡ Some c) same g) in
         let w : width_at ds n ≡ d.width = width_at-found ds n d e in
         subst (λ i. slice_index vs' i ≡ register_at (Drawn seed) ds i) (sym same)
-          (one.register (subst (λ (x : Declaration). IsRegister x.kind) (sym is) r)
-            ∙ ap (λ s. word_drawn s 0 d.width) h.moved ∙ word_drawn-from seed (draws_before ds n) 0 d.width
-            ∙ ap (λ k. word_drawn seed k d.width) (let z : draws_before ds n + 0 ≡ draws_before ds n = omega arith in z) ∙ ap (word_drawn seed (draws_before ds n)) (sym w))
+        (one.register (subst (λ (x : Declaration). IsRegister x.kind) (sym is) r)
+        ∙ ap (λ s. word_drawn s 0 d.width) h.moved ∙ word_drawn-from seed (draws_before ds n) 0 d.width
+        ∙ ap (λ k. word_drawn seed k d.width) (let z : draws_before ds n + 0 ≡ draws_before ds n = omega arith in z) ∙ ap (word_drawn seed (draws_before ds n)) (sym w))
     | inr other ↦ one.other_values k other ∙ h.registers k c (omega arith) g r
   ];
   words = λ k c at lt g below. elim (cases_eq k n) [
@@ -206,8 +211,8 @@ drawn_to-more ds seed n d st st' vs vs' bs bs' e h one = record {
         let is : d ≡ c = same_item ds n d c e (subst (λ i. slice_get ds i ≡ Some c) same g) in
         let w : width_at ds n ≡ d.width = width_at-found ds n d e in
         subst (λ i. memories_of bs' i at ≡ word_at (Drawn seed) ds i at) (sym same)
-          (one.words at (subst (λ (x : Declaration). at < words_in x.kind) (sym is) below)
-            ∙ ap (λ s. word_drawn s (2 * at) d.width) h.moved ∙ word_drawn-from seed (draws_before ds n) (2 * at) d.width ∙ ap (word_drawn seed (draws_before ds n + 2 * at)) (sym w))
+        (one.words at (subst (λ (x : Declaration). at < words_in x.kind) (sym is) below)
+        ∙ ap (λ s. word_drawn s (2 * at) d.width) h.moved ∙ word_drawn-from seed (draws_before ds n) (2 * at) d.width ∙ ap (word_drawn seed (draws_before ds n + 2 * at)) (sym w))
     | inr other ↦ one.other_words k at other ∙ h.words k c at (omega arith) g below
   ];
 }
@@ -222,7 +227,7 @@ drawn_all ds seed n st vs bs le h = record {
 pub declared_at : (all slice : List Rust) (n : ℕ) (x : Rust) → slice ≡ all → n < length all → x ≡ get_or slice n x → slice_get (map declaration_of all) n ≡ Some (declaration_of x)
 declared_at all slice n x same lt is =
     subst (λ (xs : List Rust). slice_get (map declaration_of xs) n ≡ Some (declaration_of x)) same
-      (slice_get-map declaration_of slice n x (slice_get-at slice n x (subst (λ (xs : List Rust). n < length xs) (sym same) lt) is))
+    (slice_get-map declaration_of slice n x (slice_get-at slice n x (subst (λ (xs : List Rust). n < length xs) (sym same) lt) is))
 
 pub get-some : {T : Type 0} (xs : List T) (i : ℕ) → i < length xs → (x : T) × (slice_get xs i ≡ Some x)
 get-some [] i lt = absurd (omega arith)

@@ -55,9 +55,10 @@ store_clocked ds vs vs' bs bs' s st h size banks sizes registers words = record 
   nets = size ∙ st.nets;
   memories = banks ∙ st.memories;
   words = λ k d e. sizes k ∙ st.words k d e;
-  fits = λ n d e.
-    (subst (λ x. x < 2 ^ d.width) (sym (registers n)) (unwrap_fits d.width (assigned (nets_of vs) (memories_of bs) s n) (slice_index vs n) (assigned_fits ds (nets_of vs) (memories_of bs) s n d st.fits h e) (st.fits n d e).0),
-      λ at. subst (λ x. x < 2 ^ d.width) (sym (words n at)) (unwrap_fits d.width (written (nets_of vs) (memories_of bs) s n at) (memories_of bs n at) (written_fits ds (nets_of vs) (memories_of bs) s n at d st.fits h e) ((st.fits n d e).1 at)));
+  fits = λ n d e. (
+    subst (λ x. x < 2 ^ d.width) (sym (registers n)) (unwrap_fits d.width (assigned (nets_of vs) (memories_of bs) s n) (slice_index vs n) (assigned_fits ds (nets_of vs) (memories_of bs) s n d st.fits h e) (st.fits n d e).0),
+    λ at. subst (λ x. x < 2 ^ d.width) (sym (words n at)) (unwrap_fits d.width (written (nets_of vs) (memories_of bs) s n at) (memories_of bs n at) (written_fits ds (nets_of vs) (memories_of bs) s n at d st.fits h e) ((st.fits n d e).1 at)),
+  );
 }
 
 -- what an edge makes of values and banks
@@ -78,7 +79,7 @@ pub after_edge : (ds : List Declaration) (ss : List Statement) (vs vs' : List �
     → AfterEdge ds (map statement_of ss) vs vs' bs bs'
 after_edge ds ss vs vs' bs bs' us st h size registers noted banks sizes put =
     let words : (k at : ℕ) → memories_of bs' k at ≡ unwrap_or (written (nets_of vs) (memories_of bs) (chained ss) k at) (memories_of bs k at) =
-        λ k at. put k at ∙ ap (λ (o : Option ℕ). unwrap_or o (memories_of bs k at)) (noted k at ∙ later_or-none (written (nets_of vs) (memories_of bs) (chained ss) k at)) in
+    λ k at. put k at ∙ ap (λ (o : Option ℕ). unwrap_or o (memories_of bs k at)) (noted k at ∙ later_or-none (written (nets_of vs) (memories_of bs) (chained ss) k at)) in
     record {
       store = store_clocked ds vs vs' bs bs' (chained ss) st (keeps_chain ds ss h) size banks sizes registers words;
       registers = λ r. registers r ∙ ap (λ (o : Option ℕ). unwrap_or o (slice_index vs r)) (assigned_chain (nets_of vs) (memories_of bs) ss r);

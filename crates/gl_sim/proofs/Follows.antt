@@ -26,9 +26,9 @@ with_inputs-or (p ∷ ports) [] v w n h = absurd h
 with_inputs-or (p ∷ ports) (x ∷ inputs) v w n h = elim (with_inputs-or ports inputs (with_net v p x) w n h.1) [
   | inl same ↦ inl same
   | inr kept ↦ elim (eqb_tells p n) [
-      | inl here ↦ inl (kept.0 ∙ rw here.0 (sym h.0 ∙ ap w here.1))
-      | inr other ↦ inr (kept.0 ∙ with_net-other v p x n other.1, (other.1, kept.1))
-    ]
+    | inl here ↦ inl (kept.0 ∙ rw here.0 (sym h.0 ∙ ap w here.1))
+    | inr other ↦ inr (kept.0 ∙ with_net-other v p x n other.1, (other.1, kept.1))
+  ]
 ]
 
 -- every input port but the clock is among them
@@ -90,22 +90,22 @@ module _ (m : Module) (order inputs v0 v1 v2 v3 : List ℕ) (bs bs' : List (List
   register_same : (n : ℕ) (d : Declaration) → slice_get m.declarations n ≡ Some d → IsRegister d.kind → nets_of v2 n ≡ value t n
   register_same n d e r =
       ap (λ (v : Nets). v n) s.settled
-        ∙ evaluated-undriven (picked m.assignments order) (memories_of bs) (nets_of v1) n (undriven m.declarations (picked m.assignments order) n d (each_picked (KeepsWidth m.declarations) m.assignments order s.runnable.assignments) e (register_undriven d.kind r))
-        ∙ set_state.registers n d e r
+      ∙ evaluated-undriven (picked m.assignments order) (memories_of bs) (nets_of v1) n (undriven m.declarations (picked m.assignments order) n d (each_picked (KeepsWidth m.declarations) m.assignments order s.runnable.assignments) e (register_undriven d.kind r))
+      ∙ set_state.registers n d e r
 
   same_undriven : SameUndriven m.declarations (picked m.assignments order) (nets_of v2) (value t)
   same_undriven = λ n d e r u.
       ap (λ (v : Nets). v n) s.settled ∙ evaluated-undriven (picked m.assignments order) (memories_of bs) (nets_of v1) n u
-        ∙ undriven_same m (nets_of v1) (value t) (memories_of bs) (word t) (picked m.assignments order) s.runnable s.in_order.whole set_inputs set_state n d e r u
+      ∙ undriven_same m (nets_of v1) (value t) (memories_of bs) (word t) (picked m.assignments order) s.runnable s.in_order.whole set_inputs set_state n d e r u
 
   pub nets_follow : SameNets m.declarations (nets_of v2) (value t)
   nets_follow = λ n d e r.
       settle_same m.declarations (nets_of v2) (value t) (memories_of bs) (word t) (picked m.assignments order) s.second.fits state.words
-        (each_picked (KeepsWidth m.declarations) m.assignments order s.runnable.assignments) s.in_order.ordered
-        (subst (λ (v : Nets). IsSettled (picked m.assignments order) v (memories_of bs)) (sym s.settled)
-          (evaluated-settled m.declarations (picked m.assignments order) (memories_of bs) (nets_of v1) s.first.fits (each_picked (KeepsWidth m.declarations) m.assignments order s.runnable.assignments) s.in_order.ordered))
-        (each_picked (λ a. value t a.target ≡ value_of (value t) (word t) a.value) m.assignments order (run.settled t))
-        same_undriven n d e r tt
+      (each_picked (KeepsWidth m.declarations) m.assignments order s.runnable.assignments) s.in_order.ordered
+      (subst (λ (v : Nets). IsSettled (picked m.assignments order) v (memories_of bs)) (sym s.settled)
+      (evaluated-settled m.declarations (picked m.assignments order) (memories_of bs) (nets_of v1) s.first.fits (each_picked (KeepsWidth m.declarations) m.assignments order s.runnable.assignments) s.in_order.ordered))
+      (each_picked (λ a. value t a.target ≡ value_of (value t) (word t) a.value) m.assignments order (run.settled t))
+      same_undriven n d e r tt
 
   alike : Alike m.declarations (nets_of v2) (value t) (memories_of bs) (word t)
   alike = record { fits = s.second.fits; nets = nets_follow; words = state.words }

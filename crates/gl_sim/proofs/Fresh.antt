@@ -32,8 +32,10 @@ store_zero ds vs bs values banks = record {
   nets = ap (λ (xs : List ℕ). length xs) values ∙ zeros_length (length ds);
   memories = ap (λ (xs : List (List ℕ)). length xs) banks ∙ map_length zero_bank ds;
   words = λ k d e. ap (λ (xs : List (List ℕ)). length (slice_index_or xs k [])) banks ∙ ap (λ (b : List ℕ). length b) (zero_bank_at ds k d e) ∙ zeros_length (words_in d.kind);
-  fits = λ n d e. (subst (λ x. x < 2 ^ d.width) (sym (ap (λ (xs : List ℕ). slice_index xs n) values ∙ zeros_at (length ds) n)) (pow_pos d.width),
-    λ at. subst (λ x. x < 2 ^ d.width) (sym (ap (λ (xs : List (List ℕ)). memories_of xs n at) banks ∙ zero_words_at ds n at)) (pow_pos d.width));
+  fits = λ n d e. (
+    subst (λ x. x < 2 ^ d.width) (sym (ap (λ (xs : List ℕ). slice_index xs n) values ∙ zeros_at (length ds) n)) (pow_pos d.width),
+    λ at. subst (λ x. x < 2 ^ d.width) (sym (ap (λ (xs : List (List ℕ)). memories_of xs n at) banks ∙ zero_words_at ds n at)) (pow_pos d.width),
+  );
 }
 
 -- two numbers of 64 bits side by side, cut to a width

@@ -67,12 +67,13 @@ all-front P (y ∷ xs) x h = let r = all-front P xs x h.1 in ((h.0, r.0), r.1)
 
 ordered-push : (xs : List Assignment) (a : Assignment) → IsOrdered xs → AllByRecursion (λ x. EachRead (λ n. a.target ≢ n) x.value × (a.target ≢ x.target)) xs → EachRead (λ n. a.target ≢ n) a.value → IsOrdered (xs ++ a ∷ [])
 ordered-push [] a o h r = (reads_and (λ n. a.target ≢ n) (IsUndriven (a ∷ [])) a.value (λ n p. (p, tt)) r, tt, tt)
-ordered-push (x ∷ xs) a o h r =
-    (reads_and (λ n. IsUndriven (x ∷ xs) n × (a.target ≢ n)) (IsUndriven (x ∷ xs ++ a ∷ [])) x.value
-        (λ n p. all-push (λ b. b.target ≢ n) (x ∷ xs) a p.0 p.1)
-        (reads_both (IsUndriven (x ∷ xs)) (λ n. a.target ≢ n) x.value o.0 h.0.0),
-      all-push (λ b. b.target ≢ x.target) xs a o.1 h.0.1,
-      ordered-push xs a o.2 h.1 r)
+ordered-push (x ∷ xs) a o h r = (
+  reads_and (λ n. IsUndriven (x ∷ xs) n × (a.target ≢ n)) (IsUndriven (x ∷ xs ++ a ∷ [])) x.value
+      (λ n p. all-push (λ b. b.target ≢ n) (x ∷ xs) a p.0 p.1)
+      (reads_both (IsUndriven (x ∷ xs)) (λ n. a.target ≢ n) x.value o.0 h.0.0),
+  all-push (λ b. b.target ≢ x.target) xs a o.1 h.0.1,
+  ordered-push xs a o.2 h.1 r,
+)
 
 placed_set : (ws : List Bool) (t n : ℕ) → t < length ws → IsPlaced ws n → IsPlaced (slice_set ws t false) n
 placed_set ws t n lt h = elim (cases_eq t n) [
@@ -95,17 +96,17 @@ placing_push as' nets ws o k a p e lt within waits known =
       in_range = all-push (λ j. j < length as') o k p.in_range lt;
       ordered = subst IsOrdered (sym more) (ordered-push (picked as' o) a p.ordered
           (all_map (λ x. EachRead (IsPlaced ws) x.value × IsPlaced ws x.target) (λ x. EachRead (λ n. a.target ≢ n) x.value × (a.target ≢ x.target)) (picked as' o)
-            (λ x h. (reads_and (IsPlaced ws) (λ n. a.target ≢ n) x.value (λ n q. apart ws a.target n waits q) h.0, apart ws a.target x.target waits h.1)) p.known)
+          (λ x h. (reads_and (IsPlaced ws) (λ n. a.target ≢ n) x.value (λ n q. apart ws a.target n waits q) h.0, apart ws a.target x.target waits h.1)) p.known)
           (reads_and (IsPlaced ws) (λ n. a.target ≢ n) a.value (λ n q. apart ws a.target n waits q) reads));
       known = subst (AllByRecursion (λ x. EachRead (IsPlaced ws') x.value × IsPlaced ws' x.target)) (sym more)
           (all-push (λ x. EachRead (IsPlaced ws') x.value × IsPlaced ws' x.target) (picked as' o) a
-            (all_map (λ x. EachRead (IsPlaced ws) x.value × IsPlaced ws x.target) (λ x. EachRead (IsPlaced ws') x.value × IsPlaced ws' x.target) (picked as' o)
-              (λ x h. (reads_and (IsPlaced ws) (IsPlaced ws') x.value keep h.0, keep x.target h.1)) p.known)
-            (reads_and (IsPlaced ws) (IsPlaced ws') a.value keep reads, get_or-set_same ws a.target false false within));
+          (all_map (λ x. EachRead (IsPlaced ws) x.value × IsPlaced ws x.target) (λ x. EachRead (IsPlaced ws') x.value × IsPlaced ws' x.target) (picked as' o)
+          (λ x h. (reads_and (IsPlaced ws) (IsPlaced ws') x.value keep h.0, keep x.target h.1)) p.known)
+          (reads_and (IsPlaced ws) (IsPlaced ws') a.value keep reads, get_or-set_same ws a.target false false within));
       whole = all_map (λ x. IsUndriven (picked as' o) x.target → slice_index_or ws x.target false ≡ true) (λ x. IsUndriven (picked as' (o ++ k ∷ [])) x.target → slice_index_or ws' x.target false ≡ true) as'
           (λ x h u.
-            let r = all-front (λ b. b.target ≢ x.target) (picked as' o) a (subst (λ xs. IsUndriven xs x.target) more u) in
-            get_or-set_other ws a.target x.target false false (λ q. r.1 (sym q)) ∙ h r.0) p.whole;
+          let r = all-front (λ b. b.target ≢ x.target) (picked as' o) a (subst (λ xs. IsUndriven xs x.target) more u) in
+          get_or-set_other ws a.target x.target false false (λ q. r.1 (sym q)) ∙ h r.0) p.whole;
       driven = λ n h u. elim (cases_eq a.target n) [
         | inl same ↦ absurd (let f : slice_index_or ws' n false ≡ false = subst (λ i. slice_index_or ws' i false ≡ false) same (get_or-set_same ws a.target false false within) in let g : true ≡ false = sym h ∙ f in cc)
         | inr other ↦ p.driven n (sym (get_or-set_other ws a.target n false false (λ q. other (sym q))) ∙ h) u
@@ -141,13 +142,13 @@ never_stuck : (o : List Assignment) (ws : List Bool) → IsOrdered o → AllByRe
 never_stuck [] ws i h d n w = d n w tt
 never_stuck (a ∷ rest) ws i h d n w =
     split (slice_index_or ws a.target false)
-      (λ e. clash (is_known ws a.value) (reads_known ws a.value (reads_and (IsUndriven (a ∷ rest)) (IsPlaced ws) a.value (placed_here ws (a ∷ rest) d) i.0)) (h.0 e))
-      (λ f. never_stuck rest ws i.2 h.1 (later_here ws a rest d f) n w)
+    (λ e. clash (is_known ws a.value) (reads_known ws a.value (reads_and (IsUndriven (a ∷ rest)) (IsPlaced ws) a.value (placed_here ws (a ∷ rest) d) i.0)) (h.0 e))
+    (λ f. never_stuck rest ws i.2 h.1 (later_here ws a rest d f) n w)
 
 pub not_all_stuck : (as' : List Assignment) (nets : ℕ) (ws : List Bool) (o : List ℕ) → CanBeOrdered as' → IsPlacing as' nets ws o → AllByRecursion (IsStuck ws) as' → (n : ℕ) → slice_index_or ws n false ≡ true → ⊥
 not_all_stuck as' nets ws o c p h n w =
     never_stuck c.order ws c.ordered (each_in_order (IsStuck ws) as' c.order c.same h)
-      (λ m g u. p.driven m g (each_in_order (λ a. a.target ≢ m) c.order as' (IsPermutation-sym as' c.order c.same) u)) n w
+    (λ m g u. p.driven m g (each_in_order (λ a. a.target ≢ m) c.order as' (IsPermutation-sym as' c.order c.same) u)) n w
 
 -- ---- where none waits, the order is whole
 
@@ -185,9 +186,10 @@ marked-stays (a ∷ rest) ws n lt h = marked-stays rest (slice_set ws a.target t
 
 marked-each : (as' : List Assignment) (ws : List Bool) → AreNets (length ws) as' → AllByRecursion (λ a. slice_index_or (marked as' ws) a.target false ≡ true) as'
 marked-each [] ws h = tt
-marked-each (a ∷ rest) ws h =
-    (marked-stays rest (slice_set ws a.target true) a.target (subst (λ k. a.target < k) (sym (length-set ws a.target true)) h.0.0) (get_or-set_same ws a.target true false h.0.0),
-      marked-each rest (slice_set ws a.target true) (subst (λ k. AreNets k rest) (sym (length-set ws a.target true)) h.1))
+marked-each (a ∷ rest) ws h = (
+  marked-stays rest (slice_set ws a.target true) a.target (subst (λ k. a.target < k) (sym (length-set ws a.target true)) h.0.0) (get_or-set_same ws a.target true false h.0.0),
+  marked-each rest (slice_set ws a.target true) (subst (λ k. AreNets k rest) (sym (length-set ws a.target true)) h.1),
+)
 
 marked-only : (as' : List Assignment) (ws : List Bool) (n : ℕ) → slice_index_or (marked as' ws) n false ≡ true → IsUndriven as' n → slice_index_or ws n false ≡ true
 marked-only [] ws n h u = h
@@ -222,17 +224,21 @@ pub below_more : (as' : List Assignment) (k : ℕ) (w0 w1 w2 : List Bool) → Fe
 below_more as' k w0 w1 w2 (inl p) (inl q) = inl (omega arith)
 below_more as' k w0 w1 w2 (inl p) (inr q) = inl (subst (λ (w : List Bool). marks_of w < marks_of w0) (sym q.0) p)
 below_more as' k w0 w1 w2 (inr p) (inl q) = inl (subst (λ (w : List Bool). marks_of w2 < marks_of w) p.0 q)
-below_more as' k w0 w1 w2 (inr p) (inr q) = inr (q.0 ∙ p.0, λ j lt a e. elim (cases_eq j k) [
-  | inl same ↦ subst (λ (w : List Bool). IsStuck w a) p.0 (q.1 a (subst (λ i. slice_get as' i ≡ Some a) same e))
-  | inr other ↦ p.1 j (omega arith) a e
-])
+below_more as' k w0 w1 w2 (inr p) (inr q) = inr (
+  q.0 ∙ p.0,
+  λ j lt a e. elim (cases_eq j k) [
+    | inl same ↦ subst (λ (w : List Bool). IsStuck w a) p.0 (q.1 a (subst (λ i. slice_get as' i ≡ Some a) same e))
+    | inr other ↦ p.1 j (omega arith) a e
+  ],
+)
 
 stuck_from : (ws : List Bool) (all rest : List Assignment) (i : ℕ) → ((j : ℕ) → slice_get rest j ≡ slice_get all (i + j)) → StuckBelow ws all (i + length rest) → AllByRecursion (IsStuck ws) rest
 stuck_from ws all [] i same h = tt
-stuck_from ws all (a ∷ rest) i same h =
-    (h (i + 0) (omega arith) a (sym (same 0)),
-      stuck_from ws all rest (i + 1) (λ j. let e : i + suc j ≡ (i + 1) + j = omega arith in same (suc j) ∙ ap (λ n. slice_get all n) e)
-        (λ j lt. h j (omega arith)))
+stuck_from ws all (a ∷ rest) i same h = (
+  h (i + 0) (omega arith) a (sym (same 0)),
+  stuck_from ws all rest (i + 1) (λ j. let e : i + suc j ≡ (i + 1) + j = omega arith in same (suc j) ∙ ap (λ n. slice_get all n) e)
+      (λ j lt. h j (omega arith)),
+)
 
 pub all_stuck : (ws : List Bool) (as' : List Assignment) → StuckBelow ws as' (length as') → AllByRecursion (IsStuck ws) as'
 all_stuck ws as' h = stuck_from ws as' as' 0 (λ j. let e : j ≡ 0 + j = omega arith in ap (λ n. slice_get as' n) e) (λ j lt. h j (omega arith))

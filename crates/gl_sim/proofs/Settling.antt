@@ -33,7 +33,7 @@ slice_get-map f (y ∷ xs) (suc n) x e = slice_get-map f xs n x e
 pub assignment_at : (m : Module) (as' : List Assignment) (k : ℕ) (a : Assignment) → IsRunnable m → m.assignments ≡ map assignment_of as' → k < length as' → a ≡ get_or as' k a → KeepsWidth m.declarations (assignment_of a)
 assignment_at m as' k a runnable same lt e =
     all_at (KeepsWidth m.declarations) (map assignment_of as') k (assignment_of a) (subst (λ xs. AllByRecursion (KeepsWidth m.declarations) xs) same runnable.assignments)
-      (slice_get-map assignment_of as' k a (slice_get-at as' k a lt e))
+    (slice_get-map assignment_of as' k a (slice_get-at as' k a lt e))
 
 -- the store with the target of an assignment put
 pub store_assigned : (ds : List Declaration) (vs : List ℕ) (bs : List (List ℕ)) (a : spec.Assignment) → IsStore ds vs bs → KeepsWidth ds a → IsStore ds (slice_set vs a.target (value_of (nets_of vs) (memories_of bs) a.value)) bs
@@ -89,6 +89,7 @@ inputs_from-more ds d from h = pick
     later = all_map (IsInputFrom ds (from + 1)) (IsInputFrom (d ∷ ds) from) (inputs_from (from + 1) ds)
         (λ n h. record { at = suc h.at; same = omega (arith, h.same); port = record { declaration = h.port.declaration; is = h.port.is; input = h.port.input; no_clock = h.port.no_clock } })
         h
+
     pick : (a b : Bool) → is_input d.kind ≡ a → is_clock d ≡ b → AllByRecursion (IsInputFrom (d ∷ ds) from) (if (a && not b) then from ∷ inputs_from (from + 1) ds else inputs_from (from + 1) ds)
     pick true false p q = (record { at = 0; same = omega arith; port = record { declaration = d; is = refl; input = p; no_clock = q } }, later)
     pick true true p q = later
@@ -115,7 +116,7 @@ store_input m vs inputs bs i st fit lt =
     let port = all_get (IsInputPort m.declarations) (inputs_of m) i 0 (inputs_of-ports m) lt in
     let fits = zip_at (λ n x. x < 2 ^ width_at m.declarations n) (inputs_of m) inputs i 0 0 fit lt in
     store_put m.declarations vs bs (get_or (inputs_of m) i 0) (get_or inputs i 0) port.declaration st port.is
-      (subst (λ w. get_or inputs i 0 < 2 ^ w) (width_at-found m.declarations (get_or (inputs_of m) i 0) port.declaration port.is) fits)
+    (subst (λ w. get_or inputs i 0 < 2 ^ w) (width_at-found m.declarations (get_or (inputs_of m) i 0) port.declaration port.is) fits)
 
 pub length_map : {S T : Type 0} (f : S → T) (xs : List S) (n : ℕ) → n < length (map f xs) → n < length xs
 length_map f [] n lt = lt

@@ -15,13 +15,13 @@ use Rattle.gl_sim.proofs.Settling.{all_map}
 pub with_word-put_by : (bs : List (List ℕ)) (u : Update) (k at : ℕ) → u.memory < length bs → u.address < length (slice_index_or bs u.memory []) → memories_of (with_word bs u.memory u.address u.value) k at ≡ unwrap_or (put_by u k at) (memories_of bs k at)
 with_word-put_by bs u k at lt within = elim (eqb_tells u.memory k) [
   | inl here ↦ elim (eqb_tells u.address at) [
-      | inl place ↦
-          rw (here.0, place.0) (subst (λ (i : ℕ). memories_of (with_word bs u.memory u.address u.value) i at ≡ u.value) here.1
-            (subst (λ (i : ℕ). memories_of (with_word bs u.memory u.address u.value) u.memory i ≡ u.value) place.1 (with_word-same bs u.memory u.address u.value lt within)))
-      | inr elsewhere ↦
-          rw (here.0, elsewhere.0) (subst (λ (i : ℕ). memories_of (with_word bs u.memory u.address u.value) i at ≡ memories_of bs i at) here.1
-            (with_word-other_place bs u.memory u.address u.value at lt elsewhere.1))
-    ]
+    | inl place ↦
+        rw (here.0, place.0) (subst (λ (i : ℕ). memories_of (with_word bs u.memory u.address u.value) i at ≡ u.value) here.1
+        (subst (λ (i : ℕ). memories_of (with_word bs u.memory u.address u.value) u.memory i ≡ u.value) place.1 (with_word-same bs u.memory u.address u.value lt within)))
+    | inr elsewhere ↦
+        rw (here.0, elsewhere.0) (subst (λ (i : ℕ). memories_of (with_word bs u.memory u.address u.value) i at ≡ memories_of bs i at) here.1
+        (with_word-other_place bs u.memory u.address u.value at lt elsewhere.1))
+  ]
   | inr other ↦ rw other.0 (ap (λ (b : List ℕ). slice_index b at) (with_word-other_bank bs u.memory u.address u.value k other.1))
 ]
 
@@ -53,7 +53,7 @@ has_put-more all before after us i d bank lt h is =
       size = size ∙ h.size;
       sizes = λ k. sizes k ∙ h.sizes k;
       words = λ k at.
-        ap (λ (x : ℕ). unwrap_or (put_of (drop (i + 1) us) k at) x) (with_word-put_by after u k at within.0.0 within.0.1)
+          ap (λ (x : ℕ). unwrap_or (put_of (drop (i + 1) us) k at) x) (with_word-put_by after u k at within.0.0 within.0.1)
           ∙ sym (unwrap-later (put_by u k at) (put_of (drop (i + 1) us) k at) (memories_of after k at))
           ∙ ap (λ (ws : List Update). unwrap_or (put_of ws k at) (memories_of after k at)) (sym here)
           ∙ h.words k at;

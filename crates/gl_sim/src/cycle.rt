@@ -30,7 +30,13 @@ pub fn settle(design: &Module, order: &[usize], values: &mut Vec<u128>, banks: &
 }
 
 /// Sets the input ports with these numbers.
-pub fn set_inputs(design: &Module, ports: &[usize], inputs: &[u128], values: &mut Vec<u128>, banks: &[Bank])
+pub fn set_inputs(
+    design: &Module,
+    ports: &[usize],
+    inputs: &[u128],
+    values: &mut Vec<u128>,
+    banks: &[Bank],
+)
     requires ports { ports.now ≡ inputs_of (module_of design.now) }
     requires fit { FitInputs (module_of design.now) inputs.now }
     requires store { IsStore (module_of design.now).declarations values.old.items banks.now }

@@ -86,7 +86,13 @@ impl Sim {
         // followed through that cycle.
         ensures follows { (value : ℕ → Nets) (word : ℕ → Memories) (t : ℕ) → IsRun (module_of self.old.design) value word → IsAt self.old value word t → HasInputs (module_of self.old.design) (value t) inputs.now → Shows self.new (value t) × IsAt self.new value word (t + 1) }
     {
-        set_inputs(&self.design, &self.ports, inputs, &mut self.values, &self.banks);
+        set_inputs(
+            &self.design,
+            &self.ports,
+            inputs,
+            &mut self.values,
+            &self.banks,
+        );
         settle(&self.design, &self.order, &mut self.values, &self.banks);
         keep(&self.values, &mut self.shown);
         clock(

@@ -49,7 +49,7 @@ text_below : (n : ℕ) (text : List ℕ) → length text ≤ n → is_plain text
 unfolding is_plain text_word
 text_below n text le h =
     subst (λ (k : ℕ). number_of (padded n text) < 2 ^ (8 * k)) (let e : 0 + length (padded n text) ≡ n = omega (arith, length-padded n text le) in e)
-      (below_bits (padded n text) 0 0 (plain_small text (n - length text) h) (omega arith))
+    (below_bits (padded n text) 0 0 (plain_small text (n - length text) h) (omega arith))
 
 some_is : {A : Type 0} (x y : A) → Some x ≡ Some y → x ≡ y
 some_is x y h = cc
@@ -97,8 +97,9 @@ found_row number (Some r) row h = ap Some (ok_is r row h)
 row_of_fits : (number : ℕ) (cs : List Column) (fs : List (List ℕ)) (row : List Word) → row_of number cs fs ≡ Ok row → IsRowOf cs (bits_of row)
 unfolding row_of
 row_of_fits number cs fs row h = elim (cases_Bool (length fs == 2 + length cs)) [
-    inl t ↦ row_fits cs (drop 2 fs) row (found_row number (words_of cs (drop 2 fs)) row (rw t at h))
-  | inr f ↦ absurd (cc (rw f at h)) ]
+  | inl t ↦ row_fits cs (drop 2 fs) row (found_row number (words_of cs (drop 2 fs)) row (rw t at h))
+  | inr f ↦ absurd (cc (rw f at h))
+]
 
 -- what an entry brings fits the schema
 abbrev EntryFits : Schema → Entry → Type 0
@@ -122,8 +123,9 @@ end_fits number schema false entry h = absurd cc
 named_fits : (number : ℕ) (schema : Schema) (fs : List (List ℕ)) (o : Option (List ℕ)) (entry : Entry) → entry_named number schema fs o ≡ Ok entry → EntryFits schema entry
 named_fits number schema fs None entry h = absurd cc
 named_fits number schema fs (Some name) entry h = elim (cases_Bool (bytes_eq name (codes "end"))) [
-    inl t ↦ end_fits number schema (length fs == 2) entry (rw t at h)
-  | inr f ↦ tuple_fits number schema fs name (stream_named schema name) entry refl (rw f at h) ]
+  | inl t ↦ end_fits number schema (length fs == 2) entry (rw t at h)
+  | inr f ↦ tuple_fits number schema fs name (stream_named schema name) entry refl (rw f at h)
+]
 
 entry_fits : (number : ℕ) (schema : Schema) (fs : List (List ℕ)) (entry : Entry) → entry_of number schema fs ≡ Ok entry → EntryFits schema entry
 unfolding entry_of
@@ -229,8 +231,9 @@ record Turned (schema : Schema) (whole : List Beat) (b : Beat) : Type 0 where
 turned_if : (schema : Schema) (whole : List Beat) (b : Beat) (cycle number : ℕ) → AreSound schema whole → IsOpen schema whole b → cycle ≤ 10000000 → IsFalse b.end → b.cycle ≤ cycle
     → Turned schema (whole_before cycle whole (Some b)) (beat_of (length schema.streams) cycle number (Some b))
 turned_if schema whole b cycle number sound o early open' le = elim (cases_Bool (b.cycle == cycle)) [
-    inl t ↦ rw t (record { sound = sound; ready = record { rises = o.rises; rows = o.is.rows; still = o.is.still; early = o.early } })
-  | inr f ↦ rw f (record { sound = sound_push schema whole b sound o.is; ready = empty_ready schema (whole ++ b ∷ []) cycle number (rises_push whole b cycle o.rises open' (less b.cycle cycle le (eqb-false b.cycle cycle f))) early }) ]
+  | inl t ↦ rw t (record { sound = sound; ready = record { rises = o.rises; rows = o.is.rows; still = o.is.still; early = o.early } })
+  | inr f ↦ rw f (record { sound = sound_push schema whole b sound o.is; ready = empty_ready schema (whole ++ b ∷ []) cycle number (rises_push whole b cycle o.rises open' (less b.cycle cycle le (eqb-false b.cycle cycle f))) early })
+]
   where
     less : (a b : ℕ) → a ≤ b → (a ≡ b → ⊥) → a < b
     less a b le no' = omega (arith, no')
@@ -261,8 +264,10 @@ ended_sound schema whole b sound r =
     record {
       beats' = record {
         each = sound_plain schema (whole ++ last ∷ []) (sound_push schema whole last sound (record { rows = r.rows; some' = λ e. absurd (false≢true (sym e)); still = r.still }));
-        order = in_order whole last r.rises refl };
-      last = omega (arith, last_is whole last, r.early) }
+        order = in_order whole last r.rises refl;
+      };
+      last = omega (arith, last_is whole last, r.early);
+    }
 
 filed_ended : (schema : Schema) (whole : List Beat) (current : Option Beat) → AreSound schema whole → CurrentFits schema whole current → AreFileBeats schema (whole ++ record (unwrap_or current (empty_beat (length schema.streams) 0 0)) { end = true } ∷ [])
 filed_ended schema whole None sound c = ended_sound schema whole (empty_beat (length schema.streams) 0 0) sound (empty_ready schema whole 0 0 (subst (λ (w : List Beat). RisesTo w 0) (sym c) tt) (omega arith))

@@ -51,8 +51,9 @@ keeps_from : (gap : ℕ) (bs : List Beat) → IsOk (close_answer (first_close ga
 keeps_from gap [] h = tt
 keeps_from gap (b ∷ []) h = tt
 keeps_from gap (b ∷ c ∷ bs) h = elim (cases_Bool (nat_lt c.cycle (b.cycle + gap))) [
-    inl t ↦ absurd (false≢true (rw t at h))
-  | inr f ↦ (ltb-false c.cycle (b.cycle + gap) f, keeps_from gap (c ∷ bs) (rw f at h)) ]
+  | inl t ↦ absurd (false≢true (rw t at h))
+  | inr f ↦ (ltb-false c.cycle (b.cycle + gap) f, keeps_from gap (c ∷ bs) (rw f at h))
+]
 
 ok_from : (gap : ℕ) (bs : List Beat) → KeepsGap gap (plain_beats bs) → IsOk (close_answer (first_close gap bs))
 ok_from gap [] h = refl

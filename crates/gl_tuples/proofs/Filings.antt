@@ -111,8 +111,8 @@ pub filing_fails : (schema : Schema) (rs us : List (List (List ℕ))) (r : List 
 unfolding beats_of
 filing_fails schema rs us r g e a b =
     fails_then e (filing_after schema ((rs ++ r ∷ []) ++ us) no_records) (λ f. Ok (ended (length schema.streams) f))
-      (subst (Fails e) (sym (ap (λ (x : List (List (List ℕ))). filing_after schema x no_records) (append_assoc rs (r ∷ []) us) ∙ filing_after-append schema rs (r ∷ us) no_records ∙ ap (λ (x : Result Filing TupleFault). x >>= filing_after schema (r ∷ us)) a))
-        (fails_then e (next_filing schema g r) (filing_after schema us) b))
+    (subst (Fails e) (sym (ap (λ (x : List (List (List ℕ))). filing_after schema x no_records) (append_assoc rs (r ∷ []) us) ∙ filing_after-append schema rs (r ∷ us) no_records ∙ ap (λ (x : Result Filing TupleFault). x >>= filing_after schema (r ∷ us)) a))
+    (fails_then e (next_filing schema g r) (filing_after schema us) b))
 
 pub all_filed : (schema : Schema) (rs : List (List (List ℕ))) (g : Filing) → filing_after schema rs no_records ≡ Ok g → beats_of schema rs ≡ Ok (ended (length schema.streams) g)
 unfolding beats_of

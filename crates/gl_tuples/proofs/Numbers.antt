@@ -24,8 +24,9 @@ pub ruleset utf8_steps = (text_is_utf8, short_is_no_text)
 -- a number that is kept at most m
 tops : (v d m : ℕ) → min (10 * min v m + d) m ≡ min (10 * v + d) m
 tops v d m = elim (cases_lt v m) [
-    inl lt ↦ ap (λ (x : ℕ). min (10 * x + d) m) (min-eq_left {n = v} {m = m} (omega arith))
-  | inr le ↦ ap (λ (x : ℕ). min (10 * x + d) m) (min-eq_right {n = m} {m = v} le) ∙ min-eq_right {n = m} {m = 10 * m + d} (omega arith) ∙ sym (min-eq_right {n = m} {m = 10 * v + d} (omega arith)) ]
+  | inl lt ↦ ap (λ (x : ℕ). min (10 * x + d) m) (min-eq_left {n = v} {m = m} (omega arith))
+  | inr le ↦ ap (λ (x : ℕ). min (10 * x + d) m) (min-eq_right {n = m} {m = v} le) ∙ min-eq_right {n = m} {m = 10 * m + d} (omega arith) ∙ sym (min-eq_right {n = m} {m = 10 * v + d} (omega arith))
+]
 
 -- a digit more, with a top
 pub digit_more : (digits : List ℕ) (i n : ℕ) → i < length digits → n ≡ min (number_in (take i digits)) (2 ^ 64) → min (10 * n + (get_or digits i 0 - 48)) (2 ^ 64) ≡ min (number_in (take (i + 1) digits)) (2 ^ 64)
@@ -65,9 +66,10 @@ length-padded n text le = length-append text (replicate (n - length text) 0) ∙
 
 pub padded_at : (n : ℕ) (text : List ℕ) (i : ℕ) → length text ≤ n → i < n → get_or (padded n text) i 0 ≡ get_or text i 0
 padded_at n text i le lt = elim (cases_lt i (length text)) [
-    inl here ↦ get_or_append_left text (replicate (n - length text) 0) 0 i here
+  | inl here ↦ get_or_append_left text (replicate (n - length text) 0) 0 i here
   | inr past ↦ get_or-append_right text (replicate (n - length text) 0) (length text) i 0 refl past
-      ∙ get_or-replicate (n - length text) (i - length text) 0 0 (omega arith) ∙ sym (get_or_past text i 0 past) ]
+      ∙ get_or-replicate (n - length text) (i - length text) 0 0 (omega arith) ∙ sym (get_or_past text i 0 past)
+]
 
 -- the next byte of a text in n bytes
 pub text_more : (n : ℕ) (text : List ℕ) (i v b : ℕ) → length text ≤ n → i < n → v ≡ number_of (take i (padded n text)) → b ≡ get_or text i 0 → 256 * v + b ≡ number_of (take (i + 1) (padded n text))
@@ -82,16 +84,18 @@ some_word x bits width b w = rw (← b, ← w) refl
 -- what `Word::new` answers
 pub word_made : (r : Option Word) (bits width : ℕ) → (IsSome r ↔ ((1 ≤ width) × (width ≤ 128) × (bits < 2 ^ width))) → IfSome r (λ w. w.bits ≡ bits) → IfSome r (λ w. w.width ≡ width) → 1 ≤ width → width ≤ 128 → r ≡ fitting width (Some bits)
 word_made None bits width given b w low high = elim (cases_lt bits (2 ^ width)) [
-    inl lt ↦ absurd (false≢true (given.1 (low, high, lt)))
-  | inr le ↦ rw (le-ltb bits (2 ^ width) le) refl ]
+  | inl lt ↦ absurd (false≢true (given.1 (low, high, lt)))
+  | inr le ↦ rw (le-ltb bits (2 ^ width) le) refl
+]
 word_made (Some x) bits width given b w low high = rw (lt-ltb bits (2 ^ width) (given.0 refl).2) (some_word x bits width b w)
 
 -- a number with a top fits where the number does
 pub fitting_min : (width n : ℕ) → width ≤ 64 → fitting width (Some (min n (2 ^ 64))) ≡ fitting width (Some n)
 fitting_min width n le = elim (cases_lt n (2 ^ 64)) [
-    inl lt ↦ ap (λ (x : ℕ). fitting width (Some x)) (min-eq_left {n = n} {m = 2 ^ 64} (omega arith))
+  | inl lt ↦ ap (λ (x : ℕ). fitting width (Some x)) (min-eq_left {n = n} {m = 2 ^ 64} (omega arith))
   | inr top ↦ (let p : 2 ^ width ≤ 2 ^ 64 = pow-le-pow_right (let z : 0 < 2 = omega arith in z) le in
-      rw (min-eq_right {n = 2 ^ 64} {m = n} top, le-ltb (2 ^ 64) (2 ^ width) p, le-ltb n (2 ^ width) (below (2 ^ width) (2 ^ 64) n p top)) refl) ]
+      rw (min-eq_right {n = 2 ^ 64} {m = n} top, le-ltb (2 ^ 64) (2 ^ width) p, le-ltb n (2 ^ width) (below (2 ^ width) (2 ^ 64) n p top)) refl)
+]
   where
     below : (a b c : ℕ) → a ≤ b → b ≤ c → a ≤ c
     below a b c p q = omega arith

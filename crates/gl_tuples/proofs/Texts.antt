@@ -56,20 +56,23 @@ some_read p q h = cc
 leaves : (s : State) (fields : List (List ℕ)) (field xs : List ℕ) (p : Read) → next_record default_config s fields field xs ≡ Some p → Leaves xs p
 unfolding next_record
 leaves s fields field [] p h = elim (cases_Bool (ends_at_end s)) [
-    inl t ↦ subst (Leaves []) (some_read _ p (rw t at h)) (record { bytes = omega arith; between = refl })
-  | inr f ↦ absurd (cc (rw f at h)) ]
+  | inl t ↦ subst (Leaves []) (some_read _ p (rw t at h)) (record { bytes = omega arith; between = refl })
+  | inr f ↦ absurd (cc (rw f at h))
+]
 leaves s fields field (c ∷ rest) p h = elim (cases_Bool (is_end (step default_config s c).1)) [
-    inl t ↦ subst (Leaves (c ∷ rest)) (some_read _ p (rw t at h)) (record { bytes = omega arith; between = step_between s c t })
+  | inl t ↦ subst (Leaves (c ∷ rest)) (some_read _ p (rw t at h)) (record { bytes = omega arith; between = step_between s c t })
   | inr f ↦ (let l = leaves (step default_config s c).0 (fields_after (step default_config s c).1 fields field) (field_after (step default_config s c).1 c field) rest p (rw f at h) in
-      record { bytes = omega (arith, l.bytes); between = l.between }) ]
+      record { bytes = omega (arith, l.bytes); between = l.between })
+]
 
 -- a record takes a byte at least
 takes : (s : State) (xs : List ℕ) (p : Read) → ends_at_end s ≡ false → next_record default_config s [] [] xs ≡ Some p → length p.2 < length xs
 unfolding next_record
 takes s [] p e h = absurd (cc (rw e at h))
 takes s (c ∷ rest) p e h = elim (cases_Bool (is_end (step default_config s c).1)) [
-    inl t ↦ (let q = some_read _ p (rw t at h) in subst (λ (p : Read). length p.2 < length (c ∷ rest)) q (omega arith))
-  | inr f ↦ (let l = leaves (step default_config s c).0 (fields_after (step default_config s c).1 [] []) (field_after (step default_config s c).1 c []) rest p (rw f at h) in omega (arith, l.bytes)) ]
+  | inl t ↦ (let q = some_read _ p (rw t at h) in subst (λ (p : Read). length p.2 < length (c ∷ rest)) q (omega arith))
+  | inr f ↦ (let l = leaves (step default_config s c).0 (fields_after (step default_config s c).1 [] []) (field_after (step default_config s c).1 c []) rest p (rw f at h) in omega (arith, l.bytes))
+]
 
 -- there are no more records than bytes
 pub reached_long : (s : State) (xs : List ℕ) (rows : List (List (List ℕ))) (s2 : State) (ys : List ℕ) → ends_at_end s ≡ false → Reached default_config s xs rows s2 ys → length rows + length ys ≤ length xs
@@ -101,8 +104,10 @@ turns xs rows s2 ys r = omega (arith, reached_long st.StartRecord xs rows s2 ys 
 -- the records of a text begin with those that were read
 pub begins : (text : List ℕ) (rows : List (List (List ℕ))) (s2 : State) (ys : List ℕ) → Reached default_config st.StartRecord (strip_bom text) rows s2 ys → (more : List (List (List ℕ))) × (records_of text ≡ rows ++ more)
 unfolding records_of
-begins text rows s2 ys r = (records_from default_config (length (strip_bom text) + 1 - length rows) s2 ys,
-    ap (λ (k : ℕ). records_from default_config k st.StartRecord (strip_bom text)) (sym (turns (strip_bom text) rows s2 ys r)) ∙ records_reached st.StartRecord (strip_bom text) rows s2 ys (length (strip_bom text) + 1 - length rows) r)
+begins text rows s2 ys r = (
+  records_from default_config (length (strip_bom text) + 1 - length rows) s2 ys,
+  ap (λ (k : ℕ). records_from default_config k st.StartRecord (strip_bom text)) (sym (turns (strip_bom text) rows s2 ys r)) ∙ records_reached st.StartRecord (strip_bom text) rows s2 ys (length (strip_bom text) + 1 - length rows) r,
+)
 
 -- and are those, where there is no other
 pub are_all : (text : List ℕ) (rows : List (List (List ℕ))) (s2 : State) (ys : List ℕ) → Reached default_config st.StartRecord (strip_bom text) rows s2 ys → next_record default_config s2 [] [] ys ≡ None → records_of text ≡ rows

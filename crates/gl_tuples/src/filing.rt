@@ -69,7 +69,11 @@ impl Filing {
         requires stream { spec.IsEntry streams entry }
         ensures { Gives result (spec.added streams self number cycle entry) }
     {
-        let Filing { whole, current, records: _ } = self;
+        let Filing {
+            whole,
+            current,
+            records: _,
+        } = self;
         let (whole, beat) = turned(alloc, streams, whole, current, cycle, number)?;
         let beat = beat_with(beat, entry, number)?;
         Ok(Filing {
@@ -83,7 +87,11 @@ impl Filing {
     pub fn end(self, alloc: Global, streams: usize) -> Result<Beats, TupleFault>
         ensures { Gives result (Ok (spec.ended streams self)) }
     {
-        let Filing { mut whole, current, records: _ } = self;
+        let Filing {
+            mut whole,
+            current,
+            records: _,
+        } = self;
         let mut last = match current {
             Some(beat) => beat,
             None => empty_beat(alloc, streams, 0, 0)?,

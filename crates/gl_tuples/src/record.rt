@@ -129,7 +129,11 @@ fn stream_named(schema: &Schema, name: &[u8]) -> Option<usize>
     ensures place { result ≡ spec.stream_named schema.now name.now }
     ensures below { IfSome result (λ k. k < length schema.now.streams) }
 {
-    schema.streams.as_slice().iter().position(|stream| stream.name.as_slice() == name)
+    schema
+        .streams
+        .as_slice()
+        .iter()
+        .position(|stream| stream.name.as_slice() == name)
 }
 
 /// The columns of a stream.

@@ -94,7 +94,10 @@ fn text_word(field: &[u8], bytes: u8) -> Option<Word>
     requires short { length field.now ≤ bytes }
     ensures { result ≡ Some (record { bits = schemas.text_word bytes field.now; width = 8 * bytes }) }
 {
-    Word::new(u128::from(text_number(field, usize::from(bytes))), 8 * bytes)
+    Word::new(
+        u128::from(text_number(field, usize::from(bytes))),
+        8 * bytes,
+    )
 }
 
 #[tactic(auto, unfolding(gl_schema::specs::Schemas::text_word))]

@@ -4,7 +4,10 @@ use crate::fault::VerilogFault;
 use crate::lexing::{digit_of, small_number};
 use crate::sorting::first_in_loop;
 use crate::token::Span;
-use crate::written::{Direction, InfixOp, PrefixOp, WrittenExpr, WrittenItem, WrittenModule, WrittenPort, WrittenStatement};
+use crate::written::{
+    Direction, InfixOp, PrefixOp, WrittenExpr, WrittenItem, WrittenModule, WrittenPort,
+    WrittenStatement,
+};
 use gl_bits::Listed;
 use gl_verilog::{Assignment, BinaryOp, Declaration, Expr, Kind, Module, Statement};
 use std::alloc::Global;
@@ -41,7 +44,9 @@ fn big_number(radix: u8, digits: &[u8]) -> Option<u128> {
     let mut number = 0u128;
     for b in digits {
         if *b != b'_' {
-            number = number.checked_mul(u128::from(radix))?.checked_add(u128::from(digit_of(*b)))?;
+            number = number
+                .checked_mul(u128::from(radix))?
+                .checked_add(u128::from(digit_of(*b)))?;
         }
     }
     Some(number)
@@ -155,7 +160,13 @@ impl<'a> Scope<'a> {
         }
     }
 
-    fn word(&self, known: Known, bits: u8, address: Typed, name: Span) -> Result<Typed, VerilogFault> {
+    fn word(
+        &self,
+        known: Known,
+        bits: u8,
+        address: Typed,
+        name: Span,
+    ) -> Result<Typed, VerilogFault> {
         if address.width != bits {
             return Err(VerilogFault::BadMemory {
                 at: name.from as u64,
@@ -182,7 +193,13 @@ impl<'a> Scope<'a> {
         })
     }
 
-    fn infix(&self, op: InfixOp, at: usize, left: Typed, right: Typed) -> Result<Typed, VerilogFault> {
+    fn infix(
+        &self,
+        op: InfixOp,
+        at: usize,
+        left: Typed,
+        right: Typed,
+    ) -> Result<Typed, VerilogFault> {
         let width = left.width;
         let is_logical = matches!(op, InfixOp::LogicalAnd | InfixOp::LogicalOr);
         if width != right.width || (is_logical && width != 1) {
@@ -364,7 +381,12 @@ impl Drivers {
 }
 
 // A register takes a value.
-fn update(scope: &Scope, drivers: &mut Drivers, target: Span, value: Typed) -> Result<Statement, VerilogFault> {
+fn update(
+    scope: &Scope,
+    drivers: &mut Drivers,
+    target: Span,
+    value: Typed,
+) -> Result<Statement, VerilogFault> {
     let at = target.from as u64;
     let known = scope.target(target)?;
     match known.kind {
@@ -386,7 +408,13 @@ fn update(scope: &Scope, drivers: &mut Drivers, target: Span, value: Typed) -> R
 }
 
 // A word of a memory takes a value.
-fn update_word(scope: &Scope, drivers: &mut Drivers, target: Span, address: Typed, value: Typed) -> Result<Statement, VerilogFault> {
+fn update_word(
+    scope: &Scope,
+    drivers: &mut Drivers,
+    target: Span,
+    address: Typed,
+    value: Typed,
+) -> Result<Statement, VerilogFault> {
     let at = target.from as u64;
     let known = scope.target(target)?;
     match known.kind {
@@ -419,7 +447,11 @@ fn test_of(scope: &Scope, at: usize, test: &WrittenExpr) -> Result<Expr, Verilog
     Ok(typed.expr)
 }
 
-fn statement_of(scope: &Scope, drivers: &mut Drivers, written: &WrittenStatement) -> Result<Statement, VerilogFault> {
+fn statement_of(
+    scope: &Scope,
+    drivers: &mut Drivers,
+    written: &WrittenStatement,
+) -> Result<Statement, VerilogFault> {
     match written {
         WrittenStatement::Update { target, value } => {
             let value = typed_of(scope, value)?;
@@ -471,7 +503,13 @@ fn statement_of(scope: &Scope, drivers: &mut Drivers, written: &WrittenStatement
 }
 
 // Declares a name behind the others.
-fn declare(scope: &mut Scope, drivers: &mut Drivers, kind: Kind, range: Option<Span>, name: Span) -> Result<(), VerilogFault> {
+fn declare(
+    scope: &mut Scope,
+    drivers: &mut Drivers,
+    kind: Kind,
+    range: Option<Span>,
+    name: Span,
+) -> Result<(), VerilogFault> {
     let at = name.from as u64;
     let number = scope.known.len();
     let mut bytes = Vec::new(scope.alloc);
@@ -498,7 +536,11 @@ fn declare(scope: &mut Scope, drivers: &mut Drivers, kind: Kind, range: Option<S
     Ok(())
 }
 
-fn declare_port(scope: &mut Scope, drivers: &mut Drivers, port: &WrittenPort) -> Result<(), VerilogFault> {
+fn declare_port(
+    scope: &mut Scope,
+    drivers: &mut Drivers,
+    port: &WrittenPort,
+) -> Result<(), VerilogFault> {
     let kind = match port.direction {
         Direction::In | Direction::InWire => Kind::Input,
         Direction::Out | Direction::OutWire => Kind::OutputWire,
@@ -507,7 +549,13 @@ fn declare_port(scope: &mut Scope, drivers: &mut Drivers, port: &WrittenPort) ->
     declare(scope, drivers, kind, port.range, port.name)
 }
 
-fn declare_memory(scope: &mut Scope, drivers: &mut Drivers, range: Option<Span>, name: Span, last: Span) -> Result<(), VerilogFault> {
+fn declare_memory(
+    scope: &mut Scope,
+    drivers: &mut Drivers,
+    range: Option<Span>,
+    name: Span,
+    last: Span,
+) -> Result<(), VerilogFault> {
     let words = u64::from(scope.number_of(last)) + 1;
     let bits = address_bits_of(words);
     let kind = Kind::Memory {
@@ -522,7 +570,12 @@ fn declare_memory(scope: &mut Scope, drivers: &mut Drivers, range: Option<Span>,
     }
 }
 
-fn assignment_of(scope: &Scope, drivers: &mut Drivers, target: Span, value: &WrittenExpr) -> Result<Assignment, VerilogFault> {
+fn assignment_of(
+    scope: &Scope,
+    drivers: &mut Drivers,
+    target: Span,
+    value: &WrittenExpr,
+) -> Result<Assignment, VerilogFault> {
     let value = typed_of(scope, value)?;
     let at = target.from as u64;
     let known = scope.target(target)?;
@@ -544,7 +597,12 @@ fn assignment_of(scope: &Scope, drivers: &mut Drivers, target: Span, value: &Wri
 }
 
 // The statement of a block that is clocked by `clk`.
-fn block_of(scope: &Scope, drivers: &mut Drivers, clock: Span, body: &WrittenStatement) -> Result<Statement, VerilogFault> {
+fn block_of(
+    scope: &Scope,
+    drivers: &mut Drivers,
+    clock: Span,
+    body: &WrittenStatement,
+) -> Result<Statement, VerilogFault> {
     let _known = scope.target(clock)?;
     if clock.of(scope.text) != b"clk".as_slice() {
         return Err(VerilogFault::ClockRead {
@@ -565,20 +623,47 @@ pub struct Parts {
     blocks: Vec<Statement>,
 }
 
-fn declare_all(scope: &mut Scope, drivers: &mut Drivers, kind: Kind, range: Option<Span>, names: &[Span]) -> Result<(), VerilogFault> {
+fn declare_all(
+    scope: &mut Scope,
+    drivers: &mut Drivers,
+    kind: Kind,
+    range: Option<Span>,
+    names: &[Span],
+) -> Result<(), VerilogFault> {
     for name in names {
         declare(scope, drivers, kind, range, *name)?;
     }
     Ok(())
 }
 
-fn judge_item(scope: &mut Scope, drivers: &mut Drivers, parts: &mut Parts, item: &WrittenItem) -> Result<(), VerilogFault> {
+fn judge_item(
+    scope: &mut Scope,
+    drivers: &mut Drivers,
+    parts: &mut Parts,
+    item: &WrittenItem,
+) -> Result<(), VerilogFault> {
     match item {
-        WrittenItem::Wires { range, names } => declare_all(scope, drivers, Kind::Wire, *range, names),
-        WrittenItem::Registers { range, names } => declare_all(scope, drivers, Kind::Register, *range, names),
-        WrittenItem::MemoryOf { range, name, last } => declare_memory(scope, drivers, *range, *name, *last),
+        WrittenItem::Wires { range, names } => declare_all(
+            scope,
+            drivers,
+            Kind::Wire,
+            *range,
+            names,
+        ),
+        WrittenItem::Registers { range, names } => declare_all(
+            scope,
+            drivers,
+            Kind::Register,
+            *range,
+            names,
+        ),
+        WrittenItem::MemoryOf { range, name, last } => declare_memory(
+            scope, drivers, *range, *name, *last,
+        ),
         WrittenItem::Assign { target, value } => {
-            parts.assignments.push(assignment_of(scope, drivers, *target, value)?)?;
+            parts
+                .assignments
+                .push(assignment_of(scope, drivers, *target, value)?)?;
             parts.targets.push(*target)?;
             Ok(())
         }
@@ -591,7 +676,8 @@ fn judge_item(scope: &mut Scope, drivers: &mut Drivers, parts: &mut Parts, item:
 
 // The first declaration but an input that nothing drives.
 fn find_undriven(scope: &Scope, drivers: &Drivers) -> Option<usize> {
-    scope.known.iter().position(|known| known.kind != Kind::Input && !drivers.is_driven(known.number))
+    scope.known.iter().position(|known| known.kind != Kind::Input
+        && !drivers.is_driven(known.number))
 }
 
 // The declarations, with their names copied.
@@ -619,7 +705,11 @@ fn place_at(spans: &[Span], number: usize) -> u64 {
 }
 
 /// The module that is meant, or the first fault.
-pub fn module_of(alloc: Global, text: &[u8], written: &WrittenModule) -> Result<Module, VerilogFault> {
+pub fn module_of(
+    alloc: Global,
+    text: &[u8],
+    written: &WrittenModule,
+) -> Result<Module, VerilogFault> {
     let mut scope = Scope {
         alloc,
         text,

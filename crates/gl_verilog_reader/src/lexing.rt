@@ -15,16 +15,9 @@ pub enum Standing {
     /// Behind a number's quote.
     AtQuote(Span),
     /// Behind a number's quote and a base letter.
-    AtBase {
-        size: Span,
-        radix: u8,
-    },
+    AtBase { size: Span, radix: u8 },
     /// In the digits of a literal, which begin at `from`.
-    InDigits {
-        size: Span,
-        radix: u8,
-        from: usize,
-    },
+    InDigits { size: Span, radix: u8, from: usize },
     /// Behind a byte that may begin a sign of two bytes, or a comment.
     Half(u8),
     /// In a comment of one line.
@@ -151,7 +144,9 @@ fn keyword_of(word: &[u8]) -> Option<Keyword> {
 pub fn small_number(digits: &[u8]) -> Option<u32> {
     let mut number = 0u32;
     for b in digits {
-        number = number.checked_mul(10)?.checked_add(u32::from(digit_of(*b)))?;
+        number = number
+            .checked_mul(10)?
+            .checked_add(u32::from(digit_of(*b)))?;
     }
     Some(number)
 }
@@ -174,7 +169,11 @@ fn number_token(text: &[u8], span: Span) -> Token {
 
 fn sized_token(text: &[u8], size: Span, radix: u8, digits: Span) -> Token {
     match small_number(size.of(text)) {
-        Some(_) => Token::Sized { size, radix, digits },
+        Some(_) => Token::Sized {
+            size,
+            radix,
+            digits,
+        },
         None => Token::Never,
     }
 }
@@ -261,7 +260,14 @@ impl Lexer {
     }
 
     // A byte behind a base letter, which is the byte before.
-    fn at_base(&mut self, text: &[u8], size: Span, radix: u8, at: usize, b: u8) -> Result<(), AllocError> {
+    fn at_base(
+        &mut self,
+        text: &[u8],
+        size: Span,
+        radix: u8,
+        at: usize,
+        b: u8,
+    ) -> Result<(), AllocError> {
         if digit_of(b) < radix {
             self.standing = Standing::InDigits {
                 size,
@@ -275,7 +281,15 @@ impl Lexer {
     }
 
     // A byte behind a literal's digits.
-    fn in_digits(&mut self, text: &[u8], size: Span, radix: u8, from: usize, at: usize, b: u8) -> Result<(), AllocError> {
+    fn in_digits(
+        &mut self,
+        text: &[u8],
+        size: Span,
+        radix: u8,
+        from: usize,
+        at: usize,
+        b: u8,
+    ) -> Result<(), AllocError> {
         if goes_on(radix, b) {
             self.standing = Standing::InDigits { size, radix, from };
             return Ok(());
@@ -313,14 +327,24 @@ impl Lexer {
             Standing::InNumber(from) => self.in_number(text, from, at, b),
             Standing::AtQuote(size) => self.at_quote(text, size, at, b),
             Standing::AtBase { size, radix } => self.at_base(text, size, radix, at, b),
-            Standing::InDigits { size, radix, from } => self.in_digits(text, size, radix, from, at, b),
+            Standing::InDigits { size, radix, from } => self.in_digits(
+                text, size, radix, from, at, b,
+            ),
             Standing::Half(first) => self.follow(first, at, b),
             Standing::InLine => {
-                self.standing = if b == b'\n' { Standing::Between } else { Standing::InLine };
+                self.standing = if b == b'\n' {
+                    Standing::Between
+                } else {
+                    Standing::InLine
+                };
                 Ok(())
             }
             Standing::InBlock(from) => {
-                self.standing = if b == b'*' { Standing::AtStar(from) } else { Standing::InBlock(from) };
+                self.standing = if b == b'*' {
+                    Standing::AtStar(from)
+                } else {
+                    Standing::InBlock(from)
+                };
                 Ok(())
             }
             Standing::AtStar(from) => {

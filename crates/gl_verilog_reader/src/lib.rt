@@ -10,7 +10,6 @@ pub mod token;
 pub mod written;
 
 pub use fault::VerilogFault;
-
 use gl_verilog::Module;
 use std::alloc::Global;
 

@@ -2,7 +2,10 @@
 
 use crate::fault::VerilogFault;
 use crate::token::{Keyword, Lexeme, Sign, Span, Token};
-use crate::written::{Direction, InfixOp, PrefixOp, WrittenExpr, WrittenItem, WrittenModule, WrittenPort, WrittenStatement};
+use crate::written::{
+    Direction, InfixOp, PrefixOp, WrittenExpr, WrittenItem, WrittenModule, WrittenPort,
+    WrittenStatement,
+};
 use std::alloc::{AllocError, Global};
 use std::mem;
 
@@ -169,7 +172,12 @@ fn infix_of(sign: Sign) -> Option<InfixOp> {
 }
 
 // Applies what binds at least as tight as the level.
-fn reduce(alloc: Global, frames: &mut Vec<Frame>, operand: WrittenExpr, level: u8) -> Result<WrittenExpr, AllocError> {
+fn reduce(
+    alloc: Global,
+    frames: &mut Vec<Frame>,
+    operand: WrittenExpr,
+    level: u8,
+) -> Result<WrittenExpr, AllocError> {
     let mut operand = operand;
     while let Some(top) = frames.pop() {
         match top {
@@ -179,7 +187,12 @@ fn reduce(alloc: Global, frames: &mut Vec<Frame>, operand: WrittenExpr, level: u
             }
             Frame::InfixOf { op, at, left } if looseness_of(op) <= level => {
                 let right = Box::new(alloc, operand)?;
-                operand = WrittenExpr::Infix { op, at, left, right };
+                operand = WrittenExpr::Infix {
+                    op,
+                    at,
+                    left,
+                    right,
+                };
             }
             Frame::ColonOf { at, test, yes } if 11 <= level => {
                 let no = Box::new(alloc, operand)?;
@@ -195,7 +208,11 @@ fn reduce(alloc: Global, frames: &mut Vec<Frame>, operand: WrittenExpr, level: u
 }
 
 // Ends the `if`s that a statement stands in, up to the block.
-fn end_ifs(alloc: Global, frames: &mut Vec<Frame>, statement: WrittenStatement) -> Result<WrittenStatement, AllocError> {
+fn end_ifs(
+    alloc: Global,
+    frames: &mut Vec<Frame>,
+    statement: WrittenStatement,
+) -> Result<WrittenStatement, AllocError> {
     let mut statement = statement;
     while let Some(top) = frames.pop() {
         match top {
@@ -217,7 +234,11 @@ fn end_ifs(alloc: Global, frames: &mut Vec<Frame>, statement: WrittenStatement) 
 }
 
 // Gives an `else` to the nearest `if` that has none; false where there is none.
-fn take_else(alloc: Global, frames: &mut Vec<Frame>, statement: WrittenStatement) -> Result<bool, AllocError> {
+fn take_else(
+    alloc: Global,
+    frames: &mut Vec<Frame>,
+    statement: WrittenStatement,
+) -> Result<bool, AllocError> {
     let mut statement = statement;
     while let Some(top) = frames.pop() {
         match top {
@@ -330,8 +351,12 @@ impl Reading {
 
     fn want_port(&mut self, token: Token) -> Result<bool, AllocError> {
         match token {
-            Token::Reserved(Keyword::Input) => self.goto(Stage::Declaring(Owner::OfPort(Direction::In))),
-            Token::Reserved(Keyword::Output) => self.goto(Stage::Declaring(Owner::OfPort(Direction::Out))),
+            Token::Reserved(Keyword::Input) => self.goto(Stage::Declaring(Owner::OfPort(
+                Direction::In,
+            ))),
+            Token::Reserved(Keyword::Output) => self.goto(Stage::Declaring(Owner::OfPort(
+                Direction::Out,
+            ))),
             _ => Ok(false),
         }
     }
@@ -360,7 +385,12 @@ impl Reading {
         }
     }
 
-    fn want_name(&mut self, owner: Owner, range: Option<Span>, token: Token) -> Result<bool, AllocError> {
+    fn want_name(
+        &mut self,
+        owner: Owner,
+        range: Option<Span>,
+        token: Token,
+    ) -> Result<bool, AllocError> {
         match token {
             Token::Name(name) => self.named(owner, range, name),
             _ => Ok(false),
@@ -377,9 +407,15 @@ impl Reading {
 
     fn header(&mut self, stage: Stage, token: Token) -> Result<bool, AllocError> {
         match stage {
-            Stage::WantModule => self.goto_at(token == Token::Reserved(Keyword::Module), Stage::WantTitle),
+            Stage::WantModule => self.goto_at(
+                token == Token::Reserved(Keyword::Module),
+                Stage::WantTitle,
+            ),
             Stage::WantTitle => self.want_title(token),
-            Stage::WantPorts => self.goto_at(token == Token::Mark(Sign::OpenParen), Stage::WantPort),
+            Stage::WantPorts => self.goto_at(
+                token == Token::Mark(Sign::OpenParen),
+                Stage::WantPort,
+            ),
             Stage::WantPort => self.want_port(token),
             Stage::AfterPort => self.after_port(token),
             _ => self.goto_at(token == Token::Mark(Sign::Semicolon), Stage::WantItem),
@@ -389,14 +425,30 @@ impl Reading {
     fn range(&mut self, text: &[u8], stage: Stage, token: Token) -> Result<bool, AllocError> {
         match stage {
             Stage::WantHigh(owner) => self.want_high(owner, token),
-            Stage::WantColon(owner, high) => self.goto_at(token == Token::Mark(Sign::Colon), Stage::WantZero(owner, high)),
-            Stage::WantZero(owner, high) => self.want_zero(text, Stage::WantClose(owner, high), token),
-            Stage::WantClose(owner, high) => self.goto_at(token == Token::Mark(Sign::CloseBracket), Stage::WantName(owner, Some(high))),
+            Stage::WantColon(owner, high) => self.goto_at(
+                token == Token::Mark(Sign::Colon),
+                Stage::WantZero(owner, high),
+            ),
+            Stage::WantZero(owner, high) => self.want_zero(
+                text,
+                Stage::WantClose(owner, high),
+                token,
+            ),
+            Stage::WantClose(owner, high) => self.goto_at(
+                token == Token::Mark(Sign::CloseBracket),
+                Stage::WantName(owner, Some(high)),
+            ),
             _ => Ok(false),
         }
     }
 
-    fn after_name(&mut self, sort: Sort, range: Option<Span>, names: Vec<Span>, token: Token) -> Result<bool, AllocError> {
+    fn after_name(
+        &mut self,
+        sort: Sort,
+        range: Option<Span>,
+        names: Vec<Span>,
+        token: Token,
+    ) -> Result<bool, AllocError> {
         match token {
             Token::Mark(Sign::Comma) => self.goto(Stage::WantMore(sort, range, names)),
             Token::Mark(Sign::Semicolon) => self.put_item(match sort {
@@ -411,7 +463,13 @@ impl Reading {
         }
     }
 
-    fn want_more(&mut self, sort: Sort, range: Option<Span>, names: Vec<Span>, token: Token) -> Result<bool, AllocError> {
+    fn want_more(
+        &mut self,
+        sort: Sort,
+        range: Option<Span>,
+        names: Vec<Span>,
+        token: Token,
+    ) -> Result<bool, AllocError> {
         match token {
             Token::Name(name) => {
                 let mut names = names;
@@ -422,27 +480,54 @@ impl Reading {
         }
     }
 
-    fn want_last(&mut self, range: Option<Span>, name: Span, token: Token) -> Result<bool, AllocError> {
+    fn want_last(
+        &mut self,
+        range: Option<Span>,
+        name: Span,
+        token: Token,
+    ) -> Result<bool, AllocError> {
         match token {
             Token::Number(last) => self.goto(Stage::WantMemoryClose(range, name, last)),
             _ => Ok(false),
         }
     }
 
-    fn want_memory_end(&mut self, range: Option<Span>, name: Span, last: Span, token: Token) -> Result<bool, AllocError> {
+    fn want_memory_end(
+        &mut self,
+        range: Option<Span>,
+        name: Span,
+        last: Span,
+        token: Token,
+    ) -> Result<bool, AllocError> {
         match token {
-            Token::Mark(Sign::Semicolon) => self.put_item(WrittenItem::MemoryOf { range, name, last }),
+            Token::Mark(Sign::Semicolon) => self.put_item(WrittenItem::MemoryOf {
+                range,
+                name,
+                last,
+            }),
             _ => Ok(false),
         }
     }
 
     fn memory(&mut self, text: &[u8], stage: Stage, token: Token) -> Result<bool, AllocError> {
         match stage {
-            Stage::WantFirst(range, name) => self.want_zero(text, Stage::WantMemoryColon(range, name), token),
-            Stage::WantMemoryColon(range, name) => self.goto_at(token == Token::Mark(Sign::Colon), Stage::WantLast(range, name)),
+            Stage::WantFirst(range, name) => self.want_zero(
+                text,
+                Stage::WantMemoryColon(range, name),
+                token,
+            ),
+            Stage::WantMemoryColon(range, name) => self.goto_at(
+                token == Token::Mark(Sign::Colon),
+                Stage::WantLast(range, name),
+            ),
             Stage::WantLast(range, name) => self.want_last(range, name, token),
-            Stage::WantMemoryClose(range, name, last) => self.goto_at(token == Token::Mark(Sign::CloseBracket), Stage::WantMemoryEnd(range, name, last)),
-            Stage::WantMemoryEnd(range, name, last) => self.want_memory_end(range, name, last, token),
+            Stage::WantMemoryClose(range, name, last) => self.goto_at(
+                token == Token::Mark(Sign::CloseBracket),
+                Stage::WantMemoryEnd(range, name, last),
+            ),
+            Stage::WantMemoryEnd(range, name, last) => self.want_memory_end(
+                range, name, last, token,
+            ),
             _ => Ok(false),
         }
     }
@@ -452,8 +537,12 @@ impl Reading {
 impl Reading {
     fn want_item(&mut self, token: Token) -> Result<bool, AllocError> {
         match token {
-            Token::Reserved(Keyword::Wire) => self.goto(Stage::Declaring(Owner::OfItem(Sort::WireSort))),
-            Token::Reserved(Keyword::Reg) => self.goto(Stage::Declaring(Owner::OfItem(Sort::RegisterSort))),
+            Token::Reserved(Keyword::Wire) => self.goto(Stage::Declaring(Owner::OfItem(
+                Sort::WireSort,
+            ))),
+            Token::Reserved(Keyword::Reg) => self.goto(Stage::Declaring(Owner::OfItem(
+                Sort::RegisterSort,
+            ))),
             Token::Reserved(Keyword::Assign) => self.goto(Stage::WantAssigned),
             Token::Reserved(Keyword::Always) => self.goto(Stage::WantAt),
             Token::Reserved(Keyword::EndModule) => self.goto(Stage::Complete),
@@ -495,8 +584,14 @@ impl Reading {
     fn always(&mut self, stage: Stage, token: Token) -> Result<bool, AllocError> {
         match stage {
             Stage::WantAt => self.goto_at(token == Token::Mark(Sign::At), Stage::WantEdge),
-            Stage::WantEdge => self.goto_at(token == Token::Mark(Sign::OpenParen), Stage::WantPosedge),
-            Stage::WantPosedge => self.goto_at(token == Token::Reserved(Keyword::Posedge), Stage::WantClock),
+            Stage::WantEdge => self.goto_at(
+                token == Token::Mark(Sign::OpenParen),
+                Stage::WantPosedge,
+            ),
+            Stage::WantPosedge => self.goto_at(
+                token == Token::Reserved(Keyword::Posedge),
+                Stage::WantClock,
+            ),
             Stage::WantClock => self.want_clock(token),
             Stage::WantEdgeEnd(clock) => self.want_edge_end(clock, token),
             _ => Ok(false),
@@ -538,7 +633,12 @@ impl Reading {
         }
     }
 
-    fn want_arrow(&mut self, target: Span, address: WrittenExpr, token: Token) -> Result<bool, AllocError> {
+    fn want_arrow(
+        &mut self,
+        target: Span,
+        address: WrittenExpr,
+        token: Token,
+    ) -> Result<bool, AllocError> {
         match token {
             Token::Mark(Sign::LessEquals) => self.push(Frame::UpdateWordTo { target, address }),
             _ => Ok(false),
@@ -553,7 +653,12 @@ impl Reading {
     }
 
     // A statement is complete, and the token begins what follows it.
-    fn after_statement(&mut self, statement: WrittenStatement, at: usize, token: Token) -> Result<bool, AllocError> {
+    fn after_statement(
+        &mut self,
+        statement: WrittenStatement,
+        at: usize,
+        token: Token,
+    ) -> Result<bool, AllocError> {
         match self.frames.pop() {
             Some(Frame::InBegin(done)) => {
                 let mut done = done;
@@ -573,7 +678,12 @@ impl Reading {
         }
     }
 
-    fn have_statement(&mut self, statement: WrittenStatement, at: usize, token: Token) -> Result<bool, AllocError> {
+    fn have_statement(
+        &mut self,
+        statement: WrittenStatement,
+        at: usize,
+        token: Token,
+    ) -> Result<bool, AllocError> {
         if token == Token::Reserved(Keyword::Else) {
             let stands = take_else(self.alloc, &mut self.frames, statement)?;
             return self.goto_at(stands, Stage::WantStatement);
@@ -625,7 +735,12 @@ impl Reading {
         }
     }
 
-    fn at_infix(&mut self, op: InfixOp, operand: WrittenExpr, at: usize) -> Result<bool, AllocError> {
+    fn at_infix(
+        &mut self,
+        op: InfixOp,
+        operand: WrittenExpr,
+        at: usize,
+    ) -> Result<bool, AllocError> {
         let reduced = reduce(self.alloc, &mut self.frames, operand, looseness_of(op))?;
         let left = Box::new(self.alloc, reduced)?;
         self.operator(Frame::InfixOf { op, at, left })
@@ -710,12 +825,16 @@ impl Reading {
         self.operators = 0;
         match self.frames.pop() {
             Some(Frame::AssignTo(target)) => self.put_item(WrittenItem::Assign { target, value }),
-            Some(Frame::UpdateTo(target)) => self.goto(Stage::HaveStatement(WrittenStatement::Update { target, value })),
-            Some(Frame::UpdateWordTo { target, address }) => self.goto(Stage::HaveStatement(WrittenStatement::UpdateWord {
-                target,
-                address,
-                value,
-            })),
+            Some(Frame::UpdateTo(target)) => self.goto(Stage::HaveStatement(
+                WrittenStatement::Update { target, value },
+            )),
+            Some(Frame::UpdateWordTo { target, address }) => self.goto(Stage::HaveStatement(
+                WrittenStatement::UpdateWord {
+                    target,
+                    address,
+                    value,
+                },
+            )),
             _ => Ok(false),
         }
     }
@@ -731,7 +850,12 @@ impl Reading {
         }
     }
 
-    fn have_operand(&mut self, operand: WrittenExpr, at: usize, sign: Sign) -> Result<bool, AllocError> {
+    fn have_operand(
+        &mut self,
+        operand: WrittenExpr,
+        at: usize,
+        sign: Sign,
+    ) -> Result<bool, AllocError> {
         if let Some(op) = infix_of(sign) {
             return self.at_infix(op, operand, at);
         }
@@ -774,7 +898,13 @@ impl Reading {
         }
     }
 
-    fn at_part(&mut self, name: Span, high: Span, low: Span, token: Token) -> Result<bool, AllocError> {
+    fn at_part(
+        &mut self,
+        name: Span,
+        high: Span,
+        low: Span,
+        token: Token,
+    ) -> Result<bool, AllocError> {
         match token {
             Token::Mark(Sign::CloseBracket) => self.close(WrittenExpr::PartOf { name, high, low }),
             _ => Ok(false),
@@ -784,7 +914,9 @@ impl Reading {
     fn expression(&mut self, stage: Stage, at: usize, token: Token) -> Result<bool, AllocError> {
         match (stage, token) {
             (Stage::WantOperand, _) => self.want_operand(at, token),
-            (Stage::HaveOperand(operand), Token::Mark(sign)) => self.have_operand(operand, at, sign),
+            (Stage::HaveOperand(operand), Token::Mark(sign)) => self.have_operand(
+                operand, at, sign,
+            ),
             (Stage::AtIndex(name), _) => self.at_index(name, at, token),
             (Stage::AtPlace(name, place), _) => self.at_place(name, place, token),
             (Stage::WantLow(name, high), _) => self.want_low(name, high, token),
@@ -798,18 +930,38 @@ impl Reading {
         let Lexeme { token, at } = lexeme;
         let stage = mem::replace(&mut self.stage, Stage::Complete);
         match stage {
-            Stage::WantModule | Stage::WantTitle | Stage::WantPorts | Stage::WantPort | Stage::AfterPort | Stage::AfterPorts => self.header(stage, token),
+            Stage::WantModule
+            | Stage::WantTitle
+            | Stage::WantPorts
+            | Stage::WantPort
+            | Stage::AfterPort
+            | Stage::AfterPorts => self.header(stage, token),
             Stage::Declaring(owner) => self.declaring(owner, token),
-            Stage::WantHigh(_) | Stage::WantColon(_, _) | Stage::WantZero(_, _) | Stage::WantClose(_, _) => self.range(text, stage, token),
+            Stage::WantHigh(_)
+            | Stage::WantColon(_, _)
+            | Stage::WantZero(_, _)
+            | Stage::WantClose(_, _) => self.range(text, stage, token),
             Stage::WantName(owner, range) => self.want_name(owner, range, token),
             Stage::AfterName(sort, range, names) => self.after_name(sort, range, names, token),
             Stage::WantMore(sort, range, names) => self.want_more(sort, range, names, token),
-            Stage::WantFirst(_, _) | Stage::WantMemoryColon(_, _) | Stage::WantLast(_, _) | Stage::WantMemoryClose(_, _, _) | Stage::WantMemoryEnd(_, _, _) => self.memory(text, stage, token),
+            Stage::WantFirst(_, _)
+            | Stage::WantMemoryColon(_, _)
+            | Stage::WantLast(_, _)
+            | Stage::WantMemoryClose(_, _, _)
+            | Stage::WantMemoryEnd(_, _, _) => self.memory(text, stage, token),
             Stage::WantItem => self.want_item(token),
             Stage::WantAssigned => self.want_assigned(token),
             Stage::WantEquals(target) => self.want_equals(target, token),
-            Stage::WantAt | Stage::WantEdge | Stage::WantPosedge | Stage::WantClock | Stage::WantEdgeEnd(_) => self.always(stage, token),
-            Stage::WantStatement | Stage::AfterTarget(_) | Stage::WantArrow(_, _) | Stage::WantTest(_) | Stage::HaveStatement(_) => self.statement(stage, at, token),
+            Stage::WantAt
+            | Stage::WantEdge
+            | Stage::WantPosedge
+            | Stage::WantClock
+            | Stage::WantEdgeEnd(_) => self.always(stage, token),
+            Stage::WantStatement
+            | Stage::AfterTarget(_)
+            | Stage::WantArrow(_, _)
+            | Stage::WantTest(_)
+            | Stage::HaveStatement(_) => self.statement(stage, at, token),
             Stage::Complete => Ok(false),
             _ => self.expression(stage, at, token),
         }
@@ -821,7 +973,11 @@ impl Reading {
 }
 
 /// The written module of the tokens, or the first token that cannot stand there or passes a limit.
-pub fn written_of(alloc: Global, text: &[u8], lexemes: &[Lexeme]) -> Result<WrittenModule, VerilogFault> {
+pub fn written_of(
+    alloc: Global,
+    text: &[u8],
+    lexemes: &[Lexeme],
+) -> Result<WrittenModule, VerilogFault> {
     let mut reading = Reading::new(alloc);
     for lexeme in lexemes {
         let at = lexeme.at as u64;

@@ -123,7 +123,11 @@ impl Graph {
 }
 
 /// The first assignment whose net depends on itself, or on a net that does.
-pub fn first_in_loop(alloc: Global, nets: usize, assignments: &[Assignment]) -> Result<Option<usize>, AllocError> {
+pub fn first_in_loop(
+    alloc: Global,
+    nets: usize,
+    assignments: &[Assignment],
+) -> Result<Option<usize>, AllocError> {
     let mut graph = Graph::new(alloc, nets)?;
     graph.drive_all(assignments);
     for (number, assignment) in assignments.iter().enumerate() {

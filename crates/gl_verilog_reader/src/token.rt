@@ -79,11 +79,7 @@ pub enum Token {
     /// A decimal number below 2^32.
     Number(Span),
     /// A literal with its size: the digits of the size, the radix 2, 10 or 16, and the digits.
-    Sized {
-        size: Span,
-        radix: u8,
-        digits: Span,
-    },
+    Sized { size: Span, radix: u8, digits: Span },
     /// A sign.
     Mark(Sign),
     /// What is part of no module.

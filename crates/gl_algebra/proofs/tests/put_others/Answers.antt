@@ -11,10 +11,10 @@ pub put-requires-3 : goal.put-requires-3
 put-requires-3 c =
     let source = stream_made c.args.plan.now _ _ _ c.in_ok-kinds.ensures c.in_ok-source.ensures.made in
     groups_fit _ _ _ (c.in_ok-put.ensures.kept _ _ source)
-      (c.in_ok-put.ensures.kept _ _ (c.in_ok-source.ensures.kept _ _ c.requires))
+    (c.in_ok-put.ensures.kept _ _ (c.in_ok-source.ensures.kept _ _ c.requires))
 
 pub put-requires-5 : goal.put-requires-5
 put-requires-5 c =
     let source = stream_made c.args.plan.now _ _ _ c.in_ok-kinds.ensures c.in_ok-source.ensures.made in
     beside_fits _ _
-      (c.in_ok-put-2.ensures.kept _ _ (c.in_ok-side.ensures.kept _ _ (c.in_ok-put.ensures.kept _ _ source)))
+    (c.in_ok-put-2.ensures.kept _ _ (c.in_ok-side.ensures.kept _ _ (c.in_ok-put.ensures.kept _ _ source)))

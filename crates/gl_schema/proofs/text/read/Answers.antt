@@ -13,7 +13,8 @@ loop-at-init c = record { inside = tt; same = ap (schema_from (length c.args.tex
 pub loop-at-preserved : goal.loop-at-preserved
 loop-at-preserved c = record {
   inside = c.in_ok-standing.ensures.0;
-  same = goes_on c.args.text.now (length c.args.text.now) c.loop-at.at c.loop-at.standing c.loop-at.reading c.in_ok-standing.field-0-0 c.in_ok-standing.field-0-1 (omega arith) c.in_ok-standing.ensures ∙ c.loop-at.invariant.same }
+  same = goes_on c.args.text.now (length c.args.text.now) c.loop-at.at c.loop-at.standing c.loop-at.reading c.in_ok-standing.field-0-0 c.in_ok-standing.field-0-1 (omega arith) c.in_ok-standing.ensures ∙ c.loop-at.invariant.same;
+}
 
 pub returns-in_err-standing : goal.returns-in_err-standing
 returns-in_err-standing c =

@@ -25,7 +25,7 @@ loop-i-preserved c =
       store = subst (λ (xs : List ℕ). IsStore m.declarations (slice_set vs (slice_index_or xs c.loop-i.i 0) (slice_index_or c.args.inputs.now c.loop-i.i 0)) c.args.banks.now) (sym c.requires.ports)
           (store_input m vs c.args.inputs.now c.args.banks.now c.loop-i.i c.loop-i.invariant.store c.requires.fit lt);
       set = inputs_more c.args.ports.now c.args.inputs.now (nets_of vs) (nets_of (slice_set vs (slice_index_or c.args.ports.now c.loop-i.i 0) (slice_index_or c.args.inputs.now c.loop-i.i 0))) c.loop-i.i c.loop-i-test.true lt'
-            (nets_of-set vs (slice_index_or c.args.ports.now c.loop-i.i 0) (slice_index_or c.args.inputs.now c.loop-i.i 0) within)
+          (nets_of-set vs (slice_index_or c.args.ports.now c.loop-i.i 0) (slice_index_or c.args.inputs.now c.loop-i.i 0) within)
           ∙ c.loop-i.invariant.set;
     }
 

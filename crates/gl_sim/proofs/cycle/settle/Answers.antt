@@ -17,7 +17,7 @@ evaluate-requires c =
     let lt = length_map assignment_of c.args.design.now.assignments (slice_index_or c.args.order.now c.loop-k.k-index 0) (all_get (λ k. k < length m.assignments) c.args.order.now c.loop-k.k-index 0 c.requires.order.in_range c.loop-k-test.true) in
     let keeps = assignment_at m as' (slice_index_or c.args.order.now c.loop-k.k-index 0) c.index-assignments-k.result c.requires.runnable (ap (λ (xs : List Assignment). map assignment_of xs) (sym c.as_slice-assignments.ensures)) (subst (λ (xs : List Assignment). slice_index_or c.args.order.now c.loop-k.k-index 0 < length xs) (sym c.as_slice-assignments.ensures) lt) c.index-assignments-k.is in
     subst (λ (vs : List ℕ). CanEvaluate vs c.args.banks.now (expr_of c.index-assignments-k.result.value)) (sym c.deref.ensures.value)
-      (can_evaluate m.declarations c.loop-k.values.items c.args.banks.now _ c.requires.runnable.sizes c.loop-k.invariant.store keeps.1)
+    (can_evaluate m.declarations c.loop-k.values.items c.args.banks.now _ c.requires.runnable.sizes c.loop-k.invariant.store keeps.1)
 
 pub index_mut-requires : goal.index_mut-requires
 index_mut-requires c =
@@ -40,12 +40,12 @@ loop-k-preserved c =
     let same : m.assignments ≡ map assignment_of as' = ap (λ (xs : List Assignment). map assignment_of xs) (sym c.as_slice-assignments.ensures) in
     let keeps = assignment_at m as' (slice_index_or c.args.order.now c.loop-k.k-index 0) c.index-assignments-k.result c.requires.runnable same lt' c.index-assignments-k.is in
     let there : slice_get m.assignments (slice_index_or c.args.order.now c.loop-k.k-index 0) ≡ Some (assignment_of a) =
-        subst (λ (xs : List spec.Assignment). slice_get xs (slice_index_or c.args.order.now c.loop-k.k-index 0) ≡ Some (assignment_of a)) (sym same)
-          (slice_get-map assignment_of as' (slice_index_or c.args.order.now c.loop-k.k-index 0) a (slice_get-at as' (slice_index_or c.args.order.now c.loop-k.k-index 0) a lt' c.index-assignments-k.is)) in
+    subst (λ (xs : List spec.Assignment). slice_get xs (slice_index_or c.args.order.now c.loop-k.k-index 0) ≡ Some (assignment_of a)) (sym same)
+    (slice_get-map assignment_of as' (slice_index_or c.args.order.now c.loop-k.k-index 0) a (slice_get-at as' (slice_index_or c.args.order.now c.loop-k.k-index 0) a lt' c.index-assignments-k.is)) in
     let value : c.evaluate.result ≡ value_of (nets_of vs) (memories_of c.args.banks.now) (expr_of a.value) = rw c.deref.ensures.value at c.evaluate.ensures in
     let within = target_in m.declarations vs c.args.banks.now (assignment_of a) c.loop-k.invariant.store keeps in
     let put : nets_of (slice_set vs a.target c.evaluate.result) ≡ with_net (nets_of vs) a.target (value_of (nets_of vs) (memories_of c.args.banks.now) (expr_of a.value)) =
-        nets_of-set vs a.target c.evaluate.result within ∙ ap (λ (x : ℕ). with_net (nets_of vs) a.target x) value in
+    nets_of-set vs a.target c.evaluate.result within ∙ ap (λ (x : ℕ). with_net (nets_of vs) a.target x) value in
     record {
       store = subst (λ (x : ℕ). IsStore m.declarations (slice_set vs a.target x) c.args.banks.now) (sym value)
           (store_assigned m.declarations vs c.args.banks.now (assignment_of a) c.loop-k.invariant.store keeps);

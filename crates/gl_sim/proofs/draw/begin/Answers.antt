@@ -15,7 +15,7 @@ pub returns-in-Zero-clause-started : goal.returns-in-Zero-clause-started
 returns-in-Zero-clause-started c =
     let ds = (module_of c.args.design.now).declarations in
     subst (λ (s : Start). SameState ds (register_at s ds) (word_at s ds) (nets_of c.args.values.now.items) (memories_of c.args.banks.now.items)) (sym c.in-Zero.is)
-      (started_zero ds c.args.values.now.items c.args.banks.now.items c.requires.zero_values c.requires.zero_words)
+    (started_zero ds c.args.values.now.items c.args.banks.now.items c.requires.zero_values c.requires.zero_words)
 
 pub draw_all-requires-clause-store : goal.draw_all-requires-clause-store
 draw_all-requires-clause-store c = store_zero (module_of c.args.design.now).declarations c.args.values.now.items c.args.banks.now.items c.requires.zero_values c.requires.zero_words

@@ -38,8 +38,8 @@ returns-in-OutputRegister c = λ d e.
     let ds = (module_of c.args.design.now).declarations in
     let st = c.args.state.now in
     subst (λ (x : spec.Declaration). DrawsOne ds c.args.n x c.args.state.now c.draw_word.new.state c.args.values.now.items (slice_set c.args.values.now.items c.args.n c.draw_word.result) c.args.banks.now.items c.args.banks.now.items) (same_item ds c.args.n (declaration_of c.index-as_slice-n.result) d there e)
-      (draws_register ds c.args.n (declaration_of c.index-as_slice-n.result) st c.draw_word.new.state c.draw_word.result c.args.values.now.items c.args.banks.now.items c.requires.store there
-        (subst (λ (x : Kind). IsRegister (kind_of x)) (sym c.in-OutputRegister.is) tt) c.draw_word.ensures.state c.draw_word.ensures.value)
+    (draws_register ds c.args.n (declaration_of c.index-as_slice-n.result) st c.draw_word.new.state c.draw_word.result c.args.values.now.items c.args.banks.now.items c.requires.store there
+    (subst (λ (x : Kind). IsRegister (kind_of x)) (sym c.in-OutputRegister.is) tt) c.draw_word.ensures.state c.draw_word.ensures.value)
 
 pub returns-in-Register : goal.returns-in-Register
 returns-in-Register c = λ d e.
@@ -47,8 +47,8 @@ returns-in-Register c = λ d e.
     let ds = (module_of c.args.design.now).declarations in
     let st = c.args.state.now in
     subst (λ (x : spec.Declaration). DrawsOne ds c.args.n x c.args.state.now c.draw_word-in-Register.new.state c.args.values.now.items (slice_set c.args.values.now.items c.args.n c.draw_word-in-Register.result) c.args.banks.now.items c.args.banks.now.items) (same_item ds c.args.n (declaration_of c.index-as_slice-n.result) d there e)
-      (draws_register ds c.args.n (declaration_of c.index-as_slice-n.result) st c.draw_word-in-Register.new.state c.draw_word-in-Register.result c.args.values.now.items c.args.banks.now.items c.requires.store there
-        (subst (λ (x : Kind). IsRegister (kind_of x)) (sym c.in-Register.is) tt) c.draw_word-in-Register.ensures.state c.draw_word-in-Register.ensures.value)
+    (draws_register ds c.args.n (declaration_of c.index-as_slice-n.result) st c.draw_word-in-Register.new.state c.draw_word-in-Register.result c.args.values.now.items c.args.banks.now.items c.requires.store there
+    (subst (λ (x : Kind). IsRegister (kind_of x)) (sym c.in-Register.is) tt) c.draw_word-in-Register.ensures.state c.draw_word-in-Register.ensures.value)
 
 pub returns-in-Memory : goal.returns-in-Memory
 returns-in-Memory c = λ d e.
@@ -64,28 +64,28 @@ returns-in-Memory c = λ d e.
       words = λ at lt. c.draw_bank.ensures.words at (subst (λ (n : ℕ). at < n) (sym size) lt);
     } in
     subst (λ (x : spec.Declaration). DrawsOne ds c.args.n x c.args.state.now c.draw_bank.new.state c.args.values.now.items c.args.values.now.items bs (slice_set bs c.args.n c.draw_bank.new.bank)) (same_item ds c.args.n item d there e)
-      (draws_memory ds c.args.n item c.in-Memory.address_bits c.args.state.now c.draw_bank.new.state c.draw_bank.new.bank c.args.values.now.items bs c.requires.store there (ap (λ (x : Kind). kind_of x) c.in-Memory.is) drawn)
+    (draws_memory ds c.args.n item c.in-Memory.address_bits c.args.state.now c.draw_bank.new.state c.draw_bank.new.bank c.args.values.now.items bs c.requires.store there (ap (λ (x : Kind). kind_of x) c.in-Memory.is) drawn)
 
 pub returns-in-Input : goal.returns-in-Input
 returns-in-Input c = λ d e.
     let there = declared_at c.args.design.now.declarations c.as_slice.result.now c.args.n c.index-as_slice-n.result c.as_slice.ensures c.requires.within c.index-as_slice-n.is in
     let ds = (module_of c.args.design.now).declarations in
     subst (λ (x : spec.Declaration). DrawsOne ds c.args.n x c.args.state.now c.args.state.now c.args.values.now.items c.args.values.now.items c.args.banks.now.items c.args.banks.now.items) (same_item ds c.args.n (declaration_of c.index-as_slice-n.result) d there e)
-      (draws_none ds c.args.n (declaration_of c.index-as_slice-n.result) c.args.state.now c.args.values.now.items c.args.banks.now.items c.requires.store
-        (λ (r : IsRegister (kind_of c.index-as_slice-n.result.kind)). subst (λ (x : Kind). IsRegister (kind_of x)) c.in-Input.is r) (ap (λ (x : Kind). draws_for (kind_of x)) c.in-Input.is) (ap (λ (x : Kind). words_in (kind_of x)) c.in-Input.is))
+    (draws_none ds c.args.n (declaration_of c.index-as_slice-n.result) c.args.state.now c.args.values.now.items c.args.banks.now.items c.requires.store
+    (λ (r : IsRegister (kind_of c.index-as_slice-n.result.kind)). subst (λ (x : Kind). IsRegister (kind_of x)) c.in-Input.is r) (ap (λ (x : Kind). draws_for (kind_of x)) c.in-Input.is) (ap (λ (x : Kind). words_in (kind_of x)) c.in-Input.is))
 
 pub returns-in-OutputWire : goal.returns-in-OutputWire
 returns-in-OutputWire c = λ d e.
     let there = declared_at c.args.design.now.declarations c.as_slice.result.now c.args.n c.index-as_slice-n.result c.as_slice.ensures c.requires.within c.index-as_slice-n.is in
     let ds = (module_of c.args.design.now).declarations in
     subst (λ (x : spec.Declaration). DrawsOne ds c.args.n x c.args.state.now c.args.state.now c.args.values.now.items c.args.values.now.items c.args.banks.now.items c.args.banks.now.items) (same_item ds c.args.n (declaration_of c.index-as_slice-n.result) d there e)
-      (draws_none ds c.args.n (declaration_of c.index-as_slice-n.result) c.args.state.now c.args.values.now.items c.args.banks.now.items c.requires.store
-        (λ (r : IsRegister (kind_of c.index-as_slice-n.result.kind)). subst (λ (x : Kind). IsRegister (kind_of x)) c.in-OutputWire.is r) (ap (λ (x : Kind). draws_for (kind_of x)) c.in-OutputWire.is) (ap (λ (x : Kind). words_in (kind_of x)) c.in-OutputWire.is))
+    (draws_none ds c.args.n (declaration_of c.index-as_slice-n.result) c.args.state.now c.args.values.now.items c.args.banks.now.items c.requires.store
+    (λ (r : IsRegister (kind_of c.index-as_slice-n.result.kind)). subst (λ (x : Kind). IsRegister (kind_of x)) c.in-OutputWire.is r) (ap (λ (x : Kind). draws_for (kind_of x)) c.in-OutputWire.is) (ap (λ (x : Kind). words_in (kind_of x)) c.in-OutputWire.is))
 
 pub returns-in-Wire : goal.returns-in-Wire
 returns-in-Wire c = λ d e.
     let there = declared_at c.args.design.now.declarations c.as_slice.result.now c.args.n c.index-as_slice-n.result c.as_slice.ensures c.requires.within c.index-as_slice-n.is in
     let ds = (module_of c.args.design.now).declarations in
     subst (λ (x : spec.Declaration). DrawsOne ds c.args.n x c.args.state.now c.args.state.now c.args.values.now.items c.args.values.now.items c.args.banks.now.items c.args.banks.now.items) (same_item ds c.args.n (declaration_of c.index-as_slice-n.result) d there e)
-      (draws_none ds c.args.n (declaration_of c.index-as_slice-n.result) c.args.state.now c.args.values.now.items c.args.banks.now.items c.requires.store
-        (λ (r : IsRegister (kind_of c.index-as_slice-n.result.kind)). subst (λ (x : Kind). IsRegister (kind_of x)) c.in-Wire.is r) (ap (λ (x : Kind). draws_for (kind_of x)) c.in-Wire.is) (ap (λ (x : Kind). words_in (kind_of x)) c.in-Wire.is))
+    (draws_none ds c.args.n (declaration_of c.index-as_slice-n.result) c.args.state.now c.args.values.now.items c.args.banks.now.items c.requires.store
+    (λ (r : IsRegister (kind_of c.index-as_slice-n.result.kind)). subst (λ (x : Kind). IsRegister (kind_of x)) c.in-Wire.is r) (ap (λ (x : Kind). draws_for (kind_of x)) c.in-Wire.is) (ap (λ (x : Kind). words_in (kind_of x)) c.in-Wire.is))

@@ -12,29 +12,29 @@ driven-requires c =
     let m = module_of c.args.design.now in
     let count : c.len.result ≡ length m.declarations = c.len.ensures ∙ sym (map_length declaration_of c.args.design.now.declarations) in
     subst (λ (as' : List Assignment). AreNets c.len.result (map assignment_of as')) (sym c.as_slice-assignments.ensures)
-      (subst (λ (n : ℕ). AreNets n m.assignments) (sym count) (are_nets m.declarations m.assignments c.requires.assignments))
+    (subst (λ (n : ℕ). AreNets n m.assignments) (sym count) (are_nets m.declarations m.assignments c.requires.assignments))
 
 pub passes-init : goal.passes-init
 passes-init c =
     let m = module_of c.args.design.now in
     let count : c.len.result ≡ length m.declarations = c.len.ensures ∙ sym (map_length declaration_of c.args.design.now.declarations) in
     let is : c.in_ok-waiting.waiting.items ≡ marked m.assignments (replicate (length m.declarations) false) =
-        c.in_ok-waiting.ensures ∙ ap (λ (as' : List Assignment). marked (map assignment_of as') (replicate c.len.result false)) c.as_slice-assignments.ensures ∙ ap (λ (n : ℕ). marked m.assignments (replicate n false)) count in
+    c.in_ok-waiting.ensures ∙ ap (λ (as' : List Assignment). marked (map assignment_of as') (replicate c.len.result false)) c.as_slice-assignments.ensures ∙ ap (λ (n : ℕ). marked m.assignments (replicate n false)) count in
     subst (λ (o : List ℕ). IsPlacing m.assignments (length m.declarations) c.in_ok-waiting.waiting.items o) (sym c.new-order.ensures.items)
-      (placing_first m.assignments (length m.declarations) c.in_ok-waiting.waiting.items (are_nets m.declarations m.assignments c.requires.assignments) is)
+    (placing_first m.assignments (length m.declarations) c.in_ok-waiting.waiting.items (are_nets m.declarations m.assignments c.requires.assignments) is)
 
 pub place_ready-requires-clause-nets : goal.place_ready-requires-clause-nets
 place_ready-requires-clause-nets c =
     let m = module_of c.args.design.now in
     subst (λ (as' : List Assignment). AreNets (length c.passes.waiting.items) (map assignment_of as')) (sym c.as_slice-assignments.ensures)
-      (subst (λ (n : ℕ). AreNets n m.assignments) (sym c.passes.invariant.size) (are_nets m.declarations m.assignments c.requires.assignments))
+    (subst (λ (n : ℕ). AreNets n m.assignments) (sym c.passes.invariant.size) (are_nets m.declarations m.assignments c.requires.assignments))
 
 pub passes-smaller : goal.passes-smaller
 passes-smaller c =
     let m = module_of c.args.design.now in
     let test : list_any (λ (w : Bool). w) c.passes.waiting.items ≡ true = ap (λ (ws : List Bool). list_any (λ (w : Bool). w) ws) (sym c.deref.ensures.value) ∙ sym c.any_waits.ensures ∙ c.passes-test.true in
     pass_smaller m.assignments (length m.declarations) c.passes.waiting.items c.place_ready.new.waiting.items c.passes.order.items c.requires.ordered c.passes.invariant
-      (subst (λ (as' : List Assignment). FewerOr c.passes.waiting.items c.place_ready.new.waiting.items (AllByRecursion (IsStuck c.passes.waiting.items) (map assignment_of as'))) c.as_slice-assignments.ensures c.in_ok-place_ready.ensures.progress) test
+    (subst (λ (as' : List Assignment). FewerOr c.passes.waiting.items c.place_ready.new.waiting.items (AllByRecursion (IsStuck c.passes.waiting.items) (map assignment_of as'))) c.as_slice-assignments.ensures c.in_ok-place_ready.ensures.progress) test
 
 pub returns : goal.returns
 returns c =

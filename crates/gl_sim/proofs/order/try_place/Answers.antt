@@ -37,7 +37,7 @@ returns-clause-placing c =
     let done : is_ok c.push.result ≡ true = c.is_err.ensures.negation ∙ ap (λ (b : Bool). not b) c.if-is_err.false in
     let pushed : c.push.new.self.items ≡ c.args.order.now.items ++ c.args.k ∷ [] = c.push.ensures.items ∙ rw done refl in
     subst (λ (o : List ℕ). IsPlacing (map assignment_of c.args.assignments.now) (length ws) (slice_set ws a.target false) o) (sym pushed)
-      (placing_push (map assignment_of c.args.assignments.now) (length ws) ws c.args.order.now.items c.args.k (assignment_of a) c.requires.placing at lt nets.0 waits known)
+    (placing_push (map assignment_of c.args.assignments.now) (length ws) ws c.args.order.now.items c.args.k (assignment_of a) c.requires.placing at lt nets.0 waits known)
 
 pub returns-clause-progress : goal.returns-clause-progress
 returns-clause-progress c =

@@ -8,19 +8,19 @@ use Rattle.gl_algebra.proofs.plan.Plan.add.Goals as goal
 pub invariant_of-self-2 : goal.invariant_of-self-2
 invariant_of-self-2 c =
     rw c.in_ok-place.ensures.keys
-      (plan-insert c.self.inside.nodes.keys c.args.node c.self.invariant
-        (subst (λ (nodes : List PlanNode). Fits nodes (length nodes) c.args.node) (sym c.self.view_is) c.requires))
+    (plan-insert c.self.inside.nodes.keys c.args.node c.self.invariant
+    (subst (λ (nodes : List PlanNode). Fits nodes (length nodes) c.args.node) (sym c.self.view_is) c.requires))
 
 pub returns-clause-number : goal.returns-clause-number
 returns-clause-number c =
     rw (c.in_ok-place.ensures.keys, c.of.ensures, c.in_ok-place.ensures.place)
-      (node_inserted c.self.inside.nodes.keys c.args.node).number
+    (node_inserted c.self.inside.nodes.keys c.args.node).number
 
 pub returns-clause-known : goal.returns-clause-known
 returns-clause-known c known =
     c.in_ok-place.ensures.keys
     ∙ (node_inserted c.self.inside.nodes.keys c.args.node).known
-        (any_from_contains c.self.inside.nodes.keys c.args.node (rw c.self.view_is known))
+    (any_from_contains c.self.inside.nodes.keys c.args.node (rw c.self.view_is known))
     ∙ c.self.view_is
 
 pub returns-clause-plan : goal.returns-clause-plan

@@ -13,15 +13,17 @@ use Rattle.gl_sim.proofs.simulator.Sim.new.Goals as goal
 pub invariant_of-result : goal.invariant_of-result
 invariant_of-result c =
     let ds = (module_of c.args.design).declarations in
-    let count : length c.as_slice-declarations.result.now ≡ length ds = ap (λ (xs : List Declaration). length xs) c.as_slice-declarations.ensures ∙ sym (map_length declaration_of c.args.design.declarations) in
-    (record {
-      runnable = c.requires;
-      order = c.in_ok-order.ensures;
-      ports = c.in_ok-ports.ensures ∙ ap (λ (xs : List Declaration). inputs_from 0 (map declaration_of xs)) c.as_slice-declarations.ensures;
-      store = c.begin.ensures.store;
-      shown = ap (λ (xs : List ℕ). length xs) c.in_ok-shown.ensures ∙ zeros_length _ ∙ count;
-      room = subst (λ (xs : List Statement). writes_in (chained xs) ≤ vec_capacity c.in_ok-waiting.waiting) c.as_slice.ensures c.in_ok-waiting.ensures.room;
-    }, c.in_ok-waiting.ensures.none)
+    let count : length c.as_slice-declarations.result.now ≡ length ds = ap (λ (xs : List Declaration). length xs) c.as_slice-declarations.ensures ∙ sym (map_length declaration_of c.args.design.declarations) in (
+      record {
+        runnable = c.requires;
+        order = c.in_ok-order.ensures;
+        ports = c.in_ok-ports.ensures ∙ ap (λ (xs : List Declaration). inputs_from 0 (map declaration_of xs)) c.as_slice-declarations.ensures;
+        store = c.begin.ensures.store;
+        shown = ap (λ (xs : List ℕ). length xs) c.in_ok-shown.ensures ∙ zeros_length _ ∙ count;
+        room = subst (λ (xs : List Statement). writes_in (chained xs) ≤ vec_capacity c.in_ok-waiting.waiting) c.as_slice.ensures c.in_ok-waiting.ensures.room;
+      },
+      c.in_ok-waiting.ensures.none,
+    )
 
 pub begin-requires-clause-zero_values : goal.begin-requires-clause-zero_values
 begin-requires-clause-zero_values c =

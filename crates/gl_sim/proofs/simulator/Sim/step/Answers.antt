@@ -35,7 +35,8 @@ returns-clause-follows c = λ value word t run at has.
     } in
     let state : SameState m.declarations (nets_of v0) (memories_of bs) (value t) (word t) = subst (λ (s : Simulation). IsAt s value word t) (sym c.self.view_is) at in
     let inputs : HasInputs m (value t) c.args.inputs.now = subst (λ (s : Simulation). HasInputs (module_of s.design) (value t) c.args.inputs.now) (sym c.self.view_is) has in
-    let run' = subst (λ (s : Simulation). IsRun (module_of s.design) value word) (sym c.self.view_is) run in
-    (subst (λ (vs : List ℕ). SameNets m.declarations (nets_of vs) (value t)) (sym (c.keep.ensures ∙ c.deref-5.ensures.value))
-        (nets_follow m order c.args.inputs.now v0 v1 v2 v3 bs bs' steps value word t run' state inputs),
-      state_follows m order c.args.inputs.now v0 v1 v2 v3 bs bs' steps value word t run' state inputs)
+    let run' = subst (λ (s : Simulation). IsRun (module_of s.design) value word) (sym c.self.view_is) run in (
+      subst (λ (vs : List ℕ). SameNets m.declarations (nets_of vs) (value t)) (sym (c.keep.ensures ∙ c.deref-5.ensures.value))
+          (nets_follow m order c.args.inputs.now v0 v1 v2 v3 bs bs' steps value word t run' state inputs),
+      state_follows m order c.args.inputs.now v0 v1 v2 v3 bs bs' steps value word t run' state inputs,
+    )
