@@ -1,8 +1,11 @@
 //! Compiling a query.
 
+ghost use Rattle.std.specs.Prelude.{◌≡◌, ◌≤◌, length, IfOk};
+ghost use Rattle.std.specs.List.{AllByRecursion};
+ghost use Rattle.gl_bits.specs.Kinds.{IsKind};
 ghost use Rattle.gl_schema.specs.Schemas.{IsSchema};
 
-use crate::select::{Select, can_wire, select_of};
+use crate::select::{Select, are_kinds, can_wire, select_of};
 use gl_bits::{Kind, Listed};
 use gl_figures::Printed;
 use gl_query::{QueryFault, Statement};
@@ -52,7 +55,9 @@ impl Compiled {
     }
 
     /// The schema.
-    pub fn schema(&self) -> &Schema {
+    pub fn schema(&self) -> &Schema
+        ensures { result.now ≡ self.now.schema }
+    {
         &self.schema
     }
 
@@ -62,7 +67,9 @@ impl Compiled {
     }
 
     /// The kinds of the result's columns, in order.
-    pub fn kinds(&self) -> &[Kind] {
+    pub fn kinds(&self) -> &[Kind]
+        ensures { result.now ≡ self.now.kinds }
+    {
         self.kinds.as_slice()
     }
 }
@@ -101,6 +108,9 @@ fn text_of(alloc: Global, schema: &Schema, select: &Select) -> Result<Vec<u8>, C
 /// Compiles the text of a query over a schema.
 pub fn compile_query(alloc: Global, schema: Schema, query: &[u8]) -> Result<Compiled, CompileFault>
     requires { IsSchema schema }
+    ensures schema { IfOk result (λ c. c.schema ≡ schema) }
+    ensures many { IfOk result (λ c. length c.kinds ≤ 32) }
+    ensures kinds { IfOk result (λ c. AllByRecursion IsKind c.kinds) }
 {
     let statement = match read_query(alloc, query) {
         Ok(statement) => statement,
@@ -111,6 +121,9 @@ pub fn compile_query(alloc: Global, schema: Schema, query: &[u8]) -> Result<Comp
         Ok(None) => return Err(CompileFault::NotBuilt),
         Err(_) => return Err(CompileFault::Memory),
     };
+    if select.kinds.len() > 32 || !are_kinds(select.kinds.as_slice()) {
+        return Err(CompileFault::NotBuilt);
+    }
     let text = text_of(alloc, &schema, &select)?;
     let Select {
         stream: _,

@@ -1,8 +1,12 @@
 //! From texts to texts.
 #![tactic(auto)]
 
+mod bench;
 pub mod compiling;
+pub mod executing;
+mod lines;
 pub mod pins;
 pub mod select;
 
 pub use compiling::{CompileFault, Compiled, compile, compile_query};
+pub use executing::{Outcome, execute};

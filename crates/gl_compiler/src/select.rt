@@ -2,6 +2,7 @@
 
 ghost use Rattle.std.specs.Prelude.{◌≡◌, ◌<◌, ◌≤◌, All, IfOk, IfSome, bytes_eq, length, map, slice_get, true, false, vec_len};
 ghost use Rattle.std.specs.List.{AllByRecursion, IsDistinct};
+ghost use Rattle.gl_bits.specs.Kinds.{IsKind};
 ghost use Rattle.gl_schema.specs.Names.{IsName};
 ghost use Rattle.gl_schema.specs.Schemas.{IsSchema};
 ghost use Rattle.gl_compiler.specs.Selecting.{CanWire};
@@ -195,6 +196,7 @@ fn is_new(name: &[u8], names: &[NameText]) -> bool
 }
 
 // Whether no two are the same.
+#[tactic(auto, using(crate::proofs::Distinct::none_distinct, crate::proofs::Distinct::more_distinct))]
 fn are_distinct(names: &[NameText]) -> bool
     ensures { result ≡ true → IsDistinct bytes_eq names.now }
 {
@@ -219,6 +221,30 @@ fn are_columns(schema: &Schema, stream: usize, places: &[usize]) -> bool
         return false;
     }
     are_within(places, streams[stream].columns.len())
+}
+
+fn is_kind(kind: Kind) -> bool
+    ensures { result ≡ true → IsKind kind }
+{
+    match kind {
+        Kind::Unsigned(width) => 1 <= width && width <= 64,
+        Kind::Text(bytes) => 1 <= bytes && bytes <= 8,
+    }
+}
+
+/// Whether each is a kind.
+pub(crate) fn are_kinds(kinds: &[Kind]) -> bool
+    ensures { result ≡ true → AllByRecursion IsKind kinds.now }
+{
+    match kinds.split_first() {
+        None => true,
+        Some((first, rest)) => {
+            if !is_kind(*first) {
+                return false;
+            }
+            are_kinds(rest)
+        }
+    }
 }
 
 /// Whether the select can be wired: its columns are there, and its names are names, no two alike.

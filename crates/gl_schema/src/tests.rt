@@ -1,11 +1,4 @@
-//! Worked texts, and the definitions on worked rows.
-
-ghost use Rattle.std.specs.Prelude.{◌≡◌, [], ◌∷◌, Some, None, Ok, Err, true, false, codes};
-ghost use Rattle.gl_bits.specs.declared.kind.Kind.TheVariants as kinds;
-ghost use Rattle.gl_schema.specs.declared.schema.Schema as types;
-ghost use Rattle.gl_schema.specs.Schemas.{text_word};
-ghost use Rattle.gl_schema.specs.Ports as ports;
-ghost use Rattle.gl_schema.specs.Seen as seen;
+//! Worked texts.
 
 use crate::{SchemaFault, is_name, kind_named, one_schema, read_schema, right_at_each_cycle};
 use gl_bits::Kind;
@@ -126,7 +119,7 @@ fn the_33rd_column_and_the_ninth_stream_are_too_many(rt: HostRuntime) -> Result<
 fn a_schema_has_its_streams_and_columns(rt: HostRuntime) -> Result<(), Fail> {
     let text = b"stream trades (symbol text4, price u32, volume u32); stream other (v u64);";
     let Ok(schema) = read_schema(rt.alloc(), text) else {
-        return Err(Fail::from("the text has a schema"));
+        return Err(Fail::new("the text has a schema"));
     };
     assert_eq!(rt; schema.streams.len(), 2);
     let mut told = String::new(rt.alloc());
@@ -157,26 +150,4 @@ fn single_words(rt: HostRuntime) {
     assert!(rt; !is_name(b"wsum"));
     one_schema();
     right_at_each_cycle();
-}
-
-// What two worked cycles show is told in these lines.
-fn worked_lines()
-    ensures { seen.lines (kinds.Text 4 ∷ kinds.Unsigned 8 ∷ []) (record { cycle = 1; row = Some (text_word 4 (codes "a,b") ∷ 200 ∷ []); end = false; group = true; queue = false } ∷ record { cycle = 2; row = Some (text_word 4 (codes "\"x") ∷ 0 ∷ []); end = true; group = true; queue = false } ∷ [])
-        ≡ codes "1,overflow\n1,\"a,b\",200\n2,\"\"\"x\",0\n2,end\n" }
-{}
-
-// A tuple of the first of two streams, and then the end, on the ports of a module.
-fn worked_pins()
-    ensures reset { ports.pins (record { streams = record { name = codes "s"; columns = record { name = codes "v"; kind = kinds.Unsigned 8 } ∷ [] } ∷ record { name = codes "t"; columns = record { name = codes "w"; kind = kinds.Unsigned 8 } ∷ [] } ∷ [] }) (record { cycle = 0; rows = Some (7 ∷ []) ∷ None ∷ []; tick = false; end = false } ∷ record { cycle = 2; rows = None ∷ None ∷ []; tick = false; end = true } ∷ []) 0
-        ≡ ports.pin (codes "rst") 1 ∷ ports.pin (codes "in__s__valid") 0 ∷ ports.pin (codes "in__s__v") 0 ∷ ports.pin (codes "in__t__valid") 0 ∷ ports.pin (codes "in__t__w") 0 ∷ ports.pin (codes "eos") 0 ∷ [] }
-    ensures first { ports.pins (record { streams = record { name = codes "s"; columns = record { name = codes "v"; kind = kinds.Unsigned 8 } ∷ [] } ∷ record { name = codes "t"; columns = record { name = codes "w"; kind = kinds.Unsigned 8 } ∷ [] } ∷ [] }) (record { cycle = 0; rows = Some (7 ∷ []) ∷ None ∷ []; tick = false; end = false } ∷ record { cycle = 2; rows = None ∷ None ∷ []; tick = false; end = true } ∷ []) 1
-        ≡ ports.pin (codes "rst") 0 ∷ ports.pin (codes "in__s__valid") 1 ∷ ports.pin (codes "in__s__v") 7 ∷ ports.pin (codes "in__t__valid") 0 ∷ ports.pin (codes "in__t__w") 0 ∷ ports.pin (codes "eos") 0 ∷ [] }
-    ensures last { ports.pins (record { streams = record { name = codes "s"; columns = record { name = codes "v"; kind = kinds.Unsigned 8 } ∷ [] } ∷ record { name = codes "t"; columns = record { name = codes "w"; kind = kinds.Unsigned 8 } ∷ [] } ∷ [] }) (record { cycle = 0; rows = Some (7 ∷ []) ∷ None ∷ []; tick = false; end = false } ∷ record { cycle = 2; rows = None ∷ None ∷ []; tick = false; end = true } ∷ []) 3
-        ≡ ports.pin (codes "rst") 0 ∷ ports.pin (codes "in__s__valid") 0 ∷ ports.pin (codes "in__s__v") 0 ∷ ports.pin (codes "in__t__valid") 0 ∷ ports.pin (codes "in__t__w") 0 ∷ ports.pin (codes "eos") 1 ∷ [] }
-{}
-
-#[test]
-fn definitions_on_worked_rows() {
-    worked_lines();
-    worked_pins();
 }

@@ -1,13 +1,10 @@
-// A library with one function.
+//! All that the program does, over any shelf and any sinks.
 #![tactic(auto)]
 
-ghost use Rattle.std.specs.Prelude.{◌≡◌};
-ghost use Rattle.gl_top.specs.Echo.{echo_of};
+pub mod notes;
+pub mod running;
+pub mod status;
 
-// The `ensures` clause is the contract: what `echo` returns is `echo_of` of its argument, a definition
-// in `specs/Echo.antt`, which a caller's clause can cite too.
-pub fn echo(x: usize) -> usize
-    ensures { result ≡ echo_of x }
-{
-    x
-}
+pub use running::run;
+pub use status::Status;
+
