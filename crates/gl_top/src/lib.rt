@@ -7,4 +7,3 @@ pub mod status;
 
 pub use running::run;
 pub use status::Status;
-

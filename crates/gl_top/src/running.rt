@@ -28,7 +28,11 @@ fn name_at(words: &Words, at: usize) -> Option<&str>
 }
 
 // Reads a text of the shelf.
-fn text_of<'a, S: Shelf>(alloc: Global, shelf: &mut S, name: &'a str) -> Result<Vec<u8>, Refusal<'a>>
+fn text_of<'a, S: Shelf>(
+    alloc: Global,
+    shelf: &mut S,
+    name: &'a str,
+) -> Result<Vec<u8>, Refusal<'a>>
     requires { Contains (S.names shelf.old) name.now }
     ensures { S.names shelf.new ≡ S.names shelf.old }
 {
@@ -42,7 +46,11 @@ fn text_of<'a, S: Shelf>(alloc: Global, shelf: &mut S, name: &'a str) -> Result<
 }
 
 // The schema of a text of the shelf.
-fn schema_of<'a, S: Shelf>(alloc: Global, shelf: &mut S, name: &'a str) -> Result<Schema, Refusal<'a>>
+fn schema_of<'a, S: Shelf>(
+    alloc: Global,
+    shelf: &mut S,
+    name: &'a str,
+) -> Result<Schema, Refusal<'a>>
     requires { Contains (S.names shelf.old) name.now }
     ensures names { S.names shelf.new ≡ S.names shelf.old }
     ensures schema { IfOk result IsSchema }
