@@ -7,3 +7,6 @@ pub mod status;
 
 pub use running::run;
 pub use status::Status;
+
+#[cfg(test)]
+mod tests;
