@@ -1,9 +1,0 @@
-//! A reference evaluator: it answers one result of a query over lists of rows, as plainly as the
-//! meaning of queries is defined.
-#![tactic(auto)]
-
-pub mod columns;
-pub mod kinds;
-pub mod results;
-pub mod rows;
-pub mod values;
