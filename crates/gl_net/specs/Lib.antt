@@ -3,3 +3,4 @@ pub mod WellFormed
 pub mod Finished
 pub mod Steps
 pub mod Laws
+pub mod PortValues

@@ -11,3 +11,4 @@ pub mod Settles
 pub mod Runs
 pub mod Acyclic
 pub mod Pieces
+pub mod Typing

@@ -13,3 +13,4 @@ pub mod Resolve
 pub mod Valid
 pub mod Text
 pub mod Machine
+pub mod Typed

@@ -103,6 +103,10 @@ bracket s f = Some (record s { stage = WantOperand; frames = f ∷ s.frames; bra
 abbrev pub operator : State → Frame → Option State
 operator s f = Some (record s { stage = WantOperand; frames = f ∷ s.frames; operators = s.operators + 1 })
 
+-- a bracket closes, and an operand is complete
+abbrev pub close : State → WrittenExpr → Option State
+close s e = Some (record s { stage = HaveOperand e; brackets = s.brackets - 1 })
+
 -- ---- the header and declarations
 
 abbrev pub want_module : State → Token → Option State
@@ -369,9 +373,13 @@ abbrev pub at_brace : State → List Frame → WrittenExpr → Option State
 at_brace s (InBraces parts ∷ fs) e = Some (record s { stage = HaveOperand (Braces (parts_of parts e)); frames = fs; brackets = s.brackets - 1 })
 at_brace s fs e = None
 
+-- the condition of an `if` is complete
+abbrev pub tested : State → WrittenExpr → State
+tested s e = record s { stage = WantStatement; frames = ThenOf e ∷ s.frames; brackets = s.brackets - 1; operators = 0 }
+
 abbrev pub at_paren : State → List Frame → WrittenExpr → Option State
 at_paren s (InParens ∷ fs) e = Some (record s { stage = HaveOperand (Parens e); frames = fs; brackets = s.brackets - 1 })
-at_paren s (IfTest ∷ fs) e = Some (record s { stage = WantStatement; frames = ThenOf e ∷ fs; brackets = s.brackets - 1; operators = 0 })
+at_paren s (IfTest ∷ fs) e = Some (tested (record s { frames = fs }) e)
 at_paren s fs e = None
 
 abbrev pub at_bracket : State → List Frame → WrittenExpr → Option State

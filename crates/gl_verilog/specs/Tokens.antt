@@ -84,23 +84,31 @@ number_token digits = if nat_lt (number_in 10 digits) (2 ^ 32) then Number digit
 abbrev pub sized_token : List ℕ → ℕ → List ℕ → Token
 sized_token size radix digits = if nat_lt (number_in 10 size) (2 ^ 32) then Sized size radix digits else Never
 
--- a reserved word, or a name of at most 128 bytes
+-- the reserved word of these bytes
+abbrev pub reserved : List ℕ → Option Keyword
+reserved w =
+    if bytes_eq w (codes "module") then Some ModuleWord else (
+    if bytes_eq w (codes "endmodule") then Some EndModuleWord else (
+    if bytes_eq w (codes "input") then Some InputWord else (
+    if bytes_eq w (codes "output") then Some OutputWord else (
+    if bytes_eq w (codes "wire") then Some WireWord else (
+    if bytes_eq w (codes "reg") then Some RegWord else (
+    if bytes_eq w (codes "assign") then Some AssignWord else (
+    if bytes_eq w (codes "always") then Some AlwaysWord else (
+    if bytes_eq w (codes "posedge") then Some PosedgeWord else (
+    if bytes_eq w (codes "begin") then Some BeginWord else (
+    if bytes_eq w (codes "end") then Some EndWord else (
+    if bytes_eq w (codes "if") then Some IfWord else (
+    if bytes_eq w (codes "else") then Some ElseWord else None))))))))))))
+
+-- a name has at most 128 bytes
+abbrev pub word_by : Option Keyword → List ℕ → Token
+word_by (Some word) w = Reserved word
+word_by None w = if nat_le (length w) 128 then Name w else Never
+
+-- a reserved word, or a name
 abbrev pub word_token : List ℕ → Token
-word_token w =
-    if bytes_eq w (codes "module") then Reserved ModuleWord else (
-    if bytes_eq w (codes "endmodule") then Reserved EndModuleWord else (
-    if bytes_eq w (codes "input") then Reserved InputWord else (
-    if bytes_eq w (codes "output") then Reserved OutputWord else (
-    if bytes_eq w (codes "wire") then Reserved WireWord else (
-    if bytes_eq w (codes "reg") then Reserved RegWord else (
-    if bytes_eq w (codes "assign") then Reserved AssignWord else (
-    if bytes_eq w (codes "always") then Reserved AlwaysWord else (
-    if bytes_eq w (codes "posedge") then Reserved PosedgeWord else (
-    if bytes_eq w (codes "begin") then Reserved BeginWord else (
-    if bytes_eq w (codes "end") then Reserved EndWord else (
-    if bytes_eq w (codes "if") then Reserved IfWord else (
-    if bytes_eq w (codes "else") then Reserved ElseWord else (
-    if nat_le (length w) 128 then Name w else Never)))))))))))))
+word_token w = word_by (reserved w) w
 
 -- ---- bytes
 

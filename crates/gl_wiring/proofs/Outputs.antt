@@ -16,7 +16,8 @@ use Rattle.gl_net.specs.Finished.{HasReset}
 use Rattle.gl_wiring.specs.declared.parts.Source.{Source}
 use Rattle.gl_wiring.specs.PortNames.{stream_ports, streams_ports}
 use Rattle.gl_wiring.specs.Select.{HasPort, Follows, ColumnsFollow, FollowsStream}
-use Rattle.gl_wiring.specs.Emitted.{names_of, port_values, Extends, AreInputs, IsDelayed, IsDelayedBit, IsZero, AreDelayed, IsSource, FollowsNodes}
+use Rattle.gl_net.specs.PortValues.{port_values}
+use Rattle.gl_wiring.specs.Emitted.{names_of, Extends, AreInputs, IsDelayed, IsDelayedBit, IsZero, AreDelayed, IsSource, FollowsNodes}
 use Rattle.gl_wiring.proofs.Inputs.{drop_next, inputs_stay}
 
 -- ---- streams

@@ -1,9 +1,9 @@
 -- What a part of an emitted netlist adds: ports under these names, and nodes that follow others.
-use Rattle.std.specs.Prelude.{◌≡◌, ℕ, suc, ◌+◌, List, [], ◌∷◌, ◌++◌, Option, Some, None, map, slice_get, find, option_map, bytes_eq}
+use Rattle.std.specs.Prelude.{◌≡◌, ℕ, suc, ◌+◌, List, [], ◌∷◌, ◌++◌, Option, Some, None, map, slice_get}
 use Rattle.gl_bits.specs.Kinds.{width_of}
 use Rattle.gl_schema.specs.declared.schema.Column.{Column}
 use Rattle.gl_schema.specs.declared.schema.Stream.{Stream}
-use Rattle.gl_schema.specs.Ports.{PortValues, in_valid, in_column, out_valid, out_column, out_eos, eos, fault_group, fault_queue}
+use Rattle.gl_schema.specs.Ports.{in_valid, in_column, out_valid, out_column, out_eos, eos, fault_group, fault_queue}
 use Rattle.gl_wiring.specs.declared.parts.Source.{Source}
 use Rattle.gl_net.specs.declared.node.Bus.{Bus}
 use Rattle.gl_net.specs.declared.node.Port.{Port}
@@ -14,10 +14,6 @@ use Rattle.gl_net.specs.Net.{Net, Run, IsRun, IsBus, IsPort, open_at}
 -- the names of the ports, in their order
 abbrev pub names_of : Net → List (List ℕ)
 names_of net = map (λ (p : Port). p.name) net.ports
-
--- the values of the ports by their names
-abbrev pub port_values : Net → Run → PortValues
-port_values net run t name = option_map (λ (p : Port). run.at t p.node) (find (λ (p : Port). bytes_eq p.name name) net.ports)
 
 -- what stays where ports and whole blocks are added
 pub record Extends (old new : Net) : Type 0 where

@@ -8,7 +8,8 @@ ghost use Rattle.gl_schema.specs.Ports.{in_valid, out_valid, out_column, out_eos
 ghost use Rattle.gl_net.specs.Net.{Run, IsRun, IsBus, IsPort, open_at};
 ghost use Rattle.gl_net.specs.Finished.{HasReset};
 ghost use Rattle.gl_wiring.specs.PortNames.{streams_ports, stream_ports, result_ports, port_names};
-ghost use Rattle.gl_wiring.specs.Emitted.{names_of, port_values, Extends, AreInputs, IsDelayedBit, IsZero, AreDelayed, IsSource, FollowsNodes};
+ghost use Rattle.gl_net.specs.PortValues.{port_values};
+ghost use Rattle.gl_wiring.specs.Emitted.{names_of, Extends, AreInputs, IsDelayedBit, IsZero, AreDelayed, IsSource, FollowsNodes};
 ghost use Rattle.gl_wiring.specs.Select.{FollowsStream};
 
 use crate::names::{ResultNames, module_name, out_column_name};

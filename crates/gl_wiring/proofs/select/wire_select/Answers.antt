@@ -3,7 +3,8 @@ use Rattle.std.specs.Prelude.{map, IfSome, slice_get}
 use Rattle.gl_schema.specs.declared.schema.Stream.{Stream}
 use Rattle.gl_schema.specs.Ports.{out_column}
 use Rattle.gl_net.specs.Net.{Net, Run, IsRun, open_at}
-use Rattle.gl_wiring.specs.Emitted.{names_of, port_values, FollowsNodes}
+use Rattle.gl_net.specs.PortValues.{port_values}
+use Rattle.gl_wiring.specs.Emitted.{names_of, FollowsNodes}
 use Rattle.gl_wiring.specs.PortNames.{port_names}
 use Rattle.gl_wiring.specs.Select.{FollowsStream}
 use Rattle.gl_wiring.proofs.Finishing.{finished, apart}
