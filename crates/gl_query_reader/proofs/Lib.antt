@@ -1,0 +1,12 @@
+pub mod Stack
+pub mod Loop
+pub mod ItemLists
+pub mod Steps
+pub mod ReadExpressions
+pub mod ReadItems
+pub mod ReadQueries
+pub mod Said
+pub mod SoundTerms
+pub mod SoundExpressions
+pub mod Sound
+pub mod Meets

@@ -1,10 +1,21 @@
-//! From the text of a statement to the statement.
-//!
-//! So far one form alone is read: `SELECT NAME, .., NAME FROM NAME INTO NAME`, keywords in capitals,
-//! single spaces, and at most one line feed behind.
+//! The reader of statements: the text of a query to its tree, and back.
 #![tactic(auto)]
 
-pub mod select;
-pub mod words;
+mod expressions;
+mod following;
+mod items;
+pub mod laws;
+mod limits;
+mod meaning;
+mod mixed;
+mod parsing;
+mod parts;
+mod queries;
+mod sources;
+mod state;
+#[cfg(test)]
+mod tests;
+pub mod text;
+mod written;
 
-pub use select::read_query;
+pub use text::read_query;

@@ -1,0 +1,51 @@
+-- Items one after the other, as loops go over them.
+use Rattle.std.proofs.Common.{◌≡◌, ℕ, suc, ◌+◌, ◌<◌, ◌≤◌, Bool, true, false, List, [], ◌∷◌, ◌++◌, length, drop, get_or, reverse, Option, Some, None, refl, sym, ap, ◌∙◌, append_assoc, add-one, drop-cons}
+use Rattle.std.specs.Prelude.{map}
+use Rattle.std.proofs.lemmas.List.{reverse-append, append-nil, drop_all, map-append}
+use Rattle.gl_query.specs.declared.tree.Item.{Item}
+use Rattle.gl_query.specs.declared.tree.AggItem.{AggItem}
+use Rattle.gl_query_reader.specs.declared.written.WrittenItem.{WrittenItem}
+use Rattle.gl_query_reader.specs.Written as written
+use Rattle.gl_query_reader.specs.Written.{Bare, Named, Total}
+use Rattle.gl_query_reader.specs.Trees.{item_of, items_of}
+use Rattle.gl_query_reader.specs.Meaning.{Item', AggItem', item_tree, agg_item_tree, plain_items, agg_items, is_total}
+use Rattle.gl_query_reader.specs.Mixed.{same, first_other, item_at}
+
+pub items-push : (xs : List WrittenItem) (x : WrittenItem) → items_of (xs ++ x ∷ []) ≡ items_of xs ++ item_of x ∷ []
+items-push xs x = map-append item_of xs (x ∷ [])
+
+pub items-left : (xs : List WrittenItem) (x : WrittenItem) → items_of (reverse (xs ++ x ∷ [])) ≡ item_of x ∷ items_of (reverse xs)
+items-left xs x = ap items_of (reverse-append xs (x ∷ []))
+
+pub trees-push : (xs : List Item) (x : Item) → map item_tree (xs ++ x ∷ []) ≡ map item_tree xs ++ item_tree x ∷ []
+trees-push xs x = map-append item_tree xs (x ∷ [])
+
+pub agg_trees-push : (xs : List AggItem) (x : AggItem) → map agg_item_tree (xs ++ x ∷ []) ≡ map agg_item_tree xs ++ agg_item_tree x ∷ []
+agg_trees-push xs x = map-append agg_item_tree xs (x ∷ [])
+
+plain-cons : (i : written.Item) (is : List written.Item) → plain_items (i ∷ is) ≡ plain_items (i ∷ []) ++ plain_items is
+plain-cons (Bare name) is = refl
+plain-cons (Named e name) is = refl
+plain-cons (Total a name) is = refl
+
+agg-cons : (i : written.Item) (is : List written.Item) → agg_items (i ∷ is) ≡ agg_items (i ∷ []) ++ agg_items is
+agg-cons (Bare name) is = refl
+agg-cons (Named e name) is = refl
+agg-cons (Total a name) is = refl
+
+pub plain_step : (out new : List Item') (i : written.Item) (is : List written.Item) (total : List Item') → new ≡ out ++ plain_items (i ∷ []) → out ++ plain_items (i ∷ is) ≡ total → new ++ plain_items is ≡ total
+plain_step out new i is total e f = rw e (append_assoc out (plain_items (i ∷ [])) (plain_items is) ∙ ap (λ x. out ++ x) (sym (plain-cons i is)) ∙ f)
+
+pub agg_step : (out new : List AggItem') (i : written.Item) (is : List written.Item) (total : List AggItem') → new ≡ out ++ agg_items (i ∷ []) → out ++ agg_items (i ∷ is) ≡ total → new ++ agg_items is ≡ total
+agg_step out new i is total e f = rw e (append_assoc out (agg_items (i ∷ [])) (agg_items is) ∙ ap (λ x. out ++ x) (sym (agg-cons i is)) ∙ f)
+
+pub other_step : (sort : Bool) (items : List WrittenItem) (i : ℕ) (d : WrittenItem) → i < length items → same sort (is_total (item_of (get_or items i d))) ≡ true → first_other sort (items_of (drop i items)) ≡ first_other sort (items_of (drop (i + 1) items))
+other_step sort items i d lt e = rw (drop-cons items i d lt, e, add-one) refl
+
+pub other_here : (sort : Bool) (items : List WrittenItem) (i : ℕ) (d : WrittenItem) → i < length items → same sort (is_total (item_of (get_or items i d))) ≡ false → first_other sort (items_of (drop i items)) ≡ Some (item_at (item_of (get_or items i d)))
+other_here sort items i d lt e = rw (drop-cons items i d lt, e) refl
+
+pub other_end : (sort : Bool) (items : List WrittenItem) (i : ℕ) → length items ≤ i → first_other sort (items_of (drop i items)) ≡ None
+other_end sort items i le = rw (drop_all i items le) refl
+
+pub ruleset item_steps = (items-push, items-left, trees-push, agg_trees-push, plain_step, agg_step, other_step, other_here, other_end, append-nil)

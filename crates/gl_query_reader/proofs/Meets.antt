@@ -1,0 +1,176 @@
+-- What reading comes to, in the words of the grammar.
+use Rattle.std.proofs.Common.{◌≡◌, ℕ, Bool, true, false, cond, List, [], ◌∷◌, ◌++◌, length, Option, Some, None, Result, Ok, Err, refl, sym, ap, subst, ◌∙◌, append_assoc}
+use Rattle.std.specs.Prelude.{map, IfOk, IfErr}
+use Rattle.std.proofs.lemmas.List.{append-nil, map-append}
+use Rattle.gl_query.specs.declared.tree.Statement as tree
+use Rattle.gl_query.specs.declared.fault.QueryFault.{QueryFault}
+use Rattle.gl_query.specs.declared.fault.QueryFault.TheVariants as fault
+use Rattle.gl_query_tokens.specs.declared.token.Token.{Token}
+use Rattle.gl_query_tokens.specs.declared.token.Lexeme.{Lexeme}
+use Rattle.gl_query_tokens.specs.Tokens.{tokens_of}
+use Rattle.gl_query_reader.specs.declared.limits.Counts.{Counts}
+use Rattle.gl_query_reader.specs.declared.parsing.ReadFault.{ReadFault}
+use Rattle.gl_query_reader.specs.declared.parsing.ReadFault.TheVariants.{Syntax, TooDeep, Memory}
+use Rattle.gl_query_reader.specs.Written.{Statement, IsQuery, spell_statement}
+use Rattle.gl_query_reader.specs.Machine.{State, start, step, finish}
+use Rattle.gl_query_reader.specs.Limits.{none_counted, after, counted, is_past, keeps_limits}
+use Rattle.gl_query_reader.specs.Meaning.{Statement', statement_meaning, statement_tree}
+use Rattle.gl_query_reader.specs.Mixed.{mixed_in}
+use Rattle.gl_query_reader.specs.Reading.{run, or_syntax, checked, with_items, answered, Answers}
+use Rattle.gl_query_reader.specs.Grammar.{bare_tokens, Derives, CanBegin, HasStatement, IsOrMemory, Stops, IsSyntaxFault, IsDepthFault, IsItemsFault, IsFault}
+use Rattle.gl_query_reader.proofs.Steps.{steps, and_then_some, steps-append, run-steps}
+use Rattle.gl_query_reader.proofs.ReadQueries.{final, finishes, reads_statement, one_statement}
+use Rattle.gl_query_reader.proofs.Sound.{derives}
+
+-- tokens that were read to a state, within the limits
+pub record Came (n : Counts) (s : State) (read : List Lexeme) (s' : State) : Type 0 where
+  pub steps : steps s (bare_tokens read) ≡ Some s'
+  pub limits : keeps_limits n (bare_tokens read) ≡ true
+
+-- the reader cannot go on
+abbrev pub Halts : ℕ → ℕ → State → List Lexeme → Type 0
+Halts len at s [] = (at ≡ len) × (finish s ≡ None)
+Halts len at s (l ∷ left) = (at ≡ l.at) × (step s l.token ≡ None)
+
+pub record Halted (len : ℕ) (n : Counts) (s : State) (ls : List Lexeme) (at : ℕ) : Type 0 where
+  pub read : List Lexeme
+  pub left : List Lexeme
+  pub there : State
+  pub parts : ls ≡ read ++ left
+  pub came : Came n s read there
+  pub halts : Halts len at there left
+
+pub record Passed (n : Counts) (s : State) (ls : List Lexeme) (at : ℕ) : Type 0 where
+  pub read : List Lexeme
+  pub deep : Lexeme
+  pub left : List Lexeme
+  pub there : State
+  pub beyond : State
+  pub parts : ls ≡ read ++ deep ∷ left
+  pub came : Came n s read there
+  pub goes : step there deep.token ≡ Some beyond
+  pub place : at ≡ deep.at
+  pub past : is_past (counted n (bare_tokens (read ++ deep ∷ []))) ≡ true
+
+pub record Ended (n : Counts) (s : State) (ls : List Lexeme) (w : Statement) : Type 0 where
+  pub there : State
+  pub came : Came n s ls there
+  pub done : finish there ≡ Some w
+
+abbrev pub Met : ℕ → Counts → State → List Lexeme → Result Statement ReadFault → Type 0
+Met len n s ls (Ok w) = Ended n s ls w
+Met len n s ls (Err (Syntax at)) = Halted len n s ls at
+Met len n s ls (Err (TooDeep at)) = Passed n s ls at
+Met len n s ls (Err Memory) = ⊥
+
+came-none : (n : Counts) (s : State) → Came n s [] s
+unfolding steps
+came-none n s = record { steps = refl; limits = refl }
+
+came-more : (n : Counts) (s s' s'' : State) (l : Lexeme) (ls : List Lexeme) → step s l.token ≡ Some s' → is_past (after n l.token) ≡ false → Came (after n l.token) s' ls s'' → Came n s (l ∷ ls) s''
+unfolding steps
+came-more n s s' s'' l ls st le c = record { steps = rw st c.steps; limits = rw le c.limits }
+
+met-more : (len : ℕ) (n : Counts) (s s' : State) (l : Lexeme) (ls : List Lexeme) (r : Result Statement ReadFault) → step s l.token ≡ Some s' → is_past (after n l.token) ≡ false → Met len (after n l.token) s' ls r → Met len n s (l ∷ ls) r
+met-more len n s s' l ls (Ok w) st le m = record { there = m.there; came = came-more n s s' m.there l ls st le m.came; done = m.done }
+met-more len n s s' l ls (Err (Syntax at)) st le m = record { read = l ∷ m.read; left = m.left; there = m.there; parts = ap (λ (x : List Lexeme). l ∷ x) m.parts; came = came-more n s s' m.there l m.read st le m.came; halts = m.halts }
+met-more len n s s' l ls (Err (TooDeep at)) st le m = record { read = l ∷ m.read; deep = m.deep; left = m.left; there = m.there; beyond = m.beyond; parts = ap (λ (x : List Lexeme). l ∷ x) m.parts; came = came-more n s s' m.there l m.read st le m.came; goes = m.goes; place = m.place; past = m.past }
+met-more len n s s' l ls (Err Memory) st le m = absurd m
+
+pub meets : (len : ℕ) (ls : List Lexeme) (n : Counts) (s : State) → Met len n s ls (run len n s ls)
+unfolding run
+meets len [] n s = at_end (finish s) refl
+  where
+    at_end : (o : Option Statement) → finish s ≡ o → Met len n s [] (or_syntax o len)
+    at_end None e = record { read = []; left = []; there = s; parts = refl; came = came-none n s; halts = (refl, e) }
+    at_end (Some w) e = record { there = s; came = came-none n s; done = e }
+meets len (l ∷ ls) n s = at_token (λ s'. meets len ls (after n l.token) s') (step s l.token) refl (is_past (after n l.token)) refl
+  where
+    at_token : ((s' : State) → Met len (after n l.token) s' ls (run len (after n l.token) s' ls)) → (o : Option State) → step s l.token ≡ o → (b : Bool) → is_past (after n l.token) ≡ b → Met len n s (l ∷ ls) (checked l.at o b (λ s'. run len (after n l.token) s' ls))
+    at_token next None e b p = record { read = []; left = l ∷ ls; there = s; parts = refl; came = came-none n s; halts = (refl, e) }
+    at_token next (Some s') e true p = record { read = []; deep = l; left = ls; there = s; beyond = s'; parts = refl; came = came-none n s; goes = e; place = refl; past = p }
+    at_token next (Some s') e false p = met-more len n s s' l ls _ e p (next s')
+
+-- ---- in the words of the grammar
+
+none_is : {A : Type 0} (P : Type 0) (o : Option A) (a : A) → o ≡ None → o ≡ Some a → P
+none_is P o a e f = absurd cc
+
+-- where a statement goes on, the reader does
+goes_on : (pre : List Token) (t : Token) (s : State) → steps start pre ≡ Some s → step s t ≡ None → CanBegin (pre ++ t ∷ []) → ⊥
+unfolding steps
+goes_on pre t s e cannot b =
+    let all : steps start (spell_statement b.1) ≡ Some (final b.1) = reads_statement b.1 b.2.grammar in
+    let same : spell_statement b.1 ≡ pre ++ (t ∷ b.0) = b.2.spelled ∙ append_assoc pre (t ∷ []) b.0 in
+    let rest : steps s (t ∷ b.0) ≡ Some (final b.1) = sym (steps-append pre (t ∷ b.0) start s e) ∙ ap (steps start) (sym same) ∙ all in
+    let g = and_then_some (λ x. steps x b.0) (step s t) (final b.1) rest in
+    none_is ⊥ (step s t) g.0 cannot g.1
+
+some_state : (x : Option State) (a b : State) → x ≡ Some a → x ≡ Some b → a ≡ b
+some_state x a b e f = cc
+
+ends : (pre : List Token) (s : State) (w : Statement) → steps start pre ≡ Some s → finish s ≡ None → Derives pre w → ⊥
+ends pre s w e cannot d =
+    let same : s ≡ final w = some_state (steps start pre) s (final w) e (ap (steps start) (sym d.spelled) ∙ reads_statement w d.grammar) in
+    none_is ⊥ (finish s) w cannot (ap finish same ∙ finishes w)
+
+bare-push : (ls : List Lexeme) (l : Lexeme) → bare_tokens (ls ++ l ∷ []) ≡ bare_tokens ls ++ l.token ∷ []
+bare-push ls l = map-append (λ (x : Lexeme). x.token) ls (l ∷ [])
+
+stops : (len at : ℕ) (read left : List Lexeme) (s : State) → steps start (bare_tokens read) ≡ Some s → Halts len at s left → Stops len at read left
+stops len at read [] s e h = (h.0, λ w d. ends (bare_tokens read) s w e h.1 d)
+stops len at read (l ∷ left) s e h = (h.0, λ b. goes_on (bare_tokens read) l.token s e h.1 (subst (λ (x : List Token). CanBegin x) (bare-push read l) b))
+
+-- the answer for a text
+abbrev pub answer_for : List ℕ → Result Statement' QueryFault
+answer_for text = answered (run (length text) none_counted start (tokens_of text))
+
+-- a statement within the limits is answered
+only_answer : (text : List ℕ) (s : Statement') → HasStatement text s → answer_for text ≡ Ok s
+only_answer text s h =
+    let read : steps start (bare_tokens (tokens_of text)) ≡ Some (final h.written) = ap (steps start) (sym h.derived.spelled) ∙ reads_statement h.written h.derived.grammar in
+    ap answered (run-steps (length text) (tokens_of text) none_counted start (final h.written) h.limits read ∙ ap (λ (o : Option Statement). or_syntax o (length text)) (finishes h.written))
+    ∙ ap (λ (o : Option ℕ). with_items o h.written) h.items
+    ∙ ap (λ (x : Statement'). Ok x) (sym h.means)
+
+abbrev AnswerIs : List ℕ → Result Statement' QueryFault → Type 0
+AnswerIs text (Ok s) = HasStatement text s
+AnswerIs text (Err e) = IsFault text e
+
+of_written : (text : List ℕ) (w : Statement) → Ended none_counted start (tokens_of text) w → AnswerIs text (with_items (mixed_in w.query) w)
+of_written text w m = test (mixed_in w.query) refl
+  where
+    test : (o : Option ℕ) → mixed_in w.query ≡ o → AnswerIs text (with_items o w)
+    test None e = record { written = w; derived = derives _ m.there w m.came.steps m.done; limits = m.came.limits; items = e; means = refl }
+    test (Some at) e = record { written = w; derived = derives _ m.there w m.came.steps m.done; limits = m.came.limits; items = e }
+
+of_result : (text : List ℕ) (r : Result Statement ReadFault) → Met (length text) none_counted start (tokens_of text) r → AnswerIs text (answered r)
+of_result text (Ok w) m = of_written text w m
+of_result text (Err (Syntax at)) m = record { read = m.read; left = m.left; parts = m.parts; limits = m.came.limits; stops = stops (length text) at m.read m.left m.there m.came.steps m.halts }
+of_result text (Err (TooDeep at)) m = record { read = m.read; deep = m.deep; left = m.left; parts = m.parts; place = m.place; limits = m.came.limits; past = m.past }
+of_result text (Err Memory) m = absurd m
+
+pub answer_is : (text : List ℕ) → AnswerIs text (answer_for text)
+answer_is text = of_result text _ (meets (length text) (tokens_of text) none_counted start)
+
+-- ---- for a returned value
+
+pub found : (text : List ℕ) (r : Result tree.Statement QueryFault) → Answers r (answer_for text) → IfOk r (λ s. HasStatement text (statement_tree s))
+found text (Ok s) a = subst (λ (x : Result Statement' QueryFault). AnswerIs text x) a (answer_is text)
+found text (Err e) a = tt
+
+ok_is : (r : Result Statement' QueryFault) (a b : Statement') → r ≡ Ok a → r ≡ Ok b → a ≡ b
+ok_is r a b e f = cc
+
+pub only : (text : List ℕ) (r : Result tree.Statement QueryFault) → Answers r (answer_for text) → (s : Statement') → HasStatement text s → IsOrMemory r s
+only text (Ok s) a m h = ok_is (answer_for text) (statement_tree s) m a (only_answer text m h)
+only text (Err fault.Memory) a m h = tt
+only text (Err e) a m h = absurd (differ (answer_for text) _ m a (only_answer text m h))
+  where
+    differ : (x : Result Statement' QueryFault) (e : QueryFault) (m : Statement') → x ≡ Err e → x ≡ Ok m → ⊥
+    differ x e m f g = absurd cc
+
+pub faults : (text : List ℕ) (r : Result tree.Statement QueryFault) → Answers r (answer_for text) → IfErr r (λ e. IsFault text e)
+faults text (Ok s) a = tt
+faults text (Err fault.Memory) a = tt
+faults text (Err e) a = subst (λ (x : Result Statement' QueryFault). AnswerIs text x) a (answer_is text)

@@ -1,0 +1,212 @@
+-- What follows a term, and the parts of sources, windows and groups, are read as the grammar has them.
+use Rattle.std.proofs.Common.{◌≡◌, ℕ, ◌<◌, ◌≤◌, Bool, true, false, List, [], ◌∷◌, ◌++◌, Option, Some, None, refl, sym, ap, subst, ◌∙◌, append_assoc, arith}
+use Rattle.std.proofs.lemmas.List.{append-nil}
+use Rattle.gl_query.specs.declared.tree.Name.{Name}
+use Rattle.gl_query.specs.declared.tree.Num.{Num}
+use Rattle.gl_query_tokens.specs.declared.token.Join.{Join}
+use Rattle.gl_query_tokens.specs.declared.token.Plain.{Plain}
+use Rattle.gl_query_tokens.specs.declared.token.Plain.TheVariants as plain
+use Rattle.gl_query_tokens.specs.declared.token.Token.{Token}
+use Rattle.gl_query_tokens.specs.declared.token.Token.TheVariants as token
+use Rattle.gl_query_tokens.specs.Sorts.{is_plain}
+use Rattle.gl_query_reader.specs.declared.written.Window.{Window}
+use Rattle.gl_query_reader.specs.declared.written.Grouping.{Grouping}
+use Rattle.gl_query_reader.specs.Written.{Expr, Pick, Query, Stream, InBrackets, Select, Windows, Groups, Join', IsPick, IsFilter, IsQuery, IsSource, IsTerm, spell, spell_pick, spell_window, spell_if_window, spell_filter, spell_grouping, spell_if_grouping, spell_query}
+use Rattle.gl_query_reader.specs.Machine.{State, Control, Frame, Head, BodyHead, GroupsHead, SelectHead, EachHead, WindowsHead, GroupsHead', SelectGroups, EachGroups, InFilter, JoinOf, InQuery, InSource, InBody, LeftOf, NotOf, BracketOf, InCast, InItem, InFold, InWsum, WantTerm, WantItem, WantOperand, WantSource, HaveSource, HaveEachSource, WantSize, WantSizeNumber, WantAdvance, WantAdvanceNumber, WantTuples, WantWindowClose, WantBy, WantKey, WantGroups, WantGroupsNumber, WantVar, WantIn, WantBody, HaveTerm, WantName, HaveName, WantEnd, have_term, after_query, close_query, end_query, want_term, want_source, have_source, after_source, body_of, begin_window, end_source, goes, step_at}
+use Rattle.gl_query_reader.proofs.Steps.{state}
+use Rattle.gl_query_reader.proofs.ReadQueries.{NoJoin}
+use Rattle.gl_query_reader.proofs.Said.{head_text, body_text, groups_text, in_source, frame_text, before, control_text, IsHead, IsBodyHead, IsGroupsHead, InExpr, InTerm, IsFrame, Fits, Holds, Read, by_some, by_if, by_plain, by_name, by_number, by_open, by_size, by_by, go_on, go_in}
+
+-- a control that keeps what was read, whatever token comes
+abbrev pub Keeps : Control → Type 0
+Keeps c = (fs : List Frame) (t : Token) (s' : State) → Fits fs → Holds c fs → step_at c fs t ≡ Some s' → Read s' ((before fs ++ control_text c) ++ t ∷ [])
+
+-- ---- behind a term
+
+pub term_is_query : (q : Query) → IsTerm q → IsQuery q
+term_is_query (Stream name) h = h
+term_is_query (InBrackets at q) h = h
+term_is_query (Select pick source window filter grouping) h = h
+term_is_query (Windows at var source window open' body) h = h
+term_is_query (Groups at var source grouping open' body) h = h
+term_is_query (Join' join at l r) h = absurd h
+
+close_brackets : (b q : List Token) (o c : Token) → b ++ (o ∷ (q ++ c ∷ [])) ≡ ((b ++ o ∷ []) ++ q) ++ c ∷ []
+close_brackets b q o c = simp append_assoc
+
+close_source : (b h q : List Token) (o c : Token) → b ++ (h ++ o ∷ (q ++ c ∷ [])) ≡ ((b ++ (h ++ o ∷ [])) ++ q) ++ c ∷ []
+close_source b h q o c = simp append_assoc
+
+close_body : (b h q : List Token) (o c : Token) → b ++ (h ++ o ∷ (q ++ c ∷ [])) ≡ ((b ++ (h ++ o ∷ [])) ++ q) ++ c ∷ []
+close_body b h q o c = simp append_assoc
+
+closes_query : (fs : List Frame) (q : Query) (s' : State) → Fits fs → IsQuery q → close_query fs q ≡ Some s' → Read s' ((before fs ++ spell_query q) ++ token.Plain plain.Close ∷ [])
+closes_query (InQuery at ∷ fs) q s' f h e = by_some _ s' _ e (record { text = close_brackets (before fs) (spell_query q) (token.Open at) (token.Plain plain.Close); fits = f.1; holds = (f.0, h) })
+closes_query (InSource (SelectHead pick) at ∷ fs) q s' f h e = by_some _ s' _ e (record {
+  text = text (before fs) (spell_pick pick) (spell_query q);
+  fits = f.1;
+  holds = (f.0.0, f.0.1, h);
+})
+  where
+    text : (b p x : List Token) → b ++ (token.Plain plain.Select ∷ (p ++ token.Plain plain.From ∷ ((token.Open at ∷ (x ++ token.Plain plain.Close ∷ [])) ++ []))) ≡ ((b ++ ((token.Plain plain.Select ∷ (p ++ token.Plain plain.From ∷ [])) ++ token.Open at ∷ [])) ++ x) ++ token.Plain plain.Close ∷ []
+    text b p x = simp append_assoc
+closes_query (InSource (EachHead at' var) at ∷ fs) q s' f h e = by_some _ s' _ e (record {
+  text = close_source (before fs) (head_text (EachHead at' var)) (spell_query q) (token.Open at) (token.Plain plain.Close);
+  fits = f.1;
+  holds = (f.0.0, h);
+})
+closes_query (InBody (WindowsHead at var source window) open' ∷ fs) q s' f h e = by_some _ s' _ e (record {
+  text = text (before fs) (spell_query source) (spell_window window) (spell_query q);
+  fits = f.1;
+  holds = (f.0.0, (f.0.1, h));
+})
+  where
+    text : (b a w x : List Token) → b ++ (token.Each at ∷ token.Name var ∷ token.Plain plain.In ∷ (a ++ (w ++ token.Open open' ∷ (x ++ token.Plain plain.Close ∷ [])))) ≡ ((b ++ ((token.Each at ∷ token.Name var ∷ token.Plain plain.In ∷ (a ++ w)) ++ token.Open open' ∷ [])) ++ x) ++ token.Plain plain.Close ∷ []
+    text b a w x = simp append_assoc
+closes_query (InBody (GroupsHead' at var source grouping) open' ∷ fs) q s' f h e = by_some _ s' _ e (record {
+  text = text (before fs) (spell_query source) (spell_grouping grouping) (spell_query q);
+  fits = f.1;
+  holds = (f.0.0, (f.0.1, h));
+})
+  where
+    text : (b a w x : List Token) → b ++ (token.Each at ∷ token.Name var ∷ token.Plain plain.In ∷ (a ++ (w ++ token.Open open' ∷ (x ++ token.Plain plain.Close ∷ [])))) ≡ ((b ++ ((token.Each at ∷ token.Name var ∷ token.Plain plain.In ∷ (a ++ w)) ++ token.Open open' ∷ [])) ++ x) ++ token.Plain plain.Close ∷ []
+    text b a w x = simp append_assoc
+closes_query fs q s' f h e = absurd cc
+
+ends_query : (fs : List Frame) (q : Query) (s' : State) → Fits fs → IsQuery q → end_query fs q ≡ Some s' → Read s' ((before fs ++ spell_query q) ++ token.Plain plain.Into ∷ [])
+ends_query [] q s' f h e = by_some _ s' _ e (record { text = refl; fits = tt; holds = (refl, h) })
+ends_query (f ∷ fs) q s' fits h e = absurd cc
+
+pub keeps_query : (fs : List Frame) (q : Query) (t : Token) (s' : State) → Fits fs → InTerm fs → NoJoin fs → IsQuery q → after_query fs q t ≡ Some s' → Read s' ((before fs ++ spell_query q) ++ t ∷ [])
+keeps_query fs q (token.Join join at) s' f i n h e = by_some _ s' _ e (go_in (spell_query q) WantTerm (JoinOf q join at) fs (token.Join join at) f (i, n, h) tt refl refl)
+keeps_query fs q (token.Plain plain.Close) s' f i n h e = closes_query fs q s' f h e
+keeps_query fs q (token.Plain plain.Into) s' f i n h e = ends_query fs q s' f h e
+keeps_query fs q (token.Plain p) s' f i n h e = absurd cc
+keeps_query fs q t s' f i n h e = absurd cc
+
+-- a term that joins what stands before it, or stands alone
+pub keeps_term : (fs : List Frame) (q : Query) (t : Token) (s' : State) → Fits fs → InTerm fs → IsTerm q → have_term fs q t ≡ Some s' → Read s' ((before fs ++ spell_query q) ++ t ∷ [])
+keeps_term (JoinOf l join at ∷ fs) q t s' f i h e =
+    subst (λ (x : List Token). Read s' (x ++ t ∷ [])) (text (before fs) (spell_query l) (spell_query q)) (keeps_query fs (Join' join at l q) t s' f.1 f.0.0 f.0.1 (f.0.2, h) e)
+  where
+    text : (b x y : List Token) → b ++ (x ++ token.Join join at ∷ y) ≡ (b ++ (x ++ token.Join join at ∷ [])) ++ y
+    text b x y = simp append_assoc
+keeps_term [] q t s' f i h e = keeps_query [] q t s' f i tt (term_is_query q h) e
+keeps_term (f ∷ fs) q t s' fits i h e = keeps_query (f ∷ fs) q t s' fits i tt (term_is_query q h) e
+
+-- ---- queries
+
+pub keeps_want_term : Keeps WantTerm
+keeps_want_term fs (token.Plain plain.Select) s' f h e = by_some _ s' _ e (go_on [] (WantItem []) fs (token.Plain plain.Select) f (h, tt) refl)
+keeps_want_term fs (token.Plain p) s' f h e = absurd cc
+keeps_want_term fs (token.Each at) s' f h e = by_some _ s' _ e (go_on [] (WantVar at) fs (token.Each at) f h refl)
+keeps_want_term fs (token.Open at) s' f h e = by_some _ s' _ e (go_in [] WantTerm (InQuery at) fs (token.Open at) f h tt refl refl)
+keeps_want_term fs t s' f h e = absurd cc
+
+pub keeps_var : (at : ℕ) → Keeps (WantVar at)
+keeps_var at fs t s' f h e = by_name t _ s' _ e (λ n d. by_some _ s' _ d (go_on (token.Each at ∷ []) (WantIn at n) fs (token.Name n) f h refl))
+
+pub keeps_in : (at : ℕ) (var : Name) → Keeps (WantIn at var)
+keeps_in at var fs t s' f h e = by_plain plain.In t _ s' _ e (go_on (token.Each at ∷ token.Name var ∷ []) (WantSource (EachHead at var)) fs (token.Plain plain.In) f (h, tt) refl)
+
+pub keeps_body : (head : BodyHead) → Keeps (WantBody head)
+keeps_body head fs t s' f h e = by_open t _ s' _ e (λ n d. by_some _ s' _ d (go_in (body_text head) WantTerm (InBody head n) fs (token.Open n) f (h.0, h.1) tt refl refl))
+
+pub keeps_have_term : (q : Query) → Keeps (HaveTerm q)
+keeps_have_term q fs t s' f h e = keeps_term fs q t s' f h.0 h.1 e
+
+pub keeps_want_name : (q : Query) → Keeps (WantName q)
+keeps_want_name q fs t s' f h e = by_name t _ s' _ e (λ n d. by_some _ s' _ d (go_on (spell_query q ++ token.Plain plain.Into ∷ []) (HaveName q n) fs (token.Name n) f h (append_assoc (spell_query q) (token.Plain plain.Into ∷ []) (token.Name n ∷ []))))
+
+pub keeps_have_name : (q : Query) (name : Name) → Keeps (HaveName q name)
+keeps_have_name q name fs t s' f h e = by_plain plain.Semicolon t _ s' _ e (go_on (spell_query q ++ token.Plain plain.Into ∷ token.Name name ∷ []) (WantEnd q name) fs (token.Plain plain.Semicolon) f h (append_assoc (spell_query q) (token.Plain plain.Into ∷ token.Name name ∷ []) (token.Plain plain.Semicolon ∷ [])))
+
+pub keeps_end : (q : Query) (name : Name) → Keeps (WantEnd q name)
+keeps_end q name fs t s' f h e = absurd cc
+
+-- ---- sources
+
+pub keeps_source : (head : Head) → Keeps (WantSource head)
+keeps_source (SelectHead pick) fs (token.Name n) s' f h e = by_some _ s' _ e (go_on (head_text (SelectHead pick)) (HaveSource pick (Stream n) None) fs (token.Name n) f (h.0, h.1, tt) (text (spell_pick pick)))
+  where
+    text : (p : List Token) → (token.Plain plain.Select ∷ (p ++ token.Plain plain.From ∷ [])) ++ token.Name n ∷ [] ≡ token.Plain plain.Select ∷ (p ++ token.Plain plain.From ∷ token.Name n ∷ [])
+    text p = simp append_assoc
+keeps_source (EachHead at var) fs (token.Name n) s' f h e = by_some _ s' _ e (go_on (head_text (EachHead at var)) (HaveEachSource at var (Stream n)) fs (token.Name n) f (h.0, tt) refl)
+keeps_source head fs (token.Open at) s' f h e = by_some _ s' _ e (go_in (head_text head) WantTerm (InSource head at) fs (token.Open at) f (h.0, h.1) tt refl refl)
+keeps_source head fs t s' f h e = absurd cc
+
+open_window : (p q : List Token) → (token.Plain plain.Select ∷ (p ++ token.Plain plain.From ∷ (q ++ []))) ++ token.Plain plain.LeftSquare ∷ [] ≡ (token.Plain plain.Select ∷ (p ++ token.Plain plain.From ∷ [])) ++ (q ++ token.Plain plain.LeftSquare ∷ [])
+open_window p q = ap (λ (x : List Token). (token.Plain plain.Select ∷ (p ++ token.Plain plain.From ∷ x)) ++ token.Plain plain.LeftSquare ∷ []) (append-nil q) ∙ source_grouped p q
+  where
+    source_grouped : (p q : List Token) → (token.Plain plain.Select ∷ (p ++ token.Plain plain.From ∷ q)) ++ token.Plain plain.LeftSquare ∷ [] ≡ (token.Plain plain.Select ∷ (p ++ token.Plain plain.From ∷ [])) ++ (q ++ token.Plain plain.LeftSquare ∷ [])
+    source_grouped p q = simp append_assoc
+
+begins_window : (pick : Pick) (source : Query) (window : Option Window) (fs : List Frame) (s' : State) → Fits fs → Holds (HaveSource pick source window) fs → begin_window fs pick source window ≡ Some s' → Read s' ((before fs ++ control_text (HaveSource pick source window)) ++ token.Plain plain.LeftSquare ∷ [])
+begins_window pick source None fs s' f h e = by_some _ s' _ e (go_on (control_text (HaveSource pick source None)) (WantSize (SelectHead pick) source) fs (token.Plain plain.LeftSquare) f h (open_window (spell_pick pick) (spell_query source)))
+begins_window pick source (Some w) fs s' f h e = absurd cc
+
+begin_filter : (p q w : List Token) (t : Token) → (token.Plain plain.Select ∷ (p ++ token.Plain plain.From ∷ (q ++ w))) ++ t ∷ [] ≡ token.Plain plain.Select ∷ (p ++ token.Plain plain.From ∷ (q ++ (w ++ t ∷ [])))
+begin_filter p q w t = simp append_assoc
+
+select_alone : (b p q w : List Token) → b ++ (token.Plain plain.Select ∷ (p ++ token.Plain plain.From ∷ (q ++ (w ++ ([] ++ []))))) ≡ b ++ (token.Plain plain.Select ∷ (p ++ token.Plain plain.From ∷ (q ++ w)))
+select_alone b p q w = rw (append-nil w) refl
+
+pub keeps_have_source : (pick : Pick) (source : Query) (window : Option Window) → Keeps (HaveSource pick source window)
+keeps_have_source pick source window fs t s' f h e =
+    by_if plain.LeftSquare t _ _ s' _ e (λ d. begins_window pick source window fs s' f h d)
+    (λ e1. by_if plain.Where t _ _ s' _ e1 (λ d. by_some _ s' _ d (go_in (control_text (HaveSource pick source window)) WantOperand (InFilter pick source window) fs (token.Plain plain.Where) f (h.0, h.1, h.2) tt refl (begin_filter (spell_pick pick) (spell_query source) (spell_if_window window) (token.Plain plain.Where))))
+    (λ e2. by_if plain.Group t _ _ s' _ e2 (λ d. by_some _ s' _ d (go_on (control_text (HaveSource pick source window)) (WantBy pick source window None) fs (token.Plain plain.Group) f (h.0, (h.1, h.2, tt)) (begin_filter (spell_pick pick) (spell_query source) (spell_if_window window) (token.Plain plain.Group))))
+    (λ e3. subst (λ (x : List Token). Read s' (x ++ t ∷ [])) (select_alone (before fs) (spell_pick pick) (spell_query source) (spell_if_window window)) (keeps_term fs (Select pick source window None None) t s' f h.0 (h.1, h.2, tt) e3))))
+
+pub keeps_each_source : (at : ℕ) (var : Name) (source : Query) → Keeps (HaveEachSource at var source)
+keeps_each_source at var source fs t s' f h e =
+    by_if plain.LeftSquare t _ _ s' _ e (λ d. by_some _ s' _ d (go_on (control_text (HaveEachSource at var source)) (WantSize (EachHead at var) source) fs (token.Plain plain.LeftSquare) f (h.0, tt, h.1) refl))
+    (λ e1. by_by t _ s' _ e1 (λ n d. by_some _ s' _ d (go_on (control_text (HaveEachSource at var source)) (WantKey (EachGroups at var source) n) fs (token.By n) f (h.0, h.1) refl)))
+
+-- ---- windows
+
+behind_source : (h q more : List Token) (t : Token) → (h ++ (q ++ more)) ++ t ∷ [] ≡ h ++ (q ++ (more ++ t ∷ []))
+behind_source h q more t = simp append_assoc
+
+pub keeps_size : (head : Head) (source : Query) → Keeps (WantSize head source)
+keeps_size head source fs t s' f h e = by_size t _ s' _ e (λ n d. by_some _ s' _ d (go_on (control_text (WantSize head source)) (WantSizeNumber head source n) fs (token.Size n) f h (behind_source (head_text head) (spell_query source) (token.Plain plain.LeftSquare ∷ []) (token.Size n))))
+
+pub keeps_size_number : (head : Head) (source : Query) (at : ℕ) → Keeps (WantSizeNumber head source at)
+keeps_size_number head source at fs t s' f h e = by_number t _ s' _ e (λ n d. by_some _ s' _ d (go_on (control_text (WantSizeNumber head source at)) (WantAdvance head source at n) fs (token.Number n) f h (behind_source (head_text head) (spell_query source) (token.Plain plain.LeftSquare ∷ token.Size at ∷ []) (token.Number n))))
+
+pub keeps_advance : (head : Head) (source : Query) (at : ℕ) (size : Num) → Keeps (WantAdvance head source at size)
+keeps_advance head source at size fs t s' f h e = by_plain plain.Advance t _ s' _ e (go_on (control_text (WantAdvance head source at size)) (WantAdvanceNumber head source at size) fs (token.Plain plain.Advance) f h (behind_source (head_text head) (spell_query source) (token.Plain plain.LeftSquare ∷ token.Size at ∷ token.Number size ∷ []) (token.Plain plain.Advance)))
+
+pub keeps_advance_number : (head : Head) (source : Query) (at : ℕ) (size : Num) → Keeps (WantAdvanceNumber head source at size)
+keeps_advance_number head source at size fs t s' f h e = by_number t _ s' _ e (λ n d. by_some _ s' _ d (go_on (control_text (WantAdvanceNumber head source at size)) (WantTuples head source (record { at = at; size = size; advance = n })) fs (token.Number n) f h (behind_source (head_text head) (spell_query source) (token.Plain plain.LeftSquare ∷ token.Size at ∷ token.Number size ∷ token.Plain plain.Advance ∷ []) (token.Number n))))
+
+pub keeps_tuples : (head : Head) (source : Query) (w : Window) → Keeps (WantTuples head source w)
+keeps_tuples head source w fs t s' f h e = by_plain plain.Tuples t _ s' _ e (go_on (control_text (WantTuples head source w)) (WantWindowClose head source w) fs (token.Plain plain.Tuples) f h (behind_source (head_text head) (spell_query source) (token.Plain plain.LeftSquare ∷ token.Size w.at ∷ token.Number w.size ∷ token.Plain plain.Advance ∷ token.Number w.advance ∷ []) (token.Plain plain.Tuples)))
+
+close_select_window : (p q : List Token) (more : List Token) (t : Token) → ((token.Plain plain.Select ∷ (p ++ token.Plain plain.From ∷ [])) ++ (q ++ more)) ++ t ∷ [] ≡ token.Plain plain.Select ∷ (p ++ token.Plain plain.From ∷ (q ++ (more ++ t ∷ [])))
+close_select_window p q more t = simp append_assoc
+
+pub keeps_window_close : (head : Head) (source : Query) (w : Window) → Keeps (WantWindowClose head source w)
+keeps_window_close (SelectHead pick) source w fs t s' f h e = by_plain plain.RightSquare t _ s' _ e (go_on (control_text (WantWindowClose (SelectHead pick) source w)) (HaveSource pick source (Some w)) fs (token.Plain plain.RightSquare) f h (close_select_window (spell_pick pick) (spell_query source) (token.Plain plain.LeftSquare ∷ token.Size w.at ∷ token.Number w.size ∷ token.Plain plain.Advance ∷ token.Number w.advance ∷ token.Plain plain.Tuples ∷ []) (token.Plain plain.RightSquare)))
+keeps_window_close (EachHead at var) source w fs t s' f h e = by_plain plain.RightSquare t _ s' _ e (go_on (control_text (WantWindowClose (EachHead at var) source w)) (WantBody (WindowsHead at var source w)) fs (token.Plain plain.RightSquare) f (h.0, h.2) (behind_source (head_text (EachHead at var)) (spell_query source) (token.Plain plain.LeftSquare ∷ token.Size w.at ∷ token.Number w.size ∷ token.Plain plain.Advance ∷ token.Number w.advance ∷ token.Plain plain.Tuples ∷ []) (token.Plain plain.RightSquare)))
+
+-- ---- groups
+
+pub keeps_by : (pick : Pick) (source : Query) (window : Option Window) (filter : Option Expr) → Keeps (WantBy pick source window filter)
+keeps_by pick source window filter fs t s' f h e = by_by t _ s' _ e (λ n d. by_some _ s' _ d (go_on (groups_text (SelectGroups pick source window filter)) (WantKey (SelectGroups pick source window filter) n) fs (token.By n) f h refl))
+
+pub keeps_key : (head : GroupsHead) (at : ℕ) → Keeps (WantKey head at)
+keeps_key head at fs t s' f h e = by_name t _ s' _ e (λ n d. by_some _ s' _ d (go_on (control_text (WantKey head at)) (WantGroups head at n) fs (token.Name n) f h (append_assoc (groups_text head) (token.By at ∷ []) (token.Name n ∷ []))))
+
+pub keeps_groups : (head : GroupsHead) (at : ℕ) (key : Name) → Keeps (WantGroups head at key)
+keeps_groups head at key fs t s' f h e = by_plain plain.Groups t _ s' _ e (go_on (control_text (WantGroups head at key)) (WantGroupsNumber head at key) fs (token.Plain plain.Groups) f h (append_assoc (groups_text head) (token.By at ∷ token.Name key ∷ []) (token.Plain plain.Groups ∷ [])))
+
+group_select : (p q w x : List Token) (g : Token) (more : List Token) (t : Token) → ((token.Plain plain.Select ∷ (p ++ token.Plain plain.From ∷ (q ++ (w ++ (x ++ g ∷ []))))) ++ more) ++ t ∷ [] ≡ token.Plain plain.Select ∷ (p ++ token.Plain plain.From ∷ (q ++ (w ++ (x ++ g ∷ (more ++ t ∷ [])))))
+group_select p q w x g more t = simp append_assoc
+
+group_each : (q more : List Token) (a b c : Token) (t : Token) → ((a ∷ b ∷ c ∷ q) ++ more) ++ t ∷ [] ≡ a ∷ b ∷ c ∷ (q ++ (more ++ t ∷ []))
+group_each q more a b c t = simp append_assoc
+
+pub keeps_groups_number : (head : GroupsHead) (at : ℕ) (key : Name) → Keeps (WantGroupsNumber head at key)
+keeps_groups_number (SelectGroups pick source window filter) at key fs t s' f h e = by_number t _ s' _ e (λ n d. by_some _ s' _ d (go_on (control_text (WantGroupsNumber (SelectGroups pick source window filter) at key)) (HaveTerm (Select pick source window filter (Some (record { at = at; key = key; groups = n })))) fs (token.Number n) f h (group_select (spell_pick pick) (spell_query source) (spell_if_window window) (spell_filter filter) (token.Plain plain.Group) (token.By at ∷ token.Name key ∷ token.Plain plain.Groups ∷ []) (token.Number n))))
+keeps_groups_number (EachGroups at' var source) at key fs t s' f h e = by_number t _ s' _ e (λ n d. by_some _ s' _ d (go_on (control_text (WantGroupsNumber (EachGroups at' var source) at key)) (WantBody (GroupsHead' at' var source (record { at = at; key = key; groups = n }))) fs (token.Number n) f h (group_each (spell_query source) (token.By at ∷ token.Name key ∷ token.Plain plain.Groups ∷ []) (token.Each at') (token.Name var) (token.Plain plain.In) (token.Number n))))

@@ -1,0 +1,11 @@
+use Rattle.std.proofs.Common.{◌≡◌, ◌++◌, reverse, vec_len}
+use Rattle.std.specs.Prelude.{map}
+use Rattle.gl_query_reader.specs.Meaning.{item_tree, plain_items}
+use Rattle.gl_query_reader.specs.Trees.{items_of}
+use Rattle.gl_query_reader.proofs.meaning.plain_items.Given as goal
+
+abbrev pub invariant-loop-item : goal.invariant-loop-item
+invariant-loop-item l = map item_tree l.items.items ++ plain_items (items_of (reverse l.left.items)) ≡ plain_items (items_of l.fn.written)
+
+abbrev pub decreases-loop-item : goal.decreases-loop-item
+decreases-loop-item l = vec_len l.left

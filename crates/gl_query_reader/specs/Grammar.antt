@@ -1,0 +1,81 @@
+-- Which texts have a statement, and which statement that is.
+use Rattle.std.specs.Prelude.{◌≡◌, ℕ, Bool, true, false, List, [], ◌∷◌, ◌++◌, length, map, Option, Some, None, Result, Ok, Err}
+use Rattle.gl_query.specs.declared.tree.Statement as tree
+use Rattle.gl_query.specs.declared.fault.QueryFault.{QueryFault}
+use Rattle.gl_query.specs.declared.fault.QueryFault.TheVariants as fault
+use Rattle.gl_query_tokens.specs.declared.token.Token.{Token}
+use Rattle.gl_query_tokens.specs.declared.token.Lexeme.{Lexeme}
+use Rattle.gl_query_tokens.specs.Tokens.{tokens_of}
+use Rattle.gl_query_reader.specs.Written.{Statement, IsQuery, spell_statement}
+use Rattle.gl_query_reader.specs.Limits.{none_counted, counted, is_past, keeps_limits}
+use Rattle.gl_query_reader.specs.Meaning.{Statement', statement_meaning, statement_tree}
+use Rattle.gl_query_reader.specs.Mixed.{mixed_in}
+
+-- tokens without where they begin
+abbrev pub bare_tokens : List Lexeme → List Token
+bare_tokens ls = map (λ (l : Lexeme). l.token) ls
+
+-- the tokens spell this statement as it is written, and the grammar derives it
+pub record Derives (tokens : List Token) (w : Statement) : Type 0 where
+  pub grammar : IsQuery w.query
+  pub spelled : spell_statement w ≡ tokens
+
+-- the tokens begin a statement
+abbrev pub CanBegin : List Token → Type 0
+CanBegin tokens = (more : List Token) × (w : Statement) × Derives (tokens ++ more) w
+
+-- the text has this statement: its tokens derive it, pass no limit, and its items go together
+pub record HasStatement (text : List ℕ) (s : Statement') : Type 0 where
+  pub written : Statement
+  pub derived : Derives (bare_tokens (tokens_of text)) written
+  pub limits : keeps_limits none_counted (bare_tokens (tokens_of text)) ≡ true
+  pub items : mixed_in written.query ≡ None
+  pub means : s ≡ statement_meaning written
+
+-- what a function returned is this statement, unless memory ran out
+abbrev pub IsOrMemory : Result tree.Statement QueryFault → Statement' → Type 0
+IsOrMemory (Ok s) m = statement_tree s ≡ m
+IsOrMemory (Err fault.Memory) m = Unit {0}
+IsOrMemory (Err e) m = ⊥
+
+-- why reading stops: no statement goes on with the token at this place, or, at the text's length, what was read is none
+abbrev pub Stops : ℕ → ℕ → List Lexeme → List Lexeme → Type 0
+Stops len at read [] = (at ≡ len) × ((w : Statement) → Derives (bare_tokens read) w → ⊥)
+Stops len at read (l ∷ left) = (at ≡ l.at) × (CanBegin (bare_tokens (read ++ l ∷ [])) → ⊥)
+
+-- the tokens before this place pass no limit, and with the one at it they begin no statement
+pub record IsSyntaxFault (text : List ℕ) (at : ℕ) : Type 0 where
+  pub read : List Lexeme
+  pub left : List Lexeme
+  pub parts : tokens_of text ≡ read ++ left
+  pub limits : keeps_limits none_counted (bare_tokens read) ≡ true
+  pub stops : Stops (length text) at read left
+
+-- the tokens before this place pass no limit, and the one at it does
+pub record IsDepthFault (text : List ℕ) (at : ℕ) : Type 0 where
+  pub read : List Lexeme
+  pub deep : Lexeme
+  pub left : List Lexeme
+  pub parts : tokens_of text ≡ read ++ deep ∷ left
+  pub place : at ≡ deep.at
+  pub limits : keeps_limits none_counted (bare_tokens read) ≡ true
+  pub past : is_past (counted none_counted (bare_tokens (read ++ deep ∷ []))) ≡ true
+
+-- the text would have a statement, but items of a select do not go together
+pub record IsItemsFault (text : List ℕ) (at : ℕ) : Type 0 where
+  pub written : Statement
+  pub derived : Derives (bare_tokens (tokens_of text)) written
+  pub limits : keeps_limits none_counted (bare_tokens (tokens_of text)) ≡ true
+  pub items : mixed_in written.query ≡ Some at
+
+-- what is wrong with a text
+abbrev pub IsFault : List ℕ → QueryFault → Type 0
+IsFault text (fault.Syntax at) = IsSyntaxFault text at
+IsFault text (fault.TooDeep at) = IsDepthFault text at
+IsFault text (fault.MixedItems at) = IsItemsFault text at
+IsFault text fault.Memory = Unit {0}
+IsFault text e = ⊥
+
+-- no tokens have two statements
+abbrev pub HaveOneStatement : Type 0
+HaveOneStatement = (tokens : List Token) (v w : Statement) → Derives tokens v → Derives tokens w → v ≡ w

@@ -1,0 +1,483 @@
+-- Reading a statement from left to right, a token at a time, with what is open on a stack.
+use Rattle.std.specs.Prelude.{ℕ, Bool, true, false, ◌&&◌, List, [], ◌∷◌, ◌++◌, Option, Some, None, option_and_then, nat_lt, nat_le, if◌then◌else◌}
+use Rattle.gl_bits.specs.declared.kind.Kind.{Kind}
+use Rattle.gl_schema.specs.SchemaFaults.{kind_named}
+use Rattle.gl_query.specs.declared.tree.Name.{Name}
+use Rattle.gl_query.specs.declared.tree.Num.{Num}
+use Rattle.gl_query.specs.declared.tree.Op.{Op}
+use Rattle.gl_query.specs.declared.tree.Op.TheVariants as op
+use Rattle.gl_query_tokens.specs.declared.token.Fold.{Fold}
+use Rattle.gl_query_tokens.specs.declared.token.Join.{Join}
+use Rattle.gl_query_tokens.specs.declared.token.Plain.{Plain}
+use Rattle.gl_query_tokens.specs.declared.token.Plain.TheVariants as plain
+use Rattle.gl_query_tokens.specs.declared.token.Token.{Token}
+use Rattle.gl_query_tokens.specs.declared.token.Token.TheVariants as token
+use Rattle.gl_query_tokens.specs.Sorts.{is_plain, name_in, number_in, open_in, size_in, by_in}
+use Rattle.gl_query_reader.specs.declared.written.Window.{Window}
+use Rattle.gl_query_reader.specs.declared.written.Grouping.{Grouping}
+use Rattle.gl_query_reader.specs.Written.{Expr, Column, Number, Letters, Brackets, Cast, Not, Binary, Agg, Count, Fold', Wsum, Item, Bare, Named, Total, Pick, All, Items, Query, Stream, InBrackets, Select, Windows, Groups, Join', Statement, looseness, left_looseness}
+
+-- what reads a source: a select of these items, or an EACH with its variable
+pub data Head : Type 0 where
+  SelectHead : (pick : Pick) → Head
+  EachHead : (at : ℕ) (var : Name) → Head
+
+-- what stands before the bracket of a body
+pub data BodyHead : Type 0 where
+  WindowsHead : (at : ℕ) (var : Name) (source : Query) (window : Window) → BodyHead
+  GroupsHead' : (at : ℕ) (var : Name) (source : Query) (grouping : Grouping) → BodyHead
+
+-- what stands before BY
+pub data GroupsHead : Type 0 where
+  SelectGroups : (pick : Pick) (source : Query) (window : Option Window) (filter : Option Expr) → GroupsHead
+  EachGroups : (at : ℕ) (var : Name) (source : Query) → GroupsHead
+
+-- an expression or an aggregate that waits for its name
+pub data Unnamed : Type 0 where
+  UnnamedExpr : (e : Expr) → Unnamed
+  UnnamedAgg : (agg : Agg) → Unnamed
+
+-- what is open: eight frames wait for an expression, four for a query
+pub data Frame : Type 0 where
+  LeftOf : (l : Expr) (o : Op) (at : ℕ) → Frame
+  NotOf : (at : ℕ) → Frame
+  BracketOf : (at : ℕ) → Frame
+  InCast : (at open' : ℕ) → Frame
+  InItem : (items : List Item) → Frame
+  InFold : (items : List Item) (fold : Fold) (at open' : ℕ) → Frame
+  InWsum : (items : List Item) (at open' : ℕ) → Frame
+  InFilter : (pick : Pick) (source : Query) (window : Option Window) → Frame
+  JoinOf : (l : Query) (join : Join) (at : ℕ) → Frame
+  InQuery : (at : ℕ) → Frame
+  InSource : (head : Head) (at : ℕ) → Frame
+  InBody : (head : BodyHead) (open' : ℕ) → Frame
+
+-- what was read last, and what may follow
+pub data Control : Type 0 where
+  WantTerm : Control
+  WantItem : (items : List Item) → Control
+  WantOperand : Control
+  HaveExpr : (last' : Expr) → Control
+  WantCastOpen : (at : ℕ) → Control
+  WantKind : (at open' : ℕ) (inner : Expr) → Control
+  WantCastClose : (at open' : ℕ) (inner : Expr) (word : Name) (kind : Kind) → Control
+  WantCountOpen : (items : List Item) (at : ℕ) → Control
+  WantCountClose : (items : List Item) (at open' : ℕ) → Control
+  WantFoldOpen : (items : List Item) (fold : Fold) (at : ℕ) → Control
+  WantWsumOpen : (items : List Item) (at : ℕ) → Control
+  WantWeightsOpen : (items : List Item) (at open' : ℕ) (arg : Expr) → Control
+  WantWeight : (items : List Item) (at open' : ℕ) (arg : Expr) (weights : List Num) → Control
+  HaveWeight : (items : List Item) (at open' : ℕ) (arg : Expr) (weights : List Num) → Control
+  WantWsumClose : (items : List Item) (at open' : ℕ) (arg : Expr) (weights : List Num) → Control
+  WantAs : (items : List Item) (agg : Agg) → Control
+  WantItemName : (items : List Item) (unnamed : Unnamed) → Control
+  HaveItem : (items : List Item) → Control
+  WantFrom : (at : ℕ) → Control
+  WantSource : (head : Head) → Control
+  HaveSource : (pick : Pick) (source : Query) (window : Option Window) → Control
+  HaveEachSource : (at : ℕ) (var : Name) (source : Query) → Control
+  WantSize : (head : Head) (source : Query) → Control
+  WantSizeNumber : (head : Head) (source : Query) (at : ℕ) → Control
+  WantAdvance : (head : Head) (source : Query) (at : ℕ) (size : Num) → Control
+  WantAdvanceNumber : (head : Head) (source : Query) (at : ℕ) (size : Num) → Control
+  WantTuples : (head : Head) (source : Query) (window : Window) → Control
+  WantWindowClose : (head : Head) (source : Query) (window : Window) → Control
+  WantBy : (pick : Pick) (source : Query) (window : Option Window) (filter : Option Expr) → Control
+  WantKey : (head : GroupsHead) (at : ℕ) → Control
+  WantGroups : (head : GroupsHead) (at : ℕ) (key : Name) → Control
+  WantGroupsNumber : (head : GroupsHead) (at : ℕ) (key : Name) → Control
+  WantVar : (at : ℕ) → Control
+  WantIn : (at : ℕ) (var : Name) → Control
+  WantBody : (head : BodyHead) → Control
+  HaveTerm : (term : Query) → Control
+  WantName : (query : Query) → Control
+  HaveName : (query : Query) (name : Name) → Control
+  WantEnd : (query : Query) (name : Name) → Control
+
+-- the innermost frame stands first
+pub record State : Type 0 where
+  pub control : Control
+  pub frames : List Frame
+
+abbrev pub start : State
+start = record { control = WantTerm; frames = [] }
+
+abbrev pub goes : Control → List Frame → Option State
+goes control fs = Some (record { control = control; frames = fs })
+
+-- ---- expressions
+
+-- what is looser than all that may stand here
+abbrev pub room_in : Frame → ℕ
+room_in (LeftOf l o at) = looseness o
+room_in (NotOf at) = 4
+room_in f = 7
+
+abbrev pub room : List Frame → ℕ
+room [] = 7
+room (f ∷ fs) = room_in f
+
+abbrev pub Reduced : Type 0
+Reduced = List Frame × Expr
+
+-- whether a frame is an operator that binds at least as tight
+abbrev pub binds : ℕ → Frame → Bool
+binds p (LeftOf l o at) = nat_le (looseness o) p
+binds p (NotOf at) = nat_le 4 p
+binds p f = false
+
+-- an operator with its operands
+abbrev pub applied : Frame → Expr → Expr
+applied (LeftOf l o at) e = Binary o at l e
+applied (NotOf at) e = Not at e
+applied f e = e
+
+-- an expression with the operators before it that bind at least as tight
+unfoldable pub reduced : ℕ → List Frame → Expr → Reduced
+reduced p [] e = ([], e)
+reduced p (f ∷ fs) e = if binds p f then reduced p fs (applied f e) else (f ∷ fs, e)
+
+abbrev pub with_operator : Op → ℕ → Reduced → Option State
+with_operator o at r = if nat_lt (looseness o) (room r.0) then goes WantOperand (LeftOf r.1 o at ∷ r.0) else None
+
+-- NOT stands where an operand of AND and OR may
+abbrev pub with_not : ℕ → List Frame → Option State
+with_not at fs = if nat_lt 4 (room fs) then goes WantOperand (NotOf at ∷ fs) else None
+
+abbrev pub want_operand : List Frame → Token → Option State
+want_operand fs (token.Name name) = goes (HaveExpr (Column name)) fs
+want_operand fs (token.Number n) = goes (HaveExpr (Number n)) fs
+want_operand fs (token.Letters text at) = goes (HaveExpr (Letters text at)) fs
+want_operand fs (token.Open at) = goes WantOperand (BracketOf at ∷ fs)
+want_operand fs (token.Cast at) = goes (WantCastOpen at) fs
+want_operand fs (token.Not at) = with_not at fs
+want_operand fs t = None
+
+abbrev pub want_cast_open : List Frame → ℕ → Token → Option State
+want_cast_open fs at t = option_and_then (λ n. goes WantOperand (InCast at n ∷ fs)) (open_in t)
+
+abbrev pub want_kind : List Frame → ℕ → ℕ → Expr → Token → Option State
+want_kind fs at open' e t = option_and_then (λ word. option_and_then (λ kind. goes (WantCastClose at open' e word kind) fs) (kind_named word.text)) (name_in t)
+
+abbrev pub want_cast_close : List Frame → ℕ → ℕ → Expr → Name → Kind → Token → Option State
+want_cast_close fs at open' e word kind t = if is_plain plain.Close t then goes (HaveExpr (Cast at open' e word kind)) fs else None
+
+-- ---- queries
+
+-- a term joins what stands before it
+abbrev pub Joined : Type 0
+Joined = List Frame × Query
+
+abbrev pub is_join : Frame → Bool
+is_join (JoinOf l join at) = true
+is_join f = false
+
+abbrev pub join_with : Frame → Query → Query
+join_with (JoinOf l join at) q = Join' join at l q
+join_with f q = q
+
+abbrev pub joined : List Frame → Query → Joined
+joined [] q = ([], q)
+joined (f ∷ fs) q = if is_join f then (fs, join_with f q) else (f ∷ fs, q)
+
+abbrev pub body_of : BodyHead → ℕ → Query → Query
+body_of (WindowsHead at var source window) open' q = Windows at var source window open' q
+body_of (GroupsHead' at var source grouping) open' q = Groups at var source grouping open' q
+
+-- what may stand behind a source
+abbrev pub after_source : Head → Query → Control
+after_source (SelectHead pick) source = HaveSource pick source None
+after_source (EachHead at var) source = HaveEachSource at var source
+
+abbrev pub close_query : List Frame → Query → Option State
+close_query (InQuery at ∷ fs) q = goes (HaveTerm (InBrackets at q)) fs
+close_query (InSource head at ∷ fs) q = goes (after_source head (InBrackets at q)) fs
+close_query (InBody head open' ∷ fs) q = goes (HaveTerm (body_of head open' q)) fs
+close_query fs q = None
+
+abbrev pub end_query : List Frame → Query → Option State
+end_query [] q = goes (WantName q) []
+end_query (f ∷ fs) q = None
+
+abbrev pub after_whole : List Frame → Query → Plain → Option State
+after_whole fs q plain.Close = close_query fs q
+after_whole fs q plain.Into = end_query fs q
+after_whole fs q p = None
+
+-- what stands behind a query
+abbrev pub after_query : List Frame → Query → Token → Option State
+after_query fs q (token.Join join at) = goes WantTerm (JoinOf q join at ∷ fs)
+after_query fs q (token.Plain p) = after_whole fs q p
+after_query fs q t = None
+
+-- what stands behind a term
+abbrev pub have_term : List Frame → Query → Token → Option State
+have_term fs q t = let r = joined fs q in after_query r.0 r.1 t
+
+-- ---- items
+
+abbrev pub none_yet : List Item → Bool
+none_yet [] = true
+none_yet (i ∷ is) = false
+
+abbrev pub is_star : Op → Bool
+is_star op.Mul = true
+is_star o = false
+
+-- `*` stands for all columns in place of the first item
+abbrev pub want_all : Op → List Item → ℕ → List Frame → Option State
+want_all o items at fs = if is_star o && none_yet items then goes (WantFrom at) fs else None
+
+-- whether a token is `*` or begins an aggregate
+abbrev pub begins_agg : Token → Bool
+begins_agg (token.Operator o at) = true
+begins_agg (token.Count at) = true
+begins_agg (token.Fold fold at) = true
+begins_agg (token.Wsum at) = true
+begins_agg t = false
+
+abbrev pub want_agg : List Item → List Frame → Token → Option State
+want_agg items fs (token.Operator o at) = want_all o items at fs
+want_agg items fs (token.Count at) = goes (WantCountOpen items at) fs
+want_agg items fs (token.Fold fold at) = goes (WantFoldOpen items fold at) fs
+want_agg items fs (token.Wsum at) = goes (WantWsumOpen items at) fs
+want_agg items fs t = None
+
+abbrev pub want_item : List Item → List Frame → Token → Option State
+want_item items fs t = if begins_agg t then want_agg items fs t else want_operand (InItem items ∷ fs) t
+
+abbrev pub want_count_open : List Frame → List Item → ℕ → Token → Option State
+want_count_open fs items at t = option_and_then (λ n. goes (WantCountClose items at n) fs) (open_in t)
+
+abbrev pub want_count_close : List Frame → List Item → ℕ → ℕ → Token → Option State
+want_count_close fs items at open' t = if is_plain plain.Close t then goes (WantAs items (Count at open')) fs else None
+
+abbrev pub want_fold_open : List Frame → List Item → Fold → ℕ → Token → Option State
+want_fold_open fs items fold at t = option_and_then (λ n. goes WantOperand (InFold items fold at n ∷ fs)) (open_in t)
+
+abbrev pub want_wsum_open : List Frame → List Item → ℕ → Token → Option State
+want_wsum_open fs items at t = option_and_then (λ n. goes WantOperand (InWsum items at n ∷ fs)) (open_in t)
+
+abbrev pub want_weights_open : List Frame → List Item → ℕ → ℕ → Expr → Token → Option State
+want_weights_open fs items at open' e t = if is_plain plain.LeftSquare t then goes (WantWeight items at open' e []) fs else None
+
+abbrev pub want_weight : List Frame → List Item → ℕ → ℕ → Expr → List Num → Token → Option State
+want_weight fs items at open' e ns t = option_and_then (λ n. goes (HaveWeight items at open' e (ns ++ n ∷ [])) fs) (number_in t)
+
+abbrev pub have_weight : List Frame → List Item → ℕ → ℕ → Expr → List Num → Token → Option State
+have_weight fs items at open' e ns t = if is_plain plain.Comma t then goes (WantWeight items at open' e ns) fs else
+    if is_plain plain.RightSquare t then goes (WantWsumClose items at open' e ns) fs else None
+
+abbrev pub want_wsum_close : List Frame → List Item → ℕ → ℕ → Expr → List Num → Token → Option State
+want_wsum_close fs items at open' e ns t = if is_plain plain.Close t then goes (WantAs items (Wsum at open' e ns)) fs else None
+
+abbrev pub want_as : List Frame → List Item → Agg → Token → Option State
+want_as fs items agg t = if is_plain plain.As t then goes (WantItemName items (UnnamedAgg agg)) fs else None
+
+abbrev pub under_name : Unnamed → Name → Item
+under_name (UnnamedExpr e) name = Named e name
+under_name (UnnamedAgg agg) name = Total agg name
+
+abbrev pub want_item_name : List Frame → List Item → Unnamed → Token → Option State
+want_item_name fs items u t = option_and_then (λ name. goes (HaveItem (items ++ under_name u name ∷ [])) fs) (name_in t)
+
+-- what stands behind an item
+abbrev pub have_item : List Frame → List Item → Token → Option State
+have_item fs items t = if is_plain plain.Comma t then goes (WantItem items) fs else
+    if is_plain plain.From t then goes (WantSource (SelectHead (Items items))) fs else None
+
+abbrev pub want_from : List Frame → ℕ → Token → Option State
+want_from fs at t = if is_plain plain.From t then goes (WantSource (SelectHead (All at))) fs else None
+
+-- ---- what stands behind an expression
+
+-- a column alone is an item under its own name
+abbrev pub bare : Expr → Option Name
+bare (Column name) = Some name
+bare e = None
+
+abbrev pub after_item : List Frame → List Item → Expr → Token → Option State
+after_item fs items e t = if is_plain plain.As t then goes (WantItemName items (UnnamedExpr e)) fs else
+    option_and_then (λ name. have_item fs (items ++ Bare name ∷ []) t) (bare e)
+
+abbrev pub after_filter : List Frame → Pick → Query → Option Window → Expr → Token → Option State
+after_filter fs pick source window e t = if is_plain plain.Group t then goes (WantBy pick source window (Some e)) fs else
+    have_term fs (Select pick source window (Some e) None) t
+
+abbrev pub after_brackets : List Frame → ℕ → Expr → Token → Option State
+after_brackets fs at e t = if is_plain plain.Close t then goes (HaveExpr (Brackets at e)) fs else None
+
+abbrev pub after_cast : List Frame → ℕ → ℕ → Expr → Token → Option State
+after_cast fs at open' e t = if is_plain plain.As t then goes (WantKind at open' e) fs else None
+
+abbrev pub after_fold : List Frame → List Item → Fold → ℕ → ℕ → Expr → Token → Option State
+after_fold fs items fold at open' e t = if is_plain plain.Close t then goes (WantAs items (Fold' fold at open' e)) fs else None
+
+abbrev pub after_wsum : List Frame → List Item → ℕ → ℕ → Expr → Token → Option State
+after_wsum fs items at open' e t = if is_plain plain.Comma t then goes (WantWeightsOpen items at open' e) fs else None
+
+-- what ends an expression, by what it stands in
+abbrev pub after_expr : List Frame → Expr → Token → Option State
+after_expr [] e t = None
+after_expr (BracketOf at ∷ fs) e t = after_brackets fs at e t
+after_expr (InCast at open' ∷ fs) e t = after_cast fs at open' e t
+after_expr (InItem items ∷ fs) e t = after_item fs items e t
+after_expr (InFold items fold at open' ∷ fs) e t = after_fold fs items fold at open' e t
+after_expr (InWsum items at open' ∷ fs) e t = after_wsum fs items at open' e t
+after_expr (InFilter pick source window ∷ fs) e t = after_filter fs pick source window e t
+after_expr (f ∷ fs) e t = None
+
+abbrev pub is_operator : Token → Bool
+is_operator (token.Operator o at) = true
+is_operator t = false
+
+abbrev pub have_operator : List Frame → Expr → Token → Option State
+have_operator fs e (token.Operator o at) = with_operator o at (reduced (left_looseness o) fs e)
+have_operator fs e t = None
+
+-- what stands behind an expression
+abbrev pub have_expr : List Frame → Expr → Token → Option State
+have_expr fs e t = if is_operator t then have_operator fs e t else (let r = reduced 6 fs e in after_expr r.0 r.1 t)
+
+-- ---- sources, windows and groups
+
+abbrev pub want_source : List Frame → Head → Token → Option State
+want_source fs head (token.Name name) = goes (after_source head (Stream name)) fs
+want_source fs head (token.Open at) = goes WantTerm (InSource head at ∷ fs)
+want_source fs head t = None
+
+-- a window stands at most once
+abbrev pub begin_window : List Frame → Pick → Query → Option Window → Option State
+begin_window fs pick source None = goes (WantSize (SelectHead pick) source) fs
+begin_window fs pick source (Some w) = None
+
+abbrev pub end_source : List Frame → Pick → Query → Option Window → Token → Option State
+end_source fs pick source window t = have_term fs (Select pick source window None None) t
+
+abbrev pub have_source : List Frame → Pick → Query → Option Window → Token → Option State
+have_source fs pick source window t = if is_plain plain.LeftSquare t then begin_window fs pick source window else
+    if is_plain plain.Where t then goes WantOperand (InFilter pick source window ∷ fs) else
+    if is_plain plain.Group t then goes (WantBy pick source window None) fs else end_source fs pick source window t
+
+abbrev pub have_each_source : List Frame → ℕ → Name → Query → Token → Option State
+have_each_source fs at var source t = if is_plain plain.LeftSquare t then goes (WantSize (EachHead at var) source) fs else
+    option_and_then (λ n. goes (WantKey (EachGroups at var source) n) fs) (by_in t)
+
+abbrev pub want_size : List Frame → Head → Query → Token → Option State
+want_size fs head source t = option_and_then (λ n. goes (WantSizeNumber head source n) fs) (size_in t)
+
+abbrev pub want_size_number : List Frame → Head → Query → ℕ → Token → Option State
+want_size_number fs head source at t = option_and_then (λ n. goes (WantAdvance head source at n) fs) (number_in t)
+
+abbrev pub want_advance : List Frame → Head → Query → ℕ → Num → Token → Option State
+want_advance fs head source at size t = if is_plain plain.Advance t then goes (WantAdvanceNumber head source at size) fs else None
+
+abbrev pub want_advance_number : List Frame → Head → Query → ℕ → Num → Token → Option State
+want_advance_number fs head source at size t = option_and_then (λ n. goes (WantTuples head source (record { at = at; size = size; advance = n })) fs) (number_in t)
+
+abbrev pub want_tuples : List Frame → Head → Query → Window → Token → Option State
+want_tuples fs head source window t = if is_plain plain.Tuples t then goes (WantWindowClose head source window) fs else None
+
+abbrev pub after_window : Head → Query → Window → Control
+after_window (SelectHead pick) source window = HaveSource pick source (Some window)
+after_window (EachHead at var) source window = WantBody (WindowsHead at var source window)
+
+abbrev pub want_window_close : List Frame → Head → Query → Window → Token → Option State
+want_window_close fs head source window t = if is_plain plain.RightSquare t then goes (after_window head source window) fs else None
+
+abbrev pub want_by : List Frame → Pick → Query → Option Window → Option Expr → Token → Option State
+want_by fs pick source window filter t = option_and_then (λ n. goes (WantKey (SelectGroups pick source window filter) n) fs) (by_in t)
+
+abbrev pub want_key : List Frame → GroupsHead → ℕ → Token → Option State
+want_key fs head at t = option_and_then (λ key. goes (WantGroups head at key) fs) (name_in t)
+
+abbrev pub want_groups : List Frame → GroupsHead → ℕ → Name → Token → Option State
+want_groups fs head at key t = if is_plain plain.Groups t then goes (WantGroupsNumber head at key) fs else None
+
+abbrev pub after_groups : GroupsHead → Grouping → Control
+after_groups (SelectGroups pick source window filter) g = HaveTerm (Select pick source window filter (Some g))
+after_groups (EachGroups at var source) g = WantBody (GroupsHead' at var source g)
+
+abbrev pub want_groups_number : List Frame → GroupsHead → ℕ → Name → Token → Option State
+want_groups_number fs head at key t = option_and_then (λ n. goes (after_groups head (record { at = at; key = key; groups = n })) fs) (number_in t)
+
+-- ---- terms and the statement
+
+abbrev pub begin_select : List Frame → Plain → Option State
+begin_select fs plain.Select = goes (WantItem []) fs
+begin_select fs p = None
+
+abbrev pub want_term : List Frame → Token → Option State
+want_term fs (token.Plain p) = begin_select fs p
+want_term fs (token.Each at) = goes (WantVar at) fs
+want_term fs (token.Open at) = goes WantTerm (InQuery at ∷ fs)
+want_term fs t = None
+
+abbrev pub want_var : List Frame → ℕ → Token → Option State
+want_var fs at t = option_and_then (λ name. goes (WantIn at name) fs) (name_in t)
+
+abbrev pub want_in : List Frame → ℕ → Name → Token → Option State
+want_in fs at var t = if is_plain plain.In t then goes (WantSource (EachHead at var)) fs else None
+
+abbrev pub want_body : List Frame → BodyHead → Token → Option State
+want_body fs head t = option_and_then (λ n. goes WantTerm (InBody head n ∷ fs)) (open_in t)
+
+abbrev pub want_name : List Frame → Query → Token → Option State
+want_name fs q t = option_and_then (λ name. goes (HaveName q name) fs) (name_in t)
+
+abbrev pub have_name : List Frame → Query → Name → Token → Option State
+have_name fs q name t = if is_plain plain.Semicolon t then goes (WantEnd q name) fs else None
+
+abbrev pub step_at : Control → List Frame → Token → Option State
+step_at WantTerm fs t = want_term fs t
+step_at (WantVar at) fs t = want_var fs at t
+step_at (WantIn at var) fs t = want_in fs at var t
+step_at (WantBody head) fs t = want_body fs head t
+step_at (HaveTerm q) fs t = have_term fs q t
+step_at (WantName q) fs t = want_name fs q t
+step_at (HaveName q name) fs t = have_name fs q name t
+step_at (WantSource head) fs t = want_source fs head t
+step_at (HaveSource pick source window) fs t = have_source fs pick source window t
+step_at (HaveEachSource at var source) fs t = have_each_source fs at var source t
+step_at (WantSize head source) fs t = want_size fs head source t
+step_at (WantSizeNumber head source at) fs t = want_size_number fs head source at t
+step_at (WantAdvance head source at size) fs t = want_advance fs head source at size t
+step_at (WantAdvanceNumber head source at size) fs t = want_advance_number fs head source at size t
+step_at (WantTuples head source window) fs t = want_tuples fs head source window t
+step_at (WantWindowClose head source window) fs t = want_window_close fs head source window t
+step_at (WantBy pick source window filter) fs t = want_by fs pick source window filter t
+step_at (WantKey head at) fs t = want_key fs head at t
+step_at (WantGroups head at key) fs t = want_groups fs head at key t
+step_at (WantGroupsNumber head at key) fs t = want_groups_number fs head at key t
+step_at (WantItem items) fs t = want_item items fs t
+step_at WantOperand fs t = want_operand fs t
+step_at (HaveExpr e) fs t = have_expr fs e t
+step_at (WantCastOpen at) fs t = want_cast_open fs at t
+step_at (WantKind at open' e) fs t = want_kind fs at open' e t
+step_at (WantCastClose at open' e word kind) fs t = want_cast_close fs at open' e word kind t
+step_at (WantCountOpen items at) fs t = want_count_open fs items at t
+step_at (WantCountClose items at open') fs t = want_count_close fs items at open' t
+step_at (WantFoldOpen items fold at) fs t = want_fold_open fs items fold at t
+step_at (WantWsumOpen items at) fs t = want_wsum_open fs items at t
+step_at (WantWeightsOpen items at open' e) fs t = want_weights_open fs items at open' e t
+step_at (WantWeight items at open' e ns) fs t = want_weight fs items at open' e ns t
+step_at (HaveWeight items at open' e ns) fs t = have_weight fs items at open' e ns t
+step_at (WantWsumClose items at open' e ns) fs t = want_wsum_close fs items at open' e ns t
+step_at (WantAs items agg) fs t = want_as fs items agg t
+step_at (WantItemName items u) fs t = want_item_name fs items u t
+step_at (HaveItem items) fs t = have_item fs items t
+step_at (WantFrom at) fs t = want_from fs at t
+step_at (WantEnd q name) fs t = None
+
+-- the state behind a token that can stand there
+unfoldable pub step : State → Token → Option State
+step s t = step_at s.control s.frames t
+
+abbrev pub finish_at : Control → Option Statement
+finish_at (HaveName q name) = Some (record { query = q; name = name; closed = false })
+finish_at (WantEnd q name) = Some (record { query = q; name = name; closed = true })
+finish_at c = None
+
+-- the statement, where it may end here
+unfoldable pub finish : State → Option Statement
+finish s = finish_at s.control

@@ -1,0 +1,77 @@
+-- Which items may stand in one select.
+use Rattle.std.specs.Prelude.{ℕ, Bool, true, false, not, List, [], ◌∷◌, Option, Some, None, bytes_eq, nat_le, if◌then◌else◌}
+use Rattle.gl_query.specs.declared.tree.Name.{Name}
+use Rattle.gl_query_reader.specs.declared.written.Grouping.{Grouping}
+use Rattle.gl_query_reader.specs.Written.{Expr, Column, Number, Letters, Brackets, Cast, Not, Binary, Agg, Count, Fold', Wsum, Item, Bare, Named, Total, Pick, All, Items, Query, Stream, InBrackets, Select, Windows, Groups, Join'}
+use Rattle.gl_query_reader.specs.Meaning.{is_total}
+
+-- the place of an expression's first token
+abbrev pub first_at : Expr → ℕ
+first_at (Column name) = name.at
+first_at (Number n) = n.at
+first_at (Letters text at) = at
+first_at (Brackets at e) = at
+first_at (Cast at open' e word kind) = at
+first_at (Not at e) = at
+first_at (Binary o at l r) = first_at l
+
+abbrev pub agg_at : Agg → ℕ
+agg_at (Count at open') = at
+agg_at (Fold' fold at open' e) = at
+agg_at (Wsum at open' e ns) = at
+
+abbrev pub item_at : Item → ℕ
+item_at (Bare name) = name.at
+item_at (Named e name) = first_at e
+item_at (Total agg name) = agg_at agg
+
+abbrev pub same : Bool → Bool → Bool
+same true b = b
+same false b = not b
+
+-- the first item that is not of this sort
+abbrev pub first_other : Bool → List Item → Option ℕ
+first_other sort [] = None
+first_other sort (i ∷ is) = if same sort (is_total i) then first_other sort is else Some (item_at i)
+
+abbrev pub is_key : Name → Item → Bool
+is_key key (Bare name) = bytes_eq name.text key.text
+is_key key (Named e name) = false
+is_key key (Total agg name) = false
+
+-- behind the key stands at least one item, and all are aggregates
+abbrev pub behind_key : Grouping → List Item → Option ℕ
+behind_key g [] = Some g.at
+behind_key g (i ∷ is) = first_other true (i ∷ is)
+
+-- without groups all items are of the first one's sort
+abbrev pub mixed_plain : List Item → Option ℕ
+mixed_plain [] = None
+mixed_plain (i ∷ is) = first_other (is_total i) is
+
+-- with groups the first item is the key alone
+abbrev pub mixed_groups : List Item → Grouping → Option ℕ
+mixed_groups [] g = Some g.at
+mixed_groups (i ∷ is) g = if is_key g.key i then behind_key g is else Some (item_at i)
+
+-- the item that shows that a select's items do not go together
+abbrev pub mixed_pick : Pick → Option Grouping → Option ℕ
+mixed_pick (All at) None = None
+mixed_pick (All at) (Some g) = Some at
+mixed_pick (Items items) None = mixed_plain items
+mixed_pick (Items items) (Some g) = mixed_groups items g
+
+-- the smaller of two places
+abbrev pub least : Option ℕ → Option ℕ → Option ℕ
+least None b = b
+least (Some a) None = Some a
+least (Some a) (Some b) = if nat_le a b then Some a else Some b
+
+-- the first such item in the text
+abbrev pub mixed_in : Query → Option ℕ
+mixed_in (Stream name) = None
+mixed_in (InBrackets at q) = mixed_in q
+mixed_in (Select pick source window filter grouping) = least (mixed_pick pick grouping) (mixed_in source)
+mixed_in (Windows at var source window open' body) = least (mixed_in source) (mixed_in body)
+mixed_in (Groups at var source grouping open' body) = least (mixed_in source) (mixed_in body)
+mixed_in (Join' join at l r) = least (mixed_in l) (mixed_in r)

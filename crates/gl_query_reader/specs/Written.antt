@@ -1,0 +1,230 @@
+-- Statements as they are written, and the tokens that spell them.
+use Rattle.std.specs.Prelude.{◌≡◌, ℕ, ◌+◌, ◌<◌, ◌≤◌, Bool, true, false, List, [], ◌∷◌, ◌++◌, Option, Some, None}
+use Rattle.gl_bits.specs.declared.kind.Kind.{Kind}
+use Rattle.gl_schema.specs.SchemaFaults.{kind_named}
+use Rattle.gl_query.specs.declared.tree.Name.{Name}
+use Rattle.gl_query.specs.declared.tree.Num.{Num}
+use Rattle.gl_query.specs.declared.tree.Op.{Op}
+use Rattle.gl_query.specs.declared.tree.Op.TheVariants as op
+use Rattle.gl_query_tokens.specs.declared.token.Fold.{Fold}
+use Rattle.gl_query_tokens.specs.declared.token.Join.{Join}
+use Rattle.gl_query_tokens.specs.declared.token.Plain.TheVariants as plain
+use Rattle.gl_query_tokens.specs.declared.token.Token.{Token}
+use Rattle.gl_query_tokens.specs.declared.token.Token.TheVariants as token
+use Rattle.gl_query_reader.specs.declared.written.Window.{Window}
+use Rattle.gl_query_reader.specs.declared.written.Grouping.{Grouping}
+
+-- an expression as it is written, brackets included
+pub data Expr : Type 0 where
+  Column : (name : Name) → Expr
+  Number : (n : Num) → Expr
+  Letters : (text : List ℕ) (at : ℕ) → Expr
+  Brackets : (at : ℕ) (e : Expr) → Expr
+  Cast : (at open' : ℕ) (e : Expr) (word : Name) (kind : Kind) → Expr
+  Not : (at : ℕ) (e : Expr) → Expr
+  Binary : (o : Op) (at : ℕ) (l r : Expr) → Expr
+
+-- an aggregate as it is written
+pub data Agg : Type 0 where
+  Count : (at open' : ℕ) → Agg
+  Fold' : (fold : Fold) (at open' : ℕ) (e : Expr) → Agg
+  Wsum : (at open' : ℕ) (e : Expr) (weights : List Num) → Agg
+
+-- an item: a column under its own name, an expression or an aggregate under a name
+pub data Item : Type 0 where
+  Bare : (name : Name) → Item
+  Named : (e : Expr) (name : Name) → Item
+  Total : (agg : Agg) (name : Name) → Item
+
+-- what a select picks
+pub data Pick : Type 0 where
+  All : (at : ℕ) → Pick
+  Items : (items : List Item) → Pick
+
+-- a query as it is written: a stream is a source alone, and other sources and bodies stand in brackets
+pub data Query : Type 0 where
+  Stream : (name : Name) → Query
+  InBrackets : (at : ℕ) (q : Query) → Query
+  Select : (pick : Pick) (source : Query) (window : Option Window) (filter : Option Expr) (grouping : Option Grouping) → Query
+  Windows : (at : ℕ) (var : Name) (source : Query) (window : Window) (open' : ℕ) (body : Query) → Query
+  Groups : (at : ℕ) (var : Name) (source : Query) (grouping : Grouping) (open' : ℕ) (body : Query) → Query
+  Join' : (join : Join) (at : ℕ) (l r : Query) → Query
+
+pub record Statement : Type 0 where
+  pub query : Query
+  pub name : Name
+  pub closed : Bool
+
+-- ---- the grammar
+
+-- how loosely an operator binds
+abbrev pub looseness : Op → ℕ
+looseness op.Mul = 1
+looseness op.Add = 2
+looseness op.Sub = 2
+looseness op.Eq = 3
+looseness op.Ne = 3
+looseness op.Lt = 3
+looseness op.Le = 3
+looseness op.Gt = 3
+looseness op.Ge = 3
+looseness op.And = 5
+looseness op.Or = 6
+
+-- how loose its left side may be: comparisons do not follow one another, all else groups to the left
+abbrev pub left_looseness : Op → ℕ
+left_looseness op.Mul = 1
+left_looseness op.Add = 2
+left_looseness op.Sub = 2
+left_looseness op.Eq = 2
+left_looseness op.Ne = 2
+left_looseness op.Lt = 2
+left_looseness op.Le = 2
+left_looseness op.Gt = 2
+left_looseness op.Ge = 2
+left_looseness op.And = 5
+left_looseness op.Or = 6
+
+-- how loose an expression is: NOT stands between comparisons and AND
+abbrev pub level : Expr → ℕ
+level (Column name) = 0
+level (Number n) = 0
+level (Letters text at) = 0
+level (Brackets at e) = 0
+level (Cast at open' e word kind) = 0
+level (Not at e) = 4
+level (Binary o at l r) = looseness o
+
+abbrev pub IsExpr : Expr → Type 0
+IsExpr (Column name) = Unit {0}
+IsExpr (Number n) = Unit {0}
+IsExpr (Letters text at) = Unit {0}
+IsExpr (Brackets at e) = IsExpr e
+IsExpr (Cast at open' e word kind) = IsExpr e × (kind_named word.text ≡ Some kind)
+IsExpr (Not at e) = (level e < 4) × IsExpr e
+IsExpr (Binary o at l r) = (level l ≤ left_looseness o) × (level r < looseness o) × IsExpr l × IsExpr r
+
+-- WSUM has at least one weight
+abbrev pub IsAgg : Agg → Type 0
+IsAgg (Count at open') = Unit {0}
+IsAgg (Fold' fold at open' e) = IsExpr e
+IsAgg (Wsum at open' e []) = ⊥
+IsAgg (Wsum at open' e (n ∷ ns)) = IsExpr e
+
+abbrev pub IsItem : Item → Type 0
+IsItem (Bare name) = Unit {0}
+IsItem (Named e name) = IsExpr e
+IsItem (Total agg name) = IsAgg agg
+
+abbrev pub AreItems : List Item → Type 0
+AreItems [] = Unit {0}
+AreItems (i ∷ is) = IsItem i × AreItems is
+
+-- a select has at least one item, or `*`
+abbrev pub IsPick : Pick → Type 0
+IsPick (All at) = Unit {0}
+IsPick (Items []) = ⊥
+IsPick (Items (i ∷ is)) = IsItem i × AreItems is
+
+abbrev pub IsFilter : Option Expr → Type 0
+IsFilter None = Unit {0}
+IsFilter (Some e) = IsExpr e
+
+-- a source is a stream or stands in brackets, and so does a term of UNION and CONCAT, or it is a select or an EACH
+abbrev mutual
+  pub IsQuery : Query → Type 0
+  IsQuery (Stream name) = ⊥
+  IsQuery (InBrackets at q) = IsQuery q
+  IsQuery (Select pick source window filter grouping) = IsPick pick × IsSource source × IsFilter filter
+  IsQuery (Windows at var source window open' body) = IsSource source × IsQuery body
+  IsQuery (Groups at var source grouping open' body) = IsSource source × IsQuery body
+  IsQuery (Join' join at l r) = IsQuery l × IsTerm r
+
+  pub IsSource : Query → Type 0
+  IsSource (Stream name) = Unit {0}
+  IsSource (InBrackets at q) = IsQuery q
+  IsSource (Select pick source window filter grouping) = ⊥
+  IsSource (Windows at var source window open' body) = ⊥
+  IsSource (Groups at var source grouping open' body) = ⊥
+  IsSource (Join' join at l r) = ⊥
+
+  pub IsTerm : Query → Type 0
+  IsTerm (Stream name) = ⊥
+  IsTerm (InBrackets at q) = IsQuery q
+  IsTerm (Select pick source window filter grouping) = IsPick pick × IsSource source × IsFilter filter
+  IsTerm (Windows at var source window open' body) = IsSource source × IsQuery body
+  IsTerm (Groups at var source grouping open' body) = IsSource source × IsQuery body
+  IsTerm (Join' join at l r) = ⊥
+
+-- ---- the tokens
+
+-- an operator's token
+abbrev pub spell : Expr → List Token
+spell (Column name) = token.Name name ∷ []
+spell (Number n) = token.Number n ∷ []
+spell (Letters text at) = token.Letters text at ∷ []
+spell (Brackets at e) = token.Open at ∷ (spell e ++ token.Plain plain.Close ∷ [])
+spell (Cast at open' e word kind) = token.Cast at ∷ token.Open open' ∷ (spell e ++ token.Plain plain.As ∷ token.Name word ∷ token.Plain plain.Close ∷ [])
+spell (Not at e) = token.Not at ∷ spell e
+spell (Binary o at l r) = spell l ++ token.Operator o at ∷ spell r
+
+-- numbers with a comma between each two
+abbrev pub spell_numbers : List Num → List Token
+spell_numbers [] = []
+spell_numbers (n ∷ []) = token.Number n ∷ []
+spell_numbers (n ∷ m ∷ ns) = token.Number n ∷ token.Plain plain.Comma ∷ spell_numbers (m ∷ ns)
+
+abbrev pub spell_agg : Agg → List Token
+spell_agg (Count at open') = token.Count at ∷ token.Open open' ∷ token.Plain plain.Close ∷ []
+spell_agg (Fold' fold at open' e) = token.Fold fold at ∷ token.Open open' ∷ (spell e ++ token.Plain plain.Close ∷ [])
+spell_agg (Wsum at open' e ns) = token.Wsum at ∷ token.Open open' ∷ (spell e ++ token.Plain plain.Comma ∷ token.Plain plain.LeftSquare ∷ (spell_numbers ns ++ token.Plain plain.RightSquare ∷ token.Plain plain.Close ∷ []))
+
+abbrev pub spell_item : Item → List Token
+spell_item (Bare name) = token.Name name ∷ []
+spell_item (Named e name) = spell e ++ token.Plain plain.As ∷ token.Name name ∷ []
+spell_item (Total agg name) = spell_agg agg ++ token.Plain plain.As ∷ token.Name name ∷ []
+
+-- items with a comma between each two
+abbrev pub spell_items : List Item → List Token
+spell_items [] = []
+spell_items (i ∷ []) = spell_item i
+spell_items (i ∷ j ∷ is) = spell_item i ++ token.Plain plain.Comma ∷ spell_items (j ∷ is)
+
+abbrev pub spell_pick : Pick → List Token
+spell_pick (All at) = token.Operator op.Mul at ∷ []
+spell_pick (Items items) = spell_items items
+
+-- `[ SIZE n ADVANCE m TUPLES ]`
+abbrev pub spell_window : Window → List Token
+spell_window w = token.Plain plain.LeftSquare ∷ token.Size w.at ∷ token.Number w.size ∷ token.Plain plain.Advance ∷ token.Number w.advance ∷ token.Plain plain.Tuples ∷ token.Plain plain.RightSquare ∷ []
+
+abbrev pub spell_if_window : Option Window → List Token
+spell_if_window None = []
+spell_if_window (Some w) = spell_window w
+
+abbrev pub spell_filter : Option Expr → List Token
+spell_filter None = []
+spell_filter (Some e) = token.Plain plain.Where ∷ spell e
+
+-- `BY name GROUPS n`
+abbrev pub spell_grouping : Grouping → List Token
+spell_grouping g = token.By g.at ∷ token.Name g.key ∷ token.Plain plain.Groups ∷ token.Number g.groups ∷ []
+
+abbrev pub spell_if_grouping : Option Grouping → List Token
+spell_if_grouping None = []
+spell_if_grouping (Some g) = token.Plain plain.Group ∷ spell_grouping g
+
+abbrev pub spell_query : Query → List Token
+spell_query (Stream name) = token.Name name ∷ []
+spell_query (InBrackets at q) = token.Open at ∷ (spell_query q ++ token.Plain plain.Close ∷ [])
+spell_query (Select pick source window filter grouping) = token.Plain plain.Select ∷ (spell_pick pick ++ token.Plain plain.From ∷ (spell_query source ++ (spell_if_window window ++ (spell_filter filter ++ spell_if_grouping grouping))))
+spell_query (Windows at var source window open' body) = token.Each at ∷ token.Name var ∷ token.Plain plain.In ∷ (spell_query source ++ (spell_window window ++ token.Open open' ∷ (spell_query body ++ token.Plain plain.Close ∷ [])))
+spell_query (Groups at var source grouping open' body) = token.Each at ∷ token.Name var ∷ token.Plain plain.In ∷ (spell_query source ++ (spell_grouping grouping ++ token.Open open' ∷ (spell_query body ++ token.Plain plain.Close ∷ [])))
+spell_query (Join' join at l r) = spell_query l ++ token.Join join at ∷ spell_query r
+
+abbrev pub spell_end : Bool → List Token
+spell_end false = []
+spell_end true = token.Plain plain.Semicolon ∷ []
+
+abbrev pub spell_statement : Statement → List Token
+spell_statement s = spell_query s.query ++ token.Plain plain.Into ∷ token.Name s.name ∷ spell_end s.closed

@@ -1,0 +1,91 @@
+//! How many brackets, operators and joins of queries a text may have.
+
+ghost use Rattle.std.specs.Prelude.{◌≡◌};
+ghost use Rattle.gl_query_reader.specs.Limits as limits;
+
+use gl_query_tokens::{Plain, Token};
+
+/// What was counted so far.
+#[derive(Clone, Copy, Debug, PartialEq, Eq)]
+pub struct Counts {
+    /// Round brackets that are open.
+    pub brackets: u32,
+    /// Operators, NOT and CAST of the whole expression so far.
+    pub operators: u32,
+    /// UNION and CONCAT so far.
+    pub joins: u32,
+}
+
+/// Round brackets that may be open at once.
+pub const MOST_BRACKETS: u32 = 32;
+
+/// Operators, NOT and CAST that a whole expression may have.
+pub const MOST_OPERATORS: u32 = 256;
+
+/// UNION and CONCAT that a text may have.
+pub const MOST_JOINS: u32 = 64;
+
+impl Counts {
+    /// Nothing.
+    pub fn new() -> Counts
+        ensures { result ≡ limits.none_counted }
+    {
+        Counts {
+            brackets: 0,
+            operators: 0,
+            joins: 0,
+        }
+    }
+
+    /// The counts behind a token.
+    pub fn after(self, token: &Token) -> Counts
+        requires { limits.IsSmall self }
+        ensures { result ≡ limits.after self token.now }
+    {
+        match token {
+            Token::Open { .. } => Counts {
+                brackets: self.brackets + 1,
+                ..self
+            },
+            Token::Operator { .. } | Token::Not { .. } | Token::Cast { .. } => {
+                Counts {
+                    operators: self.operators + 1,
+                    ..self
+                }
+            }
+            Token::Join { .. } => Counts {
+                joins: self.joins + 1,
+                ..self
+            },
+            Token::Fold { .. } | Token::Wsum { .. } => Counts {
+                operators: 0,
+                ..self
+            },
+            Token::Plain(plain) => self.after_plain(*plain),
+            _ => self,
+        }
+    }
+
+    fn after_plain(self, plain: Plain) -> Counts
+        ensures { result ≡ limits.after_plain self plain }
+    {
+        match plain {
+            Plain::Close => Counts {
+                brackets: self.brackets.saturating_sub(1),
+                ..self
+            },
+            Plain::Select | Plain::Comma | Plain::Where => Counts {
+                operators: 0,
+                ..self
+            },
+            _ => self,
+        }
+    }
+
+    /// Whether a count is past its limit.
+    pub fn is_past(self) -> bool
+        ensures { result ≡ limits.is_past self }
+    {
+        self.brackets > MOST_BRACKETS || self.operators > MOST_OPERATORS || self.joins > MOST_JOINS
+    }
+}

@@ -1,0 +1,169 @@
+//! Which items may stand in one select.
+
+ghost use Rattle.std.specs.Prelude.{◌≡◌};
+ghost use Rattle.gl_query_reader.specs.Meaning as meaning;
+ghost use Rattle.gl_query_reader.specs.Mixed as mixed;
+ghost use Rattle.gl_query_reader.specs.Trees.{expr_of, agg_of, item_of, items_of, pick_of, query_of};
+
+use crate::written::{Grouping, WrittenAgg, WrittenExpr, WrittenItem, WrittenPick, WrittenQuery};
+use gl_query::Name;
+
+// The place of an expression's first token.
+fn first_at(expr: &WrittenExpr) -> u64
+    ensures { result ≡ mixed.first_at (expr_of expr.now) }
+{
+    match expr {
+        WrittenExpr::Column(name) => name.at,
+        WrittenExpr::Number(number) => number.at,
+        WrittenExpr::Letters { at, .. } => *at,
+        WrittenExpr::Brackets { at, .. } => *at,
+        WrittenExpr::Cast { at, .. } => *at,
+        WrittenExpr::Not { at, .. } => *at,
+        WrittenExpr::Binary { left, .. } => first_at(left),
+    }
+}
+
+fn agg_at(agg: &WrittenAgg) -> u64
+    ensures { result ≡ mixed.agg_at (agg_of agg.now) }
+{
+    match agg {
+        WrittenAgg::Count { at, .. } => *at,
+        WrittenAgg::Fold { at, .. } => *at,
+        WrittenAgg::Wsum { at, .. } => *at,
+    }
+}
+
+// The place of an item's first token.
+fn item_at(item: &WrittenItem) -> u64
+    ensures { result ≡ mixed.item_at (item_of item.now) }
+{
+    match item {
+        WrittenItem::Bare(name) => name.at,
+        WrittenItem::Named { expr, .. } => first_at(expr),
+        WrittenItem::Total { agg, .. } => agg_at(agg),
+    }
+}
+
+/// Whether the item is an aggregate.
+pub fn is_total(item: &WrittenItem) -> bool
+    ensures { result ≡ meaning.is_total (item_of item.now) }
+{
+    match item {
+        WrittenItem::Bare(_) => false,
+        WrittenItem::Named { .. } => false,
+        WrittenItem::Total { .. } => true,
+    }
+}
+
+// Whether the item is of this sort.
+fn is_of(sort: bool, item: &WrittenItem) -> bool
+    ensures { result ≡ mixed.same sort (meaning.is_total (item_of item.now)) }
+{
+    if sort {
+        is_total(item)
+    } else {
+        !is_total(item)
+    }
+}
+
+// The first item that is not of this sort.
+#[tactic(auto, using(crate::proofs::ItemLists::item_steps))]
+fn first_other(sort: bool, items: &[WrittenItem]) -> Option<u64>
+    ensures { result ≡ mixed.first_other sort (items_of items.now) }
+{
+    for item in items {
+        if !is_of(sort, item) {
+            return Some(item_at(item));
+        }
+    }
+    None
+}
+
+// The item is the key alone.
+fn is_key(key: &Name, item: &WrittenItem) -> bool
+    ensures { result ≡ mixed.is_key key.now (item_of item.now) }
+{
+    match item {
+        WrittenItem::Bare(name) => name.text.as_slice() == key.text.as_slice(),
+        WrittenItem::Named { .. } => false,
+        WrittenItem::Total { .. } => false,
+    }
+}
+
+// Behind the key stands at least one item, and all are aggregates.
+fn behind_key(grouping: &Grouping, items: &[WrittenItem]) -> Option<u64>
+    ensures { result ≡ mixed.behind_key grouping.now (items_of items.now) }
+{
+    match items {
+        [] => Some(grouping.at),
+        [_, ..] => first_other(true, items),
+    }
+}
+
+// Without groups all items are of the first one's sort.
+fn mixed_plain(items: &[WrittenItem]) -> Option<u64>
+    ensures { result ≡ mixed.mixed_plain (items_of items.now) }
+{
+    match items {
+        [] => None,
+        [first, rest @ ..] => first_other(is_total(first), rest),
+    }
+}
+
+// With groups the first item is the key alone.
+fn mixed_groups(items: &[WrittenItem], grouping: &Grouping) -> Option<u64>
+    ensures { result ≡ mixed.mixed_groups (items_of items.now) grouping.now }
+{
+    match items {
+        [] => Some(grouping.at),
+        [first, rest @ ..] => {
+            if is_key(&grouping.key, first) {
+                behind_key(grouping, rest)
+            } else {
+                Some(item_at(first))
+            }
+        }
+    }
+}
+
+// The item that shows that the items of a select do not go together.
+fn mixed_pick(pick: &WrittenPick, grouping: &Option<Grouping>) -> Option<u64>
+    ensures { result ≡ mixed.mixed_pick (pick_of pick.now) grouping.now }
+{
+    match (pick, grouping) {
+        (WrittenPick::All { .. }, None) => None,
+        (WrittenPick::All { at }, Some(_)) => Some(*at),
+        (WrittenPick::Items(items), None) => mixed_plain(items.as_slice()),
+        (WrittenPick::Items(items), Some(grouping)) => mixed_groups(items.as_slice(), grouping),
+    }
+}
+
+// The smaller of two places.
+fn least(a: Option<u64>, b: Option<u64>) -> Option<u64>
+    ensures { result ≡ mixed.least a b }
+{
+    match (a, b) {
+        (None, b) => b,
+        (Some(a), None) => Some(a),
+        (Some(a), Some(b)) => Some(if a <= b { a } else { b }),
+    }
+}
+
+/// The first item in the text that shows that the items of its select do not go together.
+pub fn mixed_in(query: &WrittenQuery) -> Option<u64>
+    ensures { result ≡ mixed.mixed_in (query_of query.now) }
+{
+    match query {
+        WrittenQuery::Stream(_) => None,
+        WrittenQuery::Brackets { inner, .. } => mixed_in(inner),
+        WrittenQuery::Select {
+            pick,
+            source,
+            grouping,
+            ..
+        } => least(mixed_pick(pick, grouping), mixed_in(source)),
+        WrittenQuery::Windows { source, body, .. } => least(mixed_in(source), mixed_in(body)),
+        WrittenQuery::Groups { source, body, .. } => least(mixed_in(source), mixed_in(body)),
+        WrittenQuery::Join { left, right, .. } => least(mixed_in(left), mixed_in(right)),
+    }
+}

@@ -1,0 +1,336 @@
+//! What the reader has read so far.
+
+use crate::written::{
+    Grouping, Window, WrittenAgg, WrittenExpr, WrittenItem, WrittenItems, WrittenPick, WrittenQuery,
+};
+use gl_bits::Kind;
+use gl_query::{Name, Num, Nums, Op};
+use gl_query_tokens::{Fold, Join};
+
+/// What reads a source.
+#[derive(Drop)]
+pub enum Head {
+    /// A select of these items.
+    Select(WrittenPick),
+    /// An EACH with its variable.
+    Each { at: u64, var: Name },
+}
+
+/// What stands before the bracket of a body.
+#[derive(Drop)]
+pub enum BodyHead {
+    Windows {
+        at: u64,
+        var: Name,
+        source: WrittenQuery,
+        window: Window,
+    },
+    Groups {
+        at: u64,
+        var: Name,
+        source: WrittenQuery,
+        grouping: Grouping,
+    },
+}
+
+/// What stands before BY.
+#[derive(Drop)]
+pub enum GroupsHead {
+    Select {
+        pick: WrittenPick,
+        source: WrittenQuery,
+        window: Option<Window>,
+        filter: Option<WrittenExpr>,
+    },
+    Each {
+        at: u64,
+        var: Name,
+        source: WrittenQuery,
+    },
+}
+
+/// An expression or an aggregate that waits for its name.
+#[derive(Drop)]
+pub enum Unnamed {
+    Expr(WrittenExpr),
+    Agg(WrittenAgg),
+}
+
+/// What is open around the place where the reader stands.
+#[derive(Drop)]
+pub enum Frame {
+    // These wait for an expression.
+    LeftOf {
+        left: WrittenExpr,
+        op: Op,
+        at: u64,
+    },
+    NotOf {
+        at: u64,
+    },
+    InBrackets {
+        at: u64,
+    },
+    InCast {
+        at: u64,
+        open: u64,
+    },
+    InItem {
+        items: WrittenItems,
+    },
+    InFold {
+        items: WrittenItems,
+        fold: Fold,
+        at: u64,
+        open: u64,
+    },
+    InWsum {
+        items: WrittenItems,
+        at: u64,
+        open: u64,
+    },
+    InFilter {
+        pick: WrittenPick,
+        source: WrittenQuery,
+        window: Option<Window>,
+    },
+    // These wait for a query.
+    JoinOf {
+        left: WrittenQuery,
+        join: Join,
+        at: u64,
+    },
+    InQuery {
+        at: u64,
+    },
+    InSource {
+        head: Head,
+        at: u64,
+    },
+    InBody {
+        head: BodyHead,
+        open: u64,
+    },
+}
+
+/// A place in the items of a select or in an expression, and what may follow there.
+#[derive(Drop)]
+pub enum ItemControl {
+    /// An item behind these, or `*` where there is none.
+    WantItem {
+        items: WrittenItems,
+    },
+    /// An operand.
+    WantOperand,
+    /// An operator, or what may stand behind an expression.
+    HaveExpr {
+        last: WrittenExpr,
+    },
+    /// `(` behind CAST.
+    WantCastOpen {
+        at: u64,
+    },
+    /// The word of a kind.
+    WantKind {
+        at: u64,
+        open: u64,
+        inner: WrittenExpr,
+    },
+    /// `)` behind a kind.
+    WantCastClose {
+        at: u64,
+        open: u64,
+        inner: WrittenExpr,
+        word: Name,
+        kind: Kind,
+    },
+    /// `(` behind COUNT.
+    WantCountOpen {
+        items: WrittenItems,
+        at: u64,
+    },
+    /// `)` behind `COUNT (`.
+    WantCountClose {
+        items: WrittenItems,
+        at: u64,
+        open: u64,
+    },
+    /// `(` behind SUM, MIN, MAX or AVG.
+    WantFoldOpen {
+        items: WrittenItems,
+        fold: Fold,
+        at: u64,
+    },
+    /// `(` behind WSUM.
+    WantWsumOpen {
+        items: WrittenItems,
+        at: u64,
+    },
+    /// `[` behind the argument of WSUM.
+    WantWeightsOpen {
+        items: WrittenItems,
+        at: u64,
+        open: u64,
+        arg: WrittenExpr,
+    },
+    /// A weight.
+    WantWeight {
+        items: WrittenItems,
+        at: u64,
+        open: u64,
+        arg: WrittenExpr,
+        weights: Nums,
+    },
+    /// `,` or `]` behind a weight.
+    HaveWeight {
+        items: WrittenItems,
+        at: u64,
+        open: u64,
+        arg: WrittenExpr,
+        weights: Nums,
+    },
+    /// `)` behind the weights.
+    WantWsumClose {
+        items: WrittenItems,
+        at: u64,
+        open: u64,
+        arg: WrittenExpr,
+        weights: Nums,
+    },
+    /// AS behind an aggregate.
+    WantAs {
+        items: WrittenItems,
+        agg: WrittenAgg,
+    },
+    /// The name of an item.
+    WantItemName {
+        items: WrittenItems,
+        unnamed: Unnamed,
+    },
+    /// `,` or FROM behind an item.
+    HaveItem {
+        items: WrittenItems,
+    },
+    /// FROM behind `*`.
+    WantFrom {
+        at: u64,
+    },
+}
+
+/// A place behind a source, and what may follow there.
+#[derive(Drop)]
+pub enum SourceControl {
+    /// A name or `(`.
+    WantSource {
+        head: Head,
+    },
+    /// What may stand behind the source of a select.
+    HaveSource {
+        pick: WrittenPick,
+        source: WrittenQuery,
+        window: Option<Window>,
+    },
+    /// `[` or BY behind the source of an EACH.
+    HaveEachSource {
+        at: u64,
+        var: Name,
+        source: WrittenQuery,
+    },
+    /// SIZE.
+    WantSize {
+        head: Head,
+        source: WrittenQuery,
+    },
+    /// The number behind SIZE.
+    WantSizeNumber {
+        head: Head,
+        source: WrittenQuery,
+        at: u64,
+    },
+    /// ADVANCE.
+    WantAdvance {
+        head: Head,
+        source: WrittenQuery,
+        at: u64,
+        size: Num,
+    },
+    /// The number behind ADVANCE.
+    WantAdvanceNumber {
+        head: Head,
+        source: WrittenQuery,
+        at: u64,
+        size: Num,
+    },
+    /// TUPLES.
+    WantTuples {
+        head: Head,
+        source: WrittenQuery,
+        window: Window,
+    },
+    /// `]` behind TUPLES.
+    WantWindowClose {
+        head: Head,
+        source: WrittenQuery,
+        window: Window,
+    },
+    /// BY behind GROUP.
+    WantBy {
+        pick: WrittenPick,
+        source: WrittenQuery,
+        window: Option<Window>,
+        filter: Option<WrittenExpr>,
+    },
+    /// The name behind BY.
+    WantKey {
+        head: GroupsHead,
+        at: u64,
+    },
+    /// GROUPS.
+    WantGroups {
+        head: GroupsHead,
+        at: u64,
+        key: Name,
+    },
+    /// The number behind GROUPS.
+    WantGroupsNumber {
+        head: GroupsHead,
+        at: u64,
+        key: Name,
+    },
+}
+
+/// A place in a query or behind it, and what may follow there.
+#[derive(Drop)]
+pub enum QueryControl {
+    /// A select, an EACH or a bracket.
+    WantTerm,
+    /// The name behind EACH.
+    WantVar { at: u64 },
+    /// IN.
+    WantIn { at: u64, var: Name },
+    /// `(` before a body.
+    WantBody { head: BodyHead },
+    /// What may stand behind a whole term.
+    HaveTerm { term: WrittenQuery },
+    /// The name behind INTO.
+    WantName { query: WrittenQuery },
+    /// `;` or the end.
+    HaveName { query: WrittenQuery, name: Name },
+    /// The end.
+    WantEnd { query: WrittenQuery, name: Name },
+}
+
+/// Where the reader stands: what it has read last, and what may follow.
+#[derive(Drop)]
+pub enum Control {
+    Item(ItemControl),
+    Source(SourceControl),
+    Query(QueryControl),
+}
+
+/// What was read so far. The innermost frame stands last.
+#[derive(Drop)]
+pub struct State {
+    pub control: Control,
+    pub frames: Vec<Frame>,
+}

@@ -1,0 +1,78 @@
+//! From the text of a query to its statement.
+
+ghost use Rattle.std.specs.Prelude.{◌≡◌, length, Err, IfOk, IfErr};
+ghost use Rattle.gl_query_tokens.specs.Tokens.{tokens_of};
+ghost use Rattle.gl_query_reader.specs.Machine.{start};
+ghost use Rattle.gl_query_reader.specs.Limits.{none_counted};
+ghost use Rattle.gl_query_reader.specs.Reading.{run, Gives, answered, with_items, Answers};
+ghost use Rattle.gl_query_reader.specs.Trees.{statement_of};
+ghost use Rattle.gl_query_reader.specs.Mixed.{mixed_in};
+ghost use Rattle.gl_query_reader.specs.Meaning.{Statement', statement_tree};
+ghost use Rattle.gl_query_reader.specs.Grammar.{HasStatement, IsOrMemory, IsFault};
+
+use crate::meaning::statement_meaning;
+use crate::mixed::mixed_in;
+use crate::parsing::{ReadFault, parsed};
+use crate::written::WrittenStatement;
+use gl_query::{QueryFault, Statement};
+use gl_query_tokens::lexemes;
+use std::alloc::Global;
+
+// The statement of a text as it is written, or the first fault from the left.
+fn written_of(alloc: Global, text: &[u8]) -> Result<WrittenStatement, ReadFault>
+    ensures { Gives result (run (length text.now) none_counted start (tokens_of text.now)) }
+{
+    match lexemes(alloc, text) {
+        Ok(tokens) => parsed(alloc, tokens, text.len() as u64),
+        Err(_) => Err(ReadFault::Memory),
+    }
+}
+
+// The fault of reading, as it is answered.
+fn fault_of(fault: ReadFault) -> QueryFault
+    ensures { answered (Err fault) ≡ Err result }
+{
+    match fault {
+        ReadFault::Syntax(at) => QueryFault::Syntax { at },
+        ReadFault::TooDeep(at) => QueryFault::TooDeep { at },
+        ReadFault::Memory => QueryFault::Memory,
+    }
+}
+
+// What a statement that is written means, where its items go together.
+fn meaning_of(alloc: Global, written: WrittenStatement) -> Result<Statement, QueryFault>
+    ensures { Answers result (with_items (mixed_in (statement_of written).query) (statement_of written)) }
+{
+    if let Some(at) = mixed_in(&written.query) {
+        drop(written);
+        return Err(QueryFault::MixedItems { at });
+    }
+    match statement_meaning(alloc, written) {
+        Ok(statement) => Ok(statement),
+        Err(_) => Err(QueryFault::Memory),
+    }
+}
+
+// The answer for a text, exactly.
+fn answer(alloc: Global, text: &[u8]) -> Result<Statement, QueryFault>
+    ensures { Answers result (answered (run (length text.now) none_counted start (tokens_of text.now))) }
+{
+    match written_of(alloc, text) {
+        Ok(written) => meaning_of(alloc, written),
+        Err(fault) => Err(fault_of(fault)),
+    }
+}
+
+/// The statement of a text: the one that its tokens derive by the grammar, where no limit is passed
+/// and the items of each select go together.
+///
+/// `TooDeep` is at the first token that passes a limit, `MixedItems` at the first item that shows that
+/// items do not go together, `Syntax` at a token such that no statement begins with the tokens up to
+/// it, or at the text's length where the whole text is no statement. No other fault is answered.
+pub fn read_query(alloc: Global, text: &[u8]) -> Result<Statement, QueryFault>
+    ensures found { IfOk result (λ s. HasStatement text.now (statement_tree s)) }
+    ensures only { (s : Statement') → HasStatement text.now s → IsOrMemory result s }
+    ensures fault { IfErr result (λ e. IsFault text.now e) }
+{
+    answer(alloc, text)
+}

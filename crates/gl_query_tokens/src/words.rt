@@ -1,0 +1,184 @@
+//! Words: keywords, names and numbers.
+
+ghost use Rattle.std.specs.Prelude.{◌≡◌, IfOk, Some};
+ghost use Rattle.gl_query_tokens.specs.Words.{is_keyword, clause_of, window_of, operator_of, keyword_of, with_digit, number_of, word_token};
+
+use crate::token::{Fold, Join, Plain, Token};
+use gl_query::{Name, Num, Op};
+use gl_schema::{NameText, is_name};
+use std::alloc::{AllocError, Global};
+
+// The word is this keyword, in either case.
+fn is_keyword(word: &[u8], keyword: &[u8]) -> bool
+    ensures { result ≡ is_keyword word.now keyword.now }
+{
+    word.eq_ignore_ascii_case(keyword)
+}
+
+// The keywords of a select.
+fn clause_of(word: &[u8], at: u64) -> Option<Token>
+    ensures { result ≡ clause_of word.now at }
+{
+    if is_keyword(word, b"select") {
+        return Some(Token::Plain(Plain::Select));
+    }
+    if is_keyword(word, b"from") {
+        return Some(Token::Plain(Plain::From));
+    }
+    if is_keyword(word, b"where") {
+        return Some(Token::Plain(Plain::Where));
+    }
+    if is_keyword(word, b"group") {
+        return Some(Token::Plain(Plain::Group));
+    }
+    if is_keyword(word, b"by") {
+        return Some(Token::By { at });
+    }
+    if is_keyword(word, b"groups") {
+        return Some(Token::Plain(Plain::Groups));
+    }
+    if is_keyword(word, b"into") {
+        return Some(Token::Plain(Plain::Into));
+    }
+    if is_keyword(word, b"as") {
+        return Some(Token::Plain(Plain::As));
+    }
+    None
+}
+
+// The keywords of windows, bodies and what stands between queries.
+fn window_of(word: &[u8], at: u64) -> Option<Token>
+    ensures { result ≡ window_of word.now at }
+{
+    if is_keyword(word, b"each") {
+        return Some(Token::Each { at });
+    }
+    if is_keyword(word, b"in") {
+        return Some(Token::Plain(Plain::In));
+    }
+    if is_keyword(word, b"size") {
+        return Some(Token::Size { at });
+    }
+    if is_keyword(word, b"advance") {
+        return Some(Token::Plain(Plain::Advance));
+    }
+    if is_keyword(word, b"tuples") {
+        return Some(Token::Plain(Plain::Tuples));
+    }
+    if is_keyword(word, b"time") {
+        return Some(Token::Plain(Plain::Time));
+    }
+    if is_keyword(word, b"union") {
+        return Some(Token::Join {
+            join: Join::Union,
+            at,
+        });
+    }
+    if is_keyword(word, b"concat") {
+        return Some(Token::Join {
+            join: Join::Concat,
+            at,
+        });
+    }
+    None
+}
+
+// The keywords of expressions and aggregates.
+fn operator_of(word: &[u8], at: u64) -> Option<Token>
+    ensures { result ≡ operator_of word.now at }
+{
+    if is_keyword(word, b"and") {
+        return Some(Token::Operator { op: Op::And, at });
+    }
+    if is_keyword(word, b"or") {
+        return Some(Token::Operator { op: Op::Or, at });
+    }
+    if is_keyword(word, b"not") {
+        return Some(Token::Not { at });
+    }
+    if is_keyword(word, b"cast") {
+        return Some(Token::Cast { at });
+    }
+    if is_keyword(word, b"count") {
+        return Some(Token::Count { at });
+    }
+    if is_keyword(word, b"sum") {
+        return Some(Token::Fold {
+            fold: Fold::Sum,
+            at,
+        });
+    }
+    if is_keyword(word, b"min") {
+        return Some(Token::Fold {
+            fold: Fold::Min,
+            at,
+        });
+    }
+    if is_keyword(word, b"max") {
+        return Some(Token::Fold {
+            fold: Fold::Max,
+            at,
+        });
+    }
+    if is_keyword(word, b"avg") {
+        return Some(Token::Fold {
+            fold: Fold::Avg,
+            at,
+        });
+    }
+    if is_keyword(word, b"wsum") {
+        return Some(Token::Wsum { at });
+    }
+    None
+}
+
+fn keyword_of(word: &[u8], at: u64) -> Option<Token>
+    ensures { result ≡ keyword_of word.now at }
+{
+    if let Some(token) = clause_of(word, at) {
+        return Some(token);
+    }
+    if let Some(token) = window_of(word, at) {
+        return Some(token);
+    }
+    operator_of(word, at)
+}
+
+// The number that the digits spell, where it is below 2^128.
+#[tactic(auto, unfolding(crate::specs::Words::number_of), using(crate::proofs::Numbers::number_steps))]
+fn number_of(word: &[u8]) -> Option<u128>
+    ensures { result ≡ number_of word.now }
+{
+    let mut value = 0u128;
+    for b in word {
+        value = with_digit(value, *b)?;
+    }
+    Some(value)
+}
+
+fn with_digit(value: u128, b: u8) -> Option<u128>
+    ensures { result ≡ with_digit (Some value) b }
+{
+    if b < b'0' || b'9' < b {
+        return None;
+    }
+    value.checked_mul(10)?.checked_add(u128::from(b - b'0'))
+}
+
+/// The token of a run of letters, digits and underscores that begins at a place.
+#[tactic(auto, unfolding(crate::specs::Words::word_token))]
+pub fn word_token(alloc: Global, word: &[u8], at: u64) -> Result<Token, AllocError>
+    ensures { IfOk result (λ token. token ≡ word_token word.now at) }
+{
+    if let Some(token) = keyword_of(word, at) {
+        return Ok(token);
+    }
+    if is_name(word) {
+        let text = NameText::from_vec(Vec::from_slice(alloc, word)?);
+        return Ok(Token::Name(Name { text, at }));
+    }
+    match number_of(word) {
+        Some(value) => Ok(Token::Number(Num { value, at })),
+        None => Ok(Token::Stray),
+    }
+}
