@@ -1,0 +1,5 @@
+pub mod Spelling
+pub mod Widths
+pub mod Siding
+pub mod Joining
+pub mod Sizes
