@@ -37,3 +37,10 @@ map_taken f (y ∷ xs) zero x lt is = ap (λ z. f z ∷ []) (sym is)
 map_taken f (y ∷ xs) (suc i) x lt is =
     let place : suc i + 1 ≡ suc (i + 1) = omega arith in
     ap (λ n. map f (take n (y ∷ xs))) place ∙ ap (λ l. f y ∷ l) (map_taken f xs i x (omega arith) is)
+
+pub taken_next : {A : Type 0} (xs : List A) (i : ℕ) (x : A) → i < length xs → x ≡ get_or xs i x → take (i + 1) xs ≡ take i xs ++ x ∷ []
+taken_next [] i x lt is = absurd (omega arith)
+taken_next (y ∷ xs) zero x lt is = ap (λ z. z ∷ []) (sym is)
+taken_next (y ∷ xs) (suc i) x lt is =
+    let place : suc i + 1 ≡ suc (i + 1) = omega arith in
+    ap (λ n. take n (y ∷ xs)) place ∙ ap (λ l. y ∷ l) (taken_next xs i x (omega arith) is)

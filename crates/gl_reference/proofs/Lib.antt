@@ -3,3 +3,5 @@ pub mod Widths
 pub mod Siding
 pub mod Joining
 pub mod Sizes
+pub mod Forms
+pub mod Inputs

@@ -2,7 +2,7 @@
 
 ghost use Rattle.std.specs.Prelude.{◌≡◌, [], IfOk, length, map, slice_get, unwrap_or};
 ghost use Rattle.gl_query.specs.Shapes.{query_shape};
-ghost use Rattle.gl_query.specs.Results.{IsResult, IsResultIn};
+ghost use Rattle.gl_query.specs.Results.{IsResult, IsResultIn, numbered};
 ghost use Rattle.gl_reference.specs.Sources.{env_view};
 ghost use Rattle.gl_reference.specs.Joins.{AreOverGroups, AreOverSlices};
 
@@ -13,9 +13,9 @@ use crate::columns::{Source, columns_of};
 use crate::kinds::column_number;
 use crate::rows::{Fault, joined, with_key};
 use gl_bits::lists::{groups_of, some_further};
-use gl_bits::{Group, Listed, Table};
+use gl_bits::{Group, Listed, Memory, Table};
 use gl_query::{Query, Statement};
-use gl_schema::{Column, Schema};
+use gl_schema::{Column, Schema, Stream};
 use std::alloc::Global;
 
 /// A body over each slice, its results joined in order.
@@ -150,9 +150,28 @@ pub fn result_of(alloc: Global, sources: &[Source<'_>], query: &Query) -> Result
     }
 }
 
+/// The streams of a schema, each with its rows.
+fn sources_of<'a>(
+    alloc: Global,
+    streams: &'a [Stream],
+    inputs: &'a [Table],
+) -> Result<Vec<Source<'a>>, Memory>
+    requires { length inputs.now ≡ length streams.now }
+    ensures { IfOk result (λ v. env_view v.items ≡ numbered 0 streams.now (λ k. unwrap_or (slice_get inputs.now k) [])) }
+{
+    let mut out = Vec::new(alloc);
+    for (i, stream) in streams.iter().enumerate() {
+        out.push(Source {
+            name: stream.name.as_slice(),
+            columns: stream.columns.as_slice(),
+            rows: inputs[i].as_slice(),
+        })?;
+    }
+    Ok(out)
+}
+
 /// One result of an accepted statement over a schema: the inputs are those of the streams, in
 /// order.
-#[tactic(none)]
 pub fn evaluate(
     alloc: Global,
     schema: &Schema,
@@ -162,14 +181,6 @@ pub fn evaluate(
     requires { length inputs.now ≡ length schema.now.streams }
     ensures { IfOk result (λ a. IsResult schema.now statement.now (λ k. unwrap_or (slice_get inputs.now k) []) a.rows a.spill) }
 {
-    let mut sources = Vec::new(alloc);
-    for (stream, rows) in schema.streams.as_slice().iter().zip(inputs) {
-        let source = Source {
-            name: stream.name.as_slice(),
-            columns: stream.columns.as_slice(),
-            rows: rows.as_slice(),
-        };
-        sources.push(source).map_err(|_| Fault::Memory)?;
-    }
+    let sources = sources_of(alloc, schema.streams.as_slice(), inputs)?;
     result_of(alloc, sources.as_slice(), &statement.query)
 }

@@ -12,3 +12,9 @@ decreases-over_slices l = 2 * size_of (query_shape l.body.now) + 1
 
 abbrev pub decreases-over_groups : goal.decreases-over_groups
 decreases-over_groups l = 2 * size_of (query_shape l.body.now) + 1
+
+abbrev pub invariant-over_slices-loop-slice : goal.invariant-over_slices-loop-slice
+invariant-over_slices-loop-slice l = AreOverSlices (query_shape l.body) l.var l.columns (map (λ s. s.now) (take l.slice-index l.slices)) l.rows l.spill
+
+abbrev pub invariant-over_groups-loop-group : goal.invariant-over_groups-loop-group
+invariant-over_groups-loop-group l = AreOverGroups (query_shape l.body) l.var l.columns (take l.group-index l.groups) l.rows l.spill
