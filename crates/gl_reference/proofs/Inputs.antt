@@ -2,7 +2,9 @@
 use Rattle.std.proofs.Common.{◌≡◌, ℕ, zero, suc, ◌+◌, ◌<◌, List, [], ◌∷◌, ◌++◌, length, take, get_or, refl, sym, ap, ◌∙◌, arith}
 use Rattle.std.specs.Prelude.{slice_get, unwrap_or}
 use Rattle.gl_schema.specs.declared.schema.Stream.{Stream}
-use Rattle.gl_query.specs.Results.{Env, Row, numbered}
+use Rattle.gl_query.specs.Results.{Row, numbered}
+use Rattle.gl_reference.specs.declared.columns.Source.{Source as Given}
+use Rattle.gl_reference.specs.Sources.{env_view, source_of}
 
 -- the rows of input k; none where there is no such input
 abbrev pub input_in : List (List Row) → ℕ → List Row
@@ -24,3 +26,7 @@ numbered_more k (x ∷ xs) inputs (suc i) s rows lt is from =
     let place : k + suc i ≡ k + 1 + i = omega arith in
     ap (λ n. numbered k (take n (x ∷ xs)) inputs) next
     ∙ ap (λ l. record { stream = x; rows = inputs k } ∷ l) (numbered_more (k + 1) xs inputs i s rows (omega arith) is (from ∙ ap inputs place))
+
+pub env_push : (sources : List Given) (y : Given) → env_view (sources ++ y ∷ []) ≡ env_view sources ++ source_of y ∷ []
+env_push [] y = refl
+env_push (x ∷ xs) y = ap (λ l. source_of x ∷ l) (env_push xs y)

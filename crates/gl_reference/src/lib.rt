@@ -14,3 +14,6 @@ pub use answers::Answer;
 pub use results::evaluate;
 pub use rows::Fault;
 
+
+#[cfg(test)]
+mod tests;
