@@ -13,9 +13,9 @@ use Rattle.gl_reference.specs.Joins.{AreOverGroups, AreOverSlices}
 use Rattle.gl_reference.proofs.Joining.{first_then_second, joined_map}
 
 pub each_made : (env : Env) (var : List ℕ) (source : QueryShape) (size advance : ℕ) (body : QueryShape) (from : List Row) (before : Bool) (seen : QueryShape) (named : List ℕ) (columns : List Column) (parts : List (List Row)) (inside out : List Row) (within spill : Bool)
-  → IsResultIn source env from before → seen ≡ body → named ≡ var → columns ≡ columns_in env source → parts ≡ slices size advance from
-  → AreOverSlices seen named columns parts inside within → out ≡ inside → spill ≡ (before || within || false)
-  → IsResultIn (shape.Each var source size advance body) env out spill
+    → IsResultIn source env from before → seen ≡ body → named ≡ var → columns ≡ columns_in env source → parts ≡ slices size advance from
+    → AreOverSlices seen named columns parts inside within → out ≡ inside → spill ≡ (before || within || false)
+    → IsResultIn (shape.Each var source size advance body) env out spill
 each_made env var source size advance body from before seen named columns parts inside out within spill is eb ev ec ep j eo es =
     let a = subst (λ (b : QueryShape). AreOverSlices b named columns parts inside within) eb j in
     let b = subst (λ (v : List ℕ). AreOverSlices body v columns parts inside within) ev a in
@@ -25,10 +25,10 @@ each_made env var source size advance body from before seen named columns parts 
     record { rows = from; before = before; inside = within; is = is; joined = e; spills = es }
 
 pub groups_made : (env : Env) (var : List ℕ) (source : QueryShape) (key : List ℕ) (n : ℕ) (body : QueryShape) (from : List Row) (before : Bool) (seen : QueryShape) (named : List ℕ) (columns : List Column) (most column : ℕ) (parts : List Keyed) (inside out : List Row) (within further spill : Bool)
-  → IsResultIn source env from before → seen ≡ body → named ≡ var → columns ≡ columns_in env source → most ≡ n → column ≡ column_number columns key
-  → parts ≡ keyed_groups most column from → AreOverGroups seen named columns parts inside within → further ≡ has_further most (λ (r : Row). slice_index r column) from
-  → out ≡ inside → spill ≡ (before || within || further)
-  → IsResultIn (shape.PerGroup var source key n body) env out spill
+    → IsResultIn source env from before → seen ≡ body → named ≡ var → columns ≡ columns_in env source → most ≡ n → column ≡ column_number columns key
+    → parts ≡ keyed_groups most column from → AreOverGroups seen named columns parts inside within → further ≡ has_further most (λ (r : Row). slice_index r column) from
+    → out ≡ inside → spill ≡ (before || within || further)
+    → IsResultIn (shape.PerGroup var source key n body) env out spill
 groups_made env var source key n body from before seen named columns most column parts inside out within further spill is eb ev ec em ek ep j ef eo es =
     let place : column ≡ column_number (columns_in env source) key = ek ∙ ap (λ (k : List Column). column_number k key) ec in
     let whole : parts ≡ keyed_groups n (column_number (columns_in env source) key) from =
@@ -46,7 +46,7 @@ groups_made env var source key n body from before seen named columns most column
     record { rows = from; before = before; inside = within; is = is; joined = f; spills = es ∙ ap (λ (x : Bool). before || within || x) left }
 
 pub union_made : (env : Env) (l r : QueryShape) (left right out : List Row) (p q spill : Bool)
-  → IsResultIn l env left p → IsResultIn r env right q → (out ≡ left ++ right) × (spill ≡ (p || q)) → IsResultIn (shape.Union l r) env out spill
+    → IsResultIn l env left p → IsResultIn r env right q → (out ≡ left ++ right) × (spill ≡ (p || q)) → IsResultIn (shape.Union l r) env out spill
 union_made env l r left right out p q spill is is' (e, s) = record {
   left_rows = left;
   right_rows = right;
@@ -59,7 +59,7 @@ union_made env l r left right out p q spill is is' (e, s) = record {
 }
 
 pub concat_made : (env : Env) (l r : QueryShape) (left right out : List Row) (p q spill : Bool)
-  → IsResultIn l env left p → IsResultIn r env right q → AreBeside left right out × (spill ≡ (p || q)) → IsResultIn (shape.Concat l r) env out spill
+    → IsResultIn l env left p → IsResultIn r env right q → AreBeside left right out × (spill ≡ (p || q)) → IsResultIn (shape.Concat l r) env out spill
 concat_made env l r left right out p q spill is is' (b, s) = record {
   left_rows = left;
   right_rows = right;

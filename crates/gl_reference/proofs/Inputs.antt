@@ -16,7 +16,7 @@ input_is (x ∷ xs) zero rows lt is = is
 input_is (x ∷ xs) (suc i) rows lt is = input_is xs i rows (omega arith) is
 
 pub numbered_more : (k : ℕ) (streams : List Stream) (inputs : ℕ → List Row) (i : ℕ) (s : Stream) (rows : List Row) → i < length streams → s ≡ get_or streams i s → rows ≡ inputs (k + i)
-  → numbered k (take (i + 1) streams) inputs ≡ numbered k (take i streams) inputs ++ record { stream = s; rows = rows } ∷ []
+    → numbered k (take (i + 1) streams) inputs ≡ numbered k (take i streams) inputs ++ record { stream = s; rows = rows } ∷ []
 numbered_more k [] inputs i s rows lt is from = absurd (omega arith)
 numbered_more k (x ∷ xs) inputs zero s rows lt is from =
     let place : k + 0 ≡ k = omega arith in

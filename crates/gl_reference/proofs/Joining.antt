@@ -15,9 +15,16 @@ or_assoc false b c = refl
 pub joined_push : {A : Type 0} (body : A → Results) (parts : List A) (part : A) (out o : List Row) (p q : Bool) → AreJoined body parts out p → body part o q → AreJoined body (parts ++ part ∷ []) (out ++ o) (p || q)
 joined_push body [] part out o p q (e, s) here =
     (o, [], q, false, here, (refl, refl), ap (λ l. l ++ o) e ∙ sym (append-nil o), ap (λ b. b || q) s ∙ or_false q)
-joined_push body (x ∷ xs) part out o p q (first, later, a, b, there, rest, e, s) here =
-    (first, later ++ o, a, b || q, there, joined_push body xs part later o b q rest here,
-     ap (λ l. l ++ o) e ∙ append_assoc first later o, ap (λ c. c || q) s ∙ or_assoc a b q)
+joined_push body (x ∷ xs) part out o p q (first, later, a, b, there, rest, e, s) here = (
+  first,
+  later ++ o,
+  a,
+  b || q,
+  there,
+  joined_push body xs part later o b q rest here,
+  ap (λ l. l ++ o) e ∙ append_assoc first later o,
+  ap (λ c. c || q) s ∙ or_assoc a b q,
+)
 
 -- the parts may be seen another way
 pub joined_map : {A B : Type 0} (f : A → B) (body : B → Results) (parts : List A) (out : List Row) (p : Bool) → AreJoined body (map f parts) out p → AreJoined (λ x. body (f x)) parts out p

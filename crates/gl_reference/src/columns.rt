@@ -111,11 +111,7 @@ fn agg_columns(alloc: Global, columns: &[Column], aggs: &[AggItem]) -> Result<Co
 }
 
 /// The columns of a query over the sources that it sees.
-pub fn columns_of(
-    alloc: Global,
-    sources: &[Source<'_>],
-    query: &Query,
-) -> Result<Columns, Memory>
+pub fn columns_of(alloc: Global, sources: &[Source<'_>], query: &Query) -> Result<Columns, Memory>
     ensures { IfOk result (λ v. v ≡ columns_of (streams_of (env_view sources.now)) (query_shape query.now)) }
 {
     match query {
@@ -132,7 +128,10 @@ pub fn columns_of(
             agg_columns(alloc, columns.as_slice(), aggs.as_slice())
         }
         Query::Each {
-            var, source, body, ..
+            var,
+            source,
+            body,
+            ..
         } => {
             let columns = columns_of(alloc, sources, source)?;
             let none: Table = Listed::new(alloc);

@@ -41,7 +41,10 @@ pub fn is_loose(expr: &Expr) -> bool
         Expr::Column(_) | Expr::Not { .. } | Expr::Cast { .. } => false,
         Expr::Number(_) | Expr::Letters { .. } => true,
         Expr::Binary {
-            op, left, right, ..
+            op,
+            left,
+            right,
+            ..
         } => match op.sort() {
             Sort::Arithmetic => is_loose(left) && is_loose(right),
             Sort::Comparison | Sort::Logic => false,
@@ -95,7 +98,10 @@ pub fn kind_of(columns: &[Column], place: Kind, expr: &Expr) -> Kind
         Expr::Not { .. } => Kind::Unsigned(1),
         Expr::Cast { kind, .. } => *kind,
         Expr::Binary {
-            op, left, right, ..
+            op,
+            left,
+            right,
+            ..
         } => {
             let other = kind_of(columns, place, right);
             let own = kind_of(

@@ -9,11 +9,10 @@ pub mod results;
 pub mod rows;
 pub mod values;
 
-pub use columns::Source;
 pub use answers::Answer;
+pub use columns::Source;
 pub use results::evaluate;
 pub use rows::Fault;
-
 
 #[cfg(test)]
 mod tests;

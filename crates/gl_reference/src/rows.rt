@@ -9,11 +9,10 @@ ghost use Rattle.gl_query.specs.Results.{agg_value, beside, kept, picked, total_
 use crate::kinds::{is_kind, kind_alone, kind_of};
 use crate::values::{keeps, value_of};
 use gl_bits::lists::copy_of_row;
-use gl_bits::totals;
-use gl_bits::{Kind, Listed, Memory, Table};
+use gl_bits::{Kind, Listed, Memory, Table, totals};
 use gl_query::{Agg, AggItem, Expr, Item, Num, Pick};
 use gl_schema::Column;
-use std::alloc::{AllocError, Global};
+use std::alloc::{AllocError, AllocFailed, Global};
 
 /// Why there is no answer.
 #[derive(Debug, Drop)]
@@ -26,6 +25,12 @@ pub enum Fault {
 
 impl From<Memory> for Fault {
     fn from(_error: Memory) -> Fault {
+        Fault::Memory
+    }
+}
+
+impl<T: Drop> From<AllocFailed<T>> for Fault {
+    fn from(_error: AllocFailed<T>) -> Fault {
         Fault::Memory
     }
 }
@@ -120,9 +125,8 @@ fn values_over(
     let place = kind_alone(expr);
     let mut out = Vec::new(alloc);
     for row in rows {
-        let value = value_of(columns, place, expr, row.as_slice());
-        out.push(value.ok_or(Fault::Unfit)?)
-            .map_err(|_| Fault::Memory)?;
+        let value = value_of(columns, place, expr, row.as_slice()).ok_or(Fault::Unfit)?;
+        out.push(value)?;
     }
     Ok(out)
 }
@@ -230,11 +234,7 @@ pub fn with_key(alloc: Global, key: u128, rows: &[Listed<u128>]) -> Result<Table
 
 /// Rows side by side.
 #[tactic(auto, using(crate::proofs::Siding::beside_more))]
-pub fn beside(
-    alloc: Global,
-    left: &[Listed<u128>],
-    right: &[Listed<u128>],
-) -> Result<Table, Memory>
+pub fn beside(alloc: Global, left: &[Listed<u128>], right: &[Listed<u128>]) -> Result<Table, Memory>
     requires { length left.now ≡ length right.now }
     ensures { IfOk result (λ v. v ≡ beside left.now right.now) }
 {

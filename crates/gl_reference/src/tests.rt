@@ -1,6 +1,9 @@
 //! Worked rows of the meaning of queries: the values of their results.
 
+use crate::columns::{Source, columns_of};
+use crate::kinds::{kind_alone, kind_of};
 use crate::results::evaluate;
+use crate::values::value_of;
 use gl_bits::lists::copy_of_row;
 use gl_bits::{Kind, Listed, Table};
 use gl_query::{Agg, AggItem, Expr, Item, Name, Num, Op, Pick, Query, Statement};
@@ -9,8 +12,13 @@ use std::alloc::Global;
 use std::test::Fail;
 
 const A: u128 = 0x4100_0000;
+
 const B: u128 = 0x4200_0000;
+
+const C: u128 = 0x4300_0000;
+
 const UBS: u128 = 0x5542_5300;
+
 const UBSN: u128 = 0x5542_534E;
 
 /// Makes trees whose places are all 0.
@@ -152,6 +160,18 @@ impl Trees {
         self.boxed(Query::Concat { left, right, at: 0 })
     }
 
+    /// The sum of a column by the weights 1, 2 and 4.
+    fn weighed(self, bytes: &str) -> Result<Agg, Fail> {
+        let mut weights = Listed::new(self.0);
+        for weight in [1, 2, 4] {
+            weights.push(num(weight))?;
+        }
+        Ok(Agg::Wsum {
+            arg: self.column(bytes)?,
+            weights,
+        })
+    }
+
     /// The greatest of the sums of two prices, one price on each time.
     fn greatest_of_sums(self) -> Result<Box<Query>, Fail> {
         let sums = self.total(Agg::Sum(self.column("price")?), "m", self.read("it")?)?;
@@ -249,16 +269,43 @@ fn selects_and_totals(rt: HostRuntime) -> Result<(), Fail> {
     let t = Trees(rt.alloc());
     let none = inputs(t, &[], &[], &[])?;
     let one = inputs(t, &[[UBSN, 7, 1]], &[], &[])?;
-    expect(&rt, t.select("price", t.read("trades")?)?, one.as_slice(), &[[7, 0]], false)?;
-    expect(&rt, t.select("price", t.read("trades")?)?, none.as_slice(), &[], false)?;
-    let totals = t.two_totals(Agg::Sum(t.column("volume")?), Agg::Count { at: 0 }, t.read("trades")?)?;
+    expect(
+        &rt,
+        t.select("price", t.read("trades")?)?,
+        one.as_slice(),
+        &[[7, 0]],
+        false,
+    )?;
+    expect(
+        &rt,
+        t.select("price", t.read("trades")?)?,
+        none.as_slice(),
+        &[],
+        false,
+    )?;
+    let totals = t.two_totals(
+        Agg::Sum(t.column("volume")?),
+        Agg::Count { at: 0 },
+        t.read("trades")?,
+    )?;
     expect(&rt, totals, none.as_slice(), &[[0, 0]], false)?;
     let two = inputs(t, &[[UBSN, 7, 1], [UBS, 8, 2]], &[], &[])?;
     let prices = t.select("price", t.with_symbol("UBSN", t.read("trades")?)?)?;
     expect(&rt, prices, two.as_slice(), &[[7, 0]], false)?;
+    let twice = t.binary(Op::Mul, t.column("price")?, Expr::Number(num(2)))?;
+    let sum = t.binary(Op::Add, twice, t.column("volume")?)?;
+    let sums = t.pick(sum, "x", None, t.read("trades")?)?;
+    expect(&rt, sums, one.as_slice(), &[[15, 0]], false)?;
+    let four = inputs(t, &[10, 20, 30, 40].map(|price| [A, price, 1]), &[], &[])?;
+    let weighed = t.total(t.weighed("price")?, "w", t.read("trades")?)?;
+    expect(&rt, weighed, four.as_slice(), &[[170, 0]], false)?;
     let bytes = inputs(t, &[], &[], &[200, 100])?;
     for (given, want) in [(&bytes, [44, 150]), (&none, [0, 0])] {
-        let totals = t.two_totals(Agg::Sum(t.column("v")?), Agg::Avg(t.column("v")?), t.read("s")?)?;
+        let totals = t.two_totals(
+            Agg::Sum(t.column("v")?),
+            Agg::Avg(t.column("v")?),
+            t.read("s")?,
+        )?;
         expect(&rt, totals, given.as_slice(), &[want], false)?;
     }
     Ok(())
@@ -268,9 +315,19 @@ fn selects_and_totals(rt: HostRuntime) -> Result<(), Fail> {
 fn windows(rt: HostRuntime) -> Result<(), Fail> {
     let t = Trees(rt.alloc());
     let five = inputs(t, &[[UBSN, 1, 1]; 5], &[], &[])?;
-    let counts = t.total(Agg::Count { at: 0 }, "n", t.with_symbol("UBSN", t.read("it")?)?)?;
+    let counts = t.total(
+        Agg::Count { at: 0 },
+        "n",
+        t.with_symbol("UBSN", t.read("it")?)?,
+    )?;
     let query = t.each(4, 2, t.read("trades")?, counts)?;
-    expect(&rt, query, five.as_slice(), &[[4, 0], [3, 0], [1, 0]], false)?;
+    expect(
+        &rt,
+        query,
+        five.as_slice(),
+        &[[4, 0], [3, 0], [1, 0]],
+        false,
+    )?;
     let prices = [1, 2, 3, 4, 9].map(|price| [UBSN, price, 1]);
     let four = inputs(t, &prices[..4], &[], &[])?;
     let query = t.each(4, 4, t.read("trades")?, t.greatest_of_sums()?)?;
@@ -278,21 +335,40 @@ fn windows(rt: HostRuntime) -> Result<(), Fail> {
     let five = inputs(t, &prices, &[], &[])?;
     let query = t.each(4, 4, t.read("trades")?, t.greatest_of_sums()?)?;
     expect(&rt, query, five.as_slice(), &[[7, 0], [9, 0]], false)?;
-    let six = inputs(t, &[1, 2, 3, 4, 5, 6].map(|price| [UBSN, price, 1]), &[], &[])?;
+    let six = inputs(
+        t,
+        &[1, 2, 3, 4, 5, 6].map(|price| [UBSN, price, 1]),
+        &[],
+        &[],
+    )?;
     let sums = t.total(Agg::Sum(t.column("price")?), "v", t.read("it")?)?;
     let query = t.each(2, 5, t.read("trades")?, sums)?;
     expect(&rt, query, six.as_slice(), &[[3, 0], [6, 0]], false)?;
     let three = inputs(t, &[10, 20, 30].map(|price| [UBSN, price, 1]), &[], &[])?;
-    let mut weights = Listed::new(rt.alloc());
-    for weight in [1, 2, 4] {
-        weights.push(num(weight))?;
+    let body = t.total(t.weighed("price")?, "w", t.read("it")?)?;
+    let query = t.each(3, 1, t.read("trades")?, body)?;
+    expect(
+        &rt,
+        query,
+        three.as_slice(),
+        &[[170, 0], [80, 0], [30, 0]],
+        false,
+    )?;
+    let thousand = inputs(t, &[[UBSN, 1, 1]; 1000], &[], &[])?;
+    let counts = t.total(
+        Agg::Count { at: 0 },
+        "n",
+        t.with_symbol("UBSN", t.read("it")?)?,
+    )?;
+    let query = t.each(600, 60, t.read("trades")?, counts)?;
+    let mut want = [[600, 0]; 17];
+    for (place, n) in [580, 520, 460, 400, 340, 280, 220, 160, 100, 40]
+        .iter()
+        .enumerate()
+    {
+        want[place + 7] = [*n, 0];
     }
-    let weighed = Agg::Wsum {
-        arg: t.column("price")?,
-        weights,
-    };
-    let query = t.each(3, 1, t.read("trades")?, t.total(weighed, "w", t.read("it")?)?)?;
-    expect(&rt, query, three.as_slice(), &[[170, 0], [80, 0], [30, 0]], false)
+    expect(&rt, query, thousand.as_slice(), &want, false)
 }
 
 #[test]
@@ -307,6 +383,16 @@ fn groups(rt: HostRuntime) -> Result<(), Fail> {
         let query = t.per_symbol(groups, t.read("trades")?, sums)?;
         expect(&rt, query, three.as_slice(), want, spill)?;
     }
+    let four = [[A, 1, 1], [B, 2, 1], [C, 4, 1], [A, 8, 1]];
+    let four = inputs(t, &four, &[], &[])?;
+    for (groups, want, spill) in [(2, [[B, 3], [C, 12]], false), (1, [[A, 1], [C, 4]], true)] {
+        let sums = t.total(Agg::Sum(t.column("price")?), "t", t.read("it")?)?;
+        let by_symbol = t.per_symbol(groups, t.read("it")?, sums)?;
+        let greatest = Agg::Max(t.column("symbol")?);
+        let body = t.two_totals(greatest, Agg::Sum(t.column("t")?), by_symbol)?;
+        let query = t.each(2, 2, t.read("trades")?, body)?;
+        expect(&rt, query, four.as_slice(), &want, spill)?;
+    }
     Ok(())
 }
 
@@ -314,7 +400,10 @@ fn groups(rt: HostRuntime) -> Result<(), Fail> {
 fn unions_and_rows_side_by_side(rt: HostRuntime) -> Result<(), Fail> {
     let t = Trees(rt.alloc());
     let both = inputs(t, &[[UBSN, 7, 1]], &[[UBSN, 9, 1]], &[])?;
-    let query = t.union(t.select("price", t.read("trades")?)?, t.select("price", t.read("other")?)?)?;
+    let query = t.union(
+        t.select("price", t.read("trades")?)?,
+        t.select("price", t.read("other")?)?,
+    )?;
     expect(&rt, query, both.as_slice(), &[[7, 0], [9, 0]], false)?;
     let two = inputs(t, &[[A, 5, 1], [A, 7, 1]], &[[B, 6, 20]], &[])?;
     let heavy = t.binary(Op::Gt, t.column("volume")?, Expr::Number(num(10)))?;
@@ -335,15 +424,140 @@ fn unions_and_rows_side_by_side(rt: HostRuntime) -> Result<(), Fail> {
         t.pick(sum, "pv", None, t.read("trades")?)?,
     )?;
     expect(&rt, query, one.as_slice(), &[[7, 12]], false)?;
+    let mixed = inputs(t, &[[A, 5, 1], [A, 7, 1]], &[[B, 6, 1]], &[])?;
+    let source = t.union(
+        t.select("price", t.read("trades")?)?,
+        t.select("price", t.read("other")?)?,
+    )?;
+    let query = t.concat(
+        t.total(Agg::Sum(t.column("price")?), "p", source)?,
+        t.total(Agg::Count { at: 0 }, "n", t.read("trades")?)?,
+    )?;
+    expect(&rt, query, mixed.as_slice(), &[[18, 2]], false)?;
     let pairs = inputs(t, &[[A, 1, 1]; 2], &[[A, 1, 1]; 2], &[])?;
     let counts = |source: &str| -> Result<Box<Query>, Fail> {
         let body = t.total(Agg::Count { at: 0 }, "n", t.read("it")?)?;
         t.each(2, 1, t.read(source)?, body)
     };
     let query = t.union(counts("trades")?, counts("other")?)?;
-    expect(&rt, query, pairs.as_slice(), &[[2, 0], [1, 0], [2, 0], [1, 0]], false)?;
+    expect(
+        &rt,
+        query,
+        pairs.as_slice(),
+        &[[2, 0], [1, 0], [2, 0], [1, 0]],
+        false,
+    )?;
     let ones = inputs(t, &[[A, 1, 1]], &[[A, 2, 1]], &[])?;
-    let source = t.union(t.select("price", t.read("trades")?)?, t.select("price", t.read("other")?)?)?;
+    let source = t.union(
+        t.select("price", t.read("trades")?)?,
+        t.select("price", t.read("other")?)?,
+    )?;
     let query = t.each(2, 2, source, t.greatest_of_sums()?)?;
     expect(&rt, query, ones.as_slice(), &[[3, 0]], false)
+}
+
+/// Checks the kind and the value of an expression over one row of the first stream.
+fn expect_value(
+    rt: &(impl std::process::Abort + Alloc<A = Global>),
+    expr: Expr,
+    row: &[u128],
+    kind: Kind,
+    value: u128,
+) -> Result<(), Fail> {
+    let schema = Trees(rt.alloc()).schema()?;
+    let Some(stream) = schema.streams.as_slice().first() else {
+        return Err(Fail::from("no stream"));
+    };
+    let columns = stream.columns.as_slice();
+    let place = kind_alone(&expr);
+    assert!(rt; kind_of(columns, place, &expr) == kind);
+    assert_eq!(rt; value_of(columns, place, &expr, row), Some(value));
+    Ok(())
+}
+
+#[test]
+fn values_of_expressions(rt: HostRuntime) -> Result<(), Fail> {
+    let t = Trees(rt.alloc());
+    let row = [UBSN, 0xFFFF_FFFE, 200];
+    let (bit, word) = (Kind::Unsigned(1), Kind::Unsigned(32));
+    for (op, right, value) in [
+        (Op::Add, 3, 1),
+        (Op::Sub, 0xFFFF_FFFF, 0xFFFF_FFFF),
+        (Op::Mul, 2, 0xFFFF_FFFC),
+    ] {
+        let expr = t.binary(op, t.column("price")?, Expr::Number(num(right)))?;
+        expect_value(&rt, expr, &row, word, value)?;
+    }
+    for (op, text, value) in [
+        (Op::Eq, "UBSN", 1),
+        (Op::Ne, "UBS", 1),
+        (Op::Lt, "UC", 1),
+        (Op::Le, "UBS", 0),
+        (Op::Gt, "UBS", 1),
+        (Op::Ge, "V", 0),
+    ] {
+        let expr = t.binary(op, t.column("symbol")?, t.letters(text)?)?;
+        expect_value(&rt, expr, &row, bit, value)?;
+    }
+    for (column, kind, value) in [
+        ("volume", Kind::Unsigned(7), 72),
+        ("volume", Kind::Unsigned(64), 200),
+        ("symbol", Kind::Text(2), 0x5542),
+        ("symbol", Kind::Text(8), 0x5542_534E_0000_0000),
+    ] {
+        let arg = Box::new(t.0, t.column(column)?).map_err(|_| "no room")?;
+        expect_value(&rt, Expr::Cast { arg, kind, at: 0 }, &row, kind, value)?;
+    }
+    for (op, value) in [(Op::And, 0), (Op::Or, 1)] {
+        let small = t.binary(Op::Lt, t.column("volume")?, Expr::Number(num(200)))?;
+        let arg = t.binary(Op::Lt, Expr::Number(num(5)), t.column("volume")?)?;
+        let left = t.binary(op, small, arg)?;
+        let arg = Box::new(t.0, left).map_err(|_| "no room")?;
+        expect_value(&rt, Expr::Not { arg, at: 0 }, &row, bit, 1 - value)?;
+    }
+    let most = Expr::Number(num(0xFFFF_FFFF_FFFF_FFFF));
+    let loose = t.binary(Op::Add, most, Expr::Number(num(1)))?;
+    expect_value(&rt, loose, &row, Kind::Unsigned(64), 0)
+}
+
+/// Checks the kinds of the columns of a query over the streams.
+fn expect_kinds(
+    rt: &(impl std::process::Abort + Alloc<A = Global>),
+    query: Box<Query>,
+    want: &[Kind],
+) -> Result<(), Fail> {
+    let schema = Trees(rt.alloc()).schema()?;
+    let mut sources = Vec::new(rt.alloc());
+    for stream in schema.streams.as_slice() {
+        let source = Source {
+            name: stream.name.as_slice(),
+            columns: stream.columns.as_slice(),
+            rows: &[],
+        };
+        sources.push(source).map_err(|_| "no room")?;
+    }
+    let query = Box::into_inner(query);
+    let columns = columns_of(rt.alloc(), sources.as_slice(), &query)?;
+    assert_eq!(rt; columns.len(), want.len());
+    for (column, kind) in columns.as_slice().iter().zip(want) {
+        assert!(rt; column.kind == *kind);
+    }
+    Ok(())
+}
+
+#[test]
+fn columns_of_queries(rt: HostRuntime) -> Result<(), Fail> {
+    let t = Trees(rt.alloc());
+    let (symbol, word, byte) = (Kind::Text(4), Kind::Unsigned(32), Kind::Unsigned(8));
+    expect_kinds(&rt, t.read("trades")?, &[symbol, word, word])?;
+    let totals = t.two_totals(Agg::Count { at: 0 }, Agg::Avg(t.column("v")?), t.read("s")?)?;
+    expect_kinds(&rt, totals, &[word, byte])?;
+    let greatest = t.total(Agg::Max(t.column("symbol")?), "k", t.read("it")?)?;
+    let by_symbol = t.per_symbol(4, t.read("trades")?, greatest)?;
+    let windows = t.each(2, 1, t.read("trades")?, t.greatest_of_sums()?)?;
+    let both = t.concat(by_symbol, windows)?;
+    expect_kinds(&rt, both, &[symbol, symbol, word])?;
+    let same = t.binary(Op::Eq, t.column("symbol")?, t.letters("A")?)?;
+    let flags = t.pick(same, "same", None, t.read("other")?)?;
+    expect_kinds(&rt, flags, &[Kind::Unsigned(1)])
 }

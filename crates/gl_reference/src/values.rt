@@ -18,7 +18,11 @@ use gl_schema::Column;
 fn power(width: u8) -> Option<u128>
     ensures { IfSome result (λ p. p ≡ 2 ^ width) }
 {
-    if width < 128 { Some(1u128 << width) } else { None }
+    if width < 128 {
+        Some(1u128 << width)
+    } else {
+        None
+    }
 }
 
 fn bit(holds: bool) -> Option<u128>
@@ -135,7 +139,10 @@ pub fn value_of(columns: &[Column], place: Kind, expr: &Expr, row: &[u128]) -> O
             cast(kind_of(columns, own, arg), *kind, word)
         }
         Expr::Binary {
-            op, left, right, ..
+            op,
+            left,
+            right,
+            ..
         } => {
             let sort = op.sort();
             let at_left = operand_place(sort, place, left, right, kind_of(columns, place, right));

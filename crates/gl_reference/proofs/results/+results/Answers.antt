@@ -48,7 +48,7 @@ pub over_groups-loop-group-init : goal.over_groups-loop-group-init
 over_groups-loop-group-init t c = (c.new-rows.ensures, refl)
 
 pub over_groups-loop-group-preserved : goal.over_groups-loop-group-preserved
-over_groups-loop-group-preserved t c = 
+over_groups-loop-group-preserved t c =
     let over : Group → List Row → Bool → Type 0 = λ g. WithKey (IsResultIn (query_shape c.args.body.now) (only c.args.var.now c.args.columns.now g.rows)) g.key in
     let is = subst (λ (rows : List Row). IsResultIn (query_shape c.args.body.now) (only c.args.var.now c.args.columns.now rows) c.in_ok-part.part.rows c.in_ok-part.part.spill) c.as_slice.ensures c.in_ok-part.ensures in
     let made : c.in_ok-keyed.keyed ≡ map (λ (row : Row). c.group-item.result.key ∷ row) c.in_ok-part.part.rows =
@@ -90,7 +90,7 @@ pub over_slices-loop-slice-init : goal.over_slices-loop-slice-init
 over_slices-loop-slice-init t c = (c.new-rows.ensures, refl)
 
 pub over_slices-loop-slice-preserved : goal.over_slices-loop-slice-preserved
-over_slices-loop-slice-preserved t c = 
+over_slices-loop-slice-preserved t c =
     let over : List Row → List Row → Bool → Type 0 = λ rows. IsResultIn (query_shape c.args.body.now) (only c.args.var.now c.args.columns.now rows) in
     let now : Bor (List Row) → List Row = λ s. s.now in
     let more = joined_push over (map now (take c.loop-slice.slice-index c.args.slices.now)) c.slice-item.result.now c.loop-slice.rows c.in_ok-part.part.rows c.loop-slice.spill c.in_ok-part.part.spill c.loop-slice.invariant c.in_ok-part.ensures in
@@ -189,18 +189,18 @@ pub result_of-returns-in-Read : goal.result_of-returns-in-Read
 result_of-returns-in-Read t c = subst (λ (q : Query). IfOk c.read.result (λ a. IsResultIn (query_shape q) (env_view c.args.sources.now) a.rows a.spill)) (sym c.in-Read.is) c.read.ensures
 
 pub result_of-returns-in_ok-from-in-Rows : goal.result_of-returns-in_ok-from-in-Rows
-result_of-returns-in_ok-from-in-Rows t c = 
+result_of-returns-in_ok-from-in-Rows t c =
     let made = subst (λ (q : Query). IfOk c.rows_from.result (λ a. IsResultIn (shape.Rows (pick_shape c.in-Rows.pick) (option_map expr_shape c.in-Rows.filter) (query_shape q)) (env_view c.args.sources.now) a.rows a.spill)) c.deref-in-Rows.ensures c.rows_from.ensures in
     subst (λ (q : Query). IfOk c.rows_from.result (λ a. IsResultIn (query_shape q) (env_view c.args.sources.now) a.rows a.spill)) (sym c.in-Rows.is) made
 
 pub result_of-returns-in_ok-from-in-Total : goal.result_of-returns-in_ok-from-in-Total
-result_of-returns-in_ok-from-in-Total t c = 
+result_of-returns-in_ok-from-in-Total t c =
     let made = subst (λ (q : Query). IfOk c.total_from.result (λ a. IsResultIn (shape.Total (map agg_item_shape c.as_slice.result.now) (query_shape q)) (env_view c.args.sources.now) a.rows a.spill)) c.deref-in-Total-2.ensures c.total_from.ensures in
     let all = subst (λ (aggs : List AggItem). IfOk c.total_from.result (λ a. IsResultIn (shape.Total (map agg_item_shape aggs) (query_shape c.in-Total.source.value)) (env_view c.args.sources.now) a.rows a.spill)) c.as_slice.ensures made in
     subst (λ (q : Query). IfOk c.total_from.result (λ a. IsResultIn (query_shape q) (env_view c.args.sources.now) a.rows a.spill)) (sym c.in-Total.is) all
 
 pub result_of-returns-in_ok-inside-in-Each : goal.result_of-returns-in_ok-inside-in-Each
-result_of-returns-in_ok-inside-in-Each t c = 
+result_of-returns-in_ok-inside-in-Each t c =
     let env = env_view c.args.sources.now in
     let from = c.in_ok-from-in-Each.from in
     let is = subst (λ (q : Query). IsResultIn (query_shape q) env from.rows from.spill) c.deref-in-Each.ensures c.in_ok-from-in-Each.ensures in
@@ -213,7 +213,7 @@ result_of-returns-in_ok-inside-in-Each t c =
     subst (λ (q : Query). IsResultIn (query_shape q) env c.of_parts.result.rows c.of_parts.result.spill) (sym c.in-Each.is) made
 
 pub result_of-returns-in_ok-further-in-PerGroup : goal.result_of-returns-in_ok-further-in-PerGroup
-result_of-returns-in_ok-further-in-PerGroup t c = 
+result_of-returns-in_ok-further-in-PerGroup t c =
     let env = env_view c.args.sources.now in
     let from = c.in_ok-from-in-PerGroup.from in
     let most = c.in_ok-most-in-PerGroup.most in
@@ -232,7 +232,7 @@ result_of-returns-in_ok-further-in-PerGroup t c =
     subst (λ (q : Query). IsResultIn (query_shape q) env c.of_parts-in-PerGroup.result.rows c.of_parts-in-PerGroup.result.spill) (sym c.in-PerGroup.is) made
 
 pub result_of-returns-in_ok-second-in-Union : goal.result_of-returns-in_ok-second-in-Union
-result_of-returns-in_ok-second-in-Union t c = 
+result_of-returns-in_ok-second-in-Union t c =
     let env = env_view c.args.sources.now in
     let first = c.in_ok-first-in-Union.first in
     let second = c.in_ok-second-in-Union.second in
@@ -243,7 +243,7 @@ result_of-returns-in_ok-second-in-Union t c =
     subst (λ (q : Query). IfOk c.union_of.result (λ a. IsResultIn (query_shape q) (env_view c.args.sources.now) a.rows a.spill)) (sym c.in-Union.is) made
 
 pub result_of-returns-in_ok-second-in-Concat : goal.result_of-returns-in_ok-second-in-Concat
-result_of-returns-in_ok-second-in-Concat t c = 
+result_of-returns-in_ok-second-in-Concat t c =
     let env = env_view c.args.sources.now in
     let first = c.in_ok-first-in-Concat.first in
     let second = c.in_ok-second-in-Concat.second in
