@@ -16,3 +16,5 @@ pub use rows::Fault;
 
 #[cfg(test)]
 mod tests;
+#[cfg(test)]
+mod trees;

@@ -1,13 +1,12 @@
-//! Worked rows of the meaning of queries: the values of their results.
+//! Worked rows of the meaning of queries: values, columns, and the rows of results.
 
 use crate::columns::{Source, columns_of};
 use crate::kinds::{kind_alone, kind_of};
 use crate::results::evaluate;
+use crate::trees::{Trees, num};
 use crate::values::value_of;
-use gl_bits::lists::copy_of_row;
-use gl_bits::{Kind, Listed, Table};
-use gl_query::{Agg, AggItem, Expr, Item, Name, Num, Op, Pick, Query, Statement};
-use gl_schema::{Column, NameText, Schema, Stream};
+use gl_bits::{Kind, Table};
+use gl_query::{Agg, Expr, Op, Query, Statement};
 use std::alloc::Global;
 use std::test::Fail;
 
@@ -21,473 +20,363 @@ const UBS: u128 = 0x5542_5300;
 
 const UBSN: u128 = 0x5542_534E;
 
-/// Makes trees whose places are all 0.
-#[derive(Clone, Copy)]
-struct Trees(Global);
-
-impl Trees {
-    fn text(self, bytes: &str) -> Result<NameText, Fail> {
-        Ok(Listed::from_vec(Vec::from_slice(self.0, bytes.as_bytes())?))
-    }
-
-    fn name(self, bytes: &str) -> Result<Name, Fail> {
-        Ok(Name {
-            text: self.text(bytes)?,
-            at: 0,
-        })
-    }
-
-    fn column(self, bytes: &str) -> Result<Expr, Fail> {
-        Ok(Expr::Column(self.name(bytes)?))
-    }
-
-    fn letters(self, bytes: &str) -> Result<Expr, Fail> {
-        Ok(Expr::Letters {
-            text: self.text(bytes)?,
-            at: 0,
-        })
-    }
-
-    fn binary(self, op: Op, left: Expr, right: Expr) -> Result<Expr, Fail> {
-        Ok(Expr::Binary {
-            op,
-            left: Box::new(self.0, left).map_err(|_| "no room")?,
-            right: Box::new(self.0, right).map_err(|_| "no room")?,
-            at: 0,
-        })
-    }
-
-    fn read(self, bytes: &str) -> Result<Box<Query>, Fail> {
-        self.boxed(Query::Read(self.name(bytes)?))
-    }
-
-    fn boxed(self, query: Query) -> Result<Box<Query>, Fail> {
-        Ok(Box::new(self.0, query).map_err(|_| "no room")?)
-    }
-
-    /// The column of a source.
-    fn select(self, bytes: &str, source: Box<Query>) -> Result<Box<Query>, Fail> {
-        self.pick(self.column(bytes)?, bytes, None, source)
-    }
-
-    fn pick(
-        self,
-        expr: Expr,
-        name: &str,
-        filter: Option<Expr>,
-        source: Box<Query>,
-    ) -> Result<Box<Query>, Fail> {
-        let mut items = Listed::new(self.0);
-        items.push(Item {
-            expr,
-            name: self.name(name)?,
-        })?;
-        self.boxed(Query::Rows {
-            pick: Pick::Items(items),
-            filter,
-            source,
-        })
-    }
-
-    /// The rows of a source with a symbol.
-    fn with_symbol(self, symbol: &str, source: Box<Query>) -> Result<Box<Query>, Fail> {
-        let filter = self.binary(Op::Eq, self.column("symbol")?, self.letters(symbol)?)?;
-        self.boxed(Query::Rows {
-            pick: Pick::All,
-            filter: Some(filter),
-            source,
-        })
-    }
-
-    fn total(self, agg: Agg, name: &str, source: Box<Query>) -> Result<Box<Query>, Fail> {
-        let mut aggs = Listed::new(self.0);
-        aggs.push(AggItem {
-            agg,
-            name: self.name(name)?,
-        })?;
-        self.boxed(Query::Total { aggs, source })
-    }
-
-    fn two_totals(self, first: Agg, second: Agg, source: Box<Query>) -> Result<Box<Query>, Fail> {
-        let mut aggs = Listed::new(self.0);
-        for (agg, name) in [(first, "first"), (second, "second")] {
-            aggs.push(AggItem {
-                agg,
-                name: self.name(name)?,
-            })?;
-        }
-        self.boxed(Query::Total { aggs, source })
-    }
-
-    fn each(
-        self,
-        size: u128,
-        advance: u128,
-        source: Box<Query>,
-        body: Box<Query>,
-    ) -> Result<Box<Query>, Fail> {
-        self.boxed(Query::Each {
-            var: self.name("it")?,
-            source,
-            size: num(size),
-            advance: num(advance),
-            body,
-            at: 0,
-        })
-    }
-
-    fn per_symbol(
-        self,
-        groups: u128,
-        source: Box<Query>,
-        body: Box<Query>,
-    ) -> Result<Box<Query>, Fail> {
-        self.boxed(Query::PerGroup {
-            var: self.name("it")?,
-            source,
-            key: self.name("symbol")?,
-            groups: num(groups),
-            body,
-            at: 0,
-        })
-    }
-
-    fn union(self, left: Box<Query>, right: Box<Query>) -> Result<Box<Query>, Fail> {
-        self.boxed(Query::Union { left, right, at: 0 })
-    }
-
-    fn concat(self, left: Box<Query>, right: Box<Query>) -> Result<Box<Query>, Fail> {
-        self.boxed(Query::Concat { left, right, at: 0 })
-    }
-
-    /// The sum of a column by the weights 1, 2 and 4.
-    fn weighed(self, bytes: &str) -> Result<Agg, Fail> {
-        let mut weights = Listed::new(self.0);
-        for weight in [1, 2, 4] {
-            weights.push(num(weight))?;
-        }
-        Ok(Agg::Wsum {
-            arg: self.column(bytes)?,
-            weights,
-        })
-    }
-
-    /// The greatest of the sums of two prices, one price on each time.
-    fn greatest_of_sums(self) -> Result<Box<Query>, Fail> {
-        let sums = self.total(Agg::Sum(self.column("price")?), "m", self.read("it")?)?;
-        let windows = self.each(2, 1, self.read("it")?, sums)?;
-        self.total(Agg::Max(self.column("m")?), "top", windows)
-    }
-
-    fn stream(self, bytes: &str, columns: &[(&str, Kind)]) -> Result<Stream, Fail> {
-        let mut list = Listed::new(self.0);
-        for (name, kind) in columns {
-            list.push(Column {
-                name: self.text(name)?,
-                kind: *kind,
-            })?;
-        }
-        Ok(Stream {
-            name: self.text(bytes)?,
-            columns: list,
-        })
-    }
-
-    fn schema(self) -> Result<Schema, Fail> {
-        let trade = [
-            ("symbol", Kind::Text(4)),
-            ("price", Kind::Unsigned(32)),
-            ("volume", Kind::Unsigned(32)),
-        ];
-        let mut streams = Listed::new(self.0);
-        streams.push(self.stream("trades", &trade)?)?;
-        streams.push(self.stream("other", &trade)?)?;
-        streams.push(self.stream("s", &[("v", Kind::Unsigned(8))])?)?;
-        Ok(Schema { streams })
-    }
-
-    fn table(self, rows: &[[u128; 3]]) -> Result<Table, Fail> {
-        let mut out = Listed::new(self.0);
-        for row in rows {
-            out.push(copy_of_row(self.0, row)?)?;
-        }
-        Ok(out)
-    }
-}
-
-fn num(value: u128) -> Num {
-    Num { value, at: 0 }
-}
-
-/// Checks the rows of a result, each given as its only or its first two values, and its spill.
-fn expect(
-    rt: &(impl std::process::Abort + Alloc<A = Global>),
-    query: Box<Query>,
-    inputs: &[Table],
-    want: &[[u128; 2]],
-    spill: bool,
-) -> Result<(), Fail> {
-    let trees = Trees(rt.alloc());
-    let schema = trees.schema()?;
-    assert_eq!(rt; inputs.len(), 3);
-    assert_eq!(rt; schema.streams.len(), 3);
-    let statement = Statement {
-        query: Box::into_inner(query),
-        name: trees.name("r")?,
-    };
-    let answer = evaluate(rt.alloc(), &schema, &statement, inputs).map_err(|_| "no answer")?;
-    assert_eq!(rt; answer.spill, spill);
-    assert_eq!(rt; answer.rows.len(), want.len());
-    for (row, wanted) in answer.rows.as_slice().iter().zip(want) {
-        for (value, wanted) in row.as_slice().iter().zip(wanted) {
-            assert_eq!(rt; value, wanted);
-        }
+/// A test that fails with these words where something does not hold.
+fn ensure(holds: bool, words: &'static str) -> Result<(), Fail> {
+    if !holds {
+        return Err(Fail::from(words));
     }
     Ok(())
 }
 
-/// The inputs of the three streams: trades, other, and the bytes of `s`.
-fn inputs(
-    trees: Trees,
-    trades: &[[u128; 3]],
-    other: &[[u128; 3]],
-    bytes: &[u128],
-) -> Result<Vec<Table>, Fail> {
-    let mut last = Listed::new(trees.0);
-    for byte in bytes {
-        last.push(copy_of_row(trees.0, &[*byte])?)?;
+/// What comes in on the three streams: trades, other, and the bytes of `s`.
+#[derive(Clone, Copy)]
+struct Given<'a> {
+    trades: &'a [[u128; 3]],
+    other: &'a [[u128; 3]],
+    bytes: &'a [[u128; 1]],
+}
+
+const NOTHING: Given<'static> = Given {
+    trades: &[],
+    other: &[],
+    bytes: &[],
+};
+
+fn trades(rows: &[[u128; 3]]) -> Given<'_> {
+    Given {
+        trades: rows,
+        other: &[],
+        bytes: &[],
     }
-    let mut all = Vec::new(trees.0);
-    all.push(trees.table(trades)?).map_err(|_| "no room")?;
-    all.push(trees.table(other)?).map_err(|_| "no room")?;
-    all.push(last).map_err(|_| "no room")?;
+}
+
+fn both<'a>(trades: &'a [[u128; 3]], other: &'a [[u128; 3]]) -> Given<'a> {
+    Given {
+        trades,
+        other,
+        bytes: &[],
+    }
+}
+
+fn inputs(t: Trees, given: Given<'_>) -> Result<Vec<Table>, Fail> {
+    let mut all = Vec::new(t.0);
+    all.push(t.table(given.trades)?).map_err(|_| "no room")?;
+    all.push(t.table(given.other)?).map_err(|_| "no room")?;
+    all.push(t.bytes(given.bytes)?).map_err(|_| "no room")?;
     Ok(all)
 }
 
+/// Whether the rows of a result begin with these values.
+fn same_rows(rows: &Table, want: &[[u128; 2]]) -> bool {
+    if rows.len() != want.len() {
+        return false;
+    }
+    for (row, wanted) in rows.as_slice().iter().zip(want) {
+        for (value, wanted) in row.as_slice().iter().zip(wanted) {
+            if value != wanted {
+                return false;
+            }
+        }
+    }
+    true
+}
+
+/// Checks the rows of a result, each by its only or its first two values, and its spill.
+fn gives(
+    t: Trees,
+    query: Box<Query>,
+    given: Given<'_>,
+    want: &[[u128; 2]],
+    spill: bool,
+) -> Result<(), Fail> {
+    let schema = t.schema()?;
+    let inputs = inputs(t, given)?;
+    if inputs.len() != schema.streams.len() {
+        return Err(Fail::from("other inputs"));
+    }
+    let statement = Statement {
+        query: Box::into_inner(query),
+        name: t.name("r")?,
+    };
+    let answer = evaluate(t.0, &schema, &statement, inputs.as_slice()).map_err(|_| "no answer")?;
+    ensure(same_rows(&answer.rows, want), "other rows")?;
+    ensure(answer.spill == spill, "other spill")
+}
+
+fn prices(t: Trees, source: &str) -> Result<Box<Query>, Fail> {
+    t.select("price", t.read(source)?)
+}
+
+fn ubsn_prices(t: Trees) -> Result<Box<Query>, Fail> {
+    t.select("price", t.with_symbol("UBSN", t.read("trades")?)?)
+}
+
+fn doubled_price_and_volume(t: Trees) -> Result<Box<Query>, Fail> {
+    let twice = t.binary(Op::Mul, t.column("price")?, Expr::Number(num(2)))?;
+    let sum = t.binary(Op::Add, twice, t.column("volume")?)?;
+    t.pick(sum, "x", None, t.read("trades")?)
+}
+
 #[test]
-fn selects_and_totals(rt: HostRuntime) -> Result<(), Fail> {
+fn selects(rt: HostRuntime) -> Result<(), Fail> {
     let t = Trees(rt.alloc());
-    let none = inputs(t, &[], &[], &[])?;
-    let one = inputs(t, &[[UBSN, 7, 1]], &[], &[])?;
-    expect(
-        &rt,
-        t.select("price", t.read("trades")?)?,
-        one.as_slice(),
+    gives(
+        t,
+        prices(t, "trades")?,
+        trades(&[[UBSN, 7, 1]]),
         &[[7, 0]],
         false,
     )?;
-    expect(
-        &rt,
-        t.select("price", t.read("trades")?)?,
-        none.as_slice(),
-        &[],
+    gives(t, prices(t, "trades")?, NOTHING, &[], false)?;
+    let two = [[UBSN, 7, 1], [UBS, 8, 2]];
+    gives(t, ubsn_prices(t)?, trades(&two), &[[7, 0]], false)?;
+    gives(
+        t,
+        doubled_price_and_volume(t)?,
+        trades(&[[A, 7, 1]]),
+        &[[15, 0]],
         false,
-    )?;
-    let totals = t.two_totals(
-        Agg::Sum(t.column("volume")?),
-        Agg::Count { at: 0 },
-        t.read("trades")?,
-    )?;
-    expect(&rt, totals, none.as_slice(), &[[0, 0]], false)?;
-    let two = inputs(t, &[[UBSN, 7, 1], [UBS, 8, 2]], &[], &[])?;
-    let prices = t.select("price", t.with_symbol("UBSN", t.read("trades")?)?)?;
-    expect(&rt, prices, two.as_slice(), &[[7, 0]], false)?;
-    let twice = t.binary(Op::Mul, t.column("price")?, Expr::Number(num(2)))?;
-    let sum = t.binary(Op::Add, twice, t.column("volume")?)?;
-    let sums = t.pick(sum, "x", None, t.read("trades")?)?;
-    expect(&rt, sums, one.as_slice(), &[[15, 0]], false)?;
-    let four = inputs(t, &[10, 20, 30, 40].map(|price| [A, price, 1]), &[], &[])?;
-    let weighed = t.total(t.weighed("price")?, "w", t.read("trades")?)?;
-    expect(&rt, weighed, four.as_slice(), &[[170, 0]], false)?;
-    let bytes = inputs(t, &[], &[], &[200, 100])?;
-    for (given, want) in [(&bytes, [44, 150]), (&none, [0, 0])] {
-        let totals = t.two_totals(
-            Agg::Sum(t.column("v")?),
-            Agg::Avg(t.column("v")?),
-            t.read("s")?,
-        )?;
-        expect(&rt, totals, given.as_slice(), &[want], false)?;
-    }
-    Ok(())
+    )
+}
+
+fn volume_and_count(t: Trees) -> Result<Box<Query>, Fail> {
+    let sum = Agg::Sum(t.column("volume")?);
+    t.two_totals(sum, Agg::Count { at: 0 }, t.read("trades")?)
+}
+
+fn sum_and_average(t: Trees) -> Result<Box<Query>, Fail> {
+    let sum = Agg::Sum(t.column("v")?);
+    t.two_totals(sum, Agg::Avg(t.column("v")?), t.read("s")?)
+}
+
+fn weighed_prices(t: Trees, source: &str) -> Result<Box<Query>, Fail> {
+    t.total(t.weighed("price")?, "w", t.read(source)?)
+}
+
+#[test]
+fn totals(rt: HostRuntime) -> Result<(), Fail> {
+    let t = Trees(rt.alloc());
+    gives(t, volume_and_count(t)?, NOTHING, &[[0, 0]], false)?;
+    let bytes = Given {
+        bytes: &[[200], [100]],
+        ..NOTHING
+    };
+    gives(t, sum_and_average(t)?, bytes, &[[44, 150]], false)?;
+    gives(t, sum_and_average(t)?, NOTHING, &[[0, 0]], false)?;
+    let four = [[A, 10, 1], [A, 20, 1], [A, 30, 1], [A, 40, 1]];
+    gives(
+        t,
+        weighed_prices(t, "trades")?,
+        trades(&four),
+        &[[170, 0]],
+        false,
+    )
+}
+
+fn ubsn_counts(t: Trees, size: u128, advance: u128) -> Result<Box<Query>, Fail> {
+    let kept = t.with_symbol("UBSN", t.read("it")?)?;
+    let body = t.total(Agg::Count { at: 0 }, "n", kept)?;
+    t.each(size, advance, t.read("trades")?, body)
+}
+
+fn greatest_sums(t: Trees) -> Result<Box<Query>, Fail> {
+    t.each(4, 4, t.read("trades")?, t.greatest_of_sums()?)
+}
+
+fn sums_with_gaps(t: Trees) -> Result<Box<Query>, Fail> {
+    let body = t.total(Agg::Sum(t.column("price")?), "v", t.read("it")?)?;
+    t.each(2, 5, t.read("trades")?, body)
+}
+
+fn weighed_windows(t: Trees) -> Result<Box<Query>, Fail> {
+    t.each(3, 1, t.read("trades")?, weighed_prices(t, "it")?)
 }
 
 #[test]
 fn windows(rt: HostRuntime) -> Result<(), Fail> {
     let t = Trees(rt.alloc());
-    let five = inputs(t, &[[UBSN, 1, 1]; 5], &[], &[])?;
-    let counts = t.total(
-        Agg::Count { at: 0 },
-        "n",
-        t.with_symbol("UBSN", t.read("it")?)?,
-    )?;
-    let query = t.each(4, 2, t.read("trades")?, counts)?;
-    expect(
-        &rt,
-        query,
-        five.as_slice(),
+    let five = [[UBSN, 1, 1]; 5];
+    gives(
+        t,
+        ubsn_counts(t, 4, 2)?,
+        trades(&five),
         &[[4, 0], [3, 0], [1, 0]],
         false,
     )?;
-    let prices = [1, 2, 3, 4, 9].map(|price| [UBSN, price, 1]);
-    let four = inputs(t, &prices[..4], &[], &[])?;
-    let query = t.each(4, 4, t.read("trades")?, t.greatest_of_sums()?)?;
-    expect(&rt, query, four.as_slice(), &[[7, 0]], false)?;
-    let five = inputs(t, &prices, &[], &[])?;
-    let query = t.each(4, 4, t.read("trades")?, t.greatest_of_sums()?)?;
-    expect(&rt, query, five.as_slice(), &[[7, 0], [9, 0]], false)?;
-    let six = inputs(
+    let four = [1, 2, 3, 4].map(|price| [UBSN, price, 1]);
+    gives(t, greatest_sums(t)?, trades(&four), &[[7, 0]], false)?;
+    let five = [1, 2, 3, 4, 9].map(|price| [UBSN, price, 1]);
+    gives(
         t,
-        &[1, 2, 3, 4, 5, 6].map(|price| [UBSN, price, 1]),
-        &[],
-        &[],
-    )?;
-    let sums = t.total(Agg::Sum(t.column("price")?), "v", t.read("it")?)?;
-    let query = t.each(2, 5, t.read("trades")?, sums)?;
-    expect(&rt, query, six.as_slice(), &[[3, 0], [6, 0]], false)?;
-    let three = inputs(t, &[10, 20, 30].map(|price| [UBSN, price, 1]), &[], &[])?;
-    let body = t.total(t.weighed("price")?, "w", t.read("it")?)?;
-    let query = t.each(3, 1, t.read("trades")?, body)?;
-    expect(
-        &rt,
-        query,
-        three.as_slice(),
-        &[[170, 0], [80, 0], [30, 0]],
+        greatest_sums(t)?,
+        trades(&five),
+        &[[7, 0], [9, 0]],
         false,
     )?;
-    let thousand = inputs(t, &[[UBSN, 1, 1]; 1000], &[], &[])?;
-    let counts = t.total(
-        Agg::Count { at: 0 },
-        "n",
-        t.with_symbol("UBSN", t.read("it")?)?,
+    let six = [1, 2, 3, 4, 5, 6].map(|price| [UBSN, price, 1]);
+    gives(
+        t,
+        sums_with_gaps(t)?,
+        trades(&six),
+        &[[3, 0], [6, 0]],
+        false,
     )?;
-    let query = t.each(600, 60, t.read("trades")?, counts)?;
-    let mut want = [[600, 0]; 17];
-    for (place, n) in [580, 520, 460, 400, 340, 280, 220, 160, 100, 40]
-        .iter()
-        .enumerate()
-    {
-        want[place + 7] = [*n, 0];
-    }
-    expect(&rt, query, thousand.as_slice(), &want, false)
+    let three = [10, 20, 30].map(|price| [UBSN, price, 1]);
+    let want = [[170, 0], [80, 0], [30, 0]];
+    gives(t, weighed_windows(t)?, trades(&three), &want, false)
+}
+
+#[test]
+fn many_windows(rt: HostRuntime) -> Result<(), Fail> {
+    let t = Trees(rt.alloc());
+    let thousand = [[UBSN, 1, 1]; 1000];
+    let want = [
+        600, 600, 600, 600, 600, 600, 600, 580, 520, 460, 400, 340, 280, 220, 160, 100, 40,
+    ]
+    .map(|n| [n, 0]);
+    gives(t, ubsn_counts(t, 600, 60)?, trades(&thousand), &want, false)
+}
+
+fn volumes_by_symbol(t: Trees, groups: u128) -> Result<Box<Query>, Fail> {
+    let body = t.total(Agg::Sum(t.column("volume")?), "v", t.read("it")?)?;
+    t.per_symbol(groups, t.read("trades")?, body)
+}
+
+fn groups_in_windows(t: Trees, groups: u128) -> Result<Box<Query>, Fail> {
+    let sums = t.total(Agg::Sum(t.column("price")?), "t", t.read("it")?)?;
+    let by_symbol = t.per_symbol(groups, t.read("it")?, sums)?;
+    let greatest = Agg::Max(t.column("symbol")?);
+    let body = t.two_totals(greatest, Agg::Sum(t.column("t")?), by_symbol)?;
+    t.each(2, 2, t.read("trades")?, body)
 }
 
 #[test]
 fn groups(rt: HostRuntime) -> Result<(), Fail> {
     let t = Trees(rt.alloc());
-    let three = inputs(t, &[[A, 1, 10], [B, 1, 20], [A, 1, 30]], &[], &[])?;
-    for (groups, want, spill) in [
-        (4, [[A, 40], [B, 20]].as_slice(), false),
-        (1, [[A, 40]].as_slice(), true),
-    ] {
-        let sums = t.total(Agg::Sum(t.column("volume")?), "v", t.read("it")?)?;
-        let query = t.per_symbol(groups, t.read("trades")?, sums)?;
-        expect(&rt, query, three.as_slice(), want, spill)?;
-    }
-    let four = [[A, 1, 1], [B, 2, 1], [C, 4, 1], [A, 8, 1]];
-    let four = inputs(t, &four, &[], &[])?;
-    for (groups, want, spill) in [(2, [[B, 3], [C, 12]], false), (1, [[A, 1], [C, 4]], true)] {
-        let sums = t.total(Agg::Sum(t.column("price")?), "t", t.read("it")?)?;
-        let by_symbol = t.per_symbol(groups, t.read("it")?, sums)?;
-        let greatest = Agg::Max(t.column("symbol")?);
-        let body = t.two_totals(greatest, Agg::Sum(t.column("t")?), by_symbol)?;
-        let query = t.each(2, 2, t.read("trades")?, body)?;
-        expect(&rt, query, four.as_slice(), &want, spill)?;
-    }
-    Ok(())
-}
-
-#[test]
-fn unions_and_rows_side_by_side(rt: HostRuntime) -> Result<(), Fail> {
-    let t = Trees(rt.alloc());
-    let both = inputs(t, &[[UBSN, 7, 1]], &[[UBSN, 9, 1]], &[])?;
-    let query = t.union(
-        t.select("price", t.read("trades")?)?,
-        t.select("price", t.read("other")?)?,
-    )?;
-    expect(&rt, query, both.as_slice(), &[[7, 0], [9, 0]], false)?;
-    let two = inputs(t, &[[A, 5, 1], [A, 7, 1]], &[[B, 6, 20]], &[])?;
-    let heavy = t.binary(Op::Gt, t.column("volume")?, Expr::Number(num(10)))?;
-    let kept = t.boxed(Query::Rows {
-        pick: Pick::All,
-        filter: Some(heavy),
-        source: t.read("other")?,
-    })?;
-    let query = t.concat(
-        t.total(Agg::Sum(t.column("price")?), "p", t.read("trades")?)?,
-        t.total(Agg::Count { at: 0 }, "n", kept)?,
-    )?;
-    expect(&rt, query, two.as_slice(), &[[12, 1]], false)?;
-    let one = inputs(t, &[[A, 7, 5]], &[], &[])?;
-    let sum = t.binary(Op::Add, t.column("price")?, t.column("volume")?)?;
-    let query = t.concat(
-        t.select("price", t.read("trades")?)?,
-        t.pick(sum, "pv", None, t.read("trades")?)?,
-    )?;
-    expect(&rt, query, one.as_slice(), &[[7, 12]], false)?;
-    let mixed = inputs(t, &[[A, 5, 1], [A, 7, 1]], &[[B, 6, 1]], &[])?;
-    let source = t.union(
-        t.select("price", t.read("trades")?)?,
-        t.select("price", t.read("other")?)?,
-    )?;
-    let query = t.concat(
-        t.total(Agg::Sum(t.column("price")?), "p", source)?,
-        t.total(Agg::Count { at: 0 }, "n", t.read("trades")?)?,
-    )?;
-    expect(&rt, query, mixed.as_slice(), &[[18, 2]], false)?;
-    let pairs = inputs(t, &[[A, 1, 1]; 2], &[[A, 1, 1]; 2], &[])?;
-    let counts = |source: &str| -> Result<Box<Query>, Fail> {
-        let body = t.total(Agg::Count { at: 0 }, "n", t.read("it")?)?;
-        t.each(2, 1, t.read(source)?, body)
-    };
-    let query = t.union(counts("trades")?, counts("other")?)?;
-    expect(
-        &rt,
-        query,
-        pairs.as_slice(),
-        &[[2, 0], [1, 0], [2, 0], [1, 0]],
+    let three = [[A, 1, 10], [B, 1, 20], [A, 1, 30]];
+    gives(
+        t,
+        volumes_by_symbol(t, 4)?,
+        trades(&three),
+        &[[A, 40], [B, 20]],
         false,
     )?;
-    let ones = inputs(t, &[[A, 1, 1]], &[[A, 2, 1]], &[])?;
-    let source = t.union(
-        t.select("price", t.read("trades")?)?,
-        t.select("price", t.read("other")?)?,
+    gives(
+        t,
+        volumes_by_symbol(t, 1)?,
+        trades(&three),
+        &[[A, 40]],
+        true,
     )?;
-    let query = t.each(2, 2, source, t.greatest_of_sums()?)?;
-    expect(&rt, query, ones.as_slice(), &[[3, 0]], false)
+    let four = [[A, 1, 1], [B, 2, 1], [C, 4, 1], [A, 8, 1]];
+    gives(
+        t,
+        groups_in_windows(t, 2)?,
+        trades(&four),
+        &[[B, 3], [C, 12]],
+        false,
+    )?;
+    gives(
+        t,
+        groups_in_windows(t, 1)?,
+        trades(&four),
+        &[[A, 1], [C, 4]],
+        true,
+    )
 }
 
-/// Checks the kind and the value of an expression over one row of the first stream.
-fn expect_value(
-    rt: &(impl std::process::Abort + Alloc<A = Global>),
-    expr: Expr,
-    row: &[u128],
-    kind: Kind,
-    value: u128,
-) -> Result<(), Fail> {
-    let schema = Trees(rt.alloc()).schema()?;
-    let Some(stream) = schema.streams.as_slice().first() else {
-        return Err(Fail::from("no stream"));
-    };
-    let columns = stream.columns.as_slice();
-    let place = kind_alone(&expr);
-    assert!(rt; kind_of(columns, place, &expr) == kind);
-    assert_eq!(rt; value_of(columns, place, &expr, row), Some(value));
-    Ok(())
+fn all_prices(t: Trees) -> Result<Box<Query>, Fail> {
+    t.union(prices(t, "trades")?, prices(t, "other")?)
+}
+
+fn pair_counts(t: Trees, source: &str) -> Result<Box<Query>, Fail> {
+    let body = t.total(Agg::Count { at: 0 }, "n", t.read("it")?)?;
+    t.each(2, 1, t.read(source)?, body)
+}
+
+fn windows_of_all_prices(t: Trees) -> Result<Box<Query>, Fail> {
+    t.each(2, 2, all_prices(t)?, t.greatest_of_sums()?)
 }
 
 #[test]
-fn values_of_expressions(rt: HostRuntime) -> Result<(), Fail> {
+fn unions(rt: HostRuntime) -> Result<(), Fail> {
     let t = Trees(rt.alloc());
+    let given = both(&[[UBSN, 7, 1]], &[[UBSN, 9, 1]]);
+    gives(t, all_prices(t)?, given, &[[7, 0], [9, 0]], false)?;
+    let pair = [[A, 1, 1]; 2];
+    let counts = t.union(pair_counts(t, "trades")?, pair_counts(t, "other")?)?;
+    let want = [[2, 0], [1, 0], [2, 0], [1, 0]];
+    gives(t, counts, both(&pair, &pair), &want, false)?;
+    let given = both(&[[A, 1, 1]], &[[A, 2, 1]]);
+    gives(t, windows_of_all_prices(t)?, given, &[[3, 0]], false)
+}
+
+fn sum_beside_count(t: Trees) -> Result<Box<Query>, Fail> {
+    let heavy = t.binary(Op::Gt, t.column("volume")?, Expr::Number(num(10)))?;
+    let kept = t.all(Some(heavy), t.read("other")?)?;
+    let sum = t.total(Agg::Sum(t.column("price")?), "p", t.read("trades")?)?;
+    t.concat(sum, t.total(Agg::Count { at: 0 }, "n", kept)?)
+}
+
+fn price_beside_sum(t: Trees) -> Result<Box<Query>, Fail> {
+    let sum = t.binary(Op::Add, t.column("price")?, t.column("volume")?)?;
+    let sums = t.pick(sum, "pv", None, t.read("trades")?)?;
+    t.concat(prices(t, "trades")?, sums)
+}
+
+fn union_beside_count(t: Trees) -> Result<Box<Query>, Fail> {
+    let sum = t.total(Agg::Sum(t.column("price")?), "p", all_prices(t)?)?;
+    t.concat(sum, t.total(Agg::Count { at: 0 }, "n", t.read("trades")?)?)
+}
+
+#[test]
+fn rows_side_by_side(rt: HostRuntime) -> Result<(), Fail> {
+    let t = Trees(rt.alloc());
+    let given = both(&[[A, 5, 1], [A, 7, 1]], &[[B, 6, 20]]);
+    gives(t, sum_beside_count(t)?, given, &[[12, 1]], false)?;
+    gives(
+        t,
+        price_beside_sum(t)?,
+        trades(&[[A, 7, 5]]),
+        &[[7, 12]],
+        false,
+    )?;
+    let given = both(&[[A, 5, 1], [A, 7, 1]], &[[B, 6, 1]]);
+    gives(t, union_beside_count(t)?, given, &[[18, 2]], false)
+}
+
+/// Checks the kind and the value of an expression over a row of trades.
+fn has_value(t: Trees, expr: Expr, kind: Kind, value: u128) -> Result<(), Fail> {
+    let columns = t.trade_columns()?;
+    let place = kind_alone(&expr);
+    let found = kind_of(columns.as_slice(), place, &expr);
+    ensure(found == kind, "other kind")?;
     let row = [UBSN, 0xFFFF_FFFE, 200];
-    let (bit, word) = (Kind::Unsigned(1), Kind::Unsigned(32));
+    let found = value_of(columns.as_slice(), place, &expr, &row);
+    ensure(found == Some(value), "other value")
+}
+
+/// Arithmetic wraps in the kind's width, also where both operands are literals.
+#[test]
+fn arithmetic(rt: HostRuntime) -> Result<(), Fail> {
+    let t = Trees(rt.alloc());
     for (op, right, value) in [
         (Op::Add, 3, 1),
         (Op::Sub, 0xFFFF_FFFF, 0xFFFF_FFFF),
         (Op::Mul, 2, 0xFFFF_FFFC),
     ] {
         let expr = t.binary(op, t.column("price")?, Expr::Number(num(right)))?;
-        expect_value(&rt, expr, &row, word, value)?;
+        has_value(t, expr, Kind::Unsigned(32), value)?;
     }
+    let most = Expr::Number(num(0xFFFF_FFFF_FFFF_FFFF));
+    let loose = t.binary(Op::Add, most, Expr::Number(num(1)))?;
+    has_value(t, loose, Kind::Unsigned(64), 0)
+}
+
+/// Texts compare byte by byte, the first byte highest.
+#[test]
+fn comparisons_of_texts(rt: HostRuntime) -> Result<(), Fail> {
+    let t = Trees(rt.alloc());
     for (op, text, value) in [
         (Op::Eq, "UBSN", 1),
         (Op::Ne, "UBS", 1),
@@ -497,37 +386,44 @@ fn values_of_expressions(rt: HostRuntime) -> Result<(), Fail> {
         (Op::Ge, "V", 0),
     ] {
         let expr = t.binary(op, t.column("symbol")?, t.letters(text)?)?;
-        expect_value(&rt, expr, &row, bit, value)?;
+        has_value(t, expr, Kind::Unsigned(1), value)?;
     }
+    Ok(())
+}
+
+/// A number keeps its low bits, a text its first bytes.
+#[test]
+fn casts(rt: HostRuntime) -> Result<(), Fail> {
+    let t = Trees(rt.alloc());
     for (column, kind, value) in [
         ("volume", Kind::Unsigned(7), 72),
         ("volume", Kind::Unsigned(64), 200),
         ("symbol", Kind::Text(2), 0x5542),
         ("symbol", Kind::Text(8), 0x5542_534E_0000_0000),
     ] {
-        let arg = Box::new(t.0, t.column(column)?).map_err(|_| "no room")?;
-        expect_value(&rt, Expr::Cast { arg, kind, at: 0 }, &row, kind, value)?;
+        let expr = t.cast(t.column(column)?, kind)?;
+        has_value(t, expr, kind, value)?;
     }
-    for (op, value) in [(Op::And, 0), (Op::Or, 1)] {
-        let small = t.binary(Op::Lt, t.column("volume")?, Expr::Number(num(200)))?;
-        let arg = t.binary(Op::Lt, Expr::Number(num(5)), t.column("volume")?)?;
-        let left = t.binary(op, small, arg)?;
-        let arg = Box::new(t.0, left).map_err(|_| "no room")?;
-        expect_value(&rt, Expr::Not { arg, at: 0 }, &row, bit, 1 - value)?;
-    }
-    let most = Expr::Number(num(0xFFFF_FFFF_FFFF_FFFF));
-    let loose = t.binary(Op::Add, most, Expr::Number(num(1)))?;
-    expect_value(&rt, loose, &row, Kind::Unsigned(64), 0)
+    Ok(())
+}
+
+fn not_light_and_heavy(t: Trees, op: Op) -> Result<Expr, Fail> {
+    let light = t.binary(Op::Lt, t.column("volume")?, Expr::Number(num(200)))?;
+    let heavy = t.binary(Op::Lt, Expr::Number(num(5)), t.column("volume")?)?;
+    t.not(t.binary(op, light, heavy)?)
+}
+
+#[test]
+fn conditions(rt: HostRuntime) -> Result<(), Fail> {
+    let t = Trees(rt.alloc());
+    has_value(t, not_light_and_heavy(t, Op::And)?, Kind::Unsigned(1), 1)?;
+    has_value(t, not_light_and_heavy(t, Op::Or)?, Kind::Unsigned(1), 0)
 }
 
 /// Checks the kinds of the columns of a query over the streams.
-fn expect_kinds(
-    rt: &(impl std::process::Abort + Alloc<A = Global>),
-    query: Box<Query>,
-    want: &[Kind],
-) -> Result<(), Fail> {
-    let schema = Trees(rt.alloc()).schema()?;
-    let mut sources = Vec::new(rt.alloc());
+fn has_kinds(t: Trees, query: Box<Query>, want: &[Kind]) -> Result<(), Fail> {
+    let schema = t.schema()?;
+    let mut sources = Vec::new(t.0);
     for stream in schema.streams.as_slice() {
         let source = Source {
             name: stream.name.as_slice(),
@@ -537,27 +433,27 @@ fn expect_kinds(
         sources.push(source).map_err(|_| "no room")?;
     }
     let query = Box::into_inner(query);
-    let columns = columns_of(rt.alloc(), sources.as_slice(), &query)?;
-    assert_eq!(rt; columns.len(), want.len());
+    let columns = columns_of(t.0, sources.as_slice(), &query)?;
+    ensure(columns.len() == want.len(), "other columns")?;
     for (column, kind) in columns.as_slice().iter().zip(want) {
-        assert!(rt; column.kind == *kind);
+        ensure(column.kind == *kind, "other kind")?;
     }
     Ok(())
+}
+
+fn groups_beside_windows(t: Trees) -> Result<Box<Query>, Fail> {
+    let greatest = t.total(Agg::Max(t.column("symbol")?), "k", t.read("it")?)?;
+    let by_symbol = t.per_symbol(4, t.read("trades")?, greatest)?;
+    t.concat(by_symbol, greatest_sums(t)?)
 }
 
 #[test]
 fn columns_of_queries(rt: HostRuntime) -> Result<(), Fail> {
     let t = Trees(rt.alloc());
-    let (symbol, word, byte) = (Kind::Text(4), Kind::Unsigned(32), Kind::Unsigned(8));
-    expect_kinds(&rt, t.read("trades")?, &[symbol, word, word])?;
-    let totals = t.two_totals(Agg::Count { at: 0 }, Agg::Avg(t.column("v")?), t.read("s")?)?;
-    expect_kinds(&rt, totals, &[word, byte])?;
-    let greatest = t.total(Agg::Max(t.column("symbol")?), "k", t.read("it")?)?;
-    let by_symbol = t.per_symbol(4, t.read("trades")?, greatest)?;
-    let windows = t.each(2, 1, t.read("trades")?, t.greatest_of_sums()?)?;
-    let both = t.concat(by_symbol, windows)?;
-    expect_kinds(&rt, both, &[symbol, symbol, word])?;
-    let same = t.binary(Op::Eq, t.column("symbol")?, t.letters("A")?)?;
-    let flags = t.pick(same, "same", None, t.read("other")?)?;
-    expect_kinds(&rt, flags, &[Kind::Unsigned(1)])
+    let (text, word, byte) = (Kind::Text(4), Kind::Unsigned(32), Kind::Unsigned(8));
+    has_kinds(t, t.read("trades")?, &[text, word, word])?;
+    has_kinds(t, sum_and_average(t)?, &[byte, byte])?;
+    has_kinds(t, volume_and_count(t)?, &[word, word])?;
+    has_kinds(t, groups_beside_windows(t)?, &[text, text, word])?;
+    has_kinds(t, all_prices(t)?, &[word])
 }
