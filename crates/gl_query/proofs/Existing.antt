@@ -1,0 +1,117 @@
+-- An accepted query has a result.
+use Rattle.std.proofs.Common.{◌≡◌, ℕ, suc, List, [], ◌∷◌, ◌++◌, Bool, true, false, length, map, refl, sym, ap, subst, ◌∙◌}
+use Rattle.std.specs.Prelude.{◌||◌, Option, Some, None, IsSome, filter}
+use Rattle.std.proofs.lemmas.List.{length-map}
+use Rattle.gl_bits.specs.Lists.{IsInterleaving, nothing, from_first, from_second}
+use Rattle.gl_query.specs.Shapes.{ExprShape, QueryShape}
+use Rattle.gl_query.specs.Shapes as shape
+use Rattle.gl_query.specs.Columns.{Pace, Once, Step, pace_of, unfiltered}
+use Rattle.gl_query.specs.Results.{Env, Row, Results, IsMade, AreJoined, IsInParts, IsOfBoth, AreBeside, IsResultIn, beside, columns_in, keeps, kept, rows_of, streams_of}
+use Rattle.gl_query.specs.Accepted.{IsAcceptedOver, KeepPace}
+use Rattle.gl_query.specs.Laws.{HasResult, AcceptedHaveResults}
+
+-- as many rows as the pace says
+abbrev pub IsPaced : Env → Option Pace → List Row → Type 0
+IsPaced env None out = Unit {0}
+IsPaced env (Some Once) out = length out ≡ 1
+IsPaced env (Some (Step name)) out = length out ≡ length (rows_of env name)
+
+paced_alike : (env : Env) (pace : Option Pace) (xs ys : List Row) → length ys ≡ length xs → IsPaced env pace xs → IsPaced env pace ys
+paced_alike env None xs ys e p = tt
+paced_alike env (Some Once) xs ys e p = e ∙ p
+paced_alike env (Some (Step name)) xs ys e p = e ∙ p
+
+one_pace : (env : Env) (pace : Option Pace) (xs ys : List Row) → IsSome pace → IsPaced env pace xs → IsPaced env pace ys → length xs ≡ length ys
+one_pace env None xs ys some p q = cc
+one_pace env (Some Once) xs ys some p q = p ∙ sym q
+one_pace env (Some (Step name)) xs ys some p q = p ∙ sym q
+
+all_kept : {A : Type 0} (xs : List A) → filter (λ x. true) xs ≡ xs
+all_kept [] = refl
+all_kept (x ∷ xs) = ap (λ l. x ∷ l) (all_kept xs)
+
+length_beside : (ls rs : List Row) → length ls ≡ length rs → length (beside ls rs) ≡ length ls
+length_beside [] rs e = refl
+length_beside (l ∷ ls) [] e = sym e
+length_beside (l ∷ ls) (r ∷ rs) e = let less : length ls ≡ length rs = cc in ap suc (length_beside ls rs less)
+
+-- a result has as many rows as its pace says
+pub paced : (q : QueryShape) (env : Env) (out : List Row) (spill : Bool) → IsResultIn q env out spill → IsPaced env (pace_of q) out
+paced (shape.Read name) env out spill r = ap length r.0
+paced (shape.Rows pick (Some e) source) env out spill r = tt
+paced (shape.Rows pick None source) env out spill r =
+    let same = ap length r.made ∙ length-map _ _ ∙ ap length (all_kept r.rows) in
+    paced_alike env (pace_of source) r.rows out same (paced source env r.rows spill r.is)
+paced (shape.Total aggs source) env out spill r = ap length r.made
+paced (shape.Each var source size advance body) env out spill r = tt
+paced (shape.PerGroup var source key n body) env out spill r = tt
+paced (shape.Union l r) env out spill both = tt
+paced (shape.Concat l r) env out spill both =
+    let same = ap length both.join.is ∙ length_beside both.left_rows both.right_rows both.join.same in
+    paced_alike env (pace_of l) both.left_rows out same (paced l env both.left_rows both.left_spill both.left_is)
+
+-- one side before the other
+first_then_second : {A : Type 0} (xs ys : List A) → IsInterleaving xs ys (xs ++ ys)
+first_then_second [] [] = nothing
+first_then_second [] (y ∷ ys) = from_second y [] ys ys (first_then_second [] ys)
+first_then_second (x ∷ xs) ys = from_first x xs ys (xs ++ ys) (first_then_second xs ys)
+
+-- a set of results that has one
+record HasSome (results : Results) : Type 0 where
+  pub rows : List Row
+  pub spill : Bool
+  pub is : results rows spill
+
+some_joined : {A : Type 0} (body : A → Results) → ((x : A) → HasSome (body x)) → (parts : List A) → HasSome (AreJoined body parts)
+some_joined body some [] = record { rows = []; spill = false; is = (refl, refl) }
+some_joined body some (part ∷ parts) =
+    let first = some part in
+    let later = some_joined body some parts in
+    record {
+      rows = first.rows ++ later.rows;
+      spill = first.spill || later.spill;
+      is = (first.rows, later.rows, first.spill, later.spill, first.is, later.is, refl, refl);
+    }
+
+some_in_parts : {A : Type 0} (source : Results) (parts : List Row → List A) (left_out : List Row → Bool) (body : A → Results) → HasSome source → ((x : A) → HasSome (body x)) → HasSome (IsInParts source parts left_out body)
+some_in_parts source parts left_out body one each =
+    let inside = some_joined body each (parts one.rows) in
+    record {
+      rows = inside.rows;
+      spill = one.spill || inside.spill || left_out one.rows;
+      is = record { rows = one.rows; before = one.spill; inside = inside.spill; is = one.is; joined = inside.is; spills = refl };
+    }
+
+some_made : (source : Results) (make : List Row → List Row) → HasSome source → HasSome (IsMade source make)
+some_made source make one = record { rows = make one.rows; spill = one.spill; is = record { rows = one.rows; is = one.is; made = refl } }
+
+some_result : (q : QueryShape) (env : Env) → IsAcceptedOver (streams_of env) q → HasSome (IsResultIn q env)
+some_result (shape.Read name) env a = record { rows = rows_of env name; spill = false; is = (refl, refl) }
+some_result (shape.Rows pick filter source) env a = some_made (IsResultIn source env) _ (some_result source env a.0)
+some_result (shape.Total aggs source) env a = some_made (IsResultIn source env) _ (some_result source env a.0)
+some_result (shape.Each var source size advance body) env a =
+    some_in_parts (IsResultIn source env) _ _ _ (some_result source env a.0) (λ rows. some_result body _ a.2)
+some_result (shape.PerGroup var source key n body) env a =
+    some_in_parts (IsResultIn source env) _ _ _ (some_result source env a.0) (λ g. some_made _ _ (some_result body _ a.2))
+some_result (shape.Union l r) env a =
+    let x = some_result l env a.0 in
+    let y = some_result r env a.1 in
+    record {
+      rows = x.rows ++ y.rows;
+      spill = x.spill || y.spill;
+      is = record { left_rows = x.rows; right_rows = y.rows; left_spill = x.spill; right_spill = y.spill; left_is = x.is; right_is = y.is; join = first_then_second x.rows y.rows; spills = refl };
+    }
+some_result (shape.Concat l r) env a =
+    let x = some_result l env a.0 in
+    let y = some_result r env a.1 in
+    let at_left = paced l env x.rows x.spill x.is in
+    let at_right = subst (λ pace. IsPaced env pace y.rows) (sym a.2.same) (paced r env y.rows y.spill y.is) in
+    let same = one_pace env (pace_of l) x.rows y.rows a.2.paced at_left at_right in
+    record {
+      rows = beside x.rows y.rows;
+      spill = x.spill || y.spill;
+      is = record { left_rows = x.rows; right_rows = y.rows; left_spill = x.spill; right_spill = y.spill; left_is = x.is; right_is = y.is; join = record { same = same; is = refl }; spills = refl };
+    }
+
+pub existing : AcceptedHaveResults
+existing q env a = let r = some_result q env a in record { rows = r.rows; spill = r.spill; is = r.is }

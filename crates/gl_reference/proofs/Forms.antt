@@ -1,0 +1,72 @@
+-- The result of a form, from the results of its parts.
+use Rattle.std.proofs.Common.{◌≡◌, ℕ, List, ◌∷◌, ◌++◌, Bool, false, map, refl, sym, ap, subst, ◌∙◌}
+use Rattle.std.specs.Prelude.{◌||◌, slice_index}
+use Rattle.gl_bits.specs.Lists.{Group, IsInterleaving, groups, has_further, slices}
+use Rattle.gl_bits.specs.Tables.{keyed_groups}
+use Rattle.gl_bits.specs.declared.lists.Group.{Group as Keyed}
+use Rattle.gl_schema.specs.declared.schema.Column.{Column}
+use Rattle.gl_query.specs.Shapes.{QueryShape}
+use Rattle.gl_query.specs.Shapes as shape
+use Rattle.gl_query.specs.Values.{column_number}
+use Rattle.gl_query.specs.Results.{Env, Row, AreBeside, AreJoined, IsResultIn, WithKey, columns_in, only}
+use Rattle.gl_reference.specs.Joins.{AreOverGroups, AreOverSlices}
+use Rattle.gl_reference.proofs.Joining.{first_then_second, joined_map}
+
+pub each_made : (env : Env) (var : List ℕ) (source : QueryShape) (size advance : ℕ) (body : QueryShape) (from : List Row) (before : Bool) (seen : QueryShape) (named : List ℕ) (columns : List Column) (parts : List (List Row)) (inside out : List Row) (within spill : Bool)
+    → IsResultIn source env from before → seen ≡ body → named ≡ var → columns ≡ columns_in env source → parts ≡ slices size advance from
+    → AreOverSlices seen named columns parts inside within → out ≡ inside → spill ≡ (before || within || false)
+    → IsResultIn (shape.Each var source size advance body) env out spill
+each_made env var source size advance body from before seen named columns parts inside out within spill is eb ev ec ep j eo es =
+    let a = subst (λ (b : QueryShape). AreOverSlices b named columns parts inside within) eb j in
+    let b = subst (λ (v : List ℕ). AreOverSlices body v columns parts inside within) ev a in
+    let c = subst (λ (k : List Column). AreOverSlices body var k parts inside within) ec b in
+    let d = subst (λ (p : List (List Row)). AreOverSlices body var (columns_in env source) p inside within) ep c in
+    let e = subst (λ (o : List Row). AreOverSlices body var (columns_in env source) (slices size advance from) o within) (sym eo) d in
+    record { rows = from; before = before; inside = within; is = is; joined = e; spills = es }
+
+pub groups_made : (env : Env) (var : List ℕ) (source : QueryShape) (key : List ℕ) (n : ℕ) (body : QueryShape) (from : List Row) (before : Bool) (seen : QueryShape) (named : List ℕ) (columns : List Column) (most column : ℕ) (parts : List Keyed) (inside out : List Row) (within further spill : Bool)
+    → IsResultIn source env from before → seen ≡ body → named ≡ var → columns ≡ columns_in env source → most ≡ n → column ≡ column_number columns key
+    → parts ≡ keyed_groups most column from → AreOverGroups seen named columns parts inside within → further ≡ has_further most (λ (r : Row). slice_index r column) from
+    → out ≡ inside → spill ≡ (before || within || further)
+    → IsResultIn (shape.PerGroup var source key n body) env out spill
+groups_made env var source key n body from before seen named columns most column parts inside out within further spill is eb ev ec em ek ep j ef eo es =
+    let place : column ≡ column_number (columns_in env source) key = ek ∙ ap (λ (k : List Column). column_number k key) ec in
+    let whole : parts ≡ keyed_groups n (column_number (columns_in env source) key) from =
+    ep ∙ ap (λ (m : ℕ). keyed_groups m column from) em ∙ ap (λ (k : ℕ). keyed_groups n k from) place in
+    let left : further ≡ has_further n (λ (r : Row). slice_index r (column_number (columns_in env source) key)) from =
+    ef ∙ ap (λ (m : ℕ). has_further m (λ (r : Row). slice_index r column) from) em ∙ ap (λ (k : ℕ). has_further n (λ (r : Row). slice_index r k) from) place in
+    let a = subst (λ (b : QueryShape). AreOverGroups b named columns parts inside within) eb j in
+    let b = subst (λ (v : List ℕ). AreOverGroups body v columns parts inside within) ev a in
+    let c = subst (λ (k : List Column). AreOverGroups body var k parts inside within) ec b in
+    let d = subst (λ (p : List Keyed). AreOverGroups body var (columns_in env source) p inside within) whole c in
+    let e = subst (λ (o : List Row). AreOverGroups body var (columns_in env source) (keyed_groups n (column_number (columns_in env source) key) from) o within) (sym eo) d in
+    let shown : Group Row → Keyed = λ g. record { key = g.key; rows = g.rows } in
+    let over : Keyed → List Row → Bool → Type 0 = λ g. WithKey (IsResultIn body (only var (columns_in env source) g.rows)) g.key in
+    let f = joined_map shown over (groups n (λ (r : Row). slice_index r (column_number (columns_in env source) key)) from) out within e in
+    record { rows = from; before = before; inside = within; is = is; joined = f; spills = es ∙ ap (λ (x : Bool). before || within || x) left }
+
+pub union_made : (env : Env) (l r : QueryShape) (left right out : List Row) (p q spill : Bool)
+    → IsResultIn l env left p → IsResultIn r env right q → (out ≡ left ++ right) × (spill ≡ (p || q)) → IsResultIn (shape.Union l r) env out spill
+union_made env l r left right out p q spill is is' (e, s) = record {
+  left_rows = left;
+  right_rows = right;
+  left_spill = p;
+  right_spill = q;
+  left_is = is;
+  right_is = is';
+  join = subst (IsInterleaving left right) (sym e) (first_then_second left right);
+  spills = s;
+}
+
+pub concat_made : (env : Env) (l r : QueryShape) (left right out : List Row) (p q spill : Bool)
+    → IsResultIn l env left p → IsResultIn r env right q → AreBeside left right out × (spill ≡ (p || q)) → IsResultIn (shape.Concat l r) env out spill
+concat_made env l r left right out p q spill is is' (b, s) = record {
+  left_rows = left;
+  right_rows = right;
+  left_spill = p;
+  right_spill = q;
+  left_is = is;
+  right_is = is';
+  join = b;
+  spills = s;
+}

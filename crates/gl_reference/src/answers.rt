@@ -1,0 +1,144 @@
+//! Results, and the steps that make one of others.
+
+ghost use Rattle.std.specs.Prelude.{◌≡◌, ◌≤◌, ◌||◌, ◌++◌, ◌∷◌, IfOk, map, option_map};
+ghost use Rattle.gl_bits.specs.Lists.{slices};
+ghost use Rattle.gl_query.specs.Shapes.{agg_item_shape, expr_shape, pick_shape, query_shape};
+ghost use Rattle.gl_query.specs.Shapes as shape;
+ghost use Rattle.gl_query.specs.Results.{AreBeside, IsResultIn};
+ghost use Rattle.gl_reference.specs.Sources.{env_view};
+
+use crate::columns::{Source, columns_of, source_named};
+use crate::rows::{Fault, beside, copy_of_table, joined, picked_rows, total_row};
+use gl_bits::lists::slices_of;
+use gl_bits::{Listed, Memory, Table};
+use gl_query::{AggItem, Expr, Name, Pick, Query};
+use std::alloc::Global;
+
+/// A result: its rows, and whether rows of further keys were left out.
+#[derive(Drop, Debug)]
+pub struct Answer {
+    /// The rows, in order.
+    pub rows: Table,
+    /// Whether rows of further keys were left out.
+    pub spill: bool,
+}
+
+/// The rows of a source, by its name.
+pub fn read(alloc: Global, sources: &[Source<'_>], name: &Name) -> Result<Answer, Fault>
+    ensures { IfOk result (λ a. IsResultIn (shape.Read name.now.text) (env_view sources.now) a.rows a.spill) }
+{
+    let rows = match source_named(sources, name.text.as_slice()) {
+        Some(source) => copy_of_table(alloc, source.rows)?,
+        None => Listed::new(alloc),
+    };
+    Ok(Answer { rows, spill: false })
+}
+
+/// The rows that a filter keeps of a result of the source, each picked.
+pub fn rows_from(
+    alloc: Global,
+    sources: &[Source<'_>],
+    source: &Query,
+    pick: &Pick,
+    filter: &Option<Expr>,
+    from: Answer,
+) -> Result<Answer, Fault>
+    requires { IsResultIn (query_shape source.now) (env_view sources.now) from.rows from.spill }
+    ensures { IfOk result (λ a. IsResultIn (shape.Rows (pick_shape pick.now) (option_map expr_shape filter.now) (query_shape source.now)) (env_view sources.now) a.rows a.spill) }
+{
+    let columns = columns_of(alloc, sources, source)?;
+    let rows = picked_rows(
+        alloc,
+        columns.as_slice(),
+        pick,
+        filter,
+        from.rows.as_slice(),
+    )?;
+    Ok(Answer {
+        rows,
+        spill: from.spill,
+    })
+}
+
+/// The one row of aggregates over a result of the source.
+pub fn total_from(
+    alloc: Global,
+    sources: &[Source<'_>],
+    source: &Query,
+    aggs: &[AggItem],
+    from: Answer,
+) -> Result<Answer, Fault>
+    requires { IsResultIn (query_shape source.now) (env_view sources.now) from.rows from.spill }
+    ensures { IfOk result (λ a. IsResultIn (shape.Total (map agg_item_shape aggs.now) (query_shape source.now)) (env_view sources.now) a.rows a.spill) }
+{
+    let columns = columns_of(alloc, sources, source)?;
+    let row = total_row(alloc, columns.as_slice(), aggs, from.rows.as_slice())?;
+    let mut rows = Listed::new(alloc);
+    rows.push(row)?;
+    Ok(Answer {
+        rows,
+        spill: from.spill,
+    })
+}
+
+/// The windows of rows.
+pub fn windows_of<'a>(
+    alloc: Global,
+    size: u128,
+    advance: u128,
+    rows: &'a [Listed<u128>],
+) -> Result<Vec<&'a [Listed<u128>]>, Fault>
+    ensures { IfOk result (λ v. map (λ s. s.now) v.items ≡ slices size advance rows.now) }
+{
+    if size > 65536 || advance == 0 || advance > 65536 {
+        return Err(Fault::Unfit);
+    }
+    Ok(slices_of(alloc, size as usize, advance as usize, rows)?)
+}
+
+/// GROUPS within its limit.
+pub fn groups_wanted(groups: u128) -> Result<usize, Fault>
+    ensures { IfOk result (λ n. n ≡ groups) }
+{
+    if groups > 256 {
+        return Err(Fault::Unfit);
+    }
+    Ok(groups as usize)
+}
+
+/// The result of all parts of a source: it spills where the source does, a part does, or rows were
+/// left out.
+pub fn of_parts(before: bool, inside: Answer, left_out: bool) -> Answer
+    ensures rows { result.rows ≡ inside.rows }
+    ensures spill { result.spill ≡ (before || inside.spill || left_out) }
+{
+    Answer {
+        rows: inside.rows,
+        spill: before || inside.spill || left_out,
+    }
+}
+
+/// The rows of the left side, then those of the right one.
+pub fn union_of(left: Answer, right: Answer) -> Result<Answer, Fault>
+    ensures { IfOk result (λ a. (a.rows ≡ left.rows ++ right.rows) × (a.spill ≡ (left.spill || right.spill))) }
+{
+    let rows = joined(left.rows, right.rows)?;
+    Ok(Answer {
+        rows,
+        spill: left.spill || right.spill,
+    })
+}
+
+/// The rows of both sides side by side.
+pub fn concat_of(alloc: Global, left: Answer, right: Answer) -> Result<Answer, Fault>
+    ensures { IfOk result (λ a. AreBeside left.rows right.rows a.rows × (a.spill ≡ (left.spill || right.spill))) }
+{
+    if left.rows.len() != right.rows.len() {
+        return Err(Fault::Unfit);
+    }
+    let rows = beside(alloc, left.rows.as_slice(), right.rows.as_slice())?;
+    Ok(Answer {
+        rows,
+        spill: left.spill || right.spill,
+    })
+}

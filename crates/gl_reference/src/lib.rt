@@ -1,0 +1,20 @@
+//! A reference evaluator: it answers one result of a query over lists of rows, as plainly as the
+//! meaning of queries is defined.
+#![tactic(auto)]
+
+pub mod answers;
+pub mod columns;
+pub mod kinds;
+pub mod results;
+pub mod rows;
+pub mod values;
+
+pub use answers::Answer;
+pub use columns::Source;
+pub use results::evaluate;
+pub use rows::Fault;
+
+#[cfg(test)]
+mod tests;
+#[cfg(test)]
+mod trees;

@@ -1,0 +1,186 @@
+//! One result of a query over lists of rows.
+
+ghost use Rattle.std.specs.Prelude.{◌≡◌, [], IfOk, length, map, slice_get, unwrap_or};
+ghost use Rattle.gl_query.specs.Shapes.{query_shape};
+ghost use Rattle.gl_query.specs.Results.{IsResult, IsResultIn, numbered};
+ghost use Rattle.gl_reference.specs.Sources.{env_view};
+ghost use Rattle.gl_reference.specs.Joins.{AreOverGroups, AreOverSlices};
+
+use crate::answers::{
+    Answer, concat_of, groups_wanted, of_parts, read, rows_from, total_from, union_of, windows_of,
+};
+use crate::columns::{Source, columns_of};
+use crate::kinds::column_number;
+use crate::rows::{Fault, joined, with_key};
+use gl_bits::lists::{groups_of, some_further};
+use gl_bits::{Group, Listed, Memory, Table};
+use gl_query::{Query, Statement};
+use gl_schema::{Column, Schema, Stream};
+use std::alloc::Global;
+
+/// A body over each slice, its results joined in order.
+#[cycle(results)]
+#[tactic(none)]
+fn over_slices(
+    alloc: Global,
+    body: &Query,
+    var: &[u8],
+    columns: &[Column],
+    slices: &[&[Listed<u128>]],
+) -> Result<Answer, Fault>
+    ensures { IfOk result (λ a. AreOverSlices (query_shape body.now) var.now columns.now (map (λ s. s.now) slices.now) a.rows a.spill) }
+{
+    let mut rows = Listed::new(alloc);
+    let mut spill = false;
+    for slice in slices {
+        let inside = Source {
+            name: var,
+            columns,
+            rows: slice,
+        };
+        let part = result_of(alloc, &[inside], body)?;
+        rows = joined(rows, part.rows)?;
+        spill |= part.spill;
+    }
+    Ok(Answer { rows, spill })
+}
+
+/// A body over each group, its results joined in order, the key first in each row.
+#[cycle(results)]
+#[tactic(none)]
+fn over_groups(
+    alloc: Global,
+    body: &Query,
+    var: &[u8],
+    columns: &[Column],
+    groups: &[Group],
+) -> Result<Answer, Fault>
+    ensures { IfOk result (λ a. AreOverGroups (query_shape body.now) var.now columns.now groups.now a.rows a.spill) }
+{
+    let mut rows = Listed::new(alloc);
+    let mut spill = false;
+    for group in groups {
+        let inside = Source {
+            name: var,
+            columns,
+            rows: group.rows.as_slice(),
+        };
+        let part = result_of(alloc, &[inside], body)?;
+        let keyed = with_key(alloc, group.key, part.rows.as_slice())?;
+        rows = joined(rows, keyed)?;
+        spill |= part.spill;
+    }
+    Ok(Answer { rows, spill })
+}
+
+/// One result of a query over the sources that it sees; a UNION has the rows of its left side
+/// first.
+#[cycle(results)]
+#[tactic(none)]
+pub fn result_of(alloc: Global, sources: &[Source<'_>], query: &Query) -> Result<Answer, Fault>
+    ensures { IfOk result (λ a. IsResultIn (query_shape query.now) (env_view sources.now) a.rows a.spill) }
+{
+    match query {
+        Query::Read(name) => read(alloc, sources, name),
+        Query::Rows {
+            pick,
+            filter,
+            source,
+        } => {
+            let from = result_of(alloc, sources, source)?;
+            rows_from(alloc, sources, source, pick, filter, from)
+        }
+        Query::Total { aggs, source } => {
+            let from = result_of(alloc, sources, source)?;
+            total_from(alloc, sources, source, aggs.as_slice(), from)
+        }
+        Query::Each {
+            var,
+            source,
+            size,
+            advance,
+            body,
+            ..
+        } => {
+            let from = result_of(alloc, sources, source)?;
+            let columns = columns_of(alloc, sources, source)?;
+            let slices = windows_of(alloc, size.value, advance.value, from.rows.as_slice())?;
+            let inside = over_slices(
+                alloc,
+                body,
+                var.text.as_slice(),
+                columns.as_slice(),
+                slices.as_slice(),
+            )?;
+            Ok(of_parts(from.spill, inside, false))
+        }
+        Query::PerGroup {
+            var,
+            source,
+            key,
+            groups,
+            body,
+            ..
+        } => {
+            let from = result_of(alloc, sources, source)?;
+            let columns = columns_of(alloc, sources, source)?;
+            let column = column_number(columns.as_slice(), key.text.as_slice());
+            let most = groups_wanted(groups.value)?;
+            let parts = groups_of(alloc, most, column, from.rows.as_slice())?;
+            let inside = over_groups(
+                alloc,
+                body,
+                var.text.as_slice(),
+                columns.as_slice(),
+                parts.as_slice(),
+            )?;
+            let further = some_further(alloc, most, column, from.rows.as_slice())?;
+            Ok(of_parts(from.spill, inside, further))
+        }
+        Query::Union { left, right, .. } => {
+            let first = result_of(alloc, sources, left)?;
+            let second = result_of(alloc, sources, right)?;
+            union_of(first, second)
+        }
+        Query::Concat { left, right, .. } => {
+            let first = result_of(alloc, sources, left)?;
+            let second = result_of(alloc, sources, right)?;
+            concat_of(alloc, first, second)
+        }
+    }
+}
+
+/// The streams of a schema, each with its rows.
+fn sources_of<'a>(
+    alloc: Global,
+    streams: &'a [Stream],
+    inputs: &'a [Table],
+) -> Result<Vec<Source<'a>>, Memory>
+    requires { length inputs.now ≡ length streams.now }
+    ensures { IfOk result (λ v. env_view v.items ≡ numbered 0 streams.now (λ k. unwrap_or (slice_get inputs.now k) [])) }
+{
+    let mut out = Vec::new(alloc);
+    for (i, stream) in streams.iter().enumerate() {
+        out.push(Source {
+            name: stream.name.as_slice(),
+            columns: stream.columns.as_slice(),
+            rows: inputs[i].as_slice(),
+        })?;
+    }
+    Ok(out)
+}
+
+/// One result of an accepted statement over a schema: the inputs are those of the streams, in
+/// order.
+pub fn evaluate(
+    alloc: Global,
+    schema: &Schema,
+    statement: &Statement,
+    inputs: &[Table],
+) -> Result<Answer, Fault>
+    requires { length inputs.now ≡ length schema.now.streams }
+    ensures { IfOk result (λ a. IsResult schema.now statement.now (λ k. unwrap_or (slice_get inputs.now k) []) a.rows a.spill) }
+{
+    let sources = sources_of(alloc, schema.streams.as_slice(), inputs)?;
+    result_of(alloc, sources.as_slice(), &statement.query)
+}

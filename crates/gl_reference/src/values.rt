@@ -1,0 +1,165 @@
+//! Values of expressions. Each answers None where a kind is none or a number leaves 128 bits, which
+//! no accepted query over rows of its columns brings about.
+
+ghost use Rattle.std.specs.Prelude.{◌≡◌, ◌^◌, ◌++◌, ℕ, List, replicate, IfSome, Option, option_map};
+ghost use Rattle.gl_bits.specs.Words.{bit as bit_of, eq_of, not_of};
+ghost use Rattle.gl_schema.specs.Schemas.{text_word, number_of};
+ghost use Rattle.gl_query.specs.Shapes.{expr_shape};
+ghost use Rattle.gl_query.specs.Values.{bytes_in, cast_of, operate, value_of};
+ghost use Rattle.gl_query.specs.Results.{keeps};
+
+use crate::kinds::{column_number, is_kind, kind_alone, kind_of, operand_place};
+use gl_bits::Kind;
+use gl_bits::lists::number_at;
+use gl_query::{Expr, Op};
+use gl_schema::Column;
+
+/// A power of two; None past 127.
+fn power(width: u8) -> Option<u128>
+    ensures { IfSome result (λ p. p ≡ 2 ^ width) }
+{
+    if width < 128 {
+        Some(1u128 << width)
+    } else {
+        None
+    }
+}
+
+fn bit(holds: bool) -> Option<u128>
+    ensures { result ≡ Option.Some (bit_of holds) }
+{
+    Some(if holds { 1 } else { 0 })
+}
+
+/// One bit: whether two numbers are equal.
+#[tactic(auto, unfolding(gl_bits::specs::Words::eq_of))]
+fn equal(x: u128, y: u128) -> Option<u128>
+    ensures { result ≡ Option.Some (eq_of x y) }
+{
+    bit(x == y)
+}
+
+/// The other bit.
+#[tactic(auto, unfolding(gl_bits::specs::Words::not_of))]
+fn opposite(x: u128) -> u128
+    ensures { result ≡ not_of 1 x }
+{
+    1u128.saturating_sub(x)
+}
+
+/// The number that bytes spell, the first one highest.
+#[tactic(auto, using(crate::proofs::Spelling::number_more))]
+fn spelled(text: &[u8]) -> Option<u128>
+    ensures { IfSome result (λ v. v ≡ number_of text.now) }
+{
+    let mut number = 0u128;
+    for byte in text {
+        number = number.checked_mul(256)?.checked_add(u128::from(*byte))?;
+    }
+    Some(number)
+}
+
+/// A number with zero bytes behind it.
+#[tactic(auto, using(crate::proofs::Spelling::number_padded))]
+fn padded(word: u128, zeros: usize) -> Option<u128>
+    ensures { (text : List ℕ) → word ≡ number_of text → IfSome result (λ v. v ≡ number_of (text ++ replicate zeros 0)) }
+{
+    let mut number = word;
+    for _i in 0..zeros {
+        number = number.checked_mul(256)?;
+    }
+    Some(number)
+}
+
+/// The word of a text literal in its kind.
+#[tactic(auto, unfolding(gl_schema::specs::Schemas::text_word))]
+fn letters(place: Kind, text: &[u8]) -> Option<u128>
+    ensures { IfSome result (λ v. v ≡ text_word (bytes_in place) text.now) }
+{
+    let Kind::Text(bytes) = place else {
+        return None;
+    };
+    let missing = usize::from(bytes).checked_sub(text.len())?;
+    padded(spelled(text)?, missing)
+}
+
+/// The word of one kind as another.
+fn cast(from: Kind, to: Kind, word: u128) -> Option<u128>
+    ensures { IfSome result (λ v. v ≡ cast_of from to word) }
+{
+    match (from, to) {
+        (Kind::Unsigned(_), Kind::Unsigned(width)) => Some(word % power(width)?),
+        (Kind::Text(had), Kind::Text(wants)) => {
+            let top = word.checked_mul(power(wants.checked_mul(8)?)?)?;
+            Some(top / power(had.checked_mul(8)?)?)
+        }
+        (Kind::Unsigned(_), Kind::Text(_)) | (Kind::Text(_), Kind::Unsigned(_)) => Some(word),
+    }
+}
+
+/// What an operator gives of two words of a kind.
+#[tactic(auto, unfolding(gl_bits::specs::Words::sum_of, gl_bits::specs::Words::difference_of, gl_bits::specs::Words::product_of))]
+fn operate(op: Op, kind: Kind, x: u128, y: u128) -> Option<u128>
+    ensures { IfSome result (λ v. v ≡ operate op kind x y) }
+{
+    if !is_kind(kind) {
+        return None;
+    }
+    let bound = power(kind.width())?;
+    match op {
+        Op::Add => Some(x.checked_add(y)? % bound),
+        Op::Sub => Some(x.checked_add(bound.saturating_sub(y))? % bound),
+        Op::Mul => Some(x.checked_mul(y)? % bound),
+        Op::Eq => equal(x, y),
+        Op::Ne => Some(opposite(equal(x, y)?)),
+        Op::Lt => bit(kind.is_below(x, y)),
+        Op::Le => bit(x <= y),
+        Op::Gt => bit(kind.is_below(y, x)),
+        Op::Ge => bit(y <= x),
+        Op::And => Some(x & y),
+        Op::Or => Some(x | y),
+    }
+}
+
+/// The value of an expression over a row, in a place that gives what is loose this kind.
+pub fn value_of(columns: &[Column], place: Kind, expr: &Expr, row: &[u128]) -> Option<u128>
+    ensures { IfSome result (λ v. v ≡ value_of columns.now place (expr_shape expr.now) row.now) }
+{
+    match expr {
+        Expr::Column(name) => Some(number_at(row, column_number(columns, name.text.as_slice()))),
+        Expr::Number(n) => Some(n.value),
+        Expr::Letters { text, .. } => letters(place, text.as_slice()),
+        Expr::Not { arg, .. } => {
+            let word = value_of(columns, Kind::Unsigned(1), arg, row)?;
+            Some(opposite(word))
+        }
+        Expr::Cast { arg, kind, .. } => {
+            let own = kind_alone(arg);
+            let word = value_of(columns, own, arg, row)?;
+            cast(kind_of(columns, own, arg), *kind, word)
+        }
+        Expr::Binary {
+            op,
+            left,
+            right,
+            ..
+        } => {
+            let sort = op.sort();
+            let at_left = operand_place(sort, place, left, right, kind_of(columns, place, right));
+            let at_right = operand_place(sort, place, right, left, kind_of(columns, place, left));
+            let x = value_of(columns, at_left, left, row)?;
+            let y = value_of(columns, at_right, right, row)?;
+            operate(*op, kind_of(columns, at_left, left), x, y)
+        }
+    }
+}
+
+/// Whether a filter keeps a row.
+pub fn keeps(columns: &[Column], filter: &Option<Expr>, row: &[u128]) -> Option<bool>
+    ensures { IfSome result (λ b. b ≡ keeps columns.now (option_map expr_shape filter.now) row.now) }
+{
+    match filter {
+        None => Some(true),
+        Some(expr) => Some(value_of(columns, Kind::Unsigned(1), expr, row)? == 1),
+    }
+}
