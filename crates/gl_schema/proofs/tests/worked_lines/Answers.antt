@@ -1,4 +1,4 @@
-use Rattle.std.proofs.Common.{◌≡◌, refl}
+use Rattle.std.proofs.Common.{refl}
 use Rattle.std.specs.Fmt.{digits}
 use Rattle.gl_schema.specs.Schemas.{text_word}
 use Rattle.gl_schema.specs.Seen.{line_of, overflow_line, end_line, printed, needs_quotes}

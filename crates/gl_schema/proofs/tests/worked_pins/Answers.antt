@@ -1,4 +1,4 @@
-use Rattle.std.proofs.Common.{◌≡◌, refl}
+use Rattle.std.proofs.Common.{refl}
 use Rattle.gl_schema.specs.Ports.{rst, eos, in_valid, in_column}
 use Rattle.gl_schema.proofs.tests.worked_pins.Goals as goal
 
