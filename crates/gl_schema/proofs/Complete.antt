@@ -1,11 +1,10 @@
 -- What spells a schema is read as that schema.
-use Rattle.std.proofs.Common.{◌≡◌, ℕ, zero, suc, ◌+◌, ◌<◌, ◌≤◌, Bool, true, false, List, [], ◌∷◌, ◌++◌, length, Option, Some, None, Result, Ok, Err, refl, sym, ap, ◌∙◌, subst, arith, append_assoc}
-use Rattle.std.specs.Prelude.{map, codes, bytes_eq, nat_le}
+use Rattle.std.proofs.Common.{◌≡◌, ℕ, ◌<◌, ◌≤◌, false, List, [], ◌∷◌, ◌++◌, length, Result, Ok, refl, sym, ap, ◌∙◌, subst, arith, append_assoc}
+use Rattle.std.specs.Prelude.{map, codes, bytes_eq}
 use Rattle.std.specs.List.{AllByRecursion, IsDistinct, flat_map}
 use Rattle.std.proofs.lemmas.Bool.{lt-leb}
 use Rattle.std.proofs.lemmas.List.{length-append, append-nil}
 use Rattle.gl_bits.specs.declared.kind.Kind.{Kind}
-use Rattle.gl_bits.specs.declared.kind.Kind.TheVariants.{Unsigned, Text}
 use Rattle.gl_bits.specs.Kinds.{IsKind}
 use Rattle.gl_schema.specs.declared.fault.SchemaFault.{SchemaFault}
 use Rattle.gl_schema.specs.declared.schema.Column.{Column}
@@ -15,9 +14,9 @@ use Rattle.gl_schema.specs.declared.reading.Reading.{Reading}
 use Rattle.gl_schema.specs.declared.reading.Place.{Place}
 use Rattle.gl_schema.specs.declared.reading.Place.TheVariants as place
 use Rattle.gl_schema.specs.Names.{IsName}
-use Rattle.gl_schema.specs.Schemas.{IsColumn, IsStream, IsSchema, has_stream, has_column, column_names, stream_names}
+use Rattle.gl_schema.specs.Schemas.{IsColumn, IsStream, has_stream, has_column, column_names, stream_names}
 use Rattle.gl_schema.specs.SchemaText.{Mark, Word, Sign, Token, tokens_of, kind_text, spell_column, spell_columns, spell_stream, spell, IsSchemaText}
-use Rattle.gl_schema.specs.SchemaFaults.{mark_at, schema_from, schema_of, start, kind_named, with_column, ◌>>=◌}
+use Rattle.gl_schema.specs.SchemaFaults.{mark_at, schema_from, schema_of, with_column, ◌>>=◌}
 use Rattle.gl_schema.proofs.Distinct.{new_named}
 use Rattle.gl_schema.proofs.KindTable.{kind_is_named}
 

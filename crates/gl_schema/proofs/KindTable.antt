@@ -1,7 +1,7 @@
 -- Reading a kind by cases finds the kind that the word is the text of.
-use Rattle.std.proofs.Common.{◌≡◌, ℕ, zero, suc, ◌+◌, ◌-◌, ◌*◌, ◌<◌, ◌≤◌, Bool, true, false, cond, ◌&&◌, ◌||◌, List, [], ◌∷◌, ◌++◌, Option, Some, None, refl, sym, ap, ◌∙◌, subst, inl, inr, ◌⊎◌, arith}
-use Rattle.std.specs.Prelude.{bytes_eq, nat_le, ◌==◌, find, map, codes, decimal, IsSome}
-use Rattle.std.specs.List.{list_any, list_all, AllByRecursion}
+use Rattle.std.proofs.Common.{◌≡◌, ℕ, ◌+◌, ◌-◌, ◌*◌, ◌≤◌, Bool, true, false, ◌&&◌, ◌||◌, List, [], ◌∷◌, ◌++◌, Option, Some, None, refl, sym, ap, ◌∙◌, subst, inl, inr, arith}
+use Rattle.std.specs.Prelude.{bytes_eq, nat_le, ◌==◌, find}
+use Rattle.std.specs.List.{list_all, AllByRecursion}
 use Rattle.std.specs.Fmt.{digits}
 use Rattle.std.proofs.lemmas.Bool.{agree_below_at, and_parts, or_cases, eqb-true, leb-true, cases_Bool, true≢false, false_from_ne_true}
 use Rattle.std.proofs.lemmas.Slice.Eq.{bytes_eq-Decides}
@@ -10,8 +10,8 @@ use Rattle.gl_bits.specs.declared.kind.Kind.{Kind}
 use Rattle.gl_bits.specs.declared.kind.Kind.TheVariants.{Unsigned, Text}
 use Rattle.gl_bits.specs.Kinds.{IsKind}
 use Rattle.gl_schema.specs.SchemaText.{kind_text}
-use Rattle.gl_schema.specs.SchemaFaults.{kind_named, kinds, one_to}
-use Rattle.gl_schema.specs.KindReading.{kind_read, text_read, small_number, sized, is_digit_from}
+use Rattle.gl_schema.specs.SchemaFaults.{kind_named, kinds}
+use Rattle.gl_schema.specs.KindReading.{kind_read, text_read, small_number, sized}
 
 -- the same kind
 kind_eq : Kind → Kind → Bool

@@ -1,12 +1,12 @@
 -- A right run, told of the cycles that were seen.
-use Rattle.std.proofs.Common.{◌≡◌, ℕ, zero, suc, ◌+◌, ◌-◌, ◌<◌, ◌≤◌, Bool, true, false, List, [], ◌∷◌, ◌++◌, Option, Some, None, refl, sym, ap, ◌∙◌, subst, arith, inl, inr, ◌⊎◌}
-use Rattle.std.specs.Prelude.{filter_map, IsTrue, IsFalse, IsSome, is_some, cond}
+use Rattle.std.proofs.Common.{◌≡◌, ℕ, zero, suc, ◌+◌, ◌-◌, ◌<◌, ◌≤◌, true, false, List, [], ◌∷◌, ◌++◌, Option, Some, None, refl, sym, ap, ◌∙◌, subst, arith, inl, inr}
+use Rattle.std.specs.Prelude.{filter_map, IsTrue, IsFalse, IsSome, is_some}
 use Rattle.std.specs.List.{AllByRecursion, cons_option}
-use Rattle.std.proofs.lemmas.Bool.{cases_lt, cases_eq, false_from_ne_true}
+use Rattle.std.proofs.lemmas.Bool.{cases_lt, false_from_ne_true}
 use Rattle.std.proofs.lemmas.List.{append-nil}
 use Rattle.gl_schema.specs.Beats.{Beat, last_cycle, input_of}
 use Rattle.gl_schema.specs.Ports.{PortValues}
-use Rattle.gl_schema.specs.Seen.{Shown, shown, seen, rows_of}
+use Rattle.gl_schema.specs.Seen.{Shown, shown, seen}
 use Rattle.gl_schema.specs.Right.{Meaning, IsRight, IsRightTo, end_in}
 
 filter_map-push : {X Y : Type 0} (h : X → Option Y) (xs : List X) (x : X) → filter_map h (xs ++ x ∷ []) ≡ filter_map h xs ++ cons_option (h x) []

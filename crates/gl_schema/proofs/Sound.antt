@@ -1,5 +1,5 @@
 -- What is read is spelled by the text.
-use Rattle.std.proofs.Common.{◌≡◌, ℕ, zero, suc, ◌+◌, ◌<◌, ◌≤◌, Bool, true, false, not, cond, List, [], ◌∷◌, ◌++◌, length, Option, Some, None, Result, Ok, Err, refl, sym, ap, ◌∙◌, subst, arith, append_assoc, inl, inr}
+use Rattle.std.proofs.Common.{◌≡◌, ℕ, ◌<◌, ◌≤◌, Bool, true, false, not, cond, List, [], ◌∷◌, ◌++◌, length, Option, Some, None, Result, Ok, Err, refl, sym, ap, ◌∙◌, subst, arith, append_assoc, inl, inr}
 use Rattle.std.specs.Prelude.{map, codes, bytes_eq, nat_le, ◌==◌}
 use Rattle.std.specs.List.{AllByRecursion, IsDistinct, flat_map}
 use Rattle.std.proofs.lemmas.Bool.{leb-false, eqb-true, not-false, cases_Bool}
@@ -9,7 +9,7 @@ use Rattle.std.proofs.lemmas.Grind.{flat_map-append}
 use Rattle.gl_bits.specs.declared.kind.Kind.{Kind}
 use Rattle.gl_bits.specs.Kinds.{IsKind}
 use Rattle.gl_schema.specs.declared.fault.SchemaFault.{SchemaFault}
-use Rattle.gl_schema.specs.declared.fault.SchemaFault.TheVariants.{Syntax, BadName, BadKind, Twice, TooMany, Memory}
+use Rattle.gl_schema.specs.declared.fault.SchemaFault.TheVariants.{Syntax, BadName, Twice, TooMany}
 use Rattle.gl_schema.specs.declared.schema.Column.{Column}
 use Rattle.gl_schema.specs.declared.schema.Stream.{Stream}
 use Rattle.gl_schema.specs.declared.schema.Schema.{Schema}
@@ -18,8 +18,8 @@ use Rattle.gl_schema.specs.declared.reading.Place.{Place}
 use Rattle.gl_schema.specs.declared.reading.Place.TheVariants as place
 use Rattle.gl_schema.specs.Names.{IsName, is_name}
 use Rattle.gl_schema.specs.Schemas.{IsColumn, IsStream, IsSchema, has_stream, has_column, column_names, stream_names}
-use Rattle.gl_schema.specs.SchemaText.{Mark, Word, Sign, Token, tokens_of, kind_text, spell_column, spell_columns, spell_stream, spell, IsSchemaText}
-use Rattle.gl_schema.specs.SchemaFaults.{mark_at, word_at, sign_at, end_at, schema_from, schema_of, start, kind_named, kind_next, only, goes_to, with_column, ◌>>=◌}
+use Rattle.gl_schema.specs.SchemaText.{Mark, Word, Sign, Token, tokens_of, spell_column, spell_columns, spell_stream, spell, IsSchemaText}
+use Rattle.gl_schema.specs.SchemaFaults.{mark_at, end_at, schema_from, schema_of, start, kind_named, kind_next, with_column, ◌>>=◌}
 use Rattle.gl_schema.proofs.Distinct.{more_named}
 use Rattle.gl_schema.proofs.KindTable.{kind_named_is}
 

@@ -1,12 +1,11 @@
 -- Reading over a text, byte by byte.
-use Rattle.std.proofs.Common.{◌≡◌, ℕ, zero, suc, ◌+◌, ◌<◌, ◌≤◌, List, [], ◌∷◌, ◌++◌, length, drop, get_or, Result, Ok, Err, refl, sym, ap, ◌∙◌, add-one, drop-cons}
+use Rattle.std.proofs.Common.{◌≡◌, ℕ, ◌+◌, ◌<◌, List, [], ◌∷◌, ◌++◌, length, drop, get_or, Result, Ok, Err, refl, sym, ap, ◌∙◌, add-one, drop-cons}
 use Rattle.gl_schema.specs.declared.fault.SchemaFault.{SchemaFault}
 use Rattle.gl_schema.specs.declared.reading.Reading.{Reading}
 use Rattle.gl_schema.specs.declared.lexing.Standing.{Standing}
-use Rattle.gl_schema.specs.declared.schema.Schema.{Schema}
 use Rattle.gl_schema.specs.SchemaText.{Token, Open, Move, move, class_of, tokens_from}
-use Rattle.gl_schema.specs.SchemaFaults.{mark_at, Fails, Gives, ◌>>=◌, schema_from}
-use Rattle.gl_schema.specs.Lexing.{open_at, reading_after, Takes, IsInside}
+use Rattle.gl_schema.specs.SchemaFaults.{mark_at, Fails, ◌>>=◌, schema_from}
+use Rattle.gl_schema.specs.Lexing.{open_at, reading_after, Takes}
 use Rattle.gl_schema.proofs.Words.{fails_then}
 
 bind_more : {A B C : Type 0} (x : Result A SchemaFault) (f : A → Result C SchemaFault) (g : A → Result B SchemaFault) (h : B → Result C SchemaFault) → ((a : A) → f a ≡ (g a >>= h)) → (x >>= f) ≡ ((x >>= g) >>= h)

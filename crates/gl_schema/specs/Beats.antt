@@ -1,5 +1,5 @@
 -- Beats: the cycles in which tuples come, and the end.
-use Rattle.std.specs.Prelude.{◌≡◌, ℕ, ◌+◌, ◌<◌, ◌≤◌, Bool, true, false, List, [], ◌∷◌, Option, Some, None, IfSome, is_some, unwrap_or, slice_get, IsTrue, IsFalse, filter_map, find, ◌==◌}
+use Rattle.std.specs.Prelude.{ℕ, ◌+◌, ◌<◌, ◌≤◌, Bool, false, List, [], ◌∷◌, Option, None, IfSome, is_some, unwrap_or, slice_get, IsTrue, IsFalse, filter_map, find, ◌==◌}
 use Rattle.std.specs.List.{AllByRecursion, list_any}
 use Rattle.std.specs.Option.{option_map_or}
 use Rattle.gl_schema.specs.declared.schema.Stream.{Stream}

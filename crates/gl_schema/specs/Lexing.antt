@@ -1,5 +1,5 @@
 -- Tokens by their places in a text, as the reader keeps them.
-use Rattle.std.specs.Prelude.{◌≡◌, ℕ, ◌<◌, ◌≤◌, List, [], ◌∷◌, slice_range, Result, Ok, Err}
+use Rattle.std.specs.Prelude.{◌≡◌, ℕ, ◌≤◌, List, [], ◌∷◌, slice_range, Result, Ok, Err}
 use Rattle.gl_schema.specs.declared.lexing.Standing.{Standing}
 use Rattle.gl_schema.specs.declared.lexing.Standing.TheVariants as standing
 use Rattle.gl_schema.specs.declared.fault.SchemaFault.{SchemaFault}

@@ -1,5 +1,5 @@
 -- Names of streams, columns and results.
-use Rattle.std.specs.Prelude.{ℕ, Bool, true, false, not, ◌&&◌, ◌||◌, List, [], ◌∷◌, length, codes, bytes_eq, nat_le, ◌==◌, IsTrue}
+use Rattle.std.specs.Prelude.{ℕ, Bool, false, not, ◌&&◌, ◌||◌, List, [], ◌∷◌, length, codes, bytes_eq, nat_le, ◌==◌, IsTrue}
 use Rattle.std.specs.List.{list_any, list_all}
 
 -- a byte from a to z

@@ -1,5 +1,5 @@
 -- What beats put on the input ports of a module. Simulation cycle 0 is reset, and file cycle n is simulation cycle n + 1.
-use Rattle.std.specs.Prelude.{◌≡◌, ℕ, zero, suc, Bool, true, false, List, [], ◌∷◌, ◌++◌, Option, Some, None, codes, is_some, unwrap_or, IfSome}
+use Rattle.std.specs.Prelude.{◌≡◌, ℕ, zero, suc, List, [], ◌∷◌, ◌++◌, Option, None, codes, is_some, unwrap_or, IfSome}
 use Rattle.std.specs.List.{AllByRecursion}
 use Rattle.gl_bits.specs.Words.{bit}
 use Rattle.gl_schema.specs.declared.schema.Column.{Column}

@@ -1,5 +1,5 @@
 -- The text of a schema: `stream name ( name kind , .. ) ;`, once or more.
-use Rattle.std.specs.Prelude.{◌≡◌, ℕ, ◌+◌, ◌∷◌, Bool, true, false, ◌&&◌, ◌||◌, List, [], ◌++◌, map, codes, decimal, nat_le, ◌==◌, if◌then◌else◌}
+use Rattle.std.specs.Prelude.{◌≡◌, ℕ, ◌+◌, ◌∷◌, Bool, ◌&&◌, ◌||◌, List, [], ◌++◌, map, codes, decimal, nat_le, ◌==◌, if◌then◌else◌}
 use Rattle.std.specs.List.{flat_map}
 use Rattle.gl_bits.specs.declared.kind.Kind.{Kind}
 use Rattle.gl_bits.specs.declared.kind.Kind.TheVariants.{Unsigned, Text}

@@ -1,5 +1,5 @@
 -- What is seen on the output ports of a module, and the lines that tell it.
-use Rattle.std.specs.Prelude.{◌≡◌, ℕ, zero, suc, Bool, true, false, not, ◌&&◌, ◌||◌, List, [], ◌∷◌, ◌++◌, map, Option, Some, None, codes, unwrap_or, ◌==◌, if◌then◌else◌, decimal, filter_map}
+use Rattle.std.specs.Prelude.{ℕ, zero, suc, Bool, false, not, ◌&&◌, ◌||◌, List, [], ◌∷◌, ◌++◌, map, Option, Some, None, codes, unwrap_or, ◌==◌, if◌then◌else◌, decimal, filter_map}
 use Rattle.std.specs.List.{list_any, flat_map}
 use Rattle.std.specs.Int.{bytes_high_first}
 use Rattle.gl_bits.specs.declared.kind.Kind.{Kind}

@@ -25,7 +25,7 @@ use Rattle.gl_tuples.specs.Values.{word_of, fitting, is_plain, is_printable}
 use Rattle.gl_tuples.specs.Values as values
 use Rattle.gl_tuples.specs.Entries.{◌>>=◌, words_of, row_of, row_found, columns_at, entry_of, entry_named, tuple_of, stream_named, cycle_of, cycle_below, option_bind}
 use Rattle.gl_tuples.specs.Filing.{filing_after, next_filing, no_records, ended, beats_of, beat_with, beat_of, whole_before, empty_beat, open_checked, cycle_checked, has_row}
-use Rattle.gl_tuples.specs.Gaps.{plain_beat, plain_beats, AreFileBeats}
+use Rattle.gl_tuples.specs.Gaps.{plain_beat, plain_beats}
 use Rattle.gl_tuples.proofs.Numbers.{bits_more, length-padded}
 use Rattle.gl_tuples.proofs.Filings.{Next, next_tells, bind_ok, ok_is, guard_ok}
 
@@ -73,7 +73,7 @@ word_small (Text n) field w h =
     let q = and_parts (nat_le (length field) n) (is_plain field) p.0 in
     subst (λ (w : Word). w.bits < 2 ^ (8 * n)) p.1 (text_below n field (leb-true (length field) n q.0) q.1)
 
-bind_some : {A B : Type 0} (o : Option A) (f : A → Option B) (y : B) → option_bind o f ≡ Some y → (x : A) × (o ≡ Some x) × (f x ≡ Some y)
+pub bind_some : {A B : Type 0} (o : Option A) (f : A → Option B) (y : B) → option_bind o f ≡ Some y → (x : A) × (o ≡ Some x) × (f x ≡ Some y)
 bind_some None f y h = absurd cc
 bind_some (Some x) f y h = (x, refl, h)
 
@@ -90,7 +90,7 @@ row_fits (c ∷ cs) (f ∷ fs) row h =
     let b = map_some (words_of cs fs) (λ ws. a.0 ∷ ws) row a.2 in
     subst (λ (r : List Word). IsRowOf (c ∷ cs) (bits_of r)) b.2 (word_small c.kind f a.0 a.1, row_fits cs fs b.0 b.1)
 
-found_row : (number : ℕ) (o : Option (List Word)) (row : List Word) → row_found number o ≡ Ok row → o ≡ Some row
+pub found_row : (number : ℕ) (o : Option (List Word)) (row : List Word) → row_found number o ≡ Ok row → o ≡ Some row
 found_row number None row h = absurd cc
 found_row number (Some r) row h = ap Some (ok_is r row h)
 
@@ -102,7 +102,7 @@ row_of_fits number cs fs row h = elim (cases_Bool (length fs == 2 + length cs)) 
 ]
 
 -- what an entry brings fits the schema
-abbrev EntryFits : Schema → Entry → Type 0
+abbrev pub EntryFits : Schema → Entry → Type 0
 EntryFits schema End = Unit {0}
 EntryFits schema (Tuple k row) = (k < length schema.streams) × IsRowOf (columns_at schema.streams k) (bits_of row)
 
@@ -127,7 +127,7 @@ named_fits number schema fs (Some name) entry h = elim (cases_Bool (bytes_eq nam
   | inr f ↦ tuple_fits number schema fs name (stream_named schema name) entry refl (rw f at h)
 ]
 
-entry_fits : (number : ℕ) (schema : Schema) (fs : List (List ℕ)) (entry : Entry) → entry_of number schema fs ≡ Ok entry → EntryFits schema entry
+pub entry_fits : (number : ℕ) (schema : Schema) (fs : List (List ℕ)) (entry : Entry) → entry_of number schema fs ≡ Ok entry → EntryFits schema entry
 unfolding entry_of
 entry_fits number schema fs entry h = named_fits number schema fs (slice_get fs 1) entry h
 
@@ -162,12 +162,12 @@ set_some (s ∷ ss) (r ∷ rows) zero row h lt = refl
 set_some (s ∷ ss) (r ∷ rows) (suc k) row h lt = or_right (is_some (option_map bits_of r)) _ (set_some ss rows k row h.1 (omega arith))
 
 -- beats whose cycles rise, and rise on to a cycle, none with the end
-abbrev RisesTo : List Beat → ℕ → Type 0
+abbrev pub RisesTo : List Beat → ℕ → Type 0
 RisesTo [] c = Unit {0}
 RisesTo (b ∷ []) c = IsFalse b.end × (b.cycle < c)
 RisesTo (b ∷ d ∷ bs) c = IsFalse b.end × (b.cycle < d.cycle) × RisesTo (d ∷ bs) c
 
-rises_push : (bs : List Beat) (b : Beat) (c : ℕ) → RisesTo bs b.cycle → IsFalse b.end → b.cycle < c → RisesTo (bs ++ b ∷ []) c
+pub rises_push : (bs : List Beat) (b : Beat) (c : ℕ) → RisesTo bs b.cycle → IsFalse b.end → b.cycle < c → RisesTo (bs ++ b ∷ []) c
 rises_push [] b c h e lt = (e, lt)
 rises_push (d ∷ []) b c h e lt = (h.0, h.1, (e, lt))
 rises_push (d ∷ f ∷ bs) b c h e lt = (h.0, h.1, rises_push (f ∷ bs) b c h.2 e lt)
@@ -182,7 +182,7 @@ last_is [] b = refl
 last_is (d ∷ []) b = refl
 last_is (d ∷ f ∷ bs) b = last_is (f ∷ bs) b
 
-abbrev AreSound : Schema → List Beat → Type 0
+abbrev pub AreSound : Schema → List Beat → Type 0
 AreSound schema bs = AllByRecursion (λ b. IsBeat schema (plain_beat b)) bs
 
 sound_push : (schema : Schema) (bs : List Beat) (b : Beat) → AreSound schema bs → IsBeat schema (plain_beat b) → AreSound schema (bs ++ b ∷ [])
@@ -194,18 +194,18 @@ sound_plain schema [] h = tt
 sound_plain schema (b ∷ bs) h = (h.0, sound_plain schema bs h.1)
 
 -- the beats while records are added
-record IsOpen (schema : Schema) (whole : List Beat) (b : Beat) : Type 0 where
-  rises : RisesTo whole b.cycle
-  is : IsBeat schema (plain_beat b)
-  early : b.cycle ≤ 10000000
+pub record IsOpen (schema : Schema) (whole : List Beat) (b : Beat) : Type 0 where
+  pub rises : RisesTo whole b.cycle
+  pub is : IsBeat schema (plain_beat b)
+  pub early : b.cycle ≤ 10000000
 
-abbrev CurrentFits : Schema → List Beat → Option Beat → Type 0
+abbrev pub CurrentFits : Schema → List Beat → Option Beat → Type 0
 CurrentFits schema whole None = whole ≡ []
 CurrentFits schema whole (Some b) = IsOpen schema whole b
 
-record IsFiled (schema : Schema) (f : Filing) : Type 0 where
-  whole : AreSound schema f.whole
-  current : CurrentFits schema f.whole f.current
+pub record IsFiled (schema : Schema) (f : Filing) : Type 0 where
+  pub whole : AreSound schema f.whole
+  pub current : CurrentFits schema f.whole f.current
 
 -- a beat that an entry is added to: it may be empty yet
 record IsReady (schema : Schema) (whole : List Beat) (b : Beat) : Type 0 where
@@ -238,7 +238,7 @@ turned_if schema whole b cycle number sound o early open' le = elim (cases_Bool 
     less : (a b : ℕ) → a ≤ b → (a ≡ b → ⊥) → a < b
     less a b le no' = omega (arith, no')
 
-ok_true : (b : Bool) (e : TupleFault) → ◌≡◌ {A = Result (Unit {0}) TupleFault} (cond b (Err e) (Ok tt)) (Ok tt) → b ≡ false
+pub ok_true : (b : Bool) (e : TupleFault) → ◌≡◌ {A = Result (Unit {0}) TupleFault} (cond b (Err e) (Ok tt)) (Ok tt) → b ≡ false
 ok_true true e h = absurd cc
 ok_true false e h = refl
 
@@ -248,7 +248,7 @@ turned schema whole None cycle number sound c early a b = record { sound = sound
 turned schema whole (Some d) cycle number sound c early a b =
     turned_if schema whole d cycle number sound c early (ok_true d.end (AfterEnd number) a) (ltb-false cycle d.cycle (ok_true (nat_lt cycle d.cycle) (CycleFalls number) b))
 
-filed_next : (schema : Schema) (f : Filing) (fields : List (List ℕ)) (g : Filing) → IsFiled schema f → Next schema f fields g → IsFiled schema g
+pub filed_next : (schema : Schema) (f : Filing) (fields : List (List ℕ)) (g : Filing) → IsFiled schema f → Next schema f fields g → IsFiled schema g
 filed_next schema f fields g h n =
     let t = turned schema f.whole f.current n.cycle (f.records + 1) h.whole h.current (cycle_in_range (f.records + 1) fields n.cycle n.cycled) n.opened n.rises in
     subst (IsFiled schema) n.is (record { whole = t.sound; current = filled schema (f.records + 1) (whole_before n.cycle f.whole f.current) (beat_of (length schema.streams) n.cycle (f.records + 1) f.current) n.entry n.beat t.ready (entry_fits (f.records + 1) schema fields n.entry n.entered) n.filled })
@@ -257,6 +257,11 @@ filed_after : (schema : Schema) (rs : List (List (List ℕ))) (f g : Filing) →
 filed_after schema [] f g h e = subst (IsFiled schema) (ok_is f g e) h
 filed_after schema (r ∷ rs) f g h e = let b = bind_ok (next_filing schema f r) (filing_after schema rs) g e in
     filed_after schema rs b.0 g (filed_next schema f r b.0 h (next_tells schema f r b.0 b.1)) b.2
+
+-- what is said of the beats alone
+pub record AreFileBeats (schema : Schema) (beats : List Beat) : Type 0 where
+  pub beats' : AreBeats schema (plain_beats beats)
+  pub last : last_cycle (plain_beats beats) ≤ 10000000
 
 ended_sound : (schema : Schema) (whole : List Beat) (b : Beat) → AreSound schema whole → IsReady schema whole b → AreFileBeats schema (whole ++ record b { end = true } ∷ [])
 ended_sound schema whole b sound r =

@@ -77,7 +77,7 @@ filled_long number beat End full h = ap (λ (b : Beat). length b.rows) (sym (ok_
 filled_long number beat (Tuple k row) full h = let p = guard_ok (has_row beat.rows k) (StreamTwice number) _ full h in
     ap (λ (b : Beat). length b.rows) (sym p.1) ∙ length-set beat.rows k (Some row)
 
-next_rows : (schema : Schema) (f : Filing) (fields : List (List ℕ)) (g : Filing) → HasRows (length schema.streams) f.current → Next schema f fields g → HasRows (length schema.streams) g.current
+pub next_rows : (schema : Schema) (f : Filing) (fields : List (List ℕ)) (g : Filing) → HasRows (length schema.streams) f.current → Next schema f fields g → HasRows (length schema.streams) g.current
 next_rows schema f fields g h n = subst (λ (g : Filing). HasRows (length schema.streams) g.current) n.is
     (filled_long (f.records + 1) (beat_of (length schema.streams) n.cycle (f.records + 1) f.current) n.entry n.beat n.filled ∙ beat_long (length schema.streams) n.cycle (f.records + 1) f.current h)
 

@@ -2,3 +2,4 @@ pub mod Values
 pub mod Entries
 pub mod Filing
 pub mod Gaps
+pub mod FileBeats

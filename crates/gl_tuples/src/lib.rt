@@ -14,3 +14,6 @@ pub use beats::{Beat, Beats, StreamRows};
 pub use fault::TupleFault;
 pub use line::line_into;
 pub use reading::read_tuples;
+
+#[cfg(test)]
+mod tests;

@@ -1,4 +1,4 @@
-use Rattle.std.proofs.Common.{◌≡◌, ◌∙◌}
+use Rattle.std.proofs.Common.{◌∙◌}
 use Rattle.gl_schema.proofs.KindTable.{kind_found}
 use Rattle.gl_schema.proofs.kind.kind_named.Goals as goal
 

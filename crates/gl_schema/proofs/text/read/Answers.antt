@@ -1,8 +1,7 @@
-use Rattle.std.proofs.Common.{◌≡◌, ℕ, ◌+◌, length, drop, subst, refl, sym, ap, ◌∙◌, arith}
+use Rattle.std.proofs.Common.{length, subst, ap, ◌∙◌, arith}
 use Rattle.std.proofs.lemmas.Result.{err_from_is_err_and}
-use Rattle.gl_schema.specs.declared.reading.Reading.{Reading}
 use Rattle.gl_schema.specs.SchemaText.{tokens_from, Between, tokens_of}
-use Rattle.gl_schema.specs.SchemaFaults.{Gives, Fails, schema_of, schema_from}
+use Rattle.gl_schema.specs.SchemaFaults.{Fails, schema_of, schema_from}
 use Rattle.gl_schema.proofs.Steps.{goes_on, stops}
 use Rattle.gl_schema.proofs.text.read.Goals as goal
 
