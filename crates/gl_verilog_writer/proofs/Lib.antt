@@ -1,0 +1,6 @@
+pub mod Loops
+pub mod Digits
+pub mod Texts
+pub mod Model
+pub mod Lists
+pub mod Named
