@@ -4,3 +4,5 @@ pub mod Texts
 pub mod Model
 pub mod Lists
 pub mod Named
+pub mod Fitted
+pub mod Resolved
