@@ -6,3 +6,5 @@ pub mod Lists
 pub mod Named
 pub mod Fitted
 pub mod Resolved
+pub mod Spelled
+pub mod Checked

@@ -155,7 +155,7 @@ literal-means ds v w i h =
     let f : number_in 10 (decimal w) ≡ w = number_in-decimal w (omega (arith, m)) in
     ap (λ (a : ℕ). Some (verilog.Literal a (number_in 10 (decimal w)))) e ∙ ap (λ (b : ℕ). Some (verilog.Literal v b)) f
 
-some-any : (p : Node → Bool) (xs : List Node) (k : ℕ) (x : Node) → slice_get xs k ≡ Some x → p x ≡ true → list_any p xs ≡ true
+pub some-any : (p : Node → Bool) (xs : List Node) (k : ℕ) (x : Node) → slice_get xs k ≡ Some x → p x ≡ true → list_any p xs ≡ true
 some-any p [] k x e t = absurd (some_none x e)
 some-any p (z ∷ xs) zero x e t = let f : p z ≡ true = ap p (same_some z x e) ∙ t in rw f refl
 some-any p (z ∷ xs) (suc k) x e t = or_right (p z) (list_any p xs) (some-any p xs k x e t)
@@ -175,7 +175,7 @@ module _ (net : Net) (family : ℕ) (c : Named net family) where
   net-means n w h = ap (option_map verilog.Net) (node-read net family c n h.node h.there)
 
   -- what is assigned to a node's net means its expression
-  value-means : (n : ℕ) (x : Node) → NodeFits net n x → option_and_then (resolve_expr ds) (takes family net.ports x) ≡ expression_of p x
+  pub value-means : (n : ℕ) (x : Node) → NodeFits net n x → option_and_then (resolve_expr ds) (takes family net.ports x) ≡ expression_of p x
   unfolding end_at
   value-means n (Input place w) h =
       let q = port_end (slice_get net.ports place) (In, n) h.1 in
@@ -325,7 +325,7 @@ module _ (net : Net) (family : ℕ) (c : Named net family) where
   range-back name In w i false e = ap (λ (k : ℕ). record { name = name; width = k; is_vector = true; kind = kind_of In }) (width-back w i)
   range-back name Out w i false e = ap (λ (k : ℕ). record { name = name; width = k; is_vector = true; kind = kind_of Out }) (width-back w i)
 
-  port-width : (place : ℕ) (q : Port) → slice_get net.ports place ≡ Some q → IsWidth (bits_of (shape_in net.nodes q.node))
+  pub port-width : (place : ℕ) (q : Port) → slice_get net.ports place ≡ Some q → IsWidth (bits_of (shape_in net.nodes q.node))
   unfolding shape_in
   port-width place q t = by q.direction (c.netlist.formed.ends place q t)
     where
