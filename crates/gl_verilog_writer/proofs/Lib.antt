@@ -8,3 +8,4 @@ pub mod Fitted
 pub mod Resolved
 pub mod Spelled
 pub mod Checked
+pub mod Driven
