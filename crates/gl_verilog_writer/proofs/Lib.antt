@@ -9,3 +9,6 @@ pub mod Resolved
 pub mod Spelled
 pub mod Checked
 pub mod Driven
+pub mod Family
+pub mod Running
+pub mod Means
