@@ -1,22 +1,72 @@
 //! The text of one node: its declaration, its assignment, its clocked block.
 
+ghost use Rattle.std.specs.Prelude.{◌≡◌, ◌++◌, ◌+◌, ◌-◌, OnOk, codes, decimal, []};
+ghost use Rattle.std.specs.Option.{option_map_or};
+ghost use Rattle.gl_verilog.specs.Written.{Update, UpdateWord, IfThen};
+ghost use Rattle.gl_verilog_writer.specs.Pieces.{net_name};
+ghost use Rattle.gl_verilog_writer.specs.Printed.{range_text, infix_text, expr_text, statement_text, item_text, always_text};
+ghost use Rattle.gl_verilog_writer.specs.Design.{node_width, port_name, infix_of, vector, named, literal, last_word, declares, takes, does, declaring, assigning, clocking};
+
 use crate::pieces::{put, put_literal, put_net, put_number, put_range};
 use gl_bits::Memory;
-use gl_net::{BinaryOp, Bus, MemoryDrive, Node, Port};
+use gl_net::{BinaryOp, MemoryDrive, Node, Port};
+
+// The width of two words side by side.
+fn width_of_both(high: u8, low: u8) -> u16
+    ensures { result ≡ high + low }
+{
+    u16::from(high) + u16::from(low)
+}
+
+// The width of the bits from `low` to `high`.
+fn width_between(high: u8, low: u8) -> u16
+    ensures { result ≡ high + 1 - low }
+{
+    (u16::from(high) + 1).saturating_sub(u16::from(low))
+}
 
 /// The bits that a node carries, or those of a memory's words.
-pub(crate) fn width_of(node: &Node) -> u16 {
+pub(crate) fn width_of(node: &Node) -> u16
+    ensures { result ≡ node_width node.now }
+{
     match *node {
         Node::Input(_, width) => u16::from(width),
         Node::Constant(word) => u16::from(word.width()),
         Node::Not(arg) => u16::from(arg.width),
         Node::Binary(op, left, _) => u16::from(op.width(left.width)),
         Node::Choose(_, yes, _) => u16::from(yes.width),
-        Node::Join(high, low) => u16::from(high.width).saturating_add(u16::from(low.width)),
-        Node::Cut(_, high, low) => (u16::from(high) + 1).saturating_sub(u16::from(low)),
+        Node::Join(high, low) => width_of_both(high.width, low.width),
+        Node::Cut(_, high, low) => width_between(high, low),
         Node::Register(width, _, _) => u16::from(width),
         Node::Memory(_, width, _) => u16::from(width),
         Node::MemoryRead(store, _) => u16::from(store.width),
+    }
+}
+
+// A word, a vector's range and the name of a node's net.
+fn put_vector(
+    out: &mut Vec<u8>,
+    word: &[u8],
+    family: usize,
+    number: usize,
+    width: u16,
+) -> Result<(), Memory>
+    ensures { OnOk result (out.new.items ≡ out.old.items ++ word.now ++ range_text (vector width) ++ net_name family number) }
+{
+    put(out, word)?;
+    put_range(out, width)?;
+    put_net(out, family, number)
+}
+
+// The number of a memory's last word.
+#[tactic(auto, unfolding(crate::specs::Design::last_word))]
+fn last_word(address_bits: u8) -> u128
+    ensures { result ≡ last_word address_bits }
+{
+    if address_bits <= 32 {
+        (1u128 << address_bits) - 1
+    } else {
+        0
     }
 }
 
@@ -26,31 +76,38 @@ pub(crate) fn put_declaration(
     family: usize,
     number: usize,
     node: &Node,
-) -> Result<(), Memory> {
-    let word = match node {
-        Node::Register(_, _, _) | Node::Memory(_, _, _) => b"reg ".as_slice(),
-        _ => b"wire ".as_slice(),
-    };
-    put(out, word)?;
-    put_range(out, width_of(node))?;
-    put_net(out, family, number)?;
-    put_bounds(out, node)?;
-    put(out, b";\n")
-}
-
-// The bounds of a memory.
-fn put_bounds(out: &mut Vec<u8>, node: &Node) -> Result<(), Memory> {
+) -> Result<(), Memory>
+    ensures { OnOk result (out.new.items ≡ out.old.items ++ item_text (declares family number node.now)) }
+{
+    let width = width_of(node);
     match *node {
-        Node::Memory(address_bits, _, _) if address_bits <= 32 => {
-            put(out, b" [0:")?;
-            put_number(out, (1u128 << address_bits) - 1)?;
-            put(out, b"]")
+        Node::Register(_, _, _) => {
+            put_vector(out, b"reg ", family, number, width)?;
+            put(out, b";\n")
         }
-        _ => Ok(()),
+        Node::Memory(address_bits, _, _) => {
+            put_vector(out, b"reg ", family, number, width)?;
+            put(out, b" [0:")?;
+            put_number(out, last_word(address_bits))?;
+            put(out, b"];\n")
+        }
+        Node::Input(_, _)
+        | Node::Constant(_)
+        | Node::Not(_)
+        | Node::Binary(_, _, _)
+        | Node::Choose(_, _, _)
+        | Node::Join(_, _)
+        | Node::Cut(_, _, _)
+        | Node::MemoryRead(_, _) => {
+            put_vector(out, b"wire ", family, number, width)?;
+            put(out, b";\n")
+        }
     }
 }
 
-fn sign_of(op: BinaryOp) -> &'static [u8] {
+fn sign_of(op: BinaryOp) -> &'static [u8]
+    ensures { result.now ≡ infix_text (infix_of op) }
+{
     match op {
         BinaryOp::Add => b" + ",
         BinaryOp::Sub => b" - ",
@@ -72,15 +129,19 @@ fn put_pair(
     left: usize,
     sign: &[u8],
     right: usize,
-) -> Result<(), Memory> {
+) -> Result<(), Memory>
+    ensures { OnOk result (out.new.items ≡ out.old.items ++ net_name family left ++ sign.now ++ net_name family right) }
+{
     put_net(out, family, left)?;
     put(out, sign)?;
     put_net(out, family, right)
 }
 
 // The bits from `low` to `high` of a net.
-fn put_cut(out: &mut Vec<u8>, family: usize, arg: Bus, high: u8, low: u8) -> Result<(), Memory> {
-    put_net(out, family, arg.node)?;
+fn put_cut(out: &mut Vec<u8>, family: usize, arg: usize, high: u8, low: u8) -> Result<(), Memory>
+    ensures { OnOk result (out.new.items ≡ out.old.items ++ net_name family arg ++ codes "[" ++ decimal high ++ codes ":" ++ decimal low ++ codes "]") }
+{
+    put_net(out, family, arg)?;
     put(out, b"[")?;
     put_number(out, u128::from(high))?;
     put(out, b":")?;
@@ -88,13 +149,22 @@ fn put_cut(out: &mut Vec<u8>, family: usize, arg: Bus, high: u8, low: u8) -> Res
     put(out, b"]")
 }
 
+// The name of the port at a place.
+fn put_port_name(out: &mut Vec<u8>, ports: &[Port], place: usize) -> Result<(), Memory>
+    ensures { OnOk result (out.new.items ≡ out.old.items ++ port_name ports.now place) }
+{
+    match ports.get(place) {
+        Some(port) => put(out, port.name.as_slice()),
+        None => Ok(()),
+    }
+}
+
 // The right side of a node's assignment.
-fn put_value(out: &mut Vec<u8>, family: usize, ports: &[Port], node: &Node) -> Result<(), Memory> {
+fn put_value(out: &mut Vec<u8>, family: usize, ports: &[Port], node: &Node) -> Result<(), Memory>
+    ensures { OnOk result (out.new.items ≡ out.old.items ++ option_map_or expr_text (takes family ports.now node.now) []) }
+{
     match *node {
-        Node::Input(place, _) => match ports.get(place) {
-            Some(port) => put(out, port.name.as_slice()),
-            None => Ok(()),
-        },
+        Node::Input(place, _) => put_port_name(out, ports, place),
         Node::Constant(word) => put_literal(out, word.bits(), word.width()),
         Node::Not(arg) => {
             put(out, b"~")?;
@@ -113,7 +183,7 @@ fn put_value(out: &mut Vec<u8>, family: usize, ports: &[Port], node: &Node) -> R
             put_pair(out, family, high.node, b", ", low.node)?;
             put(out, b"}")
         }
-        Node::Cut(arg, high, low) => put_cut(out, family, arg, high, low),
+        Node::Cut(arg, high, low) => put_cut(out, family, arg.node, high, low),
         Node::MemoryRead(store, address) => {
             put_pair(out, family, store.node, b"[", address.node)?;
             put(out, b"]")
@@ -129,36 +199,50 @@ pub(crate) fn put_assignment(
     ports: &[Port],
     number: usize,
     node: &Node,
-) -> Result<(), Memory> {
-    if let Node::Register(_, _, _) | Node::Memory(_, _, _) = node {
-        return Ok(());
+) -> Result<(), Memory>
+    ensures { OnOk result (out.new.items ≡ out.old.items ++ option_map_or item_text (assigning family ports.now number node.now) []) }
+{
+    match *node {
+        Node::Register(_, _, _) | Node::Memory(_, _, _) => Ok(()),
+        Node::Input(_, _)
+        | Node::Constant(_)
+        | Node::Not(_)
+        | Node::Binary(_, _, _)
+        | Node::Choose(_, _, _)
+        | Node::Join(_, _)
+        | Node::Cut(_, _, _)
+        | Node::MemoryRead(_, _) => {
+            put(out, b"assign ")?;
+            put_net(out, family, number)?;
+            put(out, b" = ")?;
+            put_value(out, family, ports, node)?;
+            put(out, b";\n")
+        }
     }
-    put(out, b"assign ")?;
-    put_net(out, family, number)?;
-    put(out, b" = ")?;
-    put_value(out, family, ports, node)?;
-    put(out, b";\n")
 }
 
 // `N <= M;`
-fn put_update(out: &mut Vec<u8>, family: usize, number: usize, next: Bus) -> Result<(), Memory> {
-    put_pair(out, family, number, b" <= ", next.node)?;
+fn put_update(out: &mut Vec<u8>, family: usize, number: usize, next: usize) -> Result<(), Memory>
+    ensures { OnOk result (out.new.items ≡ out.old.items ++ statement_text (Update (net_name family number) (named family next))) }
+{
+    put_pair(out, family, number, b" <= ", next)?;
     put(out, b";\n")
 }
 
-// `if (rst) N <= VALUE; else `
+// `N <= VALUE;`
 fn put_reset(
     out: &mut Vec<u8>,
     family: usize,
     number: usize,
     value: u128,
     width: u8,
-) -> Result<(), Memory> {
-    put(out, b"if (rst) ")?;
+) -> Result<(), Memory>
+    ensures { OnOk result (out.new.items ≡ out.old.items ++ statement_text (Update (net_name family number) (literal value width))) }
+{
     put_net(out, family, number)?;
     put(out, b" <= ")?;
     put_literal(out, value, width)?;
-    put(out, b"; else ")
+    put(out, b";\n")
 }
 
 // `if (W) M[A] <= V;`
@@ -167,14 +251,31 @@ fn put_write(
     family: usize,
     number: usize,
     drive: MemoryDrive,
-) -> Result<(), Memory> {
+) -> Result<(), Memory>
+    ensures { OnOk result (out.new.items ≡ out.old.items ++ statement_text (IfThen (named family drive.write.node) (UpdateWord (net_name family number) (named family drive.address.node) (named family drive.value.node)))) }
+{
     put(out, b"if (")?;
     put_net(out, family, drive.write.node)?;
     put(out, b") ")?;
     put_pair(out, family, number, b"[", drive.address.node)?;
     put(out, b"] <= ")?;
-    put_net(out, family, drive.value.node)?;
+    put_last(out, family, drive.value.node)
+}
+
+// A net and the end of its statement.
+fn put_last(out: &mut Vec<u8>, family: usize, node: usize) -> Result<(), Memory>
+    ensures { OnOk result (out.new.items ≡ out.old.items ++ net_name family node ++ codes ";\n") }
+{
+    put_net(out, family, node)?;
     put(out, b";\n")
+}
+
+#[tactic(auto, unfolding(crate::specs::Printed::always_text))]
+fn put_always(out: &mut Vec<u8>) -> Result<(), Memory>
+    ensures { OnOk result (out.new.items ≡ out.old.items ++ always_text ++ codes "clk) ") }
+{
+    put(out, b"always @(posedge ")?;
+    put(out, b"clk) ")
 }
 
 /// The clocked block of a register or of a memory.
@@ -183,21 +284,34 @@ pub(crate) fn put_block(
     family: usize,
     number: usize,
     node: &Node,
-) -> Result<(), Memory> {
+) -> Result<(), Memory>
+    ensures { OnOk result (out.new.items ≡ out.old.items ++ option_map_or item_text (clocking family number node.now) []) }
+{
     match *node {
         Node::Register(_, None, Some(next)) => {
-            put(out, b"always @(posedge clk) ")?;
-            put_update(out, family, number, next)
+            put_always(out)?;
+            put_update(out, family, number, next.node)
         }
         Node::Register(width, Some(value), Some(next)) => {
-            put(out, b"always @(posedge clk) ")?;
+            put_always(out)?;
+            put(out, b"if (rst) ")?;
             put_reset(out, family, number, value, width)?;
-            put_update(out, family, number, next)
+            put(out, b"else ")?;
+            put_update(out, family, number, next.node)
         }
         Node::Memory(_, _, Some(drive)) => {
-            put(out, b"always @(posedge clk) ")?;
+            put_always(out)?;
             put_write(out, family, number, drive)
         }
-        _ => Ok(()),
+        Node::Register(_, _, None)
+        | Node::Memory(_, _, None)
+        | Node::Input(_, _)
+        | Node::Constant(_)
+        | Node::Not(_)
+        | Node::Binary(_, _, _)
+        | Node::Choose(_, _, _)
+        | Node::Join(_, _)
+        | Node::Cut(_, _, _)
+        | Node::MemoryRead(_, _) => Ok(()),
     }
 }

@@ -1,7 +1,9 @@
 //! Small pieces of a module's text.
 
 ghost use Rattle.std.specs.Prelude.{◌≡◌, ◌++◌, OnOk, codes, decimal};
-ghost use Rattle.gl_verilog_writer.specs.Pieces.{net_name, range_text, literal_text};
+ghost use Rattle.gl_verilog_writer.specs.Pieces.{family_text, net_name};
+ghost use Rattle.gl_verilog_writer.specs.Printed.{range_text, expr_text};
+ghost use Rattle.gl_verilog_writer.specs.Design.{vector, literal};
 
 use gl_bits::Memory;
 use itoa::Buffer;
@@ -24,21 +26,28 @@ pub(crate) fn put_number(out: &mut Vec<u8>, n: u128) -> Result<(), Memory>
     put(out, buffer.format(n).as_bytes())
 }
 
+/// Appends what the names of a family begin with, `nFAMILY_`.
+#[tactic(auto, unfolding(crate::specs::Pieces::family_text))]
+pub(crate) fn put_family(out: &mut Vec<u8>, family: usize) -> Result<(), Memory>
+    ensures { OnOk result (out.new.items ≡ out.old.items ++ family_text family) }
+{
+    put(out, b"n")?;
+    put_number(out, family as u128)?;
+    put(out, b"_")
+}
+
 /// Appends the name of a node's net, `nFAMILY_NODE`. The family keeps it apart from the ports' names.
 #[tactic(auto, unfolding(crate::specs::Pieces::net_name))]
 pub(crate) fn put_net(out: &mut Vec<u8>, family: usize, node: usize) -> Result<(), Memory>
     ensures { OnOk result (out.new.items ≡ out.old.items ++ net_name family node) }
 {
-    put(out, b"n")?;
-    put_number(out, family as u128)?;
-    put(out, b"_")?;
+    put_family(out, family)?;
     put_number(out, node as u128)
 }
 
 /// Appends the range of a vector and a space.
-#[tactic(auto, unfolding(crate::specs::Pieces::range_text))]
 pub(crate) fn put_range(out: &mut Vec<u8>, width: u16) -> Result<(), Memory>
-    ensures { OnOk result (out.new.items ≡ out.old.items ++ range_text width) }
+    ensures { OnOk result (out.new.items ≡ out.old.items ++ range_text (vector width)) }
 {
     put(out, b"[")?;
     put_number(out, u128::from(width.saturating_sub(1)))?;
@@ -46,9 +55,8 @@ pub(crate) fn put_range(out: &mut Vec<u8>, width: u16) -> Result<(), Memory>
 }
 
 /// Appends a literal of this width, in base d.
-#[tactic(auto, unfolding(crate::specs::Pieces::literal_text))]
 pub(crate) fn put_literal(out: &mut Vec<u8>, value: u128, width: u8) -> Result<(), Memory>
-    ensures { OnOk result (out.new.items ≡ out.old.items ++ literal_text value width) }
+    ensures { OnOk result (out.new.items ≡ out.old.items ++ expr_text (literal value width)) }
 {
     put_number(out, u128::from(width))?;
     put(out, b"'d")?;

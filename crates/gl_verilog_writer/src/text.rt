@@ -1,26 +1,34 @@
 //! The text of a whole netlist.
 
+ghost use Rattle.std.specs.Prelude.{◌≡◌, ◌++◌, OnOk, OnErr, IfOk, codes, length, [], ◌∷◌, Some, map, List};
+ghost use Rattle.std.specs.Option.{option_map_or};
+ghost use Rattle.gl_net.specs.Net.{shape_in};
+ghost use Rattle.gl_verilog.specs.Written.{WrittenItem};
+ghost use Rattle.gl_verilog_writer.specs.Meaning.{bits_of};
+ghost use Rattle.gl_verilog_writer.specs.Pieces.{family_text};
+ghost use Rattle.gl_verilog_writer.specs.Printed.{range_text, direction_text, port_text, more_ports_text, head_text, item_text, items_text};
+ghost use Rattle.gl_verilog_writer.specs.Design.{begins_port, family_of, leads, range_of, clock_port, written_port, items_of, numbered, declaring, assigning, shows, showing, clocking, module_text};
+
 use crate::nodes::{put_assignment, put_block, put_declaration, width_of};
-use crate::pieces::{put, put_net, put_number, put_range};
+use crate::pieces::{put, put_family, put_net, put_range};
 use gl_bits::Memory;
 use gl_net::{Direction, Netlist, Node, Port};
 
-// `nFAMILY_`, in front of every inner name.
-fn put_family(out: &mut Vec<u8>, family: usize) -> Result<(), Memory> {
-    put(out, b"n")?;
-    put_number(out, family as u128)?;
-    put(out, b"_")
-}
-
 // Whether some port's name begins so.
-fn begins_port(ports: &[Port], front: &[u8]) -> bool {
-    ports
-        .iter()
-        .any(|port| port.name.as_slice().starts_with(front))
+fn begins_port(ports: &[Port], front: &[u8]) -> bool
+    ensures { result ≡ begins_port ports.now front.now }
+{
+    match ports.split_first() {
+        Some((port, rest)) => port.name.as_slice().starts_with(front) || begins_port(rest, front),
+        None => false,
+    }
 }
 
-// The first family whose names are no ports' names. Each port rules out one family at most.
-fn free_family(scratch: &mut Vec<u8>, ports: &[Port]) -> Result<usize, Memory> {
+// The first family whose names are no ports' names.
+#[tactic(auto, using(crate::proofs::Loops::loop_steps), unfolding(crate::specs::Design::family_of))]
+fn free_family(scratch: &mut Vec<u8>, ports: &[Port]) -> Result<usize, Memory>
+    ensures { IfOk result (λ family. family ≡ family_of ports.now) }
+{
     for family in 0..ports.len() {
         scratch.clear();
         put_family(scratch, family)?;
@@ -31,51 +39,99 @@ fn free_family(scratch: &mut Vec<u8>, ports: &[Port]) -> Result<usize, Memory> {
     Ok(ports.len())
 }
 
-// One port behind the clock.
-fn put_port(out: &mut Vec<u8>, nodes: &[Node], port: &Port) -> Result<(), Memory> {
-    let direction = match port.direction {
-        Direction::In => b",\n    input wire ".as_slice(),
-        Direction::Out => b",\n    output wire ".as_slice(),
-    };
-    put(out, direction)?;
-    let width = match nodes.get(port.node) {
+// The bits of what a port leads to.
+#[tactic(auto, unfolding(gl_net::specs::Net::shape_in))]
+fn port_width(nodes: &[Node], port: &Port) -> u16
+    ensures { result ≡ bits_of (shape_in nodes.now port.now.node) }
+{
+    match nodes.get(port.node) {
         Some(node) => width_of(node),
-        None => 1,
-    };
-    if width != 1 {
-        put_range(out, width)?;
+        None => 0,
     }
+}
+
+// The words in front of a port.
+#[tactic(auto, unfolding(crate::specs::Printed::direction_text))]
+fn put_direction(out: &mut Vec<u8>, direction: Direction) -> Result<(), Memory>
+    ensures { OnOk result (out.new.items ≡ out.old.items ++ direction_text (leads direction)) }
+{
+    match direction {
+        Direction::In => put(out, b"\n    input wire "),
+        Direction::Out => put(out, b"\n    output wire "),
+    }
+}
+
+// The range of a port, where it is a vector.
+fn put_port_range(out: &mut Vec<u8>, width: u16) -> Result<(), Memory>
+    ensures { OnOk result (out.new.items ≡ out.old.items ++ range_text (range_of width)) }
+{
+    if width == 1 {
+        return Ok(());
+    }
+    put_range(out, width)
+}
+
+// One port behind the clock.
+fn put_port(out: &mut Vec<u8>, nodes: &[Node], port: &Port) -> Result<(), Memory>
+    ensures { OnOk result (out.new.items ≡ out.old.items ++ codes "," ++ port_text (written_port nodes.now port.now)) }
+{
+    put(out, b",")?;
+    put_direction(out, port.direction)?;
+    put_port_range(out, port_width(nodes, port))?;
     put(out, port.name.as_slice())
 }
 
-fn put_ports(out: &mut Vec<u8>, nodes: &[Node], ports: &[Port]) -> Result<(), Memory> {
+#[tactic(auto, using(crate::proofs::Loops::loop_steps))]
+fn put_ports(out: &mut Vec<u8>, nodes: &[Node], ports: &[Port]) -> Result<(), Memory>
+    ensures { OnOk result (out.new.items ≡ out.old.items ++ more_ports_text (map (written_port nodes.now) ports.now)) }
+{
     for port in ports {
         put_port(out, nodes, port)?;
     }
     Ok(())
 }
 
-fn put_head(out: &mut Vec<u8>, name: &[u8], nodes: &[Node], ports: &[Port]) -> Result<(), Memory> {
+// The clock's port.
+#[tactic(auto, unfolding(crate::specs::Printed::direction_text))]
+fn put_clock(out: &mut Vec<u8>) -> Result<(), Memory>
+    ensures { OnOk result (out.new.items ≡ out.old.items ++ port_text clock_port) }
+{
+    put(out, b"\n    input wire ")?;
+    put(out, b"clk")
+}
+
+// The head of a module whose ports are the clock and these.
+#[tactic(auto, unfolding(crate::specs::Printed::head_text))]
+fn put_head(out: &mut Vec<u8>, name: &[u8], nodes: &[Node], ports: &[Port]) -> Result<(), Memory>
+    ensures { OnOk result ((items : List WrittenItem) → out.new.items ≡ out.old.items ++ head_text (record { name = name.now; ports = clock_port ∷ map (written_port nodes.now) ports.now; items = items })) }
+{
     put(out, b"module ")?;
     put(out, name)?;
-    put(out, b"(\n    input wire clk")?;
+    put(out, b"(")?;
+    put_clock(out)?;
     put_ports(out, nodes, ports)?;
     put(out, b"\n);\n")
 }
 
-fn put_declarations(out: &mut Vec<u8>, family: usize, nodes: &[Node]) -> Result<(), Memory> {
+#[tactic(auto, using(crate::proofs::Loops::loop_steps))]
+fn put_declarations(out: &mut Vec<u8>, family: usize, nodes: &[Node]) -> Result<(), Memory>
+    ensures { OnOk result (out.new.items ≡ out.old.items ++ items_text (numbered (declaring family) 0 nodes.now)) }
+{
     for (number, node) in nodes.iter().enumerate() {
         put_declaration(out, family, number, node)?;
     }
     Ok(())
 }
 
+#[tactic(auto, using(crate::proofs::Loops::loop_steps))]
 fn put_assignments(
     out: &mut Vec<u8>,
     family: usize,
     nodes: &[Node],
     ports: &[Port],
-) -> Result<(), Memory> {
+) -> Result<(), Memory>
+    ensures { OnOk result (out.new.items ≡ out.old.items ++ items_text (numbered (assigning family ports.now) 0 nodes.now)) }
+{
     for (number, node) in nodes.iter().enumerate() {
         put_assignment(out, family, ports, number, node)?;
     }
@@ -83,44 +139,94 @@ fn put_assignments(
 }
 
 // An output port shows its node.
-fn put_output(out: &mut Vec<u8>, family: usize, port: &Port) -> Result<(), Memory> {
-    if port.direction == Direction::In {
-        return Ok(());
+fn put_output(out: &mut Vec<u8>, family: usize, port: &Port) -> Result<(), Memory>
+    ensures { OnOk result (out.new.items ≡ out.old.items ++ option_map_or item_text (shows family port.now.direction port.now.name port.now.node) []) }
+{
+    match port.direction {
+        Direction::In => Ok(()),
+        Direction::Out => {
+            put(out, b"assign ")?;
+            put(out, port.name.as_slice())?;
+            put(out, b" = ")?;
+            put_net(out, family, port.node)?;
+            put(out, b";\n")
+        }
     }
-    put(out, b"assign ")?;
-    put(out, port.name.as_slice())?;
-    put(out, b" = ")?;
-    put_net(out, family, port.node)?;
-    put(out, b";\n")
 }
 
-fn put_outputs(out: &mut Vec<u8>, family: usize, ports: &[Port]) -> Result<(), Memory> {
+#[tactic(auto, using(crate::proofs::Loops::loop_steps))]
+fn put_outputs(out: &mut Vec<u8>, family: usize, ports: &[Port]) -> Result<(), Memory>
+    ensures { OnOk result (out.new.items ≡ out.old.items ++ items_text (numbered (showing family) 0 ports.now)) }
+{
     for port in ports {
         put_output(out, family, port)?;
     }
     Ok(())
 }
 
-fn put_blocks(out: &mut Vec<u8>, family: usize, nodes: &[Node]) -> Result<(), Memory> {
+#[tactic(auto, using(crate::proofs::Loops::loop_steps))]
+fn put_blocks(out: &mut Vec<u8>, family: usize, nodes: &[Node]) -> Result<(), Memory>
+    ensures { OnOk result (out.new.items ≡ out.old.items ++ items_text (numbered (clocking family) 0 nodes.now)) }
+{
     for (number, node) in nodes.iter().enumerate() {
         put_block(out, family, number, node)?;
     }
     Ok(())
 }
 
+// The items, one part after the other.
+fn put_parts(
+    out: &mut Vec<u8>,
+    family: usize,
+    nodes: &[Node],
+    ports: &[Port],
+) -> Result<(), Memory>
+    ensures { OnOk result (out.new.items ≡ out.old.items ++ (items_text (numbered (declaring family) 0 nodes.now) ++ items_text (numbered (assigning family ports.now) 0 nodes.now) ++ items_text (numbered (showing family) 0 ports.now) ++ items_text (numbered (clocking family) 0 nodes.now))) }
+{
+    put_declarations(out, family, nodes)?;
+    put_assignments(out, family, nodes, ports)?;
+    put_outputs(out, family, ports)?;
+    put_blocks(out, family, nodes)
+}
+
+// All items.
+fn put_items(
+    out: &mut Vec<u8>,
+    family: usize,
+    nodes: &[Node],
+    ports: &[Port],
+) -> Result<(), Memory>
+    ensures { OnOk result (out.new.items ≡ out.old.items ++ items_text (items_of family nodes.now ports.now)) }
+{
+    put_parts(out, family, nodes, ports)
+}
+
+// The text of a netlist.
+#[tactic(auto, unfolding(crate::specs::Design::module_text))]
+fn put_module(out: &mut Vec<u8>, net: &Netlist) -> Result<(), Memory>
+    ensures { OnOk result (out.new.items ≡ out.old.items ++ module_text net.now) }
+{
+    let nodes = net.nodes();
+    let ports = net.ports();
+    let mut scratch = Vec::new(*out.allocator());
+    let family = free_family(&mut scratch, ports)?;
+    put_head(out, net.name(), nodes, ports)?;
+    put_items(out, family, nodes, ports)?;
+    put(out, b"endmodule\n")
+}
+
 /// Appends the text of a netlist's module: the clock and the ports, one declaration for each node,
 /// all before the first use, the assignments, and a clocked block for each register and memory.
 ///
-/// On want of memory a front of the text was appended.
-pub fn write_module(net: &Netlist, into: &mut Vec<u8>) -> Result<(), Memory> {
-    let nodes = net.nodes();
-    let ports = net.ports();
-    let mut scratch = Vec::new(*into.allocator());
-    let family = free_family(&mut scratch, ports)?;
-    put_head(into, net.name(), nodes, ports)?;
-    put_declarations(into, family, nodes)?;
-    put_assignments(into, family, nodes, ports)?;
-    put_outputs(into, family, ports)?;
-    put_blocks(into, family, nodes)?;
-    put(into, b"endmodule\n")
+/// On want of memory nothing was appended.
+pub fn write_module(net: &Netlist, into: &mut Vec<u8>) -> Result<(), Memory>
+    ensures text { OnOk result (into.new.items ≡ into.old.items ++ module_text net.now) }
+    ensures nothing { OnErr result (into.new.items ≡ into.old.items) }
+{
+    let mut text = Vec::new(*into.allocator());
+    put_module(&mut text, net)?;
+    match into.extend_from_slice(&text) {
+        Ok(()) => Ok(()),
+        Err(_) => Err(Memory),
+    }
 }

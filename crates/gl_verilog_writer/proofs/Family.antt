@@ -1,0 +1,142 @@
+-- The family of a netlist's nets is free: each port rules out one family at most.
+use Rattle.std.proofs.Common.{◌≡◌, ℕ, zero, suc, ◌+◌, ◌<◌, ◌≤◌, ◌^◌, Bool, true, false, ◌||◌, ◌==◌, List, [], ◌∷◌, ◌++◌, length, take, drop, get_or, refl, sym, ap, subst, ◌∙◌, arith, inl, inr, ◌⊎◌, append_assoc, take-append-drop}
+use Rattle.std.specs.Prelude.{codes, decimal, if◌then◌else◌, bytes_eq}
+use Rattle.std.specs.List.{list_any, starts_with}
+use Rattle.std.specs.Str.Parse.{AllDigits}
+use Rattle.std.proofs.lemmas.Str.Parse.{tells_digits}
+use Rattle.std.proofs.lemmas.Fmt.{decimal_injective}
+use Rattle.gl_net.specs.declared.node.Port.{Port}
+use Rattle.gl_verilog_writer.specs.Pieces.{family_text}
+use Rattle.gl_verilog_writer.specs.Design.{begins_port, family_from, family_of}
+use Rattle.gl_verilog_writer.proofs.Digits.{numeral-decimal}
+use Rattle.gl_verilog_writer.proofs.Lists.{split}
+use Rattle.gl_verilog_writer.proofs.Named.{bytes_same, true_false}
+
+-- ---- a name begins so in one way at most
+
+digits-apart : (a b x y : List ℕ) → AllDigits 10 a → AllDigits 10 b → a ++ 95 ∷ x ≡ b ++ 95 ∷ y → a ≡ b
+digits-apart [] [] x y h k e = refl
+digits-apart [] (d ∷ b) x y h k e = let f : 95 ≡ d = ap (λ (l : List ℕ). get_or l 0 0) e in let r = (tells_digits.parts d b k).0.1 in absurd (omega (arith, f, r))
+digits-apart (c ∷ a) [] x y h k e = let f : c ≡ 95 = ap (λ (l : List ℕ). get_or l 0 0) e in let r = (tells_digits.parts c a h).0.1 in absurd (omega (arith, f, r))
+digits-apart (c ∷ a) (d ∷ b) x y h k e =
+    let f : c ≡ d = ap (λ (l : List ℕ). get_or l 0 0) e in
+    let g : a ≡ b = digits-apart a b x y (tells_digits.parts c a h).1 (tells_digits.parts d b k).1 (ap (drop 1) e) in
+    ap (λ (n : ℕ). n ∷ a) f ∙ ap (λ (l : List ℕ). d ∷ l) g
+
+families-apart : (i j : ℕ) (x y : List ℕ) → i < 2 ^ 64 → j < 2 ^ 64 → family_text i ++ x ≡ family_text j ++ y → i ≡ j
+unfolding family_text
+families-apart i j x y li lj e =
+    let f : (decimal i ++ codes "_") ++ x ≡ (decimal j ++ codes "_") ++ y = ap (drop 1) e in
+    let g : decimal i ++ 95 ∷ x ≡ decimal j ++ 95 ∷ y = sym (append_assoc (decimal i) (codes "_") x) ∙ f ∙ append_assoc (decimal j) (codes "_") y in
+    decimal_injective i j li lj (digits-apart (decimal i) (decimal j) x y (numeral-decimal i (omega (arith, li))).1 (numeral-decimal j (omega (arith, lj))).1 g)
+
+begins-is : (name front : List ℕ) → starts_with ◌==◌ name front ≡ true → front ++ drop (length front) name ≡ name
+begins-is name front e = ap (λ (l : List ℕ). l ++ drop (length front) name) (bytes_same front (take (length front) name) e) ∙ take-append-drop (length front) name
+
+one-family : (name : List ℕ) (i j : ℕ) → i < 2 ^ 64 → j < 2 ^ 64 → starts_with ◌==◌ name (family_text i) ≡ true → starts_with ◌==◌ name (family_text j) ≡ true → i ≡ j
+one-family name i j li lj e f = families-apart i j _ _ li lj (begins-is name (family_text i) e ∙ sym (begins-is name (family_text j) f))
+
+-- ---- how many numbers below m pass a test
+
+abbrev tally : (ℕ → Bool) → ℕ → ℕ
+tally f zero = 0
+tally f (suc m) = tally f m + (if f m then 1 else 0)
+
+tally-all : (f : ℕ → Bool) (m : ℕ) → ((k : ℕ) → k < m → f k ≡ true) → tally f m ≡ m
+tally-all f zero h = refl
+tally-all f (suc m) h =
+    let a = tally-all f m (λ k l. h k (let q : k < suc m = omega (arith, l) in q)) in
+    let b : f m ≡ true = h m (omega arith) in
+    rw (a, b) (let q : m + 1 ≡ suc m = omega arith in q)
+
+tally-none : (f : ℕ → Bool) (m : ℕ) → ((k : ℕ) → k < m → f k ≡ false) → tally f m ≡ 0
+tally-none f zero h = refl
+tally-none f (suc m) h =
+    let a = tally-none f m (λ k l. h k (let q : k < suc m = omega (arith, l) in q)) in
+    let b : f m ≡ false = h m (omega arith) in
+    rw (a, b) refl
+
+or-sum : (a b : Bool) → (if a || b then 1 else 0) ≤ (if a then 1 else 0) + (if b then 1 else 0)
+or-sum true true = omega arith
+or-sum true false = omega arith
+or-sum false true = omega arith
+or-sum false false = omega arith
+
+tally-or : (a b : ℕ → Bool) (m : ℕ) → tally (λ k. a k || b k) m ≤ tally a m + tally b m
+tally-or a b zero = omega arith
+tally-or a b (suc m) = let h = tally-or a b m in let g = or-sum (a m) (b m) in omega (arith, h, g)
+
+tally-one : (f : ℕ → Bool) (m : ℕ) → ((i j : ℕ) → i < m → j < m → f i ≡ true → f j ≡ true → i ≡ j) → tally f m ≤ 1
+tally-one f zero h = omega arith
+tally-one f (suc m) h = elim (split (f m)) [
+  | inl t ↦ (let a = tally-none f m (λ k l. elim (split (f k)) [
+        | inl s ↦ (let q = h k m (let z : k < suc m = omega (arith, l) in z) (omega arith) s t in absurd (omega (arith, q, l)))
+        | inr s ↦ s
+      ]) in rw (a, t) (let q : 0 + 1 ≤ 1 = omega arith in q))
+  | inr t ↦ (let a = tally-one f m (λ i j li lj. h i j (let z : i < suc m = omega (arith, li) in z) (let z : j < suc m = omega (arith, lj) in z)) in rw t (let q : tally f m + 0 ≤ 1 = omega (arith, a) in q))
+]
+
+tally-ports : (ports : List Port) (m : ℕ) → m ≤ 2 ^ 64 → tally (λ k. begins_port ports (family_text k)) m ≤ length ports
+tally-ports [] m l = let a = tally-none (λ k. false) m (λ k h. refl) in omega (arith, a)
+tally-ports (q ∷ ports) m l =
+    let f : ℕ → Bool = λ k. starts_with ◌==◌ q.name (family_text k) in
+    let g : ℕ → Bool = λ k. begins_port ports (family_text k) in
+    let a = tally-or f g m in
+    let b = tally-one f m (λ i j li lj. one-family q.name i j (let z : i < 2 ^ 64 = omega (arith, l, li) in z) (let z : j < 2 ^ 64 = omega (arith, l, lj) in z)) in
+    let d = tally-ports ports m l in
+    let z : tally (λ k. f k || g k) m ≤ suc (length ports) = omega (arith, a, b, d) in z
+
+-- ---- the family that is found
+
+record AllTaken (ports : List Port) (at n : ℕ) : Type 0 where
+  is : family_from ports n at ≡ at + n
+  taken : (k : ℕ) → at ≤ k → k < at + n → begins_port ports (family_text k) ≡ true
+
+outcome : (ports : List Port) (n at : ℕ) → (begins_port ports (family_text (family_from ports n at)) ≡ false) ⊎ AllTaken ports at n
+outcome ports zero at = inr (record { is = (let q : at ≡ at + 0 = omega arith in q); taken = λ k l h. absurd (omega (arith, l, h)) })
+outcome ports (suc n) at = elim (split (begins_port ports (family_text at))) [
+  | inr f ↦ inl (rw f f)
+  | inl t ↦ (let e : family_from ports (suc n) at ≡ family_from ports n (at + 1) = rw t refl in
+      elim (outcome ports n (at + 1)) [
+        | inl f ↦ inl (ap (λ (k : ℕ). begins_port ports (family_text k)) e ∙ f)
+        | inr a ↦ inr (record {
+            is = e ∙ a.is ∙ (let q : at + 1 + n ≡ at + suc n = omega arith in q);
+            taken = λ k l h. elim (same k at) [
+              | inl q ↦ ap (λ (m : ℕ). begins_port ports (family_text m)) q ∙ t
+              | inr ne ↦ a.taken k (let z : at + 1 ≤ k = omega (arith, l, ne) in z) (let z : k < at + 1 + n = omega (arith, h) in z)
+            ];
+          })
+      ])
+]
+  where
+    same : (a b : ℕ) → (a ≡ b) ⊎ (a ≡ b → ⊥)
+    same zero zero = inl refl
+    same zero (suc b) = inr (λ e. omega arith)
+    same (suc a) zero = inr (λ e. omega arith)
+    same (suc a) (suc b) = elim (same a b) [ inl e ↦ inl (ap suc e) | inr ne ↦ inr (λ e. ne (let q : a ≡ b = omega (arith, e) in q)) ]
+
+family-most : (ports : List Port) (n at : ℕ) → family_from ports n at ≤ at + n
+family-most ports zero at = omega arith
+family-most ports (suc n) at = elim (split (begins_port ports (family_text at))) [
+  | inr f ↦ rw f (let q : at ≤ at + suc n = omega arith in q)
+  | inl t ↦ (let h = family-most ports n (at + 1) in rw t (let q : family_from ports n (at + 1) ≤ at + suc n = omega (arith, h) in q))
+]
+
+pub family-small : (ports : List Port) → length ports < 2 ^ 64 → family_of ports < 2 ^ 64
+unfolding family_of
+family-small ports l = let h = family-most ports (length ports) 0 in let q : family_from ports (length ports) 0 < 2 ^ 64 = omega (arith, h, l) in q
+
+pub family-free : (ports : List Port) → length ports < 2 ^ 64 → begins_port ports (family_text (family_of ports)) ≡ false
+unfolding family_of
+family-free ports l = elim (outcome ports (length ports) 0) [
+  | inl f ↦ f
+  | inr a ↦ (let n = length ports in
+      let e : family_from ports n 0 ≡ n = a.is ∙ (let q : 0 + n ≡ n = omega arith in q) in
+      elim (split (begins_port ports (family_text n))) [
+        | inr f ↦ ap (λ (k : ℕ). begins_port ports (family_text k)) e ∙ f
+        | inl t ↦ (let all = tally-all (λ k. begins_port ports (family_text k)) n (λ k h. a.taken k (omega arith) (let z : k < 0 + n = omega (arith, h) in z)) in
+            let more : tally (λ k. begins_port ports (family_text k)) (suc n) ≡ n + 1 = rw (all, t) refl in
+            let most = tally-ports ports (suc n) (let z : suc n ≤ 2 ^ 64 = omega (arith, l) in z) in
+            absurd (omega (arith, more, most)))
+      ])
+]

@@ -1,0 +1,14 @@
+pub mod Loops
+pub mod Digits
+pub mod Texts
+pub mod Model
+pub mod Lists
+pub mod Named
+pub mod Fitted
+pub mod Resolved
+pub mod Spelled
+pub mod Checked
+pub mod Driven
+pub mod Family
+pub mod Running
+pub mod Means

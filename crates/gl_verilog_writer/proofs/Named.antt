@@ -1,0 +1,194 @@
+-- The declarations of a netlist's module: where each stands, and that no two have one name.
+use Rattle.std.proofs.Common.{◌≡◌, ◌≢◌, ℕ, zero, suc, ◌+◌, ◌-◌, ◌<◌, ◌≤◌, ◌^◌, Bool, true, false, ◌&&◌, ◌||◌, ◌==◌, List, [], ◌∷◌, ◌++◌, length, take, get_or, map, Option, Some, None, refl, sym, ap, subst, ◌∙◌, arith, add-one, inl, inr, ◌⊎◌, eq-eqb, append_assoc}
+use Rattle.std.specs.Prelude.{slice_get, codes, decimal, option_map, bytes_eq, if◌then◌else◌}
+use Rattle.std.specs.List.{list_any, starts_with}
+use Rattle.std.proofs.lemmas.Slice.Eq.{bytes_eq-Decides}
+use Rattle.std.proofs.lemmas.List.{append_cancel_left, length-map}
+use Rattle.std.proofs.lemmas.Option.{slice_get_within}
+use Rattle.std.proofs.lemmas.Fmt.{decimal_injective}
+use Rattle.gl_net.specs.declared.node.Node.{Node}
+use Rattle.gl_net.specs.declared.node.Port.{Port}
+use Rattle.gl_net.specs.Net.{Net}
+use Rattle.gl_verilog.specs.Module.{Declaration, number_of}
+use Rattle.gl_verilog.specs.Valid.{Differs, AreDistinct}
+use Rattle.gl_verilog_writer.specs.Meaning.{declaration_of, clock}
+use Rattle.gl_verilog_writer.specs.Pieces.{family_text, net_name}
+use Rattle.gl_verilog_writer.specs.Design.{begins_port}
+use Rattle.gl_verilog_writer.proofs.Model.{Named, at_node, declaration_for, counted, declarations_in}
+use Rattle.gl_verilog_writer.proofs.Lists.{same_some, some_none, split, get-left, get-right, get-parts, get-mapped, get-unmapped, get-counted, get-uncounted}
+
+-- ---- names
+
+pub bytes_same : (xs ys : List ℕ) → bytes_eq xs ys ≡ true → xs ≡ ys
+bytes_same xs ys e = (bytes_eq-Decides xs ys).0 e
+
+pub bytes_own : (xs : List ℕ) → bytes_eq xs xs ≡ true
+bytes_own xs = (bytes_eq-Decides xs xs).1 refl
+
+pub true_false : (b : Bool) → b ≡ true → b ≡ false → ⊥
+true_false b e f = let g : true ≡ false = sym e ∙ f in absurd (cc)
+
+pub bytes_other : (xs ys : List ℕ) → (xs ≡ ys → ⊥) → bytes_eq xs ys ≡ false
+bytes_other xs ys ne = elim (split (bytes_eq xs ys)) [ inl e ↦ absurd (ne (bytes_same xs ys e)) | inr e ↦ e ]
+
+-- no two declarations have one name
+abbrev pub Apart : List Declaration → Type 0
+Apart ds = (i j : ℕ) (d e : Declaration) → slice_get ds i ≡ Some d → slice_get ds j ≡ Some e → d.name ≡ e.name → i ≡ j
+
+apart-tail : (x : Declaration) (ds : List Declaration) → Apart (x ∷ ds) → Apart ds
+apart-tail x ds h = λ i j d e p q n. (let r = h (suc i) (suc j) d e p q n in let s : i ≡ j = omega (arith, r) in s)
+
+differs : (d : Declaration) (es : List Declaration) → ((j : ℕ) (e : Declaration) → slice_get es j ≡ Some e → d.name ≡ e.name → ⊥) → Differs d es
+differs d [] h = tt
+differs d (e ∷ es) h = (bytes_other d.name e.name (h 0 e refl), differs d es (λ j f p. h (suc j) f p))
+
+pub distinct : (ds : List Declaration) → Apart ds → AreDistinct ds
+distinct [] h = tt
+distinct (d ∷ ds) h = (differs d ds (λ j e p n. (let r = h 0 (suc j) d e refl p n in omega (arith, r))), distinct ds (apart-tail d ds h))
+
+-- a name is found where it is declared
+pub found : (ds : List Declaration) (i : ℕ) (d : Declaration) → Apart ds → slice_get ds i ≡ Some d → number_of ds d.name ≡ Some i
+found [] i d h e = absurd (some_none d e)
+found (x ∷ ds) zero d h e =
+    let f : bytes_eq x.name d.name ≡ true = ap (λ (y : Declaration). bytes_eq y.name d.name) (same_some x d e) ∙ bytes_own d.name in
+    rw f refl
+found (x ∷ ds) (suc i) d h e =
+    let f : bytes_eq x.name d.name ≡ false = bytes_other x.name d.name (λ n. (let r = h 0 (suc i) x d refl e n in omega (arith, r))) in
+    let g = found ds i d (apart-tail x ds h) e in
+    rw (f, g) (ap Some (add-one i))
+
+-- ---- no port's name is a net's
+
+begins-own : (a b : List ℕ) → starts_with ◌==◌ (a ++ b) a ≡ true
+begins-own [] b = refl
+begins-own (x ∷ a) b = let e : (x == x) ≡ true = eq-eqb x x refl in rw (e, begins-own a b) refl
+
+port-not : (ports : List Port) (front : List ℕ) (place : ℕ) (p : Port) → begins_port ports front ≡ false → slice_get ports place ≡ Some p → starts_with ◌==◌ p.name front ≡ false
+port-not [] front place p h e = absurd (some_none p e)
+port-not (q ∷ ports) front zero p h e = ap (λ (r : Port). starts_with ◌==◌ r.name front) (sym (same_some q p e)) ∙ first (starts_with ◌==◌ q.name front) (begins_port ports front) h
+  where
+    first : (a b : Bool) → (a || b) ≡ false → a ≡ false
+    first true b h = absurd (cc)
+    first false b h = refl
+port-not (q ∷ ports) front (suc place) p h e = port-not ports front place p (second (starts_with ◌==◌ q.name front) (begins_port ports front) h) e
+  where
+    second : (a b : Bool) → (a || b) ≡ false → b ≡ false
+    second true b h = absurd (cc)
+    second false b h = h
+
+net_begins : (family n : ℕ) → starts_with ◌==◌ (net_name family n) (family_text family) ≡ true
+unfolding net_name
+net_begins family n = begins-own (family_text family) (decimal n)
+
+nets_same : (family m n : ℕ) → m < 2 ^ 64 → n < 2 ^ 64 → net_name family m ≡ net_name family n → m ≡ n
+unfolding net_name
+nets_same family m n lm ln e = decimal_injective m n lm ln (append_cancel_left (family_text family) (decimal m) (decimal n) e)
+
+not_clock : (family n : ℕ) → codes "clk" ≡ net_name family n → ⊥
+unfolding net_name family_text
+not_clock family n e = let f : 99 ≡ 110 = ap (λ (w : List ℕ). get_or w 0 0) e in omega (arith, f)
+
+pub net_no_clock : (family n : ℕ) → bytes_eq (net_name family n) (codes "clk") ≡ false
+unfolding net_name family_text
+net_no_clock family n = refl
+
+-- ---- where each declaration stands
+
+module _ (net : Net) (family : ℕ) (c : Named net family) where
+  pub node_there : (n : ℕ) (x : Node) → slice_get net.nodes n ≡ Some x → slice_get (declarations_in net family) (at_node (length net.ports) n) ≡ Some (declaration_for family n x)
+  node_there n x e =
+      let ps = map (declaration_of net) net.ports in
+      let ns = counted (declaration_for family) 0 net.nodes in
+      let l : length net.ports + n ≡ length ps + n = ap (λ (m : ℕ). m + n) (sym (length-map net.ports (declaration_of net))) in
+      ap (slice_get (ps ++ ns)) l ∙ get-right ps ns n ∙ get-counted (declaration_for family) 0 net.nodes n x e ∙ ap (λ (m : ℕ). Some (declaration_for family m x)) (let q : 0 + n ≡ n = omega arith in q)
+
+  pub port_there : (place : ℕ) (p : Port) → slice_get net.ports place ≡ Some p → slice_get (declarations_in net family) (suc place) ≡ Some (declaration_of net p)
+  port_there place p e = get-left (map (declaration_of net) net.ports) (counted (declaration_for family) 0 net.nodes) place (declaration_of net p) (get-mapped (declaration_of net) net.ports place p e)
+
+  abbrev pub AsClock : ℕ → Declaration → Type 0
+  AsClock i d = (i ≡ 0) × (d ≡ clock)
+
+  pub record AsPort (i : ℕ) (d : Declaration) : Type 0 where
+    pub place : ℕ
+    pub port : Port
+    pub number : i ≡ suc place
+    pub there : slice_get net.ports place ≡ Some port
+    pub is : d ≡ declaration_of net port
+
+  pub record AsNode (i : ℕ) (d : Declaration) : Type 0 where
+    pub n : ℕ
+    pub node : Node
+    pub number : i ≡ at_node (length net.ports) n
+    pub there : slice_get net.nodes n ≡ Some node
+    pub is : d ≡ declaration_for family n node
+
+  -- a declaration is the clock's, a port's or a node's
+  pub sorted : (i : ℕ) (d : Declaration) → slice_get (declarations_in net family) i ≡ Some d → AsClock i d ⊎ (AsPort i d ⊎ AsNode i d)
+  sorted zero d e = inl (refl, sym (same_some clock d e))
+  sorted (suc i) d e =
+      let ps = map (declaration_of net) net.ports in
+      let ns = counted (declaration_for family) 0 net.nodes in
+      elim (get-parts ps ns i d e) [
+        | inl p ↦ (let u = get-unmapped (declaration_of net) net.ports i d p in inr (inl (record { place = i; port = u.0; number = refl; there = u.1; is = u.2 })))
+        | inr p ↦ (let u = get-uncounted (declaration_for family) 0 net.nodes p.0 d p.2 in
+            inr (inr (record {
+              n = p.0;
+              node = u.0;
+              number = ap suc (p.1 ∙ ap (λ (m : ℕ). m + p.0) (length-map net.ports (declaration_of net)));
+              there = u.1;
+              is = u.2 ∙ ap (λ (m : ℕ). declaration_for family m u.0) (let q : 0 + p.0 ≡ p.0 = omega arith in q);
+            })))
+      ]
+
+  port_clock : (i : ℕ) (d : Declaration) → AsPort i d → clock.name ≡ d.name → ⊥
+  port_clock i d p e = c.netlist.finished.no_clock p.place p.port p.there (sym (e ∙ ap (λ (x : Declaration). x.name) p.is))
+
+  node_clock : (i : ℕ) (d : Declaration) → AsNode i d → clock.name ≡ d.name → ⊥
+  node_clock i d p e = not_clock family p.n (e ∙ ap (λ (x : Declaration). x.name) p.is)
+
+  port_node : (i j : ℕ) (d e : Declaration) → AsPort i d → AsNode j e → d.name ≡ e.name → ⊥
+  port_node i j d e p q same =
+      let n : p.port.name ≡ net_name family q.n = ap (λ (x : Declaration). x.name) (sym p.is) ∙ same ∙ ap (λ (x : Declaration). x.name) q.is in
+      true_false (starts_with ◌==◌ p.port.name (family_text family)) (ap (λ (w : List ℕ). starts_with ◌==◌ w (family_text family)) n ∙ net_begins family q.n) (port-not net.ports (family_text family) p.place p.port c.free p.there)
+
+  pub few : (n : ℕ) (x : Node) → slice_get net.nodes n ≡ Some x → n < 2 ^ 64
+  few n x e = let a = slice_get_within net.nodes n x e in let b = c.few in let d : n < 2 ^ 64 = omega (arith, a, b) in d
+
+  pub apart : Apart (declarations_in net family)
+  apart = λ i j d e p q same. elim (sorted i d p) [
+    | inl a ↦ elim (sorted j e q) [
+        | inl b ↦ a.0 ∙ sym b.0
+        | inr b ↦ elim b [
+            | inl b ↦ absurd (port_clock j e b (ap (λ (x : Declaration). x.name) (sym a.1) ∙ same))
+            | inr b ↦ absurd (node_clock j e b (ap (λ (x : Declaration). x.name) (sym a.1) ∙ same))
+          ]
+      ]
+    | inr a ↦ elim a [
+        | inl a ↦ elim (sorted j e q) [
+            | inl b ↦ absurd (port_clock i d a (ap (λ (x : Declaration). x.name) (sym b.1) ∙ sym same))
+            | inr b ↦ elim b [
+                | inl b ↦ a.number ∙ ap suc (c.netlist.finished.distinct a.place b.place a.port b.port a.there b.there (ap (λ (x : Declaration). x.name) (sym a.is) ∙ same ∙ ap (λ (x : Declaration). x.name) b.is)) ∙ sym b.number
+                | inr b ↦ absurd (port_node i j d e a b same)
+              ]
+          ]
+        | inr a ↦ elim (sorted j e q) [
+            | inl b ↦ absurd (node_clock i d a (ap (λ (x : Declaration). x.name) (sym b.1) ∙ sym same))
+            | inr b ↦ elim b [
+                | inl b ↦ absurd (port_node j i e d b a (sym same))
+                | inr b ↦ a.number ∙ ap (at_node (length net.ports)) (nets_same family a.n b.n (few a.n a.node a.there) (few b.n b.node b.there) (ap (λ (x : Declaration). x.name) (sym a.is) ∙ same ∙ ap (λ (x : Declaration). x.name) b.is)) ∙ sym b.number
+              ]
+          ]
+      ]
+  ]
+
+  pub node_found : (n : ℕ) (x : Node) → slice_get net.nodes n ≡ Some x → number_of (declarations_in net family) (net_name family n) ≡ Some (at_node (length net.ports) n)
+  node_found n x e = found (declarations_in net family) (at_node (length net.ports) n) (declaration_for family n x) apart (node_there n x e)
+
+  pub port_found : (place : ℕ) (p : Port) → slice_get net.ports place ≡ Some p → number_of (declarations_in net family) p.name ≡ Some (suc place)
+  port_found place p e = found (declarations_in net family) (suc place) (declaration_of net p) apart (port_there place p e)
+
+  pub port_no_clock : (place : ℕ) (p : Port) → slice_get net.ports place ≡ Some p → bytes_eq p.name (codes "clk") ≡ false
+  port_no_clock place p e = bytes_other p.name (codes "clk") (c.netlist.finished.no_clock place p e)
+
+  pub clock_found : number_of (declarations_in net family) (codes "clk") ≡ Some 0
+  clock_found = refl

@@ -1,0 +1,253 @@
+-- The text of a netlist spells its written module, which keeps the grammar and the limits.
+use Rattle.std.proofs.Common.{◌≡◌, ℕ, zero, suc, ◌+◌, ◌-◌, ◌<◌, ◌≤◌, ◌^◌, Bool, true, false, List, [], ◌∷◌, ◌++◌, length, map, Option, Some, None, IfSome, IsSomeAnd, refl, sym, ap, subst, ◌∙◌, arith}
+use Rattle.std.specs.Prelude.{slice_get, codes, decimal, option_map, unwrap_or, ◌==◌, if◌then◌else◌}
+use Rattle.std.specs.List.{AllByRecursion}
+use Rattle.std.specs.Option.{option_map_or}
+use Rattle.gl_bits.specs.Words.{IsWidth}
+use Rattle.gl_net.specs.declared.node.BinaryOp.{BinaryOp}
+use Rattle.gl_net.specs.declared.node.BinaryOp.TheVariants.{Add, Sub, Mul, And, Xor, Or, Eq, Ne, Lt, Le}
+use Rattle.gl_net.specs.declared.node.Node.{Node}
+use Rattle.gl_net.specs.declared.node.Node.TheVariants.{Input, Constant, Not, Binary, Choose, Join, Cut, Register, Memory, MemoryRead}
+use Rattle.gl_net.specs.declared.node.Port.{Port}
+use Rattle.gl_net.specs.declared.node.Direction.{Direction}
+use Rattle.gl_net.specs.declared.node.Direction.TheVariants.{In, Out}
+use Rattle.gl_net.specs.Net.{Net, shape_in}
+use Rattle.gl_net.specs.WellFormed.{NodeFits, EndFits, end_at}
+use Rattle.gl_net.specs.Finished.{IsName}
+use Rattle.gl_verilog.specs.Tokens.{tokens_of}
+use Rattle.gl_verilog.specs.Written as written
+use Rattle.gl_verilog.specs.Written.{InfixOp, WrittenExpr, Infix, WrittenStatement, Update, UpdateWord, WrittenItem, Assign, Always, WrittenPort, WrittenModule, IsExpr, IsStatement, IsItem, IsWritten, spell}
+use Rattle.gl_verilog.specs.Limits.{IsShort, depth_of, depth_in, ifs_in, AreShort, KeepsLimits, IsWithinLimits}
+use Rattle.gl_verilog_writer.specs.Meaning.{bits_of}
+use Rattle.gl_verilog_writer.specs.Pieces.{net_name}
+use Rattle.gl_verilog_writer.specs.Printed.{text_of}
+use Rattle.gl_verilog_writer.specs.Design.{port_name, node_width, infix_of, named, literal, vector, last_word, declares, takes, does, numbered, declaring, assigning, shows, showing, clocking, leads, range_of, written_port, clock_port, items_of}
+use Rattle.gl_verilog_writer.proofs.Digits.{IsPlain, IsSize, name-plain, net-plain, clock-plain, reset-plain, size-decimal, numeral-decimal, all-append}
+use Rattle.gl_verilog_writer.proofs.Texts.{IsPrintable, CanPrint, IsRange, IsPrinted, IsPrintedPort, IsPrintedModule, module-spelled}
+use Rattle.gl_verilog_writer.proofs.Model.{Named}
+use Rattle.gl_verilog_writer.proofs.Lists.{some_none, numbered-all}
+use Rattle.gl_verilog_writer.proofs.Fitted.{width-fits, port_end, bus, bit, shown, stored, node-plain, word-small}
+use Rattle.gl_verilog_writer.proofs.Resolved.{last-small, port-width}
+
+-- an expression is grouped, short and not deep
+pub record IsFlat (e : WrittenExpr) : Type 0 where
+  pub prints : IsPrintable e
+  pub grammar : IsExpr e
+  pub depth : depth_of e ≤ 64
+  pub short : IsShort e
+
+pub record IsFlatStatement (s : WrittenStatement) : Type 0 where
+  pub prints : CanPrint s
+  pub grammar : IsStatement s
+  pub depth : depth_in s ≤ 64
+  pub ifs : ifs_in s ≤ 1024
+  pub short : AreShort s
+
+pub record IsFlatItem (i : WrittenItem) : Type 0 where
+  pub prints : IsPrinted i
+  pub grammar : IsItem i
+  pub limits : KeepsLimits i
+
+vector-size : (w : ℕ) → w ≤ 128 → IsSize (decimal (w - 1))
+vector-size w h = size-decimal (w - 1) (omega (arith, h))
+
+range-size : (w : ℕ) → w ≤ 128 → IsRange (range_of w)
+range-size w h = by (w == 1)
+  where
+    by : (b : Bool) → IsRange (if b then None else vector w)
+    by true = tt
+    by false = vector-size w h
+
+name-flat : (name : List ℕ) → IsPlain name → IsFlat (written.Named name)
+name-flat name h = record { prints = h; grammar = (omega arith, tt); depth = omega arith; short = omega arith }
+
+literal-flat : (v w : ℕ) → IsWidth w → v < 2 ^ w → IsFlat (literal v w)
+literal-flat v w i h = let m = i.most in record {
+  prints = (size-decimal w (omega (arith, m)), refl, numeral-decimal v (word-small v w i.most h));
+  grammar = (omega arith, tt);
+  depth = omega arith;
+  short = omega arith;
+}
+
+infix-flat : (o : BinaryOp) (a b : List ℕ) → IsPlain a → IsPlain b → IsFlat (Infix (infix_of o) (written.Named a) (written.Named b))
+infix-flat Add a b p q = record { prints = (p, q); grammar = (omega arith, (omega arith, omega arith, tt, tt)); depth = omega arith; short = omega arith }
+infix-flat Sub a b p q = record { prints = (p, q); grammar = (omega arith, (omega arith, omega arith, tt, tt)); depth = omega arith; short = omega arith }
+infix-flat Mul a b p q = record { prints = (p, q); grammar = (omega arith, (omega arith, omega arith, tt, tt)); depth = omega arith; short = omega arith }
+infix-flat And a b p q = record { prints = (p, q); grammar = (omega arith, (omega arith, omega arith, tt, tt)); depth = omega arith; short = omega arith }
+infix-flat Xor a b p q = record { prints = (p, q); grammar = (omega arith, (omega arith, omega arith, tt, tt)); depth = omega arith; short = omega arith }
+infix-flat Or a b p q = record { prints = (p, q); grammar = (omega arith, (omega arith, omega arith, tt, tt)); depth = omega arith; short = omega arith }
+infix-flat Eq a b p q = record { prints = (p, q); grammar = (omega arith, (omega arith, omega arith, tt, tt)); depth = omega arith; short = omega arith }
+infix-flat Ne a b p q = record { prints = (p, q); grammar = (omega arith, (omega arith, omega arith, tt, tt)); depth = omega arith; short = omega arith }
+infix-flat Lt a b p q = record { prints = (p, q); grammar = (omega arith, (omega arith, omega arith, tt, tt)); depth = omega arith; short = omega arith }
+infix-flat Le a b p q = record { prints = (p, q); grammar = (omega arith, (omega arith, omega arith, tt, tt)); depth = omega arith; short = omega arith }
+
+module _ (net : Net) (family : ℕ) (c : Named net family) where
+  plain-port : (place : ℕ) (q : Port) → slice_get net.ports place ≡ Some q → IsPlain q.name
+  plain-port place q e = name-plain q.name (c.netlist.finished.port_names place q e)
+
+  -- what is assigned to a node's net
+  value-flat : (n : ℕ) (x : Node) → NodeFits net n x → IfSome (takes family net.ports x) IsFlat
+  unfolding end_at
+  value-flat n (Input place w) h =
+      let q = port_end (slice_get net.ports place) (In, n) h.1 in
+      let a : port_name net.ports place ≡ q.0.name = ap (λ (o : Option Port). option_map_or (λ (r : Port). r.name) o []) q.1 in
+      subst (λ (m : List ℕ). IsFlat (written.Named m)) (sym a) (name-flat q.0.name (plain-port place q.0 q.1))
+  value-flat n (Constant word) h = literal-flat word.bits word.width h.width h.fits
+  value-flat n (Not x) h = let i = bus net family c x h.bus in record { prints = node-plain net family c x.node i.node i.there; grammar = (omega arith, (omega arith, tt)); depth = omega arith; short = omega arith }
+  value-flat n (Binary o x y) h =
+      let i = bus net family c x h.0.bus in
+      let j = bus net family c y h.1.bus in
+      infix-flat o (net_name family x.node) (net_name family y.node) (node-plain net family c x.node i.node i.there) (node-plain net family c y.node j.node j.there)
+  value-flat n (Choose test x y) h =
+      let t = bit net family c test h.0.bit in
+      let i = bus net family c x h.1.bus in
+      let j = bus net family c y h.2.bus in
+      record {
+        prints = (node-plain net family c test.node t.node t.there, node-plain net family c x.node i.node i.there, node-plain net family c y.node j.node j.there);
+        grammar = (omega arith, (omega arith, omega arith, omega arith, tt, tt, tt));
+        depth = omega arith;
+        short = omega arith;
+      }
+  value-flat n (Join x y) h =
+      let i = bus net family c x h.0.bus in
+      let j = bus net family c y h.1.bus in
+      record { prints = (node-plain net family c x.node i.node i.there, node-plain net family c y.node j.node j.there); grammar = (omega arith, (omega arith, tt, tt)); depth = omega arith; short = omega arith }
+  value-flat n (Cut x high low) h =
+      let i = bus net family c x h.0.bus in
+      let most = h.0.bus.width.most in let below = h.2 in let order = h.1 in
+      record {
+        prints = (node-plain net family c x.node i.node i.there, size-decimal high (omega (arith, most, below)), size-decimal low (omega (arith, most, below, order)));
+        grammar = (omega arith, tt);
+        depth = omega arith;
+        short = omega arith;
+      }
+  value-flat n (MemoryRead store x) h =
+      let s = stored net family c store h.0.store in
+      let i = bus net family c x h.1.bus in
+      record { prints = (node-plain net family c store.node s.node s.there, node-plain net family c x.node i.node i.there); grammar = (omega arith, (omega arith, tt)); depth = omega arith; short = omega arith }
+  value-flat n (Register w reset next) h = tt
+  value-flat n (Memory bits w drive) h = tt
+
+  update-flat : (target : List ℕ) (e : WrittenExpr) → IsPlain target → IsFlat e → IsFlatStatement (Update target e)
+  update-flat target e p h = record { prints = (p, h.prints); grammar = h.grammar; depth = h.depth; ifs = omega arith; short = h.short }
+
+  -- what a register or a memory does at the edge
+  block-flat : (n : ℕ) (x : Node) → slice_get net.nodes n ≡ Some x → NodeFits net n x → IfSome (does family n x) IsFlatStatement
+  block-flat n (Register w None None) e h = tt
+  block-flat n (Register w (Some value) None) e h = tt
+  block-flat n (Register w None (Some next)) e h =
+      let i = bus net family c next h.2.0 in
+      update-flat (net_name family n) (named family next.node) (node-plain net family c n _ e) (name-flat (net_name family next.node) (node-plain net family c next.node i.node i.there))
+  block-flat n (Register w (Some value) (Some next)) e h =
+      let i = bus net family c next h.2.0 in
+      let v = literal-flat value w h.0 h.1 in
+      let m = node-plain net family c n _ e in
+      let k = node-plain net family c next.node i.node i.there in
+      record {
+        prints = (reset-plain, (m, v.prints), (m, k));
+        grammar = ((omega arith, tt), refl, v.grammar, (omega arith, tt));
+        depth = omega arith;
+        ifs = omega arith;
+        short = (omega arith, v.short, omega arith);
+      }
+  block-flat n (Memory bits w None) e h = tt
+  block-flat n (Memory bits w (Some drive)) e h =
+      let t = bit net family c drive.write h.2.write in
+      let a = bus net family c drive.address h.2.address in
+      let v = bus net family c drive.value h.2.value in
+      record {
+        prints = (node-plain net family c drive.write.node t.node t.there, (node-plain net family c n _ e, node-plain net family c drive.address.node a.node a.there, node-plain net family c drive.value.node v.node v.there));
+        grammar = ((omega arith, tt), ((omega arith, tt), (omega arith, tt)));
+        depth = omega arith;
+        ifs = omega arith;
+        short = (omega arith, (omega arith, omega arith));
+      }
+  block-flat n (Input place w) e h = tt
+  block-flat n (Constant word) e h = tt
+  block-flat n (Not x) e h = tt
+  block-flat n (Binary o x y) e h = tt
+  block-flat n (Choose test x y) e h = tt
+  block-flat n (Join x y) e h = tt
+  block-flat n (Cut x high low) e h = tt
+  block-flat n (MemoryRead store x) e h = tt
+
+  wires-flat : (n w : ℕ) → IsPlain (net_name family n) → IsWidth w → IsFlatItem (written.Wires (vector w) (net_name family n ∷ []))
+  wires-flat n w p i = record { prints = (vector-size w i.most, (p, tt)); grammar = tt; limits = tt }
+
+  declaration-flat : (n : ℕ) (x : Node) → slice_get net.nodes n ≡ Some x → NodeFits net n x → IsFlatItem (declares family n x)
+  declaration-flat n (Input place w) e h = wires-flat n _ (node-plain net family c n _ e) (width-fits net n (Input place w) h)
+  declaration-flat n (Constant word) e h = wires-flat n _ (node-plain net family c n _ e) (width-fits net n (Constant word) h)
+  declaration-flat n (Not x) e h = wires-flat n _ (node-plain net family c n _ e) (width-fits net n (Not x) h)
+  declaration-flat n (Binary o x y) e h = wires-flat n _ (node-plain net family c n _ e) (width-fits net n (Binary o x y) h)
+  declaration-flat n (Choose test x y) e h = wires-flat n _ (node-plain net family c n _ e) (width-fits net n (Choose test x y) h)
+  declaration-flat n (Join x y) e h = wires-flat n _ (node-plain net family c n _ e) (width-fits net n (Join x y) h)
+  declaration-flat n (Cut x high low) e h = wires-flat n _ (node-plain net family c n _ e) (width-fits net n (Cut x high low) h)
+  declaration-flat n (MemoryRead store x) e h = wires-flat n _ (node-plain net family c n _ e) (width-fits net n (MemoryRead store x) h)
+  declaration-flat n (Register w reset next) e h = record { prints = (vector-size w h.0.most, (node-plain net family c n _ e, tt)); grammar = tt; limits = tt }
+  declaration-flat n (Memory bits w drive) e h = record { prints = (vector-size w h.1.most, node-plain net family c n _ e, size-decimal (last_word bits) (last-small bits h.0)); grammar = tt; limits = tt }
+
+  assign-flat : (name : List ℕ) (o : Option WrittenExpr) → IsPlain name → IfSome o IsFlat → IfSome (option_map (Assign name) o) IsFlatItem
+  assign-flat name None p h = tt
+  assign-flat name (Some e) p h = record { prints = (p, h.prints); grammar = h.grammar; limits = (h.depth, h.short) }
+
+  always-flat : (o : Option WrittenStatement) → IfSome o IsFlatStatement → IfSome (option_map (Always (codes "clk")) o) IsFlatItem
+  always-flat None h = tt
+  always-flat (Some s) h = record { prints = (clock-plain, h.prints); grammar = h.grammar; limits = (h.depth, h.ifs, h.short) }
+
+  show-flat : (place : ℕ) (q : Port) → slice_get net.ports place ≡ Some q → (d : Direction) → EndFits net place d q.node → IfSome (shows family d q.name q.node) IsFlatItem
+  show-flat place q t In f = tt
+  show-flat place q t Out f =
+      let i = shown net family c q.node f.0 f.1 in
+      record { prints = (plain-port place q t, node-plain net family c q.node i.node i.there); grammar = (omega arith, tt); limits = (omega arith, omega arith) }
+
+  here : (k : ℕ) (x : Node) → slice_get net.nodes k ≡ Some x → slice_get net.nodes (0 + k) ≡ Some x
+  here k x e = ap (λ (m : ℕ). slice_get net.nodes m) (let q : 0 + k ≡ k = omega arith in q) ∙ e
+
+  here-port : (k : ℕ) (x : Port) → slice_get net.ports k ≡ Some x → slice_get net.ports (0 + k) ≡ Some x
+  here-port k x e = ap (λ (m : ℕ). slice_get net.ports m) (let q : 0 + k ≡ k = omega arith in q) ∙ e
+
+  items-flat : AllByRecursion IsFlatItem (items_of family net.nodes net.ports)
+  items-flat =
+      let d = numbered (declaring family) 0 net.nodes in
+      let a = numbered (assigning family net.ports) 0 net.nodes in
+      let o = numbered (showing family) 0 net.ports in
+      let b = numbered (clocking family) 0 net.nodes in
+      let fits = c.netlist.formed.nodes in
+      let hd = numbered-all IsFlatItem (declaring family) 0 net.nodes (λ k x e. declaration-flat (0 + k) x (here k x e) (fits (0 + k) x (here k x e))) in
+      let ha = numbered-all IsFlatItem (assigning family net.ports) 0 net.nodes (λ k x e. assign-flat (net_name family (0 + k)) (takes family net.ports x) (node-plain net family c (0 + k) x (here k x e)) (value-flat (0 + k) x (fits (0 + k) x (here k x e)))) in
+      let ho = numbered-all IsFlatItem (showing family) 0 net.ports (λ k q e. show-flat (0 + k) q (here-port k q e) q.direction (c.netlist.formed.ends (0 + k) q (here-port k q e))) in
+      let hb = numbered-all IsFlatItem (clocking family) 0 net.nodes (λ k x e. always-flat (does family (0 + k) x) (block-flat (0 + k) x (here k x e) (fits (0 + k) x (here k x e)))) in
+      all-append IsFlatItem (d ++ a ++ o) b (all-append IsFlatItem (d ++ a) o (all-append IsFlatItem d a hd ha) ho) hb
+
+  each-item : (P : WrittenItem → Type 0) → ((i : WrittenItem) → IsFlatItem i → P i) → (is : List WrittenItem) → AllByRecursion IsFlatItem is → AllByRecursion P is
+  each-item P f [] h = tt
+  each-item P f (i ∷ is) h = (f i h.0, each-item P f is h.1)
+
+  ports-printed : (n : ℕ) (qs : List Port) → ((k : ℕ) (q : Port) → slice_get qs k ≡ Some q → slice_get net.ports (n + k) ≡ Some q) → AllByRecursion IsPrintedPort (map (written_port net.nodes) qs)
+  ports-printed n [] h = tt
+  ports-printed n (q ∷ qs) h =
+      (record { range = range-size (bits_of (shape_in net.nodes q.node)) (port-width net family c (n + 0) q (h 0 q refl)).most; name = plain-port (n + 0) q (h 0 q refl) },
+        ports-printed (n + 1) qs (λ k r e. ap (λ (m : ℕ). slice_get net.ports m) (let z : n + 1 + k ≡ n + suc k = omega arith in z) ∙ h (suc k) r e))
+
+  name-there : (o : Option (List ℕ)) → IsSomeAnd o IsName → IsPlain (unwrap_or o [])
+  name-there None h = absurd h
+  name-there (Some w) h = name-plain w h
+
+  abbrev pub written_as : WrittenModule
+  written_as = record { name = unwrap_or net.name []; ports = clock_port ∷ map (written_port net.nodes) net.ports; items = items_of family net.nodes net.ports }
+
+  pub module-printed : IsPrintedModule written_as
+  module-printed = record {
+    name = name-there net.name c.netlist.finished.module_name;
+    ports = (record { range = tt; name = clock-plain }, ports-printed 0 net.ports here-port);
+    items = each-item IsPrinted (λ i h. h.prints) (items_of family net.nodes net.ports) items-flat;
+  }
+
+  pub module-spelled-as : tokens_of (text_of written_as) ≡ spell written_as
+  module-spelled-as = module-spelled written_as module-printed
+
+  pub module-written : IsWritten written_as
+  module-written = record { ports = tt; items = each-item IsItem (λ i h. h.grammar) (items_of family net.nodes net.ports) items-flat }
+
+  pub module-limited : IsWithinLimits written_as
+  module-limited = each-item KeepsLimits (λ i h. h.limits) (items_of family net.nodes net.ports) items-flat

@@ -1,0 +1,152 @@
+-- The written module of a netlist: a net for each node, which is driven once.
+use Rattle.std.specs.Prelude.{◌≡◌, ℕ, zero, suc, ◌+◌, ◌-◌, ◌^◌, ◌==◌, nat_le, Bool, true, false, if◌then◌else◌, List, [], ◌∷◌, ◌++◌, map, length, Option, Some, None, slice_get, option_map, unwrap_or, codes, decimal}
+use Rattle.std.specs.Option.{option_map_or}
+use Rattle.std.specs.List.{list_any, starts_with}
+use Rattle.gl_net.specs.declared.node.BinaryOp.{BinaryOp}
+use Rattle.gl_net.specs.declared.node.BinaryOp.TheVariants.{Add, Sub, Mul, And, Xor, Or, Eq, Ne, Lt, Le}
+use Rattle.gl_net.specs.declared.node.Node.{Node}
+use Rattle.gl_net.specs.declared.node.Node.TheVariants.{Input, Constant, Not, Binary, Choose, Join, Cut, Register, Memory, MemoryRead}
+use Rattle.gl_net.specs.declared.node.Port.{Port}
+use Rattle.gl_net.specs.declared.node.Direction.{Direction}
+use Rattle.gl_net.specs.declared.node.Direction.TheVariants.{In, Out}
+use Rattle.gl_net.specs.Net.{Net, Shape, Value, Words, shape_of, shape_in}
+use Rattle.gl_verilog.specs.Written as written
+use Rattle.gl_verilog.specs.Written.{InfixOp, Times, Added, Subtracted, Below, AtMost, Equal, NotEqual, BitAnd, BitXor, BitOr, BitNot, WrittenExpr, Named, PartOf, WordOf, Braces, Parts, Prefix, Infix, Conditional, WrittenStatement, Update, UpdateWord, IfThen, IfElse, Range, WrittenPort, WrittenItem, Wires, Registers, MemoryOf, Assign, Always, WrittenModule}
+use Rattle.gl_verilog_writer.specs.Meaning.{bits_of}
+use Rattle.gl_verilog_writer.specs.Pieces.{family_text, net_name}
+use Rattle.gl_verilog_writer.specs.Printed.{text_of}
+
+-- ---- names
+
+-- whether some port's name begins so
+abbrev pub begins_port : List Port → List ℕ → Bool
+begins_port ports front = list_any (λ p. starts_with ◌==◌ p.name front) ports
+
+-- the first of so many families, from one on, whose names are no ports' names; else the one behind them
+abbrev pub family_from : List Port → ℕ → ℕ → ℕ
+family_from ports zero at = at
+family_from ports (suc n) at = if begins_port ports (family_text at) then family_from ports n (at + 1) else at
+
+-- each port rules out one family at most
+unfoldable pub family_of : List Port → ℕ
+family_of ports = family_from ports (length ports) 0
+
+-- the name of the port at a place
+abbrev pub port_name : List Port → ℕ → List ℕ
+port_name ports place = option_map_or (λ p. p.name) (slice_get ports place) []
+
+-- ---- nodes
+
+abbrev pub node_width : Node → ℕ
+node_width x = bits_of (Some (shape_of x))
+
+abbrev pub infix_of : BinaryOp → InfixOp
+infix_of Add = Added
+infix_of Sub = Subtracted
+infix_of Mul = Times
+infix_of And = BitAnd
+infix_of Xor = BitXor
+infix_of Or = BitOr
+infix_of Eq = Equal
+infix_of Ne = NotEqual
+infix_of Lt = Below
+infix_of Le = AtMost
+
+abbrev pub named : ℕ → ℕ → WrittenExpr
+named family node = Named (net_name family node)
+
+abbrev pub literal : ℕ → ℕ → WrittenExpr
+literal value width = written.Constant (decimal width) 10 (decimal value)
+
+abbrev pub vector : ℕ → Range
+vector width = Some (decimal (width - 1))
+
+-- the number of a memory's last word; addresses have at most 32 bits
+unfoldable pub last_word : ℕ → ℕ
+last_word address_bits = if nat_le address_bits 32 then 2 ^ address_bits - 1 else 0
+
+-- the declaration of a node's net, which is a vector, even one of a single bit
+abbrev pub declares : ℕ → ℕ → Node → WrittenItem
+declares family n (Register w reset next) = Registers (vector w) (net_name family n ∷ [])
+declares family n (Memory bits w drive) = MemoryOf (vector w) (net_name family n) (decimal (last_word bits))
+declares family n x = Wires (vector (node_width x)) (net_name family n ∷ [])
+
+-- what is assigned to a node's net; a register and a memory take theirs at the clock's edge
+abbrev pub takes : ℕ → List Port → Node → Option WrittenExpr
+takes family ports (Input place w) = Some (Named (port_name ports place))
+takes family ports (Constant word) = Some (literal word.bits word.width)
+takes family ports (Not x) = Some (Prefix BitNot (named family x.node))
+takes family ports (Binary op x y) = Some (Infix (infix_of op) (named family x.node) (named family y.node))
+takes family ports (Choose test x y) = Some (Conditional (named family test.node) (named family x.node) (named family y.node))
+takes family ports (Join x y) = Some (Braces (Parts (named family x.node) (named family y.node)))
+takes family ports (Cut x high low) = Some (PartOf (net_name family x.node) (decimal high) (decimal low))
+takes family ports (MemoryRead store x) = Some (WordOf (net_name family store.node) (named family x.node))
+takes family ports (Register w reset next) = None
+takes family ports (Memory bits w drive) = None
+
+-- what a register or a memory does at the clock's edge
+abbrev pub does : ℕ → ℕ → Node → Option WrittenStatement
+does family n (Register w None (Some next)) = Some (Update (net_name family n) (named family next.node))
+does family n (Register w (Some value) (Some next)) =
+    Some (IfElse (Named (codes "rst")) (Update (net_name family n) (literal value w)) (Update (net_name family n) (named family next.node)))
+does family n (Memory bits w (Some drive)) =
+    Some (IfThen (named family drive.write.node) (UpdateWord (net_name family n) (named family drive.address.node) (named family drive.value.node)))
+does family n x = None
+
+-- ---- the module
+
+abbrev pub with_option : {A : Type 0} → Option A → List A → List A
+with_option None ys = ys
+with_option (Some y) ys = y ∷ ys
+
+-- what a list's elements give, each with its number, counted from n
+abbrev pub numbered : {A B : Type 0} → (ℕ → A → Option B) → ℕ → List A → List B
+numbered f n [] = []
+numbered f n (x ∷ xs) = with_option (f n x) (numbered f (n + 1) xs)
+
+abbrev pub declaring : ℕ → ℕ → Node → Option WrittenItem
+declaring family n x = Some (declares family n x)
+
+abbrev pub assigning : ℕ → List Port → ℕ → Node → Option WrittenItem
+assigning family ports n x = option_map (Assign (net_name family n)) (takes family ports x)
+
+abbrev pub shows : ℕ → Direction → List ℕ → ℕ → Option WrittenItem
+shows family In name node = None
+shows family Out name node = Some (Assign name (named family node))
+
+-- an output port shows its node
+abbrev pub showing : ℕ → ℕ → Port → Option WrittenItem
+showing family place p = shows family p.direction p.name p.node
+
+abbrev pub clocking : ℕ → ℕ → Node → Option WrittenItem
+clocking family n x = option_map (Always (codes "clk")) (does family n x)
+
+abbrev pub leads : Direction → written.Direction
+leads In = written.InWire
+leads Out = written.OutWire
+
+-- one bit is no vector
+abbrev pub range_of : ℕ → Range
+range_of width = if width == 1 then None else vector width
+
+abbrev pub written_port : List Node → Port → WrittenPort
+written_port nodes p = record { direction = leads p.direction; range = range_of (bits_of (shape_in nodes p.node)); name = p.name }
+
+abbrev pub clock_port : WrittenPort
+clock_port = record { direction = written.InWire; range = None; name = codes "clk" }
+
+-- all declarations, all assignments, the outputs, and all blocks
+abbrev pub items_of : ℕ → List Node → List Port → List WrittenItem
+items_of family nodes ports =
+    numbered (declaring family) 0 nodes ++ numbered (assigning family ports) 0 nodes ++ numbered (showing family) 0 ports ++ numbered (clocking family) 0 nodes
+
+abbrev pub written_of : Net → WrittenModule
+written_of net = record {
+  name = unwrap_or net.name [];
+  ports = clock_port ∷ map (written_port net.nodes) net.ports;
+  items = items_of (family_of net.ports) net.nodes net.ports;
+}
+
+-- the text of a netlist
+unfoldable pub module_text : Net → List ℕ
+module_text net = text_of (written_of net)

@@ -1,0 +1,102 @@
+-- How a written module is printed: a line for each port and for each item.
+use Rattle.std.specs.Prelude.{ℕ, List, [], ◌∷◌, ◌++◌, codes, Option, Some, None}
+use Rattle.gl_verilog.specs.Written.{PrefixOp, BitNot, LogicalNot, InfixOp, Times, Added, Subtracted, Below, AtMost, Above, AtLeast, Equal, NotEqual, BitAnd, BitXor, BitOr, LogicalAnd, LogicalOr, WrittenExpr, Named, Constant, BitOf, PartOf, WordOf, Braces, Parts, Parens, Prefix, Infix, Conditional, WrittenStatement, Update, UpdateWord, IfThen, IfElse, Block, Listed, Ended, Direction, In, InWire, Out, OutWire, OutReg, Range, WrittenPort, WrittenItem, Wires, Registers, MemoryOf, Assign, Always, WrittenModule}
+
+abbrev pub prefix_text : PrefixOp → List ℕ
+prefix_text BitNot = codes "~"
+prefix_text LogicalNot = codes "!"
+
+-- an operator between two blanks
+abbrev pub infix_text : InfixOp → List ℕ
+infix_text Times = codes " * "
+infix_text Added = codes " + "
+infix_text Subtracted = codes " - "
+infix_text Below = codes " < "
+infix_text AtMost = codes " <= "
+infix_text Above = codes " > "
+infix_text AtLeast = codes " >= "
+infix_text Equal = codes " == "
+infix_text NotEqual = codes " != "
+infix_text BitAnd = codes " & "
+infix_text BitXor = codes " ^ "
+infix_text BitOr = codes " | "
+infix_text LogicalAnd = codes " && "
+infix_text LogicalOr = codes " || "
+
+-- an expression; literals are in base d
+abbrev pub expr_text : WrittenExpr → List ℕ
+expr_text (Named name) = name
+expr_text (Constant size radix digits) = size ++ codes "'d" ++ digits
+expr_text (BitOf name place) = name ++ codes "[" ++ place ++ codes "]"
+expr_text (PartOf name high low) = name ++ codes "[" ++ high ++ codes ":" ++ low ++ codes "]"
+expr_text (WordOf name address) = name ++ codes "[" ++ expr_text address ++ codes "]"
+expr_text (Braces parts) = codes "{" ++ expr_text parts ++ codes "}"
+expr_text (Parts first rest) = expr_text first ++ codes ", " ++ expr_text rest
+expr_text (Parens inner) = codes "(" ++ expr_text inner ++ codes ")"
+expr_text (Prefix op arg) = prefix_text op ++ expr_text arg
+expr_text (Infix op left right) = expr_text left ++ infix_text op ++ expr_text right
+expr_text (Conditional test yes' no') = expr_text test ++ codes " ? " ++ expr_text yes' ++ codes " : " ++ expr_text no'
+
+-- a statement
+abbrev pub statement_text : WrittenStatement → List ℕ
+statement_text (Update target value) = target ++ codes " <= " ++ expr_text value ++ codes ";\n"
+statement_text (UpdateWord target address value) = target ++ codes "[" ++ expr_text address ++ codes "] <= " ++ expr_text value ++ codes ";\n"
+statement_text (IfThen test yes') = codes "if (" ++ expr_text test ++ codes ") " ++ statement_text yes'
+statement_text (IfElse test yes' no') = codes "if (" ++ expr_text test ++ codes ") " ++ statement_text yes' ++ codes "else " ++ statement_text no'
+statement_text (Block statements) = codes "begin " ++ statement_text statements ++ codes "end\n"
+statement_text (Listed first rest) = statement_text first ++ statement_text rest
+statement_text Ended = []
+
+abbrev pub range_text : Range → List ℕ
+range_text None = []
+range_text (Some high) = codes "[" ++ high ++ codes ":0] "
+
+-- names with a comma between each two
+abbrev pub names_behind : List ℕ → List (List ℕ) → List ℕ
+names_behind name [] = name
+names_behind name (n ∷ ns) = name ++ codes ", " ++ names_behind n ns
+
+abbrev pub names_text : List (List ℕ) → List ℕ
+names_text [] = []
+names_text (n ∷ ns) = names_behind n ns
+
+unfoldable pub always_text : List ℕ
+always_text = codes "always @(posedge "
+
+-- an item of the module, a line or two
+abbrev pub item_text : WrittenItem → List ℕ
+item_text (Wires range names) = codes "wire " ++ range_text range ++ names_text names ++ codes ";\n"
+item_text (Registers range names) = codes "reg " ++ range_text range ++ names_text names ++ codes ";\n"
+item_text (MemoryOf range name last) = codes "reg " ++ range_text range ++ name ++ codes " [0:" ++ last ++ codes "];\n"
+item_text (Assign target value) = codes "assign " ++ target ++ codes " = " ++ expr_text value ++ codes ";\n"
+item_text (Always clock body) = always_text ++ clock ++ codes ") " ++ statement_text body
+
+abbrev pub items_text : List WrittenItem → List ℕ
+items_text [] = []
+items_text (i ∷ is) = item_text i ++ items_text is
+
+unfoldable pub direction_text : Direction → List ℕ
+direction_text In = codes "\n    input "
+direction_text InWire = codes "\n    input wire "
+direction_text Out = codes "\n    output "
+direction_text OutWire = codes "\n    output wire "
+direction_text OutReg = codes "\n    output reg "
+
+-- a port on a line of its own
+abbrev pub port_text : WrittenPort → List ℕ
+port_text p = direction_text p.direction ++ range_text p.range ++ p.name
+
+abbrev pub more_ports_text : List WrittenPort → List ℕ
+more_ports_text [] = []
+more_ports_text (p ∷ ps) = codes "," ++ port_text p ++ more_ports_text ps
+
+abbrev pub ports_text : List WrittenPort → List ℕ
+ports_text [] = []
+ports_text (p ∷ ps) = port_text p ++ more_ports_text ps
+
+unfoldable pub head_text : WrittenModule → List ℕ
+head_text m = codes "module " ++ m.name ++ codes "(" ++ ports_text m.ports ++ codes "\n);\n"
+
+-- the whole module
+abbrev pub text_of : WrittenModule → List ℕ
+text_of m = head_text m ++ items_text m.items ++ codes "endmodule\n"
