@@ -1,8 +1,28 @@
--- What a run shows on the ports of a netlist.
-use Rattle.std.specs.Prelude.{ℕ, List, Option, find, option_map, bytes_eq}
+-- What is seen of a netlist from without: its ports, and what a run shows on them.
+use Rattle.std.specs.Prelude.{ℕ, List, Option, Some, None, find, map, option_map, bytes_eq}
 use Rattle.gl_net.specs.declared.node.Port.{Port}
-use Rattle.gl_net.specs.Net.{Net, Run}
+use Rattle.gl_net.specs.declared.node.Direction.{Direction}
+use Rattle.gl_net.specs.Net.{Net, Run, Shape, Value, Words, shape_in}
 
 -- the value in a cycle of the port of a name, None where the netlist lacks it
 abbrev pub port_values : Net → Run → ℕ → List ℕ → Option ℕ
 port_values net run t name = option_map (λ (p : Port). run.at t p.node) (find (λ (p : Port). bytes_eq p.name name) net.ports)
+
+-- the bits of what a port leads to
+abbrev pub bits_of : Option Shape → ℕ
+bits_of (Some (Value width)) = width
+bits_of (Some (Words address_bits width)) = width
+bits_of None = 0
+
+-- a port as it is seen from without: its direction, its name and its bits
+pub record PortShape : Type 0 where
+  pub direction : Direction
+  pub name : List ℕ
+  pub width : ℕ
+
+abbrev pub port_shape : Net → Port → PortShape
+port_shape net p = record { direction = p.direction; name = p.name; width = bits_of (shape_in net.nodes p.node) }
+
+-- all ports, in their order
+unfoldable pub port_shapes : Net → List PortShape
+port_shapes net = map (port_shape net) net.ports

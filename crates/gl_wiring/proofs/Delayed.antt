@@ -1,14 +1,14 @@
 -- A module that shows what comes on one stream one cycle later is right, with latency 1.
-use Rattle.std.proofs.Common.{◌≡◌, ◌≢◌, ℕ, zero, suc, ◌+◌, ◌-◌, ◌<◌, ◌≤◌, Bool, true, false, cond, eqb, eq-eqb, List, [], ◌∷◌, ◌++◌, length, Option, Some, None, inl, inr, refl, sym, ap, subst, ◌∙◌, append_assoc, arith}
-use Rattle.std.specs.Prelude.{map, option_map, option_and_then, IsTrue, IsFalse}
+use Rattle.std.proofs.Common.{◌≡◌, ℕ, zero, suc, ◌+◌, ◌<◌, ◌≤◌, Bool, true, false, eq-eqb, List, [], ◌∷◌, ◌++◌, Option, Some, None, inl, inr, refl, sym, ap, ◌∙◌, append_assoc, arith}
+use Rattle.std.specs.Prelude.{map, option_map, option_and_then}
 use Rattle.std.specs.Option.{option_to_list}
-use Rattle.std.specs.List.{filter_map, cons_option}
-use Rattle.std.proofs.lemmas.Bool.{ne_eqb, cases_eq, eqb-true}
+use Rattle.std.specs.List.{cons_option}
+use Rattle.std.proofs.lemmas.Bool.{ne_eqb, cases_eq}
 use Rattle.std.proofs.lemmas.List.{append-nil, map-append}
 use Rattle.std.proofs.lemmas.List.Elements.{filter_map-append}
 use Rattle.gl_schema.specs.Beats.{Beat, AreInOrder, row_in, input_of, last_cycle, beat_at, ends_at}
 use Rattle.gl_schema.specs.Ports.{PortValues}
-use Rattle.gl_schema.specs.Seen.{Shown, shown, seen, rows_of}
+use Rattle.gl_schema.specs.Seen.{shown, seen, rows_of}
 use Rattle.gl_schema.specs.Right.{IsRight}
 use Rattle.gl_wiring.specs.Delay.{row_at, ShowsLater}
 

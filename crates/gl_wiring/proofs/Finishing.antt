@@ -1,14 +1,14 @@
 -- A netlist with the ports of an emitted module can be finished.
-use Rattle.std.proofs.Common.{◌≡◌, ◌≢◌, ℕ, zero, suc, ◌<◌, Bool, true, false, List, [], ◌∷◌, ◌++◌, Option, Some, None, refl, sym, ap, subst, ◌∙◌, arith, codes}
-use Rattle.std.specs.Prelude.{map, slice_get, bytes_eq, IsSomeAnd}
+use Rattle.std.proofs.Common.{◌≡◌, ℕ, zero, suc, true, false, List, [], ◌∷◌, ◌++◌, Some, None, refl, sym, ap, subst, ◌∙◌, codes}
+use Rattle.std.specs.Prelude.{map, slice_get, bytes_eq}
 use Rattle.std.specs.List.{AllByRecursion, IsDistinct}
 use Rattle.std.proofs.lemmas.Slice.Eq.{bytes_eq-Decides}
 use Rattle.gl_schema.specs.declared.schema.Schema.{Schema}
 use Rattle.gl_schema.specs.Names as schema
 use Rattle.gl_schema.specs.Schemas.{IsSchema}
 use Rattle.gl_net.specs.declared.node.Port.{Port}
-use Rattle.gl_net.specs.Net.{Net, open_at, open_in}
-use Rattle.gl_net.specs.Finished.{IsName, HasReset, IsFinished, clock_name}
+use Rattle.gl_net.specs.Net.{Net, open_at}
+use Rattle.gl_net.specs.Finished.{HasReset, IsFinished, clock_name}
 use Rattle.gl_wiring.specs.PortNames.{port_names}
 use Rattle.gl_wiring.specs.Emitted.{names_of}
 use Rattle.gl_wiring.proofs.PortNames.{Apart, AreApart, apart_distinct, port_names-distinct}

@@ -1,6 +1,6 @@
 -- A module that follows a stream shows, under the stimulus of beats, what the beats bring one cycle later.
-use Rattle.std.proofs.Common.{◌≡◌, ℕ, zero, suc, ◌+◌, Bool, true, false, List, [], ◌∷◌, ◌++◌, Option, Some, None, refl, sym, ap, subst, ◌∙◌, length, arith}
-use Rattle.std.specs.Prelude.{map, option_map, option_and_then, unwrap_or, IfSome, is_some, slice_get, slice_index, ◌==◌, if◌then◌else◌}
+use Rattle.std.proofs.Common.{◌≡◌, ℕ, zero, suc, Bool, true, false, List, [], ◌∷◌, ◌++◌, Option, Some, None, refl, ap, subst, ◌∙◌}
+use Rattle.std.specs.Prelude.{map, option_map, option_and_then, unwrap_or, IfSome, is_some, slice_get, slice_index, ◌==◌}
 use Rattle.std.specs.List.{AllByRecursion}
 use Rattle.std.specs.Option.{option_map_or}
 use Rattle.gl_bits.specs.Words.{bit}
@@ -8,10 +8,10 @@ use Rattle.gl_schema.specs.declared.schema.Column.{Column}
 use Rattle.gl_schema.specs.declared.schema.Stream.{Stream}
 use Rattle.gl_schema.specs.declared.schema.Schema.{Schema}
 use Rattle.gl_schema.specs.Beats.{Beat, row_in, beat_at, rows_at, ends_at}
-use Rattle.gl_schema.specs.Ports.{PortValues, Pin, pin, pins, column_pins, stream_pins, streams_pins, IsStimulus, eos, in_valid, in_column, out_valid, out_eos, fault_group, fault_queue}
-use Rattle.gl_schema.specs.Seen.{value_at, row_shown, shown, is_high}
+use Rattle.gl_schema.specs.Ports.{PortValues, Pin, pin, column_pins, stream_pins, streams_pins, IsStimulus, eos, in_valid, in_column, out_valid}
+use Rattle.gl_schema.specs.Seen.{value_at, row_shown, shown}
 use Rattle.gl_wiring.specs.Delay.{row_at, ShowsLater}
-use Rattle.gl_wiring.specs.Select.{picked, HasPort, Follows, ColumnsFollow, FollowsStream}
+use Rattle.gl_wiring.specs.Select.{picked, HasPort, ColumnsFollow, FollowsStream}
 
 -- the pin's value is that of the port, where the module has it
 abbrev Carries : PortValues → ℕ → Pin → Type 0
@@ -26,7 +26,7 @@ All-back P [] ys h = h
 All-back P (x ∷ xs) ys h = All-back P xs ys h.1
 
 -- a port that the module has carries its pin's value
-carried : (port : PortValues) (t : ℕ) (name : List ℕ) (v : ℕ) → HasPort port name → Carries port t (pin name v) → value_at port t name ≡ v
+pub carried : (port : PortValues) (t : ℕ) (name : List ℕ) (v : ℕ) → HasPort port name → Carries port t (pin name v) → value_at port t name ≡ v
 carried port t name v has h =
     let e : port t name ≡ Some (has t).0 = (has t).1 in
     let g : (has t).0 ≡ v = rw e at h in

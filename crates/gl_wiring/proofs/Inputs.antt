@@ -1,17 +1,15 @@
 -- Input ports column by column and stream by stream.
-use Rattle.std.proofs.Common.{◌≡◌, ℕ, zero, suc, ◌+◌, ◌<◌, ◌≤◌, List, [], ◌∷◌, ◌++◌, length, take, drop, Option, Some, None, refl, sym, ap, subst, ◌∙◌, append_assoc, arith, get_or, drop-cons}
-use Rattle.std.proofs.lemmas.List.{take_more, map-append}
-use Rattle.std.specs.Prelude.{map, slice_get, All}
+use Rattle.std.proofs.Common.{◌≡◌, ℕ, zero, suc, ◌+◌, ◌<◌, List, [], ◌∷◌, ◌++◌, length, take, drop, sym, ap, subst, ◌∙◌, arith, get_or, drop-cons}
+use Rattle.std.proofs.lemmas.List.{take_more}
 use Rattle.std.specs.List.{AllByRecursion}
 use Rattle.gl_schema.specs.declared.schema.Column.{Column}
 use Rattle.gl_schema.specs.declared.schema.Stream.{Stream}
-use Rattle.gl_schema.specs.Ports.{in_column, out_column}
+use Rattle.gl_schema.specs.Ports.{in_column}
 use Rattle.gl_schema.specs.Schemas.{IsColumn, IsStream}
 use Rattle.gl_net.specs.declared.node.Bus.{Bus}
 use Rattle.gl_net.specs.declared.node.Direction.TheVariants.{In}
 use Rattle.gl_net.specs.Net.{Net, IsBus, IsPort}
-use Rattle.gl_wiring.specs.PortNames.{column_ports, stream_ports, streams_ports}
-use Rattle.gl_wiring.specs.Emitted.{names_of, Extends, AreInputs}
+use Rattle.gl_wiring.specs.Emitted.{Extends, AreInputs}
 
 -- what was an input stays one
 pub inputs_stay : (old new : Net) (s : List ℕ) (cs : List Column) (bs : List Bus) → Extends old new → AreInputs old s cs bs → AreInputs new s cs bs
@@ -38,18 +36,8 @@ all_at P [] i d h lt = absurd (omega arith)
 all_at P (x ∷ xs) zero d h lt = h.0
 all_at P (x ∷ xs) (suc i) d h lt = all_at P xs i d h.1 (omega arith)
 
--- one name more, and one less of those that are left
-pub names_next : (all new : List (List ℕ)) (s : List ℕ) (cs : List Column) (i : ℕ) (c : Column) → i < length cs → c ≡ get_or cs i c → new ≡ all ++ in_column s c.name ∷ [] → new ++ column_ports s (drop (i + 1) cs) ≡ all ++ column_ports s (drop i cs)
-names_next all new s cs i c lt e n =
-    rw n (append_assoc all (in_column s c.name ∷ []) (column_ports s (drop (i + 1) cs)) ∙ ap (λ (x : List Column). all ++ column_ports s x) (sym (drop_next cs i c lt e)))
-
 pub taken_next : (cs : List Column) (i : ℕ) (c : Column) → i < length cs → c ≡ get_or cs i c → take (i + 1) cs ≡ take i cs ++ c ∷ []
 taken_next cs i c lt e = take_more cs i c lt ∙ ap (λ (d : Column). take i cs ++ d ∷ []) (sym e)
-
--- the same for streams
-pub streams_next : (all new : List (List ℕ)) (ss : List Stream) (i : ℕ) (s : Stream) → i < length ss → s ≡ get_or ss i s → new ≡ all ++ stream_ports s → new ++ streams_ports (drop (i + 1) ss) ≡ all ++ streams_ports (drop i ss)
-streams_next all new ss i s lt e n =
-    rw n (append_assoc all (stream_ports s) (streams_ports (drop (i + 1) ss)) ∙ ap (λ (x : List Stream). all ++ streams_ports x) (sym (drop_next ss i s lt e)))
 
 -- the columns and the streams of a schema, one by one
 pub stream_is : (ss : List Stream) (i : ℕ) (s : Stream) → AllByRecursion IsStream ss → i < length ss → s ≡ get_or ss i s → IsStream s
@@ -70,9 +58,3 @@ extends_then a b c x y = record {
 
 pub taken_more : {A : Type 0} (xs : List A) (i : ℕ) (x : A) → i < length xs → x ≡ get_or xs i x → take (i + 1) xs ≡ take i xs ++ x ∷ []
 taken_more {A} xs i x lt e = take_more xs i x lt ∙ ap (λ (y : A). take i xs ++ y ∷ []) (sym e)
-
--- one output more
-pub outputs_next : (all mid new : List (List ℕ)) (names : List (List ℕ)) (i : ℕ) (n : List ℕ) → mid ≡ all ++ map out_column (take i names) → new ≡ mid ++ out_column n ∷ [] → take (i + 1) names ≡ take i names ++ n ∷ [] → new ≡ all ++ map out_column (take (i + 1) names)
-outputs_next all mid new names i n m e more =
-    e ∙ ap (λ (x : List (List ℕ)). x ++ out_column n ∷ []) m ∙ append_assoc all (map out_column (take i names)) (out_column n ∷ [])
-    ∙ ap (λ (x : List (List ℕ)). all ++ x) (sym (map-append out_column (take i names) (n ∷ [])) ∙ ap (map out_column) (sym more))

@@ -5,3 +5,5 @@ pub mod Inputs
 pub mod Outputs
 pub mod VerilogNames
 pub mod Finishing
+pub mod Shapes
+pub mod Rightness

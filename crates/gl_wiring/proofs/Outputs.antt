@@ -1,40 +1,22 @@
 -- Output ports one by one, and what the ports of a netlist carry.
-use Rattle.std.proofs.Common.{◌≡◌, ℕ, zero, suc, ◌+◌, ◌<◌, ◌≤◌, Bool, true, false, List, [], ◌∷◌, ◌++◌, length, take, drop, Option, Some, None, refl, sym, ap, subst, ◌∙◌, append_assoc, arith, get_or, take-append-drop}
+use Rattle.std.proofs.Common.{◌≡◌, ℕ, zero, suc, ◌<◌, Bool, true, false, List, [], ◌∷◌, ◌++◌, length, Some, refl, sym, ap, subst, ◌∙◌, arith, get_or}
 use Rattle.std.specs.Prelude.{map, slice_get, find, option_map, bytes_eq, All, IfSome}
-use Rattle.std.specs.List.{AllByRecursion}
 use Rattle.std.proofs.lemmas.Slice.Eq.{bytes_eq-Decides}
 use Rattle.gl_schema.specs.declared.schema.Stream.{Stream}
 use Rattle.gl_schema.specs.declared.schema.Column.{Column}
-use Rattle.gl_schema.specs.Ports.{in_column, out_column, out_valid, out_eos, in_valid, eos, fault_group, fault_queue, PortValues}
+use Rattle.gl_schema.specs.Ports.{in_column, out_column, out_valid, out_eos, in_valid, eos, fault_group, fault_queue}
 use Rattle.gl_schema.specs.Seen.{value_at}
 use Rattle.gl_net.specs.declared.node.Bus.{Bus}
 use Rattle.gl_net.specs.declared.node.Port.{Port}
 use Rattle.gl_net.specs.declared.node.Direction.{Direction}
 use Rattle.gl_net.specs.declared.node.Direction.TheVariants.{In, Out}
-use Rattle.gl_net.specs.Net.{Net, Run, IsRun, IsPort, IsBus, Shape, Value, reset_name}
+use Rattle.gl_net.specs.Net.{Net, Run, IsRun, IsPort, IsBus, Value, reset_name}
 use Rattle.gl_net.specs.Finished.{HasReset}
 use Rattle.gl_wiring.specs.declared.parts.Source.{Source}
-use Rattle.gl_wiring.specs.PortNames.{stream_ports, streams_ports}
 use Rattle.gl_wiring.specs.Select.{HasPort, Follows, ColumnsFollow, FollowsStream}
 use Rattle.gl_net.specs.PortValues.{port_values}
-use Rattle.gl_wiring.specs.Emitted.{names_of, Extends, AreInputs, IsDelayed, IsDelayedBit, IsZero, AreDelayed, IsSource, FollowsNodes}
-use Rattle.gl_wiring.proofs.Inputs.{drop_next, inputs_stay}
-
--- ---- streams
-
-streams_ports-append : (xs ys : List Stream) → streams_ports (xs ++ ys) ≡ streams_ports xs ++ streams_ports ys
-streams_ports-append [] ys = refl
-streams_ports-append (x ∷ xs) ys = ap (λ (t : List (List ℕ)). stream_ports x ++ t) (streams_ports-append xs ys) ∙ sym (append_assoc (stream_ports x) (streams_ports xs) (streams_ports ys))
-
--- the streams before a place, the one there, and those behind it
-pub streams_split : (all n1 n2 n3 : List (List ℕ)) (ss a b : List Stream) (k : ℕ) (s : Stream) → k < length ss → s ≡ get_or ss k s → a ≡ take k ss → b ≡ drop (k + 1) ss → n1 ≡ all ++ streams_ports a → n2 ≡ n1 ++ stream_ports s → n3 ≡ n2 ++ streams_ports b → n3 ≡ all ++ streams_ports ss
-streams_split all n1 n2 n3 ss a b k s lt e ea eb e1 e2 e3 =
-    let whole : ss ≡ take k ss ++ s ∷ drop (k + 1) ss = sym (take-append-drop k ss) ∙ ap (λ (t : List Stream). take k ss ++ t) (drop_next ss k s lt e) in
-    let parts : streams_ports ss ≡ streams_ports (take k ss) ++ (stream_ports s ++ streams_ports (drop (k + 1) ss)) = ap streams_ports whole ∙ streams_ports-append (take k ss) (s ∷ drop (k + 1) ss) in
-    let left : n3 ≡ ((all ++ streams_ports (take k ss)) ++ stream_ports s) ++ streams_ports (drop (k + 1) ss) = cc in
-    left ∙ append_assoc (all ++ streams_ports (take k ss)) (stream_ports s) (streams_ports (drop (k + 1) ss))
-    ∙ append_assoc all (streams_ports (take k ss)) (stream_ports s ++ streams_ports (drop (k + 1) ss))
-    ∙ ap (λ (t : List (List ℕ)). all ++ t) (sym parts)
+use Rattle.gl_wiring.specs.Emitted.{Extends, AreInputs, IsDelayed, IsDelayedBit, IsZero, AreDelayed, IsSource, FollowsNodes}
+use Rattle.gl_wiring.proofs.Inputs.{inputs_stay}
 
 pub at_is : {A : Type 0} (xs : List A) (i : ℕ) (x : A) → i < length xs → x ≡ get_or xs i x → slice_get xs i ≡ Some x
 at_is [] i x lt e = absurd (omega arith)
@@ -90,10 +72,10 @@ port_value net run t d name n apart p =
     (find_at (λ (q : Port). bytes_eq q.name name) net.ports p.place port p.there ((bytes_eq-Decides name name).1 refl)
     (λ j q at e. apart j p.place q port at p.there ((bytes_eq-Decides q.name name).0 e)))
 
-port_at : (net : Net) (run : Run) (t : ℕ) (d : Direction) (name : List ℕ) (n : ℕ) → AreApart net → IsPort net d name n → value_at (port_values net run) t name ≡ run.at t n
+pub port_at : (net : Net) (run : Run) (t : ℕ) (d : Direction) (name : List ℕ) (n : ℕ) → AreApart net → IsPort net d name n → value_at (port_values net run) t name ≡ run.at t n
 port_at net run t d name n apart p = rw (port_value net run t d name n apart p) refl
 
-has_port : (net : Net) (run : Run) (d : Direction) (name : List ℕ) (n : ℕ) → AreApart net → IsPort net d name n → HasPort (port_values net run) name
+pub has_port : (net : Net) (run : Run) (d : Direction) (name : List ℕ) (n : ℕ) → AreApart net → IsPort net d name n → HasPort (port_values net run) name
 has_port net run d name n apart p = λ t. (run.at t n, port_value net run t d name n apart p)
 
 -- an output port that is delayed follows its source's port
@@ -137,10 +119,6 @@ nodes_follow net ss k ps ns apart f run h =
       queue = λ t. port_at net run t Out fault_queue f.queue.node apart f.queue.port ∙ f.queue.zero run h t;
     }
 
--- the names of a result, one after the other
-pub result_names : (n0 n1 n2 n3 n4 n5 : List (List ℕ)) (a c d e : List ℕ) (b : List (List ℕ)) → n1 ≡ n0 ++ a ∷ [] → n2 ≡ n1 ++ b → n3 ≡ n2 ++ c ∷ [] → n4 ≡ n3 ++ d ∷ [] → n5 ≡ n4 ++ e ∷ [] → n5 ≡ n0 ++ a ∷ (b ++ c ∷ d ∷ e ∷ [])
-result_names n0 n1 n2 n3 n4 n5 a c d e b e1 e2 e3 e4 e5 = rw (e5, e4, e3, e2, e1) (simp append_assoc)
-
 -- ---- the whole
 
 inputs_length : (net : Net) (s : List ℕ) (cs : List Column) (bs : List Bus) → AreInputs net s cs bs → length bs ≡ length cs
@@ -171,10 +149,8 @@ source_stays old new ss k source x is = record {
   bus = x.buses source.valid is.bus;
   bit = is.bit;
   inputs = inputs_stay old new is.stream.name is.stream.columns source.columns x is.inputs;
+  widths = is.widths;
 }
-
-pub all_names : (n0 n1 n2 n3 n4 : List (List ℕ)) (a : List ℕ) (s : List (List ℕ)) (b : List ℕ) (r : List (List ℕ)) → n0 ≡ [] → n1 ≡ n0 ++ a ∷ [] → n2 ≡ n1 ++ s → n3 ≡ n2 ++ b ∷ [] → n4 ≡ n3 ++ r → n4 ≡ a ∷ (s ++ b ∷ r)
-all_names n0 n1 n2 n3 n4 a s b r e0 e1 e2 e3 e4 = rw (e4, e3, e2, e1, e0) (simp append_assoc)
 
 -- the reset input of one bit stays one
 pub reset_stays : (old new : Net) → Extends old new → (b : Bus) → IsPort old In reset_name b.node → IsBus old b → b.width ≡ 1 → HasReset new

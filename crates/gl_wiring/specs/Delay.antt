@@ -1,5 +1,5 @@
 -- What is seen of a module that shows what comes on one stream one cycle later.
-use Rattle.std.specs.Prelude.{◌≡◌, ℕ, suc, ◌+◌, Bool, false, List, Option, Some, None, option_map, option_and_then, IsFalse}
+use Rattle.std.specs.Prelude.{◌≡◌, ℕ, suc, false, List, Option, None, option_map, option_and_then, IsFalse}
 use Rattle.gl_schema.specs.Beats.{Beat, row_in, beat_at, ends_at}
 use Rattle.gl_schema.specs.Ports.{PortValues}
 use Rattle.gl_schema.specs.Seen.{shown}

@@ -1,19 +1,45 @@
 -- What a part of an emitted netlist adds: ports under these names, and nodes that follow others.
-use Rattle.std.specs.Prelude.{◌≡◌, ℕ, suc, ◌+◌, List, [], ◌∷◌, ◌++◌, Option, Some, None, map, slice_get}
-use Rattle.gl_bits.specs.Kinds.{width_of}
+use Rattle.std.specs.Prelude.{◌≡◌, ℕ, suc, List, [], ◌∷◌, ◌++◌, Some, map, slice_get}
 use Rattle.gl_schema.specs.declared.schema.Column.{Column}
 use Rattle.gl_schema.specs.declared.schema.Stream.{Stream}
 use Rattle.gl_schema.specs.Ports.{in_valid, in_column, out_valid, out_column, out_eos, eos, fault_group, fault_queue}
 use Rattle.gl_wiring.specs.declared.parts.Source.{Source}
+use Rattle.gl_wiring.specs.EmittedPorts.{column_widths}
 use Rattle.gl_net.specs.declared.node.Bus.{Bus}
+use Rattle.gl_net.specs.declared.node.Node.{Node}
 use Rattle.gl_net.specs.declared.node.Port.{Port}
 use Rattle.gl_net.specs.declared.node.Direction.{Direction}
 use Rattle.gl_net.specs.declared.node.Direction.TheVariants.{In, Out}
-use Rattle.gl_net.specs.Net.{Net, Run, IsRun, IsBus, IsPort, open_at}
+use Rattle.gl_net.specs.Net.{Net, Run, IsRun, IsBus, IsPort, Value, shape_in, open_at}
+use Rattle.gl_net.specs.PortValues.{PortShape}
 
 -- the names of the ports, in their order
 abbrev pub names_of : Net → List (List ℕ)
 names_of net = map (λ (p : Port). p.name) net.ports
+
+-- the bits of buses, in order
+abbrev pub bus_widths : List Bus → List ℕ
+bus_widths buses = map (λ (b : Bus). b.width) buses
+
+-- a port of this direction, name and bits
+pub record IsPortOf (nodes : List Node) (p : Port) (shape : PortShape) : Type 0 where
+  pub direction : p.direction ≡ shape.direction
+  pub name : p.name ≡ shape.name
+  pub bits : shape_in nodes p.node ≡ Some (Value shape.width)
+
+abbrev pub ArePorts : List Node → List Port → List PortShape → Type 0
+ArePorts nodes [] [] = Unit {0}
+ArePorts nodes [] (s ∷ shapes) = ⊥
+ArePorts nodes (p ∷ ports) [] = ⊥
+ArePorts nodes (p ∷ ports) (s ∷ shapes) = IsPortOf nodes p s × ArePorts nodes ports shapes
+
+-- these are all ports of the netlist, in their order
+pub record HasPorts (net : Net) (shapes : List PortShape) : Type 0 where
+  pub are : ArePorts net.nodes net.ports shapes
+
+-- these ports are added behind those that there are
+pub record Puts (old new : Net) (shapes : List PortShape) : Type 0 where
+  pub all : (before : List PortShape) → HasPorts old before → HasPorts new (before ++ shapes)
 
 -- what stays where ports and whole blocks are added
 pub record Extends (old new : Net) : Type 0 where
@@ -64,6 +90,7 @@ pub record IsSource (net : Net) (streams : List Stream) (k : ℕ) (source : Sour
   pub bus : IsBus net source.valid
   pub bit : source.valid.width ≡ 1
   pub inputs : AreInputs net stream.name stream.columns source.columns
+  pub widths : bus_widths source.columns ≡ column_widths stream.columns
 
 -- the result's ports follow those of stream k, and the fault lines are 0
 pub record FollowsNodes (net : Net) (streams : List Stream) (k : ℕ) (places : List ℕ) (names : List (List ℕ)) : Type 0 where

@@ -1,14 +1,22 @@
 -- A module whose ports show, one cycle later, what came on some columns of one stream.
-use Rattle.std.specs.Prelude.{◌≡◌, ℕ, suc, List, [], ◌∷◌, Option, Some, None, map, slice_index, slice_get}
+use Rattle.std.specs.Prelude.{◌≡◌, ℕ, suc, false, List, [], ◌∷◌, Some, map, slice_index, slice_get}
 use Rattle.gl_schema.specs.declared.schema.Column.{Column}
 use Rattle.gl_schema.specs.declared.schema.Stream.{Stream}
 use Rattle.gl_schema.specs.declared.schema.Schema.{Schema}
-use Rattle.gl_schema.specs.Ports.{PortValues, eos, in_valid, in_column, out_valid, out_eos, fault_group, fault_queue}
+use Rattle.gl_schema.specs.Ports.{PortValues, IsStimulus, eos, in_valid, in_column, out_valid, out_eos, fault_group, fault_queue}
 use Rattle.gl_schema.specs.Seen.{value_at}
+use Rattle.gl_schema.specs.Right.{Meaning, IsRight}
+use Rattle.gl_schema.specs.Beats.{Beat, AreBeats}
+use Rattle.gl_net.specs.Net.{Net, Run, IsTrace}
+use Rattle.gl_net.specs.PortValues.{port_values}
 
 -- the words of a row at these places
 abbrev pub picked : List ℕ → List ℕ → List ℕ
 picked places row = map (slice_index row) places
+
+-- what a select of the columns at these places of stream k means: its rows are the stream's, each picked, and none is left out
+abbrev pub picks : ℕ → List ℕ → Meaning
+picks k places inputs rows spill = (rows ≡ map (picked places) (inputs k)) × (spill ≡ false)
 
 -- the module has the port in every cycle
 abbrev pub HasPort : PortValues → List ℕ → Type 0
@@ -38,3 +46,8 @@ pub record FollowsStream (s : Stream) (places : List ℕ) (outs : List (List ℕ
   pub columns : ColumnsFollow port s.name s.columns places outs
   pub group : (t : ℕ) → value_at port t fault_group ≡ 0
   pub queue : (t : ℕ) → value_at port t fault_queue ≡ 0
+
+-- every run of the netlist over beats of the schema is right for the select, one cycle later
+abbrev pub IsRightSelect : Schema → ℕ → List ℕ → List (List ℕ) → Net → Type 0
+IsRightSelect schema k places outs net =
+    (run : Run) (beats : List Beat) → IsTrace net run → AreBeats schema beats → IsStimulus schema beats (port_values net run) → IsRight (picks k places) 1 beats outs (port_values net run)

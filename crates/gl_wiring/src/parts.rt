@@ -7,8 +7,8 @@ ghost use Rattle.gl_schema.specs.Schemas.{IsColumn, IsStream};
 ghost use Rattle.gl_schema.specs.Ports.{in_valid, out_column};
 ghost use Rattle.gl_net.specs.Net.{Run, IsRun, IsBus, IsPort};
 ghost use Rattle.gl_net.specs.declared.node.Direction.{Direction};
-ghost use Rattle.gl_wiring.specs.PortNames.{column_ports, stream_ports, streams_ports};
-ghost use Rattle.gl_wiring.specs.Emitted.{names_of, Extends, AreInputs, IsDelayed, IsDelayedBit, IsZero, AreDelayed};
+ghost use Rattle.gl_wiring.specs.EmittedPorts.{input, output, column_widths, column_inputs, stream_inputs, streams_inputs};
+ghost use Rattle.gl_wiring.specs.Emitted.{bus_widths, Puts, Extends, AreInputs, IsDelayed, IsDelayedBit, IsZero, AreDelayed};
 
 use crate::names::{in_column_name, in_valid_name, out_column_name};
 use gl_bits::{Memory, Word};
@@ -27,7 +27,7 @@ pub struct Source {
 pub(crate) fn put_input(net: &mut NetBuilder, name: &[u8], width: u8) -> Result<Bus, Memory>
     requires { IsWidth width }
     ensures extends { OnOk result (Extends net.old net.new) }
-    ensures names { OnOk result (names_of net.new ≡ names_of net.old ++ name.now ∷ []) }
+    ensures ports { OnOk result (Puts net.old net.new (input name.now width ∷ [])) }
     ensures port { IfOk result (λ b. IsPort net.new Direction.In name.now b.node) }
     ensures bus { IfOk result (λ b. IsBus net.new b) }
     ensures width { IfOk result (λ b. b.width ≡ width) }
@@ -40,7 +40,7 @@ pub(crate) fn put_input(net: &mut NetBuilder, name: &[u8], width: u8) -> Result<
 pub(crate) fn put_output(net: &mut NetBuilder, name: &[u8], value: Bus) -> Result<(), Memory>
     requires { IsBus net.old value }
     ensures extends { OnOk result (Extends net.old net.new) }
-    ensures names { OnOk result (names_of net.new ≡ names_of net.old ++ name.now ∷ []) }
+    ensures ports { OnOk result (Puts net.old net.new (output name.now value.width ∷ [])) }
     ensures port { OnOk result (IsPort net.new Direction.Out name.now value.node) }
 {
     net.output(name, value)?;
@@ -50,8 +50,9 @@ pub(crate) fn put_output(net: &mut NetBuilder, name: &[u8], value: Bus) -> Resul
 /// A register that has in each cycle what the bus had in the one before.
 fn later(net: &mut NetBuilder, source: Bus) -> Result<Bus, Memory>
     requires { IsBus net.old source }
+    ensures width { IfOk result (λ b. b.width ≡ source.width) }
     ensures extends { OnOk result (Extends net.old net.new) }
-    ensures names { OnOk result (names_of net.new ≡ names_of net.old) }
+    ensures ports { OnOk result (Puts net.old net.new []) }
     ensures bus { IfOk result (λ b. IsBus net.new b) }
     ensures later { IfOk result (λ b. (run : Run) → IsRun net.new run → (t : ℕ) → run.at (suc (suc t)) b.node ≡ run.at (suc t) source.node) }
 {
@@ -64,8 +65,9 @@ fn later(net: &mut NetBuilder, source: Bus) -> Result<Bus, Memory>
 fn later_bit(net: &mut NetBuilder, source: Bus) -> Result<Bus, Memory>
     requires bus { IsBus net.old source }
     requires bit { source.width ≡ 1 }
+    ensures width { IfOk result (λ b. b.width ≡ 1) }
     ensures extends { OnOk result (Extends net.old net.new) }
-    ensures names { OnOk result (names_of net.new ≡ names_of net.old) }
+    ensures ports { OnOk result (Puts net.old net.new []) }
     ensures bus { IfOk result (λ b. IsBus net.new b) }
     ensures first { IfOk result (λ b. (run : Run) → IsRun net.new run → run.at 1 b.node ≡ 0) }
     ensures later { IfOk result (λ b. (run : Run) → IsRun net.new run → (t : ℕ) → run.at (suc (suc t)) b.node ≡ run.at (suc t) source.node) }
@@ -80,7 +82,7 @@ fn later_bit(net: &mut NetBuilder, source: Bus) -> Result<Bus, Memory>
 pub(crate) fn put_later(net: &mut NetBuilder, name: &[u8], source: Bus) -> Result<(), Memory>
     requires { IsBus net.old source }
     ensures extends { OnOk result (Extends net.old net.new) }
-    ensures names { OnOk result (names_of net.new ≡ names_of net.old ++ name.now ∷ []) }
+    ensures ports { OnOk result (Puts net.old net.new (output name.now source.width ∷ [])) }
     ensures delayed { OnOk result (IsDelayed net.new name.now source.node) }
 {
     let bus = later(net, source)?;
@@ -93,7 +95,7 @@ pub(crate) fn put_later_bit(net: &mut NetBuilder, name: &[u8], source: Bus) -> R
     requires bus { IsBus net.old source }
     requires bit { source.width ≡ 1 }
     ensures extends { OnOk result (Extends net.old net.new) }
-    ensures names { OnOk result (names_of net.new ≡ names_of net.old ++ name.now ∷ []) }
+    ensures ports { OnOk result (Puts net.old net.new (output name.now 1 ∷ [])) }
     ensures delayed { OnOk result (IsDelayedBit net.new name.now source.node) }
 {
     let bus = later_bit(net, source)?;
@@ -104,7 +106,7 @@ pub(crate) fn put_later_bit(net: &mut NetBuilder, name: &[u8], source: Bus) -> R
 /// An output port that is 0.
 pub(crate) fn put_zero(net: &mut NetBuilder, name: &[u8]) -> Result<(), Memory>
     ensures extends { OnOk result (Extends net.old net.new) }
-    ensures names { OnOk result (names_of net.new ≡ names_of net.old ++ name.now ∷ []) }
+    ensures ports { OnOk result (Puts net.old net.new (output name.now 1 ∷ [])) }
     ensures zero { OnOk result (IsZero net.new name.now) }
 {
     let zero = net.constant(Word::new(0, 1).unwrap())?;
@@ -116,8 +118,9 @@ pub(crate) fn put_zero(net: &mut NetBuilder, name: &[u8]) -> Result<(), Memory>
 fn put_columns(alloc: Global, net: &mut NetBuilder, stream: &Stream) -> Result<Buses, Memory>
     requires { AllByRecursion IsColumn stream.now.columns }
     ensures extends { OnOk result (Extends net.old net.new) }
-    ensures names { OnOk result (names_of net.new ≡ names_of net.old ++ column_ports stream.now.name stream.now.columns) }
+    ensures ports { OnOk result (Puts net.old net.new (column_inputs stream.now.name stream.now.columns)) }
     ensures inputs { IfOk result (λ bs. AreInputs net.new stream.now.name stream.now.columns bs) }
+    ensures widths { IfOk result (λ bs. bus_widths bs ≡ column_widths stream.now.columns) }
 {
     let mut buses = Buses::new(alloc);
     for column in stream.columns.as_slice() {
@@ -136,11 +139,12 @@ pub(crate) fn put_stream(
 ) -> Result<Source, Memory>
     requires { IsStream stream.now }
     ensures extends { OnOk result (Extends net.old net.new) }
-    ensures names { OnOk result (names_of net.new ≡ names_of net.old ++ stream_ports stream.now) }
+    ensures ports { OnOk result (Puts net.old net.new (stream_inputs stream.now)) }
     ensures port { IfOk result (λ s. IsPort net.new Direction.In (in_valid stream.now.name) s.valid.node) }
     ensures bus { IfOk result (λ s. IsBus net.new s.valid) }
     ensures bit { IfOk result (λ s. s.valid.width ≡ 1) }
     ensures inputs { IfOk result (λ s. AreInputs net.new stream.now.name stream.now.columns s.columns) }
+    ensures widths { IfOk result (λ s. bus_widths s.columns ≡ column_widths stream.now.columns) }
 {
     let name = in_valid_name(alloc, stream.name.as_slice())?;
     let valid = put_input(net, &name, 1)?;
@@ -156,7 +160,7 @@ pub(crate) fn put_streams(
 ) -> Result<(), Memory>
     requires { AllByRecursion IsStream streams.now }
     ensures extends { OnOk result (Extends net.old net.new) }
-    ensures names { OnOk result (names_of net.new ≡ names_of net.old ++ streams_ports streams.now) }
+    ensures ports { OnOk result (Puts net.old net.new (streams_inputs streams.now)) }
 {
     for stream in streams {
         put_stream(alloc, net, stream)?;

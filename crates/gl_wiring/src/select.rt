@@ -7,10 +7,10 @@ ghost use Rattle.gl_schema.specs.Schemas.{IsSchema, IsStream};
 ghost use Rattle.gl_schema.specs.Ports.{in_valid, out_valid, out_column, out_eos, rst, eos, fault_group, fault_queue};
 ghost use Rattle.gl_net.specs.Net.{Run, IsRun, IsBus, IsPort, open_at};
 ghost use Rattle.gl_net.specs.Finished.{HasReset};
-ghost use Rattle.gl_wiring.specs.PortNames.{streams_ports, stream_ports, result_ports, port_names};
-ghost use Rattle.gl_net.specs.PortValues.{port_values};
-ghost use Rattle.gl_wiring.specs.Emitted.{names_of, Extends, AreInputs, IsDelayedBit, IsZero, AreDelayed, IsSource, FollowsNodes};
-ghost use Rattle.gl_wiring.specs.Select.{FollowsStream};
+ghost use Rattle.gl_net.specs.PortValues.{port_values, port_shapes};
+ghost use Rattle.gl_wiring.specs.EmittedPorts.{streams_inputs, column_outputs, result_outputs, emitted_ports};
+ghost use Rattle.gl_wiring.specs.Emitted.{bus_widths, Puts, Extends, AreInputs, IsDelayedBit, IsZero, AreDelayed, IsSource, FollowsNodes};
+ghost use Rattle.gl_wiring.specs.Select.{FollowsStream, IsRightSelect};
 
 use crate::names::{ResultNames, module_name, out_column_name};
 use crate::parts::{
@@ -55,7 +55,7 @@ fn put_all_streams(
     requires schema { IsSchema schema.now }
     requires there { stream < length schema.now.streams }
     ensures extends { OnOk result (Extends net.old net.new) }
-    ensures names { OnOk result (names_of net.new ≡ names_of net.old ++ streams_ports schema.now.streams) }
+    ensures ports { OnOk result (Puts net.old net.new (streams_inputs schema.now.streams)) }
     ensures source { IfOk result (λ s. IsSource net.new schema.now.streams stream s) }
 {
     let streams = schema.streams.as_slice();
@@ -77,7 +77,7 @@ fn put_columns(
     requires places { All (λ p. p < length source.now.columns) columns.now }
     requires buses { All (IsBus net.old) source.now.columns }
     ensures extends { OnOk result (Extends net.old net.new) }
-    ensures names { OnOk result (names_of net.new ≡ names_of net.old ++ map out_column names.now) }
+    ensures ports { OnOk result (Puts net.old net.new (column_outputs (bus_widths source.now.columns) columns.now names.now)) }
     ensures delayed { OnOk result (AreDelayed net.new source.now.columns columns.now names.now) }
 {
     for (at, name) in names.iter().enumerate() {
@@ -106,7 +106,7 @@ fn put_result(
     requires places { All (λ p. p < length source.now.columns) columns.now }
     requires buses { All (IsBus net.old) source.now.columns }
     ensures extends { OnOk result (Extends net.old net.new) }
-    ensures names { OnOk result (names_of net.new ≡ names_of net.old ++ result_ports names.now) }
+    ensures ports { OnOk result (Puts net.old net.new (result_outputs (bus_widths source.now.columns) columns.now names.now)) }
     ensures valid { OnOk result (IsDelayedBit net.new out_valid source.now.valid.node) }
     ensures delayed { OnOk result (AreDelayed net.new source.now.columns columns.now names.now) }
     ensures end { OnOk result (IsDelayedBit net.new out_eos end.node) }
@@ -136,7 +136,7 @@ fn put_select(
     requires lengths { length columns.now ≡ length names.now }
     requires empty { net.old.ports ≡ [] }
     ensures extends { OnOk result (Extends net.old net.new) }
-    ensures names { OnOk result (names_of net.new ≡ port_names schema.now names.now) }
+    ensures ports { OnOk result (port_shapes net.new ≡ emitted_ports schema.now stream columns.now names.now) }
     ensures follows { OnOk result (FollowsNodes net.new schema.now.streams stream columns.now names.now) }
     ensures reset { OnOk result (HasReset net.new) }
 {
@@ -167,8 +167,9 @@ pub fn wire_select(
     requires column_names { AllByRecursion IsName names.now.columns }
     requires distinct { IsDistinct bytes_eq names.now.columns }
     ensures name { IfOk result (λ net. net.name ≡ Some (codes "q__" ++ names.now.into)) }
-    ensures ports { IfOk result (λ net. names_of net ≡ port_names schema.now names.now.columns) }
+    ensures ports { IfOk result (λ net. port_shapes net ≡ emitted_ports schema.now stream columns.now names.now.columns) }
     ensures follows { IfOk result (λ net. (run : Run) → IsRun net run → IfSome (slice_get schema.now.streams stream) (λ s. FollowsStream s columns.now (map out_column names.now.columns) (port_values net run))) }
+    ensures right { IfOk result (λ net. IsRightSelect schema.now stream columns.now (map out_column names.now.columns) net) }
 {
     let mut net = NetBuilder::new(alloc);
     let name = module_name(alloc, names.into.as_slice())?;

@@ -1,11 +1,13 @@
-use Rattle.std.proofs.Common.{◌≡◌, ◌++◌, ◌∷◌, [], sym, ◌∙◌, ap, subst, take, List, ℕ, ◌<◌, length, get_or}
-use Rattle.gl_net.specs.declared.node.Bus.{Bus}
+use Rattle.std.proofs.Common.{rules, ◌≡◌, ◌∷◌, [], ◌∙◌, subst, take, List, ℕ, ◌<◌, length, get_or}
 use Rattle.gl_schema.specs.declared.schema.Column.{Column}
 use Rattle.gl_net.specs.declared.node.Direction.TheVariants.{In}
 use Rattle.gl_net.specs.Net.{IsPort}
+use Rattle.gl_bits.specs.Kinds.{width_of}
+use Rattle.gl_wiring.specs.EmittedPorts.{input}
 use Rattle.gl_schema.specs.Ports.{in_column}
-use Rattle.gl_wiring.specs.Emitted.{AreInputs, names_of}
-use Rattle.gl_wiring.proofs.Inputs.{inputs_stay, inputs_push, names_next, taken_next, extends_then}
+use Rattle.gl_wiring.specs.Emitted.{Puts}
+use Rattle.gl_wiring.proofs.Inputs.{inputs_stay, inputs_push, taken_next, extends_then}
+use Rattle.gl_wiring.proofs.Shapes.{puts_nothing, columns_next, widths_push}
 use Rattle.gl_wiring.proofs.parts.put_columns.Goals as goal
 
 pub loop-column-preserved : goal.loop-column-preserved
@@ -24,11 +26,22 @@ loop-column-preserved c =
     let lt : i < length cs = subst (λ (xs : List Column). i < length xs) here c.loop-column-test.true in
     let is : column ≡ get_or cs i column = subst (λ (xs : List Column). column ≡ get_or xs i column) here c.column-item.is in
     let named : c.deref.result.now ≡ in_column s column.name = cc (c.in_ok-name.ensures, c.as_slice.ensures, c.as_slice-in-loop-column.ensures, c.deref.ensures.value) in
-    let names = e.names ∙ ap (λ (n : List ℕ). names_of mid ++ n ∷ []) named in
+    let ports : Puts mid net (input (in_column s column.name) (width_of column.kind) ∷ []) =
+    subst (λ (w : ℕ). Puts mid net (input (in_column s column.name) w ∷ [])) c.width.ensures (subst (λ (n : List ℕ). Puts mid net (input n c.width.result ∷ [])) named e.ports) in
+    let wide = e.width ∙ c.width.ensures in
     let port = subst (λ n. IsPort net In n bus.node) named e.port in
     let pushed = inputs_push net s (take i cs) buses column bus (inputs_stay mid net s (take i cs) buses e.extends inv.inputs) port e.bus in
     record {
       extends = extends_then c.args.net.now mid net inv.extends e.extends;
-      names = names_next (names_of mid) (names_of net) s cs i column lt is names ∙ inv.names;
+      ports = columns_next c.args.net.now mid net s cs i column (taken_next cs i column lt is) inv.ports ports;
       inputs = rw (taken_next cs i column lt is, c.in_ok-push.ensures.ok) pushed;
+      widths = rw (taken_next cs i column lt is, c.in_ok-push.ensures.ok) (widths_push (take i cs) buses column bus inv.widths wide);
     }
+
+pub loop-column-init : goal.loop-column-init
+loop-column-init c = record {
+  extends = search rules;
+  ports = puts_nothing c.args.net.now;
+  inputs = search rules;
+  widths = search rules;
+}

@@ -1,14 +1,14 @@
-use Rattle.std.proofs.Common.{◌≡◌, ◌<◌, length, subst, List, get_or, take, drop, ◌+◌}
+use Rattle.std.proofs.Common.{◌≡◌, subst, List, get_or, take, drop, ◌+◌}
 use Rattle.gl_schema.specs.declared.schema.Stream.{Stream}
 use Rattle.gl_schema.specs.Ports.{in_valid}
 use Rattle.gl_net.specs.declared.node.Direction.TheVariants.{In}
-use Rattle.gl_wiring.specs.Emitted.{names_of}
+use Rattle.gl_wiring.proofs.Shapes.{streams_split}
 use Rattle.gl_wiring.proofs.Inputs.{inputs_stay}
-use Rattle.gl_wiring.proofs.Outputs.{streams_split, at_is}
+use Rattle.gl_wiring.proofs.Outputs.{at_is}
 use Rattle.gl_wiring.proofs.select.put_all_streams.Goals as goal
 
-pub returns-clause-names : goal.returns-clause-names
-returns-clause-names c =
+pub returns-clause-ports : goal.returns-clause-ports
+returns-clause-ports c =
     let ss = c.args.schema.now.streams in
     let here = c.as_slice-streams.ensures in
     let k = c.args.stream in
@@ -16,9 +16,9 @@ returns-clause-names c =
     let is : s ≡ get_or ss k s = subst (λ (xs : List Stream). s ≡ get_or xs k s) here c.index-streams-stream.is in
     let before = subst (λ (xs : List Stream). c.streams_before.result.now ≡ take k xs) here c.streams_before.ensures in
     let behind = subst (λ (xs : List Stream). c.streams_behind.result.now ≡ drop (k + 1) xs) here c.streams_behind.ensures in
-    streams_split (names_of c.args.net.now) (names_of c.put_streams.new.net) (names_of c.put_stream.new.net) (names_of c.put_streams-2.new.net)
+    streams_split c.args.net.now c.put_streams.new.net c.put_stream.new.net c.put_streams-2.new.net
     ss c.streams_before.result.now c.streams_behind.result.now k s c.requires.there is before behind
-    c.in_ok-put_streams.ensures.names c.in_ok-source.ensures.names c.in_ok-put_streams-2.ensures.names
+    c.in_ok-put_streams.ensures.ports c.in_ok-source.ensures.ports c.in_ok-put_streams-2.ensures.ports
 
 pub returns-clause-source : goal.returns-clause-source
 returns-clause-source c =
@@ -37,4 +37,5 @@ returns-clause-source c =
       bus = x.buses source.valid e.bus;
       bit = e.bit;
       inputs = inputs_stay c.put_stream.new.net c.put_streams-2.new.net s.name s.columns source.columns x e.inputs;
+      widths = e.widths;
     }

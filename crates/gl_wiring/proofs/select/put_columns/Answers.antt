@@ -1,9 +1,11 @@
-use Rattle.std.proofs.Common.{◌≡◌, ◌<◌, ◌+◌, ◌++◌, ◌∷◌, [], length, subst, List, get_or, take, ℕ, ap, ◌∙◌, sym, append_assoc, arith}
-use Rattle.std.specs.Prelude.{map}
-use Rattle.std.proofs.lemmas.List.{take_more, map-append}
+use Rattle.std.proofs.Common.{rules, ◌≡◌, ◌<◌, ◌∷◌, [], length, subst, List, get_or, take, ℕ, arith}
+use Rattle.std.specs.Prelude.{slice_index}
+use Rattle.std.proofs.lemmas.List.{take_more}
 use Rattle.gl_schema.specs.Ports.{out_column}
-use Rattle.gl_wiring.specs.Emitted.{names_of, IsDelayed}
-use Rattle.gl_wiring.proofs.Inputs.{extends_then, taken_more, outputs_next}
+use Rattle.gl_wiring.specs.EmittedPorts.{output}
+use Rattle.gl_wiring.specs.Emitted.{bus_widths, Puts, IsDelayed}
+use Rattle.gl_wiring.proofs.Inputs.{extends_then, taken_more}
+use Rattle.gl_wiring.proofs.Shapes.{puts_nothing, outputs_next, width_there}
 use Rattle.gl_wiring.proofs.Outputs.{all_delayed_stay, all_delayed_push}
 use Rattle.gl_wiring.proofs.select.put_columns.Goals as goal
 
@@ -24,8 +26,17 @@ loop-at-preserved c =
     let lt : i < length places = omega arith in
     let more = taken_more names i name c.loop-at-test.true c.index-names-at.is in
     let delayed = subst (λ n. IsDelayed net n bus.node) named e.delayed in
+    let ports : Puts mid net (output (out_column name) (slice_index (bus_widths buses) (get_or places i 0)) ∷ []) =
+    subst (λ (w : ℕ). Puts mid net (output (out_column name) w ∷ [])) (width_there buses (get_or places i 0) bus there) (subst (λ (n : List ℕ). Puts mid net (output n bus.width ∷ [])) named e.ports) in
     record {
       extends = extends_then c.args.net.now mid net inv.extends e.extends;
-      names = outputs_next (names_of c.args.net.now) (names_of mid) (names_of net) names i name inv.names (e.names ∙ ap (λ (n : List ℕ). names_of mid ++ n ∷ []) named) more;
+      ports = outputs_next c.args.net.now mid net (bus_widths buses) places names i (get_or places i 0) name c.requires.lengths (take_more places i 0 lt) more inv.ports ports;
       delayed = rw (more, take_more places i 0 lt) (all_delayed_push net buses (take i places) (take i names) (get_or places i 0) name bus (all_delayed_stay mid net buses (take i places) (take i names) e.extends inv.delayed) there delayed);
     }
+
+pub loop-at-init : goal.loop-at-init
+loop-at-init c = record {
+  extends = search rules;
+  ports = puts_nothing c.args.net.now;
+  delayed = search rules;
+}

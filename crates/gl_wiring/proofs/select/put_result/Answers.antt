@@ -1,17 +1,16 @@
-use Rattle.std.proofs.Common.{◌≡◌}
-use Rattle.std.specs.Prelude.{map}
-use Rattle.gl_schema.specs.Ports.{out_valid, out_eos, fault_group, fault_queue, out_column}
-use Rattle.gl_wiring.specs.Emitted.{names_of}
+use Rattle.gl_schema.specs.Ports.{out_valid, out_eos, fault_group, fault_queue}
+use Rattle.gl_wiring.proofs.Shapes.{result_puts}
+use Rattle.gl_wiring.specs.Emitted.{bus_widths}
 use Rattle.gl_wiring.proofs.Inputs.{extends_then}
-use Rattle.gl_wiring.proofs.Outputs.{result_names, delayed_bit_stays, zero_stays, all_delayed_stay}
+use Rattle.gl_wiring.proofs.Outputs.{delayed_bit_stays, zero_stays, all_delayed_stay}
 use Rattle.gl_wiring.proofs.select.put_result.Goals as goal
 
-pub returns-clause-names : goal.returns-clause-names
+pub returns-clause-ports : goal.returns-clause-ports
 unfolding out_valid out_eos fault_group fault_queue
-returns-clause-names c =
-    result_names (names_of c.args.net.now) (names_of c.put_later_bit.new.net) (names_of c.put_columns.new.net) (names_of c.put_later_bit-2.new.net) (names_of c.put_zero.new.net) (names_of c.put_zero-2.new.net)
-    out_valid out_eos fault_group fault_queue (map out_column c.args.names.now)
-    c.in_ok-put_later_bit.ensures.names c.in_ok-put_columns.ensures.names c.in_ok-put_later_bit-2.ensures.names c.in_ok-put_zero.ensures.names c.in_ok-put_zero-2.ensures.names
+returns-clause-ports c =
+    result_puts c.args.net.now c.put_later_bit.new.net c.put_columns.new.net c.put_later_bit-2.new.net c.put_zero.new.net c.put_zero-2.new.net
+    (bus_widths c.args.source.now.columns) c.args.columns.now c.args.names.now
+    c.in_ok-put_later_bit.ensures.ports c.in_ok-put_columns.ensures.ports c.in_ok-put_later_bit-2.ensures.ports c.in_ok-put_zero.ensures.ports c.in_ok-put_zero-2.ensures.ports
 
 pub returns-clause-valid : goal.returns-clause-valid
 unfolding out_valid

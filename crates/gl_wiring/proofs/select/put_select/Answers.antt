@@ -1,13 +1,11 @@
-use Rattle.std.proofs.Common.{◌≡◌, subst, ℕ, List, Option, ap, get_or}
-use Rattle.std.specs.Prelude.{map, All, IfSome, slice_get, length}
-use Rattle.gl_schema.specs.declared.schema.Stream.{Stream}
+use Rattle.std.proofs.Common.{subst, ℕ, List, get_or}
 use Rattle.gl_schema.specs.Ports.{rst, eos}
-use Rattle.gl_net.specs.declared.node.Port.{Port}
 use Rattle.gl_net.specs.declared.node.Direction.TheVariants.{In}
-use Rattle.gl_wiring.specs.PortNames.{streams_ports, result_ports}
-use Rattle.gl_wiring.specs.Emitted.{names_of}
+use Rattle.gl_wiring.specs.Emitted.{Puts}
+use Rattle.gl_wiring.specs.EmittedPorts.{result_outputs, column_widths, columns_at}
+use Rattle.gl_wiring.proofs.Shapes.{all_ports, source_widths}
 use Rattle.gl_wiring.proofs.Inputs.{extends_then}
-use Rattle.gl_wiring.proofs.Outputs.{places_within, inputs_bus, source_stays, all_names, reset_stays}
+use Rattle.gl_wiring.proofs.Outputs.{places_within, inputs_bus, source_stays, reset_stays}
 use Rattle.gl_wiring.proofs.select.put_select.Goals as goal
 
 pub put_result-requires-clause-places : goal.put_result-requires-clause-places
@@ -21,13 +19,19 @@ put_result-requires-clause-buses c =
     let x = c.in_ok-end.ensures.extends in
     λ k d lt. x.buses (get_or source.columns k d) (inputs_bus old is.stream.name is.stream.columns source.columns is.inputs k d lt)
 
-pub returns-clause-names : goal.returns-clause-names
+pub returns-clause-ports : goal.returns-clause-ports
 unfolding rst eos
-returns-clause-names c =
-    all_names (names_of c.args.net.now) (names_of c.put_input.new.net) (names_of c.put_all_streams.new.net) (names_of c.put_input-2.new.net) (names_of c.put_result.new.net)
-    rst (streams_ports c.args.schema.now.streams) eos (result_ports c.args.names.now)
-    (ap (map (λ (p : Port). p.name)) c.requires.empty)
-    c.in_ok-put_input.ensures.names c.in_ok-source.ensures.names c.in_ok-end.ensures.names c.in_ok-put_result.ensures.names
+returns-clause-ports c =
+    let ss = c.args.schema.now.streams in
+    let source = c.in_ok-source.source in
+    let places = c.args.columns.now in
+    let names = c.args.names.now in
+    let ws = column_widths (columns_at ss c.args.stream) in
+    let outs : Puts c.put_input-2.new.net c.put_result.new.net (result_outputs ws places names) =
+    subst (λ (x : List ℕ). Puts c.put_input-2.new.net c.put_result.new.net (result_outputs x places names)) (source_widths c.put_all_streams.new.net ss c.args.stream source c.in_ok-source.ensures.source) c.in_ok-put_result.ensures.ports in
+    all_ports c.args.net.now c.put_input.new.net c.put_all_streams.new.net c.put_input-2.new.net c.put_result.new.net
+    ss ws places names c.requires.empty
+    c.in_ok-put_input.ensures.ports c.in_ok-source.ensures.ports c.in_ok-end.ensures.ports outs
 
 pub returns-clause-follows : goal.returns-clause-follows
 unfolding eos

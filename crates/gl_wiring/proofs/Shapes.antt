@@ -1,0 +1,215 @@
+-- The ports of a netlist, with their directions and bits, while it grows.
+use Rattle.std.proofs.Common.{◌≡◌, ℕ, zero, suc, ◌+◌, ◌<◌, List, [], ◌∷◌, ◌++◌, length, take, drop, get_or, take-append-drop, Option, Some, refl, sym, ap, subst, ◌∙◌, append_assoc, arith}
+use Rattle.std.specs.Prelude.{map, slice_get, slice_index}
+use Rattle.std.specs.Option.{option_map_or}
+use Rattle.std.proofs.lemmas.List.{append-nil, map-append}
+use Rattle.gl_bits.specs.Kinds.{width_of}
+use Rattle.gl_schema.specs.declared.schema.Column.{Column}
+use Rattle.gl_schema.specs.declared.schema.Stream.{Stream}
+use Rattle.gl_schema.specs.declared.schema.Schema.{Schema}
+use Rattle.gl_schema.specs.Ports.{rst, eos, in_valid, in_column, out_valid, out_column, out_eos, fault_group, fault_queue}
+use Rattle.gl_net.specs.declared.node.Bus.{Bus}
+use Rattle.gl_net.specs.declared.node.Node.{Node}
+use Rattle.gl_net.specs.declared.node.Port.{Port}
+use Rattle.gl_net.specs.declared.node.Direction.{Direction}
+use Rattle.gl_net.specs.Net.{Net, Shape, Value, shape_in, IsPort}
+use Rattle.gl_net.specs.PortValues.{PortShape, port_shape, port_shapes, bits_of}
+use Rattle.gl_wiring.specs.declared.parts.Source.{Source}
+use Rattle.gl_wiring.specs.PortNames.{column_ports, stream_ports, streams_ports, port_names}
+use Rattle.gl_wiring.specs.EmittedPorts.{input, output, column_widths, column_inputs, stream_inputs, streams_inputs, column_outputs, result_outputs, columns_at, emitted_ports}
+use Rattle.gl_wiring.specs.Emitted.{names_of, bus_widths, IsPortOf, ArePorts, HasPorts, Puts, IsSource}
+use Rattle.gl_wiring.proofs.Inputs.{drop_next, taken_more}
+
+-- ---- ports one by one
+
+-- each shape stays
+abbrev Grow : Net → Net → Type 0
+Grow old new = (n : ℕ) (shape : Shape) → shape_in old.nodes n ≡ Some shape → shape_in new.nodes n ≡ Some shape
+
+ports_stay : (old new : Net) (ports : List Port) (shapes : List PortShape) → Grow old new → ArePorts old.nodes ports shapes → ArePorts new.nodes ports shapes
+ports_stay old new [] [] grow h = tt
+ports_stay old new [] (s ∷ ss) grow h = absurd h
+ports_stay old new (p ∷ ps) [] grow h = absurd h
+ports_stay old new (p ∷ ps) (s ∷ ss) grow h =
+    (record { direction = h.0.direction; name = h.0.name; bits = grow p.node (Value s.width) h.0.bits }, ports_stay old new ps ss grow h.1)
+
+ports_push : (nodes : List Node) (ports : List Port) (shapes : List PortShape) (p : Port) (s : PortShape) → ArePorts nodes ports shapes → IsPortOf nodes p s → ArePorts nodes (ports ++ p ∷ []) (shapes ++ s ∷ [])
+ports_push nodes [] [] p s h is = (is, tt)
+ports_push nodes [] (x ∷ xs) p s h is = absurd h
+ports_push nodes (q ∷ qs) [] p s h is = absurd h
+ports_push nodes (q ∷ qs) (x ∷ xs) p s h is = (h.0, ports_push nodes qs xs p s h.1 is)
+
+-- one port more
+pub puts_one : (old new : Net) (d : Direction) (name : List ℕ) (n w : ℕ) → ((m : ℕ) (shape : Shape) → shape_in old.nodes m ≡ Some shape → shape_in new.nodes m ≡ Some shape) → new.ports ≡ old.ports ++ record { direction = d; name = name; node = n } ∷ [] → shape_in new.nodes n ≡ Some (Value w) → Puts old new (record { direction = d; name = name; width = w } ∷ [])
+puts_one old new d name n w grow e there = record {
+  all = λ before h. record {
+    are = subst (λ (ports : List Port). ArePorts new.nodes ports (before ++ record { direction = d; name = name; width = w } ∷ [])) (sym e)
+        (ports_push new.nodes old.ports before (record { direction = d; name = name; node = n }) (record { direction = d; name = name; width = w }) (ports_stay old new old.ports before grow h.are)
+        (record { direction = refl; name = refl; bits = there }));
+  };
+}
+
+-- none more
+pub puts_none : (old new : Net) → ((m : ℕ) (shape : Shape) → shape_in old.nodes m ≡ Some shape → shape_in new.nodes m ≡ Some shape) → new.ports ≡ old.ports → Puts old new []
+puts_none old new grow e = record {
+  all = λ before h. record {
+    are = subst (λ (shapes : List PortShape). ArePorts new.nodes new.ports shapes) (sym (append-nil before))
+        (subst (λ (ports : List Port). ArePorts new.nodes ports before) (sym e) (ports_stay old new old.ports before grow h.are));
+  };
+}
+
+pub puts_nothing : (net : Net) → Puts net net []
+puts_nothing net = puts_none net net (λ m shape h. h) refl
+
+pub puts_then : (a b c : Net) (xs ys : List PortShape) → Puts a b xs → Puts b c ys → Puts a c (xs ++ ys)
+puts_then a b c xs ys x y = record { all = λ before h. subst (HasPorts c) (append_assoc before xs ys) (y.all (before ++ xs) (x.all before h)) }
+
+-- a port of the netlist
+pub port_last : (old new : Net) (d : Direction) (name : List ℕ) (n : ℕ) → new.ports ≡ old.ports ++ record { direction = d; name = name; node = n } ∷ [] → IsPort new d name n
+port_last old new d name n e = record { place = length old.ports; there = ap (λ (x : List Port). slice_get x (length old.ports)) e ∙ last_there old.ports (record { direction = d; name = name; node = n }) }
+  where
+    last_there : (xs : List Port) (x : Port) → slice_get (xs ++ x ∷ []) (length xs) ≡ Some x
+    last_there [] x = refl
+    last_there (y ∷ ys) x = last_there ys x
+
+abbrev shape_from : Direction → List ℕ → ℕ → PortShape
+shape_from direction name width = record { direction = direction; name = name; width = width }
+
+same_shape : (d e : Direction) (m n : List ℕ) (v w : ℕ) → d ≡ e → m ≡ n → v ≡ w → shape_from d m v ≡ shape_from e n w
+same_shape d e m n v w a b c =
+    ap (λ (x : Direction). shape_from x m v) a ∙ ap (λ (x : List ℕ). shape_from e x v) b ∙ ap (λ (x : ℕ). shape_from e n x) c
+
+are_shapes : (net : Net) (ports : List Port) (shapes : List PortShape) → ArePorts net.nodes ports shapes → map (port_shape net) ports ≡ shapes
+are_shapes net [] [] h = refl
+are_shapes net [] (s ∷ ss) h = absurd h
+are_shapes net (p ∷ ps) [] h = absurd h
+are_shapes net (p ∷ ps) (s ∷ ss) h =
+    let bits : bits_of (shape_in net.nodes p.node) ≡ s.width = ap bits_of h.0.bits in
+    let first : port_shape net p ≡ s = same_shape p.direction s.direction p.name s.name (bits_of (shape_in net.nodes p.node)) s.width h.0.direction h.0.name bits in
+    ap (λ (x : PortShape). x ∷ map (port_shape net) ps) first ∙ ap (λ (x : List PortShape). s ∷ x) (are_shapes net ps ss h.1)
+
+-- all ports, where there were none before
+pub all_put : (old new : Net) (shapes : List PortShape) → old.ports ≡ [] → Puts old new shapes → port_shapes new ≡ shapes
+unfolding port_shapes
+all_put old new shapes none put =
+    let empty : HasPorts old [] = record { are = subst (λ (ports : List Port). ArePorts old.nodes ports []) (sym none) tt } in
+    are_shapes new new.ports shapes (put.all [] empty).are
+
+-- ---- streams and columns
+
+columns_push : (s : List ℕ) (cs : List Column) (c : Column) → column_inputs s (cs ++ c ∷ []) ≡ column_inputs s cs ++ input (in_column s c.name) (width_of c.kind) ∷ []
+columns_push s [] c = refl
+columns_push s (d ∷ cs) c = ap (λ (x : List PortShape). input (in_column s d.name) (width_of d.kind) ∷ x) (columns_push s cs c)
+
+-- one column more
+pub columns_next : (a b c : Net) (s : List ℕ) (cs : List Column) (i : ℕ) (column : Column) → take (i + 1) cs ≡ take i cs ++ column ∷ [] → Puts a b (column_inputs s (take i cs)) → Puts b c (input (in_column s column.name) (width_of column.kind) ∷ []) → Puts a c (column_inputs s (take (i + 1) cs))
+columns_next a b c s cs i column more x y =
+    subst (λ (shapes : List PortShape). Puts a c shapes) (sym (ap (column_inputs s) more ∙ columns_push s (take i cs) column)) (puts_then a b c (column_inputs s (take i cs)) (input (in_column s column.name) (width_of column.kind) ∷ []) x y)
+
+streams_join : (xs ys : List Stream) → streams_inputs (xs ++ ys) ≡ streams_inputs xs ++ streams_inputs ys
+streams_join [] ys = refl
+streams_join (x ∷ xs) ys = ap (λ (t : List PortShape). stream_inputs x ++ t) (streams_join xs ys) ∙ sym (append_assoc (stream_inputs x) (streams_inputs xs) (streams_inputs ys))
+
+-- one stream more
+pub streams_next : (a b c : Net) (ss : List Stream) (i : ℕ) (s : Stream) → i < length ss → s ≡ get_or ss i s → Puts a b (streams_inputs (take i ss)) → Puts b c (stream_inputs s) → Puts a c (streams_inputs (take (i + 1) ss))
+streams_next a b c ss i s lt e x y =
+    subst (λ (shapes : List PortShape). Puts a c shapes)
+    (sym (ap streams_inputs (taken_more ss i s lt e) ∙ streams_join (take i ss) (s ∷ []) ∙ ap (λ (t : List PortShape). streams_inputs (take i ss) ++ t) (append-nil (stream_inputs s))))
+    (puts_then a b c (streams_inputs (take i ss)) (stream_inputs s) x y)
+
+-- the streams before a place, the one there, and those behind it
+pub streams_split : (n0 n1 n2 n3 : Net) (ss a b : List Stream) (k : ℕ) (s : Stream) → k < length ss → s ≡ get_or ss k s → a ≡ take k ss → b ≡ drop (k + 1) ss → Puts n0 n1 (streams_inputs a) → Puts n1 n2 (stream_inputs s) → Puts n2 n3 (streams_inputs b) → Puts n0 n3 (streams_inputs ss)
+streams_split n0 n1 n2 n3 ss a b k s lt e ea eb x y z =
+    let whole : ss ≡ a ++ s ∷ b = sym (take-append-drop k ss) ∙ ap (λ (t : List Stream). take k ss ++ t) (drop_next ss k s lt e) ∙ ap (λ (t : List Stream). t ++ s ∷ drop (k + 1) ss) (sym ea) ∙ ap (λ (t : List Stream). a ++ s ∷ t) (sym eb) in
+    let parts : streams_inputs ss ≡ (streams_inputs a ++ stream_inputs s) ++ streams_inputs b = ap streams_inputs whole ∙ streams_join a (s ∷ b) ∙ sym (append_assoc (streams_inputs a) (stream_inputs s) (streams_inputs b)) in
+    subst (λ (shapes : List PortShape). Puts n0 n3 shapes) (sym parts) (puts_then n0 n2 n3 (streams_inputs a ++ stream_inputs s) (streams_inputs b) (puts_then n0 n1 n2 (streams_inputs a) (stream_inputs s) x y) z)
+
+-- ---- widths
+
+pub widths_push : (cs : List Column) (bs : List Bus) (c : Column) (b : Bus) → bus_widths bs ≡ column_widths cs → b.width ≡ width_of c.kind → bus_widths (bs ++ b ∷ []) ≡ column_widths (cs ++ c ∷ [])
+widths_push cs bs c b e w =
+    map-append (λ (x : Bus). x.width) bs (b ∷ [])
+    ∙ ap (λ (x : List ℕ). x ++ b.width ∷ []) e ∙ ap (λ (x : ℕ). column_widths cs ++ x ∷ []) w
+    ∙ sym (map-append (λ (x : Column). width_of x.kind) cs (c ∷ []))
+
+pub width_there : (bs : List Bus) (p : ℕ) (b : Bus) → slice_get bs p ≡ Some b → b.width ≡ slice_index (bus_widths bs) p
+width_there [] p b at = absurd cc
+width_there (x ∷ bs) zero b at = let same : x ≡ b = cc in ap (λ (y : Bus). y.width) (sym same)
+width_there (x ∷ bs) (suc p) b at = width_there bs p b at
+
+pub source_widths : (net : Net) (ss : List Stream) (k : ℕ) (source : Source) → IsSource net ss k source → bus_widths source.columns ≡ column_widths (columns_at ss k)
+source_widths net ss k source is = is.widths ∙ ap (λ (o : Option Stream). column_widths (option_map_or (λ (s : Stream). s.columns) o [])) (sym is.there)
+
+-- ---- outputs
+
+same_taken : {A B : Type 0} (i : ℕ) (xs : List A) (ys : List B) → length xs ≡ length ys → length (take i xs) ≡ length (take i ys)
+same_taken zero xs ys e = refl
+same_taken (suc i) [] [] e = refl
+same_taken (suc i) [] (y ∷ ys) e = absurd (omega arith)
+same_taken (suc i) (x ∷ xs) [] e = absurd (omega arith)
+same_taken (suc i) (x ∷ xs) (y ∷ ys) e = ap suc (same_taken i xs ys (omega arith))
+
+outputs_push : (ws ps : List ℕ) (ns : List (List ℕ)) (p : ℕ) (n : List ℕ) → length ps ≡ length ns → column_outputs ws (ps ++ p ∷ []) (ns ++ n ∷ []) ≡ column_outputs ws ps ns ++ output (out_column n) (slice_index ws p) ∷ []
+outputs_push ws [] [] p n e = refl
+outputs_push ws [] (m ∷ ns) p n e = absurd (omega arith)
+outputs_push ws (q ∷ ps) [] p n e = absurd (omega arith)
+outputs_push ws (q ∷ ps) (m ∷ ns) p n e = ap (λ (x : List PortShape). output (out_column m) (slice_index ws q) ∷ x) (outputs_push ws ps ns p n (omega arith))
+
+-- one output more
+pub outputs_next : (a b c : Net) (ws ps : List ℕ) (ns : List (List ℕ)) (i p : ℕ) (n : List ℕ) → length ps ≡ length ns → take (i + 1) ps ≡ take i ps ++ p ∷ [] → take (i + 1) ns ≡ take i ns ++ n ∷ [] → Puts a b (column_outputs ws (take i ps) (take i ns)) → Puts b c (output (out_column n) (slice_index ws p) ∷ []) → Puts a c (column_outputs ws (take (i + 1) ps) (take (i + 1) ns))
+outputs_next a b c ws ps ns i p n same more_places more_names x y =
+    let last = output (out_column n) (slice_index ws p) ∷ [] in
+    let is : column_outputs ws (take (i + 1) ps) (take (i + 1) ns) ≡ column_outputs ws (take i ps) (take i ns) ++ last =
+    ap (λ (t : List ℕ). column_outputs ws t (take (i + 1) ns)) more_places ∙ ap (column_outputs ws (take i ps ++ p ∷ [])) more_names ∙ outputs_push ws (take i ps) (take i ns) p n (same_taken i ps ns same) in
+    subst (λ (shapes : List PortShape). Puts a c shapes) (sym is) (puts_then a b c (column_outputs ws (take i ps) (take i ns)) last x y)
+
+-- the ports of a result, one after the other
+pub result_puts : (n0 n1 n2 n3 n4 n5 : Net) (ws ps : List ℕ) (ns : List (List ℕ)) → Puts n0 n1 (output out_valid 1 ∷ []) → Puts n1 n2 (column_outputs ws ps ns) → Puts n2 n3 (output out_eos 1 ∷ []) → Puts n3 n4 (output fault_group 1 ∷ []) → Puts n4 n5 (output fault_queue 1 ∷ []) → Puts n0 n5 (result_outputs ws ps ns)
+result_puts n0 n1 n2 n3 n4 n5 ws ps ns x y z u v =
+    let tail : Puts n2 n5 (output out_eos 1 ∷ output fault_group 1 ∷ output fault_queue 1 ∷ []) = puts_then n2 n4 n5 (output out_eos 1 ∷ output fault_group 1 ∷ []) (output fault_queue 1 ∷ []) (puts_then n2 n3 n4 (output out_eos 1 ∷ []) (output fault_group 1 ∷ []) z u) v in
+    puts_then n0 n1 n5 (output out_valid 1 ∷ []) (column_outputs ws ps ns ++ output out_eos 1 ∷ output fault_group 1 ∷ output fault_queue 1 ∷ []) x (puts_then n1 n2 n5 (column_outputs ws ps ns) (output out_eos 1 ∷ output fault_group 1 ∷ output fault_queue 1 ∷ []) y tail)
+
+-- all ports, one after the other
+pub all_ports : (n0 n1 n2 n3 n4 : Net) (ss : List Stream) (ws ps : List ℕ) (ns : List (List ℕ)) → n0.ports ≡ [] → Puts n0 n1 (input rst 1 ∷ []) → Puts n1 n2 (streams_inputs ss) → Puts n2 n3 (input eos 1 ∷ []) → Puts n3 n4 (result_outputs ws ps ns) → port_shapes n4 ≡ input rst 1 ∷ (streams_inputs ss ++ input eos 1 ∷ result_outputs ws ps ns)
+all_ports n0 n1 n2 n3 n4 ss ws ps ns none x y z u =
+    let tail : Puts n2 n4 (input eos 1 ∷ result_outputs ws ps ns) = puts_then n2 n3 n4 (input eos 1 ∷ []) (result_outputs ws ps ns) z u in
+    let rest : Puts n1 n4 (streams_inputs ss ++ input eos 1 ∷ result_outputs ws ps ns) = puts_then n1 n2 n4 (streams_inputs ss) (input eos 1 ∷ result_outputs ws ps ns) y tail in
+    all_put n0 n4 (input rst 1 ∷ (streams_inputs ss ++ input eos 1 ∷ result_outputs ws ps ns)) none (puts_then n0 n1 n4 (input rst 1 ∷ []) (streams_inputs ss ++ input eos 1 ∷ result_outputs ws ps ns) x rest)
+
+-- ---- names
+
+abbrev names_in : List PortShape → List (List ℕ)
+names_in shapes = map (λ (s : PortShape). s.name) shapes
+
+shape_names : (net : Net) (ports : List Port) → names_in (map (port_shape net) ports) ≡ map (λ (p : Port). p.name) ports
+shape_names net [] = refl
+shape_names net (p ∷ ps) = ap (λ (x : List (List ℕ)). p.name ∷ x) (shape_names net ps)
+
+column_names : (s : List ℕ) (cs : List Column) → names_in (column_inputs s cs) ≡ column_ports s cs
+column_names s [] = refl
+column_names s (c ∷ cs) = ap (λ (x : List (List ℕ)). in_column s c.name ∷ x) (column_names s cs)
+
+stream_names : (s : Stream) → names_in (stream_inputs s) ≡ stream_ports s
+stream_names s = ap (λ (x : List (List ℕ)). in_valid s.name ∷ x) (column_names s.name s.columns)
+
+streams_names : (ss : List Stream) → names_in (streams_inputs ss) ≡ streams_ports ss
+streams_names [] = refl
+streams_names (s ∷ ss) = map-append (λ (x : PortShape). x.name) (stream_inputs s) (streams_inputs ss) ∙ ap (λ (x : List (List ℕ)). x ++ names_in (streams_inputs ss)) (stream_names s) ∙ ap (λ (x : List (List ℕ)). stream_ports s ++ x) (streams_names ss)
+
+output_names : (ws ps : List ℕ) (ns : List (List ℕ)) → length ps ≡ length ns → names_in (column_outputs ws ps ns) ≡ map out_column ns
+output_names ws [] [] e = refl
+output_names ws [] (n ∷ ns) e = absurd (omega arith)
+output_names ws (p ∷ ps) [] e = absurd (omega arith)
+output_names ws (p ∷ ps) (n ∷ ns) e = ap (λ (x : List (List ℕ)). out_column n ∷ x) (output_names ws ps ns (omega arith))
+
+-- the names of the ports of an emitted module
+pub names_are : (net : Net) (s : Schema) (k : ℕ) (ps : List ℕ) (ns : List (List ℕ)) → length ps ≡ length ns → port_shapes net ≡ emitted_ports s k ps ns → names_of net ≡ port_names s ns
+unfolding port_shapes
+names_are net s k ps ns e h =
+    let ws = column_widths (columns_at s.streams k) in
+    let tail = output out_eos 1 ∷ output fault_group 1 ∷ output fault_queue 1 ∷ [] in
+    let result = result_outputs ws ps ns in
+    let outs : names_in result ≡ out_valid ∷ (map out_column ns ++ out_eos ∷ fault_group ∷ fault_queue ∷ []) =
+    ap (λ (x : List (List ℕ)). out_valid ∷ x) (map-append (λ (x : PortShape). x.name) (column_outputs ws ps ns) tail ∙ ap (λ (x : List (List ℕ)). x ++ out_eos ∷ fault_group ∷ fault_queue ∷ []) (output_names ws ps ns e)) in
+    let ins = map-append (λ (x : PortShape). x.name) (streams_inputs s.streams) (input eos 1 ∷ result) ∙ ap (λ (x : List (List ℕ)). x ++ eos ∷ names_in result) (streams_names s.streams) ∙ ap (λ (x : List (List ℕ)). streams_ports s.streams ++ eos ∷ x) outs in
+    sym (shape_names net net.ports) ∙ ap names_in h ∙ ap (λ (x : List (List ℕ)). rst ∷ x) ins

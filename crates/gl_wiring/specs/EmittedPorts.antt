@@ -1,0 +1,52 @@
+-- The ports of an emitted module, the clock aside, in their order, with their directions and bits.
+use Rattle.std.specs.Prelude.{ℕ, List, [], ◌∷◌, ◌++◌, map, slice_get, slice_index}
+use Rattle.std.specs.Option.{option_map_or}
+use Rattle.gl_bits.specs.Kinds.{width_of}
+use Rattle.gl_schema.specs.declared.schema.Column.{Column}
+use Rattle.gl_schema.specs.declared.schema.Stream.{Stream}
+use Rattle.gl_schema.specs.declared.schema.Schema.{Schema}
+use Rattle.gl_schema.specs.Ports.{rst, eos, in_valid, in_column, out_valid, out_column, out_eos, fault_group, fault_queue}
+use Rattle.gl_net.specs.declared.node.Direction.TheVariants.{In, Out}
+use Rattle.gl_net.specs.PortValues.{PortShape}
+
+abbrev pub input : List ℕ → ℕ → PortShape
+input name width = record { direction = In; name = name; width = width }
+
+abbrev pub output : List ℕ → ℕ → PortShape
+output name width = record { direction = Out; name = name; width = width }
+
+-- the bits of columns, in order
+abbrev pub column_widths : List Column → List ℕ
+column_widths columns = map (λ (c : Column). width_of c.kind) columns
+
+-- the inputs of a stream: whether a tuple comes, and its columns
+abbrev pub column_inputs : List ℕ → List Column → List PortShape
+column_inputs stream [] = []
+column_inputs stream (c ∷ cs) = input (in_column stream c.name) (width_of c.kind) ∷ column_inputs stream cs
+
+abbrev pub stream_inputs : Stream → List PortShape
+stream_inputs s = input (in_valid s.name) 1 ∷ column_inputs s.name s.columns
+
+abbrev pub streams_inputs : List Stream → List PortShape
+streams_inputs [] = []
+streams_inputs (s ∷ ss) = stream_inputs s ++ streams_inputs ss
+
+-- an output under each name, with the bits at each place
+abbrev pub column_outputs : List ℕ → List ℕ → List (List ℕ) → List PortShape
+column_outputs widths [] names = []
+column_outputs widths (p ∷ places) [] = []
+column_outputs widths (p ∷ places) (n ∷ names) = output (out_column n) (slice_index widths p) ∷ column_outputs widths places names
+
+-- the outputs of a result: whether a row leaves, its columns, the end, and the two fault lines
+abbrev pub result_outputs : List ℕ → List ℕ → List (List ℕ) → List PortShape
+result_outputs widths places names =
+    output out_valid 1 ∷ (column_outputs widths places names ++ output out_eos 1 ∷ output fault_group 1 ∷ output fault_queue 1 ∷ [])
+
+-- the columns of stream k
+abbrev pub columns_at : List Stream → ℕ → List Column
+columns_at streams k = option_map_or (λ (s : Stream). s.columns) (slice_get streams k) []
+
+-- all ports, where the result has the columns at these places of stream k
+abbrev pub emitted_ports : Schema → ℕ → List ℕ → List (List ℕ) → List PortShape
+emitted_ports schema k places names =
+    input rst 1 ∷ (streams_inputs schema.streams ++ input eos 1 ∷ result_outputs (column_widths (columns_at schema.streams k)) places names)
