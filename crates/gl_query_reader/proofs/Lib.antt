@@ -9,4 +9,6 @@ pub mod Said
 pub mod SoundTerms
 pub mod SoundExpressions
 pub mod Sound
+pub mod Begins
 pub mod Meets
+pub mod Exact

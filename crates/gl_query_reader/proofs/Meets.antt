@@ -1,7 +1,7 @@
 -- What reading comes to, in the words of the grammar.
-use Rattle.std.proofs.Common.{◌≡◌, ℕ, Bool, true, false, cond, List, [], ◌∷◌, ◌++◌, length, Option, Some, None, Result, Ok, Err, refl, sym, ap, subst, ◌∙◌, append_assoc}
-use Rattle.std.specs.Prelude.{map, IfOk, IfErr}
-use Rattle.std.proofs.lemmas.List.{append-nil, map-append}
+use Rattle.std.proofs.Common.{◌≡◌, ℕ, Bool, true, false, List, [], ◌∷◌, ◌++◌, length, Option, Some, None, Result, Ok, Err, refl, sym, ap, subst, ◌∙◌, append_assoc}
+use Rattle.std.specs.Prelude.{IfOk, IfErr}
+use Rattle.std.proofs.lemmas.List.{map-append}
 use Rattle.gl_query.specs.declared.tree.Statement as tree
 use Rattle.gl_query.specs.declared.fault.QueryFault.{QueryFault}
 use Rattle.gl_query.specs.declared.fault.QueryFault.TheVariants as fault
@@ -11,16 +11,18 @@ use Rattle.gl_query_tokens.specs.Tokens.{tokens_of}
 use Rattle.gl_query_reader.specs.declared.limits.Counts.{Counts}
 use Rattle.gl_query_reader.specs.declared.parsing.ReadFault.{ReadFault}
 use Rattle.gl_query_reader.specs.declared.parsing.ReadFault.TheVariants.{Syntax, TooDeep, Memory}
-use Rattle.gl_query_reader.specs.Written.{Statement, IsQuery, spell_statement}
+use Rattle.gl_query_reader.specs.Written.{Statement, spell_statement}
 use Rattle.gl_query_reader.specs.Machine.{State, start, step, finish}
 use Rattle.gl_query_reader.specs.Limits.{none_counted, after, counted, is_past, keeps_limits}
-use Rattle.gl_query_reader.specs.Meaning.{Statement', statement_meaning, statement_tree}
+use Rattle.gl_query_reader.specs.Meaning.{Statement', statement_tree}
 use Rattle.gl_query_reader.specs.Mixed.{mixed_in}
 use Rattle.gl_query_reader.specs.Reading.{run, or_syntax, checked, with_items, answered, Answers}
-use Rattle.gl_query_reader.specs.Grammar.{bare_tokens, Derives, CanBegin, HasStatement, IsOrMemory, Stops, IsSyntaxFault, IsDepthFault, IsItemsFault, IsFault}
+use Rattle.gl_query_reader.specs.Grammar.{bare_tokens, Derives, CanBegin, HasStatement, IsOrMemory, Stops, IsFault}
 use Rattle.gl_query_reader.proofs.Steps.{steps, and_then_some, steps-append, run-steps}
-use Rattle.gl_query_reader.proofs.ReadQueries.{final, finishes, reads_statement, one_statement}
-use Rattle.gl_query_reader.proofs.Sound.{derives}
+use Rattle.gl_query_reader.proofs.ReadQueries.{final, finishes, reads_statement}
+use Rattle.gl_query_reader.proofs.Said.{Read}
+use Rattle.gl_query_reader.proofs.Sound.{derives, sound_step, sound_steps, read_start}
+use Rattle.gl_query_reader.proofs.Begins.{begins}
 
 -- tokens that were read to a state, within the limits
 pub record Came (n : Counts) (s : State) (read : List Lexeme) (s' : State) : Type 0 where
@@ -114,7 +116,7 @@ ends pre s w e cannot d =
     let same : s ≡ final w = some_state (steps start pre) s (final w) e (ap (steps start) (sym d.spelled) ∙ reads_statement w d.grammar) in
     none_is ⊥ (finish s) w cannot (ap finish same ∙ finishes w)
 
-bare-push : (ls : List Lexeme) (l : Lexeme) → bare_tokens (ls ++ l ∷ []) ≡ bare_tokens ls ++ l.token ∷ []
+pub bare-push : (ls : List Lexeme) (l : Lexeme) → bare_tokens (ls ++ l ∷ []) ≡ bare_tokens ls ++ l.token ∷ []
 bare-push ls l = map-append (λ (x : Lexeme). x.token) ls (l ∷ [])
 
 stops : (len at : ℕ) (read left : List Lexeme) (s : State) → steps start (bare_tokens read) ≡ Some s → Halts len at s left → Stops len at read left
@@ -144,10 +146,13 @@ of_written text w m = test (mixed_in w.query) refl
     test None e = record { written = w; derived = derives _ m.there w m.came.steps m.done; limits = m.came.limits; items = e; means = refl }
     test (Some at) e = record { written = w; derived = derives _ m.there w m.came.steps m.done; limits = m.came.limits; items = e }
 
+pub read_to : (ts : List Token) (s : State) → steps start ts ≡ Some s → Read s ts
+read_to ts s e = sound_steps ts start s [] read_start e
+
 of_result : (text : List ℕ) (r : Result Statement ReadFault) → Met (length text) none_counted start (tokens_of text) r → AnswerIs text (answered r)
 of_result text (Ok w) m = of_written text w m
-of_result text (Err (Syntax at)) m = record { read = m.read; left = m.left; parts = m.parts; limits = m.came.limits; stops = stops (length text) at m.read m.left m.there m.came.steps m.halts }
-of_result text (Err (TooDeep at)) m = record { read = m.read; deep = m.deep; left = m.left; parts = m.parts; place = m.place; limits = m.came.limits; past = m.past }
+of_result text (Err (Syntax at)) m = record { read = m.read; left = m.left; parts = m.parts; limits = m.came.limits; begins = begins m.there (bare_tokens m.read) (read_to (bare_tokens m.read) m.there m.came.steps); stops = stops (length text) at m.read m.left m.there m.came.steps m.halts }
+of_result text (Err (TooDeep at)) m = record { read = m.read; deep = m.deep; left = m.left; parts = m.parts; place = m.place; limits = m.came.limits; past = m.past; begins = subst (λ (x : List Token). CanBegin x) (sym (bare-push m.read m.deep)) (begins m.beyond (bare_tokens m.read ++ m.deep.token ∷ []) (sound_step m.there m.beyond m.deep.token (bare_tokens m.read) (read_to (bare_tokens m.read) m.there m.came.steps) m.goes)) }
 of_result text (Err Memory) m = absurd m
 
 pub answer_is : (text : List ℕ) → AnswerIs text (answer_for text)

@@ -1,5 +1,5 @@
 -- An expression that is spelled is read again.
-use Rattle.std.proofs.Common.{◌≡◌, ℕ, suc, ◌+◌, ◌-◌, ◌<◌, ◌≤◌, Bool, true, false, List, [], ◌∷◌, ◌++◌, Option, Some, None, refl, sym, ap, ◌∙◌, append_assoc, arith}
+use Rattle.std.proofs.Common.{◌≡◌, ℕ, ◌<◌, ◌≤◌, List, [], ◌∷◌, ◌++◌, Some, refl, ap, ◌∙◌, append_assoc, arith}
 use Rattle.std.proofs.lemmas.Bool.{le-leb, lt-leb, lt-ltb}
 use Rattle.gl_bits.specs.declared.kind.Kind.{Kind}
 use Rattle.gl_schema.specs.SchemaFaults.{kind_named}
@@ -10,9 +10,9 @@ use Rattle.gl_query.specs.declared.tree.Op.TheVariants as op
 use Rattle.gl_query_tokens.specs.declared.token.Plain.TheVariants as plain
 use Rattle.gl_query_tokens.specs.declared.token.Token.{Token}
 use Rattle.gl_query_tokens.specs.declared.token.Token.TheVariants as token
-use Rattle.gl_query_tokens.specs.Sorts.{plain_eq, is_plain, name_in, open_in}
+use Rattle.gl_query_tokens.specs.Sorts.{plain_eq}
 use Rattle.gl_query_reader.specs.Written.{Expr, Column, Number, Letters, Brackets, Cast, Not, Binary, looseness, left_looseness, level, IsExpr, spell}
-use Rattle.gl_query_reader.specs.Machine.{State, Control, Frame, LeftOf, NotOf, BracketOf, InCast, InItem, InFold, InWsum, InFilter, JoinOf, InQuery, InSource, InBody, WantOperand, HaveExpr, Reduced, room, reduced, step}
+use Rattle.gl_query_reader.specs.Machine.{State, Frame, LeftOf, NotOf, BracketOf, InCast, WantOperand, HaveExpr, Reduced, room, reduced, step}
 use Rattle.gl_query_reader.proofs.Steps.{steps, state}
 
 -- what is still open at an expression's end, and its last operand

@@ -1,5 +1,5 @@
 -- The items of a select that are spelled are read again.
-use Rattle.std.proofs.Common.{◌≡◌, ℕ, ◌<◌, ◌≤◌, Bool, true, false, List, [], ◌∷◌, ◌++◌, Option, Some, None, refl, sym, ap, ◌∙◌, append_assoc, arith}
+use Rattle.std.proofs.Common.{◌≡◌, ℕ, false, List, [], ◌∷◌, ◌++◌, refl, sym, ap, ◌∙◌, append_assoc, arith}
 use Rattle.gl_query.specs.declared.tree.Name.{Name}
 use Rattle.gl_query.specs.declared.tree.Num.{Num}
 use Rattle.gl_query_tokens.specs.declared.token.Fold.{Fold}
@@ -7,8 +7,8 @@ use Rattle.gl_query_tokens.specs.declared.token.Plain.TheVariants as plain
 use Rattle.gl_query_tokens.specs.declared.token.Token.{Token}
 use Rattle.gl_query_tokens.specs.declared.token.Token.TheVariants as token
 use Rattle.gl_query_tokens.specs.Sorts.{plain_eq, is_plain}
-use Rattle.gl_query_reader.specs.Written.{Expr, Column, Number, Letters, Brackets, Cast, Not, Binary, Agg, Count, Fold', Wsum, Item, Bare, Named, Total, Pick, All, Items, level, IsExpr, IsAgg, IsItem, AreItems, IsPick, spell, spell_numbers, spell_agg, spell_item, spell_items, spell_pick}
-use Rattle.gl_query_reader.specs.Machine.{State, Control, Frame, InItem, InFold, InWsum, WantItem, WantWeight, HaveWeight, WantWsumClose, WantWeightsOpen, WantAs, HaveItem, WantSource, SelectHead, reduced, step, is_operator}
+use Rattle.gl_query_reader.specs.Written.{Expr, Column, Number, Letters, Brackets, Cast, Not, Binary, Agg, Count, Fold', Wsum, Item, Bare, Named, Total, Pick, All, Items, IsAgg, IsItem, AreItems, IsPick, spell, spell_numbers, spell_agg, spell_item, spell_items, spell_pick}
+use Rattle.gl_query_reader.specs.Machine.{State, Frame, InItem, InFold, InWsum, WantItem, WantWeight, WantAs, HaveItem, WantSource, SelectHead, reduced, step, is_operator}
 use Rattle.gl_query_reader.proofs.Steps.{steps, state}
 use Rattle.gl_query_reader.proofs.ReadExpressions.{waits, last_of, pair, wanting, having, reads_expr, reduced-whole, level-lt}
 

@@ -1,9 +1,6 @@
 -- A query that is spelled is read again, and no tokens have two statements.
-use Rattle.std.proofs.Common.{◌≡◌, ℕ, ◌<◌, ◌≤◌, Bool, true, false, List, [], ◌∷◌, ◌++◌, Option, Some, None, refl, sym, ap, ◌∙◌, append_assoc, arith}
-use Rattle.std.proofs.lemmas.List.{append-nil}
+use Rattle.std.proofs.Common.{◌≡◌, ℕ, Bool, true, false, List, [], ◌∷◌, ◌++◌, Option, Some, None, refl, sym, ap, ◌∙◌, append_assoc, arith}
 use Rattle.gl_query.specs.declared.tree.Name.{Name}
-use Rattle.gl_query.specs.declared.tree.Num.{Num}
-use Rattle.gl_query.specs.declared.tree.Op.TheVariants as op
 use Rattle.gl_query_tokens.specs.declared.token.Join.{Join}
 use Rattle.gl_query_tokens.specs.declared.token.Plain.TheVariants as plain
 use Rattle.gl_query_tokens.specs.declared.token.Token.{Token}
@@ -11,10 +8,10 @@ use Rattle.gl_query_tokens.specs.declared.token.Token.TheVariants as token
 use Rattle.gl_query_tokens.specs.Sorts.{plain_eq, is_plain}
 use Rattle.gl_query_reader.specs.declared.written.Window.{Window}
 use Rattle.gl_query_reader.specs.declared.written.Grouping.{Grouping}
-use Rattle.gl_query_reader.specs.Written.{Expr, Pick, Query, Stream, InBrackets, Select, Windows, Groups, Join', Statement, IsExpr, IsPick, IsQuery, IsSource, IsTerm, IsFilter, spell, spell_pick, spell_window, spell_if_window, spell_filter, spell_grouping, spell_if_grouping, spell_query, spell_end, spell_statement}
-use Rattle.gl_query_reader.specs.Machine.{State, Control, Frame, LeftOf, NotOf, InFilter, JoinOf, InQuery, InSource, InBody, Head, SelectHead, EachHead, WindowsHead, GroupsHead', WantTerm, WantItem, WantOperand, HaveExpr, WantSource, HaveSource, HaveEachSource, WantBody, HaveTerm, WantName, HaveName, WantEnd, Joined, start, reduced, joined, after_source, after_query, have_term, is_operator, step, finish}
+use Rattle.gl_query_reader.specs.Written.{Expr, Pick, Query, Stream, InBrackets, Select, Windows, Groups, Join', Statement, IsPick, IsQuery, IsSource, IsTerm, IsFilter, spell, spell_pick, spell_window, spell_if_window, spell_filter, spell_grouping, spell_if_grouping, spell_query, spell_end, spell_statement}
+use Rattle.gl_query_reader.specs.Machine.{State, Frame, InFilter, JoinOf, InQuery, InSource, InBody, Head, SelectHead, EachHead, WindowsHead, GroupsHead', WantTerm, WantSource, HaveSource, HaveEachSource, HaveTerm, WantName, HaveName, WantEnd, Joined, start, reduced, joined, after_source, after_query, have_term, is_operator, step, finish}
 use Rattle.gl_query_reader.specs.Grammar.{Derives}
-use Rattle.gl_query_reader.proofs.Steps.{steps, state, steps-one, steps-none_left}
+use Rattle.gl_query_reader.proofs.Steps.{steps, state, steps-one}
 use Rattle.gl_query_reader.proofs.ReadExpressions.{waits, last_of, pair, wanting, having, reads_expr, reduced-whole, level-lt}
 use Rattle.gl_query_reader.proofs.ReadItems.{wanting_item, reads_pick}
 
@@ -32,18 +29,18 @@ pub record Follows (t : Token) : Type 0 where
   pub filter : is_plain plain.Where t ≡ false
   pub group : is_plain plain.Group t ≡ false
 
-close-follows : Follows (token.Plain plain.Close)
+pub close-follows : Follows (token.Plain plain.Close)
 unfolding plain_eq
 close-follows = record { operator = refl; window = refl; filter = refl; group = refl }
 
-into-follows : Follows (token.Plain plain.Into)
+pub into-follows : Follows (token.Plain plain.Into)
 unfolding plain_eq
 into-follows = record { operator = refl; window = refl; filter = refl; group = refl }
 
 join-follows : (join : Join) (at : ℕ) → Follows (token.Join join at)
 join-follows join at = record { operator = refl; window = refl; filter = refl; group = refl }
 
-have-source : (pick : Pick) (source : Query) (window : Option Window) (fs : List Frame) (t : Token) → Follows t → step (state (HaveSource pick source window) fs) t ≡ have_term fs (Select pick source window None None) t
+pub have-source : (pick : Pick) (source : Query) (window : Option Window) (fs : List Frame) (t : Token) → Follows t → step (state (HaveSource pick source window) fs) t ≡ have_term fs (Select pick source window None None) t
 unfolding step
 have-source pick source window fs t f = rw (f.window, f.filter, f.group) refl
 
@@ -51,7 +48,7 @@ have-filter : (pick : Pick) (source : Query) (window : Option Window) (e0 e : Ex
 unfolding step
 have-filter pick source window e0 e fs0 fs t f h = rw (f.operator, h, f.group) refl
 
-have-whole : (q : Query) (fs : List Frame) (t : Token) → step (state (HaveTerm q) fs) t ≡ have_term fs q t
+pub have-whole : (q : Query) (fs : List Frame) (t : Token) → step (state (HaveTerm q) fs) t ≡ have_term fs q t
 unfolding step
 have-whole q fs t = refl
 
@@ -80,7 +77,7 @@ joined-none (JoinOf l join at ∷ fs) q n = absurd n
 joined-none [] q n = refl
 joined-none (f ∷ fs) q n = refl
 
-term-alone : (fs : List Frame) (q : Query) (t : Token) → NoJoin fs → have_term fs q t ≡ after_query fs q t
+pub term-alone : (fs : List Frame) (q : Query) (t : Token) → NoJoin fs → have_term fs q t ≡ after_query fs q t
 term-alone fs q t n = ap (λ (r : Joined). after_query r.0 r.1 t) (joined-none fs q n)
 
 -- a query ends before what may follow it

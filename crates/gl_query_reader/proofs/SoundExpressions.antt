@@ -1,7 +1,6 @@
 -- Items and expressions are read as the grammar has them.
-use Rattle.std.proofs.Common.{◌≡◌, ℕ, suc, ◌+◌, ◌<◌, ◌≤◌, Bool, true, false, cond, leb, ltb, List, [], ◌∷◌, ◌++◌, Option, Some, None, refl, sym, ap, subst, ◌∙◌, append_assoc, arith}
-use Rattle.std.specs.Prelude.{option_and_then}
-use Rattle.std.proofs.lemmas.Bool.{leb-true, leb-false, ltb-true}
+use Rattle.std.proofs.Common.{◌≡◌, ℕ, ◌<◌, ◌≤◌, Bool, true, false, cond, leb, ltb, List, [], ◌∷◌, ◌++◌, Option, Some, None, refl, sym, ap, subst, ◌∙◌, append_assoc, arith}
+use Rattle.std.proofs.lemmas.Bool.{leb-true, ltb-true}
 use Rattle.std.proofs.lemmas.List.{append-nil}
 use Rattle.gl_bits.specs.declared.kind.Kind.{Kind}
 use Rattle.gl_schema.specs.SchemaFaults.{kind_named}
@@ -13,13 +12,11 @@ use Rattle.gl_query_tokens.specs.declared.token.Fold.{Fold}
 use Rattle.gl_query_tokens.specs.declared.token.Plain.TheVariants as plain
 use Rattle.gl_query_tokens.specs.declared.token.Token.{Token}
 use Rattle.gl_query_tokens.specs.declared.token.Token.TheVariants as token
-use Rattle.gl_query_tokens.specs.Sorts.{is_plain}
-use Rattle.gl_query_reader.specs.declared.written.Window.{Window}
-use Rattle.gl_query_reader.specs.Written.{Expr, Column, Number, Letters, Brackets, Cast, Not, Binary, Agg, Count, Fold', Wsum, Item, Bare, Named, Total, Pick, All, Items, Query, Select, looseness, left_looseness, level, IsExpr, IsAgg, IsItem, AreItems, IsPick, IsSource, spell, spell_numbers, spell_agg, spell_item, spell_items, spell_pick, spell_query, spell_if_window}
-use Rattle.gl_query_reader.specs.Machine.{State, Control, Frame, SelectHead, SelectGroups, Unnamed, UnnamedExpr, UnnamedAgg, LeftOf, NotOf, BracketOf, InCast, InItem, InFold, InWsum, InFilter, JoinOf, InQuery, InSource, InBody, WantItem, WantOperand, HaveExpr, WantCastOpen, WantKind, WantCastClose, WantCountOpen, WantCountClose, WantFoldOpen, WantWsumOpen, WantWeightsOpen, WantWeight, HaveWeight, WantWsumClose, WantAs, WantItemName, HaveItem, WantFrom, WantSource, WantBy, Reduced, room, reduced, want_operand, have_item, after_expr, after_item, bare, under_name, goes}
-use Rattle.gl_query_reader.proofs.Steps.{state, and_then_some}
-use Rattle.gl_query_reader.proofs.ReadExpressions.{pair, left-le, level-lt}
-use Rattle.gl_query_reader.proofs.Said.{items_before, numbers_before, head_text, in_items, unnamed_text, frame_text, before, control_text, IsUnnamed, InExpr, InTerm, IsFrame, Fits, Holds, Read, by_some, by_if, by_plain, by_name, by_number, by_open, go_on, go_in}
+use Rattle.gl_query_reader.specs.Written.{Expr, Column, Cast, Not, Binary, Agg, Count, Wsum, Item, Bare, All, Items, Select, looseness, left_looseness, level, IsExpr, IsAgg, IsItem, AreItems, IsPick, spell, spell_numbers, spell_agg, spell_item, spell_items, spell_pick, spell_query, spell_if_window}
+use Rattle.gl_query_reader.specs.Machine.{State, Frame, SelectHead, Unnamed, UnnamedExpr, UnnamedAgg, LeftOf, NotOf, BracketOf, InCast, InItem, InFold, InWsum, InFilter, WantItem, WantOperand, HaveExpr, WantCastOpen, WantKind, WantCastClose, WantCountOpen, WantCountClose, WantFoldOpen, WantWsumOpen, WantWeightsOpen, WantWeight, HaveWeight, WantWsumClose, WantAs, WantItemName, HaveItem, WantFrom, WantSource, Reduced, room, reduced, want_operand, have_item, after_expr, after_item, bare, under_name, goes}
+use Rattle.gl_query_reader.proofs.Steps.{and_then_some}
+use Rattle.gl_query_reader.proofs.ReadExpressions.{pair}
+use Rattle.gl_query_reader.proofs.Said.{items_before, numbers_before, in_items, unnamed_text, before, control_text, IsUnnamed, InExpr, Fits, Read, by_some, by_if, by_plain, by_name, by_number, by_open, go_on, go_in}
 use Rattle.gl_query_reader.proofs.SoundTerms.{Keeps, keeps_term}
 
 -- ---- lists that grow

@@ -1,21 +1,16 @@
 -- What follows a term, and the parts of sources, windows and groups, are read as the grammar has them.
-use Rattle.std.proofs.Common.{◌≡◌, ℕ, ◌<◌, ◌≤◌, Bool, true, false, List, [], ◌∷◌, ◌++◌, Option, Some, None, refl, sym, ap, subst, ◌∙◌, append_assoc, arith}
+use Rattle.std.proofs.Common.{◌≡◌, ℕ, List, [], ◌∷◌, ◌++◌, Option, Some, None, refl, ap, subst, ◌∙◌, append_assoc}
 use Rattle.std.proofs.lemmas.List.{append-nil}
 use Rattle.gl_query.specs.declared.tree.Name.{Name}
 use Rattle.gl_query.specs.declared.tree.Num.{Num}
-use Rattle.gl_query_tokens.specs.declared.token.Join.{Join}
-use Rattle.gl_query_tokens.specs.declared.token.Plain.{Plain}
 use Rattle.gl_query_tokens.specs.declared.token.Plain.TheVariants as plain
 use Rattle.gl_query_tokens.specs.declared.token.Token.{Token}
 use Rattle.gl_query_tokens.specs.declared.token.Token.TheVariants as token
-use Rattle.gl_query_tokens.specs.Sorts.{is_plain}
 use Rattle.gl_query_reader.specs.declared.written.Window.{Window}
-use Rattle.gl_query_reader.specs.declared.written.Grouping.{Grouping}
-use Rattle.gl_query_reader.specs.Written.{Expr, Pick, Query, Stream, InBrackets, Select, Windows, Groups, Join', IsPick, IsFilter, IsQuery, IsSource, IsTerm, spell, spell_pick, spell_window, spell_if_window, spell_filter, spell_grouping, spell_if_grouping, spell_query}
-use Rattle.gl_query_reader.specs.Machine.{State, Control, Frame, Head, BodyHead, GroupsHead, SelectHead, EachHead, WindowsHead, GroupsHead', SelectGroups, EachGroups, InFilter, JoinOf, InQuery, InSource, InBody, LeftOf, NotOf, BracketOf, InCast, InItem, InFold, InWsum, WantTerm, WantItem, WantOperand, WantSource, HaveSource, HaveEachSource, WantSize, WantSizeNumber, WantAdvance, WantAdvanceNumber, WantTuples, WantWindowClose, WantBy, WantKey, WantGroups, WantGroupsNumber, WantVar, WantIn, WantBody, HaveTerm, WantName, HaveName, WantEnd, have_term, after_query, close_query, end_query, want_term, want_source, have_source, after_source, body_of, begin_window, end_source, goes, step_at}
-use Rattle.gl_query_reader.proofs.Steps.{state}
+use Rattle.gl_query_reader.specs.Written.{Expr, Pick, Query, Stream, InBrackets, Select, Windows, Groups, Join', IsQuery, IsTerm, spell_pick, spell_window, spell_if_window, spell_filter, spell_grouping, spell_query}
+use Rattle.gl_query_reader.specs.Machine.{State, Control, Frame, Head, BodyHead, GroupsHead, SelectHead, EachHead, WindowsHead, GroupsHead', SelectGroups, EachGroups, InFilter, JoinOf, InQuery, InSource, InBody, WantTerm, WantItem, WantOperand, WantSource, HaveSource, HaveEachSource, WantSize, WantSizeNumber, WantAdvance, WantAdvanceNumber, WantTuples, WantWindowClose, WantBy, WantKey, WantGroups, WantGroupsNumber, WantVar, WantIn, WantBody, HaveTerm, WantName, HaveName, WantEnd, have_term, after_query, close_query, end_query, begin_window, step_at}
 use Rattle.gl_query_reader.proofs.ReadQueries.{NoJoin}
-use Rattle.gl_query_reader.proofs.Said.{head_text, body_text, groups_text, in_source, frame_text, before, control_text, IsHead, IsBodyHead, IsGroupsHead, InExpr, InTerm, IsFrame, Fits, Holds, Read, by_some, by_if, by_plain, by_name, by_number, by_open, by_size, by_by, go_on, go_in}
+use Rattle.gl_query_reader.proofs.Said.{head_text, body_text, groups_text, before, control_text, InTerm, Fits, Holds, Read, by_some, by_if, by_plain, by_name, by_number, by_open, by_size, by_by, go_on, go_in}
 
 -- a control that keeps what was read, whatever token comes
 abbrev pub Keeps : Control → Type 0

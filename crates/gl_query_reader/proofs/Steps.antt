@@ -1,13 +1,12 @@
 -- One token after the other, whatever the limits.
-use Rattle.std.proofs.Common.{◌≡◌, ℕ, Bool, true, false, cond, List, [], ◌∷◌, ◌++◌, Option, Some, None, Result, Ok, Err, refl, sym, ap, subst, ◌∙◌}
+use Rattle.std.proofs.Common.{◌≡◌, ℕ, Bool, true, false, cond, List, [], ◌∷◌, ◌++◌, Option, Some, None, refl}
 use Rattle.std.specs.Prelude.{option_and_then}
 use Rattle.gl_query_tokens.specs.declared.token.Token.{Token}
 use Rattle.gl_query_tokens.specs.declared.token.Lexeme.{Lexeme}
 use Rattle.gl_query_reader.specs.declared.limits.Counts.{Counts}
-use Rattle.gl_query_reader.specs.Written.{Statement}
 use Rattle.gl_query_reader.specs.Machine.{State, Control, Frame, step, finish}
 use Rattle.gl_query_reader.specs.Limits.{after, is_past, keeps_limits}
-use Rattle.gl_query_reader.specs.Reading.{run, or_syntax, checked}
+use Rattle.gl_query_reader.specs.Reading.{run, or_syntax}
 use Rattle.gl_query_reader.specs.Grammar.{bare_tokens}
 
 -- the state behind tokens that can stand there

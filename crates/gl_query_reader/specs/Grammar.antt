@@ -1,5 +1,5 @@
 -- Which texts have a statement, and which statement that is.
-use Rattle.std.specs.Prelude.{◌≡◌, ℕ, Bool, true, false, List, [], ◌∷◌, ◌++◌, length, map, Option, Some, None, Result, Ok, Err}
+use Rattle.std.specs.Prelude.{◌≡◌, ℕ, true, List, [], ◌∷◌, ◌++◌, length, map, Some, None, Result, Ok, Err, ◌⊎◌}
 use Rattle.gl_query.specs.declared.tree.Statement as tree
 use Rattle.gl_query.specs.declared.fault.QueryFault.{QueryFault}
 use Rattle.gl_query.specs.declared.fault.QueryFault.TheVariants as fault
@@ -38,20 +38,25 @@ IsOrMemory (Ok s) m = statement_tree s ≡ m
 IsOrMemory (Err fault.Memory) m = Unit {0}
 IsOrMemory (Err e) m = ⊥
 
+-- what a function returned is this fault, unless memory ran out
+abbrev pub IsErrOrMemory : Result tree.Statement QueryFault → QueryFault → Type 0
+IsErrOrMemory r e = (r ≡ Err e) ⊎ (r ≡ Err fault.Memory)
+
 -- why reading stops: no statement goes on with the token at this place, or, at the text's length, what was read is none
 abbrev pub Stops : ℕ → ℕ → List Lexeme → List Lexeme → Type 0
 Stops len at read [] = (at ≡ len) × ((w : Statement) → Derives (bare_tokens read) w → ⊥)
 Stops len at read (l ∷ left) = (at ≡ l.at) × (CanBegin (bare_tokens (read ++ l ∷ [])) → ⊥)
 
--- the tokens before this place pass no limit, and with the one at it they begin no statement
+-- the tokens before this place pass no limit and begin a statement; with the one at it they begin none
 pub record IsSyntaxFault (text : List ℕ) (at : ℕ) : Type 0 where
   pub read : List Lexeme
   pub left : List Lexeme
   pub parts : tokens_of text ≡ read ++ left
   pub limits : keeps_limits none_counted (bare_tokens read) ≡ true
+  pub begins : CanBegin (bare_tokens read)
   pub stops : Stops (length text) at read left
 
--- the tokens before this place pass no limit, and the one at it does
+-- the tokens before this place pass no limit, the one at it does, and up to it they begin a statement
 pub record IsDepthFault (text : List ℕ) (at : ℕ) : Type 0 where
   pub read : List Lexeme
   pub deep : Lexeme
@@ -60,6 +65,7 @@ pub record IsDepthFault (text : List ℕ) (at : ℕ) : Type 0 where
   pub place : at ≡ deep.at
   pub limits : keeps_limits none_counted (bare_tokens read) ≡ true
   pub past : is_past (counted none_counted (bare_tokens (read ++ deep ∷ []))) ≡ true
+  pub begins : CanBegin (bare_tokens (read ++ deep ∷ []))
 
 -- the text would have a statement, but items of a select do not go together
 pub record IsItemsFault (text : List ℕ) (at : ℕ) : Type 0 where

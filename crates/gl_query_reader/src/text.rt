@@ -1,6 +1,6 @@
 //! From the text of a query to its statement.
 
-ghost use Rattle.std.specs.Prelude.{◌≡◌, length, Err, IfOk, IfErr};
+ghost use Rattle.std.specs.Prelude.{◌≡◌, ℕ, length, Err, IfOk, IfErr};
 ghost use Rattle.gl_query_tokens.specs.Tokens.{tokens_of};
 ghost use Rattle.gl_query_reader.specs.Machine.{start};
 ghost use Rattle.gl_query_reader.specs.Limits.{none_counted};
@@ -8,7 +8,8 @@ ghost use Rattle.gl_query_reader.specs.Reading.{run, Gives, answered, with_items
 ghost use Rattle.gl_query_reader.specs.Trees.{statement_of};
 ghost use Rattle.gl_query_reader.specs.Mixed.{mixed_in};
 ghost use Rattle.gl_query_reader.specs.Meaning.{Statement', statement_tree};
-ghost use Rattle.gl_query_reader.specs.Grammar.{HasStatement, IsOrMemory, IsFault};
+ghost use Rattle.gl_query.specs.declared.fault.QueryFault.TheVariants.{Syntax, TooDeep, MixedItems};
+ghost use Rattle.gl_query_reader.specs.Grammar.{HasStatement, IsOrMemory, IsErrOrMemory, IsFault, IsSyntaxFault, IsDepthFault, IsItemsFault};
 
 use crate::meaning::statement_meaning;
 use crate::mixed::mixed_in;
@@ -66,13 +67,17 @@ fn answer(alloc: Global, text: &[u8]) -> Result<Statement, QueryFault>
 /// The statement of a text: the one that its tokens derive by the grammar, where no limit is passed
 /// and the items of each select go together.
 ///
-/// `TooDeep` is at the first token that passes a limit, `MixedItems` at the first item that shows that
-/// items do not go together, `Syntax` at a token such that no statement begins with the tokens up to
-/// it, or at the text's length where the whole text is no statement. No other fault is answered.
+/// `TooDeep` is at the first token that passes a limit, where the tokens up to it begin a statement;
+/// `MixedItems` at the first item that shows that items do not go together; `Syntax` at the first token
+/// such that no statement begins with the tokens up to it, or at the text's length where the whole
+/// text is no statement but begins one. No other fault is answered.
 pub fn read_query(alloc: Global, text: &[u8]) -> Result<Statement, QueryFault>
     ensures found { IfOk result (λ s. HasStatement text.now (statement_tree s)) }
     ensures only { (s : Statement') → HasStatement text.now s → IsOrMemory result s }
     ensures fault { IfErr result (λ e. IsFault text.now e) }
+    ensures syntax { (at : ℕ) → IsSyntaxFault text.now at → IsErrOrMemory result (Syntax at) }
+    ensures too_deep { (at : ℕ) → IsDepthFault text.now at → IsErrOrMemory result (TooDeep at) }
+    ensures mixed_items { (at : ℕ) → IsItemsFault text.now at → IsErrOrMemory result (MixedItems at) }
 {
     answer(alloc, text)
 }
