@@ -1,5 +1,5 @@
 -- The result of a form, from the results of its parts.
-use Rattle.std.proofs.Common.{◌≡◌, ℕ, List, ◌∷◌, ◌++◌, Bool, false, map, refl, sym, ap, subst, ◌∙◌}
+use Rattle.std.proofs.Common.{◌≡◌, ℕ, List, ◌++◌, Bool, false, sym, ap, subst, ◌∙◌}
 use Rattle.std.specs.Prelude.{◌||◌, slice_index}
 use Rattle.gl_bits.specs.Lists.{Group, IsInterleaving, groups, has_further, slices}
 use Rattle.gl_bits.specs.Tables.{keyed_groups}
@@ -8,7 +8,7 @@ use Rattle.gl_schema.specs.declared.schema.Column.{Column}
 use Rattle.gl_query.specs.Shapes.{QueryShape}
 use Rattle.gl_query.specs.Shapes as shape
 use Rattle.gl_query.specs.Values.{column_number}
-use Rattle.gl_query.specs.Results.{Env, Row, AreBeside, AreJoined, IsResultIn, WithKey, columns_in, only}
+use Rattle.gl_query.specs.Results.{Env, Row, AreBeside, IsResultIn, WithKey, columns_in, only}
 use Rattle.gl_reference.specs.Joins.{AreOverGroups, AreOverSlices}
 use Rattle.gl_reference.proofs.Joining.{first_then_second, joined_map}
 

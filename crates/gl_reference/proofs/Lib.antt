@@ -5,3 +5,4 @@ pub mod Joining
 pub mod Sizes
 pub mod Forms
 pub mod Inputs
+pub mod Accepting

@@ -1,5 +1,5 @@
 -- Rows side by side, one more of each.
-use Rattle.std.proofs.Common.{◌≡◌, ℕ, zero, suc, ◌+◌, ◌<◌, List, [], ◌∷◌, ◌++◌, length, take, get_or, refl, sym, ap, ◌∙◌, arith}
+use Rattle.std.proofs.Common.{◌≡◌, ℕ, zero, suc, ◌+◌, ◌<◌, List, [], ◌∷◌, ◌++◌, length, take, get_or, sym, ap, ◌∙◌, arith}
 use Rattle.gl_query.specs.Results.{beside}
 
 pub beside_more : (ls rs : List (List ℕ)) (i : ℕ) (l r : List ℕ) → i < length ls → i < length rs → l ≡ get_or ls i l → r ≡ get_or rs i r

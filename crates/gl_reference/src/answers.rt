@@ -1,6 +1,6 @@
 //! Results, and the steps that make one of others.
 
-ghost use Rattle.std.specs.Prelude.{◌≡◌, ◌≤◌, ◌||◌, ◌++◌, ◌∷◌, IfOk, map, option_map};
+ghost use Rattle.std.specs.Prelude.{◌≡◌, ◌||◌, ◌++◌, IfOk, map, option_map};
 ghost use Rattle.gl_bits.specs.Lists.{slices};
 ghost use Rattle.gl_query.specs.Shapes.{agg_item_shape, expr_shape, pick_shape, query_shape};
 ghost use Rattle.gl_query.specs.Shapes as shape;

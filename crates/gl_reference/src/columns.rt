@@ -1,6 +1,6 @@
 //! Sources by name, and the columns of queries.
 
-ghost use Rattle.std.specs.Prelude.{◌≡◌, ◌++◌, ◌∷◌, IfOk, bytes_eq, find, map, option_map};
+ghost use Rattle.std.specs.Prelude.{◌≡◌, IfOk, bytes_eq, find, map, option_map};
 ghost use Rattle.gl_query.specs.Shapes.{agg_item_shape, agg_shape, item_shape, query_shape};
 ghost use Rattle.gl_query.specs.Columns.{agg_column, agg_kind, columns_of, item_column, source_columns};
 ghost use Rattle.gl_query.specs.Results.{streams_of};

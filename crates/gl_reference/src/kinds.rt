@@ -1,7 +1,7 @@
 //! Kinds of expressions.
 
-ghost use Rattle.std.specs.Prelude.{◌≡◌, ◌↔◌, ◌≤◌, ◌^◌, IfSome, IsTrue, length};
-ghost use Rattle.gl_bits.specs.Kinds.{IsKind, width_of};
+ghost use Rattle.std.specs.Prelude.{◌≡◌, ◌↔◌, ◌≤◌, IsTrue, length};
+ghost use Rattle.gl_bits.specs.Kinds.{IsKind};
 ghost use Rattle.gl_query.specs.Shapes.{expr_shape};
 ghost use Rattle.gl_query.specs.Values.{begins_with_text, column_kind, column_number, is_loose, kind_alone, kind_of, operand_place};
 

@@ -8,6 +8,7 @@ pub mod kinds;
 pub mod results;
 pub mod rows;
 pub mod values;
+pub mod worked;
 
 pub use answers::Answer;
 pub use columns::Source;

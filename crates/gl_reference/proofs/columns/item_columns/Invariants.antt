@@ -1,6 +1,6 @@
 use Rattle.std.proofs.Common.{◌≡◌, take, map}
-use Rattle.gl_query.specs.Shapes.{agg_item_shape, item_shape}
-use Rattle.gl_query.specs.Columns.{agg_column, item_column}
+use Rattle.gl_query.specs.Shapes.{item_shape}
+use Rattle.gl_query.specs.Columns.{item_column}
 use Rattle.gl_reference.proofs.columns.item_columns.Given as goal
 
 abbrev pub invariant-loop-item : goal.invariant-loop-item

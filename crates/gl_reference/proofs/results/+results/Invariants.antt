@@ -1,4 +1,4 @@
-use Rattle.std.proofs.Common.{◌≡◌, ℕ, ◌+◌, ◌*◌, take, map}
+use Rattle.std.proofs.Common.{◌+◌, ◌*◌, take, map}
 use Rattle.gl_query.specs.Shapes.{query_shape}
 use Rattle.gl_reference.specs.Joins.{AreOverGroups, AreOverSlices}
 use Rattle.gl_reference.proofs.Sizes.{size_of}

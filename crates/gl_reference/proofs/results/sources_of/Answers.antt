@@ -1,6 +1,6 @@
 use Rattle.std.proofs.Common.{◌≡◌, ℕ, ◌+◌, ◌<◌, List, [], ◌∷◌, ◌++◌, length, take, sym, ap, ◌∙◌, arith}
 use Rattle.gl_schema.specs.declared.schema.Column.{Column}
-use Rattle.gl_query.specs.Results.{Row, Source, numbered}
+use Rattle.gl_query.specs.Results.{Source, numbered}
 use Rattle.gl_reference.specs.declared.columns.Source.{Source as Given}
 use Rattle.gl_reference.specs.Sources.{env_view, source_of}
 use Rattle.gl_reference.proofs.Inputs.{env_push, input_in, input_is, numbered_more}
