@@ -1,8 +1,7 @@
 -- The module of a netlist keeps widths: every assignment and every block.
-use Rattle.std.proofs.Common.{◌≡◌, ℕ, zero, suc, ◌+◌, ◌-◌, ◌<◌, ◌≤◌, ◌^◌, Bool, true, false, List, [], ◌∷◌, ◌++◌, length, map, Option, Some, None, IfSome, IsSomeAnd, IsTrue, refl, sym, ap, subst, ◌∙◌, arith, inl, inr, ◌⊎◌}
-use Rattle.std.specs.Prelude.{slice_get, codes, option_map, nat_eq, unwrap_or}
+use Rattle.std.proofs.Common.{◌≡◌, ℕ, suc, ◌+◌, ◌<◌, ◌≤◌, true, List, [], ◌∷◌, ◌++◌, length, Option, Some, None, IfSome, IsSomeAnd, IsTrue, refl, sym, ap, subst, ◌∙◌, arith, inl, inr}
+use Rattle.std.specs.Prelude.{slice_get, option_map}
 use Rattle.std.specs.List.{AllByRecursion}
-use Rattle.gl_bits.specs.Words.{IsWidth}
 use Rattle.gl_net.specs.declared.node.BinaryOp.{BinaryOp}
 use Rattle.gl_net.specs.declared.node.BinaryOp.TheVariants.{Add, Sub, Mul, And, Xor, Or, Eq, Ne, Lt, Le}
 use Rattle.gl_net.specs.declared.node.Node.{Node}
@@ -10,20 +9,20 @@ use Rattle.gl_net.specs.declared.node.Node.TheVariants.{Input, Constant, Not, Bi
 use Rattle.gl_net.specs.declared.node.Port.{Port}
 use Rattle.gl_net.specs.declared.node.Direction.{Direction}
 use Rattle.gl_net.specs.declared.node.Direction.TheVariants.{In, Out}
-use Rattle.gl_net.specs.Net.{Net, Shape, Value, shape_of, shape_in, binary_width}
+use Rattle.gl_net.specs.Net.{Net, Value, shape_of, shape_in, binary_width}
 use Rattle.gl_net.specs.WellFormed.{NodeFits, EndFits, end_at}
 use Rattle.gl_net.specs.Finished.{HasReset, has_reset_value, needs_reset}
 use Rattle.gl_verilog.specs.Module as verilog
 use Rattle.gl_verilog.specs.Module.{Module, Declaration, Kind, Expr, Statement, Assignment, number_of}
 use Rattle.gl_verilog.specs.Run.{IsRegister}
 use Rattle.gl_verilog.specs.Widths.{IsNet, IsDriven, IsMemory, IsReadable, HasSize, width_at, width_after, width_of, KeepsWidths, KeepsWidth, KeepsWidthsIn}
-use Rattle.gl_verilog_writer.specs.Meaning.{declaration_of, clock, bits_of, kind_of}
+use Rattle.gl_verilog_writer.specs.Meaning.{bits_of, kind_of}
 use Rattle.gl_verilog_writer.specs.Design.{node_width, numbered}
-use Rattle.gl_verilog_writer.proofs.Model.{Named, at_node, net_of, op_of, kind_for, declaration_for, expression_of, assigned_to, assignment_for, shown_by, output_for, block_for, declarations_in, line_in}
+use Rattle.gl_verilog_writer.proofs.Model.{Named, at_node, net_of, op_of, kind_for, assigned_to, assignment_for, shown_by, output_for, block_for, declarations_in, line_in}
 use Rattle.gl_verilog_writer.proofs.Digits.{all-append}
-use Rattle.gl_verilog_writer.proofs.Lists.{same_some, some_none, numbered-all}
-use Rattle.gl_verilog_writer.proofs.Named.{node_there, port_there, port_found, port_no_clock, net_no_clock, sorted, AsPort, AsNode}
-use Rattle.gl_verilog_writer.proofs.Fitted.{width-fits, port_end, IsCarried, IsStored, bus, bit, shown, stored, carried-width, carried-keeps, node-width}
+use Rattle.gl_verilog_writer.proofs.Lists.{same_some, numbered-all}
+use Rattle.gl_verilog_writer.proofs.Named.{node_there, port_there, port_found, port_no_clock, net_no_clock, sorted}
+use Rattle.gl_verilog_writer.proofs.Fitted.{width-fits, port_end, bus, bit, shown, stored, carried-width, carried-keeps, node-width}
 use Rattle.gl_verilog_writer.proofs.Resolved.{port-width, line-found, some-any}
 
 pub all-get : {A : Type 0} (P : A → Type 0) (xs : List A) → ((k : ℕ) (x : A) → slice_get xs k ≡ Some x → P x) → AllByRecursion P xs

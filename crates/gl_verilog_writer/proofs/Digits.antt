@@ -1,15 +1,15 @@
 -- Names and numbers as tokens.
-use Rattle.std.proofs.Common.{◌≡◌, ℕ, zero, suc, ◌+◌, ◌*◌, ◌-◌, ◌<◌, ◌≤◌, ◌^◌, Bool, true, false, ◌||◌, ◌&&◌, List, [], ◌∷◌, ◌++◌, length, Option, Some, None, refl, sym, ap, subst, ◌∙◌, append_assoc, append-nil, length-append, arith, inl, inr, ◌⊎◌, le-leb, lt-ltb, ne_eqb, leb-true}
-use Rattle.std.specs.Prelude.{codes, decimal, nat_eq, nat_le, nat_lt, if◌then◌else◌, bytes_eq}
+use Rattle.std.proofs.Common.{◌≡◌, ℕ, ◌-◌, ◌<◌, ◌≤◌, ◌^◌, Bool, true, false, ◌||◌, ◌&&◌, List, [], ◌∷◌, ◌++◌, length, Option, None, refl, sym, ap, ◌∙◌, append_assoc, append-nil, length-append, arith, inl, inr, ◌⊎◌, le-leb, lt-ltb, ne_eqb, leb-true}
+use Rattle.std.specs.Prelude.{codes, decimal, nat_eq, nat_le, nat_lt, bytes_eq}
 use Rattle.std.specs.List.{AllByRecursion, list_all, list_any}
 use Rattle.std.specs.Int.{IsInRange}
-use Rattle.std.specs.Str.Parse.{IsNumeral, AllDigits, digits_value}
+use Rattle.std.specs.Str.Parse.{IsNumeral, AllDigits}
 use Rattle.std.proofs.lemmas.Bool.{lt-leb}
 use Rattle.std.proofs.lemmas.Str.Parse.{tells_digits, numerals_by_fold, FoldsDigits, IsNumeralModel}
 use Rattle.std.proofs.lemmas.Fmt.{decimal_is_IsNumeral_wide, length-decimal-le}
 use Rattle.gl_net.specs.Finished as net
 use Rattle.gl_net.specs.Finished.{IsName, keywords}
-use Rattle.gl_verilog.specs.Tokens.{Token, Reserved, Name, Number, Sized, Never, Keyword, Class, Letter, Digit, Mode, Between, InWord, InNumber, AtQuote, AtBase, InDigits, Move, to, after, move, scan, fresh, fresh_by, in_word, in_number, in_digits, at_base, class_of, is_letter, is_digit, is_digit_of, goes_on, digit_of, with_digit, number_from, number_in, number_token, sized_token, reserved, word_by, word_token, Reads, ClosesWord, ClosesNumber, ClosesDigits}
+use Rattle.gl_verilog.specs.Tokens.{Token, Name, Number, Sized, Keyword, Class, Letter, Digit, Between, InWord, InNumber, AtBase, InDigits, Move, to, after, scan, fresh, fresh_by, in_word, in_number, in_digits, at_base, class_of, is_letter, is_digit_of, goes_on, number_from, number_in, number_token, sized_token, reserved, word_by, word_token, Reads, ClosesWord, ClosesNumber, ClosesDigits}
 use Rattle.gl_verilog.proofs.Pieces.{scan-append}
 use Rattle.gl_verilog_writer.specs.Pieces.{family_text, net_name}
 

@@ -1,5 +1,5 @@
 -- Each net of a netlist's module has one driver, and none depends on itself.
-use Rattle.std.proofs.Common.{◌≡◌, ℕ, zero, suc, ◌+◌, ◌-◌, ◌<◌, ◌≤◌, Bool, true, false, ◌&&◌, ◌||◌, List, [], ◌∷◌, ◌++◌, length, map, Option, Some, None, IfSome, is_some, refl, sym, ap, subst, ◌∙◌, arith, inl, inr, ◌⊎◌, eq-eqb, eqb-true, ne_eqb}
+use Rattle.std.proofs.Common.{◌≡◌, ℕ, zero, suc, ◌+◌, ◌<◌, ◌≤◌, Bool, true, false, ◌&&◌, ◌||◌, List, [], ◌∷◌, ◌++◌, length, Option, Some, None, IfSome, is_some, refl, sym, ap, subst, ◌∙◌, arith, inl, inr, ◌⊎◌, eq-eqb, eqb-true, ne_eqb}
 use Rattle.std.specs.Prelude.{slice_get, option_map, option_and_then, nat_eq, if◌then◌else◌}
 use Rattle.std.specs.List.{AllByRecursion}
 use Rattle.std.proofs.lemmas.Option.{slice_get_within, slice_get_past}
@@ -10,17 +10,16 @@ use Rattle.gl_net.specs.declared.node.MemoryDrive.{MemoryDrive}
 use Rattle.gl_net.specs.declared.node.Port.{Port}
 use Rattle.gl_net.specs.declared.node.Direction.{Direction}
 use Rattle.gl_net.specs.declared.node.Direction.TheVariants.{In, Out}
-use Rattle.gl_net.specs.Net.{Net, Shape, Value, Words, open_in, open_shape}
+use Rattle.gl_net.specs.Net.{Net, Value, Words, open_in, open_shape}
 use Rattle.gl_net.specs.WellFormed.{NodeFits, EndFits, end_at}
-use Rattle.gl_verilog.specs.Module as verilog
-use Rattle.gl_verilog.specs.Module.{Module, Declaration, Kind, Expr, Statement, Assignment}
-use Rattle.gl_verilog.specs.Valid.{drivers_of, assigns, AssignsOnce, blocks_of, writes_in, writes_of, HasDriver, mentions, depends, IsChain, HasNoCycle, HasNoLoop, IsValid}
-use Rattle.gl_verilog_writer.specs.Meaning.{declaration_of, clock, kind_of}
+use Rattle.gl_verilog.specs.Module.{Declaration, Expr, Statement, Assignment}
+use Rattle.gl_verilog.specs.Valid.{drivers_of, assigns, AssignsOnce, blocks_of, writes_in, writes_of, HasDriver, mentions, depends, IsChain, HasNoLoop, IsValid}
+use Rattle.gl_verilog_writer.specs.Meaning.{kind_of}
 use Rattle.gl_verilog_writer.specs.Design.{numbered}
-use Rattle.gl_verilog_writer.proofs.Model.{Named, at_node, net_of, kind_for, declaration_for, expression_of, assigned_to, assignment_for, shown_by, output_for, block_for, declarations_in, line_in, module_in}
+use Rattle.gl_verilog_writer.proofs.Model.{Named, at_node, kind_for, expression_of, assigned_to, assignment_for, shown_by, output_for, block_for, declarations_in, line_in, module_in}
 use Rattle.gl_verilog_writer.proofs.Digits.{all-append}
-use Rattle.gl_verilog_writer.proofs.Lists.{same_some, some_none, split, numbered-all, total, count, total-append, total-none, total-one}
-use Rattle.gl_verilog_writer.proofs.Named.{sorted, AsPort, AsNode, distinct, apart}
+use Rattle.gl_verilog_writer.proofs.Lists.{some_none, numbered-all, total, count, total-append, total-none, total-one}
+use Rattle.gl_verilog_writer.proofs.Named.{sorted, distinct, apart}
 use Rattle.gl_verilog_writer.proofs.Fitted.{port_end, shown}
 use Rattle.gl_verilog_writer.proofs.Checked.{sizes-fit, assignments-keep, blocks-keep}
 

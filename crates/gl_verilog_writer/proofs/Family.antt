@@ -1,7 +1,7 @@
 -- The family of a netlist's nets is free: each port rules out one family at most.
-use Rattle.std.proofs.Common.{◌≡◌, ℕ, zero, suc, ◌+◌, ◌<◌, ◌≤◌, ◌^◌, Bool, true, false, ◌||◌, ◌==◌, List, [], ◌∷◌, ◌++◌, length, take, drop, get_or, refl, sym, ap, subst, ◌∙◌, arith, inl, inr, ◌⊎◌, append_assoc, take-append-drop}
-use Rattle.std.specs.Prelude.{codes, decimal, if◌then◌else◌, bytes_eq}
-use Rattle.std.specs.List.{list_any, starts_with}
+use Rattle.std.proofs.Common.{◌≡◌, ℕ, zero, suc, ◌+◌, ◌<◌, ◌≤◌, ◌^◌, Bool, true, false, ◌||◌, ◌==◌, List, [], ◌∷◌, ◌++◌, length, take, drop, get_or, refl, sym, ap, ◌∙◌, arith, inl, inr, ◌⊎◌, append_assoc, take-append-drop}
+use Rattle.std.specs.Prelude.{codes, decimal, if◌then◌else◌}
+use Rattle.std.specs.List.{starts_with}
 use Rattle.std.specs.Str.Parse.{AllDigits}
 use Rattle.std.proofs.lemmas.Str.Parse.{tells_digits}
 use Rattle.std.proofs.lemmas.Fmt.{decimal_injective}
@@ -10,7 +10,7 @@ use Rattle.gl_verilog_writer.specs.Pieces.{family_text}
 use Rattle.gl_verilog_writer.specs.Design.{begins_port, family_from, family_of}
 use Rattle.gl_verilog_writer.proofs.Digits.{numeral-decimal}
 use Rattle.gl_verilog_writer.proofs.Lists.{split}
-use Rattle.gl_verilog_writer.proofs.Named.{bytes_same, true_false}
+use Rattle.gl_verilog_writer.proofs.Named.{bytes_same}
 
 -- ---- a name begins so in one way at most
 

@@ -1,6 +1,6 @@
 -- The written module of a netlist means its module: names become numbers.
 use Rattle.std.proofs.Common.{◌≡◌, ℕ, zero, suc, ◌+◌, ◌-◌, ◌<◌, ◌≤◌, ◌^◌, Bool, true, false, ◌||◌, List, [], ◌∷◌, ◌++◌, length, map, Option, Some, None, refl, sym, ap, subst, ◌∙◌, arith, append_assoc, append-nil, inl, inr, ◌⊎◌, eq-eqb, eqb-true, ne_eqb, le-leb, pow_mono, is_some}
-use Rattle.std.specs.Prelude.{slice_get, codes, decimal, option_map, option_and_then, unwrap_or, nat_eq, nat_le, ◌==◌, not, if◌then◌else◌, bytes_eq}
+use Rattle.std.specs.Prelude.{slice_get, codes, decimal, option_map, option_and_then, unwrap_or, nat_eq, nat_le, ◌==◌, not, if◌then◌else◌}
 use Rattle.std.specs.List.{list_any}
 use Rattle.std.specs.Option.{option_map_or}
 use Rattle.std.proofs.lemmas.Nat.{pow_below, pow_pos}
@@ -13,7 +13,7 @@ use Rattle.gl_net.specs.declared.node.Node.TheVariants.{Input, Constant, Not, Bi
 use Rattle.gl_net.specs.declared.node.Port.{Port}
 use Rattle.gl_net.specs.declared.node.Direction.{Direction}
 use Rattle.gl_net.specs.declared.node.Direction.TheVariants.{In, Out}
-use Rattle.gl_net.specs.Net.{Net, Value, shape_of, shape_in, IsAddressWidth}
+use Rattle.gl_net.specs.Net.{Net, shape_of, shape_in, IsAddressWidth}
 use Rattle.gl_net.specs.WellFormed.{NodeFits, EndFits, end_at}
 use Rattle.gl_net.specs.Finished.{has_reset_value, needs_reset}
 use Rattle.gl_verilog.specs.Tokens.{number_in}
@@ -21,13 +21,13 @@ use Rattle.gl_verilog.specs.Written as written
 use Rattle.gl_verilog.specs.Written.{InfixOp, BitNot, WrittenExpr, WrittenStatement, WrittenItem, Wires, Registers, MemoryOf, Assign, Always, WrittenPort, WrittenModule}
 use Rattle.gl_verilog.specs.Module as verilog
 use Rattle.gl_verilog.specs.Module.{Module, Declaration, Expr, Statement, Assignment, number_of}
-use Rattle.gl_verilog.specs.Widths.{width_at, width_of}
-use Rattle.gl_verilog.specs.Resolve.{number_read, both, three, prefixed, infixed, joined, decimal_number, resolve_expr, resolve_statement, declare, port_kind, declare_port, address_bits_to, address_bits_of, Resolved, with_assignment, with_block, clocked, resolve_items, module_from, resolve}
+use Rattle.gl_verilog.specs.Widths.{width_of}
+use Rattle.gl_verilog.specs.Resolve.{number_read, both, three, prefixed, infixed, decimal_number, resolve_expr, resolve_statement, declare, port_kind, declare_port, address_bits_to, address_bits_of, Resolved, clocked, resolve_items, module_from, resolve}
 use Rattle.gl_verilog_writer.specs.Meaning.{declaration_of, clock, bits_of, kind_of}
 use Rattle.gl_verilog_writer.specs.Pieces.{net_name}
-use Rattle.gl_verilog_writer.specs.Design.{port_name, node_width, infix_of, named, literal, vector, last_word, declares, takes, does, with_option, numbered, declaring, assigning, shows, showing, clocking, leads, range_of, written_port, clock_port, items_of}
+use Rattle.gl_verilog_writer.specs.Design.{port_name, infix_of, named, literal, vector, last_word, declares, takes, does, with_option, numbered, declaring, assigning, shows, showing, clocking, leads, written_port, clock_port, items_of}
 use Rattle.gl_verilog_writer.proofs.Digits.{number_in-decimal}
-use Rattle.gl_verilog_writer.proofs.Model.{Named, at_node, net_of, op_of, kind_for, declaration_for, expression_of, assigned_to, assignment_for, shown_by, output_for, block_for, counted, declarations_in, line_in, module_in}
+use Rattle.gl_verilog_writer.proofs.Model.{Named, at_node, net_of, op_of, declaration_for, expression_of, assigned_to, assignment_for, shown_by, output_for, block_for, counted, declarations_in, line_in, module_in}
 use Rattle.gl_verilog_writer.proofs.Lists.{same_some, some_none, with-append}
 use Rattle.gl_verilog_writer.proofs.Named.{node_found, port_found, port_no_clock}
 use Rattle.gl_verilog_writer.proofs.Fitted.{width-fits, port_end, IsCarried, bus, bit, shown, stored, node-read, carried-width, word-small}

@@ -1,7 +1,6 @@
 -- Each run of a netlist's module is one of the netlist.
-use Rattle.std.proofs.Common.{◌≡◌, ℕ, zero, suc, ◌+◌, ◌-◌, ◌<◌, ◌≤◌, ◌^◌, Bool, true, false, ◌&&◌, List, [], ◌∷◌, ◌++◌, length, take, map, Option, Some, None, IfSome, refl, sym, ap, subst, ◌∙◌, arith, add-one, inl, inr, ◌⊎◌, eq-eqb, ne_eqb}
+use Rattle.std.proofs.Common.{◌≡◌, ℕ, zero, suc, ◌+◌, ◌<◌, ◌^◌, Bool, true, false, ◌&&◌, List, [], ◌∷◌, ◌++◌, length, take, map, Option, Some, None, refl, sym, ap, ◌∙◌, arith, add-one, eq-eqb, ne_eqb}
 use Rattle.std.specs.Prelude.{slice_get, codes, option_map, option_and_then, unwrap_or, nat_eq, if◌then◌else◌, find, bytes_eq}
-use Rattle.std.specs.List.{AllByRecursion}
 use Rattle.std.proofs.lemmas.List.{length-map}
 use Rattle.gl_net.specs.declared.node.BinaryOp.{BinaryOp}
 use Rattle.gl_net.specs.declared.node.BinaryOp.TheVariants.{Add, Sub, Mul, And, Xor, Or, Eq, Ne, Lt, Le}
@@ -12,17 +11,16 @@ use Rattle.gl_net.specs.declared.node.Direction.{Direction}
 use Rattle.gl_net.specs.declared.node.Direction.TheVariants.{In, Out}
 use Rattle.gl_net.specs.Net as circuit
 use Rattle.gl_net.specs.Net.{Net, Run, Shape, Value, Words, shape_of, Holds, Fits, IsPort, IsTrace, reset_name, stored_of, open_in, open_shape}
-use Rattle.gl_net.specs.WellFormed.{NodeFits, EndFits}
+use Rattle.gl_net.specs.WellFormed.{EndFits}
 use Rattle.gl_net.specs.PortValues.{port_values}
 use Rattle.gl_verilog.specs.Module as verilog
 use Rattle.gl_verilog.specs.Module.{Module, Declaration, Kind, Expr, Statement, Assignment, Nets, Memories, value_of, later_or, taken, assigned, written, assigned_by, written_by, number_of}
-use Rattle.gl_verilog.specs.Run.{IsRegister, IsSettled, Fit, IsRun, port_of}
+use Rattle.gl_verilog.specs.Run.{IsRegister, IsSettled, IsRun, port_of}
 use Rattle.gl_verilog_writer.specs.Meaning.{declaration_of, clock, bits_of, IsRunOf}
 use Rattle.gl_verilog_writer.specs.Design.{with_option, numbered}
 use Rattle.gl_verilog_writer.proofs.Model.{Named, at_node, net_of, op_of, kind_for, declaration_for, expression_of, assigned_to, assignment_for, shown_by, output_for, block_for, counted, declarations_in, line_in, module_in}
 use Rattle.gl_verilog_writer.proofs.Lists.{same_some, some_none, numbered-each, all-left, all-right}
-use Rattle.gl_verilog_writer.proofs.Named.{node_there, port_found, bytes_same, bytes_other, true_false}
-use Rattle.gl_verilog_writer.proofs.Checked.{reset-line}
+use Rattle.gl_verilog_writer.proofs.Named.{node_there, port_found, bytes_other, true_false}
 
 -- ---- the later of what blocks give
 

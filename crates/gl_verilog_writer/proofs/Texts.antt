@@ -1,10 +1,10 @@
 -- A printed module has the tokens of the written one.
-use Rattle.std.proofs.Common.{◌≡◌, ℕ, ◌<◌, ◌^◌, List, [], ◌∷◌, ◌++◌, Option, Some, None, refl, sym, ap, subst, ◌∙◌, append_assoc, append-nil}
+use Rattle.std.proofs.Common.{◌≡◌, ℕ, List, [], ◌∷◌, ◌++◌, Some, None, refl, sym, ap, subst, ◌∙◌, append_assoc}
 use Rattle.std.specs.Prelude.{codes}
 use Rattle.std.specs.List.{AllByRecursion}
 use Rattle.std.specs.Str.Parse.{IsNumeral}
-use Rattle.gl_verilog.specs.Tokens.{Token, Reserved, Name, Number, Sized, Mark, ModuleWord, EndModuleWord, WireWord, RegWord, InputWord, OutputWord, AssignWord, AlwaysWord, PosedgeWord, BeginWord, EndWord, IfWord, ElseWord, OpenParen, CloseParen, OpenBracket, CloseBracket, OpenBrace, CloseBrace, Semicolon, Comma, Colon, Question, At, Equals, Tilde, LessEquals, Mode, Between, InWord, InNumber, InDigits, Move, to, scan, tokens_of, number_token, word_token, sized_token, Reads, ClosesWord, ClosesNumber, ClosesDigits}
-use Rattle.gl_verilog.specs.Written.{PrefixOp, BitNot, LogicalNot, InfixOp, Times, Added, Subtracted, Below, AtMost, Above, AtLeast, Equal, NotEqual, BitAnd, BitXor, BitOr, LogicalAnd, LogicalOr, WrittenExpr, Named, Constant, BitOf, PartOf, WordOf, Braces, Parts, Parens, Prefix, Infix, Conditional, WrittenStatement, Update, UpdateWord, IfThen, IfElse, Block, Listed, Ended, Direction, In, InWire, Out, OutWire, OutReg, Range, WrittenPort, WrittenItem, Wires, Registers, MemoryOf, Assign, Always, WrittenModule, infix_token, zero_digit, spell_expr, spell_statement, spell_direction, spell_range, spell_port, spell_more_ports, spell_ports, spell_more_names, spell_names, spell_item, spell_items, spell}
+use Rattle.gl_verilog.specs.Tokens.{Token, Reserved, Name, Number, Sized, Mark, ModuleWord, EndModuleWord, WireWord, RegWord, AssignWord, AlwaysWord, PosedgeWord, BeginWord, EndWord, IfWord, ElseWord, OpenParen, CloseParen, OpenBracket, CloseBracket, OpenBrace, CloseBrace, Semicolon, Comma, Colon, Question, At, Equals, Tilde, LessEquals, Between, InWord, InNumber, InDigits, to, scan, tokens_of, number_token, word_token, sized_token, Reads, ClosesWord, ClosesNumber, ClosesDigits}
+use Rattle.gl_verilog.specs.Written.{BitNot, LogicalNot, InfixOp, Times, Added, Subtracted, Below, AtMost, Above, AtLeast, Equal, NotEqual, BitAnd, BitXor, BitOr, LogicalAnd, LogicalOr, WrittenExpr, Named, Constant, BitOf, PartOf, WordOf, Braces, Parts, Parens, Prefix, Infix, Conditional, WrittenStatement, Update, UpdateWord, IfThen, IfElse, Block, Listed, Ended, Direction, In, InWire, Out, OutWire, OutReg, Range, WrittenPort, WrittenItem, Wires, Registers, MemoryOf, Assign, Always, WrittenModule, infix_token, zero_digit, spell_expr, spell_statement, spell_direction, spell_range, spell_port, spell_more_ports, spell_ports, spell_more_names, spell_names, spell_item, spell_items, spell}
 use Rattle.gl_verilog.proofs.Pieces.{scan-append, reads_on, reads_all}
 use Rattle.gl_verilog_writer.specs.Printed.{infix_text, expr_text, statement_text, range_text, names_behind, names_text, always_text, item_text, items_text, direction_text, port_text, more_ports_text, ports_text, head_text, text_of}
 use Rattle.gl_verilog_writer.proofs.Digits.{IsPlain, IsSize, plain-reads, number-reads, literal-reads}
