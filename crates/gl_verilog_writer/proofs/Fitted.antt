@@ -1,6 +1,6 @@
 -- What the nodes of a netlist are as nets of its module.
-use Rattle.std.proofs.Common.{◌≡◌, ℕ, zero, suc, ◌+◌, ◌-◌, ◌<◌, ◌≤◌, ◌^◌, Bool, true, false, List, [], ◌∷◌, length, Option, Some, None, refl, sym, ap, subst, ◌∙◌, arith, pow_mono, lt_of_lt_of_le}
-use Rattle.std.specs.Prelude.{slice_get, codes, option_map, IsSomeAnd, bytes_eq, decimal}
+use Rattle.std.proofs.Common.{◌≡◌, ℕ, ◌+◌, ◌-◌, ◌<◌, ◌≤◌, ◌^◌, length, Option, Some, None, refl, sym, ap, subst, ◌∙◌, arith, pow_mono, lt_of_lt_of_le}
+use Rattle.std.specs.Prelude.{slice_get, option_map, IsSomeAnd}
 use Rattle.gl_bits.specs.Words.{IsWidth}
 use Rattle.gl_net.specs.declared.node.BinaryOp.{BinaryOp}
 use Rattle.gl_net.specs.declared.node.BinaryOp.TheVariants.{Add, Sub, Mul, And, Xor, Or, Eq, Ne, Lt, Le}
@@ -11,9 +11,8 @@ use Rattle.gl_net.specs.declared.node.Bit.{Bit}
 use Rattle.gl_net.specs.declared.node.Store.{Store}
 use Rattle.gl_net.specs.declared.node.Port.{Port}
 use Rattle.gl_net.specs.declared.node.Direction.{Direction}
-use Rattle.gl_net.specs.declared.node.Direction.TheVariants.{In, Out}
 use Rattle.gl_net.specs.Net.{Net, Shape, Value, Words, shape_of, shape_in, binary_width, IsBus, IsBit, IsStore}
-use Rattle.gl_net.specs.WellFormed.{NodeFits, end_at}
+use Rattle.gl_net.specs.WellFormed.{NodeFits}
 use Rattle.gl_net.proofs.Growth.{shape_there}
 use Rattle.gl_verilog.specs.Module as verilog
 use Rattle.gl_verilog.specs.Module.{Declaration, Kind, number_of}
@@ -23,7 +22,7 @@ use Rattle.gl_verilog_writer.specs.Meaning.{bits_of}
 use Rattle.gl_verilog_writer.specs.Pieces.{net_name}
 use Rattle.gl_verilog_writer.specs.Design.{node_width}
 use Rattle.gl_verilog_writer.proofs.Digits.{IsPlain, net-plain}
-use Rattle.gl_verilog_writer.proofs.Model.{Named, at_node, kind_for, declaration_for, declarations_in}
+use Rattle.gl_verilog_writer.proofs.Model.{Named, at_node, kind_for, declarations_in}
 use Rattle.gl_verilog_writer.proofs.Named.{net_no_clock, node_there, node_found, few}
 
 binary-fits : (o : BinaryOp) (w : ℕ) → IsWidth w → IsWidth (binary_width o w)

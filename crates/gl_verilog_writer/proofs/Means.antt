@@ -1,5 +1,5 @@
 -- The text of a netlist means the netlist.
-use Rattle.std.proofs.Common.{◌≡◌, ℕ, ◌<◌, ◌^◌, List, [], length, Option, Some, None, IsSomeAnd, refl, sym, ap}
+use Rattle.std.proofs.Common.{◌≡◌, ℕ, ◌<◌, ◌^◌, List, [], length, Option, Some, None, IsSomeAnd, refl}
 use Rattle.std.specs.Prelude.{unwrap_or}
 use Rattle.gl_net.specs.Net.{Net}
 use Rattle.gl_net.specs.Finished.{IsNetlist, IsName}

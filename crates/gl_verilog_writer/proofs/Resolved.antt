@@ -1,6 +1,6 @@
 -- The written module of a netlist means its module: names become numbers.
 use Rattle.std.proofs.Common.{◌≡◌, ℕ, zero, suc, ◌+◌, ◌-◌, ◌<◌, ◌≤◌, ◌^◌, Bool, true, false, ◌||◌, List, [], ◌∷◌, ◌++◌, length, map, Option, Some, None, refl, sym, ap, subst, ◌∙◌, arith, append_assoc, append-nil, inl, inr, ◌⊎◌, eq-eqb, eqb-true, ne_eqb, le-leb, pow_mono, is_some}
-use Rattle.std.specs.Prelude.{slice_get, codes, decimal, option_map, option_and_then, unwrap_or, nat_eq, nat_le, ◌==◌, not, if◌then◌else◌, bytes_eq}
+use Rattle.std.specs.Prelude.{slice_get, codes, decimal, option_map, option_and_then, unwrap_or, nat_eq, nat_le, ◌==◌, not, if◌then◌else◌}
 use Rattle.std.specs.List.{list_any}
 use Rattle.std.specs.Option.{option_map_or}
 use Rattle.std.proofs.lemmas.Nat.{pow_below, pow_pos}
@@ -13,7 +13,7 @@ use Rattle.gl_net.specs.declared.node.Node.TheVariants.{Input, Constant, Not, Bi
 use Rattle.gl_net.specs.declared.node.Port.{Port}
 use Rattle.gl_net.specs.declared.node.Direction.{Direction}
 use Rattle.gl_net.specs.declared.node.Direction.TheVariants.{In, Out}
-use Rattle.gl_net.specs.Net.{Net, Value, shape_of, shape_in, IsAddressWidth}
+use Rattle.gl_net.specs.Net.{Net, shape_of, shape_in, IsAddressWidth}
 use Rattle.gl_net.specs.WellFormed.{NodeFits, EndFits, end_at}
 use Rattle.gl_net.specs.Finished.{has_reset_value, needs_reset}
 use Rattle.gl_verilog.specs.Tokens.{number_in}
@@ -21,13 +21,13 @@ use Rattle.gl_verilog.specs.Written as written
 use Rattle.gl_verilog.specs.Written.{InfixOp, BitNot, WrittenExpr, WrittenStatement, WrittenItem, Wires, Registers, MemoryOf, Assign, Always, WrittenPort, WrittenModule}
 use Rattle.gl_verilog.specs.Module as verilog
 use Rattle.gl_verilog.specs.Module.{Module, Declaration, Expr, Statement, Assignment, number_of}
-use Rattle.gl_verilog.specs.Widths.{width_at, width_of}
-use Rattle.gl_verilog.specs.Resolve.{number_read, both, three, prefixed, infixed, joined, decimal_number, resolve_expr, resolve_statement, declare, port_kind, declare_port, address_bits_to, address_bits_of, Resolved, with_assignment, with_block, clocked, resolve_items, module_from, resolve}
+use Rattle.gl_verilog.specs.Widths.{width_of}
+use Rattle.gl_verilog.specs.Resolve.{number_read, both, three, prefixed, infixed, decimal_number, resolve_expr, resolve_statement, declare, port_kind, declare_port, address_bits_to, address_bits_of, Resolved, clocked, resolve_items, module_from, resolve}
 use Rattle.gl_verilog_writer.specs.Meaning.{declaration_of, clock, bits_of, kind_of}
 use Rattle.gl_verilog_writer.specs.Pieces.{net_name}
-use Rattle.gl_verilog_writer.specs.Design.{port_name, node_width, infix_of, named, literal, vector, last_word, declares, takes, does, with_option, numbered, declaring, assigning, shows, showing, clocking, leads, range_of, written_port, clock_port, items_of}
+use Rattle.gl_verilog_writer.specs.Design.{port_name, infix_of, named, literal, vector, last_word, declares, takes, does, with_option, numbered, declaring, assigning, shows, showing, clocking, leads, written_port, clock_port, items_of}
 use Rattle.gl_verilog_writer.proofs.Digits.{number_in-decimal}
-use Rattle.gl_verilog_writer.proofs.Model.{Named, at_node, net_of, op_of, kind_for, declaration_for, expression_of, assigned_to, assignment_for, shown_by, output_for, block_for, counted, declarations_in, line_in, module_in}
+use Rattle.gl_verilog_writer.proofs.Model.{Named, at_node, net_of, op_of, declaration_for, expression_of, assigned_to, assignment_for, shown_by, output_for, block_for, counted, declarations_in, line_in, module_in}
 use Rattle.gl_verilog_writer.proofs.Lists.{same_some, some_none, with-append}
 use Rattle.gl_verilog_writer.proofs.Named.{node_found, port_found, port_no_clock}
 use Rattle.gl_verilog_writer.proofs.Fitted.{width-fits, port_end, IsCarried, bus, bit, shown, stored, node-read, carried-width, word-small}
@@ -44,10 +44,10 @@ bits_to : (m b : ℕ) → 1 ≤ b → b ≤ m → address_bits_to m (2 ^ b) ≡ 
 unfolding address_bits_to
 bits_to zero b l h = absurd (omega arith)
 bits_to (suc m) b l h = elim (same b (suc m)) [
-    | inl e ↦ (let f : nat_eq (2 ^ b) (2 ^ suc m) ≡ true = eq-eqb (2 ^ b) (2 ^ suc m) (ap (λ (k : ℕ). 2 ^ k) e) in rw f (ap Some (sym e)))
-    | inr ne ↦ (let f : nat_eq (2 ^ b) (2 ^ suc m) ≡ false = ne_eqb (2 ^ b) (2 ^ suc m) (λ q. (let r = pow_below b (suc m) (let s : b < suc m = omega (arith, ne) in s) in omega (arith, q, r))) in
-        rw f (bits_to m b l (let s : b ≤ m = omega (arith, ne) in s)))
-  ]
+  | inl e ↦ (let f : nat_eq (2 ^ b) (2 ^ suc m) ≡ true = eq-eqb (2 ^ b) (2 ^ suc m) (ap (λ (k : ℕ). 2 ^ k) e) in rw f (ap Some (sym e)))
+  | inr ne ↦ (let f : nat_eq (2 ^ b) (2 ^ suc m) ≡ false = ne_eqb (2 ^ b) (2 ^ suc m) (λ q. (let r = pow_below b (suc m) (let s : b < suc m = omega (arith, ne) in s) in omega (arith, q, r))) in
+      rw f (bits_to m b l (let s : b ≤ m = omega (arith, ne) in s)))
+]
   where
     same : (a b : ℕ) → (a ≡ b) ⊎ (a ≡ b → ⊥)
     same zero zero = inl refl
@@ -357,11 +357,11 @@ module _ (net : Net) (family : ℕ) (c : Named net family) where
       let r1 : Resolved = record { declarations = ds; assignments = []; blocks = numbered (block_for p (line_in net family)) 0 net.nodes ++ [] } in
       let r2 : Resolved = record r1 { assignments = numbered (output_for p) 0 net.ports ++ [] } in
       let blocks = all-blocks ds (clocking family) (block_for p (line_in net family)) 0 net.nodes
-        (λ k x e. clock-by (does family (0 + k) x) (block_for p (line_in net family) (0 + k) x) (clocked-both (0 + k) x) (let z = ap (λ (m : ℕ). slice_get net.nodes m) (zero_up k) ∙ e in block-means (0 + k) x z (fits (0 + k) x z))) [] r0 refl in
+      (λ k x e. clock-by (does family (0 + k) x) (block_for p (line_in net family) (0 + k) x) (clocked-both (0 + k) x) (let z = ap (λ (m : ℕ). slice_get net.nodes m) (zero_up k) ∙ e in block-means (0 + k) x z (fits (0 + k) x z))) [] r0 refl in
       let outputs = all-assignments ds (showing family) (output_for p) 0 net.ports
-        (λ k q e. (let z = ap (λ (m : ℕ). slice_get net.ports m) (zero_up k) ∙ e in show-by (0 + k) q z q.direction (c.netlist.formed.ends (0 + k) q z))) (b ++ []) r1 blocks in
+      (λ k q e. (let z = ap (λ (m : ℕ). slice_get net.ports m) (zero_up k) ∙ e in show-by (0 + k) q z q.direction (c.netlist.formed.ends (0 + k) q z))) (b ++ []) r1 blocks in
       let values = all-assignments ds (assigning family net.ports) (assignment_for p) 0 net.nodes
-        (λ k x e. (let z = ap (λ (m : ℕ). slice_get net.nodes m) (zero_up k) ∙ e in assign-by (0 + k) x z (takes family net.ports x) (expression_of p x) (assigned-both x) (value-means (0 + k) x (fits (0 + k) x z)))) (o ++ (b ++ [])) r2 outputs in
+      (λ k x e. (let z = ap (λ (m : ℕ). slice_get net.nodes m) (zero_up k) ∙ e in assign-by (0 + k) x z (takes family net.ports x) (expression_of p x) (assigned-both x) (value-means (0 + k) x (fits (0 + k) x z)))) (o ++ (b ++ [])) r2 outputs in
       ap (λ (l : List Declaration). resolve_items (clock ∷ l) (d ++ a ++ o ++ b)) ports
       ∙ ap (resolve_items (clock ∷ map (declaration_of net) net.ports)) order
       ∙ declare-all net family 0 net.nodes (clock ∷ map (declaration_of net) net.ports) (a ++ (o ++ (b ++ []))) (λ k x e. fits (0 + k) x (ap (λ (m : ℕ). slice_get net.nodes m) (zero_up k) ∙ e))

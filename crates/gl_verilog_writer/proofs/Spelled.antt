@@ -1,5 +1,5 @@
 -- The text of a netlist spells its written module, which keeps the grammar and the limits.
-use Rattle.std.proofs.Common.{◌≡◌, ℕ, zero, suc, ◌+◌, ◌-◌, ◌<◌, ◌≤◌, ◌^◌, Bool, true, false, List, [], ◌∷◌, ◌++◌, length, map, Option, Some, None, IfSome, IsSomeAnd, refl, sym, ap, subst, ◌∙◌, arith}
+use Rattle.std.proofs.Common.{◌≡◌, ℕ, suc, ◌+◌, ◌-◌, ◌<◌, ◌≤◌, ◌^◌, Bool, true, false, List, [], ◌∷◌, ◌++◌, map, Option, Some, None, IfSome, IsSomeAnd, refl, sym, ap, subst, ◌∙◌, arith}
 use Rattle.std.specs.Prelude.{slice_get, codes, decimal, option_map, unwrap_or, ◌==◌, if◌then◌else◌}
 use Rattle.std.specs.List.{AllByRecursion}
 use Rattle.std.specs.Option.{option_map_or}
@@ -21,11 +21,11 @@ use Rattle.gl_verilog.specs.Limits.{IsShort, depth_of, depth_in, ifs_in, AreShor
 use Rattle.gl_verilog_writer.specs.Meaning.{bits_of}
 use Rattle.gl_verilog_writer.specs.Pieces.{net_name}
 use Rattle.gl_verilog_writer.specs.Printed.{text_of}
-use Rattle.gl_verilog_writer.specs.Design.{port_name, node_width, infix_of, named, literal, vector, last_word, declares, takes, does, numbered, declaring, assigning, shows, showing, clocking, leads, range_of, written_port, clock_port, items_of}
-use Rattle.gl_verilog_writer.proofs.Digits.{IsPlain, IsSize, name-plain, net-plain, clock-plain, reset-plain, size-decimal, numeral-decimal, all-append}
+use Rattle.gl_verilog_writer.specs.Design.{port_name, infix_of, named, literal, vector, last_word, declares, takes, does, numbered, declaring, assigning, shows, showing, clocking, range_of, written_port, clock_port, items_of}
+use Rattle.gl_verilog_writer.proofs.Digits.{IsPlain, IsSize, name-plain, clock-plain, reset-plain, size-decimal, numeral-decimal, all-append}
 use Rattle.gl_verilog_writer.proofs.Texts.{IsPrintable, CanPrint, IsRange, IsPrinted, IsPrintedPort, IsPrintedModule, module-spelled}
 use Rattle.gl_verilog_writer.proofs.Model.{Named}
-use Rattle.gl_verilog_writer.proofs.Lists.{some_none, numbered-all}
+use Rattle.gl_verilog_writer.proofs.Lists.{numbered-all}
 use Rattle.gl_verilog_writer.proofs.Fitted.{width-fits, port_end, bus, bit, shown, stored, node-plain, word-small}
 use Rattle.gl_verilog_writer.proofs.Resolved.{last-small, port-width}
 
@@ -225,9 +225,10 @@ module _ (net : Net) (family : ℕ) (c : Named net family) where
 
   ports-printed : (n : ℕ) (qs : List Port) → ((k : ℕ) (q : Port) → slice_get qs k ≡ Some q → slice_get net.ports (n + k) ≡ Some q) → AllByRecursion IsPrintedPort (map (written_port net.nodes) qs)
   ports-printed n [] h = tt
-  ports-printed n (q ∷ qs) h =
-      (record { range = range-size (bits_of (shape_in net.nodes q.node)) (port-width net family c (n + 0) q (h 0 q refl)).most; name = plain-port (n + 0) q (h 0 q refl) },
-        ports-printed (n + 1) qs (λ k r e. ap (λ (m : ℕ). slice_get net.ports m) (let z : n + 1 + k ≡ n + suc k = omega arith in z) ∙ h (suc k) r e))
+  ports-printed n (q ∷ qs) h = (
+    record { range = range-size (bits_of (shape_in net.nodes q.node)) (port-width net family c (n + 0) q (h 0 q refl)).most; name = plain-port (n + 0) q (h 0 q refl) },
+    ports-printed (n + 1) qs (λ k r e. ap (λ (m : ℕ). slice_get net.ports m) (let z : n + 1 + k ≡ n + suc k = omega arith in z) ∙ h (suc k) r e),
+  )
 
   name-there : (o : Option (List ℕ)) → IsSomeAnd o IsName → IsPlain (unwrap_or o [])
   name-there None h = absurd h

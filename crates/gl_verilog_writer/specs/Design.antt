@@ -1,5 +1,5 @@
 -- The written module of a netlist: a net for each node, which is driven once.
-use Rattle.std.specs.Prelude.{◌≡◌, ℕ, zero, suc, ◌+◌, ◌-◌, ◌^◌, ◌==◌, nat_le, Bool, true, false, if◌then◌else◌, List, [], ◌∷◌, ◌++◌, map, length, Option, Some, None, slice_get, option_map, unwrap_or, codes, decimal}
+use Rattle.std.specs.Prelude.{ℕ, zero, suc, ◌+◌, ◌-◌, ◌^◌, ◌==◌, nat_le, Bool, if◌then◌else◌, List, [], ◌∷◌, ◌++◌, map, length, Option, Some, None, slice_get, option_map, unwrap_or, codes, decimal}
 use Rattle.std.specs.Option.{option_map_or}
 use Rattle.std.specs.List.{list_any, starts_with}
 use Rattle.gl_net.specs.declared.node.BinaryOp.{BinaryOp}
@@ -9,7 +9,7 @@ use Rattle.gl_net.specs.declared.node.Node.TheVariants.{Input, Constant, Not, Bi
 use Rattle.gl_net.specs.declared.node.Port.{Port}
 use Rattle.gl_net.specs.declared.node.Direction.{Direction}
 use Rattle.gl_net.specs.declared.node.Direction.TheVariants.{In, Out}
-use Rattle.gl_net.specs.Net.{Net, Shape, Value, Words, shape_of, shape_in}
+use Rattle.gl_net.specs.Net.{Net, shape_of, shape_in}
 use Rattle.gl_verilog.specs.Written as written
 use Rattle.gl_verilog.specs.Written.{InfixOp, Times, Added, Subtracted, Below, AtMost, Equal, NotEqual, BitAnd, BitXor, BitOr, BitNot, WrittenExpr, Named, PartOf, WordOf, Braces, Parts, Prefix, Infix, Conditional, WrittenStatement, Update, UpdateWord, IfThen, IfElse, Range, WrittenPort, WrittenItem, Wires, Registers, MemoryOf, Assign, Always, WrittenModule}
 use Rattle.gl_verilog_writer.specs.Meaning.{bits_of}

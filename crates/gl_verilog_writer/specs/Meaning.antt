@@ -1,5 +1,5 @@
 -- What the text of a netlist means: it has a module, whose ports show in every run what the netlist's do.
-use Rattle.std.specs.Prelude.{◌≡◌, ℕ, false, List, ◌∷◌, map, Option, Some, None, take, codes, not, ◌==◌, unwrap_or, bytes_eq}
+use Rattle.std.specs.Prelude.{◌≡◌, ℕ, false, List, ◌∷◌, map, Option, Some, None, take, codes, not, ◌==◌, bytes_eq}
 use Rattle.gl_net.specs.declared.node.Port.{Port}
 use Rattle.gl_net.specs.declared.node.Direction.{Direction}
 use Rattle.gl_net.specs.declared.node.Direction.TheVariants.{In, Out}

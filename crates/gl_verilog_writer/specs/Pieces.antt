@@ -1,5 +1,5 @@
 -- Small pieces of a module's text.
-use Rattle.std.specs.Prelude.{ℕ, ◌-◌, List, ◌++◌, codes, decimal}
+use Rattle.std.specs.Prelude.{ℕ, List, ◌++◌, codes, decimal}
 
 -- what the names of a family begin with
 unfoldable pub family_text : ℕ → List ℕ

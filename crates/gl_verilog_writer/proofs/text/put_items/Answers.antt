@@ -1,4 +1,4 @@
-use Rattle.std.proofs.Common.{◌≡◌, ◌++◌, List, ℕ, Ok, Err, Result, OnOk, ap, ◌∙◌}
+use Rattle.std.proofs.Common.{◌++◌, List, ℕ, Ok, Err, Result, OnOk, ap, ◌∙◌}
 use Rattle.gl_verilog_writer.proofs.Loops.{items-parts}
 use Rattle.gl_verilog_writer.proofs.text.put_items.Goals as goal
 
