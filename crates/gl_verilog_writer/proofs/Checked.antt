@@ -80,32 +80,40 @@ module _ (net : Net) (family : ℕ) (c : Named net family) where
       let i = bus net family c x h.0.bus in
       let j = bus net family c y h.1.bus in
       keeps-at n _ e (verilog.Binary (op_of o) x.width (net_of p x.node) (net_of p y.node)) tt (width-op o x.width)
-        (carried-width net family c x.node x.width i, carried-width net family c y.node y.width j ∙ sym h.2, carried-keeps net family c x.node x.width i, carried-keeps net family c y.node y.width j)
+      (carried-width net family c x.node x.width i, carried-width net family c y.node y.width j ∙ sym h.2, carried-keeps net family c x.node x.width i, carried-keeps net family c y.node y.width j)
   value-keeps n (Choose test x y) e h =
       let t = bit net family c test h.0.bit in
       let i = bus net family c x h.1.bus in
       let j = bus net family c y h.2.bus in
-      keeps-at n _ e (verilog.Choose (net_of p test.node) (net_of p x.node) (net_of p y.node)) tt (carried-width net family c x.node x.width i)
-        (carried-width net family c test.node 1 t, carried-width net family c y.node y.width j ∙ sym h.3 ∙ sym (carried-width net family c x.node x.width i),
-          carried-keeps net family c test.node 1 t, carried-keeps net family c x.node x.width i, carried-keeps net family c y.node y.width j)
+      keeps-at n _ e (verilog.Choose (net_of p test.node) (net_of p x.node) (net_of p y.node)) tt (carried-width net family c x.node x.width i) (
+        carried-width net family c test.node 1 t,
+        carried-width net family c y.node y.width j ∙ sym h.3 ∙ sym (carried-width net family c x.node x.width i),
+        carried-keeps net family c test.node 1 t,
+        carried-keeps net family c x.node x.width i,
+        carried-keeps net family c y.node y.width j,
+      )
   value-keeps n (Join x y) e h =
       let i = bus net family c x h.0.bus in
       let j = bus net family c y h.1.bus in
       let a = carried-width net family c x.node x.width i in
       keeps-at n _ e (verilog.Join y.width (net_of p x.node) (net_of p y.node)) tt (ap (λ (w : ℕ). w + y.width) a)
-        (carried-width net family c y.node y.width j, subst (λ (w : ℕ). w + y.width ≤ 128) (sym a) h.2, carried-keeps net family c x.node x.width i, carried-keeps net family c y.node y.width j)
+      (carried-width net family c y.node y.width j, subst (λ (w : ℕ). w + y.width ≤ 128) (sym a) h.2, carried-keeps net family c x.node x.width i, carried-keeps net family c y.node y.width j)
   value-keeps n (Cut x high low) e h =
       let i = bus net family c x h.0.bus in
-      keeps-at n _ e (verilog.Select high low (at_node p x.node)) tt refl
-        (subst (λ (o : Option Declaration). IsSomeAnd o (λ d. IsReadable d × IsTrue d.is_vector × (high < d.width))) (sym (node_there net family c x.node i.node i.there))
-          ((i.net_kind, net_no_clock family x.node), refl, subst (λ (w : ℕ). high < w) (sym i.width) h.2), h.1)
+      keeps-at n _ e (verilog.Select high low (at_node p x.node)) tt refl (
+        subst (λ (o : Option Declaration). IsSomeAnd o (λ d. IsReadable d × IsTrue d.is_vector × (high < d.width))) (sym (node_there net family c x.node i.node i.there))
+            ((i.net_kind, net_no_clock family x.node), refl, subst (λ (w : ℕ). high < w) (sym i.width) h.2),
+        h.1,
+      )
   value-keeps n (MemoryRead store x) e h =
       let s = stored net family c store h.0.store in
       let i = bus net family c x h.1.bus in
       let a = carried-width net family c x.node x.width i ∙ h.2 in
-      keeps-at n _ e (verilog.Read (at_node p store.node) (net_of p x.node)) tt (node-width net family c store.node s.node s.there ∙ s.width)
-        (subst (λ (o : Option Declaration). IsSomeAnd o (λ d. IsMemory d.kind (width_of ds (net_of p x.node)))) (sym (node_there net family c store.node s.node s.there))
-          (subst (λ (w : ℕ). IsMemory (kind_for s.node) w) (sym a) s.memory_kind), carried-keeps net family c x.node x.width i)
+      keeps-at n _ e (verilog.Read (at_node p store.node) (net_of p x.node)) tt (node-width net family c store.node s.node s.there ∙ s.width) (
+        subst (λ (o : Option Declaration). IsSomeAnd o (λ d. IsMemory d.kind (width_of ds (net_of p x.node)))) (sym (node_there net family c store.node s.node s.there))
+            (subst (λ (w : ℕ). IsMemory (kind_for s.node) w) (sym a) s.memory_kind),
+        carried-keeps net family c x.node x.width i,
+      )
   value-keeps n (Register w reset next) e h = tt
   value-keeps n (Memory bits w drive) e h = tt
 
@@ -114,9 +122,10 @@ module _ (net : Net) (family : ℕ) (c : Named net family) where
   output-keeps place q e Out g f =
       let i = shown net family c q.node f.0 f.1 in
       let w = carried-width net family c q.node f.0 i in
-      let k : IsDriven (kind_of q.direction) = subst (λ (d : Direction). IsDriven (kind_of d)) (sym g) tt in
-      (subst (λ (o : Option Declaration). IsSomeAnd o (λ d. IsDriven d.kind × (width_of ds (net_of p q.node) ≡ d.width))) (sym (port_there net family c place q e)) (k, w ∙ sym (ap bits_of f.1)),
-        carried-keeps net family c q.node f.0 i)
+      let k : IsDriven (kind_of q.direction) = subst (λ (d : Direction). IsDriven (kind_of d)) (sym g) tt in (
+        subst (λ (o : Option Declaration). IsSomeAnd o (λ d. IsDriven d.kind × (width_of ds (net_of p q.node) ≡ d.width))) (sym (port_there net family c place q e)) (k, w ∙ sym (ap bits_of f.1)),
+        carried-keeps net family c q.node f.0 i,
+      )
 
   here : (k : ℕ) (x : Node) → slice_get net.nodes k ≡ Some x → slice_get net.nodes (0 + k) ≡ Some x
   here k x e = ap (λ (m : ℕ). slice_get net.nodes m) (let q : 0 + k ≡ k = omega arith in q) ∙ e
@@ -157,20 +166,28 @@ module _ (net : Net) (family : ℕ) (c : Named net family) where
       put-keeps n _ e (net_of p next.node) tt (carried-width net family c next.node next.width i ∙ h.2.1) (carried-keeps net family c next.node next.width i)
   block-keeps n (Register w (Some value) (Some next)) e h =
       let i = bus net family c next h.2.0 in
-      let l = line-keeps n _ e refl in
-      (l.0, l.1, put-keeps n _ e (verilog.Literal value w) tt refl (h.0, h.1),
-        put-keeps n _ e (net_of p next.node) tt (carried-width net family c next.node next.width i ∙ h.2.1) (carried-keeps net family c next.node next.width i))
+      let l = line-keeps n _ e refl in (
+        l.0,
+        l.1,
+        put-keeps n _ e (verilog.Literal value w) tt refl (h.0, h.1),
+        put-keeps n _ e (net_of p next.node) tt (carried-width net family c next.node next.width i ∙ h.2.1) (carried-keeps net family c next.node next.width i),
+      )
   block-keeps n (Memory bits w None) e h = tt
   block-keeps n (Memory bits w (Some drive)) e h =
       let t = bit net family c drive.write h.2.write in
       let a = bus net family c drive.address h.2.address in
       let v = bus net family c drive.value h.2.value in
       let wa : bits ≡ width_of ds (net_of p drive.address.node) = sym (carried-width net family c drive.address.node drive.address.width a ∙ h.2.address_width) in
-      let wv = carried-width net family c drive.value.node drive.value.width v ∙ h.2.value_width in
-      (carried-width net family c drive.write.node 1 t, carried-keeps net family c drive.write.node 1 t,
-        (subst (λ (o : Option Declaration). IsSomeAnd o (λ d. IsMemory d.kind (width_of ds (net_of p drive.address.node)) × (width_of ds (net_of p drive.value.node) ≡ d.width))) (sym (node_there net family c n _ e)) (wa, wv),
-          carried-keeps net family c drive.address.node drive.address.width a, carried-keeps net family c drive.value.node drive.value.width v),
-        tt)
+      let wv = carried-width net family c drive.value.node drive.value.width v ∙ h.2.value_width in (
+        carried-width net family c drive.write.node 1 t,
+        carried-keeps net family c drive.write.node 1 t,
+        (
+          subst (λ (o : Option Declaration). IsSomeAnd o (λ d. IsMemory d.kind (width_of ds (net_of p drive.address.node)) × (width_of ds (net_of p drive.value.node) ≡ d.width))) (sym (node_there net family c n _ e)) (wa, wv),
+          carried-keeps net family c drive.address.node drive.address.width a,
+          carried-keeps net family c drive.value.node drive.value.width v,
+        ),
+        tt,
+      )
   block-keeps n (Input place w) e h = tt
   block-keeps n (Constant word) e h = tt
   block-keeps n (Not x) e h = tt
@@ -205,7 +222,7 @@ module _ (net : Net) (family : ℕ) (c : Named net family) where
   sizes-fit = all-get HasSize ds (λ i d e. elim (sorted net family c i d e) [
     | inl a ↦ subst HasSize (sym a.1) (record { some' = omega arith; most = omega arith }, (λ bits m. absurd m))
     | inr a ↦ elim a [
-        | inl a ↦ subst HasSize (sym a.is) (port-width net family c a.place a.port a.there, (λ bits m. port-size a.port.direction bits m))
-        | inr a ↦ (let f = c.netlist.formed.nodes a.n a.node a.there in subst HasSize (sym a.is) (width-fits net a.n a.node f, (λ bits m. node-size a.n a.node f bits m)))
-      ]
+      | inl a ↦ subst HasSize (sym a.is) (port-width net family c a.place a.port a.there, (λ bits m. port-size a.port.direction bits m))
+      | inr a ↦ (let f = c.netlist.formed.nodes a.n a.node a.there in subst HasSize (sym a.is) (width-fits net a.n a.node f, (λ bits m. node-size a.n a.node f bits m)))
+    ]
   ])

@@ -68,7 +68,7 @@ pub record IsPlain (name : List ℕ) : Type 0 where
 pub plain-reads : (name rest : List ℕ) (x : List Token) → IsPlain name → ClosesWord rest x → Reads (name ++ rest) (Name name ∷ x)
 plain-reads name rest x h c = record {
   is = scan-append Between name rest ∙ ap (λ (m : Move). after m.tokens (scan m.mode rest)) (word-scan name h.word)
-    ∙ ap (λ (m : Move). after [] m) (c.is name) ∙ ap (λ (t : Token). to Between (t ∷ x)) h.token;
+      ∙ ap (λ (m : Move). after [] m) (c.is name) ∙ ap (λ (t : Token). to Between (t ∷ x)) h.token;
 }
 
 -- ---- numbers
@@ -77,7 +77,7 @@ folds : FoldsDigits (number_from 10)
 folds = record {
   empty = λ n. refl;
   more = λ n c cs r. ap (λ (m : ℕ). number_from 10 m cs)
-    (let e : nat_eq c 95 ≡ false = ne_eqb c 95 (λ e. omega (arith, r.1)) in let f : nat_le c 57 ≡ true = le-leb c 57 r.1 in rw (e, f) refl);
+      (let e : nat_eq c 95 ≡ false = ne_eqb c 95 (λ e. omega (arith, r.1)) in let f : nat_le c 57 ≡ true = le-leb c 57 r.1 in rw (e, f) refl);
 }
 
 own : IsNumeralModel (AllDigits 10) (number_from 10 0)
@@ -123,7 +123,7 @@ sized_is ds radix v h = let e : nat_lt (number_in 10 ds) (2 ^ 32) ≡ true = lt-
 pub number-reads : (ds rest : List ℕ) (x : List Token) → IsSize ds → ClosesNumber rest x → Reads (ds ++ rest) (Number ds ∷ x)
 number-reads ds rest x h c = record {
   is = scan-append Between ds rest ∙ ap (λ (m : Move). after m.tokens (scan m.mode rest)) (number-scan ds h.numeral)
-    ∙ ap (λ (m : Move). after [] m) (c.is ds) ∙ ap (λ (t : Token). to Between (t ∷ x)) (number_is ds h);
+      ∙ ap (λ (m : Move). after [] m) (c.is ds) ∙ ap (λ (t : Token). to Between (t ∷ x)) (number_is ds h);
 }
 
 -- ---- literals
@@ -159,7 +159,7 @@ digits-close n v rest x s h c =
 pub literal-reads : (n v rest : List ℕ) (x : List Token) → IsSize n → IsNumeral 10 v → ClosesDigits rest x → Reads (n ++ (codes "'d" ++ (v ++ rest))) (Sized n 10 v ∷ x)
 literal-reads n v rest x s h c = record {
   is = scan-append Between n (codes "'d" ++ (v ++ rest)) ∙ ap (λ (m : Move). after m.tokens (scan m.mode (codes "'d" ++ (v ++ rest)))) (number-scan n s.numeral)
-    ∙ ap (λ (m : Move). after [] (after [] (after [] m))) (digits-close n v rest x s h c);
+      ∙ ap (λ (m : Move). after [] (after [] (after [] m))) (digits-close n v rest x s h c);
 }
 
 -- ---- the names of ports and of nets
@@ -224,7 +224,7 @@ net-plain family n f h =
     record {
       word = (refl, all-append Continues (decimal family ++ codes "_") (decimal n) (all-append Continues (decimal family) (codes "_") (digits_continue (decimal family) a.1) ((λ w. refl), tt)) (digits_continue (decimal n) b.1));
       token = word_is (codes "n" ++ decimal family ++ codes "_" ++ decimal n) refl
-        (omega (arith, la, lb, length-append (decimal family ++ codes "_") (decimal n), length-append (decimal family) (codes "_")));
+          (omega (arith, la, lb, length-append (decimal family ++ codes "_") (decimal n), length-append (decimal family) (codes "_")));
     }
 
 pub clock-plain : IsPlain (codes "clk")

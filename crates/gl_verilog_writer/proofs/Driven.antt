@@ -181,10 +181,10 @@ module _ (net : Net) (family : ℕ) (c : Named net family) where
   wire-driven n x e s =
       let t = at_node p n in
       let a : total (drives t) values ≡ 1 =
-        total-one (drives t) (assignment_for p) 0 net.nodes n x e (λ j y f ne. drives-not (at_node p (0 + j)) t (expression_of p y) (λ q. ne (let r : j ≡ n = omega (arith, q) in r)))
-        ∙ drives-once (at_node p (0 + n)) t (expression_of p x) (ap (at_node p) (zero_up n)) s in
+      total-one (drives t) (assignment_for p) 0 net.nodes n x e (λ j y f ne. drives-not (at_node p (0 + j)) t (expression_of p y) (λ q. ne (let r : j ≡ n = omega (arith, q) in r)))
+      ∙ drives-once (at_node p (0 + n)) t (expression_of p x) (ap (at_node p) (zero_up n)) s in
       let b : total (drives t) outputs ≡ 0 =
-        total-none (drives t) (output_for p) 0 net.ports (λ k q f. shows-not p (0 + k) t q.node q.direction (λ r. (let l = slice_get_within net.ports k q f in omega (arith, l, r)))) in
+      total-none (drives t) (output_for p) 0 net.ports (λ k q f. shows-not p (0 + k) t q.node q.direction (λ r. (let l = slice_get_within net.ports k q f in omega (arith, l, r)))) in
       drivers-total (values ++ outputs) t ∙ total-append (drives t) values outputs ∙ rw (a, b) refl
 
   output-driven : (place : ℕ) (q : Port) → slice_get net.ports place ≡ Some q → q.direction ≡ Out → drivers_of (values ++ outputs) (suc place) ≡ 1
@@ -192,10 +192,10 @@ module _ (net : Net) (family : ℕ) (c : Named net family) where
       let t = suc place in
       let l = slice_get_within net.ports place q e in
       let a : total (drives t) values ≡ 0 =
-        total-none (drives t) (assignment_for p) 0 net.nodes (λ k x f. drives-not (at_node p (0 + k)) t (expression_of p x) (λ r. omega (arith, l, r))) in
+      total-none (drives t) (assignment_for p) 0 net.nodes (λ k x f. drives-not (at_node p (0 + k)) t (expression_of p x) (λ r. omega (arith, l, r))) in
       let b : total (drives t) outputs ≡ 1 =
-        total-one (drives t) (output_for p) 0 net.ports place q e (λ j y f ne. shows-not p (0 + j) t y.node y.direction (λ r. ne (let z : j ≡ place = omega (arith, r) in z)))
-        ∙ shows-once p (0 + place) t q.node q.direction d (ap suc (zero_up place)) in
+      total-one (drives t) (output_for p) 0 net.ports place q e (λ j y f ne. shows-not p (0 + j) t y.node y.direction (λ r. ne (let z : j ≡ place = omega (arith, r) in z)))
+      ∙ shows-once p (0 + place) t q.node q.direction d (ap suc (zero_up place)) in
       drivers-total (values ++ outputs) t ∙ total-append (drives t) values outputs ∙ rw (a, b) refl
 
   register-set : (n w : ℕ) (reset : Option ℕ) (next : Option Bus) → slice_get net.nodes n ≡ Some (Register w reset next) → count (sets (at_node p n)) (block_for p (line_in net family) (0 + n) (Register w reset next)) ≡ 1
@@ -247,9 +247,9 @@ module _ (net : Net) (family : ℕ) (c : Named net family) where
   each-driven i d e = elim (sorted net family c i d e) [
     | inl a ↦ subst (λ (x : Declaration). HasDriver (module_in net family) i x.kind) (sym a.1) tt
     | inr a ↦ elim a [
-        | inl a ↦ subst (λ (k : ℕ). HasDriver (module_in net family) k d.kind) (sym a.number) (subst (λ (x : Declaration). HasDriver (module_in net family) (suc a.place) x.kind) (sym a.is) (port-driven a.place a.port a.there a.port.direction refl))
-        | inr a ↦ subst (λ (k : ℕ). HasDriver (module_in net family) k d.kind) (sym a.number) (subst (λ (x : Declaration). HasDriver (module_in net family) (at_node p a.n) x.kind) (sym a.is) (node-driven a.n a.node a.there))
-      ]
+      | inl a ↦ subst (λ (k : ℕ). HasDriver (module_in net family) k d.kind) (sym a.number) (subst (λ (x : Declaration). HasDriver (module_in net family) (suc a.place) x.kind) (sym a.is) (port-driven a.place a.port a.there a.port.direction refl))
+      | inr a ↦ subst (λ (k : ℕ). HasDriver (module_in net family) k d.kind) (sym a.number) (subst (λ (x : Declaration). HasDriver (module_in net family) (at_node p a.n) x.kind) (sym a.is) (node-driven a.n a.node a.there))
+    ]
   ]
 
   -- ---- no loop

@@ -70,9 +70,9 @@ tally-one : (f : ℕ → Bool) (m : ℕ) → ((i j : ℕ) → i < m → j < m �
 tally-one f zero h = omega arith
 tally-one f (suc m) h = elim (split (f m)) [
   | inl t ↦ (let a = tally-none f m (λ k l. elim (split (f k)) [
-        | inl s ↦ (let q = h k m (let z : k < suc m = omega (arith, l) in z) (omega arith) s t in absurd (omega (arith, q, l)))
-        | inr s ↦ s
-      ]) in rw (a, t) (let q : 0 + 1 ≤ 1 = omega arith in q))
+    | inl s ↦ (let q = h k m (let z : k < suc m = omega (arith, l) in z) (omega arith) s t in absurd (omega (arith, q, l)))
+    | inr s ↦ s
+  ]) in rw (a, t) (let q : 0 + 1 ≤ 1 = omega arith in q))
   | inr t ↦ (let a = tally-one f m (λ i j li lj. h i j (let z : i < suc m = omega (arith, li) in z) (let z : j < suc m = omega (arith, lj) in z)) in rw t (let q : tally f m + 0 ≤ 1 = omega (arith, a) in q))
 ]
 
@@ -100,12 +100,12 @@ outcome ports (suc n) at = elim (split (begins_port ports (family_text at))) [
       elim (outcome ports n (at + 1)) [
         | inl f ↦ inl (ap (λ (k : ℕ). begins_port ports (family_text k)) e ∙ f)
         | inr a ↦ inr (record {
-            is = e ∙ a.is ∙ (let q : at + 1 + n ≡ at + suc n = omega arith in q);
-            taken = λ k l h. elim (same k at) [
-              | inl q ↦ ap (λ (m : ℕ). begins_port ports (family_text m)) q ∙ t
-              | inr ne ↦ a.taken k (let z : at + 1 ≤ k = omega (arith, l, ne) in z) (let z : k < at + 1 + n = omega (arith, h) in z)
-            ];
-          })
+          is = e ∙ a.is ∙ (let q : at + 1 + n ≡ at + suc n = omega arith in q);
+          taken = λ k l h. elim (same k at) [
+            | inl q ↦ ap (λ (m : ℕ). begins_port ports (family_text m)) q ∙ t
+            | inr ne ↦ a.taken k (let z : at + 1 ≤ k = omega (arith, l, ne) in z) (let z : k < at + 1 + n = omega (arith, h) in z)
+          ];
+        })
       ])
 ]
   where

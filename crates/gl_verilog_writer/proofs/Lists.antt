@@ -61,8 +61,8 @@ pub numbered-all : {A B : Type 0} (P : B → Type 0) (f : ℕ → A → Option B
 numbered-all P f n [] h = tt
 numbered-all P f n (x ∷ xs) h =
     with-all P (f n x) (numbered f (n + 1) xs)
-      (subst (λ (m : ℕ). IfSome (f m x) P) (let q : n + 0 ≡ n = omega arith in q) (h 0 x refl))
-      (numbered-all P f (n + 1) xs (λ k y e. subst (λ (m : ℕ). IfSome (f m y) P) (sym (up n k)) (h (suc k) y e)))
+    (subst (λ (m : ℕ). IfSome (f m x) P) (let q : n + 0 ≡ n = omega arith in q) (h 0 x refl))
+    (numbered-all P f (n + 1) xs (λ k y e. subst (λ (m : ℕ). IfSome (f m y) P) (sym (up n k)) (h (suc k) y e)))
 
 with-head : {B : Type 0} (P : B → Type 0) (o : Option B) (ys : List B) (y : B) → o ≡ Some y → AllByRecursion P (with_option o ys) → P y
 with-head P None ys y e a = absurd (some_none y e)

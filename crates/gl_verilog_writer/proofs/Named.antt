@@ -157,28 +157,28 @@ module _ (net : Net) (family : ℕ) (c : Named net family) where
   pub apart : Apart (declarations_in net family)
   apart = λ i j d e p q same. elim (sorted i d p) [
     | inl a ↦ elim (sorted j e q) [
-        | inl b ↦ a.0 ∙ sym b.0
-        | inr b ↦ elim b [
-            | inl b ↦ absurd (port_clock j e b (ap (λ (x : Declaration). x.name) (sym a.1) ∙ same))
-            | inr b ↦ absurd (node_clock j e b (ap (λ (x : Declaration). x.name) (sym a.1) ∙ same))
-          ]
+      | inl b ↦ a.0 ∙ sym b.0
+      | inr b ↦ elim b [
+        | inl b ↦ absurd (port_clock j e b (ap (λ (x : Declaration). x.name) (sym a.1) ∙ same))
+        | inr b ↦ absurd (node_clock j e b (ap (λ (x : Declaration). x.name) (sym a.1) ∙ same))
       ]
+    ]
     | inr a ↦ elim a [
-        | inl a ↦ elim (sorted j e q) [
-            | inl b ↦ absurd (port_clock i d a (ap (λ (x : Declaration). x.name) (sym b.1) ∙ sym same))
-            | inr b ↦ elim b [
-                | inl b ↦ a.number ∙ ap suc (c.netlist.finished.distinct a.place b.place a.port b.port a.there b.there (ap (λ (x : Declaration). x.name) (sym a.is) ∙ same ∙ ap (λ (x : Declaration). x.name) b.is)) ∙ sym b.number
-                | inr b ↦ absurd (port_node i j d e a b same)
-              ]
-          ]
-        | inr a ↦ elim (sorted j e q) [
-            | inl b ↦ absurd (node_clock i d a (ap (λ (x : Declaration). x.name) (sym b.1) ∙ sym same))
-            | inr b ↦ elim b [
-                | inl b ↦ absurd (port_node j i e d b a (sym same))
-                | inr b ↦ a.number ∙ ap (at_node (length net.ports)) (nets_same family a.n b.n (few a.n a.node a.there) (few b.n b.node b.there) (ap (λ (x : Declaration). x.name) (sym a.is) ∙ same ∙ ap (λ (x : Declaration). x.name) b.is)) ∙ sym b.number
-              ]
-          ]
+      | inl a ↦ elim (sorted j e q) [
+        | inl b ↦ absurd (port_clock i d a (ap (λ (x : Declaration). x.name) (sym b.1) ∙ sym same))
+        | inr b ↦ elim b [
+          | inl b ↦ a.number ∙ ap suc (c.netlist.finished.distinct a.place b.place a.port b.port a.there b.there (ap (λ (x : Declaration). x.name) (sym a.is) ∙ same ∙ ap (λ (x : Declaration). x.name) b.is)) ∙ sym b.number
+          | inr b ↦ absurd (port_node i j d e a b same)
+        ]
       ]
+      | inr a ↦ elim (sorted j e q) [
+        | inl b ↦ absurd (node_clock i d a (ap (λ (x : Declaration). x.name) (sym b.1) ∙ sym same))
+        | inr b ↦ elim b [
+          | inl b ↦ absurd (port_node j i e d b a (sym same))
+          | inr b ↦ a.number ∙ ap (at_node (length net.ports)) (nets_same family a.n b.n (few a.n a.node a.there) (few b.n b.node b.there) (ap (λ (x : Declaration). x.name) (sym a.is) ∙ same ∙ ap (λ (x : Declaration). x.name) b.is)) ∙ sym b.number
+        ]
+      ]
+    ]
   ]
 
   pub node_found : (n : ℕ) (x : Node) → slice_get net.nodes n ≡ Some x → number_of (declarations_in net family) (net_name family n) ≡ Some (at_node (length net.ports) n)

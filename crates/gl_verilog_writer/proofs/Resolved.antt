@@ -44,10 +44,10 @@ bits_to : (m b : ℕ) → 1 ≤ b → b ≤ m → address_bits_to m (2 ^ b) ≡ 
 unfolding address_bits_to
 bits_to zero b l h = absurd (omega arith)
 bits_to (suc m) b l h = elim (same b (suc m)) [
-    | inl e ↦ (let f : nat_eq (2 ^ b) (2 ^ suc m) ≡ true = eq-eqb (2 ^ b) (2 ^ suc m) (ap (λ (k : ℕ). 2 ^ k) e) in rw f (ap Some (sym e)))
-    | inr ne ↦ (let f : nat_eq (2 ^ b) (2 ^ suc m) ≡ false = ne_eqb (2 ^ b) (2 ^ suc m) (λ q. (let r = pow_below b (suc m) (let s : b < suc m = omega (arith, ne) in s) in omega (arith, q, r))) in
-        rw f (bits_to m b l (let s : b ≤ m = omega (arith, ne) in s)))
-  ]
+  | inl e ↦ (let f : nat_eq (2 ^ b) (2 ^ suc m) ≡ true = eq-eqb (2 ^ b) (2 ^ suc m) (ap (λ (k : ℕ). 2 ^ k) e) in rw f (ap Some (sym e)))
+  | inr ne ↦ (let f : nat_eq (2 ^ b) (2 ^ suc m) ≡ false = ne_eqb (2 ^ b) (2 ^ suc m) (λ q. (let r = pow_below b (suc m) (let s : b < suc m = omega (arith, ne) in s) in omega (arith, q, r))) in
+      rw f (bits_to m b l (let s : b ≤ m = omega (arith, ne) in s)))
+]
   where
     same : (a b : ℕ) → (a ≡ b) ⊎ (a ≡ b → ⊥)
     same zero zero = inl refl
@@ -357,11 +357,11 @@ module _ (net : Net) (family : ℕ) (c : Named net family) where
       let r1 : Resolved = record { declarations = ds; assignments = []; blocks = numbered (block_for p (line_in net family)) 0 net.nodes ++ [] } in
       let r2 : Resolved = record r1 { assignments = numbered (output_for p) 0 net.ports ++ [] } in
       let blocks = all-blocks ds (clocking family) (block_for p (line_in net family)) 0 net.nodes
-        (λ k x e. clock-by (does family (0 + k) x) (block_for p (line_in net family) (0 + k) x) (clocked-both (0 + k) x) (let z = ap (λ (m : ℕ). slice_get net.nodes m) (zero_up k) ∙ e in block-means (0 + k) x z (fits (0 + k) x z))) [] r0 refl in
+      (λ k x e. clock-by (does family (0 + k) x) (block_for p (line_in net family) (0 + k) x) (clocked-both (0 + k) x) (let z = ap (λ (m : ℕ). slice_get net.nodes m) (zero_up k) ∙ e in block-means (0 + k) x z (fits (0 + k) x z))) [] r0 refl in
       let outputs = all-assignments ds (showing family) (output_for p) 0 net.ports
-        (λ k q e. (let z = ap (λ (m : ℕ). slice_get net.ports m) (zero_up k) ∙ e in show-by (0 + k) q z q.direction (c.netlist.formed.ends (0 + k) q z))) (b ++ []) r1 blocks in
+      (λ k q e. (let z = ap (λ (m : ℕ). slice_get net.ports m) (zero_up k) ∙ e in show-by (0 + k) q z q.direction (c.netlist.formed.ends (0 + k) q z))) (b ++ []) r1 blocks in
       let values = all-assignments ds (assigning family net.ports) (assignment_for p) 0 net.nodes
-        (λ k x e. (let z = ap (λ (m : ℕ). slice_get net.nodes m) (zero_up k) ∙ e in assign-by (0 + k) x z (takes family net.ports x) (expression_of p x) (assigned-both x) (value-means (0 + k) x (fits (0 + k) x z)))) (o ++ (b ++ [])) r2 outputs in
+      (λ k x e. (let z = ap (λ (m : ℕ). slice_get net.nodes m) (zero_up k) ∙ e in assign-by (0 + k) x z (takes family net.ports x) (expression_of p x) (assigned-both x) (value-means (0 + k) x (fits (0 + k) x z)))) (o ++ (b ++ [])) r2 outputs in
       ap (λ (l : List Declaration). resolve_items (clock ∷ l) (d ++ a ++ o ++ b)) ports
       ∙ ap (resolve_items (clock ∷ map (declaration_of net) net.ports)) order
       ∙ declare-all net family 0 net.nodes (clock ∷ map (declaration_of net) net.ports) (a ++ (o ++ (b ++ []))) (λ k x e. fits (0 + k) x (ap (λ (m : ℕ). slice_get net.nodes m) (zero_up k) ∙ e))

@@ -172,14 +172,14 @@ module _ (net : Net) (family : ℕ) (c : Named net family) (value : ℕ → Nets
   value-at : (t n : ℕ) (x : Node) (e : Expr) → slice_get net.nodes n ≡ Some x → expression_of p x ≡ Some e → value t (at_node p n) ≡ value_of (value t) (word t) e
   value-at t n x e f g =
       numbered-each (λ (a : Assignment). value t a.target ≡ value_of (value t) (word t) a.value) (assignment_for p) 0 net.nodes n x (assigned_to (at_node p n) e)
-        (all-left (λ (a : Assignment). value t a.target ≡ value_of (value t) (word t) a.value) (numbered (assignment_for p) 0 net.nodes) (numbered (output_for p) 0 net.ports) (settled t))
-        f (ap (option_map (assigned_to (at_node p (0 + n)))) g ∙ ap (λ (m : ℕ). Some (assigned_to (at_node p m) e)) (let q : 0 + n ≡ n = omega arith in q))
+      (all-left (λ (a : Assignment). value t a.target ≡ value_of (value t) (word t) a.value) (numbered (assignment_for p) 0 net.nodes) (numbered (output_for p) 0 net.ports) (settled t))
+      f (ap (option_map (assigned_to (at_node p (0 + n)))) g ∙ ap (λ (m : ℕ). Some (assigned_to (at_node p m) e)) (let q : 0 + n ≡ n = omega arith in q))
 
   output-at : (t place : ℕ) (q : Port) → slice_get net.ports place ≡ Some q → q.direction ≡ Out → value t (suc place) ≡ value t (at_node p q.node)
   output-at t place q f g =
       numbered-each (λ (a : Assignment). value t a.target ≡ value_of (value t) (word t) a.value) (output_for p) 0 net.ports place q (assigned_to (suc place) (net_of p q.node))
-        (all-right (λ (a : Assignment). value t a.target ≡ value_of (value t) (word t) a.value) (numbered (assignment_for p) 0 net.nodes) (numbered (output_for p) 0 net.ports) (settled t))
-        f (ap (λ (d : Direction). shown_by p (0 + place) d q.node) g ∙ ap (λ (m : ℕ). Some (assigned_to (suc m) (net_of p q.node))) (let q : 0 + place ≡ place = omega arith in q))
+      (all-right (λ (a : Assignment). value t a.target ≡ value_of (value t) (word t) a.value) (numbered (assignment_for p) 0 net.nodes) (numbered (output_for p) 0 net.ports) (settled t))
+      f (ap (λ (d : Direction). shown_by p (0 + place) d q.node) g ∙ ap (λ (m : ℕ). Some (assigned_to (suc m) (net_of p q.node))) (let q : 0 + place ≡ place = omega arith in q))
 
   -- the node of a port shows the same
   port-at : (t place : ℕ) (q : Port) → slice_get net.ports place ≡ Some q → value t (suc place) ≡ value t (at_node p q.node)
@@ -195,9 +195,9 @@ module _ (net : Net) (family : ℕ) (c : Named net family) (value : ℕ → Nets
   next-at t n x e k =
       let m = at_node p n in
       let a : assigned_by (value t) (word t) (numbered (block_for p line) 0 net.nodes) m ≡ given (λ b. assigned (value t) (word t) b m) (block_for p line n x) =
-        assigned-latest (value t) (word t) (numbered (block_for p line) 0 net.nodes) m
-        ∙ latest-one (λ b. assigned (value t) (word t) b m) (block_for p line) 0 net.nodes n x e (λ j y f ne. assigned-not (value t) (word t) p line (0 + j) n y (λ q. ne (let s : j ≡ n = omega (arith, q) in s)))
-        ∙ ap (λ (i : ℕ). given (λ b. assigned (value t) (word t) b m) (block_for p line i x)) (let q : 0 + n ≡ n = omega arith in q) in
+      assigned-latest (value t) (word t) (numbered (block_for p line) 0 net.nodes) m
+      ∙ latest-one (λ b. assigned (value t) (word t) b m) (block_for p line) 0 net.nodes n x e (λ j y f ne. assigned-not (value t) (word t) p line (0 + j) n y (λ q. ne (let s : j ≡ n = omega (arith, q) in s)))
+      ∙ ap (λ (i : ℕ). given (λ b. assigned (value t) (word t) b m) (block_for p line i x)) (let q : 0 + n ≡ n = omega arith in q) in
       ap (λ (s : ℕ). value s m) (sym (add-one t)) ∙ r.registers t m (declaration_for family n x) (node_there net family c n x e) k ∙ ap (λ (o : Option ℕ). unwrap_or o (value t m)) a
 
   -- what a memory holds in the next cycle
@@ -206,9 +206,9 @@ module _ (net : Net) (family : ℕ) (c : Named net family) (value : ℕ → Nets
   word-at t n k x e =
       let m = at_node p n in
       let a : written_by (value t) (word t) (numbered (block_for p line) 0 net.nodes) m k ≡ given (λ b. written (value t) (word t) b m k) (block_for p line n x) =
-        written-latest (value t) (word t) (numbered (block_for p line) 0 net.nodes) m k
-        ∙ latest-one (λ b. written (value t) (word t) b m k) (block_for p line) 0 net.nodes n x e (λ j y f ne. written-not (value t) (word t) p line (0 + j) n k y (λ q. ne (let s : j ≡ n = omega (arith, q) in s)))
-        ∙ ap (λ (i : ℕ). given (λ b. written (value t) (word t) b m k) (block_for p line i x)) (let q : 0 + n ≡ n = omega arith in q) in
+      written-latest (value t) (word t) (numbered (block_for p line) 0 net.nodes) m k
+      ∙ latest-one (λ b. written (value t) (word t) b m k) (block_for p line) 0 net.nodes n x e (λ j y f ne. written-not (value t) (word t) p line (0 + j) n k y (λ q. ne (let s : j ≡ n = omega (arith, q) in s)))
+      ∙ ap (λ (i : ℕ). given (λ b. written (value t) (word t) b m k) (block_for p line i x)) (let q : 0 + n ≡ n = omega arith in q) in
       ap (λ (s : ℕ). word s m k) (sym (add-one t)) ∙ r.memories t m k ∙ ap (λ (o : Option ℕ). unwrap_or o (word t m k)) a
 
   itself : (n : ℕ) → nat_eq (at_node p n) (at_node p n) ≡ true

@@ -225,9 +225,10 @@ module _ (net : Net) (family : ℕ) (c : Named net family) where
 
   ports-printed : (n : ℕ) (qs : List Port) → ((k : ℕ) (q : Port) → slice_get qs k ≡ Some q → slice_get net.ports (n + k) ≡ Some q) → AllByRecursion IsPrintedPort (map (written_port net.nodes) qs)
   ports-printed n [] h = tt
-  ports-printed n (q ∷ qs) h =
-      (record { range = range-size (bits_of (shape_in net.nodes q.node)) (port-width net family c (n + 0) q (h 0 q refl)).most; name = plain-port (n + 0) q (h 0 q refl) },
-        ports-printed (n + 1) qs (λ k r e. ap (λ (m : ℕ). slice_get net.ports m) (let z : n + 1 + k ≡ n + suc k = omega arith in z) ∙ h (suc k) r e))
+  ports-printed n (q ∷ qs) h = (
+    record { range = range-size (bits_of (shape_in net.nodes q.node)) (port-width net family c (n + 0) q (h 0 q refl)).most; name = plain-port (n + 0) q (h 0 q refl) },
+    ports-printed (n + 1) qs (λ k r e. ap (λ (m : ℕ). slice_get net.ports m) (let z : n + 1 + k ≡ n + suc k = omega arith in z) ∙ h (suc k) r e),
+  )
 
   name-there : (o : Option (List ℕ)) → IsSomeAnd o IsName → IsPlain (unwrap_or o [])
   name-there None h = absurd h

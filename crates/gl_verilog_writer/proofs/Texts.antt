@@ -166,7 +166,7 @@ expr-reads (Conditional test yes' no') rest x h c =
     let y = expr-reads yes' (codes " : " ++ (expr_text no' ++ rest)) (Mark Colon ∷ (spell_expr no' ++ x)) h.1 (closes_on (codes " : ") _ (Mark Colon ∷ []) _ otherwise n) in
     let t = expr-reads test (codes " ? " ++ (expr_text yes' ++ (codes " : " ++ (expr_text no' ++ rest)))) (Mark Question ∷ (spell_expr yes' ++ Mark Colon ∷ (spell_expr no' ++ x))) h.0 (closes_on (codes " ? ") _ (Mark Question ∷ []) _ question y) in
     moved _ _ _ _ (right5 (expr_text test) (codes " ? ") (expr_text yes') (codes " : ") (expr_text no') rest)
-      (ap (λ (ts : List Token). spell_expr test ++ Mark Question ∷ ts) (right2 (spell_expr yes') (Mark Colon ∷ spell_expr no') x) ∙ right2 (spell_expr test) (Mark Question ∷ (spell_expr yes' ++ Mark Colon ∷ spell_expr no')) x) t
+    (ap (λ (ts : List Token). spell_expr test ++ Mark Question ∷ ts) (right2 (spell_expr yes') (Mark Colon ∷ spell_expr no') x) ∙ right2 (spell_expr test) (Mark Question ∷ (spell_expr yes' ++ Mark Colon ∷ spell_expr no')) x) t
 
 -- ---- statements
 
@@ -189,11 +189,11 @@ tested e b y h r = reads_on (codes "if (") _ (Reserved IfWord ∷ Mark OpenParen
 pub statement-reads : (s : WrittenStatement) → CanPrint s → Reads (statement_text s) (spell_statement s)
 statement-reads (Update target value) h =
     moved _ _ _ _ (right3 target (codes " <= ") (expr_text value) (codes ";\n")) refl
-      (plain-reads target (codes " <= " ++ (expr_text value ++ codes ";\n")) (Mark LessEquals ∷ (spell_expr value ++ Mark Semicolon ∷ [])) h.0 (closes_on (codes " <= ") _ (Mark LessEquals ∷ []) _ arrow (valued value h.1)).word)
+    (plain-reads target (codes " <= " ++ (expr_text value ++ codes ";\n")) (Mark LessEquals ∷ (spell_expr value ++ Mark Semicolon ∷ [])) h.0 (closes_on (codes " <= ") _ (Mark LessEquals ∷ []) _ arrow (valued value h.1)).word)
 statement-reads (UpdateWord target address value) h =
     let a = expr-reads address (codes "] <= " ++ (expr_text value ++ codes ";\n")) (Mark CloseBracket ∷ Mark LessEquals ∷ (spell_expr value ++ Mark Semicolon ∷ [])) h.1 (closes_on (codes "] <= ") _ (Mark CloseBracket ∷ Mark LessEquals ∷ []) _ word_arrow (valued value h.2)) in
     moved _ _ _ _ (right5 target (codes "[") (expr_text address) (codes "] <= ") (expr_text value) (codes ";\n")) refl
-      (plain-reads target (codes "[" ++ (expr_text address ++ (codes "] <= " ++ (expr_text value ++ codes ";\n")))) _ h.0 (closes_on (codes "[") _ (Mark OpenBracket ∷ []) _ opens a).word)
+    (plain-reads target (codes "[" ++ (expr_text address ++ (codes "] <= " ++ (expr_text value ++ codes ";\n")))) _ h.0 (closes_on (codes "[") _ (Mark OpenBracket ∷ []) _ opens a).word)
 statement-reads (IfThen test yes') h =
     moved _ _ _ _ (right3 (codes "if (") (expr_text test) (codes ") ") (statement_text yes')) refl (tested test (statement_text yes') (spell_statement yes') h.0 (statement-reads yes' h.1))
 statement-reads (IfElse test yes' no') h =
@@ -202,7 +202,7 @@ statement-reads (IfElse test yes' no') h =
     moved _ _ _ _ (right5 (codes "if (") (expr_text test) (codes ") ") (statement_text yes') (codes "else ") (statement_text no')) refl (tested test _ _ h.0 y)
 statement-reads (Block statements) h =
     moved _ _ _ _ (right2 (codes "begin ") (statement_text statements) (codes "end\n")) refl
-      (reads_on (codes "begin ") _ (Reserved BeginWord ∷ []) _ (record { is = refl }) (reads_on (statement_text statements) (codes "end\n") _ (Reserved EndWord ∷ []) (statement-reads statements h) (record { is = refl })))
+    (reads_on (codes "begin ") _ (Reserved BeginWord ∷ []) _ (record { is = refl }) (reads_on (statement_text statements) (codes "end\n") _ (Reserved EndWord ∷ []) (statement-reads statements h) (record { is = refl })))
 statement-reads (Listed first rest) h = reads_on _ _ _ _ (statement-reads first h.0) (statement-reads rest h.1)
 statement-reads Ended h = record { is = refl }
 
@@ -243,22 +243,22 @@ item-reads : (i : WrittenItem) → IsPrinted i → Reads (item_text i) (spell_it
 unfolding always_text
 item-reads (Wires range names) h =
     moved _ _ _ _ (right3 (codes "wire ") (range_text range) (names_text names) (codes ";\n")) refl
-      (reads_on (codes "wire ") _ (Reserved WireWord ∷ []) _ (record { is = refl }) (reads_on (range_text range) _ (spell_range range) _ (range-reads range h.0) (declared names h.1)))
+    (reads_on (codes "wire ") _ (Reserved WireWord ∷ []) _ (record { is = refl }) (reads_on (range_text range) _ (spell_range range) _ (range-reads range h.0) (declared names h.1)))
 item-reads (Registers range names) h =
     moved _ _ _ _ (right3 (codes "reg ") (range_text range) (names_text names) (codes ";\n")) refl
-      (reads_on (codes "reg ") _ (Reserved RegWord ∷ []) _ (record { is = refl }) (reads_on (range_text range) _ (spell_range range) _ (range-reads range h.0) (declared names h.1)))
+    (reads_on (codes "reg ") _ (Reserved RegWord ∷ []) _ (record { is = refl }) (reads_on (range_text range) _ (spell_range range) _ (range-reads range h.0) (declared names h.1)))
 item-reads (MemoryOf range name last) h =
     let l = number-reads last (codes "];\n") (Mark CloseBracket ∷ Mark Semicolon ∷ []) h.2 words_end.number in
     let n = plain-reads name (codes " [0:" ++ (last ++ codes "];\n")) (Mark OpenBracket ∷ Number zero_digit ∷ Mark Colon ∷ Number last ∷ Mark CloseBracket ∷ Mark Semicolon ∷ []) h.1 (closes_on (codes " [0:") _ (Mark OpenBracket ∷ Number zero_digit ∷ Mark Colon ∷ []) _ words_begin l).word in
     moved _ _ _ _ (right5 (codes "reg ") (range_text range) name (codes " [0:") last (codes "];\n")) refl
-      (reads_on (codes "reg ") _ (Reserved RegWord ∷ []) _ (record { is = refl }) (reads_on (range_text range) _ (spell_range range) _ (range-reads range h.0) n))
+    (reads_on (codes "reg ") _ (Reserved RegWord ∷ []) _ (record { is = refl }) (reads_on (range_text range) _ (spell_range range) _ (range-reads range h.0) n))
 item-reads (Assign target value) h =
     moved _ _ _ _ (right4 (codes "assign ") target (codes " = ") (expr_text value) (codes ";\n")) refl
-      (reads_on (codes "assign ") _ (Reserved AssignWord ∷ []) _ (record { is = refl }) (plain-reads target (codes " = " ++ (expr_text value ++ codes ";\n")) _ h.0 (closes_on (codes " = ") _ (Mark Equals ∷ []) _ gets (valued value h.1)).word))
+    (reads_on (codes "assign ") _ (Reserved AssignWord ∷ []) _ (record { is = refl }) (plain-reads target (codes " = " ++ (expr_text value ++ codes ";\n")) _ h.0 (closes_on (codes " = ") _ (Mark Equals ∷ []) _ gets (valued value h.1)).word))
 item-reads (Always clock body) h =
     moved _ _ _ _ (right3 (codes "always @(posedge ") clock (codes ") ") (statement_text body)) refl
-      (reads_on (codes "always @(posedge ") _ (Reserved AlwaysWord ∷ Mark At ∷ Mark OpenParen ∷ Reserved PosedgeWord ∷ []) _ (record { is = refl })
-        (plain-reads clock (codes ") " ++ statement_text body) _ h.0 (closes_on (codes ") ") _ (Mark CloseParen ∷ []) _ paren_blank (statement-reads body h.1)).word))
+    (reads_on (codes "always @(posedge ") _ (Reserved AlwaysWord ∷ Mark At ∷ Mark OpenParen ∷ Reserved PosedgeWord ∷ []) _ (record { is = refl })
+    (plain-reads clock (codes ") " ++ statement_text body) _ h.0 (closes_on (codes ") ") _ (Mark CloseParen ∷ []) _ paren_blank (statement-reads body h.1)).word))
 
 items-read : (is : List WrittenItem) → AllByRecursion IsPrinted is → Reads (items_text is) (spell_items is)
 items-read [] h = record { is = refl }
@@ -281,8 +281,8 @@ direction-reads OutReg = record { is = refl }
 port-reads : (p : WrittenPort) (rest : List ℕ) (x : List Token) → IsPrintedPort p → Closes rest x → Reads (port_text p ++ rest) (spell_port p ++ x)
 port-reads p rest x h c =
     moved _ _ _ _ (right3 (direction_text p.direction) (range_text p.range) p.name rest)
-      (ap (λ (ts : List Token). spell_direction p.direction ++ ts) (right2 (spell_range p.range) (Name p.name ∷ []) x) ∙ right2 (spell_direction p.direction) (spell_range p.range ++ Name p.name ∷ []) x)
-      (reads_on (direction_text p.direction) _ (spell_direction p.direction) _ (direction-reads p.direction) (reads_on (range_text p.range) _ (spell_range p.range) _ (range-reads p.range h.range) (plain-reads p.name rest x h.name c.word)))
+    (ap (λ (ts : List Token). spell_direction p.direction ++ ts) (right2 (spell_range p.range) (Name p.name ∷ []) x) ∙ right2 (spell_direction p.direction) (spell_range p.range ++ Name p.name ∷ []) x)
+    (reads_on (direction_text p.direction) _ (spell_direction p.direction) _ (direction-reads p.direction) (reads_on (range_text p.range) _ (spell_range p.range) _ (range-reads p.range h.range) (plain-reads p.name rest x h.name c.word)))
 
 more-close : (ps : List WrittenPort) → AllByRecursion IsPrintedPort ps → Closes (more_ports_text ps ++ codes "\n);\n") (spell_more_ports ps ++ Mark CloseParen ∷ Mark Semicolon ∷ [])
 more-close [] h = ports_end
@@ -319,5 +319,5 @@ module-spelled m h =
     let i = reads_on (items_text m.items) (codes "endmodule\n") (spell_items m.items) (Reserved EndModuleWord ∷ []) (items-read m.items h.items) (record { is = refl }) in
     let a = reads_on (head_text m) _ _ _ (head-reads m h) i in
     reads_all (text_of m) (spell m)
-      (moved _ _ _ _ (right2 (head_text m) (items_text m.items) (codes "endmodule\n"))
-        (ap (λ (ts : List Token). Reserved ModuleWord ∷ Name m.name ∷ Mark OpenParen ∷ ts) (append_assoc (spell_ports m.ports) (Mark CloseParen ∷ Mark Semicolon ∷ []) (spell_items m.items ++ Reserved EndModuleWord ∷ []))) a)
+    (moved _ _ _ _ (right2 (head_text m) (items_text m.items) (codes "endmodule\n"))
+    (ap (λ (ts : List Token). Reserved ModuleWord ∷ Name m.name ∷ Mark OpenParen ∷ ts) (append_assoc (spell_ports m.ports) (Mark CloseParen ∷ Mark Semicolon ∷ []) (spell_items m.items ++ Reserved EndModuleWord ∷ []))) a)

@@ -1,10 +1,11 @@
 //! The text of a whole netlist.
 
-ghost use Rattle.std.specs.Prelude.{◌≡◌, ◌++◌, OnOk, OnErr, IfOk, codes, length, [], ◌∷◌, Some, map, List};
+ghost use Rattle.std.specs.Prelude.{◌≡◌, ◌++◌, ◌<◌, ◌^◌, OnOk, OnErr, IfOk, codes, length, [], ◌∷◌, Some, map, List};
 ghost use Rattle.std.specs.Option.{option_map_or};
+ghost use Rattle.gl_net.specs.Finished.{IsNetlist};
 ghost use Rattle.gl_net.specs.Net.{shape_in};
 ghost use Rattle.gl_verilog.specs.Written.{WrittenItem};
-ghost use Rattle.gl_verilog_writer.specs.Meaning.{bits_of};
+ghost use Rattle.gl_verilog_writer.specs.Meaning.{bits_of, IsTextOf};
 ghost use Rattle.gl_verilog_writer.specs.Pieces.{family_text};
 ghost use Rattle.gl_verilog_writer.specs.Printed.{range_text, direction_text, port_text, more_ports_text, head_text, item_text, items_text};
 ghost use Rattle.gl_verilog_writer.specs.Design.{begins_port, family_of, leads, range_of, clock_port, written_port, items_of, numbered, declaring, assigning, shows, showing, clocking, module_text};
@@ -175,12 +176,7 @@ fn put_blocks(out: &mut Vec<u8>, family: usize, nodes: &[Node]) -> Result<(), Me
 }
 
 // The items, one part after the other.
-fn put_parts(
-    out: &mut Vec<u8>,
-    family: usize,
-    nodes: &[Node],
-    ports: &[Port],
-) -> Result<(), Memory>
+fn put_parts(out: &mut Vec<u8>, family: usize, nodes: &[Node], ports: &[Port]) -> Result<(), Memory>
     ensures { OnOk result (out.new.items ≡ out.old.items ++ (items_text (numbered (declaring family) 0 nodes.now) ++ items_text (numbered (assigning family ports.now) 0 nodes.now) ++ items_text (numbered (showing family) 0 ports.now) ++ items_text (numbered (clocking family) 0 nodes.now))) }
 {
     put_declarations(out, family, nodes)?;
@@ -190,12 +186,7 @@ fn put_parts(
 }
 
 // All items.
-fn put_items(
-    out: &mut Vec<u8>,
-    family: usize,
-    nodes: &[Node],
-    ports: &[Port],
-) -> Result<(), Memory>
+fn put_items(out: &mut Vec<u8>, family: usize, nodes: &[Node], ports: &[Port]) -> Result<(), Memory>
     ensures { OnOk result (out.new.items ≡ out.old.items ++ items_text (items_of family nodes.now ports.now)) }
 {
     put_parts(out, family, nodes, ports)
@@ -204,7 +195,10 @@ fn put_items(
 // The text of a netlist.
 #[tactic(auto, unfolding(crate::specs::Design::module_text))]
 fn put_module(out: &mut Vec<u8>, net: &Netlist) -> Result<(), Memory>
-    ensures { OnOk result (out.new.items ≡ out.old.items ++ module_text net.now) }
+    ensures text { OnOk result (out.new.items ≡ out.old.items ++ module_text net.now) }
+    ensures few_nodes { length net.now.nodes < 2 ^ 64 }
+    ensures few_ports { length net.now.ports < 2 ^ 64 }
+    ensures netlist { IsNetlist net.now }
 {
     let nodes = net.nodes();
     let ports = net.ports();
@@ -221,6 +215,7 @@ fn put_module(out: &mut Vec<u8>, net: &Netlist) -> Result<(), Memory>
 /// On want of memory nothing was appended.
 pub fn write_module(net: &Netlist, into: &mut Vec<u8>) -> Result<(), Memory>
     ensures text { OnOk result (into.new.items ≡ into.old.items ++ module_text net.now) }
+    ensures meaning { IsTextOf net.now (module_text net.now) }
     ensures nothing { OnErr result (into.new.items ≡ into.old.items) }
 {
     let mut text = Vec::new(*into.allocator());

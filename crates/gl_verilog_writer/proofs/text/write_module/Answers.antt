@@ -1,0 +1,11 @@
+use Rattle.gl_verilog_writer.proofs.Means.{text-means}
+use Rattle.gl_verilog_writer.proofs.text.write_module.Goals as goal
+
+pub returns-in_err-put_module-clause-meaning : goal.returns-in_err-put_module-clause-meaning
+returns-in_err-put_module-clause-meaning c = text-means c.args.net.now c.put_module.ensures.netlist c.put_module.ensures.few_nodes c.put_module.ensures.few_ports
+
+pub returns-in-Ok-clause-meaning : goal.returns-in-Ok-clause-meaning
+returns-in-Ok-clause-meaning c = text-means c.args.net.now c.put_module.ensures.netlist c.put_module.ensures.few_nodes c.put_module.ensures.few_ports
+
+pub returns-clause-meaning : goal.returns-clause-meaning
+returns-clause-meaning c = text-means c.args.net.now c.put_module.ensures.netlist c.put_module.ensures.few_nodes c.put_module.ensures.few_ports
