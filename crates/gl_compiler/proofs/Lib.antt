@@ -1,3 +1,11 @@
 pub mod Fitting
 pub mod Rows
-pub mod Distinct
+pub mod Built
+pub mod Selected
+pub mod Inner
+pub mod Showing
+pub mod Faces
+pub mod Wired
+pub mod Fits
+pub mod Meeting
+pub mod Running

@@ -1,5 +1,5 @@
 -- Words that are put into rows.
-use Rattle.std.proofs.Common.{◌≡◌, ℕ, zero, suc, List, [], ◌∷◌, Some, refl, ap}
+use Rattle.std.proofs.Common.{◌≡◌, ℕ, zero, suc, List, [], ◌∷◌, Some, refl}
 use Rattle.std.specs.Prelude.{slice_get, slice_set}
 use Rattle.gl_bits.specs.Words.{Word, widths_of}
 

@@ -3,3 +3,4 @@ pub mod Benches
 pub mod Profile
 pub mod Prints
 pub mod Meets
+pub mod Compiles

@@ -1,6 +1,5 @@
 -- What a compiled text is: every run of its module, over any beats that keep the gap and from any start, is right for the statement.
 use Rattle.std.specs.Prelude.{◌≡◌, ℕ, List, map}
-use Rattle.gl_bits.specs.declared.kind.Kind.{Kind}
 use Rattle.gl_bits.specs.Kinds.{width_of}
 use Rattle.gl_schema.specs.declared.schema.Column.{Column}
 use Rattle.gl_schema.specs.declared.schema.Schema.{Schema}

@@ -1,12 +1,12 @@
 -- When the ports of a module are those of a schema and of a result.
-use Rattle.std.specs.Prelude.{◌≡◌, ℕ, Bool, true, false, not, ◌&&◌, ◌≤◌, List, [], ◌∷◌, ◌++◌, map, filter, find, length, take, Option, Some, None, option_map, codes, bytes_eq, slice_get, IfSome}
+use Rattle.std.specs.Prelude.{◌≡◌, ℕ, Bool, true, false, not, ◌&&◌, ◌≤◌, List, [], ◌∷◌, ◌++◌, map, filter, find, length, take, Option, Some, option_map, codes, bytes_eq, slice_get, IfSome}
 use Rattle.std.specs.List.{AllByRecursion}
 use Rattle.gl_bits.specs.Kinds.{width_of}
 use Rattle.gl_schema.specs.declared.schema.Column.{Column}
 use Rattle.gl_schema.specs.declared.schema.Stream.{Stream}
 use Rattle.gl_schema.specs.declared.schema.Schema.{Schema}
 use Rattle.gl_schema.specs.Ports.{rst, eos, in_valid, in_column, out_valid, out_eos, fault_group, fault_queue}
-use Rattle.gl_verilog.specs.Module.{Module, Declaration, Kind, Input, OutputWire, OutputRegister, number_of}
+use Rattle.gl_verilog.specs.Module.{Module, Declaration, Kind, Input, OutputWire, OutputRegister}
 use Rattle.gl_verilog.specs.Widths.{is_clock}
 
 -- an input port that a schema asks for, and its bits

@@ -1,12 +1,15 @@
 //! Compiling a query.
 
-ghost use Rattle.std.specs.Prelude.{◌≡◌, ◌≤◌, length, IfOk};
+ghost use Rattle.std.specs.Prelude.{◌≡◌, ◌≤◌, IfOk, MatchResult, length};
 ghost use Rattle.std.specs.List.{AllByRecursion};
 ghost use Rattle.gl_bits.specs.Kinds.{IsKind};
 ghost use Rattle.gl_schema.specs.Schemas.{IsSchema};
+ghost use Rattle.gl_compiler.specs.Selecting.{IsSelectOf};
+ghost use Rattle.gl_compiler.specs.Meets.{Meets};
+ghost use Rattle.gl_compiler.specs.Compiles.{IsCompiled, IsCompiledText, IsRefused, IsQueryRefused, IsTextRefused};
 
-use crate::select::{Select, are_kinds, can_wire, select_of};
-use gl_bits::{Kind, Listed};
+use crate::select::{Select, select_of};
+use gl_bits::{Kind, Listed, Memory};
 use gl_figures::Printed;
 use gl_query::{QueryFault, Statement};
 use gl_query_reader::read_query;
@@ -45,12 +48,16 @@ pub struct Compiled {
 
 impl Compiled {
     /// The text of the module.
-    pub fn text(&self) -> &[u8] {
+    pub fn text(&self) -> &[u8]
+        ensures { result.now ≡ self.now.text.items }
+    {
         &self.text
     }
 
     /// Latency, gap and copies.
-    pub fn printed(&self) -> Printed {
+    pub fn printed(&self) -> Printed
+        ensures { result ≡ self.now.printed }
+    {
         self.printed
     }
 
@@ -62,7 +69,9 @@ impl Compiled {
     }
 
     /// The statement.
-    pub fn statement(&self) -> &Statement {
+    pub fn statement(&self) -> &Statement
+        ensures { result.now ≡ self.now.statement }
+    {
         &self.statement
     }
 
@@ -74,63 +83,47 @@ impl Compiled {
     }
 }
 
-fn schema_fault(fault: SchemaFault) -> CompileFault {
-    match fault {
-        SchemaFault::Memory => CompileFault::Memory,
-        fault => CompileFault::Schema(fault),
-    }
-}
-
-fn query_fault(fault: QueryFault) -> CompileFault {
-    match fault {
-        QueryFault::Memory => CompileFault::Memory,
-        fault => CompileFault::Query(fault),
-    }
-}
-
 // The text of a select's module.
-fn text_of(alloc: Global, schema: &Schema, select: &Select) -> Result<Vec<u8>, CompileFault>
-    requires { IsSchema schema.now }
+fn text_of(
+    alloc: Global,
+    schema: &Schema,
+    statement: &Statement,
+    select: &Select,
+) -> Result<Vec<u8>, Memory>
+    requires schema { IsSchema schema.now }
+    requires select { IsSelectOf schema.now statement.now select.now }
+    ensures { IfOk result (λ text. Meets schema.now statement.now 1 1 text.items) }
 {
-    if !can_wire(schema, select) {
-        return Err(CompileFault::NotBuilt);
-    }
-    let Ok(net) = wire_select(alloc, schema, select.stream, &select.columns, &select.names) else {
-        return Err(CompileFault::Memory);
-    };
+    let net = wire_select(alloc, schema, select.stream, &select.columns, &select.names)?;
     let mut text = Vec::new(alloc);
-    match write_module(&net, &mut text) {
-        Ok(()) => Ok(text),
-        Err(_) => Err(CompileFault::Memory),
-    }
+    write_module(&net, &mut text)?;
+    Ok(text)
 }
 
-/// Compiles the text of a query over a schema.
-pub fn compile_query(alloc: Global, schema: Schema, query: &[u8]) -> Result<Compiled, CompileFault>
+/// Compiles a statement over a schema.
+///
+/// Every run of the text is right for the statement, one cycle later and for tuples in each cycle.
+/// `NotBuilt` comes exactly where the statement is no select of columns of one stream of the
+/// schema under their own names, at most 32 and none twice.
+pub fn compile_statement(
+    alloc: Global,
+    schema: Schema,
+    statement: Statement,
+) -> Result<Compiled, CompileFault>
     requires { IsSchema schema }
+    ensures compiled { MatchResult result (IsCompiled schema statement) (IsRefused schema statement) }
     ensures schema { IfOk result (λ c. c.schema ≡ schema) }
     ensures many { IfOk result (λ c. length c.kinds ≤ 32) }
     ensures kinds { IfOk result (λ c. AllByRecursion IsKind c.kinds) }
 {
-    let statement = match read_query(alloc, query) {
-        Ok(statement) => statement,
-        Err(fault) => return Err(query_fault(fault)),
-    };
     let select = match select_of(alloc, &schema, &statement) {
         Ok(Some(select)) => select,
         Ok(None) => return Err(CompileFault::NotBuilt),
         Err(_) => return Err(CompileFault::Memory),
     };
-    if select.kinds.len() > 32 || !are_kinds(select.kinds.as_slice()) {
-        return Err(CompileFault::NotBuilt);
-    }
-    let text = text_of(alloc, &schema, &select)?;
-    let Select {
-        stream: _,
-        columns: _,
-        names: _,
-        kinds,
-    } = select;
+    let Ok(text) = text_of(alloc, &schema, &statement, &select) else {
+        return Err(CompileFault::Memory);
+    };
     Ok(Compiled {
         text,
         printed: Printed {
@@ -140,14 +133,32 @@ pub fn compile_query(alloc: Global, schema: Schema, query: &[u8]) -> Result<Comp
         },
         schema,
         statement,
-        kinds,
+        kinds: select.kinds,
     })
 }
 
+/// Compiles the text of a query over a schema.
+pub fn compile_query(alloc: Global, schema: Schema, query: &[u8]) -> Result<Compiled, CompileFault>
+    requires { IsSchema schema }
+    ensures compiled { MatchResult result (λ c. IsCompiled schema c.statement c) (IsQueryRefused schema) }
+    ensures schema { IfOk result (λ c. c.schema ≡ schema) }
+    ensures many { IfOk result (λ c. length c.kinds ≤ 32) }
+    ensures kinds { IfOk result (λ c. AllByRecursion IsKind c.kinds) }
+{
+    match read_query(alloc, query) {
+        Ok(statement) => compile_statement(alloc, schema, statement),
+        Err(QueryFault::Memory) => Err(CompileFault::Memory),
+        Err(fault) => Err(CompileFault::Query(fault)),
+    }
+}
+
 /// Compiles the text of a query over the text of a schema.
-pub fn compile(alloc: Global, schema: &[u8], query: &[u8]) -> Result<Compiled, CompileFault> {
+pub fn compile(alloc: Global, schema: &[u8], query: &[u8]) -> Result<Compiled, CompileFault>
+    ensures { MatchResult result (IsCompiledText schema.now) (IsTextRefused schema.now) }
+{
     match read_schema(alloc, schema) {
         Ok(schema) => compile_query(alloc, schema, query),
-        Err(fault) => Err(schema_fault(fault)),
+        Err(SchemaFault::Memory) => Err(CompileFault::Memory),
+        Err(fault) => Err(CompileFault::Schema(fault)),
     }
 }

@@ -8,5 +8,5 @@ mod lines;
 pub mod pins;
 pub mod select;
 
-pub use compiling::{CompileFault, Compiled, compile, compile_query};
+pub use compiling::{CompileFault, Compiled, compile, compile_query, compile_statement};
 pub use executing::{Outcome, execute};

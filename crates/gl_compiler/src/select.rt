@@ -1,11 +1,12 @@
-//! A statement as a select of distinct columns of one stream.
+//! A statement as a select of columns of one stream.
 
-ghost use Rattle.std.specs.Prelude.{◌≡◌, ◌<◌, ◌≤◌, All, IfOk, IfSome, bytes_eq, length, map, slice_get, true, false, vec_len};
-ghost use Rattle.std.specs.List.{AllByRecursion, IsDistinct};
-ghost use Rattle.gl_bits.specs.Kinds.{IsKind};
-ghost use Rattle.gl_schema.specs.Names.{IsName};
-ghost use Rattle.gl_schema.specs.Schemas.{IsSchema};
-ghost use Rattle.gl_compiler.specs.Selecting.{CanWire};
+ghost use Rattle.std.specs.Prelude.{◌≡◌, ◌≤◌, IfOk, MatchOption, bytes_eq, length, map, slice_get, true, false, None, Some};
+ghost use Rattle.std.specs.List.{list_all, list_any};
+ghost use Rattle.gl_schema.specs.Schemas.{has_column};
+ghost use Rattle.gl_query.specs.Shapes.{item_shape, query_shape};
+ghost use Rattle.gl_query.specs.Values.{column_number, column_kind};
+ghost use Rattle.gl_query.specs.declared.tree.Item.{Item};
+ghost use Rattle.gl_compiler.specs.Selecting.{IsPicked, IsFrom, IsRead, is_built, is_own, is_read, names_of, differ, can_pick, can_read, stream_number};
 
 use gl_bits::{Kind, Listed, Memory};
 use gl_query::{Expr, Item, Name, Pick, Query, Statement};
@@ -26,110 +27,218 @@ pub struct Select {
     pub kinds: Listed<Kind>,
 }
 
-fn copied(alloc: Global, name: &NameText) -> Result<NameText, Memory> {
+fn copied(alloc: Global, name: &NameText) -> Result<NameText, Memory>
+    ensures { IfOk result (λ n. n ≡ name.now) }
+{
     match Vec::from_slice(alloc, name.as_slice()) {
         Ok(bytes) => Ok(NameText::from_vec(bytes)),
         Err(_) => Err(Memory),
     }
 }
 
-// The number of the stream of a name.
-fn stream_of(streams: &[Stream], name: &[u8]) -> Option<usize> {
-    streams
-        .iter()
-        .position(|stream| stream.name.as_slice() == name)
-}
-
-// The place of the column of a name.
-fn column_of(columns: &[Column], name: &[u8]) -> Option<usize> {
-    columns
-        .iter()
-        .position(|column| column.name.as_slice() == name)
-}
-
-// The name of a column that stands under its own name.
-fn own_column(item: &Item) -> Option<&Name> {
-    match &item.expr {
-        Expr::Column(name) => {
-            if name.text.as_slice() == item.name.text.as_slice() {
-                Some(name)
-            } else {
-                None
+// The number of the stream of a name, or of the streams if there is none.
+fn stream_of(streams: &[Stream], name: &[u8]) -> usize
+    ensures number { result ≡ stream_number streams.now name.now }
+    ensures within { result ≤ length streams.now }
+{
+    match streams.split_first() {
+        None => 0,
+        Some((first, rest)) => {
+            if name == first.name.as_slice() {
+                return 0;
             }
+            1 + stream_of(rest, name)
         }
-        _ => None,
     }
 }
 
-// Adds the column of an item, if it is one under its own name.
-fn add_item(
-    alloc: Global,
-    stream: &Stream,
-    item: &Item,
-    select: &mut Select,
-) -> Result<bool, Memory> {
-    let Some(name) = own_column(item) else {
-        return Ok(false);
-    };
-    let columns = stream.columns.as_slice();
-    let Some(place) = column_of(columns, name.text.as_slice()) else {
-        return Ok(false);
-    };
-    let Some(column) = columns.get(place) else {
-        return Ok(false);
-    };
-    if select.columns.push(place).is_err() {
-        return Err(Memory);
-    }
-    select.kinds.push(column.kind)?;
-    let name = copied(alloc, &name.text)?;
-    select.names.columns.push(name)?;
-    Ok(true)
+// The stream of a number.
+fn stream_at(streams: &[Stream], number: usize) -> Option<&Stream>
+    ensures { MatchOption result (slice_get streams.now number ≡ None) (λ s. slice_get streams.now number ≡ Some s.now) }
+{
+    streams.get(number)
 }
 
-// Adds the columns of all items.
-fn add_items(
-    alloc: Global,
-    stream: &Stream,
-    items: &[Item],
-    select: &mut Select,
-) -> Result<bool, Memory> {
+// The place of the column of a name, or the number of columns if there is none.
+fn column_of(columns: &[Column], name: &[u8]) -> usize
+    ensures place { result ≡ column_number columns.now name.now }
+    ensures within { result ≤ length columns.now }
+{
+    match columns.split_first() {
+        None => 0,
+        Some((first, rest)) => {
+            if name == first.name.as_slice() {
+                return 0;
+            }
+            1 + column_of(rest, name)
+        }
+    }
+}
+
+// The kind of the column of a name, and one bit if there is none.
+fn kind_at(columns: &[Column], name: &[u8]) -> Kind
+    ensures { result ≡ column_kind columns.now name.now }
+{
+    match columns.get(column_of(columns, name)) {
+        Some(column) => column.kind,
+        None => Kind::Unsigned(1),
+    }
+}
+
+// Whether there is a column of a name.
+#[tactic(auto, unfolding(gl_schema::specs::Schemas::has_column))]
+fn knows(columns: &[Column], name: &[u8]) -> bool
+    ensures { result ≡ has_column columns.now name.now }
+{
+    match columns.split_first() {
+        None => false,
+        Some((first, rest)) => name == first.name.as_slice() || knows(rest, name),
+    }
+}
+
+// Whether there is a column of each name.
+fn knows_all(columns: &[Column], names: &[NameText]) -> bool
+    ensures { result ≡ list_all (has_column columns.now) names.now }
+{
+    match names.split_first() {
+        None => true,
+        Some((first, rest)) => knows(columns, first.as_slice()) && knows_all(columns, rest),
+    }
+}
+
+// Whether an item is a column under its own name.
+fn is_own_column(item: &Item) -> bool
+    ensures { result ≡ is_own (item_shape item.now) }
+{
+    match &item.expr {
+        Expr::Column(name) => name.text.as_slice() == item.name.text.as_slice(),
+        _ => false,
+    }
+}
+
+// Whether each item is a column under its own name.
+fn are_own(items: &[Item]) -> bool
+    ensures { result ≡ list_all is_own (map item_shape items.now) }
+{
+    match items.split_first() {
+        None => true,
+        Some((first, rest)) => is_own_column(first) && are_own(rest),
+    }
+}
+
+// Whether a name is one of these.
+fn is_among(name: &[u8], names: &[NameText]) -> bool
+    ensures { result ≡ list_any (bytes_eq name.now) names.now }
+{
+    match names.split_first() {
+        None => false,
+        Some((first, rest)) => name == first.as_slice() || is_among(name, rest),
+    }
+}
+
+// Whether no two names are the same.
+#[tactic(auto, unfolding(crate::specs::Selecting::differ))]
+fn are_distinct(names: &[NameText]) -> bool
+    ensures { result ≡ differ names.now }
+{
+    match names.split_first() {
+        None => true,
+        Some((first, rest)) => !is_among(first.as_slice(), rest) && are_distinct(rest),
+    }
+}
+
+// The names of items.
+fn item_names(alloc: Global, items: &[Item]) -> Result<Listed<NameText>, Memory>
+    ensures { IfOk result (λ ns. ns ≡ map (λ (i : Item). i.name.text) items.now) }
+{
+    let mut names = Listed::new(alloc);
     for item in items {
-        if !add_item(alloc, stream, item, select)? {
-            return Ok(false);
-        }
+        names.push(copied(alloc, &item.name.text)?)?;
     }
-    Ok(true)
+    Ok(names)
 }
 
-// The select of these items of a stream, if they are columns of it.
+// The places of the columns of these names.
+fn places_of(alloc: Global, columns: &[Column], names: &[NameText]) -> Result<Vec<usize>, Memory>
+    ensures { IfOk result (λ ps. ps.items ≡ map (column_number columns.now) names.now) }
+{
+    let mut places = Vec::new(alloc);
+    for name in names {
+        if places.push(column_of(columns, name.as_slice())).is_err() {
+            return Err(Memory);
+        }
+    }
+    Ok(places)
+}
+
+// The kinds of the columns of these names.
+fn kinds_at(alloc: Global, columns: &[Column], names: &[NameText]) -> Result<Listed<Kind>, Memory>
+    ensures { IfOk result (λ ks. ks ≡ map (column_kind columns.now) names.now) }
+{
+    let mut kinds = Listed::new(alloc);
+    for name in names {
+        kinds.push(kind_at(columns, name.as_slice()))?;
+    }
+    Ok(kinds)
+}
+
+// Whether these are columns of a stream under their own names, at most 32 and none twice.
+fn can_select(stream: &Stream, items: &[Item], names: &[NameText], into: &[u8]) -> bool
+    requires { names.now ≡ names_of (map item_shape items.now) }
+    ensures { result ≡ can_pick stream.now.columns (map item_shape items.now) into.now }
+{
+    items.len() <= 32
+        && are_own(items)
+        && knows_all(stream.columns.as_slice(), names)
+        && are_distinct(names)
+        && is_name(into)
+}
+
+// The select of these items of a source, if there is a stream of its name and the items are its columns.
 fn select_from(
     alloc: Global,
     schema: &Schema,
     items: &[Item],
-    source: &Name,
-    into: &Name,
-) -> Result<Option<Select>, Memory> {
-    let streams = schema.streams.as_slice();
-    let Some(stream) = stream_of(streams, source.text.as_slice()) else {
+    source: &[u8],
+    into: &NameText,
+) -> Result<Option<Select>, Memory>
+    ensures { IfOk result (λ o. MatchOption o (can_read (slice_get schema.now.streams (stream_number schema.now.streams source.now)) (map item_shape items.now) into.now ≡ false) (IsFrom schema.now (map item_shape items.now) source.now into.now)) }
+{
+    let number = stream_of(schema.streams.as_slice(), source);
+    let Some(stream) = stream_at(schema.streams.as_slice(), number) else {
         return Ok(None);
     };
-    let Some(read) = streams.get(stream) else {
+    let names = item_names(alloc, items)?;
+    if !can_select(stream, items, names.as_slice(), into.as_slice()) {
         return Ok(None);
+    }
+    let columns = places_of(alloc, stream.columns.as_slice(), names.as_slice())?;
+    let kinds = kinds_at(alloc, stream.columns.as_slice(), names.as_slice())?;
+    let names = ResultNames {
+        into: copied(alloc, into)?,
+        columns: names,
     };
-    let mut select = Select {
-        stream,
-        columns: Vec::new(alloc),
-        names: ResultNames {
-            into: copied(alloc, &into.text)?,
-            columns: Listed::new(alloc),
-        },
-        kinds: Listed::new(alloc),
-    };
-    if add_items(alloc, read, items, &mut select)? {
-        Ok(Some(select))
-    } else {
-        Ok(None)
+    Ok(Some(Select {
+        stream: number,
+        columns,
+        names,
+        kinds,
+    }))
+}
+
+// The same of a source that reads a stream.
+fn select_read(
+    alloc: Global,
+    schema: &Schema,
+    items: &[Item],
+    source: &Query,
+    into: &NameText,
+) -> Result<Option<Select>, Memory>
+    ensures { IfOk result (λ o. MatchOption o (is_read schema.now (map item_shape items.now) (query_shape source.now) into.now ≡ false) (IsRead schema.now (map item_shape items.now) (query_shape source.now) into.now)) }
+{
+    match source {
+        Query::Read(name) => select_from(alloc, schema, items, name.text.as_slice(), into),
+        _ => Ok(None),
     }
 }
 
@@ -138,131 +247,21 @@ pub(crate) fn select_of(
     alloc: Global,
     schema: &Schema,
     statement: &Statement,
-) -> Result<Option<Select>, Memory> {
-    let Query::Rows {
-        pick: Pick::Items(items),
-        filter: None,
-        source,
-    } = &statement.query
-    else {
-        return Ok(None);
-    };
-    let Query::Read(stream) = &**source else {
-        return Ok(None);
-    };
-    select_from(alloc, schema, items.as_slice(), stream, &statement.name)
-}
-
-// Whether each place is one of so many.
-fn are_within(places: &[usize], count: usize) -> bool
-    ensures { result ≡ true → All (λ p. p < count) places.now }
+) -> Result<Option<Select>, Memory>
+    ensures { IfOk result (λ o. MatchOption o (is_built schema.now statement.now ≡ false) (IsPicked schema.now (query_shape statement.now.query) statement.now.name.text)) }
 {
-    for place in places {
-        if *place >= count {
-            return false;
-        }
+    match &statement.query {
+        Query::Rows {
+            pick: Pick::Items(items),
+            filter: None,
+            source,
+        } => select_read(
+            alloc,
+            schema,
+            items.as_slice(),
+            source,
+            &statement.name.text,
+        ),
+        _ => Ok(None),
     }
-    true
-}
-
-// Whether each is a name.
-fn are_names(names: &[NameText]) -> bool
-    ensures { result ≡ true → AllByRecursion IsName names.now }
-{
-    match names.split_first() {
-        None => true,
-        Some((first, rest)) => {
-            if !is_name(first.as_slice()) {
-                return false;
-            }
-            are_names(rest)
-        }
-    }
-}
-
-// Whether a name is none of these.
-fn is_new(name: &[u8], names: &[NameText]) -> bool
-    ensures { result ≡ true → AllByRecursion (λ n. bytes_eq name.now n ≡ false) names.now }
-{
-    match names.split_first() {
-        None => true,
-        Some((first, rest)) => {
-            if name == first.as_slice() {
-                return false;
-            }
-            is_new(name, rest)
-        }
-    }
-}
-
-// Whether no two are the same.
-#[tactic(auto, using(crate::proofs::Distinct::none_distinct, crate::proofs::Distinct::more_distinct))]
-fn are_distinct(names: &[NameText]) -> bool
-    ensures { result ≡ true → IsDistinct bytes_eq names.now }
-{
-    match names.split_first() {
-        None => true,
-        Some((first, rest)) => {
-            if !is_new(first.as_slice(), rest) {
-                return false;
-            }
-            are_distinct(rest)
-        }
-    }
-}
-
-// Whether the places are within the columns of the stream.
-fn are_columns(schema: &Schema, stream: usize, places: &[usize]) -> bool
-    ensures within { result ≡ true → stream < length schema.now.streams }
-    ensures places { result ≡ true → IfSome (slice_get schema.now.streams stream) (λ s. All (λ p. p < length s.columns) places.now) }
-{
-    let streams = schema.streams.as_slice();
-    if stream >= streams.len() {
-        return false;
-    }
-    are_within(places, streams[stream].columns.len())
-}
-
-fn is_kind(kind: Kind) -> bool
-    ensures { result ≡ true → IsKind kind }
-{
-    match kind {
-        Kind::Unsigned(width) => 1 <= width && width <= 64,
-        Kind::Text(bytes) => 1 <= bytes && bytes <= 8,
-    }
-}
-
-/// Whether each is a kind.
-pub(crate) fn are_kinds(kinds: &[Kind]) -> bool
-    ensures { result ≡ true → AllByRecursion IsKind kinds.now }
-{
-    match kinds.split_first() {
-        None => true,
-        Some((first, rest)) => {
-            if !is_kind(*first) {
-                return false;
-            }
-            are_kinds(rest)
-        }
-    }
-}
-
-/// Whether the select can be wired: its columns are there, and its names are names, no two alike.
-pub(crate) fn can_wire(schema: &Schema, select: &Select) -> bool
-    ensures { result ≡ true → CanWire schema.now select.now }
-{
-    let names = select.names.columns.as_slice();
-    if names.len() > 32 || select.columns.len() != names.len() {
-        return false;
-    }
-    if !are_columns(schema, select.stream, &select.columns) {
-        return false;
-    }
-    if !is_name(select.names.into.as_slice()) {
-        return false;
-    }
-    if !are_names(names) {
-        return false;
-    }
-    are_distinct(names)
 }

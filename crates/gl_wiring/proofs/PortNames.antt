@@ -36,7 +36,7 @@ both_false : (a b : Bool) → a ≡ false → b ≡ false → (a || b) ≡ false
 both_false true b h k = absurd cc
 both_false false b h k = k
 
-bytes_eq-false : (n m : List ℕ) → (n ≡ m → ⊥) → bytes_eq n m ≡ false
+pub bytes_eq-false : (n m : List ℕ) → (n ≡ m → ⊥) → bytes_eq n m ≡ false
 bytes_eq-false n m differ = not_true (bytes_eq n m) (λ h. differ ((bytes_eq-Decides n m).0 h))
 
 pub all_apart : (names : List (List ℕ)) (n : List ℕ) → Apart n names → AllByRecursion (λ m. bytes_eq n m ≡ false) names
@@ -206,7 +206,7 @@ eos_is_reserved : list_any (bytes_eq (codes "eos")) reserved ≡ true
 unfolding reserved
 eos_is_reserved = refl
 
-no_valid : (n : List ℕ) → IsName n → codes "valid" ≡ n → ⊥
+pub no_valid : (n : List ℕ) → IsName n → codes "valid" ≡ n → ⊥
 no_valid n h e = is_reserved n (codes "valid") h valid_is_reserved e
 
 valid_apart : (s : List ℕ) (cs : List Column) → AllByRecursion IsColumn cs → Apart (in_valid s) (column_ports s cs)
@@ -241,7 +241,7 @@ streams_first (s ∷ ss) all =
 
 -- ---- the ports of the result
 
-out_valid-column : (c : List ℕ) → out_valid ≡ out_column c → codes "valid" ≡ c
+pub out_valid-column : (c : List ℕ) → out_valid ≡ out_column c → codes "valid" ≡ c
 unfolding out_valid out_column
 out_valid-column c e = append_cancel_left (codes "out__") (codes "valid") c e
 
@@ -254,7 +254,7 @@ first_apart : (n m : List ℕ) → first_byte n ≡ 111 → first_byte m ≡ 102
 first_apart n m h k e = let same = ap first_byte e in absurd (omega (arith, h, k, same))
 
 -- none of the lines behind the columns is a column's port
-tail_apart : (c : List ℕ) → IsName c → Apart (out_column c) (out_eos ∷ fault_group ∷ fault_queue ∷ [])
+pub tail_apart : (c : List ℕ) → IsName c → Apart (out_column c) (out_eos ∷ fault_group ∷ fault_queue ∷ [])
 unfolding fault_group fault_queue
 tail_apart c h = (
   λ e. is_reserved c (codes "eos") h eos_is_reserved (out_eos-column c (sym e)),

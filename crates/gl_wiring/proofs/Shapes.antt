@@ -178,7 +178,7 @@ all_ports n0 n1 n2 n3 n4 ss ws ps ns none x y z u =
 
 -- ---- names
 
-abbrev names_in : List PortShape → List (List ℕ)
+abbrev pub names_in : List PortShape → List (List ℕ)
 names_in shapes = map (λ (s : PortShape). s.name) shapes
 
 shape_names : (net : Net) (ports : List Port) → names_in (map (port_shape net) ports) ≡ map (λ (p : Port). p.name) ports
@@ -203,13 +203,16 @@ output_names ws (p ∷ ps) [] e = absurd (omega arith)
 output_names ws (p ∷ ps) (n ∷ ns) e = ap (λ (x : List (List ℕ)). out_column n ∷ x) (output_names ws ps ns (omega arith))
 
 -- the names of the ports of an emitted module
-pub names_are : (net : Net) (s : Schema) (k : ℕ) (ps : List ℕ) (ns : List (List ℕ)) → length ps ≡ length ns → port_shapes net ≡ emitted_ports s k ps ns → names_of net ≡ port_names s ns
-unfolding port_shapes
-names_are net s k ps ns e h =
+pub emitted_names : (s : Schema) (k : ℕ) (ps : List ℕ) (ns : List (List ℕ)) → length ps ≡ length ns → names_in (emitted_ports s k ps ns) ≡ port_names s ns
+emitted_names s k ps ns e =
     let ws = column_widths (columns_at s.streams k) in
     let tail = output out_eos 1 ∷ output fault_group 1 ∷ output fault_queue 1 ∷ [] in
     let result = result_outputs ws ps ns in
     let outs : names_in result ≡ out_valid ∷ (map out_column ns ++ out_eos ∷ fault_group ∷ fault_queue ∷ []) =
     ap (λ (x : List (List ℕ)). out_valid ∷ x) (map-append (λ (x : PortShape). x.name) (column_outputs ws ps ns) tail ∙ ap (λ (x : List (List ℕ)). x ++ out_eos ∷ fault_group ∷ fault_queue ∷ []) (output_names ws ps ns e)) in
     let ins = map-append (λ (x : PortShape). x.name) (streams_inputs s.streams) (input eos 1 ∷ result) ∙ ap (λ (x : List (List ℕ)). x ++ eos ∷ names_in result) (streams_names s.streams) ∙ ap (λ (x : List (List ℕ)). streams_ports s.streams ++ eos ∷ x) outs in
-    sym (shape_names net net.ports) ∙ ap names_in h ∙ ap (λ (x : List (List ℕ)). rst ∷ x) ins
+    ap (λ (x : List (List ℕ)). rst ∷ x) ins
+
+pub names_are : (net : Net) (s : Schema) (k : ℕ) (ps : List ℕ) (ns : List (List ℕ)) → length ps ≡ length ns → port_shapes net ≡ emitted_ports s k ps ns → names_of net ≡ port_names s ns
+unfolding port_shapes
+names_are net s k ps ns e h = sym (shape_names net net.ports) ∙ ap names_in h ∙ emitted_names s k ps ns e

@@ -1,0 +1,177 @@
+-- The ports of a module with the ports of an emitted netlist.
+use Rattle.std.proofs.Common.{◌≡◌, ℕ, zero, suc, Bool, true, false, not, List, [], ◌∷◌, ◌++◌, length, map, take, Option, Some, None, refl, sym, ap, subst, ◌∙◌, arith, codes}
+use Rattle.std.specs.Prelude.{IsTrue, bytes_eq, find, filter, slice_get, slice_index, ◌==◌}
+use Rattle.std.specs.List.{AllByRecursion, IsDistinct, list_any}
+use Rattle.std.proofs.lemmas.List.{append-nil}
+use Rattle.std.proofs.lemmas.Slice.Eq.{bytes_eq-Decides}
+use Rattle.gl_bits.specs.Kinds as kinds
+use Rattle.gl_schema.specs.declared.schema.Column.{Column}
+use Rattle.gl_schema.specs.declared.schema.Stream.{Stream}
+use Rattle.gl_schema.specs.Names.{IsName}
+use Rattle.gl_schema.specs.Schemas.{has_column}
+use Rattle.gl_schema.specs.Ports.{rst, eos, out_valid, out_column, out_eos, fault_group, fault_queue}
+use Rattle.gl_query.specs.Values.{column_number, column_kind}
+use Rattle.gl_net.specs.declared.node.Port.{Port}
+use Rattle.gl_net.specs.Net as net
+use Rattle.gl_net.specs.PortValues.{PortShape, port_shape, port_shapes}
+use Rattle.gl_net.specs.PortValues as seen
+use Rattle.gl_verilog.specs.Module.{Module, Declaration}
+use Rattle.gl_verilog_writer.specs.Meaning.{declaration_of, clock, kind_of}
+use Rattle.gl_verilog_writer.specs.Meaning as writer
+use Rattle.gl_wiring.specs.EmittedPorts.{input, output, column_widths, column_inputs, stream_inputs, streams_inputs, column_outputs, result_outputs}
+use Rattle.gl_wiring.proofs.PortNames.{no_valid, out_valid-column, tail_apart, bytes_eq-false}
+use Rattle.gl_compiler.proofs.Built.{next_at}
+use Rattle.gl_compiler.specs.Profile.{shows_column, ports_of}
+
+-- the declaration of a port
+abbrev pub decl : PortShape → Declaration
+decl s = record { name = s.name; width = s.width; is_vector = not (s.width == 1); kind = kind_of s.direction }
+
+same_bits : (o : Option net.Shape) → writer.bits_of o ≡ seen.bits_of o
+same_bits (Some (net.Value w)) = refl
+same_bits (Some (net.Words b w)) = refl
+same_bits None = refl
+
+abbrev declared : Port → ℕ → Declaration
+declared p w = record { name = p.name; width = w; is_vector = not (w == 1); kind = kind_of p.direction }
+
+declared_shapes : (n : net.Net) (ports : List Port) → map (declaration_of n) ports ≡ map decl (map (port_shape n) ports)
+declared_shapes n [] = refl
+declared_shapes n (p ∷ ports) =
+    ap (λ (w : ℕ). declared p w ∷ map (declaration_of n) ports) (same_bits (net.shape_in n.nodes p.node))
+    ∙ ap (λ (x : List Declaration). decl (port_shape n p) ∷ x) (declared_shapes n ports)
+
+pub ports_are : (n : net.Net) (m : Module) (shapes : List PortShape) → ports_of m ≡ clock ∷ map (declaration_of n) n.ports → port_shapes n ≡ shapes → ports_of m ≡ clock ∷ map decl shapes
+unfolding port_shapes
+ports_are n m shapes e h = e ∙ ap (λ (x : List Declaration). clock ∷ x) (declared_shapes n n.ports ∙ ap (map decl) h)
+
+-- ---- which ports show columns
+
+abbrev Hidden : List PortShape → Type 0
+Hidden shapes = AllByRecursion (λ (s : PortShape). shows_column (decl s) ≡ false) shapes
+
+abbrev Seen : List PortShape → Type 0
+Seen shapes = AllByRecursion (λ (s : PortShape). shows_column (decl s) ≡ true) shapes
+
+filter_hidden : (xs ys : List PortShape) → Hidden xs → filter shows_column (map decl (xs ++ ys)) ≡ filter shows_column (map decl ys)
+filter_hidden [] ys h = refl
+filter_hidden (x ∷ xs) ys h = rw h.0 (filter_hidden xs ys h.1)
+
+filter_seen : (xs ys : List PortShape) → Seen xs → filter shows_column (map decl (xs ++ ys)) ≡ map decl xs ++ filter shows_column (map decl ys)
+filter_seen [] ys h = refl
+filter_seen (x ∷ xs) ys h = rw h.0 (ap (λ (t : List Declaration). decl x ∷ t) (filter_seen xs ys h.1))
+
+Hidden-join : (xs ys : List PortShape) → Hidden xs → Hidden ys → Hidden (xs ++ ys)
+Hidden-join [] ys h k = k
+Hidden-join (x ∷ xs) ys h k = (h.0, Hidden-join xs ys h.1 k)
+
+columns_hidden : (s : List ℕ) (cs : List Column) → Hidden (column_inputs s cs)
+columns_hidden s [] = tt
+columns_hidden s (c ∷ cs) = (refl, columns_hidden s cs)
+
+streams_hidden : (ss : List Stream) → Hidden (streams_inputs ss)
+streams_hidden [] = tt
+streams_hidden (s ∷ ss) = Hidden-join (stream_inputs s) (streams_inputs ss) (refl, columns_hidden s.name s.columns) (streams_hidden ss)
+
+valid_hidden : shows_column (decl (output out_valid 1)) ≡ false
+unfolding out_valid out_eos
+valid_hidden = refl
+
+tail_hidden : Hidden (output out_eos 1 ∷ output fault_group 1 ∷ output fault_queue 1 ∷ [])
+unfolding out_valid out_eos fault_group fault_queue
+tail_hidden = (refl, (refl, (refl, tt)))
+
+begins_out : (n : List ℕ) → bytes_eq (take 5 (out_column n)) (codes "out__") ≡ true
+unfolding out_column
+begins_out n = refl
+
+column_seen : (n : List ℕ) (w : ℕ) → IsName n → shows_column (decl (output (out_column n) w)) ≡ true
+column_seen n w h =
+    rw (begins_out n, bytes_eq-false (out_column n) out_valid (λ e. no_valid n h (out_valid-column n (sym e))), bytes_eq-false (out_column n) out_eos (tail_apart n h).0) refl
+
+outputs_seen : (ws ps : List ℕ) (ns : List (List ℕ)) → AllByRecursion IsName ns → Seen (column_outputs ws ps ns)
+outputs_seen ws [] ns h = tt
+outputs_seen ws (p ∷ ps) [] h = tt
+outputs_seen ws (p ∷ ps) (n ∷ ns) h = (column_seen n (slice_index ws p) h.0, outputs_seen ws ps ns h.1)
+
+-- the ports that show columns are the outputs of the columns
+pub columns_shown : (ss : List Stream) (ws ps : List ℕ) (ns : List (List ℕ)) → AllByRecursion IsName ns → filter shows_column (clock ∷ map decl (input rst 1 ∷ (streams_inputs ss ++ input eos 1 ∷ result_outputs ws ps ns))) ≡ map decl (column_outputs ws ps ns)
+columns_shown ss ws ps ns h =
+    let tail = output out_eos 1 ∷ output fault_group 1 ∷ output fault_queue 1 ∷ [] in
+    let cols = column_outputs ws ps ns in
+    let none : filter shows_column (map decl (tail ++ [])) ≡ [] = filter_hidden tail [] tail_hidden in
+    filter_hidden (streams_inputs ss) (input eos 1 ∷ result_outputs ws ps ns) (streams_hidden ss)
+    ∙ filter_hidden (output out_valid 1 ∷ []) (cols ++ tail) (valid_hidden, tt)
+    ∙ filter_seen cols tail (outputs_seen ws ps ns h)
+    ∙ ap (λ (x : List Declaration). map decl cols ++ x) none ∙ append-nil (map decl cols)
+
+pub shown_names : (ws ps : List ℕ) (ns : List (List ℕ)) → length ps ≡ length ns → map (λ (d : Declaration). d.name) (map decl (column_outputs ws ps ns)) ≡ map out_column ns
+shown_names ws [] [] e = refl
+shown_names ws [] (n ∷ ns) e = absurd (omega arith)
+shown_names ws (p ∷ ps) [] e = absurd (omega arith)
+shown_names ws (p ∷ ps) (n ∷ ns) e = ap (λ (x : List (List ℕ)). out_column n ∷ x) (shown_names ws ps ns (omega arith))
+
+pub shown_widths : (ws ps : List ℕ) (ns : List (List ℕ)) → length ps ≡ length ns → map (λ (d : Declaration). d.width) (map decl (column_outputs ws ps ns)) ≡ map (slice_index ws) ps
+shown_widths ws [] [] e = refl
+shown_widths ws [] (n ∷ ns) e = absurd (omega arith)
+shown_widths ws (p ∷ ps) [] e = absurd (omega arith)
+shown_widths ws (p ∷ ps) (n ∷ ns) e = ap (λ (x : List ℕ). slice_index ws p ∷ x) (shown_widths ws ps ns (omega arith))
+
+-- ---- the columns by name
+
+-- the column of a name that there is
+pub column_there : (cs : List Column) (n : List ℕ) → has_column cs n ≡ true → (c : Column) × (slice_get cs (column_number cs n) ≡ Some c)
+unfolding has_column
+column_there [] n h = absurd cc
+column_there (c ∷ cs) n h = by (bytes_eq n c.name) refl (column_there cs n)
+  where
+    by : (b : Bool) → bytes_eq n c.name ≡ b → (list_any (λ (x : Column). bytes_eq n x.name) cs ≡ true → (x : Column) × (slice_get cs (column_number cs n) ≡ Some x)) → (x : Column) × (slice_get (c ∷ cs) (column_number (c ∷ cs) n) ≡ Some x)
+    by true e rest = (c, rw e refl)
+    by false e rest = let r = rest (rw e at h) in (r.0, rw e (next_at c cs (column_number cs n) ∙ r.1))
+
+width_at : (cs : List Column) (p : ℕ) (c : Column) → slice_get cs p ≡ Some c → slice_index (column_widths cs) p ≡ kinds.width_of c.kind
+width_at [] p c h = absurd cc
+width_at (x ∷ cs) zero c h = let same : x ≡ c = cc in ap (λ (y : Column). kinds.width_of y.kind) same
+width_at (x ∷ cs) (suc p) c h = width_at cs p c h
+
+kind_there : (cs : List Column) (n : List ℕ) (c : Column) → slice_get cs (column_number cs n) ≡ Some c → column_kind cs n ≡ c.kind
+kind_there cs n c h = rw h refl
+
+pub widths_by_name : (cs : List Column) (ns : List (List ℕ)) → AllByRecursion (λ n. IsTrue (has_column cs n)) ns → map (slice_index (column_widths cs)) (map (column_number cs) ns) ≡ map kinds.width_of (map (column_kind cs) ns)
+widths_by_name cs [] h = refl
+widths_by_name cs (n ∷ ns) h =
+    let c = column_there cs n h.0 in
+    let first : slice_index (column_widths cs) (column_number cs n) ≡ kinds.width_of (column_kind cs n) = width_at cs (column_number cs n) c.0 c.1 ∙ ap kinds.width_of (sym (kind_there cs n c.0 c.1)) in
+    ap (λ (x : ℕ). x ∷ map (slice_index (column_widths cs)) (map (column_number cs) ns)) first
+    ∙ ap (λ (x : List ℕ). kinds.width_of (column_kind cs n) ∷ x) (widths_by_name cs ns h.1)
+
+-- ---- a port by its name
+
+-- the shape stands among these
+pub record Stands (s : PortShape) (xs : List PortShape) : Type 0 where
+  pub place : ℕ
+  pub there : slice_get xs place ≡ Some s
+
+pub stands_next : (s x : PortShape) (xs : List PortShape) → Stands s xs → Stands s (x ∷ xs)
+stands_next s x xs h = record { place = suc h.place; there = h.there }
+
+pub stands_behind : (s : PortShape) (xs ys : List PortShape) → Stands s ys → Stands s (xs ++ ys)
+stands_behind s [] ys h = h
+stands_behind s (x ∷ xs) ys h = stands_next s x (xs ++ ys) (stands_behind s xs ys h)
+
+name_of : (P : List ℕ → Type 0) (xs : List PortShape) (i : ℕ) (s : PortShape) → AllByRecursion P (map (λ (x : PortShape). x.name) xs) → slice_get xs i ≡ Some s → P s.name
+name_of P [] i s all h = absurd cc
+name_of P (x ∷ xs) zero s all h = let same : x ≡ s = cc in subst (λ (y : PortShape). P y.name) same all.0
+name_of P (x ∷ xs) (suc i) s all h = name_of P xs i s all.1 h
+
+-- what stands for a shape is found by the shape's name, where no two have one name
+pub found_named : {A : Type 0} (called : A → List ℕ) (f : PortShape → A) → ((s : PortShape) → called (f s) ≡ s.name) → (xs : List PortShape) (i : ℕ) (s : PortShape) → IsDistinct bytes_eq (map (λ (x : PortShape). x.name) xs) → slice_get xs i ≡ Some s → find (λ (a : A). bytes_eq (called a) s.name) (map f xs) ≡ Some (f s)
+unfolding IsDistinct
+found_named called f names [] i s distinct h = absurd cc
+found_named {A} called f names (x ∷ xs) zero s distinct h =
+    let same : x ≡ s = cc in
+    let e : bytes_eq (called (f x)) s.name ≡ true = (bytes_eq-Decides (called (f x)) s.name).1 (names x ∙ ap (λ (y : PortShape). y.name) same) in
+    rw e (ap (λ (y : PortShape). Some (f y)) same)
+found_named {A} called f names (x ∷ xs) (suc i) s distinct h =
+    let e : bytes_eq (called (f x)) s.name ≡ false = ap (λ (n : List ℕ). bytes_eq n s.name) (names x) ∙ name_of (λ n. bytes_eq x.name n ≡ false) xs i s distinct.0 h in
+    rw e (found_named called f names xs i s distinct.1 h)
