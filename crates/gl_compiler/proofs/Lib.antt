@@ -1,5 +1,3 @@
-pub mod Fitting
-pub mod Rows
 pub mod Built
 pub mod Selected
 pub mod Inner
@@ -8,4 +6,16 @@ pub mod Faces
 pub mod Wired
 pub mod Fits
 pub mod Meeting
+pub mod Ready
+pub mod CheckedFitting
+pub mod CheckedRows
+pub mod Declared
+pub mod Carries
+pub mod Inputs
+pub mod Outputs
+pub mod Rows
+pub mod Puts
+pub mod Due
+pub mod Making
 pub mod Running
+pub mod Each
