@@ -7,8 +7,6 @@ pub mod Wired
 pub mod Fits
 pub mod Meeting
 pub mod Ready
-pub mod CheckedFitting
-pub mod CheckedRows
 pub mod Declared
 pub mod Carries
 pub mod Inputs
@@ -19,3 +17,4 @@ pub mod Due
 pub mod Making
 pub mod Running
 pub mod Each
+pub mod Shaped

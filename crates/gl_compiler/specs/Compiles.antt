@@ -10,6 +10,7 @@ use Rattle.gl_compiler.specs.declared.compiling.CompileFault.{CompileFault}
 use Rattle.gl_compiler.specs.declared.compiling.CompileFault.TheVariants as fault
 use Rattle.gl_compiler.specs.Selecting.{IsBuilt}
 use Rattle.gl_compiler.specs.Meets.{Meets, result_columns}
+use Rattle.gl_compiler.specs.Queries.{IsQuery, IsQueryRefused}
 
 -- what was compiled of a statement over a schema: every run of the text is right, within the figures that are printed
 pub record IsCompiled (schema : Schema) (statement : Statement) (c : Compiled) : Type 0 where
@@ -21,9 +22,10 @@ pub record IsCompiled (schema : Schema) (statement : Statement) (c : Compiled) :
   pub gap : c.printed.gap ≡ 1
   pub meets : Meets schema statement c.printed.latency c.printed.gap c.text.items
 
--- of the text of a schema
-pub record IsCompiledText (text : List ℕ) (c : Compiled) : Type 0 where
+-- of the texts of a schema and of a query
+pub record IsCompiledText (text query : List ℕ) (c : Compiled) : Type 0 where
   pub schema : IsSchemaText text c.schema
+  pub query' : IsQuery c.schema query c.statement
   pub compiled : IsCompiled c.schema c.statement c
 
 -- why a statement is not compiled: it is no select that is built
@@ -33,22 +35,15 @@ IsRefused schema statement (fault.Query f) = ⊥
 IsRefused schema statement fault.NotBuilt = IsBuilt schema statement → ⊥
 IsRefused schema statement fault.Memory = Unit {0}
 
--- why the text of a query is not compiled: it is not read, or the statement that was read is no select that is built
-abbrev pub IsQueryRefused : Schema → CompileFault → Type 0
-IsQueryRefused schema (fault.Schema f) = ⊥
-IsQueryRefused schema (fault.Query f) = Unit {0}
-IsQueryRefused schema fault.NotBuilt = (statement : Statement) × (IsBuilt schema statement → ⊥)
-IsQueryRefused schema fault.Memory = Unit {0}
-
 -- the text has a schema over which this is so
 pub record OfSchema (text : List ℕ) (P : Schema → Type 0) : Type 0 where
   pub schema : Schema
   pub is : IsSchemaText text schema
   pub so : P schema
 
--- the same over the text of a schema, whose first fault it is
-abbrev pub IsTextRefused : List ℕ → CompileFault → Type 0
-IsTextRefused text (fault.Schema f) = Fails f (schema_of text)
-IsTextRefused text (fault.Query f) = OfSchema text (λ schema. IsQueryRefused schema (fault.Query f))
-IsTextRefused text fault.NotBuilt = OfSchema text (λ schema. IsQueryRefused schema fault.NotBuilt)
-IsTextRefused text fault.Memory = Unit {0}
+-- why texts are not compiled: the schema's first fault, or why the query is refused over the schema
+abbrev pub IsTextRefused : List ℕ → List ℕ → CompileFault → Type 0
+IsTextRefused text query (fault.Schema f) = Fails f (schema_of text)
+IsTextRefused text query (fault.Query f) = OfSchema text (λ schema. IsQueryRefused schema query (fault.Query f))
+IsTextRefused text query fault.NotBuilt = OfSchema text (λ schema. IsQueryRefused schema query fault.NotBuilt)
+IsTextRefused text query fault.Memory = Unit {0}

@@ -1,5 +1,4 @@
 pub mod Selecting
-pub mod CheckedBenches
 pub mod Carried
 pub mod Benches
 pub mod Cycles
@@ -7,3 +6,5 @@ pub mod Profile
 pub mod Prints
 pub mod Meets
 pub mod Compiles
+pub mod Queries
+pub mod Outcomes

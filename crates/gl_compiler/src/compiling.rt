@@ -1,12 +1,14 @@
 //! Compiling a query.
 
-ghost use Rattle.std.specs.Prelude.{◌≡◌, ◌≤◌, IfOk, MatchResult, length};
+ghost use Rattle.std.specs.Prelude.{◌≡◌, ◌≤◌, IfOk, IfErr, MatchResult, length};
 ghost use Rattle.std.specs.List.{AllByRecursion};
 ghost use Rattle.gl_bits.specs.Kinds.{IsKind};
-ghost use Rattle.gl_schema.specs.Schemas.{IsSchema};
+ghost use Rattle.gl_query.specs.declared.tree.Statement.{Statement as Stated};
+ghost use Rattle.gl_schema.specs.Schemas.{IsSchema, kinds_of};
 ghost use Rattle.gl_compiler.specs.Selecting.{IsSelectOf};
-ghost use Rattle.gl_compiler.specs.Meets.{Meets};
-ghost use Rattle.gl_compiler.specs.Compiles.{IsCompiled, IsCompiledText, IsRefused, IsQueryRefused, IsTextRefused};
+ghost use Rattle.gl_compiler.specs.Meets.{Meets, result_columns};
+ghost use Rattle.gl_compiler.specs.Queries.{IsQuery, IsQueryRefused, IfRefused, fault_of_query, latency_of, gap_of};
+ghost use Rattle.gl_compiler.specs.Compiles.{IsCompiled, IsCompiledText, IsRefused, IsTextRefused};
 
 use crate::select::{Select, select_of};
 use gl_bits::{Kind, Listed, Memory};
@@ -138,23 +140,45 @@ pub fn compile_statement(
 }
 
 /// Compiles the text of a query over a schema.
+///
+/// `Query` is the first fault of the text, and comes exactly where it has no statement; `NotBuilt`
+/// comes exactly where its statement is not of the form that is compiled.
 pub fn compile_query(alloc: Global, schema: Schema, query: &[u8]) -> Result<Compiled, CompileFault>
     requires { IsSchema schema }
-    ensures compiled { MatchResult result (λ c. IsCompiled schema c.statement c) (IsQueryRefused schema) }
     ensures schema { IfOk result (λ c. c.schema ≡ schema) }
+    ensures built { IfOk result (λ c. IsQuery schema query.now c.statement) }
     ensures many { IfOk result (λ c. length c.kinds ≤ 32) }
     ensures kinds { IfOk result (λ c. AllByRecursion IsKind c.kinds) }
+    ensures columns { IfOk result (λ c. c.kinds ≡ kinds_of (result_columns schema c.statement)) }
+    ensures latency { IfOk result (λ c. c.printed.latency ≡ latency_of schema c.statement) }
+    ensures gap { IfOk result (λ c. c.printed.gap ≡ gap_of schema c.statement) }
+    ensures meets { IfOk result (λ c. Meets schema c.statement c.printed.latency c.printed.gap c.text.items) }
+    ensures cause { IfErr result (IsQueryRefused schema query.now) }
+    ensures refused { IfErr result (λ fault. IfRefused fault ((statement : Stated) → IsQuery schema query.now statement → ⊥)) }
 {
-    match read_query(alloc, query) {
-        Ok(statement) => compile_statement(alloc, schema, statement),
-        Err(QueryFault::Memory) => Err(CompileFault::Memory),
-        Err(fault) => Err(CompileFault::Query(fault)),
+    let statement = match read_query(alloc, query) {
+        Ok(statement) => statement,
+        Err(fault) => return Err(query_fault(fault)),
+    };
+    match compile_statement(alloc, schema, statement) {
+        Ok(compiled) => Ok(compiled),
+        Err(fault) => Err(fault),
+    }
+}
+
+// The fault of a query's text.
+fn query_fault(fault: QueryFault) -> CompileFault
+    ensures { result ≡ fault_of_query fault }
+{
+    match fault {
+        QueryFault::Memory => CompileFault::Memory,
+        fault => CompileFault::Query(fault),
     }
 }
 
 /// Compiles the text of a query over the text of a schema.
 pub fn compile(alloc: Global, schema: &[u8], query: &[u8]) -> Result<Compiled, CompileFault>
-    ensures { MatchResult result (IsCompiledText schema.now) (IsTextRefused schema.now) }
+    ensures { MatchResult result (IsCompiledText schema.now query.now) (IsTextRefused schema.now query.now) }
 {
     match read_schema(alloc, schema) {
         Ok(schema) => compile_query(alloc, schema, query),

@@ -29,6 +29,7 @@ use gl_sim::room::{ports_of, zeros};
 use gl_sim::{Sim, Start};
 use gl_tuples::{Beat, Beats};
 use gl_verilog::Module;
+use gl_verilog_reader::read_module;
 use std::alloc::Global;
 
 /// How a run ended.
@@ -282,4 +283,33 @@ pub fn execute_module<K: Sink>(
         Ok(()) => Outcome::Done,
         Err(_) => Outcome::WriteFault,
     }
+}
+
+/// Runs the text of a module over beats, and writes the lines of the result, as `execute_module`
+/// does.
+pub fn execute<K: Sink>(
+    alloc: Global,
+    text: &[u8],
+    schema: &Schema,
+    kinds: &[Kind],
+    beats: &Beats,
+    latency: u64,
+    start: Start,
+    out: &mut K,
+) -> Outcome
+    requires schema { IsSchema schema.now }
+    requires beats { AreBeats schema.now (plain_beats beats.now) }
+    requires many { length kinds.now ≤ 32 }
+    requires kinds { AllByRecursion IsKind kinds.now }
+    requires runs { CanRun text.now schema.now kinds.now (plain_beats beats.now) latency start }
+    ensures done { result ≡ Outcome.Done → OfEachRun text.now schema.now (plain_beats beats.now) start (λ outs port. Writes kinds.now (plain_beats beats.now) outs port (K.taken out.old) (K.taken out.new)) }
+    ensures fault { result ≡ Outcome.WriteFault → Rose (K.faults out.old) (K.faults out.new) × OfEachRun text.now schema.now (plain_beats beats.now) start (λ outs port. WritesFront kinds.now (plain_beats beats.now) outs port (K.taken out.old) (K.taken out.new)) }
+    ensures memory { result ≡ Outcome.Memory → (K.taken out.new ≡ K.taken out.old) × (K.faults out.new ≡ K.faults out.old) }
+    ensures never_falls { K.faults out.old ≤ K.faults out.new }
+{
+    // The text has a module, so that only memory can be wanting.
+    let Ok(design) = read_module(alloc, text) else {
+        return Outcome::Memory;
+    };
+    execute_module(alloc, design, schema, kinds, beats, latency, start, out)
 }

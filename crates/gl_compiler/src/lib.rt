@@ -2,10 +2,6 @@
 #![tactic(auto)]
 
 mod bench;
-pub mod checked;
-mod checked_bench;
-mod checked_lines;
-pub mod checked_pins;
 pub mod compiling;
 pub mod executing;
 mod lines;
@@ -13,6 +9,5 @@ pub mod looking;
 pub mod pins;
 pub mod select;
 
-pub use checked::{Outcome, execute};
 pub use compiling::{CompileFault, Compiled, compile, compile_query, compile_statement};
-pub use executing::execute_module;
+pub use executing::{Outcome, execute, execute_module};

@@ -1,117 +1,255 @@
 //! The one line that tells why the program ends as it does.
 
+ghost use Rattle.std.specs.Prelude.{◌≡◌, ◌≤◌, ◌++◌, codes, decimal, OnOk, OnErr};
+ghost use Rattle.gl_outside.specs.Counts.{Rose};
+ghost use Rattle.gl_outside.specs.Taken.{Appends, AppendsFront};
+ghost use Rattle.gl_top.specs.Forms as forms;
+ghost use Rattle.gl_top.specs.Refusals as told;
+ghost use Rattle.gl_top.specs.Refusals.{line, kind_line, note_of, usage_line, memory_line, write_line, Puts, puts, Took, Broke, Notes};
+
+use crate::form::{Part, name_of};
 use crate::status::Status;
-use gl_outside::{Sink, WriteFault, write_all_of};
+use gl_outside::{Sink, Words, WriteFault, write_all_of};
 use gl_schema::SchemaFault;
 use gl_tuples::TupleFault;
 use itoa::Buffer;
 
-/// Why the program ends before its work is done. A name is one of the words.
-#[derive(Drop)]
-pub enum Refusal<'a> {
+/// Why the program ends before anything is written.
+#[derive(Drop, Debug)]
+pub enum Refusal {
     /// The words are of no form.
     Usage,
     /// The shelf has no text of the name.
-    Missing(&'a str),
-    /// The shelf failed at the name.
-    ReadFault(&'a str),
-    /// The text of the name is too long.
-    TooLong(&'a str),
-    /// The sink of the output failed.
-    WriteFault,
+    Missing(Part),
+    /// The shelf failed at the text.
+    ReadFault(Part),
+    /// The text is too long.
+    TooLong(Part),
     /// The schema is refused.
     Schema(SchemaFault),
+    /// The query is not compiled yet.
+    NotBuilt,
     /// The tuple file is refused.
     Tuples(TupleFault),
-    /// The query of the name is not compiled yet.
-    NotBuilt(&'a str),
     /// Want of memory.
     Memory,
 }
 
-const USAGE: &str = "usage: glacier run S Q T";
-
-// Writes a line of two parts.
-fn put_line<N: Sink>(notes: &mut N, first: &str, second: &str) -> Result<(), WriteFault> {
-    write_all_of(notes, first.as_bytes())?;
-    write_all_of(notes, second.as_bytes())?;
+// Writes a line of a head and what it tells of.
+#[tactic(auto, using(gl_outside::proofs::Takes::pieces, gl_outside::proofs::Counting::rose_later))]
+fn put_line<N: Sink>(notes: &mut N, head: &[u8], rest: &[u8]) -> Result<(), WriteFault>
+    ensures all { OnOk result (Appends (N.taken notes.old) (N.taken notes.new) (line head.now rest.now)) }
+    ensures front { OnErr result (AppendsFront (N.taken notes.old) (N.taken notes.new) (line head.now rest.now)) }
+    ensures cause { OnErr result (Rose (N.faults notes.old) (N.faults notes.new)) }
+    ensures never_falls { N.faults notes.old ≤ N.faults notes.new }
+{
+    write_all_of(notes, head)?;
+    write_all_of(notes, rest)?;
     write_all_of(notes, b"\n")
 }
 
+// Writes a line of a head and the name of a text.
+fn put_name<N: Sink>(
+    notes: &mut N,
+    head: &[u8],
+    words: &Words,
+    part: Part,
+) -> Result<(), WriteFault>
+    ensures all { OnOk result (Appends (N.taken notes.old) (N.taken notes.new) (line head.now (forms.name_of words.now part))) }
+    ensures front { OnErr result (AppendsFront (N.taken notes.old) (N.taken notes.new) (line head.now (forms.name_of words.now part))) }
+    ensures cause { OnErr result (Rose (N.faults notes.old) (N.faults notes.new)) }
+{
+    put_line(notes, head, name_of(words, part).as_bytes())
+}
+
 // Writes a line of a text and a number.
-fn put_place<N: Sink>(notes: &mut N, first: &str, number: u64) -> Result<(), WriteFault> {
+fn put_number<N: Sink>(notes: &mut N, head: &[u8], number: u64) -> Result<(), WriteFault>
+    ensures all { OnOk result (Appends (N.taken notes.old) (N.taken notes.new) (line head.now (decimal number))) }
+    ensures front { OnErr result (AppendsFront (N.taken notes.old) (N.taken notes.new) (line head.now (decimal number))) }
+    ensures cause { OnErr result (Rose (N.faults notes.old) (N.faults notes.new)) }
+    ensures never_falls { N.faults notes.old ≤ N.faults notes.new }
+{
     let mut buffer = Buffer::new();
-    put_line(notes, first, buffer.format(number))
+    put_line(notes, head, buffer.format(number).as_bytes())
 }
 
-// Writes the line of a fault of a schema.
-fn put_schema<N: Sink>(notes: &mut N, fault: &SchemaFault) -> Result<(), WriteFault> {
+// Writes a line of a kind and a number.
+#[tactic(auto, using(gl_outside::proofs::Takes::pieces, gl_outside::proofs::Counting::rose_later))]
+fn put_kind<N: Sink>(
+    notes: &mut N,
+    head: &[u8],
+    kind: &[u8],
+    middle: &[u8],
+    number: u64,
+) -> Result<(), WriteFault>
+    ensures all { OnOk result (Appends (N.taken notes.old) (N.taken notes.new) (kind_line head.now kind.now middle.now number)) }
+    ensures front { OnErr result (AppendsFront (N.taken notes.old) (N.taken notes.new) (kind_line head.now kind.now middle.now number)) }
+    ensures cause { OnErr result (Rose (N.faults notes.old) (N.faults notes.new)) }
+    ensures never_falls { N.faults notes.old ≤ N.faults notes.new }
+{
+    write_all_of(notes, head)?;
+    write_all_of(notes, kind)?;
+    put_number(notes, middle, number)
+}
+
+// The kind of a fault of a schema, and its place.
+#[tactic(auto, unfolding(crate::specs::Refusals::schema_kind))]
+fn schema_kind(fault: &SchemaFault) -> &'static [u8]
+    ensures { result.now ≡ told.schema_kind fault.now }
+{
     match fault {
-        SchemaFault::Syntax { at } => put_place(notes, "schema: Syntax at ", *at),
-        SchemaFault::BadName { at } => put_place(notes, "schema: BadName at ", *at),
-        SchemaFault::BadKind { at } => put_place(notes, "schema: BadKind at ", *at),
-        SchemaFault::Twice { at } => put_place(notes, "schema: Twice at ", *at),
-        SchemaFault::TooMany { at } => put_place(notes, "schema: TooMany at ", *at),
-        SchemaFault::Memory => put_line(notes, "out of memory", ""),
+        SchemaFault::Syntax { .. } => b"Syntax",
+        SchemaFault::BadName { .. } => b"BadName",
+        SchemaFault::BadKind { .. } => b"BadKind",
+        SchemaFault::Twice { .. } => b"Twice",
+        SchemaFault::TooMany { .. } => b"TooMany",
+        SchemaFault::Memory => b"Memory",
     }
 }
 
-// The words before the number of the record that breaks a rule.
-fn tuples_text(fault: &TupleFault) -> (&'static str, u64) {
+fn schema_place(fault: &SchemaFault) -> u64
+    ensures { result ≡ told.schema_place fault.now }
+{
     match fault {
-        TupleFault::NotUtf8 { number } => ("tuples: NotUtf8 at record ", *number),
-        TupleFault::BadCycle { number } => ("tuples: BadCycle at record ", *number),
-        TupleFault::CycleFalls { number } => ("tuples: CycleFalls at record ", *number),
-        TupleFault::CycleTooLarge { number } => ("tuples: CycleTooLarge at record ", *number),
-        TupleFault::UnknownStream { number } => ("tuples: UnknownStream at record ", *number),
-        TupleFault::FieldCount { number } => ("tuples: FieldCount at record ", *number),
-        TupleFault::BadValue { number } => ("tuples: BadValue at record ", *number),
-        TupleFault::StreamTwice { number } => ("tuples: StreamTwice at record ", *number),
-        TupleFault::AfterEnd { number } => ("tuples: AfterEnd at record ", *number),
-        TupleFault::TooClose { number } => ("tuples: TooClose at record ", *number),
-        TupleFault::Memory => ("tuples: Memory at record ", 0),
+        SchemaFault::Syntax { at }
+        | SchemaFault::BadName { at }
+        | SchemaFault::BadKind { at }
+        | SchemaFault::Twice { at }
+        | SchemaFault::TooMany { at } => *at,
+        SchemaFault::Memory => 0,
     }
+}
+
+// The kind of a fault of a tuple file, and its record.
+#[tactic(auto, unfolding(crate::specs::Refusals::tuples_kind))]
+fn tuples_kind(fault: &TupleFault) -> &'static [u8]
+    ensures { result.now ≡ told.tuples_kind fault.now }
+{
+    match fault {
+        TupleFault::NotUtf8 { .. } => b"NotUtf8",
+        TupleFault::BadCycle { .. } => b"BadCycle",
+        TupleFault::CycleFalls { .. } => b"CycleFalls",
+        TupleFault::CycleTooLarge { .. } => b"CycleTooLarge",
+        TupleFault::UnknownStream { .. } => b"UnknownStream",
+        TupleFault::FieldCount { .. } => b"FieldCount",
+        TupleFault::BadValue { .. } => b"BadValue",
+        TupleFault::StreamTwice { .. } => b"StreamTwice",
+        TupleFault::AfterEnd { .. } => b"AfterEnd",
+        TupleFault::TooClose { .. } => b"TooClose",
+        TupleFault::Memory => b"Memory",
+    }
+}
+
+fn tuples_record(fault: &TupleFault) -> u64
+    ensures { result ≡ told.tuples_record fault.now }
+{
+    match fault {
+        TupleFault::NotUtf8 { number }
+        | TupleFault::BadCycle { number }
+        | TupleFault::CycleFalls { number }
+        | TupleFault::CycleTooLarge { number }
+        | TupleFault::UnknownStream { number }
+        | TupleFault::FieldCount { number }
+        | TupleFault::BadValue { number }
+        | TupleFault::StreamTwice { number }
+        | TupleFault::AfterEnd { number }
+        | TupleFault::TooClose { number } => *number,
+        TupleFault::Memory => 0,
+    }
+}
+
+// Writes the usage line.
+#[tactic(auto, unfolding(crate::specs::Refusals::usage_line))]
+fn put_usage<N: Sink>(notes: &mut N) -> Result<(), WriteFault>
+    ensures all { OnOk result (Appends (N.taken notes.old) (N.taken notes.new) usage_line) }
+    ensures front { OnErr result (AppendsFront (N.taken notes.old) (N.taken notes.new) usage_line) }
+    ensures cause { OnErr result (Rose (N.faults notes.old) (N.faults notes.new)) }
+{
+    write_all_of(notes, b"usage: glacier run S Q T\n")
+}
+
+// Writes the line of want of memory.
+#[tactic(auto, unfolding(crate::specs::Refusals::memory_line))]
+fn put_memory<N: Sink>(notes: &mut N) -> Result<(), WriteFault>
+    ensures all { OnOk result (Appends (N.taken notes.old) (N.taken notes.new) memory_line) }
+    ensures front { OnErr result (AppendsFront (N.taken notes.old) (N.taken notes.new) memory_line) }
+    ensures cause { OnErr result (Rose (N.faults notes.old) (N.faults notes.new)) }
+{
+    write_all_of(notes, b"out of memory\n")
+}
+
+// Writes the line of an output that could not be written.
+#[tactic(auto, unfolding(crate::specs::Refusals::write_line))]
+fn put_write_fault<N: Sink>(notes: &mut N) -> Result<(), WriteFault>
+    ensures all { OnOk result (Appends (N.taken notes.old) (N.taken notes.new) write_line) }
+    ensures front { OnErr result (AppendsFront (N.taken notes.old) (N.taken notes.new) write_line) }
+    ensures cause { OnErr result (Rose (N.faults notes.old) (N.faults notes.new)) }
+{
+    write_all_of(notes, b"write fault\n")
 }
 
 // Writes the line of a refusal.
-fn put_note<N: Sink>(notes: &mut N, refusal: &Refusal) -> Result<(), WriteFault> {
+fn put_note<N: Sink>(notes: &mut N, words: &Words, refusal: &Refusal) -> Result<(), WriteFault>
+    ensures all { OnOk result (Appends (N.taken notes.old) (N.taken notes.new) (note_of words.now refusal.now)) }
+    ensures front { OnErr result (AppendsFront (N.taken notes.old) (N.taken notes.new) (note_of words.now refusal.now)) }
+    ensures cause { OnErr result (Rose (N.faults notes.old) (N.faults notes.new)) }
+{
     match refusal {
-        Refusal::Usage => put_line(notes, USAGE, ""),
-        Refusal::Missing(name) => put_line(notes, "missing: ", name),
-        Refusal::ReadFault(name) => put_line(notes, "read fault: ", name),
-        Refusal::TooLong(name) => put_line(notes, "limit: Text ", name),
-        Refusal::WriteFault => put_line(notes, "write fault", ""),
-        Refusal::Schema(fault) => put_schema(notes, fault),
-        Refusal::Tuples(fault) => {
-            let (text, number) = tuples_text(fault);
-            put_place(notes, text, number)
-        }
-        Refusal::NotBuilt(name) => put_line(notes, "not built: ", name),
-        Refusal::Memory => put_line(notes, "out of memory", ""),
+        Refusal::Usage => put_usage(notes),
+        Refusal::Missing(part) => put_name(notes, b"missing: ", words, *part),
+        Refusal::ReadFault(part) => put_name(notes, b"read fault: ", words, *part),
+        Refusal::TooLong(part) => put_name(notes, b"limit: Text ", words, *part),
+        Refusal::Schema(fault) => put_kind(
+            notes,
+            b"schema: ",
+            schema_kind(fault),
+            b" at ",
+            schema_place(fault),
+        ),
+        Refusal::NotBuilt => put_name(notes, b"not built: ", words, Part::Query),
+        Refusal::Tuples(fault) => put_kind(
+            notes,
+            b"tuples: ",
+            tuples_kind(fault),
+            b" at record ",
+            tuples_record(fault),
+        ),
+        Refusal::Memory => put_memory(notes),
     }
 }
 
-fn status_of(refusal: &Refusal) -> Status {
+fn status_of(refusal: &Refusal) -> Status
+    ensures { result ≡ told.status_of refusal.now }
+{
     match refusal {
         Refusal::Usage => Status::Usage,
         Refusal::Missing(_) => Status::Missing,
         Refusal::ReadFault(_) => Status::ReadFault,
         Refusal::TooLong(_) => Status::Limit,
-        Refusal::WriteFault => Status::WriteFault,
-        Refusal::Schema(SchemaFault::Memory) => Status::Memory,
         Refusal::Schema(_) => Status::Schema,
-        Refusal::Tuples(TupleFault::Memory) => Status::Memory,
+        Refusal::NotBuilt => Status::NotBuilt,
         Refusal::Tuples(_) => Status::Tuples,
-        Refusal::NotBuilt(_) => Status::NotBuilt,
         Refusal::Memory => Status::Memory,
     }
 }
 
 /// Writes the line of a refusal, and answers its status: that of a failed write, if the line could
 /// not be written.
-pub(crate) fn tell<N: Sink>(notes: &mut N, refusal: &Refusal) -> Status {
-    match put_note(notes, refusal) {
+pub(crate) fn tell<N: Sink>(notes: &mut N, words: &Words, refusal: &Refusal) -> Status
+    ensures { Notes (told.status_of refusal.now) (note_of words.now refusal.now) (puts N.taken N.faults notes.old notes.new) result }
+{
+    match put_note(notes, words, refusal) {
         Ok(()) => status_of(refusal),
+        Err(_) => Status::WriteFault,
+    }
+}
+
+/// Writes the line of an output that could not be written.
+pub(crate) fn tell_write_fault<N: Sink>(notes: &mut N) -> Status
+    ensures { Notes Status.WriteFault write_line (puts N.taken N.faults notes.old notes.new) result }
+{
+    match put_write_fault(notes) {
+        Ok(()) => Status::WriteFault,
         Err(_) => Status::WriteFault,
     }
 }

@@ -1,191 +1,120 @@
 //! From words to a status.
 
-ghost use Rattle.std.specs.Prelude.{◌≡◌, ◌≤◌, length, slice_get, Contains, Some, IfOk, IfSome, ℕ, List};
-ghost use Rattle.std.specs.List.{AllByRecursion};
-ghost use Rattle.gl_bits.specs.Kinds.{IsKind};
-ghost use Rattle.gl_schema.specs.Schemas.{IsSchema};
+ghost use Rattle.std.specs.Prelude.{◌≡◌, ◌≢◌, ◌⊎◌, ◌≤◌, [], List, ℕ};
+ghost use Rattle.gl_schema.specs.Beats.{KeepsGap};
+ghost use Rattle.gl_schema.specs.declared.schema.Schema.{Schema};
+ghost use Rattle.gl_schema.specs.declared.fault.SchemaFault.{SchemaFault};
+ghost use Rattle.gl_query.specs.declared.tree.Statement.{Statement};
+ghost use Rattle.gl_tuples.specs.declared.beats.Beat.{Beat};
+ghost use Rattle.gl_tuples.specs.declared.fault.TupleFault.{TupleFault};
+ghost use Rattle.gl_outside.specs.Counts.{Rose};
+ghost use Rattle.gl_tuples.specs.Gaps.{AreFileBeats, plain_beats};
+ghost use Rattle.gl_compiler.specs.Queries.{gap_of};
+ghost use Rattle.gl_compiler.specs.Outcomes.{OnDone, OnWriteFault, OnMemory};
+ghost use Rattle.gl_top.specs.declared.form.Part.{Part};
+ghost use Rattle.gl_top.specs.declared.notes.Refusal.{Refusal as Refused};
+ghost use Rattle.gl_top.specs.Forms.{IsForm};
+ghost use Rattle.gl_top.specs.Causes.{Change, change, HasCause, IsRefused, IsTooLong, IsBadSchema, IsNotBuilt, AreBadTuples};
+ghost use Rattle.gl_top.specs.Passing.{IsCompiled, IsReady, TuplesPass};
+ghost use Rattle.gl_top.specs.Refusals.{puts, Took, status_of};
+ghost use Rattle.gl_top.specs.Verdicts.{IsAnswer, IsTelling, IsCalm, Yields, WritesLines, WritesLinesFront};
 
-use crate::notes::{Refusal, tell};
+use crate::judging::{Job, judge};
+use crate::notes::{Refusal, tell, tell_write_fault};
 use crate::status::Status;
-use gl_compiler::{CompileFault, Compiled, Outcome, compile_query, execute};
-use gl_outside::{ReadFault, Shelf, Sink, Words, read_all};
-use gl_schema::{Schema, SchemaFault, read_schema};
+use gl_compiler::{Outcome, execute};
+use gl_outside::{Shelf, Sink, Words};
 use gl_sim::Start;
-use gl_tuples::{Beats, TupleFault, read_tuples};
 use std::alloc::Global;
 
-// The word at a place, if it may name a text.
-#[tactic(auto, using(gl_outside::proofs::Places::found_is))]
-fn name_at(words: &Words, at: usize) -> Option<&str>
-    ensures { IfSome result (λ name. Contains words.now name.now) }
+// Runs the compiled text over the beats, and writes the lines of the run.
+fn write_lines<K: Sink>(alloc: Global, job: &Job, out: &mut K) -> Outcome
+    requires compiled { IsCompiled job.now.compiled }
+    requires fine { AreFileBeats job.now.compiled.schema job.now.beats }
+    requires gap { KeepsGap (gap_of job.now.compiled.schema job.now.compiled.statement) (plain_beats job.now.beats) }
+    ensures done { OnDone result (WritesLines job.now.compiled.schema job.now.compiled.statement job.now.beats job.now.compiled.text.items (puts K.taken K.faults out.old out.new)) }
+    ensures front { OnWriteFault result (WritesLinesFront job.now.compiled.schema job.now.compiled.statement job.now.beats job.now.compiled.text.items (puts K.taken K.faults out.old out.new)) }
+    ensures cause { OnWriteFault result (Rose (K.faults out.old) (K.faults out.new)) }
+    ensures memory { OnMemory result (Took (puts K.taken K.faults out.old out.new) []) }
 {
-    let word = words.get(at)?;
-    if word.starts_with('-') {
-        None
-    } else {
-        Some(word)
-    }
-}
-
-// Reads a text of the shelf.
-fn text_of<'a, S: Shelf>(
-    alloc: Global,
-    shelf: &mut S,
-    name: &'a str,
-) -> Result<Vec<u8>, Refusal<'a>>
-    requires { Contains (S.names shelf.old) name.now }
-    ensures { S.names shelf.new ≡ S.names shelf.old }
-{
-    match read_all(alloc, shelf, name) {
-        Ok(text) => Ok(text),
-        Err(ReadFault::Missing) => Err(Refusal::Missing(name)),
-        Err(ReadFault::Failed) => Err(Refusal::ReadFault(name)),
-        Err(ReadFault::TooLong) => Err(Refusal::TooLong(name)),
-        Err(ReadFault::Memory) => Err(Refusal::Memory),
-    }
-}
-
-// The schema of a text of the shelf.
-fn schema_of<'a, S: Shelf>(
-    alloc: Global,
-    shelf: &mut S,
-    name: &'a str,
-) -> Result<Schema, Refusal<'a>>
-    requires { Contains (S.names shelf.old) name.now }
-    ensures names { S.names shelf.new ≡ S.names shelf.old }
-    ensures schema { IfOk result IsSchema }
-{
-    let text = text_of(alloc, shelf, name)?;
-    match read_schema(alloc, &text) {
-        Ok(schema) => Ok(schema),
-        Err(fault) => Err(Refusal::Schema(fault)),
-    }
-}
-
-// The compiled query of a text of the shelf.
-fn compiled_of<'a, S: Shelf>(
-    alloc: Global,
-    shelf: &mut S,
-    schema: Schema,
-    name: &'a str,
-) -> Result<Compiled, Refusal<'a>>
-    requires listed { Contains (S.names shelf.old) name.now }
-    requires schema { IsSchema schema }
-    ensures names { S.names shelf.new ≡ S.names shelf.old }
-    ensures schema { IfOk result (λ c. IsSchema c.schema) }
-    ensures many { IfOk result (λ c. length c.kinds ≤ 32) }
-    ensures kinds { IfOk result (λ c. AllByRecursion IsKind c.kinds) }
-{
-    let text = text_of(alloc, shelf, name)?;
-    match compile_query(alloc, schema, &text) {
-        Ok(compiled) => Ok(compiled),
-        Err(CompileFault::Memory) => Err(Refusal::Memory),
-        Err(_) => Err(Refusal::NotBuilt(name)),
-    }
-}
-
-// The beats of a text of the shelf, if they keep the gap.
-fn beats_of<'a, S: Shelf>(
-    alloc: Global,
-    shelf: &mut S,
-    compiled: &Compiled,
-    name: &'a str,
-) -> Result<Beats, Refusal<'a>>
-    requires listed { Contains (S.names shelf.old) name.now }
-    requires schema { IsSchema compiled.now.schema }
-    ensures names { S.names shelf.new ≡ S.names shelf.old }
-{
-    let text = text_of(alloc, shelf, name)?;
-    let beats = match read_tuples(alloc, compiled.schema(), &text) {
-        Ok(beats) => beats,
-        Err(fault) => return Err(Refusal::Tuples(fault)),
-    };
-    match beats.keep(compiled.printed().gap) {
-        Ok(()) => Ok(beats),
-        Err(fault) => Err(Refusal::Tuples(fault)),
-    }
-}
-
-// Runs the compiled text over beats.
-fn execute_all<'a, K: Sink>(
-    alloc: Global,
-    compiled: &Compiled,
-    beats: &Beats,
-    query: &'a str,
-    out: &mut K,
-) -> Result<(), Refusal<'a>>
-    requires many { length compiled.now.kinds ≤ 32 }
-    requires kinds { AllByRecursion IsKind compiled.now.kinds }
-{
-    let outcome = execute(
+    execute(
         alloc,
-        compiled.text(),
-        compiled.schema(),
-        compiled.kinds(),
-        beats,
-        compiled.printed().latency,
+        job.compiled.text(),
+        job.compiled.schema(),
+        job.compiled.kinds(),
+        &job.beats,
+        job.compiled.printed().latency,
         Start::Zero,
         out,
-    );
-    match outcome {
-        Outcome::Done => Ok(()),
-        Outcome::WriteFault => Err(Refusal::WriteFault),
-        Outcome::Memory => Err(Refusal::Memory),
-        Outcome::NotRunnable | Outcome::NoEnd => Err(Refusal::NotBuilt(query)),
+    )
+}
+
+// Runs the compiled text, and notes how that failed.
+fn finish_run<K: Sink, N: Sink>(
+    alloc: Global,
+    words: &Words,
+    job: &Job,
+    out: &mut K,
+    notes: &mut N,
+) -> Status
+    requires compiled { IsCompiled job.now.compiled }
+    requires fine { AreFileBeats job.now.compiled.schema job.now.beats }
+    requires gap { KeepsGap (gap_of job.now.compiled.schema job.now.compiled.statement) (plain_beats job.now.beats) }
+    ensures { (c : Change) → IsReady c.old.told words.now job.now → IsAnswer words.now c (puts K.taken K.faults out.old out.new) (puts N.taken N.faults notes.old notes.new) job.now.compiled.text.items result }
+{
+    match write_lines(alloc, job, out) {
+        Outcome::Done => Status::Done,
+        Outcome::WriteFault => tell_write_fault(notes),
+        Outcome::Memory => tell(notes, words, &Refusal::Memory),
     }
 }
 
-// Compiles a query, runs its text over a tuple file, and keeps the text.
-fn run_names<'a, S: Shelf, K: Sink>(
+// Keeps the compiled text, and runs it.
+fn finish<K: Sink, N: Sink>(
     alloc: Global,
-    shelf: &mut S,
-    schema: &'a str,
-    query: &'a str,
-    tuples: &'a str,
+    words: &Words,
+    job: &Job,
     out: &mut K,
+    notes: &mut N,
     text: &mut Vec<u8>,
-) -> Result<(), Refusal<'a>>
-    requires schema { Contains (S.names shelf.old) schema.now }
-    requires query { Contains (S.names shelf.old) query.now }
-    requires tuples { Contains (S.names shelf.old) tuples.now }
+) -> Status
+    requires compiled { IsCompiled job.now.compiled }
+    requires fine { AreFileBeats job.now.compiled.schema job.now.beats }
+    requires gap { KeepsGap (gap_of job.now.compiled.schema job.now.compiled.statement) (plain_beats job.now.beats) }
+    requires empty { text.old.items ≡ [] }
+    ensures { (c : Change) → IsReady c.old.told words.now job.now → IsAnswer words.now c (puts K.taken K.faults out.old out.new) (puts N.taken N.faults notes.old notes.new) text.new.items result }
 {
-    let schema = schema_of(alloc, shelf, schema)?;
-    let compiled = compiled_of(alloc, shelf, schema, query)?;
-    let beats = beats_of(alloc, shelf, &compiled, tuples)?;
-    if text.extend_from_slice(compiled.text()).is_err() {
-        return Err(Refusal::Memory);
+    match text.extend_from_slice(job.compiled.text()) {
+        Ok(()) => finish_run(alloc, words, job, out, notes),
+        Err(_) => tell(notes, words, &Refusal::Memory),
     }
-    execute_all(alloc, &compiled, &beats, query, out)
 }
 
-// Does what the words say.
-fn run_words<'a, S: Shelf, K: Sink>(
+// Judges the words and the texts, runs what was compiled, and notes how that failed.
+fn answer<S: Shelf, K: Sink, N: Sink>(
     alloc: Global,
-    words: &'a Words,
+    words: &Words,
     shelf: &mut S,
     out: &mut K,
+    notes: &mut N,
     text: &mut Vec<u8>,
-) -> Result<(), Refusal<'a>>
-    requires { S.names shelf.old ≡ words.now }
+) -> Status
+    requires names { S.names shelf.old ≡ words.now }
+    requires empty { text.old.items ≡ [] }
+    ensures { IsAnswer words.now (change S.names S.told S.misses S.faults S.last shelf.old shelf.new) (puts K.taken K.faults out.old out.new) (puts N.taken N.faults notes.old notes.new) text.new.items result }
 {
-    if words.len() != 4 || words.get(0) != Some("run") {
-        return Err(Refusal::Usage);
+    match judge(alloc, shelf, words) {
+        Ok(job) => finish(alloc, words, &job, out, notes, text),
+        Err(refusal) => tell(notes, words, &refusal),
     }
-    let Some(schema) = name_at(words, 1) else {
-        return Err(Refusal::Usage);
-    };
-    let Some(query) = name_at(words, 2) else {
-        return Err(Refusal::Usage);
-    };
-    let Some(tuples) = name_at(words, 3) else {
-        return Err(Refusal::Usage);
-    };
-    run_names(alloc, shelf, schema, query, tuples, out, text)
 }
 
 /// Does what the words say: `run S Q T` compiles the query of the text Q over the schema of the
 /// text S, and writes to `out` what the Verilog text does over the tuple file T. Leaves that text in
 /// `text`. Where it ends before its work is done, it writes one line to `notes`.
+///
+/// The texts are fetched in the order S, Q, T, and each is judged before the next is fetched. With
+/// every status but `Done` and `WriteFault` nothing is written to `out`.
 pub fn run<S: Shelf, K: Sink, N: Sink>(
     alloc: Global,
     words: &Words,
@@ -194,10 +123,27 @@ pub fn run<S: Shelf, K: Sink, N: Sink>(
     notes: &mut N,
     text: &mut Vec<u8>,
 ) -> Status
-    requires { S.names shelf.old ≡ words.now }
+    requires names { S.names shelf.old ≡ words.now }
+    requires empty { text.old.items ≡ [] }
+    // How it ends and why, what was written, what was noted, and what text is left.
+    ensures answer { IsAnswer words.now (change S.names S.told S.misses S.faults S.last shelf.old shelf.new) (puts K.taken K.faults out.old out.new) (puts N.taken N.faults notes.old notes.new) text.new.items result }
+
+    // What each status says.
+    ensures usage { result ≡ Status.Usage → IsForm words.now → ⊥ }
+    ensures missing { result ≡ Status.Missing → (part : Part) × HasCause words.now (change S.names S.told S.misses S.faults S.last shelf.old shelf.new) (Refusal.Missing part) }
+    ensures read_fault { result ≡ Status.ReadFault → (part : Part) × HasCause words.now (change S.names S.told S.misses S.faults S.last shelf.old shelf.new) (Refusal.ReadFault part) }
+    ensures write_fault { result ≡ Status.WriteFault → Rose (K.faults out.old) (K.faults out.new) ⊎ Rose (N.faults notes.old) (N.faults notes.new) }
+    ensures schema { result ≡ Status.Schema → (fault : SchemaFault) × IsBadSchema (S.told shelf.old) words.now fault }
+    ensures tuples { result ≡ Status.Tuples → (fault : TupleFault) × AreBadTuples (S.told shelf.old) words.now fault }
+    ensures limit { result ≡ Status.Limit → (part : Part) × IsTooLong (S.told shelf.old) words.now part }
+    ensures not_built { result ≡ Status.NotBuilt → IsNotBuilt (S.told shelf.old) words.now }
+    ensures untouched { result ≢ Status.Done → result ≢ Status.WriteFault → Took (puts K.taken K.faults out.old out.new) [] }
+
+    // What the words refuse is answered, and what the texts refuse, where the shelf tells them.
+    ensures formless { (IsForm words.now → ⊥) → Yields Status.Usage (change S.names S.told S.misses S.faults S.last shelf.old shelf.new) (puts N.taken N.faults notes.old notes.new) result }
+    ensures exact { (refusal : Refused) → IsTelling (S.told shelf.old) words.now → IsRefused (S.told shelf.old) words.now refusal → Yields (status_of refusal) (change S.names S.told S.misses S.faults S.last shelf.old shelf.new) (puts N.taken N.faults notes.old notes.new) result }
+    // Where they pass and no count of faults rises, the work is done, unless memory runs out.
+    ensures complete { (schema : Schema) (statement : Statement) (beats : List Beat) → IsTelling (S.told shelf.old) words.now → TuplesPass (S.told shelf.old) words.now schema statement beats → IsCalm (change S.names S.told S.misses S.faults S.last shelf.old shelf.new) (puts K.taken K.faults out.old out.new) (puts N.taken N.faults notes.old notes.new) → (result ≡ Status.Done) ⊎ (result ≡ Status.Memory) }
 {
-    match run_words(alloc, words, shelf, out, text) {
-        Ok(()) => Status::Done,
-        Err(refusal) => tell(notes, &refusal),
-    }
+    answer(alloc, words, shelf, out, notes, text)
 }

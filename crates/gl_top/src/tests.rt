@@ -3,7 +3,10 @@
 ghost use Rattle.std.specs.Prelude.{◌≡◌, IfOk, ◌∷◌, [], codes};
 
 use super::*;
+use crate::notes::{Refusal, tell};
 use gl_outside::{Memory, MemoryShelf, MemorySink, Words};
+use gl_schema::SchemaFault;
+use gl_tuples::TupleFault;
 use std::alloc::Global;
 use std::test::Fail;
 
@@ -25,43 +28,64 @@ fn run_words(alloc: Global) -> Result<Words, Memory>
     Ok(words)
 }
 
-// A shelf with a schema, a query and, if there is one, a tuple file.
-fn shelf_with(
-    alloc: Global,
-    schema: &str,
-    query: &str,
-    tuples: Option<&str>,
-) -> Result<MemoryShelf, Memory>
+// The three texts, of which some may not be there, and the numbers of the calls that fail.
+#[derive(Clone, Copy)]
+struct Setting<'a> {
+    schema: Option<&'a str>,
+    query: Option<&'a str>,
+    tuples: Option<&'a str>,
+    failing_fetch: Option<u64>,
+    failing_put: Option<u64>,
+    failing_note: Option<u64>,
+}
+
+// Texts none of whose calls fails.
+fn all_of<'a>(schema: &'a str, query: &'a str, tuples: &'a str) -> Setting<'a> {
+    Setting {
+        schema: Some(schema),
+        query: Some(query),
+        tuples: Some(tuples),
+        failing_fetch: None,
+        failing_put: None,
+        failing_note: None,
+    }
+}
+
+// A shelf with the texts that are there.
+fn shelf_with(alloc: Global, setting: &Setting) -> Result<MemoryShelf, Memory>
     ensures { IfOk result (λ shelf. shelf.held.names ≡ codes "run" ∷ codes "S" ∷ codes "Q" ∷ codes "T" ∷ []) }
 {
     let mut shelf = MemoryShelf::new(alloc, run_words(alloc)?);
-    shelf.hold("S", schema.as_bytes())?;
-    shelf.hold("Q", query.as_bytes())?;
-    if let Some(tuples) = tuples {
+    if let Some(schema) = setting.schema {
+        shelf.hold("S", schema.as_bytes())?;
+    }
+    if let Some(query) = setting.query {
+        shelf.hold("Q", query.as_bytes())?;
+    }
+    if let Some(tuples) = setting.tuples {
         shelf.hold("T", tuples.as_bytes())?;
+    }
+    if let Some(call) = setting.failing_fetch {
+        shelf.fail(call)?;
     }
     Ok(shelf)
 }
 
+// A sink one of whose calls may fail.
+fn sink_with(alloc: Global, failing: Option<u64>) -> Result<MemorySink, Memory> {
+    let mut sink = MemorySink::new(alloc, 1_000)?;
+    if let Some(call) = failing {
+        sink.fail(call)?;
+    }
+    Ok(sink)
+}
+
 // The status, what was written and what was noted, each behind the other.
-fn told(
-    alloc: Global,
-    schema: &str,
-    query: &str,
-    tuples: Option<&str>,
-    failing_fetch: Option<u64>,
-    failing_put: Option<u64>,
-) -> Result<String, Fail> {
+fn told(alloc: Global, setting: &Setting) -> Result<String, Fail> {
     let words = run_words(alloc)?;
-    let mut shelf = shelf_with(alloc, schema, query, tuples)?;
-    if let Some(call) = failing_fetch {
-        shelf.fail(call)?;
-    }
-    let mut out = MemorySink::new(alloc, 1_000)?;
-    if let Some(call) = failing_put {
-        out.fail(call)?;
-    }
-    let mut notes = MemorySink::new(alloc, 1_000)?;
+    let mut shelf = shelf_with(alloc, setting)?;
+    let mut out = sink_with(alloc, setting.failing_put)?;
+    let mut notes = sink_with(alloc, setting.failing_note)?;
     let mut text = Vec::new(alloc);
     let status = run(alloc, &words, &mut shelf, &mut out, &mut notes, &mut text);
     let code = status.code();
@@ -73,77 +97,200 @@ fn told(
 #[test]
 fn a_select_from_bytes_to_bytes(rt: HostRuntime) -> Result<(), Fail> {
     let rows = [
-        (SCHEMA, QUERY, Some(TUPLES), None, None, "0|1,7\n1,end\n|"),
-        (SCHEMA, QUERY, Some(""), None, None, "0|1,end\n|"),
+        (SCHEMA, QUERY, TUPLES, "0|1,7\n1,end\n|"),
+        (SCHEMA, QUERY, "", "0|1,end\n|"),
+        (
+            SCHEMA,
+            "SELECT symbol FROM trades INTO r",
+            "0,trades,\"a,b\",7,1",
+            "0|1,\"a,b\"\n1,end\n|",
+        ),
         (
             SCHEMA,
             "SELECT price, FROM trades INTO r",
-            Some(TUPLES),
-            None,
-            None,
+            TUPLES,
             "64||not built: Q\n",
         ),
         (
             SCHEMA,
             "SELECT price, price FROM trades INTO r",
-            Some(TUPLES),
-            None,
-            None,
+            TUPLES,
             "64||not built: Q\n",
         ),
         (
             SCHEMA,
             "SELECT cost FROM trades INTO r",
-            Some(TUPLES),
-            None,
-            None,
+            TUPLES,
             "64||not built: Q\n",
         ),
         (
             "stream s (v u65);",
             QUERY,
-            Some(TUPLES),
-            None,
-            None,
+            TUPLES,
             "5||schema: BadKind at 12\n",
         ),
         (
             SCHEMA,
-            "SELECT symbol FROM trades INTO r",
-            Some("0,trades,\"a,b\",7,1"),
-            None,
-            None,
-            "0|1,\"a,b\"\n1,end\n|",
-        ),
-        (
-            SCHEMA,
             QUERY,
-            Some("0,trades,UBSNX,7,1"),
-            None,
-            None,
+            "0,trades,UBSNX,7,1",
             "7||tuples: BadValue at record 1\n",
         ),
-        (SCHEMA, QUERY, None, None, None, "2||missing: T\n"),
+    ];
+    for (schema, query, tuples, want) in rows {
+        let got = told(rt.alloc(), &all_of(schema, query, tuples))?;
+        assert_eq!(rt; got.as_str(), want);
+    }
+    Ok(())
+}
+
+#[test]
+fn texts_that_are_not_there_and_calls_that_fail(rt: HostRuntime) -> Result<(), Fail> {
+    let all = all_of(SCHEMA, QUERY, TUPLES);
+    let rows = [
         (
-            SCHEMA,
-            QUERY,
-            Some(TUPLES),
-            Some(2),
-            None,
+            Setting {
+                schema: None,
+                ..all
+            },
+            "2||missing: S\n",
+        ),
+        (Setting { query: None, ..all }, "2||missing: Q\n"),
+        (
+            Setting {
+                tuples: None,
+                ..all
+            },
+            "2||missing: T\n",
+        ),
+        (
+            Setting {
+                failing_fetch: Some(2),
+                ..all
+            },
             "3||read fault: S\n",
         ),
         (
-            SCHEMA,
-            QUERY,
-            Some(TUPLES),
-            None,
-            Some(1),
+            Setting {
+                failing_fetch: Some(3),
+                ..all
+            },
+            "3||read fault: Q\n",
+        ),
+        (
+            Setting {
+                failing_fetch: Some(6),
+                ..all
+            },
+            "3||read fault: T\n",
+        ),
+        (
+            Setting {
+                failing_put: Some(1),
+                ..all
+            },
             "4||write fault\n",
         ),
+        (
+            Setting {
+                failing_put: Some(2),
+                ..all
+            },
+            "4|1,7\n|write fault\n",
+        ),
+        (
+            Setting {
+                schema: None,
+                failing_note: Some(2),
+                ..all
+            },
+            "4||missing: ",
+        ),
     ];
-    for (schema, query, tuples, fetch, put, want) in rows {
-        let got = told(rt.alloc(), schema, query, tuples, fetch, put)?;
+    for (setting, want) in rows {
+        let got = told(rt.alloc(), &setting)?;
         assert_eq!(rt; got.as_str(), want);
+    }
+    Ok(())
+}
+
+#[test]
+fn a_note_for_each_refusal(rt: HostRuntime) -> Result<(), Fail> {
+    let rows = [
+        (Refusal::Usage, 1, "usage: glacier run S Q T\n"),
+        (Refusal::TooLong(Part::Query), 9, "limit: Text Q\n"),
+        (Refusal::Memory, 10, "out of memory\n"),
+        (
+            Refusal::Schema(SchemaFault::Syntax { at: 0 }),
+            5,
+            "schema: Syntax at 0\n",
+        ),
+        (
+            Refusal::Schema(SchemaFault::BadName { at: 10 }),
+            5,
+            "schema: BadName at 10\n",
+        ),
+        (
+            Refusal::Schema(SchemaFault::Twice { at: 16 }),
+            5,
+            "schema: Twice at 16\n",
+        ),
+        (
+            Refusal::Schema(SchemaFault::TooMany { at: 400 }),
+            5,
+            "schema: TooMany at 400\n",
+        ),
+        (
+            Refusal::Tuples(TupleFault::NotUtf8 { number: 1 }),
+            7,
+            "tuples: NotUtf8 at record 1\n",
+        ),
+        (
+            Refusal::Tuples(TupleFault::BadCycle { number: 2 }),
+            7,
+            "tuples: BadCycle at record 2\n",
+        ),
+        (
+            Refusal::Tuples(TupleFault::CycleFalls { number: 3 }),
+            7,
+            "tuples: CycleFalls at record 3\n",
+        ),
+        (
+            Refusal::Tuples(TupleFault::CycleTooLarge { number: 4 }),
+            7,
+            "tuples: CycleTooLarge at record 4\n",
+        ),
+        (
+            Refusal::Tuples(TupleFault::UnknownStream { number: 5 }),
+            7,
+            "tuples: UnknownStream at record 5\n",
+        ),
+        (
+            Refusal::Tuples(TupleFault::FieldCount { number: 6 }),
+            7,
+            "tuples: FieldCount at record 6\n",
+        ),
+        (
+            Refusal::Tuples(TupleFault::StreamTwice { number: 7 }),
+            7,
+            "tuples: StreamTwice at record 7\n",
+        ),
+        (
+            Refusal::Tuples(TupleFault::AfterEnd { number: 8 }),
+            7,
+            "tuples: AfterEnd at record 8\n",
+        ),
+        (
+            Refusal::Tuples(TupleFault::TooClose { number: 12_345 }),
+            7,
+            "tuples: TooClose at record 12345\n",
+        ),
+    ];
+    let words = run_words(rt.alloc())?;
+    for (refusal, code, want) in rows {
+        let mut notes = MemorySink::new(rt.alloc(), 100)?;
+        let status = tell(&mut notes, &words, &refusal);
+        assert_eq!(rt; status.code(), code);
+        assert_eq!(rt; notes.bytes(), want.as_bytes());
     }
     Ok(())
 }

@@ -1,0 +1,51 @@
+-- Which queries are compiled so far, and the figures that are printed for them.
+use Rattle.std.specs.Prelude.{ℕ, List}
+use Rattle.gl_schema.specs.declared.schema.Schema.{Schema}
+use Rattle.gl_query.specs.declared.tree.Statement.{Statement}
+use Rattle.gl_query.specs.declared.fault.QueryFault.{QueryFault}
+use Rattle.gl_query.specs.declared.fault.QueryFault.TheVariants as fault
+use Rattle.gl_query_reader.specs.Grammar.{HasStatement, IsFault}
+use Rattle.gl_query_reader.specs.Meaning.{statement_tree}
+use Rattle.gl_compiler.specs.declared.compiling.CompileFault.{CompileFault}
+use Rattle.gl_compiler.specs.declared.compiling.CompileFault.TheVariants as compile
+use Rattle.gl_compiler.specs.Selecting.{IsBuilt}
+
+-- the text has this statement, which is of the form that is compiled, over this schema
+pub record IsQuery (schema : Schema) (text : List ℕ) (statement : Statement) : Type 0 where
+  pub has : HasStatement text (statement_tree statement)
+  pub built : IsBuilt schema statement
+
+-- the text has a statement, which is not of that form
+pub record IsUnbuilt (schema : Schema) (text : List ℕ) : Type 0 where
+  pub statement : Statement
+  pub has : HasStatement text (statement_tree statement)
+  pub unbuilt : IsBuilt schema statement → ⊥
+
+-- the text has no statement, and this is the first fault
+abbrev pub IsQueryFault : List ℕ → QueryFault → Type 0
+IsQueryFault text fault.Memory = ⊥
+IsQueryFault text f = IsFault text f
+
+-- why a query was refused; want of memory is free
+abbrev pub IsQueryRefused : Schema → List ℕ → CompileFault → Type 0
+IsQueryRefused schema text (compile.Schema f) = ⊥
+IsQueryRefused schema text (compile.Query f) = IsQueryFault text f
+IsQueryRefused schema text compile.NotBuilt = IsUnbuilt schema text
+IsQueryRefused schema text compile.Memory = Unit {0}
+
+-- the fact holds where the query was refused, not for want of memory
+abbrev pub IfRefused : CompileFault → Type 0 → Type 0
+IfRefused compile.Memory P = Unit {0}
+IfRefused f P = P
+
+-- the cycles from the last beat to the end of the result, and from one beat to the next
+abbrev pub latency_of : Schema → Statement → ℕ
+latency_of schema statement = 1
+
+abbrev pub gap_of : Schema → Statement → ℕ
+gap_of schema statement = 1
+
+-- the fault of a query's text, as the compiler answers it
+abbrev pub fault_of_query : QueryFault → CompileFault
+fault_of_query fault.Memory = compile.Memory
+fault_of_query f = compile.Query f

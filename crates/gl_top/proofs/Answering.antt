@@ -1,0 +1,12 @@
+-- What is answered with the text that is left.
+use Rattle.std.proofs.Common.{◌≡◌, ℕ, List, [], ◌++◌, sym, ap, subst, ◌∙◌}
+use Rattle.gl_top.specs.declared.status.Status.{Status}
+use Rattle.gl_top.specs.Refusals.{Puts}
+use Rattle.gl_top.specs.Causes.{Change}
+use Rattle.gl_top.specs.Verdicts.{IsAnswer}
+
+pub kept_text : (old new got text : List ℕ) → old ≡ [] → got ≡ text → new ≡ old ++ got → text ≡ new
+kept_text old new got text none e is = sym (is ∙ ap (λ (x : List ℕ). x ++ got) none ∙ e)
+
+pub answer_text : (words : List (List ℕ)) (c : Change) (out notes : Puts) (t u : List ℕ) (status : Status) → t ≡ u → IsAnswer words c out notes t status → IsAnswer words c out notes u status
+answer_text words c out notes t u status e a = subst (λ (x : List ℕ). IsAnswer words c out notes x status) e a

@@ -1,0 +1,162 @@
+-- Words and texts are refused in one way, or not at all, where the texts are told.
+use Rattle.std.proofs.Common.{◌≡◌, ◌≢◌, ℕ, ◌<◌, ◌≤◌, List, length, Result, Ok, Err, refl, sym, subst, ap, ◌∙◌, arith}
+use Rattle.gl_outside.specs.Told.{Told, Untold, Lacks, Holds, IsLacking, IfTold}
+use Rattle.gl_schema.specs.declared.schema.Schema.{Schema}
+use Rattle.gl_schema.specs.declared.fault.SchemaFault.{SchemaFault}
+use Rattle.gl_schema.specs.SchemaFaults.{schema_of}
+use Rattle.gl_schema.specs.SchemaText.{IsSchemaText}
+use Rattle.gl_schema.proofs.Complete.{read_again}
+use Rattle.gl_query.specs.declared.tree.Statement.{Statement}
+use Rattle.gl_tuples.specs.declared.beats.Beat.{Beat}
+use Rattle.gl_tuples.specs.declared.fault.TupleFault.{TupleFault}
+use Rattle.gl_compiler.specs.Queries.{IsQuery, gap_of}
+use Rattle.gl_top.specs.declared.form.Part.{Part}
+use Rattle.gl_top.specs.declared.form.Part.TheVariants as part
+use Rattle.gl_top.specs.declared.notes.Refusal.{Refusal}
+use Rattle.gl_top.specs.declared.notes.Refusal.TheVariants as refusal
+use Rattle.gl_top.specs.declared.status.Status.{Status}
+use Rattle.gl_top.specs.declared.status.Status.TheVariants as status
+use Rattle.gl_top.specs.Forms.{IsForm, name_of}
+use Rattle.gl_top.specs.Refusals.{status_of}
+use Rattle.gl_top.specs.Passing.{HasText, SchemaPasses, QueryPasses, TuplesPass, kept_beats}
+use Rattle.gl_top.specs.Causes.{IsRefused}
+use Rattle.gl_top.specs.Verdicts.{IsTelling}
+
+-- a text of at most 64 MiB with a property
+abbrev pub Fine : Told → (List ℕ → Type 0) → Type 0
+Fine t P = IfTold t (λ text. (length text ≤ 67108864) × P text)
+
+-- how a text may fail to pass
+pub data Failing (t : Told) (P : List ℕ → Type 0) (own answered : Status) : Type 0 where
+  Lacking : (lacks : IsLacking t) (is : answered ≡ status.Missing) → Failing t P own answered
+  Long : (long : IfTold t (λ text. 67108864 < length text)) (is : answered ≡ status.Limit) → Failing t P own answered
+  Bad : (bad : Fine t (λ text. P text → ⊥)) (is : answered ≡ own) → Failing t P own answered
+
+too_long : (n : ℕ) {A : Type 0} → n ≤ 67108864 → 67108864 < n → A
+too_long n le lt = absurd (omega arith)
+
+pub not_both : (t : Told) (P : List ℕ → Type 0) (own a : Status) → t ≢ Untold → Fine t P → Failing t P own a → ⊥
+not_both Untold P own a told fine f = told refl
+not_both Lacks P own a told fine f = fine
+not_both (Holds text) P own a told fine (Lacking l e) = l
+not_both (Holds text) P own a told fine (Long l e) = too_long (length text) fine.0 l
+not_both (Holds text) P own a told fine (Bad b e) = b.1 fine.1
+
+fails_once : (t : Told) (P : List ℕ → Type 0) (own a b : Status) → t ≢ Untold → Failing t P own a → Failing t P own b → a ≡ b
+fails_once Untold P own a b told f g = absurd (told refl)
+fails_once Lacks P own a b told (Lacking l e) (Lacking m h) = e ∙ sym h
+fails_once Lacks P own a b told (Lacking l e) (Long m h) = absurd m
+fails_once Lacks P own a b told (Lacking l e) (Bad m h) = absurd m
+fails_once Lacks P own a b told (Long l e) g = absurd l
+fails_once Lacks P own a b told (Bad l e) g = absurd l
+fails_once (Holds text) P own a b told (Lacking l e) g = absurd l
+fails_once (Holds text) P own a b told (Long l e) (Lacking m h) = absurd m
+fails_once (Holds text) P own a b told (Long l e) (Long m h) = e ∙ sym h
+fails_once (Holds text) P own a b told (Long l e) (Bad m h) = too_long (length text) m.0 l
+fails_once (Holds text) P own a b told (Bad l e) (Lacking m h) = absurd m
+fails_once (Holds text) P own a b told (Bad l e) (Long m h) = too_long (length text) l.0 m
+fails_once (Holds text) P own a b told (Bad l e) (Bad m h) = e ∙ sym h
+
+-- a text with two properties
+with_both : (t : Told) (P Q : List ℕ → Type 0) {A : Type 0} → t ≢ Untold → Fine t P → Fine t Q → ((text : List ℕ) → P text → Q text → A) → A
+with_both Untold P Q told p q f = absurd (told refl)
+with_both Lacks P Q told p q f = absurd p
+with_both (Holds text) P Q told p q f = f text p.1 q.1
+
+-- a weaker property
+weaker : (t : Told) (P Q : List ℕ → Type 0) → ((text : List ℕ) → P text → Q text) → Fine t P → Fine t Q
+weaker Untold P Q f h = tt
+weaker Lacks P Q f h = h
+weaker (Holds text) P Q f h = (h.0, f text h.1)
+
+-- what each text is to be
+abbrev pub IsSome : List ℕ → Type 0
+IsSome text = (s : Schema) × IsSchemaText text s
+
+abbrev pub HasQuery : Schema → List ℕ → Type 0
+HasQuery s text = (st : Statement) × IsQuery s text st
+
+abbrev pub AreTuples : Schema → Statement → List ℕ → Type 0
+AreTuples s st text = (beats : List Beat) × (kept_beats s (gap_of s st) text ≡ Ok beats)
+
+-- the first that is refused
+pub data Stops (told : List ℕ → Told) (words : List (List ℕ)) (answered : Status) : Type 0 where
+  AtWords : (formless : IsForm words → ⊥) (is : answered ≡ status.Usage) → Stops told words answered
+  AtSchema : (form : IsForm words) (fails : Failing (told (name_of words part.Schema)) IsSome status.Schema answered) → Stops told words answered
+  AtQuery : (s : Schema) (before : SchemaPasses told words s) (fails : Failing (told (name_of words part.Query)) (HasQuery s) status.NotBuilt answered) → Stops told words answered
+  AtTuples : (s : Schema) (st : Statement) (before : QueryPasses told words s st) (fails : Failing (told (name_of words part.Tuples)) (AreTuples s st) status.Tuples answered) → Stops told words answered
+
+no_schema : (fault : SchemaFault) (text : List ℕ) → schema_of text ≡ Err fault → IsSome text → ⊥
+no_schema fault text e h = let f : schema_of text ≡ Ok h.0 = read_again text h.0 h.1 in cc
+
+no_query : (s : Schema) (text : List ℕ) → ((st : Statement) → IsQuery s text st → ⊥) → HasQuery s text → ⊥
+no_query s text none h = none h.0 h.1
+
+no_tuples : (s : Schema) (st : Statement) (fault : TupleFault) (text : List ℕ) → kept_beats s (gap_of s st) text ≡ Err fault → AreTuples s st text → ⊥
+no_tuples s st fault text e h = let f : kept_beats s (gap_of s st) text ≡ Ok h.0 = h.1 in cc
+
+pub stops : (told : List ℕ → Told) (words : List (List ℕ)) (r : Refusal) → IsRefused told words r → Stops told words (status_of r)
+stops told words refusal.Usage h = AtWords h refl
+stops told words (refusal.Missing part.Schema) h = AtSchema h.next (Lacking h.lacking refl)
+stops told words (refusal.Missing part.Query) h = AtQuery h.next.0 h.next.1 (Lacking h.lacking refl)
+stops told words (refusal.Missing part.Tuples) h = AtTuples h.next.0 h.next.1 h.next.2 (Lacking h.lacking refl)
+stops told words (refusal.ReadFault p) h = absurd h
+stops told words (refusal.TooLong part.Schema) h = AtSchema h.next (Long h.long refl)
+stops told words (refusal.TooLong part.Query) h = AtQuery h.next.0 h.next.1 (Long h.long refl)
+stops told words (refusal.TooLong part.Tuples) h = AtTuples h.next.0 h.next.1 h.next.2 (Long h.long refl)
+stops told words (refusal.Schema fault) h = AtSchema h.form (Bad (weaker (told (name_of words part.Schema)) (λ text. schema_of text ≡ Err fault) (λ text. IsSome text → ⊥) (no_schema fault) h.text) refl)
+stops told words refusal.NotBuilt h = AtQuery h.schema h.before (Bad (weaker (told (name_of words part.Query)) (λ text. (st : Statement) → IsQuery h.schema text st → ⊥) (λ text. HasQuery h.schema text → ⊥) (no_query h.schema) h.text) refl)
+stops told words (refusal.Tuples fault) h =
+    AtTuples h.schema h.statement h.before (Bad (weaker (told (name_of words part.Tuples)) (λ text. kept_beats h.schema (gap_of h.schema h.statement) text ≡ Err fault) (λ text. AreTuples h.schema h.statement text → ⊥) (no_tuples h.schema h.statement fault) h.text) refl)
+stops told words refusal.Memory h = absurd h
+
+-- a text has one schema
+same_schema : (s t : Schema) (text : List ℕ) → IsSchemaText text s → IsSchemaText text t → s ≡ t
+same_schema s t text a b = let e : ◌≡◌ {A = Result Schema SchemaFault} (Ok s) (Ok t) = sym (read_again text s a) ∙ read_again text t b in cc
+
+pub one_schema : (told : List ℕ → Told) (words : List (List ℕ)) (s t : Schema) → IsTelling told words → SchemaPasses told words s → SchemaPasses told words t → s ≡ t
+one_schema told words s t tells a b = with_both (told (name_of words part.Schema)) (λ text. IsSchemaText text s) (λ text. IsSchemaText text t) (tells part.Schema) a.text b.text (same_schema s t)
+
+fine_schema : (told : List ℕ → Told) (words : List (List ℕ)) (s : Schema) → SchemaPasses told words s → Fine (told (name_of words part.Schema)) IsSome
+fine_schema told words s a = weaker (told (name_of words part.Schema)) (λ text. IsSchemaText text s) IsSome (λ text h. (s, h)) a.text
+
+fine_query : (told : List ℕ → Told) (words : List (List ℕ)) (s t : Schema) (st : Statement) → s ≡ t → QueryPasses told words s st → Fine (told (name_of words part.Query)) (HasQuery t)
+fine_query told words s t st e a = subst (λ (x : Schema). Fine (told (name_of words part.Query)) (HasQuery x)) e (weaker (told (name_of words part.Query)) (λ text. IsQuery s text st) (HasQuery s) (λ text h. (st, h)) a.text)
+
+fine_tuples : (told : List ℕ → Told) (words : List (List ℕ)) (s t : Schema) (st st' : Statement) (beats : List Beat) → s ≡ t → TuplesPass told words s st beats → Fine (told (name_of words part.Tuples)) (AreTuples t st')
+fine_tuples told words s t st st' beats e a = subst (λ (x : Schema). Fine (told (name_of words part.Tuples)) (AreTuples x st')) e (weaker (told (name_of words part.Tuples)) (λ text. kept_beats s (gap_of s st) text ≡ Ok beats) (AreTuples s st') (λ text h. (beats, h)) a.text)
+
+-- the schema, or the query, does not fail where it passes
+schema_goes : (told : List ℕ → Told) (words : List (List ℕ)) (s : Schema) (a : Status) {A : Type 0} → IsTelling told words → SchemaPasses told words s → Failing (told (name_of words part.Schema)) IsSome status.Schema a → A
+schema_goes told words s a tells p f = absurd (not_both (told (name_of words part.Schema)) IsSome status.Schema a (tells part.Schema) (fine_schema told words s p) f)
+
+query_goes : (told : List ℕ → Told) (words : List (List ℕ)) (s t : Schema) (st : Statement) (a : Status) {A : Type 0} → IsTelling told words → QueryPasses told words s st → SchemaPasses told words t → Failing (told (name_of words part.Query)) (HasQuery t) status.NotBuilt a → A
+query_goes told words s t st a tells p q f = absurd (not_both (told (name_of words part.Query)) (HasQuery t) status.NotBuilt a (tells part.Query) (fine_query told words s t st (one_schema told words s t tells p.before q) p) f)
+
+pub passes_goes : (told : List ℕ → Told) (words : List (List ℕ)) (s : Schema) (st : Statement) (beats : List Beat) (a : Status) → IsTelling told words → TuplesPass told words s st beats → Stops told words a → ⊥
+passes_goes told words s st beats a tells p (AtWords no' e) = no' p.before.before.form
+passes_goes told words s st beats a tells p (AtSchema form f) = schema_goes told words s a tells p.before.before f
+passes_goes told words s st beats a tells p (AtQuery t q f) = query_goes told words s t st a tells p.before q f
+passes_goes told words s st beats a tells p (AtTuples t st' q f) =
+    not_both (told (name_of words part.Tuples)) (AreTuples t st') status.Tuples a (tells part.Tuples) (fine_tuples told words s t st st' beats (one_schema told words s t tells p.before.before q.before) p) f
+
+-- there is one way to be refused
+pub stops_once : (told : List ℕ → Told) (words : List (List ℕ)) (a b : Status) → IsTelling told words → Stops told words a → Stops told words b → a ≡ b
+stops_once told words a b tells (AtWords n e) (AtWords m h) = e ∙ sym h
+stops_once told words a b tells (AtWords n e) (AtSchema form f) = absurd (n form)
+stops_once told words a b tells (AtWords n e) (AtQuery s p f) = absurd (n p.form)
+stops_once told words a b tells (AtWords n e) (AtTuples s st p f) = absurd (n p.before.form)
+stops_once told words a b tells (AtSchema form f) (AtWords m h) = absurd (m form)
+stops_once told words a b tells (AtSchema form f) (AtSchema form' g) = fails_once (told (name_of words part.Schema)) IsSome status.Schema a b (tells part.Schema) f g
+stops_once told words a b tells (AtSchema form f) (AtQuery s p g) = schema_goes told words s a tells p f
+stops_once told words a b tells (AtSchema form f) (AtTuples s st p g) = schema_goes told words s a tells p.before f
+stops_once told words a b tells (AtQuery s p f) (AtWords m h) = absurd (m p.form)
+stops_once told words a b tells (AtQuery s p f) (AtSchema form g) = schema_goes told words s b tells p g
+stops_once told words a b tells (AtQuery s p f) (AtQuery t q g) =
+    fails_once (told (name_of words part.Query)) (HasQuery t) status.NotBuilt a b (tells part.Query) (subst (λ (x : Schema). Failing (told (name_of words part.Query)) (HasQuery x) status.NotBuilt a) (one_schema told words s t tells p q) f) g
+stops_once told words a b tells (AtQuery s p f) (AtTuples t st q g) = query_goes told words t s st a tells q p f
+stops_once told words a b tells (AtTuples s st p f) (AtWords m h) = absurd (m p.before.form)
+stops_once told words a b tells (AtTuples s st p f) (AtSchema form g) = schema_goes told words s b tells p.before g
+stops_once told words a b tells (AtTuples s st p f) (AtQuery t q g) = query_goes told words s t st b tells p q g
+stops_once told words a b tells (AtTuples s st p f) (AtTuples t st' q g) =
+    fails_once (told (name_of words part.Tuples)) (AreTuples t st') status.Tuples a b (tells part.Tuples) (subst (λ (x : Schema). Failing (told (name_of words part.Tuples)) (AreTuples x st') status.Tuples a) (one_schema told words s t tells p.before q.before) f) g

@@ -1,0 +1,6 @@
+pub mod Texts
+pub mod Changes
+pub mod Runs
+pub mod Deciding
+pub mod Answering
+pub mod Concluding

@@ -1,0 +1,178 @@
+-- What a text that was read says of its part.
+use Rattle.std.proofs.Common.{◌≡◌, ℕ, zero, suc, ◌<◌, ◌≤◌, List, [], ◌∷◌, length, Option, Some, None, Result, Ok, Err, refl, sym, subst, ap, ◌∙◌, arith, lit<}
+use Rattle.std.specs.Prelude.{Bool, true, false, ◌&&◌, slice_get, unwrap_or, Contains}
+use Rattle.std.proofs.lemmas.Bool.{eqb-true}
+use Rattle.gl_outside.proofs.Places.{found_is}
+use Rattle.gl_outside.specs.Counts.{Rose}
+use Rattle.gl_outside.specs.Told.{Told, Untold, Lacks, Holds, IsLacking, IfTold}
+use Rattle.gl_outside.specs.Reads.{OnMissing, OnFailed, OnTooLong, OnRefusal}
+use Rattle.gl_outside.specs.declared.reading.ReadFault as reads
+use Rattle.gl_outside.specs.declared.reading.ReadFault.TheVariants as read
+use Rattle.gl_schema.specs.declared.schema.Schema.{Schema}
+use Rattle.gl_schema.specs.declared.fault.SchemaFault as faults
+use Rattle.gl_schema.specs.declared.fault.SchemaFault.TheVariants as schema
+use Rattle.gl_schema.specs.SchemaFaults.{schema_of}
+use Rattle.gl_schema.specs.SchemaFaults as schemas
+use Rattle.gl_schema.specs.SchemaText.{IsSchemaText}
+use Rattle.gl_query.specs.declared.tree.Statement.{Statement}
+use Rattle.gl_tuples.specs.declared.beats.Beat.{Beat}
+use Rattle.gl_tuples.specs.declared.fault.TupleFault.{TupleFault}
+use Rattle.gl_tuples.specs.declared.fault.TupleFault.TheVariants as tuples
+use Rattle.gl_tuples.specs.Entries.{Fails, Gives}
+use Rattle.gl_tuples.specs.Filing.{beats_of, records_of}
+use Rattle.gl_tuples.specs.Gaps.{first_close, close_answer}
+use Rattle.gl_compiler.specs.declared.compiling.CompileFault.{CompileFault}
+use Rattle.gl_compiler.specs.declared.compiling.CompileFault.TheVariants as compile
+use Rattle.gl_compiler.specs.Queries.{IsQuery, IfRefused, gap_of}
+use Rattle.gl_top.specs.declared.form.Part.{Part}
+use Rattle.gl_top.specs.declared.form.Part.TheVariants as part
+use Rattle.gl_top.specs.Forms.{IsForm, is_form, word_at, place_of, name_of}
+use Rattle.gl_top.specs.Passing.{HasText, SchemaPasses, QueryPasses, kept_beats}
+use Rattle.gl_top.specs.Causes.{IsNext, IsBadSchema, AreBadTuples, Change, HasCause, read_refusal, schema_refusal, query_refusal, tuples_refusal}
+
+-- the words are of the form where a text is judged
+pub next_form : (told : List ℕ → Told) (words : List (List ℕ)) (p : Part) → IsNext told words p → IsForm words
+next_form told words part.Schema next = next
+next_form told words part.Query next = next.1.form
+next_form told words part.Tuples next = next.2.before.form
+
+-- the name of a text is one of the words
+some_at : (xs : List (List ℕ)) (k : ℕ) → k < length xs → slice_get xs k ≡ Some (unwrap_or (slice_get xs k) [])
+some_at [] k lt = absurd (omega arith)
+some_at (x ∷ xs) zero lt = refl
+some_at (x ∷ xs) (suc k) lt = some_at xs k (omega arith)
+
+is_listed : (words : List (List ℕ)) (k : ℕ) → k < length words → Contains words (word_at words k)
+unfolding word_at
+is_listed words k lt = found_is words k (unwrap_or (slice_get words k) []) (some_at words k lt)
+
+place_below : (p : Part) → place_of p < 4
+place_below part.Schema = lit< tt
+place_below part.Query = lit< tt
+place_below part.Tuples = lit< tt
+
+left : (a b : Bool) → (a && b) ≡ true → a ≡ true
+left true b h = refl
+left false b h = h
+
+four_words : (words : List (List ℕ)) → IsForm words → length words ≡ 4
+unfolding is_form
+four_words words form = eqb-true (length words) 4 (left _ _ (left _ _ (left _ _ (left _ _ form))))
+
+pub named : (words : List (List ℕ)) (p : Part) → IsForm words → Contains words (name_of words p)
+unfolding name_of
+named words p form = let four = four_words words form in is_listed words (place_of p) (subst (λ n. place_of p < n) (sym four) (place_below p))
+
+-- what was read is the text that is told
+pub read_is : (t : Told) (v : List ℕ) → IfTold t (λ text. v ≡ text) → length v ≤ 67108864 → IfTold t (λ text. (length text ≤ 67108864) × (v ≡ text))
+read_is Untold v e le = tt
+read_is Lacks v e le = e
+read_is (Holds text) v e le = (subst (λ (x : List ℕ). length x ≤ 67108864) e le, e)
+
+-- and what holds of the one holds of the other
+pub of_text : (t : Told) (P : List ℕ → Type 0) (v : List ℕ) → IfTold t (λ text. (length text ≤ 67108864) × (v ≡ text)) → P v → IfTold t (λ text. (length text ≤ 67108864) × P text)
+of_text Untold P v h p = tt
+of_text Lacks P v h p = h
+of_text (Holds text) P v h p = (h.0, subst P h.1 p)
+
+pub has_text : (told : List ℕ → Told) (words : List (List ℕ)) (p : Part) (P : List ℕ → Type 0) (v : List ℕ) → HasText told words p (λ text. v ≡ text) → P v → HasText told words p P
+has_text told words p P v h q = of_text (told (name_of words p)) P v h q
+
+-- the cause of a text that was not read
+pub read_cause : (T : Type 0) (words : List (List ℕ)) (c : Change) (p : Part) (name : List ℕ) (fault : reads.ReadFault) → name ≡ name_of words p → IsNext c.old.told words p
+    → OnMissing {T = T} (Err fault) (IsLacking (c.old.told name)) → OnMissing {T = T} (Err fault) (Rose c.old.misses c.new.misses) → OnFailed {T = T} (Err fault) (Rose c.old.faults c.new.faults)
+    → OnTooLong {T = T} (Err fault) (IfTold (c.old.told name) (λ text. 67108864 < length text)) → OnRefusal {T = T} (Err fault) (c.new.last ≡ Some name) → HasCause words c (read_refusal p fault)
+read_cause T words c p name read.Missing e next lacking missed failed long last =
+    (record { next = next; lacking = subst (λ n. IsLacking (c.old.told n)) e lacking }, record { rose = missed; last = last ∙ ap Some e })
+read_cause T words c p name read.Failed e next lacking missed failed long last = (next, record { rose = failed; last = last ∙ ap Some e })
+read_cause T words c p name read.TooLong e next lacking missed failed long last =
+    record { next = next; long = subst (λ n. IfTold (c.old.told n) (λ text. 67108864 < length text)) e long }
+read_cause T words c p name read.Memory e next lacking missed failed long last = tt
+
+-- of a schema that is refused
+is_bad : (words : List (List ℕ)) (c : Change) (v : List ℕ) (fault : faults.SchemaFault) → IsForm words → HasText c.old.told words part.Schema (λ text. v ≡ text) → schema_of v ≡ Err fault → IsBadSchema c.old.told words fault
+is_bad words c v fault form h f = record { form = form; text = has_text c.old.told words part.Schema (λ text. schema_of text ≡ Err fault) v h f }
+
+pub schema_cause : (words : List (List ℕ)) (c : Change) (v : List ℕ) (fault : faults.SchemaFault) → IsForm words → HasText c.old.told words part.Schema (λ text. v ≡ text)
+    → schemas.Fails fault (schema_of v) → HasCause words c (schema_refusal fault)
+schema_cause words c v schema.Memory form h f = tt
+schema_cause words c v (schema.Syntax at) form h f = is_bad words c v (schema.Syntax at) form h f
+schema_cause words c v (schema.BadName at) form h f = is_bad words c v (schema.BadName at) form h f
+schema_cause words c v (schema.BadKind at) form h f = is_bad words c v (schema.BadKind at) form h f
+schema_cause words c v (schema.Twice at) form h f = is_bad words c v (schema.Twice at) form h f
+schema_cause words c v (schema.TooMany at) form h f = is_bad words c v (schema.TooMany at) form h f
+
+pub schema_passes : (told : List ℕ → Told) (words : List (List ℕ)) (v : List ℕ) (s : Schema) → IsForm words → HasText told words part.Schema (λ text. v ≡ text) → IsSchemaText v s → SchemaPasses told words s
+schema_passes told words v s form h is = record { form = form; fine = is.schema'; text = has_text told words part.Schema (λ text. IsSchemaText text s) v h is }
+
+-- of a query that is refused
+not_built : (words : List (List ℕ)) (c : Change) (v : List ℕ) (s : Schema) → SchemaPasses c.old.told words s → HasText c.old.told words part.Query (λ text. v ≡ text)
+    → ((statement : Statement) → IsQuery s v statement → ⊥) → HasCause words c (query_refusal compile.NotBuilt)
+not_built words c v s before h none = record { schema = s; before = before; text = has_text c.old.told words part.Query (λ text. (statement : Statement) → IsQuery s text statement → ⊥) v h none }
+
+pub query_cause : (words : List (List ℕ)) (c : Change) (v : List ℕ) (s : Schema) (fault : CompileFault) → SchemaPasses c.old.told words s → HasText c.old.told words part.Query (λ text. v ≡ text)
+    → IfRefused fault ((statement : Statement) → IsQuery s v statement → ⊥) → HasCause words c (query_refusal fault)
+query_cause words c v s compile.Memory before h none = tt
+query_cause words c v s (compile.Schema f) before h none = not_built words c v s before h none
+query_cause words c v s (compile.Query f) before h none = not_built words c v s before h none
+query_cause words c v s compile.NotBuilt before h none = not_built words c v s before h none
+
+pub query_passes : (told : List ℕ → Told) (words : List (List ℕ)) (v : List ℕ) (s t : Schema) (statement : Statement) → t ≡ s → SchemaPasses told words s → HasText told words part.Query (λ text. v ≡ text) → IsQuery s v statement → QueryPasses told words t statement
+query_passes told words v s t statement e before h built =
+    subst (λ (x : Schema). QueryPasses told words x statement) (sym e) (record { before = before; text = has_text told words part.Query (λ text. IsQuery s text statement) v h built })
+
+-- of a tuple file that is refused
+are_bad : (words : List (List ℕ)) (c : Change) (v : List ℕ) (s : Schema) (statement : Statement) (fault : TupleFault) → QueryPasses c.old.told words s statement → HasText c.old.told words part.Tuples (λ text. v ≡ text)
+    → kept_beats s (gap_of s statement) v ≡ Err fault → AreBadTuples c.old.told words fault
+are_bad words c v s statement fault before h f = record { schema = s; statement = statement; before = before; text = has_text c.old.told words part.Tuples (λ text. kept_beats s (gap_of s statement) text ≡ Err fault) v h f }
+
+pub tuples_cause : (words : List (List ℕ)) (c : Change) (v : List ℕ) (s : Schema) (statement : Statement) (fault : TupleFault) → QueryPasses c.old.told words s statement → HasText c.old.told words part.Tuples (λ text. v ≡ text)
+    → Fails fault (kept_beats s (gap_of s statement) v) → HasCause words c (tuples_refusal fault)
+tuples_cause words c v s st tuples.Memory before h f = tt
+tuples_cause words c v s st (tuples.NotUtf8 n) before h f = are_bad words c v s st (tuples.NotUtf8 n) before h f
+tuples_cause words c v s st (tuples.BadCycle n) before h f = are_bad words c v s st (tuples.BadCycle n) before h f
+tuples_cause words c v s st (tuples.CycleFalls n) before h f = are_bad words c v s st (tuples.CycleFalls n) before h f
+tuples_cause words c v s st (tuples.CycleTooLarge n) before h f = are_bad words c v s st (tuples.CycleTooLarge n) before h f
+tuples_cause words c v s st (tuples.UnknownStream n) before h f = are_bad words c v s st (tuples.UnknownStream n) before h f
+tuples_cause words c v s st (tuples.FieldCount n) before h f = are_bad words c v s st (tuples.FieldCount n) before h f
+tuples_cause words c v s st (tuples.BadValue n) before h f = are_bad words c v s st (tuples.BadValue n) before h f
+tuples_cause words c v s st (tuples.StreamTwice n) before h f = are_bad words c v s st (tuples.StreamTwice n) before h f
+tuples_cause words c v s st (tuples.AfterEnd n) before h f = are_bad words c v s st (tuples.AfterEnd n) before h f
+tuples_cause words c v s st (tuples.TooClose n) before h f = are_bad words c v s st (tuples.TooClose n) before h f
+
+-- beats that keep the gap
+pub kept_ok : (s : Schema) (gap : ℕ) (v : List ℕ) (beats : List Beat) → beats_of s (records_of v) ≡ Ok beats → Ok tt ≡ close_answer (first_close gap beats) → kept_beats s gap v ≡ Ok beats
+unfolding kept_beats
+kept_ok s gap v beats read close = rw (read, ← close) refl
+
+-- beats that do not
+close_fault : (o : Option ℕ) (fault : TupleFault) → Err fault ≡ close_answer o → (number : ℕ) × (o ≡ Some number) × (fault ≡ tuples.TooClose number)
+close_fault None fault e = absurd cc
+close_fault (Some n) fault e = (n, refl, cc)
+
+close_is : (s : Schema) (gap : ℕ) (v : List ℕ) (beats : List Beat) (n : ℕ) → beats_of s (records_of v) ≡ Ok beats → first_close gap beats ≡ Some n → kept_beats s gap v ≡ Err (tuples.TooClose n)
+unfolding kept_beats
+close_is s gap v beats n read close = rw (read, close) refl
+
+pub kept_close : (s : Schema) (gap : ℕ) (v : List ℕ) (beats : List Beat) (fault : TupleFault) → beats_of s (records_of v) ≡ Ok beats → Err fault ≡ close_answer (first_close gap beats) → Fails fault (kept_beats s gap v)
+kept_close s gap v beats fault read close =
+    let p = close_fault (first_close gap beats) fault close in
+    subst (λ (f : TupleFault). Fails f (kept_beats s gap v)) (sym p.2) (close_is s gap v beats p.0 read p.1)
+
+-- no beats at all
+unkept : (s : Schema) (gap : ℕ) (v : List ℕ) (fault : TupleFault) → beats_of s (records_of v) ≡ Err fault → kept_beats s gap v ≡ Err fault
+unfolding kept_beats
+unkept s gap v fault e = rw e refl
+
+pub kept_bad : (s : Schema) (gap : ℕ) (v : List ℕ) (fault : TupleFault) → Fails fault (beats_of s (records_of v)) → Fails fault (kept_beats s gap v)
+kept_bad s gap v tuples.Memory f = tt
+kept_bad s gap v (tuples.NotUtf8 n) f = unkept s gap v (tuples.NotUtf8 n) f
+kept_bad s gap v (tuples.BadCycle n) f = unkept s gap v (tuples.BadCycle n) f
+kept_bad s gap v (tuples.CycleFalls n) f = unkept s gap v (tuples.CycleFalls n) f
+kept_bad s gap v (tuples.CycleTooLarge n) f = unkept s gap v (tuples.CycleTooLarge n) f
+kept_bad s gap v (tuples.UnknownStream n) f = unkept s gap v (tuples.UnknownStream n) f
+kept_bad s gap v (tuples.FieldCount n) f = unkept s gap v (tuples.FieldCount n) f
+kept_bad s gap v (tuples.BadValue n) f = unkept s gap v (tuples.BadValue n) f
+kept_bad s gap v (tuples.StreamTwice n) f = unkept s gap v (tuples.StreamTwice n) f
+kept_bad s gap v (tuples.AfterEnd n) f = unkept s gap v (tuples.AfterEnd n) f
+kept_bad s gap v (tuples.TooClose n) f = unkept s gap v (tuples.TooClose n) f

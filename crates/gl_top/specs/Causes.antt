@@ -1,0 +1,128 @@
+-- Why the program ends before anything is written.
+use Rattle.std.specs.Prelude.{◌≡◌, ℕ, ◌<◌, ◌≤◌, List, length, Option, Some, Result, Ok, Err}
+use Rattle.gl_outside.specs.Counts.{Rose}
+use Rattle.gl_outside.specs.Told.{Told, IsLacking, IfTold}
+use Rattle.gl_outside.specs.declared.reading.ReadFault as reads
+use Rattle.gl_outside.specs.declared.reading.ReadFault.TheVariants as read
+use Rattle.gl_schema.specs.declared.schema.Schema.{Schema}
+use Rattle.gl_schema.specs.declared.fault.SchemaFault as faults
+use Rattle.gl_schema.specs.declared.fault.SchemaFault.TheVariants as schema
+use Rattle.gl_schema.specs.SchemaFaults.{schema_of}
+use Rattle.gl_query.specs.declared.tree.Statement.{Statement}
+use Rattle.gl_tuples.specs.declared.fault.TupleFault.{TupleFault}
+use Rattle.gl_tuples.specs.declared.fault.TupleFault.TheVariants as tuples
+use Rattle.gl_compiler.specs.declared.compiling.CompileFault.{CompileFault}
+use Rattle.gl_compiler.specs.declared.compiling.CompileFault.TheVariants as compile
+use Rattle.gl_compiler.specs.Queries.{IsQuery, gap_of}
+use Rattle.gl_top.specs.declared.form.Part.{Part}
+use Rattle.gl_top.specs.declared.form.Part.TheVariants as part
+use Rattle.gl_top.specs.declared.notes.Refusal.{Refusal}
+use Rattle.gl_top.specs.declared.notes.Refusal.TheVariants as refusal
+use Rattle.gl_top.specs.Forms.{IsForm, name_of}
+use Rattle.gl_top.specs.Passing.{HasText, SchemaPasses, QueryPasses, kept_beats}
+
+-- the words are of the form, and every text before this one passes
+abbrev pub IsNext : (List ℕ → Told) → List (List ℕ) → Part → Type 0
+IsNext told words part.Schema = IsForm words
+IsNext told words part.Query = (schema : Schema) × SchemaPasses told words schema
+IsNext told words part.Tuples = (schema : Schema) × (statement : Statement) × QueryPasses told words schema statement
+
+-- the text of a part is the first that does not pass: no text has its name
+pub record IsMissing (told : List ℕ → Told) (words : List (List ℕ)) (part : Part) : Type 0 where
+  pub next : IsNext told words part
+  pub lacking : IsLacking (told (name_of words part))
+
+-- it is too long
+pub record IsTooLong (told : List ℕ → Told) (words : List (List ℕ)) (part : Part) : Type 0 where
+  pub next : IsNext told words part
+  pub long : IfTold (told (name_of words part)) (λ text. 67108864 < length text)
+
+-- it has no schema, and this is the first fault
+pub record IsBadSchema (told : List ℕ → Told) (words : List (List ℕ)) (fault : faults.SchemaFault) : Type 0 where
+  pub form : IsForm words
+  pub text : HasText told words part.Schema (λ text. schema_of text ≡ Err fault)
+
+-- it is a query that is not built over the schema
+pub record IsNotBuilt (told : List ℕ → Told) (words : List (List ℕ)) : Type 0 where
+  pub schema : Schema
+  pub before : SchemaPasses told words schema
+  pub text : HasText told words part.Query (λ text. (statement : Statement) → IsQuery schema text statement → ⊥)
+
+-- it is no tuple file of the schema, or its beats do not keep the gap, and this is the first fault
+pub record AreBadTuples (told : List ℕ → Told) (words : List (List ℕ)) (fault : TupleFault) : Type 0 where
+  pub schema : Schema
+  pub statement : Statement
+  pub before : QueryPasses told words schema statement
+  pub text : HasText told words part.Tuples (λ text. kept_beats schema (gap_of schema statement) text ≡ Err fault)
+
+-- what the words and the texts say of a refusal; a failed read and want of memory are not theirs
+abbrev pub IsRefused : (List ℕ → Told) → List (List ℕ) → Refusal → Type 0
+IsRefused told words refusal.Usage = IsForm words → ⊥
+IsRefused told words (refusal.Missing part) = IsMissing told words part
+IsRefused told words (refusal.ReadFault part) = ⊥
+IsRefused told words (refusal.TooLong part) = IsTooLong told words part
+IsRefused told words (refusal.Schema fault) = IsBadSchema told words fault
+IsRefused told words refusal.NotBuilt = IsNotBuilt told words
+IsRefused told words (refusal.Tuples fault) = AreBadTuples told words fault
+IsRefused told words refusal.Memory = ⊥
+
+-- what is seen of a shelf
+pub record Seen : Type 0 where
+  pub names : List (List ℕ)
+  pub told : List ℕ → Told
+  pub misses : ℕ
+  pub faults : ℕ
+  pub last : Option (List ℕ)
+
+-- before and after a call
+pub record Change : Type 0 where
+  pub old : Seen
+  pub new : Seen
+
+abbrev pub change : {A : Type 0} → (A → List (List ℕ)) → (A → List ℕ → Told) → (A → ℕ) → (A → ℕ) → (A → Option (List ℕ)) → A → A → Change
+change names told misses faults last old new = record {
+  old = record { names = names old; told = told old; misses = misses old; faults = faults old; last = last old };
+  new = record { names = names new; told = told new; misses = misses new; faults = faults new; last = last new };
+}
+
+-- the names and the texts stay, and no count falls
+pub record IsKept (c : Change) : Type 0 where
+  pub names : c.new.names ≡ c.old.names
+  pub texts : (n : List ℕ) → c.new.told n ≡ c.old.told n
+  pub misses : c.old.misses ≤ c.new.misses
+  pub faults : c.old.faults ≤ c.new.faults
+
+-- the shelf missed, or failed, and its last name is this one
+pub record IsMiss (c : Change) (name : List ℕ) : Type 0 where
+  pub rose : Rose c.old.misses c.new.misses
+  pub last : c.new.last ≡ Some name
+
+pub record IsFailure (c : Change) (name : List ℕ) : Type 0 where
+  pub rose : Rose c.old.faults c.new.faults
+  pub last : c.new.last ≡ Some name
+
+-- the cause of a refusal; want of memory is free
+abbrev pub HasCause : List (List ℕ) → Change → Refusal → Type 0
+HasCause words c (refusal.Missing part) = IsMissing c.old.told words part × IsMiss c (name_of words part)
+HasCause words c (refusal.ReadFault part) = IsNext c.old.told words part × IsFailure c (name_of words part)
+HasCause words c refusal.Memory = Unit {0}
+HasCause words c r = IsRefused c.old.told words r
+
+-- a fault of a lower call as a refusal: want of memory is its own
+abbrev pub read_refusal : Part → reads.ReadFault → Refusal
+read_refusal part read.Missing = refusal.Missing part
+read_refusal part read.Failed = refusal.ReadFault part
+read_refusal part read.TooLong = refusal.TooLong part
+read_refusal part read.Memory = refusal.Memory
+
+abbrev pub schema_refusal : faults.SchemaFault → Refusal
+schema_refusal schema.Memory = refusal.Memory
+schema_refusal fault = refusal.Schema fault
+
+abbrev pub query_refusal : CompileFault → Refusal
+query_refusal compile.Memory = refusal.Memory
+query_refusal fault = refusal.NotBuilt
+
+abbrev pub tuples_refusal : TupleFault → Refusal
+tuples_refusal tuples.Memory = refusal.Memory
+tuples_refusal fault = refusal.Tuples fault

@@ -1,0 +1,120 @@
+-- The status of a refusal, and the line that tells it.
+use Rattle.std.specs.Prelude.{◌≡◌, ℕ, List, ◌++◌, codes, decimal, Option, ◌⊎◌}
+use Rattle.gl_schema.specs.declared.fault.SchemaFault.{SchemaFault}
+use Rattle.gl_schema.specs.declared.fault.SchemaFault.TheVariants as schema
+use Rattle.gl_tuples.specs.declared.fault.TupleFault.{TupleFault}
+use Rattle.gl_tuples.specs.declared.fault.TupleFault.TheVariants as tuples
+use Rattle.gl_outside.specs.Counts.{Rose}
+use Rattle.gl_outside.specs.Taken.{Appends, AppendsFront}
+use Rattle.gl_top.specs.declared.form.Part.TheVariants as part
+use Rattle.gl_top.specs.declared.notes.Refusal.{Refusal}
+use Rattle.gl_top.specs.declared.notes.Refusal.TheVariants.{Usage, Missing, ReadFault, TooLong, Schema, NotBuilt, Tuples, Memory}
+use Rattle.gl_top.specs.declared.status.Status.{Status}
+use Rattle.gl_top.specs.declared.status.Status.TheVariants as status
+use Rattle.gl_top.specs.Forms.{name_of}
+
+-- each refusal has one status
+abbrev pub status_of : Refusal → Status
+status_of Usage = status.Usage
+status_of (Missing part) = status.Missing
+status_of (ReadFault part) = status.ReadFault
+status_of (TooLong part) = status.Limit
+status_of (Schema fault) = status.Schema
+status_of NotBuilt = status.NotBuilt
+status_of (Tuples fault) = status.Tuples
+status_of Memory = status.Memory
+
+-- the kind of a fault is its variant's name
+unfoldable pub schema_kind : SchemaFault → List ℕ
+schema_kind (schema.Syntax at) = codes "Syntax"
+schema_kind (schema.BadName at) = codes "BadName"
+schema_kind (schema.BadKind at) = codes "BadKind"
+schema_kind (schema.Twice at) = codes "Twice"
+schema_kind (schema.TooMany at) = codes "TooMany"
+schema_kind schema.Memory = codes "Memory"
+
+abbrev pub schema_place : SchemaFault → ℕ
+schema_place (schema.Syntax at) = at
+schema_place (schema.BadName at) = at
+schema_place (schema.BadKind at) = at
+schema_place (schema.Twice at) = at
+schema_place (schema.TooMany at) = at
+schema_place schema.Memory = 0
+
+unfoldable pub tuples_kind : TupleFault → List ℕ
+tuples_kind (tuples.NotUtf8 number) = codes "NotUtf8"
+tuples_kind (tuples.BadCycle number) = codes "BadCycle"
+tuples_kind (tuples.CycleFalls number) = codes "CycleFalls"
+tuples_kind (tuples.CycleTooLarge number) = codes "CycleTooLarge"
+tuples_kind (tuples.UnknownStream number) = codes "UnknownStream"
+tuples_kind (tuples.FieldCount number) = codes "FieldCount"
+tuples_kind (tuples.BadValue number) = codes "BadValue"
+tuples_kind (tuples.StreamTwice number) = codes "StreamTwice"
+tuples_kind (tuples.AfterEnd number) = codes "AfterEnd"
+tuples_kind (tuples.TooClose number) = codes "TooClose"
+tuples_kind tuples.Memory = codes "Memory"
+
+abbrev pub tuples_record : TupleFault → ℕ
+tuples_record (tuples.NotUtf8 number) = number
+tuples_record (tuples.BadCycle number) = number
+tuples_record (tuples.CycleFalls number) = number
+tuples_record (tuples.CycleTooLarge number) = number
+tuples_record (tuples.UnknownStream number) = number
+tuples_record (tuples.FieldCount number) = number
+tuples_record (tuples.BadValue number) = number
+tuples_record (tuples.StreamTwice number) = number
+tuples_record (tuples.AfterEnd number) = number
+tuples_record (tuples.TooClose number) = number
+tuples_record tuples.Memory = 0
+
+-- a line of a head and what it tells of; each ends with a line feed
+abbrev pub line : List ℕ → List ℕ → List ℕ
+line head rest = head ++ rest ++ codes "\n"
+
+-- a line of a kind and a number
+abbrev pub kind_line : List ℕ → List ℕ → List ℕ → ℕ → List ℕ
+kind_line head kind middle number = head ++ kind ++ line middle (decimal number)
+
+-- the lines that tell of no text
+unfoldable pub usage_line : List ℕ
+usage_line = codes "usage: glacier run S Q T\n"
+
+unfoldable pub memory_line : List ℕ
+memory_line = codes "out of memory\n"
+
+unfoldable pub write_line : List ℕ
+write_line = codes "write fault\n"
+
+-- the line of each refusal
+abbrev pub note_of : List (List ℕ) → Refusal → List ℕ
+note_of words Usage = usage_line
+note_of words (Missing part) = line (codes "missing: ") (name_of words part)
+note_of words (ReadFault part) = line (codes "read fault: ") (name_of words part)
+note_of words (TooLong part) = line (codes "limit: Text ") (name_of words part)
+note_of words (Schema fault) = kind_line (codes "schema: ") (schema_kind fault) (codes " at ") (schema_place fault)
+note_of words NotBuilt = line (codes "not built: ") (name_of words part.Query)
+note_of words (Tuples fault) = kind_line (codes "tuples: ") (tuples_kind fault) (codes " at record ") (tuples_record fault)
+note_of words Memory = memory_line
+
+-- what is seen of a sink before and after a call
+pub record Puts : Type 0 where
+  pub old : Option (List ℕ)
+  pub new : Option (List ℕ)
+  pub faults : ℕ
+  pub faults' : ℕ
+
+abbrev pub puts : {A : Type 0} → (A → Option (List ℕ)) → (A → ℕ) → A → A → Puts
+puts taken faults old new = record { old = taken old; new = taken new; faults = faults old; faults' = faults new }
+
+-- all of the bytes were taken
+pub record Took (p : Puts) (bytes : List ℕ) : Type 0 where
+  pub all : Appends p.old p.new bytes
+
+-- the sink failed, and a front of them was
+pub record Broke (p : Puts) (bytes : List ℕ) : Type 0 where
+  pub front : AppendsFront p.old p.new bytes
+  pub cause : Rose p.faults p.faults'
+
+-- the line was written under this status, or the sink failed at it
+abbrev pub Notes : Status → List ℕ → Puts → Status → Type 0
+Notes own bytes p answered = ((answered ≡ own) × Took p bytes) ⊎ ((answered ≡ status.WriteFault) × Broke p bytes)

@@ -1,0 +1,78 @@
+//! The words of the command, and the texts that they name.
+
+ghost use Rattle.std.specs.Prelude.{◌≡◌};
+ghost use Rattle.gl_top.specs.Forms as forms;
+
+use gl_outside::Words;
+
+/// One of the three texts that the words `run S Q T` name, in this order.
+#[derive(Clone, Copy, PartialEq, Eq, Debug)]
+pub enum Part {
+    /// The schema.
+    Schema,
+    /// The query.
+    Query,
+    /// The tuple file.
+    Tuples,
+}
+
+impl Part {
+    // The place of its name among the words.
+    fn place(self) -> usize
+        ensures { result ≡ forms.place_of self }
+    {
+        match self {
+            Part::Schema => 1,
+            Part::Query => 2,
+            Part::Tuples => 3,
+        }
+    }
+}
+
+// The word at a place.
+#[tactic(auto, unfolding(crate::specs::Forms::word_at))]
+fn word_at(words: &Words, at: usize) -> &str
+    ensures { result.now ≡ forms.word_at words.now at }
+{
+    match words.get(at) {
+        Some(word) => word,
+        None => "",
+    }
+}
+
+/// The name of a text.
+#[tactic(auto, unfolding(crate::specs::Forms::name_of))]
+pub(crate) fn name_of(words: &Words, part: Part) -> &str
+    ensures { result.now ≡ forms.name_of words.now part }
+{
+    word_at(words, part.place())
+}
+
+// Whether the word may name a text: it does not begin with `-`.
+fn is_text_name(word: &[u8]) -> bool
+    ensures { result ≡ forms.is_text_name word.now }
+{
+    match word {
+        [] => true,
+        [first, ..] => *first != b'-',
+    }
+}
+
+// Whether the word at this part's place may name a text.
+fn is_named(words: &Words, part: Part) -> bool
+    ensures { result ≡ forms.is_text_name (forms.name_of words.now part) }
+{
+    is_text_name(name_of(words, part).as_bytes())
+}
+
+/// Whether the words are `run S Q T`, and no name begins with `-`.
+#[tactic(auto, unfolding(crate::specs::Forms::is_form))]
+pub(crate) fn is_form(words: &Words) -> bool
+    ensures { result ≡ forms.is_form words.now }
+{
+    words.len() == 4
+        && word_at(words, 0) == "run"
+        && is_named(words, Part::Schema)
+        && is_named(words, Part::Query)
+        && is_named(words, Part::Tuples)
+}

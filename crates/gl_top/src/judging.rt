@@ -1,0 +1,221 @@
+//! Judging the texts: each is read and judged before the next is read.
+
+ghost use Rattle.std.specs.Prelude.{◌≡◌, ◌≤◌, Contains, IfOk, IfErr, vec_len, List, ℕ};
+ghost use Rattle.gl_schema.specs.Schemas.{IsSchema};
+ghost use Rattle.gl_schema.specs.Beats.{KeepsGap};
+ghost use Rattle.gl_tuples.specs.Entries.{Gives};
+ghost use Rattle.gl_tuples.specs.Gaps.{AreFileBeats, plain_beats};
+ghost use Rattle.gl_top.specs.Forms.{IsForm};
+ghost use Rattle.gl_top.specs.Causes as causes;
+ghost use Rattle.gl_top.specs.Causes.{IsNext, IsKept, HasCause, change};
+ghost use Rattle.gl_top.specs.Passing.{HasText, SchemaPasses, QueryPasses, TuplesPass, IsCompiled, IsReady, kept_beats};
+
+use crate::form::{Part, is_form, name_of};
+use crate::notes::Refusal;
+use gl_compiler::{CompileFault, Compiled, compile_query};
+use gl_outside::{ReadFault, Shelf, Words, read_all};
+use gl_schema::{Schema, SchemaFault, read_schema};
+use gl_tuples::{Beats, TupleFault, read_tuples};
+use std::alloc::Global;
+
+/// What the three texts give: the compiled query, and the beats of the tuple file.
+#[derive(Drop)]
+pub struct Job {
+    /// The compiled query.
+    pub compiled: Compiled,
+    /// The beats.
+    pub beats: Beats,
+}
+
+// A fault of a text of the shelf as a refusal.
+fn read_refusal(part: Part, fault: ReadFault) -> Refusal
+    ensures { result ≡ causes.read_refusal part fault }
+{
+    match fault {
+        ReadFault::Missing => Refusal::Missing(part),
+        ReadFault::Failed => Refusal::ReadFault(part),
+        ReadFault::TooLong => Refusal::TooLong(part),
+        ReadFault::Memory => Refusal::Memory,
+    }
+}
+
+fn schema_refusal(fault: SchemaFault) -> Refusal
+    ensures { result ≡ causes.schema_refusal fault }
+{
+    match fault {
+        SchemaFault::Memory => Refusal::Memory,
+        fault => Refusal::Schema(fault),
+    }
+}
+
+fn query_refusal(fault: CompileFault) -> Refusal
+    ensures { result ≡ causes.query_refusal fault }
+{
+    match fault {
+        CompileFault::Memory => Refusal::Memory,
+        _ => Refusal::NotBuilt,
+    }
+}
+
+fn tuples_refusal(fault: TupleFault) -> Refusal
+    ensures { result ≡ causes.tuples_refusal fault }
+{
+    match fault {
+        TupleFault::Memory => Refusal::Memory,
+        fault => Refusal::Tuples(fault),
+    }
+}
+
+// Reads the text of a part.
+fn text_of<S: Shelf>(
+    alloc: Global,
+    shelf: &mut S,
+    words: &Words,
+    part: Part,
+) -> Result<Vec<u8>, Refusal>
+    requires next { IsNext (S.told shelf.old) words.now part }
+    requires names { S.names shelf.old ≡ words.now }
+    ensures kept { IsKept (change S.names S.told S.misses S.faults S.last shelf.old shelf.new) }
+    ensures text { IfOk result (λ v. HasText (S.told shelf.old) words.now part (λ text. v.items ≡ text)) }
+    ensures refused { IfErr result (λ r. HasCause words.now (change S.names S.told S.misses S.faults S.last shelf.old shelf.new) r) }
+{
+    match read_all(alloc, shelf, name_of(words, part)) {
+        Ok(text) => Ok(text),
+        Err(fault) => Err(read_refusal(part, fault)),
+    }
+}
+
+// Reads and judges the schema.
+fn judge_schema<S: Shelf>(alloc: Global, shelf: &mut S, words: &Words) -> Result<Schema, Refusal>
+    requires form { IsForm words.now }
+    requires names { S.names shelf.old ≡ words.now }
+    ensures kept { IsKept (change S.names S.told S.misses S.faults S.last shelf.old shelf.new) }
+    ensures passes { IfOk result (λ schema. SchemaPasses (S.told shelf.old) words.now schema) }
+    ensures refused { IfErr result (λ r. HasCause words.now (change S.names S.told S.misses S.faults S.last shelf.old shelf.new) r) }
+{
+    let text = text_of(alloc, shelf, words, Part::Schema)?;
+    match read_schema(alloc, &text) {
+        Ok(schema) => Ok(schema),
+        Err(fault) => Err(schema_refusal(fault)),
+    }
+}
+
+// Reads and judges the query.
+fn judge_query<S: Shelf>(
+    alloc: Global,
+    shelf: &mut S,
+    words: &Words,
+    schema: Schema,
+) -> Result<Compiled, Refusal>
+    requires passes { SchemaPasses (S.told shelf.old) words.now schema }
+    requires names { S.names shelf.old ≡ words.now }
+    ensures kept { IsKept (change S.names S.told S.misses S.faults S.last shelf.old shelf.new) }
+    ensures passes { IfOk result (λ c. QueryPasses (S.told shelf.old) words.now c.schema c.statement) }
+    ensures compiled { IfOk result IsCompiled }
+    ensures refused { IfErr result (λ r. HasCause words.now (change S.names S.told S.misses S.faults S.last shelf.old shelf.new) r) }
+{
+    let text = text_of(alloc, shelf, words, Part::Query)?;
+    match compile_query(alloc, schema, &text) {
+        Ok(compiled) => Ok(compiled),
+        Err(fault) => Err(query_refusal(fault)),
+    }
+}
+
+// The beats of a text, if they keep the gap.
+fn beats_of(alloc: Global, schema: &Schema, gap: u32, text: &[u8]) -> Result<Beats, TupleFault>
+    requires { IsSchema schema.now }
+    ensures exact { Gives result (kept_beats schema.now gap text.now) }
+    ensures fine { IfOk result (λ beats. AreFileBeats schema.now beats) }
+    ensures gap { IfOk result (λ beats. KeepsGap gap (plain_beats beats)) }
+{
+    let beats = match read_tuples(alloc, schema, text) {
+        Ok(beats) => beats,
+        Err(fault) => return Err(fault),
+    };
+    match beats.keep(gap) {
+        Ok(()) => Ok(beats),
+        Err(fault) => Err(fault),
+    }
+}
+
+// Reads and judges the tuple file.
+fn judge_tuples<S: Shelf>(
+    alloc: Global,
+    shelf: &mut S,
+    words: &Words,
+    compiled: &Compiled,
+) -> Result<Beats, Refusal>
+    requires passes { QueryPasses (S.told shelf.old) words.now compiled.now.schema compiled.now.statement }
+    requires compiled { IsCompiled compiled.now }
+    requires names { S.names shelf.old ≡ words.now }
+    ensures passes { IfOk result (λ beats. TuplesPass (S.told shelf.old) words.now compiled.now.schema compiled.now.statement beats) }
+    ensures refused { IfErr result (λ r. HasCause words.now (change S.names S.told S.misses S.faults S.last shelf.old shelf.new) r) }
+{
+    let text = text_of(alloc, shelf, words, Part::Tuples)?;
+    match beats_of(alloc, compiled.schema(), compiled.printed().gap, &text) {
+        Ok(beats) => Ok(beats),
+        Err(fault) => Err(tuples_refusal(fault)),
+    }
+}
+
+// Judges the tuple file, behind the schema and the query.
+fn judge_file<S: Shelf>(
+    alloc: Global,
+    shelf: &mut S,
+    words: &Words,
+    compiled: Compiled,
+) -> Result<Job, Refusal>
+    requires passes { QueryPasses (S.told shelf.old) words.now compiled.schema compiled.statement }
+    requires compiled { IsCompiled compiled }
+    requires names { S.names shelf.old ≡ words.now }
+    ensures ready { IfOk result (λ job. IsReady (S.told shelf.old) words.now job) }
+    ensures refused { IfErr result (λ r. HasCause words.now (change S.names S.told S.misses S.faults S.last shelf.old shelf.new) r) }
+{
+    match judge_tuples(alloc, shelf, words, &compiled) {
+        Ok(beats) => Ok(Job { compiled, beats }),
+        Err(refusal) => Err(refusal),
+    }
+}
+
+// Judges the query and the tuple file, behind the schema.
+fn judge_rest<S: Shelf>(
+    alloc: Global,
+    shelf: &mut S,
+    words: &Words,
+    schema: Schema,
+) -> Result<Job, Refusal>
+    requires passes { SchemaPasses (S.told shelf.old) words.now schema }
+    requires names { S.names shelf.old ≡ words.now }
+    ensures ready { IfOk result (λ job. IsReady (S.told shelf.old) words.now job) }
+    ensures refused { IfErr result (λ r. HasCause words.now (change S.names S.told S.misses S.faults S.last shelf.old shelf.new) r) }
+{
+    match judge_query(alloc, shelf, words, schema) {
+        Ok(compiled) => judge_file(alloc, shelf, words, compiled),
+        Err(refusal) => Err(refusal),
+    }
+}
+
+// Judges the three texts.
+fn judge_texts<S: Shelf>(alloc: Global, shelf: &mut S, words: &Words) -> Result<Job, Refusal>
+    requires form { IsForm words.now }
+    requires names { S.names shelf.old ≡ words.now }
+    ensures ready { IfOk result (λ job. IsReady (S.told shelf.old) words.now job) }
+    ensures refused { IfErr result (λ r. HasCause words.now (change S.names S.told S.misses S.faults S.last shelf.old shelf.new) r) }
+{
+    match judge_schema(alloc, shelf, words) {
+        Ok(schema) => judge_rest(alloc, shelf, words, schema),
+        Err(refusal) => Err(refusal),
+    }
+}
+
+/// Judges the words and the texts that they name.
+pub(crate) fn judge<S: Shelf>(alloc: Global, shelf: &mut S, words: &Words) -> Result<Job, Refusal>
+    requires { S.names shelf.old ≡ words.now }
+    ensures ready { IfOk result (λ job. IsReady (S.told shelf.old) words.now job) }
+    ensures refused { IfErr result (λ r. HasCause words.now (change S.names S.told S.misses S.faults S.last shelf.old shelf.new) r) }
+{
+    if !is_form(words) {
+        return Err(Refusal::Usage);
+    }
+    judge_texts(alloc, shelf, words)
+}
