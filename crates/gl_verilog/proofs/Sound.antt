@@ -10,6 +10,7 @@ use Rattle.gl_verilog.specs.Tokens.{Token, Reserved, Name, Number, Sized, Mark, 
 use Rattle.gl_verilog.specs.Written.{PrefixOp, BitNot, LogicalNot, InfixOp, Times, Added, Subtracted, Below, AtMost, Above, AtLeast, Equal, NotEqual, BitAnd, BitXor, BitOr, LogicalAnd, LogicalOr, WrittenExpr, Named, Constant, BitOf, PartOf, WordOf, Braces, Parens, looseness, level, infix_token, spell_expr, WrittenStatement, Update, UpdateWord, Block, ends_open, spell_statement, Direction, In, InWire, Out, OutWire, OutReg, Range, WrittenPort, WrittenItem, Wires, Registers, MemoryOf, Assign, Always, WrittenModule, spell_direction, spell_range, spell_port, spell_ports, spell_more_ports, spell_names, spell_more_names, spell_item, spell_items, spell, IsNonempty, IsItem, IsWritten, zero_digit}
 use Rattle.gl_verilog.specs.Limits.{depth_of, operators_of, depth_in, ifs_in, KeepsLimits, IsWithinLimits}
 use Rattle.gl_verilog.specs.Machine.{State, Frame, InParens, InBraces, InIndex, PrefixOf, InfixOf, TestOf, ColonOf, AssignTo, UpdateTo, AddressFor, UpdateWordTo, IfTest, ThenOf, ElseOf, InBegin, BodyOf, Sort, WireSort, RegisterSort, Owner, OfPort, OfItem, Stage, WantModule, WantTitle, WantPorts, WantPort, Declaring, WantHigh, WantColon, WantZero, WantClose, WantName, AfterPort, AfterPorts, AfterName, WantMore, WantFirst, WantMemoryColon, WantLast, WantMemoryClose, WantMemoryEnd, WantItem, WantAssigned, WantEquals, WantAt, WantEdge, WantPosedge, WantClock, WantEdgeEnd, WantStatement, AfterTarget, WantArrow, WantTest, HaveStatement, WantOperand, HaveOperand, AtIndex, AtPlace, WantLow, AtPart, Complete, start, goto_if, item_of, listed, end_block, at_else, at_end, after_else, after_statement, reduce, parts_of, Open, at_infix, at_question, at_colon, at_comma, at_brace, at_paren, at_bracket, at_semicolon, indexed, in_words, named, memory_of, want_module, want_title, want_ports, want_port, declaring, want_high, want_colon, want_close, want_zero, want_name, after_port, after_ports, after_name, want_more, want_last, want_memory_end, want_item, want_assigned, want_equals, want_at, want_edge, want_posedge, want_clock, want_edge_end, want_statement, after_target, want_arrow, want_test, have_statement, want_operand, have_operand, at_index, at_place, want_low, at_part, step, step_at, finish, complete, is_past, run, checked, or_fault, Fault, Syntax, TooDeep}
+use Rattle.gl_verilog.specs.Text.{IsSpelling}
 use Rattle.gl_verilog.proofs.Frames.{with_commas, spell_all, text_of, nest, operators_all, ops_on, ifs_all, ifs_on, room, IsOperand, IsWhole, IsDone, AreParts, AreDone, OnStatement, OnExpr, loose-range, room-some, room-wide, Reduced, reduces, Settled, ends, Continued, elses, parts-more, operators-more, commas-more, joins, done-more, ifs-more, all-more, lists}
 use Rattle.gl_verilog.proofs.Told.{ports_ahead, opening, base, sort_word, owner_words, owner_text, on_base, on_open, told_at, AreGood, InHeader, OnBlock, OnPlace, OnOperand, OnDone, OutsideOf, owner_known, owner_fine, InBlockOf, InExprOf, InIndexOf, fine_at, IsBelow, Means, moved, means, retold}
 
@@ -583,12 +584,6 @@ stepped : (t : Token) (s s' : State) (ts : List Token) → Means s ts → IsBelo
 unfolding step
 stepped t s s' ts m w e = retold s' _ _ (ap (λ (x : List Token). x ++ t ∷ []) m.told) (at_stage s.stage t s s' m.fine w e)
 
--- what a module's tokens are, and its trees
-pub record IsReadAs (ts : List Token) (w : WrittenModule) : Type 0 where
-  pub spelled : ts ≡ spell w
-  pub grammar : IsWritten w
-  pub limits : IsWithinLimits w
-
 base-ends : (n : List ℕ) (ps : List WrittenPort) (is : List WrittenItem) → base n ps is ++ Reserved EndModuleWord ∷ [] ≡ spell (record { name = n; ports = ps; items = is })
 unfolding base
 base-ends n ps is = ap (opening n) (append_assoc (spell_ports ps) (Mark CloseParen ∷ Mark Semicolon ∷ spell_items is) (Reserved EndModuleWord ∷ []))
@@ -596,9 +591,9 @@ base-ends n ps is = ap (opening n) (append_assoc (spell_ports ps) (Mark ClosePar
 some-as : {A : Type 0} (P : A → Type 0) (x y : A) → Some x ≡ Some y → P x → P y
 some-as P x y e h = let q : x ≡ y = cc in subst P q h
 
-completed : (stage : Stage) (s : State) (ts : List Token) (w : WrittenModule) → told_at stage s ≡ ts → fine_at stage s → complete stage s ≡ Some w → IsReadAs ts w
+completed : (stage : Stage) (s : State) (ts : List Token) (w : WrittenModule) → told_at stage s ≡ ts → fine_at stage s → complete stage s ≡ Some w → IsSpelling ts w
 completed Complete s ts w t f e =
-    some-as (IsReadAs ts) (record { name = s.name; ports = s.ports; items = s.items }) w e
+    some-as (IsSpelling ts) (record { name = s.name; ports = s.ports; items = s.items }) w e
       (record { spelled = sym t ∙ base-ends s.name s.ports s.items; grammar = record { ports = f.0.some'; items = f.0.items }; limits = f.0.limits })
 completed stage s ts w t f e = absurd cc
 
@@ -621,14 +616,14 @@ or-false a b c e = absurd cc
 below : (s : State) → is_past s ≡ false → IsBelow s
 below s e = let h = or-false (ltb 64 s.brackets) (ltb 1024 s.operators) (ltb 1024 s.ifs) e in record { brackets = ltb-false 64 s.brackets h.0; operators = ltb-false 1024 s.operators h.1; ifs = ltb-false 1024 s.ifs h.2 }
 
-runs : (ts : List Token) (at : ℕ) (s : State) (done : List Token) (w : WrittenModule) → Means s done → IsBelow s → run at s ts ≡ Ok w → IsReadAs (done ++ ts) w
+runs : (ts : List Token) (at : ℕ) (s : State) (done : List Token) (w : WrittenModule) → Means s done → IsBelow s → run at s ts ≡ Ok w → IsSpelling (done ++ ts) w
 unfolding run
-runs [] at s done w m b e = subst (λ (x : List Token). IsReadAs x w) (sym (append-nil done)) (completed s.stage s done w m.told m.fine (fault-ok (finish s) (Syntax at) w e))
+runs [] at s done w m b e = subst (λ (x : List Token). IsSpelling x w) (sym (append-nil done)) (completed s.stage s done w m.told m.fine (fault-ok (finish s) (Syntax at) w e))
 runs (t ∷ ts) at s done w m b e =
     let h = checked-ok at (step s t) (λ (x : State). run (at + 1) x ts) w e in
-    subst (λ (x : List Token). IsReadAs x w) (append_assoc done (t ∷ []) ts)
+    subst (λ (x : List Token). IsSpelling x w) (append_assoc done (t ∷ []) ts)
       (runs ts (at + 1) h.0 (done ++ t ∷ []) w (stepped t s h.0 done m b h.1) (below h.0 h.2) h.3)
 
 -- what the machine reads is a module's spelling
-pub sound : (ts : List Token) (w : WrittenModule) → run 0 start ts ≡ Ok w → IsReadAs ts w
+pub sound : (ts : List Token) (w : WrittenModule) → run 0 start ts ≡ Ok w → IsSpelling ts w
 sound ts w e = runs ts 0 start [] w (means _ _ refl (refl, record { none = refl; closed = refl })) (record { brackets = omega arith; operators = omega arith; ifs = omega arith }) e
