@@ -257,18 +257,18 @@ reduces (InBraces parts ∷ fs) p e lo hi on x lt le = stays p (InBraces parts �
 reduces (InIndex n ∷ fs) p e lo hi on x lt le = stays p (InIndex n ∷ fs) e on x le (omega arith)
 reduces (PrefixOf op ∷ fs) p e lo hi on x lt le =
     again p fs (PrefixOf op ∷ fs) (Prefix op e) e _ (sym (append_assoc (text_of fs) (prefix_token op ∷ []) (spell_expr e))) refl (omega arith) refl
-      (reduces fs p (Prefix op e) lo hi on (record { grouped = (omega arith, x.grouped); deep = x.deep }) (room-some fs) (omega arith))
+    (reduces fs p (Prefix op e) lo hi on (record { grouped = (omega arith, x.grouped); deep = x.deep }) (room-some fs) (omega arith))
 reduces (InfixOf op l ∷ fs) p e lo hi on x lt le =
     pick (leb (looseness op) p) p (InfixOf op l ∷ fs) e (reduce p fs (Infix op l e)) (opened (InfixOf op l ∷ fs) e)
-      (λ b. again p fs (InfixOf op l ∷ fs) (Infix op l e) e _ (sym (append_assoc (text_of fs) (spell_expr l ++ infix_token op ∷ []) (spell_expr e) ∙ ap (λ (t : List Token). text_of fs ++ t) (append_assoc (spell_expr l) (infix_token op ∷ []) (spell_expr e)))) refl (omega arith) refl
-        (reduces fs p (Infix op l e) lo hi on.3 (record { grouped = (on.1, lt, on.0.grouped, x.grouped); deep = omega (arith, on.0.deep, x.deep) }) on.2 (leb-true _ _ b)))
-      (λ b. stays p (InfixOf op l ∷ fs) e on x le (leb-false _ _ b))
+    (λ b. again p fs (InfixOf op l ∷ fs) (Infix op l e) e _ (sym (append_assoc (text_of fs) (spell_expr l ++ infix_token op ∷ []) (spell_expr e) ∙ ap (λ (t : List Token). text_of fs ++ t) (append_assoc (spell_expr l) (infix_token op ∷ []) (spell_expr e)))) refl (omega arith) refl
+    (reduces fs p (Infix op l e) lo hi on.3 (record { grouped = (on.1, lt, on.0.grouped, x.grouped); deep = omega (arith, on.0.deep, x.deep) }) on.2 (leb-true _ _ b)))
+    (λ b. stays p (InfixOf op l ∷ fs) e on x le (leb-false _ _ b))
 reduces (TestOf c ∷ fs) p e lo hi on x lt le = stays p (TestOf c ∷ fs) e on x le (omega arith)
 reduces (ColonOf c y ∷ fs) p e lo hi on x lt le =
     pick (leb 11 p) p (ColonOf c y ∷ fs) e (reduce p fs (Conditional c y e)) (opened (ColonOf c y ∷ fs) e)
-      (λ b. again p fs (ColonOf c y ∷ fs) (Conditional c y e) e _ (colon-text (text_of fs) (spell_expr c) (spell_expr y) (spell_expr e)) refl (omega arith) refl
-        (reduces fs p (Conditional c y e) lo hi on.5 (record { grouped = (on.1, on.3, omega arith, on.0.grouped, on.2.grouped, x.grouped); deep = omega (arith, on.0.deep, on.2.deep, x.deep) }) on.4 (leb-true _ _ b)))
-      (λ b. stays p (ColonOf c y ∷ fs) e on x le (omega arith))
+    (λ b. again p fs (ColonOf c y ∷ fs) (Conditional c y e) e _ (colon-text (text_of fs) (spell_expr c) (spell_expr y) (spell_expr e)) refl (omega arith) refl
+    (reduces fs p (Conditional c y e) lo hi on.5 (record { grouped = (on.1, on.3, omega arith, on.0.grouped, on.2.grouped, x.grouped); deep = omega (arith, on.0.deep, on.2.deep, x.deep) }) on.4 (leb-true _ _ b)))
+    (λ b. stays p (ColonOf c y ∷ fs) e on x le (omega arith))
   where
     colon-text : (b c y e : List Token) → b ++ (c ++ Mark Question ∷ (y ++ Mark Colon ∷ e)) ≡ (b ++ (c ++ Mark Question ∷ (y ++ Mark Colon ∷ []))) ++ e
     colon-text b c y e = simp append_assoc

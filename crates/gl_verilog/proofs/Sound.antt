@@ -56,8 +56,8 @@ item-named b r w n = simp append_assoc
 at_named : (o : Owner) (range : Range) (n : List ℕ) (s s' : State) (ts : List Token) → owner_fine o s → ts ≡ owner_text o s ++ spell_range range → named o range n s ≡ Some s' → Means s' (ts ++ Name n ∷ [])
 at_named (OfPort d) range n s s' ts f q e =
     moved e (means _ _
-      (ap (opening s.name) (ports-more s.ports (record { direction = d; range = range; name = n }) ∙ port-named (ports_ahead s.ports) (spell_direction d) (spell_range range) n) ∙ ap (λ (x : List Token). x ++ Name n ∷ []) (sym q))
-      (nonempty-more s.ports (record { direction = d; range = range; name = n }), f))
+    (ap (opening s.name) (ports-more s.ports (record { direction = d; range = range; name = n }) ∙ port-named (ports_ahead s.ports) (spell_direction d) (spell_range range) n) ∙ ap (λ (x : List Token). x ++ Name n ∷ []) (sym q))
+    (nonempty-more s.ports (record { direction = d; range = range; name = n }), f))
 at_named (OfItem sort) range n s s' ts f q e =
     moved e (means _ _ (item-named (base s.name s.ports s.items) (spell_range range) (sort_word sort) n ∙ ap (λ (x : List Token). x ++ Name n ∷ []) (sym q)) (tt, f))
 
@@ -116,8 +116,8 @@ at_after_ports : (t : Token) (s s' : State) → fine_at AfterPorts s → after_p
 unfolding base
 at_after_ports (Mark Semicolon) s s' f e =
     moved e (means _ _
-      (ap (opening s.name) (ap (λ (is : List WrittenItem). spell_ports s.ports ++ Mark CloseParen ∷ Mark Semicolon ∷ spell_items is) f.1.none ∙ sym (append_assoc (spell_ports s.ports) (Mark CloseParen ∷ []) (Mark Semicolon ∷ []))))
-      (record { some' = f.0; items = subst (AllByRecursion IsItem) (sym f.1.none) tt; limits = subst (AllByRecursion KeepsLimits) (sym f.1.none) tt }, f.1.closed))
+    (ap (opening s.name) (ap (λ (is : List WrittenItem). spell_ports s.ports ++ Mark CloseParen ∷ Mark Semicolon ∷ spell_items is) f.1.none ∙ sym (append_assoc (spell_ports s.ports) (Mark CloseParen ∷ []) (Mark Semicolon ∷ []))))
+    (record { some' = f.0; items = subst (AllByRecursion IsItem) (sym f.1.none) tt; limits = subst (AllByRecursion KeepsLimits) (sym f.1.none) tt }, f.1.closed))
 at_after_ports t s s' f e = absurd cc
 
 -- an item more
@@ -174,8 +174,8 @@ at_after_name t sort range names s s' f e = absurd cc
 at_want_more : (t : Token) (sort : Sort) (range : Range) (names : List (List ℕ)) (s s' : State) → fine_at (WantMore sort range names) s → want_more sort range names s t ≡ Some s' → Means s' (told_at (WantMore sort range names) s ++ t ∷ [])
 at_want_more (Name n) sort range names s s' f e =
     moved e (means _ _
-      (ap (λ (x : List Token). on_base s (sort_word sort ∷ (spell_range range ++ x))) (names-more names n f.0) ∙ name-next (base s.name s.ports s.items) (spell_range range) (spell_names names) (sort_word sort) (Name n))
-      (nonempty-more names n, f.1))
+    (ap (λ (x : List Token). on_base s (sort_word sort ∷ (spell_range range ++ x))) (names-more names n f.0) ∙ name-next (base s.name s.ports s.items) (spell_range range) (spell_names names) (sort_word sort) (Name n))
+    (nonempty-more names n, f.1))
 at_want_more t sort range names s s' f e = absurd cc
 
 memory-goes : (b r ts : List Token) (w t : Token) → b ++ (w ∷ (r ++ (ts ++ t ∷ []))) ≡ (b ++ (w ∷ (r ++ ts))) ++ t ∷ []
@@ -188,8 +188,8 @@ at_want_last t range n s s' f e = absurd cc
 at_want_memory_end : (t : Token) (range : Range) (n last : List ℕ) (s s' : State) → fine_at (WantMemoryEnd range n last) s → want_memory_end range n last s t ≡ Some s' → Means s' (told_at (WantMemoryEnd range n last) s ++ t ∷ [])
 at_want_memory_end (Mark Semicolon) range n last s s' f e =
     moved e (means _ _
-      (base-more s.name s.ports s.items (MemoryOf range n last) ∙ memory-goes (base s.name s.ports s.items) (spell_range range) (Name n ∷ Mark OpenBracket ∷ Number zero_digit ∷ Mark Colon ∷ Number last ∷ Mark CloseBracket ∷ []) (Reserved RegWord) (Mark Semicolon))
-      (good-more s.ports s.items (MemoryOf range n last) f.0 tt tt, f.1))
+    (base-more s.name s.ports s.items (MemoryOf range n last) ∙ memory-goes (base s.name s.ports s.items) (spell_range range) (Name n ∷ Mark OpenBracket ∷ Number zero_digit ∷ Mark Colon ∷ Number last ∷ Mark CloseBracket ∷ []) (Reserved RegWord) (Mark Semicolon))
+    (good-more s.ports s.items (MemoryOf range n last) f.0 tt tt, f.1))
 at_want_memory_end t range n last s s' f e = absurd cc
 
 -- ---- items
@@ -222,8 +222,8 @@ no-ifs fs e = ap ifs_on e
 at_want_equals : (t : Token) (n : List ℕ) (s s' : State) → fine_at (WantEquals n) s → want_equals n s t ≡ Some s' → Means s' (told_at (WantEquals n) s ++ t ∷ [])
 at_want_equals (Mark Equals) n s s' f e =
     moved e (means _ _
-      (no-text (base s.name s.ports s.items) (Reserved AssignWord ∷ Name n ∷ Mark Equals ∷ []) s.frames f.1 ∙ item-goes (base s.name s.ports s.items) (Reserved AssignWord ∷ Name n ∷ []) (Mark Equals))
-      (f.0, record { stands = f.1; nested = omega (arith, no-nest s.frames f.1); ops = omega arith; ifs = omega (arith, no-ifs s.frames f.1) }))
+    (no-text (base s.name s.ports s.items) (Reserved AssignWord ∷ Name n ∷ Mark Equals ∷ []) s.frames f.1 ∙ item-goes (base s.name s.ports s.items) (Reserved AssignWord ∷ Name n ∷ []) (Mark Equals))
+    (f.0, record { stands = f.1; nested = omega (arith, no-nest s.frames f.1); ops = omega arith; ifs = omega (arith, no-ifs s.frames f.1) }))
 at_want_equals t n s s' f e = absurd cc
 
 at_want_at : (t : Token) (s s' : State) → fine_at WantAt s → want_at s t ≡ Some s' → Means s' (told_at WantAt s ++ t ∷ [])
@@ -248,8 +248,8 @@ open-goes b a f e = ap (λ (x : List Token). b ++ (x ++ f)) e
 at_want_edge_end : (t : Token) (n : List ℕ) (s s' : State) → fine_at (WantEdgeEnd n) s → want_edge_end n s t ≡ Some s' → Means s' (told_at (WantEdgeEnd n) s ++ t ∷ [])
 at_want_edge_end (Mark CloseParen) n s s' f e =
     moved e (means _ _
-      (no-text (base s.name s.ports s.items) (Reserved AlwaysWord ∷ Mark At ∷ Mark OpenParen ∷ Reserved PosedgeWord ∷ Name n ∷ Mark CloseParen ∷ []) s.frames f.1 ∙ item-goes (base s.name s.ports s.items) (Reserved AlwaysWord ∷ Mark At ∷ Mark OpenParen ∷ Reserved PosedgeWord ∷ Name n ∷ []) (Mark CloseParen))
-      (f.0, record { stands = f.1; nested = omega (arith, no-nest s.frames f.1); ifs = omega (arith, no-ifs s.frames f.1) }))
+    (no-text (base s.name s.ports s.items) (Reserved AlwaysWord ∷ Mark At ∷ Mark OpenParen ∷ Reserved PosedgeWord ∷ Name n ∷ Mark CloseParen ∷ []) s.frames f.1 ∙ item-goes (base s.name s.ports s.items) (Reserved AlwaysWord ∷ Mark At ∷ Mark OpenParen ∷ Reserved PosedgeWord ∷ Name n ∷ []) (Mark CloseParen))
+    (f.0, record { stands = f.1; nested = omega (arith, no-nest s.frames f.1); ifs = omega (arith, no-ifs s.frames f.1) }))
 at_want_edge_end t n s s' f e = absurd cc
 
 -- ---- statements
@@ -267,8 +267,8 @@ at_end_block : (fs : List Frame) (s s' : State) → AreGood s.ports s.items → 
 at_end_block (InBegin done ∷ fs) s s' g w f e =
     let l = lists (nest fs + 1) done (omega (arith, f.nested, w.brackets)) f.stands.0 in
     moved e (means _ _
-      (ap (λ (x : List Token). base s.name s.ports s.items ++ (text_of fs ++ (Reserved BeginWord ∷ (x ++ Reserved EndWord ∷ [])))) l.text ∙ block-told (base s.name s.ports s.items) (text_of fs) (spell_all done) (Reserved BeginWord) (Reserved EndWord))
-      (g, record { stands = f.stands.1; nested = omega (arith, f.nested); ifs = omega (arith, f.ifs, l.ifs); done = record { is = l.is; deep = omega (arith, l.deep); short = l.short } }, refl))
+    (ap (λ (x : List Token). base s.name s.ports s.items ++ (text_of fs ++ (Reserved BeginWord ∷ (x ++ Reserved EndWord ∷ [])))) l.text ∙ block-told (base s.name s.ports s.items) (text_of fs) (spell_all done) (Reserved BeginWord) (Reserved EndWord))
+    (g, record { stands = f.stands.1; nested = omega (arith, f.nested); ifs = omega (arith, f.ifs, l.ifs); done = record { is = l.is; deep = omega (arith, l.deep); short = l.short } }, refl))
 at_end_block [] s s' g w f e = absurd cc
 at_end_block (f' ∷ fs) s s' g w f e = absurd cc
 
@@ -276,20 +276,20 @@ at_want_statement : (t : Token) (s s' : State) → fine_at WantStatement s → I
 at_want_statement (Name n) s s' f w e = moved e (means _ _ (open-more (base s.name s.ports s.items) (text_of s.frames) (Name n ∷ [])) f)
 at_want_statement (Reserved IfWord) s s' f w e =
     moved e (means _ _ (open-more (base s.name s.ports s.items) (text_of s.frames) (Reserved IfWord ∷ []))
-      ((f.0, record { stands = f.1.stands; nested = f.1.nested; ifs = omega (arith, f.1.ifs) }), omega (arith, f.1.ifs)))
+    ((f.0, record { stands = f.1.stands; nested = f.1.nested; ifs = omega (arith, f.1.ifs) }), omega (arith, f.1.ifs)))
 at_want_statement (Reserved BeginWord) s s' f w e =
     moved e (means _ _ (open-more (base s.name s.ports s.items) (text_of s.frames) (Reserved BeginWord ∷ []))
-      (f.0, record { stands = (tt, f.1.stands); nested = omega (arith, f.1.nested); ifs = omega (arith, f.1.ifs) }))
+    (f.0, record { stands = (tt, f.1.stands); nested = omega (arith, f.1.nested); ifs = omega (arith, f.1.ifs) }))
 at_want_statement (Reserved EndWord) s s' f w e = at_end_block s.frames s s' f.0 w f.1 e
 at_want_statement t s s' f w e = absurd cc
 
 at_after_target : (t : Token) (n : List ℕ) (s s' : State) → fine_at (AfterTarget n) s → after_target n s t ≡ Some s' → Means s' (told_at (AfterTarget n) s ++ t ∷ [])
 at_after_target (Mark LessEquals) n s s' f e =
     moved e (means _ _ (open-next (base s.name s.ports s.items) (text_of s.frames) (Name n ∷ []) (Mark LessEquals))
-      (f.0, record { stands = f.1.stands; nested = f.1.nested; ops = omega arith; ifs = f.1.ifs }))
+    (f.0, record { stands = f.1.stands; nested = f.1.nested; ops = omega arith; ifs = f.1.ifs }))
 at_after_target (Mark OpenBracket) n s s' f e =
     moved e (means _ _ (open-next (base s.name s.ports s.items) (text_of s.frames) (Name n ∷ []) (Mark OpenBracket))
-      (f.0, record { stands = f.1.stands; nested = omega (arith, f.1.nested); ops = omega arith; ifs = f.1.ifs }))
+    (f.0, record { stands = f.1.stands; nested = omega (arith, f.1.nested); ops = omega arith; ifs = f.1.ifs }))
 at_after_target t n s s' f e = absurd cc
 
 arrow-told : (b f a : List Token) (n : List ℕ) → b ++ (f ++ (Name n ∷ Mark OpenBracket ∷ (a ++ Mark CloseBracket ∷ Mark LessEquals ∷ []))) ≡ (b ++ (f ++ (Name n ∷ Mark OpenBracket ∷ (a ++ Mark CloseBracket ∷ [])))) ++ Mark LessEquals ∷ []
@@ -298,13 +298,13 @@ arrow-told b f a n = simp append_assoc
 at_want_arrow : (t : Token) (n : List ℕ) (a : WrittenExpr) (s s' : State) → fine_at (WantArrow n a) s → want_arrow n a s t ≡ Some s' → Means s' (told_at (WantArrow n a) s ++ t ∷ [])
 at_want_arrow (Mark LessEquals) n a s s' f e =
     moved e (means _ _ (arrow-told (base s.name s.ports s.items) (text_of s.frames) (spell_expr a) n)
-      (f.0.0, record { stands = (f.1, f.0.1.stands); nested = f.0.1.nested; ops = omega arith; ifs = f.0.1.ifs }))
+    (f.0.0, record { stands = (f.1, f.0.1.stands); nested = f.0.1.nested; ops = omega arith; ifs = f.0.1.ifs }))
 at_want_arrow t n a s s' f e = absurd cc
 
 at_want_test : (t : Token) (s s' : State) → fine_at WantTest s → want_test s t ≡ Some s' → Means s' (told_at WantTest s ++ t ∷ [])
 at_want_test (Mark OpenParen) s s' f e =
     moved e (means _ _ (open-next (base s.name s.ports s.items) (text_of s.frames) (Reserved IfWord ∷ []) (Mark OpenParen))
-      (f.0.0, record { stands = f.0.1.stands; nested = omega (arith, f.0.1.nested); ops = omega arith; ifs = f.1 }))
+    (f.0.0, record { stands = f.0.1.stands; nested = omega (arith, f.0.1.nested); ops = omega arith; ifs = f.1 }))
 at_want_test t s s' f e = absurd cc
 
 else-goes : (o : Option (List Frame)) (st : WrittenStatement) (s s' : State) → fine_at (HaveStatement st) s → at_else s.frames st ≡ o → after_else s o ≡ Some s' → Means s' (told_at (HaveStatement st) s ++ Reserved ElseWord ∷ [])
@@ -312,8 +312,8 @@ else-goes None st s s' f q e = absurd cc
 else-goes (Some gs) st s s' f q e =
     let c = elses s.frames st gs f.1.stands f.1.done f.2 q in
     moved e (means _ _
-      (ap (λ (x : List Token). base s.name s.ports s.items ++ x) c.text ∙ open-next (base s.name s.ports s.items) (text_of s.frames) (spell_statement st) (Reserved ElseWord))
-      (f.0, record { stands = c.stands; nested = omega (arith, c.nested, f.1.nested); ifs = omega (arith, c.ifs, f.1.ifs) }))
+    (ap (λ (x : List Token). base s.name s.ports s.items ++ x) c.text ∙ open-next (base s.name s.ports s.items) (text_of s.frames) (spell_statement st) (Reserved ElseWord))
+    (f.0, record { stands = c.stands; nested = omega (arith, c.nested, f.1.nested); ifs = omega (arith, c.ifs, f.1.ifs) }))
 
 begin-told : (b f d x : List Token) (t : Token) → b ++ (f ++ (t ∷ (d ++ x))) ≡ b ++ ((f ++ (t ∷ d)) ++ x)
 begin-told b f d x t = simp append_assoc
@@ -321,16 +321,16 @@ begin-told b f d x t = simp append_assoc
 at_after_statement : (fs : List Frame) (st : WrittenStatement) (t : Token) (s s' : State) → AreGood s.ports s.items → IsBelow s → OnDone fs s.brackets s.ifs st → after_statement s fs st t ≡ Some s' → Means s' ((base s.name s.ports s.items ++ (text_of fs ++ spell_statement st)) ++ t ∷ [])
 at_after_statement (InBegin done ∷ fs) st t s s' g w f e =
     retold s' _ _
-      (ap (λ (x : List Token). x ++ t ∷ []) (ap (λ (x : List Token). base s.name s.ports s.items ++ (text_of fs ++ (Reserved BeginWord ∷ x))) (all-more done st) ∙ begin-told (base s.name s.ports s.items) (text_of fs) (spell_all done) (spell_statement st) (Reserved BeginWord)))
-      (at_want_statement t (record s { frames = InBegin (done ++ st ∷ []) ∷ fs }) s'
-        (g, record { stands = (done-more (nest fs + 1) done st f.stands.0 f.done, f.stands.1); nested = f.nested; ifs = omega (arith, f.ifs, ifs-more done st) })
-        (record { brackets = w.brackets; operators = w.operators; ifs = w.ifs }) e)
+    (ap (λ (x : List Token). x ++ t ∷ []) (ap (λ (x : List Token). base s.name s.ports s.items ++ (text_of fs ++ (Reserved BeginWord ∷ x))) (all-more done st) ∙ begin-told (base s.name s.ports s.items) (text_of fs) (spell_all done) (spell_statement st) (Reserved BeginWord)))
+    (at_want_statement t (record s { frames = InBegin (done ++ st ∷ []) ∷ fs }) s'
+    (g, record { stands = (done-more (nest fs + 1) done st f.stands.0 f.done, f.stands.1); nested = f.nested; ifs = omega (arith, f.ifs, ifs-more done st) })
+    (record { brackets = w.brackets; operators = w.operators; ifs = w.ifs }) e)
 at_after_statement (BodyOf clock ∷ fs) st t s s' g w f e =
     retold s' _ _
-      (ap (λ (x : List Token). x ++ t ∷ [])
-        (base-more s.name s.ports s.items (Always clock st) ∙ sym (body-told (base s.name s.ports s.items) fs (spell_statement st) f.stands)))
-      (at_want_item t (record s { items = s.items ++ Always clock st ∷ []; frames = fs; ifs = 0 }) s'
-        (good-more s.ports s.items (Always clock st) g f.done.is (omega (arith, f.done.deep), omega (arith, f.ifs, w.ifs), f.done.short), f.stands) e)
+    (ap (λ (x : List Token). x ++ t ∷ [])
+    (base-more s.name s.ports s.items (Always clock st) ∙ sym (body-told (base s.name s.ports s.items) fs (spell_statement st) f.stands)))
+    (at_want_item t (record s { items = s.items ++ Always clock st ∷ []; frames = fs; ifs = 0 }) s'
+    (good-more s.ports s.items (Always clock st) g f.done.is (omega (arith, f.done.deep), omega (arith, f.ifs, w.ifs), f.done.short), f.stands) e)
   where
     body-told : (b : List Token) (fs : List Frame) (x : List Token) → fs ≡ [] → b ++ ((text_of fs ++ Reserved AlwaysWord ∷ Mark At ∷ Mark OpenParen ∷ Reserved PosedgeWord ∷ Name clock ∷ Mark CloseParen ∷ []) ++ x) ≡ b ++ (Reserved AlwaysWord ∷ Mark At ∷ Mark OpenParen ∷ Reserved PosedgeWord ∷ Name clock ∷ Mark CloseParen ∷ x)
     body-told b fs x q = ap (λ (gs : List Frame). b ++ ((text_of gs ++ Reserved AlwaysWord ∷ Mark At ∷ Mark OpenParen ∷ Reserved PosedgeWord ∷ Name clock ∷ Mark CloseParen ∷ []) ++ x)) q
@@ -340,8 +340,8 @@ statement-goes : (t : Token) (st : WrittenStatement) (s s' : State) → fine_at 
 statement-goes t st s s' f w e =
     let r = ends s.frames st f.1.stands f.1.done in
     retold s' _ _ (ap (λ (x : List Token). (base s.name s.ports s.items ++ x) ++ t ∷ []) r.text)
-      (at_after_statement (at_end s.frames st).0 (at_end s.frames st).1 t s s' f.0 w
-        (record { stands = r.stands; nested = omega (arith, r.nested, f.1.nested); ifs = omega (arith, r.ifs, f.1.ifs); done = r.done }) e)
+    (at_after_statement (at_end s.frames st).0 (at_end s.frames st).1 t s s' f.0 w
+    (record { stands = r.stands; nested = omega (arith, r.nested, f.1.nested); ifs = omega (arith, r.ifs, f.1.ifs); done = r.done }) e)
 
 at_have_statement : (t : Token) (st : WrittenStatement) (s s' : State) → fine_at (HaveStatement st) s → IsBelow s → have_statement st s t ≡ Some s' → Means s' (told_at (HaveStatement st) s ++ t ∷ [])
 at_have_statement (Reserved ElseWord) st s s' f w e = else-goes (at_else s.frames st) st s s' f refl e
@@ -352,22 +352,22 @@ at_have_statement t st s s' f w e = statement-goes t st s s' f w e
 at_want_operand : (t : Token) (s s' : State) → fine_at WantOperand s → IsBelow s → want_operand s t ≡ Some s' → Means s' (told_at WantOperand s ++ t ∷ [])
 at_want_operand (Name n) s s' f w e =
     moved e (means _ _ (open-more (base s.name s.ports s.items) (text_of s.frames) (Name n ∷ []))
-      (f.0, record { stands = f.1.stands; nested = f.1.nested; ops = omega (arith, f.1.ops); ifs = f.1.ifs; operand = record { grouped = tt; deep = omega (arith, f.1.nested, w.brackets) } }, refl))
+    (f.0, record { stands = f.1.stands; nested = f.1.nested; ops = omega (arith, f.1.ops); ifs = f.1.ifs; operand = record { grouped = tt; deep = omega (arith, f.1.nested, w.brackets) } }, refl))
 at_want_operand (Sized size radix digits) s s' f w e =
     moved e (means _ _ (open-more (base s.name s.ports s.items) (text_of s.frames) (Sized size radix digits ∷ []))
-      (f.0, record { stands = f.1.stands; nested = f.1.nested; ops = omega (arith, f.1.ops); ifs = f.1.ifs; operand = record { grouped = tt; deep = omega (arith, f.1.nested, w.brackets) } }, refl))
+    (f.0, record { stands = f.1.stands; nested = f.1.nested; ops = omega (arith, f.1.ops); ifs = f.1.ifs; operand = record { grouped = tt; deep = omega (arith, f.1.nested, w.brackets) } }, refl))
 at_want_operand (Mark OpenParen) s s' f w e =
     moved e (means _ _ (open-more (base s.name s.ports s.items) (text_of s.frames) (Mark OpenParen ∷ []))
-      (f.0, record { stands = f.1.stands; nested = omega (arith, f.1.nested); ops = f.1.ops; ifs = f.1.ifs }))
+    (f.0, record { stands = f.1.stands; nested = omega (arith, f.1.nested); ops = f.1.ops; ifs = f.1.ifs }))
 at_want_operand (Mark OpenBrace) s s' f w e =
     moved e (means _ _ (open-more (base s.name s.ports s.items) (text_of s.frames) (Mark OpenBrace ∷ []))
-      (f.0, record { stands = (tt, f.1.stands); nested = omega (arith, f.1.nested); ops = omega (arith, f.1.ops); ifs = f.1.ifs }))
+    (f.0, record { stands = (tt, f.1.stands); nested = omega (arith, f.1.nested); ops = omega (arith, f.1.ops); ifs = f.1.ifs }))
 at_want_operand (Mark Tilde) s s' f w e =
     moved e (means _ _ (open-more (base s.name s.ports s.items) (text_of s.frames) (Mark Tilde ∷ []))
-      (f.0, record { stands = f.1.stands; nested = f.1.nested; ops = omega (arith, f.1.ops); ifs = f.1.ifs }))
+    (f.0, record { stands = f.1.stands; nested = f.1.nested; ops = omega (arith, f.1.ops); ifs = f.1.ifs }))
 at_want_operand (Mark Exclamation) s s' f w e =
     moved e (means _ _ (open-more (base s.name s.ports s.items) (text_of s.frames) (Mark Exclamation ∷ []))
-      (f.0, record { stands = f.1.stands; nested = f.1.nested; ops = omega (arith, f.1.ops); ifs = f.1.ifs }))
+    (f.0, record { stands = f.1.stands; nested = f.1.nested; ops = omega (arith, f.1.ops); ifs = f.1.ifs }))
 at_want_operand t s s' f w e = absurd cc
 
 -- the text of an operand and the frames below it, and a token
@@ -385,13 +385,13 @@ infix-goes : (op : InfixOp) (e : WrittenExpr) (s s' : State) → fine_at (HaveOp
 infix-goes op e s s' f q =
     let r = reduction (looseness op) e s (loose-range op).0 (omega (arith, loose-range op)) f in
     moved q (means _ _ (taken (base s.name s.ports s.items) (text_of (reduced (looseness op) s e).0) (spell_expr (reduced (looseness op) s e).1) (text_of s.frames) (spell_expr e) (infix_token op ∷ []) r.text)
-      (f.0, record { stands = (r.operand, r.tight, r.wide, r.stands); nested = omega (arith, r.nested, f.1.nested); ops = omega (arith, r.ops, f.1.ops); ifs = omega (arith, r.ifs, f.1.ifs) }))
+    (f.0, record { stands = (r.operand, r.tight, r.wide, r.stands); nested = omega (arith, r.nested, f.1.nested); ops = omega (arith, r.ops, f.1.ops); ifs = omega (arith, r.ifs, f.1.ifs) }))
 
 question-goes : (e : WrittenExpr) (s s' : State) → fine_at (HaveOperand e) s → at_question s (reduced 10 s e) ≡ Some s' → Means s' (told_at (HaveOperand e) s ++ Mark Question ∷ [])
 question-goes e s s' f q =
     let r = reduction 10 e s (omega arith) (omega arith) f in
     moved q (means _ _ (taken (base s.name s.ports s.items) (text_of (reduced 10 s e).0) (spell_expr (reduced 10 s e).1) (text_of s.frames) (spell_expr e) (Mark Question ∷ []) r.text)
-      (f.0, record { stands = (r.operand, r.tight, room-wide (reduced 10 s e).0 r.wide, r.stands); nested = omega (arith, r.nested, f.1.nested); ops = omega (arith, r.ops, f.1.ops); ifs = omega (arith, r.ifs, f.1.ifs) }))
+    (f.0, record { stands = (r.operand, r.tight, room-wide (reduced 10 s e).0 r.wide, r.stands); nested = omega (arith, r.nested, f.1.nested); ops = omega (arith, r.ops, f.1.ops); ifs = omega (arith, r.ifs, f.1.ifs) }))
 
 -- behind a whole expression, on these frames
 abbrev Behind : (List Frame → WrittenExpr → Option State) → Token → State → State → Type 0
@@ -401,7 +401,7 @@ whole-goes : (next : List Frame → WrittenExpr → Option State) (t : Token) (e
 whole-goes next t e s s' behind f w q =
     let r = reduction 11 e s (omega arith) (omega arith) f in
     retold s' _ _ (ap (λ (x : List Token). (base s.name s.ports s.items ++ x) ++ t ∷ []) r.text)
-      (behind (reduced 11 s e).0 (reduced 11 s e).1 f.0 w (record { stands = r.stands; nested = omega (arith, r.nested, f.1.nested); ops = omega (arith, r.ops, f.1.ops); ifs = omega (arith, r.ifs, f.1.ifs); operand = r.operand }) r.tight q)
+    (behind (reduced 11 s e).0 (reduced 11 s e).1 f.0 w (record { stands = r.stands; nested = omega (arith, r.nested, f.1.nested); ops = omega (arith, r.ops, f.1.ops); ifs = omega (arith, r.ifs, f.1.ifs); operand = r.operand }) r.tight q)
 
 colon-told : (b f c e : List Token) → b ++ (f ++ (c ++ Mark Question ∷ (e ++ Mark Colon ∷ []))) ≡ (b ++ ((f ++ (c ++ Mark Question ∷ [])) ++ e)) ++ Mark Colon ∷ []
 colon-told b f c e = simp append_assoc
@@ -409,7 +409,7 @@ colon-told b f c e = simp append_assoc
 colon-goes : (s s' : State) → Behind (at_colon s) (Mark Colon) s s'
 colon-goes s s' (TestOf c ∷ fs) e g w f le q =
     moved q (means _ _ (colon-told (base s.name s.ports s.items) (text_of fs) (spell_expr c) (spell_expr e))
-      (g, record { stands = (f.stands.0, f.stands.1, f.operand, le, f.stands.2, f.stands.3); nested = f.nested; ops = omega (arith, f.ops); ifs = f.ifs }))
+    (g, record { stands = (f.stands.0, f.stands.1, f.operand, le, f.stands.2, f.stands.3); nested = f.nested; ops = omega (arith, f.ops); ifs = f.ifs }))
 colon-goes s s' fs e g w f le q = absurd cc
 
 comma-told : (b f d e : List Token) → b ++ (f ++ (Mark OpenBrace ∷ (d ++ (e ++ Mark Comma ∷ [])))) ≡ (b ++ ((f ++ (Mark OpenBrace ∷ d)) ++ e)) ++ Mark Comma ∷ []
@@ -418,8 +418,8 @@ comma-told b f d e = simp append_assoc
 comma-next : (s s' : State) → Behind (at_comma s) (Mark Comma) s s'
 comma-next s s' (InBraces parts ∷ fs) e g w f le q =
     moved q (means _ _
-      (ap (λ (x : List Token). base s.name s.ports s.items ++ (text_of fs ++ (Mark OpenBrace ∷ x))) (commas-more parts e) ∙ comma-told (base s.name s.ports s.items) (text_of fs) (with_commas parts) (spell_expr e))
-      (g, record { stands = (parts-more (nest fs + 1) parts e f.stands.0 le f.operand, f.stands.1); nested = f.nested; ops = omega (arith, f.ops, operators-more parts e); ifs = f.ifs }))
+    (ap (λ (x : List Token). base s.name s.ports s.items ++ (text_of fs ++ (Mark OpenBrace ∷ x))) (commas-more parts e) ∙ comma-told (base s.name s.ports s.items) (text_of fs) (with_commas parts) (spell_expr e))
+    (g, record { stands = (parts-more (nest fs + 1) parts e f.stands.0 le f.operand, f.stands.1); nested = f.nested; ops = omega (arith, f.ops, operators-more parts e); ifs = f.ifs }))
 comma-next s s' fs e g w f le q = absurd cc
 
 brace-told : (b f d e : List Token) → b ++ (f ++ (Mark OpenBrace ∷ ((d ++ e) ++ Mark CloseBrace ∷ []))) ≡ (b ++ ((f ++ (Mark OpenBrace ∷ d)) ++ e)) ++ Mark CloseBrace ∷ []
@@ -429,8 +429,8 @@ brace-goes : (s s' : State) → Behind (at_brace s) (Mark CloseBrace) s s'
 brace-goes s s' (InBraces parts ∷ fs) e g w f le q =
     let j = joins (nest fs + 1) parts e f.stands.0 f.operand in
     moved q (means _ _
-      (ap (λ (x : List Token). base s.name s.ports s.items ++ (text_of fs ++ (Mark OpenBrace ∷ (x ++ Mark CloseBrace ∷ [])))) j.text ∙ brace-told (base s.name s.ports s.items) (text_of fs) (with_commas parts) (spell_expr e))
-      (g, record { stands = f.stands.1; nested = omega (arith, f.nested); ops = omega (arith, f.ops, j.ops); ifs = f.ifs; operand = record { grouped = j.grouped; deep = omega (arith, j.deep) } }, refl))
+    (ap (λ (x : List Token). base s.name s.ports s.items ++ (text_of fs ++ (Mark OpenBrace ∷ (x ++ Mark CloseBrace ∷ [])))) j.text ∙ brace-told (base s.name s.ports s.items) (text_of fs) (with_commas parts) (spell_expr e))
+    (g, record { stands = f.stands.1; nested = omega (arith, f.nested); ops = omega (arith, f.ops, j.ops); ifs = f.ifs; operand = record { grouped = j.grouped; deep = omega (arith, j.deep) } }, refl))
 brace-goes s s' fs e g w f le q = absurd cc
 
 bracketed : (b f o e : List Token) (c : Token) → b ++ (f ++ (o ++ (e ++ c ∷ []))) ≡ (b ++ ((f ++ o) ++ e)) ++ c ∷ []
@@ -439,19 +439,19 @@ bracketed b f o e c = simp append_assoc
 paren-goes : (s s' : State) → Behind (at_paren s) (Mark CloseParen) s s'
 paren-goes s s' (InParens ∷ fs) e g w f le q =
     moved q (means _ _ (bracketed (base s.name s.ports s.items) (text_of fs) (Mark OpenParen ∷ []) (spell_expr e) (Mark CloseParen))
-      (g, record { stands = f.stands; nested = omega (arith, f.nested); ops = f.ops; ifs = f.ifs; operand = record { grouped = (le, f.operand.grouped); deep = omega (arith, f.operand.deep) } }, refl))
+    (g, record { stands = f.stands; nested = omega (arith, f.nested); ops = f.ops; ifs = f.ifs; operand = record { grouped = (le, f.operand.grouped); deep = omega (arith, f.operand.deep) } }, refl))
 paren-goes s s' (IfTest ∷ fs) e g w f le q =
     moved q (means _ _ (bracketed (base s.name s.ports s.items) (text_of fs) (Reserved IfWord ∷ Mark OpenParen ∷ []) (spell_expr e) (Mark CloseParen))
-      (g, record { stands = (record { is = (le, f.operand.grouped); deep = f.operand.deep; short = omega (arith, f.ops, w.operators) }, f.stands); nested = omega (arith, f.nested); ifs = f.ifs }))
+    (g, record { stands = (record { is = (le, f.operand.grouped); deep = f.operand.deep; short = omega (arith, f.ops, w.operators) }, f.stands); nested = omega (arith, f.nested); ifs = f.ifs }))
 paren-goes s s' fs e g w f le q = absurd cc
 
 bracket-goes : (s s' : State) → Behind (at_bracket s) (Mark CloseBracket) s s'
 bracket-goes s s' (InIndex n ∷ fs) e g w f le q =
     moved q (means _ _ (bracketed (base s.name s.ports s.items) (text_of fs) (Name n ∷ Mark OpenBracket ∷ []) (spell_expr e) (Mark CloseBracket))
-      (g, record { stands = f.stands; nested = omega (arith, f.nested); ops = f.ops; ifs = f.ifs; operand = record { grouped = (le, f.operand.grouped); deep = omega (arith, f.operand.deep) } }, refl))
+    (g, record { stands = f.stands; nested = omega (arith, f.nested); ops = f.ops; ifs = f.ifs; operand = record { grouped = (le, f.operand.grouped); deep = omega (arith, f.operand.deep) } }, refl))
 bracket-goes s s' (AddressFor n ∷ fs) e g w f le q =
     moved q (means _ _ (bracketed (base s.name s.ports s.items) (text_of fs) (Name n ∷ Mark OpenBracket ∷ []) (spell_expr e) (Mark CloseBracket))
-      ((g, record { stands = f.stands; nested = omega (arith, f.nested); ifs = f.ifs }), record { is = (le, f.operand.grouped); deep = f.operand.deep; short = omega (arith, f.ops, w.operators) }))
+    ((g, record { stands = f.stands; nested = omega (arith, f.nested); ifs = f.ifs }), record { is = (le, f.operand.grouped); deep = f.operand.deep; short = omega (arith, f.ops, w.operators) }))
 bracket-goes s s' fs e g w f le q = absurd cc
 
 assign-told : (b : List Token) (fs : List Frame) (o e : List Token) → fs ≡ [] → b ++ (o ++ (e ++ Mark Semicolon ∷ [])) ≡ (b ++ ((text_of fs ++ o) ++ e)) ++ Mark Semicolon ∷ []
@@ -466,20 +466,20 @@ word-told b f a e n = simp append_assoc
 semicolon-goes : (s s' : State) → Behind (at_semicolon s) (Mark Semicolon) s s'
 semicolon-goes s s' (AssignTo n ∷ fs) e g w f le q =
     moved q (means _ _
-      (base-more s.name s.ports s.items (Assign n e) ∙ assign-told (base s.name s.ports s.items) fs (Reserved AssignWord ∷ Name n ∷ Mark Equals ∷ []) (spell_expr e) f.stands)
-      (good-more s.ports s.items (Assign n e) g (le, f.operand.grouped) (omega (arith, f.operand.deep), omega (arith, f.ops, w.operators)), f.stands))
+    (base-more s.name s.ports s.items (Assign n e) ∙ assign-told (base s.name s.ports s.items) fs (Reserved AssignWord ∷ Name n ∷ Mark Equals ∷ []) (spell_expr e) f.stands)
+    (good-more s.ports s.items (Assign n e) g (le, f.operand.grouped) (omega (arith, f.operand.deep), omega (arith, f.ops, w.operators)), f.stands))
 semicolon-goes s s' (UpdateTo n ∷ fs) e g w f le q =
     moved q (means _ _ (bracketed (base s.name s.ports s.items) (text_of fs) (Name n ∷ Mark LessEquals ∷ []) (spell_expr e) (Mark Semicolon))
-      (g, record { stands = f.stands; nested = f.nested; ifs = omega (arith, f.ifs); done = record { is = (le, f.operand.grouped); deep = f.operand.deep; short = omega (arith, f.ops, w.operators) } }, refl))
+    (g, record { stands = f.stands; nested = f.nested; ifs = omega (arith, f.ifs); done = record { is = (le, f.operand.grouped); deep = f.operand.deep; short = omega (arith, f.ops, w.operators) } }, refl))
 semicolon-goes s s' (UpdateWordTo n a ∷ fs) e g w f le q =
     moved q (means _ _ (word-told (base s.name s.ports s.items) (text_of fs) (spell_expr a) (spell_expr e) n)
-      (g, record { stands = f.stands.1; nested = f.nested; ifs = omega (arith, f.ifs); done = record { is = (f.stands.0.is, (le, f.operand.grouped)); deep = omega (arith, f.operand.deep, f.stands.0.deep); short = (f.stands.0.short, omega (arith, f.ops, w.operators)) } }, refl))
+    (g, record { stands = f.stands.1; nested = f.nested; ifs = omega (arith, f.ifs); done = record { is = (f.stands.0.is, (le, f.operand.grouped)); deep = omega (arith, f.operand.deep, f.stands.0.deep); short = (f.stands.0.short, omega (arith, f.ops, w.operators)) } }, refl))
 semicolon-goes s s' fs e g w f le q = absurd cc
 
 index-goes : (e : WrittenExpr) (s s' : State) → fine_at (HaveOperand e) s → indexed s e ≡ Some s' → Means s' (told_at (HaveOperand e) s ++ Mark OpenBracket ∷ [])
 index-goes (Named n) s s' f q =
     moved q (means _ _ (open-next (base s.name s.ports s.items) (text_of s.frames) (Name n ∷ []) (Mark OpenBracket))
-      (f.0, record { stands = f.1.stands; nested = omega (arith, f.1.nested); ops = omega (arith, f.1.ops); ifs = f.1.ifs }, omega (arith, f.1.nested)))
+    (f.0, record { stands = f.1.stands; nested = omega (arith, f.1.nested); ops = omega (arith, f.1.ops); ifs = f.1.ifs }, omega (arith, f.1.nested)))
 index-goes e s s' f q = absurd cc
 
 at_have_operand : (t : Token) (e : WrittenExpr) (s s' : State) → fine_at (HaveOperand e) s → IsBelow s → have_operand e s t ≡ Some s' → Means s' (told_at (HaveOperand e) s ++ t ∷ [])
@@ -510,8 +510,8 @@ at_have_operand t e s s' f w q = absurd cc
 index-operand : (t : Token) (n : List ℕ) (s s' : State) → fine_at (AtIndex n) s → IsBelow s → want_operand (record s { frames = InIndex n ∷ s.frames }) t ≡ Some s' → Means s' (told_at (AtIndex n) s ++ t ∷ [])
 index-operand t n s s' f w e =
     at_want_operand t (record s { frames = InIndex n ∷ s.frames }) s'
-      (f.0, record { stands = f.1.stands; nested = f.2; ops = f.1.ops; ifs = f.1.ifs })
-      (record { brackets = w.brackets; operators = w.operators; ifs = w.ifs }) e
+    (f.0, record { stands = f.1.stands; nested = f.2; ops = f.1.ops; ifs = f.1.ifs })
+    (record { brackets = w.brackets; operators = w.operators; ifs = w.ifs }) e
 
 at_at_index : (t : Token) (n : List ℕ) (s s' : State) → fine_at (AtIndex n) s → IsBelow s → at_index n s t ≡ Some s' → Means s' (told_at (AtIndex n) s ++ t ∷ [])
 at_at_index (Number p) n s s' f w e = moved e (means _ _ (open-next (base s.name s.ports s.items) (text_of s.frames) (Name n ∷ Mark OpenBracket ∷ []) (Number p)) f)
@@ -520,7 +520,7 @@ at_at_index t n s s' f w e = index-operand t n s s' f w e
 at_at_place : (t : Token) (n p : List ℕ) (s s' : State) → fine_at (AtPlace n p) s → IsBelow s → at_place n p s t ≡ Some s' → Means s' (told_at (AtPlace n p) s ++ t ∷ [])
 at_at_place (Mark CloseBracket) n p s s' f w e =
     moved e (means _ _ (open-next (base s.name s.ports s.items) (text_of s.frames) (Name n ∷ Mark OpenBracket ∷ Number p ∷ []) (Mark CloseBracket))
-      (f.0, record { stands = f.1.stands; nested = omega (arith, f.2); ops = omega (arith, f.1.ops); ifs = f.1.ifs; operand = record { grouped = tt; deep = omega (arith, f.2, w.brackets) } }, refl))
+    (f.0, record { stands = f.1.stands; nested = omega (arith, f.2); ops = omega (arith, f.1.ops); ifs = f.1.ifs; operand = record { grouped = tt; deep = omega (arith, f.2, w.brackets) } }, refl))
 at_at_place (Mark Colon) n p s s' f w e = moved e (means _ _ (open-next (base s.name s.ports s.items) (text_of s.frames) (Name n ∷ Mark OpenBracket ∷ Number p ∷ []) (Mark Colon)) f)
 at_at_place t n p s s' f w e = absurd cc
 
@@ -531,7 +531,7 @@ at_want_low t n h s s' f e = absurd cc
 at_at_part : (t : Token) (n h l : List ℕ) (s s' : State) → fine_at (AtPart n h l) s → IsBelow s → at_part n h l s t ≡ Some s' → Means s' (told_at (AtPart n h l) s ++ t ∷ [])
 at_at_part (Mark CloseBracket) n h l s s' f w e =
     moved e (means _ _ (open-next (base s.name s.ports s.items) (text_of s.frames) (Name n ∷ Mark OpenBracket ∷ Number h ∷ Mark Colon ∷ Number l ∷ []) (Mark CloseBracket))
-      (f.0, record { stands = f.1.stands; nested = omega (arith, f.2); ops = omega (arith, f.1.ops); ifs = f.1.ifs; operand = record { grouped = tt; deep = omega (arith, f.2, w.brackets) } }, refl))
+    (f.0, record { stands = f.1.stands; nested = omega (arith, f.2); ops = omega (arith, f.1.ops); ifs = f.1.ifs; operand = record { grouped = tt; deep = omega (arith, f.2, w.brackets) } }, refl))
 at_at_part t n h l s s' f w e = absurd cc
 
 -- ---- one token, and all of them
@@ -594,7 +594,7 @@ some-as P x y e h = let q : x ≡ y = cc in subst P q h
 completed : (stage : Stage) (s : State) (ts : List Token) (w : WrittenModule) → told_at stage s ≡ ts → fine_at stage s → complete stage s ≡ Some w → IsSpelling ts w
 completed Complete s ts w t f e =
     some-as (IsSpelling ts) (record { name = s.name; ports = s.ports; items = s.items }) w e
-      (record { spelled = sym t ∙ base-ends s.name s.ports s.items; grammar = record { ports = f.0.some'; items = f.0.items }; limits = f.0.limits })
+    (record { spelled = sym t ∙ base-ends s.name s.ports s.items; grammar = record { ports = f.0.some'; items = f.0.items }; limits = f.0.limits })
 completed stage s ts w t f e = absurd cc
 
 fault-ok : {A : Type 0} (o : Option A) (f : Fault) (y : A) → or_fault o f ≡ Ok y → o ≡ Some y
@@ -622,7 +622,7 @@ runs [] at s done w m b e = subst (λ (x : List Token). IsSpelling x w) (sym (ap
 runs (t ∷ ts) at s done w m b e =
     let h = checked-ok at (step s t) (λ (x : State). run (at + 1) x ts) w e in
     subst (λ (x : List Token). IsSpelling x w) (append_assoc done (t ∷ []) ts)
-      (runs ts (at + 1) h.0 (done ++ t ∷ []) w (stepped t s h.0 done m b h.1) (below h.0 h.2) h.3)
+    (runs ts (at + 1) h.0 (done ++ t ∷ []) w (stepped t s h.0 done m b h.1) (below h.0 h.2) h.3)
 
 -- what the machine reads is a module's spelling
 pub sound : (ts : List Token) (w : WrittenModule) → run 0 start ts ≡ Ok w → IsSpelling ts w

@@ -78,16 +78,16 @@ type-select ds name high low n e k =
     let a = at_number ds n (slice_get ds n) (λ d. IsReadable d × IsTrue d.is_vector × (high < d.width)) refl k.0 in
     ap (option_and_then (type_select high low)) (found-is ds name n a.0 e a.1)
     ∙ keeps (is_net a.0.kind && (a.0.is_vector && (leb low high && ltb high a.0.width))) (typed (Select high low n) (high + 1 - low))
-      (and_so (is_net a.0.kind) (a.0.is_vector && (leb low high && ltb high a.0.width)) (net-kind a.0.kind a.2.0.0)
-        (and_so a.0.is_vector (leb low high && ltb high a.0.width) a.2.1 (and_so (leb low high) (ltb high a.0.width) (le-leb low high k.1) (lt-ltb high a.0.width a.2.2))))
+    (and_so (is_net a.0.kind) (a.0.is_vector && (leb low high && ltb high a.0.width)) (net-kind a.0.kind a.2.0.0)
+    (and_so a.0.is_vector (leb low high && ltb high a.0.width) a.2.1 (and_so (leb low high) (ltb high a.0.width) (le-leb low high k.1) (lt-ltb high a.0.width a.2.2))))
 
 type-word : (ds : List Declaration) (name : List ℕ) (address : WrittenExpr) (n : ℕ) (x : Expr) → number_read ds name ≡ Some n → IsTypedAs ds address x → KeepsWidths ds (Read n x) → IsTypedAs ds (WordOf name address) (Read n x)
 type-word ds name address n x e h k =
     let a = at_number ds n (slice_get ds n) (λ d. IsMemory d.kind (width_of ds x)) refl k.0 in
     ap (option_and_then (λ (f : Found). option_and_then (type_word f (bits_of f.declaration.kind)) (type_of ds address))) (found-is ds name n a.0 e a.1)
     ∙ rw (memory-kind a.0.kind (width_of ds x) a.2, h) (
-        keeps (eqb (width_of ds x) (width_of ds x)) (typed (Read n x) a.0.width) (eq-eqb (width_of ds x) (width_of ds x) refl)
-        ∙ ap (λ (w : ℕ). Some (typed (Read n x) w)) (sym (width-is ds n a.0 a.1)))
+    keeps (eqb (width_of ds x) (width_of ds x)) (typed (Read n x) a.0.width) (eq-eqb (width_of ds x) (width_of ds x) refl)
+    ∙ ap (λ (w : ℕ). Some (typed (Read n x) w)) (sym (width-is ds n a.0 a.1)))
 
 type-prefix : (ds : List Declaration) (op : PrefixOp) (arg : WrittenExpr) (x : Expr) → IsTypedAs ds arg x → KeepsWidths ds (prefixed ds op x) → IsTypedAs ds (Prefix op arg) (prefixed ds op x)
 type-prefix ds BitNot arg x h k = rw h refl
