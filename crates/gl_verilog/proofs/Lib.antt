@@ -12,3 +12,6 @@ pub mod Runs
 pub mod Acyclic
 pub mod Pieces
 pub mod Typing
+pub mod Frames
+pub mod Told
+pub mod Sound

@@ -51,12 +51,22 @@ pub enum VerilogFault {
 }
 
 impl From<AllocError> for VerilogFault {
+    ghost use Rattle.std.specs.Prelude.{◌≡◌};
+    ghost use Rattle.gl_verilog_reader.specs.declared.fault.VerilogFault.TheVariants as fault;
+
+    ghost from_gives = { λ _ e. e ≡ fault.Memory };
+
     fn from(_e: AllocError) -> VerilogFault {
         VerilogFault::Memory
     }
 }
 
 impl<T: Drop> From<AllocFailed<T>> for VerilogFault {
+    ghost use Rattle.std.specs.Prelude.{◌≡◌};
+    ghost use Rattle.gl_verilog_reader.specs.declared.fault.VerilogFault.TheVariants as fault;
+
+    ghost from_gives = { λ _ e. e ≡ fault.Memory };
+
     fn from(_e: AllocFailed<T>) -> VerilogFault {
         VerilogFault::Memory
     }

@@ -3,7 +3,7 @@
 use crate::fault::VerilogFault;
 use crate::lexing::{digit_of, small_number};
 use crate::sorting::first_in_loop;
-use crate::token::Span;
+use crate::token::Word;
 use crate::written::{
     Direction, InfixOp, PrefixOp, WrittenExpr, WrittenItem, WrittenModule, WrittenPort,
     WrittenStatement,
@@ -33,9 +33,8 @@ pub struct Known {
 #[derive(Drop)]
 pub struct Scope<'a> {
     alloc: Global,
-    text: &'a [u8],
     known: Vec<Known>,
-    places: Vec<Span>,
+    places: Vec<Word<'a>>,
     numbers: BTreeMap<Vec<u8>, usize>,
 }
 
@@ -70,14 +69,14 @@ fn address_bits_of(words: u64) -> Option<u8> {
 }
 
 impl<'a> Scope<'a> {
-    fn number_of(&self, digits: Span) -> u32 {
-        small_number(digits.of(self.text)).unwrap_or(0)
+    fn number_of(&self, digits: Word) -> u32 {
+        small_number(digits.bytes).unwrap_or(0)
     }
 
     // A declared name, at a target or a clock.
-    fn target(&self, name: Span) -> Result<Known, VerilogFault> {
-        let at = name.from as u64;
-        let Some(number) = self.numbers.get(name.of(self.text)) else {
+    fn target(&self, name: Word) -> Result<Known, VerilogFault> {
+        let at = name.at as u64;
+        let Some(number) = self.numbers.get(name.bytes) else {
             return Err(VerilogFault::Undeclared { at });
         };
         match self.known.get(*number) {
@@ -87,22 +86,18 @@ impl<'a> Scope<'a> {
     }
 
     // A declared name, in an expression.
-    fn read(&self, name: Span) -> Result<Known, VerilogFault> {
+    fn read(&self, name: Word) -> Result<Known, VerilogFault> {
         let known = self.target(name)?;
-        if name.of(self.text) == b"clk".as_slice() {
-            return Err(VerilogFault::ClockRead {
-                at: name.from as u64,
-            });
+        if name.bytes == b"clk".as_slice() {
+            return Err(VerilogFault::ClockRead { at: name.at as u64 });
         }
         Ok(known)
     }
 
-    fn net(&self, name: Span) -> Result<Typed, VerilogFault> {
+    fn net(&self, name: Word) -> Result<Typed, VerilogFault> {
         let known = self.read(name)?;
         match known.kind {
-            Kind::Memory { .. } => Err(VerilogFault::BadMemory {
-                at: name.from as u64,
-            }),
+            Kind::Memory { .. } => Err(VerilogFault::BadMemory { at: name.at as u64 }),
             _ => Ok(Typed {
                 expr: Expr::Net(known.number),
                 width: known.width,
@@ -110,14 +105,14 @@ impl<'a> Scope<'a> {
         }
     }
 
-    fn literal(&self, size: Span, radix: u8, digits: Span) -> Result<Typed, VerilogFault> {
-        let at = size.from as u64;
+    fn literal(&self, size: Word, radix: u8, digits: Word) -> Result<Typed, VerilogFault> {
+        let at = size.at as u64;
         let width = self.number_of(size);
         if width > 128 {
             return Err(VerilogFault::TooWide { at });
         }
         let width = width as u8;
-        match big_number(radix, digits.of(self.text)) {
+        match big_number(radix, digits.bytes) {
             Some(value) if width > 0 && fits(value, width) => Ok(Typed {
                 expr: Expr::Literal { value, width },
                 width,
@@ -126,9 +121,9 @@ impl<'a> Scope<'a> {
         }
     }
 
-    fn select(&self, name: Span, high: Span, low: Span) -> Result<Typed, VerilogFault> {
+    fn select(&self, name: Word, high: Word, low: Word) -> Result<Typed, VerilogFault> {
         let known = self.read(name)?;
-        let at = name.from as u64;
+        let at = name.at as u64;
         if let Kind::Memory { .. } = known.kind {
             return Err(VerilogFault::BadMemory { at });
         }
@@ -150,13 +145,11 @@ impl<'a> Scope<'a> {
     }
 
     // The address bits of the memory that is indexed in an expression.
-    fn memory(&self, name: Span) -> Result<(Known, u8), VerilogFault> {
+    fn memory(&self, name: Word) -> Result<(Known, u8), VerilogFault> {
         let known = self.read(name)?;
         match known.kind {
             Kind::Memory { address_bits } => Ok((known, address_bits)),
-            _ => Err(VerilogFault::BadMemory {
-                at: name.from as u64,
-            }),
+            _ => Err(VerilogFault::BadMemory { at: name.at as u64 }),
         }
     }
 
@@ -165,12 +158,10 @@ impl<'a> Scope<'a> {
         known: Known,
         bits: u8,
         address: Typed,
-        name: Span,
+        name: Word,
     ) -> Result<Typed, VerilogFault> {
         if address.width != bits {
-            return Err(VerilogFault::BadMemory {
-                at: name.from as u64,
-            });
+            return Err(VerilogFault::BadMemory { at: name.at as u64 });
         }
         Ok(Typed {
             expr: Expr::Read {
@@ -384,10 +375,10 @@ impl Drivers {
 fn update(
     scope: &Scope,
     drivers: &mut Drivers,
-    target: Span,
+    target: Word,
     value: Typed,
 ) -> Result<Statement, VerilogFault> {
-    let at = target.from as u64;
+    let at = target.at as u64;
     let known = scope.target(target)?;
     match known.kind {
         Kind::Register | Kind::OutputRegister => {}
@@ -411,11 +402,11 @@ fn update(
 fn update_word(
     scope: &Scope,
     drivers: &mut Drivers,
-    target: Span,
+    target: Word,
     address: Typed,
     value: Typed,
 ) -> Result<Statement, VerilogFault> {
-    let at = target.from as u64;
+    let at = target.at as u64;
     let known = scope.target(target)?;
     match known.kind {
         Kind::Memory { address_bits } if address_bits == address.width => {}
@@ -503,17 +494,17 @@ fn statement_of(
 }
 
 // Declares a name behind the others.
-fn declare(
-    scope: &mut Scope,
+fn declare<'a>(
+    scope: &mut Scope<'a>,
     drivers: &mut Drivers,
     kind: Kind,
-    range: Option<Span>,
-    name: Span,
+    range: Option<Word<'a>>,
+    name: Word<'a>,
 ) -> Result<(), VerilogFault> {
-    let at = name.from as u64;
+    let at = name.at as u64;
     let number = scope.known.len();
     let mut bytes = Vec::new(scope.alloc);
-    bytes.extend_from_slice(name.of(scope.text))?;
+    bytes.extend_from_slice(name.bytes)?;
     if let Some(_) = scope.numbers.insert(bytes, number)? {
         return Err(VerilogFault::TwiceDeclared { at });
     }
@@ -536,10 +527,10 @@ fn declare(
     Ok(())
 }
 
-fn declare_port(
-    scope: &mut Scope,
+fn declare_port<'a>(
+    scope: &mut Scope<'a>,
     drivers: &mut Drivers,
-    port: &WrittenPort,
+    port: &WrittenPort<'a>,
 ) -> Result<(), VerilogFault> {
     let kind = match port.direction {
         Direction::In | Direction::InWire => Kind::Input,
@@ -549,12 +540,12 @@ fn declare_port(
     declare(scope, drivers, kind, port.range, port.name)
 }
 
-fn declare_memory(
-    scope: &mut Scope,
+fn declare_memory<'a>(
+    scope: &mut Scope<'a>,
     drivers: &mut Drivers,
-    range: Option<Span>,
-    name: Span,
-    last: Span,
+    range: Option<Word<'a>>,
+    name: Word<'a>,
+    last: Word<'a>,
 ) -> Result<(), VerilogFault> {
     let words = u64::from(scope.number_of(last)) + 1;
     let bits = address_bits_of(words);
@@ -564,20 +555,18 @@ fn declare_memory(
     declare(scope, drivers, kind, range, name)?;
     match bits {
         Some(_) => Ok(()),
-        None => Err(VerilogFault::BadMemory {
-            at: name.from as u64,
-        }),
+        None => Err(VerilogFault::BadMemory { at: name.at as u64 }),
     }
 }
 
 fn assignment_of(
     scope: &Scope,
     drivers: &mut Drivers,
-    target: Span,
+    target: Word,
     value: &WrittenExpr,
 ) -> Result<Assignment, VerilogFault> {
     let value = typed_of(scope, value)?;
-    let at = target.from as u64;
+    let at = target.at as u64;
     let known = scope.target(target)?;
     match known.kind {
         Kind::Wire | Kind::OutputWire => {}
@@ -600,13 +589,13 @@ fn assignment_of(
 fn block_of(
     scope: &Scope,
     drivers: &mut Drivers,
-    clock: Span,
+    clock: Word,
     body: &WrittenStatement,
 ) -> Result<Statement, VerilogFault> {
     let _known = scope.target(clock)?;
-    if clock.of(scope.text) != b"clk".as_slice() {
+    if clock.bytes != b"clk".as_slice() {
         return Err(VerilogFault::ClockRead {
-            at: clock.from as u64,
+            at: clock.at as u64,
         });
     }
     let statement = statement_of(scope, drivers, body)?;
@@ -619,16 +608,16 @@ fn block_of(
 pub struct Parts {
     assignments: Vec<Assignment>,
     // The places of the assignments' targets.
-    targets: Vec<Span>,
+    targets: Vec<usize>,
     blocks: Vec<Statement>,
 }
 
-fn declare_all(
-    scope: &mut Scope,
+fn declare_all<'a>(
+    scope: &mut Scope<'a>,
     drivers: &mut Drivers,
     kind: Kind,
-    range: Option<Span>,
-    names: &[Span],
+    range: Option<Word<'a>>,
+    names: &[Word<'a>],
 ) -> Result<(), VerilogFault> {
     for name in names {
         declare(scope, drivers, kind, range, *name)?;
@@ -636,11 +625,11 @@ fn declare_all(
     Ok(())
 }
 
-fn judge_item(
-    scope: &mut Scope,
+fn judge_item<'a>(
+    scope: &mut Scope<'a>,
     drivers: &mut Drivers,
     parts: &mut Parts,
-    item: &WrittenItem,
+    item: &WrittenItem<'a>,
 ) -> Result<(), VerilogFault> {
     match item {
         WrittenItem::Wires { range, names } => declare_all(
@@ -664,7 +653,7 @@ fn judge_item(
             parts
                 .assignments
                 .push(assignment_of(scope, drivers, *target, value)?)?;
-            parts.targets.push(*target)?;
+            parts.targets.push(target.at)?;
             Ok(())
         }
         WrittenItem::Always { clock, body } => {
@@ -685,7 +674,7 @@ fn declarations_of(scope: &Scope) -> Result<Listed<Declaration>, VerilogFault> {
     let mut declarations = Vec::new(scope.alloc);
     for (known, name) in scope.known.iter().zip(&scope.places) {
         let mut bytes = Vec::new(scope.alloc);
-        bytes.extend_from_slice(name.of(scope.text))?;
+        bytes.extend_from_slice(name.bytes)?;
         declarations.push(Declaration {
             name: Listed::from_vec(bytes),
             width: known.width,
@@ -696,23 +685,10 @@ fn declarations_of(scope: &Scope) -> Result<Listed<Declaration>, VerilogFault> {
     Ok(Listed::from_vec(declarations))
 }
 
-// The place of the first span at this number; 0 where there is none.
-fn place_at(spans: &[Span], number: usize) -> u64 {
-    match spans.get(number) {
-        Some(span) => span.from as u64,
-        None => 0,
-    }
-}
-
 /// The module that is meant, or the first fault.
-pub fn module_of(
-    alloc: Global,
-    text: &[u8],
-    written: &WrittenModule,
-) -> Result<Module, VerilogFault> {
+pub fn module_of(alloc: Global, written: &WrittenModule) -> Result<Module, VerilogFault> {
     let mut scope = Scope {
         alloc,
-        text,
         known: Vec::new(alloc),
         places: Vec::new(alloc),
         numbers: BTreeMap::new(alloc),
@@ -736,16 +712,16 @@ pub fn module_of(
     }
     if let Some(number) = find_undriven(&scope, &drivers) {
         return Err(VerilogFault::NeverDriven {
-            at: place_at(&scope.places, number),
+            at: scope.places.get(number).map_or(0, |name| name.at as u64),
         });
     }
     if let Some(number) = first_in_loop(alloc, scope.known.len(), &parts.assignments)? {
         return Err(VerilogFault::Loop {
-            at: place_at(&parts.targets, number),
+            at: parts.targets.get(number).map_or(0, |at| *at as u64),
         });
     }
     let mut name = Vec::new(alloc);
-    name.extend_from_slice(written.name.of(text))?;
+    name.extend_from_slice(written.name.bytes)?;
     Ok(Module {
         name: Listed::from_vec(name),
         ports: written.ports.len(),

@@ -1,11 +1,17 @@
 //! Bytes to tokens.
 
-use crate::token::{Keyword, Lexeme, Sign, Span, Token};
+ghost use Rattle.std.specs.Prelude.{◌≡◌, ◌≤◌, ◌<◌, ◌+◌, ◌*◌, ◌^◌, ◌++◌, ◌∷◌, [], ℕ, map, length, slice_index, option_map, IfOk, OnOk, MatchOption};
+ghost use Rattle.std.specs.Str.{bytes_eq};
+ghost use Rattle.gl_verilog.specs.Tokens as tokens;
+ghost use Rattle.gl_verilog_reader.specs.View.{keyword_of, sign_of, token_of, tokens_in, name_of};
+ghost use Rattle.gl_verilog_reader.specs.Lexed.{class_is, follow_is, piece, mode_of, IsInside};
+
+use crate::token::{Keyword, Lexeme, Sign, Token, Word};
 use std::alloc::{AllocError, Global};
 
 /// Where the reader stands. A place in it is that of a token's first byte.
-#[derive(Clone, Copy, Debug, PartialEq, Eq)]
-pub enum Standing {
+#[derive(Clone, Copy, Debug)]
+pub enum Standing<'a> {
     /// Between tokens.
     Between,
     /// In a name or a reserved word.
@@ -13,11 +19,20 @@ pub enum Standing {
     /// In a number.
     InNumber(usize),
     /// Behind a number's quote.
-    AtQuote(Span),
-    /// Behind a number's quote and a base letter.
-    AtBase { size: Span, radix: u8 },
+    AtQuote(Word<'a>),
+    /// Behind a number's quote and a base letter, which stands at `from`.
+    AtBase {
+        size: Word<'a>,
+        base: u8,
+        radix: u8,
+        from: usize,
+    },
     /// In the digits of a literal, which begin at `from`.
-    InDigits { size: Span, radix: u8, from: usize },
+    InDigits {
+        size: Word<'a>,
+        radix: u8,
+        from: usize,
+    },
     /// Behind a byte that may begin a sign of two bytes, or a comment.
     Half(u8),
     /// In a comment of one line.
@@ -40,7 +55,18 @@ pub enum Class {
     Alone,
 }
 
-fn class_of(b: u8) -> Class {
+/// What two bytes make: a token, a comment, or nothing new.
+#[derive(Clone, Copy, Debug)]
+pub enum Follow<'a> {
+    Pair(Token<'a>),
+    Line,
+    Block,
+    New,
+}
+
+fn class_of(b: u8) -> Class
+    ensures { class_is result ≡ tokens.class_of b }
+{
     match b {
         b'a'..=b'z' | b'A'..=b'Z' | b'_' => Class::Letter,
         b'0'..=b'9' => Class::Digit,
@@ -53,7 +79,9 @@ fn class_of(b: u8) -> Class {
 }
 
 // The token of a byte that stands alone.
-fn sign_token(b: u8) -> Token {
+fn sign_token<'a>(b: u8) -> Token<'a>
+    ensures { token_of result ≡ tokens.sign_token b }
+{
     match b {
         b'(' => Token::Mark(Sign::OpenParen),
         b')' => Token::Mark(Sign::CloseParen),
@@ -81,22 +109,28 @@ fn sign_token(b: u8) -> Token {
     }
 }
 
-// The token that two bytes make. `^~` is a sign of the standard that the subset lacks.
-fn pair_token(first: u8, second: u8) -> Option<Token> {
+// What two bytes make. `^~` is a sign of the standard that the subset lacks.
+fn follow_of<'a>(first: u8, second: u8) -> Follow<'a>
+    ensures { follow_is result ≡ tokens.follow_of first second }
+{
     match (first, second) {
-        (b'<', b'=') => Some(Token::Mark(Sign::LessEquals)),
-        (b'>', b'=') => Some(Token::Mark(Sign::GreaterEquals)),
-        (b'=', b'=') => Some(Token::Mark(Sign::EqualsEquals)),
-        (b'!', b'=') => Some(Token::Mark(Sign::ExclamationEquals)),
-        (b'&', b'&') => Some(Token::Mark(Sign::AmpersandAmpersand)),
-        (b'|', b'|') => Some(Token::Mark(Sign::BarBar)),
-        (b'^', b'~') => Some(Token::Never),
-        _ => None,
+        (b'<', b'=') => Follow::Pair(Token::Mark(Sign::LessEquals)),
+        (b'>', b'=') => Follow::Pair(Token::Mark(Sign::GreaterEquals)),
+        (b'=', b'=') => Follow::Pair(Token::Mark(Sign::EqualsEquals)),
+        (b'!', b'=') => Follow::Pair(Token::Mark(Sign::ExclamationEquals)),
+        (b'&', b'&') => Follow::Pair(Token::Mark(Sign::AmpersandAmpersand)),
+        (b'|', b'|') => Follow::Pair(Token::Mark(Sign::BarBar)),
+        (b'^', b'~') => Follow::Pair(Token::Never),
+        (b'/', b'/') => Follow::Line,
+        (b'/', b'*') => Follow::Block,
+        _ => Follow::New,
     }
 }
 
 // The radix of a base letter.
-fn radix_of(b: u8) -> Option<u8> {
+fn radix_of(b: u8) -> Option<u8>
+    ensures { result ≡ tokens.radix_of b }
+{
     match b {
         b'd' | b'D' => Some(10),
         b'h' | b'H' => Some(16),
@@ -105,70 +139,142 @@ fn radix_of(b: u8) -> Option<u8> {
     }
 }
 
-/// What a byte stands for as a digit; 255 where it is none.
-pub fn digit_of(b: u8) -> u8 {
-    match b {
-        b'0'..=b'9' => b - b'0',
-        b'a'..=b'f' => b - b'a' + 10,
-        b'A'..=b'F' => b - b'A' + 10,
-        _ => 255,
+/// What a digit stands for: 0 to 9, then a to f or A to F.
+pub fn digit_of(b: u8) -> u8
+    ensures { result ≡ tokens.digit_of b }
+{
+    if b <= b'9' {
+        b.saturating_sub(48)
+    } else if b <= b'F' {
+        b.saturating_sub(55)
+    } else {
+        b.saturating_sub(87)
     }
 }
 
+fn is_digit_of(radix: u8, b: u8) -> bool
+    ensures { result ≡ tokens.is_digit_of radix b }
+{
+    matches!(b, b'0'..=b'9' | b'a'..=b'f' | b'A'..=b'F') && digit_of(b) < radix
+}
+
 // Whether a byte goes on the digits of a literal.
-fn goes_on(radix: u8, b: u8) -> bool {
-    digit_of(b) < radix || b == b'_'
+fn goes_on(radix: u8, b: u8) -> bool
+    ensures { result ≡ tokens.goes_on radix b }
+{
+    is_digit_of(radix, b) || b == b'_'
+}
+
+fn is_text(word: &[u8], text: &[u8]) -> bool
+    ensures { result ≡ bytes_eq word.now text.now }
+{
+    word == text
 }
 
 // The reserved word of these bytes.
-fn keyword_of(word: &[u8]) -> Option<Keyword> {
-    match word {
-        b"module" => Some(Keyword::Module),
-        b"endmodule" => Some(Keyword::EndModule),
-        b"input" => Some(Keyword::Input),
-        b"output" => Some(Keyword::Output),
-        b"wire" => Some(Keyword::Wire),
-        b"reg" => Some(Keyword::Reg),
-        b"assign" => Some(Keyword::Assign),
-        b"always" => Some(Keyword::Always),
-        b"posedge" => Some(Keyword::Posedge),
-        b"begin" => Some(Keyword::Begin),
-        b"end" => Some(Keyword::End),
-        b"if" => Some(Keyword::If),
-        b"else" => Some(Keyword::Else),
-        _ => None,
+fn reserved(word: &[u8]) -> Option<Keyword>
+    ensures { option_map keyword_of result ≡ tokens.reserved word.now }
+{
+    if is_text(word, b"module") {
+        Some(Keyword::Module)
+    } else if is_text(word, b"endmodule") {
+        Some(Keyword::EndModule)
+    } else if is_text(word, b"input") {
+        Some(Keyword::Input)
+    } else if is_text(word, b"output") {
+        Some(Keyword::Output)
+    } else if is_text(word, b"wire") {
+        Some(Keyword::Wire)
+    } else if is_text(word, b"reg") {
+        Some(Keyword::Reg)
+    } else if is_text(word, b"assign") {
+        Some(Keyword::Assign)
+    } else if is_text(word, b"always") {
+        Some(Keyword::Always)
+    } else if is_text(word, b"posedge") {
+        Some(Keyword::Posedge)
+    } else if is_text(word, b"begin") {
+        Some(Keyword::Begin)
+    } else if is_text(word, b"end") {
+        Some(Keyword::End)
+    } else if is_text(word, b"if") {
+        Some(Keyword::If)
+    } else if is_text(word, b"else") {
+        Some(Keyword::Else)
+    } else {
+        None
+    }
+}
+
+// A number with a digit more, where it is below 2^32.
+fn with_digit(number: u32, b: u8) -> Option<u32>
+    ensures { MatchOption result (2 ^ 32 ≤ tokens.with_digit 10 number b) (λ n. n ≡ tokens.with_digit 10 number b) }
+{
+    if b == b'_' {
+        return Some(number);
+    }
+    let more = u64::from(number) * 10 + u64::from(digit_of(b));
+    if more < 4_294_967_296 {
+        Some(more as u32)
+    } else {
+        None
     }
 }
 
 /// The decimal number of these digits, where it is below 2^32.
-pub fn small_number(digits: &[u8]) -> Option<u32> {
+#[tactic(auto, using(crate::proofs::LexSteps::numbers))]
+pub fn small_number(digits: &[u8]) -> Option<u32>
+    ensures { MatchOption result (2 ^ 32 ≤ tokens.number_in 10 digits.now) (λ n. n ≡ tokens.number_in 10 digits.now) }
+{
     let mut number = 0u32;
     for b in digits {
-        number = number
-            .checked_mul(10)?
-            .checked_add(u32::from(digit_of(*b)))?;
+        match with_digit(number, *b) {
+            Some(more) => number = more,
+            None => return None,
+        }
     }
     Some(number)
 }
 
-fn word_token(text: &[u8], span: Span) -> Token {
-    let word = span.of(text);
-    match keyword_of(word) {
+fn word_at<'a>(text: &'a [u8], from: usize, to: usize) -> Word<'a>
+    requires order { from ≤ to }
+    requires within { to ≤ length text.now }
+    ensures { name_of result ≡ piece text.now from to }
+{
+    Word {
+        bytes: &text[from..to],
+        at: from,
+    }
+}
+
+fn word_token<'a>(word: Word<'a>) -> Token<'a>
+    ensures { token_of result ≡ tokens.word_token (name_of word.entry) }
+{
+    match reserved(word.bytes) {
         Some(keyword) => Token::Reserved(keyword),
-        None if word.len() <= 128 => Token::Name(span),
+        None => {
+            if word.bytes.len() <= 128 {
+                Token::Name(word)
+            } else {
+                Token::Never
+            }
+        }
+    }
+}
+
+fn number_token<'a>(word: Word<'a>) -> Token<'a>
+    ensures { token_of result ≡ tokens.number_token (name_of word.entry) }
+{
+    match small_number(word.bytes) {
+        Some(_) => Token::Number(word),
         None => Token::Never,
     }
 }
 
-fn number_token(text: &[u8], span: Span) -> Token {
-    match small_number(span.of(text)) {
-        Some(_) => Token::Number(span),
-        None => Token::Never,
-    }
-}
-
-fn sized_token(text: &[u8], size: Span, radix: u8, digits: Span) -> Token {
-    match small_number(size.of(text)) {
+fn sized_token<'a>(size: Word<'a>, radix: u8, digits: Word<'a>) -> Token<'a>
+    ensures { token_of result ≡ tokens.sized_token (name_of size.entry) radix (name_of digits.entry) }
+{
+    match small_number(size.bytes) {
         Some(_) => Token::Sized {
             size,
             radix,
@@ -178,218 +284,312 @@ fn sized_token(text: &[u8], size: Span, radix: u8, digits: Span) -> Token {
     }
 }
 
-/// The tokens that were read, and where the reader stands.
-#[derive(Drop)]
-pub struct Lexer {
-    lexemes: Vec<Lexeme>,
-    standing: Standing,
+#[tactic(auto, using(crate::proofs::LexSteps::steps))]
+fn put<'a>(out: &mut Vec<Lexeme<'a>>, token: Token<'a>, at: usize) -> Result<(), AllocError>
+    ensures { OnOk result (tokens_in out.new.items ≡ tokens_in out.old.items ++ token_of token.entry ∷ []) }
+{
+    out.push(Lexeme { token, at })?;
+    Ok(())
 }
 
-impl Lexer {
-    fn put(&mut self, token: Token, at: usize) -> Result<(), AllocError> {
-        self.lexemes.push(Lexeme { token, at })?;
-        Ok(())
-    }
-
-    // A byte between tokens.
-    fn begin(&mut self, at: usize, b: u8) -> Result<(), AllocError> {
-        self.standing = match class_of(b) {
-            Class::Letter => Standing::InWord(at),
-            Class::Digit => Standing::InNumber(at),
-            Class::Blank | Class::LineEnd => Standing::Between,
-            Class::Opens => Standing::Half(b),
-            Class::Quote | Class::Alone => {
-                self.put(sign_token(b), at)?;
-                Standing::Between
-            }
-        };
-        Ok(())
-    }
-
-    // A byte behind a word's.
-    fn in_word(&mut self, text: &[u8], from: usize, at: usize, b: u8) -> Result<(), AllocError> {
-        match class_of(b) {
-            Class::Letter | Class::Digit => {
-                self.standing = Standing::InWord(from);
-                Ok(())
-            }
-            _ => {
-                self.put(word_token(text, Span { from, to: at }), from)?;
-                self.begin(at, b)
-            }
+// A byte between tokens.
+#[tactic(auto, using(crate::proofs::LexSteps::steps))]
+fn begin<'a>(
+    text: &'a [u8],
+    at: usize,
+    b: u8,
+    out: &mut Vec<Lexeme<'a>>,
+) -> Result<Standing<'a>, AllocError>
+    requires here { at < length text.now }
+    requires byte { b ≡ slice_index text.now at }
+    ensures inside { IfOk result (λ s. IsInside text.now (at + 1) s) }
+    ensures mode { IfOk result (λ s. mode_of text.now (at + 1) s ≡ (tokens.fresh b).mode) }
+    ensures tokens { OnOk result (tokens_in out.new.items ≡ tokens_in out.old.items ++ (tokens.fresh b).tokens) }
+{
+    match class_of(b) {
+        Class::Letter => Ok(Standing::InWord(at)),
+        Class::Digit => Ok(Standing::InNumber(at)),
+        Class::Blank | Class::LineEnd => Ok(Standing::Between),
+        Class::Opens => Ok(Standing::Half(b)),
+        Class::Quote => {
+            put(out, Token::Never, at)?;
+            Ok(Standing::Between)
+        }
+        Class::Alone => {
+            put(out, sign_token(b), at)?;
+            Ok(Standing::Between)
         }
     }
+}
 
-    // A byte behind a number's.
-    fn in_number(&mut self, text: &[u8], from: usize, at: usize, b: u8) -> Result<(), AllocError> {
-        let span = Span { from, to: at };
-        match class_of(b) {
-            Class::Digit => {
-                self.standing = Standing::InNumber(from);
-                Ok(())
-            }
-            Class::Quote => {
-                self.standing = Standing::AtQuote(span);
-                Ok(())
-            }
-            _ => {
-                self.put(number_token(text, span), from)?;
-                self.begin(at, b)
-            }
+// A byte behind a word's.
+#[tactic(auto, using(crate::proofs::LexSteps::steps))]
+fn in_word<'a>(
+    text: &'a [u8],
+    from: usize,
+    at: usize,
+    b: u8,
+    out: &mut Vec<Lexeme<'a>>,
+) -> Result<Standing<'a>, AllocError>
+    requires order { from ≤ at }
+    requires here { at < length text.now }
+    requires byte { b ≡ slice_index text.now at }
+    ensures inside { IfOk result (λ s. IsInside text.now (at + 1) s) }
+    ensures mode { IfOk result (λ s. mode_of text.now (at + 1) s ≡ (tokens.in_word (tokens.class_of b) (piece text.now from at) b).mode) }
+    ensures tokens { OnOk result (tokens_in out.new.items ≡ tokens_in out.old.items ++ (tokens.in_word (tokens.class_of b) (piece text.now from at) b).tokens) }
+{
+    match class_of(b) {
+        Class::Letter | Class::Digit => Ok(Standing::InWord(from)),
+        _ => {
+            put(out, word_token(word_at(text, from, at)), from)?;
+            begin(text, at, b, out)
         }
     }
+}
 
-    // A number and a quote that is part of no token.
-    fn put_quoted(&mut self, text: &[u8], size: Span) -> Result<(), AllocError> {
-        self.put(number_token(text, size), size.from)?;
-        self.put(Token::Never, size.to)
-    }
-
-    // A byte behind a number's quote.
-    fn at_quote(&mut self, text: &[u8], size: Span, at: usize, b: u8) -> Result<(), AllocError> {
-        match radix_of(b) {
-            Some(radix) => {
-                self.standing = Standing::AtBase { size, radix };
-                Ok(())
-            }
-            None => {
-                self.put_quoted(text, size)?;
-                self.begin(at, b)
-            }
-        }
-    }
-
-    // A byte behind a base letter, which is the byte before.
-    fn at_base(
-        &mut self,
-        text: &[u8],
-        size: Span,
-        radix: u8,
-        at: usize,
-        b: u8,
-    ) -> Result<(), AllocError> {
-        if digit_of(b) < radix {
-            self.standing = Standing::InDigits {
-                size,
-                radix,
-                from: at,
-            };
-            return Ok(());
-        }
-        self.put_quoted(text, size)?;
-        self.in_word(text, at.saturating_sub(1), at, b)
-    }
-
-    // A byte behind a literal's digits.
-    fn in_digits(
-        &mut self,
-        text: &[u8],
-        size: Span,
-        radix: u8,
-        from: usize,
-        at: usize,
-        b: u8,
-    ) -> Result<(), AllocError> {
-        if goes_on(radix, b) {
-            self.standing = Standing::InDigits { size, radix, from };
-            return Ok(());
-        }
-        let digits = Span { from, to: at };
-        self.put(sized_token(text, size, radix, digits), size.from)?;
-        self.begin(at, b)
-    }
-
-    // A byte behind one that may begin a sign of two bytes, or a comment.
-    fn follow(&mut self, first: u8, at: usize, b: u8) -> Result<(), AllocError> {
-        let from = at.saturating_sub(1);
-        if let Some(token) = pair_token(first, b) {
-            self.put(token, from)?;
-            self.standing = Standing::Between;
-            return Ok(());
-        }
-        if first == b'/' && b == b'/' {
-            self.standing = Standing::InLine;
-            return Ok(());
-        }
-        if first == b'/' && b == b'*' {
-            self.standing = Standing::InBlock(from);
-            return Ok(());
-        }
-        self.put(sign_token(first), from)?;
-        self.begin(at, b)
-    }
-
-    // One byte.
-    fn advance(&mut self, text: &[u8], at: usize, b: u8) -> Result<(), AllocError> {
-        match self.standing {
-            Standing::Between => self.begin(at, b),
-            Standing::InWord(from) => self.in_word(text, from, at, b),
-            Standing::InNumber(from) => self.in_number(text, from, at, b),
-            Standing::AtQuote(size) => self.at_quote(text, size, at, b),
-            Standing::AtBase { size, radix } => self.at_base(text, size, radix, at, b),
-            Standing::InDigits { size, radix, from } => self.in_digits(
-                text, size, radix, from, at, b,
-            ),
-            Standing::Half(first) => self.follow(first, at, b),
-            Standing::InLine => {
-                self.standing = if b == b'\n' {
-                    Standing::Between
-                } else {
-                    Standing::InLine
-                };
-                Ok(())
-            }
-            Standing::InBlock(from) => {
-                self.standing = if b == b'*' {
-                    Standing::AtStar(from)
-                } else {
-                    Standing::InBlock(from)
-                };
-                Ok(())
-            }
-            Standing::AtStar(from) => {
-                self.standing = match b {
-                    b'/' => Standing::Between,
-                    b'*' => Standing::AtStar(from),
-                    _ => Standing::InBlock(from),
-                };
-                Ok(())
-            }
+// A byte behind a number's.
+#[tactic(auto, using(crate::proofs::LexSteps::steps))]
+fn in_number<'a>(
+    text: &'a [u8],
+    from: usize,
+    at: usize,
+    b: u8,
+    out: &mut Vec<Lexeme<'a>>,
+) -> Result<Standing<'a>, AllocError>
+    requires order { from ≤ at }
+    requires here { at < length text.now }
+    requires byte { b ≡ slice_index text.now at }
+    ensures inside { IfOk result (λ s. IsInside text.now (at + 1) s) }
+    ensures mode { IfOk result (λ s. mode_of text.now (at + 1) s ≡ (tokens.in_number (tokens.class_of b) (piece text.now from at) b).mode) }
+    ensures tokens { OnOk result (tokens_in out.new.items ≡ tokens_in out.old.items ++ (tokens.in_number (tokens.class_of b) (piece text.now from at) b).tokens) }
+{
+    match class_of(b) {
+        Class::Digit => Ok(Standing::InNumber(from)),
+        Class::Quote => Ok(Standing::AtQuote(word_at(text, from, at))),
+        _ => {
+            put(out, number_token(word_at(text, from, at)), from)?;
+            begin(text, at, b, out)
         }
     }
+}
 
-    // The end of the text ends its last token.
-    fn end(&mut self, text: &[u8]) -> Result<(), AllocError> {
-        let at = text.len();
-        match self.standing {
-            Standing::Between | Standing::InLine => Ok(()),
-            Standing::InWord(from) => self.put(word_token(text, Span { from, to: at }), from),
-            Standing::InNumber(from) => self.put(number_token(text, Span { from, to: at }), from),
-            Standing::AtQuote(size) => self.put_quoted(text, size),
-            Standing::AtBase { size, .. } => {
-                self.put_quoted(text, size)?;
-                let from = at.saturating_sub(1);
-                self.put(word_token(text, Span { from, to: at }), from)
-            }
-            Standing::InDigits { size, radix, from } => {
-                let digits = Span { from, to: at };
-                self.put(sized_token(text, size, radix, digits), size.from)
-            }
-            Standing::Half(first) => self.put(sign_token(first), at.saturating_sub(1)),
-            Standing::InBlock(from) | Standing::AtStar(from) => self.put(Token::Never, from),
+// A number and a quote that is part of no token.
+#[tactic(auto, using(crate::proofs::LexSteps::steps))]
+fn put_quoted<'a>(size: Word<'a>, out: &mut Vec<Lexeme<'a>>) -> Result<(), AllocError>
+    ensures { OnOk result (tokens_in out.new.items ≡ tokens_in out.old.items ++ tokens.number_token (name_of size.entry) ∷ tokens.Never ∷ []) }
+{
+    put(out, number_token(size), size.at)?;
+    put(out, Token::Never, size.at.saturating_add(size.bytes.len()))
+}
+
+// A byte behind a number's quote.
+#[tactic(auto, using(crate::proofs::LexSteps::steps))]
+fn at_quote<'a>(
+    text: &'a [u8],
+    size: Word<'a>,
+    at: usize,
+    b: u8,
+    out: &mut Vec<Lexeme<'a>>,
+) -> Result<Standing<'a>, AllocError>
+    requires here { at < length text.now }
+    requires byte { b ≡ slice_index text.now at }
+    ensures inside { IfOk result (λ s. IsInside text.now (at + 1) s) }
+    ensures mode { IfOk result (λ s. mode_of text.now (at + 1) s ≡ (tokens.at_quote (tokens.radix_of b) (name_of size.entry) b).mode) }
+    ensures tokens { OnOk result (tokens_in out.new.items ≡ tokens_in out.old.items ++ (tokens.at_quote (tokens.radix_of b) (name_of size.entry) b).tokens) }
+{
+    match radix_of(b) {
+        Some(radix) => Ok(Standing::AtBase {
+            size,
+            base: b,
+            radix,
+            from: at,
+        }),
+        None => {
+            put_quoted(size, out)?;
+            begin(text, at, b, out)
         }
+    }
+}
+
+// A byte behind a base letter, which stands at `from`.
+#[tactic(auto, using(crate::proofs::LexSteps::steps))]
+fn at_base<'a>(
+    text: &'a [u8],
+    size: Word<'a>,
+    base: u8,
+    radix: u8,
+    from: usize,
+    at: usize,
+    b: u8,
+    out: &mut Vec<Lexeme<'a>>,
+) -> Result<Standing<'a>, AllocError>
+    requires order { from ≤ at }
+    requires letter { piece text.now from at ≡ base ∷ [] }
+    requires here { at < length text.now }
+    requires byte { b ≡ slice_index text.now at }
+    ensures inside { IfOk result (λ s. IsInside text.now (at + 1) s) }
+    ensures mode { IfOk result (λ s. mode_of text.now (at + 1) s ≡ (tokens.at_base (tokens.is_digit_of radix b) (name_of size.entry) base radix b).mode) }
+    ensures tokens { OnOk result (tokens_in out.new.items ≡ tokens_in out.old.items ++ (tokens.at_base (tokens.is_digit_of radix b) (name_of size.entry) base radix b).tokens) }
+{
+    if is_digit_of(radix, b) {
+        return Ok(Standing::InDigits {
+            size,
+            radix,
+            from: at,
+        });
+    }
+    put_quoted(size, out)?;
+    in_word(text, from, at, b, out)
+}
+
+// A byte behind a literal's digits.
+#[tactic(auto, using(crate::proofs::LexSteps::steps))]
+fn in_digits<'a>(
+    text: &'a [u8],
+    size: Word<'a>,
+    radix: u8,
+    from: usize,
+    at: usize,
+    b: u8,
+    out: &mut Vec<Lexeme<'a>>,
+) -> Result<Standing<'a>, AllocError>
+    requires order { from ≤ at }
+    requires here { at < length text.now }
+    requires byte { b ≡ slice_index text.now at }
+    ensures inside { IfOk result (λ s. IsInside text.now (at + 1) s) }
+    ensures mode { IfOk result (λ s. mode_of text.now (at + 1) s ≡ (tokens.in_digits (tokens.goes_on radix b) (name_of size.entry) radix (piece text.now from at) b).mode) }
+    ensures tokens { OnOk result (tokens_in out.new.items ≡ tokens_in out.old.items ++ (tokens.in_digits (tokens.goes_on radix b) (name_of size.entry) radix (piece text.now from at) b).tokens) }
+{
+    if goes_on(radix, b) {
+        return Ok(Standing::InDigits { size, radix, from });
+    }
+    put(
+        out,
+        sized_token(size, radix, word_at(text, from, at)),
+        size.at,
+    )?;
+    begin(text, at, b, out)
+}
+
+// A byte behind one that may begin a sign of two bytes, or a comment.
+#[tactic(auto, using(crate::proofs::LexSteps::steps))]
+fn after_half<'a>(
+    text: &'a [u8],
+    first: u8,
+    at: usize,
+    b: u8,
+    out: &mut Vec<Lexeme<'a>>,
+) -> Result<Standing<'a>, AllocError>
+    requires here { at < length text.now }
+    requires byte { b ≡ slice_index text.now at }
+    ensures inside { IfOk result (λ s. IsInside text.now (at + 1) s) }
+    ensures mode { IfOk result (λ s. mode_of text.now (at + 1) s ≡ (tokens.after_half (tokens.follow_of first b) first b).mode) }
+    ensures tokens { OnOk result (tokens_in out.new.items ≡ tokens_in out.old.items ++ (tokens.after_half (tokens.follow_of first b) first b).tokens) }
+{
+    let from = at.saturating_sub(1);
+    match follow_of(first, b) {
+        Follow::Pair(token) => {
+            put(out, token, from)?;
+            Ok(Standing::Between)
+        }
+        Follow::Line => Ok(Standing::InLine),
+        Follow::Block => Ok(Standing::InBlock(from)),
+        Follow::New => {
+            put(out, sign_token(first), from)?;
+            begin(text, at, b, out)
+        }
+    }
+}
+
+// One byte.
+#[tactic(auto, using(crate::proofs::LexSteps::steps))]
+fn advance<'a>(
+    text: &'a [u8],
+    standing: Standing<'a>,
+    at: usize,
+    b: u8,
+    out: &mut Vec<Lexeme<'a>>,
+) -> Result<Standing<'a>, AllocError>
+    requires here { at < length text.now }
+    requires byte { b ≡ slice_index text.now at }
+    requires inside { IsInside text.now at standing }
+    ensures inside { IfOk result (λ s. IsInside text.now (at + 1) s) }
+    ensures mode { IfOk result (λ s. mode_of text.now (at + 1) s ≡ (tokens.move (mode_of text.now at standing.entry) b).mode) }
+    ensures tokens { OnOk result (tokens_in out.new.items ≡ tokens_in out.old.items ++ (tokens.move (mode_of text.now at standing.entry) b).tokens) }
+{
+    match standing {
+        Standing::Between => begin(text, at, b, out),
+        Standing::InWord(from) => in_word(text, from, at, b, out),
+        Standing::InNumber(from) => in_number(text, from, at, b, out),
+        Standing::AtQuote(size) => at_quote(text, size, at, b, out),
+        Standing::AtBase {
+            size,
+            base,
+            radix,
+            from,
+        } => at_base(text, size, base, radix, from, at, b, out),
+        Standing::InDigits { size, radix, from } => in_digits(text, size, radix, from, at, b, out),
+        Standing::Half(first) => after_half(text, first, at, b, out),
+        Standing::InLine => Ok(if b == b'\n' {
+            Standing::Between
+        } else {
+            Standing::InLine
+        }),
+        Standing::InBlock(from) => Ok(if b == b'*' {
+            Standing::AtStar(from)
+        } else {
+            Standing::InBlock(from)
+        }),
+        Standing::AtStar(from) => Ok(match b {
+            b'/' => Standing::Between,
+            b'*' => Standing::AtStar(from),
+            _ => Standing::InBlock(from),
+        }),
+    }
+}
+
+// The end of the text ends its last token.
+#[tactic(auto, using(crate::proofs::LexSteps::steps))]
+fn end<'a>(
+    text: &'a [u8],
+    standing: Standing<'a>,
+    out: &mut Vec<Lexeme<'a>>,
+) -> Result<(), AllocError>
+    requires inside { IsInside text.now (length text.now) standing }
+    ensures { OnOk result (tokens_in out.new.items ≡ tokens_in out.old.items ++ tokens.last_of (mode_of text.now (length text.now) standing.entry)) }
+{
+    let at = text.len();
+    match standing {
+        Standing::Between | Standing::InLine => Ok(()),
+        Standing::InWord(from) => put(out, word_token(word_at(text, from, at)), from),
+        Standing::InNumber(from) => put(out, number_token(word_at(text, from, at)), from),
+        Standing::AtQuote(size) => put_quoted(size, out),
+        Standing::AtBase { size, from, .. } => {
+            put_quoted(size, out)?;
+            put(out, word_token(word_at(text, from, at)), from)
+        }
+        Standing::InDigits { size, radix, from } => {
+            put(
+                out,
+                sized_token(size, radix, word_at(text, from, at)),
+                size.at,
+            )
+        }
+        Standing::Half(first) => put(out, sign_token(first), at.saturating_sub(1)),
+        Standing::InBlock(from) | Standing::AtStar(from) => put(out, Token::Never, from),
     }
 }
 
 /// The tokens of a text.
-pub fn lexemes(alloc: Global, text: &[u8]) -> Result<Vec<Lexeme>, AllocError> {
-    let mut lexer = Lexer {
-        lexemes: Vec::new(alloc),
-        standing: Standing::Between,
-    };
+#[tactic(auto, using(crate::proofs::LexSteps::passes))]
+pub fn lexemes<'a>(alloc: Global, text: &'a [u8]) -> Result<Vec<Lexeme<'a>>, AllocError>
+    ensures { IfOk result (λ v. tokens_in v.items ≡ tokens.tokens_of text.now) }
+{
+    let mut out = Vec::new(alloc);
+    let mut standing = Standing::Between;
     for (at, b) in text.iter().enumerate() {
-        lexer.advance(text, at, *b)?;
+        standing = advance(text, standing, at, *b, &mut out)?;
     }
-    lexer.end(text)?;
-    Ok(lexer.lexemes)
+    end(text, standing, &mut out)?;
+    Ok(out)
 }

@@ -1,21 +1,12 @@
-//! The tokens of a text, by their places in it.
+//! The tokens of a text, and the pieces of the text that they are.
 
-/// A piece of a text: its bytes from `from` up to `to`.
-#[derive(Clone, Copy, PartialEq, Eq, Debug)]
-pub struct Span {
-    pub from: usize,
-    pub to: usize,
-}
-
-impl Span {
-    /// The bytes of the piece; none where it is no piece of this text.
-    pub fn of(self, text: &[u8]) -> &[u8] {
-        if self.from <= self.to && self.to <= text.len() {
-            &text[self.from..self.to]
-        } else {
-            &text[..0]
-        }
-    }
+/// A piece of a text, and the place of its first byte.
+#[derive(Clone, Copy, Debug)]
+pub struct Word<'a> {
+    /// The bytes.
+    pub bytes: &'a [u8],
+    /// The place of the first byte in the text.
+    pub at: usize,
 }
 
 /// A reserved word.
@@ -70,16 +61,20 @@ pub enum Sign {
 }
 
 /// A token.
-#[derive(Clone, Copy, PartialEq, Eq, Debug)]
-pub enum Token {
+#[derive(Clone, Copy, Debug)]
+pub enum Token<'a> {
     /// A reserved word.
     Reserved(Keyword),
     /// A name.
-    Name(Span),
+    Name(Word<'a>),
     /// A decimal number below 2^32.
-    Number(Span),
+    Number(Word<'a>),
     /// A literal with its size: the digits of the size, the radix 2, 10 or 16, and the digits.
-    Sized { size: Span, radix: u8, digits: Span },
+    Sized {
+        size: Word<'a>,
+        radix: u8,
+        digits: Word<'a>,
+    },
     /// A sign.
     Mark(Sign),
     /// What is part of no module.
@@ -87,8 +82,8 @@ pub enum Token {
 }
 
 /// A token and the place of its first byte.
-#[derive(Clone, Copy, PartialEq, Eq, Debug)]
-pub struct Lexeme {
-    pub token: Token,
+#[derive(Clone, Copy, Debug)]
+pub struct Lexeme<'a> {
+    pub token: Token<'a>,
     pub at: usize,
 }

@@ -1,6 +1,6 @@
 //! A module as it is written.
 
-use crate::token::Span;
+use crate::token::Word;
 
 /// `~` or `!`.
 #[derive(Clone, Copy, PartialEq, Eq, Debug)]
@@ -29,75 +29,75 @@ pub enum InfixOp {
 }
 
 /// An expression. `at` is the place of its operator or of its first byte.
-#[derive(Drop, Debug)]
-pub enum WrittenExpr {
-    Named(Span),
+#[derive(Drop)]
+pub enum WrittenExpr<'a> {
+    Named(Word<'a>),
     Constant {
-        size: Span,
+        size: Word<'a>,
         radix: u8,
-        digits: Span,
+        digits: Word<'a>,
     },
     BitOf {
-        name: Span,
-        place: Span,
+        name: Word<'a>,
+        place: Word<'a>,
     },
     PartOf {
-        name: Span,
-        high: Span,
-        low: Span,
+        name: Word<'a>,
+        high: Word<'a>,
+        low: Word<'a>,
     },
     WordOf {
-        name: Span,
-        address: Box<WrittenExpr>,
+        name: Word<'a>,
+        address: Box<WrittenExpr<'a>>,
     },
     Braces {
         at: usize,
-        parts: Vec<WrittenExpr>,
+        parts: Vec<WrittenExpr<'a>>,
     },
-    Parens(Box<WrittenExpr>),
+    Parens(Box<WrittenExpr<'a>>),
     Prefix {
         op: PrefixOp,
         at: usize,
-        arg: Box<WrittenExpr>,
+        arg: Box<WrittenExpr<'a>>,
     },
     Infix {
         op: InfixOp,
         at: usize,
-        left: Box<WrittenExpr>,
-        right: Box<WrittenExpr>,
+        left: Box<WrittenExpr<'a>>,
+        right: Box<WrittenExpr<'a>>,
     },
     Conditional {
         at: usize,
-        test: Box<WrittenExpr>,
-        yes: Box<WrittenExpr>,
-        no: Box<WrittenExpr>,
+        test: Box<WrittenExpr<'a>>,
+        yes: Box<WrittenExpr<'a>>,
+        no: Box<WrittenExpr<'a>>,
     },
 }
 
 /// A statement.
-#[derive(Drop, Debug)]
-pub enum WrittenStatement {
+#[derive(Drop)]
+pub enum WrittenStatement<'a> {
     Update {
-        target: Span,
-        value: WrittenExpr,
+        target: Word<'a>,
+        value: WrittenExpr<'a>,
     },
     UpdateWord {
-        target: Span,
-        address: WrittenExpr,
-        value: WrittenExpr,
+        target: Word<'a>,
+        address: WrittenExpr<'a>,
+        value: WrittenExpr<'a>,
     },
     IfThen {
         at: usize,
-        test: WrittenExpr,
-        yes: Box<WrittenStatement>,
+        test: WrittenExpr<'a>,
+        yes: Box<WrittenStatement<'a>>,
     },
     IfElse {
         at: usize,
-        test: WrittenExpr,
-        yes: Box<WrittenStatement>,
-        no: Box<WrittenStatement>,
+        test: WrittenExpr<'a>,
+        yes: Box<WrittenStatement<'a>>,
+        no: Box<WrittenStatement<'a>>,
     },
-    Block(Vec<WrittenStatement>),
+    Block(Vec<WrittenStatement<'a>>),
 }
 
 /// `input`, `input wire`, `output`, `output wire` or `output reg`.
@@ -111,43 +111,43 @@ pub enum Direction {
 }
 
 /// A port, with the digits of its highest bit where it has a range.
-#[derive(Clone, Copy, PartialEq, Eq, Debug)]
-pub struct WrittenPort {
+#[derive(Clone, Copy, Debug)]
+pub struct WrittenPort<'a> {
     pub direction: Direction,
-    pub range: Option<Span>,
-    pub name: Span,
+    pub range: Option<Word<'a>>,
+    pub name: Word<'a>,
 }
 
 /// An item.
-#[derive(Drop, Debug)]
-pub enum WrittenItem {
+#[derive(Drop)]
+pub enum WrittenItem<'a> {
     Wires {
-        range: Option<Span>,
-        names: Vec<Span>,
+        range: Option<Word<'a>>,
+        names: Vec<Word<'a>>,
     },
     Registers {
-        range: Option<Span>,
-        names: Vec<Span>,
+        range: Option<Word<'a>>,
+        names: Vec<Word<'a>>,
     },
     MemoryOf {
-        range: Option<Span>,
-        name: Span,
-        last: Span,
+        range: Option<Word<'a>>,
+        name: Word<'a>,
+        last: Word<'a>,
     },
     Assign {
-        target: Span,
-        value: WrittenExpr,
+        target: Word<'a>,
+        value: WrittenExpr<'a>,
     },
     Always {
-        clock: Span,
-        body: WrittenStatement,
+        clock: Word<'a>,
+        body: WrittenStatement<'a>,
     },
 }
 
 /// A module.
-#[derive(Drop, Debug)]
-pub struct WrittenModule {
-    pub name: Span,
-    pub ports: Vec<WrittenPort>,
-    pub items: Vec<WrittenItem>,
+#[derive(Drop)]
+pub struct WrittenModule<'a> {
+    pub name: Word<'a>,
+    pub ports: Vec<WrittenPort<'a>>,
+    pub items: Vec<WrittenItem<'a>>,
 }

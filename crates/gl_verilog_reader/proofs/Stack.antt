@@ -1,0 +1,119 @@
+-- The stack of what is open, whose top is the last of a Vec, and trees made of their parts.
+use Rattle.std.proofs.Common.{◌≡◌, ◌≤◌, ◌<◌, length, get_or, arith, ℕ, Bool, true, false, List, [], ◌∷◌, ◌++◌, reverse, Option, Some, None, Vec, Global, refl, sym, ap, ◌∙◌}
+use Rattle.std.specs.Prelude.{map}
+use Rattle.std.proofs.lemmas.List.{reverse-append, map-append}
+use mathlib.Core.Former.{Count}
+use Rattle.gl_verilog.specs.Written as written
+use Rattle.gl_verilog.specs.Machine as machine
+use Rattle.gl_verilog_reader.specs.declared.written.WrittenExpr.{WrittenExpr, Named, Braces, Braces', Row_of-WrittenExpr, end_of-WrittenExpr, more_of-WrittenExpr, items-the_row-WrittenExpr, items_hidden-the_row-WrittenExpr-0}
+use Rattle.gl_verilog_reader.specs.declared.written.WrittenStatement.{WrittenStatement, Block, Block', Row_of-WrittenStatement, end_of-WrittenStatement, more_of-WrittenStatement, items-the_row-WrittenStatement, items_hidden-the_row-WrittenStatement-0}
+use Rattle.gl_verilog_reader.specs.declared.frames.Frame.{Frame}
+use Rattle.gl_verilog_reader.specs.declared.token.Word.{Word}
+use Rattle.gl_verilog_reader.specs.declared.stage.Sort.{Sort}
+use Rattle.gl_verilog_reader.specs.declared.stage.Sort.TheVariants as sort_is
+use Rattle.gl_verilog_reader.specs.declared.stage.Stage.TheVariants as stage_is
+use Rattle.gl_verilog_reader.specs.View.{stage_of, sort_of, range_of, names_of, expr_of, exprs_of, statement_of, statements_of, parts_list, frame_of, frames_of}
+
+pub frames-push : (frames : List Frame) (x : Frame) → frames_of (frames ++ x ∷ []) ≡ frame_of x ∷ frames_of frames
+frames-push frames x = ap (map frame_of) (reverse-append frames (x ∷ []))
+
+-- ---- applying operators
+
+pub reduce-binds : (p : ℕ) (f : machine.Frame) (fs : List machine.Frame) (e : written.WrittenExpr) → machine.binds p f ≡ true → machine.reduce p (f ∷ fs) e ≡ machine.reduce p fs (machine.applied f e)
+unfolding machine.reduce
+reduce-binds p f fs e h = rw h refl
+
+pub reduce-stops : (p : ℕ) (f : machine.Frame) (fs : List machine.Frame) (e : written.WrittenExpr) → machine.binds p f ≡ false → machine.reduce p (f ∷ fs) e ≡ (f ∷ fs, e)
+unfolding machine.reduce
+reduce-stops p f fs e h = rw h refl
+
+pub reduce-nil : (p : ℕ) (e : written.WrittenExpr) → machine.reduce p [] e ≡ ([], e)
+unfolding machine.reduce
+reduce-nil p e = refl
+
+pub ruleset reductions = (frames-push, reduce-binds, reduce-stops, reduce-nil)
+
+-- ---- ending statements
+
+pub end-goes : (f : machine.Frame) (fs : List machine.Frame) (s : written.WrittenStatement) → machine.is_if f ≡ true → machine.at_end (f ∷ fs) s ≡ machine.at_end fs (machine.if_of f s)
+unfolding machine.at_end
+end-goes f fs s h = rw h refl
+
+pub end-stops : (f : machine.Frame) (fs : List machine.Frame) (s : written.WrittenStatement) → machine.is_if f ≡ false → machine.at_end (f ∷ fs) s ≡ (f ∷ fs, s)
+unfolding machine.at_end
+end-stops f fs s h = rw h refl
+
+pub end-nil : (s : written.WrittenStatement) → machine.at_end [] s ≡ ([], s)
+unfolding machine.at_end
+end-nil s = refl
+
+pub ruleset endings = (frames-push, end-goes, end-stops, end-nil)
+
+pub else-cons : (f : machine.Frame) (fs : List machine.Frame) (s : written.WrittenStatement) → machine.at_else (f ∷ fs) s ≡ machine.else_at f fs s (machine.at_else fs (machine.if_of f s))
+unfolding machine.at_else
+else-cons f fs s = refl
+
+pub else-nil : (s : written.WrittenStatement) → machine.at_else [] s ≡ None
+unfolding machine.at_else
+else-nil s = refl
+
+pub ruleset elses = (frames-push, else-cons, else-nil)
+
+-- ---- trees of lists
+
+exprs-are : (n : Count) (row : Row_of-WrittenExpr n) → exprs_of row ≡ map expr_of (items-the_row-WrittenExpr n row)
+unfolding expr_of
+exprs-are n end_of-WrittenExpr = refl
+exprs-are n (more_of-WrittenExpr e rest) = ap (λ (x : List written.WrittenExpr). expr_of e ∷ x) (exprs-are _ rest)
+
+abbrev expr_row : WrittenExpr → (n : Count) × Row_of-WrittenExpr n
+expr_row (Braces' at shape row) = (_, row)
+expr_row _ = (_, end_of-WrittenExpr)
+
+pub braces_are : (at : ℕ) (parts : Vec WrittenExpr Global) → expr_of (Braces at parts) ≡ written.Braces (parts_list (map expr_of parts.items))
+unfolding expr_of
+braces_are at parts =
+    let row = expr_row (Braces at parts) in
+    ap (λ (x : List written.WrittenExpr). written.Braces (parts_list x)) (exprs-are row.0 row.1)
+    ∙ ap (λ (x : List WrittenExpr). written.Braces (parts_list (map expr_of x))) (items_hidden-the_row-WrittenExpr-0 parts)
+
+statements-are : (n : Count) (row : Row_of-WrittenStatement n) → statements_of row ≡ map statement_of (items-the_row-WrittenStatement n row)
+unfolding statement_of
+statements-are n end_of-WrittenStatement = refl
+statements-are n (more_of-WrittenStatement s rest) = ap (λ (x : List written.WrittenStatement). statement_of s ∷ x) (statements-are _ rest)
+
+abbrev statement_row : WrittenStatement → (n : Count) × Row_of-WrittenStatement n
+statement_row (Block' shape row) = (_, row)
+statement_row _ = (_, end_of-WrittenStatement)
+
+pub block_is : (statements : Vec WrittenStatement Global) → statement_of (Block statements) ≡ written.Block (machine.listed (map statement_of statements.items))
+unfolding statement_of
+block_is statements =
+    let row = statement_row (Block statements) in
+    ap (λ (x : List written.WrittenStatement). written.Block (machine.listed x)) (statements-are row.0 row.1)
+    ∙ ap (λ (x : List WrittenStatement). written.Block (machine.listed (map statement_of x))) (items_hidden-the_row-WrittenStatement-0 statements)
+
+pub parts-onto : (ps : List written.WrittenExpr) (e : written.WrittenExpr) → parts_list (ps ++ e ∷ []) ≡ machine.parts_of ps e
+parts-onto [] e = refl
+parts-onto (p ∷ []) e = refl
+parts-onto (p ∷ q ∷ ps) e = ap (written.Parts p) (parts-onto (q ∷ ps) e)
+
+pub ruleset pushes = (frames-push, map-append, braces_are, block_is, parts-onto)
+
+-- ---- one name
+
+pub one_name : (xs names : List Word) (sort : Sort) (range : Option Word) (d : Word) (s : machine.State) → xs ≡ names → sort ≡ sort_is.RegisterSort → 1 ≤ length xs → length xs < 2
+    → machine.goto s (stage_of (stage_is.WantFirst range (get_or xs 0 d))) ≡ machine.memory_of (sort_of sort) (range_of range) (names_of names) s
+unfolding stage_of
+one_name [] names sort range d s e f lo hi = absurd (omega arith)
+one_name (x ∷ []) names sort range d s e f lo hi =
+    ap (λ (k : Sort). machine.memory_of (sort_of k) (range_of range) (names_of (x ∷ [])) s) (sym f)
+    ∙ ap (λ (ns : List Word). machine.memory_of (sort_of sort) (range_of range) (names_of ns) s) e
+one_name (x ∷ y ∷ xs) names sort range d s e f lo hi = absurd (omega arith)
+
+-- ---- a name
+
+pub not_named : (s : machine.State) (e : WrittenExpr) → ((name : Word) → e ≡ Named name → ⊥) → machine.indexed s (expr_of e) ≡ None
+unfolding expr_of
+not_named s (Named name) h = absurd (h name refl)
+not_named s e h = refl
