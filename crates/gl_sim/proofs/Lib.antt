@@ -6,3 +6,6 @@ pub mod Fresh
 pub mod Placing
 pub mod Follows
 pub mod Draws
+pub mod Exists
+pub mod Fitting
+pub mod Falling

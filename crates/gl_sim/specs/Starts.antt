@@ -2,9 +2,9 @@
 use Rattle.std.specs.Prelude.{◌≡◌, ◌≢◌, ◌<◌, Some, slice_get, slice_index, ℕ, zero, suc, ◌+◌, ◌*◌, ◌%◌, ◌^◌, List, take, replicate}
 use Rattle.std.specs.List.{sum_by}
 use Rattle.gl_verilog.specs.Module.{Kind, OutputRegister, Register, Memory, Declaration, Module, Nets, Memories}
-use Rattle.gl_verilog.specs.Run.{IsRegister}
+use Rattle.gl_verilog.specs.Run.{IsRegister, IsRun}
 use Rattle.gl_verilog.specs.Evaluate.{IsStore, memories_of}
-use Rattle.gl_verilog.specs.Runnable.{SameState}
+use Rattle.gl_verilog.specs.Runnable.{SameState, HasInputs}
 use Rattle.gl_verilog.specs.Widths.{width_at, words_in}
 use Rattle.gl_sim.specs.declared.start.Start.{Start}
 use Rattle.gl_sim.specs.declared.start.Start.TheVariants.{Zero, Drawn}
@@ -66,3 +66,11 @@ pub record IsDrawnTo (ds : List Declaration) (seed n state : ℕ) (values : List
   pub store : IsStore ds values banks
   pub registers : (k : ℕ) (d : Declaration) → k < n → slice_get ds k ≡ Some d → IsRegister d.kind → slice_index values k ≡ register_at (Drawn seed) ds k
   pub words : (k : ℕ) (d : Declaration) (at : ℕ) → k < n → slice_get ds k ≡ Some d → at < words_in d.kind → memories_of banks k at ≡ word_at (Drawn seed) ds k at
+
+-- a run from a start whose inputs are these rows, one for each cycle
+pub record RunsWith (start : Start) (m : Module) (rows : ℕ → List ℕ) : Type 0 where
+  pub value : ℕ → Nets
+  pub word : ℕ → Memories
+  pub is : IsRun m value word
+  pub starts : StartsFrom start m value word
+  pub inputs : (t : ℕ) → HasInputs m (value t) (rows t)

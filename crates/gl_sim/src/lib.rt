@@ -4,6 +4,7 @@
 pub mod cycle;
 pub mod draw;
 pub mod edge;
+pub mod laws;
 pub mod order;
 pub mod room;
 pub mod simulator;
@@ -13,3 +14,6 @@ pub mod update;
 pub use simulator::Sim;
 pub use start::Start;
 pub use update::Update;
+
+#[cfg(test)]
+mod tests;

@@ -25,7 +25,7 @@ use Rattle.gl_tuples.specs.Values.{word_of, fitting, is_plain, is_printable}
 use Rattle.gl_tuples.specs.Values as values
 use Rattle.gl_tuples.specs.Entries.{◌>>=◌, words_of, row_of, row_found, columns_at, entry_of, entry_named, tuple_of, stream_named, cycle_of, cycle_below, option_bind}
 use Rattle.gl_tuples.specs.Filing.{filing_after, next_filing, no_records, ended, beats_of, beat_with, beat_of, whole_before, empty_beat, open_checked, cycle_checked, has_row}
-use Rattle.gl_tuples.specs.Gaps.{plain_beat, plain_beats}
+use Rattle.gl_tuples.specs.Gaps.{plain_beat, plain_beats, AreFileBeats}
 use Rattle.gl_tuples.proofs.Numbers.{bits_more, length-padded}
 use Rattle.gl_tuples.proofs.Filings.{Next, next_tells, bind_ok, ok_is, guard_ok}
 
@@ -257,11 +257,6 @@ filed_after : (schema : Schema) (rs : List (List (List ℕ))) (f g : Filing) →
 filed_after schema [] f g h e = subst (IsFiled schema) (ok_is f g e) h
 filed_after schema (r ∷ rs) f g h e = let b = bind_ok (next_filing schema f r) (filing_after schema rs) g e in
     filed_after schema rs b.0 g (filed_next schema f r b.0 h (next_tells schema f r b.0 b.1)) b.2
-
--- what is said of the beats alone
-pub record AreFileBeats (schema : Schema) (beats : List Beat) : Type 0 where
-  pub beats' : AreBeats schema (plain_beats beats)
-  pub last : last_cycle (plain_beats beats) ≤ 10000000
 
 ended_sound : (schema : Schema) (whole : List Beat) (b : Beat) → AreSound schema whole → IsReady schema whole b → AreFileBeats schema (whole ++ record b { end = true } ∷ [])
 ended_sound schema whole b sound r =

@@ -15,10 +15,10 @@ use Rattle.gl_tuples.specs.declared.fault.TupleFault.TheVariants.{StreamTwice, F
 use Rattle.gl_tuples.specs.Values.{number_of}
 use Rattle.gl_tuples.specs.Entries.{◌>>=◌, words_of, row_of, row_found, columns_at, entry_of, entry_named, tuple_of, stream_named, cycle_of, cycle_below, option_bind}
 use Rattle.gl_tuples.specs.Filing.{filing_after, next_filing, no_records, ended, beats_of, beat_with, beat_of, whole_before, empty_beat, has_row, HasRows, open_checked, cycle_checked}
-use Rattle.gl_tuples.specs.Gaps.{plain_beat, plain_beats}
+use Rattle.gl_tuples.specs.Gaps.{plain_beat}
 use Rattle.gl_tuples.specs.FileBeats.{is_number, in_cycle, names, row_named, row_for, either, row_of_records, number_from, number_of_records, number_at, row_at, AreBeatsOf}
 use Rattle.gl_tuples.proofs.Filings.{Next, next_tells, bind_ok, ok_is, guard_ok, next_rows, beat_long}
-use Rattle.gl_tuples.proofs.Beatings.{RisesTo, IsOpen, CurrentFits, IsFiled, filed_next, beats_sound, AreFileBeats, found_row, EntryFits, entry_fits, rises_push, ok_true}
+use Rattle.gl_tuples.proofs.Beatings.{RisesTo, IsOpen, CurrentFits, IsFiled, filed_next, beats_sound, found_row, EntryFits, entry_fits, rises_push, ok_true}
 
 -- the cycle of a record, both ways
 cycle_said : (number : ℕ) (o : Option ℕ) (cycle c : ℕ) → cycle_below number o ≡ Ok cycle → is_number c o ≡ (cycle == c)
@@ -349,8 +349,7 @@ beats_are schema rs beats h =
     let e = ok_is (ended (length schema.streams) b.0) beats b.2 in
     let s = beats_sound schema rs beats h in
     record {
-      beats' = s.beats';
-      last = s.last;
+      fine = s;
       numbers = λ c. ap (λ (bs : List Beat). number_at bs c) (sym e) ∙ shown_numbers schema rs b.0 c b.1;
       rows = λ c k. ap (λ (bs : List Beat). row_at bs c k) (sym e) ∙ shown_rows schema rs b.0 c k b.1;
     }

@@ -1,12 +1,12 @@
 -- The beats of a tuple file, told of its records.
-use Rattle.std.specs.Prelude.{◌≡◌, ℕ, ◌+◌, ◌≤◌, Bool, true, false, not, ◌&&◌, List, [], ◌∷◌, drop, Option, Some, None, option_map, find, slice_get, codes, bytes_eq, ◌==◌, if◌then◌else◌}
+use Rattle.std.specs.Prelude.{◌≡◌, ℕ, ◌+◌, Bool, true, false, not, ◌&&◌, List, [], ◌∷◌, drop, Option, Some, None, option_map, find, slice_get, codes, bytes_eq, ◌==◌, if◌then◌else◌}
 use Rattle.gl_bits.specs.Words.{Word, bits_of}
 use Rattle.gl_schema.specs.declared.schema.Schema.{Schema}
-use Rattle.gl_schema.specs.Beats.{AreBeats, last_cycle, row_in}
+use Rattle.gl_schema.specs.Beats.{row_in}
 use Rattle.gl_tuples.specs.declared.beats.Beat.{Beat}
 use Rattle.gl_tuples.specs.Values.{number_of}
 use Rattle.gl_tuples.specs.Entries.{option_bind, words_of, columns_at, stream_named}
-use Rattle.gl_tuples.specs.Gaps.{plain_beat, plain_beats}
+use Rattle.gl_tuples.specs.Gaps.{plain_beat, AreFileBeats}
 
 -- an optional number is this one
 abbrev pub is_number : ℕ → Option ℕ → Bool
@@ -58,7 +58,6 @@ row_at beats cycle k = option_bind (find (λ b. b.cycle == cycle) beats) (λ b. 
 
 -- beats of the schema, one for each cycle of a record, with the records' rows; the last alone has the end
 pub record AreBeatsOf (schema : Schema) (rs : List (List (List ℕ))) (beats : List Beat) : Type 0 where
-  pub beats' : AreBeats schema (plain_beats beats)
-  pub last : last_cycle (plain_beats beats) ≤ 10000000
+  pub fine : AreFileBeats schema beats
   pub numbers : (cycle : ℕ) → number_at beats cycle ≡ number_of_records cycle rs
   pub rows : (cycle k : ℕ) → row_at beats cycle k ≡ row_of_records schema cycle k rs

@@ -1,7 +1,9 @@
 -- Beats as plain data, and the gap between them.
-use Rattle.std.specs.Prelude.{◌≡◌, ℕ, ◌+◌, Bool, List, [], ◌∷◌, map, Option, Some, None, Result, Ok, Err, option_map, nat_lt, if◌then◌else◌}
+use Rattle.std.specs.Prelude.{◌≡◌, ℕ, ◌+◌, ◌≤◌, Bool, List, [], ◌∷◌, map, Option, Some, None, Result, Ok, Err, option_map, nat_lt, if◌then◌else◌}
 use Rattle.gl_bits.specs.Words.{bits_of}
+use Rattle.gl_schema.specs.declared.schema.Schema.{Schema}
 use Rattle.gl_schema.specs.Beats as plain
+use Rattle.gl_schema.specs.Beats.{AreBeats, last_cycle}
 use Rattle.gl_tuples.specs.declared.beats.Beat.{Beat}
 use Rattle.gl_tuples.specs.declared.fault.TupleFault.{TupleFault}
 use Rattle.gl_tuples.specs.declared.fault.TupleFault.TheVariants.{TooClose}
@@ -23,3 +25,8 @@ first_close gap (b ∷ c ∷ bs) = if nat_lt c.cycle (b.cycle + gap) then Some c
 abbrev pub close_answer : Option ℕ → Result (Unit {0}) TupleFault
 close_answer None = Ok tt
 close_answer (Some number) = Err (TooClose number)
+
+-- the beats of a file are beats of the schema, the last in cycle 10,000,000 at most
+pub record AreFileBeats (schema : Schema) (beats : List Beat) : Type 0 where
+  pub beats' : AreBeats schema (plain_beats beats)
+  pub last : last_cycle (plain_beats beats) ≤ 10000000

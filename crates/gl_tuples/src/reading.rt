@@ -2,6 +2,7 @@
 
 ghost use Rattle.std.specs.Prelude.{IfOk};
 ghost use Rattle.gl_schema.specs.Schemas.{IsSchema};
+ghost use Rattle.gl_tuples.specs.Gaps.{AreFileBeats};
 ghost use Rattle.gl_tuples.specs.FileBeats.{AreBeatsOf};
 ghost use Rattle.gl_tuples.specs.Entries.{Gives};
 ghost use Rattle.gl_tuples.specs.Filing.{beats_of, records_of};
@@ -18,7 +19,9 @@ use std::alloc::Global;
 pub fn read_tuples(alloc: Global, schema: &Schema, text: &[u8]) -> Result<Beats, TupleFault>
     requires { IsSchema schema.now }
     // The beats are of this schema.
-    ensures found { IfOk result (AreBeatsOf schema.now (records_of text.now)) }
+    ensures found { IfOk result (λ beats. AreFileBeats schema.now beats) }
+    // There is one for each cycle of a record, with the records' rows.
+    ensures beats { IfOk result (AreBeatsOf schema.now (records_of text.now)) }
     // The beats, or which rule is the first that is broken, and by which record.
     ensures exact { Gives result (beats_of schema.now (records_of text.now)) }
 {
