@@ -85,9 +85,6 @@ module _ (schema : Schema) (statement : Statement) (select : Select) (net : Net)
   wired : CanWire schema select
   wired = can_wire schema statement select s is
 
-  ws : List ℕ
-  ws = column_widths (columns_at schema.streams select.stream)
-
   abbrev shapes : List PortShape
   shapes = inputs schema ++ result_outputs (column_widths (columns_at schema.streams select.stream)) select.columns.items select.names.columns
 
