@@ -1,3 +1,13 @@
-pub mod Fitting
-pub mod Rows
+pub mod CheckedFitting
+pub mod CheckedRows
 pub mod Distinct
+pub mod Declared
+pub mod Carries
+pub mod Inputs
+pub mod Outputs
+pub mod Rows
+pub mod Puts
+pub mod Due
+pub mod Making
+pub mod Running
+pub mod Each

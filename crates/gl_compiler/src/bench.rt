@@ -1,58 +1,39 @@
 //! What goes into a module in one cycle.
 
-ghost use Rattle.std.specs.Prelude.{◌≡◌, ℕ, ◌<◌, ◌^◌, map, IfOk, true};
-ghost use Rattle.std.specs.List.{AllZip};
+ghost use Rattle.std.specs.Prelude.{◌≡◌, length, map, option_map, IfOk};
+ghost use Rattle.gl_tuples.specs.Gaps.{plain_beat};
 ghost use Rattle.gl_verilog.specs.View.{declaration_of};
-ghost use Rattle.gl_verilog.specs.Widths.{width_at};
+ghost use Rattle.gl_compiler.specs.Carried.{at_reset, name_at, pin_at, with_beat};
 
 use crate::pins::{Pin, pin_of, value_of};
-use gl_bits::{Memory, Word};
+use gl_bits::Memory;
 use gl_schema::Schema;
 use gl_tuples::Beat;
 use gl_verilog::Declaration;
 use std::alloc::Global;
 
-// The bits of the declaration of a number.
-#[tactic(auto, using(crate::proofs::Fitting::width_is))]
-fn width_of(declarations: &[Declaration], number: usize) -> u8
-    ensures { result ≡ width_at (map declaration_of declarations.now) number }
+// The name of the declaration of a number.
+fn name_of(declarations: &[Declaration], number: usize) -> &[u8]
+    ensures { result.now ≡ name_at (map declaration_of declarations.now) number }
 {
     match declarations.get(number) {
-        Some(declaration) => declaration.width,
-        None => 0,
+        Some(declaration) => declaration.name.as_slice(),
+        None => &[],
     }
-}
-
-/// The bits of the declarations of these numbers.
-pub(crate) fn widths_at(
-    alloc: Global,
-    declarations: &[Declaration],
-    numbers: &[usize],
-) -> Result<Vec<u8>, Memory>
-    ensures { IfOk result (λ v. v.items ≡ map (width_at (map declaration_of declarations.now)) numbers.now) }
-{
-    let mut widths = Vec::new(alloc);
-    for number in numbers {
-        if widths.push(width_of(declarations, *number)).is_err() {
-            return Err(Memory);
-        }
-    }
-    Ok(widths)
 }
 
 /// What the declarations of these numbers carry, by their names.
-pub(crate) fn pins_at(
+pub fn pins_at(
     alloc: Global,
     schema: &Schema,
     declarations: &[Declaration],
     numbers: &[usize],
-) -> Result<Vec<Pin>, Memory> {
+) -> Result<Vec<Pin>, Memory>
+    ensures { IfOk result (λ v. v.items ≡ map (pin_at schema.now (map declaration_of declarations.now)) numbers.now) }
+{
     let mut pins = Vec::new(alloc);
     for number in numbers {
-        let pin = match declarations.get(*number) {
-            Some(declaration) => pin_of(schema, declaration.name.as_slice()),
-            None => Pin::Unknown,
-        };
+        let pin = pin_of(alloc, schema, name_of(declarations, *number))?;
         if pins.push(pin).is_err() {
             return Err(Memory);
         }
@@ -60,32 +41,22 @@ pub(crate) fn pins_at(
     Ok(pins)
 }
 
-/// Whether each value fits the width at its place.
-pub(crate) fn fits(widths: &[u8], values: &[u128]) -> bool
-    ensures { result ≡ true → AllZip (λ width value. value < 2 ^ width) widths.now values.now }
-{
-    match (widths.split_first(), values.split_first()) {
-        (None, None) => true,
-        (Some((width, widths)), Some((value, values))) => {
-            if Word::new(*value, *width).is_none() {
-                return false;
-            }
-            fits(widths, values)
-        }
-        _ => false,
-    }
-}
-
 /// Sets the values of the pins for the reset.
-pub(crate) fn set_reset(pins: &[Pin], values: &mut [u128]) {
-    for (pin, value) in pins.iter().zip(values.iter_mut()) {
-        *value = u128::from(*pin == Pin::Reset);
+pub fn set_reset(pins: &[Pin], values: &mut [u128])
+    requires { length values.old ≡ length pins.now }
+    ensures { values.new ≡ map at_reset pins.now }
+{
+    for (at, pin) in pins.iter().enumerate() {
+        values[at] = u128::from(*pin == Pin::Reset);
     }
 }
 
 /// Sets the values of the pins for a cycle of the file with this beat, or with none.
-pub(crate) fn set_beat(pins: &[Pin], beat: Option<&Beat>, values: &mut [u128]) {
-    for (pin, value) in pins.iter().zip(values.iter_mut()) {
-        *value = value_of(*pin, beat);
+pub fn set_beat(pins: &[Pin], beat: Option<&Beat>, values: &mut [u128])
+    requires { length values.old ≡ length pins.now }
+    ensures { values.new ≡ map (with_beat (option_map (λ b. plain_beat b.now) beat.entry)) pins.now }
+{
+    for (at, pin) in pins.iter().enumerate() {
+        values[at] = value_of(*pin, beat);
     }
 }

@@ -1,25 +1,34 @@
 //! Running the text of a module.
 
-ghost use Rattle.std.specs.Prelude.{◌≡◌, ◌≤◌, length, map, IfOk};
+ghost use Rattle.std.specs.Prelude.{◌≡◌, ℕ, ◌+◌, ◌<◌, ◌≤◌, ◌^◌, length, map, option_map, IfOk, OnOk, OnErr};
 ghost use Rattle.std.specs.List.{AllByRecursion};
 ghost use Rattle.gl_bits.specs.Kinds.{IsKind, width_of};
-ghost use Rattle.gl_bits.specs.Words.{widths_of};
+ghost use Rattle.gl_bits.specs.Words.{bits_of, widths_of};
+ghost use Rattle.gl_outside.specs.Counts.{Rose};
+ghost use Rattle.gl_schema.specs.Beats.{AreBeats, beat_at, last_cycle};
+ghost use Rattle.gl_schema.specs.Schemas.{IsSchema};
+ghost use Rattle.gl_tuples.specs.Gaps.{plain_beat, plain_beats};
+ghost use Rattle.gl_verilog.specs.Module.{Module as Design, Nets, Memories};
+ghost use Rattle.gl_verilog.specs.Run.{port_of};
+ghost use Rattle.gl_verilog.specs.Text.{HasModule};
 ghost use Rattle.gl_verilog.specs.View.{module_of};
 ghost use Rattle.gl_verilog.specs.Runnable.{IsRunnable};
 ghost use Rattle.gl_compiler.specs.Benches.{IsBench};
+ghost use Rattle.gl_compiler.specs.Cycles.{AreDue, CanFollow, IsFollowed, IsMade, IsPrepared, OfTimely};
+ghost use Rattle.gl_compiler.specs.Profile.{result_names};
+ghost use Rattle.gl_compiler.specs.Prints.{CanRun, EndsWithin, OfEachRun, Writes, WritesFront};
 
-use crate::bench::{fits, pins_at, set_beat, set_reset, widths_at};
-use crate::lines::{put_row, put_word, set_value, zero_row};
+use crate::bench::{pins_at, set_beat, set_reset};
+use crate::lines::{put_cycle, zero_row};
+use crate::looking::{Looked, look, set_row};
 use crate::pins::{Pin, Shows, shows_of};
 use gl_bits::{Kind, Memory, Row};
-use gl_outside::Sink;
+use gl_outside::{Sink, WriteFault};
 use gl_schema::Schema;
 use gl_sim::room::{ports_of, zeros};
 use gl_sim::{Sim, Start};
 use gl_tuples::{Beat, Beats};
 use gl_verilog::Module;
-use gl_verilog_check::is_runnable;
-use gl_verilog_reader::{VerilogFault, read_module};
 use std::alloc::Global;
 
 /// How a run ended.
@@ -27,10 +36,6 @@ use std::alloc::Global;
 pub enum Outcome {
     /// At the end of the result.
     Done,
-    /// The text has no module that can be run over these inputs.
-    NotRunnable,
-    /// The end did not show within the latency.
-    NoEnd,
     /// The sink failed.
     WriteFault,
     /// Want of memory, before anything was written.
@@ -40,218 +45,219 @@ pub enum Outcome {
 // What stands around a module that runs.
 #[derive(Drop)]
 struct Bench {
-    count: usize,
-    widths: Vec<u8>,
     pins: Vec<Pin>,
     shows: Shows,
 }
 
 // What stands around this module.
 fn bench_of(alloc: Global, schema: &Schema, design: &Module) -> Result<Bench, Memory>
-    ensures { IfOk result (λ b. IsBench (module_of design.now) b.count b.widths.items) }
+    ensures { IfOk result (λ b. IsBench (module_of design.now) schema.now b.pins.items b.shows) }
 {
     let declarations = design.declarations.as_slice();
     let ports = ports_of(alloc, declarations)?;
-    let widths = widths_at(alloc, declarations, &ports)?;
     Ok(Bench {
-        count: declarations.len(),
-        widths,
         pins: pins_at(alloc, schema, declarations, &ports)?,
         shows: shows_of(alloc, design)?,
     })
 }
 
-// Makes one cycle with these inputs, if they fit.
-fn step(sim: &mut Sim, bench: &Bench, values: &[u128]) -> bool
-    requires { IsBench (module_of sim.old.design) bench.now.count bench.now.widths.items }
-    ensures { sim.new.design ≡ sim.old.design }
-{
-    if !fits(&bench.widths, values) {
-        return false;
-    }
-    sim.step(values);
-    true
-}
-
-// What a port shows, if it is one.
-fn shown(sim: &Sim, bench: &Bench, port: usize) -> Option<u128>
-    requires { IsBench (module_of sim.now.design) bench.now.count bench.now.widths.items }
-{
-    if port < bench.count {
-        Some(sim.output(port))
-    } else {
-        None
-    }
-}
-
-// Whether a port is there and shows 1.
-fn is_high(sim: &Sim, bench: &Bench, port: Option<usize>) -> bool
-    requires { IsBench (module_of sim.now.design) bench.now.count bench.now.widths.items }
-{
-    match port {
-        Some(port) => shown(sim, bench, port) == Some(1),
-        None => false,
-    }
-}
-
-// Puts what the columns show into a row, if it can hold that.
-fn set_row(sim: &Sim, bench: &Bench, row: &mut Row) -> bool
-    requires { IsBench (module_of sim.now.design) bench.now.count bench.now.widths.items }
-    ensures { widths_of row.new ≡ widths_of row.old }
-{
-    for (place, port) in bench.shows.columns.iter().enumerate() {
-        let Some(value) = shown(sim, bench, *port) else {
-            return false;
-        };
-        if !set_value(row, place, value) {
-            return false;
-        }
-    }
-    true
-}
-
-// Writes the lines of a cycle, and answers whether the end is among them.
-fn show<K: Sink>(
-    sim: &Sim,
-    bench: &Bench,
-    kinds: &[Kind],
-    row: &mut Row,
-    cycle: u64,
-    out: &mut K,
-) -> Result<bool, Outcome>
-    requires bench { IsBench (module_of sim.now.design) bench.now.count bench.now.widths.items }
-    requires many { length kinds.now ≤ 32 }
-    requires kinds { AllByRecursion IsKind kinds.now }
-    requires widths { widths_of row.old ≡ map width_of kinds.now }
-    ensures { widths_of row.new ≡ widths_of row.old }
-{
-    if is_high(sim, bench, bench.shows.valid) {
-        if !set_row(sim, bench, row) {
-            return Err(Outcome::NotRunnable);
-        }
-        if put_row(out, cycle, row, kinds).is_err() {
-            return Err(Outcome::WriteFault);
-        }
-    }
-    if !is_high(sim, bench, bench.shows.end) {
-        return Ok(false);
-    }
-    match put_word(out, cycle, b"end") {
-        Ok(()) => Ok(true),
-        Err(_) => Err(Outcome::WriteFault),
-    }
-}
-
-// Writes the line of the cycle in which a further group came first.
-fn show_overflow<K: Sink>(
-    sim: &Sim,
-    bench: &Bench,
-    came: &mut bool,
-    cycle: u64,
-    out: &mut K,
-) -> Result<(), Outcome>
-    requires { IsBench (module_of sim.now.design) bench.now.count bench.now.widths.items }
-{
-    if *came || !is_high(sim, bench, bench.shows.group) {
-        return Ok(());
-    }
-    *came = true;
-    match put_word(out, cycle, b"overflow") {
-        Ok(()) => Ok(()),
-        Err(_) => Err(Outcome::WriteFault),
-    }
-}
-
-// Makes the cycle of the reset.
-fn reset(sim: &mut Sim, bench: &Bench, values: &mut [u128]) -> bool
-    requires { IsBench (module_of sim.old.design) bench.now.count bench.now.widths.items }
-    ensures { sim.new.design ≡ sim.old.design }
-{
-    set_reset(&bench.pins, values);
-    step(sim, bench, values)
-}
-
-// Makes the cycle of the file with this beat, or with none.
-fn make(sim: &mut Sim, bench: &Bench, beat: Option<&Beat>, values: &mut [u128]) -> bool
-    requires { IsBench (module_of sim.old.design) bench.now.count bench.now.widths.items }
-    ensures { sim.new.design ≡ sim.old.design }
-{
-    set_beat(&bench.pins, beat, values);
-    step(sim, bench, values)
-}
-
-// The first of these beats, if it is in this cycle.
-fn due(beats: &[Beat], next: usize, cycle: u64) -> Option<&Beat> {
-    let beat = beats.get(next)?;
-    if u64::from(beat.cycle) == cycle {
-        Some(beat)
-    } else {
-        None
-    }
-}
-
-// What is run, over which beats, and for how many cycles.
+// What is run, and over which beats.
 #[derive(Clone, Copy)]
 struct Course<'a> {
     bench: &'a Bench,
+    schema: &'a Schema,
     kinds: &'a [Kind],
     beats: &'a [Beat],
     last: u64,
-    limit: u64,
+    latency: u64,
+}
+
+// The beat of this cycle, and the place behind it.
+fn due<'a>(beats: &'a [Beat], next: &mut usize, cycle: u64) -> Option<&'a Beat>
+    requires { AreDue (plain_beats beats.now) next.old cycle }
+    ensures beat { option_map (λ b. plain_beat b.now) result ≡ beat_at (plain_beats beats.now) cycle }
+    ensures due { AreDue (plain_beats beats.now) next.new (cycle + 1) }
+{
+    let beat = beats.get(*next)?;
+    if u64::from(beat.cycle) != cycle {
+        return None;
+    }
+    *next += 1;
+    Some(beat)
+}
+
+// Makes one cycle of the file, and answers what it shows; the row takes the columns.
+fn advance(
+    sim: &mut Sim,
+    course: &Course,
+    next: &mut usize,
+    cycle: u64,
+    values: &mut [u128],
+    row: &mut Row,
+) -> Looked
+    requires can { CanFollow (module_of sim.old.design) course.now.schema.now course.now.kinds.now (plain_beats course.now.beats.now) }
+    requires bench { IsBench (module_of sim.old.design) course.now.schema.now course.now.bench.now.pins.items course.now.bench.now.shows }
+    requires values { length values.old ≡ length course.now.bench.now.pins.items }
+    requires widths { widths_of row.old ≡ map width_of course.now.kinds.now }
+    requires due { AreDue (plain_beats course.now.beats.now) next.old cycle }
+    ensures design { sim.new.design ≡ sim.old.design }
+    ensures widths { widths_of row.new ≡ widths_of row.old }
+    ensures due { AreDue (plain_beats course.now.beats.now) next.new (cycle + 1) }
+    ensures made { (value : ℕ → Nets) (word : ℕ → Memories) → IsFollowed sim.old course.now.schema.now (plain_beats course.now.beats.now) value word (cycle + 1) → IsMade (module_of sim.old.design) sim.new course.now.schema.now (plain_beats course.now.beats.now) result (bits_of row.new) cycle value word }
+{
+    let beat = due(course.beats, next, cycle);
+    set_beat(&course.bench.pins, beat, values);
+    sim.step(values);
+    set_row(sim, &course.bench.shows.columns, row);
+    look(sim, &course.bench.shows)
+}
+
+// Makes the cycle of the reset.
+fn reset(sim: &mut Sim, course: &Course, values: &mut [u128])
+    requires can { CanFollow (module_of sim.old.design) course.now.schema.now course.now.kinds.now (plain_beats course.now.beats.now) }
+    requires bench { IsBench (module_of sim.old.design) course.now.schema.now course.now.bench.now.pins.items course.now.bench.now.shows }
+    requires values { length values.old ≡ length course.now.bench.now.pins.items }
+    ensures design { sim.new.design ≡ sim.old.design }
+    ensures followed { (value : ℕ → Nets) (word : ℕ → Memories) → IsFollowed sim.old course.now.schema.now (plain_beats course.now.beats.now) value word 0 → IsFollowed sim.new course.now.schema.now (plain_beats course.now.beats.now) value word 1 }
+{
+    set_reset(&course.bench.pins, values);
+    sim.step(values);
 }
 
 // Makes the cycles of the file, and writes their lines.
 fn follow<K: Sink>(
     sim: &mut Sim,
     course: &Course,
-    row: &mut Row,
     values: &mut [u128],
+    row: &mut Row,
     out: &mut K,
-) -> Result<Outcome, Outcome>
-    requires bench { IsBench (module_of sim.old.design) course.now.bench.now.count course.now.bench.now.widths.items }
+) -> Result<(), WriteFault>
+    requires can { CanFollow (module_of sim.old.design) course.now.schema.now course.now.kinds.now (plain_beats course.now.beats.now) }
+    requires bench { IsBench (module_of sim.old.design) course.now.schema.now course.now.bench.now.pins.items course.now.bench.now.shows }
+    requires values { length values.old ≡ length course.now.bench.now.pins.items }
     requires many { length course.now.kinds.now ≤ 32 }
     requires kinds { AllByRecursion IsKind course.now.kinds.now }
     requires widths { widths_of row.old ≡ map width_of course.now.kinds.now }
+    requires last { course.now.last ≡ last_cycle (plain_beats course.now.beats.now) }
+    requires early { course.now.last ≤ 2 ^ 32 }
+    requires short { course.now.latency ≤ 2 ^ 32 }
+    ensures all { OnOk result ((value : ℕ → Nets) (word : ℕ → Memories) → IsFollowed sim.old course.now.schema.now (plain_beats course.now.beats.now) value word 1 → EndsWithin course.now.latency (plain_beats course.now.beats.now) (result_names (module_of sim.old.design)) (port_of (module_of sim.old.design) value) → Writes course.now.kinds.now (plain_beats course.now.beats.now) (result_names (module_of sim.old.design)) (port_of (module_of sim.old.design) value) (K.taken out.old) (K.taken out.new)) }
+    ensures front { OnErr result ((value : ℕ → Nets) (word : ℕ → Memories) → IsFollowed sim.old course.now.schema.now (plain_beats course.now.beats.now) value word 1 → EndsWithin course.now.latency (plain_beats course.now.beats.now) (result_names (module_of sim.old.design)) (port_of (module_of sim.old.design) value) → WritesFront course.now.kinds.now (plain_beats course.now.beats.now) (result_names (module_of sim.old.design)) (port_of (module_of sim.old.design) value) (K.taken out.old) (K.taken out.new)) }
+    ensures cause { OnErr result (Rose (K.faults out.old) (K.faults out.new)) }
+    ensures never_falls { K.faults out.old ≤ K.faults out.new }
 {
-    let bench = course.bench;
     let mut next = 0;
-    let mut came = false;
-    for cycle in 0..course.limit {
-        let beat = due(course.beats, next, cycle);
-        if beat.is_some() && next < course.beats.len() {
-            next += 1;
+    let mut told = false;
+    for cycle in 0..course.last + course.latency + 1 {
+        let looked = advance(sim, course, &mut next, cycle, values, row);
+        put_cycle(out, cycle, course.kinds, row, told, looked)?;
+        if looked.end && cycle >= course.last {
+            return Ok(());
         }
-        if !make(sim, bench, beat, values) {
-            return Err(Outcome::NotRunnable);
-        }
-        show_overflow(sim, bench, &mut came, cycle, out)?;
-        if show(sim, bench, course.kinds, row, cycle, out)? && cycle >= course.last {
-            return Ok(Outcome::Done);
-        }
+        told |= looked.group;
     }
-    Ok(Outcome::NoEnd)
+    // No run that ends in time comes here.
+    Ok(())
 }
 
-// The beats, the cycle of the last of them, and the cycle behind the last that is run.
-fn course_of<'a>(bench: &'a Bench, kinds: &'a [Kind], beats: &'a [Beat], latency: u64) -> Course<'a>
-    ensures bench { result.bench.now ≡ bench.now }
-    ensures kinds { result.kinds.now ≡ kinds.now }
+fn cycle_of(beat: &Beat) -> u64
+    ensures cycle { result ≡ beat.now.cycle }
+    ensures early { result ≤ 2 ^ 32 }
 {
-    let last = match beats.last() {
-        Some(beat) => u64::from(beat.cycle),
+    u64::from(beat.cycle)
+}
+
+// The cycle of the last beat.
+fn last_of(beats: &[Beat]) -> u64
+    ensures cycle { result ≡ last_cycle (plain_beats beats.now) }
+    ensures early { result ≤ 2 ^ 32 }
+{
+    match beats.last() {
+        Some(beat) => cycle_of(beat),
         None => 0,
-    };
-    Course {
-        bench,
-        kinds,
-        beats,
-        last,
-        limit: last.saturating_add(latency).saturating_add(1),
     }
 }
 
-// Runs a module over beats.
-fn run_module<K: Sink>(
+// What a run takes: the simulator, what stands around it, and room for its inputs and a row.
+#[derive(Drop)]
+struct Prepared {
+    sim: Sim,
+    bench: Bench,
+    values: Vec<u128>,
+    row: Row,
+}
+
+// Takes all the memory that a run of this module needs.
+fn prepare(
+    alloc: Global,
+    design: Module,
+    schema: &Schema,
+    kinds: &[Kind],
+    start: Start,
+) -> Result<Prepared, Memory>
+    requires runnable { IsRunnable (module_of design) }
+    requires kinds { AllByRecursion IsKind kinds.now }
+    ensures { IfOk result (λ p. IsPrepared design schema.now kinds.now start p.sim p.bench.pins.items p.bench.shows p.values.items p.row) }
+{
+    let bench = bench_of(alloc, schema, &design)?;
+    let values = zeros(alloc, bench.pins.len())?;
+    let row = zero_row(alloc, kinds)?;
+    let sim = Sim::new(alloc, design, start)?;
+    Ok(Prepared {
+        sim,
+        bench,
+        values,
+        row,
+    })
+}
+
+// Makes the reset and the cycles of the file.
+
+fn run<K: Sink>(
+    prepared: Prepared,
+    schema: &Schema,
+    kinds: &[Kind],
+    beats: &Beats,
+    latency: u64,
+    out: &mut K,
+) -> Result<(), WriteFault>
+    requires can { CanFollow (module_of prepared.sim.design) schema.now kinds.now (plain_beats beats.now) }
+    requires bench { IsBench (module_of prepared.sim.design) schema.now prepared.bench.pins.items prepared.bench.shows }
+    requires values { length prepared.values.items ≡ length prepared.bench.pins.items }
+    requires many { length kinds.now ≤ 32 }
+    requires kinds { AllByRecursion IsKind kinds.now }
+    requires widths { widths_of prepared.row ≡ map width_of kinds.now }
+    requires short { latency ≤ 2 ^ 32 }
+    ensures all { OnOk result ((value : ℕ → Nets) (word : ℕ → Memories) → IsFollowed prepared.sim schema.now (plain_beats beats.now) value word 0 → EndsWithin latency (plain_beats beats.now) (result_names (module_of prepared.sim.design)) (port_of (module_of prepared.sim.design) value) → Writes kinds.now (plain_beats beats.now) (result_names (module_of prepared.sim.design)) (port_of (module_of prepared.sim.design) value) (K.taken out.old) (K.taken out.new)) }
+    ensures front { OnErr result ((value : ℕ → Nets) (word : ℕ → Memories) → IsFollowed prepared.sim schema.now (plain_beats beats.now) value word 0 → EndsWithin latency (plain_beats beats.now) (result_names (module_of prepared.sim.design)) (port_of (module_of prepared.sim.design) value) → WritesFront kinds.now (plain_beats beats.now) (result_names (module_of prepared.sim.design)) (port_of (module_of prepared.sim.design) value) (K.taken out.old) (K.taken out.new)) }
+    ensures cause { OnErr result (Rose (K.faults out.old) (K.faults out.new)) }
+    ensures never_falls { K.faults out.old ≤ K.faults out.new }
+{
+    let Prepared {
+        mut sim,
+        bench,
+        mut values,
+        mut row,
+    } = prepared;
+    let course = Course {
+        bench: &bench,
+        schema,
+        kinds,
+        beats: beats.as_slice(),
+        last: last_of(beats.as_slice()),
+        latency,
+    };
+    let inputs = values.as_mut_slice();
+    reset(&mut sim, &course, inputs);
+    follow(&mut sim, &course, inputs, &mut row, out)
+}
+
+/// Runs the module of a text over beats, and writes the lines of the result.
+///
+/// In the first cycle the module is reset. Behind it comes a cycle for each cycle of the file, to
+/// the first one from the last beat's on in which `out__eos` is 1. The lines stand in order of
+/// cycle; in a cycle a further group stands before the result, and the end behind it.
+pub fn execute_module<K: Sink>(
     alloc: Global,
     design: Module,
     schema: &Schema,
@@ -260,74 +266,21 @@ fn run_module<K: Sink>(
     latency: u64,
     start: Start,
     out: &mut K,
-) -> Result<Outcome, Outcome>
-    requires runnable { IsRunnable (module_of design) }
-    requires many { length kinds.now ≤ 32 }
-    requires kinds { AllByRecursion IsKind kinds.now }
-{
-    let bench = bench_of(alloc, schema, &design)?;
-    let mut values = zeros(alloc, bench.widths.len())?;
-    let mut row = zero_row(alloc, kinds)?;
-    let mut sim = Sim::new(alloc, design, start)?;
-    if !reset(&mut sim, &bench, values.as_mut_slice()) {
-        return Err(Outcome::NotRunnable);
-    }
-    let course = course_of(&bench, kinds, beats.as_slice(), latency);
-    follow(&mut sim, &course, &mut row, values.as_mut_slice(), out)
-}
-
-// Reads the module of a text, and runs it.
-fn run_text<K: Sink>(
-    alloc: Global,
-    text: &[u8],
-    schema: &Schema,
-    kinds: &[Kind],
-    beats: &Beats,
-    latency: u64,
-    start: Start,
-    out: &mut K,
-) -> Result<Outcome, Outcome>
-    requires many { length kinds.now ≤ 32 }
-    requires kinds { AllByRecursion IsKind kinds.now }
-{
-    let design = match read_module(alloc, text) {
-        Ok(design) => design,
-        Err(VerilogFault::Memory) => return Err(Outcome::Memory),
-        Err(_) => return Err(Outcome::NotRunnable),
-    };
-    if !is_runnable(alloc, &design)? {
-        return Err(Outcome::NotRunnable);
-    }
-    run_module(alloc, design, schema, kinds, beats, latency, start, out)
-}
-
-/// Runs the text of a module over beats, and writes the lines of the result.
-///
-/// In the first cycle the module is reset. Behind it comes a cycle for each cycle of the file, to
-/// the first one from the last beat's on in which `out__eos` is 1, or to so many cycles behind the
-/// last beat's. The lines stand in order of cycle; in a cycle a further group stands before the
-/// result, and the end behind it.
-pub fn execute<K: Sink>(
-    alloc: Global,
-    text: &[u8],
-    schema: &Schema,
-    kinds: &[Kind],
-    beats: &Beats,
-    latency: u64,
-    start: Start,
-    out: &mut K,
 ) -> Outcome
+    requires can { CanFollow (module_of design) schema.now kinds.now (plain_beats beats.now) }
     requires many { length kinds.now ≤ 32 }
     requires kinds { AllByRecursion IsKind kinds.now }
+    requires short { latency ≤ 2 ^ 32 }
+    ensures done { result ≡ Outcome.Done → OfTimely latency (module_of design) schema.now (plain_beats beats.now) start (λ outs port. Writes kinds.now (plain_beats beats.now) outs port (K.taken out.old) (K.taken out.new)) }
+    ensures fault { result ≡ Outcome.WriteFault → Rose (K.faults out.old) (K.faults out.new) × OfTimely latency (module_of design) schema.now (plain_beats beats.now) start (λ outs port. WritesFront kinds.now (plain_beats beats.now) outs port (K.taken out.old) (K.taken out.new)) }
+    ensures memory { result ≡ Outcome.Memory → (K.taken out.new ≡ K.taken out.old) × (K.faults out.new ≡ K.faults out.old) }
+    ensures never_falls { K.faults out.old ≤ K.faults out.new }
 {
-    match run_text(alloc, text, schema, kinds, beats, latency, start, out) {
-        Ok(outcome) => outcome,
-        Err(outcome) => outcome,
-    }
-}
-
-impl From<Memory> for Outcome {
-    fn from(_memory: Memory) -> Outcome {
-        Outcome::Memory
+    let Ok(prepared) = prepare(alloc, design, schema, kinds, start) else {
+        return Outcome::Memory;
+    };
+    match run(prepared, schema, kinds, beats, latency, out) {
+        Ok(()) => Outcome::Done,
+        Err(_) => Outcome::WriteFault,
     }
 }

@@ -1,10 +1,15 @@
 //! The lines of a result.
 
-ghost use Rattle.std.specs.Prelude.{◌≡◌, ◌≤◌, length, map, IfOk};
+ghost use Rattle.std.specs.Prelude.{◌≡◌, ◌+◌, ◌<◌, ◌≤◌, ◌^◌, ◌++◌, [], length, map, take, decimal, not, ◌&&◌, slice_index, slice_set, if◌then◌else◌, Some, None, IfOk, OnOk, OnErr};
 ghost use Rattle.std.specs.List.{AllByRecursion};
 ghost use Rattle.gl_bits.specs.Kinds.{IsKind, width_of};
-ghost use Rattle.gl_bits.specs.Words.{widths_of};
+ghost use Rattle.gl_bits.specs.Words.{widths_of, bits_of};
+ghost use Rattle.gl_outside.specs.Counts.{Rose};
+ghost use Rattle.gl_outside.specs.Taken.{Appends, AppendsFront};
+ghost use Rattle.gl_schema.specs.Seen.{row_line, overflow_line, end_line, cycle_lines};
+ghost use Rattle.gl_compiler.specs.Cycles.{looked_at};
 
+use crate::looking::Looked;
 use gl_bits::{Kind, Memory, Row, Word};
 use gl_outside::{Sink, WriteFault, write_all_of};
 use gl_tuples::line_into;
@@ -27,50 +32,135 @@ pub(crate) fn zero_row(alloc: Global, kinds: &[Kind]) -> Result<Row, Memory>
 }
 
 /// Puts a value at a place of a row, if the word there can hold it.
-#[tactic(auto, using(crate::proofs::Rows::widths_stay))]
-pub(crate) fn set_value(row: &mut Row, place: usize, value: u128) -> bool
-    ensures { widths_of row.new ≡ widths_of row.old }
+#[tactic(auto, using(crate::proofs::Rows::row_steps))]
+pub(crate) fn set_value(row: &mut Row, place: usize, value: u128)
+    ensures widths { widths_of row.new ≡ widths_of row.old }
+    ensures bits { value < 2 ^ slice_index (widths_of row.old) place → bits_of row.new ≡ slice_set (bits_of row.old) place value }
 {
     let Some(old) = row.get(place) else {
-        return false;
+        return;
     };
-    match Word::new(value, old.width()) {
-        Some(word) => {
-            row.set(place, word);
-            true
-        }
-        None => false,
+    if let Some(word) = Word::new(value, old.width()) {
+        row.set(place, word);
     }
 }
 
-/// Writes the line of a result.
-pub(crate) fn put_row<K: Sink>(
+// Writes bytes at a place, and answers the place behind them.
+fn put(into: &mut [u8; 64], at: usize, bytes: &[u8]) -> usize
+    requires { at + length bytes.now ≤ 64 }
+    ensures end { result ≡ at + length bytes.now }
+    ensures written { take result into.new ≡ take at into.old ++ bytes.now }
+{
+    let end = at + bytes.len();
+    into[at..end].copy_from_slice(bytes);
+    end
+}
+
+// Writes a cycle and a word behind it, and answers the place behind them.
+fn word_into(cycle: u64, word: &[u8], into: &mut [u8; 64]) -> usize
+    requires { length word.now ≤ 16 }
+    ensures short { result ≤ 64 }
+    ensures written { take result into.new ≡ decimal cycle ++ word.now }
+{
+    let mut buffer = Buffer::new();
+    let end = put(into, 0, buffer.format(cycle).as_bytes());
+    put(into, end, word)
+}
+
+// Writes a line of a cycle and a word.
+fn put_word<K: Sink>(out: &mut K, cycle: u64, word: &[u8]) -> Result<(), WriteFault>
+    requires { length word.now ≤ 16 }
+    ensures all { OnOk result (Appends (K.taken out.old) (K.taken out.new) (decimal cycle ++ word.now)) }
+    ensures front { OnErr result (AppendsFront (K.taken out.old) (K.taken out.new) (decimal cycle ++ word.now)) }
+    ensures cause { OnErr result (Rose (K.faults out.old) (K.faults out.new)) }
+    ensures never_falls { K.faults out.old ≤ K.faults out.new }
+{
+    let mut line = [0u8; 64];
+    let end = word_into(cycle, word, &mut line);
+    write_all_of(out, &line[..end])
+}
+
+// Writes the line that says that a further group came, if it is due.
+#[tactic(auto, using(crate::proofs::Puts::nothing_put), unfolding(gl_schema::specs::Seen::overflow_line))]
+fn put_overflow<K: Sink>(out: &mut K, cycle: u64, due: bool) -> Result<(), WriteFault>
+    ensures all { OnOk result (Appends (K.taken out.old) (K.taken out.new) (if due then overflow_line cycle else [])) }
+    ensures front { OnErr result (AppendsFront (K.taken out.old) (K.taken out.new) (if due then overflow_line cycle else [])) }
+    ensures cause { OnErr result (Rose (K.faults out.old) (K.faults out.new)) }
+    ensures never_falls { K.faults out.old ≤ K.faults out.new }
+{
+    if due {
+        return put_word(out, cycle, b",overflow\n");
+    }
+    Ok(())
+}
+
+// Writes the line of the end, if it is due.
+#[tactic(auto, using(crate::proofs::Puts::nothing_put), unfolding(gl_schema::specs::Seen::end_line))]
+fn put_end<K: Sink>(out: &mut K, cycle: u64, due: bool) -> Result<(), WriteFault>
+    ensures all { OnOk result (Appends (K.taken out.old) (K.taken out.new) (if due then end_line cycle else [])) }
+    ensures front { OnErr result (AppendsFront (K.taken out.old) (K.taken out.new) (if due then end_line cycle else [])) }
+    ensures cause { OnErr result (Rose (K.faults out.old) (K.faults out.new)) }
+    ensures never_falls { K.faults out.old ≤ K.faults out.new }
+{
+    if due {
+        return put_word(out, cycle, b",end\n");
+    }
+    Ok(())
+}
+
+// Writes the line of a row, if one is due.
+#[tactic(auto, using(crate::proofs::Puts::nothing_put))]
+fn put_row<K: Sink>(
     out: &mut K,
     cycle: u64,
-    row: &Row,
     kinds: &[Kind],
+    row: &Row,
+    due: bool,
 ) -> Result<(), WriteFault>
     requires many { length kinds.now ≤ 32 }
     requires kinds { AllByRecursion IsKind kinds.now }
     requires widths { widths_of row.now ≡ map width_of kinds.now }
+    ensures all { OnOk result (Appends (K.taken out.old) (K.taken out.new) (row_line kinds.now cycle (if due then Some (bits_of row.now) else None))) }
+    ensures front { OnErr result (AppendsFront (K.taken out.old) (K.taken out.new) (row_line kinds.now cycle (if due then Some (bits_of row.now) else None))) }
+    ensures cause { OnErr result (Rose (K.faults out.old) (K.faults out.new)) }
+    ensures never_falls { K.faults out.old ≤ K.faults out.new }
 {
+    if !due {
+        return Ok(());
+    }
     let mut line = [0u8; 1024];
     let end = line_into(cycle, row, kinds, &mut line);
     write_all_of(out, &line[..end])
 }
 
-/// Writes a line of a cycle and a word.
-pub(crate) fn put_word<K: Sink>(out: &mut K, cycle: u64, word: &[u8]) -> Result<(), WriteFault>
-    requires { length word.now ≤ 16 }
+// Whether a further group is to be told.
+fn is_news(group: bool, told: bool) -> bool
+    ensures { result ≡ (group && not told) }
 {
-    let mut line = [0u8; 64];
-    let mut buffer = Buffer::new();
-    let number = buffer.format(cycle).as_bytes();
-    let comma = number.len();
-    let end = comma + 1 + word.len();
-    line[..comma].copy_from_slice(number);
-    line[comma] = b',';
-    line[comma + 1..end].copy_from_slice(word);
-    line[end] = b'\n';
-    write_all_of(out, &line[..end + 1])
+    group && !told
+}
+
+/// Writes the lines of a cycle: that a further group came, where that was not told before, the
+/// row, and the end.
+pub(crate) fn put_cycle<K: Sink>(
+    out: &mut K,
+    cycle: u64,
+    kinds: &[Kind],
+    row: &Row,
+    told: bool,
+    looked: Looked,
+) -> Result<(), WriteFault>
+    requires many { length kinds.now ≤ 32 }
+    requires kinds { AllByRecursion IsKind kinds.now }
+    requires widths { widths_of row.now ≡ map width_of kinds.now }
+    ensures all { OnOk result (Appends (K.taken out.old) (K.taken out.new) (cycle_lines kinds.now told (looked_at looked cycle (bits_of row.now)))) }
+    ensures front { OnErr result (AppendsFront (K.taken out.old) (K.taken out.new) (cycle_lines kinds.now told (looked_at looked cycle (bits_of row.now)))) }
+    ensures cause { OnErr result (Rose (K.faults out.old) (K.faults out.new)) }
+    ensures never_falls { K.faults out.old ≤ K.faults out.new }
+{
+    let news = is_news(looked.group, told);
+    put_overflow(out, cycle, news)?;
+    put_row(out, cycle, kinds, row, looked.valid)?;
+    put_end(out, cycle, looked.end)?;
+    Ok(())
 }

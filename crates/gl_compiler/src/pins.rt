@@ -1,6 +1,16 @@
 //! Which port of a module is what: the inputs of the streams, and what shows the result.
 
-use gl_bits::{Memory, Row, Word};
+ghost use Rattle.std.specs.Prelude.{◌≡◌, ◌++◌, ◌∷◌, [], ◌<◌, ℕ, true, map, take, option_map, IfOk, OnOk, slice_index, unwrap_or};
+ghost use Rattle.gl_bits.specs.Words.{bits_of};
+ghost use Rattle.gl_schema.specs.Ports.{in_valid, in_column};
+ghost use Rattle.gl_tuples.specs.Gaps.{plain_beat};
+ghost use Rattle.gl_verilog.specs.View.{declaration_of, module_of, kind_of};
+ghost use Rattle.gl_verilog.specs.Module as spec;
+ghost use Rattle.gl_compiler.specs.Carried.{column_pin, stream_pin, pin_named, with_beat, row_among};
+ghost use Rattle.gl_compiler.specs.Profile as profile;
+ghost use Rattle.gl_compiler.specs.Benches.{columns_from, AreShows};
+
+use gl_bits::{Memory, Row};
 use gl_schema::{Column, Schema, Stream};
 use gl_tuples::Beat;
 use gl_verilog::{Declaration, Kind, Module};
@@ -8,7 +18,7 @@ use std::alloc::Global;
 
 /// What an input port carries.
 #[derive(Clone, Copy, PartialEq, Eq, Debug)]
-pub(crate) enum Pin {
+pub enum Pin {
     /// The reset line.
     Reset,
     /// Whether a tuple of this stream comes.
@@ -23,59 +33,103 @@ pub(crate) enum Pin {
 
 /// The numbers of the ports that show a result.
 #[derive(Drop, Debug)]
-pub(crate) struct Shows {
+pub struct Shows {
     pub valid: Option<usize>,
     pub end: Option<usize>,
     pub group: Option<usize>,
     pub columns: Vec<usize>,
 }
 
-// The column of a stream whose port's name ends so.
-fn column_named(columns: &[Column], rest: &[u8]) -> Option<usize> {
-    columns
-        .iter()
-        .position(|column| column.name.as_slice() == rest)
-}
-
-// What the port of a stream carries, if its name is `STREAM__REST`.
-fn stream_pin(streams: &[Stream], at: usize, name: &[u8]) -> Option<Pin> {
-    let stream = streams.get(at)?;
-    let rest = name.strip_prefix(stream.name.as_slice())?;
-    let rest = rest.strip_prefix(b"__".as_slice())?;
-    if rest == b"valid".as_slice() {
-        return Some(Pin::Valid(at));
+fn add(name: &mut Vec<u8>, piece: &[u8]) -> Result<(), Memory>
+    ensures { OnOk result (name.new.items ≡ name.old.items ++ piece.now) }
+{
+    match name.extend_from_slice(piece) {
+        Ok(()) => Ok(()),
+        Err(_) => Err(Memory),
     }
-    let column = column_named(stream.columns.as_slice(), rest)?;
-    Some(Pin::Column(at, column))
 }
 
-// What the port with this name behind `in__` carries.
-fn input_pin(schema: &Schema, name: &[u8]) -> Pin {
-    let streams = schema.streams.as_slice();
-    for at in 0..streams.len() {
-        if let Some(pin) = stream_pin(streams, at, name) {
-            return pin;
+// `in__STREAM__valid`.
+#[tactic(auto, unfolding(gl_schema::specs::Ports::in_valid))]
+fn valid_name(alloc: Global, stream: &[u8]) -> Result<Vec<u8>, Memory>
+    ensures { IfOk result (λ v. v.items ≡ in_valid stream.now) }
+{
+    let mut name = Vec::new(alloc);
+    add(&mut name, b"in__")?;
+    add(&mut name, stream)?;
+    add(&mut name, b"__valid")?;
+    Ok(name)
+}
+
+// `in__STREAM__COLUMN`.
+#[tactic(auto, unfolding(gl_schema::specs::Ports::in_column))]
+fn column_name(alloc: Global, stream: &[u8], column: &[u8]) -> Result<Vec<u8>, Memory>
+    ensures { IfOk result (λ v. v.items ≡ in_column stream.now column.now) }
+{
+    let mut name = Vec::new(alloc);
+    add(&mut name, b"in__")?;
+    add(&mut name, stream)?;
+    add(&mut name, b"__")?;
+    add(&mut name, column)?;
+    Ok(name)
+}
+
+// The column of stream `at` that the port of this name carries, if it is one.
+fn column_pin_of(alloc: Global, stream: &Stream, at: usize, name: &[u8]) -> Result<Pin, Memory>
+    ensures { IfOk result (λ p. p ≡ column_pin name.now stream.now.name at 0 stream.now.columns) }
+{
+    for (place, column) in stream.columns.as_slice().iter().enumerate() {
+        let port = column_name(alloc, stream.name.as_slice(), column.name.as_slice())?;
+        if port.as_slice() == name {
+            return Ok(Pin::Column(at, place));
         }
     }
-    Pin::Unknown
+    Ok(Pin::Unknown)
+}
+
+// What the port of this name carries of stream `at`.
+fn pin_in(alloc: Global, stream: &Stream, at: usize, name: &[u8]) -> Result<Pin, Memory>
+    ensures { IfOk result (λ p. p ≡ stream_pin name.now at (stream.now ∷ [])) }
+{
+    let port = valid_name(alloc, stream.name.as_slice())?;
+    if port.as_slice() == name {
+        return Ok(Pin::Valid(at));
+    }
+    column_pin_of(alloc, stream, at, name)
+}
+
+// What the port of this name carries of the streams.
+fn stream_pin_of(alloc: Global, streams: &[Stream], name: &[u8]) -> Result<Pin, Memory>
+    ensures { IfOk result (λ p. p ≡ stream_pin name.now 0 streams.now) }
+{
+    for (at, stream) in streams.iter().enumerate() {
+        let pin = pin_in(alloc, stream, at, name)?;
+        if pin != Pin::Unknown {
+            return Ok(pin);
+        }
+    }
+    Ok(Pin::Unknown)
 }
 
 /// What an input port carries, by its name.
-pub(crate) fn pin_of(schema: &Schema, name: &[u8]) -> Pin {
-    if name == b"rst".as_slice() {
-        return Pin::Reset;
+#[tactic(auto, unfolding(gl_schema::specs::Ports::rst, gl_schema::specs::Ports::eos))]
+pub fn pin_of(alloc: Global, schema: &Schema, name: &[u8]) -> Result<Pin, Memory>
+    ensures { IfOk result (λ p. p ≡ pin_named schema.now name.now) }
+{
+    if b"rst".as_slice() == name {
+        return Ok(Pin::Reset);
     }
-    if name == b"eos".as_slice() {
-        return Pin::End;
-    }
-    match name.strip_prefix(b"in__".as_slice()) {
-        Some(rest) => input_pin(schema, rest),
-        None => Pin::Unknown,
+    match stream_pin_of(alloc, schema.streams.as_slice(), name)? {
+        Pin::Unknown if b"eos".as_slice() == name => Ok(Pin::End),
+        pin => Ok(pin),
     }
 }
 
 // The word of a column of a row.
-fn word_at(row: &Row, column: usize) -> u128 {
+#[tactic(auto, using(crate::proofs::Rows::word_none))]
+fn word_at(row: &Row, column: usize) -> u128
+    ensures { result ≡ slice_index (bits_of row.now) column }
+{
     match row.get(column) {
         Some(word) => word.bits(),
         None => 0,
@@ -83,7 +137,9 @@ fn word_at(row: &Row, column: usize) -> u128 {
 }
 
 // The row of a stream in a beat.
-fn row_of(beat: &Beat, stream: usize) -> Option<&Row> {
+fn row_of(beat: &Beat, stream: usize) -> Option<&Row>
+    ensures { option_map (λ r. bits_of r.now) result ≡ row_among (plain_beat beat.now).rows stream }
+{
     match beat.rows.as_slice().get(stream) {
         Some(Some(row)) => Some(row),
         _ => None,
@@ -91,7 +147,9 @@ fn row_of(beat: &Beat, stream: usize) -> Option<&Row> {
 }
 
 /// What a pin carries in a file cycle with this beat, or with none.
-pub(crate) fn value_of(pin: Pin, beat: Option<&Beat>) -> u128 {
+pub fn value_of(pin: Pin, beat: Option<&Beat>) -> u128
+    ensures { result ≡ with_beat (option_map (λ b. plain_beat b.now) beat.entry) pin }
+{
     let Some(beat) = beat else {
         return 0;
     };
@@ -106,41 +164,68 @@ pub(crate) fn value_of(pin: Pin, beat: Option<&Beat>) -> u128 {
     }
 }
 
-// Notes what an output port shows.
-fn add_output(shows: &mut Shows, number: usize, name: &[u8]) -> Result<(), Memory> {
-    if name == b"out__valid".as_slice() {
-        shows.valid = Some(number);
-    } else if name == b"out__eos".as_slice() {
-        shows.end = Some(number);
-    } else if name == b"fault__group".as_slice() {
-        shows.group = Some(number);
-    } else if name.starts_with(b"out__".as_slice()) && shows.columns.push(number).is_err() {
-        return Err(Memory);
+// The number of the port of a name.
+fn number_of(ports: &[Declaration], name: &[u8]) -> Option<usize>
+    ensures { result ≡ spec.number_of (map declaration_of ports.now) name.now }
+{
+    for (number, port) in ports.iter().enumerate() {
+        if port.name.as_slice() == name {
+            return Some(number);
+        }
     }
-    Ok(())
+    None
 }
 
-fn is_output(declaration: &Declaration) -> bool {
-    matches!(declaration.kind, Kind::OutputWire | Kind::OutputRegister)
+fn is_output(kind: Kind) -> bool
+    ensures { result ≡ profile.is_output (kind_of kind) }
+{
+    matches!(kind, Kind::OutputWire | Kind::OutputRegister)
+}
+
+// Whether a port shows a column of the result.
+#[tactic(auto, unfolding(gl_schema::specs::Ports::out_valid, gl_schema::specs::Ports::out_eos))]
+fn shows_column(port: &Declaration) -> bool
+    ensures { result ≡ profile.shows_column (declaration_of port.now) }
+{
+    is_output(port.kind)
+        && port.name.as_slice().starts_with(b"out__".as_slice())
+        && port.name.as_slice() != b"out__valid".as_slice()
+        && port.name.as_slice() != b"out__eos".as_slice()
+}
+
+// The numbers of the ports that show the columns of the result.
+fn columns_of(alloc: Global, ports: &[Declaration]) -> Result<Vec<usize>, Memory>
+    ensures { IfOk result (λ v. v.items ≡ columns_from 0 (map declaration_of ports.now)) }
+{
+    let mut columns = Vec::new(alloc);
+    for (number, port) in ports.iter().enumerate() {
+        if shows_column(port) && columns.push(number).is_err() {
+            return Err(Memory);
+        }
+    }
+    Ok(columns)
+}
+
+// The ports of a module.
+fn ports_of(design: &Module) -> &[Declaration]
+    ensures { map declaration_of result.now ≡ profile.ports_of (module_of design.now) }
+{
+    let declarations = design.declarations.as_slice();
+    declarations
+        .split_at(design.ports.min(declarations.len()))
+        .0
 }
 
 /// The ports of a module that show a result, by their names.
-pub(crate) fn shows_of(alloc: Global, module: &Module) -> Result<Shows, Memory> {
-    let mut shows = Shows {
-        valid: None,
-        end: None,
-        group: None,
-        columns: Vec::new(alloc),
-    };
-    for (number, declaration) in module.declarations.as_slice().iter().enumerate() {
-        if is_output(declaration) {
-            add_output(&mut shows, number, declaration.name.as_slice())?;
-        }
-    }
-    Ok(shows)
-}
-
-/// A word of this width that holds what it can of a number.
-pub(crate) fn word_of(value: u128, width: u8) -> Option<Word> {
-    Word::new(value, width)
+#[tactic(auto, unfolding(gl_schema::specs::Ports::out_valid, gl_schema::specs::Ports::out_eos, gl_schema::specs::Ports::fault_group))]
+pub fn shows_of(alloc: Global, design: &Module) -> Result<Shows, Memory>
+    ensures { IfOk result (AreShows (module_of design.now)) }
+{
+    let ports = ports_of(design);
+    Ok(Shows {
+        valid: number_of(ports, b"out__valid"),
+        end: number_of(ports, b"out__eos"),
+        group: number_of(ports, b"fault__group"),
+        columns: columns_of(alloc, ports)?,
+    })
 }

@@ -1,12 +1,18 @@
-use Rattle.std.proofs.Common.{◌≡◌, map}
+use Rattle.std.proofs.Common.{◌≡◌, ◌≤◌, ℕ, map}
 use Rattle.gl_bits.specs.Kinds.{width_of}
 use Rattle.gl_bits.specs.Words.{widths_of}
+use Rattle.gl_tuples.specs.Gaps.{plain_beats}
+use Rattle.gl_verilog.specs.Module.{Nets, Memories}
 use Rattle.gl_verilog.specs.View.{module_of}
-use Rattle.gl_compiler.specs.Benches.{IsBench}
+use Rattle.gl_compiler.specs.Cycles.{AreDue, IsFollowed}
+use Rattle.gl_compiler.proofs.Running.{IsUnderWay}
 use Rattle.gl_compiler.proofs.executing.follow.Given as goal
 
 abbrev pub invariant-loop-cycle : goal.invariant-loop-cycle
 invariant-loop-cycle g l = record {
-  bench : IsBench (module_of l.sim.design) l.bench.count l.bench.widths.items;
+  design : l.sim.design ≡ l.initial.sim.design;
   row : widths_of l.row ≡ map width_of l.course.kinds.now;
+  due : AreDue (plain_beats l.course.beats.now) l.next l.cycle;
+  way : (value : ℕ → Nets) (word : ℕ → Memories) → IsFollowed l.initial.sim l.course.schema.now (plain_beats l.course.beats.now) value word 1 → IsUnderWay (module_of l.initial.sim.design) l.sim l.course.schema.now l.course.kinds.now (plain_beats l.course.beats.now) l.told l.cycle (g.K.Sink.taken l.initial.out) (g.K.Sink.taken l.out) value word;
+  falls : g.K.Sink.faults l.initial.out ≤ g.K.Sink.faults l.out;
 }

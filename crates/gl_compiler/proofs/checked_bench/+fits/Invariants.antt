@@ -1,5 +1,5 @@
 use Rattle.std.proofs.Common.{length}
-use Rattle.gl_compiler.proofs.bench.+fits.Given as goal
+use Rattle.gl_compiler.proofs.checked_bench.+fits.Given as goal
 
 abbrev pub decreases-fits : goal.decreases-fits
 decreases-fits l = length l.widths.now

@@ -8,7 +8,7 @@ use Rattle.gl_verilog.specs.declared.module.Declaration.{Declaration}
 use Rattle.gl_verilog.specs.Module.{Module}
 use Rattle.gl_verilog.specs.Widths.{width_at}
 use Rattle.gl_verilog.specs.Runnable.{FitInputs, inputs_of}
-use Rattle.gl_compiler.specs.Benches.{IsBench}
+use Rattle.gl_compiler.specs.CheckedBenches.{IsBench}
 
 all_zip_map : (R : ℕ → ℕ → Type 0) (f : ℕ → ℕ) (ns values : List ℕ) → AllZip R (map f ns) values → AllZip (λ n x. R (f n) x) ns values
 all_zip_map R f [] [] h = tt

@@ -1,0 +1,74 @@
+-- From the run that was followed to each run of the text's module.
+use Rattle.std.proofs.Common.{◌≡◌, ℕ, List, Result, Ok, Err, OnOk, OnErr, sym, ap, subst, ◌∙◌, map}
+use Rattle.gl_bits.specs.declared.kind.Kind.{Kind}
+use Rattle.gl_bits.specs.Kinds.{width_of}
+use Rattle.gl_schema.specs.declared.schema.Schema.{Schema}
+use Rattle.gl_schema.specs.Beats.{Beat, AreBeats}
+use Rattle.gl_schema.specs.Ports.{PortValues, IsStimulus}
+use Rattle.gl_verilog.specs.Module.{Module, Nets, Memories}
+use Rattle.gl_verilog.specs.declared.module.Module.{Module as Rust}
+use Rattle.gl_verilog.specs.Run.{IsRun, port_of}
+use Rattle.gl_verilog.specs.Text.{HasModule}
+use Rattle.gl_verilog.specs.View.{module_of}
+use Rattle.gl_verilog.proofs.ReadModules.{one_module}
+use Rattle.gl_sim.specs.Simulation.{Simulation, IsAt}
+use Rattle.gl_sim.specs.Starts.{StartsFrom}
+use Rattle.gl_sim.specs.declared.start.Start.{Start}
+use Rattle.gl_compiler.specs.Cycles.{CanFollow, IsFollowed, OfTimely}
+use Rattle.gl_compiler.specs.Prints.{CanRun, EndsWithin, IsRunOver, OfEachRun}
+use Rattle.gl_compiler.specs.Profile.{FitsSchema, result_names, result_widths}
+
+pub on_ok : {T E : Type 0} {P Q : Type 0} (r : Result T E) → (P → Q) → OnOk r P → OnOk r Q
+on_ok (Ok x) f p = f p
+on_ok (Err e) f p = tt
+
+pub on_err : {T E : Type 0} {P Q : Type 0} (r : Result T E) → (P → Q) → OnErr r P → OnErr r Q
+on_err (Ok x) f p = tt
+on_err (Err e) f p = f p
+
+-- a fact of each run that the simulator is at
+abbrev pub OfRuns : Simulation → Schema → List Beat → ℕ → (List Beat → List (List ℕ) → PortValues → Type 0) → Type 0
+OfRuns s schema beats t Q = (value : ℕ → Nets) (word : ℕ → Memories) → IsFollowed s schema beats value word t → Q beats (result_names (module_of s.design)) (port_of (module_of s.design) value)
+
+pub from_reset : (s s' : Simulation) (schema : Schema) (beats beats' : List Beat) (Q : List Beat → List (List ℕ) → PortValues → Type 0) → s'.design ≡ s.design → beats' ≡ beats
+    → ((value : ℕ → Nets) (word : ℕ → Memories) → IsFollowed s schema beats' value word 0 → IsFollowed s' schema beats' value word 1) → OfRuns s' schema beats' 1 Q → OfRuns s schema beats 0 Q
+from_reset s s' schema beats beats' Q same e followed h =
+    subst (λ (b : List Beat). OfRuns s schema b 0 Q) e
+    (λ value word f. subst (λ (d : Rust). Q beats' (result_names (module_of d)) (port_of (module_of d) value)) same (h value word (followed value word f)))
+
+-- the module that was read is the one that can run
+pub can_follow : (text : List ℕ) (schema : Schema) (kinds : List Kind) (beats : List Beat) (latency : ℕ) (start : Start) (d : Rust) → CanRun text schema kinds beats latency start → HasModule text (module_of d) → AreBeats schema beats → CanFollow (module_of d) schema kinds beats
+can_follow text schema kinds beats latency start d can has are =
+    let mine : can.design ≡ module_of d = one_module text can.design (module_of d) can.has has in
+    record {
+      text = text;
+      has = has;
+      fits = subst (λ (m : Module). FitsSchema m schema) mine can.fits;
+      widths = subst (λ (m : Module). result_widths m ≡ map width_of kinds) mine can.widths;
+      beats' = are;
+    }
+
+-- each run from the start is one that the simulator is at
+pub of_timely : (schema : Schema) (beats : List Beat) (latency : ℕ) (start : Start) (d : Rust) (s : Simulation) (Q : List (List ℕ) → PortValues → Type 0) → s.design ≡ d
+    → ((value : ℕ → Nets) (word : ℕ → Memories) → StartsFrom start (module_of d) value word → IsAt s value word 0)
+    → OfRuns s schema beats 0 (λ b outs port. EndsWithin latency b outs port → Q outs port) → OfTimely latency (module_of d) schema beats start Q
+of_timely schema beats latency start d s Q same started h = λ value word over ends.
+    let followed : IsFollowed s schema beats value word 0 = record {
+      run = subst (λ (e : Rust). IsRun (module_of e) value word) (sym same) over.run;
+      stimulus = subst (λ (e : Rust). IsStimulus schema beats (port_of (module_of e) value)) (sym same) over.stimulus;
+      at = started value word over.starts;
+    } in
+    let those : EndsWithin latency beats (result_names (module_of s.design)) (port_of (module_of s.design) value) =
+    subst (λ (e : Rust). EndsWithin latency beats (result_names (module_of e)) (port_of (module_of e) value)) (sym same) ends in
+    subst (λ (e : Rust). Q (result_names (module_of e)) (port_of (module_of e) value)) same (h value word followed those)
+
+-- each run of the text's module ends in time
+pub of_each_run : (text : List ℕ) (schema : Schema) (kinds : List Kind) (beats : List Beat) (latency : ℕ) (start : Start) (d : Rust) (Q : List (List ℕ) → PortValues → Type 0) → CanRun text schema kinds beats latency start → HasModule text (module_of d)
+    → OfTimely latency (module_of d) schema beats start Q → OfEachRun text schema beats start Q
+of_each_run text schema kinds beats latency start d Q can has h = λ m value word its run.
+    let this : m ≡ module_of d = one_module text m (module_of d) its has in
+    let mine : module_of d ≡ can.design = one_module text (module_of d) can.design has can.has in
+    let over : IsRunOver (module_of d) schema beats start value word = subst (λ (x : Module). IsRunOver x schema beats start value word) this run in
+    let ends : EndsWithin latency beats (result_names (module_of d)) (port_of (module_of d) value) =
+    subst (λ (x : Module). EndsWithin latency beats (result_names x) (port_of x value)) (sym mine) (can.ends value word (subst (λ (x : Module). IsRunOver x schema beats start value word) mine over)) in
+    subst (λ (x : Module). Q (result_names x) (port_of x value)) (sym this) (h value word over ends)

@@ -1,0 +1,74 @@
+use Rattle.std.proofs.Common.{◌≡◌, ◌∙◌, ◌≤◌, ℕ, List, length, map, arith, ap, sym, subst, refl}
+use Rattle.gl_schema.specs.Beats.{last_cycle}
+use Rattle.gl_tuples.specs.Gaps.{plain_beats}
+use Rattle.gl_tuples.specs.declared.beats.Beat.{Beat}
+use Rattle.gl_verilog.specs.declared.module.Module.{Module}
+use Rattle.gl_verilog.specs.View.{module_of}
+use Rattle.gl_compiler.specs.Benches.{IsBench}
+use Rattle.gl_compiler.specs.Cycles.{CanFollow}
+use Rattle.gl_compiler.specs.Prints.{EndsWithin, Writes, WritesFront}
+use Rattle.gl_compiler.proofs.Each.{on_ok, on_err, from_reset}
+use Rattle.gl_compiler.proofs.executing.run.Goals as goal
+
+pub reset-requires-clause-can : goal.reset-requires-clause-can
+reset-requires-clause-can g c = subst (λ (b : List Beat). CanFollow (module_of c.args.prepared.sim.design) c.args.schema.now c.args.kinds.now (plain_beats b)) (sym c.as_slice.ensures) c.requires.can
+
+pub reset-requires-clause-bench : goal.reset-requires-clause-bench
+reset-requires-clause-bench g c = c.requires.bench
+
+pub follow-requires-clause-can : goal.follow-requires-clause-can
+follow-requires-clause-can g c =
+    subst (λ (d : Module). CanFollow (module_of d) c.args.schema.now c.args.kinds.now (plain_beats c.as_slice.result.now)) (sym c.reset.ensures.design)
+    (subst (λ (b : List Beat). CanFollow (module_of c.args.prepared.sim.design) c.args.schema.now c.args.kinds.now (plain_beats b)) (sym c.as_slice.ensures) c.requires.can)
+
+pub follow-requires-clause-bench : goal.follow-requires-clause-bench
+follow-requires-clause-bench g c = subst (λ (d : Module). IsBench (module_of d) c.args.schema.now c.args.prepared.bench.pins.items c.args.prepared.bench.shows) (sym c.reset.ensures.design) c.requires.bench
+
+pub follow-requires-clause-many : goal.follow-requires-clause-many
+follow-requires-clause-many g c = c.requires.many
+
+pub follow-requires-clause-kinds : goal.follow-requires-clause-kinds
+follow-requires-clause-kinds g c = c.requires.kinds
+
+pub follow-requires-clause-widths : goal.follow-requires-clause-widths
+follow-requires-clause-widths g c = c.requires.widths
+
+pub follow-requires-clause-last : goal.follow-requires-clause-last
+follow-requires-clause-last g c = subst (λ (b : List Beat). c.last_of.result ≡ last_cycle (plain_beats b)) (c.as_slice-2.ensures ∙ sym c.as_slice.ensures) c.last_of.ensures.cycle
+
+pub follow-requires-clause-early : goal.follow-requires-clause-early
+follow-requires-clause-early g c = c.last_of.ensures.early
+
+pub follow-requires-clause-short : goal.follow-requires-clause-short
+follow-requires-clause-short g c = c.requires.short
+
+pub returns-clause-all : goal.returns-clause-all
+returns-clause-all g c =
+    on_ok c.follow.result
+    (from_reset c.args.prepared.sim c.reset.new.sim c.args.schema.now (plain_beats c.args.beats.now) (plain_beats c.as_slice.result.now)
+    (λ beats outs port. EndsWithin c.args.latency beats outs port → Writes c.args.kinds.now beats outs port (g.K.Sink.taken c.args.out.now) (g.K.Sink.taken c.follow.new.out))
+    c.reset.ensures.design (ap plain_beats c.as_slice.ensures) c.reset.ensures.followed)
+    c.follow.ensures.all
+
+pub returns-clause-front : goal.returns-clause-front
+returns-clause-front g c =
+    on_err c.follow.result
+    (from_reset c.args.prepared.sim c.reset.new.sim c.args.schema.now (plain_beats c.args.beats.now) (plain_beats c.as_slice.result.now)
+    (λ beats outs port. EndsWithin c.args.latency beats outs port → WritesFront c.args.kinds.now beats outs port (g.K.Sink.taken c.args.out.now) (g.K.Sink.taken c.follow.new.out))
+    c.reset.ensures.design (ap plain_beats c.as_slice.ensures) c.reset.ensures.followed)
+    c.follow.ensures.front
+
+pub returns-clause-cause : goal.returns-clause-cause
+returns-clause-cause g c = c.follow.ensures.cause
+
+pub returns-clause-never_falls : goal.returns-clause-never_falls
+returns-clause-never_falls g c = c.follow.ensures.never_falls
+
+pub reset-requires-clause-values : goal.reset-requires-clause-values
+reset-requires-clause-values g c = ap length c.as_mut_slice-inputs.ensures.value ∙ c.requires.values
+
+pub follow-requires-clause-values : goal.follow-requires-clause-values
+follow-requires-clause-values g c = c.reset.auto.values ∙ ap length c.as_mut_slice-inputs.ensures.value ∙ c.requires.values
+
+pub back_following-values : goal.back_following-values
+back_following-values g c = (refl, refl)
