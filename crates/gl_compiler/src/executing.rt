@@ -157,6 +157,7 @@ fn follow<K: Sink>(
         }
         told |= looked.group;
     }
+    // No run that ends in time comes here.
     Ok(())
 }
 
