@@ -19,15 +19,16 @@ execute_module-requires-clause-short g c = c.requires.runs.short
 pub returns-clause-done : goal.returns-clause-done
 returns-clause-done g c = λ e.
     of_each_run c.args.text.now c.args.schema.now c.args.kinds.now (plain_beats c.args.beats.now) c.args.latency c.args.start c.in-Ok.design
-      (λ outs port. Writes c.args.kinds.now (plain_beats c.args.beats.now) outs port (g.K.Sink.taken c.args.out.now) (g.K.Sink.taken c.execute_module.new.out))
-      c.requires.runs c.in-Ok.ensures.found (c.execute_module.ensures.done e)
+    (λ outs port. Writes c.args.kinds.now (plain_beats c.args.beats.now) outs port (g.K.Sink.taken c.args.out.now) (g.K.Sink.taken c.execute_module.new.out))
+    c.requires.runs c.in-Ok.ensures.found (c.execute_module.ensures.done e)
 
 pub returns-clause-fault : goal.returns-clause-fault
 returns-clause-fault g c = λ e. (
-    (c.execute_module.ensures.fault e).0,
-    of_each_run c.args.text.now c.args.schema.now c.args.kinds.now (plain_beats c.args.beats.now) c.args.latency c.args.start c.in-Ok.design
+  (c.execute_module.ensures.fault e).0,
+  of_each_run c.args.text.now c.args.schema.now c.args.kinds.now (plain_beats c.args.beats.now) c.args.latency c.args.start c.in-Ok.design
       (λ outs port. WritesFront c.args.kinds.now (plain_beats c.args.beats.now) outs port (g.K.Sink.taken c.args.out.now) (g.K.Sink.taken c.execute_module.new.out))
-      c.requires.runs c.in-Ok.ensures.found (c.execute_module.ensures.fault e).1)
+      c.requires.runs c.in-Ok.ensures.found (c.execute_module.ensures.fault e).1,
+)
 
 pub returns-clause-memory : goal.returns-clause-memory
 returns-clause-memory g c = c.execute_module.ensures.memory
