@@ -18,9 +18,14 @@ use Rattle.gl_query.specs.Shapes as shape
 use Rattle.gl_query.specs.Shapes.{expr_shape, agg_shape, item_shape, agg_item_shape, pick_shape, query_shape}
 use Rattle.gl_query_reader.specs.Meaning as tree
 use Rattle.gl_query_reader.specs.Meaning.{expr_tree, agg_tree, item_tree, agg_item_tree, pick_tree, filter_tree, query_tree, statement_tree}
-use Rattle.gl_query_reader.specs.Grammar.{HasStatement, IsOrMemory}
+use Rattle.gl_query.specs.declared.fault.QueryFault.{QueryFault}
+use Rattle.gl_query.specs.declared.fault.QueryFault.TheVariants as fault
+use Rattle.gl_query_reader.specs.Grammar.{HasStatement, IsOrMemory, IsFault}
 use Rattle.gl_compiler.specs.Selecting.{IsBuilt}
-use Rattle.gl_compiler.specs.Queries.{IsQuery}
+use Rattle.gl_compiler.specs.declared.compiling.CompileFault.{CompileFault}
+use Rattle.gl_compiler.specs.declared.compiling.CompileFault.TheVariants as compile
+use Rattle.gl_compiler.specs.Compiles.{IsRefused}
+use Rattle.gl_compiler.specs.Queries.{IsQuery, IsUnbuilt, HasNoStatement, IsQueryFault, IsQueryRefused, IfRefused, fault_of_query}
 
 -- ---- the shape of a tree
 
@@ -119,7 +124,7 @@ query-is (query.Concat' b l c r at) = ap (λ x. shape.Concat x (query_shape r)) 
 -- ---- one statement
 
 -- what is built of one statement is of every other one of its tree
-built_alike : (schema : Schema) (s t : Statement) → statement_tree s ≡ statement_tree t → IsBuilt schema s → IsBuilt schema t
+pub built_alike : (schema : Schema) (s t : Statement) → statement_tree s ≡ statement_tree t → IsBuilt schema s → IsBuilt schema t
 built_alike schema s t e b =
     let q : query_shape s.query ≡ query_shape t.query = query-is s.query ∙ ap (λ (x : tree.Statement'). query_of x.query) e ∙ sym (query-is t.query) in
     let n : s.name.text ≡ t.name.text = ap (λ (x : tree.Statement'). x.name.text) e in
@@ -138,3 +143,53 @@ built_alike schema s t e b =
 -- a statement that is not built leaves none of its text that is
 pub none_built : (schema : Schema) (text : List ℕ) (s : Statement) → (IsBuilt schema s → ⊥) → ((m : tree.Statement') → HasStatement text m → statement_tree s ≡ m) → (t : Statement) → IsQuery schema text t → ⊥
 none_built schema text s unbuilt only t is = unbuilt (built_alike schema t s (sym (only (statement_tree t) is.has)) is.built)
+
+-- ---- why a query is refused
+
+-- what is answered of a text: nothing, where it has no statement
+abbrev Only : List ℕ → QueryFault → Type 0
+Only text f = (m : tree.Statement') → HasStatement text m → IsOrMemory (Err f) m
+
+pub fault_cause : (schema : Schema) (text : List ℕ) (f : QueryFault) → IsFault text f → Only text f → IsQueryRefused schema text (fault_of_query f)
+fault_cause schema text fault.Memory h only = tt
+fault_cause schema text (fault.Syntax at) h only = record { fault = h; none = only }
+fault_cause schema text (fault.UnknownStream at) h only = record { fault = h; none = only }
+fault_cause schema text (fault.UnknownColumn at) h only = record { fault = h; none = only }
+fault_cause schema text (fault.KindsDiffer at) h only = record { fault = h; none = only }
+fault_cause schema text (fault.LiteralTooWide at) h only = record { fault = h; none = only }
+fault_cause schema text (fault.NotCondition at) h only = record { fault = h; none = only }
+fault_cause schema text (fault.MixedItems at) h only = record { fault = h; none = only }
+fault_cause schema text (fault.TwiceNamed at) h only = record { fault = h; none = only }
+fault_cause schema text (fault.ColumnsDiffer at) h only = record { fault = h; none = only }
+fault_cause schema text (fault.PaceDiffers at) h only = record { fault = h; none = only }
+fault_cause schema text (fault.NotClosing at) h only = record { fault = h; none = only }
+fault_cause schema text (fault.OutOfRange at) h only = record { fault = h; none = only }
+fault_cause schema text (fault.TooDeep at) h only = record { fault = h; none = only }
+
+pub fault_refused : (schema : Schema) (text : List ℕ) (f : QueryFault) → Only text f → IfRefused (fault_of_query f) ((s : Statement) → IsQuery schema text s → ⊥)
+fault_refused schema text fault.Memory only = tt
+fault_refused schema text (fault.Syntax at) only = λ s q. only (statement_tree s) q.has
+fault_refused schema text (fault.UnknownStream at) only = λ s q. only (statement_tree s) q.has
+fault_refused schema text (fault.UnknownColumn at) only = λ s q. only (statement_tree s) q.has
+fault_refused schema text (fault.KindsDiffer at) only = λ s q. only (statement_tree s) q.has
+fault_refused schema text (fault.LiteralTooWide at) only = λ s q. only (statement_tree s) q.has
+fault_refused schema text (fault.NotCondition at) only = λ s q. only (statement_tree s) q.has
+fault_refused schema text (fault.MixedItems at) only = λ s q. only (statement_tree s) q.has
+fault_refused schema text (fault.TwiceNamed at) only = λ s q. only (statement_tree s) q.has
+fault_refused schema text (fault.ColumnsDiffer at) only = λ s q. only (statement_tree s) q.has
+fault_refused schema text (fault.PaceDiffers at) only = λ s q. only (statement_tree s) q.has
+fault_refused schema text (fault.NotClosing at) only = λ s q. only (statement_tree s) q.has
+fault_refused schema text (fault.OutOfRange at) only = λ s q. only (statement_tree s) q.has
+fault_refused schema text (fault.TooDeep at) only = λ s q. only (statement_tree s) q.has
+
+pub statement_cause : (schema : Schema) (text : List ℕ) (s : Statement) (f : CompileFault) → HasStatement text (statement_tree s) → IsRefused schema s f → IsQueryRefused schema text f
+statement_cause schema text s (compile.Schema f) has h = h
+statement_cause schema text s (compile.Query f) has h = absurd h
+statement_cause schema text s compile.NotBuilt has h = record { statement = s; has = has; unbuilt = h }
+statement_cause schema text s compile.Memory has h = tt
+
+pub statement_refused : (schema : Schema) (text : List ℕ) (s : Statement) (f : CompileFault) → ((m : tree.Statement') → HasStatement text m → statement_tree s ≡ m) → IsRefused schema s f → IfRefused f ((t : Statement) → IsQuery schema text t → ⊥)
+statement_refused schema text s (compile.Schema f) only h = absurd h
+statement_refused schema text s (compile.Query f) only h = absurd h
+statement_refused schema text s compile.NotBuilt only h = none_built schema text s h only
+statement_refused schema text s compile.Memory only h = tt
