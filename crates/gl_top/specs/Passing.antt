@@ -49,6 +49,7 @@ pub record TuplesPass (told : List ℕ → Told) (words : List (List ℕ)) (sche
 
 -- the compiled query: its text meets the statement, and its kinds are those of the result
 pub record IsCompiled (c : Compiled) : Type 0 where
+  pub fine : IsSchema c.schema
   pub meets : Meets c.schema c.statement (latency_of c.schema c.statement) (gap_of c.schema c.statement) c.text.items
   pub columns : c.kinds ≡ kinds_of (result_columns c.schema c.statement)
   pub many : length c.kinds ≤ 32
