@@ -20,7 +20,9 @@ use Rattle.gl_query_reader.specs.Meaning as tree
 use Rattle.gl_query_reader.specs.Meaning.{expr_tree, agg_tree, item_tree, agg_item_tree, pick_tree, filter_tree, query_tree, statement_tree}
 use Rattle.gl_query.specs.declared.fault.QueryFault.{QueryFault}
 use Rattle.gl_query.specs.declared.fault.QueryFault.TheVariants as fault
-use Rattle.gl_query_reader.specs.Grammar.{HasStatement, IsOrMemory, IsFault}
+use Rattle.gl_query_tokens.specs.Tokens.{tokens_of}
+use Rattle.gl_query_reader.specs.Grammar.{HasStatement, IsOrMemory, IsFault, bare_tokens}
+use Rattle.gl_query_reader.proofs.ReadQueries.{one_statement}
 use Rattle.gl_compiler.specs.Selecting.{IsBuilt}
 use Rattle.gl_compiler.specs.declared.compiling.CompileFault.{CompileFault}
 use Rattle.gl_compiler.specs.declared.compiling.CompileFault.TheVariants as compile
@@ -122,6 +124,10 @@ query-is (query.Union' b l c r at) = ap (λ x. shape.Union x (query_shape r)) (q
 query-is (query.Concat' b l c r at) = ap (λ x. shape.Concat x (query_shape r)) (query-is l) ∙ ap (shape.Concat (query_of (query_tree l))) (query-is r)
 
 -- ---- one statement
+
+-- a text has one statement
+pub one_meaning : (text : List ℕ) (a b : tree.Statement') → HasStatement text a → HasStatement text b → a ≡ b
+one_meaning text a b h k = h.means ∙ ap tree.statement_meaning (one_statement (bare_tokens (tokens_of text)) h.written k.written h.derived k.derived) ∙ sym k.means
 
 -- what is built of one statement is of every other one of its tree
 pub built_alike : (schema : Schema) (s t : Statement) → statement_tree s ≡ statement_tree t → IsBuilt schema s → IsBuilt schema t

@@ -5,6 +5,7 @@ use Rattle.gl_outside.specs.Told.{Told}
 use Rattle.gl_schema.specs.declared.schema.Schema.{Schema}
 use Rattle.gl_schema.specs.declared.fault.SchemaFault.{SchemaFault}
 use Rattle.gl_query.specs.declared.tree.Statement.{Statement}
+use Rattle.gl_query.specs.declared.fault.QueryFault.{QueryFault}
 use Rattle.gl_tuples.specs.declared.beats.Beat.{Beat}
 use Rattle.gl_tuples.specs.declared.fault.TupleFault.{TupleFault}
 use Rattle.gl_top.specs.declared.form.Part.{Part}
@@ -15,7 +16,7 @@ use Rattle.gl_top.specs.declared.status.Status.TheVariants as status
 use Rattle.gl_top.specs.Forms.{IsForm, name_of}
 use Rattle.gl_top.specs.Refusals.{Puts, Took, Broke, Notes, status_of, note_of, write_line}
 use Rattle.gl_top.specs.Passing.{TuplesPass}
-use Rattle.gl_top.specs.Causes.{Change, HasCause, IsRefused, IsNext, IsMissing, IsMiss, IsFailure, IsTooLong, IsBadSchema, IsNotBuilt, AreBadTuples}
+use Rattle.gl_top.specs.Causes.{Change, HasCause, IsRefused, IsNext, IsMissing, IsMiss, IsFailure, IsTooLong, IsBadSchema, IsBadQuery, IsNotBuilt, AreBadTuples}
 use Rattle.gl_top.specs.Verdicts.{IsAnswer, Ran, Broke', Ended, IsDone, IsBroken, IsEnded, IsTelling, Yields, Same, ToRead, ToWrite, ToMemory, IsCalm}
 use Rattle.gl_top.proofs.Texts.{next_form}
 use Rattle.gl_top.proofs.Deciding.{Stops, stops, stops_once, passes_goes}
@@ -32,6 +33,7 @@ no_write (refusal.Missing p) s e h = cc
 no_write (refusal.ReadFault p) s e h = cc
 no_write (refusal.TooLong p) s e h = cc
 no_write (refusal.Schema f) s e h = cc
+no_write (refusal.Query f) s e h = cc
 no_write refusal.NotBuilt s e h = cc
 no_write (refusal.Tuples f) s e h = cc
 no_write refusal.Memory s e h = cc
@@ -55,6 +57,7 @@ when_usage_of words c (refusal.Missing p) e h = absurd (cc)
 when_usage_of words c (refusal.ReadFault p) e h = absurd (cc)
 when_usage_of words c (refusal.TooLong p) e h = absurd (cc)
 when_usage_of words c (refusal.Schema f) e h = absurd (cc)
+when_usage_of words c (refusal.Query f) e h = absurd (cc)
 when_usage_of words c refusal.NotBuilt e h = absurd (cc)
 when_usage_of words c (refusal.Tuples f) e h = absurd (cc)
 when_usage_of words c refusal.Memory e h = absurd (cc)
@@ -68,6 +71,7 @@ when_missing_of words c (refusal.Missing p) e h = (p, h)
 when_missing_of words c (refusal.ReadFault p) e h = absurd (cc)
 when_missing_of words c (refusal.TooLong p) e h = absurd (cc)
 when_missing_of words c (refusal.Schema f) e h = absurd (cc)
+when_missing_of words c (refusal.Query f) e h = absurd (cc)
 when_missing_of words c refusal.NotBuilt e h = absurd (cc)
 when_missing_of words c (refusal.Tuples f) e h = absurd (cc)
 when_missing_of words c refusal.Memory e h = absurd (cc)
@@ -81,6 +85,7 @@ when_read_fault_of words c (refusal.Missing p) e h = absurd (cc)
 when_read_fault_of words c (refusal.ReadFault p) e h = (p, h)
 when_read_fault_of words c (refusal.TooLong p) e h = absurd (cc)
 when_read_fault_of words c (refusal.Schema f) e h = absurd (cc)
+when_read_fault_of words c (refusal.Query f) e h = absurd (cc)
 when_read_fault_of words c refusal.NotBuilt e h = absurd (cc)
 when_read_fault_of words c (refusal.Tuples f) e h = absurd (cc)
 when_read_fault_of words c refusal.Memory e h = absurd (cc)
@@ -94,6 +99,7 @@ when_limit_of words c (refusal.Missing p) e h = absurd (cc)
 when_limit_of words c (refusal.ReadFault p) e h = absurd (cc)
 when_limit_of words c (refusal.TooLong p) e h = (p, h)
 when_limit_of words c (refusal.Schema f) e h = absurd (cc)
+when_limit_of words c (refusal.Query f) e h = absurd (cc)
 when_limit_of words c refusal.NotBuilt e h = absurd (cc)
 when_limit_of words c (refusal.Tuples f) e h = absurd (cc)
 when_limit_of words c refusal.Memory e h = absurd (cc)
@@ -107,6 +113,7 @@ when_schema_of words c (refusal.Missing p) e h = absurd (cc)
 when_schema_of words c (refusal.ReadFault p) e h = absurd (cc)
 when_schema_of words c (refusal.TooLong p) e h = absurd (cc)
 when_schema_of words c (refusal.Schema f) e h = (f, h)
+when_schema_of words c (refusal.Query f) e h = absurd (cc)
 when_schema_of words c refusal.NotBuilt e h = absurd (cc)
 when_schema_of words c (refusal.Tuples f) e h = absurd (cc)
 when_schema_of words c refusal.Memory e h = absurd (cc)
@@ -114,12 +121,27 @@ when_schema_of words c refusal.Memory e h = absurd (cc)
 pub when_schema : (words : List (List ℕ)) (c : Change) (out notes : Puts) (text : List ℕ) (answered : Status) → IsAnswer words c out notes text answered → answered ≡ status.Schema → (f : SchemaFault) × IsBadSchema c.old.told words f
 when_schema words c out notes text answered a e = let r = refused words c out notes text answered status.Schema (λ q. cc) (λ q. cc) a e in when_schema_of words c r.refusal' r.own r.cause
 
+when_query_of : (words : List (List ℕ)) (c : Change) (r : Refusal) → status_of r ≡ status.Query → HasCause words c r → (f : QueryFault) × IsBadQuery c.old.told words f
+when_query_of words c refusal.Usage e h = absurd (cc)
+when_query_of words c (refusal.Missing p) e h = absurd (cc)
+when_query_of words c (refusal.ReadFault p) e h = absurd (cc)
+when_query_of words c (refusal.TooLong p) e h = absurd (cc)
+when_query_of words c (refusal.Schema f) e h = absurd (cc)
+when_query_of words c (refusal.Query f) e h = (f, h)
+when_query_of words c refusal.NotBuilt e h = absurd (cc)
+when_query_of words c (refusal.Tuples f) e h = absurd (cc)
+when_query_of words c refusal.Memory e h = absurd (cc)
+
+pub when_query : (words : List (List ℕ)) (c : Change) (out notes : Puts) (text : List ℕ) (answered : Status) → IsAnswer words c out notes text answered → answered ≡ status.Query → (f : QueryFault) × IsBadQuery c.old.told words f
+when_query words c out notes text answered a e = let r = refused words c out notes text answered status.Query (λ q. cc) (λ q. cc) a e in when_query_of words c r.refusal' r.own r.cause
+
 when_not_built_of : (words : List (List ℕ)) (c : Change) (r : Refusal) → status_of r ≡ status.NotBuilt → HasCause words c r → IsNotBuilt c.old.told words
 when_not_built_of words c refusal.Usage e h = absurd (cc)
 when_not_built_of words c (refusal.Missing p) e h = absurd (cc)
 when_not_built_of words c (refusal.ReadFault p) e h = absurd (cc)
 when_not_built_of words c (refusal.TooLong p) e h = absurd (cc)
 when_not_built_of words c (refusal.Schema f) e h = absurd (cc)
+when_not_built_of words c (refusal.Query f) e h = absurd (cc)
 when_not_built_of words c refusal.NotBuilt e h = h
 when_not_built_of words c (refusal.Tuples f) e h = absurd (cc)
 when_not_built_of words c refusal.Memory e h = absurd (cc)
@@ -133,6 +155,7 @@ when_tuples_of words c (refusal.Missing p) e h = absurd (cc)
 when_tuples_of words c (refusal.ReadFault p) e h = absurd (cc)
 when_tuples_of words c (refusal.TooLong p) e h = absurd (cc)
 when_tuples_of words c (refusal.Schema f) e h = absurd (cc)
+when_tuples_of words c (refusal.Query f) e h = absurd (cc)
 when_tuples_of words c refusal.NotBuilt e h = absurd (cc)
 when_tuples_of words c (refusal.Tuples f) e h = (f, h)
 when_tuples_of words c refusal.Memory e h = absurd (cc)
@@ -169,6 +192,7 @@ by_cause words c notes answered own tells st refusal.Usage h n = yields refusal.
 by_cause words c notes answered own tells st (refusal.Missing p) h n = yields (refusal.Missing p) own answered c notes (note_of words (refusal.Missing p)) (stops_once c.old.told words (status_of (refusal.Missing p)) own tells (stops c.old.told words (refusal.Missing p) h.0) st) n
 by_cause words c notes answered own tells st (refusal.TooLong p) h n = yields (refusal.TooLong p) own answered c notes (note_of words (refusal.TooLong p)) (stops_once c.old.told words (status_of (refusal.TooLong p)) own tells (stops c.old.told words (refusal.TooLong p) h) st) n
 by_cause words c notes answered own tells st (refusal.Schema f) h n = yields (refusal.Schema f) own answered c notes (note_of words (refusal.Schema f)) (stops_once c.old.told words (status_of (refusal.Schema f)) own tells (stops c.old.told words (refusal.Schema f) h) st) n
+by_cause words c notes answered own tells st (refusal.Query f) h n = yields (refusal.Query f) own answered c notes (note_of words (refusal.Query f)) (stops_once c.old.told words (status_of (refusal.Query f)) own tells (stops c.old.told words (refusal.Query f) h) st) n
 by_cause words c notes answered own tells st refusal.NotBuilt h n = yields refusal.NotBuilt own answered c notes (note_of words refusal.NotBuilt) (stops_once c.old.told words (status_of refusal.NotBuilt) own tells (stops c.old.told words refusal.NotBuilt h) st) n
 by_cause words c notes answered own tells st (refusal.Tuples f) h n = yields (refusal.Tuples f) own answered c notes (note_of words (refusal.Tuples f)) (stops_once c.old.told words (status_of (refusal.Tuples f)) own tells (stops c.old.told words (refusal.Tuples f) h) st) n
 
@@ -189,6 +213,7 @@ by_calm words c out notes answered schema statement beats tells pass calm refusa
 by_calm words c out notes answered schema statement beats tells pass calm (refusal.Missing p) h n = absurd (passes_goes c.old.told words schema statement beats (status_of (refusal.Missing p)) tells pass (stops c.old.told words (refusal.Missing p) h.0))
 by_calm words c out notes answered schema statement beats tells pass calm (refusal.TooLong p) h n = absurd (passes_goes c.old.told words schema statement beats (status_of (refusal.TooLong p)) tells pass (stops c.old.told words (refusal.TooLong p) h))
 by_calm words c out notes answered schema statement beats tells pass calm (refusal.Schema f) h n = absurd (passes_goes c.old.told words schema statement beats (status_of (refusal.Schema f)) tells pass (stops c.old.told words (refusal.Schema f) h))
+by_calm words c out notes answered schema statement beats tells pass calm (refusal.Query f) h n = absurd (passes_goes c.old.told words schema statement beats (status_of (refusal.Query f)) tells pass (stops c.old.told words (refusal.Query f) h))
 by_calm words c out notes answered schema statement beats tells pass calm refusal.NotBuilt h n = absurd (passes_goes c.old.told words schema statement beats (status_of refusal.NotBuilt) tells pass (stops c.old.told words refusal.NotBuilt h))
 by_calm words c out notes answered schema statement beats tells pass calm (refusal.Tuples f) h n = absurd (passes_goes c.old.told words schema statement beats (status_of (refusal.Tuples f)) tells pass (stops c.old.told words (refusal.Tuples f) h))
 
@@ -204,6 +229,7 @@ by_form words c notes answered none (refusal.Missing p) h n = absurd (none (next
 by_form words c notes answered none (refusal.ReadFault p) h n = absurd (none (next_form c.old.told words p h.0))
 by_form words c notes answered none (refusal.TooLong p) h n = absurd (none (next_form c.old.told words p h.next))
 by_form words c notes answered none (refusal.Schema f) h n = absurd (none h.form)
+by_form words c notes answered none (refusal.Query f) h n = absurd (none h.before.form)
 by_form words c notes answered none refusal.NotBuilt h n = absurd (none h.before.form)
 by_form words c notes answered none (refusal.Tuples f) h n = absurd (none h.before.before.form)
 by_form words c notes answered none refusal.Memory h (inl n) = ToMemory n.0

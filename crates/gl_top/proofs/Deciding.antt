@@ -9,7 +9,12 @@ use Rattle.gl_schema.proofs.Complete.{read_again}
 use Rattle.gl_query.specs.declared.tree.Statement.{Statement}
 use Rattle.gl_tuples.specs.declared.beats.Beat.{Beat}
 use Rattle.gl_tuples.specs.declared.fault.TupleFault.{TupleFault}
-use Rattle.gl_compiler.specs.Queries.{IsQuery, gap_of}
+use Rattle.gl_query.specs.declared.fault.QueryFault.{QueryFault}
+use Rattle.gl_query.specs.declared.fault.QueryFault.TheVariants as fault
+use Rattle.gl_query_reader.specs.Grammar.{HasStatement}
+use Rattle.gl_query_reader.specs.Meaning.{Statement', statement_tree}
+use Rattle.gl_compiler.specs.Queries.{IsQuery, IsUnbuilt, IsQueryFault, gap_of}
+use Rattle.gl_compiler.proofs.Shaped.{one_meaning, none_built}
 use Rattle.gl_top.specs.declared.form.Part.{Part}
 use Rattle.gl_top.specs.declared.form.Part.TheVariants as part
 use Rattle.gl_top.specs.declared.notes.Refusal.{Refusal}
@@ -73,8 +78,8 @@ weaker (Holds text) P Q f h = (h.0, f text h.1)
 abbrev pub IsSome : List ℕ → Type 0
 IsSome text = (s : Schema) × IsSchemaText text s
 
-abbrev pub HasQuery : Schema → List ℕ → Type 0
-HasQuery s text = (st : Statement) × IsQuery s text st
+abbrev pub HasSome : List ℕ → Type 0
+HasSome text = (m : Statement') × HasStatement text m
 
 abbrev pub AreTuples : Schema → Statement → List ℕ → Type 0
 AreTuples s st text = (beats : List Beat) × (kept_beats s (gap_of s st) text ≡ Ok beats)
@@ -83,14 +88,28 @@ AreTuples s st text = (beats : List Beat) × (kept_beats s (gap_of s st) text �
 pub data Stops (told : List ℕ → Told) (words : List (List ℕ)) (answered : Status) : Type 0 where
   AtWords : (formless : IsForm words → ⊥) (is : answered ≡ status.Usage) → Stops told words answered
   AtSchema : (form : IsForm words) (fails : Failing (told (name_of words part.Schema)) IsSome status.Schema answered) → Stops told words answered
-  AtQuery : (s : Schema) (before : SchemaPasses told words s) (fails : Failing (told (name_of words part.Query)) (HasQuery s) status.NotBuilt answered) → Stops told words answered
+  AtQuery : (s : Schema) (before : SchemaPasses told words s) (fails : Failing (told (name_of words part.Query)) HasSome status.Query answered) → Stops told words answered
+  AtForm : (s : Schema) (before : SchemaPasses told words s) (bad : Fine (told (name_of words part.Query)) (IsUnbuilt s)) (is : answered ≡ status.NotBuilt) → Stops told words answered
   AtTuples : (s : Schema) (st : Statement) (before : QueryPasses told words s st) (fails : Failing (told (name_of words part.Tuples)) (AreTuples s st) status.Tuples answered) → Stops told words answered
 
 no_schema : (fault : SchemaFault) (text : List ℕ) → schema_of text ≡ Err fault → IsSome text → ⊥
 no_schema fault text e h = let f : schema_of text ≡ Ok h.0 = read_again text h.0 h.1 in cc
 
-no_query : (s : Schema) (text : List ℕ) → ((st : Statement) → IsQuery s text st → ⊥) → HasQuery s text → ⊥
-no_query s text none h = none h.0 h.1
+no_statement : (f : QueryFault) (text : List ℕ) → IsQueryFault text f → HasSome text → ⊥
+no_statement fault.Memory text e h = e
+no_statement (fault.Syntax at) text e h = e.none h.0 h.1
+no_statement (fault.UnknownStream at) text e h = e.none h.0 h.1
+no_statement (fault.UnknownColumn at) text e h = e.none h.0 h.1
+no_statement (fault.KindsDiffer at) text e h = e.none h.0 h.1
+no_statement (fault.LiteralTooWide at) text e h = e.none h.0 h.1
+no_statement (fault.NotCondition at) text e h = e.none h.0 h.1
+no_statement (fault.MixedItems at) text e h = e.none h.0 h.1
+no_statement (fault.TwiceNamed at) text e h = e.none h.0 h.1
+no_statement (fault.ColumnsDiffer at) text e h = e.none h.0 h.1
+no_statement (fault.PaceDiffers at) text e h = e.none h.0 h.1
+no_statement (fault.NotClosing at) text e h = e.none h.0 h.1
+no_statement (fault.OutOfRange at) text e h = e.none h.0 h.1
+no_statement (fault.TooDeep at) text e h = e.none h.0 h.1
 
 no_tuples : (s : Schema) (st : Statement) (fault : TupleFault) (text : List ℕ) → kept_beats s (gap_of s st) text ≡ Err fault → AreTuples s st text → ⊥
 no_tuples s st fault text e h = let f : kept_beats s (gap_of s st) text ≡ Ok h.0 = h.1 in cc
@@ -105,7 +124,8 @@ stops told words (refusal.TooLong part.Schema) h = AtSchema h.next (Long h.long 
 stops told words (refusal.TooLong part.Query) h = AtQuery h.next.0 h.next.1 (Long h.long refl)
 stops told words (refusal.TooLong part.Tuples) h = AtTuples h.next.0 h.next.1 h.next.2 (Long h.long refl)
 stops told words (refusal.Schema fault) h = AtSchema h.form (Bad (weaker (told (name_of words part.Schema)) (λ text. schema_of text ≡ Err fault) (λ text. IsSome text → ⊥) (no_schema fault) h.text) refl)
-stops told words refusal.NotBuilt h = AtQuery h.schema h.before (Bad (weaker (told (name_of words part.Query)) (λ text. (st : Statement) → IsQuery h.schema text st → ⊥) (λ text. HasQuery h.schema text → ⊥) (no_query h.schema) h.text) refl)
+stops told words (refusal.Query fault) h = AtQuery h.schema h.before (Bad (weaker (told (name_of words part.Query)) (λ text. IsQueryFault text fault) (λ text. HasSome text → ⊥) (no_statement fault) h.text) refl)
+stops told words refusal.NotBuilt h = AtForm h.schema h.before h.text refl
 stops told words (refusal.Tuples fault) h =
     AtTuples h.schema h.statement h.before (Bad (weaker (told (name_of words part.Tuples)) (λ text. kept_beats h.schema (gap_of h.schema h.statement) text ≡ Err fault) (λ text. AreTuples h.schema h.statement text → ⊥) (no_tuples h.schema h.statement fault) h.text) refl)
 stops told words refusal.Memory h = absurd h
@@ -120,8 +140,11 @@ one_schema told words s t tells a b = with_both (told (name_of words part.Schema
 fine_schema : (told : List ℕ → Told) (words : List (List ℕ)) (s : Schema) → SchemaPasses told words s → Fine (told (name_of words part.Schema)) IsSome
 fine_schema told words s a = weaker (told (name_of words part.Schema)) (λ text. IsSchemaText text s) IsSome (λ text h. (s, h)) a.text
 
-fine_query : (told : List ℕ → Told) (words : List (List ℕ)) (s t : Schema) (st : Statement) → s ≡ t → QueryPasses told words s st → Fine (told (name_of words part.Query)) (HasQuery t)
-fine_query told words s t st e a = subst (λ (x : Schema). Fine (told (name_of words part.Query)) (HasQuery x)) e (weaker (told (name_of words part.Query)) (λ text. IsQuery s text st) (HasQuery s) (λ text h. (st, h)) a.text)
+fine_query : (told : List ℕ → Told) (words : List (List ℕ)) (s : Schema) (st : Statement) → QueryPasses told words s st → Fine (told (name_of words part.Query)) HasSome
+fine_query told words s st a = weaker (told (name_of words part.Query)) (λ text. IsQuery s text st) HasSome (λ text h. (statement_tree st, h.has)) a.text
+
+fine_unbuilt : (told : List ℕ → Told) (words : List (List ℕ)) (s : Schema) → Fine (told (name_of words part.Query)) (IsUnbuilt s) → Fine (told (name_of words part.Query)) HasSome
+fine_unbuilt told words s a = weaker (told (name_of words part.Query)) (IsUnbuilt s) HasSome (λ text h. (statement_tree h.statement, h.has)) a
 
 fine_tuples : (told : List ℕ → Told) (words : List (List ℕ)) (s t : Schema) (st st' : Statement) (beats : List Beat) → s ≡ t → TuplesPass told words s st beats → Fine (told (name_of words part.Tuples)) (AreTuples t st')
 fine_tuples told words s t st st' beats e a = subst (λ (x : Schema). Fine (told (name_of words part.Tuples)) (AreTuples x st')) e (weaker (told (name_of words part.Tuples)) (λ text. kept_beats s (gap_of s st) text ≡ Ok beats) (AreTuples s st') (λ text h. (beats, h)) a.text)
@@ -130,13 +153,23 @@ fine_tuples told words s t st st' beats e a = subst (λ (x : Schema). Fine (told
 schema_goes : (told : List ℕ → Told) (words : List (List ℕ)) (s : Schema) (a : Status) {A : Type 0} → IsTelling told words → SchemaPasses told words s → Failing (told (name_of words part.Schema)) IsSome status.Schema a → A
 schema_goes told words s a tells p f = absurd (not_both (told (name_of words part.Schema)) IsSome status.Schema a (tells part.Schema) (fine_schema told words s p) f)
 
-query_goes : (told : List ℕ → Told) (words : List (List ℕ)) (s t : Schema) (st : Statement) (a : Status) {A : Type 0} → IsTelling told words → QueryPasses told words s st → SchemaPasses told words t → Failing (told (name_of words part.Query)) (HasQuery t) status.NotBuilt a → A
-query_goes told words s t st a tells p q f = absurd (not_both (told (name_of words part.Query)) (HasQuery t) status.NotBuilt a (tells part.Query) (fine_query told words s t st (one_schema told words s t tells p.before q) p) f)
+query_goes : (told : List ℕ → Told) (words : List (List ℕ)) (a : Status) {A : Type 0} → IsTelling told words → Fine (told (name_of words part.Query)) HasSome → Failing (told (name_of words part.Query)) HasSome status.Query a → A
+query_goes told words a tells p f = absurd (not_both (told (name_of words part.Query)) HasSome status.Query a (tells part.Query) p f)
+
+-- nor does the form of a query that is built
+unbuilt_goes : (s : Schema) (st : Statement) (text : List ℕ) → IsQuery s text st → IsUnbuilt s text → ⊥
+unbuilt_goes s st text q u = none_built s text u.statement u.unbuilt (λ m h. one_meaning text (statement_tree u.statement) m u.has h) st q
+
+form_goes : (told : List ℕ → Told) (words : List (List ℕ)) (s t : Schema) (st : Statement) {A : Type 0} → IsTelling told words → QueryPasses told words s st → SchemaPasses told words t → Fine (told (name_of words part.Query)) (IsUnbuilt t) → A
+form_goes told words s t st tells p q bad =
+    let e : t ≡ s = one_schema told words t s tells q p.before in
+    absurd (with_both (told (name_of words part.Query)) (λ text. IsQuery s text st) (IsUnbuilt s) (tells part.Query) p.text (subst (λ (x : Schema). Fine (told (name_of words part.Query)) (IsUnbuilt x)) e bad) (unbuilt_goes s st))
 
 pub passes_goes : (told : List ℕ → Told) (words : List (List ℕ)) (s : Schema) (st : Statement) (beats : List Beat) (a : Status) → IsTelling told words → TuplesPass told words s st beats → Stops told words a → ⊥
 passes_goes told words s st beats a tells p (AtWords no' e) = no' p.before.before.form
 passes_goes told words s st beats a tells p (AtSchema form f) = schema_goes told words s a tells p.before.before f
-passes_goes told words s st beats a tells p (AtQuery t q f) = query_goes told words s t st a tells p.before q f
+passes_goes told words s st beats a tells p (AtQuery t q f) = query_goes told words a tells (fine_query told words s st p.before) f
+passes_goes told words s st beats a tells p (AtForm t q f e) = form_goes told words s t st tells p.before q f
 passes_goes told words s st beats a tells p (AtTuples t st' q f) =
     not_both (told (name_of words part.Tuples)) (AreTuples t st') status.Tuples a (tells part.Tuples) (fine_tuples told words s t st st' beats (one_schema told words s t tells p.before.before q.before) p) f
 
@@ -145,18 +178,26 @@ pub stops_once : (told : List ℕ → Told) (words : List (List ℕ)) (a b : Sta
 stops_once told words a b tells (AtWords n e) (AtWords m h) = e ∙ sym h
 stops_once told words a b tells (AtWords n e) (AtSchema form f) = absurd (n form)
 stops_once told words a b tells (AtWords n e) (AtQuery s p f) = absurd (n p.form)
+stops_once told words a b tells (AtWords n e) (AtForm s p f h) = absurd (n p.form)
 stops_once told words a b tells (AtWords n e) (AtTuples s st p f) = absurd (n p.before.form)
 stops_once told words a b tells (AtSchema form f) (AtWords m h) = absurd (m form)
 stops_once told words a b tells (AtSchema form f) (AtSchema form' g) = fails_once (told (name_of words part.Schema)) IsSome status.Schema a b (tells part.Schema) f g
 stops_once told words a b tells (AtSchema form f) (AtQuery s p g) = schema_goes told words s a tells p f
+stops_once told words a b tells (AtSchema form f) (AtForm s p g h) = schema_goes told words s a tells p f
 stops_once told words a b tells (AtSchema form f) (AtTuples s st p g) = schema_goes told words s a tells p.before f
 stops_once told words a b tells (AtQuery s p f) (AtWords m h) = absurd (m p.form)
 stops_once told words a b tells (AtQuery s p f) (AtSchema form g) = schema_goes told words s b tells p g
-stops_once told words a b tells (AtQuery s p f) (AtQuery t q g) =
-    fails_once (told (name_of words part.Query)) (HasQuery t) status.NotBuilt a b (tells part.Query) (subst (λ (x : Schema). Failing (told (name_of words part.Query)) (HasQuery x) status.NotBuilt a) (one_schema told words s t tells p q) f) g
-stops_once told words a b tells (AtQuery s p f) (AtTuples t st q g) = query_goes told words t s st a tells q p f
+stops_once told words a b tells (AtQuery s p f) (AtQuery t q g) = fails_once (told (name_of words part.Query)) HasSome status.Query a b (tells part.Query) f g
+stops_once told words a b tells (AtQuery s p f) (AtForm t q g h) = query_goes told words a tells (fine_unbuilt told words t g) f
+stops_once told words a b tells (AtQuery s p f) (AtTuples t st q g) = query_goes told words a tells (fine_query told words t st q) f
+stops_once told words a b tells (AtForm s p f e) (AtWords m h) = absurd (m p.form)
+stops_once told words a b tells (AtForm s p f e) (AtSchema form g) = schema_goes told words s b tells p g
+stops_once told words a b tells (AtForm s p f e) (AtQuery t q g) = query_goes told words b tells (fine_unbuilt told words s f) g
+stops_once told words a b tells (AtForm s p f e) (AtForm t q g h) = e ∙ sym h
+stops_once told words a b tells (AtForm s p f e) (AtTuples t st q g) = form_goes told words t s st tells q p f
 stops_once told words a b tells (AtTuples s st p f) (AtWords m h) = absurd (m p.before.form)
 stops_once told words a b tells (AtTuples s st p f) (AtSchema form g) = schema_goes told words s b tells p.before g
-stops_once told words a b tells (AtTuples s st p f) (AtQuery t q g) = query_goes told words s t st b tells p q g
+stops_once told words a b tells (AtTuples s st p f) (AtQuery t q g) = query_goes told words b tells (fine_query told words s st p) g
+stops_once told words a b tells (AtTuples s st p f) (AtForm t q g h) = form_goes told words s t st tells p q g
 stops_once told words a b tells (AtTuples s st p f) (AtTuples t st' q g) =
     fails_once (told (name_of words part.Tuples)) (AreTuples t st') status.Tuples a b (tells part.Tuples) (subst (λ (x : Schema). Failing (told (name_of words part.Tuples)) (AreTuples x st') status.Tuples a) (one_schema told words s t tells p.before q.before) f) g

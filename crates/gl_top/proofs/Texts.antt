@@ -15,6 +15,7 @@ use Rattle.gl_schema.specs.SchemaFaults.{schema_of}
 use Rattle.gl_schema.specs.SchemaFaults as schemas
 use Rattle.gl_schema.specs.SchemaText.{IsSchemaText}
 use Rattle.gl_query.specs.declared.tree.Statement.{Statement}
+use Rattle.gl_query.specs.declared.fault.QueryFault.{QueryFault}
 use Rattle.gl_tuples.specs.declared.beats.Beat.{Beat}
 use Rattle.gl_tuples.specs.declared.fault.TupleFault.{TupleFault}
 use Rattle.gl_tuples.specs.declared.fault.TupleFault.TheVariants as tuples
@@ -23,7 +24,7 @@ use Rattle.gl_tuples.specs.Filing.{beats_of, records_of}
 use Rattle.gl_tuples.specs.Gaps.{first_close, close_answer}
 use Rattle.gl_compiler.specs.declared.compiling.CompileFault.{CompileFault}
 use Rattle.gl_compiler.specs.declared.compiling.CompileFault.TheVariants as compile
-use Rattle.gl_compiler.specs.Queries.{IsQuery, IfRefused, gap_of}
+use Rattle.gl_compiler.specs.Queries.{IsQuery, IsQueryFault, IsUnbuilt, IsQueryRefused, gap_of}
 use Rattle.gl_top.specs.declared.form.Part.{Part}
 use Rattle.gl_top.specs.declared.form.Part.TheVariants as part
 use Rattle.gl_top.specs.Forms.{IsForm, is_form, word_at, place_of, name_of}
@@ -106,16 +107,17 @@ pub schema_passes : (told : List ℕ → Told) (words : List (List ℕ)) (v : Li
 schema_passes told words v s form h is = record { form = form; fine = is.schema'; text = has_text told words part.Schema (λ text. IsSchemaText text s) v h is }
 
 -- of a query that is refused
-not_built : (words : List (List ℕ)) (c : Change) (v : List ℕ) (s : Schema) → SchemaPasses c.old.told words s → HasText c.old.told words part.Query (λ text. v ≡ text)
-    → ((statement : Statement) → IsQuery s v statement → ⊥) → HasCause words c (query_refusal compile.NotBuilt)
-not_built words c v s before h none = record { schema = s; before = before; text = has_text c.old.told words part.Query (λ text. (statement : Statement) → IsQuery s text statement → ⊥) v h none }
+not_built : (words : List (List ℕ)) (c : Change) (v : List ℕ) (s : Schema) → SchemaPasses c.old.told words s → HasText c.old.told words part.Query (λ text. v ≡ text) → IsUnbuilt s v → HasCause words c (query_refusal compile.NotBuilt)
+not_built words c v s before h is = record { schema = s; before = before; text = has_text c.old.told words part.Query (IsUnbuilt s) v h is }
 
-pub query_cause : (words : List (List ℕ)) (c : Change) (v : List ℕ) (s : Schema) (fault : CompileFault) → SchemaPasses c.old.told words s → HasText c.old.told words part.Query (λ text. v ≡ text)
-    → IfRefused fault ((statement : Statement) → IsQuery s v statement → ⊥) → HasCause words c (query_refusal fault)
-query_cause words c v s compile.Memory before h none = tt
-query_cause words c v s (compile.Schema f) before h none = not_built words c v s before h none
-query_cause words c v s (compile.Query f) before h none = not_built words c v s before h none
-query_cause words c v s compile.NotBuilt before h none = not_built words c v s before h none
+bad_query : (words : List (List ℕ)) (c : Change) (v : List ℕ) (s : Schema) (f : QueryFault) → SchemaPasses c.old.told words s → HasText c.old.told words part.Query (λ text. v ≡ text) → IsQueryFault v f → HasCause words c (query_refusal (compile.Query f))
+bad_query words c v s f before h is = record { schema = s; before = before; text = has_text c.old.told words part.Query (λ text. IsQueryFault text f) v h is }
+
+pub query_cause : (words : List (List ℕ)) (c : Change) (v : List ℕ) (s : Schema) (fault : CompileFault) → SchemaPasses c.old.told words s → HasText c.old.told words part.Query (λ text. v ≡ text) → IsQueryRefused s v fault → HasCause words c (query_refusal fault)
+query_cause words c v s compile.Memory before h is = tt
+query_cause words c v s (compile.Schema f) before h is = absurd is
+query_cause words c v s (compile.Query f) before h is = bad_query words c v s f before h is
+query_cause words c v s compile.NotBuilt before h is = not_built words c v s before h is
 
 pub query_passes : (told : List ℕ → Told) (words : List (List ℕ)) (v : List ℕ) (s t : Schema) (statement : Statement) → t ≡ s → SchemaPasses told words s → HasText told words part.Query (λ text. v ≡ text) → IsQuery s v statement → QueryPasses told words t statement
 query_passes told words v s t statement e before h built =

@@ -8,12 +8,13 @@ use Rattle.gl_schema.specs.declared.schema.Schema.{Schema}
 use Rattle.gl_schema.specs.declared.fault.SchemaFault as faults
 use Rattle.gl_schema.specs.declared.fault.SchemaFault.TheVariants as schema
 use Rattle.gl_schema.specs.SchemaFaults.{schema_of}
+use Rattle.gl_query.specs.declared.fault.QueryFault.{QueryFault}
 use Rattle.gl_query.specs.declared.tree.Statement.{Statement}
 use Rattle.gl_tuples.specs.declared.fault.TupleFault.{TupleFault}
 use Rattle.gl_tuples.specs.declared.fault.TupleFault.TheVariants as tuples
 use Rattle.gl_compiler.specs.declared.compiling.CompileFault.{CompileFault}
 use Rattle.gl_compiler.specs.declared.compiling.CompileFault.TheVariants as compile
-use Rattle.gl_compiler.specs.Queries.{IsQuery, gap_of}
+use Rattle.gl_compiler.specs.Queries.{IsQueryFault, IsUnbuilt, gap_of}
 use Rattle.gl_top.specs.declared.form.Part.{Part}
 use Rattle.gl_top.specs.declared.form.Part.TheVariants as part
 use Rattle.gl_top.specs.declared.notes.Refusal.{Refusal}
@@ -42,11 +43,17 @@ pub record IsBadSchema (told : List ℕ → Told) (words : List (List ℕ)) (fau
   pub form : IsForm words
   pub text : HasText told words part.Schema (λ text. schema_of text ≡ Err fault)
 
--- it is a query that is not built over the schema
+-- it has no statement, and this is the first fault
+pub record IsBadQuery (told : List ℕ → Told) (words : List (List ℕ)) (fault : QueryFault) : Type 0 where
+  pub schema : Schema
+  pub before : SchemaPasses told words schema
+  pub text : HasText told words part.Query (λ text. IsQueryFault text fault)
+
+-- it has a statement that is not built over the schema
 pub record IsNotBuilt (told : List ℕ → Told) (words : List (List ℕ)) : Type 0 where
   pub schema : Schema
   pub before : SchemaPasses told words schema
-  pub text : HasText told words part.Query (λ text. (statement : Statement) → IsQuery schema text statement → ⊥)
+  pub text : HasText told words part.Query (IsUnbuilt schema)
 
 -- it is no tuple file of the schema, or its beats do not keep the gap, and this is the first fault
 pub record AreBadTuples (told : List ℕ → Told) (words : List (List ℕ)) (fault : TupleFault) : Type 0 where
@@ -62,6 +69,7 @@ IsRefused told words (refusal.Missing part) = IsMissing told words part
 IsRefused told words (refusal.ReadFault part) = ⊥
 IsRefused told words (refusal.TooLong part) = IsTooLong told words part
 IsRefused told words (refusal.Schema fault) = IsBadSchema told words fault
+IsRefused told words (refusal.Query fault) = IsBadQuery told words fault
 IsRefused told words refusal.NotBuilt = IsNotBuilt told words
 IsRefused told words (refusal.Tuples fault) = AreBadTuples told words fault
 IsRefused told words refusal.Memory = ⊥
@@ -121,7 +129,9 @@ schema_refusal fault = refusal.Schema fault
 
 abbrev pub query_refusal : CompileFault → Refusal
 query_refusal compile.Memory = refusal.Memory
-query_refusal fault = refusal.NotBuilt
+query_refusal (compile.Query fault) = refusal.Query fault
+query_refusal (compile.Schema fault) = refusal.NotBuilt
+query_refusal compile.NotBuilt = refusal.NotBuilt
 
 abbrev pub tuples_refusal : TupleFault → Refusal
 tuples_refusal tuples.Memory = refusal.Memory

@@ -2,13 +2,15 @@
 use Rattle.std.specs.Prelude.{◌≡◌, ℕ, List, ◌++◌, codes, decimal, Option, ◌⊎◌}
 use Rattle.gl_schema.specs.declared.fault.SchemaFault.{SchemaFault}
 use Rattle.gl_schema.specs.declared.fault.SchemaFault.TheVariants as schema
+use Rattle.gl_query.specs.declared.fault.QueryFault.{QueryFault}
+use Rattle.gl_query.specs.declared.fault.QueryFault.TheVariants as query
 use Rattle.gl_tuples.specs.declared.fault.TupleFault.{TupleFault}
 use Rattle.gl_tuples.specs.declared.fault.TupleFault.TheVariants as tuples
 use Rattle.gl_outside.specs.Counts.{Rose}
 use Rattle.gl_outside.specs.Taken.{Appends, AppendsFront}
 use Rattle.gl_top.specs.declared.form.Part.TheVariants as part
 use Rattle.gl_top.specs.declared.notes.Refusal.{Refusal}
-use Rattle.gl_top.specs.declared.notes.Refusal.TheVariants.{Usage, Missing, ReadFault, TooLong, Schema, NotBuilt, Tuples, Memory}
+use Rattle.gl_top.specs.declared.notes.Refusal.TheVariants.{Usage, Missing, ReadFault, TooLong, Schema, Query, NotBuilt, Tuples, Memory}
 use Rattle.gl_top.specs.declared.status.Status.{Status}
 use Rattle.gl_top.specs.declared.status.Status.TheVariants as status
 use Rattle.gl_top.specs.Forms.{name_of}
@@ -20,6 +22,7 @@ status_of (Missing part) = status.Missing
 status_of (ReadFault part) = status.ReadFault
 status_of (TooLong part) = status.Limit
 status_of (Schema fault) = status.Schema
+status_of (Query fault) = status.Query
 status_of NotBuilt = status.NotBuilt
 status_of (Tuples fault) = status.Tuples
 status_of Memory = status.Memory
@@ -40,6 +43,38 @@ schema_place (schema.BadKind at) = at
 schema_place (schema.Twice at) = at
 schema_place (schema.TooMany at) = at
 schema_place schema.Memory = 0
+
+unfoldable pub query_kind : QueryFault → List ℕ
+query_kind (query.Syntax at) = codes "Syntax"
+query_kind (query.UnknownStream at) = codes "UnknownStream"
+query_kind (query.UnknownColumn at) = codes "UnknownColumn"
+query_kind (query.KindsDiffer at) = codes "KindsDiffer"
+query_kind (query.LiteralTooWide at) = codes "LiteralTooWide"
+query_kind (query.NotCondition at) = codes "NotCondition"
+query_kind (query.MixedItems at) = codes "MixedItems"
+query_kind (query.TwiceNamed at) = codes "TwiceNamed"
+query_kind (query.ColumnsDiffer at) = codes "ColumnsDiffer"
+query_kind (query.PaceDiffers at) = codes "PaceDiffers"
+query_kind (query.NotClosing at) = codes "NotClosing"
+query_kind (query.OutOfRange at) = codes "OutOfRange"
+query_kind (query.TooDeep at) = codes "TooDeep"
+query_kind query.Memory = codes "Memory"
+
+abbrev pub query_place : QueryFault → ℕ
+query_place (query.Syntax at) = at
+query_place (query.UnknownStream at) = at
+query_place (query.UnknownColumn at) = at
+query_place (query.KindsDiffer at) = at
+query_place (query.LiteralTooWide at) = at
+query_place (query.NotCondition at) = at
+query_place (query.MixedItems at) = at
+query_place (query.TwiceNamed at) = at
+query_place (query.ColumnsDiffer at) = at
+query_place (query.PaceDiffers at) = at
+query_place (query.NotClosing at) = at
+query_place (query.OutOfRange at) = at
+query_place (query.TooDeep at) = at
+query_place query.Memory = 0
 
 unfoldable pub tuples_kind : TupleFault → List ℕ
 tuples_kind (tuples.NotUtf8 number) = codes "NotUtf8"
@@ -92,6 +127,7 @@ note_of words (Missing part) = line (codes "missing: ") (name_of words part)
 note_of words (ReadFault part) = line (codes "read fault: ") (name_of words part)
 note_of words (TooLong part) = line (codes "limit: Text ") (name_of words part)
 note_of words (Schema fault) = kind_line (codes "schema: ") (schema_kind fault) (codes " at ") (schema_place fault)
+note_of words (Query fault) = kind_line (codes "query: ") (query_kind fault) (codes " at ") (query_place fault)
 note_of words NotBuilt = line (codes "not built: ") (name_of words part.Query)
 note_of words (Tuples fault) = kind_line (codes "tuples: ") (tuples_kind fault) (codes " at record ") (tuples_record fault)
 note_of words Memory = memory_line

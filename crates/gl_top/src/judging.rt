@@ -53,7 +53,8 @@ fn query_refusal(fault: CompileFault) -> Refusal
 {
     match fault {
         CompileFault::Memory => Refusal::Memory,
-        _ => Refusal::NotBuilt,
+        CompileFault::Query(fault) => Refusal::Query(fault),
+        CompileFault::Schema(_) | CompileFault::NotBuilt => Refusal::NotBuilt,
     }
 }
 

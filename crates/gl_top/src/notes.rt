@@ -10,6 +10,7 @@ ghost use Rattle.gl_top.specs.Refusals.{line, kind_line, note_of, usage_line, me
 use crate::form::{Part, name_of};
 use crate::status::Status;
 use gl_outside::{Sink, Words, WriteFault, write_all_of};
+use gl_query::QueryFault;
 use gl_schema::SchemaFault;
 use gl_tuples::TupleFault;
 use itoa::Buffer;
@@ -27,6 +28,8 @@ pub enum Refusal {
     TooLong(Part),
     /// The schema is refused.
     Schema(SchemaFault),
+    /// The query is refused.
+    Query(QueryFault),
     /// The query is not compiled yet.
     NotBuilt,
     /// The tuple file is refused.
@@ -120,6 +123,50 @@ fn schema_place(fault: &SchemaFault) -> u64
     }
 }
 
+// The kind of a fault of a query, and its place.
+#[tactic(auto, unfolding(crate::specs::Refusals::query_kind))]
+fn query_kind(fault: &QueryFault) -> &'static [u8]
+    ensures { result.now ≡ told.query_kind fault.now }
+{
+    match fault {
+        QueryFault::Syntax { .. } => b"Syntax",
+        QueryFault::UnknownStream { .. } => b"UnknownStream",
+        QueryFault::UnknownColumn { .. } => b"UnknownColumn",
+        QueryFault::KindsDiffer { .. } => b"KindsDiffer",
+        QueryFault::LiteralTooWide { .. } => b"LiteralTooWide",
+        QueryFault::NotCondition { .. } => b"NotCondition",
+        QueryFault::MixedItems { .. } => b"MixedItems",
+        QueryFault::TwiceNamed { .. } => b"TwiceNamed",
+        QueryFault::ColumnsDiffer { .. } => b"ColumnsDiffer",
+        QueryFault::PaceDiffers { .. } => b"PaceDiffers",
+        QueryFault::NotClosing { .. } => b"NotClosing",
+        QueryFault::OutOfRange { .. } => b"OutOfRange",
+        QueryFault::TooDeep { .. } => b"TooDeep",
+        QueryFault::Memory => b"Memory",
+    }
+}
+
+fn query_place(fault: &QueryFault) -> u64
+    ensures { result ≡ told.query_place fault.now }
+{
+    match fault {
+        QueryFault::Syntax { at }
+        | QueryFault::UnknownStream { at }
+        | QueryFault::UnknownColumn { at }
+        | QueryFault::KindsDiffer { at }
+        | QueryFault::LiteralTooWide { at }
+        | QueryFault::NotCondition { at }
+        | QueryFault::MixedItems { at }
+        | QueryFault::TwiceNamed { at }
+        | QueryFault::ColumnsDiffer { at }
+        | QueryFault::PaceDiffers { at }
+        | QueryFault::NotClosing { at }
+        | QueryFault::OutOfRange { at }
+        | QueryFault::TooDeep { at } => *at,
+        QueryFault::Memory => 0,
+    }
+}
+
 // The kind of a fault of a tuple file, and its record.
 #[tactic(auto, unfolding(crate::specs::Refusals::tuples_kind))]
 fn tuples_kind(fault: &TupleFault) -> &'static [u8]
@@ -206,6 +253,13 @@ fn put_note<N: Sink>(notes: &mut N, words: &Words, refusal: &Refusal) -> Result<
             b" at ",
             schema_place(fault),
         ),
+        Refusal::Query(fault) => put_kind(
+            notes,
+            b"query: ",
+            query_kind(fault),
+            b" at ",
+            query_place(fault),
+        ),
         Refusal::NotBuilt => put_name(notes, b"not built: ", words, Part::Query),
         Refusal::Tuples(fault) => put_kind(
             notes,
@@ -227,6 +281,7 @@ fn status_of(refusal: &Refusal) -> Status
         Refusal::ReadFault(_) => Status::ReadFault,
         Refusal::TooLong(_) => Status::Limit,
         Refusal::Schema(_) => Status::Schema,
+        Refusal::Query(_) => Status::Query,
         Refusal::NotBuilt => Status::NotBuilt,
         Refusal::Tuples(_) => Status::Tuples,
         Refusal::Memory => Status::Memory,

@@ -4,6 +4,7 @@ ghost use Rattle.std.specs.Prelude.{◌≡◌, ◌≢◌, ◌⊎◌, ◌≤◌, 
 ghost use Rattle.gl_schema.specs.Beats.{KeepsGap};
 ghost use Rattle.gl_schema.specs.declared.schema.Schema.{Schema};
 ghost use Rattle.gl_schema.specs.declared.fault.SchemaFault.{SchemaFault};
+ghost use Rattle.gl_query.specs.declared.fault.QueryFault.{QueryFault};
 ghost use Rattle.gl_query.specs.declared.tree.Statement.{Statement};
 ghost use Rattle.gl_tuples.specs.declared.beats.Beat.{Beat};
 ghost use Rattle.gl_tuples.specs.declared.fault.TupleFault.{TupleFault};
@@ -14,7 +15,7 @@ ghost use Rattle.gl_compiler.specs.Outcomes.{OnDone, OnWriteFault, OnMemory};
 ghost use Rattle.gl_top.specs.declared.form.Part.{Part};
 ghost use Rattle.gl_top.specs.declared.notes.Refusal.{Refusal as Refused};
 ghost use Rattle.gl_top.specs.Forms.{IsForm};
-ghost use Rattle.gl_top.specs.Causes.{Change, change, HasCause, IsRefused, IsTooLong, IsBadSchema, IsNotBuilt, AreBadTuples};
+ghost use Rattle.gl_top.specs.Causes.{Change, change, HasCause, IsRefused, IsTooLong, IsBadSchema, IsBadQuery, IsNotBuilt, AreBadTuples};
 ghost use Rattle.gl_top.specs.Passing.{IsCompiled, IsReady, TuplesPass};
 ghost use Rattle.gl_top.specs.Refusals.{puts, Took, status_of};
 ghost use Rattle.gl_top.specs.Verdicts.{IsAnswer, IsTelling, IsCalm, Yields, WritesLines, WritesLinesFront};
@@ -134,6 +135,7 @@ pub fn run<S: Shelf, K: Sink, N: Sink>(
     ensures read_fault { result ≡ Status.ReadFault → (part : Part) × HasCause words.now (change S.names S.told S.misses S.faults S.last shelf.old shelf.new) (Refusal.ReadFault part) }
     ensures write_fault { result ≡ Status.WriteFault → Rose (K.faults out.old) (K.faults out.new) ⊎ Rose (N.faults notes.old) (N.faults notes.new) }
     ensures schema { result ≡ Status.Schema → (fault : SchemaFault) × IsBadSchema (S.told shelf.old) words.now fault }
+    ensures query { result ≡ Status.Query → (fault : QueryFault) × IsBadQuery (S.told shelf.old) words.now fault }
     ensures tuples { result ≡ Status.Tuples → (fault : TupleFault) × AreBadTuples (S.told shelf.old) words.now fault }
     ensures limit { result ≡ Status.Limit → (part : Part) × IsTooLong (S.told shelf.old) words.now part }
     ensures not_built { result ≡ Status.NotBuilt → IsNotBuilt (S.told shelf.old) words.now }

@@ -1,4 +1,4 @@
-use Rattle.gl_top.proofs.Concluding.{when_usage, when_formless, when_missing, when_read_fault, when_write_fault, when_schema, when_tuples, when_limit, when_not_built, when_untouched, when_refused, when_calm}
+use Rattle.gl_top.proofs.Concluding.{when_usage, when_formless, when_missing, when_read_fault, when_write_fault, when_schema, when_query, when_tuples, when_limit, when_not_built, when_untouched, when_refused, when_calm}
 use Rattle.gl_top.proofs.running.run.Goals as goal
 
 pub returns-clause-usage : goal.returns-clause-usage
@@ -15,6 +15,9 @@ returns-clause-write_fault g c = when_write_fault _ _ _ _ _ _ c.answer.ensures
 
 pub returns-clause-schema : goal.returns-clause-schema
 returns-clause-schema g c = when_schema _ _ _ _ _ _ c.answer.ensures
+
+pub returns-clause-query : goal.returns-clause-query
+returns-clause-query g c = when_query _ _ _ _ _ _ c.answer.ensures
 
 pub returns-clause-tuples : goal.returns-clause-tuples
 returns-clause-tuples g c = when_tuples _ _ _ _ _ _ c.answer.ensures
