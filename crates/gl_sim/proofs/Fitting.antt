@@ -8,10 +8,6 @@ use Rattle.gl_verilog.specs.declared.module.Declaration.{Declaration}
 use Rattle.gl_verilog.specs.Module.{Module}
 use Rattle.gl_verilog.specs.Widths.{width_at}
 use Rattle.gl_verilog.specs.Runnable.{FitInputs, inputs_of}
-<<<<<<<< HEAD:crates/gl_sim/proofs/Fitting.antt
-========
-use Rattle.gl_compiler.specs.CheckedBenches.{IsBench}
->>>>>>>> f52cfcc610a85eda2f005ce1282b8c8c6f3dffbf:crates/gl_compiler/proofs/CheckedFitting.antt
 
 all_zip_map : (R : ℕ → ℕ → Type 0) (f : ℕ → ℕ) (ns values : List ℕ) → AllZip R (map f ns) values → AllZip (λ n x. R (f n) x) ns values
 all_zip_map R f [] [] h = tt
