@@ -5,6 +5,7 @@ ghost use Rattle.std.specs.Prelude.{◌≡◌, IfOk, ◌∷◌, [], codes};
 use super::*;
 use crate::notes::{Refusal, tell};
 use gl_outside::{Memory, MemoryShelf, MemorySink, Words};
+use gl_query::QueryFault;
 use gl_schema::SchemaFault;
 use gl_tuples::TupleFault;
 use std::alloc::Global;
@@ -108,6 +109,30 @@ fn a_select_from_bytes_to_bytes(rt: HostRuntime) -> Result<(), Fail> {
         (
             SCHEMA,
             "SELECT price, FROM trades INTO r",
+            TUPLES,
+            "6||query: Syntax at 14\n",
+        ),
+        (
+            SCHEMA,
+            "SELECT price FROM",
+            TUPLES,
+            "6||query: Syntax at 17\n",
+        ),
+        (
+            SCHEMA,
+            "SELECT price, count() AS n FROM trades INTO r",
+            TUPLES,
+            "6||query: MixedItems at 14\n",
+        ),
+        (
+            SCHEMA,
+            "select price -- of all\nFROM trades INTO r ;",
+            TUPLES,
+            "0|1,7\n1,end\n|",
+        ),
+        (
+            SCHEMA,
+            "SELECT price FROM trades WHERE volume > 1 INTO r",
             TUPLES,
             "64||not built: Q\n",
         ),
@@ -238,6 +263,11 @@ fn a_note_for_each_refusal(rt: HostRuntime) -> Result<(), Fail> {
             Refusal::Schema(SchemaFault::TooMany { at: 400 }),
             5,
             "schema: TooMany at 400\n",
+        ),
+        (
+            Refusal::Query(QueryFault::TooDeep { at: 65 }),
+            6,
+            "query: TooDeep at 65\n",
         ),
         (
             Refusal::Tuples(TupleFault::NotUtf8 { number: 1 }),
