@@ -226,17 +226,6 @@ fn windows(rt: HostRuntime) -> Result<(), Fail> {
     gives(t, weighed_windows(t)?, trades(&three), &want, false)
 }
 
-#[test]
-fn many_windows(rt: HostRuntime) -> Result<(), Fail> {
-    let t = Trees(rt.alloc());
-    let thousand = [[UBSN, 1, 1]; 1000];
-    let want = [
-        600, 600, 600, 600, 600, 600, 600, 580, 520, 460, 400, 340, 280, 220, 160, 100, 40,
-    ]
-    .map(|n| [n, 0]);
-    gives(t, ubsn_counts(t, 600, 60)?, trades(&thousand), &want, false)
-}
-
 fn volumes_by_symbol(t: Trees, groups: u128) -> Result<Box<Query>, Fail> {
     let body = t.total(Agg::Sum(t.column("volume")?), "v", t.read("it")?)?;
     t.per_symbol(groups, t.read("trades")?, body)
