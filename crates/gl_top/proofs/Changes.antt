@@ -7,7 +7,7 @@ use Rattle.gl_outside.specs.Told.{Told}
 use Rattle.gl_outside.proofs.Counting.{rose_later}
 use Rattle.gl_top.specs.declared.form.Part.{Part}
 use Rattle.gl_top.specs.declared.notes.Refusal.{Refusal}
-use Rattle.gl_top.specs.declared.notes.Refusal.TheVariants.{Usage, Missing, ReadFault, TooLong, Schema, NotBuilt, Tuples, Memory}
+use Rattle.gl_top.specs.declared.notes.Refusal.TheVariants.{Usage, Missing, ReadFault, TooLong, Schema, Query, NotBuilt, Tuples, Memory}
 use Rattle.gl_top.specs.Causes.{Seen, Change, IsKept, IsMiss, IsFailure, IsNext, IsRefused, HasCause}
 
 -- the texts stay, and what is said of them
@@ -38,6 +38,7 @@ cause_later words a b c (Missing p) k h = (same_told (λ t. IsRefused t words (M
 cause_later words a b c (ReadFault p) k h = (same_told (λ t. IsNext t words p) b.told a.told (λ n. sym (k.texts n)) h.0, failure_later a b c _ k h.1)
 cause_later words a b c (TooLong p) k h = same_told (λ t. IsRefused t words (TooLong p)) b.told a.told (λ n. sym (k.texts n)) h
 cause_later words a b c (Schema f) k h = same_told (λ t. IsRefused t words (Schema f)) b.told a.told (λ n. sym (k.texts n)) h
+cause_later words a b c (Query f) k h = same_told (λ t. IsRefused t words (Query f)) b.told a.told (λ n. sym (k.texts n)) h
 cause_later words a b c NotBuilt k h = same_told (λ t. IsRefused t words NotBuilt) b.told a.told (λ n. sym (k.texts n)) h
 cause_later words a b c (Tuples f) k h = same_told (λ t. IsRefused t words (Tuples f)) b.told a.told (λ n. sym (k.texts n)) h
 cause_later words a b c Memory k h = tt
