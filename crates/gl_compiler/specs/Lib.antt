@@ -1,2 +1,5 @@
 pub mod Selecting
 pub mod Benches
+pub mod Profile
+pub mod Prints
+pub mod Meets

@@ -1,2 +1,4 @@
 pub mod Keeping
 pub mod Marks
+pub mod Ranks
+pub mod Drives

@@ -23,7 +23,7 @@ all_snoc : {B : Type 0} (P : B → Type 0) (xs : List B) (y : B) → AllByRecurs
 all_snoc P [] y h p = (p, tt)
 all_snoc P (x ∷ xs) y h p = (h.0, all_snoc P xs y h.1 p)
 
-map_snoc : {A B : Type 0} (f : A → B) (xs : List A) (y : A) → map f (xs ++ y ∷ []) ≡ map f xs ++ f y ∷ []
+pub map_snoc : {A B : Type 0} (f : A → B) (xs : List A) (y : A) → map f (xs ++ y ∷ []) ≡ map f xs ++ f y ∷ []
 map_snoc f [] y = refl
 map_snoc {B = B} f (x ∷ xs) y = ap (λ (t : List B). f x ∷ t) (map_snoc f xs y)
 

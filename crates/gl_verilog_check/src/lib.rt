@@ -2,6 +2,8 @@
 #![tactic(auto)]
 
 pub mod runnable;
+pub mod valid;
 pub mod widths;
 
 pub use runnable::is_runnable;
+pub use valid::is_valid;

@@ -14,7 +14,7 @@ use gl_bits::Memory;
 use gl_verilog::{Assignment, Declaration, Expr, Module, Statement};
 use std::alloc::Global;
 
-fn have_sizes(declarations: &[Declaration]) -> bool
+pub(crate) fn have_sizes(declarations: &[Declaration]) -> bool
     ensures { result ≡ true → AllByRecursion HasSize (map declaration_of declarations.now) }
 {
     for declaration in declarations {
@@ -34,7 +34,7 @@ fn assignment_keeps(declarations: &[Declaration], assignment: &Assignment) -> bo
     }
 }
 
-fn keep_widths(declarations: &[Declaration], assignments: &[Assignment]) -> bool
+pub(crate) fn keep_widths(declarations: &[Declaration], assignments: &[Assignment]) -> bool
     ensures { result ≡ true → AllByRecursion (KeepsWidth (map declaration_of declarations.now)) (map assignment_of assignments.now) }
 {
     for assignment in assignments {
@@ -101,7 +101,7 @@ fn statement_keeps(declarations: &[Declaration], statement: &Statement) -> bool
     }
 }
 
-fn blocks_keep(declarations: &[Declaration], blocks: &[Statement]) -> bool
+pub(crate) fn blocks_keep(declarations: &[Declaration], blocks: &[Statement]) -> bool
     ensures { result ≡ true → AllByRecursion (KeepsWidthsIn (map declaration_of declarations.now)) (map statement_of blocks.now) }
 {
     for block in blocks {
@@ -126,7 +126,7 @@ fn mark(marks: &mut Vec<bool>, assignment: &Assignment) -> bool
 }
 
 // The nets that are driven, where each assignment reads only nets that are not driven behind it.
-fn marks_of(marks: &mut Vec<bool>, assignments: &[Assignment]) -> bool
+pub(crate) fn marks_of(marks: &mut Vec<bool>, assignments: &[Assignment]) -> bool
     requires { AreMarks [] marks.old.items }
     ensures marks { result ≡ true → AreMarks (map assignment_of assignments.now) marks.new.items }
     ensures ordered { result ≡ true → IsOrdered (map assignment_of assignments.now) }

@@ -1,0 +1,82 @@
+-- When the ports of a module are those of a schema and of a result.
+use Rattle.std.specs.Prelude.{◌≡◌, ℕ, Bool, true, false, not, ◌&&◌, ◌≤◌, List, [], ◌∷◌, ◌++◌, map, filter, find, length, take, Option, Some, None, option_map, codes, bytes_eq, slice_get, IfSome}
+use Rattle.std.specs.List.{AllByRecursion}
+use Rattle.gl_bits.specs.Kinds.{width_of}
+use Rattle.gl_schema.specs.declared.schema.Column.{Column}
+use Rattle.gl_schema.specs.declared.schema.Stream.{Stream}
+use Rattle.gl_schema.specs.declared.schema.Schema.{Schema}
+use Rattle.gl_schema.specs.Ports.{rst, eos, in_valid, in_column, out_valid, out_eos, fault_group, fault_queue}
+use Rattle.gl_verilog.specs.Module.{Module, Declaration, Kind, Input, OutputWire, OutputRegister, number_of}
+use Rattle.gl_verilog.specs.Widths.{is_clock}
+
+-- an input port that a schema asks for, and its bits
+pub record InputPort : Type 0 where
+  pub name : List ℕ
+  pub width : ℕ
+
+abbrev pub input_port : List ℕ → ℕ → InputPort
+input_port name width = record { name = name; width = width }
+
+abbrev pub column_inputs : List ℕ → List Column → List InputPort
+column_inputs stream [] = []
+column_inputs stream (c ∷ cs) = input_port (in_column stream c.name) (width_of c.kind) ∷ column_inputs stream cs
+
+abbrev pub streams_inputs : List Stream → List InputPort
+streams_inputs [] = []
+streams_inputs (s ∷ ss) = (input_port (in_valid s.name) 1 ∷ column_inputs s.name s.columns) ++ streams_inputs ss
+
+-- all of them, in the order in which beats are put on them
+abbrev pub inputs_of_schema : Schema → List InputPort
+inputs_of_schema schema = input_port rst 1 ∷ (streams_inputs schema.streams ++ input_port eos 1 ∷ [])
+
+-- the bits of the input port of a name; None where the schema asks for no such port
+abbrev pub input_width : Schema → List ℕ → Option ℕ
+input_width schema name = option_map (λ p. p.width) (find (λ p. bytes_eq p.name name) (inputs_of_schema schema))
+
+abbrev pub ports_of : Module → List Declaration
+ports_of m = take m.ports m.declarations
+
+abbrev pub is_output : Kind → Bool
+is_output OutputWire = true
+is_output OutputRegister = true
+is_output _ = false
+
+-- the port shows a column of the result: an output whose name begins with `out__`, other than valid and the end
+abbrev pub shows_column : Declaration → Bool
+shows_column d = is_output d.kind && bytes_eq (take 5 d.name) (codes "out__") && not (bytes_eq d.name out_valid) && not (bytes_eq d.name out_eos)
+
+-- the columns of the result, in the order of the ports
+abbrev pub result_ports : Module → List Declaration
+result_ports m = filter shows_column (ports_of m)
+
+abbrev pub result_names : Module → List (List ℕ)
+result_names m = map (λ (d : Declaration). d.name) (result_ports m)
+
+abbrev pub result_widths : Module → List ℕ
+result_widths m = map (λ (d : Declaration). d.width) (result_ports m)
+
+-- an output of one bit
+pub record IsLine (d : Declaration) : Type 0 where
+  pub output : is_output d.kind ≡ true
+  pub bit : d.width ≡ 1
+
+-- the declaration of a port by its name
+abbrev pub port_named : Module → List ℕ → Option Declaration
+port_named m name = find (λ (d : Declaration). bytes_eq d.name name) (ports_of m)
+
+-- the module has a line of this name
+pub record HasLine (m : Module) (name : List ℕ) : Type 0 where
+  pub port : Declaration
+  pub there : port_named m name ≡ Some port
+  pub line : IsLine port
+
+-- every input but the clock is one of the schema's, with its bits; the result's lines are there, and a fault line where it is there is
+-- a line; at most 32 columns of at most 64 bits
+pub record FitsSchema (m : Module) (schema : Schema) : Type 0 where
+  pub inputs : (n : ℕ) (d : Declaration) → slice_get m.declarations n ≡ Some d → d.kind ≡ Input → is_clock d ≡ false → input_width schema d.name ≡ Some d.width
+  pub valid : HasLine m out_valid
+  pub end : HasLine m out_eos
+  pub group : IfSome (port_named m fault_group) IsLine
+  pub queue : IfSome (port_named m fault_queue) IsLine
+  pub many : length (result_ports m) ≤ 32
+  pub narrow : AllByRecursion (λ width. width ≤ 64) (result_widths m)
