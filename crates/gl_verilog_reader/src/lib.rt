@@ -14,6 +14,7 @@ pub mod header;
 pub mod judging;
 pub mod lexing;
 pub mod reading;
+pub mod resolving;
 pub mod sorting;
 pub mod stage;
 pub mod statements;
