@@ -9,6 +9,7 @@ ghost use Rattle.gl_verilog.specs.Tokens as tokens;
 ghost use Rattle.gl_verilog.specs.Widths as widths;
 ghost use Rattle.gl_verilog.specs.View.{declaration_of, kind_of, op_of};
 ghost use Rattle.gl_verilog.specs.View as meant;
+ghost use Rattle.gl_verilog_reader.specs.Steps.{op_meant, width_meant, step, steps};
 ghost use Rattle.gl_verilog_reader.specs.View.{expr_of, statement_of, item_of, name_of, names_of, range_of, prefix_of, infix_of};
 
 use crate::fault::VerilogFault;
@@ -132,5 +133,216 @@ fn width_of(declarations: &[Declaration], expr: &Expr) -> Option<u8>
         }
         Expr::Select { high, low, .. } => width_between(*high, *low),
         Expr::Read { memory, .. } => width_at(declarations, *memory),
+    }
+}
+
+fn net(declarations: &[Declaration], name: Word) -> Result<Expr, VerilogFault>
+    ensures { IfOk result (λ x. option_map spec.Net (resolve.number_read (map declaration_of declarations.now) (name_of name.entry)) ≡ Some (meant.expr_of x)) }
+{
+    match number_read(declarations, name.bytes) {
+        Some(n) => Ok(Expr::Net(n)),
+        None => Err(NOT_BUILT),
+    }
+}
+
+fn literal(size: Word, radix: u8, digits: Word) -> Result<Expr, VerilogFault>
+    ensures { IfOk result (λ x. spec.Literal (number_in radix (name_of digits.entry)) (resolve.decimal_number (name_of size.entry)) ≡ meant.expr_of x) }
+{
+    let Some(width) = byte_number(size.bytes) else {
+        return Err(NOT_BUILT);
+    };
+    match big_number(radix, digits.bytes) {
+        Some(value) => Ok(Expr::Literal { value, width }),
+        None => Err(NOT_BUILT),
+    }
+}
+
+fn select(
+    declarations: &[Declaration],
+    name: Word,
+    high: Word,
+    low: Word,
+) -> Result<Expr, VerilogFault>
+    ensures { IfOk result (λ x. option_map (spec.Select (resolve.decimal_number (name_of high.entry)) (resolve.decimal_number (name_of low.entry))) (resolve.number_read (map declaration_of declarations.now) (name_of name.entry)) ≡ Some (meant.expr_of x)) }
+{
+    let Some(high) = byte_number(high.bytes) else {
+        return Err(NOT_BUILT);
+    };
+    let Some(low) = byte_number(low.bytes) else {
+        return Err(NOT_BUILT);
+    };
+    match number_read(declarations, name.bytes) {
+        Some(net) => Ok(Expr::Select { high, low, net }),
+        None => Err(NOT_BUILT),
+    }
+}
+
+fn word(
+    alloc: Global,
+    declarations: &[Declaration],
+    name: Word,
+    address: Expr,
+) -> Result<Expr, VerilogFault>
+    ensures { IfOk result (λ x. resolve.both spec.Read (resolve.number_read (map declaration_of declarations.now) (name_of name.entry)) (Some (meant.expr_of address)) ≡ Some (meant.expr_of x)) }
+{
+    let Some(memory) = number_read(declarations, name.bytes) else {
+        return Err(NOT_BUILT);
+    };
+    let address = Box::new(alloc, address)?;
+    Ok(Expr::Read { memory, address })
+}
+
+fn prefix(
+    alloc: Global,
+    declarations: &[Declaration],
+    op: PrefixOp,
+    arg: Expr,
+) -> Result<Expr, VerilogFault>
+    ensures { IfOk result (λ x. resolve.prefixed (map declaration_of declarations.now) (prefix_of op) (meant.expr_of arg) ≡ meant.expr_of x) }
+{
+    let width = match op {
+        PrefixOp::BitNot => width_of(declarations, &arg),
+        PrefixOp::LogicalNot => Some(1),
+    };
+    let Some(width) = width else {
+        return Err(NOT_BUILT);
+    };
+    let arg = Box::new(alloc, arg)?;
+    Ok(Expr::Invert { width, arg })
+}
+
+// The operator that is meant.
+fn meaning_of(op: InfixOp) -> BinaryOp
+    ensures { op_of result ≡ op_meant (infix_of op) }
+{
+    match op {
+        InfixOp::Times => BinaryOp::Mul,
+        InfixOp::Added => BinaryOp::Add,
+        InfixOp::Subtracted => BinaryOp::Sub,
+        InfixOp::Below => BinaryOp::Lt,
+        InfixOp::AtMost => BinaryOp::Le,
+        InfixOp::Above => BinaryOp::Gt,
+        InfixOp::AtLeast => BinaryOp::Ge,
+        InfixOp::Equal => BinaryOp::Eq,
+        InfixOp::NotEqual => BinaryOp::Ne,
+        InfixOp::BitAnd | InfixOp::LogicalAnd => BinaryOp::And,
+        InfixOp::BitXor => BinaryOp::Xor,
+        InfixOp::BitOr | InfixOp::LogicalOr => BinaryOp::Or,
+    }
+}
+
+// The width that an operator keeps.
+fn operand_width(declarations: &[Declaration], op: InfixOp, left: &Expr) -> Option<u8>
+    ensures { IfSome result (λ w. w ≡ width_meant (map declaration_of declarations.now) (infix_of op) (meant.expr_of left.now)) }
+{
+    match op {
+        InfixOp::LogicalAnd | InfixOp::LogicalOr => Some(1),
+        _ => width_of(declarations, left),
+    }
+}
+
+#[tactic(auto, using(crate::proofs::Resolves::infixed_is))]
+fn infix(
+    alloc: Global,
+    declarations: &[Declaration],
+    op: InfixOp,
+    left: Expr,
+    right: Expr,
+) -> Result<Expr, VerilogFault>
+    ensures { IfOk result (λ x. resolve.infixed (map declaration_of declarations.now) (infix_of op) (meant.expr_of left) (meant.expr_of right) ≡ meant.expr_of x) }
+{
+    let Some(width) = operand_width(declarations, op, &left) else {
+        return Err(NOT_BUILT);
+    };
+    let op = meaning_of(op);
+    let left = Box::new(alloc, left)?;
+    let right = Box::new(alloc, right)?;
+    Ok(Expr::Binary {
+        op,
+        width,
+        left,
+        right,
+    })
+}
+
+fn choose(alloc: Global, test: Expr, yes: Expr, no: Expr) -> Result<Expr, VerilogFault>
+    ensures { IfOk result (λ x. spec.Choose (meant.expr_of test) (meant.expr_of yes) (meant.expr_of no) ≡ meant.expr_of x) }
+{
+    let test = Box::new(alloc, test)?;
+    let yes = Box::new(alloc, yes)?;
+    let no = Box::new(alloc, no)?;
+    Ok(Expr::Choose { test, yes, no })
+}
+
+// Two parts in braces.
+fn join(
+    alloc: Global,
+    declarations: &[Declaration],
+    high: Expr,
+    low: Expr,
+) -> Result<Expr, VerilogFault>
+    ensures { IfOk result (λ x. resolve.joined (map declaration_of declarations.now) (meant.expr_of high) (meant.expr_of low) ≡ meant.expr_of x) }
+{
+    let Some(low_width) = width_of(declarations, &low) else {
+        return Err(NOT_BUILT);
+    };
+    let high = Box::new(alloc, high)?;
+    let low = Box::new(alloc, low)?;
+    Ok(Expr::Join {
+        low_width,
+        high,
+        low,
+    })
+}
+
+// The expression that is meant.
+#[tactic(auto, using(crate::proofs::Resolves::exprs))]
+fn expr_meant(
+    alloc: Global,
+    declarations: &[Declaration],
+    written: &WrittenExpr,
+) -> Result<Expr, VerilogFault>
+    ensures { IfOk result (λ x. resolve.resolve_expr (map declaration_of declarations.now) (expr_of written.now) ≡ Some (meant.expr_of x)) }
+{
+    match written {
+        WrittenExpr::Named(name) => net(declarations, *name),
+        WrittenExpr::Constant {
+            size,
+            radix,
+            digits,
+        } => literal(*size, *radix, *digits),
+        WrittenExpr::BitOf { name, place } => select(declarations, *name, *place, *place),
+        WrittenExpr::PartOf { name, high, low } => select(declarations, *name, *high, *low),
+        WrittenExpr::WordOf { name, address } => {
+            let address = expr_meant(alloc, declarations, address)?;
+            word(alloc, declarations, *name, address)
+        }
+        WrittenExpr::Braces { parts, .. } => match parts.as_slice() {
+            [one] => expr_meant(alloc, declarations, one),
+            [high, low] => {
+                let high = expr_meant(alloc, declarations, high)?;
+                let low = expr_meant(alloc, declarations, low)?;
+                join(alloc, declarations, high, low)
+            }
+            _ => Err(NOT_BUILT),
+        },
+        WrittenExpr::Parens(inner) => expr_meant(alloc, declarations, inner),
+        WrittenExpr::Prefix { op, arg, .. } => {
+            let arg = expr_meant(alloc, declarations, arg)?;
+            prefix(alloc, declarations, *op, arg)
+        }
+        WrittenExpr::Infix {
+            op, left, right, ..
+        } => {
+            let left = expr_meant(alloc, declarations, left)?;
+            let right = expr_meant(alloc, declarations, right)?;
+            infix(alloc, declarations, *op, left, right)
+        }
+        WrittenExpr::Conditional { test, yes, no, .. } => {
+            let test = expr_meant(alloc, declarations, test)?;
+            let yes = expr_meant(alloc, declarations, yes)?;
+            let no = expr_meant(alloc, declarations, no)?;
+            choose(alloc, test, yes, no)
+        }
     }
 }
