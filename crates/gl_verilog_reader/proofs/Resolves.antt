@@ -15,7 +15,7 @@ use Rattle.gl_verilog_reader.specs.declared.written.WrittenExpr.{WrittenExpr}
 use Rattle.gl_verilog_reader.specs.declared.written.WrittenStatement as stmt
 use Rattle.gl_verilog_reader.specs.declared.written.WrittenStatement.{WrittenStatement}
 use Rattle.gl_verilog_reader.specs.View.{prefix_of, infix_of, expr_of, statement_of, parts_list}
-use Rattle.gl_verilog_reader.specs.Steps.{op_meant, width_meant, with_declarations, with_memory, with_assignment, with_block, step, steps}
+use Rattle.gl_verilog_reader.specs.Steps.{op_meant, width_meant, width_in, is_ranged, with_declarations, with_memory, with_assignment, with_block, step, steps}
 use Rattle.gl_verilog_reader.proofs.Views.{expr-Named, expr-Constant, expr-BitOf, expr-PartOf, expr-WordOf, expr-Parens, statement-Update, statement-UpdateWord, item-Wires, item-Registers, item-MemoryOf, item-Assign, item-Always, port-is}
 use Rattle.gl_verilog_reader.proofs.Stack.{braces_are}
 
@@ -74,6 +74,14 @@ two_parts e at parts (a ∷ b ∷ c ∷ xs) x y h eq lo hi is is' = absurd (omeg
 pub joined_meant : {E : Type 0} (ds : List spec.Declaration) (a b : written.WrittenExpr) (x y : spec.Expr) (r : Result Expr E) → resolve_expr ds a ≡ Some x → resolve_expr ds b ≡ Some y → IfOk r (λ z. resolve.joined ds x y ≡ meant.expr_of z) → IfOk r (λ z. resolve_expr ds (written.Parts a b) ≡ Some (meant.expr_of z))
 joined_meant ds a b x y (Ok z) ha hb h = rw (ha, hb) (ap Some h)
 joined_meant ds a b x y (Err e) ha hb h = tt
+
+-- ---- declarations
+
+pub declare_is : (kind : spec.Kind) (range : written.Range) (name : List ℕ) → resolve.declare kind range name ≡ record { name = name; width = width_in range; is_vector = is_ranged range; kind = kind }
+declare_is kind None name = refl
+declare_is kind (Some high) name = refl
+
+pub ruleset lists = (map-append, append_assoc, append-nil)
 
 -- ---- items
 

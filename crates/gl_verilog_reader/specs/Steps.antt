@@ -1,5 +1,5 @@
 -- Resolving a written module from left to right: one step for each item.
-use Rattle.std.specs.Prelude.{ℕ, ◌+◌, List, [], ◌∷◌, ◌++◌, map, Option, Some, None, option_map, option_and_then}
+use Rattle.std.specs.Prelude.{ℕ, Bool, true, false, ◌+◌, List, [], ◌∷◌, ◌++◌, map, Option, Some, None, option_map, option_and_then}
 use Rattle.gl_verilog.specs.Module.{Declaration, Kind, Wire, Register, Memory, BinaryOp, Add, Sub, Mul, And, Xor, Or, Eq, Ne, Lt, Le, Gt, Ge, Expr, Statement, Assignment, number_of}
 use Rattle.gl_verilog.specs.Widths.{width_of}
 use Rattle.gl_verilog.specs.Written.{InfixOp, Times, Added, Subtracted, Below, AtMost, Above, AtLeast, Equal, NotEqual, BitAnd, BitXor, BitOr, LogicalAnd, LogicalOr, Range, WrittenExpr, WrittenStatement, WrittenItem, Wires, Registers, MemoryOf, Assign, Always}
@@ -27,6 +27,16 @@ abbrev pub width_meant : List Declaration → InfixOp → Expr → ℕ
 width_meant ds LogicalAnd x = 1
 width_meant ds LogicalOr x = 1
 width_meant ds _ x = width_of ds x
+
+-- the bits of a range; one bit without a range
+abbrev pub width_in : Range → ℕ
+width_in None = 1
+width_in (Some high) = decimal_number high + 1
+
+-- whether there is a range
+abbrev pub is_ranged : Range → Bool
+is_ranged None = false
+is_ranged (Some high) = true
 
 -- what is resolved so far, and one more item
 abbrev pub with_declarations : List Declaration → Resolved → Resolved

@@ -9,7 +9,7 @@ ghost use Rattle.gl_verilog.specs.Tokens as tokens;
 ghost use Rattle.gl_verilog.specs.Widths as widths;
 ghost use Rattle.gl_verilog.specs.View.{declaration_of, kind_of, op_of};
 ghost use Rattle.gl_verilog.specs.View as meant;
-ghost use Rattle.gl_verilog_reader.specs.Steps.{op_meant, width_meant, step, steps};
+ghost use Rattle.gl_verilog_reader.specs.Steps.{op_meant, width_meant, width_in, is_ranged, step, steps};
 ghost use Rattle.gl_verilog_reader.specs.View.{expr_of, statement_of, item_of, name_of, names_of, range_of, prefix_of, infix_of};
 
 use crate::fault::VerilogFault;
@@ -345,4 +345,154 @@ fn expr_meant(
             choose(alloc, test, yes, no)
         }
     }
+}
+
+// A register takes a value.
+fn put(declarations: &[Declaration], target: Word, value: Expr) -> Result<Statement, VerilogFault>
+    ensures { IfOk result (λ s. resolve.both spec.Put (spec.number_of (map declaration_of declarations.now) (name_of target.entry)) (Some (meant.expr_of value)) ≡ Some (meant.statement_of s)) }
+{
+    match number_of(declarations, target.bytes) {
+        Some(register) => Ok(Statement::Put { register, value }),
+        None => Err(NOT_BUILT),
+    }
+}
+
+// A word of a memory takes a value.
+fn write(
+    declarations: &[Declaration],
+    target: Word,
+    address: Expr,
+    value: Expr,
+) -> Result<Statement, VerilogFault>
+    ensures { IfOk result (λ s. resolve.three spec.Write (spec.number_of (map declaration_of declarations.now) (name_of target.entry)) (Some (meant.expr_of address)) (Some (meant.expr_of value)) ≡ Some (meant.statement_of s)) }
+{
+    match number_of(declarations, target.bytes) {
+        Some(memory) => Ok(Statement::Write {
+            memory,
+            address,
+            value,
+        }),
+        None => Err(NOT_BUILT),
+    }
+}
+
+// One of two statements.
+fn choice(
+    alloc: Global,
+    test: Expr,
+    yes: Statement,
+    no: Statement,
+) -> Result<Statement, VerilogFault>
+    ensures { IfOk result (λ s. spec.If (meant.expr_of test) (meant.statement_of yes) (meant.statement_of no) ≡ meant.statement_of s) }
+{
+    let yes = Box::new(alloc, yes)?;
+    let no = Box::new(alloc, no)?;
+    Ok(Statement::If { test, yes, no })
+}
+
+// The statement that is meant.
+#[tactic(auto, using(crate::proofs::Resolves::statements))]
+fn statement_meant(
+    alloc: Global,
+    declarations: &[Declaration],
+    written: &WrittenStatement,
+) -> Result<Statement, VerilogFault>
+    ensures { IfOk result (λ s. resolve.resolve_statement (map declaration_of declarations.now) (statement_of written.now) ≡ Some (meant.statement_of s)) }
+{
+    match written {
+        WrittenStatement::Update { target, value } => {
+            let value = expr_meant(alloc, declarations, value)?;
+            put(declarations, *target, value)
+        }
+        WrittenStatement::UpdateWord {
+            target,
+            address,
+            value,
+        } => {
+            let address = expr_meant(alloc, declarations, address)?;
+            let value = expr_meant(alloc, declarations, value)?;
+            write(declarations, *target, address, value)
+        }
+        WrittenStatement::IfThen { test, yes, .. } => {
+            let test = expr_meant(alloc, declarations, test)?;
+            let yes = statement_meant(alloc, declarations, yes)?;
+            choice(alloc, test, yes, Statement::Nothing)
+        }
+        WrittenStatement::IfElse { test, yes, no, .. } => {
+            let test = expr_meant(alloc, declarations, test)?;
+            let yes = statement_meant(alloc, declarations, yes)?;
+            let no = statement_meant(alloc, declarations, no)?;
+            choice(alloc, test, yes, no)
+        }
+        WrittenStatement::Block(_) => Err(NOT_BUILT),
+    }
+}
+
+// The bits of a range, and whether there is one.
+fn width_of_range(range: Option<Word>) -> Option<u8>
+    ensures { IfSome result (λ w. w ≡ width_in (range_of range.entry)) }
+{
+    match range {
+        Some(high) => {
+            let high = byte_number(high.bytes)?;
+            high.checked_add(1)
+        }
+        None => Some(1),
+    }
+}
+
+// A declaration of a name.
+#[tactic(auto, using(crate::proofs::Resolves::declare_is))]
+fn declare(
+    alloc: Global,
+    kind: Kind,
+    range: Option<Word>,
+    name: Word,
+) -> Result<Declaration, VerilogFault>
+    ensures { IfOk result (λ d. declaration_of d ≡ resolve.declare (kind_of kind) (range_of range.entry) (name_of name.entry)) }
+{
+    let Some(width) = width_of_range(range) else {
+        return Err(NOT_BUILT);
+    };
+    let is_vector = range.is_some();
+    let name = Listed::from_vec(Vec::from_slice(alloc, name.bytes)?);
+    Ok(Declaration {
+        name,
+        width,
+        is_vector,
+        kind,
+    })
+}
+
+// Declares a name behind the others.
+#[tactic(auto, using(crate::proofs::Resolves::items))]
+fn declare_one(
+    alloc: Global,
+    declarations: &mut Vec<Declaration>,
+    kind: Kind,
+    range: Option<Word>,
+    name: Word,
+) -> Result<(), VerilogFault>
+    ensures { OnOk result (map declaration_of declarations.new.items ≡ map declaration_of declarations.old.items ++ resolve.declare (kind_of kind) (range_of range.entry) (name_of name.entry) ∷ []) }
+{
+    let declaration = declare(alloc, kind, range, name)?;
+    declarations.push(declaration)?;
+    Ok(())
+}
+
+// Declares these names behind the others.
+#[tactic(auto, using(crate::proofs::Resolves::lists))]
+fn declare_all(
+    alloc: Global,
+    declarations: &mut Vec<Declaration>,
+    kind: Kind,
+    range: Option<Word>,
+    names: &[Word],
+) -> Result<(), VerilogFault>
+    ensures { OnOk result (map declaration_of declarations.new.items ≡ map declaration_of declarations.old.items ++ map (resolve.declare (kind_of kind) (range_of range.entry)) (names_of names.now)) }
+{
+    for name in names {
+        declare_one(alloc, declarations, kind, range, *name)?;
+    }
+    Ok(())
 }
