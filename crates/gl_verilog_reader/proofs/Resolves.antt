@@ -1,7 +1,8 @@
 -- What is resolved step by step is what the written module resolves to.
-use Rattle.std.proofs.Common.{◌≡◌, ◌≤◌, ◌<◌, length, get_or, arith, ℕ, ◌+◌, List, [], ◌∷◌, ◌++◌, Option, Some, None, Vec, Global, Box, refl, sym, ap, ◌∙◌, append_assoc}
+use Rattle.std.proofs.Common.{zero, suc, ◌^◌, ◌-◌, ◌≡◌, ◌≤◌, ◌<◌, length, get_or, arith, ℕ, ◌+◌, List, [], ◌∷◌, ◌++◌, Option, Some, None, Vec, Global, Box, refl, sym, ap, subst, ◌∙◌, append_assoc}
 use Rattle.std.specs.Prelude.{Result, Ok, Err, IfOk, map, option_map, option_and_then}
 use Rattle.std.proofs.lemmas.List.{append-nil, map-append}
+use Rattle.std.proofs.lemmas.Bool.{eq-eqb, ne_eqb}
 use Rattle.gl_verilog.specs.Module as spec
 use Rattle.gl_verilog.specs.declared.module.Expr.{Expr}
 use Rattle.gl_verilog.specs.View as meant
@@ -82,6 +83,28 @@ declare_is kind None name = refl
 declare_is kind (Some high) name = refl
 
 pub ruleset lists = (map-append, append_assoc, append-nil)
+
+-- ---- memories
+
+pub bits-none : (words : ℕ) → resolve.address_bits_to 0 words ≡ None
+unfolding resolve.address_bits_to
+bits-none words = refl
+
+pub bits-here : (most words : ℕ) → (most ≡ 0 → ⊥) → words ≡ 2 ^ most → resolve.address_bits_to most words ≡ Some most
+unfolding resolve.address_bits_to
+bits-here zero words h e = absurd (h refl)
+bits-here (suc j) words h e = rw (eq-eqb words (2 ^ suc j) e) refl
+
+pub bits-below : (most words : ℕ) → (most ≡ 0 → ⊥) → (words ≡ 2 ^ most → ⊥) → resolve.address_bits_to most words ≡ resolve.address_bits_to (most - 1) words
+unfolding resolve.address_bits_to
+bits-below zero words h e = absurd (h refl)
+bits-below (suc j) words h e = rw (ne_eqb words (2 ^ suc j) e) (ap (λ (k : ℕ). resolve.address_bits_to k words) (let z : j ≡ suc j - 1 = omega arith in z))
+
+pub ruleset sizes = (bits-none, bits-here, bits-below)
+
+pub bits_are : (words : ℕ) → resolve.address_bits_of words ≡ resolve.address_bits_to 32 words
+unfolding resolve.address_bits_of
+bits_are words = refl
 
 -- ---- items
 
@@ -166,5 +189,21 @@ pub steps-cons : (r s : Resolved) (i : written.WrittenItem) (is : List written.W
 unfolding steps
 steps-cons r s i is h = rw h refl
 
-pub ruleset items = (item-Wires, item-Registers, item-MemoryOf, item-Assign, item-Always, step-Wires, step-Registers, step-MemoryOf, step-Assign, step-Always, map-append)
+pub ruleset items = (item-Wires, item-Registers, item-MemoryOf, item-Assign, item-Always, port-is, step-Wires, step-Registers, step-MemoryOf, step-Assign, step-Always, map-append)
 pub ruleset passes = (steps-nil, steps-cons)
+
+pub whole : (w : written.WrittenModule) (ds : List spec.Declaration) (as' : List spec.Assignment) (bs : List spec.Statement) (is : List written.WrittenItem) (r : Resolved) → ds ≡ map resolve.declare_port w.ports → as' ≡ [] → bs ≡ [] → is ≡ w.items
+    → steps (record { declarations = ds; assignments = as'; blocks = bs }) is ≡ Some r → resolve_items (map resolve.declare_port w.ports) w.items ≡ Some r
+whole w ds as' bs is r ed ea eb ei h =
+    let h1 : steps (record { declarations = map resolve.declare_port w.ports; assignments = as'; blocks = bs }) is ≡ Some r = subst (λ (x : List spec.Declaration). steps (record { declarations = x; assignments = as'; blocks = bs }) is ≡ Some r) ed h in
+    let h2 : steps (record { declarations = map resolve.declare_port w.ports; assignments = []; blocks = bs }) is ≡ Some r = subst (λ (x : List spec.Assignment). steps (record { declarations = map resolve.declare_port w.ports; assignments = x; blocks = bs }) is ≡ Some r) ea h1 in
+    let h3 : steps (record { declarations = map resolve.declare_port w.ports; assignments = []; blocks = [] }) is ≡ Some r = subst (λ (x : List spec.Statement). steps (record { declarations = map resolve.declare_port w.ports; assignments = []; blocks = x }) is ≡ Some r) eb h2 in
+    steps_all (map resolve.declare_port w.ports) w.items r (subst (λ (x : List written.WrittenItem). steps (record { declarations = map resolve.declare_port w.ports; assignments = []; blocks = [] }) x ≡ Some r) ei h3)
+
+pub made : (w : written.WrittenModule) (r : Resolved) (name : List ℕ) (ports : ℕ) (ds : List spec.Declaration) (as' : List spec.Assignment) (bs : List spec.Statement) → resolve_items (map resolve.declare_port w.ports) w.items ≡ Some r
+    → name ≡ w.name → ports ≡ length w.ports → ds ≡ r.declarations → as' ≡ r.assignments → bs ≡ r.blocks → resolve.resolve w ≡ Some (record { name = name; ports = ports; declarations = ds; assignments = as'; blocks = bs })
+made w r name ports ds as' bs h en ep ed ea eb = rw (en, ep, ed, ea, eb) (ap (option_map (resolve.module_from w)) h)
+
+pub as_many : {A B : Type 0} (f : A → B) (xs : List A) → length xs ≡ length (map f xs)
+as_many f [] = refl
+as_many f (x ∷ xs) = ap suc (as_many f xs)

@@ -1,7 +1,7 @@
 //! From a written module to its module: names become the numbers of their declarations, digits
 //! become numbers, and operators keep their operands' width.
 
-ghost use Rattle.std.specs.Prelude.{◌≡◌, ◌+◌, ◌-◌, ◌++◌, ◌∷◌, [], map, option_map, Some, None, IfOk, IfSome, OnOk};
+ghost use Rattle.std.specs.Prelude.{◌≡◌, ◌+◌, ◌-◌, ◌^◌, ◌≤◌, ◌++◌, ◌∷◌, [], map, option_map, Some, None, IfOk, IfSome, OnOk};
 ghost use Rattle.gl_verilog.specs.Module as spec;
 ghost use Rattle.gl_verilog.specs.Resolve as resolve;
 ghost use Rattle.gl_verilog.specs.Tokens.{number_in, number_from};
@@ -9,15 +9,18 @@ ghost use Rattle.gl_verilog.specs.Tokens as tokens;
 ghost use Rattle.gl_verilog.specs.Widths as widths;
 ghost use Rattle.gl_verilog.specs.View.{declaration_of, kind_of, op_of};
 ghost use Rattle.gl_verilog.specs.View as meant;
-ghost use Rattle.gl_verilog_reader.specs.Steps.{op_meant, width_meant, width_in, is_ranged, step, steps};
-ghost use Rattle.gl_verilog_reader.specs.View.{expr_of, statement_of, item_of, name_of, names_of, range_of, prefix_of, infix_of};
+ghost use Rattle.gl_verilog_reader.specs.Steps.{op_meant, width_meant, width_in, is_ranged, with_memory, with_assignment, with_block, step, steps, resolved_of};
+ghost use Rattle.gl_verilog_reader.specs.View.{expr_of, statement_of, item_of, name_of, names_of, range_of, prefix_of, infix_of, port_of, direction_of, module_of};
 
 use crate::fault::VerilogFault;
 use crate::lexing::{digit_of, small_number};
 use crate::token::Word;
-use crate::written::{InfixOp, PrefixOp, WrittenExpr, WrittenStatement};
+use crate::written::{
+    Direction, InfixOp, PrefixOp, WrittenExpr, WrittenItem, WrittenModule, WrittenPort,
+    WrittenStatement,
+};
 use gl_bits::Listed;
-use gl_verilog::{BinaryOp, Declaration, Expr, Kind, Statement};
+use gl_verilog::{Assignment, BinaryOp, Declaration, Expr, Kind, Module, Statement};
 use std::alloc::Global;
 
 // What is not read, or has a fault that the judging pass names.
@@ -495,4 +498,219 @@ fn declare_all(
         declare_one(alloc, declarations, kind, range, *name)?;
     }
     Ok(())
+}
+
+/// What is resolved so far.
+#[derive(Drop)]
+pub struct Built {
+    pub declarations: Vec<Declaration>,
+    pub assignments: Vec<Assignment>,
+    pub blocks: Vec<Statement>,
+}
+
+// 2 to the power of a number of bits.
+fn power(bits: u8) -> u64
+    requires { bits ≤ 32 }
+    ensures { result ≡ 2 ^ bits }
+{
+    1u64 << bits
+}
+
+// j for 2^j words, with j from 1 to the first argument.
+#[tactic(auto, using(crate::proofs::Resolves::sizes))]
+fn bits_to(most: u8, words: u64) -> Option<u8>
+    requires { most ≤ 32 }
+    ensures { result ≡ resolve.address_bits_to most words }
+{
+    if most == 0 {
+        return None;
+    }
+    if words == power(most) {
+        return Some(most);
+    }
+    bits_to(most - 1, words)
+}
+
+// The address bits of a memory whose last word has this number.
+#[tactic(auto, using(crate::proofs::Resolves::bits_are))]
+fn address_bits(last: Word) -> Option<u8>
+    ensures { IfSome result (λ j. resolve.address_bits_of (resolve.decimal_number (name_of last.entry) + 1) ≡ Some j) }
+{
+    let last = small_number(last.bytes)?;
+    bits_to(32, u64::from(last) + 1)
+}
+
+// The number of the clock of a block.
+fn clocked(declarations: &[Declaration], clock: &[u8]) -> Option<usize>
+    ensures { result ≡ resolve.clocked (map declaration_of declarations.now) clock.now }
+{
+    if clock == b"clk".as_slice() {
+        number_of(declarations, clock)
+    } else {
+        None
+    }
+}
+
+#[tactic(auto, using(crate::proofs::Resolves::items))]
+fn take_memory(
+    alloc: Global,
+    built: &mut Built,
+    range: Option<Word>,
+    name: Word,
+    last: Word,
+) -> Result<(), VerilogFault>
+    ensures { OnOk result (option_map (with_memory (resolved_of built.old) (range_of range.entry) (name_of name.entry)) (resolve.address_bits_of (resolve.decimal_number (name_of last.entry) + 1)) ≡ Some (resolved_of built.new)) }
+{
+    let Some(address_bits) = address_bits(last) else {
+        return Err(NOT_BUILT);
+    };
+    let kind = Kind::Memory { address_bits };
+    declare_one(alloc, &mut built.declarations, kind, range, name)?;
+    Ok(())
+}
+
+#[tactic(auto, using(crate::proofs::Resolves::items))]
+fn take_assignment(
+    alloc: Global,
+    built: &mut Built,
+    target: Word,
+    value: &WrittenExpr,
+) -> Result<(), VerilogFault>
+    ensures { OnOk result (resolve.both (with_assignment (resolved_of built.old)) (spec.number_of (resolved_of built.old).declarations (name_of target.entry)) (resolve.resolve_expr (resolved_of built.old).declarations (expr_of value.now)) ≡ Some (resolved_of built.new)) }
+{
+    let Some(target) = number_of(&built.declarations, target.bytes) else {
+        return Err(NOT_BUILT);
+    };
+    let value = expr_meant(alloc, &built.declarations, value)?;
+    built.assignments.push(Assignment { target, value })?;
+    Ok(())
+}
+
+#[tactic(auto, using(crate::proofs::Resolves::items))]
+fn take_block(
+    alloc: Global,
+    built: &mut Built,
+    clock: Word,
+    body: &WrittenStatement,
+) -> Result<(), VerilogFault>
+    ensures { OnOk result (resolve.both (with_block (resolved_of built.old)) (resolve.clocked (resolved_of built.old).declarations (name_of clock.entry)) (resolve.resolve_statement (resolved_of built.old).declarations (statement_of body.now)) ≡ Some (resolved_of built.new)) }
+{
+    let Some(_) = clocked(&built.declarations, clock.bytes) else {
+        return Err(NOT_BUILT);
+    };
+    let statement = statement_meant(alloc, &built.declarations, body)?;
+    built.blocks.push(statement)?;
+    Ok(())
+}
+
+// One more item.
+#[tactic(auto, using(crate::proofs::Resolves::items))]
+fn take_item(
+    alloc: Global,
+    built: &mut Built,
+    item: &WrittenItem,
+) -> Result<(), VerilogFault>
+    ensures { OnOk result (step (resolved_of built.old) (item_of item.now) ≡ Some (resolved_of built.new)) }
+{
+    match item {
+        WrittenItem::Wires { range, names } => declare_all(
+            alloc,
+            &mut built.declarations,
+            Kind::Wire,
+            *range,
+            names.as_slice(),
+        ),
+        WrittenItem::Registers { range, names } => declare_all(
+            alloc,
+            &mut built.declarations,
+            Kind::Register,
+            *range,
+            names.as_slice(),
+        ),
+        WrittenItem::MemoryOf { range, name, last } => take_memory(
+            alloc, built, *range, *name, *last,
+        ),
+        WrittenItem::Assign { target, value } => take_assignment(alloc, built, *target, value),
+        WrittenItem::Always { clock, body } => take_block(alloc, built, *clock, body),
+    }
+}
+
+// All items, in order.
+#[tactic(auto, using(crate::proofs::Resolves::passes))]
+fn take_items(
+    alloc: Global,
+    built: &mut Built,
+    items: &[WrittenItem],
+) -> Result<(), VerilogFault>
+    ensures { OnOk result (steps (resolved_of built.old) (map item_of items.now) ≡ Some (resolved_of built.new)) }
+{
+    for item in items {
+        take_item(alloc, built, item)?;
+    }
+    Ok(())
+}
+
+fn kind_of_port(direction: Direction) -> Kind
+    ensures { kind_of result ≡ resolve.port_kind (direction_of direction) }
+{
+    match direction {
+        Direction::In | Direction::InWire => Kind::Input,
+        Direction::Out | Direction::OutWire => Kind::OutputWire,
+        Direction::OutReg => Kind::OutputRegister,
+    }
+}
+
+#[tactic(auto, using(crate::proofs::Resolves::items))]
+fn declare_port(
+    alloc: Global,
+    declarations: &mut Vec<Declaration>,
+    port: &WrittenPort,
+) -> Result<(), VerilogFault>
+    ensures { OnOk result (map declaration_of declarations.new.items ≡ map declaration_of declarations.old.items ++ resolve.declare_port (port_of port.now) ∷ []) }
+{
+    declare_one(alloc, declarations, kind_of_port(port.direction), port.range, port.name)
+}
+
+// The declarations of the ports, in order.
+#[tactic(auto, using(crate::proofs::Resolves::lists))]
+fn declare_ports(
+    alloc: Global,
+    ports: &[WrittenPort],
+) -> Result<Vec<Declaration>, VerilogFault>
+    ensures { IfOk result (λ v. map declaration_of v.items ≡ map resolve.declare_port (map port_of ports.now)) }
+{
+    let mut declarations = Vec::new(alloc);
+    for port in ports {
+        declare_port(alloc, &mut declarations, port)?;
+    }
+    Ok(declarations)
+}
+
+// What the ports and the items of a module are.
+fn build(alloc: Global, written: &WrittenModule) -> Result<Built, VerilogFault>
+    ensures { IfOk result (λ b. resolve.resolve_items (map resolve.declare_port (module_of written.now).ports) (module_of written.now).items ≡ Some (resolved_of b)) }
+{
+    let declarations = declare_ports(alloc, &written.ports)?;
+    let mut built = Built {
+        declarations,
+        assignments: Vec::new(alloc),
+        blocks: Vec::new(alloc),
+    };
+    take_items(alloc, &mut built, &written.items)?;
+    Ok(built)
+}
+
+/// The module that is meant, where its names resolve and it is built of what is read so far.
+pub fn resolved(alloc: Global, written: &WrittenModule) -> Result<Module, VerilogFault>
+    ensures { IfOk result (λ m. resolve.resolve (module_of written.now) ≡ Some (meant.module_of m)) }
+{
+    let built = build(alloc, written)?;
+    let bytes = Vec::from_slice(alloc, written.name.bytes)?;
+    Ok(Module {
+        name: Listed::from_vec(bytes),
+        ports: written.ports.len(),
+        declarations: Listed::from_vec(built.declarations),
+        assignments: Listed::from_vec(built.assignments),
+        blocks: Listed::from_vec(built.blocks),
+    })
 }
