@@ -1,7 +1,8 @@
 -- What is resolved step by step is what the written module resolves to.
-use Rattle.std.proofs.Common.{zero, suc, ◌^◌, ◌-◌, ◌≡◌, ◌≤◌, ◌<◌, length, get_or, arith, ℕ, ◌+◌, List, [], ◌∷◌, ◌++◌, Option, Some, None, Vec, Global, Box, refl, sym, ap, subst, ◌∙◌, append_assoc}
+use Rattle.std.proofs.Common.{drop, drop-cons, zero, suc, ◌^◌, ◌-◌, ◌≡◌, ◌≤◌, ◌<◌, length, get_or, arith, ℕ, ◌+◌, List, [], ◌∷◌, ◌++◌, Option, Some, None, Vec, Global, Box, refl, sym, ap, subst, ◌∙◌, append_assoc}
 use Rattle.std.specs.Prelude.{Result, Ok, Err, IfOk, map, option_map, option_and_then}
-use Rattle.std.proofs.lemmas.List.{append-nil, map-append}
+use Rattle.std.proofs.lemmas.List.{append-nil, map-append, drop_all}
+use Rattle.gl_verilog_reader.specs.declared.written.WrittenItem.{WrittenItem}
 use Rattle.std.proofs.lemmas.Bool.{eq-eqb, ne_eqb}
 use Rattle.gl_verilog.specs.Module as spec
 use Rattle.gl_verilog.specs.declared.module.Expr.{Expr}
@@ -15,7 +16,7 @@ use Rattle.gl_verilog_reader.specs.declared.written.WrittenExpr as expr
 use Rattle.gl_verilog_reader.specs.declared.written.WrittenExpr.{WrittenExpr}
 use Rattle.gl_verilog_reader.specs.declared.written.WrittenStatement as stmt
 use Rattle.gl_verilog_reader.specs.declared.written.WrittenStatement.{WrittenStatement}
-use Rattle.gl_verilog_reader.specs.View.{prefix_of, infix_of, expr_of, statement_of, parts_list}
+use Rattle.gl_verilog_reader.specs.View.{prefix_of, infix_of, expr_of, statement_of, item_of, parts_list}
 use Rattle.gl_verilog_reader.specs.Steps.{op_meant, width_meant, width_in, is_ranged, with_declarations, with_memory, with_assignment, with_block, step, steps}
 use Rattle.gl_verilog_reader.proofs.Views.{expr-Named, expr-Constant, expr-BitOf, expr-PartOf, expr-WordOf, expr-Parens, statement-Update, statement-UpdateWord, item-Wires, item-Registers, item-MemoryOf, item-Assign, item-Always, port-is}
 use Rattle.gl_verilog_reader.proofs.Stack.{braces_are}
@@ -207,3 +208,17 @@ made w r name ports ds as' bs h en ep ed ea eb = rw (en, ep, ed, ea, eb) (ap (op
 pub as_many : {A B : Type 0} (f : A → B) (xs : List A) → length xs ≡ length (map f xs)
 as_many f [] = refl
 as_many f (x ∷ xs) = ap suc (as_many f xs)
+
+-- an item more
+pub take_next : (xs : List WrittenItem) (k : ℕ) (x : WrittenItem) (r s : Resolved) (t : Option Resolved) → k < length xs → x ≡ get_or xs k x → step r (item_of x) ≡ Some s → steps r (map item_of (drop k xs)) ≡ t → steps s (map item_of (drop (k + 1) xs)) ≡ t
+take_next xs k x r s t lt is h inv =
+    let more : k + 1 ≡ suc k = omega arith in
+    sym (steps-cons r s (item_of x) (map item_of (drop (k + 1) xs)) h)
+    ∙ ap (λ (y : WrittenItem). steps r (item_of y ∷ map item_of (drop (k + 1) xs))) is
+    ∙ ap (λ (n : ℕ). steps r (item_of (get_or xs k x) ∷ map item_of (drop n xs))) more
+    ∙ sym (ap (λ (ys : List WrittenItem). steps r (map item_of ys)) (drop-cons xs k x lt))
+    ∙ inv
+
+-- no item is left
+pub take_end : (xs : List WrittenItem) (k : ℕ) (s : Resolved) (t : Option Resolved) → length xs ≤ k → steps s (map item_of (drop k xs)) ≡ t → t ≡ Some s
+take_end xs k s t le inv = sym inv ∙ ap (λ (ys : List WrittenItem). steps s (map item_of ys)) (drop_all k xs le) ∙ steps-nil s

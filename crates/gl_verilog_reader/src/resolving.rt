@@ -706,9 +706,10 @@ pub fn resolved(alloc: Global, written: &WrittenModule) -> Result<Module, Verilo
 {
     let built = build(alloc, written)?;
     let bytes = Vec::from_slice(alloc, written.name.bytes)?;
+    let ports = written.ports.as_slice();
     Ok(Module {
         name: Listed::from_vec(bytes),
-        ports: written.ports.len(),
+        ports: ports.len(),
         declarations: Listed::from_vec(built.declarations),
         assignments: Listed::from_vec(built.assignments),
         blocks: Listed::from_vec(built.blocks),
