@@ -139,7 +139,7 @@ at_block s (Some n) (Some x) is h = h (record s { blocks = s.blocks ++ x ∷ [] 
 
 at_memory : (s : Resolved) (range : written.Range) (name : List ℕ) (bits : Option ℕ) (is : List written.WrittenItem) → ((s' : Resolved) → steps s' is ≡ option_map (behind s') (resolve_items s'.declarations is))
     → option_and_then (λ s'. steps s' is) (option_map (λ j. record s { declarations = s.declarations ++ resolve.declare (spec.Memory j) range name ∷ [] }) bits)
-      ≡ option_map (behind s) (option_and_then (λ j. resolve_items (s.declarations ++ resolve.declare (spec.Memory j) range name ∷ []) is) bits)
+    ≡ option_map (behind s) (option_and_then (λ j. resolve_items (s.declarations ++ resolve.declare (spec.Memory j) range name ∷ []) is) bits)
 at_memory s range name None is h = refl
 at_memory s range name (Some j) is h = h (record s { declarations = s.declarations ++ resolve.declare (spec.Memory j) range name ∷ [] })
 
@@ -191,6 +191,7 @@ unfolding steps
 steps-cons r s i is h = rw h refl
 
 pub ruleset items = (item-Wires, item-Registers, item-MemoryOf, item-Assign, item-Always, port-is, step-Wires, step-Registers, step-MemoryOf, step-Assign, step-Always, map-append)
+
 pub ruleset passes = (steps-nil, steps-cons)
 
 pub whole : (w : written.WrittenModule) (ds : List spec.Declaration) (as' : List spec.Assignment) (bs : List spec.Statement) (is : List written.WrittenItem) (r : Resolved) → ds ≡ map resolve.declare_port w.ports → as' ≡ [] → bs ≡ [] → is ≡ w.items

@@ -1,9 +1,9 @@
 -- Resolving a written module from left to right: one step for each item.
 use Rattle.std.specs.Prelude.{ℕ, Bool, true, false, ◌+◌, List, [], ◌∷◌, ◌++◌, map, Option, Some, None, option_map, option_and_then}
-use Rattle.gl_verilog.specs.Module.{Declaration, Kind, Wire, Register, Memory, BinaryOp, Add, Sub, Mul, And, Xor, Or, Eq, Ne, Lt, Le, Gt, Ge, Expr, Statement, Assignment, number_of}
+use Rattle.gl_verilog.specs.Module.{Declaration, Wire, Register, Memory, BinaryOp, Add, Sub, Mul, And, Xor, Or, Eq, Ne, Lt, Le, Gt, Ge, Expr, Statement, number_of}
 use Rattle.gl_verilog.specs.View as meant
 use Rattle.gl_verilog.specs.Widths.{width_of}
-use Rattle.gl_verilog.specs.Written.{InfixOp, Times, Added, Subtracted, Below, AtMost, Above, AtLeast, Equal, NotEqual, BitAnd, BitXor, BitOr, LogicalAnd, LogicalOr, Range, WrittenExpr, WrittenStatement, WrittenItem, Wires, Registers, MemoryOf, Assign, Always}
+use Rattle.gl_verilog.specs.Written.{InfixOp, Times, Added, Subtracted, Below, AtMost, Above, AtLeast, Equal, NotEqual, BitAnd, BitXor, BitOr, LogicalAnd, LogicalOr, Range, WrittenItem, Wires, Registers, MemoryOf, Assign, Always}
 use Rattle.gl_verilog.specs.Resolve.{Resolved, both, declare, decimal_number, address_bits_of, clocked, resolve_expr, resolve_statement}
 use Rattle.gl_verilog_reader.specs.declared.resolving.Built.{Built}
 

@@ -40,7 +40,7 @@ pub fn read_written<'a>(alloc: Global, text: &'a [u8]) -> Result<WrittenModule<'
     reading::written_of(alloc, &lexemes, text.len())
 }
 
-// The first fault of a written module that is not built.
+// The first fault of a written module, or that it is not read yet.
 fn fault_of(alloc: Global, written: &WrittenModule) -> VerilogFault {
     match judging::module_of(alloc, written) {
         Ok(_) => VerilogFault::NotBuilt { at: 0 },
@@ -48,7 +48,7 @@ fn fault_of(alloc: Global, written: &WrittenModule) -> VerilogFault {
     }
 }
 
-// The valid module that is meant.
+// The module that is meant, where it is valid.
 fn valid_module(alloc: Global, written: &WrittenModule) -> Result<Module, VerilogFault>
     ensures resolved { IfOk result (λ m. resolve (module_of written.now) ≡ Some (meant.module_of m)) }
     ensures valid { IfOk result (λ m. IsValid (meant.module_of m)) }
@@ -61,7 +61,9 @@ fn valid_module(alloc: Global, written: &WrittenModule) -> Result<Module, Verilo
     }
 }
 
-/// The module of a text, or the first fault.
+/// The module of a text, or a fault. What is answered is the module of the text, and it is valid.
+/// Of a fault the contract says nothing: its kind and place are those of the judging pass, and
+/// `NotBuilt` where that finds none.
 pub fn read_module(alloc: Global, text: &[u8]) -> Result<Module, VerilogFault>
     ensures found { IfOk result (λ m. HasModule text.now (meant.module_of m)) }
 {

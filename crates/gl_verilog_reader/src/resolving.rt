@@ -77,7 +77,11 @@ fn byte_number(digits: &[u8]) -> Option<u8>
     ensures { IfSome result (λ n. n ≡ resolve.decimal_number digits.now) }
 {
     let number = small_number(digits)?;
-    if number < 256 { Some(number as u8) } else { None }
+    if number < 256 {
+        Some(number as u8)
+    } else {
+        None
+    }
 }
 
 // The bits of the declaration of this number.
@@ -129,7 +133,9 @@ fn width_of(declarations: &[Declaration], expr: &Expr) -> Option<u8>
         Expr::Binary { op, width, .. } => Some(width_after(*op, *width)),
         Expr::Choose { yes, .. } => width_of(declarations, yes),
         Expr::Join {
-            low_width, high, ..
+            low_width,
+            high,
+            ..
         } => {
             let high = width_of(declarations, high)?;
             width_of_both(high, *low_width)
@@ -335,7 +341,10 @@ fn expr_meant(
             prefix(alloc, declarations, *op, arg)
         }
         WrittenExpr::Infix {
-            op, left, right, ..
+            op,
+            left,
+            right,
+            ..
         } => {
             let left = expr_meant(alloc, declarations, left)?;
             let right = expr_meant(alloc, declarations, right)?;
@@ -605,11 +614,7 @@ fn take_block(
 
 // One more item.
 #[tactic(auto, using(crate::proofs::Resolves::items))]
-fn take_item(
-    alloc: Global,
-    built: &mut Built,
-    item: &WrittenItem,
-) -> Result<(), VerilogFault>
+fn take_item(alloc: Global, built: &mut Built, item: &WrittenItem) -> Result<(), VerilogFault>
     ensures { OnOk result (step (resolved_of built.old) (item_of item.now) ≡ Some (resolved_of built.new)) }
 {
     match item {
@@ -637,11 +642,7 @@ fn take_item(
 
 // All items, in order.
 #[tactic(auto, using(crate::proofs::Resolves::passes))]
-fn take_items(
-    alloc: Global,
-    built: &mut Built,
-    items: &[WrittenItem],
-) -> Result<(), VerilogFault>
+fn take_items(alloc: Global, built: &mut Built, items: &[WrittenItem]) -> Result<(), VerilogFault>
     ensures { OnOk result (steps (resolved_of built.old) (map item_of items.now) ≡ Some (resolved_of built.new)) }
 {
     for item in items {
@@ -668,15 +669,18 @@ fn declare_port(
 ) -> Result<(), VerilogFault>
     ensures { OnOk result (map declaration_of declarations.new.items ≡ map declaration_of declarations.old.items ++ resolve.declare_port (port_of port.now) ∷ []) }
 {
-    declare_one(alloc, declarations, kind_of_port(port.direction), port.range, port.name)
+    declare_one(
+        alloc,
+        declarations,
+        kind_of_port(port.direction),
+        port.range,
+        port.name,
+    )
 }
 
 // The declarations of the ports, in order.
 #[tactic(auto, using(crate::proofs::Resolves::lists))]
-fn declare_ports(
-    alloc: Global,
-    ports: &[WrittenPort],
-) -> Result<Vec<Declaration>, VerilogFault>
+fn declare_ports(alloc: Global, ports: &[WrittenPort]) -> Result<Vec<Declaration>, VerilogFault>
     ensures { IfOk result (λ v. map declaration_of v.items ≡ map resolve.declare_port (map port_of ports.now)) }
 {
     let mut declarations = Vec::new(alloc);

@@ -1,4 +1,4 @@
-use Rattle.std.proofs.Common.{◌≡◌, ◌∙◌, List, ap, map}
+use Rattle.std.proofs.Common.{◌∙◌, List, ap, map}
 use Rattle.gl_verilog.specs.View.{declaration_of, assignment_of, statement_of}
 use Rattle.gl_verilog.specs.Resolve as resolve
 use Rattle.gl_verilog_reader.specs.declared.written.WrittenPort.{WrittenPort}

@@ -1,4 +1,4 @@
-use Rattle.std.proofs.Common.{List, length, ◌≡◌, ◌∙◌, ap, map, sym}
+use Rattle.std.proofs.Common.{List, length, ◌∙◌, ap, map}
 use Rattle.gl_verilog.specs.View.{declaration_of, assignment_of, statement_of}
 use Rattle.gl_verilog_reader.specs.declared.written.WrittenPort.{WrittenPort}
 use Rattle.gl_verilog_reader.specs.View.{module_of, port_of}

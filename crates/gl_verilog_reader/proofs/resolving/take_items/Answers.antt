@@ -1,6 +1,5 @@
-use Rattle.std.proofs.Common.{◌≡◌, ◌≤◌, length, arith, map}
-use Rattle.gl_verilog_reader.specs.View.{item_of}
-use Rattle.gl_verilog_reader.specs.Steps.{steps, resolved_of}
+use Rattle.std.proofs.Common.{arith}
+use Rattle.gl_verilog_reader.specs.Steps.{resolved_of}
 use Rattle.gl_verilog_reader.proofs.Resolves.{take_next, take_end}
 use Rattle.gl_verilog_reader.proofs.resolving.take_items.Goals as goal
 
