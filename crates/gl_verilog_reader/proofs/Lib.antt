@@ -4,3 +4,4 @@ pub mod Closers
 pub mod LexSteps
 pub mod Runs
 pub mod Spelled
+pub mod Resolves

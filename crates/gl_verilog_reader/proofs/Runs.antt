@@ -1,8 +1,8 @@
 -- One token of the machine's run, its end, and what the run says of the tokens.
-use Rattle.std.proofs.Common.{◌≡◌, ℕ, ◌+◌, ◌<◌, ◌≤◌, Bool, true, false, List, [], ◌∷◌, length, drop, get_or, Option, Some, None, Result, Ok, Err, refl, sym, ap, ◌∙◌, add-one, drop-cons}
+use Rattle.std.proofs.Common.{◌≡◌, ℕ, ◌+◌, ◌<◌, ◌≤◌, true, false, List, [], ◌∷◌, length, drop, get_or, Option, Some, None, Result, Ok, Err, refl, sym, ap, ◌∙◌, add-one, drop-cons}
 use Rattle.std.proofs.lemmas.List.{drop_all}
 use Rattle.gl_verilog.specs.Tokens.{Token}
-use Rattle.gl_verilog.specs.Written.{WrittenModule, spell}
+use Rattle.gl_verilog.specs.Written.{WrittenModule}
 use Rattle.gl_verilog.specs.Machine.{State, start, step, is_past, run, checked, finish, Fault, Syntax, TooDeep, or_fault}
 use Rattle.gl_verilog.specs.Text.{IsSpelling}
 use Rattle.gl_verilog.proofs.ReadModules.{run_spell}

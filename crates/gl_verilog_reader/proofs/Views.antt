@@ -1,5 +1,5 @@
 -- What each value stands for, by its variant.
-use Rattle.std.proofs.Common.{◌≡◌, ℕ, List, Option, Vec, Global, Box, refl}
+use Rattle.std.proofs.Common.{◌≡◌, ℕ, Option, Vec, Global, Box, refl}
 use Rattle.std.specs.Prelude.{map}
 use Rattle.gl_verilog.specs.Written as written
 use Rattle.gl_verilog.specs.Machine as machine

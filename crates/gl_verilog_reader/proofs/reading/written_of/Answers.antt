@@ -1,5 +1,5 @@
 -- Where the reading of a token or the end fails, the machine reads no module.
-use Rattle.std.proofs.Common.{ℕ, ◌≤◌, ◌<◌, length, arith}
+use Rattle.std.proofs.Common.{◌≤◌, ◌<◌, length, arith}
 use Rattle.gl_verilog_reader.specs.View.{view}
 use Rattle.gl_verilog_reader.proofs.Runs.{run_fails, run_finish}
 use Rattle.gl_verilog_reader.proofs.reading.written_of.Goals as goal
