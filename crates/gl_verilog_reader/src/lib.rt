@@ -21,6 +21,8 @@ pub mod resolving;
 pub mod sorting;
 pub mod stage;
 pub mod statements;
+#[cfg(test)]
+mod tests;
 pub mod token;
 pub mod written;
 
