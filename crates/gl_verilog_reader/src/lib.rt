@@ -17,6 +17,8 @@ pub mod reading;
 pub mod sorting;
 pub mod stage;
 pub mod statements;
+#[cfg(test)]
+mod tests;
 pub mod token;
 pub mod written;
 
