@@ -137,6 +137,133 @@ fn a_select_is_its_module_in_any_layout(rt: HostRuntime) -> Result<(), Fail> {
 
 // ---- pairs
 
+// What an output of the bits from `high` to 0 is assigned. The nets are c 0, a 1, b 2 and d 3.
+fn assigned(alloc: Global, high: u8, value: &str) -> Result<String, Fail> {
+    let text = format!(in alloc;
+        "module t(input wire c, input wire [3:0] a, input wire [3:0] b, input wire [3:0] d, output wire [{high}:0] o); assign o = {value}; endmodule"
+    )?;
+    let design = module_of(alloc, &text)?;
+    match design.assignments.as_slice() {
+        [assignment] => Ok(format!(in alloc; "{:?}", assignment.value)?),
+        _ => Err(Fail::new("one assignment")),
+    }
+}
+
+#[test]
+fn expressions_that_look_alike_are_told_apart(rt: HostRuntime) -> Result<(), Fail> {
+    for (high, text, want) in [
+        (
+            0,
+            "a < b",
+            "Binary { op: Lt, width: 4, left: Net(1), right: Net(2) }",
+        ),
+        (
+            0,
+            "a <= b",
+            "Binary { op: Le, width: 4, left: Net(1), right: Net(2) }",
+        ),
+        (
+            3,
+            "a + b",
+            "Binary { op: Add, width: 4, left: Net(1), right: Net(2) }",
+        ),
+        (
+            3,
+            "a - b",
+            "Binary { op: Sub, width: 4, left: Net(1), right: Net(2) }",
+        ),
+        (
+            3,
+            "a & b",
+            "Binary { op: And, width: 4, left: Net(1), right: Net(2) }",
+        ),
+        (
+            3,
+            "a | b",
+            "Binary { op: Or, width: 4, left: Net(1), right: Net(2) }",
+        ),
+        (
+            3,
+            "a - b - d",
+            "Binary { op: Sub, width: 4, left: Binary { op: Sub, width: 4, left: Net(1), right: Net(2) }, right: Net(3) }",
+        ),
+        (
+            3,
+            "a - (b - d)",
+            "Binary { op: Sub, width: 4, left: Net(1), right: Binary { op: Sub, width: 4, left: Net(2), right: Net(3) } }",
+        ),
+        (
+            3,
+            "a + b * d",
+            "Binary { op: Add, width: 4, left: Net(1), right: Binary { op: Mul, width: 4, left: Net(2), right: Net(3) } }",
+        ),
+        (
+            3,
+            "(a + b) * d",
+            "Binary { op: Mul, width: 4, left: Binary { op: Add, width: 4, left: Net(1), right: Net(2) }, right: Net(3) }",
+        ),
+        (
+            3,
+            "~a ^ b",
+            "Binary { op: Xor, width: 4, left: Invert { width: 4, arg: Net(1) }, right: Net(2) }",
+        ),
+        (
+            3,
+            "~(a ^ b)",
+            "Invert { width: 4, arg: Binary { op: Xor, width: 4, left: Net(1), right: Net(2) } }",
+        ),
+        (
+            0,
+            "a == b || c && c",
+            "Binary { op: Or, width: 1, left: Binary { op: Eq, width: 4, left: Net(1), right: Net(2) }, right: Binary { op: And, width: 1, left: Net(0), right: Net(0) } }",
+        ),
+        (
+            0,
+            "(a != b || c) && c",
+            "Binary { op: And, width: 1, left: Binary { op: Or, width: 1, left: Binary { op: Ne, width: 4, left: Net(1), right: Net(2) }, right: Net(0) }, right: Net(0) }",
+        ),
+        (
+            3,
+            "c ? a : b",
+            "Choose { test: Net(0), yes: Net(1), no: Net(2) }",
+        ),
+        (
+            3,
+            "c ? b : a",
+            "Choose { test: Net(0), yes: Net(2), no: Net(1) }",
+        ),
+        (
+            3,
+            "c ? a : c ? b : d",
+            "Choose { test: Net(0), yes: Net(1), no: Choose { test: Net(0), yes: Net(2), no: Net(3) } }",
+        ),
+        (
+            7,
+            "{a, b}",
+            "Join { low_width: 4, high: Net(1), low: Net(2) }",
+        ),
+        (
+            7,
+            "{b, a}",
+            "Join { low_width: 4, high: Net(2), low: Net(1) }",
+        ),
+        (
+            8,
+            "{c, a, b}",
+            "Join { low_width: 8, high: Net(0), low: Join { low_width: 4, high: Net(1), low: Net(2) } }",
+        ),
+        (1, "a[3:2]", "Select { high: 3, low: 2, net: 1 }"),
+        (1, "a[2:1]", "Select { high: 2, low: 1, net: 1 }"),
+        (0, "a[2]", "Select { high: 2, low: 2, net: 1 }"),
+        (3, "4'd5", "Literal { value: 5, width: 4 }"),
+        (3, "4'h6", "Literal { value: 6, width: 4 }"),
+        (3, "4'b01_11", "Literal { value: 7, width: 4 }"),
+    ] {
+        assert_eq!(rt; assigned(rt.alloc(), high, text)?.as_str(), want, "{text}");
+    }
+    Ok(())
+}
+
 // What two blocks do. The nets are c 1, d 2, x 3 and y 4, the registers r 5 and s 6.
 fn clocked(alloc: Global, first: &str, second: &str) -> Result<String, Fail> {
     let text = format!(in alloc;
@@ -178,6 +305,35 @@ fn blocks_that_look_alike_are_told_apart(rt: HostRuntime) -> Result<(), Fail> {
             "if (c) if (d) r <= x; else r <= y; else r <= s;",
             "s <= y;",
             "[If { test: Net(1), yes: If { test: Net(2), yes: Put { register: 5, value: Net(3) }, no: Put { register: 5, value: Net(4) } }, no: Put { register: 5, value: Net(6) } }, Put { register: 6, value: Net(4) }]",
+        ),
+    ] {
+        let alloc = rt.alloc();
+        assert_eq!(rt;
+            clocked(alloc, first, second)?.as_str(),
+            want,
+            "{first} {second}"
+        );
+    }
+    Ok(())
+}
+
+#[test]
+fn an_else_does_not_pass_an_end(rt: HostRuntime) -> Result<(), Fail> {
+    for (first, second, want) in [
+        (
+            "if (c) begin if (d) r <= x; end else r <= y;",
+            "s <= y;",
+            "[If { test: Net(1), yes: Block([If { test: Net(2), yes: Put { register: 5, value: Net(3) }, no: Nothing }]), no: Put { register: 5, value: Net(4) } }, Put { register: 6, value: Net(4) }]",
+        ),
+        (
+            "if (c) begin if (d) r <= x; else r <= y; end",
+            "s <= y;",
+            "[If { test: Net(1), yes: Block([If { test: Net(2), yes: Put { register: 5, value: Net(3) }, no: Put { register: 5, value: Net(4) } }]), no: Nothing }, Put { register: 6, value: Net(4) }]",
+        ),
+        (
+            "begin r <= x; s <= y; end",
+            "begin end",
+            "[Block([Put { register: 5, value: Net(3) }, Put { register: 6, value: Net(4) }]), Block([])]",
         ),
     ] {
         let alloc = rt.alloc();
