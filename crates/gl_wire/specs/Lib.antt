@@ -1,0 +1,5 @@
+pub mod Wire
+pub mod Beats
+pub mod Serves
+pub mod Shapes
+pub mod Spills
