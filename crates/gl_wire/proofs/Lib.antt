@@ -5,3 +5,5 @@ pub mod ComposeLemmas
 pub mod SpillLemmas
 pub mod LiftLemmas
 pub mod LiftSpillLemmas
+pub mod SettledLemmas
+pub mod SpillTwoLemmas

@@ -87,7 +87,7 @@ module _ (f : Figures) (beats : Beats) (s : Carried) (fits : Fits f beats s) (sp
       rest (Some r) q = absurd (omega (arith, q))
 
   -- a tuple comes of a beat with the end
-  closing_caused : (c : ℕ) (r : Row) → s.tuple c ≡ Some r → EndCaused f beats c
+  pub closing_caused : (c : ℕ) (r : Row) → s.tuple c ≡ Some r → EndCaused f beats c
   closing_caused c r h = by (fits.tuples c r h) (fits.tuples c r h).end refl
     where
       by : (q : Caused f beats c) (e : Bool) → q.end ≡ e → EndCaused f beats c
@@ -250,14 +250,14 @@ module _ (f : Figures) (means : ℕ → List Row → List Row → Type 0) (count
       by (Some k) p rest = absurd (h c k p (omega arith) (omega arith))
 
   -- the visits before a stretch of cycles are over, and those after it are not yet heard
-  record Apart (c n : ℕ) : Type 0 where
-    before : (u k : ℕ) → who u ≡ Some k → u < c → u + (f.le + 1) ≤ c + f.a
-    after : (u k : ℕ) → who u ≡ Some k → c + n ≤ u → c + n + f.le ≤ u + f.a
+  pub record Apart (c n : ℕ) : Type 0 where
+    pub before : (u k : ℕ) → who u ≡ Some k → u < c → u + (f.le + 1) ≤ c + f.a
+    pub after : (u k : ℕ) → who u ≡ Some k → c + n ≤ u → c + n + f.le ≤ u + f.a
 
   rows_none : (n c : ℕ) → ((d u k : ℕ) → c ≤ d → d < c + n → who u ≡ Some k → u + f.a ≤ d → d ≤ u + f.le → ⊥) → rows (all_of outs count) c n ≡ []
   rows_none n c h = rows-quiet (all_of outs count) n c (λ d l m. any_quiet d (λ u k p low high. h d u k l m p low high))
 
-  joined : (fuel n c : ℕ) → n ≤ fuel → f.a ≤ f.le → Apart c n → Joined means (visits who ins c n) (rows (all_of outs count) (c + f.a) (n + (f.le - f.a)))
+  pub joined : (fuel n c : ℕ) → n ≤ fuel → f.a ≤ f.le → Apart c n → Joined means (visits who ins c n) (rows (all_of outs count) (c + f.a) (n + (f.le - f.a)))
   joined fuel zero c small wide ap' =
       rows_none (zero + (f.le - f.a)) (c + f.a) (λ d u k l m p low high. elim (cases_lt u c) [
           inl q ↦ omega (arith, ap'.before u k p q, l, high)

@@ -33,18 +33,18 @@ no_spill2 f g h m a b o s = record { served = λ beats spaced fa fb. let x = s.s
     risen = λ c d l q. absurd (cc (q));
   } }
 
-either : (p q : Bool) → (p || q) ≡ true → (p ≡ true) ⊎ (q ≡ true)
+pub either : (p q : Bool) → (p || q) ≡ true → (p ≡ true) ⊎ (q ≡ true)
 either true q h = inl refl
 either false q h = inr h
 
-left_of : (p q : Bool) → p ≡ true → (p || q) ≡ true
+pub left_of : (p q : Bool) → p ≡ true → (p || q) ≡ true
 left_of p q h = rw h refl
 
-right_of : (p q : Bool) → q ≡ true → (p || q) ≡ true
+pub right_of : (p q : Bool) → q ≡ true → (p || q) ≡ true
 right_of true q h = refl
 right_of false q h = h
 
-neither : (p q : Bool) → p ≡ false → q ≡ false → (p || q) ≡ false
+pub neither : (p q : Bool) → p ≡ false → q ≡ false → (p || q) ≡ false
 neither p q h i = rw h i
 
 pub then_spills : (f g k : Figures) (m n : Relation) (la lb : Lines) (a b c : Carried) → NoCloser g k → ServesWithLines f g m la a b → ServesWithLines g k n lb b c → ServesWithLines f k (spills_with m n) (both_lines la lb) a c

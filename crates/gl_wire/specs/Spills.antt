@@ -71,3 +71,7 @@ no_lines = record { passed = λ c. false; further = λ c. false }
 -- the lines of two blocks together
 abbrev pub both_lines : Lines → Lines → Lines
 both_lines p q = record { passed = λ c. p.passed c || q.passed c; further = λ c. p.further c || q.further c }
+
+-- a meaning of two inputs after one on each of them: each may spill
+abbrev pub spills_with2 : Relation → Relation → Relation2 → Relation2
+spills_with2 m n o vs ws zs p = (xs : List Row) × (ys : List Row) × (q : Bool) × (r : Bool) × (s : Bool) × (m vs xs q) × (n ws ys r) × (o xs ys zs s) × (p ≡ (q || r) || s)
