@@ -1,15 +1,15 @@
 -- A block that gives one row at each end serves the total of the stream.
-use Rattle.std.proofs.Common.{◌≡◌, ℕ, zero, suc, ◌+◌, ◌-◌, ◌*◌, ◌<◌, ◌≤◌, List, [], ◌∷◌, ◌++◌, length, Option, Some, None, Bool, true, false, refl, sym, ap, ◌∙◌, subst, arith, inl, inr, ◌⊎◌}
-use Rattle.std.specs.Prelude.{option_to_list, if◌then◌else◌, max, nat_eq}
+use Rattle.std.proofs.Common.{◌≡◌, ℕ, zero, suc, ◌+◌, ◌-◌, ◌<◌, ◌≤◌, List, [], ◌∷◌, ◌++◌, length, Option, Some, None, Bool, true, false, refl, sym, ap, ◌∙◌, subst, arith, inl, inr, ◌⊎◌}
+use Rattle.std.specs.Prelude.{option_to_list, if◌then◌else◌, nat_eq}
 use Rattle.std.proofs.lemmas.Bool.{cases_lt, eqb-true, eq-eqb}
 use Rattle.std.proofs.lemmas.List.{append-nil}
 use Rattle.gl_algebra.specs.declared.figures.Figures.{Figures}
 use Rattle.gl_algebra.specs.FigureTable.{delayed, aggregate_figures}
 use Rattle.gl_algebra.specs.Results.{Row}
-use Rattle.gl_wire.specs.Beats.{Beats, last, most, gap, Spaced, ends_before}
+use Rattle.gl_wire.specs.Beats.{Beats, last, most, Spaced, ends_before}
 use Rattle.gl_wire.specs.Wire.{Carried, pending, stream, rows}
-use Rattle.gl_wire.specs.Serves.{HasEnd, OneEnd, Caused, EndCaused, Fits, Served, Serves, tuples_of, MayBecome}
-use Rattle.gl_wire.specs.Shapes.{IsDelayed, totalled, AtEnds, Totalled}
+use Rattle.gl_wire.specs.Serves.{HasEnd, OneEnd, EndCaused, Fits, Serves, tuples_of, MayBecome}
+use Rattle.gl_wire.specs.Shapes.{totalled, AtEnds, Totalled}
 use Rattle.gl_wire.proofs.DelayLemmas.{delayed_serves}
 
 no_rows : (s : Carried) (n c : ℕ) → ((k : ℕ) → c ≤ k → k < c + n → s.tuple k ≡ None) → rows s c n ≡ []
@@ -118,19 +118,19 @@ module _ (total : List Row → Row) (a : Carried) where
 
     end_in : (t : ℕ) → OneEnd f a t → OneEnd (aggregate_figures 0 f) (totalled total a) t
     end_in t o = record {
-        at = o.at;
-        here = record { is = o.here.is; low = omega (arith, o.here.low); high = omega (arith, o.here.high) };
-        only = λ c h. o.only c (same_end f t c h);
-        after = λ c l h. none_at c (λ e. let s = o.only c (record { is = e; low = omega (arith, o.here.low, l); high = omega (arith, h) }) in omega (arith, s, l));
-      }
+      at = o.at;
+      here = record { is = o.here.is; low = omega (arith, o.here.low); high = omega (arith, o.here.high) };
+      only = λ c h. o.only c (same_end f t c h);
+      after = λ c l h. none_at c (λ e. let s = o.only c (record { is = e; low = omega (arith, o.here.low, l); high = omega (arith, h) }) in omega (arith, s, l));
+    }
 
     totalled_fits : Fits (aggregate_figures 0 f) beats (totalled total a)
     totalled_fits = record {
-        tuples = λ c r h. let q = fits.ends c (came c r h) in record { beat = q.beat; end = true; is = q.is; low = omega (arith, q.low); high = omega (arith, q.high) };
-        ends = λ c h. let q = fits.ends c h in record { beat = q.beat; is = q.is; low = omega (arith, q.low); high = omega (arith, q.high) };
-        few = few_in;
-        end = λ t h. end_in t (fits.end t h);
-      }
+      tuples = λ c r h. let q = fits.ends c (came c r h) in record { beat = q.beat; end = true; is = q.is; low = omega (arith, q.low); high = omega (arith, q.high) };
+      ends = λ c h. let q = fits.ends c h in record { beat = q.beat; is = q.is; low = omega (arith, q.low); high = omega (arith, q.high) };
+      few = few_in;
+      end = λ t h. end_in t (fits.end t h);
+    }
 
   -- before its end nothing of a stream comes out, and then its total
   open_tuples : (k c : ℕ) → ends_before a.ends c ≤ k → tuples_of (totalled total a) k c ≡ []
@@ -157,28 +157,29 @@ module _ (total : List Row → Row) (a : Carried) where
           let z : k < suc (ends_before a.ends c) = rw p at l in
           let same : ends_before a.ends c ≡ k = omega (arith, z, m) in
           subst (λ j. tuples_of (totalled total a) j (suc c) ≡ total (tuples_of a j (suc c)) ∷ []) same
-            (rw (eq-eqb (ends_before a.ends c) (ends_before a.ends c) refl, open_tuples (ends_before a.ends c) c (omega arith), p, tuples-pending a c) refl)
+          (rw (eq-eqb (ends_before a.ends c) (ends_before a.ends c) refl, open_tuples (ends_before a.ends c) c (omega arith), p, tuples-pending a c) refl)
 
   become_total : (k c : ℕ) (xs : List Row) → MayBecome a k c xs → MayBecome (totalled total a) k c (total xs ∷ [])
   become_total k c xs h = elim (cases_lt k (ends_before a.ends c)) [
-      inl l ↦ record {
-          rest = [];
-          is = ap (λ l. total l ∷ []) (h.is ∙ ap (λ r. tuples_of a k c ++ r) (h.closed l) ∙ append-nil (tuples_of a k c)) ∙ sym (closed_tuples k c l) ∙ sym (append-nil (tuples_of (totalled total a) k c));
-          closed = λ p. refl;
-        }
-    | inr l ↦ record { rest = total xs ∷ []; is = rw (open_tuples k c l) refl; closed = λ p. absurd (omega (arith, p, l)) } ]
+    | inl l ↦ record {
+      rest = [];
+      is = ap (λ l. total l ∷ []) (h.is ∙ ap (λ r. tuples_of a k c ++ r) (h.closed l) ∙ append-nil (tuples_of a k c)) ∙ sym (closed_tuples k c l) ∙ sym (append-nil (tuples_of (totalled total a) k c));
+      closed = λ p. refl;
+    }
+    | inr l ↦ record { rest = total xs ∷ []; is = rw (open_tuples k c l) refl; closed = λ p. absurd (omega (arith, p, l)) }
+  ]
 
   totalled_serves : (f : Figures) → Serves f (aggregate_figures 0 f) (Totalled total) a (totalled total a)
   totalled_serves f = record {
-      served = λ beats spaced fits. record {
-          fits = totalled_fits f beats spaced fits;
-          results = λ t d e h hd he. let o = fits.end t h in
-              let same : d ≡ e = o.only d hd ∙ sym (o.only e (same_end f t e he)) in
-              subst (λ k. stream (totalled total a) k ≡ total (stream a d) ∷ []) same (totalled_stream d hd.is);
-          later = λ t d e h hd he. let o = fits.end t h in omega (arith, o.only d hd, o.only e (same_end f t e he));
-        };
-      prefix = λ beats spaced fits k c xs q. (total xs ∷ [], become_total k c xs q, refl);
-    }
+    served = λ beats spaced fits. record {
+      fits = totalled_fits f beats spaced fits;
+      results = λ t d e h hd he. let o = fits.end t h in
+          let same : d ≡ e = o.only d hd ∙ sym (o.only e (same_end f t e he)) in
+          subst (λ k. stream (totalled total a) k ≡ total (stream a d) ∷ []) same (totalled_stream d hd.is);
+      later = λ t d e h hd he. let o = fits.end t h in omega (arith, o.only d hd, o.only e (same_end f t e he));
+    };
+    prefix = λ beats spaced fits k c xs q. (total xs ∷ [], become_total k c xs q, refl);
+  }
 
 same_figures : (m : ℕ) (f : Figures) → delayed m (aggregate_figures 0 f) ≡ aggregate_figures m f
 same_figures m f = let e : f.a + 0 ≡ f.a = omega arith in let l : f.le + 0 ≡ f.le = omega arith in rw (e, l) refl

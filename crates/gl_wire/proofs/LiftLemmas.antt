@@ -1,14 +1,14 @@
 -- Copies that each serve a closing body, and are visited in turn.
-use Rattle.std.proofs.Common.{◌≡◌, ℕ, zero, suc, ◌+◌, ◌-◌, ◌<◌, ◌≤◌, List, [], ◌∷◌, ◌++◌, length, Option, Some, None, Bool, true, false, refl, sym, ap, ◌∙◌, subst, arith, inl, inr, ◌⊎◌, append_assoc}
+use Rattle.std.proofs.Common.{◌≡◌, ℕ, zero, suc, ◌+◌, ◌-◌, ◌<◌, ◌≤◌, List, [], ◌++◌, length, Option, Some, None, Bool, true, false, refl, sym, ap, ◌∙◌, subst, arith, inl, inr, ◌⊎◌, append_assoc}
 use Rattle.std.specs.Prelude.{option_to_list, if◌then◌else◌, is_some}
 use Rattle.std.proofs.lemmas.Bool.{cases_lt}
 use Rattle.std.proofs.lemmas.List.{append-nil}
 use Rattle.gl_algebra.specs.declared.figures.Figures.{Figures}
 use Rattle.gl_algebra.specs.FigureTable.{IsSound, input_figures}
 use Rattle.gl_algebra.specs.Results.{Row}
-use Rattle.gl_wire.specs.Beats.{Beats, last, most, gap, Spaced}
+use Rattle.gl_wire.specs.Beats.{Beats, last, most, Spaced}
 use Rattle.gl_wire.specs.Wire.{Carried, pending, stream, rows}
-use Rattle.gl_wire.specs.Serves.{HasEnd, OneEnd, Caused, EndCaused, Fits, Served, Serves}
+use Rattle.gl_wire.specs.Serves.{HasEnd, Caused, EndCaused, Fits, Served}
 use Rattle.gl_wire.specs.Lift.{beats_of, Visits, Schedules, first_of, tuple_of_any, all_of, visits, with_visit, Joined, Lifted}
 
 pub rows-split : (s : Carried) (m n c : ℕ) → rows s c (m + n) ≡ rows s c m ++ rows s (c + m) n
@@ -32,16 +32,16 @@ pending-rows s (suc n) c h =
 -- a wire fits the figures of a stream over its own beats
 pub own_fits : (s : Carried) → Fits input_figures (beats_of s) s
 own_fits s = record {
-    tuples = λ c r h. tuple_in c r h (s.ends c) refl;
-    ends = λ c h. record { beat = c; is = end_beat c h; low = omega arith; high = omega arith };
-    few = λ t e h. few_in t e;
-    end = λ t h. record {
-      at = t;
-      here = record { is = its_end t (s.ends t) refl h; low = omega arith; high = omega arith };
-      only = λ c e. let l = e.low in let m = e.high in omega arith;
-      after = λ c l m. absurd (omega arith);
-    };
-  }
+  tuples = λ c r h. tuple_in c r h (s.ends c) refl;
+  ends = λ c h. record { beat = c; is = end_beat c h; low = omega arith; high = omega arith };
+  few = λ t e h. few_in t e;
+  end = λ t h. record {
+    at = t;
+    here = record { is = its_end t (s.ends t) refl h; low = omega arith; high = omega arith };
+    only = λ c e. let l = e.low in let m = e.high in omega arith;
+    after = λ c l m. absurd (omega arith);
+  };
+}
   where
     end_beat : (c : ℕ) → s.ends c ≡ true → beats_of s c ≡ Some true
     end_beat c h = rw h refl
@@ -79,8 +79,9 @@ module _ (f : Figures) (beats : Beats) (s : Carried) (fits : Fits f beats s) (sp
   none_in : (n lo c : ℕ) → length (rows s lo n) ≤ 0 → lo ≤ c → c < lo + n → s.tuple c ≡ None
   none_in zero lo c h l m = absurd (omega (arith, l, m))
   none_in (suc n) lo c h l m = elim (cases_lt lo c) [
-      inl p ↦ none_in n (suc lo) c (rest (s.tuple lo) h) (omega arith) (omega arith)
-    | inr p ↦ let e : lo ≡ c = omega arith in subst (λ k. s.tuple k ≡ None) e (none_of 0 [] 0 (s.tuple lo) (rows s (suc lo) n) h) ]
+    | inl p ↦ none_in n (suc lo) c (rest (s.tuple lo) h) (omega arith) (omega arith)
+    | inr p ↦ let e : lo ≡ c = omega arith in subst (λ k. s.tuple k ≡ None) e (none_of 0 [] 0 (s.tuple lo) (rows s (suc lo) n) h)
+  ]
     where
       rest : (o : Option Row) → length (option_to_list o ++ rows s (suc lo) n) ≤ 0 → length (rows s (suc lo) n) ≤ 0
       rest None q = q
@@ -115,17 +116,25 @@ module _ (f : Figures) (beats : Beats) (s : Carried) (fits : Fits f beats s) (sp
       by : (e : Bool) → s.ends c ≡ e → (o : Option Row) → s.tuple c ≡ o → ((Inside c → ⊥) → pending s c ≡ []) → (if s.ends c then [] else pending s c ++ option_to_list (s.tuple c)) ≡ []
       by true p o q ih = rw p refl
       by false p None q ih = rw (p, q) (append-nil (pending s c) ∙ ih (λ i.
-          out (i.0, i.1, omega (arith, i.2), elim (cases_lt c (fits.end i.0 i.1).at) [
-              inl l ↦ l
-            | inr l ↦ let z : (fits.end i.0 i.1).at ≡ c = omega (arith, i.3, l) in absurd (cc ((fits.end i.0 i.1).here.is, ap s.ends z, p)) ])))
+          out (
+            i.0,
+            i.1,
+            omega (arith, i.2),
+            elim (cases_lt c (fits.end i.0 i.1).at) [
+              | inl l ↦ l
+              | inr l ↦ let z : (fits.end i.0 i.1).at ≡ c = omega (arith, i.3, l) in absurd (cc ((fits.end i.0 i.1).here.is, ap s.ends z, p))
+            ],
+          )))
       by false p (Some r) q ih =
           let t = closing_caused c r q in
           let o = fits.end t.beat t.is in
           absurd (elim (cases_lt c o.at) [
-              inl l ↦ out (t.beat, t.is, omega (arith, t.low), l)
+            | inl l ↦ out (t.beat, t.is, omega (arith, t.low), l)
             | inr l ↦ elim (cases_lt o.at c) [
-                  inl m ↦ (let none = o.after c m t.high in cc (none, q))
-                | inr m ↦ (let z : o.at ≡ c = omega arith in cc (o.here.is, ap s.ends z, p)) ] ])
+              | inl m ↦ (let none = o.after c m t.high in cc (none, q))
+              | inr m ↦ (let z : o.at ≡ c = omega arith in cc (o.here.is, ap s.ends z, p))
+            ]
+          ])
 
   -- the stream that ends in an interval is what came in it
   pub closing_stream : (t e : ℕ) → beats t ≡ Some true → HasEnd f s t e → stream s e ≡ rows s (t + f.a) (suc f.le - f.a)
@@ -162,10 +171,11 @@ module _ (outs : ℕ → Carried) (c : ℕ) where
   any-at : (count k : ℕ) → k < count → ((l : ℕ) → l < count → (l ≡ k → ⊥) → (outs l).tuple c ≡ None) → tuple_of_any outs count c ≡ (outs k).tuple c
   any-at zero k p h = absurd (omega (arith, p))
   any-at (suc m) k p h = elim (cases_lt k m) [
-      inl q ↦ rw (h m (omega arith) (λ e. omega arith)) (first_of-none (tuple_of_any outs m c) ∙ any-at m k q (λ l r n. h l (omega arith) n))
+    | inl q ↦ rw (h m (omega arith) (λ e. omega arith)) (first_of-none (tuple_of_any outs m c) ∙ any-at m k q (λ l r n. h l (omega arith) n))
     | inr q ↦ let e : m ≡ k = omega (arith, p, q) in
         let none = any-none m (λ l r. h l (omega arith) (λ d. omega arith)) in
-        ap (λ o. first_of o ((outs m).tuple c)) none ∙ ap (λ l. (outs l).tuple c) e ]
+        ap (λ o. first_of o ((outs m).tuple c)) none ∙ ap (λ l. (outs l).tuple c) e
+  ]
 
 rows-same : (s r : Carried) (n c : ℕ) → ((k : ℕ) → c ≤ k → k < c + n → s.tuple k ≡ r.tuple k) → rows s c n ≡ rows r c n
 rows-same s r zero c h = refl
@@ -188,8 +198,9 @@ module _ (f : Figures) (means : ℕ → List Row → List Row → Type 0) (count
   -- two visits whose intervals meet are one
   one_visit : (u v k l c : ℕ) → who u ≡ Some k → who v ≡ Some l → u + f.a ≤ c → c ≤ u + f.le → v + f.a ≤ c → c ≤ v + f.le → u ≡ v
   one_visit u v k l c hu hv a b d e = elim (cases_lt u v) [
-      inl p ↦ absurd (omega (arith, sch.apart u v k l hu hv p, b, d))
-    | inr p ↦ elim (cases_lt v u) [ inl q ↦ absurd (omega (arith, sch.apart v u l k hv hu q, e, a)) | inr q ↦ omega arith ] ]
+    | inl p ↦ absurd (omega (arith, sch.apart u v k l hu hv p, b, d))
+    | inr p ↦ elim (cases_lt v u) [ inl q ↦ absurd (omega (arith, sch.apart v u l k hv hu q, e, a)) | inr q ↦ omega arith ]
+  ]
 
   lift-alone : (k l c : ℕ) (r q : Row) → k < count → l < count → (outs k).tuple c ≡ Some r → (outs l).tuple c ≡ Some q → k ≡ l
   lift-alone k l c r q p s hr hq =
@@ -260,8 +271,9 @@ module _ (f : Figures) (means : ℕ → List Row → List Row → Type 0) (count
   pub joined : (fuel n c : ℕ) → n ≤ fuel → f.a ≤ f.le → Apart c n → Joined means (visits who ins c n) (rows (all_of outs count) (c + f.a) (n + (f.le - f.a)))
   joined fuel zero c small wide ap' =
       rows_none (zero + (f.le - f.a)) (c + f.a) (λ d u k l m p low high. elim (cases_lt u c) [
-          inl q ↦ omega (arith, ap'.before u k p q, l, high)
-        | inr q ↦ omega (arith, ap'.after u k p (omega (arith, q)), m, low, wide) ])
+        | inl q ↦ omega (arith, ap'.before u k p q, l, high)
+        | inr q ↦ omega (arith, ap'.after u k p (omega (arith, q)), m, low, wide)
+      ])
   joined zero (suc n) c small wide ap' = absurd (omega (arith, small))
   joined (suc fuel) (suc n) c small wide ap' = by (who c) refl (λ m d l a. joined fuel m d l wide a)
     where
@@ -274,24 +286,27 @@ module _ (f : Figures) (means : ℕ → List Row → List Row → Type 0) (count
 
       none : who c ≡ None → tuple_of_any outs count (c + f.a) ≡ None
       none p = any_quiet (c + f.a) (λ u k q low high. elim (cases_lt u c) [
-          inl m ↦ omega (arith, ap'.before u k q m, high)
-        | inr m ↦ (let e : u ≡ c = omega (arith, m, low) in let z = ap who e in cc (z, p, q)) ])
+        | inl m ↦ omega (arith, ap'.before u k q m, high)
+        | inr m ↦ (let e : u ≡ c = omega (arith, m, low) in let z = ap who e in cc (z, p, q))
+      ])
 
       next : who c ≡ None → Apart (suc c) n
       next p = record {
-          before = λ u k q m. elim (cases_lt u c) [
-              inl l ↦ omega (arith, ap'.before u k q l)
-            | inr l ↦ (let e : u ≡ c = omega (arith, m, l) in let z = ap who e in absurd (cc (z, p, q))) ];
-          after = λ u k q m. let h = ap'.after u k q (omega (arith, m)) in omega (arith, h);
-        }
+        before = λ u k q m. elim (cases_lt u c) [
+          | inl l ↦ omega (arith, ap'.before u k q l)
+          | inr l ↦ (let e : u ≡ c = omega (arith, m, l) in let z = ap who e in absurd (cc (z, p, q)))
+        ];
+        after = λ u k q m. let h = ap'.after u k q (omega (arith, m)) in omega (arith, h);
+      }
 
       jump : (k : ℕ) → who c ≡ Some k → suc f.le - f.a ≤ suc n → Apart (c + (suc f.le - f.a)) (suc n - (suc f.le - f.a))
       jump k p fit = record {
-          before = λ u l q m. elim (cases_lt u c) [
-              inl x ↦ omega (arith, ap'.before u l q x, wide)
-            | inr x ↦ elim (cases_lt c u) [ inl y ↦ omega (arith, far k u l p q y, m, wide) | inr y ↦ omega (arith, x, y, wide) ] ];
-          after = λ u l q m. let h = ap'.after u l q (omega (arith, m, fit)) in omega (arith, h, fit);
-        }
+        before = λ u l q m. elim (cases_lt u c) [
+          | inl x ↦ omega (arith, ap'.before u l q x, wide)
+          | inr x ↦ elim (cases_lt c u) [ inl y ↦ omega (arith, far k u l p q y, m, wide) | inr y ↦ omega (arith, x, y, wide) ]
+        ];
+        after = λ u l q m. let h = ap'.after u l q (omega (arith, m, fit)) in omega (arith, h, fit);
+      }
 
       by : (o : Option ℕ) → who c ≡ o → ((m d : ℕ) → m ≤ fuel → Apart d m → Joined means (visits who ins d m) (rows (all_of outs count) (d + f.a) (m + (f.le - f.a)))) → Joined means (with_visit o c (λ k. stream (ins k) c) (visits who ins (suc c) n)) (rows (all_of outs count) (c + f.a) (suc n + (f.le - f.a)))
       by None p ih =
@@ -300,23 +315,25 @@ module _ (f : Figures) (means : ℕ → List Row → List Row → Type 0) (count
           rw (e, none p, d) (ih n (suc c) (omega (arith, small)) (next p))
       by (Some k) p ih =
           let whole : rows (all_of outs count) (c + f.a) (suc n + (f.le - f.a)) ≡ rows (all_of outs count) (c + f.a) (suc f.le - f.a) ++ rows (all_of outs count) (c + f.a + (suc f.le - f.a)) (suc n + (f.le - f.a) - (suc f.le - f.a)) =
-              (let e : suc n + (f.le - f.a) ≡ (suc f.le - f.a) + (suc n + (f.le - f.a) - (suc f.le - f.a)) = omega (arith, wide) in
-               ap (rows (all_of outs count) (c + f.a)) e ∙ rows-split (all_of outs count) (suc f.le - f.a) (suc n + (f.le - f.a) - (suc f.le - f.a)) (c + f.a)) in
+          (let e : suc n + (f.le - f.a) ≡ (suc f.le - f.a) + (suc n + (f.le - f.a) - (suc f.le - f.a)) = omega (arith, wide) in
+          ap (rows (all_of outs count) (c + f.a)) e ∙ rows-split (all_of outs count) (suc f.le - f.a) (suc n + (f.le - f.a) - (suc f.le - f.a)) (c + f.a)) in
           (rows (all_of outs count) (c + f.a) (suc f.le - f.a), rows (all_of outs count) (c + f.a + (suc f.le - f.a)) (suc n + (f.le - f.a) - (suc f.le - f.a)), lift-visit c k p, others (cases_lt (suc n) (suc f.le - f.a)), whole)
         where
           others : (suc n < suc f.le - f.a) ⊎ (suc f.le - f.a ≤ suc n) → Joined means (visits who ins (suc c) n) (rows (all_of outs count) (c + f.a + (suc f.le - f.a)) (suc n + (f.le - f.a) - (suc f.le - f.a)))
           others (inl short) =
               let e : visits who ins (suc c) n ≡ [] = visits-quiet n (suc c) (λ u l q x y. omega (arith, far k u l p q x, y, short, wide)) in
               rw e (rows_none _ (c + f.a + (suc f.le - f.a)) (λ d u l x y q low high. elim (cases_lt u c) [
-                  inl m ↦ omega (arith, ap'.before u l q m, x, high, wide)
+                | inl m ↦ omega (arith, ap'.before u l q m, x, high, wide)
                 | inr m ↦ elim (cases_lt c u) [
-                      inl o ↦ (let v = far k u l p q o in omega (arith, ap'.after u l q (omega (arith, v, short, wide)), y, low, wide))
-                    | inr o ↦ omega (arith, o, x, high, wide) ] ]))
+                  | inl o ↦ (let v = far k u l p q o in omega (arith, ap'.after u l q (omega (arith, v, short, wide)), y, low, wide))
+                  | inr o ↦ omega (arith, o, x, high, wide)
+                ]
+              ]))
           others (inr fit) =
               let e : n ≡ (f.le - f.a) + (suc n - (suc f.le - f.a)) = omega (arith, fit, wide) in
               let at : suc c + (f.le - f.a) ≡ c + (suc f.le - f.a) = omega (arith, wide) in
               let skip : visits who ins (suc c) n ≡ visits who ins (c + (suc f.le - f.a)) (suc n - (suc f.le - f.a)) =
-                  ap (visits who ins (suc c)) e ∙ visits-skip (f.le - f.a) (suc n - (suc f.le - f.a)) (suc c) (λ u l q x y. omega (arith, far k u l p q x, y, wide)) ∙ ap (λ x. visits who ins x (suc n - (suc f.le - f.a))) at in
+              ap (visits who ins (suc c)) e ∙ visits-skip (f.le - f.a) (suc n - (suc f.le - f.a)) (suc c) (λ u l q x y. omega (arith, far k u l p q x, y, wide)) ∙ ap (λ x. visits who ins x (suc n - (suc f.le - f.a))) at in
               let len : suc n + (f.le - f.a) - (suc f.le - f.a) ≡ suc n - (suc f.le - f.a) + (f.le - f.a) = omega (arith, fit, wide) in
               let place : c + f.a + (suc f.le - f.a) ≡ c + (suc f.le - f.a) + f.a = omega arith in
               rw (skip, len, place) (ih (suc n - (suc f.le - f.a)) (c + (suc f.le - f.a)) (omega (arith, small, wide)) (jump k p fit))

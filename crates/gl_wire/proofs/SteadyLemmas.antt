@@ -1,15 +1,15 @@
 -- A steady block serves the row-by-row meaning of its step.
-use Rattle.std.proofs.Common.{◌≡◌, ℕ, zero, suc, ◌+◌, ◌-◌, ◌<◌, ◌≤◌, List, [], ◌∷◌, ◌++◌, length, Option, Some, None, Bool, true, false, refl, sym, ap, ◌∙◌, subst, arith}
+use Rattle.std.proofs.Common.{◌≡◌, ℕ, zero, suc, ◌+◌, ◌-◌, ◌≤◌, List, [], ◌∷◌, ◌++◌, length, Option, Some, None, Bool, true, false, refl, sym, ap, ◌∙◌, subst, arith}
 use Rattle.std.specs.Prelude.{option_and_then, option_to_list, if◌then◌else◌, filter_map, nat_eq}
 use Rattle.std.specs.List.{cons_option}
 use Rattle.std.proofs.lemmas.List.Elements.{filter_map-append}
 use Rattle.gl_algebra.specs.declared.figures.Figures.{Figures}
 use Rattle.gl_algebra.specs.FigureTable.{delayed}
 use Rattle.gl_algebra.specs.Results.{Row}
-use Rattle.gl_wire.specs.Beats.{Beats, last, most, Spaced, ends_before}
+use Rattle.gl_wire.specs.Beats.{Beats, last, ends_before}
 use Rattle.gl_wire.specs.Wire.{Carried, pending, stream, rows}
-use Rattle.gl_wire.specs.Serves.{HasEnd, OneEnd, Caused, EndCaused, Fits, Served, Serves, tuples_of, MayBecome}
-use Rattle.gl_wire.specs.Shapes.{IsDelayed, stepped, Steady, Mapped}
+use Rattle.gl_wire.specs.Serves.{HasEnd, Fits, Serves, tuples_of}
+use Rattle.gl_wire.specs.Shapes.{stepped, Steady, Mapped}
 use Rattle.gl_wire.proofs.DelayLemmas.{delayed_serves}
 
 one_row : (f : Row → Option Row) (o : Option Row) → filter_map f (option_to_list o) ≡ option_to_list (option_and_then f o)
@@ -69,32 +69,36 @@ module _ (step : Row → Option Row) (a : Carried) where
 
   stepped_fits : (f : Figures) (beats : Beats) → Fits f beats a → Fits f beats (stepped step a)
   stepped_fits f beats fits = record {
-      tuples = λ c r h. let q = came c r h in fits.tuples c q.0 q.1;
-      ends = λ c h. fits.ends c h;
-      few = λ t e h. rw (stepped_rows (suc (last f e) - f.a) (t + f.a)) (omega (arith, length-filter_map step (rows a (t + f.a) (suc (last f e) - f.a)), fits.few t e h));
-      end = λ t h. let o = fits.end t h in record {
-          at = o.at;
-          here = record { is = o.here.is; low = o.here.low; high = o.here.high };
-          only = λ c e. o.only c (same_end f t c e);
-          after = λ c l e. ap (option_and_then step) (o.after c l e);
-        };
-    }
+    tuples = λ c r h. let q = came c r h in fits.tuples c q.0 q.1;
+    ends = λ c h. fits.ends c h;
+    few = λ t e h. rw (stepped_rows (suc (last f e) - f.a) (t + f.a)) (omega (arith, length-filter_map step (rows a (t + f.a) (suc (last f e) - f.a)), fits.few t e h));
+    end = λ t h. let o = fits.end t h in record {
+      at = o.at;
+      here = record { is = o.here.is; low = o.here.low; high = o.here.high };
+      only = λ c e. o.only c (same_end f t c e);
+      after = λ c l e. ap (option_and_then step) (o.after c l e);
+    };
+  }
 
   stepped_serves : (f : Figures) → Serves f f (Mapped step) a (stepped step a)
   stepped_serves f = record {
-      served = λ beats spaced fits. record {
-          fits = stepped_fits f beats fits;
-          results = λ t d e h hd he. let o = fits.end t h in
-              let same : d ≡ e = o.only d hd ∙ sym (o.only e (same_end f t e he)) in
-              subst (λ k. stream (stepped step a) k ≡ filter_map step (stream a d)) same (stepped_stream d);
-          later = λ t d e h hd he. let o = fits.end t h in omega (arith, o.only d hd, o.only e (same_end f t e he));
-        };
-      prefix = λ beats spaced fits k c xs q. (filter_map step xs, record {
-          rest = filter_map step q.rest;
-          is = ap (filter_map step) q.is ∙ filter_map-append step (tuples_of a k c) q.rest ∙ ap (λ l. l ++ filter_map step q.rest) (sym (stepped_tuples k c));
-          closed = λ l. ap (filter_map step) (q.closed l);
-        }, refl);
-    }
+    served = λ beats spaced fits. record {
+      fits = stepped_fits f beats fits;
+      results = λ t d e h hd he. let o = fits.end t h in
+          let same : d ≡ e = o.only d hd ∙ sym (o.only e (same_end f t e he)) in
+          subst (λ k. stream (stepped step a) k ≡ filter_map step (stream a d)) same (stepped_stream d);
+      later = λ t d e h hd he. let o = fits.end t h in omega (arith, o.only d hd, o.only e (same_end f t e he));
+    };
+    prefix = λ beats spaced fits k c xs q. (
+      filter_map step xs,
+      record {
+        rest = filter_map step q.rest;
+        is = ap (filter_map step) q.is ∙ filter_map-append step (tuples_of a k c) q.rest ∙ ap (λ l. l ++ filter_map step q.rest) (sym (stepped_tuples k c));
+        closed = λ l. ap (filter_map step) (q.closed l);
+      },
+      refl,
+    );
+  }
 
 pub steady_serves : (m : ℕ) (step : Row → Option Row) (a b : Carried) (f : Figures) → Steady m step a b → Serves f (delayed m f) (Mapped step) a b
 steady_serves m step a b f st = delayed_serves m (stepped step a) b st f f (Mapped step) a (stepped_serves step a f)

@@ -1,8 +1,7 @@
 -- Visits of copies, and what the copies give together: the law of lifting.
 -- A visit is one stream that a copy takes.
-use Rattle.std.specs.Prelude.{◌≡◌, ℕ, zero, suc, ◌+◌, ◌-◌, ◌<◌, ◌≤◌, List, [], ◌∷◌, ◌++◌, length, Option, Some, None, Bool, true, false, if◌then◌else◌, is_some}
+use Rattle.std.specs.Prelude.{◌≡◌, ℕ, zero, suc, ◌+◌, ◌-◌, ◌<◌, ◌≤◌, List, [], ◌∷◌, ◌++◌, Option, Some, None, Bool, true, false, if◌then◌else◌, is_some}
 use Rattle.gl_algebra.specs.declared.figures.Figures.{Figures}
-use Rattle.gl_algebra.specs.FigureTable.{input_figures}
 use Rattle.gl_algebra.specs.Results.{Row}
 use Rattle.gl_wire.specs.Beats.{Beats, Spaced, Ends}
 use Rattle.gl_wire.specs.Wire.{Carried, stream, rows}

@@ -1,6 +1,6 @@
 -- What a block of operators promises: that its output wire carries results in time.
 -- It is the latency and the issue rate by which Mueller, Teubner and Alonso, PVLDB 2(1), 2009, judge circuits, for many streams in a row.
-use Rattle.std.specs.Prelude.{◌≡◌, ℕ, zero, suc, ◌+◌, ◌-◌, ◌<◌, ◌≤◌, List, [], ◌++◌, length, Option, Some, None, Bool, true, false, if◌then◌else◌, nat_eq, option_to_list}
+use Rattle.std.specs.Prelude.{◌≡◌, ℕ, zero, suc, ◌+◌, ◌-◌, ◌<◌, ◌≤◌, List, [], ◌++◌, length, Some, None, Bool, true, if◌then◌else◌, nat_eq, option_to_list}
 use Rattle.gl_algebra.specs.declared.figures.Figures.{Figures}
 use Rattle.gl_algebra.specs.Results.{Row}
 use Rattle.gl_wire.specs.Beats.{Beats, last, most, Spaced, ends_before}
@@ -45,7 +45,7 @@ pub record Fits (f : Figures) (beats : Beats) (s : Carried) : Type 0 where
 abbrev pub Meaning : Type 1
 Meaning = List Row → List Row → Type 0
 
--- over these beats: the output fits, each of its streams is right for the input stream of the same beat, and ends no earlier
+-- over these beats, the output fits, each of its streams is right for the input stream of the same beat, and ends no earlier;
 -- what is right may depend on the beat
 pub record Served (f g : Figures) (means : ℕ → Meaning) (beats : Beats) (a b : Carried) : Type 0 where
   pub fits : Fits g beats b
@@ -63,7 +63,7 @@ pub record MayBecome (s : Carried) (k c : ℕ) (xs : List Row) : Type 0 where
   pub is : xs ≡ tuples_of s k c ++ rest
   pub closed : k < ends_before s.ends c → rest ≡ []
 
--- the prefix claim: whatever a stream may still become on the input, the output may become a result of it
+-- the prefix claim: whatever a stream may still become on the input, the output may become a result of it;
 -- it says what an overflow line means before the end, and it composes since it asks nothing of the meaning
 abbrev pub Reaches : Meaning → Carried → Carried → ℕ → ℕ → Type 0
 Reaches means a b k c = (xs : List Row) → MayBecome a k c xs → (ys : List Row) × MayBecome b k c ys × means xs ys
@@ -96,4 +96,3 @@ Reaches2 means a b c k n = (xs ys : List Row) → MayBecome a k n xs → MayBeco
 pub record Serves2 (f g k : Figures) (means : Meaning2) (a b c : Carried) : Type 0 where
   pub served : (beats : Beats) → Spaced k beats → Fits f beats a → Fits g beats b → Served2 f g k (λ t. means) beats a b c
   pub prefix : (beats : Beats) → Spaced k beats → Fits f beats a → Fits g beats b → (j n : ℕ) → Reaches2 means a b c j n
-

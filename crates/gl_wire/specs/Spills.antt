@@ -1,15 +1,16 @@
 -- The whole law of serving: with spill, and with the lines that tell of it.
-use Rattle.std.specs.Prelude.{◌≡◌, ℕ, ◌+◌, ◌<◌, ◌≤◌, List, Option, Some, None, Bool, true, false, ◌||◌}
+use Rattle.std.specs.Prelude.{◌≡◌, ℕ, ◌<◌, ◌≤◌, List, Some, Bool, true, false, ◌||◌}
 use Rattle.gl_algebra.specs.declared.figures.Figures.{Figures}
 use Rattle.gl_algebra.specs.Results.{Row}
 use Rattle.gl_wire.specs.Beats.{Beats, Spaced, Ends, Begun}
-use Rattle.gl_wire.specs.Wire.{Carried, stream}
+use Rattle.gl_wire.specs.Wire.{Carried}
 use Rattle.gl_wire.specs.Serves.{Fits, Served, Served2, Reaches, Reaches2}
 
 -- which lists of rows may come out for those that came in, and whether some are left out: the spill
 abbrev pub Relation : Type 1
 Relation = List Row → List Row → Bool → Type 0
 
+-- the same for two inputs
 abbrev pub Relation2 : Type 1
 Relation2 = List Row → List Row → List Row → Bool → Type 0
 
@@ -39,7 +40,7 @@ pub record ServedWithLines (f g : Figures) (means : Relation) (lines : Lines) (b
 pub record ServesWithLines (f g : Figures) (means : Relation) (lines : Lines) (a b : Carried) : Type 0 where
   pub served : (beats : Beats) → Spaced g beats → Fits f beats a → ServedWithLines f g means lines beats a b
 
--- the same for two inputs
+-- the law over these beats for a block of two inputs, clause by clause as for one
 pub record ServedWithLines2 (f g h : Figures) (means : Relation2) (lines : Lines) (beats : Beats) (a b o : Carried) : Type 0 where
   pub spill : ℕ → Bool
   pub served : Served2 f g h (λ t xs ys zs. means xs ys zs (spill t)) beats a b o
@@ -50,6 +51,7 @@ pub record ServedWithLines2 (f g h : Figures) (means : Relation2) (lines : Lines
   pub prefix : (k c : ℕ) → Reaches2 (λ xs ys zs. (p : Bool) × means xs ys zs p) a b o k c
   pub risen : (c d : ℕ) → d < c → lines.further d ≡ true → (k : ℕ) × Begun beats k d × Reaches2 (λ xs ys zs. means xs ys zs true) a b o k c
 
+-- a block of two inputs serves a meaning
 pub record ServesWithLines2 (f g h : Figures) (means : Relation2) (lines : Lines) (a b o : Carried) : Type 0 where
   pub served : (beats : Beats) → Spaced h beats → Fits f beats a → Fits g beats b → ServedWithLines2 f g h means lines beats a b o
 
@@ -61,6 +63,7 @@ spills_with m n xs zs p = (ys : List Row) × (q : Bool) × (r : Bool) × (m xs y
 abbrev pub never : (List Row → List Row → Type 0) → Relation
 never m xs ys p = (m xs ys) × (p ≡ false)
 
+-- nor does one of two inputs
 abbrev pub never2 : (List Row → List Row → List Row → Type 0) → Relation2
 never2 m xs ys zs p = (m xs ys zs) × (p ≡ false)
 
