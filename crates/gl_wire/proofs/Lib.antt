@@ -1,0 +1,9 @@
+pub mod DelayLemmas
+pub mod SteadyLemmas
+pub mod EndLemmas
+pub mod ComposeLemmas
+pub mod SpillLemmas
+pub mod LiftLemmas
+pub mod LiftSpillLemmas
+pub mod SettledLemmas
+pub mod SpillTwoLemmas

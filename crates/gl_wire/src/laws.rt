@@ -1,0 +1,13 @@
+//! Laws of serving, each of which stands in a function's contract.
+
+ghost use Rattle.gl_wire.specs.Laws.{SteadyServes, EndsServe};
+
+/// A steady block serves the rows computed or dropped one by one.
+pub fn steady_serves()
+    ensures { SteadyServes }
+{}
+
+/// A block that gives one row at each end serves the total of the stream.
+pub fn ends_serve()
+    ensures { EndsServe }
+{}
