@@ -1,7 +1,7 @@
 //! Texts and their answers.
 
 use crate::read_query;
-use gl_query::{Query, QueryFault, Statement};
+use gl_query::{Query, QueryFault};
 use std::alloc::{AllocError, Global};
 use std::test::Fail;
 
@@ -224,13 +224,11 @@ fn a_front_of_tokens_wants_more(rt: HostRuntime) -> Result<(), Fail> {
 #[test]
 fn joins_group_to_the_left(rt: HostRuntime) -> Result<(), Fail> {
     let text = b"SELECT a FROM s UNION SELECT a FROM t CONCAT SELECT a FROM u INTO r";
-    let grouped = match read_query(rt.alloc(), text) {
-        Ok(
-            Statement {
-                query: Query::Concat { left, .. },
-                ..
-            },
-        ) => { matches!(&*left, Query::Union { .. }) }
+    let Ok(statement) = read_query(rt.alloc(), text) else {
+        return Err(Fail::new("a statement"));
+    };
+    let grouped = match &statement.query {
+        Query::Concat { left, .. } => matches!(&**left, Query::Union { .. }),
         _ => false,
     };
     assert!(rt; grouped);
