@@ -39,7 +39,7 @@ pub enum Outcome {
     Done,
     /// The sink failed.
     WriteFault,
-    /// Want of memory, before anything was written.
+    /// Want of memory, or a text that the reader does not take; nothing was written.
     Memory,
 }
 
@@ -308,7 +308,7 @@ pub fn execute<K: Sink>(
     ensures memory { result ≡ Outcome.Memory → (K.taken out.new ≡ K.taken out.old) × (K.faults out.new ≡ K.faults out.old) }
     ensures never_falls { K.faults out.old ≤ K.faults out.new }
 {
-    // The text has a module, so that only memory can be wanting.
+    // The text has a module. That the reader takes it is not proved, so the answer stands for both.
     let Ok(design) = read_module(alloc, text) else {
         return Outcome::Memory;
     };
