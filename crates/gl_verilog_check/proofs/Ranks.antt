@@ -1,11 +1,10 @@
 -- Assignments in an order have no loop: along a chain each net is driven earlier than the one before.
-use Rattle.std.proofs.Common.{◌≡◌, ◌≢◌, ℕ, zero, suc, ◌+◌, ◌<◌, ◌≤◌, ◌⊎◌, inl, inr, Bool, true, false, cond, List, [], ◌∷◌, length, eqb, refl, sym, ap, subst, ◌∙◌, arith}
+use Rattle.std.proofs.Common.{◌≡◌, ℕ, suc, ◌<◌, ◌≤◌, ◌⊎◌, inl, inr, Bool, true, false, cond, List, [], ◌∷◌, length, eqb, refl, subst, arith}
 use Rattle.std.specs.Prelude.{◌||◌, ◌&&◌}
-use Rattle.std.specs.List.{AllByRecursion}
 use Rattle.std.proofs.lemmas.Bool.{eqb-true, eq-eqb}
 use Rattle.gl_verilog.specs.Module.{Assignment, Expr, Net, Literal, Invert, Binary, Choose, Join, Select, Read}
 use Rattle.gl_verilog.specs.Order.{EachRead, IsUndriven, IsOrdered}
-use Rattle.gl_verilog.specs.Valid.{mentions, depends, IsChain, HasNoCycle, HasNoLoop, drivers_of}
+use Rattle.gl_verilog.specs.Valid.{mentions, depends, IsChain, HasNoLoop, drivers_of}
 
 or_cases : (a b : Bool) → (a || b) ≡ true → (a ≡ true) ⊎ (b ≡ true)
 or_cases true b e = inl refl

@@ -1,4 +1,4 @@
-use Rattle.std.proofs.Common.{◌≡◌, ◌-◌, ◌<◌, length, drop, Vec}
+use Rattle.std.proofs.Common.{◌≡◌, ◌-◌, length, drop}
 use Rattle.std.specs.Prelude.{map}
 use Rattle.gl_verilog.specs.View.{assignment_of}
 use Rattle.gl_verilog.specs.Order.{IsOrdered}
@@ -9,4 +9,5 @@ abbrev pub invariant-loop-done : goal.invariant-loop-done
 invariant-loop-done l = record {
   marks : AreMarks (map assignment_of (drop (length l.assignments - l.done) l.assignments)) l.marks.items;
   ordered : IsOrdered (map assignment_of (drop (length l.assignments - l.done) l.assignments));
+  size : length l.marks.items ≡ length l.initial.marks.items;
 }
