@@ -1,5 +1,5 @@
 -- Counts of drivers, names that differ, and valid modules.
-use Rattle.std.proofs.Common.{◌≡◌, ◌≢◌, ℕ, zero, suc, ◌+◌, ◌<◌, Bool, true, false, cond, List, [], ◌∷◌, length, drop, get_or, eqb, Option, Some, None, refl, sym, ap, subst, ◌∙◌, arith}
+use Rattle.std.proofs.Common.{◌≡◌, ◌≢◌, ℕ, zero, suc, ◌+◌, ◌≤◌, ◌<◌, Bool, true, false, cond, List, [], ◌∷◌, length, drop, get_or, eqb, Option, Some, None, refl, sym, ap, subst, ◌∙◌, arith}
 use Rattle.std.specs.Prelude.{map, slice_get, not, ◌&&◌, ◌||◌, bytes_eq, option_and_then, option_map}
 use Rattle.std.specs.List.{AllByRecursion, sum_by}
 use Rattle.std.specs.List.Sorted.{IsPermutation}
@@ -13,10 +13,11 @@ use Rattle.gl_verilog.specs.Runnable.{IsRunnable}
 use Rattle.gl_verilog.specs.Valid.{assigns, blocks_of, writes_of, AssignsOnce, Differs, AreDistinct, HasDriver, IsValid, drivers_of, mentions, depends, IsChain, HasNoLoop}
 use Rattle.gl_verilog.proofs.Settles.{each_in_order}
 use Rattle.gl_verilog_check.specs.Kept.{is_one, module_with}
+use Rattle.gl_verilog_check.specs.Passes.{AreOnce}
 use Rattle.gl_verilog_check.specs.Tests.{differs, are_distinct, one_of, assigns_once, blocks_once, is_assigned, all_assigned}
 use Rattle.gl_verilog_check.proofs.Complete.{and_is, and_left, and_right}
 use Rattle.gl_verilog_check.proofs.Marks.{from_place}
-use Rattle.gl_verilog_check.proofs.Ranks.{no_loop, driven_once}
+use Rattle.gl_verilog_check.proofs.Ranks.{no_loop, driven_once, undriven-none}
 
 -- ---- names
 
@@ -193,6 +194,37 @@ can_once as' n o d =
     counts_of as' n ∙ sym (sum_by-IsPermutation (λ a. cond (eqb a.target n) 1 0) as' o.order o.same) ∙ sym (counts_of o.order n)
     ∙ driven_once o.order n o.ordered (λ u. d (each_in_order (λ a. a.target ≢ n) o.order as' (IsPermutation-sym as' o.order o.same) u))
 
+-- ---- nets that are driven once
+
+most_once : (as' : List Assignment) (n : ℕ) → IsOrdered as' → drivers_of as' n ≤ 1
+most_once [] n o = omega arith
+most_once (a ∷ rest) n o = by (eqb a.target n) refl (most_once rest n o.2)
+  where
+    by : (t : Bool) → eqb a.target n ≡ t → drivers_of rest n ≤ 1 → drivers_of (a ∷ rest) n ≤ 1
+    by true e ih = (let z = undriven-none rest n (subst (IsUndriven rest) (eqb-true a.target n e) o.1) in rw e (omega (arith, z)))
+    by false e ih = rw e (omega (arith, ih))
+
+one_if : (b : Bool) → b ≡ true → let n : ℕ = cond b 1 0 in n ≡ 1
+one_if true e = refl
+one_if false e = absurd cc
+
+none_drives : (bs : List Assignment) (n : ℕ) → drivers_of bs n ≡ 0 → IsUndriven bs n
+none_drives [] n e = tt
+none_drives (b ∷ bs) n e = ((λ q. (let g = one_if (eqb b.target n) (eq-eqb b.target n q) in absurd (omega (arith, e, g)))), none_drives bs n (omega (arith, e)))
+
+once_each : (as' : List Assignment) → ((n : ℕ) → drivers_of as' n ≤ 1) → AreOnce as'
+once_each [] h = tt
+once_each (a ∷ rest) h = (
+  none_drives rest a.target (let most = h a.target in let g = one_if (eqb a.target a.target) (eq-eqb a.target a.target refl) in omega (arith, most, g)),
+  once_each rest (λ n. let most = h n in omega (arith, most)),
+)
+
+pub can_once_each : (as' : List Assignment) → CanBeOrdered as' → AreOnce as'
+can_once_each as' o = once_each as' (λ n.
+    let same : drivers_of as' n ≡ drivers_of o.order n = counts_of as' n ∙ sym (sum_by-IsPermutation (λ a. cond (eqb a.target n) 1 0) as' o.order o.same) ∙ sym (counts_of o.order n) in
+    let most = most_once o.order n o.ordered in
+    omega (arith, same, most))
+
 -- ---- all of it
 
 pub valid_parts : (ds : List Declaration) (as' : List Assignment) (bs : List Statement) → are_distinct ds ≡ true → IsRunnable (module_with ds as' bs) → all_assigned bs 0 ds ≡ true → IsValid (module_with ds as' bs)
@@ -228,7 +260,7 @@ of_parts m v = record { names = v.names; sizes = v.sizes; assignments = v.assign
 pub valid : (m : Module) (ds : List Declaration) (as' : List Assignment) (bs : List Statement) (b : Bool) → ds ≡ m.declarations → as' ≡ m.assignments → bs ≡ m.blocks → (b ≡ true → IsValid (module_with ds as' bs)) → b ≡ true → IsValid m
 valid m ds as' bs b e f g h t = with_parts m (subst (λ x. IsValid (module_with x m.assignments m.blocks)) e (subst (λ x. IsValid (module_with ds x m.blocks)) f (subst (λ x. IsValid (module_with ds as' x)) g (h t))))
 
-pub not_valid : (m : Module) (ds : List Declaration) (as' : List Assignment) (bs : List Statement) (b : Bool) → ds ≡ m.declarations → as' ≡ m.assignments → bs ≡ m.blocks → (IsValid (module_with ds as' bs) → IsOrdered as' → b ≡ true) → b ≡ false → IsValid m → IsOrdered m.assignments → ⊥
-not_valid m ds as' bs b e f g h t v o =
+pub not_valid : (m : Module) (ds : List Declaration) (as' : List Assignment) (bs : List Statement) (b : Bool) → ds ≡ m.declarations → as' ≡ m.assignments → bs ≡ m.blocks → (IsValid (module_with ds as' bs) → b ≡ true) → b ≡ false → IsValid m → ⊥
+not_valid m ds as' bs b e f g h t v =
     let parts = subst (λ x. IsValid (module_with x as' bs)) (sym e) (subst (λ x. IsValid (module_with m.declarations x bs)) (sym f) (subst (λ x. IsValid (module_with m.declarations m.assignments x)) (sym g) (of_parts m v))) in
-    absurd (let k : false ≡ true = sym t ∙ h parts (subst IsOrdered (sym f) o) in cc)
+    absurd (let k : false ≡ true = sym t ∙ h parts in cc)

@@ -4,3 +4,4 @@ pub mod Blocks
 pub mod Marks
 pub mod Ranks
 pub mod Drives
+pub mod Orders

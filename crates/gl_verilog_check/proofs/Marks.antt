@@ -2,51 +2,17 @@
 use Rattle.std.proofs.Common.{◌≡◌, ◌≢◌, ℕ, zero, suc, ◌+◌, ◌<◌, Bool, true, false, not, ◌||◌, List, [], ◌∷◌, Option, Some, None, refl, sym, ap, subst, ◌∙◌, arith, length, drop, get_or, drop-cons, inl, inr}
 use Rattle.std.specs.Prelude.{slice_get, slice_set, unwrap_or, map, replicate, IsSomeAnd, IsTrue}
 use Rattle.std.specs.List.{AllByRecursion}
-use Rattle.std.specs.List.Sorted.{IsPermutation}
-use Rattle.std.proofs.lemmas.List.Sorted.{IsPermutation-refl}
 use Rattle.std.proofs.lemmas.Bool.{cases_eq}
 use Rattle.gl_verilog.specs.Module.{Module, Declaration, Statement, Expr, Net, Literal, Invert, Binary, Choose, Join, Select, Read, Assignment}
-use Rattle.gl_verilog.specs.Order.{EachRead, IsUndriven, IsOrdered}
+use Rattle.gl_verilog.specs.Order.{EachRead, CanBeOrdered}
 use Rattle.gl_verilog.specs.Widths.{IsDriven, IsReadable, KeepsWidths, KeepsWidth, width_of}
 use Rattle.gl_verilog.specs.Runnable.{IsRunnable}
-use Rattle.gl_verilog.proofs.Settles.{reads_and, reads_both}
-use Rattle.gl_verilog_check.specs.Kept.{reads, is_driven, AreMarks, Marked, AreNets, driver_there, all_driven, all_sized, all_kept, blocks_kept, module_with}
+use Rattle.gl_verilog_check.specs.Kept.{is_driven, AreMarks, Marked, AreNets, driver_there, all_driven, all_sized, all_kept, blocks_kept, module_with}
+use Rattle.gl_verilog_check.specs.Passes.{AreOnce}
 use Rattle.gl_verilog_check.proofs.Keeping.{kind_driven, driven_kind}
 use Rattle.gl_verilog_check.proofs.Complete.{and_is, and_left, and_right, sized-all, kept-all, kept-blocks}
 
 -- ---- marks
-
--- a net that is not marked when nothing read is marked
-known : (marks : List Bool) (n : ℕ) → unwrap_or (slice_get marks n) true ≡ false → slice_get marks n ≡ Some false
-known marks n h = by (slice_get marks n) h
-  where
-    by : (o : Option Bool) → unwrap_or o true ≡ false → o ≡ Some false
-    by None e = absurd cc
-    by (Some true) e = absurd cc
-    by (Some false) e = refl
-
-or_left : (a b : Bool) → (a || b) ≡ false → a ≡ false
-or_left true b h = absurd cc
-or_left false b h = refl
-
-or_right : (a b : Bool) → (a || b) ≡ false → b ≡ false
-or_right true b h = absurd cc
-or_right false b h = h
-
-reads_none : (marks : List Bool) (as' : List Assignment) (e : Expr) → ((n : ℕ) → slice_get marks n ≡ Some false → IsUndriven as' n) → reads marks e ≡ false → EachRead (IsUndriven as') e
-reads_none marks as' (Net n) u h = u n (known marks n h)
-reads_none marks as' (Literal value width) u h = tt
-reads_none marks as' (Invert width arg) u h = reads_none marks as' arg u h
-reads_none marks as' (Binary op width left right) u h = (reads_none marks as' left u (or_left (reads marks left) (reads marks right) h), reads_none marks as' right u (or_right (reads marks left) (reads marks right) h))
-reads_none marks as' (Choose test yes' no') u h =
-    let rest = or_right (reads marks test) (reads marks yes' || reads marks no') h in (
-      reads_none marks as' test u (or_left (reads marks test) (reads marks yes' || reads marks no') h),
-      reads_none marks as' yes' u (or_left (reads marks yes') (reads marks no') rest),
-      reads_none marks as' no' u (or_right (reads marks yes') (reads marks no') rest),
-    )
-reads_none marks as' (Join low_width high low) u h = (reads_none marks as' high u (or_left (reads marks high) (reads marks low) h), reads_none marks as' low u (or_right (reads marks high) (reads marks low) h))
-reads_none marks as' (Select high low n) u h = u n (known marks n h)
-reads_none marks as' (Read memory address) u h = reads_none marks as' address u h
 
 set_same : (marks : List Bool) (t : ℕ) → slice_get marks t ≡ Some false → slice_get (slice_set marks t true) t ≡ Some true
 set_same [] t h = absurd cc
@@ -60,9 +26,21 @@ set_other (m ∷ ms) zero (suc n) h = refl
 set_other (m ∷ ms) (suc t) zero h = refl
 set_other (m ∷ ms) (suc t) (suc n) h = set_other ms t n (λ e. h (ap suc e))
 
+set_stays : (marks : List Bool) (t n : ℕ) → slice_get marks n ≡ Some true → slice_get (slice_set marks t true) n ≡ Some true
+set_stays [] t n h = h
+set_stays (m ∷ ms) zero zero h = refl
+set_stays (m ∷ ms) zero (suc n) h = h
+set_stays (m ∷ ms) (suc t) zero h = h
+set_stays (m ∷ ms) (suc t) (suc n) h = set_stays ms t n h
+
+still_marked : (bs : List Assignment) (old : List Bool) (t : ℕ) → AllByRecursion (λ b. slice_get old b.target ≡ Some true) bs → AllByRecursion (λ b. slice_get (slice_set old t true) b.target ≡ Some true) bs
+still_marked [] old t h = tt
+still_marked (b ∷ bs) old t h = (set_stays old t b.target h.0, still_marked bs old t h.1)
+
 -- one assignment more in front
 pub marks_next : (rest : List Assignment) (a : Assignment) (old new : List Bool) → AreMarks rest old → Marked old new a → AreMarks (a ∷ rest) new
 marks_next rest a old new m k = record {
+  targets = subst (λ (ms : List Bool). AllByRecursion (λ b. slice_get ms b.target ≡ Some true) (a ∷ rest)) (sym k.set) (set_same old a.target k.fresh, still_marked rest old a.target m.targets);
   undriven = λ n h. elim (cases_eq n a.target) [
     | inl e ↦ absurd (let one : slice_get new n ≡ Some true = rw (k.set, e) (set_same old a.target k.fresh) in cc)
     | inr ne ↦ ((λ e. ne (sym e)), m.undriven n (sym (set_other old a.target n ne) ∙ ap (λ (ms : List Bool). slice_get ms n) (sym k.set) ∙ h))
@@ -73,9 +51,8 @@ marks_next rest a old new m k = record {
   ];
 }
 
-pub ordered_next : (rest : List Assignment) (a : Assignment) (old new : List Bool) → AreMarks rest old → Marked old new a → IsOrdered rest → IsOrdered (a ∷ rest)
-ordered_next rest a old new m k o =
-    (reads_none new (a ∷ rest) a.value (marks_next rest a old new m k).undriven k.apart, m.undriven a.target k.fresh, o)
+pub once_next : (rest : List Assignment) (a : Assignment) (old new : List Bool) → AreMarks rest old → Marked old new a → AreOnce rest → AreOnce (a ∷ rest)
+once_next rest a old new m k o = (m.undriven a.target k.fresh, o)
 
 -- the assignments from a place on
 pub from_place : {A B : Type 0} (f : A → B) (xs : List A) (i : ℕ) (x : A) → i < length xs → x ≡ get_or xs i x → map f (drop i xs) ≡ f x ∷ map f (drop (i + 1) xs)
@@ -85,7 +62,7 @@ from_place {A} f xs i x lt e =
 
 -- no net is marked before the first assignment
 pub none_marked : (marks : List Bool) → ((n : ℕ) → slice_get marks n ≡ Some true → ⊥) → AreMarks [] marks
-none_marked marks h = record { undriven = λ n e. tt; driven = λ n e u. h n e }
+none_marked marks h = record { targets = tt; undriven = λ n e. tt; driven = λ n e u. h n e }
 
 all_false : (n k : ℕ) → slice_get (replicate n false) k ≡ Some true → ⊥
 all_false zero k h = absurd cc
@@ -95,42 +72,24 @@ all_false (suc n) (suc k) h = all_false n k h
 pub marks_fresh : (marks : List Bool) (n : ℕ) → marks ≡ replicate n false → AreMarks [] marks
 marks_fresh marks n e = none_marked marks (λ k h. all_false n k (subst (λ (ms : List Bool). slice_get ms k ≡ Some true) e h))
 
--- ---- an order passes
+-- ---- what is marked
 
 -- a net in range that is not marked
-unmarked : (marks : List Bool) (n : ℕ) → n < length marks → (slice_get marks n ≡ Some true → ⊥) → slice_get marks n ≡ Some false
+pub unmarked : (marks : List Bool) (n : ℕ) → n < length marks → (slice_get marks n ≡ Some true → ⊥) → slice_get marks n ≡ Some false
 unmarked [] n lt h = absurd (omega (arith, lt))
 unmarked (true ∷ ms) zero lt h = absurd (h refl)
 unmarked (false ∷ ms) zero lt h = refl
 unmarked (m ∷ ms) (suc n) lt h = unmarked ms n (omega (arith, lt)) h
 
-reads_nothing : (marks : List Bool) (e : Expr) → EachRead (λ n. slice_get marks n ≡ Some false) e → reads marks e ≡ false
-reads_nothing marks (Net n) h = rw h refl
-reads_nothing marks (Literal value width) h = refl
-reads_nothing marks (Invert width arg) h = reads_nothing marks arg h
-reads_nothing marks (Binary op width left right) h = rw (reads_nothing marks left h.0, reads_nothing marks right h.1) refl
-reads_nothing marks (Choose test yes' no') h = rw (reads_nothing marks test h.0, reads_nothing marks yes' h.1, reads_nothing marks no' h.2) refl
-reads_nothing marks (Join low_width high low) h = rw (reads_nothing marks high h.0, reads_nothing marks low h.1) refl
-reads_nothing marks (Select high low n) h = rw h refl
-reads_nothing marks (Read memory address) h = reads_nothing marks address h
+-- the net of one assignment more is marked, where each drives another
+pub marked_there : (rest : List Assignment) (a : Assignment) (old : List Bool) → AreMarks rest old → a.target < length old → AreOnce (a ∷ rest) → Marked old (slice_set old a.target true) a
+marked_there rest a old m within o = record { fresh = unmarked old a.target within (λ h. m.driven a.target h o.0); set = refl }
 
--- the first assignment of an order is marked, when those behind it are
-pub marked_there : (rest : List Assignment) (a : Assignment) (old : List Bool) → AreMarks rest old → (a.target < length old) × EachRead (λ n. n < length old) a.value → IsOrdered (a ∷ rest) → Marked old (slice_set old a.target true) a
-marked_there rest a old m within o = record {
-  fresh = unmarked old a.target within.0 (λ h. m.driven a.target h o.1);
-  set = refl;
-  apart = reads_nothing (slice_set old a.target true) a.value
-      (reads_and (λ n. (n < length old) × IsUndriven (a ∷ rest) n) (λ n. slice_get (slice_set old a.target true) n ≡ Some false) a.value
-      (λ n p. set_other old a.target n (λ same. p.1.0 (sym same)) ∙ unmarked old n p.0 (λ h. m.driven n h p.1.1))
-      (reads_both (λ n. n < length old) (IsUndriven (a ∷ rest)) a.value within.1 o.0));
-}
-
--- an order from a place on is one
-pub ordered_from : {A : Type 0} (f : A → Assignment) (xs : List A) (i : ℕ) → IsOrdered (map f xs) → IsOrdered (map f (drop i xs))
-ordered_from f [] zero h = h
-ordered_from f [] (suc i) h = h
-ordered_from f (x ∷ xs) zero h = h
-ordered_from f (x ∷ xs) (suc i) h = ordered_from f xs i h.2
+pub once_from : {A : Type 0} (f : A → Assignment) (xs : List A) (i : ℕ) → AreOnce (map f xs) → AreOnce (map f (drop i xs))
+once_from f [] zero h = h
+once_from f [] (suc i) h = h
+once_from f (x ∷ xs) zero h = h
+once_from f (x ∷ xs) (suc i) h = once_from f xs i h.1
 
 -- what holds of each holds of one
 pub holds_at : {A B : Type 0} (P : B → Type 0) (f : A → B) (xs : List A) (i : ℕ) (x : A) → AllByRecursion P (map f xs) → i < length xs → x ≡ get_or xs i x → P (f x)
@@ -194,17 +153,14 @@ there-driven marks from (d ∷ ds) h =
 
 -- ---- all of it
 
-permuted : (as' : List Assignment) → IsPermutation as' as'
-permuted as' = IsPermutation-refl as'
-
 -- what passes the tests can run
-pub runs : (ds : List Declaration) (as' : List Assignment) (bs : List Statement) (marks : List Bool) → all_sized ds ≡ true → all_kept ds as' ≡ true → blocks_kept ds bs ≡ true → AreMarks as' marks → IsOrdered as' → all_driven marks 0 ds ≡ true → IsRunnable (module_with ds as' bs)
+pub runs : (ds : List Declaration) (as' : List Assignment) (bs : List Statement) (marks : List Bool) → all_sized ds ≡ true → all_kept ds as' ≡ true → blocks_kept ds bs ≡ true → AreMarks as' marks → CanBeOrdered as' → all_driven marks 0 ds ≡ true → IsRunnable (module_with ds as' bs)
 runs ds as' bs marks sizes kept blocks m ordered driven = record {
   sizes = sized-all ds sizes;
   assignments = kept-all ds as' kept;
   blocks = kept-blocks ds bs blocks;
   driven = λ n d at k u. m.driven n (let zeroth : 0 + n ≡ n = omega arith in ap (λ (i : ℕ). slice_get marks i) (sym zeroth) ∙ driven-there marks 0 ds driven n d at (kind_driven d.kind k)) u;
-  ordered = record { order = as'; same = permuted as'; ordered = ordered };
+  ordered = ordered;
 }
 
 -- a net of a declaration has a mark or none
@@ -234,7 +190,7 @@ of_parts m r = record { sizes = r.sizes; assignments = r.assignments; blocks = r
 pub runnable : (m : Module) (ds : List Declaration) (as' : List Assignment) (bs : List Statement) (b : Bool) → ds ≡ m.declarations → as' ≡ m.assignments → bs ≡ m.blocks → (b ≡ true → IsRunnable (module_with ds as' bs)) → b ≡ true → IsRunnable m
 runnable m ds as' bs b e f g h t = with_parts m (subst (λ x. IsRunnable (module_with x m.assignments m.blocks)) e (subst (λ x. IsRunnable (module_with ds x m.blocks)) f (subst (λ x. IsRunnable (module_with ds as' x)) g (h t))))
 
-pub not_runnable : (m : Module) (ds : List Declaration) (as' : List Assignment) (bs : List Statement) (b : Bool) → ds ≡ m.declarations → as' ≡ m.assignments → bs ≡ m.blocks → (IsRunnable (module_with ds as' bs) → IsOrdered as' → b ≡ true) → b ≡ false → IsRunnable m → IsOrdered m.assignments → ⊥
-not_runnable m ds as' bs b e f g h t r o =
+pub not_runnable : (m : Module) (ds : List Declaration) (as' : List Assignment) (bs : List Statement) (b : Bool) → ds ≡ m.declarations → as' ≡ m.assignments → bs ≡ m.blocks → (IsRunnable (module_with ds as' bs) → b ≡ true) → b ≡ false → IsRunnable m → ⊥
+not_runnable m ds as' bs b e f g h t r =
     let parts = subst (λ x. IsRunnable (module_with x as' bs)) (sym e) (subst (λ x. IsRunnable (module_with m.declarations x bs)) (sym f) (subst (λ x. IsRunnable (module_with m.declarations m.assignments x)) (sym g) (of_parts m r))) in
-    absurd (let k : false ≡ true = sym t ∙ h parts (subst IsOrdered (sym f) o) in cc)
+    absurd (let k : false ≡ true = sym t ∙ h parts in cc)

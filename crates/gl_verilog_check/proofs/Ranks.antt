@@ -101,7 +101,7 @@ no_loop as' o n us c = let lt = along as' n us n o c (begins as' n us n c) in ab
 
 -- ---- drivers
 
-undriven-none : (bs : List Assignment) (n : ℕ) → IsUndriven bs n → drivers_of bs n ≡ 0
+pub undriven-none : (bs : List Assignment) (n : ℕ) → IsUndriven bs n → drivers_of bs n ≡ 0
 undriven-none [] n h = refl
 undriven-none (b ∷ bs) n h = by (eqb b.target n) refl (undriven-none bs n h.1)
   where

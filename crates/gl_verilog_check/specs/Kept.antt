@@ -150,14 +150,14 @@ reads marks (Read memory address) = reads marks address
 
 -- exactly the nets that these assignments drive are marked
 pub record AreMarks (assignments : List Assignment) (marks : List Bool) : Type 0 where
+  pub targets : AllByRecursion (λ a. slice_get marks a.target ≡ Some true) assignments
   pub undriven : (n : ℕ) → slice_get marks n ≡ Some false → IsUndriven assignments n
   pub driven : (n : ℕ) → slice_get marks n ≡ Some true → IsUndriven assignments n → ⊥
 
--- one more net is marked, which no mark was on, and what drives it reads no marked net
+-- one more net is marked, which no mark was on
 pub record Marked (old new : List Bool) (a : Assignment) : Type 0 where
   pub fresh : slice_get old a.target ≡ Some false
   pub set : new ≡ slice_set old a.target true
-  pub apart : reads new a.value ≡ false
 
 -- whether the net of this declaration, of this number, is marked where it wants a driver
 abbrev pub driver_there : List Bool → ℕ → Declaration → Bool

@@ -1,12 +1,12 @@
 //! The test of a whole module.
 
-ghost use Rattle.std.specs.Prelude.{◌≡◌, map, length, slice_set, true, false, IfOk, []};
+ghost use Rattle.std.specs.Prelude.{◌≡◌, map, length, true, false, IfOk, []};
 ghost use Rattle.gl_verilog.specs.View.{declaration_of, assignment_of, statement_of, module_of, expr_of};
-ghost use Rattle.gl_verilog.specs.Order.{IsOrdered};
 ghost use Rattle.gl_verilog.specs.Runnable.{IsRunnable};
-ghost use Rattle.gl_verilog_check.specs.Kept.{AreMarks, AreNets, Marked, driver_there, all_driven, all_sized, all_kept, test_kept, statement_kept, blocks_kept, module_with};
+ghost use Rattle.gl_verilog_check.specs.Kept.{AreMarks, driver_there, all_driven, all_sized, all_kept, test_kept, statement_kept, blocks_kept, module_with};
 
-use crate::widths::{assigned_width, has_size, kept, put_width, reads, wants_driver, write_width};
+use crate::order::{can_be_ordered, mark_targets};
+use crate::widths::{assigned_width, has_size, kept, put_width, wants_driver, write_width};
 use gl_bits::Memory;
 use gl_verilog::{Assignment, Declaration, Expr, Module, Statement};
 use std::alloc::Global;
@@ -81,37 +81,6 @@ pub(crate) fn blocks_keep(declarations: &[Declaration], blocks: &[Statement]) ->
     true
 }
 
-// Marks the net that an assignment drives, where it is not marked yet and the assignment reads no
-// marked net then.
-fn mark(marks: &mut Vec<bool>, assignment: &Assignment) -> bool
-    ensures marked { result ≡ true → Marked marks.old.items marks.new.items (assignment_of assignment.now) }
-    ensures refused { result ≡ false → Marked marks.old.items (slice_set marks.old.items assignment.now.target true) (assignment_of assignment.now) → ⊥ }
-{
-    let target = assignment.target;
-    if target >= marks.len() || marks[target] {
-        return false;
-    }
-    marks[target] = true;
-    !reads(marks, &assignment.value)
-}
-
-// The nets that are driven, where each assignment reads only nets that are not driven behind it.
-fn marks_of(marks: &mut Vec<bool>, assignments: &[Assignment]) -> bool
-    requires { AreMarks [] marks.old.items }
-    ensures marks { result ≡ true → AreMarks (map assignment_of assignments.now) marks.new.items }
-    ensures ordered { result ≡ true → IsOrdered (map assignment_of assignments.now) }
-    ensures complete { AreNets (length marks.old.items) (map assignment_of assignments.now) → IsOrdered (map assignment_of assignments.now) → result ≡ true }
-    ensures size { result ≡ true → length marks.new.items ≡ length marks.old.items }
-{
-    for done in 0..assignments.len() {
-        let at = assignments.len() - 1 - done;
-        if !mark(marks, &assignments[at]) {
-            return false;
-        }
-    }
-    true
-}
-
 // Whether the declaration of this number wants no driver, or has one.
 fn has_driver(declaration: &Declaration, marks: &[bool], n: usize) -> bool
     ensures { result ≡ driver_there marks.now n (declaration_of declaration.now) }
@@ -140,7 +109,7 @@ pub(crate) fn parts_run(
     requires fresh { AreMarks [] marks.old.items }
     requires size { length marks.old.items ≡ length declarations.now }
     ensures sound { result ≡ true → IsRunnable (module_with (map declaration_of declarations.now) (map assignment_of assignments.now) (map statement_of blocks.now)) }
-    ensures complete { IsRunnable (module_with (map declaration_of declarations.now) (map assignment_of assignments.now) (map statement_of blocks.now)) → IsOrdered (map assignment_of assignments.now) → result ≡ true }
+    ensures complete { IsRunnable (module_with (map declaration_of declarations.now) (map assignment_of assignments.now) (map statement_of blocks.now)) → result ≡ true }
 {
     if !have_sizes(declarations) {
         return false;
@@ -151,18 +120,22 @@ pub(crate) fn parts_run(
     if !blocks_keep(declarations, blocks) {
         return false;
     }
-    if !marks_of(marks, assignments) {
+    if !mark_targets(marks, assignments) {
         return false;
     }
-    all_driven(declarations, marks)
+    if !all_driven(declarations, marks) {
+        return false;
+    }
+    can_be_ordered(marks, assignments)
 }
 
 /// Whether the module can run: its widths are kept, each net that an assignment may drive has one,
-/// and the assignments stand in an order in which each reads only what does not depend on it.
+/// and the assignments can be put in an order in which each reads only what stands before it. Where
+/// they stand so already, one pass over them finds it; else at most one pass for each of them.
 #[tactic(auto, using(crate::proofs::Marks::marks_fresh))]
 pub fn is_runnable(alloc: Global, module: &Module) -> Result<bool, Memory>
     ensures sound { IfOk result (λ b. b ≡ true → IsRunnable (module_of module.now)) }
-    ensures complete { IfOk result (λ b. b ≡ false → IsRunnable (module_of module.now) → IsOrdered (module_of module.now).assignments → ⊥) }
+    ensures complete { IfOk result (λ b. b ≡ false → IsRunnable (module_of module.now) → ⊥) }
 {
     let declarations = module.declarations.as_slice();
     let Ok(mut marks) = vec![in alloc; false; declarations.len()] else {

@@ -1,8 +1,7 @@
-//! The test of a valid module: names, widths, drivers, and the order of its assignments.
+//! The test of a valid module: names, drivers, and all that a module that can run needs.
 
 ghost use Rattle.std.specs.Prelude.{◌≡◌, ◌+◌, map, length, true, false, IfOk, [], option_map};
 ghost use Rattle.gl_verilog.specs.View.{declaration_of, assignment_of, statement_of, module_of};
-ghost use Rattle.gl_verilog.specs.Order.{IsOrdered};
 ghost use Rattle.gl_verilog.specs.Valid as valid;
 ghost use Rattle.gl_verilog.specs.Valid.{IsValid};
 ghost use Rattle.gl_verilog_check.specs.Kept.{AreMarks, module_with};
@@ -160,7 +159,7 @@ fn parts_are_valid(
     requires fresh { AreMarks [] marks.old.items }
     requires size { length marks.old.items ≡ length declarations.now }
     ensures sound { result ≡ true → IsValid (module_with (map declaration_of declarations.now) (map assignment_of assignments.now) (map statement_of blocks.now)) }
-    ensures complete { IsValid (module_with (map declaration_of declarations.now) (map assignment_of assignments.now) (map statement_of blocks.now)) → IsOrdered (map assignment_of assignments.now) → result ≡ true }
+    ensures complete { IsValid (module_with (map declaration_of declarations.now) (map assignment_of assignments.now) (map statement_of blocks.now)) → result ≡ true }
 {
     if !are_distinct(declarations) {
         return false;
@@ -171,12 +170,12 @@ fn parts_are_valid(
     are_assigned(declarations, blocks)
 }
 
-/// Whether the module is valid, and its assignments stand in an order in which each reads only what
-/// does not depend on it. A valid module whose assignments stand otherwise is answered false.
+/// Whether the module is valid: its names differ, its widths are kept, every net, register and
+/// memory has its driver, and no net depends on itself through assignments.
 #[tactic(auto, using(crate::proofs::Marks::marks_fresh))]
 pub fn is_valid(alloc: Global, design: &Module) -> Result<bool, Memory>
     ensures sound { IfOk result (λ b. b ≡ true → IsValid (module_of design.now)) }
-    ensures complete { IfOk result (λ b. b ≡ false → IsValid (module_of design.now) → IsOrdered (module_of design.now).assignments → ⊥) }
+    ensures complete { IfOk result (λ b. b ≡ false → IsValid (module_of design.now) → ⊥) }
 {
     let declarations = design.declarations.as_slice();
     let Ok(mut marks) = vec![in alloc; false; declarations.len()] else {
