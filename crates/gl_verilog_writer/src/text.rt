@@ -221,10 +221,11 @@ fn put_module(out: &mut Vec<u8>, net: &Netlist) -> Result<(), Memory>
 /// Appends the text of a netlist's module: the clock and the ports, one declaration for each node,
 /// all before the first use, the assignments, and a clocked block for each register and memory.
 ///
-/// On want of memory nothing was appended; a netlist of 2^32 nodes or ports is too large as well.
+/// On want of memory nothing was appended. A netlist of 2^32 nodes or ports, or more, is refused so.
 pub fn write_module(net: &Netlist, into: &mut Vec<u8>) -> Result<(), Memory>
     ensures text { OnOk result (into.new.items ≡ into.old.items ++ module_text net.now) }
     ensures meaning { IsTextOf net.now (module_text net.now) }
+    ensures few { OnOk result ((length net.now.nodes < 2 ^ 32) × (length net.now.ports < 2 ^ 32)) }
     ensures length { OnOk result (length (module_text net.now) ≤ most_bytes net.now) }
     ensures nothing { OnErr result (into.new.items ≡ into.old.items) }
 {
