@@ -13,11 +13,13 @@ use Rattle.gl_net.specs.declared.node.Direction.TheVariants.{In, Out}
 use Rattle.gl_net.specs.Net.{Net, Value, Words, open_in, open_shape}
 use Rattle.gl_net.specs.WellFormed.{NodeFits, EndFits, end_at}
 use Rattle.gl_verilog.specs.Module.{Declaration, Expr, Statement, Assignment}
+use Rattle.gl_verilog.specs.Order.{IsOrdered}
 use Rattle.gl_verilog.specs.Valid.{drivers_of, assigns, AssignsOnce, blocks_of, writes_in, writes_of, HasDriver, mentions, depends, IsChain, HasNoLoop, IsValid}
 use Rattle.gl_verilog_writer.specs.Meaning.{kind_of}
 use Rattle.gl_verilog_writer.specs.Design.{numbered}
 use Rattle.gl_verilog_writer.proofs.Model.{Named, at_node, kind_for, expression_of, assigned_to, assignment_for, shown_by, output_for, block_for, declarations_in, line_in, module_in}
 use Rattle.gl_verilog_writer.proofs.Digits.{all-append}
+use Rattle.gl_verilog_writer.proofs.Ordered.{Descends, Above, if_some, in-order, rises-append, rises-numbered}
 use Rattle.gl_verilog_writer.proofs.Lists.{some_none, numbered-all, total, count, total-append, total-none, total-one}
 use Rattle.gl_verilog_writer.proofs.Named.{sorted, distinct, apart}
 use Rattle.gl_verilog_writer.proofs.Fitted.{port_end, shown}
@@ -129,7 +131,7 @@ both_true false b h = absurd (cc)
 
 abbrev rank_by : ℕ → ℕ → Direction → ℕ
 rank_by most k In = 0
-rank_by most k Out = most
+rank_by most k Out = most + k
 
 abbrev rank_at : ℕ → Option Port → ℕ → ℕ
 rank_at most None k = suc k
@@ -139,10 +141,6 @@ rank_at most (Some q) k = rank_by most k q.direction
 abbrev rank : List Port → ℕ → ℕ → ℕ
 rank ports most zero = 0
 rank ports most (suc k) = rank_at most (slice_get ports k) k
-
--- what an assignment mentions comes before its target
-abbrev Descends : (ℕ → ℕ) → Assignment → Type 0
-Descends r a = (n : ℕ) → mentions a.value n ≡ true → r n < r a.target
 
 descends : (r : ℕ → ℕ) (as' : List Assignment) → AllByRecursion (Descends r) as' → (t n : ℕ) → depends as' t n ≡ true → r n < r t
 descends r [] h t n e = absurd (cc)
@@ -253,11 +251,18 @@ module _ (net : Net) (family : ℕ) (c : Named net family) where
 
   -- ---- no loop
 
+  -- behind all nodes
+  abbrev last : ℕ
+  last = suc (suc (p + length net.nodes))
+
   abbrev ranks : ℕ → ℕ
-  ranks = rank net.ports (suc (suc (p + length net.nodes)))
+  ranks = rank net.ports last
 
   rank-node : (n : ℕ) → ranks (at_node p n) ≡ suc (p + n)
-  rank-node n = ap (λ (o : Option Port). rank_at (suc (suc (p + length net.nodes))) o (p + n)) (slice_get_past net.ports (p + n) (let q : p ≤ p + n = omega arith in q))
+  rank-node n = ap (λ (o : Option Port). rank_at last o (p + n)) (slice_get_past net.ports (p + n) (let q : p ≤ p + n = omega arith in q))
+
+  rank-output : (place : ℕ) (q : Port) → slice_get net.ports place ≡ Some q → q.direction ≡ Out → ranks (suc place) ≡ last + place
+  rank-output place q e g = ap (λ (o : Option Port). rank_at last o place) e ∙ ap (rank_by last place) g
 
   reads : (b n m : ℕ) → b < n → nat_eq (at_node p b) m ≡ true → ranks m < ranks (at_node p n)
   reads b n m l e =
@@ -269,7 +274,7 @@ module _ (net : Net) (family : ℕ) (c : Named net family) where
   unfolding end_at
   value-descends n (Input place w) e h = λ m t.
       let q = port_end (slice_get net.ports place) (In, n) h.1 in
-      let a : ranks m ≡ 0 = ap ranks (sym (eqb-true (suc place) m t)) ∙ ap (λ (o : Option Port). rank_at (suc (suc (p + length net.nodes))) o place) q.1 ∙ ap (rank_by (suc (suc (p + length net.nodes))) place) q.2 in
+      let a : ranks m ≡ 0 = ap ranks (sym (eqb-true (suc place) m t)) ∙ ap (λ (o : Option Port). rank_at last o place) q.1 ∙ ap (rank_by last place) q.2 in
       let d = rank-node n in
       let z : ranks m < ranks (at_node p n) = omega (arith, a, d) in z
   value-descends n (Constant word) e h = λ m t. absurd (cc)
@@ -291,7 +296,7 @@ module _ (net : Net) (family : ℕ) (c : Named net family) where
       let i = shown net family c q.node f.0 f.1 in
       let l = slice_get_within net.nodes q.node i.node i.there in
       let a : ranks m ≡ suc (p + q.node) = ap ranks (sym (eqb-true (at_node p q.node) m t)) ∙ rank-node q.node in
-      let b : ranks (suc place) ≡ suc (suc (p + length net.nodes)) = ap (λ (o : Option Port). rank_at (suc (suc (p + length net.nodes))) o place) e ∙ ap (rank_by (suc (suc (p + length net.nodes))) place) g in
+      let b = rank-output place q e g in
       let z : ranks m < ranks (suc place) = omega (arith, a, b, l) in z
 
   here : (k : ℕ) (x : Node) → slice_get net.nodes k ≡ Some x → slice_get net.nodes (0 + k) ≡ Some x
@@ -300,10 +305,39 @@ module _ (net : Net) (family : ℕ) (c : Named net family) where
   here-port : (k : ℕ) (x : Port) → slice_get net.ports k ≡ Some x → slice_get net.ports (0 + k) ≡ Some x
   here-port k x e = ap (λ (m : ℕ). slice_get net.ports m) (zero_up k) ∙ e
 
-  loop-free : HasNoLoop (values ++ outputs)
-  loop-free = no-loop ranks (values ++ outputs) (all-append (Descends ranks) values outputs
+  all-descend : AllByRecursion (Descends ranks) (values ++ outputs)
+  all-descend = all-append (Descends ranks) values outputs
       (numbered-all (Descends ranks) (assignment_for p) 0 net.nodes (λ k x e. value-descends (0 + k) x (here k x e) (c.netlist.formed.nodes (0 + k) x (here k x e))))
-      (numbered-all (Descends ranks) (output_for p) 0 net.ports (λ k q e. output-descends (0 + k) q (here-port k q e) q.direction refl (c.netlist.formed.ends (0 + k) q (here-port k q e)))))
+      (numbered-all (Descends ranks) (output_for p) 0 net.ports (λ k q e. output-descends (0 + k) q (here-port k q e) q.direction refl (c.netlist.formed.ends (0 + k) q (here-port k q e))))
+
+  loop-free : HasNoLoop (values ++ outputs)
+  loop-free = no-loop ranks (values ++ outputs) all-descend
+
+  -- ---- the order
+
+  value-rank : (n : ℕ) (o : Option Expr) → IfSome (option_map (assigned_to (at_node p n)) o) (λ a. ranks a.target ≡ suc p + n)
+  value-rank n None = tt
+  value-rank n (Some v) = let d = rank-node n in let q : ranks (at_node p n) ≡ suc p + n = omega (arith, d) in q
+
+  output-rank : (place : ℕ) (q : Port) → slice_get net.ports place ≡ Some q → (d : Direction) → q.direction ≡ d → IfSome (shown_by p place d q.node) (λ a. ranks a.target ≡ last + place)
+  output-rank place q e In g = tt
+  output-rank place q e Out g = rank-output place q e g
+
+  output-at : (k : ℕ) (q : Port) → slice_get net.ports k ≡ Some q → IfSome (output_for p (0 + k) q) (λ a. ranks a.target ≡ last + (0 + k))
+  output-at k q e = output-rank (0 + k) q (here-port k q e) q.direction refl
+
+  -- every output stands behind the node
+  outputs-behind : (n k : ℕ) → n ≡ suc p + (0 + k) → k < length net.nodes → Above ranks n outputs
+  outputs-behind n k e l = numbered-all (λ b. n < ranks b.target) (output_for p) 0 net.ports (λ j q f. if_some (output_for p (0 + j) q) (λ b i. (let z : n < ranks b.target = omega (arith, e, i, l) in z)) (output-at j q f))
+
+  pub assignments-ordered : IsOrdered (values ++ outputs)
+  assignments-ordered = in-order ranks (values ++ outputs)
+      (rises-append ranks values outputs
+      (rises-numbered ranks (assignment_for p) (suc p) 0 net.nodes (λ k x e. value-rank (0 + k) (expression_of p x)))
+      (rises-numbered ranks (output_for p) last 0 net.ports output-at)
+      (numbered-all (λ a. Above ranks (ranks a.target) outputs) (assignment_for p) 0 net.nodes (λ k x e.
+      if_some (assignment_for p (0 + k) x) (λ a i. outputs-behind (ranks a.target) k i (slice_get_within net.nodes k x e)) (value-rank (0 + k) (expression_of p x)))))
+      all-descend
 
   pub module-valid : IsValid (module_in net family)
   unfolding module_in

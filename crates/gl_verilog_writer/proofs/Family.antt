@@ -122,9 +122,9 @@ family-most ports (suc n) at = elim (split (begins_port ports (family_text at)))
   | inl t ↦ (let h = family-most ports n (at + 1) in rw t (let q : family_from ports n (at + 1) ≤ at + suc n = omega (arith, h) in q))
 ]
 
-pub family-small : (ports : List Port) → length ports < 2 ^ 64 → family_of ports < 2 ^ 64
+pub family-small : (ports : List Port) (most : ℕ) → length ports < most → family_of ports < most
 unfolding family_of
-family-small ports l = let h = family-most ports (length ports) 0 in let q : family_from ports (length ports) 0 < 2 ^ 64 = omega (arith, h, l) in q
+family-small ports most l = let h = family-most ports (length ports) 0 in let q : family_from ports (length ports) 0 < most = omega (arith, h, l) in q
 
 pub family-free : (ports : List Port) → length ports < 2 ^ 64 → begins_port ports (family_text (family_of ports)) ≡ false
 unfolding family_of

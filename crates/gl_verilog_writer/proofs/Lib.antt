@@ -8,7 +8,9 @@ pub mod Fitted
 pub mod Resolved
 pub mod Spelled
 pub mod Checked
+pub mod Ordered
 pub mod Driven
 pub mod Family
+pub mod Sizes
 pub mod Running
 pub mod Means

@@ -13,7 +13,7 @@ pub items-append : (a b : List WrittenItem) → items_text (a ++ b) ≡ items_te
 items-append [] b = refl
 items-append (i ∷ a) b = ap (λ (t : List ℕ). item_text i ++ t) (items-append a b) ∙ sym (append_assoc (item_text i) (items_text a) (items_text b))
 
-item-first : (o : Option WrittenItem) (is : List WrittenItem) → items_text (with_option o is) ≡ option_map_or item_text o [] ++ items_text is
+pub item-first : (o : Option WrittenItem) (is : List WrittenItem) → items_text (with_option o is) ≡ option_map_or item_text o [] ++ items_text is
 item-first None is = refl
 item-first (Some i) is = refl
 

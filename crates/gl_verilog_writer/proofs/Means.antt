@@ -9,7 +9,7 @@ use Rattle.gl_verilog_writer.proofs.Model.{Named, module_in}
 use Rattle.gl_verilog_writer.proofs.Family.{family-small, family-free}
 use Rattle.gl_verilog_writer.proofs.Resolved.{resolves}
 use Rattle.gl_verilog_writer.proofs.Spelled.{written_as, module-spelled-as, module-written, module-limited}
-use Rattle.gl_verilog_writer.proofs.Driven.{module-valid}
+use Rattle.gl_verilog_writer.proofs.Driven.{module-valid, assignments-ordered}
 use Rattle.gl_verilog_writer.proofs.Running.{runs-same, ports-declared}
 
 name-back : (o : Option (List ℕ)) → IsSomeAnd o IsName → Some (unwrap_or o []) ≡ o
@@ -20,7 +20,7 @@ pub text-means : (net : Net) → IsNetlist net → length net.nodes < 2 ^ 64 →
 unfolding module_text module_in
 text-means net h nodes ports =
     let family = family_of net.ports in
-    let c : Named net family = record { netlist = h; few = nodes; small = family-small net.ports ports; free = family-free net.ports ports } in
+    let c : Named net family = record { netlist = h; few = nodes; small = family-small net.ports (2 ^ 64) ports; free = family-free net.ports ports } in
     record {
       design = module_in net family;
       has = record {
@@ -33,5 +33,6 @@ text-means net h nodes ports =
       };
       name' = name-back net.name h.finished.module_name;
       declared = ports-declared net family;
+      ordered = assignments-ordered net family c;
       runs = λ value word r. runs-same net family c value word r;
     }

@@ -6,6 +6,7 @@ use Rattle.gl_net.specs.declared.node.Direction.TheVariants.{In, Out}
 use Rattle.gl_net.specs.Net.{Net, Run, IsTrace, Shape, Value, Words, shape_in}
 use Rattle.gl_net.specs.PortValues.{port_values}
 use Rattle.gl_verilog.specs.Module.{Module, Declaration, Kind, Input, OutputWire, Nets, Memories}
+use Rattle.gl_verilog.specs.Order.{IsOrdered}
 use Rattle.gl_verilog.specs.Run.{IsRun, port_of}
 use Rattle.gl_verilog.specs.Text.{HasModule}
 
@@ -35,11 +36,12 @@ pub record IsRunOf (net : Net) (m : Module) (value : ℕ → Nets) : Type 0 wher
   pub trace : IsTrace net run
   pub ports : (t : ℕ) (name : List ℕ) → bytes_eq name (codes "clk") ≡ false → port_of m value t name ≡ port_values net run t name
 
--- the text has a module of the netlist's name and ports, and each of its runs, from any start and with any inputs, is one of the
--- netlist
+-- the text has a module of the netlist's name and ports, whose assignments stand in an order in which each reads only what is driven
+-- before it, and each of its runs, from any start and with any inputs, is one of the netlist
 pub record IsTextOf (net : Net) (text : List ℕ) : Type 0 where
   pub design : Module
   pub has : HasModule text design
   pub name' : Some design.name ≡ net.name
   pub declared : take design.ports design.declarations ≡ clock ∷ map (declaration_of net) net.ports
+  pub ordered : IsOrdered design.assignments
   pub runs : (value : ℕ → Nets) (word : ℕ → Memories) → IsRun design value word → IsRunOf net design value

@@ -1,6 +1,6 @@
 //! The text of a whole netlist.
 
-ghost use Rattle.std.specs.Prelude.{◌≡◌, ◌++◌, ◌<◌, ◌^◌, OnOk, OnErr, IfOk, codes, length, [], ◌∷◌, Some, map, List};
+ghost use Rattle.std.specs.Prelude.{◌≡◌, ◌++◌, ◌<◌, ◌≤◌, ◌^◌, OnOk, OnErr, IfOk, codes, length, [], ◌∷◌, Some, map, List};
 ghost use Rattle.std.specs.Option.{option_map_or};
 ghost use Rattle.gl_net.specs.Finished.{IsNetlist};
 ghost use Rattle.gl_net.specs.Net.{shape_in};
@@ -8,6 +8,7 @@ ghost use Rattle.gl_verilog.specs.Written.{WrittenItem};
 ghost use Rattle.gl_verilog_writer.specs.Meaning.{bits_of, IsTextOf};
 ghost use Rattle.gl_verilog_writer.specs.Pieces.{family_text};
 ghost use Rattle.gl_verilog_writer.specs.Printed.{range_text, direction_text, port_text, more_ports_text, head_text, item_text, items_text};
+ghost use Rattle.gl_verilog_writer.specs.Size.{most_bytes};
 ghost use Rattle.gl_verilog_writer.specs.Design.{begins_port, family_of, leads, range_of, clock_port, written_port, items_of, numbered, declaring, assigning, shows, showing, clocking, module_text};
 
 use crate::nodes::{put_assignment, put_block, put_declaration, width_of};
@@ -192,16 +193,24 @@ fn put_items(out: &mut Vec<u8>, family: usize, nodes: &[Node], ports: &[Port]) -
     put_parts(out, family, nodes, ports)
 }
 
+// So many nodes or ports are refused as want of memory: their numbers have at most ten digits.
+const TOO_MANY: usize = 1 << 32;
+
 // The text of a netlist.
 #[tactic(auto, unfolding(crate::specs::Design::module_text))]
 fn put_module(out: &mut Vec<u8>, net: &Netlist) -> Result<(), Memory>
     ensures text { OnOk result (out.new.items ≡ out.old.items ++ module_text net.now) }
     ensures few_nodes { length net.now.nodes < 2 ^ 64 }
     ensures few_ports { length net.now.ports < 2 ^ 64 }
+    ensures low_nodes { OnOk result (length net.now.nodes < 2 ^ 32) }
+    ensures low_ports { OnOk result (length net.now.ports < 2 ^ 32) }
     ensures netlist { IsNetlist net.now }
 {
     let nodes = net.nodes();
     let ports = net.ports();
+    if nodes.len() >= TOO_MANY || ports.len() >= TOO_MANY {
+        return Err(Memory);
+    }
     let mut scratch = Vec::new(*out.allocator());
     let family = free_family(&mut scratch, ports)?;
     put_head(out, net.name(), nodes, ports)?;
@@ -212,10 +221,12 @@ fn put_module(out: &mut Vec<u8>, net: &Netlist) -> Result<(), Memory>
 /// Appends the text of a netlist's module: the clock and the ports, one declaration for each node,
 /// all before the first use, the assignments, and a clocked block for each register and memory.
 ///
-/// On want of memory nothing was appended.
+/// On want of memory nothing was appended. A netlist of 2^32 nodes or ports, or more, is refused so.
 pub fn write_module(net: &Netlist, into: &mut Vec<u8>) -> Result<(), Memory>
     ensures text { OnOk result (into.new.items ≡ into.old.items ++ module_text net.now) }
     ensures meaning { IsTextOf net.now (module_text net.now) }
+    ensures few { OnOk result ((length net.now.nodes < 2 ^ 32) × (length net.now.ports < 2 ^ 32)) }
+    ensures length { OnOk result (length (module_text net.now) ≤ most_bytes net.now) }
     ensures nothing { OnErr result (into.new.items ≡ into.old.items) }
 {
     let mut text = Vec::new(*into.allocator());
