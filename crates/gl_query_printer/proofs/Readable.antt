@@ -1,0 +1,267 @@
+-- The canonical tokens can be read from their text.
+use Rattle.std.proofs.Common.{◌≡◌, ℕ, ◌+◌, ◌-◌, ◌*◌, ◌^◌, ◌<◌, ◌≤◌, Bool, true, false, ◌&&◌, List, [], ◌∷◌, ◌++◌, map, Option, Some, None, option_map, refl, sym, ap, subst, ◌∙◌, arith}
+use Rattle.std.specs.Prelude.{codes, decimal, if◌then◌else◌}
+use Rattle.std.specs.List.{AllByRecursion}
+use Rattle.gl_bits.specs.declared.kind.Kind.{Kind}
+use Rattle.gl_query.specs.declared.tree.Op.{Op}
+use Rattle.gl_query.specs.declared.tree.Op.TheVariants as op
+use Rattle.gl_query.specs.Shapes.{ExprShape, AggShape, ItemShape, AggItemShape, PickShape, QueryShape, StatementShape}
+use Rattle.gl_query.specs.Shapes as shape
+use Rattle.gl_query_tokens.specs.declared.token.Fold.{Fold}
+use Rattle.gl_query_tokens.specs.declared.token.Fold.TheVariants.{Sum, Min, Max, Avg}
+use Rattle.gl_query_tokens.specs.declared.token.Join.{Join}
+use Rattle.gl_query_tokens.specs.declared.token.Join.TheVariants.{Union, Concat}
+use Rattle.gl_query_tokens.specs.declared.token.Plain.{Plain}
+use Rattle.gl_query_tokens.specs.declared.token.Plain.TheVariants as plain
+use Rattle.gl_query_tokens.specs.declared.token.Token.{Token}
+use Rattle.gl_query_tokens.specs.declared.token.Token.TheVariants as token
+use Rattle.gl_query_tokens.specs.Tokens.{class_of, follow_of, sign_token}
+use Rattle.gl_query_tokens.specs.Words.{is_keyword, word_token}
+use Rattle.gl_query_reader.specs.Written as written
+use Rattle.gl_query_reader.specs.Written.{spell, spell_numbers, spell_agg, spell_item, spell_items, spell_pick, spell_window, spell_filter, spell_grouping, spell_query}
+use Rattle.gl_query_printer.specs.Brackets.{is_stream, is_term}
+use Rattle.gl_query_printer.specs.Canonical.{name_of, num_of, fitted, expr_of, agg_of, is_bare, item_of, agg_item_of, pick_of, bracketed_unless, source_of, term_of, window_of, grouping_of, query_of, statement_of, canonical_tokens}
+use Rattle.gl_query_printer.specs.Spaced.{token_text, plain_text, operator_text, fold_text, join_text, place_behind}
+use Rattle.gl_query_printer.proofs.Lexed.{Readable, ReadAs, Ends, IsEnd, is_word, read_word, letters_readable, half_ends}
+use Rattle.gl_query_printer.proofs.Places.{placeless}
+use Rattle.gl_query_printer.proofs.Sound.{IsNameWord, IsSmall, all-append}
+use Rattle.gl_query_printer.proofs.Decimals.{number_readable}
+use Rattle.gl_query_printer.proofs.Writable.{CanBeExpr, AreWeights, CanBeAgg, CanBeItem, CanBeAggItem, CanBePick, CanBeFilter, CanBeSource, CanBeStatement}
+
+-- ---- tokens
+
+name_readable : (w : List ℕ) → IsNameWord w → Readable (token.Name (name_of w))
+unfolding token_text place_behind
+name_readable w h = record { reads = λ at bs e. read_word w (token.Name (name_of w)) h.word (λ a. ap placeless (h.token a)) at bs e }
+
+open_readable : Readable (token.Open 0)
+unfolding token_text place_behind class_of sign_token
+open_readable = record { reads = λ at bs e. record { behind = at + 1; is = refl } }
+
+close_readable : Readable (token.Plain plain.Close)
+unfolding token_text plain_text class_of sign_token
+close_readable = record { reads = λ at bs e. record { behind = at + 1; is = refl } }
+
+left_readable : Readable (token.Plain plain.LeftSquare)
+unfolding token_text plain_text class_of sign_token
+left_readable = record { reads = λ at bs e. record { behind = at + 1; is = refl } }
+
+right_readable : Readable (token.Plain plain.RightSquare)
+unfolding token_text plain_text class_of sign_token
+right_readable = record { reads = λ at bs e. record { behind = at + 1; is = refl } }
+
+comma_readable : Readable (token.Plain plain.Comma)
+unfolding token_text plain_text class_of sign_token
+comma_readable = record { reads = λ at bs e. record { behind = at + 1; is = refl } }
+
+-- keywords behind which a word ends
+plain_readable : (p : Plain) → is_word (plain_text p) ≡ true → ((at : ℕ) → placeless (word_token (plain_text p) at) ≡ token.Plain p) → ((at : ℕ) (bs : List ℕ) → Ends bs → ReadAs at (plain_text p) bs (token.Plain p))
+plain_readable p w k = λ at bs e. read_word (plain_text p) (token.Plain p) w k at bs e
+
+select_readable : Readable (token.Plain plain.Select)
+unfolding token_text plain_text place_behind class_of word_token is_keyword
+select_readable = record { reads = plain_readable plain.Select refl (λ at. refl) }
+
+from_readable : Readable (token.Plain plain.From)
+unfolding token_text plain_text place_behind class_of word_token is_keyword
+from_readable = record { reads = plain_readable plain.From refl (λ at. refl) }
+
+where_readable : Readable (token.Plain plain.Where)
+unfolding token_text plain_text place_behind class_of word_token is_keyword
+where_readable = record { reads = plain_readable plain.Where refl (λ at. refl) }
+
+groups_readable : Readable (token.Plain plain.Groups)
+unfolding token_text plain_text place_behind class_of word_token is_keyword
+groups_readable = record { reads = plain_readable plain.Groups refl (λ at. refl) }
+
+in_readable : Readable (token.Plain plain.In)
+unfolding token_text plain_text place_behind class_of word_token is_keyword
+in_readable = record { reads = plain_readable plain.In refl (λ at. refl) }
+
+advance_readable : Readable (token.Plain plain.Advance)
+unfolding token_text plain_text place_behind class_of word_token is_keyword
+advance_readable = record { reads = plain_readable plain.Advance refl (λ at. refl) }
+
+tuples_readable : Readable (token.Plain plain.Tuples)
+unfolding token_text plain_text place_behind class_of word_token is_keyword
+tuples_readable = record { reads = plain_readable plain.Tuples refl (λ at. refl) }
+
+into_readable : Readable (token.Plain plain.Into)
+unfolding token_text plain_text place_behind class_of word_token is_keyword
+into_readable = record { reads = plain_readable plain.Into refl (λ at. refl) }
+
+as_readable : Readable (token.Plain plain.As)
+unfolding token_text plain_text place_behind class_of word_token is_keyword
+as_readable = record { reads = plain_readable plain.As refl (λ at. refl) }
+
+not_readable : Readable (token.Not 0)
+unfolding token_text place_behind class_of word_token is_keyword
+not_readable = record { reads = λ at bs e. read_word (codes "NOT") (token.Not 0) refl (λ a. refl) at bs e }
+
+cast_readable : Readable (token.Cast 0)
+unfolding token_text place_behind class_of word_token is_keyword
+cast_readable = record { reads = λ at bs e. read_word (codes "CAST") (token.Cast 0) refl (λ a. refl) at bs e }
+
+count_readable : Readable (token.Count 0)
+unfolding token_text place_behind class_of word_token is_keyword
+count_readable = record { reads = λ at bs e. read_word (codes "count") (token.Count 0) refl (λ a. refl) at bs e }
+
+wsum_readable : Readable (token.Wsum 0)
+unfolding token_text place_behind class_of word_token is_keyword
+wsum_readable = record { reads = λ at bs e. read_word (codes "wsum") (token.Wsum 0) refl (λ a. refl) at bs e }
+
+each_readable : Readable (token.Each 0)
+unfolding token_text place_behind class_of word_token is_keyword
+each_readable = record { reads = λ at bs e. read_word (codes "EACH") (token.Each 0) refl (λ a. refl) at bs e }
+
+by_readable : Readable (token.By 0)
+unfolding token_text place_behind class_of word_token is_keyword
+by_readable = record { reads = λ at bs e. read_word (codes "BY") (token.By 0) refl (λ a. refl) at bs e }
+
+size_readable : Readable (token.Size 0)
+unfolding token_text place_behind class_of word_token is_keyword
+size_readable = record { reads = λ at bs e. read_word (codes "SIZE") (token.Size 0) refl (λ a. refl) at bs e }
+
+fold_readable : (f : Fold) → Readable (token.Fold f 0)
+unfolding token_text fold_text place_behind class_of word_token is_keyword
+fold_readable Sum = record { reads = λ at bs e. read_word (codes "sum") (token.Fold Sum 0) refl (λ a. refl) at bs e }
+fold_readable Min = record { reads = λ at bs e. read_word (codes "min") (token.Fold Min 0) refl (λ a. refl) at bs e }
+fold_readable Max = record { reads = λ at bs e. read_word (codes "max") (token.Fold Max 0) refl (λ a. refl) at bs e }
+fold_readable Avg = record { reads = λ at bs e. read_word (codes "avg") (token.Fold Avg 0) refl (λ a. refl) at bs e }
+
+join_readable : (j : Join) → Readable (token.Join j 0)
+unfolding token_text join_text place_behind class_of word_token is_keyword
+join_readable Union = record { reads = λ at bs e. read_word (codes "UNION") (token.Join Union 0) refl (λ a. refl) at bs e }
+join_readable Concat = record { reads = λ at bs e. read_word (codes "CONCAT") (token.Join Concat 0) refl (λ a. refl) at bs e }
+
+operator_readable : (o : Op) → Readable (token.Operator o 0)
+unfolding token_text operator_text place_behind class_of sign_token follow_of word_token is_keyword
+operator_readable op.Add = record { reads = λ at bs e. record { behind = at + 1; is = refl } }
+operator_readable op.Sub = record { reads = λ at bs e. record { behind = at + 1; is = half_ends at 45 bs (at + 1) (λ b i. i.dash) e } }
+operator_readable op.Mul = record { reads = λ at bs e. record { behind = at + 1; is = refl } }
+operator_readable op.Eq = record { reads = λ at bs e. record { behind = at + 1; is = refl } }
+operator_readable op.Ne = record { reads = λ at bs e. record { behind = at + 1 + 1; is = refl } }
+operator_readable op.Lt = record { reads = λ at bs e. record { behind = at + 1; is = half_ends at 60 bs (at + 1) (λ b i. i.less) e } }
+operator_readable op.Le = record { reads = λ at bs e. record { behind = at + 1 + 1; is = refl } }
+operator_readable op.Gt = record { reads = λ at bs e. record { behind = at + 1; is = half_ends at 62 bs (at + 1) (λ b i. i.greater) e } }
+operator_readable op.Ge = record { reads = λ at bs e. record { behind = at + 1 + 1; is = refl } }
+operator_readable op.And = record { reads = λ at bs e. read_word (codes "AND") (token.Operator op.And 0) refl (λ a. refl) at bs e }
+operator_readable op.Or = record { reads = λ at bs e. read_word (codes "OR") (token.Operator op.Or 0) refl (λ a. refl) at bs e }
+
+-- ---- trees
+
+abbrev AreReadable : List Token → Type 0
+AreReadable ts = AllByRecursion Readable ts
+
+join : (xs ys : List Token) → AreReadable xs → AreReadable ys → AreReadable (xs ++ ys)
+join xs ys p q = all-append Readable xs ys p q
+
+closed : AreReadable (token.Plain plain.Close ∷ [])
+closed = (close_readable, tt)
+
+fitted_readable : (fits : Bool) (e : written.Expr) → AreReadable (spell e) → AreReadable (spell (fitted fits e))
+fitted_readable true e h = h
+fitted_readable false e h = (open_readable, join (spell e) (token.Plain plain.Close ∷ []) h closed)
+
+expr_readable : (e : ExprShape) → CanBeExpr e → AreReadable (spell (expr_of e))
+expr_readable (shape.Column name) c = (name_readable name c, tt)
+expr_readable (shape.Number n) c = (number_readable n c, tt)
+expr_readable (shape.Letters text) c = (letters_readable text c, tt)
+expr_readable (shape.Not e) c = (not_readable, fitted_readable _ (expr_of e) (expr_readable e c))
+expr_readable (shape.Cast kind e) c = (cast_readable, (open_readable, join (spell (expr_of e)) _ (expr_readable e c.0) (as_readable, (name_readable _ c.1, closed))))
+expr_readable (shape.Binary o l r) c =
+    join (spell (fitted _ (expr_of l))) (token.Operator o 0 ∷ spell (fitted _ (expr_of r))) (fitted_readable _ (expr_of l) (expr_readable l c.0)) (operator_readable o, fitted_readable _ (expr_of r) (expr_readable r c.1))
+
+numbers_readable : (ns : List ℕ) → AllByRecursion IsSmall ns → AreReadable (spell_numbers (map num_of ns))
+numbers_readable [] c = tt
+numbers_readable (n ∷ []) c = (number_readable n c.0, tt)
+numbers_readable (n ∷ m ∷ ns) c = (number_readable n c.0, (comma_readable, numbers_readable (m ∷ ns) c.1))
+
+weights_readable : (ns : List ℕ) → AreWeights ns → AreReadable (spell_numbers (map num_of ns))
+weights_readable [] c = absurd c
+weights_readable (n ∷ ns) c = numbers_readable (n ∷ ns) c
+
+folded : (f : Fold) (e : ExprShape) → CanBeExpr e → AreReadable (spell_agg (written.Fold' f 0 0 (expr_of e)))
+folded f e c = (fold_readable f, (open_readable, join (spell (expr_of e)) (token.Plain plain.Close ∷ []) (expr_readable e c) closed))
+
+agg_readable : (a : AggShape) → CanBeAgg a → AreReadable (spell_agg (agg_of a))
+agg_readable shape.Count c = (count_readable, (open_readable, closed))
+agg_readable (shape.Sum e) c = folded Sum e c
+agg_readable (shape.Min e) c = folded Min e c
+agg_readable (shape.Max e) c = folded Max e c
+agg_readable (shape.Avg e) c = folded Avg e c
+agg_readable (shape.Wsum e ns) c =
+    (wsum_readable, (open_readable, join (spell (expr_of e)) _ (expr_readable e c.0) (comma_readable, (left_readable, join (spell_numbers (map num_of ns)) _ (weights_readable ns c.1) (right_readable, closed)))))
+
+item_by : (b : Bool) (e : ExprShape) (name : List ℕ) → CanBeExpr e → IsNameWord name → AreReadable (spell_item (if b then written.Bare (name_of name) else written.Named (expr_of e) (name_of name)))
+item_by true e name c h = (name_readable name h, tt)
+item_by false e name c h = join (spell (expr_of e)) _ (expr_readable e c) (as_readable, (name_readable name h, tt))
+
+item_readable : (i : ItemShape) → CanBeItem i → AreReadable (spell_item (item_of i))
+item_readable i c = item_by (is_bare i.expr i.name) i.expr i.name c.0 c.1
+
+agg_item_readable : (i : AggItemShape) → CanBeAggItem i → AreReadable (spell_item (agg_item_of i))
+agg_item_readable i c = join (spell_agg (agg_of i.agg)) _ (agg_readable i.agg c.0) (as_readable, (name_readable i.name c.1, tt))
+
+items_readable : {A : Type 0} (f : A → written.Item) (C : A → Type 0) → ((i : A) → C i → AreReadable (spell_item (f i))) → (is : List A) → AllByRecursion C is → AreReadable (spell_items (map f is))
+items_readable f C one [] c = tt
+items_readable f C one (i ∷ []) c = one i c.0
+items_readable f C one (i ∷ j ∷ is) c = join (spell_item (f i)) _ (one i c.0) (comma_readable, items_readable f C one (j ∷ is) c.1)
+
+pick_readable : (p : PickShape) → CanBePick p → AreReadable (spell_pick (pick_of p))
+pick_readable shape.All c = (operator_readable op.Mul, tt)
+pick_readable (shape.Items items) c = items_readable item_of CanBeItem item_readable items c.1
+
+filter_readable : (f : Option ExprShape) → CanBeFilter f → AreReadable (spell_filter (option_map expr_of f))
+filter_readable None c = tt
+filter_readable (Some e) c = (where_readable, expr_readable e c)
+
+bracketed : (b : Bool) (q : written.Query) → AreReadable (spell_query q) → AreReadable (spell_query (bracketed_unless b q))
+bracketed true q h = h
+bracketed false q h = (open_readable, join (spell_query q) _ h closed)
+
+window_readable : (size advance : ℕ) → IsSmall size → IsSmall advance → AreReadable (spell_window (window_of size advance))
+window_readable size advance s a = (left_readable, (size_readable, (number_readable size s, (advance_readable, (number_readable advance a, (tuples_readable, (right_readable, tt)))))))
+
+grouping_readable : (key : List ℕ) (groups : ℕ) → IsNameWord key → IsSmall groups → AreReadable (spell_grouping (grouping_of key groups))
+grouping_readable key groups k g = (by_readable, (name_readable key k, (groups_readable, (number_readable groups g, tt))))
+
+abbrev in_brackets : written.Query → List Token
+in_brackets q = token.Open 0 ∷ (spell_query q ++ token.Plain plain.Close ∷ [])
+
+body_readable : (q : written.Query) → AreReadable (spell_query q) → AreReadable (in_brackets q)
+body_readable q h = (open_readable, join (spell_query q) (token.Plain plain.Close ∷ []) h closed)
+
+query_readable : (q : QueryShape) → CanBeSource q → AreReadable (spell_query (query_of q))
+query_readable (shape.Read name) c = (name_readable name c, tt)
+query_readable (shape.Rows pick filter source) c =
+    (select_readable, join (spell_pick (pick_of pick)) _ (pick_readable pick c.0) (from_readable, join (spell_query (source_of (query_of source))) _ (bracketed _ (query_of source) (query_readable source c.2)) (join (spell_filter (option_map expr_of filter)) [] (filter_readable filter c.1) tt)))
+query_readable (shape.Total aggs source) c =
+    (select_readable, join (spell_items (map agg_item_of aggs)) _ (items_readable agg_item_of CanBeAggItem agg_item_readable aggs c.1) (from_readable, join (spell_query (source_of (query_of source))) [] (bracketed _ (query_of source) (query_readable source c.2)) tt))
+query_readable (shape.Each var source size advance body) c = (
+  each_readable,
+  (
+    name_readable var c.0,
+    (
+      in_readable,
+      join (spell_query (source_of (query_of source))) _ (bracketed _ (query_of source) (query_readable source c.1))
+          (join (spell_window (window_of size advance)) (in_brackets (query_of body)) (window_readable size advance c.2 c.3) (body_readable (query_of body) (query_readable body c.4))),
+    ),
+  ),
+)
+query_readable (shape.PerGroup var source key groups body) c = (
+  each_readable,
+  (
+    name_readable var c.0,
+    (
+      in_readable,
+      join (spell_query (source_of (query_of source))) _ (bracketed _ (query_of source) (query_readable source c.1))
+          (join (spell_grouping (grouping_of key groups)) (in_brackets (query_of body)) (grouping_readable key groups c.2 c.3) (body_readable (query_of body) (query_readable body c.4))),
+    ),
+  ),
+)
+query_readable (shape.Union l r) c = join (spell_query (query_of l)) (token.Join Union 0 ∷ spell_query (term_of (query_of r))) (query_readable l c.0) (join_readable Union, bracketed _ (query_of r) (query_readable r c.2))
+query_readable (shape.Concat l r) c = join (spell_query (query_of l)) (token.Join Concat 0 ∷ spell_query (term_of (query_of r))) (query_readable l c.0) (join_readable Concat, bracketed _ (query_of r) (query_readable r c.2))
+
+pub statement_readable : (s : StatementShape) → CanBeStatement s → AreReadable (canonical_tokens s)
+statement_readable s c = join (spell_query (query_of s.query)) _ (query_readable s.query c.query.0) (into_readable, (name_readable s.name c.name, tt))

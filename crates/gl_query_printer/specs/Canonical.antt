@@ -1,0 +1,94 @@
+-- The statement that the canonical text writes: brackets stand exactly where the grammar needs them.
+use Rattle.std.specs.Prelude.{ℕ, Bool, true, false, List, [], ◌∷◌, map, bytes_eq, nat_le, nat_lt, Option, None, option_map, if◌then◌else◌}
+use Rattle.gl_schema.specs.SchemaText.{kind_text}
+use Rattle.gl_query.specs.declared.tree.Name.{Name}
+use Rattle.gl_query.specs.declared.tree.Num.{Num}
+use Rattle.gl_query.specs.Shapes.{ExprShape, AggShape, ItemShape, AggItemShape, PickShape, QueryShape, StatementShape}
+use Rattle.gl_query.specs.Shapes as shape
+use Rattle.gl_query_tokens.specs.declared.token.Fold.TheVariants.{Sum, Min, Max, Avg}
+use Rattle.gl_query_tokens.specs.declared.token.Join.TheVariants.{Union, Concat}
+use Rattle.gl_query_tokens.specs.declared.token.Token.{Token}
+use Rattle.gl_query_reader.specs.declared.written.Window.{Window}
+use Rattle.gl_query_reader.specs.declared.written.Grouping.{Grouping}
+use Rattle.gl_query_reader.specs.Written.{Expr, Column, Number, Letters, Brackets, Cast, Not, Binary, Agg, Count, Fold', Wsum, Item, Bare, Named, Total, Pick, All, Items, Query, Stream, InBrackets, Select, Windows, Groups, Join', Statement, level, looseness, left_looseness, spell_statement}
+use Rattle.gl_query_printer.specs.Brackets.{is_stream, is_term}
+
+-- what has no place of its own yet has place 0
+abbrev pub name_of : List ℕ → Name
+name_of text = record { text = text; at = 0 }
+
+abbrev pub num_of : ℕ → Num
+num_of value = record { value = value; at = 0 }
+
+-- in brackets where it does not fit without them
+abbrev pub fitted : Bool → Expr → Expr
+fitted true e = e
+fitted false e = Brackets 0 e
+
+-- an operand is in brackets exactly where it is looser than the grammar allows in its place
+abbrev pub expr_of : ExprShape → Expr
+expr_of (shape.Column name) = Column (name_of name)
+expr_of (shape.Number n) = Number (num_of n)
+expr_of (shape.Letters text) = Letters text 0
+expr_of (shape.Not e) = Not 0 (fitted (nat_lt (level (expr_of e)) 4) (expr_of e))
+expr_of (shape.Cast kind e) = Cast 0 0 (expr_of e) (name_of (kind_text kind)) kind
+expr_of (shape.Binary o l r) = Binary o 0 (fitted (nat_le (level (expr_of l)) (left_looseness o)) (expr_of l)) (fitted (nat_lt (level (expr_of r)) (looseness o)) (expr_of r))
+
+abbrev pub agg_of : AggShape → Agg
+agg_of shape.Count = Count 0 0
+agg_of (shape.Sum e) = Fold' Sum 0 0 (expr_of e)
+agg_of (shape.Min e) = Fold' Min 0 0 (expr_of e)
+agg_of (shape.Max e) = Fold' Max 0 0 (expr_of e)
+agg_of (shape.Avg e) = Fold' Avg 0 0 (expr_of e)
+agg_of (shape.Wsum e weights) = Wsum 0 0 (expr_of e) (map num_of weights)
+
+-- a column under its own name
+abbrev pub is_bare : ExprShape → List ℕ → Bool
+is_bare (shape.Column column) name = bytes_eq column name
+is_bare e name = false
+
+-- a column under its own name stands alone, every other item has AS
+abbrev pub item_of : ItemShape → Item
+item_of i = if is_bare i.expr i.name then Bare (name_of i.name) else Named (expr_of i.expr) (name_of i.name)
+
+abbrev pub agg_item_of : AggItemShape → Item
+agg_item_of i = Total (agg_of i.agg) (name_of i.name)
+
+abbrev pub pick_of : PickShape → Pick
+pick_of shape.All = All 0
+pick_of (shape.Items items) = Items (map item_of items)
+
+abbrev pub bracketed_unless : Bool → Query → Query
+bracketed_unless true q = q
+bracketed_unless false q = InBrackets 0 q
+
+-- a source is in brackets unless it is a stream
+abbrev pub source_of : Query → Query
+source_of q = bracketed_unless (is_stream q) q
+
+-- the right side of UNION and CONCAT is in brackets where it is itself one
+abbrev pub term_of : Query → Query
+term_of q = bracketed_unless (is_term q) q
+
+abbrev pub window_of : ℕ → ℕ → Window
+window_of size advance = record { at = 0; size = num_of size; advance = num_of advance }
+
+abbrev pub grouping_of : List ℕ → ℕ → Grouping
+grouping_of key groups = record { at = 0; key = name_of key; groups = num_of groups }
+
+abbrev pub query_of : QueryShape → Query
+query_of (shape.Read name) = Stream (name_of name)
+query_of (shape.Rows pick filter source) = Select (pick_of pick) (source_of (query_of source)) None (option_map expr_of filter) None
+query_of (shape.Total aggs source) = Select (Items (map agg_item_of aggs)) (source_of (query_of source)) None None None
+query_of (shape.Each var source size advance body) = Windows 0 (name_of var) (source_of (query_of source)) (window_of size advance) 0 (query_of body)
+query_of (shape.PerGroup var source key groups body) = Groups 0 (name_of var) (source_of (query_of source)) (grouping_of key groups) 0 (query_of body)
+query_of (shape.Union l r) = Join' Union 0 (query_of l) (term_of (query_of r))
+query_of (shape.Concat l r) = Join' Concat 0 (query_of l) (term_of (query_of r))
+
+-- no `;` ends it
+abbrev pub statement_of : StatementShape → Statement
+statement_of s = record { query = query_of s.query; name = name_of s.name; closed = false }
+
+-- the tokens of the canonical text
+abbrev pub canonical_tokens : StatementShape → List Token
+canonical_tokens s = spell_statement (statement_of s)

@@ -1,0 +1,5 @@
+pub mod Brackets
+pub mod Canonical
+pub mod Spaced
+pub mod Alike
+pub mod Printing

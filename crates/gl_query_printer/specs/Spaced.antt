@@ -1,0 +1,123 @@
+-- The text of tokens: how each is written, and where a space stands between two.
+use Rattle.std.specs.Prelude.{ℕ, Bool, true, false, List, [], ◌∷◌, ◌++◌, codes, decimal, not, ◌&&◌}
+use Rattle.gl_query.specs.declared.tree.Op.{Op}
+use Rattle.gl_query.specs.declared.tree.Op.TheVariants as op
+use Rattle.gl_query_tokens.specs.declared.token.Fold.{Fold}
+use Rattle.gl_query_tokens.specs.declared.token.Fold.TheVariants as fold
+use Rattle.gl_query_tokens.specs.declared.token.Join.{Join}
+use Rattle.gl_query_tokens.specs.declared.token.Join.TheVariants as join
+use Rattle.gl_query_tokens.specs.declared.token.Plain.{Plain}
+use Rattle.gl_query_tokens.specs.declared.token.Plain.TheVariants as plain
+use Rattle.gl_query_tokens.specs.declared.token.Token.{Token}
+use Rattle.gl_query_tokens.specs.declared.token.Token.TheVariants as token
+use Rattle.gl_query_printer.specs.declared.text.Behind.{Behind}
+use Rattle.gl_query_printer.specs.declared.text.Behind.TheVariants.{Opening, Aggregate, Other}
+
+-- how an operator is written
+unfoldable pub operator_text : Op → List ℕ
+operator_text op.Add = codes "+"
+operator_text op.Sub = codes "-"
+operator_text op.Mul = codes "*"
+operator_text op.Eq = codes "="
+operator_text op.Ne = codes "<>"
+operator_text op.Lt = codes "<"
+operator_text op.Le = codes "<="
+operator_text op.Gt = codes ">"
+operator_text op.Ge = codes ">="
+operator_text op.And = codes "AND"
+operator_text op.Or = codes "OR"
+
+-- the names of aggregates are in small letters
+unfoldable pub fold_text : Fold → List ℕ
+fold_text fold.Sum = codes "sum"
+fold_text fold.Min = codes "min"
+fold_text fold.Max = codes "max"
+fold_text fold.Avg = codes "avg"
+
+unfoldable pub join_text : Join → List ℕ
+join_text join.Union = codes "UNION"
+join_text join.Concat = codes "CONCAT"
+
+-- keywords are in capitals
+unfoldable pub plain_text : Plain → List ℕ
+plain_text plain.Select = codes "SELECT"
+plain_text plain.From = codes "FROM"
+plain_text plain.Where = codes "WHERE"
+plain_text plain.Group = codes "GROUP"
+plain_text plain.Groups = codes "GROUPS"
+plain_text plain.In = codes "IN"
+plain_text plain.Advance = codes "ADVANCE"
+plain_text plain.Tuples = codes "TUPLES"
+plain_text plain.Time = codes "TIME"
+plain_text plain.Into = codes "INTO"
+plain_text plain.As = codes "AS"
+plain_text plain.Close = codes ")"
+plain_text plain.LeftSquare = codes "["
+plain_text plain.RightSquare = codes "]"
+plain_text plain.Comma = codes ","
+plain_text plain.Semicolon = codes ";"
+
+abbrev pub number_text : ℕ → List ℕ
+number_text n = decimal n
+
+-- a text literal stands between quotes
+unfoldable pub letters_text : List ℕ → List ℕ
+letters_text text = codes "'" ++ text ++ codes "'"
+
+-- how a token is written
+unfoldable pub token_text : Token → List ℕ
+token_text (token.Name name) = name.text
+token_text (token.Number n) = number_text n.value
+token_text (token.Letters text at) = letters_text text
+token_text (token.Operator o at) = operator_text o
+token_text (token.Open at) = codes "("
+token_text (token.Not at) = codes "NOT"
+token_text (token.Cast at) = codes "CAST"
+token_text (token.Count at) = codes "count"
+token_text (token.Wsum at) = codes "wsum"
+token_text (token.Fold f at) = fold_text f
+token_text (token.Join j at) = join_text j
+token_text (token.Each at) = codes "EACH"
+token_text (token.By at) = codes "BY"
+token_text (token.Size at) = codes "SIZE"
+token_text (token.Plain p) = plain_text p
+token_text token.Stray = []
+
+-- what the place behind a token is
+unfoldable pub place_behind : Token → Behind
+place_behind (token.Open at) = Opening
+place_behind (token.Plain plain.LeftSquare) = Opening
+place_behind (token.Count at) = Aggregate
+place_behind (token.Wsum at) = Aggregate
+place_behind (token.Fold f at) = Aggregate
+place_behind t = Other
+
+-- no space stands before `)`, `]` and `,`
+unfoldable pub is_closing : Token → Bool
+is_closing (token.Plain plain.Close) = true
+is_closing (token.Plain plain.RightSquare) = true
+is_closing (token.Plain plain.Comma) = true
+is_closing t = false
+
+unfoldable pub is_opening : Token → Bool
+is_opening (token.Open at) = true
+is_opening t = false
+
+-- a space stands before a token, but none behind `(` and `[`, at the text's beginning, or between an aggregate's name and its bracket
+abbrev pub needs_space : Behind → Token → Bool
+needs_space Opening t = false
+needs_space Aggregate t = not (is_opening t) && not (is_closing t)
+needs_space Other t = not (is_closing t)
+
+abbrev pub gap : Bool → List ℕ
+gap true = codes " "
+gap false = []
+
+-- the text of tokens that stand behind another
+abbrev pub spaced : Behind → List Token → List ℕ
+spaced b [] = []
+spaced b (t ∷ ts) = gap (needs_space b t) ++ token_text t ++ spaced (place_behind t) ts
+
+-- the text of tokens
+unfoldable pub text_of : List Token → List ℕ
+text_of ts = spaced Opening ts

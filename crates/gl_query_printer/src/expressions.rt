@@ -1,0 +1,111 @@
+//! Expressions to tokens.
+
+ghost use Rattle.std.specs.Prelude.{◌≡◌, ◌++◌, ◌∷◌, [], OnOk};
+ghost use Rattle.gl_query.specs.Shapes.{expr_shape};
+ghost use Rattle.gl_query_tokens.specs.declared.token.Token.TheVariants as token;
+ghost use Rattle.gl_query_tokens.specs.declared.token.Plain.TheVariants as plain;
+ghost use Rattle.gl_schema.specs.SchemaText.{kind_text};
+ghost use Rattle.gl_query_reader.specs.Written as written;
+ghost use Rattle.gl_query_printer.specs.Canonical.{expr_of, name_of};
+
+use crate::tokens::{
+    close_unless, open_unless, put, put_kind, put_name, put_number, put_open, put_plain,
+};
+use gl_bits::{Kind, Memory};
+use gl_query::{Expr, Op, TextBytes};
+use gl_query_tokens::{Plain, Token};
+use std::alloc::Global;
+
+// How loosely an operator binds.
+fn looseness(op: Op) -> u8
+    ensures { result ≡ written.looseness op }
+{
+    match op {
+        Op::Mul => 1,
+        Op::Add | Op::Sub => 2,
+        Op::Eq | Op::Ne | Op::Lt | Op::Le | Op::Gt | Op::Ge => 3,
+        Op::And => 5,
+        Op::Or => 6,
+    }
+}
+
+// How loose its left side may be without brackets.
+fn left_looseness(op: Op) -> u8
+    ensures { result ≡ written.left_looseness op }
+{
+    match op {
+        Op::Mul => 1,
+        Op::Add | Op::Sub | Op::Eq | Op::Ne | Op::Lt | Op::Le | Op::Gt | Op::Ge => 2,
+        Op::And => 5,
+        Op::Or => 6,
+    }
+}
+
+// How loose an expression is.
+fn level(expr: &Expr) -> u8
+    ensures { result ≡ written.level (expr_of (expr_shape expr.now)) }
+{
+    match expr {
+        Expr::Column(_) | Expr::Number(_) | Expr::Letters { .. } | Expr::Cast { .. } => 0,
+        Expr::Not { .. } => 4,
+        Expr::Binary { op, .. } => looseness(*op),
+    }
+}
+
+// Puts a text literal.
+fn put_letters(alloc: Global, tokens: &mut Vec<Token>, letters: &[u8]) -> Result<(), Memory>
+    ensures { OnOk result (tokens.new.items ≡ tokens.old.items ++ token.Letters letters.now 0 ∷ []) }
+{
+    let text = TextBytes::from_vec(Vec::from_slice(alloc, letters)?);
+    put(tokens, Token::Letters { text, at: 0 })
+}
+
+// Puts what stands behind the argument of a CAST.
+fn put_cast_end(alloc: Global, tokens: &mut Vec<Token>, kind: Kind) -> Result<(), Memory>
+    ensures { OnOk result (tokens.new.items ≡ tokens.old.items ++ token.Plain plain.As ∷ token.Name (name_of (kind_text kind)) ∷ token.Plain plain.Close ∷ []) }
+{
+    put_plain(tokens, Plain::As)?;
+    put_kind(alloc, tokens, kind)?;
+    put_plain(tokens, Plain::Close)
+}
+
+/// Puts an expression, each operand in brackets exactly where it is looser than its place allows.
+#[tactic(auto, using(crate::proofs::Operands::operands))]
+pub(crate) fn put_expr(alloc: Global, tokens: &mut Vec<Token>, expr: &Expr) -> Result<(), Memory>
+    ensures { OnOk result (tokens.new.items ≡ tokens.old.items ++ written.spell (expr_of (expr_shape expr.now))) }
+{
+    match expr {
+        Expr::Column(name) => put_name(alloc, tokens, name.text.as_slice()),
+        Expr::Number(number) => put_number(tokens, number.value),
+        Expr::Letters { text, .. } => put_letters(alloc, tokens, text.as_slice()),
+        Expr::Not { arg, .. } => {
+            let fits = level(arg) < 4;
+            put(tokens, Token::Not { at: 0 })?;
+            open_unless(tokens, fits)?;
+            put_expr(alloc, tokens, arg)?;
+            close_unless(tokens, fits)
+        }
+        Expr::Cast { arg, kind, .. } => {
+            put(tokens, Token::Cast { at: 0 })?;
+            put_open(tokens)?;
+            put_expr(alloc, tokens, arg)?;
+            put_cast_end(alloc, tokens, *kind)
+        }
+        Expr::Binary {
+            op,
+            left,
+            right,
+            ..
+        } => {
+            let left_fits = level(left) <= left_looseness(*op);
+            let right_fits = level(right) < looseness(*op);
+            open_unless(tokens, left_fits)?;
+            put_expr(alloc, tokens, left)?;
+            close_unless(tokens, left_fits)?;
+            put(tokens, Token::Operator { op: *op, at: 0 })?;
+            open_unless(tokens, right_fits)?;
+            put_expr(alloc, tokens, right)?;
+            close_unless(tokens, right_fits)
+        }
+    }
+}

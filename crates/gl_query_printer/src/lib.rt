@@ -1,0 +1,14 @@
+//! The canonical text of a statement.
+#![tactic(auto)]
+
+mod expressions;
+mod items;
+pub mod laws;
+pub mod printing;
+mod queries;
+#[cfg(test)]
+mod tests;
+mod text;
+mod tokens;
+
+pub use printing::print_statement;

@@ -1,0 +1,202 @@
+//! Queries and statements to tokens.
+
+ghost use Rattle.std.specs.Prelude.{◌≡◌, ◌++◌, ◌∷◌, [], IfOk, OnOk, map, option_map};
+ghost use Rattle.gl_query.specs.Shapes.{expr_shape, agg_item_shape, pick_shape, query_shape, statement_shape};
+ghost use Rattle.gl_query_tokens.specs.declared.token.Token.TheVariants as token;
+ghost use Rattle.gl_query_tokens.specs.declared.token.Plain.TheVariants as plain;
+ghost use Rattle.gl_query_reader.specs.Written as written;
+ghost use Rattle.gl_query_printer.specs.Brackets as brackets;
+ghost use Rattle.gl_query_printer.specs.Brackets.{opening, closing};
+ghost use Rattle.gl_query_printer.specs.Canonical.{name_of, expr_of, agg_item_of, pick_of, window_of, grouping_of, query_of, canonical_tokens};
+
+use crate::expressions::put_expr;
+use crate::items::{put_aggs, put_pick};
+use crate::tokens::{close_unless, open_unless, put, put_name, put_number, put_open, put_plain};
+use gl_bits::Memory;
+use gl_query::{AggItem, Expr, Name, Num, Pick, Query, Statement};
+use gl_query_tokens::{Join, Plain, Token};
+use std::alloc::Global;
+
+// A source that stands without brackets.
+fn is_stream(query: &Query) -> bool
+    ensures { result ≡ brackets.is_stream (query_of (query_shape query.now)) }
+{
+    match query {
+        Query::Read(_) => true,
+        _ => false,
+    }
+}
+
+// A right side of UNION or CONCAT that stands without brackets.
+fn is_term(query: &Query) -> bool
+    ensures { result ≡ brackets.is_term (query_of (query_shape query.now)) }
+{
+    match query {
+        Query::Union { .. } | Query::Concat { .. } => false,
+        _ => true,
+    }
+}
+
+// Puts what stands before the source of a select of plain items.
+fn begin_rows(alloc: Global, tokens: &mut Vec<Token>, pick: &Pick, bare: bool) -> Result<(), Memory>
+    ensures { OnOk result (tokens.new.items ≡ tokens.old.items ++ token.Plain plain.Select ∷ (written.spell_pick (pick_of (pick_shape pick.now)) ++ token.Plain plain.From ∷ opening bare)) }
+{
+    put_plain(tokens, Plain::Select)?;
+    put_pick(alloc, tokens, pick)?;
+    put_plain(tokens, Plain::From)?;
+    open_unless(tokens, bare)
+}
+
+// Puts what stands before the source of a select of aggregates.
+fn begin_total(
+    alloc: Global,
+    tokens: &mut Vec<Token>,
+    aggs: &[AggItem],
+    bare: bool,
+) -> Result<(), Memory>
+    ensures { OnOk result (tokens.new.items ≡ tokens.old.items ++ token.Plain plain.Select ∷ (written.spell_items (map agg_item_of (map agg_item_shape aggs.now)) ++ token.Plain plain.From ∷ opening bare)) }
+{
+    put_plain(tokens, Plain::Select)?;
+    put_aggs(alloc, tokens, aggs)?;
+    put_plain(tokens, Plain::From)?;
+    open_unless(tokens, bare)
+}
+
+// Puts WHERE and its condition, where there is one.
+fn put_filter(alloc: Global, tokens: &mut Vec<Token>, filter: &Option<Expr>) -> Result<(), Memory>
+    ensures { OnOk result (tokens.new.items ≡ tokens.old.items ++ written.spell_filter (option_map expr_of (option_map expr_shape filter.now))) }
+{
+    match filter {
+        None => Ok(()),
+        Some(expr) => {
+            put_plain(tokens, Plain::Where)?;
+            put_expr(alloc, tokens, expr)
+        }
+    }
+}
+
+// Puts what stands before the source of an EACH.
+fn begin_each(alloc: Global, tokens: &mut Vec<Token>, var: &Name, bare: bool) -> Result<(), Memory>
+    ensures { OnOk result (tokens.new.items ≡ tokens.old.items ++ token.Each 0 ∷ token.Name (name_of var.now.text) ∷ token.Plain plain.In ∷ opening bare) }
+{
+    put(tokens, Token::Each { at: 0 })?;
+    put_name(alloc, tokens, var.text.as_slice())?;
+    put_plain(tokens, Plain::In)?;
+    open_unless(tokens, bare)
+}
+
+// Puts a window, and the bracket of the body.
+fn put_window(tokens: &mut Vec<Token>, size: Num, advance: Num) -> Result<(), Memory>
+    ensures { OnOk result (tokens.new.items ≡ tokens.old.items ++ written.spell_window (window_of size.value advance.value) ++ token.Open 0 ∷ []) }
+{
+    put_plain(tokens, Plain::LeftSquare)?;
+    put(tokens, Token::Size { at: 0 })?;
+    put_number(tokens, size.value)?;
+    put_plain(tokens, Plain::Advance)?;
+    put_number(tokens, advance.value)?;
+    put_plain(tokens, Plain::Tuples)?;
+    put_plain(tokens, Plain::RightSquare)?;
+    put_open(tokens)
+}
+
+// Puts the key and the number of groups, and the bracket of the body.
+fn put_grouping(
+    alloc: Global,
+    tokens: &mut Vec<Token>,
+    key: &Name,
+    groups: Num,
+) -> Result<(), Memory>
+    ensures { OnOk result (tokens.new.items ≡ tokens.old.items ++ written.spell_grouping (grouping_of key.now.text groups.value) ++ token.Open 0 ∷ []) }
+{
+    put(tokens, Token::By { at: 0 })?;
+    put_name(alloc, tokens, key.text.as_slice())?;
+    put_plain(tokens, Plain::Groups)?;
+    put_number(tokens, groups.value)?;
+    put_open(tokens)
+}
+
+// Puts UNION or CONCAT, and the bracket of its right side.
+fn put_join(tokens: &mut Vec<Token>, join: Join, bare: bool) -> Result<(), Memory>
+    ensures { OnOk result (tokens.new.items ≡ tokens.old.items ++ token.Join join 0 ∷ opening bare) }
+{
+    put(tokens, Token::Join { join, at: 0 })?;
+    open_unless(tokens, bare)
+}
+
+// Puts a query.
+#[tactic(auto, using(crate::proofs::Operands::operands))]
+fn put_query(alloc: Global, tokens: &mut Vec<Token>, query: &Query) -> Result<(), Memory>
+    ensures { OnOk result (tokens.new.items ≡ tokens.old.items ++ written.spell_query (query_of (query_shape query.now))) }
+{
+    match query {
+        Query::Read(name) => put_name(alloc, tokens, name.text.as_slice()),
+        Query::Rows {
+            pick,
+            filter,
+            source,
+        } => {
+            begin_rows(alloc, tokens, pick, is_stream(source))?;
+            put_query(alloc, tokens, source)?;
+            close_unless(tokens, is_stream(source))?;
+            put_filter(alloc, tokens, filter)
+        }
+        Query::Total { aggs, source } => {
+            begin_total(alloc, tokens, aggs.as_slice(), is_stream(source))?;
+            put_query(alloc, tokens, source)?;
+            close_unless(tokens, is_stream(source))
+        }
+        Query::Each {
+            var,
+            source,
+            size,
+            advance,
+            body,
+            ..
+        } => {
+            begin_each(alloc, tokens, var, is_stream(source))?;
+            put_query(alloc, tokens, source)?;
+            close_unless(tokens, is_stream(source))?;
+            put_window(tokens, *size, *advance)?;
+            put_query(alloc, tokens, body)?;
+            put_plain(tokens, Plain::Close)
+        }
+        Query::PerGroup {
+            var,
+            source,
+            key,
+            groups,
+            body,
+            ..
+        } => {
+            begin_each(alloc, tokens, var, is_stream(source))?;
+            put_query(alloc, tokens, source)?;
+            close_unless(tokens, is_stream(source))?;
+            put_grouping(alloc, tokens, key, *groups)?;
+            put_query(alloc, tokens, body)?;
+            put_plain(tokens, Plain::Close)
+        }
+        Query::Union { left, right, .. } => {
+            put_query(alloc, tokens, left)?;
+            put_join(tokens, Join::Union, is_term(right))?;
+            put_query(alloc, tokens, right)?;
+            close_unless(tokens, is_term(right))
+        }
+        Query::Concat { left, right, .. } => {
+            put_query(alloc, tokens, left)?;
+            put_join(tokens, Join::Concat, is_term(right))?;
+            put_query(alloc, tokens, right)?;
+            close_unless(tokens, is_term(right))
+        }
+    }
+}
+
+/// The tokens of a statement's canonical text.
+pub(crate) fn canonical_tokens(alloc: Global, statement: &Statement) -> Result<Vec<Token>, Memory>
+    ensures { IfOk result (λ tokens. tokens.items ≡ canonical_tokens (statement_shape statement.now)) }
+{
+    let mut tokens = Vec::new(alloc);
+    put_query(alloc, &mut tokens, &statement.query)?;
+    put_plain(&mut tokens, Plain::Into)?;
+    put_name(alloc, &mut tokens, statement.name.text.as_slice())?;
+    Ok(tokens)
+}

@@ -1,0 +1,203 @@
+//! Tokens to text.
+
+ghost use Rattle.std.specs.Prelude.{◌≡◌, ◌++◌, OnOk};
+ghost use Rattle.gl_query_printer.specs.Spaced as spec;
+
+use gl_bits::Memory;
+use gl_query::Op;
+use gl_query_tokens::{Fold, Join, Plain, Token};
+use itoa::Buffer;
+
+/// What the place behind a token is.
+#[derive(Clone, Copy, PartialEq, Eq, Debug)]
+pub enum Behind {
+    /// The text's beginning, or behind `(` or `[`.
+    Opening,
+    /// Behind an aggregate's name.
+    Aggregate,
+    /// Behind any other token.
+    Other,
+}
+
+// Appends bytes.
+fn put(text: &mut Vec<u8>, bytes: &[u8]) -> Result<(), Memory>
+    ensures { OnOk result (text.new.items ≡ text.old.items ++ bytes.now) }
+{
+    match text.extend_from_slice(bytes) {
+        Ok(()) => Ok(()),
+        Err(_) => Err(Memory),
+    }
+}
+
+// Appends a number in decimal.
+fn put_number(text: &mut Vec<u8>, number: u128) -> Result<(), Memory>
+    ensures { OnOk result (text.new.items ≡ text.old.items ++ spec.number_text number) }
+{
+    let mut buffer = Buffer::new();
+    put(text, buffer.format(number).as_bytes())
+}
+
+#[tactic(auto, unfolding(crate::specs::Spaced::operator_text))]
+fn operator_text(op: Op) -> &'static [u8]
+    ensures { result.now ≡ spec.operator_text op }
+{
+    match op {
+        Op::Add => b"+",
+        Op::Sub => b"-",
+        Op::Mul => b"*",
+        Op::Eq => b"=",
+        Op::Ne => b"<>",
+        Op::Lt => b"<",
+        Op::Le => b"<=",
+        Op::Gt => b">",
+        Op::Ge => b">=",
+        Op::And => b"AND",
+        Op::Or => b"OR",
+    }
+}
+
+#[tactic(auto, unfolding(crate::specs::Spaced::fold_text))]
+fn fold_text(fold: Fold) -> &'static [u8]
+    ensures { result.now ≡ spec.fold_text fold }
+{
+    match fold {
+        Fold::Sum => b"sum",
+        Fold::Min => b"min",
+        Fold::Max => b"max",
+        Fold::Avg => b"avg",
+    }
+}
+
+#[tactic(auto, unfolding(crate::specs::Spaced::join_text))]
+fn join_text(join: Join) -> &'static [u8]
+    ensures { result.now ≡ spec.join_text join }
+{
+    match join {
+        Join::Union => b"UNION",
+        Join::Concat => b"CONCAT",
+    }
+}
+
+#[tactic(auto, unfolding(crate::specs::Spaced::plain_text))]
+fn plain_text(plain: Plain) -> &'static [u8]
+    ensures { result.now ≡ spec.plain_text plain }
+{
+    match plain {
+        Plain::Select => b"SELECT",
+        Plain::From => b"FROM",
+        Plain::Where => b"WHERE",
+        Plain::Group => b"GROUP",
+        Plain::Groups => b"GROUPS",
+        Plain::In => b"IN",
+        Plain::Advance => b"ADVANCE",
+        Plain::Tuples => b"TUPLES",
+        Plain::Time => b"TIME",
+        Plain::Into => b"INTO",
+        Plain::As => b"AS",
+        Plain::Close => b")",
+        Plain::LeftSquare => b"[",
+        Plain::RightSquare => b"]",
+        Plain::Comma => b",",
+        Plain::Semicolon => b";",
+    }
+}
+
+// Appends a text literal.
+#[tactic(auto, unfolding(crate::specs::Spaced::letters_text))]
+fn put_letters(text: &mut Vec<u8>, letters: &[u8]) -> Result<(), Memory>
+    ensures { OnOk result (text.new.items ≡ text.old.items ++ spec.letters_text letters.now) }
+{
+    put(text, b"'")?;
+    put(text, letters)?;
+    put(text, b"'")
+}
+
+// Appends a token.
+#[tactic(auto, unfolding(crate::specs::Spaced::token_text))]
+fn put_token(text: &mut Vec<u8>, token: &Token) -> Result<(), Memory>
+    ensures { OnOk result (text.new.items ≡ text.old.items ++ spec.token_text token.now) }
+{
+    match token {
+        Token::Name(name) => put(text, name.text.as_slice()),
+        Token::Number(number) => put_number(text, number.value),
+        Token::Letters { text: letters, .. } => put_letters(text, letters.as_slice()),
+        Token::Operator { op, .. } => put(text, operator_text(*op)),
+        Token::Open { .. } => put(text, b"("),
+        Token::Not { .. } => put(text, b"NOT"),
+        Token::Cast { .. } => put(text, b"CAST"),
+        Token::Count { .. } => put(text, b"count"),
+        Token::Wsum { .. } => put(text, b"wsum"),
+        Token::Fold { fold, .. } => put(text, fold_text(*fold)),
+        Token::Join { join, .. } => put(text, join_text(*join)),
+        Token::Each { .. } => put(text, b"EACH"),
+        Token::By { .. } => put(text, b"BY"),
+        Token::Size { .. } => put(text, b"SIZE"),
+        Token::Plain(plain) => put(text, plain_text(*plain)),
+        Token::Stray => Ok(()),
+    }
+}
+
+#[tactic(auto, unfolding(crate::specs::Spaced::place_behind))]
+fn place_behind(token: &Token) -> Behind
+    ensures { result ≡ spec.place_behind token.now }
+{
+    match token {
+        Token::Open { .. } | Token::Plain(Plain::LeftSquare) => Behind::Opening,
+        Token::Count { .. } | Token::Wsum { .. } | Token::Fold { .. } => Behind::Aggregate,
+        _ => Behind::Other,
+    }
+}
+
+// No space stands before it.
+#[tactic(auto, unfolding(crate::specs::Spaced::is_closing))]
+fn is_closing(token: &Token) -> bool
+    ensures { result ≡ spec.is_closing token.now }
+{
+    match token {
+        Token::Plain(Plain::Close | Plain::RightSquare | Plain::Comma) => true,
+        _ => false,
+    }
+}
+
+#[tactic(auto, unfolding(crate::specs::Spaced::is_opening))]
+fn is_opening(token: &Token) -> bool
+    ensures { result ≡ spec.is_opening token.now }
+{
+    match token {
+        Token::Open { .. } => true,
+        _ => false,
+    }
+}
+
+fn needs_space(behind: Behind, token: &Token) -> bool
+    ensures { result ≡ spec.needs_space behind token.now }
+{
+    match behind {
+        Behind::Opening => false,
+        Behind::Aggregate => !is_opening(token) && !is_closing(token),
+        Behind::Other => !is_closing(token),
+    }
+}
+
+// Appends a token that stands behind another, and the space before it.
+fn put_behind(text: &mut Vec<u8>, behind: Behind, token: &Token) -> Result<(), Memory>
+    ensures { OnOk result (text.new.items ≡ text.old.items ++ spec.gap (spec.needs_space behind token.now) ++ spec.token_text token.now) }
+{
+    if needs_space(behind, token) {
+        put(text, b" ")?;
+    }
+    put_token(text, token)
+}
+
+/// Appends the text of tokens.
+#[tactic(auto, unfolding(crate::specs::Spaced::text_of), using(crate::proofs::Loops::spaced_next))]
+pub(crate) fn put_tokens(text: &mut Vec<u8>, tokens: &[Token]) -> Result<(), Memory>
+    ensures { OnOk result (text.new.items ≡ text.old.items ++ spec.text_of tokens.now) }
+{
+    let mut place = Behind::Opening;
+    for token in tokens {
+        put_behind(text, place, token)?;
+        place = place_behind(token);
+    }
+    Ok(())
+}
