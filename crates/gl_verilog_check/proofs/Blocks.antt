@@ -32,34 +32,6 @@ parts_of (spec.If test yes' no') = parts_of yes' + parts_of no' + 1
 
 -- ---- one of several
 
--- before the first
-pub one_of_none : (o : Option Bool) → option_and_then (one_of false) o ≡ o
-one_of_none None = refl
-one_of_none (Some b) = refl
-
--- one more, and at most one so far
-pub one_of_more : (a b v : Bool) (rest : Option Bool) → one_of a b ≡ Some v → option_and_then (one_of v) rest ≡ option_and_then (one_of a) (option_and_then (one_of b) rest)
-one_of_more true true v rest e = absurd cc
-one_of_more true false true rest e = by rest
-  where
-    by : (o : Option Bool) → option_and_then (one_of true) o ≡ option_and_then (one_of true) (option_and_then (one_of false) o)
-    by None = refl
-    by (Some b) = refl
-one_of_more true false false rest e = absurd cc
-one_of_more false true true rest e = by rest
-  where
-    by : (o : Option Bool) → option_and_then (one_of true) o ≡ option_and_then (one_of false) (option_and_then (one_of true) o)
-    by None = refl
-    by (Some true) = refl
-    by (Some false) = refl
-one_of_more false true false rest e = absurd cc
-one_of_more false false true rest e = absurd cc
-one_of_more false false false rest e = by rest
-  where
-    by : (o : Option Bool) → option_and_then (one_of false) o ≡ option_and_then (one_of false) (option_and_then (one_of false) o)
-    by None = refl
-    by (Some b) = refl
-
 -- one more, and two so far
 pub one_of_two : (a b : Bool) (rest : Option Bool) → one_of a b ≡ None → option_and_then (one_of a) (option_and_then (one_of b) rest) ≡ None
 one_of_two true true None e = refl

@@ -1,6 +1,6 @@
 -- Counts of drivers, names that differ, and valid modules.
-use Rattle.std.proofs.Common.{◌≡◌, ◌≢◌, ℕ, zero, suc, ◌+◌, ◌≤◌, ◌<◌, Bool, true, false, cond, List, [], ◌∷◌, length, drop, get_or, eqb, Option, Some, None, refl, sym, ap, subst, ◌∙◌, arith}
-use Rattle.std.specs.Prelude.{map, slice_get, not, ◌&&◌, ◌||◌, bytes_eq, option_and_then, option_map}
+use Rattle.std.proofs.Common.{◌≡◌, ◌≢◌, ℕ, zero, suc, ◌+◌, ◌≤◌, Bool, true, false, cond, List, [], ◌∷◌, eqb, Option, Some, None, refl, sym, ap, subst, ◌∙◌, arith}
+use Rattle.std.specs.Prelude.{slice_get, not, ◌&&◌, ◌||◌, bytes_eq, option_and_then, option_map}
 use Rattle.std.specs.List.{AllByRecursion, sum_by}
 use Rattle.std.specs.List.Sorted.{IsPermutation}
 use Rattle.std.proofs.lemmas.List.Sorted.{IsPermutation-sym, sum_by-IsPermutation}
@@ -16,7 +16,6 @@ use Rattle.gl_verilog_check.specs.Kept.{is_one, module_with}
 use Rattle.gl_verilog_check.specs.Passes.{AreOnce}
 use Rattle.gl_verilog_check.specs.Tests.{differs, are_distinct, one_of, assigns_once, blocks_once, is_assigned, all_assigned}
 use Rattle.gl_verilog_check.proofs.Complete.{and_is, and_left, and_right}
-use Rattle.gl_verilog_check.proofs.Marks.{from_place}
 use Rattle.gl_verilog_check.proofs.Ranks.{no_loop, driven_once, undriven-none}
 
 -- ---- names
@@ -43,15 +42,6 @@ is-differs d (e ∷ es) h = and_is (not (bytes_eq d.name e.name)) (differs d es)
 pub is-distinct : (ds : List Declaration) → AreDistinct ds → are_distinct ds ≡ true
 is-distinct [] h = refl
 is-distinct (d ∷ ds) h = and_is (differs d ds) (are_distinct ds) (is-differs d ds h.0) (is-distinct ds h.1)
-
--- ---- steps of loops
-
--- one name more
-pub differs_next : {A : Type 0} (f : A → Declaration) (d : Declaration) (xs : List A) (i : ℕ) (x : A) → i < length xs → x ≡ get_or xs i x → differs d (map f (drop i xs)) ≡ (not (bytes_eq d.name (f x).name) && differs d (map f (drop (i + 1) xs)))
-differs_next f d xs i x lt e = ap (differs d) (from_place f xs i x lt e)
-
-pub distinct_next : {A : Type 0} (f : A → Declaration) (xs : List A) (i : ℕ) (x : A) → i < length xs → x ≡ get_or xs i x → are_distinct (map f (drop i xs)) ≡ (differs (f x) (map f (drop (i + 1) xs)) && are_distinct (map f (drop (i + 1) xs)))
-distinct_next f xs i x lt e = ap are_distinct (from_place f xs i x lt e)
 
 -- ---- registers
 

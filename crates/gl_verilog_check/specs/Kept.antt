@@ -97,7 +97,7 @@ takes_word address w d = only (has_address d.kind address && nat_eq w d.width) w
 abbrev pub write_width : List Declaration → ℕ → Expr → Expr → Option ℕ
 write_width ds memory address value = option_and_then (λ a. option_and_then (λ w. option_and_then (takes_word a w) (slice_get ds memory)) (kept ds value)) (kept ds address)
 
--- one bit
+-- the number is there, and is 1
 abbrev pub is_one : Option ℕ → Bool
 is_one None = false
 is_one (Some width) = nat_eq width 1

@@ -1,4 +1,4 @@
-//! The test of a whole module.
+//! The test of a module that can run: widths, drivers, and an order of its assignments.
 
 ghost use Rattle.std.specs.Prelude.{◌≡◌, map, length, true, false, IfOk, []};
 ghost use Rattle.gl_verilog.specs.View.{declaration_of, assignment_of, statement_of, module_of, expr_of};
@@ -11,7 +11,8 @@ use gl_bits::Memory;
 use gl_verilog::{Assignment, Declaration, Expr, Module, Statement};
 use std::alloc::Global;
 
-pub(crate) fn have_sizes(declarations: &[Declaration]) -> bool
+// Whether every declaration has a size.
+fn have_sizes(declarations: &[Declaration]) -> bool
     ensures { result ≡ all_sized (map declaration_of declarations.now) }
 {
     for declaration in declarations {
@@ -22,7 +23,8 @@ pub(crate) fn have_sizes(declarations: &[Declaration]) -> bool
     true
 }
 
-pub(crate) fn keep_widths(declarations: &[Declaration], assignments: &[Assignment]) -> bool
+// Whether every assignment keeps its widths.
+fn keep_widths(declarations: &[Declaration], assignments: &[Assignment]) -> bool
     ensures { result ≡ all_kept (map declaration_of declarations.now) (map assignment_of assignments.now) }
 {
     for assignment in assignments {
@@ -70,7 +72,8 @@ fn statement_keeps(declarations: &[Declaration], statement: &Statement) -> bool
     }
 }
 
-pub(crate) fn blocks_keep(declarations: &[Declaration], blocks: &[Statement]) -> bool
+// Whether every block keeps its widths.
+fn blocks_keep(declarations: &[Declaration], blocks: &[Statement]) -> bool
     ensures { result ≡ blocks_kept (map declaration_of declarations.now) (map statement_of blocks.now) }
 {
     for block in blocks {
@@ -88,6 +91,7 @@ fn has_driver(declaration: &Declaration, marks: &[bool], n: usize) -> bool
     !wants_driver(declaration) || marks.get(n).copied().unwrap_or(false)
 }
 
+// Whether every net that wants a driver is marked.
 fn all_driven(declarations: &[Declaration], marks: &[bool]) -> bool
     ensures { result ≡ all_driven marks.now 0 (map declaration_of declarations.now) }
 {
@@ -99,7 +103,7 @@ fn all_driven(declarations: &[Declaration], marks: &[bool]) -> bool
     true
 }
 
-// Whether these parts make a module that can run. No net is marked at first.
+/// Whether these parts make a module that can run. No net is marked at first.
 pub(crate) fn parts_run(
     declarations: &[Declaration],
     assignments: &[Assignment],
