@@ -1,0 +1,41 @@
+//! Figures of what operators give.
+
+ghost use Rattle.std.specs.Prelude.{◌≡◌};
+ghost use Rattle.gl_algebra.specs.declared.figures.Figures.{Figures};
+ghost use Rattle.gl_algebra.specs.FigureTable.{IsSound, aggregate_figures, delayed};
+ghost use Rattle.gl_wire.specs.Operators.{AreSmall};
+
+use gl_algebra::Figures;
+
+/// The figures of what comes so many cycles later.
+pub fn delayed_figures(source: Figures, cycles: u32) -> Figures
+    requires sound { IsSound source }
+    requires small { AreSmall (delayed cycles source) }
+    ensures value { result ≡ delayed cycles source }
+    ensures sound { IsSound result }
+{
+    Figures {
+        a: source.a + cycles,
+        lt: source.lt + cycles,
+        le: source.le + cycles,
+        ..source
+    }
+}
+
+/// The figures of one row with each end, so many cycles later.
+pub fn total_figures(source: Figures, cycles: u32) -> Figures
+    requires sound { IsSound source }
+    requires small { AreSmall (aggregate_figures cycles source) }
+    ensures value { result ≡ aggregate_figures cycles source }
+    ensures sound { IsSound result }
+{
+    Figures {
+        a: source.a + cycles,
+        lt: source.a + cycles,
+        le: source.le + cycles,
+        nt: 0,
+        ne: 1,
+        gt: source.gt,
+        ge: source.ge.max(source.le - source.a + 1),
+    }
+}
