@@ -1,33 +1,41 @@
--- Operators of one input: what holds of all inputs holds of the one, and the law of serving.
-use Rattle.std.proofs.Common.{◌≡◌, List, [], ◌∷◌, length, get_or, sym, ap, subst, arith}
+-- Operators of one input: what holds of all inputs holds of the one.
+use Rattle.std.proofs.Common.{◌≡◌, List, [], ◌∷◌, length, subst, arith}
 use Rattle.std.specs.List.{All}
 use Rattle.std.proofs.lemmas.List.Elements.{All-head, All-cons, All-nil}
 use Rattle.gl_algebra.specs.declared.figures.Figures.{Figures}
+use Rattle.gl_algebra.specs.Results.{Row}
 use Rattle.gl_net.specs.Net.{Run}
 use Rattle.gl_wire.specs.declared.wire.Wire.{Wire}
 use Rattle.gl_wire.specs.Wire.{carried}
+use Rattle.gl_algebra.specs.FigureTable.{IsSound}
 use Rattle.gl_wire.specs.Beats.{NoCloser}
-use Rattle.gl_wire.specs.Serves.{Serves}
 use Rattle.gl_wire.specs.Operators.{MeaningOfAll, ServesAll, all_carried}
-
--- a list of one item
-pub one_item : {A : Type 0} (xs : List A) (d x : A) → length xs ≡ 1 → x ≡ get_or xs 0 d → xs ≡ x ∷ []
-one_item [] d x h e = absurd (omega (arith, h))
-one_item (y ∷ []) d x h e = ap (λ z. z ∷ []) (sym e)
-one_item (y ∷ z ∷ ys) d x h e = absurd (omega (arith, h))
+use Rattle.gl_wire.proofs.ComposeLemmas.{serves_then}
 
 -- what holds of all items holds of the one
 pub of_only : {A : Type 0} (P : A → Type 0) (xs : List A) (x : A) → xs ≡ x ∷ [] → All P xs → P x
 of_only P xs x e h = All-head P x [] (subst (All P) e h)
 
--- an operator of one input serves where its one wire does
-pub serves_one : (suits : List Figures → Type 0) (figures : List Figures → Figures) (means : MeaningOfAll) (run : Run) (ins : List Wire) (a o : Wire) → ins ≡ a ∷ []
-    → ((f : Figures) → Serves f (figures (f ∷ [])) (λ xs. means (xs ∷ [])) (carried run a) (carried run o)) → ServesAll suits figures means (all_carried run ins) (carried run o)
-serves_one suits figures means run ins a o e h =
-    subst (λ i. ServesAll suits figures means (all_carried run i) (carried run o)) (sym e) (λ f sound suited. h f)
-
--- its beats are no closer than its input's
+-- the beats of its one input may come as close as those of its output
 pub closer_one : (figures : List Figures → Figures) → ((f : Figures) → NoCloser f (figures (f ∷ []))) → (fs : List Figures) → length fs ≡ 1 → All (λ f. NoCloser f (figures fs)) fs
 closer_one figures h [] n = absurd (omega (arith, n))
 closer_one figures h (f ∷ []) n = let g = figures (f ∷ []) in All-cons (λ x. NoCloser x g) f [] (h f) (All-nil (λ x. NoCloser x g))
 closer_one figures h (f ∷ g ∷ fs) n = absurd (omega (arith, n))
+
+-- and its figures are sound where those of its one input are
+pub sound_one : (figures : List Figures → Figures) → ((f : Figures) → IsSound f → IsSound (figures (f ∷ []))) → (fs : List Figures) → length fs ≡ 1 → All IsSound fs → IsSound (figures fs)
+sound_one figures h [] n sound = absurd (omega (arith, n))
+sound_one figures h (f ∷ []) n sound = h f (All-head IsSound f [] sound)
+sound_one figures h (f ∷ g ∷ fs) n sound = absurd (omega (arith, n))
+
+-- one operator of one input behind another: its meaning after the other's, where both suit
+pub operators_then : (suits then_suits : List Figures → Type 0) (f g : List Figures → Figures) (m n : MeaningOfAll) (run : Run) (ins : List Wire) (b c : Wire) → length ins ≡ 1
+    → ((x : Figures) → IsSound x → IsSound (f (x ∷ []))) → ((x : Figures) → NoCloser x (g (x ∷ [])))
+    → ServesAll suits f m (all_carried run ins) (carried run b) → ServesAll then_suits g n (all_carried run (b ∷ [])) (carried run c)
+    → ServesAll (λ fs. suits fs × then_suits (f fs ∷ [])) (λ fs. g (f fs ∷ [])) (λ xs zs. (ys : List Row) × m xs ys × n (ys ∷ []) zs) (all_carried run ins) (carried run c)
+operators_then suits then_suits f g m n run [] b c one sound closer first second = absurd (omega (arith, one))
+operators_then suits then_suits f g m n run (a ∷ []) b c one sound closer first second = λ x h q.
+    let y = f (x ∷ []) in
+    serves_then x y (g (y ∷ [])) (λ xs. m (xs ∷ [])) (λ ys. n (ys ∷ [])) (carried run a) (carried run b) (carried run c)
+    (closer y) (first x h q.0) (second y (sound x h) q.1)
+operators_then suits then_suits f g m n run (a ∷ d ∷ ins) b c one sound closer first second = absurd (omega (arith, one))

@@ -2,7 +2,7 @@
 
 ghost use Rattle.std.specs.Prelude.{◌≡◌};
 ghost use Rattle.gl_algebra.specs.declared.figures.Figures.{Figures};
-ghost use Rattle.gl_algebra.specs.FigureTable.{IsSound, aggregate_figures, delayed};
+ghost use Rattle.gl_algebra.specs.FigureTable.{IsSound, aggregate_figures, delayed, settled};
 ghost use Rattle.gl_wire.specs.Operators.{AreSmall};
 
 use gl_algebra::Figures;
@@ -19,6 +19,21 @@ pub fn delayed_figures(source: Figures, cycles: u32) -> Figures
         lt: source.lt + cycles,
         le: source.le + cycles,
         ..source
+    }
+}
+
+/// The figures with the first cycle as the last one after a beat without the end, where no tuple comes after such a beat.
+pub fn settled_figures(source: Figures) -> Figures
+    requires { IsSound source }
+    ensures value { result ≡ settled source }
+    ensures sound { IsSound result }
+{
+    match source.nt {
+        0 => Figures {
+            lt: source.a,
+            ..source
+        },
+        _ => source,
     }
 }
 

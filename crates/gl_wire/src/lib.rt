@@ -8,8 +8,8 @@ pub mod operator;
 pub mod stages;
 pub mod wire;
 
-pub use figures::{delayed_figures, total_figures};
+pub use figures::{delayed_figures, settled_figures, total_figures};
 pub use inputs::only;
 pub use operator::Operator;
-pub use stages::{later, later_all, later_bit, pad, stage};
+pub use stages::{later, later_all, later_bit, later_wire, pad, stage};
 pub use wire::{Front, Wire, Wires};

@@ -56,4 +56,7 @@ pub trait Operator {
 
     /// No input's beats may come closer than the output's.
     ghost closer: { (s : Self) (fs : List Figures) → length fs ≡ inputs s → All (λ f. NoCloser f (figures_of s fs)) fs };
+
+    /// Sound figures come of sound ones.
+    ghost keeps_sound: { (s : Self) (fs : List Figures) → length fs ≡ inputs s → All IsSound fs → IsSound (figures_of s fs) };
 }

@@ -85,6 +85,18 @@ pub fn stage(
     })
 }
 
+/// A wire that carries what another does one cycle later.
+pub fn later_wire(alloc: Global, net: &mut NetBuilder, wire: &Wire) -> Result<Wire, Memory>
+    requires { IsWire net.old wire.now }
+    ensures keeps { OnOk result (Keeps net.old net.new) }
+    ensures wire { IfOk result (λ w. IsWire net.new w) }
+    ensures widths { IfOk result (λ w. widths w.columns ≡ widths wire.now.columns) }
+    ensures delayed { IfOk result (λ w. (run : Run) → IsRun net.new run → IsDelayed 1 (carried run wire.now) (carried run w)) }
+{
+    let later = stage(alloc, net, wire.valid, wire.eos, wire.columns.as_slice())?;
+    Ok(later)
+}
+
 // A copy of a wire.
 fn same(alloc: Global, wire: &Wire) -> Result<Wire, Memory>
     ensures { IfOk result (λ w. w ≡ wire.now) }
@@ -109,13 +121,7 @@ pub fn pad(alloc: Global, net: &mut NetBuilder, wire: &Wire, cycles: u32) -> Res
 {
     let mut padded = same(alloc, wire)?;
     for _cycle in 0..cycles {
-        padded = stage(
-            alloc,
-            net,
-            padded.valid,
-            padded.eos,
-            padded.columns.as_slice(),
-        )?;
+        padded = later_wire(alloc, net, &padded)?;
     }
     Ok(padded)
 }

@@ -1,5 +1,5 @@
 -- A count that begins anew after each end is the number of tuples of the open stream.
-use Rattle.std.proofs.Common.{◌≡◌, ℕ, zero, suc, ◌+◌, ◌%◌, ◌^◌, List, [], ◌∷◌, ◌++◌, length, Option, Some, None, Bool, true, false, refl, sym, ap, ◌∙◌, arith, length-append}
+use Rattle.std.proofs.Common.{◌≡◌, ℕ, zero, suc, ◌+◌, ◌%◌, ◌^◌, List, [], ◌∷◌, ◌++◌, length, Some, None, Bool, true, false, refl, sym, ap, ◌∙◌, length-append}
 use Rattle.std.specs.Prelude.{nat_eq, if◌then◌else◌, option_to_list}
 use Rattle.std.proofs.lemmas.List.{append-nil}
 use Rattle.std.proofs.Math.Nat.{mod-add-mod, zero-mod}
@@ -9,7 +9,7 @@ use Rattle.gl_algebra.specs.Results.{Row}
 use Rattle.gl_net.specs.declared.node.Bus.{Bus}
 use Rattle.gl_net.specs.Net.{Run}
 use Rattle.gl_wire.specs.declared.wire.Wire.{Wire}
-use Rattle.gl_wire.specs.Wire.{Carried, carried, wire_of, line_at, row_at, tuple_at, pending, stream}
+use Rattle.gl_wire.specs.Wire.{carried, wire_of, line_at, row_at, tuple_at, pending, stream}
 use Rattle.gl_wire.specs.Shapes.{IsDelayed, AtEnds, totalled}
 use Rattle.gl_wire.proofs.ColumnLemmas.{row_at-one}
 use Rattle.gl_wire.proofs.StageLemmas.{delayed_same}

@@ -1,5 +1,5 @@
 -- A valid line that is 1 only where a column is 1 too selects the rows whose column is 1.
-use Rattle.std.proofs.Common.{◌≡◌, ℕ, zero, suc, ◌<◌, List, [], ◌∷◌, Option, Some, None, Bool, true, false, refl, ap, arith}
+use Rattle.std.proofs.Common.{◌≡◌, ℕ, zero, suc, ◌<◌, Some, None, Bool, true, false, refl, ap, arith}
 use Rattle.std.specs.Prelude.{slice_get, slice_index, nat_eq, if◌then◌else◌, option_and_then, bit_and}
 use Rattle.gl_algebra.specs.Results.{Row}
 use Rattle.gl_net.specs.declared.node.Bus.{Bus}

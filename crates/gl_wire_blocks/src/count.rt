@@ -5,11 +5,12 @@ ghost use Rattle.gl_bits.specs.Words.{Word};
 ghost use Rattle.gl_algebra.specs.declared.figures.Figures.{Figures};
 ghost use Rattle.gl_algebra.specs.FigureTable.{aggregate_figures, input_figures};
 ghost use Rattle.gl_algebra.specs.Results.{Row};
+ghost use Rattle.gl_algebra.proofs.SoundLemmas.{aggregate_sound};
 ghost use Rattle.gl_net.specs.Net.{Run, IsRun, IsBit, IsBus, Keeps};
 ghost use Rattle.gl_wire.specs.Wire.{IsWire, carried, widths};
 ghost use Rattle.gl_wire.specs.Shapes.{AtEnds, Totalled};
 ghost use Rattle.gl_wire.proofs.EndLemmas.{closer_total};
-ghost use Rattle.gl_wire.proofs.OperatorLemmas.{closer_one};
+ghost use Rattle.gl_wire.proofs.OperatorLemmas.{closer_one, sound_one};
 ghost use Rattle.gl_wire_blocks.specs.Counting.{Counts, count_row};
 
 use gl_algebra::Figures;
@@ -75,6 +76,8 @@ impl Operator for Count {
     ghost means = { λ _ xs. Totalled count_row (get_or xs 0 []) };
 
     ghost closer = { λ s. closer_one (λ fs. aggregate_figures 1 (get_or fs 0 input_figures)) (closer_total 1) };
+
+    ghost keeps_sound = { λ s. sound_one (λ fs. aggregate_figures 1 (get_or fs 0 input_figures)) (aggregate_sound 1) };
 
     fn figures(&self, ins: &[Figures]) -> Figures {
         total_figures(ins[0], 1)

@@ -4,11 +4,12 @@ ghost use Rattle.std.specs.Prelude.{◌≡◌, ℕ, List, [], Some, slice_get, g
 ghost use Rattle.gl_algebra.specs.declared.figures.Figures.{Figures};
 ghost use Rattle.gl_algebra.specs.FigureTable.{delayed, input_figures};
 ghost use Rattle.gl_algebra.specs.Results.{Row};
+ghost use Rattle.gl_algebra.proofs.SoundLemmas.{delayed_sound};
 ghost use Rattle.gl_net.specs.Net.{Run, IsRun, Keeps};
 ghost use Rattle.gl_wire.specs.Wire.{IsWire, carried, widths};
 ghost use Rattle.gl_wire.specs.Shapes.{Steady, Mapped, keep_where};
 ghost use Rattle.gl_wire.proofs.DelayLemmas.{closer_delayed};
-ghost use Rattle.gl_wire.proofs.OperatorLemmas.{closer_one};
+ghost use Rattle.gl_wire.proofs.OperatorLemmas.{closer_one, sound_one};
 
 use gl_algebra::Figures;
 use gl_bits::Memory;
@@ -54,6 +55,8 @@ impl Operator for Select {
     ghost means = { λ s xs. Mapped (keep_where s.column) (get_or xs 0 []) };
 
     ghost closer = { λ s. closer_one (λ fs. delayed 1 (get_or fs 0 input_figures)) (closer_delayed 1) };
+
+    ghost keeps_sound = { λ s. sound_one (λ fs. delayed 1 (get_or fs 0 input_figures)) (delayed_sound 1) };
 
     fn figures(&self, ins: &[Figures]) -> Figures {
         delayed_figures(ins[0], 1)

@@ -24,8 +24,8 @@ returns-clause-steady c = λ run r.
     let same : slice_index_or c.as_slice.result.now c.args.column none ≡ b.0 = ap (λ (bs : List Bus). slice_index_or bs c.args.column none) c.as_slice.ensures ∙ get_or_from_slice_get wire.columns c.args.column b.0 none b.1 in
     select_steady run wire c.bit.result b.0 c.args.column b.1
     (λ t. ap (run.at t) c.bit.ensures ∙ c.in_ok-keep.ensures.value run before_stage t
-        ∙ ap (λ (n : ℕ). bit_and (run.at t n) (run.at t (slice_index_or c.as_slice.result.now c.args.column none).node)) c.bus.ensures.node
-        ∙ ap (λ (x : Bus). bit_and (run.at t wire.valid.node) (run.at t x.node)) same)
+    ∙ ap (λ (n : ℕ). bit_and (run.at t n) (run.at t (slice_index_or c.as_slice.result.now c.args.column none).node)) c.bus.ensures.node
+    ∙ ap (λ (x : Bus). bit_and (run.at t wire.valid.node) (run.at t x.node)) same)
     (bit_fits c.args.net.now wire.valid run c.requires.wire.valid before_keep)
     (λ t. subst (λ (w : ℕ). run.at t b.0.node < 2 ^ w) b.2 (bus_fits c.args.net.now b.0 run (c.requires.wire.columns.each _ _ b.1) before_keep t))
     c.in_ok-kept.kept
