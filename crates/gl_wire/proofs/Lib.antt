@@ -10,3 +10,4 @@ pub mod LiftSpillLemmas
 pub mod SettledLemmas
 pub mod SpillTwoLemmas
 pub mod OperatorLemmas
+pub mod GapLemmas

@@ -1,7 +1,7 @@
--- Operators of one input: what holds of all inputs holds of the one.
-use Rattle.std.proofs.Common.{◌≡◌, List, [], ◌∷◌, length, subst, arith}
+-- Operators of one input and of two: their inputs, the laws of their figures, and one behind another.
+use Rattle.std.proofs.Common.{◌≡◌, List, [], ◌∷◌, length, get_or, sym, ap, arith}
 use Rattle.std.specs.List.{All}
-use Rattle.std.proofs.lemmas.List.Elements.{All-head, All-cons, All-nil}
+use Rattle.std.proofs.lemmas.List.Elements.{All-head, All-tail, All-cons, All-nil}
 use Rattle.gl_algebra.specs.declared.figures.Figures.{Figures}
 use Rattle.gl_algebra.specs.Results.{Row}
 use Rattle.gl_net.specs.Net.{Run}
@@ -12,9 +12,18 @@ use Rattle.gl_wire.specs.Beats.{NoCloser}
 use Rattle.gl_wire.specs.Operators.{MeaningOfAll, ServesAll, all_carried}
 use Rattle.gl_wire.proofs.ComposeLemmas.{serves_then}
 
--- what holds of all items holds of the one
-pub of_only : {A : Type 0} (P : A → Type 0) (xs : List A) (x : A) → xs ≡ x ∷ [] → All P xs → P x
-of_only P xs x e h = All-head P x [] (subst (All P) e h)
+-- the list of inputs of an operator of one, whose first input is read
+pub one_item : {A : Type 0} (xs : List A) (x : A) → length xs ≡ 1 → x ≡ get_or xs 0 x → xs ≡ x ∷ []
+one_item [] x h e = absurd (omega (arith, h))
+one_item (y ∷ []) x h e = ap (λ z. z ∷ []) (sym e)
+one_item (y ∷ z ∷ ys) x h e = absurd (omega (arith, h))
+
+-- and of two
+pub two_items : {A : Type 0} (xs : List A) (x : A) → length xs ≡ 2 → x ≡ get_or xs 0 x → (y : A) × (xs ≡ x ∷ y ∷ [])
+two_items [] x h e = absurd (omega (arith, h))
+two_items (y ∷ []) x h e = absurd (omega (arith, h))
+two_items (y ∷ z ∷ []) x h e = (z, ap (λ w. w ∷ z ∷ []) (sym e))
+two_items (y ∷ z ∷ w ∷ ys) x h e = absurd (omega (arith, h))
 
 -- the beats of its one input may come as close as those of its output
 pub closer_one : (figures : List Figures → Figures) → ((f : Figures) → NoCloser f (figures (f ∷ []))) → (fs : List Figures) → length fs ≡ 1 → All (λ f. NoCloser f (figures fs)) fs
@@ -27,6 +36,20 @@ pub sound_one : (figures : List Figures → Figures) → ((f : Figures) → IsSo
 sound_one figures h [] n sound = absurd (omega (arith, n))
 sound_one figures h (f ∷ []) n sound = h f (All-head IsSound f [] sound)
 sound_one figures h (f ∷ g ∷ fs) n sound = absurd (omega (arith, n))
+
+-- the same for two inputs
+pub closer_two : (figures : List Figures → Figures) → ((f g : Figures) → NoCloser f (figures (f ∷ g ∷ [])) × NoCloser g (figures (f ∷ g ∷ []))) → (fs : List Figures) → length fs ≡ 2 → All (λ f. NoCloser f (figures fs)) fs
+closer_two figures h [] n = absurd (omega (arith, n))
+closer_two figures h (f ∷ []) n = absurd (omega (arith, n))
+closer_two figures h (f ∷ g ∷ []) n = let k = figures (f ∷ g ∷ []) in
+    All-cons (λ x. NoCloser x k) f (g ∷ []) (h f g).0 (All-cons (λ x. NoCloser x k) g [] (h f g).1 (All-nil (λ x. NoCloser x k)))
+closer_two figures h (f ∷ g ∷ k ∷ fs) n = absurd (omega (arith, n))
+
+pub sound_two : (figures : List Figures → Figures) → ((f g : Figures) → IsSound f → IsSound g → IsSound (figures (f ∷ g ∷ []))) → (fs : List Figures) → length fs ≡ 2 → All IsSound fs → IsSound (figures fs)
+sound_two figures h [] n sound = absurd (omega (arith, n))
+sound_two figures h (f ∷ []) n sound = absurd (omega (arith, n))
+sound_two figures h (f ∷ g ∷ []) n sound = h f g (All-head IsSound f (g ∷ []) sound) (All-head IsSound g [] (All-tail IsSound f (g ∷ []) sound))
+sound_two figures h (f ∷ g ∷ k ∷ fs) n sound = absurd (omega (arith, n))
 
 -- one operator of one input behind another: its meaning after the other's, where both suit
 pub operators_then : (suits then_suits : List Figures → Type 0) (f g : List Figures → Figures) (m n : MeaningOfAll) (run : Run) (ins : List Wire) (b c : Wire) → length ins ≡ 1

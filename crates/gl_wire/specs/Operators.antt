@@ -1,5 +1,5 @@
 -- What an operator of one input or of two promises of its wires.
-use Rattle.std.specs.Prelude.{ℕ, ◌^◌, ◌<◌, List, [], ◌∷◌, map}
+use Rattle.std.specs.Prelude.{ℕ, ◌^◌, ◌<◌, max, List, [], ◌∷◌, map}
 use Rattle.gl_algebra.specs.declared.figures.Figures.{Figures}
 use Rattle.gl_algebra.specs.FigureTable.{IsSound}
 use Rattle.gl_algebra.specs.Results.{Row}
@@ -17,6 +17,10 @@ pub record AreSmall (f : Figures) : Type 0 where
   pub ne : f.ne < 2 ^ 32
   pub gt : f.gt < 2 ^ 32
   pub ge : f.ge < 2 ^ 32
+
+-- the same, with beats no closer than these other figures let them
+abbrev pub with_gaps_of : Figures → Figures → Figures
+with_gaps_of g f = record f { gt = max f.gt g.gt; ge = max f.ge g.ge }
 
 -- which rows may come out for those that come in on each input
 abbrev pub MeaningOfAll : Type 1

@@ -1,2 +1,3 @@
 pub mod SelectLemmas
 pub mod CountLemmas
+pub mod LeftLemmas

@@ -16,7 +16,7 @@ ghost use Rattle.gl_wire_blocks.specs.Counting.{Counts, count_row};
 use gl_algebra::Figures;
 use gl_bits::{Memory, Word};
 use gl_net::{BinaryOp, Bit, Bus, NetBuilder};
-use gl_wire::{Operator, Wire, only, stage, total_figures};
+use gl_wire::{Operator, Wire, stage, total_figures};
 use std::alloc::Global;
 
 /// How many rows a stream has, in 32 bits.
@@ -84,7 +84,7 @@ impl Operator for Count {
     }
 
     fn emit(&self, alloc: Global, net: &mut NetBuilder, ins: &[Wire]) -> Result<Wire, Memory> {
-        let counted = count_rows(alloc, net, only(ins))?;
+        let counted = count_rows(alloc, net, &ins[0])?;
         Ok(counted)
     }
 }

@@ -12,7 +12,7 @@ ghost use Rattle.gl_wire.proofs.OperatorLemmas.{closer_one, sound_one};
 use gl_algebra::Figures;
 use gl_bits::Memory;
 use gl_net::NetBuilder;
-use gl_wire::{Operator, Wire, delayed_figures, only, pad};
+use gl_wire::{Operator, Wire, delayed_figures, pad};
 use std::alloc::Global;
 
 /// The same rows, so many cycles later.
@@ -41,7 +41,7 @@ impl Operator for Delay {
     }
 
     fn emit(&self, alloc: Global, net: &mut NetBuilder, ins: &[Wire]) -> Result<Wire, Memory> {
-        let padded = pad(alloc, net, only(ins), self.cycles)?;
+        let padded = pad(alloc, net, &ins[0], self.cycles)?;
         Ok(padded)
     }
 }

@@ -4,9 +4,14 @@
 pub mod chain;
 pub mod count;
 pub mod delay;
+pub mod left;
 pub mod select;
 
 pub use chain::emit_both;
 pub use count::Count;
 pub use delay::Delay;
+pub use left::Left;
 pub use select::Select;
+
+#[cfg(test)]
+mod tests;

@@ -14,7 +14,7 @@ ghost use Rattle.gl_wire.proofs.OperatorLemmas.{closer_one, sound_one};
 use gl_algebra::Figures;
 use gl_bits::Memory;
 use gl_net::{BinaryOp, NetBuilder};
-use gl_wire::{Operator, Wire, delayed_figures, only, stage};
+use gl_wire::{Operator, Wire, delayed_figures, stage};
 use std::alloc::Global;
 
 /// The rows whose column at this place, of one bit, is 1.
@@ -63,7 +63,7 @@ impl Operator for Select {
     }
 
     fn emit(&self, alloc: Global, net: &mut NetBuilder, ins: &[Wire]) -> Result<Wire, Memory> {
-        let kept = select_rows(alloc, net, only(ins), self.column)?;
+        let kept = select_rows(alloc, net, &ins[0], self.column)?;
         Ok(kept)
     }
 }
