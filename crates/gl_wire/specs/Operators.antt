@@ -34,7 +34,7 @@ widths_of_all wires = map (λ w. widths w.columns) wires
 abbrev pub all_carried : Run → List Wire → List Carried
 all_carried run wires = map (carried run) wires
 
--- a block of one input, or of two, serves its meaning for all sound figures that suit it; no block has none or more
+-- a block of one input, or of two, serves its meaning for all sound figures that suit it; none has another number
 abbrev pub ServesAll : (List Figures → Type 0) → (List Figures → Figures) → MeaningOfAll → List Carried → Carried → Type 0
 ServesAll suits figures means [] o = ⊥
 ServesAll suits figures means (a ∷ []) o = (f : Figures) → IsSound f → suits (f ∷ []) → Serves f (figures (f ∷ [])) (λ xs. means (xs ∷ [])) a o

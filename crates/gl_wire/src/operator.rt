@@ -54,7 +54,7 @@ pub trait Operator {
         ensures widths { IfOk result (λ w. widths w.columns ≡ gives self.now (widths_of_all ins.now)) }
         ensures serves { IfOk result (λ w. (run : Run) → IsRun net.new run → ServesAll (suits self.now) (figures_of self.now) (means self.now) (all_carried run ins.now) (carried run w)) };
 
-    /// No input's beats may come closer than the output's.
+    /// Beats that are as far apart as the output's figures ask are so for each input.
     ghost closer: { (s : Self) (fs : List Figures) → length fs ≡ inputs s → All (λ f. NoCloser f (figures_of s fs)) fs };
 
     /// Sound figures come of sound ones.

@@ -3,7 +3,8 @@
 ghost use Rattle.std.specs.Prelude.{◌≡◌, ◌∷◌, [], IfOk};
 ghost use Rattle.gl_wire.specs.Wire.{IsWire, widths};
 
-use crate::{Count, Delay, Select, emit_both};
+use crate::{Count, Delay, Left, Select, emit_both};
+use gl_algebra::Figures;
 use gl_bits::Memory;
 use gl_net::{Buses, NetBuilder};
 use gl_wire::{Operator, Wire};
@@ -51,5 +52,26 @@ fn emits_operators_behind_one_another(rt: HostRuntime) -> Result<(), Fail> {
     let counted = put_count(rt.alloc(), &mut net, source)?;
     assert_eq!(rt; net.len(), 26);
     assert_eq!(rt; counted.columns.len(), 1);
+    Ok(())
+}
+
+#[test]
+fn figures_move_with_the_rows(rt: HostRuntime) -> Result<(), Fail> {
+    let stream = Figures {
+        a: 0,
+        lt: 0,
+        le: 0,
+        nt: 1,
+        ne: 1,
+        gt: 1,
+        ge: 1,
+    };
+    let later = Delay { cycles: 2 }.figures(&[stream]);
+    assert_eq!(rt; (later.a, later.lt, later.le), (2, 2, 2));
+    let counted = Count.figures(&[later]);
+    assert_eq!(rt; (counted.a, counted.lt, counted.le), (3, 3, 3));
+    assert_eq!(rt; (counted.nt, counted.ne), (0, 1));
+    let left = Left.figures(&[later, stream]);
+    assert_eq!(rt; (left.a, left.lt, left.le), (3, 3, 3));
     Ok(())
 }
