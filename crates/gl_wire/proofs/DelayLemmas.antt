@@ -9,7 +9,7 @@ use Rattle.gl_algebra.specs.Results.{Row}
 use Rattle.gl_wire.specs.Beats.{Beats, last, most, gap, Spaced, NoCloser, ends_before}
 use Rattle.gl_wire.specs.Wire.{Carried, pending, stream, rows}
 use Rattle.gl_wire.specs.Serves.{HasEnd, OneEnd, Fits, Serves, Meaning, tuples_of, MayBecome}
-use Rattle.gl_wire.specs.Shapes.{IsDelayed}
+use Rattle.gl_wire.specs.Shapes.{IsDelayed, Same}
 
 gap_closer : (f g : Figures) → NoCloser f g → (e : Bool) → gap f e ≤ gap g e
 gap_closer f g h true = h.ge
@@ -144,3 +144,16 @@ module _ (m : ℕ) (s b : Carried) (d : IsDelayed m s b) where
     };
     prefix = λ beats spaced fits k c xs q. let y = h.prefix beats (spaced_closer g (delayed m g) beats (closer_delayed m g) spaced) fits k c xs q in (y.0, become_delayed k c y.0 y.1, y.2);
   }
+
+same_serves : (f : Figures) (a : Carried) → Serves f f Same a a
+same_serves f a = record {
+  served = λ beats spaced fits. record {
+    fits = fits;
+    results = λ t d e h hd he. let o = fits.end t h in ap (stream a) (o.only e he ∙ sym (o.only d hd));
+    later = λ t d e h hd he. let o = fits.end t h in omega (arith, o.only d hd, o.only e he);
+  };
+  prefix = λ beats spaced fits k c xs q. (xs, q, refl);
+}
+
+pub delay_serves : (m : ℕ) (a b : Carried) (f : Figures) → IsDelayed m a b → Serves f (delayed m f) Same a b
+delay_serves m a b f d = delayed_serves m a b d f f Same a (same_serves f a)

@@ -6,11 +6,14 @@ use Rattle.std.proofs.lemmas.List.{append-nil}
 use Rattle.gl_algebra.specs.declared.figures.Figures.{Figures}
 use Rattle.gl_algebra.specs.FigureTable.{delayed, aggregate_figures}
 use Rattle.gl_algebra.specs.Results.{Row}
-use Rattle.gl_wire.specs.Beats.{Beats, last, most, Spaced, ends_before}
+use Rattle.gl_wire.specs.Beats.{Beats, last, most, Spaced, NoCloser, ends_before}
 use Rattle.gl_wire.specs.Wire.{Carried, pending, stream, rows}
 use Rattle.gl_wire.specs.Serves.{HasEnd, OneEnd, EndCaused, Fits, Serves, tuples_of, MayBecome}
 use Rattle.gl_wire.specs.Shapes.{totalled, AtEnds, Totalled}
 use Rattle.gl_wire.proofs.DelayLemmas.{delayed_serves}
+
+pub closer_total : (m : ℕ) (f : Figures) → NoCloser f (aggregate_figures m f)
+closer_total m f = record { gt = omega arith; ge = omega arith }
 
 no_rows : (s : Carried) (n c : ℕ) → ((k : ℕ) → c ≤ k → k < c + n → s.tuple k ≡ None) → rows s c n ≡ []
 no_rows s zero c h = refl

@@ -1,3 +1,5 @@
+pub mod ColumnLemmas
+pub mod StageLemmas
 pub mod DelayLemmas
 pub mod SteadyLemmas
 pub mod EndLemmas
@@ -7,3 +9,5 @@ pub mod LiftLemmas
 pub mod LiftSpillLemmas
 pub mod SettledLemmas
 pub mod SpillTwoLemmas
+pub mod OperatorLemmas
+pub mod GapLemmas

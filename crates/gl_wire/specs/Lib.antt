@@ -6,3 +6,4 @@ pub mod Spills
 pub mod Gives
 pub mod Lift
 pub mod Laws
+pub mod Operators

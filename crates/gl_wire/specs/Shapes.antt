@@ -31,6 +31,10 @@ AtEnds m total a b = IsDelayed m (totalled total a) b
 abbrev pub Mapped : (Row → Option Row) → Meaning
 Mapped step xs ys = ys ≡ filter_map step xs
 
+-- the same rows
+abbrev pub Same : Meaning
+Same xs ys = ys ≡ xs
+
 -- one row of the whole stream
 abbrev pub Totalled : (List Row → Row) → Meaning
 Totalled total xs ys = ys ≡ total xs ∷ []

@@ -29,6 +29,10 @@ tuple_at run valid columns t = if line_at run valid t then Some (row_at run t co
 abbrev pub carried : Run → Wire → Carried
 carried run w = record { tuple = tuple_at run w.valid w.columns; ends = line_at run w.eos }
 
+-- the wire of two lines and columns
+abbrev pub wire_of : Bit → Bit → List Bus → Wire
+wire_of v e bs = record { valid = v; eos = e; columns = bs }
+
 -- the widths of columns
 abbrev pub widths : List Bus → List ℕ
 widths bs = map (λ b. b.width) bs

@@ -16,3 +16,16 @@ pub struct Wire {
 
 /// Wires, as a list.
 pub type Wires = Listed<Wire>;
+
+/// What goes from the front of a window or a group to its copies and to its back.
+#[derive(Drop)]
+pub struct Front {
+    /// The wire of each copy of the body.
+    pub wires: Wires,
+    /// 1 in the cycle in which the flush after an end is over.
+    pub close: Bit,
+    /// The stored keys, one bus for each.
+    pub keys: Buses,
+    /// 1 in a cycle in which a group came for which there is no copy.
+    pub further: Bit,
+}

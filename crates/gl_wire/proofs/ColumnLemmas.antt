@@ -1,0 +1,95 @@
+-- Lists of columns: one more, kept, and looked up by widths.
+use Rattle.std.proofs.Common.{◌≡◌, ℕ, zero, suc, List, [], ◌∷◌, ◌++◌, Some, refl, sym, ap, ◌∙◌, subst}
+use Rattle.std.specs.Prelude.{slice_get, slice_index}
+use Rattle.gl_net.specs.declared.node.Bus.{Bus}
+use Rattle.gl_net.specs.Net.{Net, Run, IsRun, IsBus, Keeps}
+use Rattle.gl_net.proofs.Determined.{keeps_then}
+use Rattle.gl_wire.specs.declared.wire.Wire.{Wire}
+use Rattle.gl_wire.specs.Wire.{AreBuses, IsWire, widths, row_at}
+
+pub row_at-push : (run : Run) (t : ℕ) (bs : List Bus) (b : Bus) → row_at run t (bs ++ b ∷ []) ≡ row_at run t bs ++ run.at t b.node ∷ []
+unfolding row_at
+row_at-push run t [] b = refl
+row_at-push run t (x ∷ bs) b = ap (λ l. run.at t x.node ∷ l) (row_at-push run t bs b)
+
+pub row_at-none : (run : Run) (t : ℕ) → row_at run t [] ≡ []
+unfolding row_at
+row_at-none run t = refl
+
+-- the row of one column
+pub row_at-one : (run : Run) (t : ℕ) (b : Bus) → row_at run t (b ∷ []) ≡ run.at t b.node ∷ []
+unfolding row_at
+row_at-one run t b = refl
+
+-- the value in a row of the column at a place
+pub row_at-value : (run : Run) (t : ℕ) (bs : List Bus) (k : ℕ) (b : Bus) → slice_get bs k ≡ Some b → slice_index (row_at run t bs) k ≡ run.at t b.node
+unfolding row_at
+row_at-value run t [] k b h = absurd (cc)
+row_at-value run t (x ∷ bs) zero b h = let e : x ≡ b = cc in ap (λ (y : Bus). run.at t y.node) e
+row_at-value run t (x ∷ bs) (suc k) b h = row_at-value run t bs k b h
+
+pub widths-push : (bs : List Bus) (b : Bus) → widths (bs ++ b ∷ []) ≡ widths bs ++ b.width ∷ []
+widths-push [] b = refl
+widths-push (x ∷ bs) b = ap (λ l. x.width ∷ l) (widths-push bs b)
+
+-- the column that a width at a place tells of
+pub column_at : (bs : List Bus) (k w : ℕ) → slice_get (widths bs) k ≡ Some w → (b : Bus) × (slice_get bs k ≡ Some b) × (b.width ≡ w)
+column_at [] k w h = absurd (cc)
+column_at (x ∷ bs) zero w h = (x, refl, cc)
+column_at (x ∷ bs) (suc k) w h = column_at bs k w h
+
+pushed : (net : Net) (bs : List Bus) (b : Bus) → ((k : ℕ) (x : Bus) → slice_get bs k ≡ Some x → IsBus net x) → IsBus net b → (k : ℕ) (x : Bus) → slice_get (bs ++ b ∷ []) k ≡ Some x → IsBus net x
+pushed net [] b h i zero x e = let q : b ≡ x = cc in subst (IsBus net) q i
+pushed net [] b h i (suc k) x e = absurd (cc)
+pushed net (y ∷ bs) b h i zero x e = h zero x e
+pushed net (y ∷ bs) b h i (suc k) x e = pushed net bs b (λ j z q. h (suc j) z q) i k x e
+
+pub AreBuses-push : (net : Net) (bs : List Bus) (b : Bus) → AreBuses net bs → IsBus net b → AreBuses net (bs ++ b ∷ [])
+AreBuses-push net bs b h i = record { each = pushed net bs b h.each i }
+
+pub AreBuses-none : (net : Net) → AreBuses net []
+AreBuses-none net = record { each = λ k x e. absurd (cc) }
+
+pub AreBuses-one : (net : Net) (b : Bus) → IsBus net b → AreBuses net (b ∷ [])
+AreBuses-one net b i = AreBuses-push net [] b (AreBuses-none net) i
+
+-- a bus, a list of buses and a wire stay what they are
+pub bus_kept : (old new : Net) (b : Bus) → Keeps old new → IsBus old b → IsBus new b
+bus_kept old new b g i = record { there = g.shapes b.node _ i.there; width = i.width }
+
+pub buses_kept : (old new : Net) (bs : List Bus) → Keeps old new → AreBuses old bs → AreBuses new bs
+buses_kept old new bs g h = record { each = λ k x e. bus_kept old new x g (h.each k x e) }
+
+pub wire_kept : (old new : Net) (w : Wire) → Keeps old new → IsWire old w → IsWire new w
+wire_kept old new w g h = record {
+  valid = record { there = g.shapes w.valid.node _ h.valid.there };
+  eos = record { there = g.shapes w.eos.node _ h.eos.there };
+  columns = buses_kept old new w.columns g h.columns;
+}
+
+-- nothing is added
+pub keeps_same : (net : Net) → Keeps net net
+keeps_same net = record { runs = λ run r. r; shapes = λ n s h. h; undriven = λ n. refl; ports = refl; name = refl }
+
+-- registers behind some columns
+pub record AreLater (old new : Net) (cs ds : List Bus) : Type 0 where
+  pub keeps : Keeps old new
+  pub columns : AreBuses new ds
+  pub same_widths : widths ds ≡ widths cs
+  pub row : (run : Run) → IsRun new run → (t : ℕ) → row_at run (suc (suc t)) ds ≡ row_at run (suc t) cs
+
+pub later_none : (net : Net) → AreLater net net [] []
+later_none net = record {
+  keeps = keeps_same net;
+  columns = AreBuses-none net;
+  same_widths = refl;
+  row = λ run r t. row_at-none run (suc (suc t)) ∙ sym (row_at-none run (suc t));
+}
+
+pub later_more : (old mid new : Net) (cs ds : List Bus) (c d : Bus) → AreLater old mid cs ds → Keeps mid new → IsBus new d → d.width ≡ c.width → ((run : Run) → IsRun new run → (t : ℕ) → run.at (suc (suc t)) d.node ≡ run.at (suc t) c.node) → AreLater old new (cs ++ c ∷ []) (ds ++ d ∷ [])
+later_more old mid new cs ds c d h g i width value = record {
+  keeps = keeps_then old mid new h.keeps g;
+  columns = AreBuses-push new ds d (buses_kept mid new ds g h.columns) i;
+  same_widths = widths-push ds d ∙ ap (λ l. l ++ d.width ∷ []) h.same_widths ∙ ap (λ x. widths cs ++ x ∷ []) width ∙ sym (widths-push cs c);
+  row = λ run r t. row_at-push run (suc (suc t)) ds d ∙ ap (λ l. l ++ run.at (suc (suc t)) d.node ∷ []) (h.row run (g.runs run r) t) ∙ ap (λ v. row_at run (suc t) cs ++ v ∷ []) (value run r t) ∙ sym (row_at-push run (suc t) cs c);
+}

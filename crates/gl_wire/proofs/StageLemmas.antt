@@ -1,0 +1,107 @@
+-- Registers behind a line and behind a wire, and wires that are some cycles behind.
+use Rattle.std.proofs.Common.{◌≡◌, ℕ, zero, suc, ◌+◌, ◌<◌, List, Some, None, Bool, false, refl, sym, ap, ◌∙◌, subst, arith}
+use Rattle.std.specs.Prelude.{if◌then◌else◌}
+use Rattle.gl_algebra.specs.Results.{Row}
+use Rattle.gl_net.specs.declared.node.Bus.{Bus}
+use Rattle.gl_net.specs.declared.node.Bit.{Bit}
+use Rattle.gl_net.specs.Net.{Net, Run, IsRun, Keeps}
+use Rattle.gl_net.proofs.Determined.{keeps_then}
+use Rattle.gl_wire.specs.declared.wire.Wire.{Wire}
+use Rattle.gl_wire.specs.Wire.{Carried, IsWire, widths, carried, wire_of, line_at, row_at, tuple_at}
+use Rattle.gl_wire.specs.Shapes.{IsDelayed}
+use Rattle.gl_wire.proofs.ColumnLemmas.{keeps_same}
+
+-- a register that is 0 after reset is one cycle behind its line, from the reset cycle on
+pub line_later : (run : Run) (line later : Bit) → run.at 1 later.node ≡ 0 → ((t : ℕ) → run.at (suc (suc t)) later.node ≡ run.at (suc t) line.node) → (t : ℕ) → line_at run later (suc t) ≡ line_at run line t
+unfolding line_at
+line_later run line later start next zero = rw start refl
+line_later run line later start next (suc t) = rw (next t) refl
+
+line_first : (run : Run) (line : Bit) → line_at run line 0 ≡ false
+unfolding line_at
+line_first run line = refl
+
+-- a tuple is there where the line says so
+tuple_by : (run : Run) (v : Bit) (bs : List Bus) (t : ℕ) → tuple_at run v bs t ≡ (if line_at run v t then Some (row_at run t bs) else None)
+unfolding tuple_at
+tuple_by run v bs t = refl
+
+tuple_later : (run : Run) (v u : Bit) (bs cs : List Bus) → ((t : ℕ) → line_at run u (suc t) ≡ line_at run v t) → ((t : ℕ) → row_at run (suc (suc t)) cs ≡ row_at run (suc t) bs) → (t : ℕ) → tuple_at run u cs (suc t) ≡ tuple_at run v bs t
+tuple_later run v u bs cs line row zero =
+    tuple_by run u cs 1 ∙ ap (λ (b : Bool). if b then Some (row_at run 1 cs) else None) (line 0 ∙ line_first run v)
+    ∙ sym (tuple_by run v bs 0 ∙ ap (λ (b : Bool). if b then Some (row_at run 0 bs) else None) (line_first run v))
+tuple_later run v u bs cs line row (suc t) =
+    tuple_by run u cs (suc (suc t)) ∙ ap (λ (b : Bool). if b then Some (row_at run (suc (suc t)) cs) else None) (line (suc t))
+    ∙ ap (λ (r : Row). if line_at run v (suc t) then Some r else None) (row t) ∙ sym (tuple_by run v bs (suc t))
+
+-- one cycle behind, where each cycle's tuple and end are those of the cycle before
+one_behind : (a b : Carried) → b.tuple 0 ≡ None → b.ends 0 ≡ false → ((c : ℕ) → b.tuple (suc c) ≡ a.tuple c) → ((c : ℕ) → b.ends (suc c) ≡ a.ends c) → IsDelayed 1 a b
+one_behind a b first first_end tuples ends = record {
+  before = λ c l. let e : c ≡ 0 = omega (arith, l) in ap b.tuple e ∙ first;
+  no_end = λ c l. let e : c ≡ 0 = omega (arith, l) in ap b.ends e ∙ first_end;
+  tuples = λ c. let e : c + 1 ≡ suc c = omega arith in ap b.tuple e ∙ tuples c;
+  ends = λ c. let e : c + 1 ≡ suc c = omega arith in ap b.ends e ∙ ends c;
+}
+
+pub stage_delayed : (run : Run) (v e : Bit) (bs : List Bus) (w : Wire) → ((t : ℕ) → line_at run w.valid (suc t) ≡ line_at run v t) → ((t : ℕ) → line_at run w.eos (suc t) ≡ line_at run e t) → ((t : ℕ) → row_at run (suc (suc t)) w.columns ≡ row_at run (suc t) bs) → IsDelayed 1 (carried run (wire_of v e bs)) (carried run w)
+stage_delayed run v e bs w valid eos row = one_behind (carried run (wire_of v e bs)) (carried run w)
+    (tuple_by run w.valid w.columns 0 ∙ ap (λ (b : Bool). if b then Some (row_at run 0 w.columns) else None) (line_first run w.valid))
+    (line_first run w.eos)
+    (tuple_later run v w.valid bs w.columns valid row)
+    eos
+
+pub delayed_none : (a : Carried) → IsDelayed 0 a a
+delayed_none a = record {
+  before = λ c l. absurd (omega (arith, l));
+  no_end = λ c l. absurd (omega (arith, l));
+  tuples = λ c. let e : c + 0 ≡ c = omega arith in ap a.tuple e;
+  ends = λ c. let e : c + 0 ≡ c = omega arith in ap a.ends e;
+}
+
+pub delayed_more : (n : ℕ) (a b d : Carried) → IsDelayed n a b → IsDelayed 1 b d → IsDelayed (n + 1) a d
+delayed_more n a b d h s = record {
+  before = before;
+  no_end = no_end;
+  tuples = λ c. let e : c + (n + 1) ≡ c + n + 1 = omega arith in ap d.tuple e ∙ s.tuples (c + n) ∙ h.tuples c;
+  ends = λ c. let e : c + (n + 1) ≡ c + n + 1 = omega arith in ap d.ends e ∙ s.ends (c + n) ∙ h.ends c;
+}
+  where
+    before : (c : ℕ) → c < n + 1 → d.tuple c ≡ None
+    before zero l = s.before 0 (omega arith)
+    before (suc c) l = let e : suc c ≡ c + 1 = omega arith in ap d.tuple e ∙ s.tuples c ∙ h.before c (omega (arith, l))
+
+    no_end : (c : ℕ) → c < n + 1 → d.ends c ≡ false
+    no_end zero l = s.no_end 0 (omega arith)
+    no_end (suc c) l = let e : suc c ≡ c + 1 = omega arith in ap d.ends e ∙ s.ends c ∙ h.no_end c (omega (arith, l))
+
+-- what is behind one of two that carry the same is behind the other
+pub delayed_same : (m : ℕ) (a b d : Carried) → ((c : ℕ) → a.tuple c ≡ b.tuple c) → ((c : ℕ) → a.ends c ≡ b.ends c) → IsDelayed m a d → IsDelayed m b d
+delayed_same m a b d tuple ends h = record {
+  before = h.before;
+  no_end = h.no_end;
+  tuples = λ c. h.tuples c ∙ tuple c;
+  ends = λ c. h.ends c ∙ ends c;
+}
+
+-- what n stages behind a wire leave
+pub record IsPadded (old new : Net) (n : ℕ) (w v : Wire) : Type 0 where
+  pub keeps : Keeps old new
+  pub wire : IsWire new v
+  pub same_widths : widths v.columns ≡ widths w.columns
+  pub delayed : (run : Run) → IsRun new run → IsDelayed n (carried run w) (carried run v)
+
+pub padded_none : (net : Net) (w v : Wire) → IsWire net w → v ≡ w → IsPadded net net 0 w v
+padded_none net w v i e = subst (λ u. IsPadded net net 0 w u) (sym e) (record {
+  keeps = keeps_same net;
+  wire = i;
+  same_widths = refl;
+  delayed = λ run r. delayed_none (carried run w);
+})
+
+pub padded_more : (old mid new : Net) (n : ℕ) (w v u : Wire) → IsPadded old mid n w v → Keeps mid new → IsWire new u → widths u.columns ≡ widths v.columns → ((run : Run) → IsRun new run → IsDelayed 1 (carried run v) (carried run u)) → IsPadded old new (n + 1) w u
+padded_more old mid new n w v u h g i same one = record {
+  keeps = keeps_then old mid new h.keeps g;
+  wire = i;
+  same_widths = same ∙ h.same_widths;
+  delayed = λ run r. delayed_more n (carried run w) (carried run v) (carried run u) (h.delayed run (g.runs run r)) (one run r);
+}

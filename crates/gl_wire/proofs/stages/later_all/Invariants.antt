@@ -1,0 +1,6 @@
+use Rattle.std.proofs.Common.{take}
+use Rattle.gl_wire.proofs.ColumnLemmas.{AreLater}
+use Rattle.gl_wire.proofs.stages.later_all.Given as goal
+
+abbrev pub invariant-loop-bus : goal.invariant-loop-bus
+invariant-loop-bus l = AreLater l.initial.net l.net (take l.bus-index l.columns) l.all

@@ -1,0 +1,3 @@
+pub mod SelectLemmas
+pub mod CountLemmas
+pub mod LeftLemmas
