@@ -80,7 +80,7 @@ in_front (x ∷ xs) ys zero s all h e = h
 in_front (x ∷ xs) ys (suc i) s all h e = in_front xs ys i s all h e
 
 -- the input ports that the schema asks for are these inputs
-abbrev asked : PortShape → InputPort
+abbrev pub asked : PortShape → InputPort
 asked s = input_port s.name s.width
 
 columns_asked : (s : List ℕ) (cs : List Column) → map asked (column_inputs s cs) ≡ profile.column_inputs s cs
@@ -94,7 +94,7 @@ streams_asked (s ∷ ss) =
     ∙ ap (λ (x : List InputPort). input_port (in_valid s.name) 1 ∷ (x ++ map asked (streams_inputs ss))) (columns_asked s.name s.columns)
     ∙ ap (λ (x : List InputPort). (input_port (in_valid s.name) 1 ∷ profile.column_inputs s.name s.columns) ++ x) (streams_asked ss)
 
-all_asked : (schema : Schema) → map asked (inputs schema) ≡ inputs_of_schema schema
+pub all_asked : (schema : Schema) → map asked (inputs schema) ≡ inputs_of_schema schema
 all_asked schema =
     ap (λ (x : List InputPort). input_port rst 1 ∷ x)
     (map-append asked (streams_inputs schema.streams) (input eos 1 ∷ []) ∙ ap (λ (x : List InputPort). x ++ input_port eos 1 ∷ []) (streams_asked schema.streams))

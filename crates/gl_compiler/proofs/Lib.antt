@@ -5,6 +5,7 @@ pub mod Showing
 pub mod Faces
 pub mod Wired
 pub mod Fits
+pub mod Existing
 pub mod Meeting
 pub mod Ready
 pub mod Declared

@@ -18,6 +18,8 @@ use Rattle.gl_net.specs.Net.{Net}
 use Rattle.gl_net.specs.PortValues.{port_values, PortShape, port_shapes}
 use Rattle.gl_verilog.specs.Module.{Declaration}
 use Rattle.gl_verilog.specs.Run.{port_of}
+use Rattle.gl_verilog.proofs.Acyclic.{runnable}
+use Rattle.gl_verilog.proofs.Runs.{has_runs}
 use Rattle.gl_verilog_writer.specs.Meaning.{IsTextOf, clock}
 use Rattle.gl_wiring.specs.EmittedPorts.{column_widths, column_outputs, columns_at, result_outputs, emitted_ports}
 use Rattle.gl_wiring.specs.Select.{picks, IsRightSelect}
@@ -31,6 +33,7 @@ use Rattle.gl_compiler.proofs.Selected.{picks_result, result_names-are, result_k
 use Rattle.gl_compiler.proofs.Inner.{inputs_first}
 use Rattle.gl_compiler.proofs.Showing.{NoClock, shown_same, right_same, stimulus_same}
 use Rattle.gl_compiler.proofs.Faces.{decl, ports_are, columns_shown, shown_names, shown_widths, widths_by_name}
+use Rattle.gl_compiler.proofs.Existing.{runs_over}
 use Rattle.gl_compiler.proofs.Fits.{inputs, parts, ports_fit, kinds_narrow}
 use Rattle.gl_compiler.proofs.Wired.{can_wire, stream_is, kinds_known}
 
@@ -143,6 +146,9 @@ module _ (schema : Schema) (statement : Statement) (select : Select) (net : Net)
     fits = fits;
     names = names_are;
     widths = widths_are ∙ ap (map width_of) (sym (result_kinds-are schema statement is.built));
+    runs = λ beats start words are fit.
+        runs_over t.design schema beats (result_outputs (column_widths (columns_at schema.streams select.stream)) select.columns.items select.names.columns) design_ports t.has.valid.names are
+        start words (has_runs t.design (runnable t.design t.has.valid)) (pins_other schema beats) fit;
     right = λ beats value word are gap run stimulus.
         let r = t.runs value word run in
         let outs = map out_column select.names.columns in

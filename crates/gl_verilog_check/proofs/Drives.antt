@@ -1,27 +1,25 @@
--- Counts of drivers, block by block, and names that differ.
-use Rattle.std.proofs.Common.{◌≡◌, ◌≢◌, ℕ, zero, suc, ◌+◌, ◌<◌, ◌≤◌, Bool, true, false, cond, List, [], ◌∷◌, ◌++◌, length, take, drop, get_or, eqb, Option, Some, None, inl, inr, refl, sym, ap, subst, ◌∙◌, arith}
-use Rattle.std.specs.Prelude.{map, slice_get, not, ◌&&◌, bytes_eq}
-use Rattle.std.specs.List.{AllByRecursion}
-use Rattle.std.proofs.lemmas.List.{take_more}
-use Rattle.std.proofs.lemmas.Bool.{cases_lt}
-use native.Mathlib.Nat.{add_comm}
-use Rattle.gl_verilog.specs.Module.{Module, Kind, Input, OutputWire, OutputRegister, Wire, Register, Memory, Declaration, Assignment, Statement}
-use Rattle.gl_verilog.specs.Order.{IsOrdered}
-use Rattle.gl_verilog.specs.Valid.{assigns, blocks_of, writes_in, writes_of, AssignsOnce, Differs, AreDistinct, HasDriver, IsValid}
-use Rattle.gl_verilog_check.specs.Kept.{AreMarks}
-use Rattle.gl_verilog_check.specs.Tests.{differs, are_distinct, HasMark, AllMarked, ArePartsValid}
-use Rattle.gl_verilog_check.proofs.Marks.{map_snoc, from_place}
-use Rattle.gl_verilog_check.proofs.Ranks.{no_loop, driven_once}
+-- Counts of drivers, names that differ, and valid modules.
+use Rattle.std.proofs.Common.{◌≡◌, ◌≢◌, ℕ, zero, suc, ◌+◌, ◌≤◌, ◌<◌, Bool, true, false, cond, List, [], ◌∷◌, length, drop, get_or, eqb, Option, Some, None, refl, sym, ap, subst, ◌∙◌, arith}
+use Rattle.std.specs.Prelude.{map, slice_get, not, ◌&&◌, ◌||◌, bytes_eq, option_and_then, option_map}
+use Rattle.std.specs.List.{AllByRecursion, sum_by}
+use Rattle.std.specs.List.Sorted.{IsPermutation}
+use Rattle.std.proofs.lemmas.List.Sorted.{IsPermutation-sym, sum_by-IsPermutation}
+use Rattle.std.proofs.lemmas.List.Sums.{sum_by-cons}
+use Rattle.std.proofs.lemmas.Bool.{eqb-true, eq-eqb}
+use Rattle.gl_verilog.specs.Module.{Module, Kind, Input, OutputWire, OutputRegister, Wire, Register, Memory, Declaration, Assignment, Statement, Nothing, Put, Write, Both, If}
+use Rattle.gl_verilog.specs.Order.{IsUndriven, IsOrdered, CanBeOrdered}
+use Rattle.gl_verilog.specs.Widths.{IsDriven}
+use Rattle.gl_verilog.specs.Runnable.{IsRunnable}
+use Rattle.gl_verilog.specs.Valid.{assigns, blocks_of, writes_of, AssignsOnce, Differs, AreDistinct, HasDriver, IsValid, drivers_of, mentions, depends, IsChain, HasNoLoop}
+use Rattle.gl_verilog.proofs.Settles.{each_in_order}
+use Rattle.gl_verilog_check.specs.Kept.{is_one, module_with}
+use Rattle.gl_verilog_check.specs.Passes.{AreOnce}
+use Rattle.gl_verilog_check.specs.Tests.{differs, are_distinct, one_of, assigns_once, blocks_once, is_assigned, all_assigned}
+use Rattle.gl_verilog_check.proofs.Complete.{and_is, and_left, and_right}
+use Rattle.gl_verilog_check.proofs.Marks.{from_place}
+use Rattle.gl_verilog_check.proofs.Ranks.{no_loop, driven_once, undriven-none}
 
 -- ---- names
-
-and_left : (a b : Bool) → (a && b) ≡ true → a ≡ true
-and_left true b e = refl
-and_left false b e = absurd cc
-
-and_right : (a b : Bool) → (a && b) ≡ true → b ≡ true
-and_right true b e = e
-and_right false b e = absurd cc
 
 not_true : (b : Bool) → not b ≡ true → b ≡ false
 not_true true h = absurd cc
@@ -35,27 +33,16 @@ pub distinct-is : (ds : List Declaration) → are_distinct ds ≡ true → AreDi
 distinct-is [] h = tt
 distinct-is (d ∷ ds) h = (differs-is d ds (and_left (differs d ds) (are_distinct ds) h), distinct-is ds (and_right (differs d ds) (are_distinct ds) h))
 
--- ---- counts
+not_false : (b : Bool) → b ≡ false → not b ≡ true
+not_false b e = rw e refl
 
-blocks-push : (bs : List Statement) (b : Statement) (r : ℕ) → blocks_of (bs ++ b ∷ []) r ≡ blocks_of bs r + cond (assigns b r) 1 0
-blocks-push [] b r = add_comm (cond (assigns b r) 1 0) 0
-blocks-push (c ∷ bs) b r = (let h = blocks-push bs b r in omega (arith, h))
+is-differs : (d : Declaration) (es : List Declaration) → Differs d es → differs d es ≡ true
+is-differs d [] h = refl
+is-differs d (e ∷ es) h = and_is (not (bytes_eq d.name e.name)) (differs d es) (not_false (bytes_eq d.name e.name) h.0) (is-differs d es h.1)
 
-writes-push : (bs : List Statement) (b : Statement) (k : ℕ) → writes_of (bs ++ b ∷ []) k ≡ writes_of bs k + writes_in b k
-writes-push [] b k = omega arith
-writes-push (c ∷ bs) b k = (let h = writes-push bs b k in omega (arith, h))
-
--- one block more
-pub taken_next : {A : Type 0} (f : A → Statement) (xs : List A) (i : ℕ) (x : A) → i < length xs → x ≡ get_or xs i x → map f (take (i + 1) xs) ≡ map f (take i xs) ++ f x ∷ []
-taken_next {A} f xs i x lt e =
-    let more : take (i + 1) xs ≡ take i xs ++ x ∷ [] = take_more xs i x lt ∙ ap (λ (y : A). take i xs ++ y ∷ []) (sym e) in
-    ap (map f) more ∙ map_snoc f (take i xs) x
-
-pub blocks_next : {A : Type 0} (f : A → Statement) (xs : List A) (i : ℕ) (x : A) (r : ℕ) → i < length xs → x ≡ get_or xs i x → blocks_of (map f (take (i + 1) xs)) r ≡ blocks_of (map f (take i xs)) r + cond (assigns (f x) r) 1 0
-blocks_next f xs i x r lt e = ap (λ bs. blocks_of bs r) (taken_next f xs i x lt e) ∙ blocks-push (map f (take i xs)) (f x) r
-
-pub writes_next : {A : Type 0} (f : A → Statement) (xs : List A) (i : ℕ) (x : A) (k : ℕ) → i < length xs → x ≡ get_or xs i x → writes_of (map f (take (i + 1) xs)) k ≡ writes_of (map f (take i xs)) k + writes_in (f x) k
-writes_next f xs i x k lt e = ap (λ bs. writes_of bs k) (taken_next f xs i x lt e) ∙ writes-push (map f (take i xs)) (f x) k
+pub is-distinct : (ds : List Declaration) → AreDistinct ds → are_distinct ds ≡ true
+is-distinct [] h = refl
+is-distinct (d ∷ ds) h = and_is (differs d ds) (are_distinct ds) (is-differs d ds h.0) (is-distinct ds h.1)
 
 -- ---- steps of loops
 
@@ -66,50 +53,214 @@ differs_next f d xs i x lt e = ap (differs d) (from_place f xs i x lt e)
 pub distinct_next : {A : Type 0} (f : A → Declaration) (xs : List A) (i : ℕ) (x : A) → i < length xs → x ≡ get_or xs i x → are_distinct (map f (drop i xs)) ≡ (differs (f x) (map f (drop (i + 1) xs)) && are_distinct (map f (drop (i + 1) xs)))
 distinct_next f xs i x lt e = ap are_distinct (from_place f xs i x lt e)
 
-at_map : {A : Type 0} (f : A → Declaration) (xs : List A) (i : ℕ) (x : A) → i < length xs → x ≡ get_or xs i x → slice_get (map f xs) i ≡ Some (f x)
-at_map f [] i x lt e = absurd (omega (arith, lt))
-at_map f (y ∷ ys) zero x lt e = ap (λ z. Some (f z)) (sym e)
-at_map f (y ∷ ys) (suc i) x lt e = at_map f ys i x (omega (arith, lt)) e
+-- ---- registers
 
-some-is : {A : Type 0} (x y : A) → Some x ≡ Some y → x ≡ y
-some-is x y e = cc
+then_some : {A B : Type 0} (f : A → Option B) (o : Option A) (y : B) → option_and_then f o ≡ Some y → (x : A) × (o ≡ Some x) × (f x ≡ Some y)
+then_some f None y e = absurd cc
+then_some f (Some x) y e = (x, refl, e)
 
--- one declaration more
-pub marked_next : {A : Type 0} (f : A → Declaration) (xs : List A) (i : ℕ) (x : A) (marks : List Bool) (bs : List Statement) → i < length xs → x ≡ get_or xs i x → ((k : ℕ) (d : Declaration) → k < i → slice_get (map f xs) k ≡ Some d → HasMark marks bs k d.kind) → HasMark marks bs i (f x).kind → (k : ℕ) (d : Declaration) → k < i + 1 → slice_get (map f xs) k ≡ Some d → HasMark marks bs k d.kind
-marked_next f xs i x marks bs lt e before here k d below at = elim (cases_lt k i) [
-  | inl l ↦ before k d l at
-  | inr ge ↦ (
-      let same : i ≡ k = omega arith in
-      let q : f x ≡ d = some-is (f x) d (sym (at_map f xs i x lt e) ∙ ap (slice_get (map f xs)) same ∙ at) in
-      subst (λ (j : ℕ). HasMark marks bs j d.kind) same (subst (λ (c : Declaration). HasMark marks bs i c.kind) q here)
-      )
-]
+map_some : {A B : Type 0} (f : A → B) (o : Option A) (y : B) → option_map f o ≡ Some y → (x : A) × (o ≡ Some x) × (f x ≡ y)
+map_some f None y e = absurd cc
+map_some f (Some x) y e = (x, refl, cc)
 
-pub get_within : (ds : List Declaration) (n : ℕ) (d : Declaration) → slice_get ds n ≡ Some d → n < length ds
-get_within [] n d e = absurd cc
-get_within (c ∷ ds) zero d e = omega arith
-get_within (c ∷ ds) (suc n) d e = (let lt = get_within ds n d e in omega (arith, lt))
+one_of_is : (a b v : Bool) → one_of a b ≡ Some v → (v ≡ (a || b)) × ((a && b) ≡ false)
+one_of_is true true v e = absurd cc
+one_of_is true false v e = (cc, refl)
+one_of_is false b v e = (cc, refl)
 
-pub map_length : {A : Type 0} (f : A → Declaration) (xs : List A) → length (map f xs) ≡ length xs
-map_length f [] = refl
-map_length f (x ∷ xs) = ap suc (map_length f xs)
+is_one_of : (a b : Bool) → (a && b) ≡ false → one_of a b ≡ Some (a || b)
+is_one_of true true e = absurd cc
+is_one_of true false e = refl
+is_one_of false b e = refl
+
+once-is : (r : ℕ) (s : Statement) (b : Bool) → assigns_once r s ≡ Some b → (b ≡ assigns s r) × AssignsOnce r s
+once-is r Nothing b e = (cc, tt)
+once-is r (Put register value) b e = (cc, tt)
+once-is r (Write memory address value) b e = (cc, tt)
+once-is r (Both first second) b e =
+    let x = then_some (λ a. option_and_then (one_of a) (assigns_once r second)) (assigns_once r first) b e in
+    let y = then_some (one_of x.0) (assigns_once r second) b x.2 in
+    let p = once-is r first x.0 x.1 in let q = once-is r second y.0 y.1 in
+    let v = one_of_is x.0 y.0 b y.2 in
+    (v.0 ∙ ap (λ a. a || y.0) p.0 ∙ ap (λ a. assigns first r || a) q.0, (ap (λ a. assigns first r && a) (sym q.0) ∙ ap (λ a. a && y.0) (sym p.0) ∙ v.1, p.1, q.1))
+once-is r (If test yes' no') b e =
+    let x = then_some (λ a. option_map (λ b. a || b) (assigns_once r no')) (assigns_once r yes') b e in
+    let y = map_some (λ b. x.0 || b) (assigns_once r no') b x.2 in
+    let p = once-is r yes' x.0 x.1 in let q = once-is r no' y.0 y.1 in
+    (sym y.2 ∙ ap (λ a. a || y.0) p.0 ∙ ap (λ a. assigns yes' r || a) q.0, (p.1, q.1))
+
+is-once : (r : ℕ) (s : Statement) → AssignsOnce r s → assigns_once r s ≡ Some (assigns s r)
+is-once r Nothing h = refl
+is-once r (Put register value) h = refl
+is-once r (Write memory address value) h = refl
+is-once r (Both first second) h = rw (is-once r first h.1, is-once r second h.2) (is_one_of (assigns first r) (assigns second r) h.0)
+is-once r (If test yes' no') h = rw (is-once r yes' h.0, is-once r no' h.1) refl
+
+blocks-is : (r : ℕ) (bs : List Statement) (n : ℕ) → blocks_once r bs ≡ Some n → (n ≡ blocks_of bs r) × AllByRecursion (AssignsOnce r) bs
+blocks-is r [] n e = (cc, tt)
+blocks-is r (b ∷ bs) n e =
+    let x = then_some (λ a. option_map (λ (n : ℕ). cond a 1 0 + n) (blocks_once r bs)) (assigns_once r b) n e in
+    let y = map_some (λ (n : ℕ). cond x.0 1 0 + n) (blocks_once r bs) n x.2 in
+    let p = once-is r b x.0 x.1 in let q = blocks-is r bs y.0 y.1 in
+    (sym y.2 ∙ ap (λ a. cond a 1 0 + y.0) p.0 ∙ ap (λ (n : ℕ). cond (assigns b r) 1 0 + n) q.0, (p.1, q.1))
+
+is-blocks : (r : ℕ) (bs : List Statement) → AllByRecursion (AssignsOnce r) bs → blocks_once r bs ≡ Some (blocks_of bs r)
+is-blocks r [] h = refl
+is-blocks r (b ∷ bs) h = rw (is-once r b h.0, is-blocks r bs h.1) refl
+
+one_is : (o : Option ℕ) → is_one o ≡ true → o ≡ Some 1
+one_is None e = absurd cc
+one_is (Some w) e = ap Some (eqb-true w 1 e)
+
+-- ---- drivers
+
+register_is : (bs : List Statement) (n : ℕ) → is_one (blocks_once n bs) ≡ true → (blocks_of bs n ≡ 1) × AllByRecursion (AssignsOnce n) bs
+register_is bs n e = let p = blocks-is n bs 1 (one_is (blocks_once n bs) e) in (sym p.0, p.1)
+
+is_register : (bs : List Statement) (n : ℕ) → (blocks_of bs n ≡ 1) × AllByRecursion (AssignsOnce n) bs → is_one (blocks_once n bs) ≡ true
+is_register bs n h = rw (is-blocks n bs h.1) (eq-eqb (blocks_of bs n) 1 h.0)
+
+driver_of : (m : Module) (n : ℕ) (k : Kind) → (IsDriven k → drivers_of m.assignments n ≡ 1) → is_assigned m.blocks n k ≡ true → HasDriver m n k
+driver_of m n Input w h = tt
+driver_of m n OutputWire w h = w tt
+driver_of m n Wire w h = w tt
+driver_of m n OutputRegister w h = register_is m.blocks n h
+driver_of m n Register w h = register_is m.blocks n h
+driver_of m n (Memory bits) w h = eqb-true (writes_of m.blocks n) 1 h
+
+of_driver : (m : Module) (n : ℕ) (k : Kind) → HasDriver m n k → is_assigned m.blocks n k ≡ true
+of_driver m n Input h = refl
+of_driver m n OutputWire h = refl
+of_driver m n Wire h = refl
+of_driver m n OutputRegister h = is_register m.blocks n h
+of_driver m n Register h = is_register m.blocks n h
+of_driver m n (Memory bits) h = eq-eqb (writes_of m.blocks n) 1 h
+
+assigned-there : (bs : List Statement) (from : ℕ) (ds : List Declaration) → all_assigned bs from ds ≡ true → (n : ℕ) (d : Declaration) → slice_get ds n ≡ Some d → is_assigned bs (from + n) d.kind ≡ true
+assigned-there bs from [] h n d at = absurd cc
+assigned-there bs from (c ∷ ds) h zero d at =
+    let e : c ≡ d = cc in
+    subst (λ (x : Declaration). is_assigned bs (from + 0) x.kind ≡ true) e (subst (λ (i : ℕ). is_assigned bs i c.kind ≡ true) (omega arith) (and_left (is_assigned bs from c.kind) (all_assigned bs (from + 1) ds) h))
+assigned-there bs from (c ∷ ds) h (suc n) d at =
+    let same : (from + 1) + n ≡ from + suc n = omega arith in
+    subst (λ (i : ℕ). is_assigned bs i d.kind ≡ true) same (assigned-there bs (from + 1) ds (and_right (is_assigned bs from c.kind) (all_assigned bs (from + 1) ds) h) n d at)
+
+there-assigned : (bs : List Statement) (from : ℕ) (ds : List Declaration) → ((n : ℕ) (d : Declaration) → slice_get ds n ≡ Some d → is_assigned bs (from + n) d.kind ≡ true) → all_assigned bs from ds ≡ true
+there-assigned bs from [] h = refl
+there-assigned bs from (d ∷ ds) h =
+    let here : from + 0 ≡ from = omega arith in
+    and_is (is_assigned bs from d.kind) (all_assigned bs (from + 1) ds)
+    (subst (λ (i : ℕ). is_assigned bs i d.kind ≡ true) here (h 0 d refl))
+    (there-assigned bs (from + 1) ds (λ n c at. let same : from + suc n ≡ (from + 1) + n = omega arith in subst (λ (i : ℕ). is_assigned bs i c.kind ≡ true) same (h (suc n) c at)))
+
+-- ---- in another order
+
+counts_of : (as' : List Assignment) (n : ℕ) → drivers_of as' n ≡ sum_by (λ a. cond (eqb a.target n) 1 0) as'
+counts_of [] n = refl
+counts_of (a ∷ as') n = ap (λ (k : ℕ). cond (eqb a.target n) 1 0 + k) (counts_of as' n) ∙ sym (sum_by-cons (λ (b : Assignment). cond (eqb b.target n) 1 0) a as')
+
+-- it depends on it by no assignment
+abbrev IsApart : ℕ → ℕ → Assignment → Type 0
+IsApart t n a = (eqb a.target t && mentions a.value n) ≡ false
+
+or_none : (a b : Bool) → (a || b) ≡ false → (a ≡ false) × (b ≡ false)
+or_none true b e = absurd cc
+or_none false b e = (refl, e)
+
+all_apart : (as' : List Assignment) (t n : ℕ) → depends as' t n ≡ false → AllByRecursion (IsApart t n) as'
+all_apart [] t n e = tt
+all_apart (a ∷ as') t n e = let p = or_none (eqb a.target t && mentions a.value n) (depends as' t n) e in (p.0, all_apart as' t n p.1)
+
+none_depends : (as' : List Assignment) (t n : ℕ) → AllByRecursion (IsApart t n) as' → depends as' t n ≡ false
+none_depends [] t n h = refl
+none_depends (a ∷ as') t n h = rw (h.0, none_depends as' t n h.1) refl
+
+still_depends : (as' order : List Assignment) → IsPermutation as' order → (t n : ℕ) → depends as' t n ≡ true → depends order t n ≡ true
+still_depends as' order same t n e = by (depends order t n) refl
+  where
+    by : (b : Bool) → depends order t n ≡ b → b ≡ true
+    by true f = refl
+    by false f = absurd (let g = none_depends as' t n (each_in_order (IsApart t n) order as' (IsPermutation-sym as' order same) (all_apart order t n f)) in cc)
+
+still_chain : (as' order : List Assignment) → IsPermutation as' order → (x : ℕ) (us : List ℕ) (y : ℕ) → IsChain (depends as') x us y → IsChain (depends order) x us y
+still_chain as' order same x [] y c = still_depends as' order same x y c
+still_chain as' order same x (u ∷ us) y c = (still_depends as' order same x u c.0, still_chain as' order same u us y c.1)
+
+can_no_loop : (as' : List Assignment) → CanBeOrdered as' → HasNoLoop as'
+can_no_loop as' o n us c = no_loop o.order o.ordered n us (still_chain as' o.order o.same n us n c)
+
+can_once : (as' : List Assignment) (n : ℕ) → CanBeOrdered as' → (IsUndriven as' n → ⊥) → drivers_of as' n ≡ 1
+can_once as' n o d =
+    counts_of as' n ∙ sym (sum_by-IsPermutation (λ a. cond (eqb a.target n) 1 0) as' o.order o.same) ∙ sym (counts_of o.order n)
+    ∙ driven_once o.order n o.ordered (λ u. d (each_in_order (λ a. a.target ≢ n) o.order as' (IsPermutation-sym as' o.order o.same) u))
+
+-- ---- nets that are driven once
+
+most_once : (as' : List Assignment) (n : ℕ) → IsOrdered as' → drivers_of as' n ≤ 1
+most_once [] n o = omega arith
+most_once (a ∷ rest) n o = by (eqb a.target n) refl (most_once rest n o.2)
+  where
+    by : (t : Bool) → eqb a.target n ≡ t → drivers_of rest n ≤ 1 → drivers_of (a ∷ rest) n ≤ 1
+    by true e ih = (let z = undriven-none rest n (subst (IsUndriven rest) (eqb-true a.target n e) o.1) in rw e (omega (arith, z)))
+    by false e ih = rw e (omega (arith, ih))
+
+one_if : (b : Bool) → b ≡ true → let n : ℕ = cond b 1 0 in n ≡ 1
+one_if true e = refl
+one_if false e = absurd cc
+
+none_drives : (bs : List Assignment) (n : ℕ) → drivers_of bs n ≡ 0 → IsUndriven bs n
+none_drives [] n e = tt
+none_drives (b ∷ bs) n e = ((λ q. (let g = one_if (eqb b.target n) (eq-eqb b.target n q) in absurd (omega (arith, e, g)))), none_drives bs n (omega (arith, e)))
+
+once_each : (as' : List Assignment) → ((n : ℕ) → drivers_of as' n ≤ 1) → AreOnce as'
+once_each [] h = tt
+once_each (a ∷ rest) h = (
+  none_drives rest a.target (let most = h a.target in let g = one_if (eqb a.target a.target) (eq-eqb a.target a.target refl) in omega (arith, most, g)),
+  once_each rest (λ n. let most = h n in omega (arith, most)),
+)
+
+pub can_once_each : (as' : List Assignment) → CanBeOrdered as' → AreOnce as'
+can_once_each as' o = once_each as' (λ n.
+    let same : drivers_of as' n ≡ drivers_of o.order n = counts_of as' n ∙ sym (sum_by-IsPermutation (λ a. cond (eqb a.target n) 1 0) as' o.order o.same) ∙ sym (counts_of o.order n) in
+    let most = most_once o.order n o.ordered in
+    omega (arith, same, most))
 
 -- ---- all of it
 
-has_driver : (m : Module) (marks : List Bool) (n : ℕ) (k : Kind) → AreMarks m.assignments marks → IsOrdered m.assignments → HasMark marks m.blocks n k → HasDriver m n k
-has_driver m marks n Input are o h = tt
-has_driver m marks n OutputWire are o h = driven_once m.assignments n o (are.driven n h)
-has_driver m marks n Wire are o h = driven_once m.assignments n o (are.driven n h)
-has_driver m marks n OutputRegister are o h = h
-has_driver m marks n Register are o h = h
-has_driver m marks n (Memory bits) are o h = h
-
-pub valid : (m : Module) → ArePartsValid m.declarations m.assignments m.blocks → IsValid m
-valid m p = record {
-  names = p.names;
-  sizes = p.sizes;
-  assignments = p.assignments;
-  blocks = p.blocks;
-  driven = λ n d e. has_driver m p.marks n d.kind p.are p.ordered (p.driven n d e);
-  acyclic = no_loop m.assignments p.ordered;
+pub valid_parts : (ds : List Declaration) (as' : List Assignment) (bs : List Statement) → are_distinct ds ≡ true → IsRunnable (module_with ds as' bs) → all_assigned bs 0 ds ≡ true → IsValid (module_with ds as' bs)
+valid_parts ds as' bs names r assigned = record {
+  names = distinct-is ds names;
+  sizes = r.sizes;
+  assignments = r.assignments;
+  blocks = r.blocks;
+  driven = λ n d at. driver_of (module_with ds as' bs) n d.kind (λ k. can_once as' n r.ordered (r.driven n d at k))
+      (let zeroth : 0 + n ≡ n = omega arith in subst (λ (i : ℕ). is_assigned bs i d.kind ≡ true) zeroth (assigned-there bs 0 ds assigned n d at));
+  acyclic = can_no_loop as' r.ordered;
 }
+
+pub assigned_parts : (ds : List Declaration) (as' : List Assignment) (bs : List Statement) → IsValid (module_with ds as' bs) → all_assigned bs 0 ds ≡ true
+assigned_parts ds as' bs v = there-assigned bs 0 ds (λ n d at.
+    let zeroth : n ≡ 0 + n = omega arith in subst (λ (i : ℕ). is_assigned bs i d.kind ≡ true) zeroth (of_driver (module_with ds as' bs) n d.kind (v.driven n d at)))
+
+driver_again : (m w : Module) (n : ℕ) (k : Kind) → m.assignments ≡ w.assignments → m.blocks ≡ w.blocks → HasDriver m n k → HasDriver w n k
+driver_again m w n Input e f h = tt
+driver_again m w n OutputWire e f h = subst (λ (as' : List Assignment). drivers_of as' n ≡ 1) e h
+driver_again m w n Wire e f h = subst (λ (as' : List Assignment). drivers_of as' n ≡ 1) e h
+driver_again m w n OutputRegister e f h = subst (λ (bs : List Statement). (blocks_of bs n ≡ 1) × AllByRecursion (AssignsOnce n) bs) f h
+driver_again m w n Register e f h = subst (λ (bs : List Statement). (blocks_of bs n ≡ 1) × AllByRecursion (AssignsOnce n) bs) f h
+driver_again m w n (Memory bits) e f h = subst (λ (bs : List Statement). writes_of bs n ≡ 1) f h
+
+-- the name and the ports of a module are no matter
+with_parts : (m : Module) → IsValid (module_with m.declarations m.assignments m.blocks) → IsValid m
+with_parts m v = record { names = v.names; sizes = v.sizes; assignments = v.assignments; blocks = v.blocks; driven = λ n d at. driver_again (module_with m.declarations m.assignments m.blocks) m n d.kind refl refl (v.driven n d at); acyclic = v.acyclic }
+
+of_parts : (m : Module) → IsValid m → IsValid (module_with m.declarations m.assignments m.blocks)
+of_parts m v = record { names = v.names; sizes = v.sizes; assignments = v.assignments; blocks = v.blocks; driven = λ n d at. driver_again m (module_with m.declarations m.assignments m.blocks) n d.kind refl refl (v.driven n d at); acyclic = v.acyclic }
+
+pub valid : (m : Module) (ds : List Declaration) (as' : List Assignment) (bs : List Statement) (b : Bool) → ds ≡ m.declarations → as' ≡ m.assignments → bs ≡ m.blocks → (b ≡ true → IsValid (module_with ds as' bs)) → b ≡ true → IsValid m
+valid m ds as' bs b e f g h t = with_parts m (subst (λ x. IsValid (module_with x m.assignments m.blocks)) e (subst (λ x. IsValid (module_with ds x m.blocks)) f (subst (λ x. IsValid (module_with ds as' x)) g (h t))))
+
+pub not_valid : (m : Module) (ds : List Declaration) (as' : List Assignment) (bs : List Statement) (b : Bool) → ds ≡ m.declarations → as' ≡ m.assignments → bs ≡ m.blocks → (IsValid (module_with ds as' bs) → b ≡ true) → b ≡ false → IsValid m → ⊥
+not_valid m ds as' bs b e f g h t v =
+    let parts = subst (λ x. IsValid (module_with x as' bs)) (sym e) (subst (λ x. IsValid (module_with m.declarations x bs)) (sym f) (subst (λ x. IsValid (module_with m.declarations m.assignments x)) (sym g) (of_parts m v))) in
+    absurd (let k : false ≡ true = sym t ∙ h parts in cc)

@@ -1,13 +1,12 @@
 -- An expression with a width keeps its widths, and has that one.
-use Rattle.std.proofs.Common.{◌≡◌, ◌≢◌, ℕ, zero, suc, ◌+◌, ◌-◌, ◌^◌, ◌<◌, ◌≤◌, Bool, true, false, not, ◌&&◌, ◌||◌, List, [], ◌∷◌, Option, Some, None, refl, sym, ap, subst, ◌∙◌, arith}
+use Rattle.std.proofs.Common.{◌≡◌, ℕ, ◌+◌, ◌-◌, ◌^◌, ◌<◌, ◌≤◌, Bool, true, false, not, ◌&&◌, List, Option, Some, None, refl, sym, ap, subst, ◌∙◌, arith}
 use Rattle.std.specs.Prelude.{slice_get, option_and_then, nat_eq, nat_le, nat_lt, IsSomeAnd, IsTrue}
-use Rattle.std.specs.Option.{option_map_or}
 use Rattle.std.proofs.lemmas.Bool.{eqb-true, leb-true, ltb-true}
 use Rattle.gl_bits.specs.Words.{IsWidth}
-use Rattle.gl_verilog.specs.Module.{Kind, Input, OutputWire, OutputRegister, Wire, Register, Memory, Declaration, BinaryOp, Expr, Net, Literal, Invert, Binary, Choose, Join, Select, Read, Statement, Nothing, Put, Write, Both, If, Assignment}
+use Rattle.gl_verilog.specs.Module.{Kind, Input, OutputWire, OutputRegister, Wire, Register, Memory, Declaration, Expr, Net, Literal, Invert, Binary, Choose, Join, Select, Read, Put, Write, Assignment}
 use Rattle.gl_verilog.specs.Run.{IsRegister}
 use Rattle.gl_verilog.specs.Widths.{IsNet, IsDriven, IsMemory, IsReadable, HasSize, is_clock, width_at, width_of, width_after, KeepsWidths, KeepsWidth, KeepsWidthsIn}
-use Rattle.gl_verilog_check.specs.Kept.{is_memory, is_width, only, net_width, part_width, has_address, word_width, invert_width, choose_width, join_width, literal_width, both_width, kept, is_driven, is_register, takes, only_taken, assigned_width, put_width, takes_word, write_width, memory_fits, has_size}
+use Rattle.gl_verilog_check.specs.Kept.{is_memory, is_width, only, net_width, part_width, has_address, word_width, invert_width, choose_width, join_width, both_width, kept, is_driven, is_register, takes, assigned_width, put_width, takes_word, write_width, memory_fits, has_size}
 
 -- ---- options and tests, inverted
 

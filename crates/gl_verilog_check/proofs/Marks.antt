@@ -1,70 +1,18 @@
--- Marks on nets that assignments drive, and lists of checked parts.
-use Rattle.std.proofs.Common.{◌≡◌, ◌≢◌, ℕ, zero, suc, ◌+◌, ◌-◌, ◌<◌, ◌≤◌, Bool, true, false, ◌||◌, List, [], ◌∷◌, ◌++◌, Option, Some, None, refl, sym, ap, subst, ◌∙◌, arith, length, take, drop, get_or, drop-cons, inl, inr}
-use Rattle.std.specs.Prelude.{slice_get, slice_set, unwrap_or, map, option_map, replicate}
+-- Marks on nets that assignments drive, and modules that can run.
+use Rattle.std.proofs.Common.{◌≡◌, ◌≢◌, ℕ, zero, suc, ◌+◌, ◌<◌, Bool, true, false, not, ◌||◌, List, [], ◌∷◌, Option, Some, None, refl, sym, ap, subst, ◌∙◌, arith, length, drop, get_or, drop-cons, inl, inr}
+use Rattle.std.specs.Prelude.{slice_get, slice_set, unwrap_or, map, replicate, IsSomeAnd, IsTrue}
 use Rattle.std.specs.List.{AllByRecursion}
-use Rattle.std.specs.List.Sorted.{IsPermutation}
-use Rattle.std.proofs.lemmas.List.Sorted.{IsPermutation-refl}
-use Rattle.std.proofs.lemmas.List.{take_more}
 use Rattle.std.proofs.lemmas.Bool.{cases_eq}
-use Rattle.gl_verilog.specs.Module.{Declaration, Expr, Net, Literal, Invert, Binary, Choose, Join, Select, Read, Assignment}
-use Rattle.gl_verilog.specs.Order.{EachRead, IsUndriven, IsOrdered}
-use Rattle.gl_verilog.specs.Module.{Module}
-use Rattle.gl_verilog.specs.Widths.{IsDriven}
+use Rattle.gl_verilog.specs.Module.{Module, Declaration, Statement, Expr, Net, Literal, Invert, Binary, Choose, Join, Select, Read, Assignment}
+use Rattle.gl_verilog.specs.Order.{EachRead, CanBeOrdered}
+use Rattle.gl_verilog.specs.Widths.{IsDriven, IsReadable, KeepsWidths, KeepsWidth, width_of}
 use Rattle.gl_verilog.specs.Runnable.{IsRunnable}
-use Rattle.gl_verilog_check.specs.Kept.{reads, AreMarks, Marked, AllDriven, PartsRun}
-use Rattle.gl_verilog_check.proofs.Keeping.{kind_driven}
-
--- ---- lists, part by part
-
-pub all_none : {A B : Type 0} (P : B → Type 0) (f : A → B) (xs : List A) → AllByRecursion P (map f (take 0 xs))
-all_none P f xs = tt
-
-all_snoc : {B : Type 0} (P : B → Type 0) (xs : List B) (y : B) → AllByRecursion P xs → P y → AllByRecursion P (xs ++ y ∷ [])
-all_snoc P [] y h p = (p, tt)
-all_snoc P (x ∷ xs) y h p = (h.0, all_snoc P xs y h.1 p)
-
-pub map_snoc : {A B : Type 0} (f : A → B) (xs : List A) (y : A) → map f (xs ++ y ∷ []) ≡ map f xs ++ f y ∷ []
-map_snoc f [] y = refl
-map_snoc {B = B} f (x ∷ xs) y = ap (λ (t : List B). f x ∷ t) (map_snoc f xs y)
-
-pub all_more : {A B : Type 0} (P : B → Type 0) (f : A → B) (xs : List A) (i : ℕ) (x : A) → i < length xs → x ≡ get_or xs i x → AllByRecursion P (map f (take i xs)) → P (f x) → AllByRecursion P (map f (take (i + 1) xs))
-all_more {A} P f xs i x lt e h p =
-    let more : take (i + 1) xs ≡ take i xs ++ x ∷ [] = take_more xs i x lt ∙ ap (λ (y : A). take i xs ++ y ∷ []) (sym e) in
-    subst (AllByRecursion P) (sym (ap (map f) more ∙ map_snoc f (take i xs) x)) (all_snoc P (map f (take i xs)) (f x) h p)
+use Rattle.gl_verilog_check.specs.Kept.{is_driven, AreMarks, Marked, AreNets, driver_there, all_driven, all_sized, all_kept, blocks_kept, module_with}
+use Rattle.gl_verilog_check.specs.Passes.{AreOnce}
+use Rattle.gl_verilog_check.proofs.Keeping.{kind_driven, driven_kind}
+use Rattle.gl_verilog_check.proofs.Complete.{and_is, and_left, and_right, sized-all, kept-all, kept-blocks}
 
 -- ---- marks
-
--- a net that is not marked when nothing read is marked
-known : (marks : List Bool) (n : ℕ) → unwrap_or (slice_get marks n) true ≡ false → slice_get marks n ≡ Some false
-known marks n h = by (slice_get marks n) h
-  where
-    by : (o : Option Bool) → unwrap_or o true ≡ false → o ≡ Some false
-    by None e = absurd cc
-    by (Some true) e = absurd cc
-    by (Some false) e = refl
-
-or_left : (a b : Bool) → (a || b) ≡ false → a ≡ false
-or_left true b h = absurd cc
-or_left false b h = refl
-
-or_right : (a b : Bool) → (a || b) ≡ false → b ≡ false
-or_right true b h = absurd cc
-or_right false b h = h
-
-reads_none : (marks : List Bool) (as' : List Assignment) (e : Expr) → ((n : ℕ) → slice_get marks n ≡ Some false → IsUndriven as' n) → reads marks e ≡ false → EachRead (IsUndriven as') e
-reads_none marks as' (Net n) u h = u n (known marks n h)
-reads_none marks as' (Literal value width) u h = tt
-reads_none marks as' (Invert width arg) u h = reads_none marks as' arg u h
-reads_none marks as' (Binary op width left right) u h = (reads_none marks as' left u (or_left (reads marks left) (reads marks right) h), reads_none marks as' right u (or_right (reads marks left) (reads marks right) h))
-reads_none marks as' (Choose test yes' no') u h =
-    let rest = or_right (reads marks test) (reads marks yes' || reads marks no') h in (
-      reads_none marks as' test u (or_left (reads marks test) (reads marks yes' || reads marks no') h),
-      reads_none marks as' yes' u (or_left (reads marks yes') (reads marks no') rest),
-      reads_none marks as' no' u (or_right (reads marks yes') (reads marks no') rest),
-    )
-reads_none marks as' (Join low_width high low) u h = (reads_none marks as' high u (or_left (reads marks high) (reads marks low) h), reads_none marks as' low u (or_right (reads marks high) (reads marks low) h))
-reads_none marks as' (Select high low n) u h = u n (known marks n h)
-reads_none marks as' (Read memory address) u h = reads_none marks as' address u h
 
 set_same : (marks : List Bool) (t : ℕ) → slice_get marks t ≡ Some false → slice_get (slice_set marks t true) t ≡ Some true
 set_same [] t h = absurd cc
@@ -78,9 +26,21 @@ set_other (m ∷ ms) zero (suc n) h = refl
 set_other (m ∷ ms) (suc t) zero h = refl
 set_other (m ∷ ms) (suc t) (suc n) h = set_other ms t n (λ e. h (ap suc e))
 
+set_stays : (marks : List Bool) (t n : ℕ) → slice_get marks n ≡ Some true → slice_get (slice_set marks t true) n ≡ Some true
+set_stays [] t n h = h
+set_stays (m ∷ ms) zero zero h = refl
+set_stays (m ∷ ms) zero (suc n) h = h
+set_stays (m ∷ ms) (suc t) zero h = h
+set_stays (m ∷ ms) (suc t) (suc n) h = set_stays ms t n h
+
+still_marked : (bs : List Assignment) (old : List Bool) (t : ℕ) → AllByRecursion (λ b. slice_get old b.target ≡ Some true) bs → AllByRecursion (λ b. slice_get (slice_set old t true) b.target ≡ Some true) bs
+still_marked [] old t h = tt
+still_marked (b ∷ bs) old t h = (set_stays old t b.target h.0, still_marked bs old t h.1)
+
 -- one assignment more in front
 pub marks_next : (rest : List Assignment) (a : Assignment) (old new : List Bool) → AreMarks rest old → Marked old new a → AreMarks (a ∷ rest) new
 marks_next rest a old new m k = record {
+  targets = subst (λ (ms : List Bool). AllByRecursion (λ b. slice_get ms b.target ≡ Some true) (a ∷ rest)) (sym k.set) (set_same old a.target k.fresh, still_marked rest old a.target m.targets);
   undriven = λ n h. elim (cases_eq n a.target) [
     | inl e ↦ absurd (let one : slice_get new n ≡ Some true = rw (k.set, e) (set_same old a.target k.fresh) in cc)
     | inr ne ↦ ((λ e. ne (sym e)), m.undriven n (sym (set_other old a.target n ne) ∙ ap (λ (ms : List Bool). slice_get ms n) (sym k.set) ∙ h))
@@ -91,9 +51,8 @@ marks_next rest a old new m k = record {
   ];
 }
 
-pub ordered_next : (rest : List Assignment) (a : Assignment) (old new : List Bool) → AreMarks rest old → Marked old new a → IsOrdered rest → IsOrdered (a ∷ rest)
-ordered_next rest a old new m k o =
-    (reads_none new (a ∷ rest) a.value (marks_next rest a old new m k).undriven k.apart, m.undriven a.target k.fresh, o)
+pub once_next : (rest : List Assignment) (a : Assignment) (old new : List Bool) → AreMarks rest old → Marked old new a → AreOnce rest → AreOnce (a ∷ rest)
+once_next rest a old new m k o = (m.undriven a.target k.fresh, o)
 
 -- the assignments from a place on
 pub from_place : {A B : Type 0} (f : A → B) (xs : List A) (i : ℕ) (x : A) → i < length xs → x ≡ get_or xs i x → map f (drop i xs) ≡ f x ∷ map f (drop (i + 1) xs)
@@ -103,7 +62,7 @@ from_place {A} f xs i x lt e =
 
 -- no net is marked before the first assignment
 pub none_marked : (marks : List Bool) → ((n : ℕ) → slice_get marks n ≡ Some true → ⊥) → AreMarks [] marks
-none_marked marks h = record { undriven = λ n e. tt; driven = λ n e u. h n e }
+none_marked marks h = record { targets = tt; undriven = λ n e. tt; driven = λ n e u. h n e }
 
 all_false : (n k : ℕ) → slice_get (replicate n false) k ≡ Some true → ⊥
 all_false zero k h = absurd cc
@@ -113,19 +72,125 @@ all_false (suc n) (suc k) h = all_false n k h
 pub marks_fresh : (marks : List Bool) (n : ℕ) → marks ≡ replicate n false → AreMarks [] marks
 marks_fresh marks n e = none_marked marks (λ k h. all_false n k (subst (λ (ms : List Bool). slice_get ms k ≡ Some true) e h))
 
--- marked where a driver is wanted, so driven there
-pub one_more : (ds : List Declaration) (as' : List Assignment) (marks : List Bool) → AreMarks as' marks → AllDriven ds marks → (n : ℕ) (d : Declaration) → slice_get ds n ≡ Some d → IsDriven d.kind → IsUndriven as' n → ⊥
-one_more ds as' marks m all n d at k u = m.driven n (all n d at (kind_driven d.kind k)) u
+-- ---- what is marked
 
-permuted : (as' : List Assignment) → IsPermutation as' as'
-permuted as' = IsPermutation-refl as'
+-- a net in range that is not marked
+pub unmarked : (marks : List Bool) (n : ℕ) → n < length marks → (slice_get marks n ≡ Some true → ⊥) → slice_get marks n ≡ Some false
+unmarked [] n lt h = absurd (omega (arith, lt))
+unmarked (true ∷ ms) zero lt h = absurd (h refl)
+unmarked (false ∷ ms) zero lt h = refl
+unmarked (m ∷ ms) (suc n) lt h = unmarked ms n (omega (arith, lt)) h
 
--- what the parts are, the module is
-pub runnable : (m : Module) → PartsRun m.declarations m.assignments m.blocks → IsRunnable m
-runnable m p = record {
-  sizes = p.sizes;
-  assignments = p.assignments;
-  blocks = p.blocks;
-  driven = p.driven;
-  ordered = record { order = m.assignments; same = permuted m.assignments; ordered = p.ordered };
+-- the net of one assignment more is marked, where each drives another
+pub marked_there : (rest : List Assignment) (a : Assignment) (old : List Bool) → AreMarks rest old → a.target < length old → AreOnce (a ∷ rest) → Marked old (slice_set old a.target true) a
+marked_there rest a old m within o = record { fresh = unmarked old a.target within (λ h. m.driven a.target h o.0); set = refl }
+
+pub once_from : {A : Type 0} (f : A → Assignment) (xs : List A) (i : ℕ) → AreOnce (map f xs) → AreOnce (map f (drop i xs))
+once_from f [] zero h = h
+once_from f [] (suc i) h = h
+once_from f (x ∷ xs) zero h = h
+once_from f (x ∷ xs) (suc i) h = once_from f xs i h.1
+
+-- what holds of each holds of one
+pub holds_at : {A B : Type 0} (P : B → Type 0) (f : A → B) (xs : List A) (i : ℕ) (x : A) → AllByRecursion P (map f xs) → i < length xs → x ≡ get_or xs i x → P (f x)
+holds_at P f [] i x h lt e = absurd (omega (arith, lt))
+holds_at P f (y ∷ ys) zero x h lt e = subst (λ z. P (f z)) (sym e) h.0
+holds_at P f (y ∷ ys) (suc i) x h lt e = holds_at P f ys i x h.1 (omega (arith, lt)) e
+
+pub map_length : {A B : Type 0} (f : A → B) (xs : List A) → length (map f xs) ≡ length xs
+map_length f [] = refl
+map_length f (x ∷ xs) = ap suc (map_length f xs)
+
+-- ---- every net is a declared one
+
+within_of : (ds : List Declaration) (n : ℕ) (P : Declaration → Type 0) → IsSomeAnd (slice_get ds n) P → n < length ds
+within_of [] n P h = absurd h
+within_of (d ∷ ds) zero P h = omega arith
+within_of (d ∷ ds) (suc n) P h = (let lt = within_of ds n P h in omega (arith, lt))
+
+reads_within : (ds : List Declaration) (e : Expr) → KeepsWidths ds e → EachRead (λ n. n < length ds) e
+reads_within ds (Net n) h = within_of ds n IsReadable h
+reads_within ds (Literal value width) h = tt
+reads_within ds (Invert width arg) h = reads_within ds arg h.1
+reads_within ds (Binary op width left right) h = (reads_within ds left h.2, reads_within ds right h.3)
+reads_within ds (Choose test yes' no') h = (reads_within ds test h.2, reads_within ds yes' h.3, reads_within ds no' h.4)
+reads_within ds (Join low_width high low) h = (reads_within ds high h.2, reads_within ds low h.3)
+reads_within ds (Select high low n) h = within_of ds n (λ d. IsReadable d × IsTrue d.is_vector × (high < d.width)) h.0
+reads_within ds (Read memory address) h = reads_within ds address h.1
+
+pub are_nets : (ds : List Declaration) (as' : List Assignment) → AllByRecursion (KeepsWidth ds) as' → AreNets (length ds) as'
+are_nets ds [] h = tt
+are_nets ds (a ∷ as') h = ((within_of ds a.target (λ d. IsDriven d.kind × (width_of ds a.value ≡ d.width)) h.0.0, reads_within ds a.value h.0.1), are_nets ds as' h.1)
+
+-- ---- nets that want a driver
+
+or_there : (a : Bool) (o : Option Bool) → (not a || unwrap_or o false) ≡ true → a ≡ true → o ≡ Some true
+or_there true None h e = absurd cc
+or_there true (Some true) h e = refl
+or_there true (Some false) h e = absurd cc
+or_there false o h e = absurd cc
+
+there_or : (a : Bool) (o : Option Bool) → (a ≡ true → o ≡ Some true) → (not a || unwrap_or o false) ≡ true
+there_or true o h = rw (h refl) refl
+there_or false o h = refl
+
+driven-there : (marks : List Bool) (from : ℕ) (ds : List Declaration) → all_driven marks from ds ≡ true → (n : ℕ) (d : Declaration) → slice_get ds n ≡ Some d → is_driven d.kind ≡ true → slice_get marks (from + n) ≡ Some true
+driven-there marks from [] h n d at k = absurd cc
+driven-there marks from (c ∷ ds) h zero d at k =
+    let e : c ≡ d = cc in
+    or_there (is_driven d.kind) (slice_get marks (from + 0)) (subst (λ (x : Declaration). driver_there marks (from + 0) x ≡ true) e (subst (λ (i : ℕ). driver_there marks i c ≡ true) (omega arith) (and_left (driver_there marks from c) (all_driven marks (from + 1) ds) h))) k
+driven-there marks from (c ∷ ds) h (suc n) d at k =
+    let same : (from + 1) + n ≡ from + suc n = omega arith in
+    ap (λ (i : ℕ). slice_get marks i) (sym same) ∙ driven-there marks (from + 1) ds (and_right (driver_there marks from c) (all_driven marks (from + 1) ds) h) n d at k
+
+there-driven : (marks : List Bool) (from : ℕ) (ds : List Declaration) → ((n : ℕ) (d : Declaration) → slice_get ds n ≡ Some d → is_driven d.kind ≡ true → slice_get marks (from + n) ≡ Some true) → all_driven marks from ds ≡ true
+there-driven marks from [] h = refl
+there-driven marks from (d ∷ ds) h =
+    let here : from + 0 ≡ from = omega arith in
+    and_is (driver_there marks from d) (all_driven marks (from + 1) ds)
+    (there_or (is_driven d.kind) (slice_get marks from) (λ k. ap (λ (i : ℕ). slice_get marks i) (sym here) ∙ h 0 d refl k))
+    (there-driven marks (from + 1) ds (λ n c at k. let same : (from + 1) + n ≡ from + suc n = omega arith in ap (λ (i : ℕ). slice_get marks i) same ∙ h (suc n) c at k))
+
+-- ---- all of it
+
+-- what passes the tests can run
+pub runs : (ds : List Declaration) (as' : List Assignment) (bs : List Statement) (marks : List Bool) → all_sized ds ≡ true → all_kept ds as' ≡ true → blocks_kept ds bs ≡ true → AreMarks as' marks → CanBeOrdered as' → all_driven marks 0 ds ≡ true → IsRunnable (module_with ds as' bs)
+runs ds as' bs marks sizes kept blocks m ordered driven = record {
+  sizes = sized-all ds sizes;
+  assignments = kept-all ds as' kept;
+  blocks = kept-blocks ds bs blocks;
+  driven = λ n d at k u. m.driven n (let zeroth : 0 + n ≡ n = omega arith in ap (λ (i : ℕ). slice_get marks i) (sym zeroth) ∙ driven-there marks 0 ds driven n d at (kind_driven d.kind k)) u;
+  ordered = ordered;
 }
+
+-- a net of a declaration has a mark or none
+marked_or : (marks : List Bool) (n : ℕ) → n < length marks → (slice_get marks n ≡ Some false → ⊥) → slice_get marks n ≡ Some true
+marked_or [] n lt h = absurd (omega (arith, lt))
+marked_or (true ∷ ms) zero lt h = refl
+marked_or (false ∷ ms) zero lt h = absurd (h refl)
+marked_or (m ∷ ms) (suc n) lt h = marked_or ms n (omega (arith, lt)) h
+
+get_within : (ds : List Declaration) (n : ℕ) (d : Declaration) → slice_get ds n ≡ Some d → n < length ds
+get_within ds n d e = within_of ds n (λ c. Unit {0}) (rw e tt)
+
+-- where every net that wants a driver has one, every such net is marked
+pub driven_all : (ds : List Declaration) (as' : List Assignment) (bs : List Statement) (marks : List Bool) → IsRunnable (module_with ds as' bs) → AreMarks as' marks → length marks ≡ length ds → all_driven marks 0 ds ≡ true
+driven_all ds as' bs marks r m size = there-driven marks 0 ds (λ n d at k.
+    let zeroth : n ≡ 0 + n = omega arith in
+    let within : n < length marks = (let lt = get_within ds n d at in omega (arith, lt, size)) in
+    ap (λ (i : ℕ). slice_get marks i) (sym zeroth) ∙ marked_or marks n within (λ e. r.driven n d at (driven_kind d.kind k) (m.undriven n e)))
+
+-- the name and the ports of a module are no matter
+with_parts : (m : Module) → IsRunnable (module_with m.declarations m.assignments m.blocks) → IsRunnable m
+with_parts m r = record { sizes = r.sizes; assignments = r.assignments; blocks = r.blocks; driven = r.driven; ordered = r.ordered }
+
+of_parts : (m : Module) → IsRunnable m → IsRunnable (module_with m.declarations m.assignments m.blocks)
+of_parts m r = record { sizes = r.sizes; assignments = r.assignments; blocks = r.blocks; driven = r.driven; ordered = r.ordered }
+
+pub runnable : (m : Module) (ds : List Declaration) (as' : List Assignment) (bs : List Statement) (b : Bool) → ds ≡ m.declarations → as' ≡ m.assignments → bs ≡ m.blocks → (b ≡ true → IsRunnable (module_with ds as' bs)) → b ≡ true → IsRunnable m
+runnable m ds as' bs b e f g h t = with_parts m (subst (λ x. IsRunnable (module_with x m.assignments m.blocks)) e (subst (λ x. IsRunnable (module_with ds x m.blocks)) f (subst (λ x. IsRunnable (module_with ds as' x)) g (h t))))
+
+pub not_runnable : (m : Module) (ds : List Declaration) (as' : List Assignment) (bs : List Statement) (b : Bool) → ds ≡ m.declarations → as' ≡ m.assignments → bs ≡ m.blocks → (IsRunnable (module_with ds as' bs) → b ≡ true) → b ≡ false → IsRunnable m → ⊥
+not_runnable m ds as' bs b e f g h t r =
+    let parts = subst (λ x. IsRunnable (module_with x as' bs)) (sym e) (subst (λ x. IsRunnable (module_with m.declarations x bs)) (sym f) (subst (λ x. IsRunnable (module_with m.declarations m.assignments x)) (sym g) (of_parts m r))) in
+    absurd (let k : false ≡ true = sym t ∙ h parts in cc)

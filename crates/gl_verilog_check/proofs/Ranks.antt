@@ -1,11 +1,10 @@
 -- Assignments in an order have no loop: along a chain each net is driven earlier than the one before.
-use Rattle.std.proofs.Common.{◌≡◌, ◌≢◌, ℕ, zero, suc, ◌+◌, ◌<◌, ◌≤◌, ◌⊎◌, inl, inr, Bool, true, false, cond, List, [], ◌∷◌, length, eqb, refl, sym, ap, subst, ◌∙◌, arith}
+use Rattle.std.proofs.Common.{◌≡◌, ℕ, suc, ◌<◌, ◌≤◌, ◌⊎◌, inl, inr, Bool, true, false, cond, List, [], ◌∷◌, length, eqb, refl, subst, arith}
 use Rattle.std.specs.Prelude.{◌||◌, ◌&&◌}
-use Rattle.std.specs.List.{AllByRecursion}
 use Rattle.std.proofs.lemmas.Bool.{eqb-true, eq-eqb}
 use Rattle.gl_verilog.specs.Module.{Assignment, Expr, Net, Literal, Invert, Binary, Choose, Join, Select, Read}
 use Rattle.gl_verilog.specs.Order.{EachRead, IsUndriven, IsOrdered}
-use Rattle.gl_verilog.specs.Valid.{mentions, depends, IsChain, HasNoCycle, HasNoLoop, drivers_of}
+use Rattle.gl_verilog.specs.Valid.{mentions, depends, IsChain, HasNoLoop, drivers_of}
 
 or_cases : (a b : Bool) → (a || b) ≡ true → (a ≡ true) ⊎ (b ≡ true)
 or_cases true b e = inl refl
@@ -102,7 +101,7 @@ no_loop as' o n us c = let lt = along as' n us n o c (begins as' n us n c) in ab
 
 -- ---- drivers
 
-undriven-none : (bs : List Assignment) (n : ℕ) → IsUndriven bs n → drivers_of bs n ≡ 0
+pub undriven-none : (bs : List Assignment) (n : ℕ) → IsUndriven bs n → drivers_of bs n ≡ 0
 undriven-none [] n h = refl
 undriven-none (b ∷ bs) n h = by (eqb b.target n) refl (undriven-none bs n h.1)
   where

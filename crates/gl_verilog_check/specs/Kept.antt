@@ -1,9 +1,10 @@
 -- Tests of a module: the width of an expression whose operators keep their widths, or nothing.
-use Rattle.std.specs.Prelude.{◌≡◌, ◌||◌, unwrap_or, slice_set, ℕ, ◌+◌, ◌-◌, ◌^◌, Bool, true, false, not, ◌&&◌, List, Option, Some, None, slice_get, option_and_then, nat_eq, nat_le, nat_lt, if◌then◌else◌}
-use Rattle.gl_verilog.specs.Module.{Kind, Input, OutputWire, OutputRegister, Wire, Register, Memory, Declaration, BinaryOp, Expr, Net, Literal, Invert, Binary, Choose, Join, Select, Read, Statement, Nothing, Put, Write, Both, If, Assignment}
-use Rattle.gl_verilog.specs.Order.{IsUndriven, IsOrdered}
-use Rattle.gl_verilog.specs.Widths.{is_clock, width_after, width_of, KeepsWidths, KeepsWidth, KeepsWidthsIn, HasSize, IsDriven}
+use Rattle.std.specs.Prelude.{◌≡◌, ◌||◌, unwrap_or, slice_set, ℕ, ◌+◌, ◌-◌, ◌^◌, ◌<◌, Bool, true, false, not, ◌&&◌, List, [], ◌∷◌, Option, Some, None, slice_get, option_and_then, nat_eq, nat_le, nat_lt}
+use Rattle.gl_verilog.specs.Module.{Module, Kind, OutputWire, OutputRegister, Wire, Register, Memory, Declaration, BinaryOp, Expr, Net, Literal, Invert, Binary, Choose, Join, Select, Read, Statement, Nothing, Put, Write, Both, If, Assignment}
+use Rattle.gl_verilog.specs.Order.{EachRead, IsUndriven}
+use Rattle.gl_verilog.specs.Widths.{is_clock, width_after}
 use Rattle.std.specs.List.{AllByRecursion}
+use Rattle.std.specs.Option.{is_some}
 
 abbrev pub clock_test : Declaration → Bool
 clock_test d = is_clock d
@@ -96,6 +97,33 @@ takes_word address w d = only (has_address d.kind address && nat_eq w d.width) w
 abbrev pub write_width : List Declaration → ℕ → Expr → Expr → Option ℕ
 write_width ds memory address value = option_and_then (λ a. option_and_then (λ w. option_and_then (takes_word a w) (slice_get ds memory)) (kept ds value)) (kept ds address)
 
+-- one bit
+abbrev pub is_one : Option ℕ → Bool
+is_one None = false
+is_one (Some width) = nat_eq width 1
+
+-- a test keeps its widths and has one bit
+abbrev pub test_kept : List Declaration → Expr → Bool
+test_kept ds e = is_one (kept ds e)
+
+-- whether a statement keeps its widths
+abbrev pub statement_kept : List Declaration → Statement → Bool
+statement_kept ds Nothing = true
+statement_kept ds (Put register value) = is_some (put_width ds register value)
+statement_kept ds (Write memory address value) = is_some (write_width ds memory address value)
+statement_kept ds (Both first second) = statement_kept ds first && statement_kept ds second
+statement_kept ds (If test yes' no') = test_kept ds test && (statement_kept ds yes' && statement_kept ds no')
+
+-- whether each assignment keeps its widths
+abbrev pub all_kept : List Declaration → List Assignment → Bool
+all_kept ds [] = true
+all_kept ds (a ∷ as') = is_some (assigned_width ds a) && all_kept ds as'
+
+-- whether each block keeps its widths
+abbrev pub blocks_kept : List Declaration → List Statement → Bool
+blocks_kept ds [] = true
+blocks_kept ds (b ∷ bs) = statement_kept ds b && blocks_kept ds bs
+
 abbrev pub memory_fits : Kind → Bool
 memory_fits (Memory bits) = nat_le 1 bits && nat_le bits 32
 memory_fits _ = true
@@ -103,6 +131,11 @@ memory_fits _ = true
 -- 1 to 128 bits, and for a memory 1 to 32 address bits
 abbrev pub has_size : Declaration → Bool
 has_size d = is_width d.width && memory_fits d.kind
+
+-- whether each declaration has such a size
+abbrev pub all_sized : List Declaration → Bool
+all_sized [] = true
+all_sized (d ∷ ds) = has_size d && all_sized ds
 
 -- whether an expression reads a net that is marked, or one past the marks
 abbrev pub reads : List Bool → Expr → Bool
@@ -117,27 +150,28 @@ reads marks (Read memory address) = reads marks address
 
 -- exactly the nets that these assignments drive are marked
 pub record AreMarks (assignments : List Assignment) (marks : List Bool) : Type 0 where
+  pub targets : AllByRecursion (λ a. slice_get marks a.target ≡ Some true) assignments
   pub undriven : (n : ℕ) → slice_get marks n ≡ Some false → IsUndriven assignments n
   pub driven : (n : ℕ) → slice_get marks n ≡ Some true → IsUndriven assignments n → ⊥
 
--- one more net is marked, which no mark was on, and what drives it reads no marked net
+-- one more net is marked, which no mark was on
 pub record Marked (old new : List Bool) (a : Assignment) : Type 0 where
   pub fresh : slice_get old a.target ≡ Some false
   pub set : new ≡ slice_set old a.target true
-  pub apart : reads new a.value ≡ false
 
--- every net that wants a driver is marked
-abbrev pub AllDriven : List Declaration → List Bool → Type 0
-AllDriven ds marks = (n : ℕ) (d : Declaration) → slice_get ds n ≡ Some d → is_driven d.kind ≡ true → slice_get marks n ≡ Some true
+-- whether the net of this declaration, of this number, is marked where it wants a driver
+abbrev pub driver_there : List Bool → ℕ → Declaration → Bool
+driver_there marks n d = not (is_driven d.kind) || unwrap_or (slice_get marks n) false
 
--- an expression of one bit
-abbrev pub IsTest : List Declaration → Expr → Type 0
-IsTest ds e = (width_of ds e ≡ 1) × KeepsWidths ds e
+-- whether every net of the declarations from a number on is marked where it wants a driver
+abbrev pub all_driven : List Bool → ℕ → List Declaration → Bool
+all_driven marks n [] = true
+all_driven marks n (d ∷ ds) = driver_there marks n d && all_driven marks (n + 1) ds
 
--- the parts of a module that can run
-pub record PartsRun (ds : List Declaration) (as' : List Assignment) (bs : List Statement) : Type 0 where
-  pub sizes : AllByRecursion HasSize ds
-  pub assignments : AllByRecursion (KeepsWidth ds) as'
-  pub blocks : AllByRecursion (KeepsWidthsIn ds) bs
-  pub driven : (n : ℕ) (d : Declaration) → slice_get ds n ≡ Some d → IsDriven d.kind → IsUndriven as' n → ⊥
-  pub ordered : IsOrdered as'
+-- every net of an assignment is one of so many
+abbrev pub AreNets : ℕ → List Assignment → Type 0
+AreNets nets assignments = AllByRecursion (λ a. (a.target < nets) × EachRead (λ n. n < nets) a.value) assignments
+
+-- a module of these parts
+abbrev pub module_with : List Declaration → List Assignment → List Statement → Module
+module_with ds as' bs = record { name = []; ports = 0; declarations = ds; assignments = as'; blocks = bs }

@@ -1,11 +1,8 @@
 -- Tests of drivers and of names, and what they show.
-use Rattle.std.specs.Prelude.{◌≡◌, ℕ, Bool, true, false, not, ◌&&◌, List, [], ◌∷◌, Some, slice_get, bytes_eq}
-use Rattle.std.specs.List.{AllByRecursion}
-use Rattle.gl_verilog.specs.Module.{Module, Kind, Input, OutputWire, OutputRegister, Wire, Register, Memory, Declaration, Assignment, Statement}
-use Rattle.gl_verilog.specs.Widths.{HasSize, KeepsWidth, KeepsWidthsIn}
-use Rattle.gl_verilog.specs.Order.{IsOrdered}
-use Rattle.gl_verilog.specs.Valid.{AssignsOnce, blocks_of, writes_of, AreDistinct}
-use Rattle.gl_verilog_check.specs.Kept.{AreMarks}
+use Rattle.std.specs.Prelude.{ℕ, ◌+◌, min, Bool, true, false, not, ◌&&◌, ◌||◌, List, [], ◌∷◌, Option, Some, None, option_and_then, option_map, nat_eq, bytes_eq, if◌then◌else◌}
+use Rattle.gl_verilog.specs.Module.{Kind, OutputRegister, Register, Memory, Declaration, Statement, Nothing, Put, Write, Both, If}
+use Rattle.gl_verilog.specs.Valid.{writes_of}
+use Rattle.gl_verilog_check.specs.Kept.{is_one}
 
 -- a name is none of the others
 abbrev pub differs : Declaration → List Declaration → Bool
@@ -17,26 +14,37 @@ abbrev pub are_distinct : List Declaration → Bool
 are_distinct [] = true
 are_distinct (d ∷ ds) = differs d ds && are_distinct ds
 
--- a wire is marked, a register is assigned in one block and once in each list, a memory is written once
-abbrev pub HasMark : List Bool → List Statement → ℕ → Kind → Type 0
-HasMark marks bs n Input = Unit {0}
-HasMark marks bs n OutputWire = slice_get marks n ≡ Some true
-HasMark marks bs n Wire = slice_get marks n ≡ Some true
-HasMark marks bs n OutputRegister = (blocks_of bs n ≡ 1) × AllByRecursion (AssignsOnce n) bs
-HasMark marks bs n Register = (blocks_of bs n ≡ 1) × AllByRecursion (AssignsOnce n) bs
-HasMark marks bs n (Memory address_bits) = writes_of bs n ≡ 1
+-- whether one of two is so, where not both are
+abbrev pub one_of : Bool → Bool → Option Bool
+one_of true true = None
+one_of true false = Some true
+one_of false b = Some b
 
--- every declaration has a driver where it wants one
-abbrev pub AllMarked : List Declaration → List Bool → List Statement → Type 0
-AllMarked ds marks bs = (n : ℕ) (d : Declaration) → slice_get ds n ≡ Some d → HasMark marks bs n d.kind
+-- whether a statement assigns a register, where no two of one list do
+abbrev pub assigns_once : ℕ → Statement → Option Bool
+assigns_once r Nothing = Some false
+assigns_once r (Put register value) = Some (nat_eq register r)
+assigns_once r (Write memory address value) = Some false
+assigns_once r (Both first second) = option_and_then (λ a. option_and_then (one_of a) (assigns_once r second)) (assigns_once r first)
+assigns_once r (If test yes' no') = option_and_then (λ a. option_map (λ b. a || b) (assigns_once r no')) (assigns_once r yes')
 
--- the parts of a valid module
-pub record ArePartsValid (ds : List Declaration) (as' : List Assignment) (bs : List Statement) : Type 0 where
-  pub names : AreDistinct ds
-  pub sizes : AllByRecursion HasSize ds
-  pub assignments : AllByRecursion (KeepsWidth ds) as'
-  pub blocks : AllByRecursion (KeepsWidthsIn ds) bs
-  pub marks : List Bool
-  pub are : AreMarks as' marks
-  pub ordered : IsOrdered as'
-  pub driven : AllMarked ds marks bs
+-- how many blocks assign a register, where no two of one list do
+abbrev pub blocks_once : ℕ → List Statement → Option ℕ
+blocks_once r [] = Some 0
+blocks_once r (b ∷ bs) = option_and_then (λ a. option_map (λ n. (if a then 1 else 0) + n) (blocks_once r bs)) (assigns_once r b)
+
+-- a count as far as one is told from more
+abbrev pub at_most_two : ℕ → ℕ
+at_most_two n = min n 2
+
+-- whether a register is assigned in one block and once in each list, and a memory is written once
+abbrev pub is_assigned : List Statement → ℕ → Kind → Bool
+is_assigned bs n OutputRegister = is_one (blocks_once n bs)
+is_assigned bs n Register = is_one (blocks_once n bs)
+is_assigned bs n (Memory address_bits) = nat_eq (writes_of bs n) 1
+is_assigned bs n _ = true
+
+-- whether it is so for all declarations from a number on
+abbrev pub all_assigned : List Statement → ℕ → List Declaration → Bool
+all_assigned bs n [] = true
+all_assigned bs n (d ∷ ds) = is_assigned bs n d.kind && all_assigned bs (n + 1) ds

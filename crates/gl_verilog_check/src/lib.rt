@@ -1,6 +1,7 @@
 //! Whether a module can run: widths are kept, each net is driven, and no net depends on itself.
 #![tactic(auto)]
 
+mod order;
 pub mod runnable;
 pub mod valid;
 pub mod widths;

@@ -1,15 +1,14 @@
-//! The test of a valid module: names, widths, drivers, and the order of its assignments.
+//! The test of a valid module: names, drivers, and all that a module that can run needs.
 
-ghost use Rattle.std.specs.Prelude.{◌≡◌, ◌+◌, map, true, IfOk, IfSome, [], if◌then◌else◌};
-ghost use Rattle.std.specs.List.{AllByRecursion};
-ghost use Rattle.gl_verilog.specs.View.{declaration_of, assignment_of, statement_of, module_of, kind_of};
+ghost use Rattle.std.specs.Prelude.{◌≡◌, ◌+◌, map, length, true, false, IfOk, [], option_map};
+ghost use Rattle.gl_verilog.specs.View.{declaration_of, assignment_of, statement_of, module_of};
 ghost use Rattle.gl_verilog.specs.Valid as valid;
-ghost use Rattle.gl_verilog.specs.Valid.{AssignsOnce, IsValid, AreDistinct};
-ghost use Rattle.gl_verilog_check.specs.Kept.{AreMarks};
+ghost use Rattle.gl_verilog.specs.Valid.{IsValid};
+ghost use Rattle.gl_verilog_check.specs.Kept.{AreMarks, module_with};
 ghost use Rattle.gl_verilog_check.specs.Tests as tests;
-ghost use Rattle.gl_verilog_check.specs.Tests.{HasMark, AllMarked, ArePartsValid};
+ghost use Rattle.gl_verilog_check.specs.Tests.{at_most_two};
 
-use crate::runnable::{blocks_keep, have_sizes, keep_widths, marks_of};
+use crate::runnable::parts_run;
 use gl_bits::Memory;
 use gl_verilog::{Assignment, Declaration, Kind, Module, Statement};
 use std::alloc::Global;
@@ -38,10 +37,19 @@ fn are_distinct(declarations: &[Declaration]) -> bool
     true
 }
 
-// Whether a statement assigns a register; None where it has a `begin`, which is not judged here
-// yet.
+// Whether one of two is so; None where both are.
+fn one_of(first: bool, second: bool) -> Option<bool>
+    ensures { result ≡ tests.one_of first second }
+{
+    if first && second {
+        return None;
+    }
+    Some(first || second)
+}
+
+// Whether a statement assigns a register; None where two of one list do.
 fn assigns(statement: &Statement, register: usize) -> Option<bool>
-    ensures { IfSome result (λ b. (b ≡ valid.assigns (statement_of statement.now) register) × AssignsOnce register (statement_of statement.now)) }
+    ensures { result ≡ tests.assigns_once register (statement_of statement.now) }
 {
     match statement {
         Statement::Nothing => Some(false),
@@ -50,7 +58,14 @@ fn assigns(statement: &Statement, register: usize) -> Option<bool>
             ..
         } => Some(*target == register),
         Statement::Write { .. } => Some(false),
-        Statement::Block(_) => None,
+        Statement::Block(statements) => {
+            let mut assigned = false;
+            for statement in statements {
+                let more = assigns(statement, register)?;
+                assigned = one_of(assigned, more)?;
+            }
+            Some(assigned)
+        }
         Statement::If { yes, no, .. } => {
             let first = assigns(yes, register)?;
             let second = assigns(no, register)?;
@@ -59,81 +74,75 @@ fn assigns(statement: &Statement, register: usize) -> Option<bool>
     }
 }
 
-// How many writes to a memory stand in a statement; None where it has a `begin`.
-fn writes_in(statement: &Statement, memory: usize) -> Option<usize>
-    ensures { IfSome result (λ n. n ≡ valid.writes_in (statement_of statement.now) memory) }
+// The sum, or 2 where it is more: one is all that has to be told from others.
+fn sum(count: u8, more: u8) -> u8
+    ensures { result ≡ at_most_two (count + more) }
+{
+    if count > 1 || more > 1 {
+        return 2;
+    }
+    count + more
+}
+
+// How many writes to a memory stand in a statement, or 2 where there are more.
+fn writes_in(statement: &Statement, memory: usize) -> u8
+    ensures { result ≡ at_most_two (valid.writes_in (statement_of statement.now) memory) }
 {
     match statement {
-        Statement::Nothing => Some(0),
-        Statement::Put { .. } => Some(0),
-        Statement::Write { memory: target, .. } => {
-            if *target == memory { Some(1) } else { Some(0) }
+        Statement::Nothing => 0,
+        Statement::Put { .. } => 0,
+        Statement::Write { memory: target, .. } => u8::from(*target == memory),
+        Statement::Block(statements) => {
+            let mut count = 0;
+            for statement in statements {
+                count = sum(count, writes_in(statement, memory));
+            }
+            count
         }
-        Statement::Block(_) => None,
-        Statement::If { yes, no, .. } => {
-            let first = writes_in(yes, memory)?;
-            let second = writes_in(no, memory)?;
-            first.checked_add(second)
-        }
+        Statement::If { yes, no, .. } => sum(writes_in(yes, memory), writes_in(no, memory)),
     }
 }
 
-// The sum, where it is a number of the machine.
-fn sum(count: usize, more: usize) -> Option<usize>
-    ensures { IfSome result (λ n. n ≡ count + more) }
+// How many blocks assign a register, or 2 where more do; None where two statements of one list do.
+fn blocks_of(blocks: &[Statement], register: usize) -> Option<u8>
+    ensures { result ≡ option_map at_most_two (tests.blocks_once register (map statement_of blocks.now)) }
 {
-    count.checked_add(more)
-}
-
-// One more, if it is so.
-fn one_more(count: usize, more: bool) -> Option<usize>
-    ensures { IfSome result (λ n. n ≡ count + (if more then 1 else 0)) }
-{
-    if more { sum(count, 1) } else { Some(count) }
-}
-
-// How many blocks assign a register, where each assigns it once in each list.
-fn blocks_of(blocks: &[Statement], register: usize) -> Option<usize>
-    ensures { IfSome result (λ n. (n ≡ valid.blocks_of (map statement_of blocks.now) register) × AllByRecursion (AssignsOnce register) (map statement_of blocks.now)) }
-{
-    let mut count: usize = 0;
+    let mut count = 0;
     for block in blocks {
         let more = assigns(block, register)?;
-        count = one_more(count, more)?;
+        count = sum(count, u8::from(more));
     }
     Some(count)
 }
 
-// How many writes to a memory there are.
-fn writes_of(blocks: &[Statement], memory: usize) -> Option<usize>
-    ensures { IfSome result (λ n. n ≡ valid.writes_of (map statement_of blocks.now) memory) }
+// How many writes to a memory there are, or 2 where there are more.
+fn writes_of(blocks: &[Statement], memory: usize) -> u8
+    ensures { result ≡ at_most_two (valid.writes_of (map statement_of blocks.now) memory) }
 {
-    let mut count: usize = 0;
+    let mut count = 0;
     for block in blocks {
-        let more = writes_in(block, memory)?;
-        count = sum(count, more)?;
+        count = sum(count, writes_in(block, memory));
     }
-    Some(count)
+    count
 }
 
-// Whether the declaration of this number has a driver, where it wants one.
-fn has_driver(declaration: &Declaration, n: usize, marks: &[bool], blocks: &[Statement]) -> bool
-    ensures { result ≡ true → HasMark marks.now (map statement_of blocks.now) n (declaration_of declaration.now).kind }
+// Whether the register or memory of this number has a driver.
+fn is_assigned(declaration: &Declaration, n: usize, blocks: &[Statement]) -> bool
+    ensures { result ≡ tests.is_assigned (map statement_of blocks.now) n (declaration_of declaration.now).kind }
 {
     match declaration.kind {
-        Kind::Input => true,
-        Kind::OutputWire | Kind::Wire => marks.get(n) == Some(&true),
+        Kind::Input | Kind::OutputWire | Kind::Wire => true,
         Kind::OutputRegister | Kind::Register => blocks_of(blocks, n) == Some(1),
-        Kind::Memory { .. } => writes_of(blocks, n) == Some(1),
+        Kind::Memory { .. } => writes_of(blocks, n) == 1,
     }
 }
 
-// Whether every declaration has a driver, where it wants one.
-fn all_have_drivers(declarations: &[Declaration], marks: &[bool], blocks: &[Statement]) -> bool
-    ensures { result ≡ true → AllMarked (map declaration_of declarations.now) marks.now (map statement_of blocks.now) }
+// Whether every register and memory has a driver.
+fn are_assigned(declarations: &[Declaration], blocks: &[Statement]) -> bool
+    ensures { result ≡ tests.all_assigned (map statement_of blocks.now) 0 (map declaration_of declarations.now) }
 {
     for (n, declaration) in declarations.iter().enumerate() {
-        if !has_driver(declaration, n, marks, blocks) {
+        if !is_assigned(declaration, n, blocks) {
             return false;
         }
     }
@@ -147,33 +156,26 @@ fn parts_are_valid(
     blocks: &[Statement],
     marks: &mut Vec<bool>,
 ) -> bool
-    requires { AreMarks [] marks.old.items }
-    ensures { result ≡ true → ArePartsValid (map declaration_of declarations.now) (map assignment_of assignments.now) (map statement_of blocks.now) }
+    requires fresh { AreMarks [] marks.old.items }
+    requires size { length marks.old.items ≡ length declarations.now }
+    ensures sound { result ≡ true → IsValid (module_with (map declaration_of declarations.now) (map assignment_of assignments.now) (map statement_of blocks.now)) }
+    ensures complete { IsValid (module_with (map declaration_of declarations.now) (map assignment_of assignments.now) (map statement_of blocks.now)) → result ≡ true }
 {
     if !are_distinct(declarations) {
         return false;
     }
-    if !have_sizes(declarations) {
+    if !parts_run(declarations, assignments, blocks, marks) {
         return false;
     }
-    if !keep_widths(declarations, assignments) {
-        return false;
-    }
-    if !blocks_keep(declarations, blocks) {
-        return false;
-    }
-    if !marks_of(marks, assignments) {
-        return false;
-    }
-    all_have_drivers(declarations, marks, blocks)
+    are_assigned(declarations, blocks)
 }
 
-/// Whether the module is valid, and its assignments stand in an order in which each reads only what
-/// does not depend on it. A valid module whose assignments stand otherwise, or in which a `begin`
-/// stands, is answered false: it is not judged here yet.
+/// Whether the module is valid: its names differ, its widths are kept, every net, register and
+/// memory has its driver, and no net depends on itself through assignments.
 #[tactic(auto, using(crate::proofs::Marks::marks_fresh))]
 pub fn is_valid(alloc: Global, design: &Module) -> Result<bool, Memory>
-    ensures { IfOk result (λ b. b ≡ true → IsValid (module_of design.now)) }
+    ensures sound { IfOk result (λ b. b ≡ true → IsValid (module_of design.now)) }
+    ensures complete { IfOk result (λ b. b ≡ false → IsValid (module_of design.now) → ⊥) }
 {
     let declarations = design.declarations.as_slice();
     let Ok(mut marks) = vec![in alloc; false; declarations.len()] else {

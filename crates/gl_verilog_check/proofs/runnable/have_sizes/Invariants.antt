@@ -1,9 +1,8 @@
-use Rattle.std.proofs.Common.{take}
+use Rattle.std.proofs.Common.{◌≡◌, drop}
 use Rattle.std.specs.Prelude.{map}
-use Rattle.std.specs.List.{AllByRecursion}
-use Rattle.gl_verilog.specs.View.{declaration_of, assignment_of, statement_of}
-use Rattle.gl_verilog.specs.Widths.{HasSize, KeepsWidth, KeepsWidthsIn}
+use Rattle.gl_verilog.specs.View.{declaration_of}
+use Rattle.gl_verilog_check.specs.Kept.{all_sized}
 use Rattle.gl_verilog_check.proofs.runnable.have_sizes.Given as goal
 
 abbrev pub invariant-loop-declaration : goal.invariant-loop-declaration
-invariant-loop-declaration l = AllByRecursion HasSize (map declaration_of (take l.declaration-index l.declarations))
+invariant-loop-declaration l = all_sized (map declaration_of (drop l.declaration-index l.declarations)) ≡ all_sized (map declaration_of l.declarations)

@@ -1,25 +1,44 @@
-use Rattle.std.proofs.Common.{◌≡◌, ◌<◌, ◌+◌, ◌-◌, ◌∙◌, List, Some, None, true, false, refl, sym, ap, subst, arith, length, get_or, drop, take, ℕ}
-use Rattle.std.specs.Prelude.{map, slice_get}
-use Rattle.std.proofs.lemmas.Bool.{eqb-true}
-use Rattle.gl_verilog.specs.Module as spec
-use Rattle.gl_verilog.specs.View.{declaration_of, assignment_of, statement_of, expr_of, module_of}
-use Rattle.gl_verilog.specs.Widths.{HasSize, KeepsWidth, KeepsWidthsIn}
-use Rattle.gl_verilog.specs.Order.{IsOrdered}
-use Rattle.gl_verilog_check.specs.Kept.{has_size, AreMarks, AllDriven, is_driven}
-use Rattle.gl_verilog_check.proofs.Keeping.{kept-keeps, put_keeps, write_keeps, assignment_keeps, size_of}
-use Rattle.gl_verilog_check.proofs.Marks.{all_more, marks_next, ordered_next, from_place, one_more, runnable}
+use Rattle.std.proofs.Common.{◌≡◌, ◌∙◌, List, Bool, refl, sym, ap, subst, length, ℕ}
+use Rattle.std.specs.Prelude.{map}
+use Rattle.gl_verilog.specs.View.{declaration_of, assignment_of, statement_of}
+use Rattle.gl_verilog_check.specs.Kept.{all_driven, AreNets}
+use Rattle.gl_verilog_check.proofs.Complete.{all-sized, all-kept, blocks-kept}
+use Rattle.gl_verilog_check.proofs.Marks.{are_nets, runs, driven_all, map_length}
+use Rattle.gl_verilog_check.proofs.Drives.{can_once_each}
 use Rattle.gl_verilog_check.proofs.runnable.parts_run.Goals as goal
 
-pub returns : goal.returns
-returns c = λ h.
+pub returns-then-not-have_sizes-clause-complete : goal.returns-then-not-have_sizes-clause-complete
+returns-then-not-have_sizes-clause-complete c = λ r. c.if-not-have_sizes.ensures ∙ all-sized (map declaration_of c.args.declarations.now) r.sizes
+
+pub returns-then-not-keep_widths-clause-complete : goal.returns-then-not-keep_widths-clause-complete
+returns-then-not-keep_widths-clause-complete c = λ r. c.if-not-keep_widths.ensures ∙ all-kept (map declaration_of c.args.declarations.now) (map assignment_of c.args.assignments.now) r.assignments
+
+pub returns-then-not-blocks_keep-clause-complete : goal.returns-then-not-blocks_keep-clause-complete
+returns-then-not-blocks_keep-clause-complete c = λ r. c.if-not-blocks_keep.ensures ∙ blocks-kept (map declaration_of c.args.declarations.now) (map statement_of c.args.blocks.now) r.blocks
+
+pub returns-then-not-mark_targets-clause-complete : goal.returns-then-not-mark_targets-clause-complete
+returns-then-not-mark_targets-clause-complete c = λ r.
     let ds = map declaration_of c.args.declarations.now in
     let as' = map assignment_of c.args.assignments.now in
-    let marks = c.marks_of.new.marks.items in
-    let driven : AllDriven ds marks = subst (AllDriven ds) c.deref.ensures.value (c.all_driven.ensures h) in
-    record {
-      sizes = c.if-not-have_sizes.ensures refl;
-      assignments = c.if-not-keep_widths.ensures refl;
-      blocks = c.if-not-blocks_keep.ensures refl;
-      driven = one_more ds as' marks (c.if-not-marks_of.ensures.marks refl) driven;
-      ordered = c.if-not-marks_of.ensures.ordered refl;
-    }
+    c.if-not-mark_targets.ensures.complete (subst (λ (n : ℕ). AreNets n as') (map_length declaration_of c.args.declarations.now ∙ sym c.requires.size) (are_nets ds as' r.assignments)) (can_once_each as' r.ordered)
+
+pub returns-then-not-all_driven-clause-complete : goal.returns-then-not-all_driven-clause-complete
+returns-then-not-all_driven-clause-complete c = λ r.
+    let ds = map declaration_of c.args.declarations.now in
+    let size : length c.mark_targets.new.marks.items ≡ length ds = c.if-not-mark_targets.ensures.size refl ∙ c.requires.size ∙ sym (map_length declaration_of c.args.declarations.now) in
+    c.if-not-all_driven.ensures ∙ ap (λ (ms : List Bool). all_driven ms 0 ds) c.deref.ensures.value
+    ∙ driven_all ds (map assignment_of c.args.assignments.now) (map statement_of c.args.blocks.now) c.mark_targets.new.marks.items r (c.if-not-mark_targets.ensures.marks refl) size
+
+pub returns-clause-sound : goal.returns-clause-sound
+returns-clause-sound c = λ h.
+    let ds = map declaration_of c.args.declarations.now in
+    runs ds (map assignment_of c.args.assignments.now) (map statement_of c.args.blocks.now) c.mark_targets.new.marks.items
+    (sym c.if-not-have_sizes.ensures) (sym c.if-not-keep_widths.ensures) (sym c.if-not-blocks_keep.ensures) (c.if-not-mark_targets.ensures.marks refl) (c.can_be_ordered.ensures.sound h)
+    (sym (c.if-not-all_driven.ensures ∙ ap (λ (ms : List Bool). all_driven ms 0 ds) c.deref.ensures.value))
+
+pub returns-clause-complete : goal.returns-clause-complete
+returns-clause-complete c = λ r.
+    let ds = map declaration_of c.args.declarations.now in
+    let as' = map assignment_of c.args.assignments.now in
+    let size : length ds ≡ length c.mark_targets.new.marks.items = map_length declaration_of c.args.declarations.now ∙ sym c.requires.size ∙ sym (c.if-not-mark_targets.ensures.size refl) in
+    c.can_be_ordered.ensures.complete (subst (λ (n : ℕ). AreNets n as') size (are_nets ds as' r.assignments)) r.ordered

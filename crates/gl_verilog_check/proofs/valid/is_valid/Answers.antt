@@ -1,14 +1,15 @@
-use Rattle.std.proofs.Common.{◌≡◌, subst}
+use Rattle.std.proofs.Common.{ap}
 use Rattle.std.specs.Prelude.{map}
 use Rattle.gl_verilog.specs.View.{declaration_of, assignment_of, statement_of, module_of}
-use Rattle.gl_verilog_check.specs.Tests.{ArePartsValid}
-use Rattle.gl_verilog_check.proofs.Drives.{valid}
+use Rattle.gl_verilog_check.proofs.Drives.{valid, not_valid}
 use Rattle.gl_verilog_check.proofs.valid.is_valid.Goals as goal
 
-pub returns : goal.returns
-returns c = λ h.
-    let m = c.args.design.now in
-    let parts = c.parts_are_valid-valid.ensures h in
-    let parts1 = subst (λ ds. ArePartsValid (map declaration_of ds) (map assignment_of c.as_slice-assignments.result.now) (map statement_of c.as_slice-blocks.result.now)) c.as_slice-declarations.ensures parts in
-    let parts2 = subst (λ as'. ArePartsValid (map declaration_of m.declarations) (map assignment_of as') (map statement_of c.as_slice-blocks.result.now)) c.as_slice-assignments.ensures parts1 in
-    valid (module_of m) (subst (λ bs. ArePartsValid (map declaration_of m.declarations) (map assignment_of m.assignments) (map statement_of bs)) c.as_slice-blocks.ensures parts2)
+pub returns-clause-sound : goal.returns-clause-sound
+returns-clause-sound c =
+    valid (module_of c.args.design.now) (map declaration_of c.as_slice-declarations.result.now) (map assignment_of c.as_slice-assignments.result.now) (map statement_of c.as_slice-blocks.result.now) c.parts_are_valid-valid.result
+    (ap (map declaration_of) c.as_slice-declarations.ensures) (ap (map assignment_of) c.as_slice-assignments.ensures) (ap (map statement_of) c.as_slice-blocks.ensures) c.parts_are_valid-valid.ensures.sound
+
+pub returns-clause-complete : goal.returns-clause-complete
+returns-clause-complete c =
+    not_valid (module_of c.args.design.now) (map declaration_of c.as_slice-declarations.result.now) (map assignment_of c.as_slice-assignments.result.now) (map statement_of c.as_slice-blocks.result.now) c.parts_are_valid-valid.result
+    (ap (map declaration_of) c.as_slice-declarations.ensures) (ap (map assignment_of) c.as_slice-assignments.ensures) (ap (map statement_of) c.as_slice-blocks.ensures) c.parts_are_valid-valid.ensures.complete

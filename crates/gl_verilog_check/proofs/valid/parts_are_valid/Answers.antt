@@ -1,22 +1,22 @@
-use Rattle.std.proofs.Common.{◌≡◌, refl, sym, subst}
+use Rattle.std.proofs.Common.{◌∙◌, refl, sym}
 use Rattle.std.specs.Prelude.{map}
 use Rattle.gl_verilog.specs.View.{declaration_of, assignment_of, statement_of}
-use Rattle.gl_verilog_check.specs.Tests.{AllMarked}
-use Rattle.gl_verilog_check.proofs.Drives.{distinct-is}
+use Rattle.gl_verilog.proofs.Acyclic.{runnable}
+use Rattle.gl_verilog_check.specs.Kept.{module_with}
+use Rattle.gl_verilog_check.proofs.Drives.{is-distinct, valid_parts, assigned_parts}
 use Rattle.gl_verilog_check.proofs.valid.parts_are_valid.Goals as goal
 
-pub returns : goal.returns
-returns c = λ h.
-    let ds = map declaration_of c.args.declarations.now in
-    let bs = map statement_of c.args.blocks.now in
-    let marks = c.marks_of.new.marks.items in
-    record {
-      names = distinct-is ds (sym c.if-not-are_distinct.ensures);
-      sizes = c.if-not-have_sizes.ensures refl;
-      assignments = c.if-not-keep_widths.ensures refl;
-      blocks = c.if-not-blocks_keep.ensures refl;
-      marks = marks;
-      are = c.if-not-marks_of.ensures.marks refl;
-      ordered = c.if-not-marks_of.ensures.ordered refl;
-      driven = subst (λ ms. AllMarked ds ms bs) c.deref.ensures.value (c.all_have_drivers.ensures h);
-    }
+pub returns-then-not-are_distinct-clause-complete : goal.returns-then-not-are_distinct-clause-complete
+returns-then-not-are_distinct-clause-complete c = λ v. c.if-not-are_distinct.ensures ∙ is-distinct (map declaration_of c.args.declarations.now) v.names
+
+pub returns-then-not-parts_run-clause-complete : goal.returns-then-not-parts_run-clause-complete
+returns-then-not-parts_run-clause-complete c = λ v.
+    c.if-not-parts_run.ensures.complete (runnable (module_with (map declaration_of c.args.declarations.now) (map assignment_of c.args.assignments.now) (map statement_of c.args.blocks.now)) v)
+
+pub returns-clause-sound : goal.returns-clause-sound
+returns-clause-sound c = λ h.
+    valid_parts (map declaration_of c.args.declarations.now) (map assignment_of c.args.assignments.now) (map statement_of c.args.blocks.now) (sym c.if-not-are_distinct.ensures) (c.if-not-parts_run.ensures.sound refl) (sym c.are_assigned.ensures ∙ h)
+
+pub returns-clause-complete : goal.returns-clause-complete
+returns-clause-complete c = λ v.
+    c.are_assigned.ensures ∙ assigned_parts (map declaration_of c.args.declarations.now) (map assignment_of c.args.assignments.now) (map statement_of c.args.blocks.now) v
