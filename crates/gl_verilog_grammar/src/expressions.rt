@@ -9,8 +9,9 @@ ghost use Rattle.gl_verilog_grammar.specs.View.{frame_of, frames_of, sort_of, ow
 use crate::frames::{Frame, looseness_of, reduce};
 use crate::reading::Reading;
 use crate::stage::{Role, Stage, role_of};
-use gl_verilog_written::{Sign, Token, Word};
-use gl_verilog_written::{InfixOp, PrefixOp, WrittenExpr, WrittenItem, WrittenStatement};
+use gl_verilog_written::{
+    InfixOp, PrefixOp, Sign, Token, Word, WrittenExpr, WrittenItem, WrittenStatement,
+};
 use std::alloc::AllocError;
 
 impl<'a> Reading<'a> {

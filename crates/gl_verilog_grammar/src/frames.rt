@@ -6,8 +6,7 @@ ghost use Rattle.gl_verilog.specs.Written.{looseness, zero_digit};
 ghost use Rattle.gl_verilog_written.specs.View.{keyword_of, sign_of, token_of, tokens_in, prefix_of, infix_of, expr_of, statement_of, name_of, names_of, range_of, direction_of, item_of, module_of};
 ghost use Rattle.gl_verilog_grammar.specs.View.{frame_of, frames_of, sort_of, owner_of, stage_of, view, role_is, IsWithin, Moves};
 
-use gl_verilog_written::Word;
-use gl_verilog_written::{InfixOp, PrefixOp, WrittenExpr, WrittenStatement};
+use gl_verilog_written::{InfixOp, PrefixOp, Word, WrittenExpr, WrittenStatement};
 use std::alloc::{AllocError, Global};
 
 /// What is open: brackets, operators that wait for their right side, the beginnings of items and

@@ -9,8 +9,7 @@ ghost use Rattle.gl_verilog_grammar.specs.View.{frame_of, frames_of, sort_of, ow
 
 use crate::reading::Reading;
 use crate::stage::{Owner, Sort, Stage, is_zero, item_of_names};
-use gl_verilog_written::{Keyword, Sign, Token, Word};
-use gl_verilog_written::{Direction, WrittenItem, WrittenPort};
+use gl_verilog_written::{Direction, Keyword, Sign, Token, Word, WrittenItem, WrittenPort};
 use std::alloc::AllocError;
 
 impl<'a> Reading<'a> {

@@ -6,11 +6,11 @@ ghost use Rattle.gl_verilog.specs.Written.{looseness, zero_digit};
 ghost use Rattle.gl_verilog_written.specs.View.{keyword_of, sign_of, token_of, tokens_in, prefix_of, infix_of, expr_of, statement_of, name_of, names_of, range_of, direction_of, item_of, module_of};
 ghost use Rattle.gl_verilog_grammar.specs.View.{frame_of, frames_of, sort_of, owner_of, stage_of, view, role_is, IsWithin, Moves, Goes, StopsAt, IsRun};
 
-use gl_verilog_written::VerilogFault;
 use crate::frames::Frame;
 use crate::stage::Stage;
-use gl_verilog_written::{Lexeme, Token, Word};
-use gl_verilog_written::{WrittenExpr, WrittenItem, WrittenModule, WrittenPort};
+use gl_verilog_written::{
+    Lexeme, Token, VerilogFault, Word, WrittenExpr, WrittenItem, WrittenModule, WrittenPort,
+};
 use std::alloc::{AllocError, Global};
 use std::mem;
 

@@ -9,8 +9,7 @@ ghost use Rattle.gl_verilog_grammar.specs.View.{frame_of, frames_of, sort_of, ow
 use crate::frames::{Frame, end_ifs, take_else};
 use crate::reading::Reading;
 use crate::stage::{Owner, Sort, Stage};
-use gl_verilog_written::{Keyword, Sign, Token, Word};
-use gl_verilog_written::{WrittenExpr, WrittenItem, WrittenStatement};
+use gl_verilog_written::{Keyword, Sign, Token, Word, WrittenExpr, WrittenItem, WrittenStatement};
 use std::alloc::AllocError;
 
 impl<'a> Reading<'a> {

@@ -1,15 +1,12 @@
 //! From a written module to its module, or the first fault in the order of the text.
 
-use gl_verilog_written::VerilogFault;
-use gl_verilog_written::{digit_of, small_number};
 use crate::sorting::first_in_loop;
-use gl_verilog_written::Word;
-use gl_verilog_written::{
-    Direction, InfixOp, PrefixOp, WrittenExpr, WrittenItem, WrittenModule, WrittenPort,
-    WrittenStatement,
-};
 use gl_bits::Listed;
 use gl_verilog::{Assignment, BinaryOp, Declaration, Expr, Kind, Module, Statement};
+use gl_verilog_written::{
+    Direction, InfixOp, PrefixOp, VerilogFault, Word, WrittenExpr, WrittenItem, WrittenModule,
+    WrittenPort, WrittenStatement, digit_of, small_number,
+};
 use std::alloc::Global;
 use std::collections::BTreeMap;
 

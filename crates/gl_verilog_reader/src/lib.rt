@@ -11,12 +11,11 @@ ghost use Rattle.gl_verilog_written.specs.View.{module_of};
 #[cfg(test)]
 mod tests;
 
-pub use gl_verilog_grammar::read_written;
-pub use gl_verilog_written::VerilogFault;
-
 use gl_verilog::Module;
 use gl_verilog_check::is_valid;
+pub use gl_verilog_grammar::read_written;
 use gl_verilog_resolver::resolved;
+pub use gl_verilog_written::VerilogFault;
 use gl_verilog_written::WrittenModule;
 use std::alloc::Global;
 

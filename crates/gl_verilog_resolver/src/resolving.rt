@@ -12,15 +12,12 @@ ghost use Rattle.gl_verilog.specs.View as meant;
 ghost use Rattle.gl_verilog_resolver.specs.Steps.{op_meant, width_meant, width_in, is_ranged, with_memory, with_assignment, with_block, step, steps, resolved_of};
 ghost use Rattle.gl_verilog_written.specs.View.{expr_of, statement_of, item_of, name_of, names_of, range_of, prefix_of, infix_of, port_of, direction_of, module_of};
 
-use gl_verilog_written::VerilogFault;
-use gl_verilog_written::{digit_of, small_number};
-use gl_verilog_written::Word;
-use gl_verilog_written::{
-    Direction, InfixOp, PrefixOp, WrittenExpr, WrittenItem, WrittenModule, WrittenPort,
-    WrittenStatement,
-};
 use gl_bits::Listed;
 use gl_verilog::{Assignment, BinaryOp, Declaration, Expr, Kind, Module, Statement};
+use gl_verilog_written::{
+    Direction, InfixOp, PrefixOp, VerilogFault, Word, WrittenExpr, WrittenItem, WrittenModule,
+    WrittenPort, WrittenStatement, digit_of, small_number,
+};
 use std::alloc::Global;
 
 // What is not read, or has a fault that the judging pass names.
