@@ -1,50 +1,27 @@
 //! From the text of a module to the module.
 #![tactic(auto)]
 
-ghost use Rattle.std.specs.Prelude.{◌≡◌, Some, IfOk, MatchResult};
-ghost use Rattle.gl_verilog.specs.Tokens.{tokens_of};
-ghost use Rattle.gl_verilog.specs.Written as spec;
-ghost use Rattle.gl_verilog.specs.Text.{HasModule, IsSpelling};
+ghost use Rattle.std.specs.Prelude.{◌≡◌, Some, IfOk};
+ghost use Rattle.gl_verilog.specs.Text.{HasModule};
 ghost use Rattle.gl_verilog.specs.Resolve.{resolve};
 ghost use Rattle.gl_verilog.specs.Valid.{IsValid};
 ghost use Rattle.gl_verilog.specs.View as meant;
-ghost use Rattle.gl_verilog_reader.specs.View.{module_of};
+ghost use Rattle.gl_verilog_written.specs.View.{module_of};
 
-pub mod expressions;
-pub mod fault;
-pub mod frames;
-pub mod header;
-pub mod judging;
-pub mod lexing;
-pub mod reading;
-pub mod resolving;
-pub mod sorting;
-pub mod stage;
-pub mod statements;
 #[cfg(test)]
 mod tests;
-pub mod token;
-pub mod written;
 
-pub use fault::VerilogFault;
 use gl_verilog::Module;
 use gl_verilog_check::is_valid;
+pub use gl_verilog_grammar::read_written;
+use gl_verilog_resolver::resolved;
+pub use gl_verilog_written::VerilogFault;
+use gl_verilog_written::WrittenModule;
 use std::alloc::Global;
-use written::WrittenModule;
-
-/// The module that a text spells as it is written, or the first token that cannot stand there or
-/// passes a limit.
-pub fn read_written<'a>(alloc: Global, text: &'a [u8]) -> Result<WrittenModule<'a>, VerilogFault>
-    ensures found { IfOk result (λ w. IsSpelling (tokens_of text.now) (module_of w)) }
-    ensures only { (w : spec.WrittenModule) → IsSpelling (tokens_of text.now) w → MatchResult result (λ v. module_of v ≡ w) (λ e. e ≡ VerilogFault.Memory) }
-{
-    let lexemes = lexing::lexemes(alloc, text)?;
-    reading::written_of(alloc, &lexemes, text.len())
-}
 
 // The first fault of a written module, or that it is not read yet.
 fn fault_of(alloc: Global, written: &WrittenModule) -> VerilogFault {
-    match judging::module_of(alloc, written) {
+    match gl_verilog_judge::module_of(alloc, written) {
         Ok(_) => VerilogFault::NotBuilt { at: 0 },
         Err(fault) => fault,
     }
@@ -55,7 +32,7 @@ fn valid_module(alloc: Global, written: &WrittenModule) -> Result<Module, Verilo
     ensures resolved { IfOk result (λ m. resolve (module_of written.now) ≡ Some (meant.module_of m)) }
     ensures valid { IfOk result (λ m. IsValid (meant.module_of m)) }
 {
-    let design = resolving::resolved(alloc, written)?;
+    let design = resolved(alloc, written)?;
     match is_valid(alloc, &design) {
         Ok(true) => Ok(design),
         Ok(false) => Err(VerilogFault::NotBuilt { at: 0 }),

@@ -1,0 +1,159 @@
+-- What the values of the reader stand for: what was read so far.
+use Rattle.std.specs.Prelude.{◌≡◌, ℕ, ◌≤◌, Bool, List, [], ◌∷◌, map, reverse, Option, Some, None, option_map, Result, Ok, IfOk, MatchBool, MatchResult, ◌+◌}
+use Rattle.gl_verilog.specs.Tokens as tokens
+use Rattle.gl_verilog.specs.Written as written
+use Rattle.gl_verilog.specs.Machine as machine
+use Rattle.gl_verilog_written.specs.declared.token.Word.{Word}
+use Rattle.gl_verilog_written.specs.declared.token.Keyword.{Keyword}
+use Rattle.gl_verilog_written.specs.declared.token.Keyword.TheVariants as keyword_is
+use Rattle.gl_verilog_written.specs.declared.token.Sign.{Sign}
+use Rattle.gl_verilog_written.specs.declared.token.Sign.TheVariants as sign_is
+use Rattle.gl_verilog_written.specs.declared.token.Token.{Token}
+use Rattle.gl_verilog_written.specs.declared.token.Token.TheVariants as token_is
+use Rattle.gl_verilog_written.specs.declared.token.Lexeme.{Lexeme}
+use Rattle.gl_verilog_written.specs.declared.written.PrefixOp.{PrefixOp}
+use Rattle.gl_verilog_written.specs.declared.written.PrefixOp.TheVariants as prefix_is
+use Rattle.gl_verilog_written.specs.declared.written.InfixOp.{InfixOp}
+use Rattle.gl_verilog_written.specs.declared.written.InfixOp.TheVariants as infix_is
+use Rattle.gl_verilog_written.specs.declared.written.WrittenExpr.{WrittenExpr, Named, Constant, BitOf, PartOf, WordOf', Braces', Parens', Prefix', Infix', Conditional', Row_of-WrittenExpr, end_of-WrittenExpr, more_of-WrittenExpr}
+use Rattle.gl_verilog_written.specs.declared.written.WrittenStatement.{WrittenStatement, Update, UpdateWord, IfThen', IfElse', Block', Row_of-WrittenStatement, end_of-WrittenStatement, more_of-WrittenStatement}
+use Rattle.gl_verilog_written.specs.declared.written.Direction.{Direction}
+use Rattle.gl_verilog_written.specs.declared.written.Direction.TheVariants as direction_is
+use Rattle.gl_verilog_written.specs.declared.written.WrittenPort.{WrittenPort}
+use Rattle.gl_verilog_written.specs.declared.written.WrittenItem.{WrittenItem}
+use Rattle.gl_verilog_written.specs.declared.written.WrittenItem.TheVariants as item_is
+use Rattle.gl_verilog_written.specs.declared.written.WrittenModule.{WrittenModule}
+use Rattle.gl_verilog_grammar.specs.declared.frames.Frame.{Frame}
+use Rattle.gl_verilog_grammar.specs.declared.frames.Frame.TheVariants as frame_is
+use Rattle.gl_verilog_grammar.specs.declared.stage.Sort.{Sort}
+use Rattle.gl_verilog_grammar.specs.declared.stage.Sort.TheVariants as sort_is
+use Rattle.gl_verilog_grammar.specs.declared.stage.Owner.{Owner}
+use Rattle.gl_verilog_grammar.specs.declared.stage.Owner.TheVariants as owner_is
+use Rattle.gl_verilog_grammar.specs.declared.stage.Stage.{Stage}
+use Rattle.gl_verilog_grammar.specs.declared.stage.Stage.TheVariants as stage_is
+use Rattle.gl_verilog_grammar.specs.declared.stage.Role.{Role}
+use Rattle.gl_verilog_grammar.specs.declared.stage.Role.TheVariants as role_name
+use Rattle.gl_verilog_grammar.specs.declared.reading.Reading.{Reading}
+use Rattle.gl_verilog_written.specs.declared.fault.VerilogFault.{VerilogFault}
+use Rattle.gl_verilog_written.specs.declared.fault.VerilogFault.TheVariants as fault
+use Rattle.gl_verilog_written.specs.View.{keyword_of, sign_of, token_of, tokens_in, prefix_of, infix_of, parts_list, expr_of, exprs_of, statement_of, statements_of, name_of, names_of, range_of, direction_of, port_of, item_of, module_of}
+
+abbrev pub role_is : Role → machine.Role
+role_is (role_name.IsInfix op) = machine.IsInfix (infix_of op)
+role_is role_name.IsQuestion = machine.IsQuestion
+role_is role_name.IsColon = machine.IsColon
+role_is role_name.IsComma = machine.IsComma
+role_is role_name.IsBrace = machine.IsBrace
+role_is role_name.IsParen = machine.IsParen
+role_is role_name.IsBracket = machine.IsBracket
+role_is role_name.IsSemicolon = machine.IsSemicolon
+role_is role_name.IsIndex = machine.IsIndex
+role_is role_name.IsOther = machine.IsOther
+
+unfoldable pub frame_of : Frame → machine.Frame
+frame_of frame_is.InParens = machine.InParens
+frame_of (frame_is.InBraces at parts) = machine.InBraces (map expr_of parts.items)
+frame_of (frame_is.InIndex name) = machine.InIndex (name_of name)
+frame_of (frame_is.PrefixOf op at) = machine.PrefixOf (prefix_of op)
+frame_of (frame_is.InfixOf op at left) = machine.InfixOf (infix_of op) (expr_of left)
+frame_of (frame_is.TestOf at test) = machine.TestOf (expr_of test)
+frame_of (frame_is.ColonOf at test yes') = machine.ColonOf (expr_of test) (expr_of yes')
+frame_of (frame_is.AssignTo target) = machine.AssignTo (name_of target)
+frame_of (frame_is.UpdateTo target) = machine.UpdateTo (name_of target)
+frame_of (frame_is.AddressFor target) = machine.AddressFor (name_of target)
+frame_of (frame_is.UpdateWordTo target address) = machine.UpdateWordTo (name_of target) (expr_of address)
+frame_of (frame_is.IfTest at) = machine.IfTest
+frame_of (frame_is.ThenOf at test) = machine.ThenOf (expr_of test)
+frame_of (frame_is.ElseOf at test yes') = machine.ElseOf (expr_of test) (statement_of yes')
+frame_of (frame_is.InBegin done) = machine.InBegin (map statement_of done.items)
+frame_of (frame_is.BodyOf clock) = machine.BodyOf (name_of clock)
+
+abbrev pub frames_of : List Frame → List machine.Frame
+frames_of frames = map frame_of (reverse frames)
+
+abbrev pub sort_of : Sort → machine.Sort
+sort_of sort_is.WireSort = machine.WireSort
+sort_of sort_is.RegisterSort = machine.RegisterSort
+
+abbrev pub owner_of : Owner → machine.Owner
+owner_of (owner_is.OfPort direction) = machine.OfPort (direction_of direction)
+owner_of (owner_is.OfItem sort) = machine.OfItem (sort_of sort)
+
+unfoldable pub stage_of : Stage → machine.Stage
+stage_of stage_is.WantModule = machine.WantModule
+stage_of stage_is.WantTitle = machine.WantTitle
+stage_of stage_is.WantPorts = machine.WantPorts
+stage_of stage_is.WantPort = machine.WantPort
+stage_of (stage_is.Declaring owner) = machine.Declaring (owner_of owner)
+stage_of (stage_is.WantHigh owner) = machine.WantHigh (owner_of owner)
+stage_of (stage_is.WantColon owner high) = machine.WantColon (owner_of owner) (name_of high)
+stage_of (stage_is.WantZero owner high) = machine.WantZero (owner_of owner) (name_of high)
+stage_of (stage_is.WantClose owner high) = machine.WantClose (owner_of owner) (name_of high)
+stage_of (stage_is.WantName owner range) = machine.WantName (owner_of owner) (range_of range)
+stage_of stage_is.AfterPort = machine.AfterPort
+stage_of stage_is.AfterPorts = machine.AfterPorts
+stage_of (stage_is.AfterName sort range names) = machine.AfterName (sort_of sort) (range_of range) (names_of names.items)
+stage_of (stage_is.WantMore sort range names) = machine.WantMore (sort_of sort) (range_of range) (names_of names.items)
+stage_of (stage_is.WantFirst range name) = machine.WantFirst (range_of range) (name_of name)
+stage_of (stage_is.WantMemoryColon range name) = machine.WantMemoryColon (range_of range) (name_of name)
+stage_of (stage_is.WantLast range name) = machine.WantLast (range_of range) (name_of name)
+stage_of (stage_is.WantMemoryClose range name last) = machine.WantMemoryClose (range_of range) (name_of name) (name_of last)
+stage_of (stage_is.WantMemoryEnd range name last) = machine.WantMemoryEnd (range_of range) (name_of name) (name_of last)
+stage_of stage_is.WantItem = machine.WantItem
+stage_of stage_is.WantAssigned = machine.WantAssigned
+stage_of (stage_is.WantEquals target) = machine.WantEquals (name_of target)
+stage_of stage_is.WantAt = machine.WantAt
+stage_of stage_is.WantEdge = machine.WantEdge
+stage_of stage_is.WantPosedge = machine.WantPosedge
+stage_of stage_is.WantClock = machine.WantClock
+stage_of (stage_is.WantEdgeEnd clock) = machine.WantEdgeEnd (name_of clock)
+stage_of stage_is.WantStatement = machine.WantStatement
+stage_of (stage_is.AfterTarget target) = machine.AfterTarget (name_of target)
+stage_of (stage_is.WantArrow target address) = machine.WantArrow (name_of target) (expr_of address)
+stage_of (stage_is.WantTest at) = machine.WantTest
+stage_of (stage_is.HaveStatement statement) = machine.HaveStatement (statement_of statement)
+stage_of stage_is.WantOperand = machine.WantOperand
+stage_of (stage_is.HaveOperand operand) = machine.HaveOperand (expr_of operand)
+stage_of (stage_is.AtIndex name) = machine.AtIndex (name_of name)
+stage_of (stage_is.AtPlace name place) = machine.AtPlace (name_of name) (name_of place)
+stage_of (stage_is.WantLow name high) = machine.WantLow (name_of name) (name_of high)
+stage_of (stage_is.AtPart name high low) = machine.AtPart (name_of name) (name_of high) (name_of low)
+stage_of stage_is.Complete = machine.Complete
+
+abbrev pub view : Reading → machine.State
+view r = record {
+  name = name_of r.name;
+  ports = map port_of r.ports.items;
+  items = map item_of r.items.items;
+  stage = stage_of r.stage;
+  frames = frames_of r.frames.items;
+  brackets = r.brackets;
+  operators = r.operators;
+  ifs = r.ifs;
+}
+
+-- no limit is passed
+pub record IsWithin (r : Reading) : Type 0 where
+  pub brackets : r.brackets ≤ 64
+  pub operators : r.operators ≤ 1024
+  pub ifs : r.ifs ≤ 1024
+
+-- a call answers whether the machine goes on, and then stands where the machine does
+abbrev pub Moves : {E : Type 0} → Result Bool E → Option machine.State → machine.State → Type 0
+Moves result next new = IfOk result (λ stands. MatchBool stands (next ≡ Some new) (next ≡ None))
+
+-- the machine goes from one state to the other by this token, whatever follows
+abbrev pub Goes : tokens.Token → machine.State → machine.State → Type 0
+Goes t s s' = (at : ℕ) (ts : List tokens.Token) → machine.run at s (t ∷ ts) ≡ machine.run (at + 1) s' ts
+
+-- where the machine reads a module, the fault is want of memory
+abbrev pub OnlyMemory : VerilogFault → Result written.WrittenModule machine.Fault → Type 0
+OnlyMemory e run = (w : written.WrittenModule) → run ≡ Ok w → e ≡ fault.Memory
+
+-- the machine reads no module past this token, or memory is wanted
+abbrev pub StopsAt : VerilogFault → tokens.Token → machine.State → Type 0
+StopsAt e t s = (at : ℕ) (ts : List tokens.Token) → OnlyMemory e (machine.run at s (t ∷ ts))
+
+-- what the machine reads is answered, or memory is wanted
+abbrev pub IsRun : Result WrittenModule VerilogFault → Result written.WrittenModule machine.Fault → Type 0
+IsRun result run = MatchResult result (λ w. run ≡ Ok (module_of w)) (λ e. OnlyMemory e run)

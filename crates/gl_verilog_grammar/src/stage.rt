@@ -1,0 +1,136 @@
+//! Where the reading of a module stands.
+
+ghost use Rattle.std.specs.Prelude.{◌≡◌, ◌≤◌, ◌<◌, ◌+◌, ◌||◌, ◌++◌, ◌∷◌, [], ℕ, map, length, reverse, nat_le, nat_lt, IfOk, MatchBool, MatchOption, MatchResult, Some, None, Ok, Err};
+ghost use Rattle.std.specs.Str.{bytes_eq};
+ghost use Rattle.gl_verilog.specs.Machine as machine;
+ghost use Rattle.gl_verilog.specs.Written.{looseness, zero_digit};
+ghost use Rattle.gl_verilog_written.specs.View.{keyword_of, sign_of, token_of, tokens_in, prefix_of, infix_of, expr_of, statement_of, name_of, names_of, range_of, direction_of, item_of, module_of};
+ghost use Rattle.gl_verilog_grammar.specs.View.{frame_of, frames_of, sort_of, owner_of, stage_of, view, role_is, IsWithin, Moves};
+
+use gl_verilog_written::{
+    Direction, InfixOp, Sign, Word, WrittenExpr, WrittenItem, WrittenStatement,
+};
+
+/// What a list of names declares.
+#[derive(Clone, Copy, PartialEq, Eq, Debug)]
+pub enum Sort {
+    WireSort,
+    RegisterSort,
+}
+
+/// What a range and a name belong to.
+#[derive(Clone, Copy, PartialEq, Eq, Debug)]
+pub enum Owner {
+    OfPort(Direction),
+    OfItem(Sort),
+}
+
+/// What was read last, or is wanted next.
+#[derive(Drop)]
+pub enum Stage<'a> {
+    WantModule,
+    WantTitle,
+    WantPorts,
+    WantPort,
+    Declaring(Owner),
+    WantHigh(Owner),
+    WantColon(Owner, Word<'a>),
+    WantZero(Owner, Word<'a>),
+    WantClose(Owner, Word<'a>),
+    WantName(Owner, Option<Word<'a>>),
+    AfterPort,
+    AfterPorts,
+    AfterName(Sort, Option<Word<'a>>, Vec<Word<'a>>),
+    WantMore(Sort, Option<Word<'a>>, Vec<Word<'a>>),
+    WantFirst(Option<Word<'a>>, Word<'a>),
+    WantMemoryColon(Option<Word<'a>>, Word<'a>),
+    WantLast(Option<Word<'a>>, Word<'a>),
+    WantMemoryClose(Option<Word<'a>>, Word<'a>, Word<'a>),
+    WantMemoryEnd(Option<Word<'a>>, Word<'a>, Word<'a>),
+    WantItem,
+    WantAssigned,
+    WantEquals(Word<'a>),
+    WantAt,
+    WantEdge,
+    WantPosedge,
+    WantClock,
+    WantEdgeEnd(Word<'a>),
+    WantStatement,
+    AfterTarget(Word<'a>),
+    WantArrow(Word<'a>, WrittenExpr<'a>),
+    WantTest(usize),
+    HaveStatement(WrittenStatement<'a>),
+    WantOperand,
+    HaveOperand(WrittenExpr<'a>),
+    AtIndex(Word<'a>),
+    AtPlace(Word<'a>, Word<'a>),
+    WantLow(Word<'a>, Word<'a>),
+    AtPart(Word<'a>, Word<'a>, Word<'a>),
+    Complete,
+}
+
+/// What a sign does behind an operand.
+#[derive(Clone, Copy, PartialEq, Eq, Debug)]
+pub enum Role {
+    IsInfix(InfixOp),
+    IsQuestion,
+    IsColon,
+    IsComma,
+    IsBrace,
+    IsParen,
+    IsBracket,
+    IsSemicolon,
+    IsIndex,
+    IsOther,
+}
+
+pub(crate) fn role_of(sign: Sign) -> Role
+    ensures { role_is result ≡ machine.role_of (sign_of sign) }
+{
+    match sign {
+        Sign::Star => Role::IsInfix(InfixOp::Times),
+        Sign::Plus => Role::IsInfix(InfixOp::Added),
+        Sign::Minus => Role::IsInfix(InfixOp::Subtracted),
+        Sign::Less => Role::IsInfix(InfixOp::Below),
+        Sign::LessEquals => Role::IsInfix(InfixOp::AtMost),
+        Sign::Greater => Role::IsInfix(InfixOp::Above),
+        Sign::GreaterEquals => Role::IsInfix(InfixOp::AtLeast),
+        Sign::EqualsEquals => Role::IsInfix(InfixOp::Equal),
+        Sign::ExclamationEquals => Role::IsInfix(InfixOp::NotEqual),
+        Sign::Ampersand => Role::IsInfix(InfixOp::BitAnd),
+        Sign::Caret => Role::IsInfix(InfixOp::BitXor),
+        Sign::Bar => Role::IsInfix(InfixOp::BitOr),
+        Sign::AmpersandAmpersand => Role::IsInfix(InfixOp::LogicalAnd),
+        Sign::BarBar => Role::IsInfix(InfixOp::LogicalOr),
+        Sign::Question => Role::IsQuestion,
+        Sign::Colon => Role::IsColon,
+        Sign::Comma => Role::IsComma,
+        Sign::CloseBrace => Role::IsBrace,
+        Sign::CloseParen => Role::IsParen,
+        Sign::CloseBracket => Role::IsBracket,
+        Sign::Semicolon => Role::IsSemicolon,
+        Sign::OpenBracket => Role::IsIndex,
+        _ => Role::IsOther,
+    }
+}
+
+// Whether a number is written `0`.
+pub(crate) fn is_zero(digits: Word) -> bool
+    ensures { result ≡ bytes_eq (name_of digits.entry) zero_digit }
+{
+    matches!(digits.bytes, b"0")
+}
+
+#[tactic(auto, unfolding(gl_verilog_written::specs::View::item_of))]
+pub(crate) fn item_of_names<'a>(
+    sort: Sort,
+    range: Option<Word<'a>>,
+    names: Vec<Word<'a>>,
+) -> WrittenItem<'a>
+    ensures { item_of result ≡ machine.item_of (sort_of sort) (range_of range.entry) (names_of names.entry.items) }
+{
+    match sort {
+        Sort::WireSort => WrittenItem::Wires { range, names },
+        Sort::RegisterSort => WrittenItem::Registers { range, names },
+    }
+}

@@ -1,0 +1,7 @@
+//! The first fault of a written module, in the order of the text.
+#![tactic(auto)]
+
+pub mod judging;
+pub mod sorting;
+
+pub use judging::module_of;

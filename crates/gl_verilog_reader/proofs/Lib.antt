@@ -1,7 +1,0 @@
-pub mod Views
-pub mod Stack
-pub mod Closers
-pub mod LexSteps
-pub mod Runs
-pub mod Spelled
-pub mod Resolves
