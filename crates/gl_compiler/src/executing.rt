@@ -29,7 +29,7 @@ use gl_sim::room::{ports_of, zeros};
 use gl_sim::{Sim, Start};
 use gl_tuples::{Beat, Beats};
 use gl_verilog::Module;
-use gl_verilog_reader::read_module;
+use gl_verilog_reader::{VerilogFault, read_module};
 use std::alloc::Global;
 
 /// How a run ended.
@@ -308,9 +308,11 @@ pub fn execute<K: Sink>(
     ensures memory { result ≡ Outcome.Memory → (K.taken out.new ≡ K.taken out.old) × (K.faults out.new ≡ K.faults out.old) }
     ensures never_falls { K.faults out.old ≤ K.faults out.new }
 {
-    // The text has a module. That the reader takes it is not proved, so the answer stands for both.
-    let Ok(design) = read_module(alloc, text) else {
-        return Outcome::Memory;
+    let design = match read_module(alloc, text) {
+        Ok(design) => design,
+        Err(VerilogFault::Memory) => return Outcome::Memory,
+        // The text has a module, and so no other fault.
+        Err(_) => unreachable!(),
     };
     execute_module(alloc, design, schema, kinds, beats, latency, start, out)
 }

@@ -45,10 +45,6 @@ pub enum VerilogFault {
     /// Too many brackets, operators or `if`.
     #[error("TooDeep")]
     TooDeep { at: u64 },
-    /// What is not read yet: a valid module with `begin .. end`, with more than two parts in braces,
-    /// or whose assignments do not stand in an order in which each reads only what stands before it.
-    #[error("NotBuilt")]
-    NotBuilt { at: u64 },
     /// Want of memory.
     #[error("Memory")]
     Memory,
