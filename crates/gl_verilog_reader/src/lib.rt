@@ -11,12 +11,11 @@ ghost use Rattle.gl_verilog_written.specs.View.{module_of};
 #[cfg(test)]
 mod tests;
 
-pub use gl_verilog_grammar::read_written;
-pub use gl_verilog_written::VerilogFault;
-
 use gl_verilog::Module;
 use gl_verilog_check::is_valid;
-use gl_verilog_resolver::resolved;
+pub use gl_verilog_grammar::read_written;
+use gl_verilog_resolver::{Unresolved, resolved};
+pub use gl_verilog_written::VerilogFault;
 use gl_verilog_written::WrittenModule;
 use std::alloc::Global;
 
@@ -33,7 +32,11 @@ fn valid_module(alloc: Global, written: &WrittenModule) -> Result<Module, Verilo
     ensures resolved { IfOk result (λ m. resolve (module_of written.now) ≡ Some (meant.module_of m)) }
     ensures valid { IfOk result (λ m. IsValid (meant.module_of m)) }
 {
-    let design = resolved(alloc, written)?;
+    let design = match resolved(alloc, written) {
+        Ok(design) => design,
+        Err(Unresolved::Memory) => return Err(VerilogFault::Memory),
+        Err(Unresolved::Unmeant) => return Err(VerilogFault::NotBuilt { at: 0 }),
+    };
     match is_valid(alloc, &design) {
         Ok(true) => Ok(design),
         Ok(false) => Err(VerilogFault::NotBuilt { at: 0 }),

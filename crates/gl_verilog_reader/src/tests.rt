@@ -509,11 +509,11 @@ fn texts_are_read_or_refused(rt: HostRuntime) -> Result<(), Fail> {
         ),
         (
             "module m(input wire clk, input wire x, output reg y); always @(posedge clk) begin y <= x; end endmodule",
-            "NotBuilt",
+            "read",
         ),
         (
             "module m(input wire x, output wire y); wire n; assign y = n; assign n = x; endmodule",
-            "NotBuilt",
+            "read",
         ),
         (
             "module m(input wire x, output wire y); assign y = z; endmodule",
