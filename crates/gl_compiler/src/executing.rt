@@ -286,6 +286,15 @@ pub fn execute_module<K: Sink>(
     }
 }
 
+// The outcome where a text that has a module was not read: nothing but want of memory does that.
+fn unread(fault: VerilogFault) -> Outcome
+    requires { fault ≡ VerilogFault.Memory }
+    ensures { result ≡ Outcome.Memory }
+{
+    let _ = fault;
+    Outcome::Memory
+}
+
 /// Runs the text of a module over beats, and writes the lines of the result, as `execute_module`
 /// does.
 pub fn execute<K: Sink>(
@@ -310,9 +319,7 @@ pub fn execute<K: Sink>(
 {
     let design = match read_module(alloc, text) {
         Ok(design) => design,
-        Err(VerilogFault::Memory) => return Outcome::Memory,
-        // The text has a module, and so no other fault.
-        Err(_) => unreachable!(),
+        Err(fault) => return unread(fault),
     };
     execute_module(alloc, design, schema, kinds, beats, latency, start, out)
 }

@@ -4,6 +4,10 @@ use Rattle.gl_compiler.specs.Prints.{Writes, WritesFront}
 use Rattle.gl_compiler.proofs.Each.{can_follow, of_each_run}
 use Rattle.gl_compiler.proofs.executing.execute.Goals as goal
 
+-- the text has a module, so the one fault is want of memory
+pub unread-requires : goal.unread-requires
+unread-requires g c = c.in-Err.ensures.only c.requires.runs.design c.requires.runs.has
+
 pub execute_module-requires-clause-can : goal.execute_module-requires-clause-can
 execute_module-requires-clause-can g c = can_follow c.args.text.now c.args.schema.now c.args.kinds.now (plain_beats c.args.beats.now) c.args.latency c.args.start c.in-Ok.design c.requires.runs c.in-Ok.ensures.found c.requires.beats
 
