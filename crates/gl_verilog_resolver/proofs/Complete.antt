@@ -4,6 +4,7 @@ use Rattle.std.specs.Prelude.{option_map, option_and_then, slice_get, IsSomeAnd,
 use Rattle.std.specs.List.{AllByRecursion}
 use Rattle.std.proofs.lemmas.List.{append-nil}
 use Rattle.std.proofs.Math.Nat.{pow-le-pow_right}
+use Rattle.std.proofs.lemmas.Bool.{le-leb}
 use Rattle.gl_verilog.specs.Tokens.{number_in}
 use Rattle.gl_verilog.specs.Module as spec
 use Rattle.gl_verilog.specs.Module.{Declaration, Expr, Statement}
@@ -13,8 +14,8 @@ use Rattle.gl_verilog.specs.Written as written
 use Rattle.gl_verilog.specs.Written.{PrefixOp, InfixOp, Range}
 use Rattle.gl_verilog.specs.Resolve as resolve
 use Rattle.gl_verilog.specs.Resolve.{Resolved, decimal_number, number_read, resolve_expr, resolve_statement, resolve_items}
-use Rattle.gl_verilog.proofs.Fits.{found_in, all_at, width_at-found}
-use Rattle.gl_verilog_resolver.specs.Fitting.{op_meant, width_meant, width_in, prefix_width, prefix_meant, infix_meant, join_meant, literal_meant, select_meant, expr_meant, statement_meant, declared_next, port_next, passed}
+use Rattle.gl_verilog.proofs.Fits.{is_width, found_in, all_at, width_at-found}
+use Rattle.gl_verilog_resolver.specs.Fitting.{listed, few_meant, op_meant, width_meant, width_in, prefix_width, prefix_meant, infix_meant, join_meant, literal_meant, select_meant, expr_meant, statement_meant, declared_next, port_next, passed}
 use Rattle.gl_verilog_resolver.specs.Steps.{with_declarations, with_memory, with_assignment, with_block, with_ports, step, all_resolved}
 use Rattle.gl_verilog_resolver.proofs.Bytes.{byte-fits, long-fits}
 use Rattle.gl_verilog_resolver.proofs.Options.{map_some, then_some, both_some, three_some}
@@ -100,6 +101,30 @@ join_fits ds all x y k =
 keeps_at : (all : List Declaration) (x y : Expr) → x ≡ y → KeepsWidths all x → KeepsWidths all y
 keeps_at all x y e k = subst (KeepsWidths all) e k
 
+few_fits : (w : written.WrittenExpr) (o : Option Expr) → listed w ≤ 128 → few_meant w o ≡ o
+unfolding few_meant
+few_fits w o h = rw (le-leb (listed w) 128 h) refl
+
+-- each part in braces has a bit
+listed_fits : (w : written.WrittenExpr) (ds all : List Declaration) (e : Expr) → resolve_expr ds w ≡ Some e → AllByRecursion HasSize all → KeepsWidths all e → listed w ≤ width_of all e
+listed_fits (written.Named name) ds all e h sizes k = (is_width all e sizes k).some'
+listed_fits (written.Constant size radix digits) ds all e h sizes k = (is_width all e sizes k).some'
+listed_fits (written.BitOf name place) ds all e h sizes k = (is_width all e sizes k).some'
+listed_fits (written.PartOf name high low) ds all e h sizes k = (is_width all e sizes k).some'
+listed_fits (written.WordOf name address) ds all e h sizes k = (is_width all e sizes k).some'
+listed_fits (written.Braces parts) ds all e h sizes k = (is_width all e sizes k).some'
+listed_fits (written.Parts first rest) ds all e h sizes k =
+    let m = both_some (resolve.joined ds) (resolve_expr ds first) (resolve_expr ds rest) e h in
+    let k' = keeps_at all e (spec.Join (width_of ds m.1) m.0 m.1) m.4 k in
+    let one = (is_width all m.0 sizes k'.2).some' in
+    let more = listed_fits rest ds all m.1 m.3 sizes k'.3 in
+    let both : listed rest + 1 ≤ width_of all (spec.Join (width_of ds m.1) m.0 m.1) = omega (arith, one, more, k'.0) in
+    subst (λ x. listed rest + 1 ≤ width_of all x) (sym m.4) both
+listed_fits (written.Parens inner) ds all e h sizes k = (is_width all e sizes k).some'
+listed_fits (written.Prefix op arg) ds all e h sizes k = (is_width all e sizes k).some'
+listed_fits (written.Infix op left right) ds all e h sizes k = (is_width all e sizes k).some'
+listed_fits (written.Conditional test yes' no') ds all e h sizes k = (is_width all e sizes k).some'
+
 pub expr_fits : (w : written.WrittenExpr) (ds all : List Declaration) (e : Expr) → resolve_expr ds w ≡ Some e → AllByRecursion HasSize all → KeepsWidths all e → Fits ds w e
 expr_fits (written.Named name) ds all e h sizes k = h
 expr_fits (written.Constant size radix digits) ds all e h sizes k =
@@ -115,7 +140,8 @@ expr_fits (written.WordOf name address) ds all e h sizes k =
     let m = both_some spec.Read (number_read ds name) (resolve_expr ds address) e h in
     let k' = keeps_at all e (spec.Read m.0 m.1) m.4 k in
     rw (m.2, expr_fits address ds all m.1 m.3 sizes k'.1) (ap Some (sym m.4))
-expr_fits (written.Braces parts) ds all e h sizes k = expr_fits parts ds all e h sizes k
+expr_fits (written.Braces parts) ds all e h sizes k =
+    few_fits parts (expr_meant ds parts) (let l = listed_fits parts ds all e h sizes k in let w = width_most e all sizes k in omega (arith, l, w)) ∙ expr_fits parts ds all e h sizes k
 expr_fits (written.Parts first rest) ds all e h sizes k =
     let m = both_some (resolve.joined ds) (resolve_expr ds first) (resolve_expr ds rest) e h in
     let k' = keeps_at all e (spec.Join (width_of ds m.1) m.0 m.1) m.4 k in

@@ -1,5 +1,5 @@
 -- What fits is what a written module resolves to.
-use Rattle.std.proofs.Common.{◌≡◌, ℕ, ◌+◌, List, [], ◌∷◌, ◌++◌, map, length, suc, Option, Some, None, refl, sym, ap, ◌∙◌, append_assoc}
+use Rattle.std.proofs.Common.{◌≡◌, ℕ, Bool, true, false, cond, ◌+◌, List, [], ◌∷◌, ◌++◌, map, length, suc, Option, Some, None, refl, sym, ap, ◌∙◌, append_assoc}
 use Rattle.std.specs.Prelude.{option_map, option_and_then}
 use Rattle.std.proofs.lemmas.List.{append-nil}
 use Rattle.gl_verilog.specs.Tokens.{number_in}
@@ -9,7 +9,7 @@ use Rattle.gl_verilog.specs.Written as written
 use Rattle.gl_verilog.specs.Written.{PrefixOp, InfixOp, Range}
 use Rattle.gl_verilog.specs.Resolve as resolve
 use Rattle.gl_verilog.specs.Resolve.{Resolved, decimal_number, number_read, resolve_expr, resolve_statement, resolve_items}
-use Rattle.gl_verilog_resolver.specs.Fitting.{byte, long, op_meant, width_meant, width_in, prefix_width, prefix_meant, infix_meant, join_meant, literal_meant, select_meant, expr_meant, statement_meant, declaration_with, declared_next, port_next, passed}
+use Rattle.gl_verilog_resolver.specs.Fitting.{few_meant, byte, long, op_meant, width_meant, width_in, prefix_width, prefix_meant, infix_meant, join_meant, literal_meant, select_meant, expr_meant, statement_meant, declaration_with, declared_next, port_next, passed}
 use Rattle.gl_verilog_resolver.specs.Steps.{with_declarations, with_memory, with_assignment, with_block, with_ports, step, all_resolved}
 use Rattle.gl_verilog_resolver.proofs.Bytes.{byte-some, long-some}
 use Rattle.gl_verilog_resolver.proofs.Options.{map_some, then_some, both_some, both_then_some, three_some}
@@ -52,6 +52,14 @@ select_is ds name high low e h =
     ∙ ap (λ w. Some (spec.Select w (decimal_number low) m.2)) (sym (byte-some (decimal_number high) m.0 m.3))
     ∙ ap (λ w. Some (spec.Select m.0 w m.2)) (sym (byte-some (decimal_number low) m.1 m.4)) ∙ ap Some (sym m.6)
 
+if_some : {A : Type 0} (b : Bool) (o : Option A) (e : A) → cond b o None ≡ Some e → o ≡ Some e
+if_some true o e h = h
+if_some false o e h = absurd cc
+
+few_some : (w : written.WrittenExpr) (o : Option Expr) (e : Expr) → few_meant w o ≡ Some e → o ≡ Some e
+unfolding few_meant
+few_some w o e h = if_some _ o e h
+
 pub expr_is : (w : written.WrittenExpr) (ds : List Declaration) (e : Expr) → expr_meant ds w ≡ Some e → resolve_expr ds w ≡ Some e
 expr_is (written.Named name) ds e h = h
 expr_is (written.Constant size radix digits) ds e h = ap Some (sym (literal_is radix size digits e h))
@@ -60,7 +68,7 @@ expr_is (written.PartOf name high low) ds e h = select_is ds name high low e h
 expr_is (written.WordOf name address) ds e h =
     let m = both_some spec.Read (number_read ds name) (expr_meant ds address) e h in
     rw (m.2, expr_is address ds m.1 m.3) (ap Some (sym m.4))
-expr_is (written.Braces parts) ds e h = expr_is parts ds e h
+expr_is (written.Braces parts) ds e h = expr_is parts ds e (few_some parts (expr_meant ds parts) e h)
 expr_is (written.Parts first rest) ds e h =
     let m = both_then_some (join_meant ds) (expr_meant ds first) (expr_meant ds rest) e h in
     rw (expr_is first ds m.0 m.2, expr_is rest ds m.1 m.3) (ap Some (sym (byte_map (λ width. spec.Join width m.0 m.1) _ e m.4)))

@@ -1,5 +1,5 @@
 -- What a written module resolves to, where its numbers fit: a width or a place in a byte, a value in 128 bits.
-use Rattle.std.specs.Prelude.{◌≡◌, ℕ, Bool, true, false, ◌+◌, ◌^◌, List, [], ◌∷◌, ◌++◌, Option, Some, None, option_map, option_and_then, Result, MatchResult, nat_lt, if◌then◌else◌}
+use Rattle.std.specs.Prelude.{◌≡◌, ℕ, Bool, true, false, ◌+◌, ◌^◌, List, [], ◌∷◌, ◌++◌, Option, Some, None, option_map, option_and_then, Result, MatchResult, nat_le, nat_lt, if◌then◌else◌}
 use Rattle.gl_verilog.specs.Tokens.{number_in}
 use Rattle.gl_verilog.specs.Module.{Declaration, Kind, BinaryOp, Add, Sub, Mul, And, Xor, Or, Eq, Ne, Lt, Le, Gt, Ge, Expr, Net, Literal, Invert, Binary, Choose, Join, Select, Read, Statement, Nothing, Put, Write, Both, If, number_of}
 use Rattle.gl_verilog.specs.Widths.{width_of}
@@ -84,13 +84,31 @@ infix_meant ds op x y = option_map (λ width. Binary (op_meant op) width x y) (b
 abbrev pub join_meant : List Declaration → Expr → Expr → Option Expr
 join_meant ds x y = option_map (λ width. Join width x y) (byte (width_of ds y))
 
+-- how many parts a list in braces has
+abbrev pub listed : WrittenExpr → ℕ
+listed (Named name) = 1
+listed (Constant size radix digits) = 1
+listed (BitOf name place) = 1
+listed (PartOf name high low) = 1
+listed (WordOf name address) = 1
+listed (Braces parts) = 1
+listed (Parts first rest) = listed rest + 1
+listed (Parens inner) = 1
+listed (Prefix op arg) = 1
+listed (Infix op left right) = 1
+listed (Conditional test yes' no') = 1
+
+-- what parts in braces are, where they are at most 128: each has a bit, and no valid module has more in braces
+unfoldable pub few_meant : WrittenExpr → Option Expr → Option Expr
+few_meant parts meant = if nat_le (listed parts) 128 then meant else None
+
 abbrev pub expr_meant : List Declaration → WrittenExpr → Option Expr
 expr_meant ds (Named name) = option_map Net (number_read ds name)
 expr_meant ds (Constant size radix digits) = literal_meant radix size digits
 expr_meant ds (BitOf name place) = select_meant ds name place place
 expr_meant ds (PartOf name high low) = select_meant ds name high low
 expr_meant ds (WordOf name address) = both Read (number_read ds name) (expr_meant ds address)
-expr_meant ds (Braces parts) = expr_meant ds parts
+expr_meant ds (Braces parts) = few_meant parts (expr_meant ds parts)
 expr_meant ds (Parts first rest) = both_then (join_meant ds) (expr_meant ds first) (expr_meant ds rest)
 expr_meant ds (Parens inner) = expr_meant ds inner
 expr_meant ds (Prefix op arg) = option_and_then (prefix_meant ds op) (expr_meant ds arg)

@@ -1,6 +1,6 @@
 //! The expressions that are meant.
 
-ghost use Rattle.std.specs.Prelude.{◌≡◌, map, option_map, Some, MatchResult, []};
+ghost use Rattle.std.specs.Prelude.{◌≡◌, map, option_map, Some, MatchResult, nat_le, []};
 ghost use Rattle.gl_verilog.specs.Module as spec;
 ghost use Rattle.gl_verilog.specs.Resolve as resolve;
 ghost use Rattle.gl_verilog.specs.View.{declaration_of, op_of};
@@ -183,6 +183,30 @@ fn parts_meant(
     join(alloc, declarations, high, low)
 }
 
+// Whether a list in braces has no more parts than a valid module has: each of them has a bit.
+#[tactic(auto, using(crate::proofs::Braces::listed_few))]
+fn are_few(parts: &[WrittenExpr]) -> bool
+    ensures { result ≡ nat_le (fitting.listed (parts_list (map expr_of parts.now))) 128 }
+{
+    parts.len() <= 128
+}
+
+// What braces with these parts are. A longer list than any valid module has is not followed.
+#[cycle(expression)]
+#[tactic(auto, unfolding(crate::specs::Fitting::few_meant))]
+fn braces_meant(
+    alloc: Global,
+    declarations: &[Declaration],
+    parts: &[WrittenExpr],
+) -> Result<Expr, Unresolved>
+    ensures { Gives meant.expr_of (fitting.few_meant (parts_list (map expr_of parts.now)) (fitting.expr_meant (map declaration_of declarations.now) (parts_list (map expr_of parts.now)))) result }
+{
+    if !are_few(parts) {
+        return Err(Unresolved::Unmeant);
+    }
+    parts_meant(alloc, declarations, parts)
+}
+
 // The expression that is meant.
 #[cycle(expression)]
 #[tactic(auto, using(gl_verilog_written::proofs::Views::expressions))]
@@ -207,7 +231,7 @@ pub(crate) fn expr_meant(
             let address = expr_meant(alloc, declarations, address)?;
             word(alloc, memory, address)
         }
-        WrittenExpr::Braces { parts, .. } => parts_meant(alloc, declarations, parts.as_slice()),
+        WrittenExpr::Braces { parts, .. } => braces_meant(alloc, declarations, parts.as_slice()),
         WrittenExpr::Parens(inner) => expr_meant(alloc, declarations, inner),
         WrittenExpr::Prefix { op, arg, .. } => {
             let arg = expr_meant(alloc, declarations, arg)?;

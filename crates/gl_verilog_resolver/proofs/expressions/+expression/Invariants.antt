@@ -8,3 +8,6 @@ decreases-expr_meant l = parts_in (expr_of l.written.now)
 
 abbrev pub decreases-parts_meant : goal.decreases-parts_meant
 decreases-parts_meant l = parts_in (parts_list (map expr_of l.parts.now)) + 1
+
+abbrev pub decreases-braces_meant : goal.decreases-braces_meant
+decreases-braces_meant l = parts_in (parts_list (map expr_of l.parts.now)) + 2
