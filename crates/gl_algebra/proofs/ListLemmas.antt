@@ -1,6 +1,7 @@
 -- Elements of lists by place.
-use Rattle.std.proofs.Common.{Bool, true, false, ◌&&◌, not, cond, ◌⊎◌, inl, inr, ◌≡◌, ℕ, zero, suc, ◌+◌, ◌<◌, ◌≤◌, List, [], ◌∷◌, ◌++◌, length, Option, Some, None, slice_get, refl, sym, ap, ◌∙◌, arith, length-append}
+use Rattle.std.proofs.Common.{Bool, true, false, ◌&&◌, not, cond, ◌⊎◌, inl, inr, ◌≡◌, ℕ, zero, suc, ◌+◌, ◌<◌, ◌≤◌, List, [], ◌∷◌, ◌++◌, length, Option, Some, None, slice_get, All, refl, sym, ap, ◌∙◌, subst, arith, length-append}
 use Rattle.std.proofs.Math.Numerals.{one-add}
+use Rattle.std.proofs.lemmas.List.{get_or_append_left, get_or-append-add}
 use Rattle.std.specs.List.{list_any, position_or_len}
 use Rattle.indexmap.specs.IndexSet.{insert_key}
 
@@ -89,6 +90,16 @@ module _ {K : Type 0} (eq : K → K → Bool) (same : (x y : K) → eq x y ≡ t
               grows = inr (rw e refl);
             }
       ]
+
+-- what holds of all elements of a joined list holds of those of each part
+module _ {A : Type 0} (P : A → Type 0) (xs ys : List A) (h : All P (xs ++ ys)) where
+  pub all_left : All P xs
+  all_left k d below =
+      let long = length-append xs ys in subst P (get_or_append_left xs ys d k below) (h k d (omega arith))
+
+  pub all_right : All P ys
+  all_right k d below =
+      let long = length-append xs ys in subst P (get_or-append-add xs ys k d) (h (length xs + k) d (omega arith))
 
 -- both parts of a test that holds
 pub both : (a b : Bool) → (a && b) ≡ true → (a ≡ true) × (b ≡ true)

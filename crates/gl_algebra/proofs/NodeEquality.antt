@@ -4,6 +4,7 @@ use Rattle.std.specs.Bool.{Decides}
 use Rattle.std.specs.Cmp.{IsEquivalence, unsigned_Decides}
 use Rattle.std.specs.Cmp.Lexicographic.{pointwise, pointwise_decides}
 use Rattle.gl_algebra.proofs.ListLemmas.{both}
+use Rattle.gl_algebra.specs.Added.{same_node}
 use Rattle.gl_bits.specs.Words.{Word}
 use Rattle.gl_bits.specs.declared.kind.Kind.{Kind}
 use Rattle.gl_bits.specs.declared.kind.Kind.TheVariants.{Unsigned, Text}
@@ -28,7 +29,6 @@ use Rattle.gl_algebra.specs.contracts.node.PlanAggPartialEq.TheImpl as OfPlanAgg
 use Rattle.gl_algebra.specs.contracts.node.PlanAggEq.TheImpl.Laws as PlanAggLaws
 use Rattle.gl_algebra.specs.declared.node.PlanNode.{PlanNode}
 use Rattle.gl_algebra.specs.declared.node.PlanNode.TheVariants.{Stream, Body, Compute, Select, Project, Aggregate, Union, Beside, Window, Group}
-use Rattle.gl_algebra.specs.contracts.node.PlanNodePartialEq.TheImpl as OfPlanNode
 use Rattle.gl_algebra.specs.contracts.node.PlanNodeEq.TheImpl.Laws as PlanNodeLaws
 
 -- a test that holds of one thing alone, and of each thing and itself, decides
@@ -81,7 +81,7 @@ same_operand (Literal u k) (Literal v l) h =
 same_operands : (xs ys : List Operand) → pointwise OfOperand.ghosts.eq xs ys ≡ true → xs ≡ ys
 same_operands xs ys = (pointwise_decides (decides_from OfOperand.ghosts.eq OperandLaws.laws-law same_operand) xs ys).0
 
-same_op : (x y : ColOp) → OfColOp.ghosts.eq x y ≡ true → x ≡ y
+pub same_op : (x y : ColOp) → OfColOp.ghosts.eq x y ≡ true → x ≡ y
 same_op (Not a) (Not b) h = ap Not (same_operand a b h)
 same_op (Cast a k) (Cast b l) h =
     let parts = both (OfOperand.ghosts.eq a b) (OfKind.ghosts.eq k l) h in
@@ -109,46 +109,42 @@ same_agg _ _ h = absurd (cc)
 same_aggs : (xs ys : List PlanAgg) → pointwise OfPlanAgg.ghosts.eq xs ys ≡ true → xs ≡ ys
 same_aggs xs ys = (pointwise_decides (decides_from OfPlanAgg.ghosts.eq PlanAggLaws.laws-law same_agg) xs ys).0
 
--- the test of nodes
-abbrev pub eq : PlanNode → PlanNode → Bool
-eq = OfPlanNode.ghosts.eq
-
--- nodes that pass it are the same
-pub same_node : (x y : PlanNode) → eq x y ≡ true → x ≡ y
-same_node (Stream m k) (Stream n l) h =
+-- nodes that pass the test of nodes are one
+pub same_node-is : (x y : PlanNode) → same_node x y ≡ true → x ≡ y
+same_node-is (Stream m k) (Stream n l) h =
     let parts = both (nat_eq m n) (pointwise OfKind.ghosts.eq k l) h in
     λ i. Stream (number m n parts.0 i) (same_kinds k l parts.1 i)
-same_node (Body k) (Body l) h = ap Body (same_kinds k l h)
-same_node (Compute c o) (Compute d p) h =
+same_node-is (Body k) (Body l) h = ap Body (same_kinds k l h)
+same_node-is (Compute c o) (Compute d p) h =
     let parts = both (nat_eq c d) (pointwise OfColOp.ghosts.eq o p) h in
     λ i. Compute (number c d parts.0 i) (same_ops o p parts.1 i)
-same_node (Select c m) (Select d n) h =
+same_node-is (Select c m) (Select d n) h =
     let parts = both (nat_eq c d) (nat_eq m n) h in
     λ i. Select (number c d parts.0 i) (number m n parts.1 i)
-same_node (Project c o) (Project d p) h =
+same_node-is (Project c o) (Project d p) h =
     let parts = both (nat_eq c d) (pointwise OfOperand.ghosts.eq o p) h in
     λ i. Project (number c d parts.0 i) (same_operands o p parts.1 i)
-same_node (Aggregate c o) (Aggregate d p) h =
+same_node-is (Aggregate c o) (Aggregate d p) h =
     let parts = both (nat_eq c d) (pointwise OfPlanAgg.ghosts.eq o p) h in
     λ i. Aggregate (number c d parts.0 i) (same_aggs o p parts.1 i)
-same_node (Union a b) (Union c d) h =
+same_node-is (Union a b) (Union c d) h =
     let parts = both (nat_eq a c) (nat_eq b d) h in
     λ i. Union (number a c parts.0 i) (number b d parts.1 i)
-same_node (Beside a b) (Beside c d) h =
+same_node-is (Beside a b) (Beside c d) h =
     let parts = both (nat_eq a c) (nat_eq b d) h in
     λ i. Beside (number a c parts.0 i) (number b d parts.1 i)
-same_node (Window a b m n) (Window c d p q) h =
+same_node-is (Window a b m n) (Window c d p q) h =
     let first = both (nat_eq a c) (nat_eq b d && (nat_eq m p && nat_eq n q)) h in
     let second = both (nat_eq b d) (nat_eq m p && nat_eq n q) first.1 in
     let third = both (nat_eq m p) (nat_eq n q) second.1 in
     λ i. Window (number a c first.0 i) (number b d second.0 i) (number m p third.0 i) (number n q third.1 i)
-same_node (Group a b m n) (Group c d p q) h =
+same_node-is (Group a b m n) (Group c d p q) h =
     let first = both (nat_eq a c) (nat_eq b d && (nat_eq m p && nat_eq n q)) h in
     let second = both (nat_eq b d) (nat_eq m p && nat_eq n q) first.1 in
     let third = both (nat_eq m p) (nat_eq n q) second.1 in
     λ i. Group (number a c first.0 i) (number b d second.0 i) (number m p third.0 i) (number n q third.1 i)
-same_node _ _ h = absurd (cc)
+same_node-is _ _ h = absurd (cc)
 
 -- and each node passes it with itself
-pub eq-self : (x : PlanNode) → eq x x ≡ true
-eq-self x = PlanNodeLaws.laws-law.refl x
+pub same_node-self : (x : PlanNode) → same_node x x ≡ true
+same_node-self x = PlanNodeLaws.laws-law.refl x

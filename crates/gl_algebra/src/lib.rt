@@ -2,6 +2,7 @@
 //! of rows.
 #![tactic(auto)]
 
+pub mod columns;
 pub mod figures;
 pub mod laws;
 pub mod node;
