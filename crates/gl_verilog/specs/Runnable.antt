@@ -3,6 +3,7 @@ use Rattle.std.specs.Prelude.{◌≡◌, ◌≢◌, ℕ, ◌+◌, ◌^◌, ◌<�
 use Rattle.std.specs.List.{AllByRecursion, AllZip}
 use Rattle.gl_verilog.specs.Module.{Kind, Input, Declaration, Module, Nets, Memories, Statement, Nothing, Put, Write, Both, If}
 use Rattle.gl_verilog.specs.Run.{IsRun, IsRegister, IsSettled, Fit}
+pub use Rattle.gl_verilog.specs.Run.{is_input}
 use Rattle.gl_verilog.specs.Widths.{HasSize, IsDriven, IsReadable, KeepsWidth, KeepsWidthsIn, is_clock, width_at, words_in}
 use Rattle.gl_verilog.specs.Order.{IsUndriven, CanBeOrdered}
 
@@ -13,10 +14,6 @@ pub record IsRunnable (m : Module) : Type 0 where
   pub blocks : AllByRecursion (KeepsWidthsIn m.declarations) m.blocks
   pub driven : (n : ℕ) (d : Declaration) → slice_get m.declarations n ≡ Some d → IsDriven d.kind → IsUndriven m.assignments n → ⊥
   pub ordered : CanBeOrdered m.assignments
-
-abbrev pub is_input : Kind → Bool
-is_input Input = true
-is_input _ = false
 
 -- the numbers of the input ports but the clock, in their order, counted from n
 abbrev pub inputs_from : ℕ → List Declaration → List ℕ
