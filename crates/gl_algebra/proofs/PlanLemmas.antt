@@ -7,8 +7,9 @@ use Rattle.gl_algebra.specs.declared.node.PlanNode.{PlanNode}
 use Rattle.gl_algebra.specs.Nodewise.{named_by}
 use Rattle.gl_algebra.specs.Added.{same_node}
 use Rattle.gl_algebra.specs.Fits.{Fits, IsPlan}
-use Rattle.gl_algebra.proofs.ListLemmas.{get-append, get-last, IsAtPlace, earlier, last, place_in_append, Tested, passes, fails, tested, any_at, IsInserted, inserted}
+use Rattle.gl_algebra.proofs.ListLemmas.{get-append, IsAtPlace, earlier, last, place_in_append, any_at, IsInserted, inserted}
 use Rattle.gl_algebra.proofs.NodeEquality.{same_node-is, same_node-self}
+use Rattle.gl_bits.proofs.Bools.{by_cases}
 use Rattle.gl_algebra.proofs.NodewiseLemmas.{AreInOrder}
 use Rattle.gl_algebra.proofs.ShapeLemmas.{fits-kept}
 
@@ -62,10 +63,7 @@ plan-append nodes node plan fits fresh = record { fits = keeps; distinct = apart
 -- a plan stays one, whether it had the node or not
 pub plan-insert : (nodes : List PlanNode) (node : PlanNode) → IsPlan nodes → Fits nodes (length nodes) node → IsPlan (insert_key same_node nodes node)
 plan-insert nodes node plan fits =
-    elim (tested (list_any (same_node node) nodes)) [
-      | passes e ↦ rw e plan
-      | fails e ↦ rw e (plan-append nodes node plan fits e)
-    ]
+    by_cases (list_any (same_node node) nodes) (λ e. rw e plan) (λ e. rw e (plan-append nodes node plan fits e))
 
 -- a number below the length has a node
 pub node_at : (nodes : List PlanNode) (number : ℕ) → number < length nodes → (node : PlanNode) × (slice_get nodes number ≡ Some node)

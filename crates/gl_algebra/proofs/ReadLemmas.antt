@@ -7,7 +7,8 @@ use Rattle.gl_algebra.specs.declared.node.PlanNode.TheVariants.{Stream, Body, Co
 use Rattle.gl_algebra.specs.Fits.{IsPlan, Suits}
 use Rattle.gl_algebra.specs.Laws.{BodiesReadTheirInput}
 use Rattle.gl_algebra.specs.Nodewise.{named_by}
-use Rattle.gl_algebra.specs.Results.{Row, Inputs, Results, Meaning, given, IsChanged, IsOfBoth, AreBeside, AreJoined, IsOfParts, IsOfGroup, meaning_from, IsPlanResult}
+use Rattle.gl_bits.specs.Results.{Row, Results, IsChanged, IsOfBoth, AreBeside, AreJoined, IsOfParts, IsOfGroup}
+use Rattle.gl_algebra.specs.Results.{Inputs, Meaning, given, meaning_from, IsPlanResult}
 use Rattle.gl_algebra.specs.Shapes.{Shape, shape_of, shape_from}
 use Rattle.gl_algebra.proofs.ListLemmas.{all_left, all_right}
 use Rattle.gl_algebra.proofs.PlanLemmas.{by_nodes}
@@ -20,7 +21,7 @@ Within R S = (out : List Row) (spill : Bool) → R out spill → S out spill
 changed_within : (R S : Results) (change : List Row → List Row) → Within R S → Within (IsChanged R change) (IsChanged S change)
 changed_within R S change within out spill r = record {
   rows = r.rows;
-  of_child = within r.rows spill r.of_child;
+  of_source = within r.rows spill r.of_source;
   changed = r.changed;
 }
 

@@ -7,7 +7,8 @@ use Rattle.gl_algebra.specs.declared.node.PlanNode.TheVariants.{Stream, Body, Co
 use Rattle.gl_algebra.specs.FigureTable.{IsSound, figures_from, figures_of, spacer_figures}
 use Rattle.gl_algebra.specs.Fits.{Suits, IsPlan}
 use Rattle.gl_algebra.specs.Nodewise.{named_by, nodewise}
-use Rattle.gl_algebra.specs.Results.{Row, Inputs, meaning_from, IsPlanResult}
+use Rattle.gl_bits.specs.Results.{Row}
+use Rattle.gl_algebra.specs.Results.{Inputs, meaning_from, IsPlanResult}
 use Rattle.gl_algebra.specs.Shapes.{Shape, Pace, unsteady, once, with_stream, with_body, shape_from, shape_of, is_closing}
 use Rattle.gl_algebra.specs.Weights.{weight_from, weight_of, copies_from, copies_of}
 

@@ -1,10 +1,11 @@
 //! The kinds of columns: of operands, of operations, of aggregates, and of lists of these.
 
 ghost use Rattle.std.specs.Prelude.{◌≡◌, ◌++◌, ◌∷◌, IfOk, OnOk, map};
-ghost use Rattle.gl_algebra.specs.Columns.{kind_of_agg, kind_of_column, kind_of_op, kind_of_operand, kind_under};
+ghost use Rattle.gl_algebra.specs.Columns.{kind_of_agg, kind_of_column, kind_of_op, kind_of_operand};
+ghost use Rattle.gl_bits.specs.Operators.{result_kind};
 
-use crate::node::{ColOp, Kinds, Op2, Operand, PlanAgg};
-use gl_bits::{Kind, Listed, Memory};
+use crate::node::{ColOp, Kinds, Operand, PlanAgg};
+use gl_bits::{Kind, Listed, Memory, Sort};
 use std::alloc::Global;
 
 /// The kind of a column; one bit where there is none.
@@ -24,14 +25,13 @@ pub fn kind_of_operand(kinds: &[Kind], operand: &Operand) -> Kind
     }
 }
 
-// The kind of what an operator makes of operands of a kind.
-fn kind_under(operator: Op2, kind: Kind) -> Kind
-    ensures { result ≡ kind_under operator kind }
+// The kind of what an operator of a sort makes of operands of a kind.
+fn kind_under(sort: Sort, kind: Kind) -> Kind
+    ensures { result ≡ result_kind sort kind }
 {
-    match operator {
-        Op2::Add | Op2::Sub | Op2::Mul => kind,
-        Op2::Eq | Op2::Ne | Op2::Lt | Op2::Le | Op2::Gt | Op2::Ge => Kind::Unsigned(1),
-        Op2::And | Op2::Or => Kind::Unsigned(1),
+    match sort {
+        Sort::Arithmetic => kind,
+        Sort::Comparison | Sort::Logic => Kind::Unsigned(1),
     }
 }
 
@@ -42,7 +42,7 @@ pub fn kind_of_op(kinds: &[Kind], op: &ColOp) -> Kind
     match op {
         ColOp::Not(_) => Kind::Unsigned(1),
         ColOp::Cast(_, kind) => *kind,
-        ColOp::Binary(operator, left, _) => kind_under(*operator, kind_of_operand(kinds, left)),
+        ColOp::Binary(operator, left, _) => kind_under(operator.sort(), kind_of_operand(kinds, left)),
     }
 }
 

@@ -1,6 +1,6 @@
 //! Plans: lists of nodes.
 
-ghost use Rattle.std.specs.Prelude.{◌≡◌, ◌<◌, ◌⊎◌, ◌++◌, ◌∷◌, [], length, slice_get, Contains, IfOk, OnOk, OnErr, if◌then◌else◌};
+ghost use Rattle.std.specs.Prelude.{◌≡◌, ◌<◌, ◌⊎◌, ◌++◌, ◌∷◌, [], length, slice_get, Contains, IfOk, OnOk, OnErr, true, false, not};
 ghost use Rattle.std.specs.List.{list_any, position_or_len, AllByRecursion};
 ghost use Rattle.indexmap.specs.IndexSet.{insert_key};
 ghost use Rattle.gl_algebra.specs.Added.{added, placed_at, same_node};
