@@ -79,8 +79,8 @@ kinds-insert nodes node kinds own more plan fits are is known fresh =
             let long = length-append nodes (node ∷ []) in
             elim (cases_lt number (length nodes)) [
               | inl before ↦
-                get-append kinds (own ∷ []) number (omega (arith, are.as_many)) ∙ are.each number before
-                ∙ ap (λ (s : Shape). Some s.kinds) (sym (kept number before))
+                  get-append kinds (own ∷ []) number (omega (arith, are.as_many)) ∙ are.each number before
+                  ∙ ap (λ (s : Shape). Some s.kinds) (sym (kept number before))
               | inr past ↦ (let at : number ≡ length nodes = omega arith in rw at own_is)
             ];
       };

@@ -40,8 +40,10 @@ settled_fixed f h = record {
 pub beside_in_step : (p q : Figures) → IsFixed p → IsFixed q
     → beside_figures p q ≡ in_step (delayed (wait_of p q) p) (delayed (wait_of q p) q)
 beside_in_step p q h h' =
-    rw (is_fixed-is (delayed (wait_of p q) p) (delayed_fixed (wait_of p q) p h),
-    is_fixed-is (delayed (wait_of q p) q) (delayed_fixed (wait_of q p) q h')) refl
+    rw (
+      is_fixed-is (delayed (wait_of p q) p) (delayed_fixed (wait_of p q) p h),
+      is_fixed-is (delayed (wait_of q p) q) (delayed_fixed (wait_of q p) q h'),
+    ) refl
 
 beside_fixed : (p q : Figures) → IsFixed p → IsFixed q → IsFixed (beside_figures p q)
 beside_fixed p q h h' = rw (beside_in_step p q h h') (record {

@@ -42,7 +42,10 @@ pub fn kind_of_op(kinds: &[Kind], op: &ColOp) -> Kind
     match op {
         ColOp::Not(_) => Kind::Unsigned(1),
         ColOp::Cast(_, kind) => *kind,
-        ColOp::Binary(operator, left, _) => kind_under(operator.sort(), kind_of_operand(kinds, left)),
+        ColOp::Binary(operator, left, _) => kind_under(
+            operator.sort(),
+            kind_of_operand(kinds, left),
+        ),
     }
 }
 
@@ -68,11 +71,7 @@ pub(crate) fn same_columns(alloc: Global, kinds: &[Kind]) -> Result<Kinds, Memor
 }
 
 // The kinds of some columns, then those of others.
-pub(crate) fn columns_of_both(
-    alloc: Global,
-    left: &[Kind],
-    right: &[Kind],
-) -> Result<Kinds, Memory>
+pub(crate) fn columns_of_both(alloc: Global, left: &[Kind], right: &[Kind]) -> Result<Kinds, Memory>
     ensures { IfOk result (λ all. all ≡ left.now ++ right.now) }
 {
     let mut all = Vec::from_slice(alloc, left)?;

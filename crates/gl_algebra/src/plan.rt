@@ -8,7 +8,10 @@ ghost use Rattle.gl_algebra.specs.Fits.{Fits, IsPlan};
 ghost use Rattle.gl_algebra.specs.Nodewise.{named_by};
 ghost use Rattle.gl_algebra.specs.Shapes.{kinds_of, shape_from, shape_of};
 
-use crate::columns::{columns_of_aggs, columns_of_both, columns_of_items, columns_with_key, columns_with_ops, kind_of_column, same_columns};
+use crate::columns::{
+    columns_of_aggs, columns_of_both, columns_of_items, columns_with_key, columns_with_ops,
+    kind_of_column, same_columns,
+};
 use crate::node::{Kinds, PlanNode};
 use crate::number::PlanId;
 use gl_bits::{Kind, Memory};
@@ -110,14 +113,35 @@ impl Plan {
         match node {
             PlanNode::Stream(_, kinds) => same_columns(alloc, kinds.as_slice()),
             PlanNode::Body(kinds) => same_columns(alloc, kinds.as_slice()),
-            PlanNode::Compute { child, ops } => columns_with_ops(alloc, self.kinds(*child), ops.as_slice()),
+            PlanNode::Compute { child, ops } => columns_with_ops(
+                alloc,
+                self.kinds(*child),
+                ops.as_slice(),
+            ),
             PlanNode::Select { child, .. } => same_columns(alloc, self.kinds(*child)),
-            PlanNode::Project { child, items } => columns_of_items(alloc, self.kinds(*child), items.as_slice()),
-            PlanNode::Aggregate { child, aggs } => columns_of_aggs(alloc, self.kinds(*child), aggs.as_slice()),
+            PlanNode::Project { child, items } => columns_of_items(
+                alloc,
+                self.kinds(*child),
+                items.as_slice(),
+            ),
+            PlanNode::Aggregate { child, aggs } => columns_of_aggs(
+                alloc,
+                self.kinds(*child),
+                aggs.as_slice(),
+            ),
             PlanNode::Union { left, .. } => same_columns(alloc, self.kinds(*left)),
-            PlanNode::Beside { left, right } => columns_of_both(alloc, self.kinds(*left), self.kinds(*right)),
+            PlanNode::Beside { left, right } => columns_of_both(
+                alloc,
+                self.kinds(*left),
+                self.kinds(*right),
+            ),
             PlanNode::Window { body, .. } => same_columns(alloc, self.kinds(*body)),
-            PlanNode::Group { source, body, key, .. } => {
+            PlanNode::Group {
+                source,
+                body,
+                key,
+                ..
+            } => {
                 let key = kind_of_column(self.kinds(*source), *key as usize);
                 columns_with_key(alloc, key, self.kinds(*body))
             }
