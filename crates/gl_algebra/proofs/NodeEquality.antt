@@ -35,14 +35,17 @@ use Rattle.gl_algebra.specs.contracts.node.PlanNodeEq.TheImpl.Laws as PlanNodeLa
 decides_from : {K : Type 0} (E : K → K → Bool) → IsEquivalence E → ((x y : K) → E x y ≡ true → x ≡ y) → (x y : K) → Decides (E x y) (x ≡ y)
 decides_from E laws same x y = (same x y, λ e. subst (λ z. E x z ≡ true) e (laws.refl x))
 
+never : false ≡ true → ⊥
+never h = cc
+
 -- equal numbers
 number : (x y : ℕ) → nat_eq x y ≡ true → x ≡ y
 number x y h = (unsigned_Decides x y).0 h
 
 same_kind : (x y : Kind) → OfKind.ghosts.eq x y ≡ true → x ≡ y
 same_kind (Unsigned v) (Unsigned w) h = ap Unsigned (number v w h)
-same_kind (Unsigned v) (Text n) h = absurd (cc)
-same_kind (Text m) (Unsigned w) h = absurd (cc)
+same_kind (Unsigned v) (Text n) h = absurd (never h)
+same_kind (Text m) (Unsigned w) h = absurd (never h)
 same_kind (Text m) (Text n) h = ap Text (number m n h)
 
 same_kinds : (xs ys : List Kind) → pointwise OfKind.ghosts.eq xs ys ≡ true → xs ≡ ys
@@ -68,12 +71,12 @@ same_operator Gt Gt h = refl
 same_operator Ge Ge h = refl
 same_operator And And h = refl
 same_operator Or Or h = refl
-same_operator _ _ h = absurd (cc)
+same_operator _ _ h = absurd (never h)
 
 same_operand : (x y : Operand) → OfOperand.ghosts.eq x y ≡ true → x ≡ y
 same_operand (Column v) (Column w) h = ap Column (number v w h)
-same_operand (Column v) (Literal u k) h = absurd (cc)
-same_operand (Literal u k) (Column w) h = absurd (cc)
+same_operand (Column v) (Literal u k) h = absurd (never h)
+same_operand (Literal u k) (Column w) h = absurd (never h)
 same_operand (Literal u k) (Literal v l) h =
     let parts = and_parts (OfWord.ghosts.eq u v) (OfKind.ghosts.eq k l) h in
     λ i. Literal (same_word u v parts.0 i) (same_kind k l parts.1 i)
@@ -90,7 +93,7 @@ same_op (Binary o a b) (Binary p c d) h =
     let parts = and_parts (OfOp.ghosts.eq o p) (OfOperand.ghosts.eq a c && OfOperand.ghosts.eq b d) h in
     let sides = and_parts (OfOperand.ghosts.eq a c) (OfOperand.ghosts.eq b d) parts.1 in
     λ i. Binary (same_operator o p parts.0 i) (same_operand a c sides.0 i) (same_operand b d sides.1 i)
-same_op _ _ h = absurd (cc)
+same_op _ _ h = absurd (never h)
 
 same_ops : (xs ys : List ColOp) → pointwise OfColOp.ghosts.eq xs ys ≡ true → xs ≡ ys
 same_ops xs ys = (pointwise_decides (decides_from OfColOp.ghosts.eq ColOpLaws.laws-law same_op) xs ys).0
@@ -104,7 +107,7 @@ same_agg (Avg a) (Avg b) h = ap Avg (same_operand a b h)
 same_agg (Wsum a v) (Wsum b w) h =
     let parts = and_parts (OfOperand.ghosts.eq a b) (pointwise OfWord.ghosts.eq v w) h in
     λ i. Wsum (same_operand a b parts.0 i) (same_words v w parts.1 i)
-same_agg _ _ h = absurd (cc)
+same_agg _ _ h = absurd (never h)
 
 same_aggs : (xs ys : List PlanAgg) → pointwise OfPlanAgg.ghosts.eq xs ys ≡ true → xs ≡ ys
 same_aggs xs ys = (pointwise_decides (decides_from OfPlanAgg.ghosts.eq PlanAggLaws.laws-law same_agg) xs ys).0
@@ -143,7 +146,7 @@ same_node-is (Group a b m n) (Group c d p q) h =
     let second = and_parts (nat_eq b d) (nat_eq m p && nat_eq n q) first.1 in
     let third = and_parts (nat_eq m p) (nat_eq n q) second.1 in
     λ i. Group (number a c first.0 i) (number b d second.0 i) (number m p third.0 i) (number n q third.1 i)
-same_node-is _ _ h = absurd (cc)
+same_node-is _ _ h = absurd (never h)
 
 -- and each node passes it with itself
 pub same_node-self : (x : PlanNode) → same_node x x ≡ true

@@ -63,8 +63,10 @@ Reads shapes meanings child = (kinds : List Kind) → All (λ leaf. leaf ≡ Bod
 row_reads : (s : ℕ → Shape) (m : ℕ → Meaning) (node : PlanNode) → Suits s node → All (Reads s m) (named_by node)
     → (kinds : List Kind) → All (λ leaf. leaf ≡ Body kinds) (shape_from s node).leaves
     → (inputs others : Inputs) → inputs.body ≡ others.body → Within (meaning_from s m node inputs) (meaning_from s m node others)
-row_reads s m (Stream number columns) suits reads kinds leaves inputs others same out spill r = absurd (let is = leaves 0 (Body kinds) (lit< tt) in cc)
-row_reads s m (Body columns) suits reads kinds leaves inputs others same out spill r = record { rows = r.rows ∙ same; kept = r.kept }
+row_reads s m (Stream number columns) suits reads kinds leaves inputs others same =
+    absurd (let is : Stream number columns ≡ Body kinds = leaves 0 (Body kinds) (lit< tt) in cc)
+row_reads s m (Body columns) suits reads kinds leaves inputs others same =
+    λ out spill r. record { rows = r.rows ∙ same; kept = r.kept }
 row_reads s m (Compute child ops) suits reads kinds leaves inputs others same =
     changed_within _ _ _ (reads 0 0 (lit< tt) kinds leaves inputs others same)
 row_reads s m (Select child column) suits reads kinds leaves inputs others same =
