@@ -77,12 +77,12 @@ row_reads s m (Aggregate child aggs) suits reads kinds leaves inputs others same
     changed_within _ _ _ (reads 0 0 (lit< tt) kinds leaves inputs others same)
 row_reads s m (Union left right) suits reads kinds leaves inputs others same =
     both_within _ _ _ _ IsInterleaving
-    (reads 0 0 (lit< tt) kinds (all_left _ (s left).leaves (s right).leaves leaves) inputs others same)
-    (reads 1 0 (lit< tt) kinds (all_right _ (s left).leaves (s right).leaves leaves) inputs others same)
+    (reads 0 0 (lit< tt) kinds (all_left (λ leaf. leaf ≡ Body kinds) (s left).leaves (s right).leaves leaves) inputs others same)
+    (reads 1 0 (lit< tt) kinds (all_right (λ leaf. leaf ≡ Body kinds) (s left).leaves (s right).leaves leaves) inputs others same)
 row_reads s m (Beside left right) suits reads kinds leaves inputs others same =
     both_within _ _ _ _ AreBeside
-    (reads 0 0 (lit< tt) kinds (all_left _ (s left).leaves (s right).leaves leaves) inputs others same)
-    (reads 1 0 (lit< tt) kinds (all_right _ (s left).leaves (s right).leaves leaves) inputs others same)
+    (reads 0 0 (lit< tt) kinds (all_left (λ leaf. leaf ≡ Body kinds) (s left).leaves (s right).leaves leaves) inputs others same)
+    (reads 1 0 (lit< tt) kinds (all_right (λ leaf. leaf ≡ Body kinds) (s left).leaves (s right).leaves leaves) inputs others same)
 row_reads s m (Window source body size advance) suits reads kinds leaves inputs others same =
     parts_within _ _ (slices size advance) (λ slice. m body (given inputs slice)) (λ slice. m body (given others slice)) (λ rows. false)
     (reads 0 0 (lit< tt) kinds leaves inputs others same)
