@@ -1,14 +1,12 @@
 -- What a plan has for a node follows the tables, and later nodes change none of it.
-use Rattle.std.proofs.Common.{◌≡◌, ℕ, suc, ◌+◌, ◌-◌, ◌*◌, ◌<◌, ◌≤◌, Bool, List, [], ◌∷◌, ◌++◌, length, Some, slice_get, refl, sym, ap, ◌∙◌, subst, arith}
+use Rattle.std.proofs.Common.{◌≡◌, ℕ, ◌<◌, List, ◌++◌, length, Some, slice_get, refl, sym, arith}
 use Rattle.gl_algebra.specs.declared.figures.Figures.{Figures}
 use Rattle.gl_algebra.specs.declared.node.PlanNode.{PlanNode}
 use Rattle.gl_algebra.specs.declared.node.PlanNode.TheVariants.{Stream, Body, Compute, Select, Project, Aggregate, Union, Beside, Window, Group}
 use Rattle.gl_algebra.specs.FigureTable.{figures_of}
-use Rattle.gl_algebra.specs.Fits.{IsPlan}
-use Rattle.gl_algebra.specs.Laws.{FollowsTables, NodesFollowTables, IsKept, EarlierNodesAreKept}
-use Rattle.gl_algebra.specs.Nodewise.{named_by, nodewise}
-use Rattle.gl_algebra.specs.Results.{meaning_from, IsPlanResult}
-use Rattle.gl_algebra.specs.Shapes.{Shape, shape_from, shape_of}
+use Rattle.gl_algebra.specs.Laws.{NodesFollowTables, EarlierNodesAreKept}
+use Rattle.gl_algebra.specs.Nodewise.{named_by}
+use Rattle.gl_algebra.specs.Shapes.{Shape, shape_of}
 use Rattle.gl_algebra.specs.Weights.{weight_from, weight_of, copies_from, copies_of}
 use Rattle.std.proofs.lemmas.Option.{slice_get_within}
 use Rattle.gl_algebra.proofs.FigureLemmas.{figures-node, figures-kept}
@@ -16,7 +14,7 @@ use Rattle.gl_algebra.proofs.ListLemmas.{get-append}
 use Rattle.gl_algebra.proofs.NodewiseLemmas.{Agree, AreInOrder, agree, agree_self, nodewise-kept, nodewise-node}
 use Rattle.gl_algebra.proofs.PlanLemmas.{in_order}
 use Rattle.gl_algebra.proofs.ResultLemmas.{meaning-node, meaning-kept, moved}
-use Rattle.gl_algebra.proofs.ShapeLemmas.{shape_local, shape-node, shape-kept}
+use Rattle.gl_algebra.proofs.ShapeLemmas.{shape-node, shape-kept}
 
 weight_local : (s t : ℕ → Shape) (f g : ℕ → Figures) (v w : ℕ → ℕ) (node : PlanNode)
     → Agree s t (named_by node) → Agree f g (named_by node) → Agree v w (named_by node)
