@@ -5,6 +5,7 @@ pub mod kind;
 pub mod laws;
 pub mod listed;
 pub mod lists;
+pub mod op;
 pub mod row;
 pub mod totals;
 pub mod word;
@@ -12,6 +13,7 @@ pub mod word;
 pub use kind::Kind;
 pub use listed::Listed;
 pub use lists::{Group, Table};
+pub use op::{Op, Sort};
 pub use row::{Memory, Row};
 pub use word::Word;
 
