@@ -2,7 +2,7 @@
 -- A visit is one stream that a copy takes.
 use Rattle.std.specs.Prelude.{◌≡◌, ℕ, zero, suc, ◌+◌, ◌-◌, ◌<◌, ◌≤◌, List, [], ◌∷◌, ◌++◌, Option, Some, None, Bool, true, false, if◌then◌else◌, is_some}
 use Rattle.gl_algebra.specs.declared.figures.Figures.{Figures}
-use Rattle.gl_algebra.specs.Results.{Row}
+use Rattle.gl_bits.specs.Results.{Row}
 use Rattle.gl_wire.specs.Beats.{Beats, Spaced, Ends}
 use Rattle.gl_wire.specs.Wire.{Carried, stream, rows}
 use Rattle.gl_wire.specs.Spills.{Relation, Lines}
