@@ -1,15 +1,11 @@
 -- Visits of copies, and what the copies give together: the law of lifting.
 -- A visit is one stream that a copy takes.
-use Rattle.std.specs.Prelude.{◌≡◌, ℕ, zero, suc, ◌+◌, ◌-◌, ◌<◌, ◌≤◌, List, [], ◌∷◌, ◌++◌, Option, Some, None, Bool, true, false, if◌then◌else◌, is_some}
+use Rattle.std.specs.Prelude.{◌≡◌, ℕ, zero, suc, ◌+◌, ◌-◌, ◌<◌, ◌≤◌, List, [], ◌∷◌, ◌++◌, length, Option, Some, None, Bool, true, false}
 use Rattle.gl_algebra.specs.declared.figures.Figures.{Figures}
-use Rattle.gl_algebra.specs.Results.{Row}
-use Rattle.gl_wire.specs.Beats.{Beats, Spaced, Ends}
+use Rattle.gl_bits.specs.Results.{Row}
+use Rattle.gl_wire.specs.Beats.{Spaced, Ends, beats_of}
 use Rattle.gl_wire.specs.Wire.{Carried, stream, rows}
 use Rattle.gl_wire.specs.Spills.{Relation, Lines}
-
--- the beats of a wire: the cycles in which it carries something
-abbrev pub beats_of : Carried → Beats
-beats_of s c = if s.ends c then Some true else (if is_some (s.tuple c) then Some false else None)
 
 -- which copy takes an end in a cycle; the order of the cycles is the order of the visits
 abbrev pub Visits : Type 0
@@ -46,6 +42,8 @@ pub record Lifted (f : Figures) (means : ℕ → List Row → List Row → Type 
   pub alone : (k l c : ℕ) (r q : Row) → k < count → l < count → (outs k).tuple c ≡ Some r → (outs l).tuple c ≡ Some q → k ≡ l
   -- the tuples of a visit's interval are right for its stream
   pub visit : (u k : ℕ) → who u ≡ Some k → means u (stream (ins k) u) (rows (all_of outs count) (u + f.a) (suc f.le - f.a))
+  -- and not too many
+  pub few : (u k : ℕ) → who u ≡ Some k → length (rows (all_of outs count) (u + f.a) (suc f.le - f.a)) ≤ f.ne
 
 -- a visit, where one ends, before the rest
 abbrev pub with_visit : Option ℕ → ℕ → (ℕ → List Row) → List (ℕ × List Row) → List (ℕ × List Row)
@@ -62,10 +60,10 @@ abbrev pub Joined : (ℕ → List Row → List Row → Type 0) → List (ℕ × 
 Joined means [] ys = ys ≡ []
 Joined means (v ∷ vs) ys = (zs : List Row) × (ws : List Row) × (means v.0 v.1 zs) × (Joined means vs ws) × (ys ≡ zs ++ ws)
 
--- the same with a choice of spill for each visit, and with the copies' lines
-pub record LiftedWithLines (f : Figures) (m : Relation) (count : ℕ) (who : Visits) (lines : ℕ → Lines) (ins outs : ℕ → Carried) : Type 0 where
+-- the same with a choice of spill for each visit, and with the copies' lines; what is right may depend on the visit's cycle
+pub record LiftedWithLines (f : Figures) (m : ℕ → Relation) (count : ℕ) (who : Visits) (lines : ℕ → Lines) (ins outs : ℕ → Carried) : Type 0 where
   pub spill : ℕ → Bool
-  pub lifted : Lifted f (λ u xs ys. m xs ys (spill u)) count who ins outs
+  pub lifted : Lifted f (λ u xs ys. m u xs ys (spill u)) count who ins outs
   -- no queue of a copy is passed
   pub low : (k c : ℕ) → k < count → (lines k).passed c ≡ false
   -- where every visit has ended, a spill is told by a copy's line, and only then does one tell
