@@ -3,6 +3,7 @@ pub mod NodeEquality
 pub mod NodewiseLemmas
 pub mod ShapeLemmas
 pub mod PlanLemmas
+pub mod SmallLemmas
 pub mod SoundLemmas
 pub mod FigureLemmas
 pub mod ResultLemmas

@@ -4,6 +4,8 @@ pub mod Shapes
 pub mod Fits
 pub mod Added
 pub mod FigureTable
+pub mod Small
+pub mod Wides
 pub mod Weights
 pub mod Values
 pub mod Results
