@@ -9,6 +9,7 @@ pub mod FigureLemmas
 pub mod ResultLemmas
 pub mod UniqueLemmas
 pub mod TableLemmas
+pub mod KindLemmas
 pub mod PaceLemmas
 pub mod ReadLemmas
 pub mod CallerLemmas

@@ -7,6 +7,7 @@ pub mod FigureTable
 pub mod Small
 pub mod Wides
 pub mod Weights
+pub mod Cost
 pub mod Values
 pub mod Results
 pub mod Laws

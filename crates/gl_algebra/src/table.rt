@@ -1,7 +1,8 @@
 //! The table of figures, row by row: each answers None exactly where a figure would reach 2^32.
 
-ghost use Rattle.std.specs.Prelude.{◌≡◌};
+ghost use Rattle.std.specs.Prelude.{◌≡◌, ◌≤◌};
 ghost use Rattle.gl_algebra.specs.FigureTable.{aggregate_figures, beside_figures, delay_of_agg, delay_of_aggs, delayed, group_figures, input_figures, settled, spaced, union_figures, wait_of, window_figures};
+ghost use Rattle.gl_algebra.specs.Fits.{copies_of_window};
 ghost use Rattle.gl_algebra.specs.Small.{small_of};
 
 use crate::columns::{kind_of_operand, width_in};
@@ -103,6 +104,14 @@ pub fn spaced_figures(gap: u32, source: &Figures) -> Option<Figures>
     ensures { result ≡ small_of (spaced gap source.now) }
 {
     narrowed(spaced(gap as u128, widened(source)))
+}
+
+/// The windows that can be open at once.
+pub fn copies_of_window(size: u32, advance: u32) -> u32
+    requires { 1 ≤ advance }
+    ensures { result ≡ copies_of_window size advance }
+{
+    size.div_ceil(advance)
 }
 
 /// Windows of so many copies.
