@@ -5,8 +5,8 @@
 
 pub mod figured;
 //pub mod weighed;
-//mod copied;
-//mod weights;
+mod copied;
+mod weights;
 
 pub use figured::figures;
 //pub use weighed::weigh;
