@@ -1,18 +1,15 @@
 -- A netlist with one port more, or with a name.
-use Rattle.std.proofs.Common.{◌≡◌, ℕ, zero, suc, ◌+◌, List, [], ◌∷◌, ◌++◌, length, Option, Some, None, Bool, true, false, refl, sym, ap, ◌∙◌, subst, inl, inr, ◌⊎◌, arith, add-zero}
+use Rattle.std.proofs.Common.{◌≡◌, ℕ, List, [], ◌∷◌, length, Some, None, refl, sym, ap, ◌∙◌, subst, inl, inr, add-zero}
 use Rattle.std.specs.Prelude.{slice_get, option_and_then, if◌then◌else◌}
-use Rattle.std.specs.Option.{option_map}
 use Rattle.std.proofs.lemmas.List.Sums.{sum_by_push}
 use Rattle.std.proofs.lemmas.Bool.{cases_eq}
 use Rattle.gl_bits.proofs.AllLists.{get_front, get_last}
 use Rattle.gl_bits.specs.Words.{IsWidth}
-use Rattle.gl_net.specs.declared.node.Node.{Node}
 use Rattle.gl_net.specs.declared.node.Node.TheVariants.{Input}
-use Rattle.gl_net.specs.declared.node.Bus.{Bus}
 use Rattle.gl_net.specs.declared.node.Port.{Port}
 use Rattle.gl_net.specs.declared.node.Direction.{Direction}
-use Rattle.gl_net.specs.declared.node.Direction.TheVariants.{In, Out}
-use Rattle.gl_net.specs.Net.{Net, Run, Shape, Value, shape_of, shape_in, open_in, open_at, open_shape, IsRun, Grows, is_inner, size_of, register_bits, memory_bits, register_bits_of, memory_bits_of}
+use Rattle.gl_net.specs.declared.node.Direction.TheVariants.{In}
+use Rattle.gl_net.specs.Net.{Net, Value, shape_in, open_in, open_at, open_shape, Grows, is_inner, size_of, register_bits, memory_bits, register_bits_of, memory_bits_of}
 use Rattle.gl_net.specs.WellFormed.{end_at, NodeFits, EndFits, IsWellFormed}
 use Rattle.gl_net.specs.Steps.{AddsPort, AddsInput, Names}
 use Rattle.gl_net.proofs.Lists.{get_push_other, get_push_cases, get_past}

@@ -1,14 +1,13 @@
 -- What buses, bits and memories carry in a run, and what choices and memories give for known values.
-use Rattle.std.proofs.Common.{◌≡◌, ◌≢◌, ℕ, zero, suc, ◌+◌, ◌<◌, ◌^◌, List, Option, Some, None, Bool, true, false, refl, sym, ap, ◌∙◌, subst, arith, inl, inr}
-use Rattle.std.specs.Prelude.{slice_get, nat_eq, if◌then◌else◌, ◌&&◌}
+use Rattle.std.proofs.Common.{◌≡◌, ◌≢◌, ℕ, ◌<◌, ◌^◌, Some, refl, subst}
+use Rattle.std.specs.Prelude.{slice_get}
 use Rattle.std.proofs.Common.{eq-eqb, ne_eqb}
 use Rattle.std.proofs.Math.Bool.{and-false}
 use Rattle.gl_bits.specs.Words.{choose_of}
-use Rattle.gl_net.specs.declared.node.Node.{Node}
 use Rattle.gl_net.specs.declared.node.Bus.{Bus}
 use Rattle.gl_net.specs.declared.node.Bit.{Bit}
 use Rattle.gl_net.specs.declared.node.Store.{Store}
-use Rattle.gl_net.specs.Net.{Net, Run, IsRun, Shape, Value, Words, Fits, shape_in, shape_of, IsBus, IsBit, IsStore, stored_of}
+use Rattle.gl_net.specs.Net.{Net, Run, IsRun, Shape, Fits, shape_in, IsBus, IsBit, IsStore, stored_of}
 use Rattle.gl_net.proofs.Growth.{shape_there}
 
 there_fits : (net : Net) (n : ℕ) (s : Shape) (run : Run) → shape_in net.nodes n ≡ Some s → IsRun net run → Fits run n s

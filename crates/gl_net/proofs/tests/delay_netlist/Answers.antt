@@ -1,9 +1,9 @@
-use Rattle.std.proofs.Common.{◌≡◌, ◌≢◌, ℕ, zero, suc, List, [], ◌∷◌, ◌++◌, Option, Some, None, true, false, refl, sym, ap, ◌∙◌, subst, inl, inr, arith, rules}
+use Rattle.std.proofs.Common.{◌≡◌, ◌≢◌, ℕ, zero, suc, List, [], ◌∷◌, ◌++◌, Some, None, refl, sym, ap, ◌∙◌, subst, inl, inr, rules}
 use Rattle.std.specs.Prelude.{slice_get}
 use Rattle.std.proofs.lemmas.Bool.{cases_eq}
 use Rattle.gl_net.specs.Net.{Net, open_at}
 use Rattle.gl_net.specs.declared.node.Port.{Port}
-use Rattle.gl_net.specs.Finished.{IsFinished, IsName, clock_name}
+use Rattle.gl_net.specs.Finished.{IsName, clock_name}
 use Rattle.gl_net.proofs.tests.delay_netlist.Goals as goal
 
 two_ports : (a b c : List Port) (p q : Port) → c ≡ b ++ q ∷ [] → b ≡ a ++ p ∷ [] → a ≡ [] → c ≡ p ∷ q ∷ []
