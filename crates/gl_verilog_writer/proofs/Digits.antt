@@ -1,5 +1,5 @@
 -- Names and numbers as tokens.
-use Rattle.std.proofs.Common.{◌≡◌, ℕ, ◌-◌, ◌<◌, ◌≤◌, ◌^◌, Bool, true, false, ◌||◌, ◌&&◌, List, [], ◌∷◌, ◌++◌, length, Option, None, refl, sym, ap, ◌∙◌, append_assoc, append-nil, length-append, arith, inl, inr, ◌⊎◌, le-leb, lt-ltb, ne_eqb, leb-true}
+use Rattle.std.proofs.Common.{◌≡◌, ℕ, ◌-◌, ◌<◌, ◌≤◌, ◌^◌, Bool, true, false, ◌||◌, ◌&&◌, List, [], ◌∷◌, ◌++◌, length, Option, None, refl, sym, ap, ◌∙◌, append_assoc, append-nil, length-append, arith, inl, inr, le-leb, lt-ltb, ne_eqb, leb-true}
 use Rattle.std.specs.Prelude.{codes, decimal, nat_eq, nat_le, nat_lt, bytes_eq}
 use Rattle.std.specs.List.{AllByRecursion, list_all, list_any}
 use Rattle.std.specs.Int.{IsInRange}

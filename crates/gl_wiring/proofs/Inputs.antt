@@ -1,6 +1,5 @@
 -- Input ports column by column and stream by stream.
-use Rattle.std.proofs.Common.{◌≡◌, ℕ, zero, suc, ◌+◌, ◌<◌, List, [], ◌∷◌, ◌++◌, length, take, drop, sym, ap, subst, ◌∙◌, arith, get_or, drop-cons}
-use Rattle.std.proofs.lemmas.List.{take_more}
+use Rattle.std.proofs.Common.{◌≡◌, ℕ, zero, suc, ◌+◌, ◌<◌, List, [], ◌∷◌, ◌++◌, length, drop, sym, ap, subst, ◌∙◌, arith, get_or, drop-cons}
 use Rattle.std.specs.List.{AllByRecursion}
 use Rattle.gl_schema.specs.declared.schema.Column.{Column}
 use Rattle.gl_schema.specs.declared.schema.Stream.{Stream}
