@@ -1,10 +1,10 @@
 //! The test of a valid module: names, drivers, and all that a module that can run needs.
 
-ghost use Rattle.std.specs.Prelude.{◌≡◌, ◌+◌, map, length, true, false, IfOk, [], option_map};
+ghost use Rattle.std.specs.Prelude.{◌≡◌, ◌+◌, map, true, false, IfOk, option_map};
 ghost use Rattle.gl_verilog.specs.View.{declaration_of, assignment_of, statement_of, module_of};
 ghost use Rattle.gl_verilog.specs.Valid as valid;
 ghost use Rattle.gl_verilog.specs.Valid.{IsValid};
-ghost use Rattle.gl_verilog_check.specs.Kept.{AreMarks, module_with};
+ghost use Rattle.gl_verilog_check.specs.Kept.{made_of};
 ghost use Rattle.gl_verilog_check.specs.Tests as tests;
 ghost use Rattle.gl_verilog_check.specs.Tests.{at_most_two};
 
@@ -149,40 +149,35 @@ fn are_assigned(declarations: &[Declaration], blocks: &[Statement]) -> bool
     true
 }
 
-// Whether these parts make a valid module. No net is marked at first.
+// Whether these parts make a valid module.
 fn parts_are_valid(
+    alloc: Global,
     declarations: &[Declaration],
     assignments: &[Assignment],
     blocks: &[Statement],
-    marks: &mut Vec<bool>,
-) -> bool
-    requires fresh { AreMarks [] marks.old.items }
-    requires size { length marks.old.items ≡ length declarations.now }
-    ensures sound { result ≡ true → IsValid (module_with (map declaration_of declarations.now) (map assignment_of assignments.now) (map statement_of blocks.now)) }
-    ensures complete { IsValid (module_with (map declaration_of declarations.now) (map assignment_of assignments.now) (map statement_of blocks.now)) → result ≡ true }
+) -> Result<bool, Memory>
+    ensures sound { IfOk result (λ b. b ≡ true → IsValid (made_of declarations.now assignments.now blocks.now)) }
+    ensures complete { IfOk result (λ b. IsValid (made_of declarations.now assignments.now blocks.now) → b ≡ true) }
 {
     if !are_distinct(declarations) {
-        return false;
+        return Ok(false);
     }
-    if !parts_run(declarations, assignments, blocks, marks) {
-        return false;
+    let runs = parts_run(alloc, declarations, assignments, blocks)?;
+    if !runs {
+        return Ok(false);
     }
-    are_assigned(declarations, blocks)
+    Ok(are_assigned(declarations, blocks))
 }
 
 /// Whether the module is valid: its names differ, its widths are kept, every net, register and
 /// memory has its driver, and no net depends on itself through assignments.
-#[tactic(auto, using(crate::proofs::Marks::marks_fresh))]
 pub fn is_valid(alloc: Global, design: &Module) -> Result<bool, Memory>
     ensures sound { IfOk result (λ b. b ≡ true → IsValid (module_of design.now)) }
     ensures complete { IfOk result (λ b. b ≡ false → IsValid (module_of design.now) → ⊥) }
 {
     let declarations = design.declarations.as_slice();
-    let Ok(mut marks) = vec![in alloc; false; declarations.len()] else {
-        return Err(Memory);
-    };
     let assignments = design.assignments.as_slice();
     let blocks = design.blocks.as_slice();
-    let valid = parts_are_valid(declarations, assignments, blocks, &mut marks);
+    let valid = parts_are_valid(alloc, declarations, assignments, blocks)?;
     Ok(valid)
 }
