@@ -44,8 +44,10 @@ input_sound = record {
   tuples_last = omega arith;
   end_last = omega arith;
   tuples = omega arith;
+  some = omega arith;
   tuples_gap = omega arith;
   end_gap = omega arith;
+  gaps = omega arith;
 }
 
 pub rows_keep_sound : RowsKeepSound
@@ -69,7 +71,7 @@ rows_keep_sound s f (Window source body size advance) suits sound =
     (spaced_sound (window_gap (f body)) (f source) (sound 0 0 (lit< tt)))
     (sound 1 0 (lit< tt))
 rows_keep_sound s f (Group source body key groups) suits sound =
-    groups_sound groups (spaced (group_gap (f body)) (f source)) (f body)
+    groups_sound groups (spaced (group_gap (f body)) (f source)) (f body) suits.2.least
     (spaced_sound (group_gap (f body)) (f source) (sound 0 0 (lit< tt)))
     (sound 1 0 (lit< tt))
 

@@ -1,7 +1,7 @@
 -- The values of operations on one row. A row is the list of its words' numbers, in the order of the columns.
 use Rattle.std.specs.Prelude.{ℕ, ◌+◌, ◌-◌, ◌*◌, ◌/◌, ◌%◌, ◌^◌, List, not, nat_eq, slice_index, bit_and, bit_or}
-use Rattle.gl_bits.specs.Words.{bit, sum_of, difference_of, product_of, not_of, eq_of, lt_of, le_of}
-use Rattle.gl_bits.specs.Kinds.{width_of, number_of}
+use Rattle.gl_bits.specs.Words.{bit, sum_of, difference_of, product_of, not_of, eq_of}
+use Rattle.gl_bits.specs.Kinds.{width_of, is_below, is_at_most}
 use Rattle.gl_bits.specs.declared.kind.Kind.{Kind}
 use Rattle.gl_bits.specs.declared.kind.Kind.TheVariants.{Unsigned, Text}
 use Rattle.gl_algebra.specs.declared.node.Operand.{Operand}
@@ -24,10 +24,10 @@ value_under Sub kind x y = difference_of (width_of kind) x y
 value_under Mul kind x y = product_of (width_of kind) x y
 value_under Eq kind x y = eq_of x y
 value_under Ne kind x y = bit (not (nat_eq x y))
-value_under Lt kind x y = lt_of (number_of kind x) (number_of kind y)
-value_under Le kind x y = le_of (number_of kind x) (number_of kind y)
-value_under Gt kind x y = lt_of (number_of kind y) (number_of kind x)
-value_under Ge kind x y = le_of (number_of kind y) (number_of kind x)
+value_under Lt kind x y = bit (is_below kind x y)
+value_under Le kind x y = bit (is_at_most kind x y)
+value_under Gt kind x y = bit (is_below kind y x)
+value_under Ge kind x y = bit (is_at_most kind y x)
 value_under And kind x y = bit_and x y
 value_under Or kind x y = bit_or x y
 

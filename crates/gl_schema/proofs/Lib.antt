@@ -4,4 +4,7 @@ pub mod KindTable
 pub mod Distinct
 pub mod Complete
 pub mod Sound
+pub mod Readings
+pub mod TextNumbers
+pub mod Pinned
 pub mod RightTo

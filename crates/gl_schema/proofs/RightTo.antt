@@ -4,7 +4,7 @@ use Rattle.std.specs.Prelude.{filter_map, IsTrue, IsFalse, IsSome, is_some}
 use Rattle.std.specs.List.{AllByRecursion, cons_option}
 use Rattle.std.proofs.lemmas.Bool.{cases_lt, false_from_ne_true}
 use Rattle.std.proofs.lemmas.List.{append-nil}
-use Rattle.gl_schema.specs.Beats.{Beat, last_cycle, input_of}
+use Rattle.gl_schema.specs.Beats.{Beat, last_cycle, inputs_of}
 use Rattle.gl_schema.specs.Ports.{PortValues}
 use Rattle.gl_schema.specs.Seen.{Shown, shown, seen}
 use Rattle.gl_schema.specs.Right.{Meaning, IsRight, IsRightTo, end_in}
@@ -90,5 +90,5 @@ right_to means latency beats outs port n late r =
       ends = behind_end outs port r.ended n f le end_in (λ m lt. not_here outs port r.ended f m (λ q. absurd (omega arith))) ∙ at_end outs port r.ended f;
       none_later = all_seen port outs (λ s. IsSome s.row → s.cycle ≤ r.ended) (row_in_time outs port r.ended f) n;
       no_overflow = all_seen port outs (λ s. IsFalse s.queue) r.no_overflow n;
-      meets = subst (λ (rows : List (List ℕ)). means (λ k. input_of k beats) rows (shown port outs r.ended).group) (sym (behind_end outs port r.ended n f le (λ s. s.row) r.none_later)) r.meets;
+      meets = subst (λ (rows : List (List ℕ)). means (inputs_of beats) rows (shown port outs r.ended).group) (sym (behind_end outs port r.ended n f le (λ s. s.row) r.none_later)) r.meets;
     }

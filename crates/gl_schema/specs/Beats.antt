@@ -45,6 +45,14 @@ row_in k b = unwrap_or (slice_get b.rows k) None
 abbrev pub input_of : ℕ → List Beat → List (List ℕ)
 input_of k beats = filter_map (row_in k) beats
 
+-- what comes in to a query: the rows of each stream, by the streams' numbers
+pub record Inputs : Type 0 where
+  pub rows : ℕ → List (List ℕ)
+
+-- the inputs that beats bring
+abbrev pub inputs_of : List Beat → Inputs
+inputs_of beats = record { rows = λ k. input_of k beats }
+
 -- the cycle of the last beat
 abbrev pub last_cycle : List Beat → ℕ
 last_cycle [] = 0

@@ -6,5 +6,6 @@ pub mod KindReading
 pub mod Lexing
 pub mod Beats
 pub mod Ports
+pub mod Profile
 pub mod Seen
 pub mod Right

@@ -1,5 +1,5 @@
 -- What beats put on the input ports of a module. Simulation cycle 0 is reset, and file cycle n is simulation cycle n + 1.
-use Rattle.std.specs.Prelude.{◌≡◌, ℕ, zero, suc, List, [], ◌∷◌, ◌++◌, Option, None, codes, is_some, unwrap_or, IfSome}
+use Rattle.std.specs.Prelude.{◌≡◌, ℕ, zero, suc, List, [], ◌∷◌, ◌++◌, map, Option, None, codes, is_some, unwrap_or, IfSome}
 use Rattle.std.specs.List.{AllByRecursion}
 use Rattle.gl_bits.specs.Words.{bit}
 use Rattle.gl_schema.specs.declared.schema.Column.{Column}
@@ -66,6 +66,10 @@ streams_pins (s ∷ ss) (r ∷ rs) = stream_pins s r ++ streams_pins ss rs
 abbrev pub pins : Schema → List Beat → ℕ → List Pin
 pins schema beats zero = pin rst 1 ∷ (streams_pins schema.streams [] ++ pin eos 0 ∷ [])
 pins schema beats (suc n) = pin rst 0 ∷ (streams_pins schema.streams (rows_at beats n) ++ pin eos (bit (ends_at beats n)) ∷ [])
+
+-- their names
+abbrev pub pin_names : List Pin → List (List ℕ)
+pin_names ps = map (λ p. p.name) ps
 
 -- the ports of a module in a run: the value in a simulation cycle of the port of a name, None where the module lacks it
 abbrev pub PortValues : Type 0

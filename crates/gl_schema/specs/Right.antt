@@ -1,13 +1,17 @@
 -- A run is right: its rows are a result of what came in, and it ends in time.
 use Rattle.std.specs.Prelude.{◌≡◌, ℕ, ◌+◌, ◌<◌, ◌≤◌, Bool, List, [], ◌∷◌, Option, Some, None, IsSome, IsTrue, IsFalse, filter_map, if◌then◌else◌}
 use Rattle.std.specs.List.{AllByRecursion}
-use Rattle.gl_schema.specs.Beats.{Beat, last_cycle, input_of}
+use Rattle.gl_schema.specs.Beats.{Beat, Inputs, last_cycle, inputs_of}
 use Rattle.gl_schema.specs.Ports.{PortValues}
 use Rattle.gl_schema.specs.Seen.{Shown, shown, seen, rows_of}
 
--- what a query means: its inputs by the streams' numbers, the rows of a result, and whether a further group was left out
+-- what a query means: its inputs, the rows of a result, and whether a further group was left out
 abbrev pub Meaning : Type 1
-Meaning = (ℕ → List (List ℕ)) → List (List ℕ) → Bool → Type 0
+Meaning = Inputs → List (List ℕ) → Bool → Type 0
+
+-- a meaning that a test tells
+abbrev pub IsTold : (Inputs → List (List ℕ) → Bool → Bool) → Meaning
+IsTold test inputs rows spill = IsTrue (test inputs rows spill)
 
 -- in file cycles: the end is seen once, in the latency after the last beat, no row is later, no queue overflows, and the rows
 -- with the group line at the end are a result of what the beats bring
@@ -19,7 +23,7 @@ pub record IsRight (means : Meaning) (latency : ℕ) (beats : List Beat) (outs :
   pub once : (n : ℕ) → IsTrue (shown port outs n).end → n ≡ ended
   pub none_later : (n : ℕ) → ended < n → (shown port outs n).row ≡ None
   pub no_overflow : (n : ℕ) → IsFalse (shown port outs n).queue
-  pub meets : means (λ k. input_of k beats) (rows_of (seen port outs ended)) (shown port outs ended).group
+  pub meets : means (inputs_of beats) (rows_of (seen port outs ended)) (shown port outs ended).group
 
 -- the cycle of an end
 abbrev pub end_in : Shown → Option ℕ
@@ -33,4 +37,4 @@ pub record IsRightTo (means : Meaning) (latency : ℕ) (beats : List Beat) (outs
   pub ends : filter_map end_in (seen port outs n) ≡ ended ∷ []
   pub none_later : AllByRecursion (λ s. IsSome s.row → s.cycle ≤ ended) (seen port outs n)
   pub no_overflow : AllByRecursion (λ s. IsFalse s.queue) (seen port outs n)
-  pub meets : means (λ k. input_of k beats) (rows_of (seen port outs n)) (shown port outs ended).group
+  pub meets : means (inputs_of beats) (rows_of (seen port outs n)) (shown port outs ended).group

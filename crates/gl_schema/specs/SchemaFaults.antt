@@ -111,6 +111,10 @@ start = record { streams = []; place = place.Stream }
 unfoldable pub schema_of : List ℕ → Result Schema SchemaFault
 schema_of text = schema_from (length text) (tokens_of text) start
 
+-- the first fault of a text that has no schema
+abbrev pub IsFirstFault : List ℕ → SchemaFault → Type 0
+IsFirstFault text fault = schema_of text ≡ Err fault
+
 -- what a call answers is what reading gives, unless memory ran out
 abbrev pub Fails : {A : Type 0} → SchemaFault → Result A SchemaFault → Type 0
 Fails Memory read = Unit {0}

@@ -1,21 +1,29 @@
-//! Schemas, and what a stream of beats puts on the ports of a module and shows there.
+//! Schemas, and what a stream of beats puts on the ports of a module and shows there: the few words that
+//! queries and hardware share.
+//!
+//! Here belongs what both sides speak of: names, schemas and their texts, beats, the profile of ports,
+//! what is seen on them, and when a run is right. Neither what a query means nor how a module runs does.
 #![tactic(auto)]
 
 pub mod fault;
 pub mod kind;
 mod lexing;
 pub mod name;
+pub mod profile;
 mod reading;
 pub mod right;
 pub mod schema;
 pub mod text;
+pub mod value;
 
 pub use fault::SchemaFault;
 pub use kind::kind_named;
 pub use name::is_name;
+pub use profile::pins_go_by_the_profile;
 pub use right::right_at_each_cycle;
 pub use schema::{Column, Columns, NameText, Schema, Stream, Streams};
-pub use text::{one_schema, read_schema};
+pub use text::{one_reading, read_schema};
+pub use value::text_number;
 
 #[cfg(test)]
 mod tests;

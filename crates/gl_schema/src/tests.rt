@@ -6,7 +6,10 @@ ghost use Rattle.gl_schema.specs.Schemas.{text_word};
 ghost use Rattle.gl_schema.specs.Ports as ports;
 ghost use Rattle.gl_schema.specs.Seen as seen;
 
-use crate::{SchemaFault, is_name, kind_named, one_schema, read_schema, right_at_each_cycle};
+use crate::{
+    SchemaFault, is_name, kind_named, one_reading, pins_go_by_the_profile, read_schema,
+    right_at_each_cycle,
+};
 use gl_bits::Kind;
 use std::alloc::Global;
 use std::test::Fail;
@@ -157,7 +160,8 @@ fn single_words(rt: HostRuntime) {
     assert_eq!(rt; kind_named(b"text10"), None);
     assert!(rt; is_name(b"a1_b"));
     assert!(rt; !is_name(b"wsum"));
-    one_schema();
+    one_reading();
+    pins_go_by_the_profile();
     right_at_each_cycle();
 }
 

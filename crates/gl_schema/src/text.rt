@@ -1,9 +1,11 @@
 //! Schemas from their text.
 
-ghost use Rattle.std.specs.Prelude.{◌≡◌, ℕ, List, Ok, IfOk};
+ghost use Rattle.std.specs.Prelude.{◌≡◌, ◌↔◌, ◌⊎◌, ℕ, List, IfOk};
 ghost use Rattle.gl_schema.specs.declared.schema.Schema as types;
 ghost use Rattle.gl_schema.specs.SchemaText.{IsSchemaText};
-ghost use Rattle.gl_schema.specs.SchemaFaults.{Gives, schema_of};
+ghost use Rattle.gl_schema.specs.SchemaFaults.{Gives, IsFirstFault, schema_of};
+ghost use Rattle.gl_schema.specs.declared.fault.SchemaFault.{SchemaFault};
+ghost use Rattle.gl_schema.specs.declared.fault.SchemaFault.TheVariants.{Memory};
 
 use crate::fault::SchemaFault;
 use crate::lexing::{Standing, finish, take};
@@ -35,7 +37,14 @@ fn read(alloc: Global, text: &[u8]) -> Result<Schema, SchemaFault>
     finish(alloc, text, standing, reading)?.end(text.len() as u64)
 }
 
-/// A text has at most one schema.
-pub fn one_schema()
-    ensures { (text : List ℕ) (s t : types.Schema) → IsSchemaText text s → IsSchemaText text t → s ≡ t }
+/// Each text has exactly one reading: a schema, or a first fault, which is never want of memory.
+pub fn one_reading()
+    ensures schema { (text : List ℕ) (s : types.Schema) → (schema_of text ≡ Ok s) ↔ IsSchemaText text s }
+    ensures one { (text : List ℕ) (s t : types.Schema)
+        → IsSchemaText text s → IsSchemaText text t → s ≡ t }
+    ensures either { (text : List ℕ)
+        → ((s : types.Schema) × IsSchemaText text s) ⊎ ((e : SchemaFault) × IsFirstFault text e) }
+    ensures never_both { (text : List ℕ) (s : types.Schema) (e : SchemaFault)
+        → IsSchemaText text s → IsFirstFault text e → ⊥ }
+    ensures of_the_text { (text : List ℕ) → IsFirstFault text Memory → ⊥ }
 {}

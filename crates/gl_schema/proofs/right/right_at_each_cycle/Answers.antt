@@ -1,6 +1,6 @@
-use Rattle.std.specs.Prelude.{IsTrue}
+use Rattle.gl_schema.specs.Right.{IsTold}
 use Rattle.gl_schema.proofs.RightTo.{right_to}
 use Rattle.gl_schema.proofs.right.right_at_each_cycle.Goals as goal
 
 pub returns : goal.returns
-returns c test = right_to (λ ins rows spill. IsTrue (test ins rows spill))
+returns c test = right_to (IsTold test)

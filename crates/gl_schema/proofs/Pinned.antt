@@ -1,0 +1,99 @@
+-- What beats put on the input ports goes by the profile.
+use Rattle.std.proofs.Common.{◌≡◌, ℕ, zero, suc, ◌^◌, ◌<◌, Bool, true, false, List, [], ◌∷◌, ◌++◌, Option, Some, None, refl, ap, ◌∙◌, arith, cond, sym}
+use Rattle.std.specs.Prelude.{unwrap_or, IfSome, ◌==◌}
+use Rattle.std.specs.Option.{option_map_or}
+use Rattle.std.specs.List.{AllByRecursion, AllZip}
+use Rattle.std.proofs.lemmas.Nat.{pow_pos}
+use Rattle.std.proofs.lemmas.List.{map-append}
+use Rattle.gl_bits.specs.Kinds.{width_of}
+use Rattle.gl_bits.specs.Words.{bit}
+use Rattle.gl_schema.specs.declared.schema.Column.{Column}
+use Rattle.gl_schema.specs.declared.schema.Stream.{Stream}
+use Rattle.gl_schema.specs.declared.schema.Schema.{Schema}
+use Rattle.gl_schema.specs.Schemas.{IsRowOf}
+use Rattle.gl_schema.specs.Beats.{Beat, AreBeats, AreRowsOf, IsBeat, beat_at, rows_at, ends_at}
+use Rattle.gl_schema.specs.Ports.{rst, eos, in_valid, in_column, Pin, pin, pin_names, column_pins, stream_pins, streams_pins, pins}
+use Rattle.gl_schema.specs.Profile.{ProfilePort, input, column_inputs, stream_inputs, streams_inputs, input_ports, port_names, CanCarry}
+
+-- ---- the names
+
+columns_named : (stream : List ℕ) (cs : List Column) (row : List ℕ) → pin_names (column_pins stream cs row) ≡ port_names (column_inputs stream cs)
+columns_named stream [] row = refl
+columns_named stream (c ∷ cs) [] = ap (λ (x : List (List ℕ)). in_column stream c.name ∷ x) (columns_named stream cs [])
+columns_named stream (c ∷ cs) (n ∷ ns) = ap (λ (x : List (List ℕ)). in_column stream c.name ∷ x) (columns_named stream cs ns)
+
+stream_named : (s : Stream) (row : Option (List ℕ)) → pin_names (stream_pins s row) ≡ port_names (stream_inputs s)
+stream_named s row = ap (λ (x : List (List ℕ)). in_valid s.name ∷ x) (columns_named s.name s.columns (unwrap_or row []))
+
+-- two names lists behind one another
+both_named : (as' bs : List Pin) (ps qs : List ProfilePort) → pin_names as' ≡ port_names ps → pin_names bs ≡ port_names qs → pin_names (as' ++ bs) ≡ port_names (ps ++ qs)
+both_named as' bs ps qs h k = map-append (λ (p : Pin). p.name) as' bs ∙ ap (λ (x : List (List ℕ)). x ++ pin_names bs) h ∙ ap (λ (x : List (List ℕ)). port_names ps ++ x) k
+    ∙ sym (map-append (λ (p : ProfilePort). p.name) ps qs)
+
+streams_named : (ss : List Stream) (rows : List (Option (List ℕ))) → pin_names (streams_pins ss rows) ≡ port_names (streams_inputs ss)
+streams_named [] rows = refl
+streams_named (s ∷ ss) [] = both_named (stream_pins s None) (streams_pins ss []) (stream_inputs s) (streams_inputs ss) (stream_named s None) (streams_named ss [])
+streams_named (s ∷ ss) (r ∷ rs) = both_named (stream_pins s r) (streams_pins ss rs) (stream_inputs s) (streams_inputs ss) (stream_named s r) (streams_named ss rs)
+
+whole_named : (schema : Schema) (reset : ℕ) (rows : List (Option (List ℕ))) (end : ℕ) → pin_names (pin rst reset ∷ (streams_pins schema.streams rows ++ pin eos end ∷ [])) ≡ port_names (input_ports schema)
+whole_named schema reset rows end = ap (λ (x : List (List ℕ)). rst ∷ x) (both_named (streams_pins schema.streams rows) (pin eos end ∷ []) (streams_inputs schema.streams) (input eos 1 ∷ []) (streams_named schema.streams rows) refl)
+
+pub pins_named : (schema : Schema) (beats : List Beat) (t : ℕ) → pin_names (pins schema beats t) ≡ port_names (input_ports schema)
+pins_named schema beats zero = whole_named schema 1 [] 0
+pins_named schema beats (suc n) = whole_named schema 0 (rows_at beats n) (bit (ends_at beats n))
+
+-- ---- the values
+
+bit_fits : (b : Bool) → bit b < 2 ^ 1
+bit_fits true = omega arith
+bit_fits false = omega arith
+
+zip_append : {A B : Type 0} (R : A → B → Type 0) (as' cs : List A) (bs ds : List B) → AllZip R as' bs → AllZip R cs ds → AllZip R (as' ++ cs) (bs ++ ds)
+zip_append R [] cs [] ds h k = k
+zip_append R [] cs (b ∷ bs) ds h k = absurd h
+zip_append R (a ∷ as') cs [] ds h k = absurd h
+zip_append R (a ∷ as') cs (b ∷ bs) ds h k = (h.0, zip_append R as' cs bs ds h.1 k)
+
+no_columns : (stream : List ℕ) (cs : List Column) → AllZip CanCarry (column_inputs stream cs) (column_pins stream cs [])
+no_columns stream [] = tt
+no_columns stream (c ∷ cs) = (pow_pos (width_of c.kind), no_columns stream cs)
+
+columns_fit : (stream : List ℕ) (cs : List Column) (row : List ℕ) → IsRowOf cs row → AllZip CanCarry (column_inputs stream cs) (column_pins stream cs row)
+columns_fit stream [] row h = tt
+columns_fit stream (c ∷ cs) [] h = absurd h
+columns_fit stream (c ∷ cs) (n ∷ ns) h = (h.0, columns_fit stream cs ns h.1)
+
+stream_fits : (s : Stream) (row : Option (List ℕ)) → IfSome row (IsRowOf s.columns) → AllZip CanCarry (stream_inputs s) (stream_pins s row)
+stream_fits s None h = (bit_fits false, no_columns s.name s.columns)
+stream_fits s (Some row) h = (bit_fits true, columns_fit s.name s.columns row h)
+
+no_streams : (ss : List Stream) → AllZip CanCarry (streams_inputs ss) (streams_pins ss [])
+no_streams [] = tt
+no_streams (s ∷ ss) = zip_append CanCarry (stream_inputs s) (streams_inputs ss) (stream_pins s None) (streams_pins ss []) (stream_fits s None tt) (no_streams ss)
+
+streams_fit : (ss : List Stream) (rows : List (Option (List ℕ))) → AreRowsOf ss rows → AllZip CanCarry (streams_inputs ss) (streams_pins ss rows)
+streams_fit [] rows h = tt
+streams_fit (s ∷ ss) [] h = absurd h
+streams_fit (s ∷ ss) (r ∷ rs) h = zip_append CanCarry (stream_inputs s) (streams_inputs ss) (stream_pins s r) (streams_pins ss rs) (stream_fits s r h.0) (streams_fit ss rs h.1)
+
+whole_fits : (schema : Schema) (reset : ℕ) (rows : List (Option (List ℕ))) (ends : Bool) → reset < 2 ^ 1 → AllZip CanCarry (streams_inputs schema.streams) (streams_pins schema.streams rows)
+    → AllZip CanCarry (input_ports schema) (pin rst reset ∷ (streams_pins schema.streams rows ++ pin eos (bit ends) ∷ []))
+whole_fits schema reset rows ends small h = (small, zip_append CanCarry (streams_inputs schema.streams) (input eos 1 ∷ []) (streams_pins schema.streams rows) (pin eos (bit ends) ∷ []) h (bit_fits ends, tt))
+
+-- what holds of each beat holds of the one of a cycle
+found_beat : (P : Beat → Type 0) (beats : List Beat) (n : ℕ) → AllByRecursion P beats → IfSome (beat_at beats n) P
+found_beat P [] n h = tt
+found_beat P (b ∷ beats) n h = pick (b.cycle == n) (found_beat P beats n h.1)
+  where
+    pick : (c : Bool) → IfSome (beat_at beats n) P → IfSome (cond c (Some b) (beat_at beats n)) P
+    pick true later = h.0
+    pick false later = later
+
+cycle_fits : (schema : Schema) (beat : Option Beat) → IfSome beat (IsBeat schema)
+    → AllZip CanCarry (input_ports schema) (pin rst 0 ∷ (streams_pins schema.streams (option_map_or (λ (b : Beat). b.rows) beat []) ++ pin eos (bit (option_map_or (λ (b : Beat). b.end) beat false)) ∷ []))
+cycle_fits schema None h = whole_fits schema 0 [] false (omega arith) (no_streams schema.streams)
+cycle_fits schema (Some b) h = whole_fits schema 0 b.rows b.end (omega arith) (streams_fit schema.streams b.rows h.rows)
+
+pub pins_fit : (schema : Schema) (beats : List Beat) (t : ℕ) → AreBeats schema beats → AllZip CanCarry (input_ports schema) (pins schema beats t)
+pins_fit schema beats zero h = whole_fits schema 1 [] false (omega arith) (no_streams schema.streams)
+pins_fit schema beats (suc n) h = cycle_fits schema (beat_at beats n) (found_beat (IsBeat schema) beats n h.each)

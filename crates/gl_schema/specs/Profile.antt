@@ -1,0 +1,64 @@
+-- The profile: the ports by which a module takes the beats of a schema and shows a result, in order, the clock aside.
+use Rattle.std.specs.Prelude.{ℕ, ◌<◌, ◌^◌, List, [], ◌∷◌, ◌++◌, map, codes}
+use Rattle.gl_bits.specs.Kinds.{width_of}
+use Rattle.gl_schema.specs.declared.schema.Column.{Column}
+use Rattle.gl_schema.specs.declared.schema.Stream.{Stream}
+use Rattle.gl_schema.specs.declared.schema.Schema.{Schema}
+use Rattle.gl_schema.specs.Ports.{rst, eos, in_valid, in_column, out_valid, out_column, out_eos, fault_group, fault_queue, Pin}
+
+-- the name of the clock
+unfoldable pub clk : List ℕ
+clk = codes "clk"
+
+-- which way a port goes
+pub data Direction : Type 0 where
+  In : Direction
+  Out : Direction
+
+-- a port, and its bits
+pub record ProfilePort : Type 0 where
+  pub direction : Direction
+  pub name : List ℕ
+  pub width : ℕ
+
+abbrev pub input : List ℕ → ℕ → ProfilePort
+input name width = record { direction = In; name = name; width = width }
+
+abbrev pub output : List ℕ → ℕ → ProfilePort
+output name width = record { direction = Out; name = name; width = width }
+
+-- the inputs of a stream: whether a tuple comes, and its columns
+abbrev pub column_inputs : List ℕ → List Column → List ProfilePort
+column_inputs stream [] = []
+column_inputs stream (c ∷ cs) = input (in_column stream c.name) (width_of c.kind) ∷ column_inputs stream cs
+
+abbrev pub stream_inputs : Stream → List ProfilePort
+stream_inputs s = input (in_valid s.name) 1 ∷ column_inputs s.name s.columns
+
+abbrev pub streams_inputs : List Stream → List ProfilePort
+streams_inputs [] = []
+streams_inputs (s ∷ ss) = stream_inputs s ++ streams_inputs ss
+
+-- all inputs of a schema: reset, those of the streams, and the end
+abbrev pub input_ports : Schema → List ProfilePort
+input_ports schema = input rst 1 ∷ (streams_inputs schema.streams ++ input eos 1 ∷ [])
+
+-- an output for each column of a result
+abbrev pub column_outputs : List Column → List ProfilePort
+column_outputs columns = map (λ c. output (out_column c.name) (width_of c.kind)) columns
+
+-- all outputs of a result: whether a row leaves, its columns, the end, and the two fault lines
+abbrev pub output_ports : List Column → List ProfilePort
+output_ports columns = output out_valid 1 ∷ (column_outputs columns ++ output out_eos 1 ∷ output fault_group 1 ∷ output fault_queue 1 ∷ [])
+
+-- all ports but the clock
+abbrev pub profile : Schema → List Column → List ProfilePort
+profile schema columns = input_ports schema ++ output_ports columns
+
+-- their names
+abbrev pub port_names : List ProfilePort → List (List ℕ)
+port_names ports = map (λ p. p.name) ports
+
+-- what is put on a port has its bits
+abbrev pub CanCarry : ProfilePort → Pin → Type 0
+CanCarry port pin = pin.value < 2 ^ port.width
