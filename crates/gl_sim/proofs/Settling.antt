@@ -15,7 +15,7 @@ use Rattle.gl_sim.specs.Inputs.{with_inputs}
 use Rattle.std.proofs.lemmas.Bool.Decides.{eqb_tells}
 use Rattle.std.proofs.lemmas.List.{get_or-set_same, get_or-set_other}
 use mathlib.Core.Path.{fun_ext}
-use Rattle.gl_sim.specs.Ordering.{AreNets, picked}
+use Rattle.gl_verilog_check.specs.Orders.{picked}
 use Rattle.gl_verilog.proofs.Fits.{Found, found_in, all_at, in_range, width_at-found, value_fits, can_evaluate}
 use Rattle.gl_verilog.proofs.Stores.{store_put}
 
@@ -126,27 +126,6 @@ length_map f (x ∷ xs) (suc n) lt = let h : n < length xs = length_map f xs n (
 pub map_length : {S T : Type 0} (f : S → T) (xs : List S) → length (map f xs) ≡ length xs
 map_length f [] = refl
 map_length f (x ∷ xs) = ap (λ n. suc n) (map_length f xs)
-
--- what holds of each, at a place
-pub holds_at : {S T : Type 0} (P : T → Type 0) (f : S → T) (xs : List S) (k : ℕ) (x : S) → AllByRecursion P (map f xs) → k < length xs → x ≡ get_or xs k x → P (f x)
-holds_at P f xs k x h lt e = all_at P (map f xs) k (f x) h (slice_get-map f xs k x (slice_get-at xs k x lt e))
-
--- an expression that keeps widths reads declared nets
-pub reads_declared : (ds : List Declaration) (e : spec.Expr) → KeepsWidths ds e → EachRead (λ n. n < length ds) e
-reads_declared ds (spec.Net n) h = let d = found_in (slice_get ds n) IsReadable h in in_range ds n d.item d.is
-reads_declared ds (spec.Literal value width) h = tt
-reads_declared ds (spec.Invert width arg) h = reads_declared ds arg h.1
-reads_declared ds (spec.Binary op width left right) h = (reads_declared ds left h.2, reads_declared ds right h.3)
-reads_declared ds (spec.Choose test yes' no') h = (reads_declared ds test h.2, reads_declared ds yes' h.3, reads_declared ds no' h.4)
-reads_declared ds (spec.Join low_width high low) h = (reads_declared ds high h.2, reads_declared ds low h.3)
-reads_declared ds (spec.Select high low n) h = let d = found_in (slice_get ds n) (λ d. IsReadable d × IsTrue d.is_vector × (high < d.width)) h.0 in in_range ds n d.item d.is
-reads_declared ds (spec.Read memory address) h = reads_declared ds address h.1
-
-pub are_nets : (ds : List Declaration) (assignments : List spec.Assignment) → AllByRecursion (KeepsWidth ds) assignments → AreNets (length ds) assignments
-are_nets ds [] h = tt
-are_nets ds (a ∷ rest) h =
-    let d = found_in (slice_get ds a.target) (λ d. IsDriven d.kind × (width_of ds a.value ≡ d.width)) h.0.0 in
-    ((in_range ds a.target d.item d.is, reads_declared ds a.value h.0.1), are_nets ds rest h.1)
 
 -- the list from a place on
 pub drop_here : {T : Type 0} (xs : List T) (i : ℕ) (x : T) → slice_get xs i ≡ Some x → drop i xs ≡ x ∷ drop (i + 1) xs
