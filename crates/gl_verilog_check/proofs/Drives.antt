@@ -14,34 +14,10 @@ use Rattle.gl_verilog.specs.Valid.{assigns, blocks_of, writes_of, AssignsOnce, D
 use Rattle.gl_verilog.proofs.Settles.{each_in_order}
 use Rattle.gl_verilog_check.specs.Kept.{is_one, module_with}
 use Rattle.gl_verilog_check.specs.Passes.{AreOnce}
-use Rattle.gl_verilog_check.specs.Tests.{differs, are_distinct, one_of, assigns_once, blocks_once, is_assigned, all_assigned}
+use Rattle.gl_verilog_check.specs.Tests.{are_new, one_of, assigns_once, blocks_once, is_assigned, all_assigned}
 use Rattle.gl_verilog_check.proofs.Complete.{and_is, and_left, and_right}
+use Rattle.gl_verilog_check.proofs.Names.{new_distinct}
 use Rattle.gl_verilog_check.proofs.Ranks.{no_loop, driven_once, undriven-none}
-
--- ---- names
-
-not_true : (b : Bool) → not b ≡ true → b ≡ false
-not_true true h = absurd cc
-not_true false h = refl
-
-differs-is : (d : Declaration) (es : List Declaration) → differs d es ≡ true → Differs d es
-differs-is d [] h = tt
-differs-is d (e ∷ es) h = (not_true (bytes_eq d.name e.name) (and_left (not (bytes_eq d.name e.name)) (differs d es) h), differs-is d es (and_right (not (bytes_eq d.name e.name)) (differs d es) h))
-
-pub distinct-is : (ds : List Declaration) → are_distinct ds ≡ true → AreDistinct ds
-distinct-is [] h = tt
-distinct-is (d ∷ ds) h = (differs-is d ds (and_left (differs d ds) (are_distinct ds) h), distinct-is ds (and_right (differs d ds) (are_distinct ds) h))
-
-not_false : (b : Bool) → b ≡ false → not b ≡ true
-not_false b e = rw e refl
-
-is-differs : (d : Declaration) (es : List Declaration) → Differs d es → differs d es ≡ true
-is-differs d [] h = refl
-is-differs d (e ∷ es) h = and_is (not (bytes_eq d.name e.name)) (differs d es) (not_false (bytes_eq d.name e.name) h.0) (is-differs d es h.1)
-
-pub is-distinct : (ds : List Declaration) → AreDistinct ds → are_distinct ds ≡ true
-is-distinct [] h = refl
-is-distinct (d ∷ ds) h = and_is (differs d ds) (are_distinct ds) (is-differs d ds h.0) (is-distinct ds h.1)
 
 -- ---- registers
 
@@ -217,9 +193,9 @@ can_once_each as' o = once_each as' (λ n.
 
 -- ---- all of it
 
-pub valid_parts : (ds : List Declaration) (as' : List Assignment) (bs : List Statement) → are_distinct ds ≡ true → IsRunnable (module_with ds as' bs) → all_assigned bs 0 ds ≡ true → IsValid (module_with ds as' bs)
+pub valid_parts : (ds : List Declaration) (as' : List Assignment) (bs : List Statement) → are_new [] ds ≡ true → IsRunnable (module_with ds as' bs) → all_assigned bs 0 ds ≡ true → IsValid (module_with ds as' bs)
 valid_parts ds as' bs names r assigned = record {
-  names = distinct-is ds names;
+  names = new_distinct ds names;
   sizes = r.sizes;
   assignments = r.assignments;
   blocks = r.blocks;

@@ -1,6 +1,6 @@
 //! The test of a valid module: names, drivers, and all that a module that can run needs.
 
-ghost use Rattle.std.specs.Prelude.{◌≡◌, ◌+◌, map, true, false, IfOk, option_map};
+ghost use Rattle.std.specs.Prelude.{◌≡◌, ◌+◌, map, true, false, [], IfOk, option_map};
 ghost use Rattle.gl_verilog.specs.View.{declaration_of, assignment_of, statement_of, module_of};
 ghost use Rattle.gl_verilog.specs.Valid as valid;
 ghost use Rattle.gl_verilog.specs.Valid.{IsValid};
@@ -11,30 +11,23 @@ ghost use Rattle.gl_verilog_check.specs.Tests.{at_most_two};
 use crate::runnable::parts_run;
 use gl_bits::Memory;
 use gl_verilog::{Assignment, Declaration, Kind, Module, Statement};
+use indexmap::IndexSet;
 use std::alloc::Global;
 
-// Whether a name is none of the others.
-fn differs(declaration: &Declaration, others: &[Declaration]) -> bool
-    ensures { result ≡ tests.differs (declaration_of declaration.now) (map declaration_of others.now) }
+// Whether no name is declared twice.
+fn are_distinct(alloc: Global, declarations: &[Declaration]) -> Result<bool, Memory>
+    ensures { IfOk result (λ b. b ≡ tests.are_new [] (map declaration_of declarations.now)) }
 {
-    for other in others {
-        if declaration.name.as_slice() == other.name.as_slice() {
-            return false;
+    let mut names = IndexSet::new(alloc);
+    for declaration in declarations {
+        let Ok(is_new) = names.insert(declaration.name.as_slice()) else {
+            return Err(Memory);
+        };
+        if !is_new {
+            return Ok(false);
         }
     }
-    true
-}
-
-// Whether no name is declared twice. The time grows with the square of their number.
-fn are_distinct(declarations: &[Declaration]) -> bool
-    ensures { result ≡ tests.are_distinct (map declaration_of declarations.now) }
-{
-    for at in 0..declarations.len() {
-        if !differs(&declarations[at], declarations.split_at(at + 1).1) {
-            return false;
-        }
-    }
-    true
+    Ok(true)
 }
 
 // Whether one of two is so; None where both are.
@@ -159,7 +152,8 @@ fn parts_are_valid(
     ensures sound { IfOk result (λ b. b ≡ true → IsValid (made_of declarations.now assignments.now blocks.now)) }
     ensures complete { IfOk result (λ b. IsValid (made_of declarations.now assignments.now blocks.now) → b ≡ true) }
 {
-    if !are_distinct(declarations) {
+    let distinct = are_distinct(alloc, declarations)?;
+    if !distinct {
         return Ok(false);
     }
     let runs = parts_run(alloc, declarations, assignments, blocks)?;
