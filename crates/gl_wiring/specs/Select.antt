@@ -16,7 +16,7 @@ picked places row = map (slice_index row) places
 
 -- what a select of the columns at these places of stream k means: its rows are the stream's, each picked, and none is left out
 abbrev pub picks : ℕ → List ℕ → Meaning
-picks k places inputs rows spill = (rows ≡ map (picked places) (inputs k)) × (spill ≡ false)
+picks k places inputs rows spill = (rows ≡ map (picked places) (inputs.rows k)) × (spill ≡ false)
 
 -- the module has the port in every cycle
 abbrev pub HasPort : PortValues → List ℕ → Type 0
