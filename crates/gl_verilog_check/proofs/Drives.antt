@@ -6,6 +6,8 @@ use Rattle.std.specs.List.Sorted.{IsPermutation}
 use Rattle.std.proofs.lemmas.List.Sorted.{IsPermutation-sym, sum_by-IsPermutation}
 use Rattle.std.proofs.lemmas.List.Sums.{sum_by-cons}
 use Rattle.std.proofs.lemmas.Bool.{eqb-true, eq-eqb}
+use Rattle.gl_bits.proofs.Bools.{neither_parts, and_both, and_left, and_right}
+use Rattle.gl_bits.proofs.Options.{then_some, map_some}
 use Rattle.gl_verilog.specs.Module.{Module, Kind, Input, OutputWire, OutputRegister, Wire, Register, Memory, Declaration, Assignment, Statement, Nothing, Put, Write, Both, If}
 use Rattle.gl_verilog.specs.Order.{IsUndriven, IsOrdered, CanBeOrdered}
 use Rattle.gl_verilog.specs.Widths.{IsDriven}
@@ -15,19 +17,10 @@ use Rattle.gl_verilog.proofs.Settles.{each_in_order}
 use Rattle.gl_verilog_check.specs.Kept.{is_one, module_with}
 use Rattle.gl_verilog_check.specs.Passes.{AreOnce}
 use Rattle.gl_verilog_check.specs.Tests.{are_new, one_of, assigns_once, blocks_once, is_assigned, all_assigned}
-use Rattle.gl_verilog_check.proofs.Complete.{and_is, and_left, and_right}
 use Rattle.gl_verilog_check.proofs.Names.{new_distinct}
 use Rattle.gl_verilog_check.proofs.Ranks.{no_loop, driven_once, undriven-none}
 
 -- ---- registers
-
-then_some : {A B : Type 0} (f : A → Option B) (o : Option A) (y : B) → option_and_then f o ≡ Some y → (x : A) × (o ≡ Some x) × (f x ≡ Some y)
-then_some f None y e = absurd cc
-then_some f (Some x) y e = (x, refl, e)
-
-map_some : {A B : Type 0} (f : A → B) (o : Option A) (y : B) → option_map f o ≡ Some y → (x : A) × (o ≡ Some x) × (f x ≡ y)
-map_some f None y e = absurd cc
-map_some f (Some x) y e = (x, refl, cc)
 
 one_of_is : (a b v : Bool) → one_of a b ≡ Some v → (v ≡ (a || b)) × ((a && b) ≡ false)
 one_of_is true true v e = absurd cc
@@ -53,7 +46,7 @@ once-is r (If test yes' no') b e =
     let x = then_some (λ a. option_map (λ b. a || b) (assigns_once r no')) (assigns_once r yes') b e in
     let y = map_some (λ b. x.0 || b) (assigns_once r no') b x.2 in
     let p = once-is r yes' x.0 x.1 in let q = once-is r no' y.0 y.1 in
-    (sym y.2 ∙ ap (λ a. a || y.0) p.0 ∙ ap (λ a. assigns yes' r || a) q.0, (p.1, q.1))
+    (y.2 ∙ ap (λ a. a || y.0) p.0 ∙ ap (λ a. assigns yes' r || a) q.0, (p.1, q.1))
 
 is-once : (r : ℕ) (s : Statement) → AssignsOnce r s → assigns_once r s ≡ Some (assigns s r)
 is-once r Nothing h = refl
@@ -68,7 +61,7 @@ blocks-is r (b ∷ bs) n e =
     let x = then_some (λ a. option_map (λ (n : ℕ). cond a 1 0 + n) (blocks_once r bs)) (assigns_once r b) n e in
     let y = map_some (λ (n : ℕ). cond x.0 1 0 + n) (blocks_once r bs) n x.2 in
     let p = once-is r b x.0 x.1 in let q = blocks-is r bs y.0 y.1 in
-    (sym y.2 ∙ ap (λ a. cond a 1 0 + y.0) p.0 ∙ ap (λ (n : ℕ). cond (assigns b r) 1 0 + n) q.0, (p.1, q.1))
+    (y.2 ∙ ap (λ a. cond a 1 0 + y.0) p.0 ∙ ap (λ (n : ℕ). cond (assigns b r) 1 0 + n) q.0, (p.1, q.1))
 
 is-blocks : (r : ℕ) (bs : List Statement) → AllByRecursion (AssignsOnce r) bs → blocks_once r bs ≡ Some (blocks_of bs r)
 is-blocks r [] h = refl
@@ -115,7 +108,7 @@ there-assigned : (bs : List Statement) (from : ℕ) (ds : List Declaration) → 
 there-assigned bs from [] h = refl
 there-assigned bs from (d ∷ ds) h =
     let here : from + 0 ≡ from = omega arith in
-    and_is (is_assigned bs from d.kind) (all_assigned bs (from + 1) ds)
+    and_both (is_assigned bs from d.kind) (all_assigned bs (from + 1) ds)
     (subst (λ (i : ℕ). is_assigned bs i d.kind ≡ true) here (h 0 d refl))
     (there-assigned bs (from + 1) ds (λ n c at. let same : from + suc n ≡ (from + 1) + n = omega arith in subst (λ (i : ℕ). is_assigned bs i c.kind ≡ true) same (h (suc n) c at)))
 
@@ -129,13 +122,9 @@ counts_of (a ∷ as') n = ap (λ (k : ℕ). cond (eqb a.target n) 1 0 + k) (coun
 abbrev IsApart : ℕ → ℕ → Assignment → Type 0
 IsApart t n a = (eqb a.target t && mentions a.value n) ≡ false
 
-or_none : (a b : Bool) → (a || b) ≡ false → (a ≡ false) × (b ≡ false)
-or_none true b e = absurd cc
-or_none false b e = (refl, e)
-
 all_apart : (as' : List Assignment) (t n : ℕ) → depends as' t n ≡ false → AllByRecursion (IsApart t n) as'
 all_apart [] t n e = tt
-all_apart (a ∷ as') t n e = let p = or_none (eqb a.target t && mentions a.value n) (depends as' t n) e in (p.0, all_apart as' t n p.1)
+all_apart (a ∷ as') t n e = let p = neither_parts (eqb a.target t && mentions a.value n) (depends as' t n) e in (p.0, all_apart as' t n p.1)
 
 none_depends : (as' : List Assignment) (t n : ℕ) → AllByRecursion (IsApart t n) as' → depends as' t n ≡ false
 none_depends [] t n h = refl

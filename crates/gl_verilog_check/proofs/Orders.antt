@@ -4,24 +4,16 @@ use Rattle.std.specs.Prelude.{slice_get, slice_set, unwrap_or, IfSome, is_some}
 use Rattle.std.specs.List.{AllByRecursion, list_any, cons_option}
 use Rattle.std.specs.List.Sorted.{IsPermutation}
 use Rattle.std.proofs.lemmas.List.Sorted.{IsPermutation-refl, IsPermutation-cons, IsPermutation-trans, IsPermutation-middle, IsPermutation-sym, IsPermutation-append}
+use Rattle.gl_bits.proofs.Bools.{neither_left, neither_right, by_cases, and_left, and_right}
 use Rattle.gl_verilog.specs.Module.{Assignment, Expr, Net, Literal, Invert, Binary, Choose, Join, Select, Read}
 use Rattle.gl_verilog.specs.Order.{EachRead, IsUndriven, IsOrdered, CanBeOrdered}
 use Rattle.gl_verilog.proofs.Settles.{each_in_order, reads_and, reads_both}
 use Rattle.gl_verilog_check.specs.Kept.{reads, AreMarks, AreNets}
 use Rattle.gl_verilog_check.specs.Orders.{picked, IsOrderOf, IsMissing}
 use Rattle.gl_verilog_check.specs.Passes.{AreOnce, waits, is_ready, placed, passed, finds, keep, left, IsPlacing}
-use Rattle.gl_verilog_check.proofs.Complete.{and_left, and_right}
 use Rattle.gl_verilog_check.proofs.Marks.{unmarked}
 
 -- ---- what is read
-
-or_left : (a b : Bool) → (a || b) ≡ false → a ≡ false
-or_left true b h = absurd cc
-or_left false b h = refl
-
-or_right : (a b : Bool) → (a || b) ≡ false → b ≡ false
-or_right true b h = absurd cc
-or_right false b h = h
 
 or_false : (a b : Bool) → a ≡ false → (a || b) ≡ true → b ≡ true
 or_false true b e h = absurd cc
@@ -37,14 +29,14 @@ reads_none : (marks : List Bool) (e : Expr) → reads marks e ≡ false → Each
 reads_none marks (Net n) h = known (slice_get marks n) h
 reads_none marks (Literal value width) h = tt
 reads_none marks (Invert width arg) h = reads_none marks arg h
-reads_none marks (Binary op width left right) h = (reads_none marks left (or_left (reads marks left) (reads marks right) h), reads_none marks right (or_right (reads marks left) (reads marks right) h))
+reads_none marks (Binary op width left right) h = (reads_none marks left (neither_left (reads marks left) (reads marks right) h), reads_none marks right (neither_right (reads marks left) (reads marks right) h))
 reads_none marks (Choose test yes' no') h =
-    let rest = or_right (reads marks test) (reads marks yes' || reads marks no') h in (
-      reads_none marks test (or_left (reads marks test) (reads marks yes' || reads marks no') h),
-      reads_none marks yes' (or_left (reads marks yes') (reads marks no') rest),
-      reads_none marks no' (or_right (reads marks yes') (reads marks no') rest),
+    let rest = neither_right (reads marks test) (reads marks yes' || reads marks no') h in (
+      reads_none marks test (neither_left (reads marks test) (reads marks yes' || reads marks no') h),
+      reads_none marks yes' (neither_left (reads marks yes') (reads marks no') rest),
+      reads_none marks no' (neither_right (reads marks yes') (reads marks no') rest),
     )
-reads_none marks (Join low_width high low) h = (reads_none marks high (or_left (reads marks high) (reads marks low) h), reads_none marks low (or_right (reads marks high) (reads marks low) h))
+reads_none marks (Join low_width high low) h = (reads_none marks high (neither_left (reads marks high) (reads marks low) h), reads_none marks low (neither_right (reads marks high) (reads marks low) h))
 reads_none marks (Select high low n) h = known (slice_get marks n) h
 reads_none marks (Read memory address) h = reads_none marks address h
 
@@ -267,23 +259,18 @@ passed_fewer marks (b ∷ bs) e = by (is_ready marks b) refl (λ f. passed_fewer
 none_ready : (marks : List Bool) (bs : List Assignment) → finds marks bs ≡ false → AllByRecursion (λ b. is_ready marks b ≡ false) bs
 none_ready marks [] e = tt
 none_ready marks (b ∷ bs) e =
-    let here : is_ready marks b ≡ false = or_left (is_ready marks b) (finds (placed marks b) bs) e in
+    let here : is_ready marks b ≡ false = neither_left (is_ready marks b) (finds (placed marks b) bs) e in
     let same : placed marks b ≡ marks = rw here refl in
-    (here, none_ready marks bs (subst (λ (ms : List Bool). finds ms bs ≡ false) same (or_right (is_ready marks b) (finds (placed marks b) bs) e)))
+    (here, none_ready marks bs (subst (λ (ms : List Bool). finds ms bs ≡ false) same (neither_right (is_ready marks b) (finds (placed marks b) bs) e)))
 
 stuck_reads : (a b : Bool) → (a && not b) ≡ false → a ≡ true → b ≡ true
 stuck_reads true true h e = refl
 stuck_reads true false h e = absurd cc
 stuck_reads false b h e = absurd cc
 
--- by a test
-split : {X : Type 0} (b : Bool) → (b ≡ true → X) → (b ≡ false → X) → X
-split true p q = p refl
-split false p q = q refl
-
 never_stuck : (o : List Assignment) (marks : List Bool) → IsOrdered o → AllByRecursion (λ b. is_ready marks b ≡ false) o → AreNets (length marks) o → ((n : ℕ) → slice_get marks n ≡ Some true → IsUndriven o n → ⊥) → (n : ℕ) → slice_get marks n ≡ Some true → ⊥
 never_stuck [] marks i h r d n w = d n w tt
-never_stuck (a ∷ rest) marks i h r d n w = split (waits marks a.target)
+never_stuck (a ∷ rest) marks i h r d n w = by_cases (waits marks a.target)
     (λ e. absurd (let none : reads marks a.value ≡ false = reads_nothing marks a.value
     (reads_and (λ k. (k < length marks) × IsUndriven (a ∷ rest) k) (λ k. slice_get marks k ≡ Some false) a.value (λ k p. unmarked marks k p.0 (λ f. d k f p.1)) (reads_both (λ k. k < length marks) (IsUndriven (a ∷ rest)) a.value r.0.1 i.0)) in
     let some : reads marks a.value ≡ true = stuck_reads (waits marks a.target) (reads marks a.value) h.0 e in cc))
