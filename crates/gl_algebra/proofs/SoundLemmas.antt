@@ -1,8 +1,8 @@
 -- Every row of the table gives sound figures from sound ones.
 use Rattle.std.proofs.Common.{◌≡◌, ℕ, zero, suc, ◌+◌, ◌-◌, ◌*◌, ◌<◌, ◌≤◌, max, Bool, true, false, ◌&&◌, cond, nat_eq, nat_lt, List, [], ◌∷◌, refl, sym, ap, ◌∙◌, subst, arith}
-use Rattle.std.proofs.Math.Nat.{mul-le-mul_right}
+use Rattle.std.proofs.Math.Nat.{mul-le-mul_right, mul-pos}
 use borrow.Author.Tests.{ltb-true}
-use Rattle.gl_algebra.proofs.ListLemmas.{tested, passes, fails}
+use Rattle.gl_bits.proofs.Bools.{and_left, by_cases}
 use Rattle.gl_algebra.specs.declared.figures.Figures.{Figures}
 use Rattle.gl_algebra.specs.FigureTable.{IsSound, last_of, settled, delayed, aggregate_figures, merged, is_fixed, in_step, at_end, joined, spacer_figures, spaced, needs_spacer, stride_of, window_gap, group_gap, windows_over, groups_over}
 
@@ -23,8 +23,10 @@ settled_sound f sound =
       tuples_last = least;
       end_last = omega arith;
       tuples = sound.tuples;
+      some = sound.some;
       tuples_gap = omega arith;
       end_gap = sound.end_gap;
+      gaps = sound.gaps;
     }
 
 pub delayed_sound : (cycles : ℕ) (f : Figures) → IsSound f → IsSound (delayed cycles f)
@@ -32,8 +34,10 @@ delayed_sound cycles f sound = record {
   tuples_last = omega arith;
   end_last = omega arith;
   tuples = sound.tuples;
+  some = sound.some;
   tuples_gap = omega arith;
   end_gap = omega arith;
+  gaps = sound.gaps;
 }
 
 pub aggregate_sound : (delay : ℕ) (f : Figures) → IsSound f → IsSound (aggregate_figures delay f)
@@ -41,8 +45,10 @@ aggregate_sound delay f sound = record {
   tuples_last = omega arith;
   end_last = omega arith;
   tuples = omega arith;
+  some = omega arith;
   tuples_gap = omega arith;
   end_gap = omega arith;
+  gaps = omega arith;
 }
 
 -- the last cycle with a first that may lie past the end where there is no tuple
@@ -59,8 +65,10 @@ merged_sound p q sound sound' =
       tuples_last = within.0;
       end_last = within.1;
       tuples = omega arith;
+      some = omega arith;
       tuples_gap = omega arith;
       end_gap = omega arith;
+      gaps = omega arith;
     }
 
 in_step_sound : (p q : Figures) → IsSound p → IsSound q → IsSound (in_step p q)
@@ -68,8 +76,10 @@ in_step_sound p q sound sound' = record {
   tuples_last = omega arith;
   end_last = omega arith;
   tuples = sound.tuples;
+  some = sound.some;
   tuples_gap = omega arith;
   end_gap = omega arith;
+  gaps = omega arith;
 }
 
 at_end_sound : (p q : Figures) → IsSound p → IsSound q → IsSound (at_end p q)
@@ -77,8 +87,10 @@ at_end_sound p q sound sound' = record {
   tuples_last = omega arith;
   end_last = omega arith;
   tuples = omega arith;
+  some = omega arith;
   tuples_gap = omega arith;
   end_gap = omega arith;
+  gaps = omega arith;
 }
 
 pub joined_sound : (p q : Figures) → IsSound p → IsSound q → IsSound (joined p q)
@@ -97,20 +109,19 @@ spacer_sound gap f some sound =
       tuples_last = within.0;
       end_last = within.1;
       tuples = sound.tuples;
+      some = sound.some;
       tuples_gap = omega arith;
       end_gap = omega arith;
+      gaps = omega arith;
     }
 
 pub spaced_sound : (gap : ℕ) (f : Figures) → IsSound f → IsSound (spaced gap f)
 spaced_sound gap f sound =
-    elim (tested (nat_lt 1 gap)) [
-      | passes e ↦ let more : 1 < gap = ltb-true 1 gap e in
-          elim (tested (nat_lt f.a f.le)) [
-            | passes e' ↦ rw (e, e') (spacer_sound gap f (omega arith) sound)
-            | fails e' ↦ rw (e, e') sound
-          ]
-      | fails e ↦ rw e sound
-    ]
+    by_cases (needs_spacer gap f)
+    (λ e.
+    let more : 1 < gap = ltb-true 1 gap (and_left (nat_lt 1 gap) (nat_lt f.a f.le) e) in
+    rw e (spacer_sound gap f (omega arith) sound))
+    (λ e. rw e sound)
 
 pub windows_sound : (copies : ℕ) (f s : Figures) → 1 ≤ copies → IsSound f → IsSound s → IsSound (windows_over copies f s)
 windows_sound copies f s some sound sound' =
@@ -120,15 +131,19 @@ windows_sound copies f s some sound sound' =
       tuples_last = least;
       end_last = omega arith;
       tuples = mul-le-mul_right s.ne (omega arith);
+      some = mul-pos (omega arith) sound'.some;
       tuples_gap = omega arith;
       end_gap = omega arith;
+      gaps = omega arith;
     }
 
-pub groups_sound : (groups : ℕ) (f s : Figures) → IsSound f → IsSound s → IsSound (groups_over groups f s)
-groups_sound groups f s sound sound' = record {
+pub groups_sound : (groups : ℕ) (f s : Figures) → 1 ≤ groups → IsSound f → IsSound s → IsSound (groups_over groups f s)
+groups_sound groups f s some sound sound' = record {
   tuples_last = omega arith;
   end_last = omega arith;
   tuples = omega arith;
+  some = mul-pos some sound'.some;
   tuples_gap = omega arith;
   end_gap = omega arith;
+  gaps = omega arith;
 }

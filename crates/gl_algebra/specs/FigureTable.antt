@@ -1,5 +1,5 @@
 -- The figures of nodes: when and how densely the tuples of a node's wire come, from the figures of its inputs.
-use Rattle.std.specs.Prelude.{ℕ, zero, suc, ◌+◌, ◌-◌, ◌*◌, ◌≤◌, max, List, [], ◌∷◌, Bool, ◌&&◌, nat_eq, nat_lt, if◌then◌else◌}
+use Rattle.std.specs.Prelude.{ℕ, zero, suc, ◌+◌, ◌-◌, ◌*◌, ◌^◌, ◌<◌, ◌≤◌, max, List, [], ◌∷◌, Bool, ◌&&◌, nat_eq, nat_lt, if◌then◌else◌}
 use Rattle.gl_bits.specs.Kinds.{width_of}
 use Rattle.gl_bits.specs.declared.kind.Kind.{Kind}
 use Rattle.gl_algebra.specs.declared.figures.Figures.{Figures}
@@ -12,13 +12,31 @@ use Rattle.gl_algebra.specs.Fits.{copies_of_window}
 use Rattle.gl_algebra.specs.Nodewise.{nodewise}
 use Rattle.gl_algebra.specs.Shapes.{Shape, shape_of}
 
--- sound figures: intervals end after they begin, and those of two beats never overlap
+-- sound figures: intervals end after they begin, those of two beats never overlap, and after a beat with the end there is room
+-- for a tuple and the gap is no less than after a beat without it
 pub record IsSound (f : Figures) : Type 0 where
   pub tuples_last : f.a ≤ f.lt
   pub end_last : f.lt ≤ f.le
   pub tuples : f.nt ≤ f.ne
+  pub some : 1 ≤ f.ne
   pub tuples_gap : f.lt - f.a + 1 ≤ f.gt
   pub end_gap : f.le - f.a + 1 ≤ f.ge
+  pub gaps : f.gt ≤ f.ge
+
+-- each figure fits 32 bits
+pub record AreSmall (f : Figures) : Type 0 where
+  pub a : f.a < 2 ^ 32
+  pub lt : f.lt < 2 ^ 32
+  pub le : f.le < 2 ^ 32
+  pub nt : f.nt < 2 ^ 32
+  pub ne : f.ne < 2 ^ 32
+  pub gt : f.gt < 2 ^ 32
+  pub ge : f.ge < 2 ^ 32
+
+-- beats that keep the second figures keep the first
+pub record NoCloser (f g : Figures) : Type 0 where
+  pub gt : f.gt ≤ g.gt
+  pub ge : f.ge ≤ g.ge
 
 -- a stream, or the input of a body: each beat's tuple in the beat's own cycle
 abbrev pub input_figures : Figures

@@ -1,3 +1,6 @@
+pub mod Bools
+pub mod Options
+pub mod AllLists
 pub mod Wrapping
 pub mod Slicing
 pub mod Grouping

@@ -1,11 +1,12 @@
 -- What the loops over values keep.
 use Rattle.std.proofs.Common.{◌≡◌, ℕ, zero, suc, ◌+◌, ◌*◌, ◌/◌, ◌%◌, ◌^◌, ◌<◌, ◌≤◌, List, [], ◌∷◌, length, take, get_or, refl, sym, ap, ◌∙◌, arith, take_all, ne_eqb, ◌⊎◌, inl, inr}
-use Rattle.std.specs.Prelude.{sum, fold, map, ◌≢◌}
+use Rattle.std.specs.Prelude.{sum, fold, map, ◌≢◌, ℤ, pos, ◌+ℤ◌}
 use Rattle.std.proofs.Math.Nat.{mod-add-mod, add-mod-mod, zero-mod}
 use Rattle.gl_bits.proofs.Wrapping.{wraps_within}
 use Rattle.gl_bits.specs.declared.kind.Kind.{Kind}
-use Rattle.gl_bits.specs.Kinds.{number_of, width_of}
-use Rattle.gl_bits.specs.Totals.{average_of, count_of, sum_total, weighted, weighted_sum}
+use Rattle.gl_bits.specs.declared.kind.Kind.TheVariants.{Unsigned, Text}
+use Rattle.gl_bits.specs.Kinds.{held_of, width_of, word_of}
+use Rattle.gl_bits.specs.Totals.{average_of, count_of, quotient_of, sum_of_numbers, sum_total, weighted, weighted_sum}
 
 -- one more value
 pub fold_more : {A B : Type 0} (f : B → A → B) (a : B) (xs : List A) (i : ℕ) (d : A) → i < length xs → fold f a (take (i + 1) xs) ≡ f (fold f a (take i xs)) (get_or xs i d)
@@ -27,14 +28,29 @@ pub sum_wrapped : (w i : ℕ) (xs : List ℕ) → w ≤ 128 → length xs ≤ i 
 unfolding sum_total
 sum_wrapped w i xs most past = wraps_within (sum (take i xs)) w most ∙ ap (λ l. sum l % 2 ^ w) (take_all i xs past)
 
-numbers_themselves : (kind : Kind) (xs : List ℕ) → map (number_of kind) xs ≡ xs
-numbers_themselves kind [] = refl
-numbers_themselves kind (x ∷ xs) = ap (λ l. x ∷ l) (numbers_themselves kind xs)
+-- the sum of numbers that have no sign
+summed : (a : ℕ) (xs : List ℕ) → fold (λ (z : ℤ) (x : ℤ). z +ℤ x) (pos a) (map pos xs) ≡ pos (fold (λ (n : ℕ) (x : ℕ). n + x) a xs)
+summed a [] = refl
+summed a (x ∷ xs) = summed (a + x) xs
+
+unsigned_sum : (kind : Kind) (xs : List ℕ) → sum_of_numbers kind xs ≡ pos (sum xs)
+unsigned_sum (Unsigned w) xs = summed 0 xs
+unsigned_sum (Text n) xs = summed 0 xs
+
+held_unsigned : (kind : Kind) (bits n : ℕ) → held_of kind bits (pos n) ≡ pos (n % 2 ^ bits)
+held_unsigned (Unsigned w) bits n = refl
+held_unsigned (Text m) bits n = refl
+
+held_sum : (kind : Kind) (bits : ℕ) (xs : List ℕ) → held_of kind bits (sum_of_numbers kind xs) ≡ pos (sum xs % 2 ^ bits)
+held_sum kind bits xs = ap (held_of kind bits) (unsigned_sum kind xs) ∙ held_unsigned kind bits (sum xs)
 
 pub average_some : (kind : Kind) (xs : List ℕ) (n : ℕ) → n ≡ count_of xs → n ≢ 0 → sum_total (width_of kind + 32) xs / n % 2 ^ width_of kind ≡ average_of kind xs
 unfolding average_of sum_total
 average_some kind xs n e some =
-    rw (numbers_themselves kind xs, ← e, ne_eqb n 0 some) refl
+    let quotient : quotient_of (pos (sum xs % 2 ^ (width_of kind + 32))) n ≡ pos (sum xs % 2 ^ (width_of kind + 32) / n) = rw (ne_eqb n 0 some) refl in
+    sym (ap (λ z. word_of (width_of kind) (quotient_of z (count_of xs))) (held_sum kind (width_of kind + 32) xs)
+    ∙ ap (λ c. word_of (width_of kind) (quotient_of (pos (sum xs % 2 ^ (width_of kind + 32))) c)) (sym e)
+    ∙ ap (word_of (width_of kind)) quotient)
 
 pub average_none : (kind : Kind) (xs : List ℕ) → count_of xs ≡ 0 → average_of kind xs ≡ 0
 unfolding average_of

@@ -1,5 +1,6 @@
 -- Kinds of columns: unsigned numbers and short texts.
-use Rattle.std.specs.Prelude.{ℕ, ◌*◌, ◌≤◌, Bool, nat_le, nat_lt}
+use Rattle.std.specs.Prelude.{ℕ, ℤ, pos, ◌*◌, ◌^◌, ◌≤◌, Bool, int_le, int_lt, unsigned_abs}
+use Rattle.std.specs.Int.{int_rem_euclid}
 use Rattle.gl_bits.specs.declared.kind.Kind.{Kind}
 use Rattle.gl_bits.specs.declared.kind.Kind.TheVariants.{Unsigned, Text}
 
@@ -14,12 +15,22 @@ IsKind (Unsigned w) = (1 ≤ w) × (w ≤ 64)
 IsKind (Text n) = (1 ≤ n) × (n ≤ 8)
 
 -- the number that a word of a kind stands for: a text stands for its bytes, the first one highest
-abbrev pub number_of : Kind → ℕ → ℕ
-number_of kind word = word
+abbrev pub number_of : Kind → ℕ → ℤ
+number_of (Unsigned w) word = pos word
+number_of (Text n) word = pos word
 
 -- words of one kind compare as their numbers
 abbrev pub is_below : Kind → ℕ → ℕ → Bool
-is_below kind x y = nat_lt (number_of kind x) (number_of kind y)
+is_below kind x y = int_lt (number_of kind x) (number_of kind y)
 
 abbrev pub is_at_most : Kind → ℕ → ℕ → Bool
-is_at_most kind x y = nat_le (number_of kind x) (number_of kind y)
+is_at_most kind x y = int_le (number_of kind x) (number_of kind y)
+
+-- the word of a width that stands for a number, which wraps
+abbrev pub word_of : ℕ → ℤ → ℕ
+word_of width number = unsigned_abs (int_rem_euclid number (pos (2 ^ width)))
+
+-- the number of a kind's sort that so many bits can hold of a number, which wraps: a kind without a sign holds none below 0
+abbrev pub held_of : Kind → ℕ → ℤ → ℤ
+held_of (Unsigned w) bits number = int_rem_euclid number (pos (2 ^ bits))
+held_of (Text n) bits number = int_rem_euclid number (pos (2 ^ bits))

@@ -1,7 +1,7 @@
 -- Totals over the values of a column, each a word of one kind. Each is 0 over no values.
-use Rattle.std.specs.Prelude.{ℕ, ◌+◌, ◌*◌, ◌/◌, ◌%◌, ◌^◌, List, [], ◌∷◌, length, map, fold, sum, nat_eq, if◌then◌else◌}
+use Rattle.std.specs.Prelude.{ℕ, ℤ, pos, ◌+ℤ◌, ◌+◌, ◌*◌, ◌%◌, ◌^◌, List, [], ◌∷◌, length, map, fold, sum, nat_eq, int_div, if◌then◌else◌}
 use Rattle.gl_bits.specs.declared.kind.Kind.{Kind}
-use Rattle.gl_bits.specs.Kinds.{width_of, number_of, is_below}
+use Rattle.gl_bits.specs.Kinds.{width_of, number_of, held_of, word_of, is_below}
 
 -- how many, which wraps in 32 bits
 unfoldable pub count_of : {A : Type 0} → List A → ℕ
@@ -28,13 +28,18 @@ unfoldable pub greatest_of : Kind → List ℕ → ℕ
 greatest_of kind [] = 0
 greatest_of kind (x ∷ xs) = fold (greater kind) x xs
 
--- the quotient, or 0 where there is nothing to divide by
-abbrev pub quotient_of : ℕ → ℕ → ℕ
-quotient_of top bottom = if nat_eq bottom 0 then 0 else top / bottom
+-- the sum of the numbers that words of a kind stand for
+abbrev pub sum_of_numbers : Kind → List ℕ → ℤ
+sum_of_numbers kind xs = fold (λ a x. a +ℤ x) (pos 0) (map (number_of kind) xs)
+
+-- the quotient, toward 0; and 0 where there is nothing to divide by
+abbrev pub quotient_of : ℤ → ℕ → ℤ
+quotient_of top bottom = if nat_eq bottom 0 then pos 0 else int_div top (pos bottom)
 
 -- the sum of the numbers, in 32 bits more than the width, by their count, in the width
 unfoldable pub average_of : Kind → List ℕ → ℕ
-average_of kind xs = quotient_of (sum (map (number_of kind) xs) % 2 ^ (width_of kind + 32)) (count_of xs) % 2 ^ width_of kind
+average_of kind xs =
+    word_of (width_of kind) (quotient_of (held_of kind (width_of kind + 32) (sum_of_numbers kind xs)) (count_of xs))
 
 -- the values by their weights, the oldest first; values past the last weight count 0
 abbrev pub weighted : List ℕ → List ℕ → ℕ

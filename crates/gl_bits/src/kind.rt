@@ -29,7 +29,8 @@ impl Kind {
     pub fn is_below(self, first: u128, second: u128) -> bool
         ensures { result ≡ is_below self first second }
     {
-        let _ = self;
-        first < second
+        match self {
+            Kind::Unsigned(_) | Kind::Text(_) => first < second,
+        }
     }
 }

@@ -1,6 +1,6 @@
 -- A netlist in which one node is replaced by another of its shape, as by a drive.
 use Rattle.std.proofs.Common.{◌≡◌, ℕ, zero, suc, ◌+◌, ◌<◌, ◌≤◌, List, [], ◌∷◌, length, Option, Some, None, Bool, true, false, refl, sym, ap, ◌∙◌, subst, inl, inr, ◌⊎◌, arith}
-use Rattle.std.specs.Prelude.{slice_get, slice_set, option_and_then, IfSome, count_by, if◌then◌else◌}
+use Rattle.std.specs.Prelude.{slice_get, slice_set, option_and_then, IfSome, sum_by, if◌then◌else◌}
 use Rattle.std.specs.Option.{option_map}
 use Rattle.gl_net.specs.declared.node.Node.{Node}
 use Rattle.gl_net.specs.declared.node.Node.TheVariants.{Input, Constant, Not, Binary, Choose, Join, Cut, Register, Memory, MemoryRead}
@@ -9,10 +9,10 @@ use Rattle.gl_net.specs.declared.node.Bus.{Bus}
 use Rattle.gl_net.specs.declared.node.Store.{Store}
 use Rattle.gl_net.specs.declared.node.Port.{Port}
 use Rattle.gl_net.specs.declared.node.Direction.{Direction}
-use Rattle.gl_net.specs.Net.{Net, Run, Shape, Value, Words, shape_of, shape_in, open_in, open_at, open_shape, Holds, Fits, IsTrace, IsReset, IsRun, IsBus, Grows, stored_of, is_inner, size_of, has_no_reset, is_free}
+use Rattle.gl_net.specs.Net.{Net, Run, Shape, Value, Words, shape_of, shape_in, open_in, open_at, open_shape, Holds, Fits, IsTrace, IsReset, IsRun, IsBus, Grows, stored_of, is_inner, size_of, register_bits, memory_bits, register_bits_of, memory_bits_of, has_no_reset, is_free}
 use Rattle.gl_net.specs.WellFormed.{IsDrive, end_at, NodeFits, EndFits, IsWellFormed}
 use Rattle.gl_net.specs.Steps.{Drives, DrivesMemory}
-use Rattle.gl_net.proofs.Lists.{nat_dec, get_set_same, get_set_other, count_by-set}
+use Rattle.gl_net.proofs.Lists.{nat_dec, get_set_same, get_set_other, sum_by-replaced}
 use Rattle.gl_net.proofs.Growth.{kept_bus, kept_drive, kept_node, kept_end}
 
 -- x at the place gives way to y
@@ -23,6 +23,8 @@ record Replaces (old new : Net) (at : ℕ) (x y : Node) : Type 0 where
   pub shape : shape_of y ≡ shape_of x
   pub inner : is_inner x ≡ true
   pub inner' : is_inner y ≡ true
+  pub register_bits' : register_bits y ≡ register_bits x
+  pub memory_bits' : memory_bits y ≡ memory_bits x
 
 module _ (old new : Net) (at : ℕ) (x y : Node) (r : Replaces old new at x y) where
   now_there : slice_get new.nodes at ≡ Some y
@@ -82,7 +84,15 @@ module _ (old new : Net) (at : ℕ) (x y : Node) (r : Replaces old new at x y) w
 
   replaced_size : size_of new ≡ size_of old
   unfolding size_of
-  replaced_size = rw r.nodes (count_by-set is_inner old.nodes at x y r.there (r.inner' ∙ sym r.inner))
+  replaced_size = rw r.nodes (sum_by-replaced _ old.nodes at x y r.there (ap (λ b. if b then 1 else 0) (r.inner' ∙ sym r.inner)))
+
+  replaced_register_bits : register_bits_of new ≡ register_bits_of old
+  unfolding register_bits_of
+  replaced_register_bits = rw r.nodes (sum_by-replaced register_bits old.nodes at x y r.there r.register_bits')
+
+  replaced_memory_bits : memory_bits_of new ≡ memory_bits_of old
+  unfolding memory_bits_of
+  replaced_memory_bits = rw r.nodes (sum_by-replaced memory_bits old.nodes at x y r.there r.memory_bits')
 
   -- an input node is not replaced
   inputs : (n k w : ℕ) → slice_get old.nodes n ≡ Some (Input k w) → slice_get new.nodes n ≡ Some (Input k w)
@@ -144,7 +154,7 @@ driven run n w (Some v) next h t e = h t ∙ ap (λ b. if b then v else run.at t
 
 module _ (old new : Net) (b next : Bus) (d : Drives old new b next) where
   drives_replaces : Replaces old new b.node (Register b.width d.reset None) (Register b.width d.reset (Some next))
-  drives_replaces = record { there = d.there; nodes = d.nodes; ports = d.ports; shape = refl; inner = refl; inner' = refl }
+  drives_replaces = record { there = d.there; nodes = d.nodes; ports = d.ports; shape = refl; inner = refl; inner' = refl; register_bits' = refl; memory_bits' = refl }
 
   pub drive_grows : Grows old new
   drive_grows = replaced_grows _ _ _ _ _ drives_replaces (λ run h. undriven run b.node b.width d.reset next h)
@@ -157,6 +167,12 @@ module _ (old new : Net) (b next : Bus) (d : Drives old new b next) where
 
   pub drive_size : size_of new ≡ size_of old
   drive_size = replaced_size _ _ _ _ _ drives_replaces
+
+  pub drive_register_bits : register_bits_of new ≡ register_bits_of old
+  drive_register_bits = replaced_register_bits _ _ _ _ _ drives_replaces
+
+  pub drive_memory_bits : memory_bits_of new ≡ memory_bits_of old
+  drive_memory_bits = replaced_memory_bits _ _ _ _ _ drives_replaces
 
   pub drive_value : (run : Run) → IsRun new run → (t : ℕ) → run.at (suc (suc t)) b.node ≡ run.at (suc t) next.node
   drive_value run q t = driven run b.node b.width d.reset next (q.trace.holds b.node _ (now_there _ _ _ _ _ drives_replaces)) (suc t) (q.reset.later t)
@@ -178,13 +194,13 @@ pub register_fits : (nodes : List Node) (ports : List Port) (name : Option (List
     → IsWellFormed (record { nodes = slice_set nodes at (Register w r (Some next)); ports = ports; name = name })
 register_fits nodes ports name at w r next h i e f =
     let q : Replaces (record { nodes = nodes; ports = ports; name = name }) (record { nodes = slice_set nodes at (Register w r (Some next)); ports = ports; name = name }) at (Register w r None) (Register w r (Some next))
-    = record { there = h; nodes = refl; ports = refl; shape = refl; inner = refl; inner' = refl } in
+    = record { there = h; nodes = refl; ports = refl; shape = refl; inner = refl; inner' = refl; register_bits' = refl; memory_bits' = refl } in
     let g : NodeFits (record { nodes = nodes; ports = ports; name = name }) at (Register w r None) = f.nodes at _ h in
     replaced_fits _ _ _ _ _ q f (g.0, g.1, (kept_bus _ _ (same_shapes _ _ _ _ _ q) (same_end _ _ _ _ _ q) next i, e))
 
 module _ (old new : Net) (s : Store) (drive : MemoryDrive) (d : DrivesMemory old new s drive) where
   memory_replaces : Replaces old new s.node (Memory s.address_bits s.width None) (Memory s.address_bits s.width (Some drive))
-  memory_replaces = record { there = d.there; nodes = d.nodes; ports = d.ports; shape = refl; inner = refl; inner' = refl }
+  memory_replaces = record { there = d.there; nodes = d.nodes; ports = d.ports; shape = refl; inner = refl; inner' = refl; register_bits' = refl; memory_bits' = refl }
 
   pub memory_grows : Grows old new
   memory_grows = replaced_grows _ _ _ _ _ memory_replaces (λ run h. tt)
@@ -198,6 +214,12 @@ module _ (old new : Net) (s : Store) (drive : MemoryDrive) (d : DrivesMemory old
   pub memory_size : size_of new ≡ size_of old
   memory_size = replaced_size _ _ _ _ _ memory_replaces
 
+  pub memory_register_bits : register_bits_of new ≡ register_bits_of old
+  memory_register_bits = replaced_register_bits _ _ _ _ _ memory_replaces
+
+  pub memory_memory_bits : memory_bits_of new ≡ memory_bits_of old
+  memory_memory_bits = replaced_memory_bits _ _ _ _ _ memory_replaces
+
   pub memory_value : (run : Run) → IsRun new run → (t k : ℕ)
       → run.word (suc t) s.node k ≡ stored_of (run.at t drive.write.node) (run.at t drive.address.node) (run.at t drive.value.node) k (run.word t s.node k)
   memory_value run q = q.trace.holds s.node _ (now_there _ _ _ _ _ memory_replaces)
@@ -208,6 +230,6 @@ pub memory_fits : (nodes : List Node) (ports : List Port) (name : Option (List �
     → IsWellFormed (record { nodes = slice_set nodes at (Memory a w (Some drive)); ports = ports; name = name })
 memory_fits nodes ports name at a w drive h i f =
     let q : Replaces (record { nodes = nodes; ports = ports; name = name }) (record { nodes = slice_set nodes at (Memory a w (Some drive)); ports = ports; name = name }) at (Memory a w None) (Memory a w (Some drive))
-    = record { there = h; nodes = refl; ports = refl; shape = refl; inner = refl; inner' = refl } in
+    = record { there = h; nodes = refl; ports = refl; shape = refl; inner = refl; inner' = refl; register_bits' = refl; memory_bits' = refl } in
     let g : NodeFits (record { nodes = nodes; ports = ports; name = name }) at (Memory a w None) = f.nodes at _ h in
     replaced_fits _ _ _ _ _ q f (g.0, g.1, kept_drive _ _ (same_shapes _ _ _ _ _ q) (same_end _ _ _ _ _ q) a w drive i)

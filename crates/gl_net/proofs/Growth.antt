@@ -1,7 +1,8 @@
 -- A netlist whose nodes and ports are all in another one with the same numbers.
 use Rattle.std.proofs.Common.{◌≡◌, ℕ, zero, suc, ◌+◌, ◌<◌, ◌≤◌, List, [], ◌∷◌, ◌++◌, length, Option, Some, None, Bool, true, false, refl, sym, ap, ◌∙◌, subst, inl, inr, ◌⊎◌, arith}
-use Rattle.std.specs.Prelude.{slice_get, slice_set, option_and_then, IfSome, is_none, count_by, if◌then◌else◌}
+use Rattle.std.specs.Prelude.{slice_get, slice_set, option_and_then, IfSome, is_none, if◌then◌else◌}
 use Rattle.std.specs.Option.{option_map}
+use Rattle.std.proofs.lemmas.List.Sums.{sum_by_push}
 use Rattle.std.proofs.lemmas.Option.{slice_get_within}
 use Rattle.gl_bits.specs.Words.{Word, IsWidth, IsWord}
 use Rattle.gl_net.specs.declared.node.BinaryOp.{BinaryOp}
@@ -15,10 +16,10 @@ use Rattle.gl_net.specs.declared.node.Store.{Store}
 use Rattle.gl_net.specs.declared.node.Port.{Port}
 use Rattle.gl_net.specs.declared.node.Direction.{Direction}
 use Rattle.gl_net.specs.declared.node.Direction.TheVariants.{In, Out}
-use Rattle.gl_net.specs.Net.{Net, Run, Shape, Value, Words, shape_of, shape_in, open_in, open_at, open_shape, Holds, Fits, IsTrace, IsReset, IsRun, IsBus, IsBit, IsStore, IsPort, Grows, Keeps, is_inner, size_of, has_no_reset, is_free, binary_width}
+use Rattle.gl_net.specs.Net.{Net, Run, Shape, Value, Words, shape_of, shape_in, open_in, open_at, open_shape, Holds, Fits, IsTrace, IsReset, IsRun, IsBus, IsBit, IsStore, IsPort, Grows, Keeps, is_inner, size_of, register_bits, memory_bits, register_bits_of, memory_bits_of, has_no_reset, is_free, binary_width}
 use Rattle.gl_net.specs.WellFormed.{ReadsBus, ReadsBit, ReadsStore, IsDrive, end_at, NodeFits, EndFits, IsWellFormed}
 use Rattle.gl_net.specs.Steps.{Adds, AddsPort, AddsInput}
-use Rattle.gl_net.proofs.Lists.{nat_dec, get_push_old, get_push_new, get_push_other, get_push_cases, get_past, count_by-push}
+use Rattle.gl_net.proofs.Lists.{nat_dec, get_push_old, get_push_new, get_push_other, get_push_cases, get_past}
 
 -- the node behind a shape
 pub shape_there : (o : Option Node) (s : Shape) → option_map shape_of o ≡ Some s → (x : Node) × (o ≡ Some x) × (shape_of x ≡ s)
@@ -191,7 +192,15 @@ module _ (old new : Net) (x : Node) (n : ℕ) (adds : Adds old new x n) where
 
   pub adds_size : size_of new ≡ size_of old + (if is_inner x then 1 else 0)
   unfolding size_of
-  adds_size = rw adds.nodes (count_by-push is_inner old.nodes x)
+  adds_size = rw adds.nodes (sum_by_push (λ y. if is_inner y then 1 else 0) old.nodes x)
+
+  pub adds_register_bits : register_bits_of new ≡ register_bits_of old + register_bits x
+  unfolding register_bits_of
+  adds_register_bits = rw adds.nodes (sum_by_push register_bits old.nodes x)
+
+  pub adds_memory_bits : memory_bits_of new ≡ memory_bits_of old + memory_bits x
+  unfolding memory_bits_of
+  adds_memory_bits = rw adds.nodes (sum_by_push memory_bits old.nodes x)
 
   pub adds_has : (s : Shape) → shape_of x ≡ s → shape_in new.nodes n ≡ Some s
   adds_has s e = adds_shape ∙ ap Some e

@@ -1,7 +1,7 @@
 -- Elements of a list that grows at its end, and of one in which an element is replaced.
 use Rattle.std.proofs.Common.{◌≡◌, ℕ, zero, suc, List, [], ◌∷◌, ◌++◌, length, Option, Some, None, Bool, ◌+◌, ◌∙◌, zero-add, refl, sym, ap, inl, inr, ◌⊎◌, arith}
-use Rattle.std.specs.Prelude.{slice_get, slice_set, count_by, if◌then◌else◌}
-use Rattle.std.proofs.lemmas.List.Sums.{sum_by-append, sum_by-cons}
+use Rattle.std.specs.Prelude.{slice_get, slice_set, sum_by}
+use Rattle.std.proofs.lemmas.List.Sums.{sum_by-cons}
 use Rattle.std.proofs.lemmas.Bool.{cases_lt}
 
 pub nat_dec : (a b : ℕ) → (a ≡ b) ⊎ (a ≡ b → ⊥)
@@ -47,15 +47,11 @@ get_set_other (z ∷ xs) zero (suc k) y h = refl
 get_set_other (z ∷ xs) (suc n) zero y h = refl
 get_set_other (z ∷ xs) (suc n) (suc k) y h = get_set_other xs n k y (λ e. h (ap suc e))
 
-pub count_by-push : {A : Type 0} (p : A → Bool) (xs : List A) (x : A) → count_by p (xs ++ x ∷ []) ≡ count_by p xs + (if p x then 1 else 0)
-count_by-push p xs x = sum_by-append (λ z. if p z then 1 else 0) xs (x ∷ []) ∙ ap (λ k. count_by p xs + k) (zero-add (if p x then 1 else 0))
-
-pub count_by-set : {A : Type 0} (p : A → Bool) (xs : List A) (n : ℕ) (x y : A) → slice_get xs n ≡ Some x → p y ≡ p x → count_by p (slice_set xs n y) ≡ count_by p xs
-count_by-set p [] n x y h e = refl
-count_by-set p (z ∷ xs) zero x y h e =
+-- an element of the same share in the place of another
+pub sum_by-replaced : {A : Type 0} (f : A → ℕ) (xs : List A) (n : ℕ) (x y : A) → slice_get xs n ≡ Some x → f y ≡ f x → sum_by f (slice_set xs n y) ≡ sum_by f xs
+sum_by-replaced f [] n x y h e = refl
+sum_by-replaced f (z ∷ xs) zero x y h e =
     let q : z ≡ x = cc in
-    let f : (if p y then 1 else 0) ≡ (if p z then 1 else 0) = ap (λ b. if b then 1 else 0) (e ∙ ap p (sym q)) in
-    sum_by-cons (λ u. if p u then 1 else 0) y xs ∙ ap (λ k. k + count_by p xs) f ∙ sym (sum_by-cons (λ u. if p u then 1 else 0) z xs)
-count_by-set p (z ∷ xs) (suc n) x y h e =
-    sum_by-cons (λ u. if p u then 1 else 0) z (slice_set xs n y) ∙ ap (λ k. (if p z then 1 else 0) + k) (count_by-set p xs n x y h e)
-    ∙ sym (sum_by-cons (λ u. if p u then 1 else 0) z xs)
+    sum_by-cons f y xs ∙ ap (λ k. k + sum_by f xs) (e ∙ ap f (sym q)) ∙ sym (sum_by-cons f z xs)
+sum_by-replaced f (z ∷ xs) (suc n) x y h e =
+    sum_by-cons f z (slice_set xs n y) ∙ ap (λ k. f z + k) (sum_by-replaced f xs n x y h e) ∙ sym (sum_by-cons f z xs)

@@ -2,6 +2,7 @@
 use Rattle.std.proofs.Common.{◌≡◌, ℕ, zero, suc, ◌+◌, List, [], ◌∷◌, ◌++◌, length, Option, Some, None, Bool, true, false, refl, sym, ap, ◌∙◌, subst, inl, inr, ◌⊎◌, arith, add-zero}
 use Rattle.std.specs.Prelude.{slice_get, option_and_then, if◌then◌else◌}
 use Rattle.std.specs.Option.{option_map}
+use Rattle.std.proofs.lemmas.List.Sums.{sum_by_push}
 use Rattle.gl_bits.specs.Words.{IsWidth}
 use Rattle.gl_net.specs.declared.node.Node.{Node}
 use Rattle.gl_net.specs.declared.node.Node.TheVariants.{Input}
@@ -9,10 +10,10 @@ use Rattle.gl_net.specs.declared.node.Bus.{Bus}
 use Rattle.gl_net.specs.declared.node.Port.{Port}
 use Rattle.gl_net.specs.declared.node.Direction.{Direction}
 use Rattle.gl_net.specs.declared.node.Direction.TheVariants.{In, Out}
-use Rattle.gl_net.specs.Net.{Net, Run, Shape, Value, shape_of, shape_in, open_in, open_at, open_shape, IsRun, Grows, is_inner, size_of}
+use Rattle.gl_net.specs.Net.{Net, Run, Shape, Value, shape_of, shape_in, open_in, open_at, open_shape, IsRun, Grows, is_inner, size_of, register_bits, memory_bits, register_bits_of, memory_bits_of}
 use Rattle.gl_net.specs.WellFormed.{end_at, NodeFits, EndFits, IsWellFormed}
 use Rattle.gl_net.specs.Steps.{AddsPort, AddsInput, Names}
-use Rattle.gl_net.proofs.Lists.{nat_dec, get_push_old, get_push_new, get_push_other, get_push_cases, get_past, count_by-push}
+use Rattle.gl_net.proofs.Lists.{nat_dec, get_push_old, get_push_new, get_push_other, get_push_cases, get_past}
 use Rattle.gl_net.proofs.Growth.{Extends, ext_grows, ext_node, ext_port}
 
 module _ (old new : Net) (called : List ℕ) (w n : ℕ) (adds : AddsInput old new called w n) where
@@ -43,7 +44,15 @@ module _ (old new : Net) (called : List ℕ) (w n : ℕ) (adds : AddsInput old n
 
   pub input_size : size_of new ≡ size_of old
   unfolding size_of
-  input_size = rw adds.nodes (count_by-push is_inner old.nodes (Input (length old.ports) w) ∙ add-zero _)
+  input_size = rw adds.nodes (sum_by_push (λ y. if is_inner y then 1 else 0) old.nodes (Input (length old.ports) w) ∙ add-zero _)
+
+  pub input_register_bits : register_bits_of new ≡ register_bits_of old
+  unfolding register_bits_of
+  input_register_bits = rw adds.nodes (sum_by_push register_bits old.nodes (Input (length old.ports) w) ∙ add-zero _)
+
+  pub input_memory_bits : memory_bits_of new ≡ memory_bits_of old
+  unfolding memory_bits_of
+  input_memory_bits = rw adds.nodes (sum_by_push memory_bits old.nodes (Input (length old.ports) w) ∙ add-zero _)
 
   pub input_keeps_form : IsWellFormed old → IsWidth w → IsWellFormed new
   unfolding end_at
@@ -76,6 +85,14 @@ module _ (old new : Net) (direction : Direction) (called : List ℕ) (node : ℕ
   unfolding size_of
   port_size = rw adds.nodes refl
 
+  pub port_register_bits : register_bits_of new ≡ register_bits_of old
+  unfolding register_bits_of
+  port_register_bits = rw adds.nodes refl
+
+  pub port_memory_bits : memory_bits_of new ≡ memory_bits_of old
+  unfolding memory_bits_of
+  port_memory_bits = rw adds.nodes refl
+
   pub port_keeps_form : IsWellFormed old → EndFits old (length old.ports) direction node → IsWellFormed new
   port_keeps_form f g = record {
     nodes = λ k y e. ext_node old new port_extends k y (f.nodes k y (rw adds.nodes at e));
@@ -99,6 +116,14 @@ module _ (old new : Net) (called : List ℕ) (names : Names old new called) wher
   pub name_size : size_of new ≡ size_of old
   unfolding size_of
   name_size = rw names.nodes refl
+
+  pub name_register_bits : register_bits_of new ≡ register_bits_of old
+  unfolding register_bits_of
+  name_register_bits = rw names.nodes refl
+
+  pub name_memory_bits : memory_bits_of new ≡ memory_bits_of old
+  unfolding memory_bits_of
+  name_memory_bits = rw names.nodes refl
 
   pub name_keeps_form : IsWellFormed old → IsWellFormed new
   name_keeps_form f = record {

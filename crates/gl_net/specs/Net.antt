@@ -1,7 +1,7 @@
 -- Netlists, and the runs that they allow: one clock, one value for each node in each cycle.
 -- After the two-phase view of synchronous logic: within a cycle every node follows from its operands, and registers and
 -- memories change together at the edge that ends the cycle (IEEE 1364-2005, clauses 5, 6 and 9).
-use Rattle.std.specs.Prelude.{◌≡◌, ℕ, suc, ◌+◌, ◌-◌, ◌^◌, ◌<◌, ◌≤◌, List, Option, Some, None, Bool, true, false, if◌then◌else◌, ◌&&◌, nat_eq, bit_and, bit_or, bit_xor, slice_get, option_and_then, codes, count_by}
+use Rattle.std.specs.Prelude.{◌≡◌, ℕ, suc, ◌+◌, ◌-◌, ◌*◌, ◌^◌, ◌<◌, ◌≤◌, List, Option, Some, None, Bool, true, false, if◌then◌else◌, ◌&&◌, nat_eq, bit_and, bit_or, bit_xor, slice_get, option_and_then, codes, count_by, sum_by}
 use Rattle.std.specs.Option.{option_map, option_map_or}
 use Rattle.gl_bits.specs.Words.{Word, IsWidth, sum_of, difference_of, product_of, not_of, eq_of, lt_of, le_of, join_of, cut_of, choose_of}
 use Rattle.gl_net.specs.declared.node.BinaryOp.{BinaryOp}
@@ -186,3 +186,19 @@ is_inner _ = true
 
 unfoldable pub size_of : Net → ℕ
 size_of net = count_by is_inner net.nodes
+
+-- the bits that a register holds, 0 for any other node
+abbrev pub register_bits : Node → ℕ
+register_bits (Register w reset next) = w
+register_bits _ = 0
+
+-- the bits that a memory holds, 0 for any other node
+abbrev pub memory_bits : Node → ℕ
+memory_bits (Memory bits w drive) = 2 ^ bits * w
+memory_bits _ = 0
+
+unfoldable pub register_bits_of : Net → ℕ
+register_bits_of net = sum_by register_bits net.nodes
+
+unfoldable pub memory_bits_of : Net → ℕ
+memory_bits_of net = sum_by memory_bits net.nodes

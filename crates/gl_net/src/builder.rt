@@ -1,6 +1,6 @@
 //! The builder of netlists.
 
-ghost use Rattle.std.specs.Prelude.{◌≡◌, ◌≢◌, ℕ, suc, ◌+◌, ◌-◌, ◌^◌, ◌<◌, ◌≤◌, List, [], ◌∷◌, ◌++◌, length, slice_get, slice_set, Option, Some, None, true, false, IfSome, is_none, MatchOption, IfOk, OnOk, OnErr, IsSome, if◌then◌else◌};
+ghost use Rattle.std.specs.Prelude.{◌≡◌, ◌≢◌, ℕ, suc, ◌+◌, ◌-◌, ◌*◌, ◌^◌, ◌<◌, ◌≤◌, List, [], ◌∷◌, ◌++◌, length, slice_get, slice_set, Option, Some, None, true, false, IfSome, is_none, MatchOption, IfOk, OnOk, OnErr, IsSome, if◌then◌else◌};
 ghost use Rattle.std.specs.Option.{option_map};
 ghost use Rattle.gl_bits.specs.Words.{Word, IsWidth, not_of, join_of, cut_of, choose_of};
 ghost use Rattle.gl_net.specs.declared.node.Bus.{Bus};
@@ -9,12 +9,12 @@ ghost use Rattle.gl_net.specs.declared.node.MemoryDrive.{MemoryDrive};
 ghost use Rattle.gl_net.specs.declared.node.Store.{Store};
 ghost use Rattle.gl_net.specs.declared.node.Port.{Port};
 ghost use Rattle.gl_net.specs.declared.node.Direction.TheVariants.{In, Out};
-ghost use Rattle.gl_net.specs.Net.{Net, Run, IsRun, IsBus, IsBit, IsStore, IsAddressWidth, Grows, Keeps, Value, Words, Holds, shape_of, open_shape, open_at, size_of, is_inner, is_free, binary_of, binary_width, stored_of};
+ghost use Rattle.gl_net.specs.Net.{Net, Run, IsRun, IsBus, IsBit, IsStore, IsAddressWidth, Grows, Keeps, Value, Words, Holds, shape_of, open_shape, open_at, size_of, register_bits, memory_bits, register_bits_of, memory_bits_of, is_inner, is_free, binary_of, binary_width, stored_of};
 ghost use Rattle.gl_net.specs.WellFormed.{NodeFits, IsDrive};
 ghost use Rattle.gl_net.specs.Steps.{Adds, AddsPort, AddsInput, Names, Drives, DrivesMemory};
 ghost use Rattle.gl_net.specs.Finished.{IsFinished, needs_reset};
 
-use crate::netlist::{NetFault, Netlist};
+use crate::netlist::Netlist;
 use crate::node::{BinaryOp, Bit, Bus, Direction, MemoryDrive, Node, Port, Store};
 use gl_bits::{Listed, Memory, Word};
 use std::alloc::Global;
@@ -42,11 +42,13 @@ impl Model for NetBuilder {
 
 impl NetBuilder {
     /// The empty builder.
-    #[tactic(auto, using(crate::proofs::Growth::empty_fits), unfolding(crate::specs::Net::open_in, crate::specs::Net::size_of))]
+    #[tactic(auto, using(crate::proofs::Growth::empty_fits), unfolding(crate::specs::Net::open_in, crate::specs::Net::size_of, crate::specs::Net::register_bits_of, crate::specs::Net::memory_bits_of))]
     pub fn new(alloc: Global) -> NetBuilder
         ensures empty { result ≡ record { nodes = []; ports = []; name = None } }
         ensures undriven { (n : ℕ) → open_at result n ≡ None }
         ensures size { size_of result ≡ 0 }
+        ensures register_bits { register_bits_of result ≡ 0 }
+        ensures memory_bits { memory_bits_of result ≡ 0 }
     {
         NetBuilder {
             alloc,
@@ -84,6 +86,8 @@ impl NetBuilder {
         ensures bus { IfOk result (λ b. IsBus self.new b) }
         ensures width { IfOk result (λ b. b.width ≡ width) }
         ensures size { size_of self.new ≡ size_of self.old }
+        ensures register_bits { register_bits_of self.new ≡ register_bits_of self.old }
+        ensures memory_bits { memory_bits_of self.new ≡ memory_bits_of self.old }
         ensures err { OnErr result (self.new ≡ self.old) }
     {
         let name = copied(self.alloc, name)?;
@@ -117,6 +121,8 @@ impl NetBuilder {
         ensures module_name { self.new.name ≡ self.old.name }
         ensures undriven { (n : ℕ) → open_at self.new n ≡ open_at self.old n }
         ensures size { size_of self.new ≡ size_of self.old }
+        ensures register_bits { register_bits_of self.new ≡ register_bits_of self.old }
+        ensures memory_bits { memory_bits_of self.new ≡ memory_bits_of self.old }
         ensures err { OnErr result (self.new ≡ self.old) }
     {
         let name = copied(self.alloc, name)?;
@@ -148,6 +154,8 @@ impl NetBuilder {
         ensures module_name { OnOk result (self.new.name ≡ Some name.now) }
         ensures undriven { (n : ℕ) → open_at self.new n ≡ open_at self.old n }
         ensures size { size_of self.new ≡ size_of self.old }
+        ensures register_bits { register_bits_of self.new ≡ register_bits_of self.old }
+        ensures memory_bits { memory_bits_of self.new ≡ memory_bits_of self.old }
         ensures err { OnErr result (self.new ≡ self.old) }
     {
         let name = copied(self.alloc, name)?;
@@ -162,9 +170,9 @@ impl NetBuilder {
     }
 
     /// The finished netlist, with the same nodes, ports and names.
-    pub fn finish(self) -> Result<Netlist, NetFault>
+    pub fn finish(self) -> Netlist
         requires { IsFinished self }
-        ensures { IfOk result (λ netlist. netlist ≡ self) }
+        ensures { result ≡ self }
     {
         let NetBuilder {
             alloc: _,
@@ -173,7 +181,7 @@ impl NetBuilder {
             name,
         } = self;
         match name {
-            Some(name) => Ok(Netlist { nodes, ports, name }),
+            Some(name) => Netlist { nodes, ports, name },
             None => unreachable!(),
         }
     }
@@ -192,17 +200,21 @@ impl NetBuilder {
     }
 
     // A node that nothing drives later, and its bus.
-    #[tactic(auto, using(crate::proofs::Growth::same_keeps, crate::proofs::Growth::adds_holds, crate::proofs::Growth::adds_size))]
+    #[tactic(auto, using(crate::proofs::Growth::same_keeps, crate::proofs::Growth::adds_holds, crate::proofs::Growth::adds_size, crate::proofs::Growth::adds_register_bits, crate::proofs::Growth::adds_memory_bits))]
     fn add(&mut self, node: Node, width: u8) -> Result<Bus, Memory>
         requires fits { NodeFits self.old (length self.old.nodes) node }
         requires closed { open_shape node ≡ None }
         requires shape { shape_of node ≡ Value width }
         requires width { IsWidth width }
         requires inner { is_inner node ≡ true }
+        requires no_register { register_bits node ≡ 0 }
+        requires no_memory { memory_bits node ≡ 0 }
         ensures keeps { Keeps self.old self.new }
         ensures bus { IfOk result (λ b. IsBus self.new b) }
         ensures width { IfOk result (λ b. b.width ≡ width) }
         ensures size { OnOk result (size_of self.new ≡ size_of self.old + 1) }
+        ensures register_bits { register_bits_of self.new ≡ register_bits_of self.old }
+        ensures memory_bits { memory_bits_of self.new ≡ memory_bits_of self.old }
         ensures holds { IfOk result (λ b. (run : Run) → IsRun self.new run → Holds run b.node node) }
         ensures err { OnErr result (self.new ≡ self.old) }
     {
@@ -216,6 +228,8 @@ impl NetBuilder {
         ensures bus { IfOk result (λ b. IsBus self.new b) }
         ensures width { IfOk result (λ b. b.width ≡ word.width) }
         ensures size { OnOk result (size_of self.new ≡ size_of self.old + 1) }
+        ensures register_bits { register_bits_of self.new ≡ register_bits_of self.old }
+        ensures memory_bits { memory_bits_of self.new ≡ memory_bits_of self.old }
         ensures value { IfOk result (λ b. (run : Run) → IsRun self.new run → (t : ℕ) → run.at t b.node ≡ word.bits) }
         ensures err { OnErr result (self.new ≡ self.old) }
     {
@@ -231,6 +245,8 @@ impl NetBuilder {
         ensures bus { IfOk result (λ b. IsBus self.new b) }
         ensures width { IfOk result (λ b. b.width ≡ arg.width) }
         ensures size { OnOk result (size_of self.new ≡ size_of self.old + 1) }
+        ensures register_bits { register_bits_of self.new ≡ register_bits_of self.old }
+        ensures memory_bits { memory_bits_of self.new ≡ memory_bits_of self.old }
         ensures value { IfOk result (λ b. (run : Run) → IsRun self.new run → (t : ℕ) → run.at t b.node ≡ not_of arg.width (run.at t arg.node)) }
         ensures err { OnErr result (self.new ≡ self.old) }
     {
@@ -248,6 +264,8 @@ impl NetBuilder {
         ensures bus { IfOk result (λ b. IsBus self.new b) }
         ensures width { IfOk result (λ b. b.width ≡ binary_width op left.width) }
         ensures size { OnOk result (size_of self.new ≡ size_of self.old + 1) }
+        ensures register_bits { register_bits_of self.new ≡ register_bits_of self.old }
+        ensures memory_bits { memory_bits_of self.new ≡ memory_bits_of self.old }
         ensures value { IfOk result (λ b. (run : Run) → IsRun self.new run → (t : ℕ) → run.at t b.node ≡ binary_of op left.width (run.at t left.node) (run.at t right.node)) }
         ensures err { OnErr result (self.new ≡ self.old) }
     {
@@ -266,6 +284,8 @@ impl NetBuilder {
         ensures bus { IfOk result (λ b. IsBus self.new b) }
         ensures width { IfOk result (λ b. b.width ≡ yes.width) }
         ensures size { OnOk result (size_of self.new ≡ size_of self.old + 1) }
+        ensures register_bits { register_bits_of self.new ≡ register_bits_of self.old }
+        ensures memory_bits { memory_bits_of self.new ≡ memory_bits_of self.old }
         ensures value { IfOk result (λ b. (run : Run) → IsRun self.new run → (t : ℕ) → run.at t b.node ≡ choose_of (run.at t test.node) (run.at t yes.node) (run.at t no.node)) }
         ensures err { OnErr result (self.new ≡ self.old) }
     {
@@ -283,6 +303,8 @@ impl NetBuilder {
         ensures bus { IfOk result (λ b. IsBus self.new b) }
         ensures width { IfOk result (λ b. b.width ≡ high.width + low.width) }
         ensures size { OnOk result (size_of self.new ≡ size_of self.old + 1) }
+        ensures register_bits { register_bits_of self.new ≡ register_bits_of self.old }
+        ensures memory_bits { memory_bits_of self.new ≡ memory_bits_of self.old }
         ensures value { IfOk result (λ b. (run : Run) → IsRun self.new run → (t : ℕ) → run.at t b.node ≡ join_of low.width (run.at t high.node) (run.at t low.node)) }
         ensures err { OnErr result (self.new ≡ self.old) }
     {
@@ -300,6 +322,8 @@ impl NetBuilder {
         ensures bus { IfOk result (λ b. IsBus self.new b) }
         ensures width { IfOk result (λ b. b.width ≡ high + 1 - low) }
         ensures size { OnOk result (size_of self.new ≡ size_of self.old + 1) }
+        ensures register_bits { register_bits_of self.new ≡ register_bits_of self.old }
+        ensures memory_bits { memory_bits_of self.new ≡ memory_bits_of self.old }
         ensures value { IfOk result (λ b. (run : Run) → IsRun self.new run → (t : ℕ) → run.at t b.node ≡ cut_of high low (run.at t arg.node)) }
         ensures err { OnErr result (self.new ≡ self.old) }
     {
@@ -317,6 +341,8 @@ impl NetBuilder {
         ensures bus { IfOk result (λ b. IsBus self.new b) }
         ensures width { IfOk result (λ b. b.width ≡ store.width) }
         ensures size { OnOk result (size_of self.new ≡ size_of self.old + 1) }
+        ensures register_bits { register_bits_of self.new ≡ register_bits_of self.old }
+        ensures memory_bits { memory_bits_of self.new ≡ memory_bits_of self.old }
         ensures value { IfOk result (λ b. (run : Run) → IsRun self.new run → (t : ℕ) → run.at t b.node ≡ run.word t store.node (run.at t address.node)) }
         ensures err { OnErr result (self.new ≡ self.old) }
     {
@@ -339,6 +365,8 @@ impl NetBuilder {
         ensures bus { IfOk result (λ b. IsBus self.new b) }
         ensures width { IfOk result (λ b. b.width ≡ width) }
         ensures size { OnOk result (size_of self.new ≡ size_of self.old + 1) }
+        ensures register_bits { OnOk result (register_bits_of self.new ≡ register_bits_of self.old + width) }
+        ensures memory_bits { memory_bits_of self.new ≡ memory_bits_of self.old }
         ensures free { IfOk result (λ b. is_free self.new b.node ≡ is_none reset) }
         ensures start { IfOk result (λ b. IfSome reset (λ word. (run : Run) → IsRun self.new run → run.at 1 b.node ≡ word.bits)) }
         ensures err { OnErr result (self.new ≡ self.old) }
@@ -359,6 +387,8 @@ impl NetBuilder {
         ensures others { (n : ℕ) → n ≢ register.node → open_at self.new n ≡ open_at self.old n }
         ensures driven { OnOk result (open_at self.new register.node ≡ None) }
         ensures size { size_of self.new ≡ size_of self.old }
+        ensures register_bits { register_bits_of self.new ≡ register_bits_of self.old }
+        ensures memory_bits { memory_bits_of self.new ≡ memory_bits_of self.old }
         ensures value { OnOk result ((run : Run) → IsRun self.new run → (t : ℕ) → run.at (suc (suc t)) register.node ≡ run.at (suc t) next.node) }
         ensures first { OnOk result (is_free self.old register.node ≡ true → (run : Run) → IsRun self.new run → run.at 1 register.node ≡ run.at 0 next.node) }
         ensures err { OnErr result (self.new ≡ self.old) }
@@ -393,6 +423,8 @@ impl NetBuilder {
         ensures bits { IfOk result (λ s. s.address_bits ≡ address_bits) }
         ensures width { IfOk result (λ s. s.width ≡ width) }
         ensures size { OnOk result (size_of self.new ≡ size_of self.old + 1) }
+        ensures register_bits { register_bits_of self.new ≡ register_bits_of self.old }
+        ensures memory_bits { OnOk result (memory_bits_of self.new ≡ memory_bits_of self.old + 2 ^ address_bits * width) }
         ensures err { OnErr result (self.new ≡ self.old) }
     {
         let node = self.push(Node::Memory(address_bits, width, None))?;
@@ -423,6 +455,8 @@ impl NetBuilder {
         ensures others { (n : ℕ) → n ≢ store.node → open_at self.new n ≡ open_at self.old n }
         ensures driven { OnOk result (open_at self.new store.node ≡ None) }
         ensures size { size_of self.new ≡ size_of self.old }
+        ensures register_bits { register_bits_of self.new ≡ register_bits_of self.old }
+        ensures memory_bits { memory_bits_of self.new ≡ memory_bits_of self.old }
         ensures value { OnOk result ((run : Run) → IsRun self.new run → (t k : ℕ) → run.word (suc t) store.node k ≡ stored_of (run.at t write.node) (run.at t address.node) (run.at t value.node) k (run.word t store.node k)) }
         ensures err { OnErr result (self.new ≡ self.old) }
     {

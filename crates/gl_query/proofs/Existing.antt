@@ -1,14 +1,15 @@
 -- An accepted query has a result.
-use Rattle.std.proofs.Common.{◌≡◌, ℕ, suc, List, [], ◌∷◌, ◌++◌, Bool, true, false, length, map, refl, sym, ap, subst, ◌∙◌}
+use Rattle.std.proofs.Common.{◌≡◌, suc, List, [], ◌∷◌, ◌++◌, Bool, true, false, length, refl, sym, ap, subst, ◌∙◌}
 use Rattle.std.specs.Prelude.{◌||◌, Option, Some, None, IsSome, filter}
 use Rattle.std.proofs.lemmas.List.{length-map}
 use Rattle.gl_bits.specs.Lists.{IsInterleaving, nothing, from_first, from_second}
-use Rattle.gl_query.specs.Shapes.{ExprShape, QueryShape}
+use Rattle.gl_query.specs.Shapes.{QueryShape}
 use Rattle.gl_query.specs.Shapes as shape
-use Rattle.gl_query.specs.Columns.{Pace, Once, Step, pace_of, unfiltered}
-use Rattle.gl_query.specs.Results.{Env, Row, Results, IsMade, AreJoined, IsInParts, IsOfBoth, AreBeside, IsResultIn, beside, columns_in, keeps, kept, rows_of, streams_of}
-use Rattle.gl_query.specs.Accepted.{IsAcceptedOver, KeepPace}
-use Rattle.gl_query.specs.Laws.{HasResult, AcceptedHaveResults}
+use Rattle.gl_query.specs.Columns.{Pace, Once, Step, pace_of}
+use Rattle.gl_bits.specs.Results.{Row, Results, IsChanged, AreJoined, IsOfParts, IsOfBoth, AreBeside, beside}
+use Rattle.gl_query.specs.Results.{Env, IsResultIn, rows_of}
+use Rattle.gl_query.specs.Accepted.{IsAcceptedOver}
+use Rattle.gl_query.specs.Laws.{AcceptedHaveResults, scope_of}
 
 -- as many rows as the pace says
 abbrev pub IsPaced : Env → Option Pace → List Row → Type 0
@@ -37,21 +38,21 @@ length_beside (l ∷ ls) (r ∷ rs) e = let less : length ls ≡ length rs = cc 
 
 -- a result has as many rows as its pace says
 pub paced : (q : QueryShape) (env : Env) (out : List Row) (spill : Bool) → IsResultIn q env out spill → IsPaced env (pace_of q) out
-paced (shape.Read name) env out spill r = ap length r.0
+paced (shape.Read name) env out spill r = ap length r.rows
 paced (shape.Rows pick (Some e) source) env out spill r = tt
 paced (shape.Rows pick None source) env out spill r =
-    let same = ap length r.made ∙ length-map _ _ ∙ ap length (all_kept r.rows) in
-    paced_alike env (pace_of source) r.rows out same (paced source env r.rows spill r.is)
-paced (shape.Total aggs source) env out spill r = ap length r.made
+    let same = ap length r.changed ∙ length-map _ _ ∙ ap length (all_kept r.rows) in
+    paced_alike env (pace_of source) r.rows out same (paced source env r.rows spill r.of_source)
+paced (shape.Total aggs source) env out spill r = ap length r.changed
 paced (shape.Each var source size advance body) env out spill r = tt
 paced (shape.PerGroup var source key n body) env out spill r = tt
 paced (shape.Union l r) env out spill both = tt
 paced (shape.Concat l r) env out spill both =
-    let same = ap length both.join.is ∙ length_beside both.left_rows both.right_rows both.join.same in
-    paced_alike env (pace_of l) both.left_rows out same (paced l env both.left_rows both.left_spill both.left_is)
+    let same = ap length both.join.rows ∙ length_beside both.left both.right both.join.paired in
+    paced_alike env (pace_of l) both.left out same (paced l env both.left both.left_spill both.of_left)
 
 -- one side before the other
-first_then_second : {A : Type 0} (xs ys : List A) → IsInterleaving xs ys (xs ++ ys)
+pub first_then_second : {A : Type 0} (xs ys : List A) → IsInterleaving xs ys (xs ++ ys)
 first_then_second [] [] = nothing
 first_then_second [] (y ∷ ys) = from_second y [] ys ys (first_then_second [] ys)
 first_then_second (x ∷ xs) ys = from_first x xs ys (xs ++ ys) (first_then_second xs ys)
@@ -73,45 +74,63 @@ some_joined body some (part ∷ parts) =
       is = (first.rows, later.rows, first.spill, later.spill, first.is, later.is, refl, refl);
     }
 
-some_in_parts : {A : Type 0} (source : Results) (parts : List Row → List A) (left_out : List Row → Bool) (body : A → Results) → HasSome source → ((x : A) → HasSome (body x)) → HasSome (IsInParts source parts left_out body)
-some_in_parts source parts left_out body one each =
+some_of_parts : {A : Type 0} (source : Results) (parts : List Row → List A) (body : A → Results) (further : List Row → Bool)
+    → HasSome source → ((x : A) → HasSome (body x)) → HasSome (IsOfParts source parts body further)
+some_of_parts source parts body further one each =
     let inside = some_joined body each (parts one.rows) in
     record {
       rows = inside.rows;
-      spill = one.spill || inside.spill || left_out one.rows;
-      is = record { rows = one.rows; before = one.spill; inside = inside.spill; is = one.is; joined = inside.is; spills = refl };
+      spill = one.spill || inside.spill || further one.rows;
+      is = record {
+        rows = one.rows;
+        source_spill = one.spill;
+        parts_spill = inside.spill;
+        of_source = one.is;
+        of_parts = inside.is;
+        any = refl;
+      };
     }
 
-some_made : (source : Results) (make : List Row → List Row) → HasSome source → HasSome (IsMade source make)
-some_made source make one = record { rows = make one.rows; spill = one.spill; is = record { rows = one.rows; is = one.is; made = refl } }
+some_changed : (source : Results) (change : List Row → List Row) → HasSome source → HasSome (IsChanged source change)
+some_changed source change one =
+    record { rows = change one.rows; spill = one.spill; is = record { rows = one.rows; of_source = one.is; changed = refl } }
 
-some_result : (q : QueryShape) (env : Env) → IsAcceptedOver (streams_of env) q → HasSome (IsResultIn q env)
-some_result (shape.Read name) env a = record { rows = rows_of env name; spill = false; is = (refl, refl) }
-some_result (shape.Rows pick filter source) env a = some_made (IsResultIn source env) _ (some_result source env a.0)
-some_result (shape.Total aggs source) env a = some_made (IsResultIn source env) _ (some_result source env a.0)
+some_of_both : (left right : Results) (Join : List Row → List Row → List Row → Type 0) (x : HasSome left) (y : HasSome right)
+    (rows : List Row) → Join x.rows y.rows rows → HasSome (IsOfBoth left right Join)
+some_of_both left right Join x y rows join = record {
+  rows = rows;
+  spill = x.spill || y.spill;
+  is = record {
+    left = x.rows;
+    right = y.rows;
+    left_spill = x.spill;
+    right_spill = y.spill;
+    of_left = x.is;
+    of_right = y.is;
+    join = join;
+    either = refl;
+  };
+}
+
+some_result : (q : QueryShape) (env : Env) → IsAcceptedOver (scope_of env) q → HasSome (IsResultIn q env)
+some_result (shape.Read name) env a = record { rows = rows_of env name; spill = false; is = record { rows = refl; kept = refl } }
+some_result (shape.Rows pick filter source) env a = some_changed (IsResultIn source env) _ (some_result source env a.0)
+some_result (shape.Total aggs source) env a = some_changed (IsResultIn source env) _ (some_result source env a.0)
 some_result (shape.Each var source size advance body) env a =
-    some_in_parts (IsResultIn source env) _ _ _ (some_result source env a.0) (λ rows. some_result body _ a.2)
+    some_of_parts (IsResultIn source env) _ _ _ (some_result source env a.0) (λ rows. some_result body _ a.2)
 some_result (shape.PerGroup var source key n body) env a =
-    some_in_parts (IsResultIn source env) _ _ _ (some_result source env a.0) (λ g. some_made _ _ (some_result body _ a.2))
+    some_of_parts (IsResultIn source env) _ _ _ (some_result source env a.0) (λ g. some_changed _ _ (some_result body _ a.2))
 some_result (shape.Union l r) env a =
     let x = some_result l env a.0 in
     let y = some_result r env a.1 in
-    record {
-      rows = x.rows ++ y.rows;
-      spill = x.spill || y.spill;
-      is = record { left_rows = x.rows; right_rows = y.rows; left_spill = x.spill; right_spill = y.spill; left_is = x.is; right_is = y.is; join = first_then_second x.rows y.rows; spills = refl };
-    }
+    some_of_both (IsResultIn l env) (IsResultIn r env) IsInterleaving x y (x.rows ++ y.rows) (first_then_second x.rows y.rows)
 some_result (shape.Concat l r) env a =
     let x = some_result l env a.0 in
     let y = some_result r env a.1 in
     let at_left = paced l env x.rows x.spill x.is in
     let at_right = subst (λ pace. IsPaced env pace y.rows) (sym a.2.same) (paced r env y.rows y.spill y.is) in
     let same = one_pace env (pace_of l) x.rows y.rows a.2.paced at_left at_right in
-    record {
-      rows = beside x.rows y.rows;
-      spill = x.spill || y.spill;
-      is = record { left_rows = x.rows; right_rows = y.rows; left_spill = x.spill; right_spill = y.spill; left_is = x.is; right_is = y.is; join = record { same = same; is = refl }; spills = refl };
-    }
+    some_of_both (IsResultIn l env) (IsResultIn r env) AreBeside x y (beside x.rows y.rows) (record { paired = same; rows = refl })
 
 pub existing : AcceptedHaveResults
 existing q env a = let r = some_result q env a in record { rows = r.rows; spill = r.spill; is = r.is }

@@ -1,8 +1,7 @@
 -- Which statements are accepted over a schema.
-use Rattle.std.specs.Prelude.{◌≡◌, ℕ, ◌+◌, ◌*◌, ◌^◌, ◌<◌, ◌≤◌, List, [], ◌∷◌, length, map, Option, Some, None, IsSome, IsTrue, bytes_eq}
+use Rattle.std.specs.Prelude.{◌≡◌, ℕ, ◌*◌, ◌≤◌, List, length, Option, Some, None, IsSome, IsTrue, bytes_eq}
 use Rattle.std.specs.List.{AllByRecursion, IsDistinct}
 use Rattle.gl_bits.specs.declared.kind.Kind.TheVariants.{Unsigned}
-use Rattle.gl_bits.specs.Kinds.{width_of}
 use Rattle.gl_schema.specs.declared.schema.Column.{Column}
 use Rattle.gl_schema.specs.declared.schema.Stream.{Stream}
 use Rattle.gl_schema.specs.declared.schema.Schema.{Schema}
@@ -10,7 +9,7 @@ use Rattle.gl_schema.specs.Schemas.{column_names, has_column, has_stream, kinds_
 use Rattle.gl_query.specs.declared.tree.Statement.{Statement}
 use Rattle.gl_query.specs.Shapes.{ExprShape, AggShape, ItemShape, AggItemShape, PickShape, QueryShape, query_shape}
 use Rattle.gl_query.specs.Shapes as shape
-use Rattle.gl_query.specs.Values.{HasKind, IsUnsigned, kind_alone, kind_of}
+use Rattle.gl_query.specs.Values.{HasKind, IsNumberOf, IsUnsigned, kind_alone, kind_of}
 use Rattle.gl_query.specs.Columns.{columns_of, picked_columns, is_closing, pace_of, variable}
 
 -- at most 32 columns, no two of one name
@@ -27,7 +26,7 @@ pub record IsSummed (columns : List Column) (e : ExprShape) : Type 0 where
 pub record IsWeighted (columns : List Column) (e : ExprShape) (weights : List ℕ) : Type 0 where
   pub summed : IsSummed columns e
   pub most : length weights ≤ 64
-  pub fit : AllByRecursion (λ n. n < 2 ^ width_of (kind_of columns (kind_alone e) e)) weights
+  pub fit : AllByRecursion (IsNumberOf (kind_of columns (kind_alone e) e)) weights
 
 abbrev pub IsAgg : List Column → AggShape → Type 0
 IsAgg columns shape.Count = Unit {0}
@@ -83,22 +82,38 @@ pub record KeepPace (l r : QueryShape) : Type 0 where
   pub paced : IsSome (pace_of l)
   pub same : pace_of l ≡ pace_of r
 
--- a query is accepted over the sources that it sees
-abbrev pub IsAcceptedOver : List Stream → QueryShape → Type 0
-IsAcceptedOver sources (shape.Read name) = IsTrue (has_stream sources name)
-IsAcceptedOver sources (shape.Rows pick filter source) = IsAcceptedOver sources source × IsRows (columns_of sources source) pick filter
-IsAcceptedOver sources (shape.Total aggs source) =
-    IsAcceptedOver sources source × IsTotal (columns_of sources source) aggs (columns_of sources (shape.Total aggs source))
-IsAcceptedOver sources (shape.Each var source size advance body) =
-    IsAcceptedOver sources source × IsWindow size advance × IsAcceptedOver (variable var (columns_of sources source)) body × IsTrue (is_closing body)
-IsAcceptedOver sources (shape.PerGroup var source key groups body) =
-    IsAcceptedOver sources source × IsGrouping (columns_of sources source) key groups (columns_of sources (shape.PerGroup var source key groups body))
-    × IsAcceptedOver (variable var (columns_of sources source)) body × IsTrue (is_closing body)
-IsAcceptedOver sources (shape.Union l r) =
-    IsAcceptedOver sources l × IsAcceptedOver sources r × (kinds_of (columns_of sources l) ≡ kinds_of (columns_of sources r))
-IsAcceptedOver sources (shape.Concat l r) =
-    IsAcceptedOver sources l × IsAcceptedOver sources r × KeepPace l r × AreResultColumns (columns_of sources (shape.Concat l r))
+-- what a query may read: the streams of a schema, or the variable of the body around alone
+pub record Scope : Type 0 where
+  pub sources : List Stream
+
+abbrev pub schema_scope : Schema → Scope
+schema_scope schema = record { sources = schema.streams }
+
+abbrev pub body_scope : List ℕ → List Column → Scope
+body_scope var columns = record { sources = variable var columns }
+
+-- the columns of a query in a scope
+abbrev pub columns_under : Scope → QueryShape → List Column
+columns_under scope q = columns_of scope.sources q
+
+-- a query is accepted in a scope
+abbrev pub IsAcceptedOver : Scope → QueryShape → Type 0
+IsAcceptedOver scope (shape.Read name) = IsTrue (has_stream scope.sources name)
+IsAcceptedOver scope (shape.Rows pick filter source) = IsAcceptedOver scope source × IsRows (columns_under scope source) pick filter
+IsAcceptedOver scope (shape.Total aggs source) =
+    IsAcceptedOver scope source × IsTotal (columns_under scope source) aggs (columns_under scope (shape.Total aggs source))
+IsAcceptedOver scope (shape.Each var source size advance body) =
+    IsAcceptedOver scope source × IsWindow size advance
+    × IsAcceptedOver (body_scope var (columns_under scope source)) body × IsTrue (is_closing body)
+IsAcceptedOver scope (shape.PerGroup var source key groups body) =
+    IsAcceptedOver scope source
+    × IsGrouping (columns_under scope source) key groups (columns_under scope (shape.PerGroup var source key groups body))
+    × IsAcceptedOver (body_scope var (columns_under scope source)) body × IsTrue (is_closing body)
+IsAcceptedOver scope (shape.Union l r) =
+    IsAcceptedOver scope l × IsAcceptedOver scope r × (kinds_of (columns_under scope l) ≡ kinds_of (columns_under scope r))
+IsAcceptedOver scope (shape.Concat l r) =
+    IsAcceptedOver scope l × IsAcceptedOver scope r × KeepPace l r × AreResultColumns (columns_under scope (shape.Concat l r))
 
 -- a statement is accepted over a schema
 abbrev pub IsAccepted : Schema → Statement → Type 0
-IsAccepted schema statement = IsAcceptedOver schema.streams (query_shape statement.query)
+IsAccepted schema statement = IsAcceptedOver (schema_scope schema) (query_shape statement.query)

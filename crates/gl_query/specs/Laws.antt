@@ -1,9 +1,18 @@
 -- Laws of the meaning of queries.
-use Rattle.std.specs.Prelude.{◌≡◌, Bool, List}
+use Rattle.std.specs.Prelude.{◌≡◌, ℕ, Bool, List, length}
+use Rattle.std.specs.List.{AllByRecursion}
 use Rattle.gl_query.specs.Shapes.{QueryShape}
 use Rattle.gl_query.specs.Shapes as shape
-use Rattle.gl_query.specs.Results.{Env, Row, IsResultIn, streams_of}
-use Rattle.gl_query.specs.Accepted.{IsAcceptedOver}
+use Rattle.gl_bits.specs.Results.{Row}
+use Rattle.gl_query.specs.declared.tree.Statement.{Statement}
+use Rattle.gl_query.specs.Shapes.{statement_shape}
+use Rattle.gl_query.specs.Trees.{statement_tree}
+use Rattle.gl_query.specs.Alike.{statement_alike}
+use Rattle.gl_schema.specs.declared.schema.Column.{Column}
+use Rattle.gl_schema.specs.Schemas.{IsRowOf}
+use Rattle.gl_query.specs.Columns.{source_columns}
+use Rattle.gl_query.specs.Results.{Env, IsResultIn, columns_in, rows_of, streams_of}
+use Rattle.gl_query.specs.Accepted.{Scope, IsAcceptedOver}
 
 -- no UNION stands in a query
 abbrev pub HasNoUnion : QueryShape → Type 0
@@ -30,6 +39,35 @@ pub record HasResult (q : QueryShape) (env : Env) : Type 0 where
   pub spill : Bool
   pub is : IsResultIn q env rows spill
 
+-- what a query may read in an environment
+abbrev pub scope_of : Env → Scope
+scope_of env = record { sources = streams_of env }
+
 -- an accepted query has a result, whatever the rows of its sources
 abbrev pub AcceptedHaveResults : Type 0
-AcceptedHaveResults = (q : QueryShape) (env : Env) → IsAcceptedOver (streams_of env) q → HasResult q env
+AcceptedHaveResults = (q : QueryShape) (env : Env) → IsAcceptedOver (scope_of env) q → HasResult q env
+
+-- a property of rows of these columns holds of the rows of each source
+abbrev pub HoldsIn : (List Column → Row → Type 0) → Env → Type 0
+HoldsIn P env = (name : List ℕ) → AllByRecursion (P (source_columns (streams_of env) name)) (rows_of env name)
+
+-- and of the rows of each result of an accepted query
+abbrev pub HoldsOfResults : (List Column → Row → Type 0) → Type 0
+HoldsOfResults P = (q : QueryShape) (env : Env) (out : List Row) (spill : Bool)
+    → IsAcceptedOver (scope_of env) q → HoldsIn P env → IsResultIn q env out spill → AllByRecursion (P (columns_in env q)) out
+
+-- a row has as many numbers as there are columns
+abbrev pub IsLongAs : List Column → Row → Type 0
+IsLongAs columns row = length row ≡ length columns
+
+-- where the rows of the sources are as long as their columns are many, so are those of a result
+abbrev pub ResultsAreLong : Type 0
+ResultsAreLong = HoldsOfResults IsLongAs
+
+-- where the rows of the sources fit the kinds of their columns, so do those of a result
+abbrev pub ResultsFit : Type 0
+ResultsFit = HoldsOfResults IsRowOf
+
+-- a statement without its places is the tree without them
+abbrev pub TreesAreAlike : Type 0
+TreesAreAlike = (s : Statement) → statement_alike (statement_tree s) ≡ statement_shape s

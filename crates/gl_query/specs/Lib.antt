@@ -1,6 +1,11 @@
 pub mod Shapes
+pub mod Trees
+pub mod Alike
 pub mod Values
 pub mod Columns
 pub mod Accepted
+pub mod Sources
+pub mod Sizes
+pub mod Names
 pub mod Results
 pub mod Laws

@@ -1,22 +1,20 @@
 -- The results of a query: a relation between the rows of its sources, the rows of a result, and whether rows of further keys were
 -- left out. After the operators of Mueller, Teubner and Alonso, Streams on Wires, PVLDB 2(1), 2009.
-use Rattle.std.specs.Prelude.{◌≡◌, ℕ, ◌+◌, Bool, true, false, ◌||◌, List, [], ◌∷◌, ◌++◌, length, map, filter, find, Option, Some, None, unwrap_or, option_map, bytes_eq, nat_eq, slice_index}
+use Rattle.std.specs.Prelude.{ℕ, ◌+◌, Bool, true, false, List, [], ◌∷◌, map, filter, find, Option, Some, None, unwrap_or, option_map, bytes_eq, nat_eq, slice_index}
 use Rattle.gl_bits.specs.declared.kind.Kind.TheVariants.{Unsigned}
 use Rattle.gl_bits.specs.Kinds.{width_of}
-use Rattle.gl_bits.specs.Lists.{Group, IsInterleaving, groups, has_further, slices}
+use Rattle.gl_bits.specs.Lists.{IsInterleaving, groups, has_further, slices}
+use Rattle.gl_bits.specs.Results.{Row, Results, IsInput, IsChanged, IsOfBoth, AreBeside, IsOfParts, IsOfGroup}
 use Rattle.gl_bits.specs.Totals.{average_of, count_of, greatest_of, least_of, sum_total, weighted_sum}
 use Rattle.gl_schema.specs.declared.schema.Column.{Column}
 use Rattle.gl_schema.specs.declared.schema.Stream.{Stream}
 use Rattle.gl_schema.specs.declared.schema.Schema.{Schema}
+use Rattle.gl_schema.specs.Beats.{Inputs}
 use Rattle.gl_query.specs.declared.tree.Statement.{Statement}
 use Rattle.gl_query.specs.Shapes.{ExprShape, AggShape, ItemShape, AggItemShape, PickShape, QueryShape, query_shape}
 use Rattle.gl_query.specs.Shapes as shape
 use Rattle.gl_query.specs.Values.{column_number, kind_alone, kind_of, value_of}
-use Rattle.gl_query.specs.Columns.{columns_of, variable}
-
--- a row: the numbers of its words, in the order of the columns
-abbrev pub Row : Type 0
-Row = List ℕ
+use Rattle.gl_query.specs.Columns.{columns_of}
 
 -- ---- one step on rows
 
@@ -50,12 +48,6 @@ agg_value columns rows (shape.Wsum e weights) = weighted_sum (width_of (kind_of 
 abbrev pub total_row : List Column → List AggItemShape → List Row → Row
 total_row columns aggs rows = map (λ (i : AggItemShape). agg_value columns rows i.agg) aggs
 
--- two lists of rows side by side
-abbrev pub beside : List Row → List Row → List Row
-beside [] rs = []
-beside (l ∷ ls) [] = []
-beside (l ∷ ls) (r ∷ rs) = (l ++ r) ∷ beside ls rs
-
 -- ---- what a query sees
 
 -- a source that a query may read, and its rows
@@ -83,84 +75,34 @@ abbrev pub only : List ℕ → List Column → List Row → Env
 only var columns rows = record { stream = record { name = var; columns = columns }; rows = rows } ∷ []
 
 -- the streams of a schema with their inputs, which go by the streams' numbers
-abbrev pub numbered : ℕ → List Stream → (ℕ → List Row) → Env
+abbrev pub numbered : ℕ → List Stream → Inputs → Env
 numbered k [] inputs = []
-numbered k (s ∷ streams) inputs = record { stream = s; rows = inputs k } ∷ numbered (k + 1) streams inputs
+numbered k (s ∷ streams) inputs = record { stream = s; rows = inputs.rows k } ∷ numbered (k + 1) streams inputs
 
-abbrev pub env_of : Schema → (ℕ → List Row) → Env
+abbrev pub env_of : Schema → Inputs → Env
 env_of schema inputs = numbered 0 schema.streams inputs
-
--- ---- relations between results
-
--- a set of results: rows, and whether rows of further keys were left out
-abbrev pub Results : Type 1
-Results = List Row → Bool → Type 0
-
--- made of a result of the source, row by row or as a whole, with its spill
-pub record IsMade (source : Results) (make : List Row → List Row) (out : List Row) (spill : Bool) : Type 0 where
-  pub rows : List Row
-  pub is : source rows spill
-  pub made : out ≡ make rows
-
--- the results of all parts joined in order; the whole spills where a part does
-abbrev pub AreJoined : {A : Type 0} → (A → Results) → List A → Results
-AreJoined body [] out spill = (out ≡ []) × (spill ≡ false)
-AreJoined body (part ∷ parts) out spill =
-    (first : List Row) × (later : List Row) × (p : Bool) × (q : Bool)
-    × body part first p × AreJoined body parts later q × (out ≡ first ++ later) × (spill ≡ (p || q))
-
--- a result of the source in parts, and one of the body over each; the whole spills where the source does, a part does, or rows
--- were left out
-pub record IsInParts {A : Type 0} (source : Results) (parts : List Row → List A) (left_out : List Row → Bool) (body : A → Results) (out : List Row) (spill : Bool) : Type 0 where
-  pub rows : List Row
-  pub before : Bool
-  pub inside : Bool
-  pub is : source rows before
-  pub joined : AreJoined body (parts rows) out inside
-  pub spills : spill ≡ (before || inside || left_out rows)
-
--- made of a result of each side
-pub record IsOfBoth (left right : Results) (Join : List Row → List Row → List Row → Type 0) (out : List Row) (spill : Bool) : Type 0 where
-  pub left_rows : List Row
-  pub right_rows : List Row
-  pub left_spill : Bool
-  pub right_spill : Bool
-  pub left_is : left left_rows left_spill
-  pub right_is : right right_rows right_spill
-  pub join : Join left_rows right_rows out
-  pub spills : spill ≡ (left_spill || right_spill)
-
--- rows side by side, as many on both sides
-pub record AreBeside (ls rs out : List Row) : Type 0 where
-  pub same : length ls ≡ length rs
-  pub is : out ≡ beside ls rs
-
--- the results of a group, with its key first in each row
-abbrev pub WithKey : Results → ℕ → Results
-WithKey body key = IsMade body (map (λ row. key ∷ row))
 
 -- ---- the results of a query
 
--- out with spill is a result of the query in an environment
+-- the results of a query in an environment
 abbrev pub IsResultIn : QueryShape → Env → Results
-IsResultIn (shape.Read name) env out spill = (out ≡ rows_of env name) × (spill ≡ false)
-IsResultIn (shape.Rows pick filter source) env out spill =
+IsResultIn (shape.Read name) env = IsInput (rows_of env name)
+IsResultIn (shape.Rows pick filter source) env =
     let columns = columns_in env source in
-    IsMade (IsResultIn source env) (λ rows. map (picked columns pick) (kept columns filter rows)) out spill
-IsResultIn (shape.Total aggs source) env out spill =
+    IsChanged (IsResultIn source env) (λ rows. map (picked columns pick) (kept columns filter rows))
+IsResultIn (shape.Total aggs source) env =
     let columns = columns_in env source in
-    IsMade (IsResultIn source env) (λ rows. total_row columns aggs rows ∷ []) out spill
-IsResultIn (shape.Each var source size advance body) env out spill =
+    IsChanged (IsResultIn source env) (λ rows. total_row columns aggs rows ∷ [])
+IsResultIn (shape.Each var source size advance body) env =
     let columns = columns_in env source in
-    IsInParts (IsResultIn source env) (slices size advance) (λ rows. false) (λ rows. IsResultIn body (only var columns rows)) out spill
-IsResultIn (shape.PerGroup var source key n body) env out spill =
+    IsOfParts (IsResultIn source env) (slices size advance) (λ rows. IsResultIn body (only var columns rows)) (λ rows. false)
+IsResultIn (shape.PerGroup var source key n body) env =
     let columns = columns_in env source in
     let key_of : Row → ℕ = λ row. slice_index row (column_number columns key) in
-    IsInParts (IsResultIn source env) (groups n key_of) (has_further n key_of)
-    (λ (g : Group Row). WithKey (IsResultIn body (only var columns g.rows)) g.key) out spill
-IsResultIn (shape.Union l r) env out spill = IsOfBoth (IsResultIn l env) (IsResultIn r env) IsInterleaving out spill
-IsResultIn (shape.Concat l r) env out spill = IsOfBoth (IsResultIn l env) (IsResultIn r env) AreBeside out spill
+    IsOfParts (IsResultIn source env) (groups n key_of) (IsOfGroup (λ rows. IsResultIn body (only var columns rows))) (has_further n key_of)
+IsResultIn (shape.Union l r) env = IsOfBoth (IsResultIn l env) (IsResultIn r env) IsInterleaving
+IsResultIn (shape.Concat l r) env = IsOfBoth (IsResultIn l env) (IsResultIn r env) AreBeside
 
--- what a statement means over a schema: the inputs by the streams' numbers, the rows of a result, and its spill
-abbrev pub IsResult : Schema → Statement → (ℕ → List Row) → List Row → Bool → Type 0
-IsResult schema statement inputs out spill = IsResultIn (query_shape statement.query) (env_of schema inputs) out spill
+-- what a statement means over a schema and its inputs
+abbrev pub IsResult : Schema → Statement → Inputs → Results
+IsResult schema statement inputs = IsResultIn (query_shape statement.query) (env_of schema inputs)

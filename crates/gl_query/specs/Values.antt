@@ -1,17 +1,16 @@
 -- The kind and the value of an expression over one row.
--- Operators are those of IEEE 1364-2005, clause 5, for unsigned operands of one width.
-use Rattle.std.specs.Prelude.{◌≡◌, ℕ, ◌*◌, ◌/◌, ◌%◌, ◌^◌, ◌<◌, ◌≤◌, Bool, true, false, ◌&&◌, List, [], ◌∷◌, length, Option, unwrap_or, option_map, slice_get, slice_index, bytes_eq, IsTrue, bit_and, bit_or, if◌then◌else◌}
-use Rattle.std.specs.List.{position_or_len}
+use Rattle.std.specs.Prelude.{◌≡◌, ℕ, ◌*◌, ◌/◌, ◌%◌, ◌^◌, ◌<◌, ◌≤◌, Bool, true, false, ◌&&◌, List, length, unwrap_or, option_map, slice_get, slice_index, bytes_eq, IsTrue, if◌then◌else◌}
+use Rattle.std.specs.List.{AllByRecursion, position_or_len}
 use Rattle.gl_bits.specs.declared.kind.Kind.{Kind}
 use Rattle.gl_bits.specs.declared.kind.Kind.TheVariants.{Unsigned, Text}
-use Rattle.gl_bits.specs.Kinds.{IsKind, width_of, is_below, is_at_most}
-use Rattle.gl_bits.specs.Words.{bit, sum_of, difference_of, product_of, not_of, eq_of}
+use Rattle.gl_bits.specs.declared.op.Op.{Op}
+use Rattle.gl_bits.specs.declared.op.Sort.{Sort}
+use Rattle.gl_bits.specs.declared.op.Sort.TheVariants.{Arithmetic, Comparison, Logic}
+use Rattle.gl_bits.specs.Kinds.{IsKind}
+use Rattle.gl_bits.specs.Operators.{sort_of, is_arithmetic, result_kind, operate}
+use Rattle.gl_bits.specs.Words.{not_of}
 use Rattle.gl_schema.specs.declared.schema.Column.{Column}
 use Rattle.gl_schema.specs.Schemas.{has_column, text_word}
-use Rattle.gl_query.specs.declared.tree.Op.{Op}
-use Rattle.gl_query.specs.declared.tree.Op.TheVariants as op
-use Rattle.gl_query.specs.declared.tree.Sort.{Sort}
-use Rattle.gl_query.specs.declared.tree.Sort.TheVariants.{Arithmetic, Comparison, Logic}
 use Rattle.gl_query.specs.Shapes.{ExprShape}
 use Rattle.gl_query.specs.Shapes as shape
 
@@ -26,25 +25,6 @@ abbrev pub column_kind : List Column → List ℕ → Kind
 column_kind columns name = unwrap_or (option_map (λ c. c.kind) (slice_get columns (column_number columns name))) (Unsigned 1)
 
 -- ---- kinds
-
--- what an operator does
-abbrev pub sort_of : Op → Sort
-sort_of op.Add = Arithmetic
-sort_of op.Sub = Arithmetic
-sort_of op.Mul = Arithmetic
-sort_of op.Eq = Comparison
-sort_of op.Ne = Comparison
-sort_of op.Lt = Comparison
-sort_of op.Le = Comparison
-sort_of op.Gt = Comparison
-sort_of op.Ge = Comparison
-sort_of op.And = Logic
-sort_of op.Or = Logic
-
-abbrev pub is_arithmetic : Sort → Bool
-is_arithmetic Arithmetic = true
-is_arithmetic Comparison = false
-is_arithmetic Logic = false
 
 -- a literal is loose, and so is `+ - *` of two loose operands: its kind comes from its place
 abbrev pub is_loose : ExprShape → Bool
@@ -77,12 +57,6 @@ loose_kind Logic whole e = Unsigned 1
 -- the kind that the place of an operand gives: that of the other operand, unless it is loose too
 abbrev pub operand_place : Sort → Kind → ExprShape → ExprShape → Kind → Kind
 operand_place sort whole e other other_kind = if is_loose other then loose_kind sort whole e else other_kind
-
--- `+ - *` give their operands' kind, all else gives one bit
-abbrev pub result_kind : Sort → Kind → Kind
-result_kind Arithmetic kind = kind
-result_kind Comparison kind = Unsigned 1
-result_kind Logic kind = Unsigned 1
 
 -- the kind of an expression in a place that gives what is loose this kind
 abbrev pub kind_of : List Column → Kind → ExprShape → Kind
@@ -125,10 +99,10 @@ abbrev pub IsNumberOf : Kind → ℕ → Type 0
 IsNumberOf (Unsigned w) n = n < 2 ^ w
 IsNumberOf (Text m) n = ⊥
 
--- a text of this kind
+-- a text of this kind: at most so many bytes
 abbrev pub IsLettersOf : Kind → List ℕ → Type 0
 IsLettersOf (Unsigned w) text = ⊥
-IsLettersOf (Text n) text = length text ≤ n
+IsLettersOf (Text n) text = (length text ≤ n) × AllByRecursion (λ b. b < 256) text
 
 -- its columns are there, its literals fit, and its operators fit their operands
 abbrev pub HasKind : List Column → Kind → ExprShape → Type 0
@@ -154,20 +128,6 @@ cast_of (Unsigned v) (Unsigned w) x = x % 2 ^ w
 cast_of (Unsigned v) (Text n) x = x
 cast_of (Text m) (Unsigned w) x = x
 cast_of (Text m) (Text n) x = x * 2 ^ (8 * n) / 2 ^ (8 * m)
-
--- what an operator gives of two words of a kind
-abbrev pub operate : Op → Kind → ℕ → ℕ → ℕ
-operate op.Add kind x y = sum_of (width_of kind) x y
-operate op.Sub kind x y = difference_of (width_of kind) x y
-operate op.Mul kind x y = product_of (width_of kind) x y
-operate op.Eq kind x y = eq_of x y
-operate op.Ne kind x y = not_of 1 (eq_of x y)
-operate op.Lt kind x y = bit (is_below kind x y)
-operate op.Le kind x y = bit (is_at_most kind x y)
-operate op.Gt kind x y = bit (is_below kind y x)
-operate op.Ge kind x y = bit (is_at_most kind y x)
-operate op.And kind x y = bit_and x y
-operate op.Or kind x y = bit_or x y
 
 -- the word of an expression over a row, in a place that gives what is loose this kind
 abbrev pub value_of : List Column → Kind → ExprShape → List ℕ → ℕ

@@ -1,6 +1,6 @@
 //! Laws of the meaning of queries. The contract of each function is the law; it does nothing.
 
-ghost use Rattle.gl_query.specs.Laws.{AcceptedHaveResults, HasOneResult};
+ghost use Rattle.gl_query.specs.Laws.{AcceptedHaveResults, HasOneResult, ResultsAreLong, ResultsFit, TreesAreAlike};
 
 /// A query without UNION has at most one result over given rows: its rows and its spill.
 pub fn results_are_unique()
@@ -10,4 +10,21 @@ pub fn results_are_unique()
 /// An accepted query has a result over any rows; so one without UNION has exactly one.
 pub fn accepted_have_results()
     ensures { AcceptedHaveResults }
+{}
+
+/// The rows of a result of an accepted query are as long as its columns are many, where those of its
+/// sources are.
+pub fn results_are_long()
+    ensures { ResultsAreLong }
+{}
+
+/// The rows of a result of an accepted query fit the kinds of its columns, where those of its
+/// sources do.
+pub fn results_fit()
+    ensures { ResultsFit }
+{}
+
+/// The tree of a statement and the statement are alike.
+pub fn trees_are_alike()
+    ensures { TreesAreAlike }
 {}

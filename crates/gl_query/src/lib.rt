@@ -1,12 +1,17 @@
-//! Queries: their syntax trees, what they mean over lists of rows, and which are accepted.
+//! Queries: their syntax trees, what they mean over lists of rows, and which are accepted. Their text
+//! and the test of acceptance stand in crates above.
 #![tactic(auto)]
 
+pub mod columns;
 pub mod fault;
+pub mod kinds;
 pub mod laws;
 pub mod tree;
 
+pub use columns::Sources;
 pub use fault::QueryFault;
+pub use gl_bits::{Op, Sort};
 pub use tree::{
-    Agg, AggItem, AggItems, Expr, Item, ItemList, Name, Num, Nums, Op, Pick, Query, Sort,
-    Statement, TextBytes,
+    Agg, AggItem, AggItems, Expr, Item, ItemList, Name, Num, Nums, Pick, Query, Statement,
+    TextBytes,
 };

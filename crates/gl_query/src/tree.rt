@@ -1,8 +1,6 @@
 //! Statements as trees, each name, number and operator with the byte where it stands in the text.
 
-ghost use Rattle.std.specs.Prelude.{◌≡◌};
-
-use gl_bits::{Kind, Listed};
+use gl_bits::{Kind, Listed, Op};
 use gl_schema::NameText;
 
 /// The bytes of a text literal: 0 to 8 bytes 0x20 to 0x7E.
@@ -33,48 +31,6 @@ pub struct Num {
     pub value: u128,
     /// The byte of the text where it begins.
     pub at: u64,
-}
-
-/// A binary operator.
-#[derive(Clone, Copy, PartialEq, Eq, Debug)]
-pub enum Op {
-    Add,
-    Sub,
-    Mul,
-    Eq,
-    Ne,
-    Lt,
-    Le,
-    Gt,
-    Ge,
-    And,
-    Or,
-}
-
-/// What a binary operator does.
-#[derive(Clone, Copy, PartialEq, Eq, Debug)]
-pub enum Sort {
-    /// `+`, `-` and `*`: operands and result are of one kind.
-    Arithmetic,
-    /// `=`, `<>`, `<`, `<=`, `>` and `>=`: operands of one kind give one bit.
-    Comparison,
-    /// AND and OR: one bit each.
-    Logic,
-}
-
-impl Op {
-    ghost use Rattle.gl_query.specs.Values.{sort_of};
-
-    /// What the operator does.
-    pub fn sort(self) -> Sort
-        ensures { result ≡ sort_of self }
-    {
-        match self {
-            Op::Add | Op::Sub | Op::Mul => Sort::Arithmetic,
-            Op::Eq | Op::Ne | Op::Lt | Op::Le | Op::Gt | Op::Ge => Sort::Comparison,
-            Op::And | Op::Or => Sort::Logic,
-        }
-    }
 }
 
 /// An expression over one row. The place of an operator, a NOT or a CAST is that of its own token.

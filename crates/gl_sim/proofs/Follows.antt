@@ -4,7 +4,7 @@ use Rattle.std.specs.Prelude.{slice_get, if◌then◌else◌}
 use Rattle.std.specs.List.{AllByRecursion, AllZip, cons_option}
 use Rattle.std.proofs.lemmas.Bool.Decides.{eqb_tells}
 use Rattle.gl_verilog.specs.Module.{Module, Declaration, Input, Assignment, Nets, Memories, value_of, assigned_by, written_by}
-use Rattle.gl_verilog.specs.Run.{Fit, IsRun, IsSettled, IsRegister}
+use Rattle.gl_verilog.specs.Run.{Fit, IsSettled, IsRegister}
 use Rattle.gl_verilog.specs.Widths.{IsReadable, KeepsWidth, is_clock, words_in}
 use Rattle.gl_verilog.specs.Order.{IsUndriven, evaluated, with_net}
 use Rattle.gl_verilog.specs.Evaluate.{IsStore, nets_of, memories_of}
@@ -64,7 +64,13 @@ each_picked P as' (k ∷ ks) h = first (slice_get as' k) refl (picked as' ks) (e
 
 -- ---- a cycle
 
-pub record Steps (m : Module) (order inputs v0 v1 v2 v3 : List ℕ) (bs bs' : List (List ℕ)) : Type 0 where
+-- one cycle of a run, and what registers and words hold behind it
+pub record IsOneCycle (m : Module) (value : Nets) (word : Memories) (value' : Nets) (word' : Memories) : Type 0 where
+  pub settled : IsSettled m.assignments value word
+  pub registers : (r : ℕ) (d : Declaration) → slice_get m.declarations r ≡ Some d → IsRegister d.kind → value' r ≡ unwrap_or (assigned_by value word m.blocks r) (value r)
+  pub memories : (k at : ℕ) → word' k at ≡ unwrap_or (written_by value word m.blocks k at) (word k at)
+
+pub record IsStepped (m : Module) (order inputs v0 v1 v2 v3 : List ℕ) (bs bs' : List (List ℕ)) : Type 0 where
   pub runnable : IsRunnable m
   pub in_order : IsOrderOf m.assignments order
   pub set : nets_of v1 ≡ with_inputs (inputs_of m) inputs (nets_of v0)
@@ -74,46 +80,46 @@ pub record Steps (m : Module) (order inputs v0 v1 v2 v3 : List ℕ) (bs bs' : Li
   pub registers : (r : ℕ) → slice_index v3 r ≡ unwrap_or (assigned_by (nets_of v2) (memories_of bs) m.blocks r) (slice_index v2 r)
   pub words : (k at : ℕ) → memories_of bs' k at ≡ unwrap_or (written_by (nets_of v2) (memories_of bs) m.blocks k at) (memories_of bs k at)
 
-module _ (m : Module) (order inputs v0 v1 v2 v3 : List ℕ) (bs bs' : List (List ℕ)) (s : Steps m order inputs v0 v1 v2 v3 bs bs') (value : ℕ → Nets) (word : ℕ → Memories) (t : ℕ) (run : IsRun m value word) (state : SameState m.declarations (nets_of v0) (memories_of bs) (value t) (word t)) (has : HasInputs m (value t) inputs) where
-  set_or : (n : ℕ) → (nets_of v1 n ≡ value t n) ⊎ ((nets_of v1 n ≡ nets_of v0 n) × AllByRecursion (λ p. p ≢ n) (inputs_of m))
-  set_or n = subst (λ (v : Nets). (v n ≡ value t n) ⊎ ((v n ≡ nets_of v0 n) × AllByRecursion (λ p. p ≢ n) (inputs_of m))) (sym s.set) (with_inputs-or (inputs_of m) inputs (nets_of v0) (value t) n has)
+module _ (m : Module) (order inputs v0 v1 v2 v3 : List ℕ) (bs bs' : List (List ℕ)) (s : IsStepped m order inputs v0 v1 v2 v3 bs bs') (value : Nets) (word : Memories) (value' : Nets) (word' : Memories) (run : IsOneCycle m value word value' word') (state : SameState m.declarations (nets_of v0) (memories_of bs) value word) (has : HasInputs m value inputs) where
+  set_or : (n : ℕ) → (nets_of v1 n ≡ value n) ⊎ ((nets_of v1 n ≡ nets_of v0 n) × AllByRecursion (λ p. p ≢ n) (inputs_of m))
+  set_or n = subst (λ (v : Nets). (v n ≡ value n) ⊎ ((v n ≡ nets_of v0 n) × AllByRecursion (λ p. p ≢ n) (inputs_of m))) (sym s.set) (with_inputs-or (inputs_of m) inputs (nets_of v0) value n has)
 
-  set_inputs : SameInputs m.declarations (nets_of v1) (value t)
+  set_inputs : SameInputs m.declarations (nets_of v1) value
   set_inputs = λ n d e is clock. elim (set_or n) [ inl same ↦ same | inr kept ↦ absurd (inputs_of-all m n d e is clock kept.1) ]
 
-  set_state : SameState m.declarations (nets_of v1) (memories_of bs) (value t) (word t)
+  set_state : SameState m.declarations (nets_of v1) (memories_of bs) value word
   set_state = record {
     registers = λ n d e r. elim (set_or n) [ inl same ↦ same | inr kept ↦ kept.0 ∙ state.registers n d e r ];
     words = state.words;
   }
 
-  register_same : (n : ℕ) (d : Declaration) → slice_get m.declarations n ≡ Some d → IsRegister d.kind → nets_of v2 n ≡ value t n
+  register_same : (n : ℕ) (d : Declaration) → slice_get m.declarations n ≡ Some d → IsRegister d.kind → nets_of v2 n ≡ value n
   register_same n d e r =
       ap (λ (v : Nets). v n) s.settled
       ∙ evaluated-undriven (picked m.assignments order) (memories_of bs) (nets_of v1) n (undriven m.declarations (picked m.assignments order) n d (each_picked (KeepsWidth m.declarations) m.assignments order s.runnable.assignments) e (register_undriven d.kind r))
       ∙ set_state.registers n d e r
 
-  same_undriven : SameUndriven m.declarations (picked m.assignments order) (nets_of v2) (value t)
+  same_undriven : SameUndriven m.declarations (picked m.assignments order) (nets_of v2) value
   same_undriven = λ n d e r u.
       ap (λ (v : Nets). v n) s.settled ∙ evaluated-undriven (picked m.assignments order) (memories_of bs) (nets_of v1) n u
-      ∙ undriven_same m (nets_of v1) (value t) (memories_of bs) (word t) (picked m.assignments order) s.runnable s.in_order.whole set_inputs set_state n d e r u
+      ∙ undriven_same m (nets_of v1) value (memories_of bs) word (picked m.assignments order) s.runnable s.in_order.whole set_inputs set_state n d e r u
 
-  pub nets_follow : SameNets m.declarations (nets_of v2) (value t)
+  pub nets_follow : SameNets m.declarations (nets_of v2) value
   nets_follow = λ n d e r.
-      settle_same m.declarations (nets_of v2) (value t) (memories_of bs) (word t) (picked m.assignments order) s.second.fits state.words
+      settle_same m.declarations (nets_of v2) value (memories_of bs) word (picked m.assignments order) s.second.fits state.words
       (each_picked (KeepsWidth m.declarations) m.assignments order s.runnable.assignments) s.in_order.ordered
       (subst (λ (v : Nets). IsSettled (picked m.assignments order) v (memories_of bs)) (sym s.settled)
       (evaluated-settled m.declarations (picked m.assignments order) (memories_of bs) (nets_of v1) s.first.fits (each_picked (KeepsWidth m.declarations) m.assignments order s.runnable.assignments) s.in_order.ordered))
-      (each_picked (λ a. value t a.target ≡ value_of (value t) (word t) a.value) m.assignments order (run.settled t))
+      (each_picked (λ a. value a.target ≡ value_of value word a.value) m.assignments order (run.settled))
       same_undriven n d e r tt
 
-  alike : Alike m.declarations (nets_of v2) (value t) (memories_of bs) (word t)
+  alike : Alike m.declarations (nets_of v2) value (memories_of bs) word
   alike = record { fits = s.second.fits; nets = nets_follow; words = state.words }
 
-  pub state_follows : SameState m.declarations (nets_of v3) (memories_of bs') (value (t + 1)) (word (t + 1))
+  pub state_follows : SameState m.declarations (nets_of v3) (memories_of bs') value' word'
   state_follows = record {
     registers = λ n d e r.
-        s.registers n ∙ rw (assigned_by-alike m.declarations (nets_of v2) (value t) (memories_of bs) (word t) m.blocks n alike s.runnable.blocks, register_same n d e r) (sym (run.registers t n d e r));
+        s.registers n ∙ rw (assigned_by-alike m.declarations (nets_of v2) value (memories_of bs) word m.blocks n alike s.runnable.blocks, register_same n d e r) (sym (run.registers n d e r));
     words = λ k d at e lt.
-        s.words k at ∙ rw (written_by-alike m.declarations (nets_of v2) (value t) (memories_of bs) (word t) m.blocks k at alike s.runnable.blocks, state.words k d at e lt) (sym (run.memories t k at));
+        s.words k at ∙ rw (written_by-alike m.declarations (nets_of v2) value (memories_of bs) word m.blocks k at alike s.runnable.blocks, state.words k d at e lt) (sym (run.memories k at));
   }

@@ -2,10 +2,11 @@
 
 ghost use Rattle.std.specs.Prelude.{◌≡◌, ℕ, ◌+◌, ◌<◌, length, slice_index, IfOk};
 ghost use Rattle.gl_verilog.specs.View.{module_of};
-ghost use Rattle.gl_verilog.specs.Runnable.{IsRunnable, FitInputs, HasInputs};
+ghost use Rattle.gl_verilog.specs.Runnable.{IsRunnable, FitInputs};
+ghost use Rattle.gl_verilog.specs.Valid.{IsValid};
 ghost use Rattle.gl_verilog.specs.Module.{Nets, Memories};
-ghost use Rattle.gl_verilog.specs.Run.{IsRun};
-ghost use Rattle.gl_sim.specs.Simulation.{IsAt, Shows};
+ghost use Rattle.gl_verilog_orders.specs.Laws.{ComesToRest};
+ghost use Rattle.gl_sim.specs.Simulation.{IsAt, FollowsRuns, FollowsOrders};
 ghost use Rattle.gl_sim.specs.Starts.{StartsFrom};
 
 use crate::cycle::{keep, set_inputs, settle};
@@ -84,7 +85,12 @@ impl Sim {
 
         // A run that holds the same registers and words, and has these inputs in its cycle t, is
         // followed through that cycle.
-        ensures follows { (value : ℕ → Nets) (word : ℕ → Memories) (t : ℕ) → IsRun (module_of self.old.design) value word → IsAt self.old value word t → HasInputs (module_of self.old.design) (value t) inputs.now → Shows self.new (value t) × IsAt self.new value word (t + 1) }
+        ensures follows { FollowsRuns self.old self.new inputs.now }
+
+        // Every order of events of a valid module is followed through the cycle, and none goes on
+        // without rest.
+        ensures orders { IsValid (module_of self.old.design) → FollowsOrders self.old self.new inputs.now }
+        ensures rests { IsValid (module_of self.old.design) → ComesToRest (module_of self.old.design) }
     {
         set_inputs(
             &self.design,

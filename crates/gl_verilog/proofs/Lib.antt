@@ -11,7 +11,6 @@ pub mod Settles
 pub mod Runs
 pub mod Acyclic
 pub mod Pieces
-pub mod Typing
 pub mod Frames
 pub mod Told
 pub mod Sound

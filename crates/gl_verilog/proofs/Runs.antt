@@ -1,5 +1,5 @@
 -- Laws of runs.
-use Rattle.std.proofs.Common.{◌≡◌, ℕ, zero, suc, ◌+◌, ◌^◌, ◌<◌, Bool, true, false, List, [], ◌∷◌, Option, Some, None, refl, sym, ◌∙◌, subst, unwrap_or, nat_eq, cond, inl, inr, add-one}
+use Rattle.std.proofs.Common.{◌≡◌, ℕ, zero, suc, ◌+◌, ◌^◌, ◌<◌, ◌≤◌, arith, Bool, true, false, List, [], ◌∷◌, Option, Some, None, refl, sym, ◌∙◌, subst, unwrap_or, nat_eq, cond, inl, inr, add-one}
 use Rattle.std.specs.Prelude.{slice_get}
 use Rattle.std.specs.List.{AllByRecursion}
 use Rattle.std.proofs.lemmas.Bool.Decides.{eqb_tells}
@@ -8,7 +8,7 @@ use Rattle.gl_verilog.specs.Module.{Declaration, Kind, Input, OutputWire, Output
 use Rattle.gl_verilog.specs.Run.{Fit, IsRun, IsRegister, IsSettled}
 use Rattle.gl_verilog.specs.Widths.{IsNet, IsDriven, IsReadable, is_clock, KeepsWidth, words_in, width_of}
 use Rattle.gl_verilog.specs.Order.{IsUndriven, evaluated}
-use Rattle.gl_verilog.specs.Runnable.{IsRunnable, SameNets, SameState, SameInputs, RunsAgree, RunsFrom, HasRuns, LeavesAlone, KeepsStart}
+use Rattle.gl_verilog.specs.Runnable.{IsRunnable, SameNets, SameState, SameInputs, RunsAgree, RunsAreCausal, SettlesSomeWay, Settles, RunsFrom, HasRuns, LeavesAlone, KeepsStart}
 use Rattle.gl_verilog.proofs.Fits.{Found, found_in}
 use Rattle.gl_verilog.proofs.Stores.{same_item}
 use Rattle.gl_verilog.proofs.Edges.{Alike, FitsIn, unwrap_fits, assigned_by-alike, written_by-alike, assigned_by_fits, written_by_fits}
@@ -31,18 +31,23 @@ state_alike m value value' word word' t h run run' a s = record {
   words = λ k d at e lt. run.memories t k at ∙ rw (written_by-alike m.declarations (value t) (value' t) (word t) (word' t) m.blocks k at a h.blocks, s.words k d at e lt) (sym (run'.memories t k at));
 }
 
-states_agree : (m : Module) (value value' : ℕ → Nets) (word word' : ℕ → Memories) → IsRunnable m → IsRun m value word → IsRun m value' word' → SameState m.declarations (value 0) (word 0) (value' 0) (word' 0) → ((t : ℕ) → SameInputs m.declarations (value t) (value' t)) → (t : ℕ) → SameState m.declarations (value t) (word t) (value' t) (word' t)
-states_agree m value value' word word' h run run' start inputs zero = start
-states_agree m value value' word word' h run run' start inputs (suc t) =
-    let before = states_agree m value value' word word' h run run' start inputs t in
-    let nets = settles_one_way m h (value t) (value' t) (word t) (word' t) (run.fits t) (run.settled t) (run'.settled t) (inputs t) before in
+states_agree : (m : Module) (value value' : ℕ → Nets) (word word' : ℕ → Memories) → IsRunnable m → IsRun m value word → IsRun m value' word' → SameState m.declarations (value 0) (word 0) (value' 0) (word' 0) → (c : ℕ) → ((t : ℕ) → t ≤ c → SameInputs m.declarations (value t) (value' t)) → (t : ℕ) → t ≤ c → SameState m.declarations (value t) (word t) (value' t) (word' t)
+states_agree m value value' word word' h run run' start c inputs zero l = start
+states_agree m value value' word word' h run run' start c inputs (suc t) l =
+    let l' : t ≤ c = omega arith in
+    let before = states_agree m value value' word word' h run run' start c inputs t l' in
+    let nets = settles_one_way m h (value t) (value' t) (word t) (word' t) (run.fits t) (run.settled t) (run'.settled t) (inputs t l') before in
     subst (λ u. SameState m.declarations (value u) (word u) (value' u) (word' u)) (add-one t)
     (state_alike m value value' word word' t h run run' (record { fits = run.fits t; nets = nets; words = before.words }) before)
 
+pub runs_are_causal : (m : Module) → IsRunnable m → RunsAreCausal m
+runs_are_causal m h = λ value value' word word' run run' start c inputs t l.
+    let states = states_agree m value value' word word' h run run' start c inputs t l in
+    (settles_one_way m h (value t) (value' t) (word t) (word' t) (run.fits t) (run.settled t) (run'.settled t) (inputs t l) states, states)
+
 pub runs_agree : (m : Module) → IsRunnable m → RunsAgree m
 runs_agree m h = λ value value' word word' run run' start inputs t.
-    let states = states_agree m value value' word word' h run run' start inputs t in
-    (settles_one_way m h (value t) (value' t) (word t) (word' t) (run.fits t) (run.settled t) (run'.settled t) (inputs t) states, states)
+    runs_are_causal m h value value' word word' run run' start t (λ u l. inputs u) t (omega arith)
 
 -- ---- a register that no block assigns
 
@@ -141,6 +146,25 @@ register_undriven Input r d = d
 register_undriven OutputWire r d = r
 register_undriven Wire r d = r
 register_undriven (Memory bits) r d = d
+
+-- ---- a cycle settles
+
+pub settles_some_way : (m : Module) → IsRunnable m → SettlesSomeWay m
+settles_some_way m h = λ v words f.
+    let kept : AllByRecursion (KeepsWidth m.declarations) h.ordered.order = each_in_order (KeepsWidth m.declarations) m.assignments h.ordered.order h.ordered.same h.assignments in
+    record {
+      nets = evaluated h.ordered.order words v;
+      settled = each_in_order (λ a. evaluated h.ordered.order words v a.target ≡ value_of (evaluated h.ordered.order words v) words a.value) h.ordered.order m.assignments (IsPermutation-sym m.assignments h.ordered.order h.ordered.same)
+          (evaluated-settled m.declarations h.ordered.order words v f kept h.ordered.ordered);
+      fits = evaluated-fits m.declarations h.ordered.order words v f kept;
+      inputs = λ n d e is clock. sym (evaluated-undriven h.ordered.order words v n (undriven m.declarations h.ordered.order n d kept e (λ (driven : IsDriven d.kind). subst IsDriven is driven)));
+      state = record {
+        registers = λ n d e r. sym (evaluated-undriven h.ordered.order words v n (undriven m.declarations h.ordered.order n d kept e (register_undriven d.kind r)));
+        words = λ k d at e lt. refl;
+      };
+    }
+
+-- ---- a run
 
 pub has_runs : (m : Module) → IsRunnable m → HasRuns m
 has_runs m h = λ start words inputs fit fits. from_start start words inputs fit fits

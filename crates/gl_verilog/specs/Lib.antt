@@ -13,4 +13,3 @@ pub mod Resolve
 pub mod Valid
 pub mod Text
 pub mod Machine
-pub mod Typed

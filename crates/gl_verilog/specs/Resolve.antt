@@ -1,6 +1,7 @@
 -- From a written module to its module: names become the numbers of their declarations, digits become numbers, and
 -- operators keep their operands' width. A name resolves where it is declared before it is used.
-use Rattle.std.specs.Prelude.{ℕ, zero, suc, ◌+◌, ◌^◌, true, false, List, [], ◌∷◌, ◌++◌, map, length, Option, Some, None, option_map, option_and_then, nat_eq, if◌then◌else◌, codes}
+use Rattle.std.specs.Prelude.{ℕ, zero, suc, ◌+◌, ◌^◌, Bool, true, false, List, [], ◌∷◌, ◌++◌, map, length, Option, Some, None, option_map, option_and_then, nat_eq, if◌then◌else◌, codes}
+use Rattle.std.specs.Option.{option_map_or}
 use Rattle.std.specs.Str.{bytes_eq}
 use Rattle.gl_verilog.specs.Tokens.{number_in}
 use Rattle.gl_verilog.specs.Widths.{width_of}
@@ -113,9 +114,25 @@ with_assignment target value r = record r { assignments = record { target = targ
 abbrev pub with_block : ℕ → Statement → Resolved → Resolved
 with_block clock s r = record r { blocks = s ∷ r.blocks }
 
--- a block is clocked by `clk`, which is declared before it
+-- the declaration of a name
+abbrev pub declared_in : List Declaration → List ℕ → Option Declaration
+declared_in [] name = None
+declared_in (d ∷ ds) name = if bytes_eq d.name name then Some d else declared_in ds name
+
+abbrev pub is_memory_kind : Kind → Bool
+is_memory_kind (Memory bits) = true
+is_memory_kind _ = false
+
+abbrev pub is_memory : Declaration → Bool
+is_memory d = is_memory_kind d.kind
+
+-- whether a name is declared, and its declaration meets a test
+abbrev pub is_so : (Declaration → Bool) → List Declaration → List ℕ → Bool
+is_so test ds name = option_map_or test (declared_in ds name) false
+
+-- a block is clocked by `clk`, which is declared before it and is no memory
 abbrev pub clocked : List Declaration → List ℕ → Option ℕ
-clocked ds clock = if bytes_eq clock (codes "clk") then number_of ds clock else None
+clocked ds clock = if bytes_eq clock (codes "clk") then (if is_so is_memory ds clock then None else number_of ds clock) else None
 
 abbrev pub resolve_items : List Declaration → List WrittenItem → Option Resolved
 resolve_items ds [] = Some (record { declarations = ds; assignments = []; blocks = [] })
@@ -129,6 +146,6 @@ abbrev pub module_from : WrittenModule → Resolved → Module
 module_from w r = record { name = w.name; ports = length w.ports; declarations = r.declarations; assignments = r.assignments; blocks = r.blocks }
 
 -- the module that is meant; None where a name is not declared before it is used, the clock stands in an expression, a
--- block has another clock than `clk`, or a memory has not 2^j words
+-- block has another clock than `clk` or a memory for it, or a memory has not 2^j words
 abbrev pub resolve : WrittenModule → Option Module
 resolve w = option_map (module_from w) (resolve_items (map declare_port w.ports) w.items)

@@ -1,9 +1,9 @@
 -- The runs of a module, cycle by cycle. After the scheduling of IEEE 1364-2005, clause 11: assignments settle, then at
 -- the clock's rising edge all nonblocking updates happen at once.
-use Rattle.std.specs.Prelude.{◌≡◌, ℕ, ◌+◌, ◌^◌, ◌<◌, List, Option, Some, slice_get, take, unwrap_or}
-use Rattle.std.specs.Option.{option_map}
+use Rattle.std.specs.Prelude.{◌≡◌, ℕ, ◌+◌, ◌^◌, ◌<◌, Bool, true, false, List, Option, None, Some, slice_get, take, unwrap_or, if◌then◌else◌}
+use Rattle.std.specs.Option.{option_and_then, option_map, option_map_or}
 use Rattle.std.specs.List.{AllByRecursion}
-use Rattle.gl_verilog.specs.Module.{Module, Declaration, Assignment, Kind, OutputRegister, Register, Nets, Memories, value_of, assigned_by, written_by, number_of}
+use Rattle.gl_verilog.specs.Module.{Module, Declaration, Assignment, Kind, Input, OutputRegister, Register, Nets, Memories, value_of, assigned_by, written_by, number_of}
 
 -- a kind that keeps its value until a block assigns it
 abbrev pub IsRegister : Kind → Type 0
@@ -29,3 +29,19 @@ pub record IsRun (m : Module) (value : ℕ → Nets) (word : ℕ → Memories) :
 -- the value of a port by its name in a cycle; None where the module has no such port
 abbrev pub port_of : Module → (ℕ → Nets) → ℕ → List ℕ → Option ℕ
 port_of m value t name = option_map (value t) (number_of (take m.ports m.declarations) name)
+
+abbrev pub is_input : Kind → Bool
+is_input Input = true
+is_input _ = false
+
+-- whether the declaration with this number is that of an input port
+abbrev pub is_input_at : List Declaration → ℕ → Bool
+is_input_at ds n = option_map_or (λ d. is_input d.kind) (slice_get ds n) false
+
+-- the number of the input port of a name; None where the module has no input port of that name
+abbrev pub input_number : Module → List ℕ → Option ℕ
+input_number m name = option_and_then (λ n. if is_input_at m.declarations n then Some n else None) (number_of (take m.ports m.declarations) name)
+
+-- the value of an input port by its name in a cycle; None where the module has no input port of that name
+abbrev pub input_values : Module → (ℕ → Nets) → ℕ → List ℕ → Option ℕ
+input_values m value t name = option_map (value t) (input_number m name)

@@ -1,8 +1,9 @@
 -- The modules that have a run from any start and any inputs, and only one.
-use Rattle.std.specs.Prelude.{◌≡◌, ◌≢◌, ℕ, ◌+◌, ◌^◌, ◌<◌, Bool, true, false, List, [], ◌∷◌, Some, slice_get, if◌then◌else◌, not, ◌&&◌}
+use Rattle.std.specs.Prelude.{◌≡◌, ◌≢◌, ℕ, ◌+◌, ◌^◌, ◌<◌, ◌≤◌, Bool, true, false, List, [], ◌∷◌, Some, slice_get, if◌then◌else◌, not, ◌&&◌}
 use Rattle.std.specs.List.{AllByRecursion, AllZip}
 use Rattle.gl_verilog.specs.Module.{Kind, Input, Declaration, Module, Nets, Memories, Statement, Nothing, Put, Write, Both, If}
 use Rattle.gl_verilog.specs.Run.{IsRun, IsRegister, IsSettled, Fit}
+pub use Rattle.gl_verilog.specs.Run.{is_input}
 use Rattle.gl_verilog.specs.Widths.{HasSize, IsDriven, IsReadable, KeepsWidth, KeepsWidthsIn, is_clock, width_at, words_in}
 use Rattle.gl_verilog.specs.Order.{IsUndriven, CanBeOrdered}
 
@@ -13,10 +14,6 @@ pub record IsRunnable (m : Module) : Type 0 where
   pub blocks : AllByRecursion (KeepsWidthsIn m.declarations) m.blocks
   pub driven : (n : ℕ) (d : Declaration) → slice_get m.declarations n ≡ Some d → IsDriven d.kind → IsUndriven m.assignments n → ⊥
   pub ordered : CanBeOrdered m.assignments
-
-abbrev pub is_input : Kind → Bool
-is_input Input = true
-is_input _ = false
 
 -- the numbers of the input ports but the clock, in their order, counted from n
 abbrev pub inputs_from : ℕ → List Declaration → List ℕ
@@ -51,6 +48,10 @@ SameNets ds v v' = (n : ℕ) (d : Declaration) → slice_get ds n ≡ Some d →
 abbrev pub SettlesOneWay : Module → Type 0
 SettlesOneWay m = (v v' : Nets) (words words' : Memories) → Fit m.declarations v words → IsSettled m.assignments v words → IsSettled m.assignments v' words' → SameInputs m.declarations v v' → SameState m.declarations v words v' words' → SameNets m.declarations v v'
 
+-- two runs with the same start, and the same inputs in the cycles up to one, have the same nets, registers and words up to it
+abbrev pub RunsAreCausal : Module → Type 0
+RunsAreCausal m = (value value' : ℕ → Nets) (word word' : ℕ → Memories) → IsRun m value word → IsRun m value' word' → SameState m.declarations (value 0) (word 0) (value' 0) (word' 0) → (c : ℕ) → ((t : ℕ) → t ≤ c → SameInputs m.declarations (value t) (value' t)) → (t : ℕ) → t ≤ c → SameNets m.declarations (value t) (value' t) × SameState m.declarations (value t) (word t) (value' t) (word' t)
+
 -- two runs with the same start and the same inputs have the same nets, registers and words in every cycle
 abbrev pub RunsAgree : Module → Type 0
 RunsAgree m = (value value' : ℕ → Nets) (word word' : ℕ → Memories) → IsRun m value word → IsRun m value' word' → SameState m.declarations (value 0) (word 0) (value' 0) (word' 0) → ((t : ℕ) → SameInputs m.declarations (value t) (value' t)) → (t : ℕ) → SameNets m.declarations (value t) (value' t) × SameState m.declarations (value t) (word t) (value' t) (word' t)
@@ -62,6 +63,10 @@ pub record Settles (m : Module) (v : Nets) (words : Memories) : Type 0 where
   pub fits : Fit m.declarations nets words
   pub inputs : SameInputs m.declarations v nets
   pub state : SameState m.declarations v words nets words
+
+-- each cycle settles, whatever its inputs, registers and words
+abbrev pub SettlesSomeWay : Module → Type 0
+SettlesSomeWay m = (v : Nets) (words : Memories) → Fit m.declarations v words → Settles m v words
 
 -- a run that begins with these registers and words and takes these inputs
 pub record RunsFrom (m : Module) (start : Nets) (words : Memories) (inputs : ℕ → Nets) : Type 0 where

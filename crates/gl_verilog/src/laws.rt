@@ -1,11 +1,21 @@
 //! Laws of runs: each function's contract is the law.
 
 ghost use Rattle.gl_verilog.specs.Module.{Module as Design};
-ghost use Rattle.gl_verilog.specs.Runnable.{IsRunnable, SettlesOneWay, RunsAgree, HasRuns, KeepsStart};
+ghost use Rattle.gl_verilog.specs.Runnable.{IsRunnable, SettlesOneWay, SettlesSomeWay, RunsAgree, RunsAreCausal, HasRuns, KeepsStart};
 
 /// Given its inputs, registers and words, a cycle settles in one way at most.
 pub fn settles_one_way()
     ensures { (m : Design) → IsRunnable m → SettlesOneWay m }
+{}
+
+/// Each cycle settles, whatever its inputs, registers and words.
+pub fn settles_some_way()
+    ensures { (m : Design) → IsRunnable m → SettlesSomeWay m }
+{}
+
+/// Two runs with the same start are the same as long as their inputs are.
+pub fn runs_are_causal()
+    ensures { (m : Design) → IsRunnable m → RunsAreCausal m }
 {}
 
 /// Two runs with the same start and the same inputs are the same, but for the clock.

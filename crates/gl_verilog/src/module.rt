@@ -1,7 +1,6 @@
 //! Modules with their names resolved: a net, register or memory is the number of its declaration.
 
 use gl_bits::Listed;
-use gl_schema::NameText;
 
 /// What a declared name is.
 #[derive(Clone, Copy, PartialEq, Eq, Debug)]
@@ -24,7 +23,7 @@ pub enum Kind {
 #[derive(Drop, Debug)]
 pub struct Declaration {
     /// Its name.
-    pub name: NameText,
+    pub name: Listed<u8>,
     /// Its bits, of a memory those of a word: 1 to 128.
     pub width: u8,
     /// Whether it has a range; without one it is one bit that no select stands on.
@@ -149,7 +148,7 @@ pub struct Assignment {
 #[derive(Drop, Debug)]
 pub struct Module {
     /// Its name.
-    pub name: NameText,
+    pub name: Listed<u8>,
     /// The number of ports.
     pub ports: usize,
     /// The declarations, ports first.

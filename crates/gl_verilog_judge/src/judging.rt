@@ -589,11 +589,13 @@ fn block_of(
     clock: Word,
     body: &WrittenStatement,
 ) -> Result<Statement, VerilogFault> {
-    let _known = scope.target(clock)?;
+    let known = scope.target(clock)?;
+    let at = clock.at as u64;
     if clock.bytes != b"clk".as_slice() {
-        return Err(VerilogFault::ClockRead {
-            at: clock.at as u64,
-        });
+        return Err(VerilogFault::ClockRead { at });
+    }
+    if matches!(known.kind, Kind::Memory { .. }) {
+        return Err(VerilogFault::BadMemory { at });
     }
     let statement = statement_of(scope, drivers, body)?;
     drivers.end_block();

@@ -347,6 +347,10 @@ fn whole_texts_are_refused_at_their_place(rt: HostRuntime) -> Result<(), Fail> {
             "module t(input wire clk, output wire out__valid, output wire out__eos); assign out__valid = 1'd0; assign out__eos = 1'd0; endmodule",
             "",
         ),
+        (
+            "module t(input wire a); reg clk [0:1]; always @(posedge clk) clk[a] <= a; endmodule",
+            "BadMemory { at: 56 }",
+        ),
     ] {
         assert_eq!(rt; refused(rt.alloc(), text)?.as_str(), want, "{text}");
     }

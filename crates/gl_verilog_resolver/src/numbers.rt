@@ -8,7 +8,7 @@ ghost use Rattle.gl_verilog.specs.Tokens as tokens;
 ghost use Rattle.gl_verilog.specs.View.{declaration_of};
 ghost use Rattle.gl_verilog_resolver.specs.Fitting.{byte, long};
 
-use gl_verilog::Declaration;
+use gl_verilog::{Declaration, Kind};
 use gl_verilog_written::{digit_of, small_number};
 
 // The number of the declaration of a name. The time grows with the number of declarations.
@@ -34,15 +34,26 @@ pub(crate) fn number_read(declarations: &[Declaration], name: &[u8]) -> Option<u
     }
 }
 
+// Whether a name is that of a memory.
+fn is_memory(declarations: &[Declaration], name: &[u8]) -> bool
+    ensures { result ≡ resolve.is_so resolve.is_memory (map declaration_of declarations.now) name.now }
+{
+    for declaration in declarations {
+        if declaration.name.as_slice() == name {
+            return matches!(declaration.kind, Kind::Memory { .. });
+        }
+    }
+    false
+}
+
 // The number of the clock of a block.
 pub(crate) fn clocked(declarations: &[Declaration], clock: &[u8]) -> Option<usize>
     ensures { result ≡ resolve.clocked (map declaration_of declarations.now) clock.now }
 {
-    if clock == b"clk".as_slice() {
-        number_of(declarations, clock)
-    } else {
-        None
+    if clock != b"clk".as_slice() || is_memory(declarations, clock) {
+        return None;
     }
+    number_of(declarations, clock)
 }
 
 // The number so far, and one more digit, where it is below 2^128.

@@ -1,4 +1,4 @@
-use Rattle.gl_net.proofs.Ports.{input_grows, input_open, input_has, input_size}
+use Rattle.gl_net.proofs.Ports.{input_grows, input_open, input_has, input_size, input_register_bits, input_memory_bits}
 use Rattle.gl_net.proofs.builder.NetBuilder.input.Goals as goal
 
 pub returns-clause-grows : goal.returns-clause-grows
@@ -12,3 +12,9 @@ returns-clause-bus c = record { there = input_has _ _ _ _ _ c.in_ok-node.ensures
 
 pub returns-clause-size : goal.returns-clause-size
 returns-clause-size c = input_size _ _ _ _ _ c.in_ok-node.ensures.ok
+
+pub returns-clause-register_bits : goal.returns-clause-register_bits
+returns-clause-register_bits c = input_register_bits _ _ _ _ _ c.in_ok-node.ensures.ok
+
+pub returns-clause-memory_bits : goal.returns-clause-memory_bits
+returns-clause-memory_bits c = input_memory_bits _ _ _ _ _ c.in_ok-node.ensures.ok

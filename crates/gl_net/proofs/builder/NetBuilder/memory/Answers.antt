@@ -1,5 +1,5 @@
-use Rattle.std.proofs.Common.{refl}
-use Rattle.gl_net.proofs.Growth.{adds_grows, adds_open_other, adds_open, adds_fresh, adds_has, adds_size}
+use Rattle.std.proofs.Common.{refl, ◌∙◌, add-zero}
+use Rattle.gl_net.proofs.Growth.{adds_grows, adds_open_other, adds_open, adds_fresh, adds_has, adds_size, adds_register_bits, adds_memory_bits}
 use Rattle.gl_net.proofs.builder.NetBuilder.memory.Goals as goal
 
 pub returns-clause-grows : goal.returns-clause-grows
@@ -19,3 +19,9 @@ returns-clause-store c = record { there = adds_has _ _ _ _ c.in_ok-node.ensures.
 
 pub returns-clause-size : goal.returns-clause-size
 returns-clause-size c = adds_size _ _ _ _ c.in_ok-node.ensures.ok
+
+pub returns-clause-register_bits : goal.returns-clause-register_bits
+returns-clause-register_bits c = adds_register_bits _ _ _ _ c.in_ok-node.ensures.ok ∙ add-zero _
+
+pub returns-clause-memory_bits : goal.returns-clause-memory_bits
+returns-clause-memory_bits c = adds_memory_bits _ _ _ _ c.in_ok-node.ensures.ok

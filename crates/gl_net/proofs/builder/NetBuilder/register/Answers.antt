@@ -1,5 +1,5 @@
-use Rattle.std.proofs.Common.{refl}
-use Rattle.gl_net.proofs.Growth.{adds_grows, adds_open_other, adds_open, adds_fresh, adds_has, adds_size, register_free, start_value}
+use Rattle.std.proofs.Common.{refl, ◌∙◌, add-zero}
+use Rattle.gl_net.proofs.Growth.{adds_grows, adds_open_other, adds_open, adds_fresh, adds_has, adds_size, adds_register_bits, adds_memory_bits, register_free, start_value}
 use Rattle.gl_net.proofs.builder.NetBuilder.register.Goals as goal
 
 pub returns-clause-grows : goal.returns-clause-grows
@@ -25,3 +25,9 @@ returns-clause-free c = register_free _ _ _ _ _ _ c.in_ok-node.ensures.ok c.rese
 
 pub returns-clause-start : goal.returns-clause-start
 returns-clause-start c = start_value _ _ _ _ _ _ c.in_ok-node.ensures.ok c.reset_value-value.ensures.value
+
+pub returns-clause-register_bits : goal.returns-clause-register_bits
+returns-clause-register_bits c = adds_register_bits _ _ _ _ c.in_ok-node.ensures.ok
+
+pub returns-clause-memory_bits : goal.returns-clause-memory_bits
+returns-clause-memory_bits c = adds_memory_bits _ _ _ _ c.in_ok-node.ensures.ok ∙ add-zero _

@@ -1,0 +1,105 @@
+-- Plain facts about truth values, texts that are compared, and numbers of one bit.
+use Rattle.std.proofs.Common.{◌≡◌, ℕ, ◌^◌, ◌<◌, ◌⊎◌, inl, inr, Bool, true, false, not, List, refl, arith}
+use Rattle.std.specs.Prelude.{◌&&◌, ◌||◌, bytes_eq}
+use Rattle.std.proofs.lemmas.Slice.Eq.{bytes_eq-Decides}
+use Rattle.gl_bits.specs.Words.{bit}
+
+-- ---- and
+
+pub and_left : (a b : Bool) → (a && b) ≡ true → a ≡ true
+and_left true b h = refl
+and_left false b h = absurd cc
+
+pub and_right : (a b : Bool) → (a && b) ≡ true → b ≡ true
+and_right true b h = h
+and_right false b h = absurd cc
+
+pub and_both : (a b : Bool) → a ≡ true → b ≡ true → (a && b) ≡ true
+and_both true b h k = k
+and_both false b h k = absurd cc
+
+pub and_parts : (a b : Bool) → (a && b) ≡ true → (a ≡ true) × (b ≡ true)
+and_parts a b h = (and_left a b h, and_right a b h)
+
+-- ---- or
+
+pub or_left : (a b : Bool) → a ≡ true → (a || b) ≡ true
+or_left true b h = refl
+or_left false b h = absurd cc
+
+pub or_right : (a b : Bool) → b ≡ true → (a || b) ≡ true
+or_right true b h = refl
+or_right false b h = h
+
+pub or_cases : (a b : Bool) → (a || b) ≡ true → (a ≡ true) ⊎ (b ≡ true)
+or_cases true b h = inl refl
+or_cases false b h = inr h
+
+pub neither : (a b : Bool) → a ≡ false → b ≡ false → (a || b) ≡ false
+neither true b h k = absurd cc
+neither false b h k = k
+
+pub neither_left : (a b : Bool) → (a || b) ≡ false → a ≡ false
+neither_left true b h = absurd cc
+neither_left false b h = refl
+
+pub neither_right : (a b : Bool) → (a || b) ≡ false → b ≡ false
+neither_right true b h = absurd cc
+neither_right false b h = h
+
+pub neither_parts : (a b : Bool) → (a || b) ≡ false → (a ≡ false) × (b ≡ false)
+neither_parts a b h = (neither_left a b h, neither_right a b h)
+
+pub or_none : (a : Bool) → (a || false) ≡ a
+or_none true = refl
+or_none false = refl
+
+pub or_join : (a b c : Bool) → ((a || b) || c) ≡ (a || (b || c))
+or_join true b c = refl
+or_join false b c = refl
+
+-- ---- not
+
+pub not_true : (a : Bool) → not a ≡ true → a ≡ false
+not_true true h = absurd cc
+not_true false h = refl
+
+pub not_false : (a : Bool) → a ≡ false → not a ≡ true
+not_false true h = absurd cc
+not_false false h = refl
+
+pub not_both : (a : Bool) → a ≡ true → a ≡ false → ⊥
+not_both true h k = absurd cc
+not_both false h k = absurd cc
+
+-- what is not true is false
+pub else_false : (a : Bool) → (a ≡ true → ⊥) → a ≡ false
+else_false true h = absurd (h refl)
+else_false false h = refl
+
+-- ---- cases
+
+pub true_or_false : (a : Bool) → (a ≡ true) ⊎ (a ≡ false)
+true_or_false true = inl refl
+true_or_false false = inr refl
+
+pub by_cases : {X : Type 0} (a : Bool) → (a ≡ true → X) → (a ≡ false → X) → X
+by_cases true p q = p refl
+by_cases false p q = q refl
+
+-- ---- texts
+
+pub bytes_same : (xs ys : List ℕ) → bytes_eq xs ys ≡ true → xs ≡ ys
+bytes_same xs ys h = (bytes_eq-Decides xs ys).0 h
+
+pub bytes_own : (xs : List ℕ) → bytes_eq xs xs ≡ true
+bytes_own xs = (bytes_eq-Decides xs xs).1 refl
+
+pub bytes_other : (xs ys : List ℕ) → (xs ≡ ys → ⊥) → bytes_eq xs ys ≡ false
+bytes_other xs ys h = else_false (bytes_eq xs ys) (λ e. h (bytes_same xs ys e))
+
+-- ---- bits
+
+pub bit_fits : (b : Bool) → bit b < 2 ^ 1
+bit_fits true = omega arith
+bit_fits false = omega arith

@@ -1,0 +1,35 @@
+-- Plain facts about what may be absent, and about results.
+use Rattle.std.proofs.Common.{◌≡◌, true, Option, Some, None, Result, Ok, Err, refl, sym, subst}
+use Rattle.std.specs.Prelude.{is_some, option_map, option_and_then, IfSome, OnErr}
+
+pub some_same : {A : Type 0} (x y : A) → Some x ≡ Some y → x ≡ y
+some_same x y h = cc
+
+pub not_some : {A : Type 0} (x : A) → None ≡ Some x → ⊥
+not_some x h = absurd cc
+
+-- a fact of what is there
+pub some_fact : {A : Type 0} (P : A → Type 0) (x y : A) → Some x ≡ Some y → P x → P y
+some_fact P x y h p = subst P (some_same x y h) p
+
+pub if_some : {A : Type 0} (P : A → Type 0) (o : Option A) (x : A) → o ≡ Some x → IfSome o P → P x
+if_some P None x h p = absurd (not_some x h)
+if_some P (Some y) x h p = some_fact P y x h p
+
+-- what is there
+pub some_there : {A : Type 0} (o : Option A) → is_some o ≡ true → (x : A) × (o ≡ Some x)
+some_there None h = absurd cc
+some_there (Some x) h = (x, refl)
+
+pub map_some : {A B : Type 0} (f : A → B) (o : Option A) (y : B) → option_map f o ≡ Some y → (x : A) × (o ≡ Some x) × (y ≡ f x)
+map_some f None y h = absurd cc
+map_some f (Some x) y h = (x, refl, (let g : f x ≡ y = cc in sym g))
+
+pub then_some : {A B : Type 0} (f : A → Option B) (o : Option A) (y : B) → option_and_then f o ≡ Some y → (x : A) × (o ≡ Some x) × (f x ≡ Some y)
+then_some f None y h = absurd cc
+then_some f (Some x) y h = (x, refl, h)
+
+-- a weaker fact of a refusal
+pub on_err : {T E : Type 0} {P Q : Type 0} (r : Result T E) → (P → Q) → OnErr r P → OnErr r Q
+on_err (Ok x) f p = tt
+on_err (Err e) f p = f p

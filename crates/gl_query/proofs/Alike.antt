@@ -1,0 +1,61 @@
+-- The trees of statements, without their places, are the statements' shapes.
+use Rattle.std.proofs.Common.{◌≡◌, List, [], ◌∷◌, map, Option, None, Some, option_map, refl, ap}
+use Rattle.gl_query.specs.declared.tree.Expr.{Expr}
+use Rattle.gl_query.specs.declared.tree.Expr.TheVariants as expr
+use Rattle.gl_query.specs.declared.tree.Agg.{Agg}
+use Rattle.gl_query.specs.declared.tree.Agg.TheVariants as agg
+use Rattle.gl_query.specs.declared.tree.Item.{Item}
+use Rattle.gl_query.specs.declared.tree.AggItem.{AggItem}
+use Rattle.gl_query.specs.declared.tree.Pick.{Pick}
+use Rattle.gl_query.specs.declared.tree.Pick.TheVariants as pick
+use Rattle.gl_query.specs.declared.tree.Query.{Query}
+use Rattle.gl_query.specs.declared.tree.Query.TheVariants as query
+use Rattle.gl_query.specs.declared.tree.Statement.{Statement}
+use Rattle.gl_query.specs.Shapes as shape
+use Rattle.gl_query.specs.Shapes.{QueryShape, ExprShape, AggShape, expr_shape, agg_shape, item_shape, agg_item_shape, pick_shape, query_shape, statement_shape}
+use Rattle.gl_query.specs.Trees.{expr_tree, agg_tree, item_tree, agg_item_tree, pick_tree, filter_tree, query_tree, statement_tree}
+use Rattle.gl_query.specs.Alike.{expr_alike, agg_alike, item_alike, agg_item_alike, pick_alike, query_alike, statement_alike}
+
+pub expr_same : (e : Expr) → expr_alike (expr_tree e) ≡ expr_shape e
+expr_same (expr.Column name) = refl
+expr_same (expr.Number n) = refl
+expr_same (expr.Letters text at) = refl
+expr_same (expr.Not' p e at) = ap shape.Not (expr_same e)
+expr_same (expr.Cast' p e kind at) = ap (shape.Cast kind) (expr_same e)
+expr_same (expr.Binary' o p l q r at) = rw (expr_same l, expr_same r) refl
+
+pub agg_same : (a : Agg) → agg_alike (agg_tree a) ≡ agg_shape a
+agg_same (agg.Count at) = refl
+agg_same (agg.Sum e) = ap shape.Sum (expr_same e)
+agg_same (agg.Min e) = ap shape.Min (expr_same e)
+agg_same (agg.Max e) = ap shape.Max (expr_same e)
+agg_same (agg.Avg e) = ap shape.Avg (expr_same e)
+agg_same (agg.Wsum e weights) = rw (expr_same e) refl
+
+items_same : (is : List Item) → map item_alike (map item_tree is) ≡ map item_shape is
+items_same [] = refl
+items_same (i ∷ is) = rw (expr_same i.expr, items_same is) refl
+
+aggs_same : (is : List AggItem) → map agg_item_alike (map agg_item_tree is) ≡ map agg_item_shape is
+aggs_same [] = refl
+aggs_same (i ∷ is) = rw (agg_same i.agg, aggs_same is) refl
+
+pub pick_same : (p : Pick) → pick_alike (pick_tree p) ≡ pick_shape p
+pick_same pick.All = refl
+pick_same (pick.Items items) = ap shape.Items (items_same items)
+
+pub filter_same : (o : Option Expr) → option_map expr_alike (filter_tree o) ≡ option_map expr_shape o
+filter_same None = refl
+filter_same (Some e) = ap Some (expr_same e)
+
+pub query_same : (q : Query) → query_alike (query_tree q) ≡ query_shape q
+query_same (query.Read name) = refl
+query_same (query.Rows' p filter b source) = rw (pick_same p, filter_same filter, query_same source) refl
+query_same (query.Total' aggs b source) = rw (aggs_same aggs, query_same source) refl
+query_same (query.Each' var b source size advance c body at) = rw (query_same source, query_same body) refl
+query_same (query.PerGroup' var b source key groups c body at) = rw (query_same source, query_same body) refl
+query_same (query.Union' b l c r at) = rw (query_same l, query_same r) refl
+query_same (query.Concat' b l c r at) = rw (query_same l, query_same r) refl
+
+pub statement_same : (s : Statement) → statement_alike (statement_tree s) ≡ statement_shape s
+statement_same s = rw (query_same s.query) refl

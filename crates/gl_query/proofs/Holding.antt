@@ -1,0 +1,160 @@
+-- A property of rows that each step from the sources to the result of a query keeps holds of the rows of the result.
+use Rattle.std.proofs.Common.{◌≡◌, ℕ, zero, suc, ◌*◌, Bool, List, [], ◌∷◌, ◌++◌, length, refl, sym, subst, map, filter, take, drop, nat_lt, nat_eq}
+use Rattle.std.specs.Prelude.{IsTrue, bytes_eq, not, slice_index}
+use Rattle.std.specs.List.{AllByRecursion, filter_map, range_with_len}
+use Rattle.gl_bits.specs.Lists.{Group, IsInterleaving, nothing, from_first, from_second, distinct, groups, keys_of, rows_with, slice_at, slices}
+use Rattle.gl_bits.specs.Results.{Row, Results, AreJoined, IsOfGroup, beside}
+use Rattle.gl_bits.proofs.AllLists.{all_append, all_weaker}
+use Rattle.gl_bits.proofs.Bools.{by_cases}
+use Rattle.gl_schema.specs.declared.schema.Column.{Column}
+use Rattle.gl_schema.specs.Schemas.{has_column, kinds_of}
+use Rattle.gl_query.specs.Shapes.{AggItemShape, PickShape, QueryShape}
+use Rattle.gl_query.specs.Shapes as shape
+use Rattle.gl_query.specs.Values.{column_kind, column_number}
+use Rattle.gl_query.specs.Columns.{agg_column, columns_of, picked_columns, source_columns, variable}
+use Rattle.gl_query.specs.Accepted.{IsAgg, IsPick}
+use Rattle.gl_query.specs.Results.{IsResultIn, columns_in, keeps, kept, only, picked, streams_of, total_row}
+use Rattle.gl_query.specs.Laws.{HoldsIn, HoldsOfResults}
+
+-- each step keeps it
+pub record IsKept (P : List Column → Row → Type 0) : Type 0 where
+  pub picks : (columns : List Column) (pick : PickShape) (row : Row) → IsPick columns pick → P columns row
+      → P (picked_columns columns pick) (picked columns pick row)
+  pub totals : (columns : List Column) (aggs : List AggItemShape) (rows : List Row) → AllByRecursion (λ (i : AggItemShape). IsAgg columns i.agg) aggs
+      → AllByRecursion (P columns) rows → P (map (agg_column columns) aggs) (total_row columns aggs rows)
+  pub keyed : (columns more : List Column) (key : List ℕ) (row rest : Row) → IsTrue (has_column columns key) → P columns row → P more rest
+      → P (record { name = key; kind = column_kind columns key } ∷ more) (slice_index row (column_number columns key) ∷ rest)
+  pub joined : (lefts rights : List Column) (left right : Row) → P lefts left → P rights right → P (lefts ++ rights) (left ++ right)
+  pub alike : (columns others : List Column) (row : Row) → kinds_of columns ≡ kinds_of others → P others row → P columns row
+
+-- ---- parts of a list
+
+all_filter : {A : Type 0} (P : A → Type 0) (p : A → Bool) (xs : List A) → AllByRecursion P xs → AllByRecursion P (filter p xs)
+all_filter P p [] h = tt
+all_filter P p (x ∷ xs) h = by_cases (p x) (λ e. rw e (h.0, all_filter P p xs h.1)) (λ e. rw e (all_filter P p xs h.1))
+
+all_take : {A : Type 0} (P : A → Type 0) (n : ℕ) (xs : List A) → AllByRecursion P xs → AllByRecursion P (take n xs)
+all_take P zero xs h = tt
+all_take P (suc n) [] h = tt
+all_take P (suc n) (x ∷ xs) h = (h.0, all_take P n xs h.1)
+
+all_drop : {A : Type 0} (P : A → Type 0) (n : ℕ) (xs : List A) → AllByRecursion P xs → AllByRecursion P (drop n xs)
+all_drop P zero xs h = h
+all_drop P (suc n) [] h = tt
+all_drop P (suc n) (x ∷ xs) h = all_drop P n xs h.1
+
+all_slices_at : (P : Row → Type 0) (size advance : ℕ) (rows : List Row) (places : List ℕ) → AllByRecursion P rows
+    → AllByRecursion (AllByRecursion P) (filter_map (slice_at size advance rows) places)
+all_slices_at P size advance rows [] h = tt
+all_slices_at P size advance rows (j ∷ places) h =
+    by_cases (nat_lt (j * advance) (length rows))
+    (λ e. rw e (all_take P size (drop (j * advance) rows) (all_drop P (j * advance) rows h), all_slices_at P size advance rows places h))
+    (λ e. rw e (all_slices_at P size advance rows places h))
+
+all_slices : (P : Row → Type 0) (size advance : ℕ) (rows : List Row) → AllByRecursion P rows → AllByRecursion (AllByRecursion P) (slices size advance rows)
+unfolding slices
+all_slices P size advance rows h = all_slices_at P size advance rows (range_with_len 0 (length rows)) h
+
+-- ---- groups
+
+-- a row with this key has the property
+pub record HasKey (P : Row → Type 0) (key_of : Row → ℕ) (key : ℕ) : Type 0 where
+  pub row : Row
+  pub holds : P row
+  pub is : key_of row ≡ key
+
+-- the property holds of a group's rows, and of a row with its key
+pub record IsGroupOf (P : Row → Type 0) (key_of : Row → ℕ) (group : Group Row) : Type 0 where
+  pub rows : AllByRecursion P group.rows
+  pub key : HasKey P key_of group.key
+
+all_distinct : (P : ℕ → Type 0) (xs : List ℕ) → AllByRecursion P xs → AllByRecursion P (distinct xs)
+all_distinct P [] h = tt
+all_distinct P (x ∷ xs) h = (h.0, all_filter P (λ y. not (nat_eq x y)) (distinct xs) (all_distinct P xs h.1))
+
+all_keys : (P : Row → Type 0) (key_of : Row → ℕ) (rows : List Row) → AllByRecursion P rows → AllByRecursion (HasKey P key_of) (map key_of rows)
+all_keys P key_of [] h = tt
+all_keys P key_of (row ∷ rows) h = (record { row = row; holds = h.0; is = refl }, all_keys P key_of rows h.1)
+
+all_groups_of : (P : Row → Type 0) (key_of : Row → ℕ) (rows : List Row) (keys : List ℕ) → AllByRecursion P rows → AllByRecursion (HasKey P key_of) keys
+    → AllByRecursion (IsGroupOf P key_of) (map (λ key. record { key = key; rows = rows_with key_of rows key }) keys)
+all_groups_of P key_of rows [] h ks = tt
+all_groups_of P key_of rows (key ∷ keys) h ks =
+    (record { rows = all_filter P (λ x. nat_eq (key_of x) key) rows h; key = ks.0 }, all_groups_of P key_of rows keys h ks.1)
+
+all_groups : (P : Row → Type 0) (n : ℕ) (key_of : Row → ℕ) (rows : List Row) → AllByRecursion P rows → AllByRecursion (IsGroupOf P key_of) (groups n key_of rows)
+unfolding groups
+all_groups P n key_of rows h =
+    let keys = all_take (HasKey P key_of) n (keys_of key_of rows) (all_distinct (HasKey P key_of) (map key_of rows) (all_keys P key_of rows h)) in
+    all_groups_of P key_of rows (take n (keys_of key_of rows)) h keys
+
+-- ---- results of results
+
+all_joined : {A : Type 0} (P : Row → Type 0) (Part : A → Type 0) (body : A → Results)
+    (each : (x : A) (out : List Row) (spill : Bool) → Part x → body x out spill → AllByRecursion P out)
+    (parts : List A) (out : List Row) (spill : Bool) → AllByRecursion Part parts → AreJoined body parts out spill → AllByRecursion P out
+all_joined P Part body each [] out spill h (e, s) = subst (AllByRecursion P) (sym e) tt
+all_joined P Part body each (x ∷ parts) out spill h (first, later, p, q, here, rest, e, s) =
+    subst (AllByRecursion P) (sym e) (all_append P first later (each x first p h.0 here) (all_joined P Part body each parts later q h.1 rest))
+
+all_interleaved : (P : Row → Type 0) (xs ys zs : List Row) → AllByRecursion P xs → AllByRecursion P ys → IsInterleaving xs ys zs → AllByRecursion P zs
+all_interleaved P _ _ _ h k nothing = tt
+all_interleaved P _ _ _ h k (from_first x xs ys zs i) = (h.0, all_interleaved P xs ys zs h.1 k i)
+all_interleaved P _ _ _ h k (from_second y xs ys zs i) = (k.0, all_interleaved P xs ys zs h k.1 i)
+
+all_beside : (P Q R : Row → Type 0) → ((l r : Row) → P l → Q r → R (l ++ r)) → (ls rs : List Row) → AllByRecursion P ls → AllByRecursion Q rs
+    → AllByRecursion R (beside ls rs)
+all_beside P Q R f [] rs h k = tt
+all_beside P Q R f (l ∷ ls) [] h k = tt
+all_beside P Q R f (l ∷ ls) (r ∷ rs) h k = (f l r h.0 k.0, all_beside P Q R f ls rs h.1 k.1)
+
+all_under : (P Q : Row → Type 0) (f : Row → Row) → ((row : Row) → P row → Q (f row)) → (rows : List Row) → AllByRecursion P rows → AllByRecursion Q (map f rows)
+all_under P Q f g [] h = tt
+all_under P Q f g (row ∷ rows) h = (g row h.0, all_under P Q f g rows h.1)
+
+holds_within : (P : List Column → Row → Type 0) (var : List ℕ) (columns : List Column) (rows : List Row) → AllByRecursion (P columns) rows → HoldsIn P (only var columns rows)
+holds_within P var columns rows h name = by_cases (bytes_eq name var) (λ e. rw e h) (λ e. rw e tt)
+
+pub results_hold : (P : List Column → Row → Type 0) → IsKept P → HoldsOfResults P
+results_hold P k (shape.Read name) env out spill a h r = subst (AllByRecursion (P (source_columns (streams_of env) name))) (sym r.rows) (h name)
+results_hold P k (shape.Rows pick condition source) env out spill a h r =
+    let columns = columns_in env source in
+    let rows = results_hold P k source env r.rows spill a.0 h r.of_source in
+    subst (AllByRecursion (P (picked_columns columns pick))) (sym r.changed)
+    (all_under (P columns) (P (picked_columns columns pick)) (picked columns pick) (λ row p. k.picks columns pick row a.1.picks p)
+    (kept columns condition r.rows) (all_filter (P columns) (keeps columns condition) r.rows rows))
+results_hold P k (shape.Total aggs source) env out spill a h r =
+    let columns = columns_in env source in
+    let rows = results_hold P k source env r.rows spill a.0 h r.of_source in
+    subst (AllByRecursion (P (map (agg_column columns) aggs))) (sym r.changed) (k.totals columns aggs r.rows a.1.typed rows, tt)
+results_hold P k (shape.Each var source size advance body) env out spill a h r =
+    let columns = columns_in env source in
+    let rows = results_hold P k source env r.rows r.source_spill a.0 h r.of_source in
+    all_joined (P (columns_of (variable var columns) body)) (AllByRecursion (P columns)) (λ part. IsResultIn body (only var columns part))
+    (λ part o s p is. results_hold P k body (only var columns part) o s a.2 (holds_within P var columns part p) is)
+    (slices size advance r.rows) out r.parts_spill (all_slices (P columns) size advance r.rows rows) r.of_parts
+results_hold P k (shape.PerGroup var source key n body) env out spill a h r =
+    let columns = columns_in env source in
+    let more = columns_of (variable var columns) body in
+    let key_of : Row → ℕ = λ row. slice_index row (column_number columns key) in
+    let rows = results_hold P k source env r.rows r.source_spill a.0 h r.of_source in
+    let Whole : Row → Type 0 = P (record { name = key; kind = column_kind columns key } ∷ more) in
+    all_joined Whole (IsGroupOf (P columns) key_of) (IsOfGroup (λ part. IsResultIn body (only var columns part)))
+    (λ (g : Group Row) o s p is.
+    let inner = results_hold P k body (only var columns g.rows) is.rows s a.2 (holds_within P var columns g.rows p.rows) is.of_source in
+    let one : (rest : Row) → P more rest → Whole (g.key ∷ rest) =
+    λ rest held. subst (λ (first : ℕ). Whole (first ∷ rest)) p.key.is (k.keyed columns more key p.key.row rest a.1.known p.key.holds held) in
+    subst (AllByRecursion Whole) (sym is.changed) (all_under (P more) Whole (λ row. g.key ∷ row) one is.rows inner))
+    (groups n key_of r.rows) out r.parts_spill (all_groups (P columns) n key_of r.rows rows) r.of_parts
+results_hold P k (shape.Union l r) env out spill a h is =
+    let columns = columns_in env l in
+    let left = results_hold P k l env is.left is.left_spill a.0 h is.of_left in
+    let right = results_hold P k r env is.right is.right_spill a.1 h is.of_right in
+    let alike = all_weaker (P (columns_in env r)) (P columns) (λ row p. k.alike columns (columns_in env r) row a.2 p) is.right right in
+    all_interleaved (P columns) is.left is.right out left alike is.join
+results_hold P k (shape.Concat l r) env out spill a h is =
+    let left = results_hold P k l env is.left is.left_spill a.0 h is.of_left in
+    let right = results_hold P k r env is.right is.right_spill a.1 h is.of_right in
+    let Whole : Row → Type 0 = P (columns_in env l ++ columns_in env r) in
+    subst (AllByRecursion Whole) (sym is.join.rows)
+    (all_beside (P (columns_in env l)) (P (columns_in env r)) Whole (λ x y p q. k.joined (columns_in env l) (columns_in env r) x y p q) is.left is.right left right)

@@ -1,0 +1,42 @@
+-- The rows of a result are as long as the query's columns are many.
+use Rattle.std.proofs.Common.{◌≡◌, suc, ◌+◌, List, ◌++◌, length, map, sym, ap, ◌∙◌, length-append}
+use Rattle.gl_bits.specs.Results.{Row}
+use Rattle.gl_bits.proofs.AllLists.{length_map}
+use Rattle.gl_schema.specs.declared.schema.Column.{Column}
+use Rattle.gl_schema.specs.Schemas.{kinds_of}
+use Rattle.gl_query.specs.Shapes.{AggItemShape, ItemShape, PickShape}
+use Rattle.gl_query.specs.Shapes as shape
+use Rattle.gl_query.specs.Columns.{agg_column, item_column, picked_columns}
+use Rattle.gl_query.specs.Results.{agg_value, picked, total_row}
+use Rattle.gl_query.specs.Values.{kind_alone, value_of}
+use Rattle.gl_query.specs.Laws.{IsLongAs, ResultsAreLong}
+use Rattle.gl_query.proofs.Holding.{IsKept, results_hold}
+
+long_picked : (columns : List Column) (pick : PickShape) (row : Row) → IsLongAs columns row → IsLongAs (picked_columns columns pick) (picked columns pick row)
+long_picked columns shape.All row h = h
+long_picked columns (shape.Items items) row h =
+    length_map (λ (i : ItemShape). value_of columns (kind_alone i.expr) i.expr row) items ∙ sym (length_map (item_column columns) items)
+
+long_totals : (columns : List Column) (aggs : List AggItemShape) (rows : List Row) → IsLongAs (map (agg_column columns) aggs) (total_row columns aggs rows)
+long_totals columns aggs rows =
+    length_map (λ (i : AggItemShape). agg_value columns rows i.agg) aggs ∙ sym (length_map (agg_column columns) aggs)
+
+long_joined : (lefts rights : List Column) (left right : Row) → IsLongAs lefts left → IsLongAs rights right → IsLongAs (lefts ++ rights) (left ++ right)
+long_joined lefts rights left right h k =
+    length-append left right ∙ ap (λ n. n + length right) h ∙ ap (λ n. length lefts + n) k ∙ sym (length-append lefts rights)
+
+long_alike : (columns others : List Column) (row : Row) → kinds_of columns ≡ kinds_of others → IsLongAs others row → IsLongAs columns row
+long_alike columns others row e h =
+    h ∙ sym (length_map (λ c. c.kind) others) ∙ sym (ap length e) ∙ length_map (λ c. c.kind) columns
+
+long_kept : IsKept IsLongAs
+long_kept = record {
+  picks = λ columns pick row p h. long_picked columns pick row h;
+  totals = λ columns aggs rows p h. long_totals columns aggs rows;
+  keyed = λ columns more key row rest known h k. ap suc k;
+  joined = long_joined;
+  alike = long_alike;
+}
+
+pub long : ResultsAreLong
+long q env out spill a h r = results_hold IsLongAs long_kept q env out spill a h r

@@ -1,0 +1,46 @@
+-- Trees without their places.
+use Rattle.std.specs.Prelude.{map, option_map}
+use Rattle.gl_query.specs.declared.tree.Num.{Num}
+use Rattle.gl_query.specs.Shapes.{ExprShape, AggShape, ItemShape, AggItemShape, PickShape, QueryShape, StatementShape}
+use Rattle.gl_query.specs.Shapes as shape
+use Rattle.gl_query.specs.Trees.{ExprTree, AggTree, ItemTree, AggItemTree, PickTree, QueryTree, StatementTree}
+use Rattle.gl_query.specs.Trees as tree
+
+abbrev pub expr_alike : ExprTree → ExprShape
+expr_alike (tree.Column name) = shape.Column name.text
+expr_alike (tree.Number n) = shape.Number n.value
+expr_alike (tree.Letters text at) = shape.Letters text
+expr_alike (tree.Not e at) = shape.Not (expr_alike e)
+expr_alike (tree.Cast e kind at) = shape.Cast kind (expr_alike e)
+expr_alike (tree.Binary o l r at) = shape.Binary o (expr_alike l) (expr_alike r)
+
+abbrev pub agg_alike : AggTree → AggShape
+agg_alike (tree.Count at) = shape.Count
+agg_alike (tree.Sum e) = shape.Sum (expr_alike e)
+agg_alike (tree.Min e) = shape.Min (expr_alike e)
+agg_alike (tree.Max e) = shape.Max (expr_alike e)
+agg_alike (tree.Avg e) = shape.Avg (expr_alike e)
+agg_alike (tree.Wsum e weights) = shape.Wsum (expr_alike e) (map (λ (n : Num). n.value) weights)
+
+abbrev pub item_alike : ItemTree → ItemShape
+item_alike i = record { expr = expr_alike i.expr; name = i.name.text }
+
+abbrev pub agg_item_alike : AggItemTree → AggItemShape
+agg_item_alike i = record { agg = agg_alike i.agg; name = i.name.text }
+
+abbrev pub pick_alike : PickTree → PickShape
+pick_alike tree.All = shape.All
+pick_alike (tree.Items items) = shape.Items (map item_alike items)
+
+abbrev pub query_alike : QueryTree → QueryShape
+query_alike (tree.Read name) = shape.Read name.text
+query_alike (tree.Rows pick filter source) = shape.Rows (pick_alike pick) (option_map expr_alike filter) (query_alike source)
+query_alike (tree.Total aggs source) = shape.Total (map agg_item_alike aggs) (query_alike source)
+query_alike (tree.Each var source size advance body at) = shape.Each var.text (query_alike source) size.value advance.value (query_alike body)
+query_alike (tree.PerGroup var source key groups body at) = shape.PerGroup var.text (query_alike source) key.text groups.value (query_alike body)
+query_alike (tree.Union l r at) = shape.Union (query_alike l) (query_alike r)
+query_alike (tree.Concat l r at) = shape.Concat (query_alike l) (query_alike r)
+
+-- what all statements that are equal but for their places share
+abbrev pub statement_alike : StatementTree → StatementShape
+statement_alike s = record { query = query_alike s.query; name = s.name.text }

@@ -1,0 +1,99 @@
+-- Statements as trees, each name, number and operator with its place, but without where they lie in memory.
+use Rattle.std.specs.Prelude.{ℕ, List, map, Option, option_map}
+use Rattle.gl_bits.specs.declared.kind.Kind.{Kind}
+use Rattle.gl_bits.specs.declared.op.Op.{Op}
+use Rattle.gl_query.specs.declared.tree.Name.{Name}
+use Rattle.gl_query.specs.declared.tree.Num.{Num}
+use Rattle.gl_query.specs.declared.tree.Expr.{Expr}
+use Rattle.gl_query.specs.declared.tree.Expr.TheVariants as expr
+use Rattle.gl_query.specs.declared.tree.Agg.{Agg}
+use Rattle.gl_query.specs.declared.tree.Agg.TheVariants as agg
+use Rattle.gl_query.specs.declared.tree.Item.{Item}
+use Rattle.gl_query.specs.declared.tree.AggItem.{AggItem}
+use Rattle.gl_query.specs.declared.tree.Pick.{Pick}
+use Rattle.gl_query.specs.declared.tree.Pick.TheVariants as pick
+use Rattle.gl_query.specs.declared.tree.Query.{Query}
+use Rattle.gl_query.specs.declared.tree.Query.TheVariants as query
+use Rattle.gl_query.specs.declared.tree.Statement.{Statement}
+
+pub data ExprTree : Type 0 where
+  Column : (name : Name) → ExprTree
+  Number : (n : Num) → ExprTree
+  Letters : (text : List ℕ) (at : ℕ) → ExprTree
+  Not : (e : ExprTree) (at : ℕ) → ExprTree
+  Cast : (e : ExprTree) (kind : Kind) (at : ℕ) → ExprTree
+  Binary : (o : Op) (l r : ExprTree) (at : ℕ) → ExprTree
+
+pub data AggTree : Type 0 where
+  Count : (at : ℕ) → AggTree
+  Sum : (e : ExprTree) → AggTree
+  Min : (e : ExprTree) → AggTree
+  Max : (e : ExprTree) → AggTree
+  Avg : (e : ExprTree) → AggTree
+  Wsum : (e : ExprTree) (weights : List Num) → AggTree
+
+pub record ItemTree : Type 0 where
+  pub expr : ExprTree
+  pub name : Name
+
+pub record AggItemTree : Type 0 where
+  pub agg : AggTree
+  pub name : Name
+
+pub data PickTree : Type 0 where
+  All : PickTree
+  Items : (items : List ItemTree) → PickTree
+
+pub data QueryTree : Type 0 where
+  Read : (name : Name) → QueryTree
+  Rows : (pick : PickTree) (filter : Option ExprTree) (source : QueryTree) → QueryTree
+  Total : (aggs : List AggItemTree) (source : QueryTree) → QueryTree
+  Each : (var : Name) (source : QueryTree) (size advance : Num) (body : QueryTree) (at : ℕ) → QueryTree
+  PerGroup : (var : Name) (source : QueryTree) (key : Name) (groups : Num) (body : QueryTree) (at : ℕ) → QueryTree
+  Union : (l r : QueryTree) (at : ℕ) → QueryTree
+  Concat : (l r : QueryTree) (at : ℕ) → QueryTree
+
+pub record StatementTree : Type 0 where
+  pub query : QueryTree
+  pub name : Name
+
+abbrev pub expr_tree : Expr → ExprTree
+expr_tree (expr.Column name) = Column name
+expr_tree (expr.Number n) = Number n
+expr_tree (expr.Letters text at) = Letters text at
+expr_tree (expr.Not' p e at) = Not (expr_tree e) at
+expr_tree (expr.Cast' p e kind at) = Cast (expr_tree e) kind at
+expr_tree (expr.Binary' o p l q r at) = Binary o (expr_tree l) (expr_tree r) at
+
+abbrev pub agg_tree : Agg → AggTree
+agg_tree (agg.Count at) = Count at
+agg_tree (agg.Sum e) = Sum (expr_tree e)
+agg_tree (agg.Min e) = Min (expr_tree e)
+agg_tree (agg.Max e) = Max (expr_tree e)
+agg_tree (agg.Avg e) = Avg (expr_tree e)
+agg_tree (agg.Wsum e weights) = Wsum (expr_tree e) weights
+
+abbrev pub item_tree : Item → ItemTree
+item_tree i = record { expr = expr_tree i.expr; name = i.name }
+
+abbrev pub agg_item_tree : AggItem → AggItemTree
+agg_item_tree i = record { agg = agg_tree i.agg; name = i.name }
+
+abbrev pub pick_tree : Pick → PickTree
+pick_tree pick.All = All
+pick_tree (pick.Items items) = Items (map item_tree items)
+
+abbrev pub filter_tree : Option Expr → Option ExprTree
+filter_tree o = option_map expr_tree o
+
+abbrev pub query_tree : Query → QueryTree
+query_tree (query.Read name) = Read name
+query_tree (query.Rows' pick filter p source) = Rows (pick_tree pick) (filter_tree filter) (query_tree source)
+query_tree (query.Total' aggs p source) = Total (map agg_item_tree aggs) (query_tree source)
+query_tree (query.Each' var p source size advance q body at) = Each var (query_tree source) size advance (query_tree body) at
+query_tree (query.PerGroup' var p source key groups q body at) = PerGroup var (query_tree source) key groups (query_tree body) at
+query_tree (query.Union' p l q r at) = Union (query_tree l) (query_tree r) at
+query_tree (query.Concat' p l q r at) = Concat (query_tree l) (query_tree r) at
+
+abbrev pub statement_tree : Statement → StatementTree
+statement_tree s = record { query = query_tree s.query; name = s.name }

@@ -1,0 +1,203 @@
+//! What a query may read, and the columns of queries.
+
+ghost use Rattle.std.specs.Prelude.{◌≡◌, ◌∷◌, ◌++◌, IfOk, map};
+ghost use Rattle.gl_query.specs.Shapes.{agg_item_shape, agg_shape, item_shape, pick_shape, query_shape};
+ghost use Rattle.gl_query.specs.Values.{column_kind};
+ghost use Rattle.gl_query.specs.Columns.{agg_column, agg_kind, columns_of, item_column, picked_columns, source_columns, variable};
+ghost use Rattle.gl_query.specs.Sources.{scope_of};
+
+use crate::kinds::{column_kind, kind_alone, kind_of};
+use crate::tree::{Agg, AggItem, Item, Pick, Query};
+use gl_bits::{Kind, Listed, Memory};
+use gl_schema::{Column, Columns, NameText, Stream};
+use std::alloc::Global;
+
+/// What a query may read: the streams of a schema, or the variable of the body around.
+#[derive(Clone, Copy)]
+pub enum Sources<'a> {
+    Schema(&'a [Stream]),
+    Variable(&'a [u8], &'a [Column]),
+}
+
+/// A name like another.
+pub fn copy_of_name(alloc: Global, name: &[u8]) -> Result<NameText, Memory>
+    ensures { IfOk result (λ v. v ≡ name.now) }
+{
+    Ok(Listed::from_vec(Vec::from_slice(alloc, name)?))
+}
+
+/// Columns like others.
+fn copy_of_columns(alloc: Global, columns: &[Column]) -> Result<Columns, Memory>
+    ensures { IfOk result (λ v. v ≡ columns.now) }
+{
+    let mut out = Listed::new(alloc);
+    for column in columns {
+        let name = copy_of_name(alloc, column.name.as_slice())?;
+        out.push(Column {
+            name,
+            kind: column.kind,
+        })?;
+    }
+    Ok(out)
+}
+
+/// The columns of the first stream with a name; none where there is no such stream.
+fn columns_named(alloc: Global, streams: &[Stream], name: &[u8]) -> Result<Columns, Memory>
+    ensures { IfOk result (λ v. v ≡ source_columns streams.now name.now) }
+{
+    let Some((first, others)) = streams.split_first() else {
+        return Ok(Listed::new(alloc));
+    };
+    if name == first.name.as_slice() {
+        return copy_of_columns(alloc, first.columns.as_slice());
+    }
+    columns_named(alloc, others, name)
+}
+
+/// The columns of a variable, by its name; none under another name.
+fn columns_within(
+    alloc: Global,
+    var: &[u8],
+    columns: &[Column],
+    name: &[u8],
+) -> Result<Columns, Memory>
+    ensures { IfOk result (λ v. v ≡ source_columns (variable var.now columns.now) name.now) }
+{
+    if name == var {
+        copy_of_columns(alloc, columns)
+    } else {
+        Ok(Listed::new(alloc))
+    }
+}
+
+/// The columns of a source, by its name; none where there is no such source.
+pub fn source_columns(alloc: Global, sources: Sources<'_>, name: &[u8]) -> Result<Columns, Memory>
+    ensures { IfOk result (λ v. v ≡ source_columns (scope_of sources.entry).sources name.now) }
+{
+    match sources {
+        Sources::Schema(streams) => columns_named(alloc, streams, name),
+        Sources::Variable(var, columns) => columns_within(alloc, var, columns, name),
+    }
+}
+
+/// The columns of items.
+fn item_columns(alloc: Global, columns: &[Column], items: &[Item]) -> Result<Columns, Memory>
+    ensures { IfOk result (λ v. v ≡ map (item_column columns.now) (map item_shape items.now)) }
+{
+    let mut out = Listed::new(alloc);
+    for item in items {
+        let name = copy_of_name(alloc, item.name.text.as_slice())?;
+        let kind = kind_of(columns, kind_alone(&item.expr), &item.expr);
+        out.push(Column { name, kind })?;
+    }
+    Ok(out)
+}
+
+/// The columns of what a select picks of its source's columns.
+pub fn picked_columns(alloc: Global, columns: Columns, pick: &Pick) -> Result<Columns, Memory>
+    ensures { IfOk result (λ v. v ≡ picked_columns columns (pick_shape pick.now)) }
+{
+    match pick {
+        Pick::All => Ok(columns),
+        Pick::Items(items) => item_columns(alloc, columns.as_slice(), items.as_slice()),
+    }
+}
+
+/// The kind of an aggregate.
+pub fn agg_kind(columns: &[Column], agg: &Agg) -> Kind
+    ensures { result ≡ agg_kind columns.now (agg_shape agg.now) }
+{
+    match agg {
+        Agg::Count { .. } => Kind::Unsigned(32),
+        Agg::Sum(expr) | Agg::Min(expr) | Agg::Max(expr) | Agg::Avg(expr) => {
+            kind_of(columns, kind_alone(expr), expr)
+        }
+        Agg::Wsum { arg, .. } => kind_of(columns, kind_alone(arg), arg),
+    }
+}
+
+/// The columns of aggregates.
+pub fn agg_columns(alloc: Global, columns: &[Column], aggs: &[AggItem]) -> Result<Columns, Memory>
+    ensures { IfOk result (λ v. v ≡ map (agg_column columns.now) (map agg_item_shape aggs.now)) }
+{
+    let mut out = Listed::new(alloc);
+    for item in aggs {
+        let name = copy_of_name(alloc, item.name.text.as_slice())?;
+        let kind = agg_kind(columns, &item.agg);
+        out.push(Column { name, kind })?;
+    }
+    Ok(out)
+}
+
+/// The columns of one list, then those of another.
+pub fn joined_columns(first: Columns, second: Columns) -> Result<Columns, Memory>
+    ensures { IfOk result (λ v. v ≡ first ++ second) }
+{
+    let mut out = first.into_vec();
+    let mut more = second.into_vec();
+    match out.append(&mut more) {
+        Ok(()) => Ok(Listed::from_vec(out)),
+        Err(_) => Err(Memory),
+    }
+}
+
+/// The key's column, then the columns of the body of each group.
+pub fn group_columns(
+    alloc: Global,
+    columns: &[Column],
+    key: &[u8],
+    body: Columns,
+) -> Result<Columns, Memory>
+    ensures { IfOk result (λ v. v ≡ record { name = key.now; kind = column_kind columns.now key.now } ∷ body) }
+{
+    let mut first = Listed::new(alloc);
+    first.push(Column {
+        name: copy_of_name(alloc, key)?,
+        kind: column_kind(columns, key),
+    })?;
+    joined_columns(first, body)
+}
+
+/// The columns of a query over the sources that it may read.
+pub fn columns_of(alloc: Global, sources: Sources<'_>, query: &Query) -> Result<Columns, Memory>
+    ensures { IfOk result (λ v. v ≡ columns_of (scope_of sources.entry).sources (query_shape query.now)) }
+{
+    match query {
+        Query::Read(name) => source_columns(alloc, sources, name.text.as_slice()),
+        Query::Rows { pick, source, .. } => {
+            let columns = columns_of(alloc, sources, source)?;
+            picked_columns(alloc, columns, pick)
+        }
+        Query::Total { aggs, source } => {
+            let columns = columns_of(alloc, sources, source)?;
+            agg_columns(alloc, columns.as_slice(), aggs.as_slice())
+        }
+        Query::Each {
+            var,
+            source,
+            body,
+            ..
+        } => {
+            let columns = columns_of(alloc, sources, source)?;
+            let inside = Sources::Variable(var.text.as_slice(), columns.as_slice());
+            columns_of(alloc, inside, body)
+        }
+        Query::PerGroup {
+            var,
+            source,
+            key,
+            body,
+            ..
+        } => {
+            let columns = columns_of(alloc, sources, source)?;
+            let inside = Sources::Variable(var.text.as_slice(), columns.as_slice());
+            let later = columns_of(alloc, inside, body)?;
+            group_columns(alloc, columns.as_slice(), key.text.as_slice(), later)
+        }
+        Query::Union { left, .. } => columns_of(alloc, sources, left),
+        Query::Concat { left, right, .. } => {
+            let first = columns_of(alloc, sources, left)?;
+            joined_columns(first, columns_of(alloc, sources, right)?)
+        }
+    }
+}

@@ -1,0 +1,34 @@
+//! Laws of event orders: each function's contract is the law.
+
+ghost use Rattle.gl_verilog.specs.Module.{Module as Design};
+ghost use Rattle.gl_verilog.specs.Valid.{IsValid};
+ghost use Rattle.gl_verilog.specs.Runnable.{IsRunnable};
+ghost use Rattle.gl_verilog_orders.specs.Laws.{ComesToRest, CyclesAreTwoPhase, Ends, EventRunsAreRuns, HasEventRuns, HasEventRunsOf, RunsAreSeen, SettlesSomeWay};
+
+/// Every list of steps can be continued to rest, and none goes on for ever.
+pub fn comes_to_rest()
+    ensures continued { (m : Design) → IsValid m → ComesToRest m }
+    ensures ends { (m : Design) → IsValid m → Ends m }
+{}
+
+/// Every schedule of a cycle that rests is the two-phase cycle.
+pub fn cycles_are_two_phase()
+    ensures { (m : Design) → IsValid m → CyclesAreTwoPhase m }
+{}
+
+/// Every run in any order of events is a two-phase run.
+pub fn event_runs_are_runs()
+    ensures runs { (m : Design) → IsValid m → EventRunsAreRuns m }
+    ensures seen { (m : Design) → IsValid m → RunsAreSeen m }
+{}
+
+/// There is a run in some order of events from any start and any inputs.
+pub fn has_event_runs()
+    ensures any { (m : Design) → IsValid m → HasEventRunsOf m }
+    ensures same { (m : Design) → IsValid m → HasEventRuns m }
+{}
+
+/// Each cycle settles, whatever its inputs, registers and words.
+pub fn settles_some_way()
+    ensures { (m : Design) → IsRunnable m → SettlesSomeWay m }
+{}
