@@ -72,12 +72,16 @@ pub record Took (old new : SinkState) (bytes : List ℕ) : Type 0 where
   pub all : Appends old.taken new.taken bytes
   pub calm : new.faults ≡ old.faults
 
--- the sink failed behind a front of these bytes
-pub record Broke (old new : SinkState) (bytes : List ℕ) : Type 0 where
+-- a front of these bytes was taken
+pub record AppendsFront (old new : Option (List ℕ)) (bytes : List ℕ) : Type 0 where
   pub front : List ℕ
   pub back : List ℕ
   pub parts : bytes ≡ front ++ back
-  pub taken : Appends old.taken new.taken front
+  pub taken : Appends old new front
+
+-- the sink failed behind a front of these bytes
+pub record Broke (old new : SinkState) (bytes : List ℕ) : Type 0 where
+  pub front : AppendsFront old.taken new.taken bytes
   pub cause : Rose old.faults new.faults
 
 -- some bytes of a piece of this length were taken, at least one
@@ -94,3 +98,8 @@ DoesPut old new piece put.Failed = Appends old.taken new.taken [] × Rose old.fa
 abbrev pub Wrote : {E : Type 0} → SinkState → SinkState → List ℕ → Result (Unit {0}) E → Type 0
 Wrote old new bytes (Ok u) = Took old new bytes
 Wrote old new bytes (Err e) = Broke old new bytes
+
+-- what writing leaves of the count: it is as before, or it rose where the sink failed
+abbrev pub Counts : {E : Type 0} → SinkState → SinkState → Result (Unit {0}) E → Type 0
+Counts old new (Ok u) = new.faults ≡ old.faults
+Counts old new (Err e) = Rose old.faults new.faults
