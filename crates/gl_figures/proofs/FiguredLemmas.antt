@@ -31,13 +31,6 @@ pub record IsFigured (nodes : List PlanNode) (old new : List Figures) (number : 
   pub small : AreSmallBefore nodes number
   pub behind : (k : ℕ) → number ≤ k → slice_get new k ≡ slice_get old k
 
-pub figured_none : (nodes : List PlanNode) (old : List Figures) → IsFigured nodes old old 0
-figured_none nodes old = record {
-  known = record { room = omega arith; each = λ k below. absurd (omega arith) };
-  small = λ k below. absurd (omega arith);
-  behind = λ k past. refl;
-}
-
 module _ (nodes : List PlanNode) (number : ℕ) (node : PlanNode) (plan : IsPlan nodes) (is : slice_get nodes number ≡ Some node) where
   pub names_before : AllByRecursion (λ child. child < number) (named_by node)
   names_before = recursion_from_All (λ child. child < number) (named_by node) (plan.fits number node is).before
@@ -77,7 +70,3 @@ module _ (nodes : List PlanNode) (number : ℕ) (node : PlanNode) (plan : IsPlan
     before = before.known.each;
     behind = before.behind;
   }
-
-pub figured_all : (nodes : List PlanNode) (old new : List Figures) → length new ≡ length nodes → IsFigured nodes old new (length nodes)
-    → AreFigures nodes new
-figured_all nodes old new long all = record { as_many = long; each = all.known.each }

@@ -2,3 +2,4 @@ pub mod PlaceLemmas
 pub mod FiguredLemmas
 pub mod CapLemmas
 pub mod WeighedLemmas
+pub mod TradeLemmas

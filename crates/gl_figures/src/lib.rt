@@ -34,5 +34,5 @@ pub enum Limit {
     Nodes { weight: u64 },
 }
 
-//#[cfg(test)]
-//mod tests;
+#[cfg(test)]
+mod tests;
