@@ -3,6 +3,7 @@
 #![tactic(auto)]
 
 mod counting;
+mod homes;
 mod order;
 mod runnable;
 mod valid;
