@@ -5,6 +5,7 @@ pub mod Values
 pub mod Columns
 pub mod Accepted
 pub mod Sources
+pub mod Parts
 pub mod Sizes
 pub mod Names
 pub mod Results

@@ -2,7 +2,7 @@
 
 ghost use Rattle.std.specs.Prelude.{◌≡◌, ◌++◌, ◌∷◌, [], IfOk, OnOk, map, option_map};
 ghost use Rattle.gl_query_reader.specs.Meaning as meaning;
-ghost use Rattle.gl_query_reader.specs.Meaning.{expr_tree, agg_tree, item_tree, agg_item_tree, pick_tree, filter_tree, query_tree, statement_tree};
+ghost use Rattle.gl_query.specs.Trees.{expr_tree, agg_tree, item_tree, agg_item_tree, pick_tree, filter_tree, query_tree, statement_tree};
 ghost use Rattle.gl_query_reader.specs.Trees.{expr_of, agg_of, item_of, items_of, pick_of, filter_of, query_of, statement_of};
 
 use crate::mixed::is_total;

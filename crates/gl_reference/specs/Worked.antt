@@ -3,7 +3,7 @@ use Rattle.std.specs.Prelude.{List, [], ◌∷◌, Some, None, codes}
 use Rattle.gl_bits.specs.declared.kind.Kind.TheVariants.{Unsigned, Text}
 use Rattle.gl_schema.specs.declared.schema.Column.{Column}
 use Rattle.gl_schema.specs.declared.schema.Stream.{Stream}
-use Rattle.gl_query.specs.declared.tree.Op.TheVariants as op
+use Rattle.gl_bits.specs.declared.op.Op.TheVariants as op
 use Rattle.gl_query.specs.Shapes.{ExprShape, AggShape, QueryShape, Binary, Letters, Number, Count, All, Items, Read, Rows, Total, Each, Union, Concat}
 use Rattle.gl_query.specs.Shapes as shape
 use Rattle.gl_query.specs.Accepted.{IsAcceptedOver}

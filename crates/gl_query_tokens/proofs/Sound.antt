@@ -1,10 +1,12 @@
 -- What the tokens of a text have: names are names, numbers are small, literals are short.
 use Rattle.std.proofs.Common.{◌≡◌, ℕ, ◌+◌, ◌-◌, ◌*◌, ◌^◌, Bool, true, false, ◌&&◌, List, [], ◌∷◌, ◌++◌, length, map, Option, Some, None, refl, sym, ap, subst, ◌∙◌}
-use Rattle.std.specs.Prelude.{codes, nat_le, nat_lt, ◌==◌, unwrap_or, if◌then◌else◌}
+use Rattle.std.specs.Prelude.{codes, not, nat_le, nat_lt, ◌==◌, unwrap_or, if◌then◌else◌}
 use Rattle.std.specs.List.{AllByRecursion}
-use Rattle.std.proofs.lemmas.Bool.{and_parts, true≢false}
+use Rattle.std.proofs.lemmas.Bool.{true≢false}
+use Rattle.gl_bits.proofs.AllLists.{all_append}
+use Rattle.gl_bits.proofs.Bools.{and_both, and_parts}
 use Rattle.gl_schema.specs.Names.{is_name, is_digit}
-use Rattle.gl_query.specs.declared.tree.Op.TheVariants as op
+use Rattle.gl_bits.specs.declared.op.Op.TheVariants as op
 use Rattle.std.specs.List as lists
 use Rattle.gl_query_tokens.specs.declared.token.Fold.TheVariants as fold
 use Rattle.gl_query_tokens.specs.declared.token.Join.TheVariants as join
@@ -18,12 +20,40 @@ use Rattle.gl_query_tokens.specs.declared.lexing.Follow.{Follow}
 use Rattle.gl_query_tokens.specs.declared.lexing.Follow.TheVariants.{Pair, Comment, Fresh}
 use Rattle.gl_query_tokens.specs.Tokens.{Mode, Between, InWord, InText, AfterHalf, InComment, Move, to, begin, in_word, in_text, after_half, move, last_of, scan, tokens_of, class_of, follow_of, sign_token, text_token, lexeme}
 use Rattle.gl_query_tokens.specs.Words.{is_keyword, clause_of, window_of, operator_of, keyword_of, or_else, with_digit, number_of, number_token, word_token}
-use Rattle.gl_query_reader.specs.Grammar.{bare_tokens}
-use Rattle.gl_query_printer.proofs.Lexed.{is_word, are_letters, is_letter, is_inside, are_inside, IsLetters}
+
+abbrev pub is_letter : Class → Bool
+is_letter Letter = true
+is_letter Blank = false
+is_letter Quote = false
+is_letter Half = false
+is_letter Alone = false
+
+abbrev pub are_letters : List ℕ → Bool
+are_letters [] = true
+are_letters (b ∷ bs) = is_letter (class_of b) && are_letters bs
+
+-- at least one letter, digit or underscore, and nothing else
+abbrev pub is_word : List ℕ → Bool
+is_word [] = false
+is_word (b ∷ bs) = is_letter (class_of b) && are_letters bs
+
+-- a byte that may stand between quotes
+abbrev pub is_inside : ℕ → Bool
+is_inside b = not (b == 39) && (nat_le 32 b && nat_le b 126)
+
+abbrev pub are_inside : List ℕ → Bool
+are_inside [] = true
+are_inside (b ∷ bs) = is_inside b && are_inside bs
+
+-- at most eight of them
+pub record IsLetters (text : List ℕ) : Type 0 where
+  pub inside : are_inside text ≡ true
+  pub short : nat_le (length text) 8 ≡ true
 
 -- the word is a name, wherever it stands
 pub record IsNameWord (w : List ℕ) : Type 0 where
   pub word : is_word w ≡ true
+  pub name : is_name w ≡ true
   pub token : (at : ℕ) → word_token w at ≡ token.Name (record { text = w; at = at })
 
 abbrev pub IsSmall : ℕ → Type 0
@@ -34,14 +64,6 @@ IsSound (token.Name name) = IsNameWord name.text
 IsSound (token.Number n) = IsSmall n.value
 IsSound (token.Letters text at) = IsLetters text
 IsSound t = Unit {0}
-
-pub all-append : {A : Type 0} (P : A → Type 0) (xs ys : List A) → AllByRecursion P xs → AllByRecursion P ys → AllByRecursion P (xs ++ ys)
-all-append P [] ys p q = q
-all-append P (x ∷ xs) ys p q = (p.0, all-append P xs ys p.1 q)
-
-pub all-parts : {A : Type 0} (P : A → Type 0) (xs ys : List A) → AllByRecursion P (xs ++ ys) → AllByRecursion P xs × AllByRecursion P ys
-all-parts P [] ys p = (tt, p)
-all-parts P (x ∷ xs) ys p = let r = all-parts P xs ys p.1 in ((p.0, r.0), r.1)
 
 -- ---- keywords do not depend on their places
 
@@ -125,7 +147,7 @@ abbrev named : List ℕ → ℕ → Bool → Token
 named w at b = if b then token.Name (record { text = w; at = at }) else number_token (number_of w) at
 
 named_sound : (w : List ℕ) (at : ℕ) (b : Bool) → is_word w ≡ true → ((c : ℕ) → keyword_of w c ≡ None) → is_name w ≡ b → IsSound (named w at b)
-named_sound w at true h k n = record { word = h; token = λ c. name_token w c (k c) n }
+named_sound w at true h k n = record { word = h; name = n; token = λ c. name_token w c (k c) n }
 named_sound w at false h k n = number_sound w at
 
 word_by : (w : List ℕ) (at : ℕ) (o : Option Token) → is_word w ≡ true → keyword_of w at ≡ o → IsSound (unwrap_or o (named w at (is_name w)))
@@ -169,7 +191,7 @@ IsSoundMode (InText from w) = are_inside w ≡ true
 IsSoundMode (AfterHalf from b) = Unit {0}
 IsSoundMode InComment = Unit {0}
 
-abbrev AreSound : List Lexeme → Type 0
+abbrev pub AreSound : List Lexeme → Type 0
 AreSound ls = AllByRecursion (λ (l : Lexeme). IsSound l.token) ls
 
 record IsSoundMove (m : Move) : Type 0 where
@@ -183,22 +205,17 @@ begin_sound Quote at b e = record { mode = refl; tokens = tt }
 begin_sound Half at b e = record { mode = tt; tokens = tt }
 begin_sound Alone at b e = record { mode = tt; tokens = ((sign_sound b at).is, tt) }
 
-and_true : (a b : Bool) → a ≡ true → b ≡ true → (a && b) ≡ true
-and_true true true p q = refl
-and_true true false p q = q
-and_true false b p q = absurd (true≢false (sym p))
-
 letters-push : (w : List ℕ) (b : ℕ) → are_letters w ≡ true → class_of b ≡ Letter → are_letters (w ++ b ∷ []) ≡ true
 letters-push [] b h e = rw e refl
-letters-push (c ∷ w) b h e = let p = and_parts (is_letter (class_of c)) (are_letters w) h in and_true (is_letter (class_of c)) (are_letters (w ++ b ∷ [])) p.0 (letters-push w b p.1 e)
+letters-push (c ∷ w) b h e = let p = and_parts (is_letter (class_of c)) (are_letters w) h in and_both (is_letter (class_of c)) (are_letters (w ++ b ∷ [])) p.0 (letters-push w b p.1 e)
 
 word-push : (w : List ℕ) (b : ℕ) → is_word w ≡ true → class_of b ≡ Letter → is_word (w ++ b ∷ []) ≡ true
 word-push [] b h e = absurd (true≢false (sym h))
 word-push (c ∷ w) b h e = letters-push (c ∷ w) b h e
 
 inside-push : (w : List ℕ) (b : ℕ) → are_inside w ≡ true → is_inside b ≡ true → are_inside (w ++ b ∷ []) ≡ true
-inside-push [] b h e = and_true (is_inside b) true e refl
-inside-push (c ∷ w) b h e = let p = and_parts (is_inside c) (are_inside w) h in and_true (is_inside c) (are_inside (w ++ b ∷ [])) p.0 (inside-push w b p.1 e)
+inside-push [] b h e = and_both (is_inside b) true e refl
+inside-push (c ∷ w) b h e = let p = and_parts (is_inside c) (are_inside w) h in and_both (is_inside c) (are_inside (w ++ b ∷ [])) p.0 (inside-push w b p.1 e)
 
 in_word_sound : (c : Class) (from : ℕ) (w : List ℕ) (at b : ℕ) → is_word w ≡ true → class_of b ≡ c → IsSoundMove (in_word c from w at b)
 in_word_sound Letter from w at b h e = record { mode = word-push w b h e; tokens = tt }
@@ -237,7 +254,7 @@ scan_sound m at [] h = record { mode = h; tokens = tt }
 scan_sound m at (b ∷ bs) h =
     let s = move_sound m at b h in
     let r = scan_sound (move m at b).mode (at + 1) bs s.mode in
-    record { mode = r.mode; tokens = all-append (λ (l : Lexeme). IsSound l.token) (move m at b).tokens (scan (move m at b).mode (at + 1) bs).tokens s.tokens r.tokens }
+    record { mode = r.mode; tokens = all_append (λ (l : Lexeme). IsSound l.token) (move m at b).tokens (scan (move m at b).mode (at + 1) bs).tokens s.tokens r.tokens }
 
 last_sound : (m : Mode) → IsSoundMode m → AreSound (last_of m)
 last_sound Between h = tt
@@ -246,13 +263,8 @@ last_sound (InText from w) h = (tt, tt)
 last_sound (AfterHalf from a) h = ((sign_sound a from).is, tt)
 last_sound InComment h = tt
 
-bare_sound : (ls : List Lexeme) → AreSound ls → AllByRecursion IsSound (bare_tokens ls)
-bare_sound [] h = tt
-bare_sound (l ∷ ls) h = (h.0, bare_sound ls h.1)
-
-pub text_sound : (text : List ℕ) → AllByRecursion IsSound (bare_tokens (tokens_of text))
+pub text_sound : (text : List ℕ) → AreSound (tokens_of text)
 unfolding tokens_of
 text_sound text =
     let s = scan_sound Between 0 text tt in
-    bare_sound ((scan Between 0 text).tokens ++ last_of (scan Between 0 text).mode)
-    (all-append (λ (l : Lexeme). IsSound l.token) (scan Between 0 text).tokens (last_of (scan Between 0 text).mode) s.tokens (last_sound (scan Between 0 text).mode s.mode))
+    all_append (λ (l : Lexeme). IsSound l.token) (scan Between 0 text).tokens (last_of (scan Between 0 text).mode) s.tokens (last_sound (scan Between 0 text).mode s.mode)
