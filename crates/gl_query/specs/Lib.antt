@@ -9,4 +9,5 @@ pub mod Parts
 pub mod Sizes
 pub mod Names
 pub mod Results
+pub mod Faults
 pub mod Laws

@@ -1,6 +1,6 @@
 -- How large the expressions of a query are.
-use Rattle.std.specs.Prelude.{ℕ, ◌+◌, ◌≤◌}
-use Rattle.gl_query.specs.Shapes.{ExprShape, QueryShape}
+use Rattle.std.specs.Prelude.{ℕ, ◌+◌, ◌≤◌, length}
+use Rattle.gl_query.specs.Shapes.{ExprShape, PickShape, QueryShape}
 use Rattle.gl_query.specs.Shapes as shape
 use Rattle.gl_query.specs.Parts.{InQuery}
 
@@ -20,3 +20,17 @@ IsSmall e = operators_in e ≤ 256
 -- each whole expression of a query is small
 abbrev pub QueryIsSmall : QueryShape → Type 0
 QueryIsSmall q = InQuery IsSmall (λ name. Unit {0}) q
+
+-- a select has at least one item
+abbrev pub PickHasItems : PickShape → Type 0
+PickHasItems shape.All = Unit {0}
+PickHasItems (shape.Items items) = 1 ≤ length items
+
+abbrev pub HasItems : QueryShape → Type 0
+HasItems (shape.Read name) = Unit {0}
+HasItems (shape.Rows pick filter source) = HasItems source × PickHasItems pick
+HasItems (shape.Total aggs source) = HasItems source × (1 ≤ length aggs)
+HasItems (shape.Each var source size advance body) = HasItems source × HasItems body
+HasItems (shape.PerGroup var source key groups body) = HasItems source × HasItems body
+HasItems (shape.Union l r) = HasItems l × HasItems r
+HasItems (shape.Concat l r) = HasItems l × HasItems r
