@@ -9,5 +9,6 @@ pub mod Parts
 pub mod Sizes
 pub mod Names
 pub mod Results
+pub mod Checked
 pub mod Faults
 pub mod Laws
