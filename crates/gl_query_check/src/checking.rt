@@ -38,11 +38,7 @@ fn copy_of_streams(alloc: Global, streams: &[Stream]) -> Result<Streams, Memory>
 
 /// The statement and the schema as they are given, exactly where the statement is accepted over the
 /// schema; and else the first rule that it breaks. Only want of memory may come in place of either.
-pub fn check(
-    alloc: Global,
-    schema: &Schema,
-    statement: Statement,
-) -> Result<Checked, QueryFault>
+pub fn check(alloc: Global, schema: &Schema, statement: Statement) -> Result<Checked, QueryFault>
     requires of_schema { IsSchema schema.now }
     requires small { QueryIsSmall (query_shape statement.query) }
     ensures schema { IfOk result (λ c. c.schema ≡ schema.now) }

@@ -10,8 +10,7 @@ use crate::rules::{
     can_cast, has_column, is_bit, is_unsigned, letters_fit, number_fits, or_else, same_kind, unless,
 };
 use gl_bits::{Kind, Op, Sort};
-use gl_query::kinds;
-use gl_query::{Expr, Num, QueryFault};
+use gl_query::{Expr, Num, QueryFault, kinds};
 use gl_schema::Column;
 
 /// The kind of an expression in a place.
@@ -49,7 +48,13 @@ fn operand_place(sort: Sort, whole: Kind, expr: &Expr, other: &Expr, other_kind:
 fn left_place(columns: &[Column], op: Op, place: Kind, left: &Expr, right: &Expr) -> Kind
     ensures { result ≡ values.left_place columns.now op place (expr_alike (expr_tree left.now)) (expr_alike (expr_tree right.now)) }
 {
-    operand_place(op.sort(), place, left, right, kind_in(columns, place, right))
+    operand_place(
+        op.sort(),
+        place,
+        left,
+        right,
+        kind_in(columns, place, right),
+    )
 }
 
 // The kind that the right operand's place gives.
@@ -92,7 +97,10 @@ fn operator_fault(sort: Sort, left: Kind, right: Kind, at: u64) -> Option<QueryF
             QueryFault::KindsDiffer { at },
         ),
         Sort::Comparison => unless(same_kind(left, right), QueryFault::KindsDiffer { at }),
-        Sort::Logic => unless(is_bit(left) && is_bit(right), QueryFault::NotCondition { at }),
+        Sort::Logic => unless(
+            is_bit(left) && is_bit(right),
+            QueryFault::NotCondition { at },
+        ),
     }
 }
 
@@ -126,7 +134,10 @@ pub fn expr_fault(columns: &[Column], place: Kind, expr: &Expr) -> Option<QueryF
         Expr::Not { arg, at } => {
             let inside = expr_fault(columns, Kind::Unsigned(1), arg);
             let kind = kind_in(columns, Kind::Unsigned(1), arg);
-            or_else(inside, unless(is_bit(kind), QueryFault::NotCondition { at: *at }))
+            or_else(
+                inside,
+                unless(is_bit(kind), QueryFault::NotCondition { at: *at }),
+            )
         }
         Expr::Cast { arg, kind, at } => {
             let alone = kind_alone(arg);

@@ -40,7 +40,7 @@ fn items_fault(columns: &[Column], items: &[Item], number: usize) -> Option<Quer
     ensures { result ≡ faults.items_fault columns.now (map item_tree (take number items.now)) (map item_tree (drop number items.now)) }
 {
     let (earlier, rest) = items.split_at(number);
-    let Some(item) = rest.first() else {
+    let Some((item, _)) = rest.split_first() else {
         return None;
     };
     let at = item.name.at;
@@ -50,7 +50,10 @@ fn items_fault(columns: &[Column], items: &[Item], number: usize) -> Option<Quer
     let own = whole_fault(columns, &item.expr);
     let fresh = !is_item(earlier, item.name.text.as_slice());
     let later = items_fault(columns, items, number + 1);
-    or_else(own, or_else(unless(fresh, QueryFault::TwiceNamed { at }), later))
+    or_else(
+        own,
+        or_else(unless(fresh, QueryFault::TwiceNamed { at }), later),
+    )
 }
 
 /// The first fault of what a select picks.
@@ -116,15 +119,18 @@ pub fn aggs_fault(columns: &[Column], aggs: &[AggItem], number: usize) -> Option
     ensures { result ≡ faults.aggs_fault columns.now (map agg_item_tree (take number aggs.now)) (map agg_item_tree (drop number aggs.now)) }
 {
     let (earlier, rest) = aggs.split_at(number);
-    let Some(item) = rest.first() else {
+    let Some((item, _)) = rest.split_first() else {
         return None;
     };
-    let at = item.name.at;
+    let place = item.name.at;
     if number >= MOST_COLUMNS {
-        return Some(QueryFault::OutOfRange { at });
+        return Some(QueryFault::OutOfRange { at: place });
     }
     let own = agg_fault(columns, &item.agg, &item.name);
     let fresh = !is_agg(earlier, item.name.text.as_slice());
     let later = aggs_fault(columns, aggs, number + 1);
-    or_else(own, or_else(unless(fresh, QueryFault::TwiceNamed { at }), later))
+    or_else(
+        own,
+        or_else(unless(fresh, QueryFault::TwiceNamed { at: place }), later),
+    )
 }

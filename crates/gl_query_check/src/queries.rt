@@ -1,6 +1,6 @@
 //! Faults of queries, and the columns of those that have none.
 
-ghost use Rattle.std.specs.Prelude.{◌≡◌, ◌*◌, [], map, nat_le, option_map};
+ghost use Rattle.std.specs.Prelude.{◌≡◌, ◌*◌, [], map, nat_le, option_map, IfOk};
 ghost use Rattle.gl_query.specs.Accepted.{columns_under};
 ghost use Rattle.gl_query.specs.Alike.{agg_item_alike, pick_alike, query_alike};
 ghost use Rattle.gl_query.specs.Columns as columns;
@@ -16,10 +16,11 @@ use crate::items::{aggs_fault, pick_fault};
 use crate::rules::{
     are_distinct, has_column, has_source, is_among, is_within, or_else, refuse, same_kinds, unless,
 };
+use gl_bits::Memory;
 use gl_query::columns::{
     agg_columns, group_columns, joined_columns, picked_columns, source_columns,
 };
-use gl_query::{AggItems, Expr, Name, Num, Pick, Query, QueryFault, Sources};
+use gl_query::{AggItem, AggItems, Expr, Name, Num, Pick, Query, QueryFault, Sources};
 use gl_schema::{Column, Columns};
 use std::alloc::Global;
 
@@ -130,6 +131,22 @@ fn key_fault(key: &Name, columns: &[Column]) -> Option<QueryFault>
     )
 }
 
+// The columns of what a select picks.
+#[tactic(auto, using(gl_query::proofs::Alike::pick_same))]
+fn picked(alloc: Global, columns: Columns, pick: &Pick) -> Result<Columns, Memory>
+    ensures { IfOk result (λ v. v ≡ picked_columns columns (pick_alike (pick_tree pick.now))) }
+{
+    picked_columns(alloc, columns, pick)
+}
+
+// The columns of aggregates.
+#[tactic(auto, using(gl_query::proofs::Alike::aggs_same))]
+fn totalled(alloc: Global, columns: &[Column], aggs: &[AggItem]) -> Result<Columns, Memory>
+    ensures { IfOk result (λ v. v ≡ map (agg_column columns.now) (map agg_item_alike (map agg_item_tree aggs.now))) }
+{
+    agg_columns(alloc, columns, aggs)
+}
+
 // A select of items over columns.
 #[tactic(auto, using(crate::proofs::Passing::passing))]
 fn rows_checked(
@@ -142,20 +159,16 @@ fn rows_checked(
 {
     refuse(pick_fault(columns.as_slice(), pick))?;
     refuse(filter_fault(columns.as_slice(), filter))?;
-    Ok(picked_columns(alloc, columns, pick)?)
+    Ok(picked(alloc, columns, pick)?)
 }
 
 // A select of aggregates over columns.
 #[tactic(auto, using(crate::proofs::Passing::passing))]
-fn total_checked(
-    alloc: Global,
-    columns: Columns,
-    aggs: &AggItems,
-) -> Result<Columns, QueryFault>
+fn total_checked(alloc: Global, columns: Columns, aggs: &AggItems) -> Result<Columns, QueryFault>
     ensures { Answers (faults.aggs_fault columns [] (map agg_item_tree aggs.now)) (map (agg_column columns) (map agg_item_alike (map agg_item_tree aggs.now))) result }
 {
     refuse(aggs_fault(columns.as_slice(), aggs.as_slice(), 0))?;
-    Ok(agg_columns(alloc, columns.as_slice(), aggs.as_slice())?)
+    Ok(totalled(alloc, columns.as_slice(), aggs.as_slice())?)
 }
 
 /// The columns of a query, where it is accepted over the sources that it may read, or its first
@@ -198,10 +211,7 @@ pub fn columns_checked(
             refuse(window_fault(*size, *advance))?;
             let inside = Sources::Variable(var.text.as_slice(), columns.as_slice());
             let out = columns_checked(alloc, inside, body)?;
-            refuse(unless(
-                is_closing(body),
-                QueryFault::NotClosing { at: *at },
-            ))?;
+            refuse(unless(is_closing(body), QueryFault::NotClosing { at: *at }))?;
             Ok(out)
         }
         Query::PerGroup {
@@ -218,18 +228,10 @@ pub fn columns_checked(
             let within = is_within(groups.value, 256);
             refuse(unless(within, QueryFault::OutOfRange { at: groups.at }))?;
             let inside = Sources::Variable(var.text.as_slice(), columns.as_slice());
-            let out = columns_checked(alloc, inside, body)?;
-            refuse(unless(
-                is_closing(body),
-                QueryFault::NotClosing { at: *at },
-            ))?;
-            refuse(key_fault(key, out.as_slice()))?;
-            Ok(group_columns(
-                alloc,
-                columns.as_slice(),
-                key.text.as_slice(),
-                out,
-            )?)
+            let later = columns_checked(alloc, inside, body)?;
+            refuse(unless(is_closing(body), QueryFault::NotClosing { at: *at }))?;
+            refuse(key_fault(key, later.as_slice()))?;
+            Ok(group_columns(alloc, columns.as_slice(), key.text.as_slice(), later)?)
         }
         Query::Union { left, right, at } => {
             let first = columns_checked(alloc, sources, left)?;
