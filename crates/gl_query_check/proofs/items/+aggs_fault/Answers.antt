@@ -1,4 +1,4 @@
-use Rattle.std.proofs.Common.{rules, arith, ◌≡◌, ◌+◌, ◌<◌, ◌∷◌, drop, sym, ◌∙◌}
+use Rattle.std.proofs.Common.{rules, ◌≡◌, ◌<◌, ◌∷◌, drop}
 use Rattle.gl_query.specs.Faults.{agg_fault}
 use Rattle.gl_query.specs.Trees.{AggItemTree, agg_item_tree}
 use Rattle.gl_query_check.proofs.Listing.{named_step}
