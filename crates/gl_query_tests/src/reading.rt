@@ -1,7 +1,7 @@
 //! Texts and their answers.
 
-use crate::read_query;
 use gl_query::{Query, QueryFault};
+use gl_query_reader::read_query;
 use std::alloc::{AllocError, Global};
 use std::test::Fail;
 
