@@ -10,7 +10,7 @@ use Rattle.gl_algebra.specs.Shapes.{Shape, shape_from, shape_of, is_closing}
 use Rattle.gl_algebra.specs.Fits.{Suits, Fits, IsPlan, copies_of_window}
 use Rattle.gl_algebra.specs.FigureTable.{IsSound, input_figures, settled, delayed, wait_of, delay_of_aggs, window_gap, group_gap, needs_spacer, spacer_figures, spaced, is_fixed, in_step, at_end, joined, figures_from, figures_of}
 use Rattle.gl_algebra.specs.Laws.{RowsKeepSound, FiguresAreSound, ClosingNodesWait}
-use Rattle.gl_algebra.proofs.ListLemmas.{both}
+use Rattle.gl_bits.proofs.Bools.{and_parts}
 use Rattle.gl_algebra.proofs.NodewiseLemmas.{Agree, AreInOrder, SameSteps, agree, agree_self, nodewise-kept, nodewise-node}
 use Rattle.gl_algebra.proofs.ShapeLemmas.{shape-kept, shape-node}
 use Rattle.gl_algebra.proofs.PlanLemmas.{in_order, by_nodes}
@@ -128,10 +128,10 @@ rows_wait s f (Select child column) wait closing = wait 0 0 (lit< tt) closing
 rows_wait s f (Project child items) wait closing = wait 0 0 (lit< tt) closing
 rows_wait s f (Aggregate child aggs) wait closing = refl
 rows_wait s f (Union left right) wait closing =
-    let sides = both (s left).closing (s right).closing closing in
+    let sides = and_parts (s left).closing (s right).closing closing in
     rw (wait 0 0 (lit< tt) sides.0, wait 1 0 (lit< tt) sides.1)
 rows_wait s f (Beside left right) wait closing =
-    let sides = both (s left).closing (s right).closing closing in
+    let sides = and_parts (s left).closing (s right).closing closing in
     joined-nt (delayed (wait_of (f left) (f right)) (f left)) (delayed (wait_of (f right) (f left)) (f right)) (wait 0 0 (lit< tt) sides.0)
 rows_wait s f (Window source body size advance) wait closing =
     rw (spaced-nt (window_gap (f body)) (f source), wait 0 0 (lit< tt) closing) (zero-mul (f body).ne)

@@ -8,5 +8,7 @@ pub mod FigureLemmas
 pub mod ResultLemmas
 pub mod UniqueLemmas
 pub mod TableLemmas
+pub mod PaceLemmas
+pub mod ReadLemmas
 pub mod CallerLemmas
 pub mod EveryNodeLemmas

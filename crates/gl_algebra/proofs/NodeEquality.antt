@@ -3,7 +3,8 @@ use Rattle.std.proofs.Common.{◌≡◌, ℕ, Bool, true, false, ◌&&◌, List,
 use Rattle.std.specs.Bool.{Decides}
 use Rattle.std.specs.Cmp.{IsEquivalence, unsigned_Decides}
 use Rattle.std.specs.Cmp.Lexicographic.{pointwise, pointwise_decides}
-use Rattle.gl_algebra.proofs.ListLemmas.{both}
+use Rattle.gl_bits.proofs.Bools.{and_parts}
+use Rattle.gl_algebra.specs.Added.{same_node}
 use Rattle.gl_bits.specs.Words.{Word}
 use Rattle.gl_bits.specs.declared.kind.Kind.{Kind}
 use Rattle.gl_bits.specs.declared.kind.Kind.TheVariants.{Unsigned, Text}
@@ -11,9 +12,9 @@ use Rattle.gl_bits.specs.contracts.kind.KindPartialEq.TheImpl as OfKind
 use Rattle.gl_bits.specs.contracts.kind.KindEq.TheImpl.Laws as KindLaws
 use Rattle.gl_bits.specs.contracts.word.WordPartialEq.TheImpl as OfWord
 use Rattle.gl_bits.specs.contracts.word.WordEq.TheImpl.Laws as WordLaws
-use Rattle.gl_algebra.specs.declared.node.Op2.{Op2}
-use Rattle.gl_algebra.specs.declared.node.Op2.TheVariants.{Add, Sub, Mul, Eq, Ne, Lt, Le, Gt, Ge, And, Or}
-use Rattle.gl_algebra.specs.contracts.node.Op2PartialEq.TheImpl as OfOp2
+use Rattle.gl_bits.specs.declared.op.Op.{Op}
+use Rattle.gl_bits.specs.declared.op.Op.TheVariants.{Add, Sub, Mul, Eq, Ne, Lt, Le, Gt, Ge, And, Or}
+use Rattle.gl_bits.specs.contracts.op.OpPartialEq.TheImpl as OfOp
 use Rattle.gl_algebra.specs.declared.node.Operand.{Operand}
 use Rattle.gl_algebra.specs.declared.node.Operand.TheVariants.{Column, Literal}
 use Rattle.gl_algebra.specs.contracts.node.OperandPartialEq.TheImpl as OfOperand
@@ -28,12 +29,14 @@ use Rattle.gl_algebra.specs.contracts.node.PlanAggPartialEq.TheImpl as OfPlanAgg
 use Rattle.gl_algebra.specs.contracts.node.PlanAggEq.TheImpl.Laws as PlanAggLaws
 use Rattle.gl_algebra.specs.declared.node.PlanNode.{PlanNode}
 use Rattle.gl_algebra.specs.declared.node.PlanNode.TheVariants.{Stream, Body, Compute, Select, Project, Aggregate, Union, Beside, Window, Group}
-use Rattle.gl_algebra.specs.contracts.node.PlanNodePartialEq.TheImpl as OfPlanNode
 use Rattle.gl_algebra.specs.contracts.node.PlanNodeEq.TheImpl.Laws as PlanNodeLaws
 
 -- a test that holds of one thing alone, and of each thing and itself, decides
 decides_from : {K : Type 0} (E : K → K → Bool) → IsEquivalence E → ((x y : K) → E x y ≡ true → x ≡ y) → (x y : K) → Decides (E x y) (x ≡ y)
 decides_from E laws same x y = (same x y, λ e. subst (λ z. E x z ≡ true) e (laws.refl x))
+
+never : false ≡ true → ⊥
+never h = cc
 
 -- equal numbers
 number : (x y : ℕ) → nat_eq x y ≡ true → x ≡ y
@@ -41,8 +44,8 @@ number x y h = (unsigned_Decides x y).0 h
 
 same_kind : (x y : Kind) → OfKind.ghosts.eq x y ≡ true → x ≡ y
 same_kind (Unsigned v) (Unsigned w) h = ap Unsigned (number v w h)
-same_kind (Unsigned v) (Text n) h = absurd (cc)
-same_kind (Text m) (Unsigned w) h = absurd (cc)
+same_kind (Unsigned v) (Text n) h = absurd (never h)
+same_kind (Text m) (Unsigned w) h = absurd (never h)
 same_kind (Text m) (Text n) h = ap Text (number m n h)
 
 same_kinds : (xs ys : List Kind) → pointwise OfKind.ghosts.eq xs ys ≡ true → xs ≡ ys
@@ -50,47 +53,47 @@ same_kinds xs ys = (pointwise_decides (decides_from OfKind.ghosts.eq KindLaws.la
 
 same_word : (x y : Word) → OfWord.ghosts.eq x y ≡ true → x ≡ y
 same_word x y h =
-    let parts = both (nat_eq x.bits y.bits) (nat_eq x.width y.width) h in
+    let parts = and_parts (nat_eq x.bits y.bits) (nat_eq x.width y.width) h in
     λ i. record { bits = number x.bits y.bits parts.0 i; width = number x.width y.width parts.1 i }
 
 same_words : (xs ys : List Word) → pointwise OfWord.ghosts.eq xs ys ≡ true → xs ≡ ys
 same_words xs ys = (pointwise_decides (decides_from OfWord.ghosts.eq WordLaws.laws-law same_word) xs ys).0
 
-same_op2 : (x y : Op2) → OfOp2.ghosts.eq x y ≡ true → x ≡ y
-same_op2 Add Add h = refl
-same_op2 Sub Sub h = refl
-same_op2 Mul Mul h = refl
-same_op2 Eq Eq h = refl
-same_op2 Ne Ne h = refl
-same_op2 Lt Lt h = refl
-same_op2 Le Le h = refl
-same_op2 Gt Gt h = refl
-same_op2 Ge Ge h = refl
-same_op2 And And h = refl
-same_op2 Or Or h = refl
-same_op2 _ _ h = absurd (cc)
+same_operator : (x y : Op) → OfOp.ghosts.eq x y ≡ true → x ≡ y
+same_operator Add Add h = refl
+same_operator Sub Sub h = refl
+same_operator Mul Mul h = refl
+same_operator Eq Eq h = refl
+same_operator Ne Ne h = refl
+same_operator Lt Lt h = refl
+same_operator Le Le h = refl
+same_operator Gt Gt h = refl
+same_operator Ge Ge h = refl
+same_operator And And h = refl
+same_operator Or Or h = refl
+same_operator _ _ h = absurd (never h)
 
 same_operand : (x y : Operand) → OfOperand.ghosts.eq x y ≡ true → x ≡ y
 same_operand (Column v) (Column w) h = ap Column (number v w h)
-same_operand (Column v) (Literal u k) h = absurd (cc)
-same_operand (Literal u k) (Column w) h = absurd (cc)
+same_operand (Column v) (Literal u k) h = absurd (never h)
+same_operand (Literal u k) (Column w) h = absurd (never h)
 same_operand (Literal u k) (Literal v l) h =
-    let parts = both (OfWord.ghosts.eq u v) (OfKind.ghosts.eq k l) h in
+    let parts = and_parts (OfWord.ghosts.eq u v) (OfKind.ghosts.eq k l) h in
     λ i. Literal (same_word u v parts.0 i) (same_kind k l parts.1 i)
 
 same_operands : (xs ys : List Operand) → pointwise OfOperand.ghosts.eq xs ys ≡ true → xs ≡ ys
 same_operands xs ys = (pointwise_decides (decides_from OfOperand.ghosts.eq OperandLaws.laws-law same_operand) xs ys).0
 
-same_op : (x y : ColOp) → OfColOp.ghosts.eq x y ≡ true → x ≡ y
+pub same_op : (x y : ColOp) → OfColOp.ghosts.eq x y ≡ true → x ≡ y
 same_op (Not a) (Not b) h = ap Not (same_operand a b h)
 same_op (Cast a k) (Cast b l) h =
-    let parts = both (OfOperand.ghosts.eq a b) (OfKind.ghosts.eq k l) h in
+    let parts = and_parts (OfOperand.ghosts.eq a b) (OfKind.ghosts.eq k l) h in
     λ i. Cast (same_operand a b parts.0 i) (same_kind k l parts.1 i)
 same_op (Binary o a b) (Binary p c d) h =
-    let parts = both (OfOp2.ghosts.eq o p) (OfOperand.ghosts.eq a c && OfOperand.ghosts.eq b d) h in
-    let sides = both (OfOperand.ghosts.eq a c) (OfOperand.ghosts.eq b d) parts.1 in
-    λ i. Binary (same_op2 o p parts.0 i) (same_operand a c sides.0 i) (same_operand b d sides.1 i)
-same_op _ _ h = absurd (cc)
+    let parts = and_parts (OfOp.ghosts.eq o p) (OfOperand.ghosts.eq a c && OfOperand.ghosts.eq b d) h in
+    let sides = and_parts (OfOperand.ghosts.eq a c) (OfOperand.ghosts.eq b d) parts.1 in
+    λ i. Binary (same_operator o p parts.0 i) (same_operand a c sides.0 i) (same_operand b d sides.1 i)
+same_op _ _ h = absurd (never h)
 
 same_ops : (xs ys : List ColOp) → pointwise OfColOp.ghosts.eq xs ys ≡ true → xs ≡ ys
 same_ops xs ys = (pointwise_decides (decides_from OfColOp.ghosts.eq ColOpLaws.laws-law same_op) xs ys).0
@@ -102,53 +105,49 @@ same_agg (Min a) (Min b) h = ap Min (same_operand a b h)
 same_agg (Max a) (Max b) h = ap Max (same_operand a b h)
 same_agg (Avg a) (Avg b) h = ap Avg (same_operand a b h)
 same_agg (Wsum a v) (Wsum b w) h =
-    let parts = both (OfOperand.ghosts.eq a b) (pointwise OfWord.ghosts.eq v w) h in
+    let parts = and_parts (OfOperand.ghosts.eq a b) (pointwise OfWord.ghosts.eq v w) h in
     λ i. Wsum (same_operand a b parts.0 i) (same_words v w parts.1 i)
-same_agg _ _ h = absurd (cc)
+same_agg _ _ h = absurd (never h)
 
 same_aggs : (xs ys : List PlanAgg) → pointwise OfPlanAgg.ghosts.eq xs ys ≡ true → xs ≡ ys
 same_aggs xs ys = (pointwise_decides (decides_from OfPlanAgg.ghosts.eq PlanAggLaws.laws-law same_agg) xs ys).0
 
--- the test of nodes
-abbrev pub eq : PlanNode → PlanNode → Bool
-eq = OfPlanNode.ghosts.eq
-
--- nodes that pass it are the same
-pub same_node : (x y : PlanNode) → eq x y ≡ true → x ≡ y
-same_node (Stream m k) (Stream n l) h =
-    let parts = both (nat_eq m n) (pointwise OfKind.ghosts.eq k l) h in
+-- nodes that pass the test of nodes are one
+pub same_node-is : (x y : PlanNode) → same_node x y ≡ true → x ≡ y
+same_node-is (Stream m k) (Stream n l) h =
+    let parts = and_parts (nat_eq m n) (pointwise OfKind.ghosts.eq k l) h in
     λ i. Stream (number m n parts.0 i) (same_kinds k l parts.1 i)
-same_node (Body k) (Body l) h = ap Body (same_kinds k l h)
-same_node (Compute c o) (Compute d p) h =
-    let parts = both (nat_eq c d) (pointwise OfColOp.ghosts.eq o p) h in
+same_node-is (Body k) (Body l) h = ap Body (same_kinds k l h)
+same_node-is (Compute c o) (Compute d p) h =
+    let parts = and_parts (nat_eq c d) (pointwise OfColOp.ghosts.eq o p) h in
     λ i. Compute (number c d parts.0 i) (same_ops o p parts.1 i)
-same_node (Select c m) (Select d n) h =
-    let parts = both (nat_eq c d) (nat_eq m n) h in
+same_node-is (Select c m) (Select d n) h =
+    let parts = and_parts (nat_eq c d) (nat_eq m n) h in
     λ i. Select (number c d parts.0 i) (number m n parts.1 i)
-same_node (Project c o) (Project d p) h =
-    let parts = both (nat_eq c d) (pointwise OfOperand.ghosts.eq o p) h in
+same_node-is (Project c o) (Project d p) h =
+    let parts = and_parts (nat_eq c d) (pointwise OfOperand.ghosts.eq o p) h in
     λ i. Project (number c d parts.0 i) (same_operands o p parts.1 i)
-same_node (Aggregate c o) (Aggregate d p) h =
-    let parts = both (nat_eq c d) (pointwise OfPlanAgg.ghosts.eq o p) h in
+same_node-is (Aggregate c o) (Aggregate d p) h =
+    let parts = and_parts (nat_eq c d) (pointwise OfPlanAgg.ghosts.eq o p) h in
     λ i. Aggregate (number c d parts.0 i) (same_aggs o p parts.1 i)
-same_node (Union a b) (Union c d) h =
-    let parts = both (nat_eq a c) (nat_eq b d) h in
+same_node-is (Union a b) (Union c d) h =
+    let parts = and_parts (nat_eq a c) (nat_eq b d) h in
     λ i. Union (number a c parts.0 i) (number b d parts.1 i)
-same_node (Beside a b) (Beside c d) h =
-    let parts = both (nat_eq a c) (nat_eq b d) h in
+same_node-is (Beside a b) (Beside c d) h =
+    let parts = and_parts (nat_eq a c) (nat_eq b d) h in
     λ i. Beside (number a c parts.0 i) (number b d parts.1 i)
-same_node (Window a b m n) (Window c d p q) h =
-    let first = both (nat_eq a c) (nat_eq b d && (nat_eq m p && nat_eq n q)) h in
-    let second = both (nat_eq b d) (nat_eq m p && nat_eq n q) first.1 in
-    let third = both (nat_eq m p) (nat_eq n q) second.1 in
+same_node-is (Window a b m n) (Window c d p q) h =
+    let first = and_parts (nat_eq a c) (nat_eq b d && (nat_eq m p && nat_eq n q)) h in
+    let second = and_parts (nat_eq b d) (nat_eq m p && nat_eq n q) first.1 in
+    let third = and_parts (nat_eq m p) (nat_eq n q) second.1 in
     λ i. Window (number a c first.0 i) (number b d second.0 i) (number m p third.0 i) (number n q third.1 i)
-same_node (Group a b m n) (Group c d p q) h =
-    let first = both (nat_eq a c) (nat_eq b d && (nat_eq m p && nat_eq n q)) h in
-    let second = both (nat_eq b d) (nat_eq m p && nat_eq n q) first.1 in
-    let third = both (nat_eq m p) (nat_eq n q) second.1 in
+same_node-is (Group a b m n) (Group c d p q) h =
+    let first = and_parts (nat_eq a c) (nat_eq b d && (nat_eq m p && nat_eq n q)) h in
+    let second = and_parts (nat_eq b d) (nat_eq m p && nat_eq n q) first.1 in
+    let third = and_parts (nat_eq m p) (nat_eq n q) second.1 in
     λ i. Group (number a c first.0 i) (number b d second.0 i) (number m p third.0 i) (number n q third.1 i)
-same_node _ _ h = absurd (cc)
+same_node-is _ _ h = absurd (never h)
 
 -- and each node passes it with itself
-pub eq-self : (x : PlanNode) → eq x x ≡ true
-eq-self x = PlanNodeLaws.laws-law.refl x
+pub same_node-self : (x : PlanNode) → same_node x x ≡ true
+same_node-self x = PlanNodeLaws.laws-law.refl x

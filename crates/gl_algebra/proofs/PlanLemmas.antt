@@ -5,9 +5,11 @@ use Rattle.std.proofs.lemmas.Option.{slice_get_within, slice_get-get_or}
 use Rattle.indexmap.specs.IndexSet.{insert_key, insert_index}
 use Rattle.gl_algebra.specs.declared.node.PlanNode.{PlanNode}
 use Rattle.gl_algebra.specs.Nodewise.{named_by}
+use Rattle.gl_algebra.specs.Added.{same_node}
 use Rattle.gl_algebra.specs.Fits.{Fits, IsPlan}
-use Rattle.gl_algebra.proofs.ListLemmas.{get-append, get-last, IsAtPlace, earlier, last, place_in_append, Tested, passes, fails, tested, any_at, IsInserted, inserted}
-use Rattle.gl_algebra.proofs.NodeEquality.{eq, same_node, eq-self}
+use Rattle.gl_algebra.proofs.ListLemmas.{get-append, IsAtPlace, earlier, last, place_in_append, any_at, IsInserted, inserted}
+use Rattle.gl_algebra.proofs.NodeEquality.{same_node-is, same_node-self}
+use Rattle.gl_bits.proofs.Bools.{by_cases}
 use Rattle.gl_algebra.proofs.NodewiseLemmas.{AreInOrder}
 use Rattle.gl_algebra.proofs.ShapeLemmas.{fits-kept}
 
@@ -16,20 +18,20 @@ pub in_order : (nodes : List PlanNode) → IsPlan nodes → (limit : ℕ) → Ar
 in_order nodes plan limit number node below is = (plan.fits number node is).before
 
 -- a list that has a node has one that passes the test with it
-pub any_from_get : (nodes : List PlanNode) (node : PlanNode) (i : ℕ) → slice_get nodes i ≡ Some node → list_any (eq node) nodes ≡ true
-any_from_get nodes node i is = any_at (eq node) nodes i node is (eq-self node)
+pub any_from_get : (nodes : List PlanNode) (node : PlanNode) (i : ℕ) → slice_get nodes i ≡ Some node → list_any (same_node node) nodes ≡ true
+any_from_get nodes node i is = any_at (same_node node) nodes i node is (same_node-self node)
 
-pub any_from_contains : (nodes : List PlanNode) (node : PlanNode) → Contains nodes node → list_any (eq node) nodes ≡ true
+pub any_from_contains : (nodes : List PlanNode) (node : PlanNode) → Contains nodes node → list_any (same_node node) nodes ≡ true
 any_from_contains nodes node c =
     any_from_get nodes node c.0 (slice_get-get_or nodes c.0 node c.1 ∙ ap Some c.2)
 
 -- what adding a node leaves
-pub node_inserted : (nodes : List PlanNode) (node : PlanNode) → IsInserted eq nodes node
-node_inserted = inserted eq same_node
+pub node_inserted : (nodes : List PlanNode) (node : PlanNode) → IsInserted same_node nodes node
+node_inserted = inserted same_node same_node-is
 
 -- the plan with a node that is not in it
 pub plan-append : (nodes : List PlanNode) (node : PlanNode) → IsPlan nodes → Fits nodes (length nodes) node
-    → list_any (eq node) nodes ≡ false → IsPlan (nodes ++ node ∷ [])
+    → list_any (same_node node) nodes ≡ false → IsPlan (nodes ++ node ∷ [])
 plan-append nodes node plan fits fresh = record { fits = keeps; distinct = apart }
   where
     wider : (number : ℕ) (x : PlanNode) → number ≤ length nodes → Fits nodes number x → Fits (nodes ++ node ∷ []) number x
@@ -59,12 +61,9 @@ plan-append nodes node plan fits fresh = record { fits = keeps; distinct = apart
         ]
 
 -- a plan stays one, whether it had the node or not
-pub plan-insert : (nodes : List PlanNode) (node : PlanNode) → IsPlan nodes → Fits nodes (length nodes) node → IsPlan (insert_key eq nodes node)
+pub plan-insert : (nodes : List PlanNode) (node : PlanNode) → IsPlan nodes → Fits nodes (length nodes) node → IsPlan (insert_key same_node nodes node)
 plan-insert nodes node plan fits =
-    elim (tested (list_any (eq node) nodes)) [
-      | passes e ↦ rw e plan
-      | fails e ↦ rw e (plan-append nodes node plan fits e)
-    ]
+    by_cases (list_any (same_node node) nodes) (λ e. rw e plan) (λ e. rw e (plan-append nodes node plan fits e))
 
 -- a number below the length has a node
 pub node_at : (nodes : List PlanNode) (number : ℕ) → number < length nodes → (node : PlanNode) × (slice_get nodes number ≡ Some node)

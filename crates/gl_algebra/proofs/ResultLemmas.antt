@@ -5,7 +5,8 @@ use Rattle.gl_algebra.specs.declared.node.PlanNode.{PlanNode}
 use Rattle.gl_algebra.specs.declared.node.PlanNode.TheVariants.{Stream, Body, Compute, Select, Project, Aggregate, Union, Beside, Window, Group}
 use Rattle.gl_algebra.specs.Nodewise.{named_by, nodewise}
 use Rattle.gl_algebra.specs.Shapes.{Shape, shape_of}
-use Rattle.gl_algebra.specs.Results.{Row, Inputs, given, Results, Meaning, NoMeaning, IsChanged, IsOfBoth, IsOfParts, IsOfGroup, AreBeside, computed, selected, projected, totalled, meaning_from, IsPlanResult}
+use Rattle.gl_bits.specs.Results.{Row, IsChanged, IsOfBoth, IsOfParts, IsOfGroup, AreBeside}
+use Rattle.gl_algebra.specs.Results.{Inputs, given, Meaning, NoMeaning, computed, selected, projected, totalled, meaning_from, IsPlanResult}
 use Rattle.gl_algebra.proofs.NodewiseLemmas.{Agree, AreInOrder, SameSteps, agree, agree_self, nodewise-kept, nodewise-node}
 use Rattle.gl_algebra.proofs.ShapeLemmas.{shape-kept}
 

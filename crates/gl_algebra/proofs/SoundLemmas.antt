@@ -2,7 +2,7 @@
 use Rattle.std.proofs.Common.{◌≡◌, ℕ, zero, suc, ◌+◌, ◌-◌, ◌*◌, ◌<◌, ◌≤◌, max, Bool, true, false, ◌&&◌, cond, nat_eq, nat_lt, List, [], ◌∷◌, refl, sym, ap, ◌∙◌, subst, arith}
 use Rattle.std.proofs.Math.Nat.{mul-le-mul_right, mul-pos}
 use borrow.Author.Tests.{ltb-true}
-use Rattle.gl_algebra.proofs.ListLemmas.{tested, passes, fails}
+use Rattle.gl_bits.proofs.Bools.{and_left, by_cases}
 use Rattle.gl_algebra.specs.declared.figures.Figures.{Figures}
 use Rattle.gl_algebra.specs.FigureTable.{IsSound, last_of, settled, delayed, aggregate_figures, merged, is_fixed, in_step, at_end, joined, spacer_figures, spaced, needs_spacer, stride_of, window_gap, group_gap, windows_over, groups_over}
 
@@ -117,14 +117,11 @@ spacer_sound gap f some sound =
 
 pub spaced_sound : (gap : ℕ) (f : Figures) → IsSound f → IsSound (spaced gap f)
 spaced_sound gap f sound =
-    elim (tested (nat_lt 1 gap)) [
-      | passes e ↦ let more : 1 < gap = ltb-true 1 gap e in
-          elim (tested (nat_lt f.a f.le)) [
-            | passes e' ↦ rw (e, e') (spacer_sound gap f (omega arith) sound)
-            | fails e' ↦ rw (e, e') sound
-          ]
-      | fails e ↦ rw e sound
-    ]
+    by_cases (needs_spacer gap f)
+    (λ e.
+    let more : 1 < gap = ltb-true 1 gap (and_left (nat_lt 1 gap) (nat_lt f.a f.le) e) in
+    rw e (spacer_sound gap f (omega arith) sound))
+    (λ e. rw e sound)
 
 pub windows_sound : (copies : ℕ) (f s : Figures) → 1 ≤ copies → IsSound f → IsSound s → IsSound (windows_over copies f s)
 windows_sound copies f s some sound sound' =

@@ -7,7 +7,9 @@ use Rattle.gl_algebra.specs.Fits.{Fits, IsPlan}
 use Rattle.gl_algebra.specs.Laws.{has_union_from, has_union, AreSame, ResultsAreUnique}
 use Rattle.gl_algebra.specs.Nodewise.{named_by, nodewise}
 use Rattle.gl_algebra.specs.Shapes.{Shape, shape_of}
-use Rattle.gl_algebra.specs.Results.{Row, Inputs, given, Results, Meaning, IsInput, IsChanged, IsOfBoth, AreBeside, AreJoined, IsOfParts, IsOfGroup, computed, selected, projected, totalled, meaning_from, IsPlanResult}
+use Rattle.gl_bits.specs.Results.{Row, Results, IsInput, IsChanged, IsOfBoth, beside, AreBeside, AreJoined, IsOfParts, IsOfGroup}
+use Rattle.gl_bits.proofs.Bools.{neither_parts}
+use Rattle.gl_algebra.specs.Results.{Inputs, given, Meaning, computed, selected, projected, totalled, meaning_from, IsPlanResult}
 use Rattle.gl_algebra.proofs.NodewiseLemmas.{Agree, AreInOrder, SameSteps, nodewise-node}
 use Rattle.gl_algebra.proofs.PlanLemmas.{in_order, by_nodes}
 use Rattle.gl_algebra.proofs.ResultLemmas.{meaning-node, moved}
@@ -24,7 +26,7 @@ input_one rows out out' spill spill' r r' = record {
 
 changed_one : (Child : Results) (change : List Row → List Row) → IsOne Child → IsOne (IsChanged Child change)
 changed_one Child change one out out' spill spill' r r' =
-    let same = one r.rows r'.rows spill spill' r.of_child r'.of_child in
+    let same = one r.rows r'.rows spill spill' r.of_source r'.of_source in
     record {
       rows = r.changed ∙ ap change same.rows ∙ sym r'.changed;
       spills = same.spills;
@@ -35,7 +37,7 @@ beside_one Left Right one one' out out' spill spill' r r' =
     let l = one r.left r'.left r.left_spill r'.left_spill r.of_left r'.of_left in
     let s = one' r.right r'.right r.right_spill r'.right_spill r.of_right r'.of_right in
     record {
-      rows = r.join.rows ∙ (λ i. map (λ (pair : Row × Row). pair.0 ++ pair.1) (zip (l.rows i) (s.rows i))) ∙ sym r'.join.rows;
+      rows = r.join.rows ∙ (λ i. beside (l.rows i) (s.rows i)) ∙ sym r'.join.rows;
       spills = r.either ∙ (λ i. l.spills i || s.spills i) ∙ sym r'.either;
     }
 
@@ -67,11 +69,6 @@ parts_one Source parts OfPart further one each out out' spill spill' r r' =
 abbrev pub IsFunction : Meaning → Type 0
 IsFunction M = (inputs : Inputs) → IsOne (M inputs)
 
--- neither side of a false choice
-neither : (a b : Bool) → (a || b) ≡ false → (a ≡ false) × (b ≡ false)
-neither true b h = absurd (cc)
-neither false b h = (refl, h)
-
 rows_one : (s : ℕ → Shape) (m : ℕ → Meaning) (u : ℕ → Bool) (node : PlanNode) → All (λ child. u child ≡ false → IsFunction (m child)) (named_by node)
     → has_union_from u node ≡ false → IsFunction (meaning_from s m node)
 rows_one s m u (Stream number kinds) one none inputs = input_one (inputs.streams number)
@@ -86,14 +83,14 @@ rows_one s m u (Aggregate child aggs) one none inputs =
     changed_one (m child inputs) (totalled (s child).kinds aggs) (one 0 0 (lit< tt) none inputs)
 rows_one s m u (Union left right) one none inputs = absurd (cc)
 rows_one s m u (Beside left right) one none inputs =
-    let sides = neither (u left) (u right) none in
+    let sides = neither_parts (u left) (u right) none in
     beside_one (m left inputs) (m right inputs) (one 0 0 (lit< tt) sides.0 inputs) (one 1 0 (lit< tt) sides.1 inputs)
 rows_one s m u (Window source body size advance) one none inputs =
-    let sides = neither (u source) (u body) none in
+    let sides = neither_parts (u source) (u body) none in
     parts_one (m source inputs) (slices size advance) (λ slice. m body (given inputs slice)) (λ rows. false)
     (one 0 0 (lit< tt) sides.0 inputs) (λ slice. one 1 0 (lit< tt) sides.1 (given inputs slice))
 rows_one s m u (Group source body key count) one none inputs =
-    let sides = neither (u source) (u body) none in
+    let sides = neither_parts (u source) (u body) none in
     parts_one (m source inputs) (groups count (λ row. slice_index row key))
     (IsOfGroup (λ rows. m body (given inputs rows))) (has_further count (λ row. slice_index row key))
     (one 0 0 (lit< tt) sides.0 inputs)

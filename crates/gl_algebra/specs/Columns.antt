@@ -4,10 +4,11 @@ use Rattle.gl_bits.specs.Words.{Word, IsWord}
 use Rattle.gl_bits.specs.Kinds.{width_of, IsKind}
 use Rattle.gl_bits.specs.declared.kind.Kind.{Kind}
 use Rattle.gl_bits.specs.declared.kind.Kind.TheVariants.{Unsigned, Text}
+use Rattle.gl_bits.specs.declared.op.Sort.{Sort}
+use Rattle.gl_bits.specs.declared.op.Sort.TheVariants.{Arithmetic, Comparison, Logic}
+use Rattle.gl_bits.specs.Operators.{sort_of, result_kind}
 use Rattle.gl_algebra.specs.declared.node.Operand.{Operand}
 use Rattle.gl_algebra.specs.declared.node.Operand.TheVariants.{Column, Literal}
-use Rattle.gl_algebra.specs.declared.node.Op2.{Op2}
-use Rattle.gl_algebra.specs.declared.node.Op2.TheVariants.{Add, Sub, Mul, Eq, Ne, Lt, Le, Gt, Ge, And, Or}
 use Rattle.gl_algebra.specs.declared.node.ColOp.{ColOp}
 use Rattle.gl_algebra.specs.declared.node.ColOp.TheVariants.{Not, Cast, Binary}
 use Rattle.gl_algebra.specs.declared.node.PlanAgg.{PlanAgg}
@@ -26,25 +27,11 @@ abbrev pub kind_of_operand : List Kind → Operand → Kind
 kind_of_operand kinds (Column column) = kind_of_column kinds column
 kind_of_operand kinds (Literal word kind) = kind
 
--- sums, differences and products have their operands' kind; comparisons, AND and OR give one bit
-abbrev pub kind_under : Op2 → Kind → Kind
-kind_under Add kind = kind
-kind_under Sub kind = kind
-kind_under Mul kind = kind
-kind_under Eq kind = bit_kind
-kind_under Ne kind = bit_kind
-kind_under Lt kind = bit_kind
-kind_under Le kind = bit_kind
-kind_under Gt kind = bit_kind
-kind_under Ge kind = bit_kind
-kind_under And kind = bit_kind
-kind_under Or kind = bit_kind
-
 -- the kind of the column that an operation makes
 abbrev pub kind_of_op : List Kind → ColOp → Kind
 kind_of_op kinds (Not operand) = bit_kind
 kind_of_op kinds (Cast operand kind) = kind
-kind_of_op kinds (Binary operator left right) = kind_under operator (kind_of_operand kinds left)
+kind_of_op kinds (Binary operator left right) = result_kind (sort_of operator) (kind_of_operand kinds left)
 
 -- the kind of the column that an aggregate makes
 abbrev pub kind_of_agg : List Kind → PlanAgg → Kind
@@ -73,18 +60,10 @@ CastFits (Text from) (Unsigned to) = ⊥
 CastFits (Text from) (Text to) = ⊤
 
 -- what both operands of an operator are: numbers, of any kind, or bits
-abbrev pub OperatorFits : Op2 → Kind → Type 0
-OperatorFits Add kind = IsUnsigned kind
-OperatorFits Sub kind = IsUnsigned kind
-OperatorFits Mul kind = IsUnsigned kind
-OperatorFits Eq kind = ⊤
-OperatorFits Ne kind = ⊤
-OperatorFits Lt kind = ⊤
-OperatorFits Le kind = ⊤
-OperatorFits Gt kind = ⊤
-OperatorFits Ge kind = ⊤
-OperatorFits And kind = kind ≡ bit_kind
-OperatorFits Or kind = kind ≡ bit_kind
+abbrev pub SortFits : Sort → Kind → Type 0
+SortFits Arithmetic kind = IsUnsigned kind
+SortFits Comparison kind = ⊤
+SortFits Logic kind = kind ≡ bit_kind
 
 -- an operation whose operands are there and have the kinds that it takes
 abbrev pub OpFits : List Kind → ColOp → Type 0
@@ -93,7 +72,7 @@ OpFits kinds (Cast operand kind) = OperandFits kinds operand × IsKind kind × C
 OpFits kinds (Binary operator left right) =
     OperandFits kinds left × OperandFits kinds right
     × (kind_of_operand kinds left ≡ kind_of_operand kinds right)
-    × OperatorFits operator (kind_of_operand kinds left)
+    × SortFits (sort_of operator) (kind_of_operand kinds left)
 
 -- the most weights
 abbrev pub most_weights : ℕ

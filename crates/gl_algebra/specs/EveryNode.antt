@@ -4,7 +4,7 @@ use Rattle.gl_bits.specs.declared.kind.Kind.{Kind}
 use Rattle.gl_bits.specs.declared.kind.Kind.TheVariants.{Unsigned}
 use Rattle.gl_algebra.specs.declared.node.ColOp.{ColOp}
 use Rattle.gl_algebra.specs.declared.node.ColOp.TheVariants.{Binary}
-use Rattle.gl_algebra.specs.declared.node.Op2.TheVariants.{Eq}
+use Rattle.gl_bits.specs.declared.op.Op.TheVariants.{Eq}
 use Rattle.gl_algebra.specs.declared.node.Operand.{Operand}
 use Rattle.gl_algebra.specs.declared.node.Operand.TheVariants.{Column}
 use Rattle.gl_algebra.specs.declared.node.PlanAgg.{PlanAgg}

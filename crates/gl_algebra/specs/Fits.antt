@@ -2,11 +2,12 @@
 use Rattle.std.specs.Prelude.{ℕ, ◌≡◌, ◌≢◌, ◌<◌, ◌≤◌, ◌+◌, ◌-◌, ◌/◌, List, length, slice_get, Some, All, IsTrue}
 use Rattle.std.specs.Int.{div_ceil}
 use Rattle.gl_bits.specs.Kinds.{IsKind}
+use Rattle.gl_bits.specs.declared.kind.Kind.{Kind}
 use Rattle.gl_algebra.specs.declared.node.PlanNode.{PlanNode}
 use Rattle.gl_algebra.specs.declared.node.PlanNode.TheVariants.{Stream, Body, Compute, Select, Project, Aggregate, Union, Beside, Window, Group}
 use Rattle.gl_algebra.specs.Columns.{bit_kind, OperandFits, OpFits, AggFits}
 use Rattle.gl_algebra.specs.Nodewise.{named_by}
-use Rattle.gl_algebra.specs.Shapes.{Shape, unsteady, shape_of}
+use Rattle.gl_algebra.specs.Shapes.{Shape, unsteady, shape_of, kinds_of}
 
 -- a number from 1 to a limit
 pub record IsWithin (limit number : ℕ) : Type 0 where
@@ -58,3 +59,13 @@ pub record Fits (nodes : List PlanNode) (number : ℕ) (node : PlanNode) : Type 
 pub record IsPlan (nodes : List PlanNode) : Type 0 where
   pub fits : (number : ℕ) (node : PlanNode) → slice_get nodes number ≡ Some node → Fits nodes number node
   pub distinct : (i j : ℕ) (node : PlanNode) → slice_get nodes i ≡ Some node → slice_get nodes j ≡ Some node → i ≡ j
+
+-- the kinds of the columns of each node
+pub record AreKinds (nodes : List PlanNode) (kinds : List (List Kind)) : Type 0 where
+  pub as_many : length kinds ≡ length nodes
+  pub each : (number : ℕ) → number < length nodes → slice_get kinds number ≡ Some (kinds_of nodes number)
+
+-- a plan with the kinds of its columns
+pub record IsPlanWith (nodes : List PlanNode) (kinds : List (List Kind)) : Type 0 where
+  pub plan : IsPlan nodes
+  pub columns : AreKinds nodes kinds

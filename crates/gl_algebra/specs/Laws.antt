@@ -1,13 +1,15 @@
 -- Laws of plans.
-use Rattle.std.specs.Prelude.{ℕ, ◌≡◌, ◌<◌, ◌≤◌, ◌+◌, ◌↔◌, Bool, false, true, ◌||◌, List, [], ◌∷◌, ◌++◌, length, Some, slice_get, All, IsTrue}
+use Rattle.std.specs.Prelude.{ℕ, ◌≡◌, ◌<◌, ◌≤◌, ◌+◌, ◌↔◌, Bool, false, true, ◌||◌, List, [], ◌∷◌, ◌++◌, length, Some, slice_get, All, IsTrue, ⊤}
+use Rattle.gl_bits.specs.declared.kind.Kind.{Kind}
 use Rattle.gl_algebra.specs.declared.figures.Figures.{Figures}
 use Rattle.gl_algebra.specs.declared.node.PlanNode.{PlanNode}
 use Rattle.gl_algebra.specs.declared.node.PlanNode.TheVariants.{Stream, Body, Compute, Select, Project, Aggregate, Union, Beside, Window, Group}
 use Rattle.gl_algebra.specs.FigureTable.{IsSound, figures_from, figures_of, spacer_figures}
 use Rattle.gl_algebra.specs.Fits.{Suits, IsPlan}
 use Rattle.gl_algebra.specs.Nodewise.{named_by, nodewise}
-use Rattle.gl_algebra.specs.Results.{Row, Inputs, meaning_from, IsPlanResult}
-use Rattle.gl_algebra.specs.Shapes.{Shape, shape_from, shape_of, is_closing}
+use Rattle.gl_bits.specs.Results.{Row}
+use Rattle.gl_algebra.specs.Results.{Inputs, meaning_from, IsPlanResult}
+use Rattle.gl_algebra.specs.Shapes.{Shape, Pace, unsteady, once, with_stream, with_body, shape_from, shape_of, is_closing}
 use Rattle.gl_algebra.specs.Weights.{weight_from, weight_of, copies_from, copies_of}
 
 -- each row of the table gives sound figures from sound ones
@@ -27,6 +29,37 @@ FiguresAreSound = (nodes : List PlanNode) (number : ℕ) → IsPlan nodes → nu
 abbrev pub ClosingNodesWait : Type 0
 ClosingNodesWait = (nodes : List PlanNode) (number : ℕ) → IsPlan nodes → number < length nodes
     → IsTrue (is_closing nodes number) → (figures_of nodes number).nt ≡ 0
+
+-- figures of a node each of whose rows comes a fixed time after its beat
+pub record IsFixed (f : Figures) : Type 0 where
+  pub tuples_last : f.lt ≡ f.a
+  pub end_last : f.le ≡ f.a
+  pub tuples : f.nt ≡ 1
+  pub end_tuples : f.ne ≡ 1
+
+-- figures of a node that gives one row with the end and none before
+pub record IsOnce (f : Figures) : Type 0 where
+  pub tuples : f.nt ≡ 0
+  pub end_tuples : f.ne ≡ 1
+
+-- what a pace says of figures
+abbrev pub PaceFixes : Pace → Figures → Type 0
+PaceFixes unsteady f = ⊤
+PaceFixes once f = IsOnce f
+PaceFixes (with_stream number) f = IsFixed f
+PaceFixes with_body f = IsFixed f
+
+-- the figures of each node are as its pace says
+abbrev pub PacesFixFigures : Type 0
+PacesFixFigures = (nodes : List PlanNode) (number : ℕ) → IsPlan nodes → number < length nodes
+    → PaceFixes (shape_of nodes number).pace (figures_of nodes number)
+
+-- a node all of whose leaves are a body's input has the same results for all inputs that give a body the same rows
+abbrev pub BodiesReadTheirInput : Type 0
+BodiesReadTheirInput = (nodes : List PlanNode) (number : ℕ) → IsPlan nodes → number < length nodes
+    → (kinds : List Kind) → All (λ leaf. leaf ≡ Body kinds) (shape_of nodes number).leaves
+    → (inputs others : Inputs) → inputs.body ≡ others.body
+    → (out : List Row) (spill : Bool) → IsPlanResult nodes number inputs out spill → IsPlanResult nodes number others out spill
 
 -- whether a node is a union or has one below it, in a body too
 abbrev pub has_union_from : (ℕ → Bool) → PlanNode → Bool

@@ -2,6 +2,7 @@ pub mod Nodewise
 pub mod Columns
 pub mod Shapes
 pub mod Fits
+pub mod Added
 pub mod FigureTable
 pub mod Weights
 pub mod Values

@@ -1,9 +1,10 @@
 -- What a plan means over lists of rows: the results that each node may have, and whether rows were left out of its groups.
 -- After the operators of Mueller, Teubner and Alonso, Streams on Wires, PVLDB 2(1), 2009.
-use Rattle.std.specs.Prelude.{ℕ, ◌≡◌, Bool, false, ◌||◌, List, [], ◌∷◌, ◌++◌, map, filter, length, nat_eq, slice_index}
-use Rattle.std.specs.List.{zip}
+use Rattle.std.specs.Prelude.{ℕ, Bool, false, List, [], ◌∷◌, ◌++◌, map, filter, nat_eq, slice_index}
 use Rattle.gl_bits.specs.Kinds.{width_of}
-use Rattle.gl_bits.specs.Lists.{slices, groups, Group, has_further, IsInterleaving}
+use Rattle.gl_bits.specs.Lists.{slices, groups, has_further, IsInterleaving}
+use Rattle.gl_bits.specs.Results.{Results, IsInput, IsChanged, IsOfBoth, AreBeside, IsOfParts, IsOfGroup}
+pub use Rattle.gl_bits.specs.Results.{Row}
 use Rattle.gl_bits.specs.Totals.{count_of, sum_total, least_of, greatest_of, average_of, weighted_sum}
 use Rattle.gl_bits.specs.Words.{bits_of}
 use Rattle.gl_bits.specs.declared.kind.Kind.{Kind}
@@ -18,10 +19,6 @@ use Rattle.gl_algebra.specs.Nodewise.{nodewise}
 use Rattle.gl_algebra.specs.Shapes.{Shape, shape_of}
 use Rattle.gl_algebra.specs.Values.{value_of_operand, value_of_op}
 
--- the numbers of a row's words, in the order of the columns
-abbrev pub Row : Type 0
-Row = List ℕ
-
 -- what the leaves give: the rows of each stream, by its number, and those of a body's input
 pub record Inputs : Type 0 where
   pub streams : ℕ → List Row
@@ -31,58 +28,9 @@ pub record Inputs : Type 0 where
 abbrev pub given : Inputs → List Row → Inputs
 given inputs rows = record inputs { body = rows }
 
--- rows, and whether some were left out of a group, as a result
-abbrev pub Results : Type 1
-Results = List Row → Bool → Type 0
-
 -- the results for inputs
 abbrev pub Meaning : Type 1
 Meaning = Inputs → Results
-
--- rows that come in, none of which was left out
-pub record IsInput (given_rows out : List Row) (spill : Bool) : Type 0 where
-  pub rows : out ≡ given_rows
-  pub kept : spill ≡ false
-
--- what a change makes of a result
-pub record IsChanged (Child : Results) (change : List Row → List Row) (out : List Row) (spill : Bool) : Type 0 where
-  pub rows : List Row
-  pub of_child : Child rows spill
-  pub changed : out ≡ change rows
-
--- what two results make together
-pub record IsOfBoth (Left Right : Results) (Join : List Row → List Row → List Row → Type 0) (out : List Row) (spill : Bool) : Type 0 where
-  pub left : List Row
-  pub right : List Row
-  pub left_spill : Bool
-  pub right_spill : Bool
-  pub of_left : Left left left_spill
-  pub of_right : Right right right_spill
-  pub join : Join left right out
-  pub either : spill ≡ (left_spill || right_spill)
-
--- rows of one length of list, side by side
-pub record AreBeside (left right out : List Row) : Type 0 where
-  pub paired : length left ≡ length right
-  pub rows : out ≡ map (λ (pair : Row × Row). pair.0 ++ pair.1) (zip left right)
-
--- results for each part, joined in order
-abbrev pub AreJoined : {Part : Type 0} → (Part → Results) → List Part → Results
-AreJoined OfPart [] out spill = (out ≡ []) × (spill ≡ false)
-AreJoined OfPart (part ∷ parts) out spill =
-    (first : List Row) × (rest : List Row) × (first_spill : Bool) × (rest_spill : Bool)
-    × OfPart part first first_spill × AreJoined OfPart parts rest rest_spill
-    × (out ≡ first ++ rest) × (spill ≡ (first_spill || rest_spill))
-
--- what a body makes of each part of a source's rows; some of these may be in no part
-pub record IsOfParts {Part : Type 0} (Source : Results) (parts : List Row → List Part) (OfPart : Part → Results)
-    (further : List Row → Bool) (out : List Row) (spill : Bool) : Type 0 where
-  pub rows : List Row
-  pub source_spill : Bool
-  pub parts_spill : Bool
-  pub of_source : Source rows source_spill
-  pub of_parts : AreJoined OfPart (parts rows) out parts_spill
-  pub any : spill ≡ (source_spill || parts_spill || further rows)
 
 -- the value of an aggregate over rows whose columns have these kinds
 abbrev pub total_of : List Kind → List Row → PlanAgg → ℕ
@@ -110,10 +58,6 @@ projected items row = map (value_of_operand row) items
 
 abbrev pub totalled : List Kind → List PlanAgg → List Row → List Row
 totalled kinds aggs rows = map (total_of kinds rows) aggs ∷ []
-
--- the results of a body for a group: the key stands first in each row
-abbrev pub IsOfGroup : (List Row → Results) → Group Row → Results
-IsOfGroup OfBody group out spill = IsChanged (OfBody group.rows) (map (λ row. group.key ∷ row)) out spill
 
 -- the results of a node, from the meanings of the nodes that it names
 abbrev pub meaning_from : (ℕ → Shape) → (ℕ → Meaning) → PlanNode → Meaning

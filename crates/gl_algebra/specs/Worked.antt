@@ -5,7 +5,7 @@ use Rattle.gl_bits.specs.declared.kind.Kind.{Kind}
 use Rattle.gl_bits.specs.declared.kind.Kind.TheVariants.{Unsigned, Text}
 use Rattle.gl_algebra.specs.declared.figures.Figures.{Figures}
 use Rattle.gl_algebra.specs.declared.node.Operand.TheVariants.{Column, Literal}
-use Rattle.gl_algebra.specs.declared.node.Op2.TheVariants as Op2
+use Rattle.gl_bits.specs.declared.op.Op.TheVariants as Op
 use Rattle.gl_algebra.specs.declared.node.ColOp.TheVariants.{Not, Cast, Binary}
 use Rattle.gl_algebra.specs.declared.node.PlanAgg.TheVariants.{Count, Sum, Min, Max, Avg, Wsum}
 use Rattle.gl_algebra.specs.declared.node.PlanNode.{PlanNode}
@@ -22,7 +22,7 @@ abbrev pub counts_in_windows : List PlanNode
 counts_in_windows =
     Stream 0 trade_kinds
     ∷ Body trade_kinds
-    ∷ Compute 1 (Binary Op2.Eq (Column 0) (Literal (record { bits = 1430408782; width = 32 }) (Text 4)) ∷ [])
+    ∷ Compute 1 (Binary Op.Eq (Column 0) (Literal (record { bits = 1430410062; width = 32 }) (Text 4)) ∷ [])
     ∷ Select 2 3
     ∷ Project 3 (Column 0 ∷ Column 1 ∷ Column 2 ∷ [])
     ∷ Aggregate 4 (Count ∷ [])
@@ -57,13 +57,13 @@ counts_of_both =
 abbrev pub sum_beside_count : List PlanNode
 sum_beside_count =
     Stream 0 trade_kinds ∷ Aggregate 0 (Sum (Column 1) ∷ []) ∷ Stream 1 trade_kinds
-    ∷ Compute 2 (Binary Op2.Gt (Column 2) (Literal (record { bits = 10; width = 32 }) (Unsigned 32)) ∷ [])
+    ∷ Compute 2 (Binary Op.Gt (Column 2) (Literal (record { bits = 10; width = 32 }) (Unsigned 32)) ∷ [])
     ∷ Select 3 3 ∷ Project 4 (Column 0 ∷ Column 1 ∷ Column 2 ∷ []) ∷ Aggregate 5 (Count ∷ []) ∷ Beside 1 6 ∷ []
 
 -- a column beside a sum of two
 abbrev pub price_beside_sum : List PlanNode
 price_beside_sum =
-    Stream 0 trade_kinds ∷ Project 0 (Column 1 ∷ []) ∷ Compute 0 (Binary Op2.Add (Column 1) (Column 2) ∷ [])
+    Stream 0 trade_kinds ∷ Project 0 (Column 1 ∷ []) ∷ Compute 0 (Binary Op.Add (Column 1) (Column 2) ∷ [])
     ∷ Project 2 (Column 3 ∷ []) ∷ Beside 1 3 ∷ []
 
 -- sums by symbol, of 4 symbols

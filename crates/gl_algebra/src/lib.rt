@@ -2,6 +2,7 @@
 //! of rows.
 #![tactic(auto)]
 
+pub mod columns;
 pub mod figures;
 pub mod laws;
 pub mod node;
@@ -9,7 +10,7 @@ pub mod number;
 pub mod plan;
 
 pub use figures::Figures;
-pub use node::{ColOp, Kinds, Op2, Operand, Operands, Ops, PlanAgg, PlanAggs, PlanNode, Weights};
+pub use node::{ColOp, Kinds, Operand, Operands, Ops, PlanAgg, PlanAggs, PlanNode, Weights};
 pub use number::PlanId;
 pub use plan::Plan;
 

@@ -1,7 +1,7 @@
 //! The nodes of a plan.
 
 use crate::number::PlanId;
-use gl_bits::{Kind, Listed, Word};
+use gl_bits::{Kind, Listed, Op, Word};
 use std::hash::Hash;
 
 /// Kinds of columns, in order.
@@ -18,22 +18,6 @@ pub type PlanAggs = Listed<PlanAgg>;
 
 /// The weights of the values of a list, the oldest value's first.
 pub type Weights = Listed<Word>;
-
-/// A binary operator.
-#[derive(Clone, Copy, PartialEq, Eq, Hash, Debug)]
-pub enum Op2 {
-    Add,
-    Sub,
-    Mul,
-    Eq,
-    Ne,
-    Lt,
-    Le,
-    Gt,
-    Ge,
-    And,
-    Or,
-}
 
 /// What an operation or an aggregate takes of a row.
 #[derive(Clone, Copy, PartialEq, Eq, Hash, Debug)]
@@ -52,7 +36,7 @@ pub enum ColOp {
     /// The value as another kind.
     Cast(Operand, Kind),
     /// Two operands under an operator.
-    Binary(Op2, Operand, Operand),
+    Binary(Op, Operand, Operand),
 }
 
 /// An aggregate over the rows of a list, which makes one column.

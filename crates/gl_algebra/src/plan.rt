@@ -1,33 +1,43 @@
 //! Plans: lists of nodes.
 
-ghost use Rattle.std.specs.Prelude.{◌≡◌, ◌<◌, ◌⊎◌, ◌++◌, ◌∷◌, [], length, slice_get, Contains, IfOk, OnOk, OnErr};
-ghost use Rattle.std.specs.List.{position_or_len};
+ghost use Rattle.std.specs.Prelude.{◌≡◌, ◌<◌, ◌⊎◌, ◌++◌, ◌∷◌, [], length, slice_get, Contains, IfOk, OnOk, OnErr, true, false, not};
+ghost use Rattle.std.specs.List.{list_any, position_or_len, AllByRecursion};
 ghost use Rattle.indexmap.specs.IndexSet.{insert_key};
+ghost use Rattle.gl_algebra.specs.Added.{added, placed_at, same_node};
 ghost use Rattle.gl_algebra.specs.Fits.{Fits, IsPlan};
+ghost use Rattle.gl_algebra.specs.Nodewise.{named_by};
+ghost use Rattle.gl_algebra.specs.Shapes.{kinds_of, shape_from, shape_of};
 
-use crate::node::PlanNode;
+use crate::columns::{
+    columns_of_aggs, columns_of_both, columns_of_items, columns_with_key, columns_with_ops,
+    kind_of_column, same_columns,
+};
+use crate::node::{Kinds, PlanNode};
 use crate::number::PlanId;
-use gl_bits::Memory;
+use gl_bits::{Kind, Memory};
 use indexmap::IndexSet;
 use std::alloc::Global;
 use std::marker::Model;
 
-/// A list of nodes in which no two are equal and every one fits.
+/// A list of nodes in which no two are equal and every one fits. It keeps the allocator of its making.
 #[derive(Drop)]
 pub struct Plan {
+    alloc: Global,
     nodes: IndexSet<PlanNode>,
+    // The kinds of each node's columns.
+    columns: Vec<Kinds>,
 }
 
 impl Model for Plan {
     ghost use Rattle.std.specs.Prelude.{List};
     ghost use Rattle.gl_algebra.specs.declared.node.PlanNode.{PlanNode};
-    ghost use Rattle.gl_algebra.specs.Fits.{IsPlan};
+    ghost use Rattle.gl_algebra.specs.Fits.{IsPlanWith};
 
     ghost Value = { List PlanNode };
 
     ghost view = { λ p. p.nodes.keys };
 
-    ghost invariant = { λ p. IsPlan p.nodes.keys };
+    ghost invariant = { λ p. IsPlanWith p.nodes.keys p.columns.items };
 }
 
 impl Plan {
@@ -36,7 +46,9 @@ impl Plan {
         ensures { result ≡ [] }
     {
         Plan {
+            alloc,
             nodes: IndexSet::new(alloc),
+            columns: Vec::new(alloc),
         }
     }
 
@@ -44,13 +56,15 @@ impl Plan {
     /// itself, which then stands last. On want of memory the plan is as before, and the node is let go.
     pub fn add(&mut self, node: PlanNode) -> Result<PlanId, Memory>
         requires { Fits self.old (length self.old) node }
+        ensures added { IfOk result (λ id. placed_at self.new id ≡ added self.old node) }
         ensures number { IfOk result (λ id. slice_get self.new id ≡ Some node) }
         ensures known { OnOk result (Contains self.old node → self.new ≡ self.old) }
         ensures grows { OnOk result ((self.new ≡ self.old) ⊎ (self.new ≡ self.old ++ node ∷ [])) }
         ensures err { OnErr result (self.new ≡ self.old) }
         ensures plan { IsPlan self.new }
     {
-        let place = place_among(&mut self.nodes, node)?;
+        let kinds = self.columns_of(&node)?;
+        let place = put(&mut self.nodes, &mut self.columns, node, kinds)?;
         Ok(PlanId::of(place))
     }
 
@@ -71,6 +85,15 @@ impl Plan {
         &self.nodes.as_slice()[id.number()]
     }
 
+    /// The kinds of the columns of the node of this number.
+    pub fn kinds(&self, id: PlanId) -> &[Kind]
+        requires { id < length self.now }
+        ensures kinds { result.now ≡ kinds_of self.now id }
+        ensures plan { IsPlan self.now }
+    {
+        self.columns[id.number()].as_slice()
+    }
+
     /// The id of a node by its number.
     pub fn id(&self, number: usize) -> PlanId
         requires { number < length self.now }
@@ -80,16 +103,86 @@ impl Plan {
         let _ = &self.nodes;
         PlanId::of(number)
     }
+
+    // The kinds of the columns of a node over this plan.
+    fn columns_of(&self, node: &PlanNode) -> Result<Kinds, Memory>
+        requires { AllByRecursion (λ child. child < length self.now) (named_by node.now) }
+        ensures { IfOk result (λ kinds. kinds ≡ (shape_from (shape_of self.now) node.now).kinds) }
+    {
+        let alloc = self.alloc;
+        match node {
+            PlanNode::Stream(_, kinds) => same_columns(alloc, kinds.as_slice()),
+            PlanNode::Body(kinds) => same_columns(alloc, kinds.as_slice()),
+            PlanNode::Compute { child, ops } => columns_with_ops(
+                alloc,
+                self.kinds(*child),
+                ops.as_slice(),
+            ),
+            PlanNode::Select { child, .. } => same_columns(alloc, self.kinds(*child)),
+            PlanNode::Project { child, items } => columns_of_items(
+                alloc,
+                self.kinds(*child),
+                items.as_slice(),
+            ),
+            PlanNode::Aggregate { child, aggs } => columns_of_aggs(
+                alloc,
+                self.kinds(*child),
+                aggs.as_slice(),
+            ),
+            PlanNode::Union { left, .. } => same_columns(alloc, self.kinds(*left)),
+            PlanNode::Beside { left, right } => columns_of_both(
+                alloc,
+                self.kinds(*left),
+                self.kinds(*right),
+            ),
+            PlanNode::Window { body, .. } => same_columns(alloc, self.kinds(*body)),
+            PlanNode::Group {
+                source,
+                body,
+                key,
+                ..
+            } => {
+                let key = kind_of_column(self.kinds(*source), *key as usize);
+                columns_with_key(alloc, key, self.kinds(*body))
+            }
+        }
+    }
 }
 
-// The place of the node among these nodes; where they lack it, it then stands last.
-fn place_among(nodes: &mut IndexSet<PlanNode>, node: PlanNode) -> Result<usize, Memory>
-    ensures place { IfOk result (λ place. place ≡ position_or_len (⟦<PlanNode as PartialEq>⟧.eq node) nodes.old.keys) }
-    ensures keys { OnOk result (nodes.new.keys ≡ insert_key ⟦<PlanNode as PartialEq>⟧.eq nodes.old.keys node) }
+// The place of the node among these nodes; where they lack it, it then stands last, with its kinds beside it.
+fn put(
+    nodes: &mut IndexSet<PlanNode>,
+    columns: &mut Vec<Kinds>,
+    node: PlanNode,
+    kinds: Kinds,
+) -> Result<usize, Memory>
+    ensures place { IfOk result (λ place. place ≡ position_or_len (same_node node) nodes.old.keys) }
+    ensures keys { OnOk result (nodes.new.keys ≡ insert_key same_node nodes.old.keys node) }
+    ensures known { OnOk result (list_any (same_node node) nodes.old.keys ≡ true → columns.new.items ≡ columns.old.items) }
+    ensures fresh { OnOk result (list_any (same_node node) nodes.old.keys ≡ false → columns.new.items ≡ columns.old.items ++ kinds ∷ []) }
+    ensures err_nodes { OnErr result (nodes.new.keys ≡ nodes.old.keys) }
+    ensures err_columns { OnErr result (columns.new.items ≡ columns.old.items) }
+{
+    columns.push(kinds)?;
+    let Ok((place, is_new)) = place_among(nodes, node) else {
+        let _ = columns.pop();
+        return Err(Memory);
+    };
+    if !is_new {
+        let _ = columns.pop();
+    }
+    Ok(place)
+}
+
+// The place of the node among these nodes, and whether they lack it; then it stands last.
+fn place_among(nodes: &mut IndexSet<PlanNode>, node: PlanNode) -> Result<(usize, bool), Memory>
+    ensures place { IfOk result (λ r. r.0 ≡ position_or_len (same_node node) nodes.old.keys) }
+    ensures lacked { IfOk result (λ r. r.1 ≡ not (list_any (same_node node) nodes.old.keys)) }
+    ensures keys { OnOk result (nodes.new.keys ≡ insert_key same_node nodes.old.keys node) }
     ensures err { OnErr result (nodes.new.keys ≡ nodes.old.keys) }
 {
     match nodes.insert_full(node) {
-        Ok((place, _)) => Ok(place),
+        Ok(found) => Ok(found),
         Err(_) => Err(Memory),
     }
 }

@@ -8,7 +8,7 @@ ghost use Rattle.gl_algebra.specs.Shapes.{shape_from, shape_of, HasShape, KeepsS
 ghost use Rattle.gl_algebra.specs.Worked.{WorkedFigures, WorkedWeights};
 
 use super::*;
-use gl_bits::{Kind, Listed};
+use gl_bits::{Kind, Listed, Op};
 use std::alloc::Global;
 use std::test::Fail;
 
@@ -39,7 +39,7 @@ fn put(plan: &mut Plan, node: PlanNode) -> Result<PlanId, Fail>
 fn tests(alloc: Global) -> Result<Ops, Fail>
     ensures { IfOk result (λ ops. ops ≡ every.tests) }
 {
-    let same = ColOp::Binary(Op2::Eq, Operand::Column(0), Operand::Column(0));
+    let same = ColOp::Binary(Op::Eq, Operand::Column(0), Operand::Column(0));
     Ok(Listed::from_vec(vec![in alloc; same]?))
 }
 

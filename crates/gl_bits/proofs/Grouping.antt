@@ -5,6 +5,8 @@ use Rattle.std.specs.List.{list_any}
 use Rattle.std.proofs.lemmas.List.Sums.{sum_by-cons}
 use Rattle.std.proofs.lemmas.Bool.Decides.{eqb_tells, leb_tells}
 use Rattle.std.proofs.lemmas.List.{take-append-le}
+use Rattle.gl_bits.proofs.AllLists.{map_map}
+use Rattle.gl_bits.proofs.Bools.{neither_left, neither_right}
 use Rattle.gl_bits.specs.Lists.{distinct, keys_of, rows_with, groups, Group}
 use Rattle.gl_bits.specs.Tables.{keyed_groups, table_group, with_key}
 use Rattle.gl_bits.specs.Laws.{HaveFirstKeys}
@@ -16,26 +18,18 @@ AreDistinct (k ∷ ks) = (list_any (nat_eq k) ks ≡ false) × AreDistinct ks
 
 -- ---- distinct numbers
 
-or_first : (a b : Bool) → (a || b) ≡ false → a ≡ false
-or_first true b e = e
-or_first false b e = refl
-
-or_second : (a b : Bool) → (a || b) ≡ false → b ≡ false
-or_second true b e = absurd cc
-or_second false b e = e
-
 pub any_filter : (p q : ℕ → Bool) (xs : List ℕ) → list_any p xs ≡ false → list_any p (filter q xs) ≡ false
 any_filter p q [] none = refl
-any_filter p q (x ∷ xs) none = split (q x) (any_filter p q xs (or_second (p x) (list_any p xs) none))
+any_filter p q (x ∷ xs) none = split (q x) (any_filter p q xs (neither_right (p x) (list_any p xs) none))
   where
     split : (b : Bool) → list_any p (filter q xs) ≡ false → list_any p (cond b (x ∷ filter q xs) (filter q xs)) ≡ false
-    split true later = rw (or_first (p x) (list_any p xs) none) later
+    split true later = rw (neither_left (p x) (list_any p xs) none) later
     split false later = later
 
 any_take : (p : ℕ → Bool) (n : ℕ) (xs : List ℕ) → list_any p xs ≡ false → list_any p (take n xs) ≡ false
 any_take p zero xs none = refl
 any_take p (suc n) [] none = refl
-any_take p (suc n) (x ∷ xs) none = rw (or_first (p x) (list_any p xs) none) (any_take p n xs (or_second (p x) (list_any p xs) none))
+any_take p (suc n) (x ∷ xs) none = rw (neither_left (p x) (list_any p xs) none) (any_take p n xs (neither_right (p x) (list_any p xs) none))
 
 distinct_filter : (q : ℕ → Bool) (xs : List ℕ) → AreDistinct xs → AreDistinct (filter q xs)
 distinct_filter q [] d = tt
@@ -96,10 +90,6 @@ sum_by-map : {A B : Type 0} (f : B → ℕ) (g : A → B) (xs : List A) → sum_
 sum_by-map f g [] = refl
 sum_by-map f g (x ∷ xs) = sum_by-cons f (g x) (map g xs) ∙ ap (λ n. f (g x) + n) (sum_by-map f g xs) ∙ sym (sum_by-cons (λ x. f (g x)) x xs)
 
-map-map : {A B C : Type 0} (f : B → C) (g : A → B) (xs : List A) → map f (map g xs) ≡ map (λ x. f (g x)) xs
-map-map f g [] = refl
-map-map f g (x ∷ xs) = ap (λ ys. f (g x) ∷ ys) (map-map f g xs)
-
 map-self : {A : Type 0} (xs : List A) → map (λ x. x) xs ≡ xs
 map-self [] = refl
 map-self (x ∷ xs) = ap (λ ys. x ∷ ys) (map-self xs)
@@ -110,8 +100,8 @@ have_first_keys {A = A} n key_of xs =
     let ks = take n (keys_of key_of xs) in
     let group : ℕ → Group A = λ key. record { key = key; rows = rows_with key_of xs key } in
     record {
-      keys = map-map (λ (g : Group A). g.key) group ks ∙ map-self ks;
-      rows = map-map (λ (g : Group A). g.rows) group ks;
+      keys = map_map (λ (g : Group A). g.key) group ks ∙ map-self ks;
+      rows = map_map (λ (g : Group A). g.rows) group ks;
       whole = sum_by-map (λ (g : Group A). length g.rows) group ks ∙ rows_of_keys key_of xs ks (distinct_take n (keys_of key_of xs) (distinct_once (map key_of xs)));
     }
 
@@ -234,4 +224,4 @@ key_next n column xs i x lt is =
 
 pub keyed_groups_are : (n column : ℕ) (xs : List (List ℕ)) → keyed_groups n column xs ≡ map (table_group column xs) (take n (keys_of (λ r. slice_index r column) xs))
 unfolding groups
-keyed_groups_are n column xs = map-map _ _ (take n (keys_of (λ r. slice_index r column) xs))
+keyed_groups_are n column xs = map_map _ _ (take n (keys_of (λ r. slice_index r column) xs))

@@ -1,5 +1,5 @@
 -- Plain facts about what may be absent, and about results.
-use Rattle.std.proofs.Common.{◌≡◌, Bool, true, Option, Some, None, Result, Ok, Err, refl, sym, subst}
+use Rattle.std.proofs.Common.{◌≡◌, true, Option, Some, None, Result, Ok, Err, refl, sym, subst}
 use Rattle.std.specs.Prelude.{is_some, option_map, option_and_then, IfSome, OnErr}
 
 pub some_same : {A : Type 0} (x y : A) → Some x ≡ Some y → x ≡ y

@@ -1,4 +1,9 @@
-//! Kinds, words and rows, and the definitions on lists of values that the whole of Glacier cites.
+//! Kinds, words and rows, and the definitions on lists of values that the whole of Glacier cites:
+//! slices, groups, interleavings, totals, and how results are made of results.
+//!
+//! Here belongs what queries, plans, netlists and modules all speak of, and every plain lemma on
+//! truth values, options, lists and words (`proofs/`, public). What has a name, a cycle or a wire
+//! does not.
 #![tactic(auto)]
 
 pub mod kind;

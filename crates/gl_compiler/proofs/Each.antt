@@ -9,6 +9,8 @@ use Rattle.gl_verilog.specs.Module.{Module, Nets, Memories}
 use Rattle.gl_verilog.specs.declared.module.Module.{Module as Rust}
 use Rattle.gl_verilog.specs.Run.{IsRun, port_of}
 use Rattle.gl_verilog.specs.Text.{HasModule}
+use Rattle.gl_verilog.specs.Valid.{IsValid}
+use Rattle.gl_verilog_orders.proofs.EventRuns.{event_runs_are_runs}
 use Rattle.gl_verilog.specs.View.{module_of}
 use Rattle.gl_verilog.proofs.ReadModules.{one_module}
 use Rattle.gl_sim.specs.Simulation.{Simulation, IsAt}
@@ -49,12 +51,12 @@ can_follow text schema kinds beats latency start d can has are =
     }
 
 -- each run from the start is one that the simulator is at
-pub of_timely : (schema : Schema) (beats : List Beat) (latency : ℕ) (start : Start) (d : Rust) (s : Simulation) (Q : List (List ℕ) → PortValues → Type 0) → s.design ≡ d
+pub of_timely : (schema : Schema) (beats : List Beat) (latency : ℕ) (start : Start) (d : Rust) (s : Simulation) (Q : List (List ℕ) → PortValues → Type 0) → IsValid (module_of d) → s.design ≡ d
     → ((value : ℕ → Nets) (word : ℕ → Memories) → StartsFrom start (module_of d) value word → IsAt s value word 0)
     → OfRuns s schema beats 0 (λ b outs port. EndsWithin latency b outs port → Q outs port) → OfTimely latency (module_of d) schema beats start Q
-of_timely schema beats latency start d s Q same started h = λ value word over ends.
+of_timely schema beats latency start d s Q valid same started h = λ value word over ends.
     let followed : IsFollowed s schema beats value word 0 = record {
-      run = subst (λ (e : Rust). IsRun (module_of e) value word) (sym same) over.run;
+      run = subst (λ (e : Rust). IsRun (module_of e) value word) (sym same) (event_runs_are_runs (module_of d) valid value word over.run);
       stimulus = subst (λ (e : Rust). IsStimulus schema beats (port_of (module_of e) value)) (sym same) over.stimulus;
       at = started value word over.starts;
     } in

@@ -1,4 +1,4 @@
--- A module with the ports that a schema asks for has a run over any beats of the schema, from any start.
+-- A module with the ports that a schema asks for has a run in some order of events over any beats of the schema, from any start.
 use Rattle.std.proofs.Common.{◌≡◌, ℕ, zero, suc, ◌^◌, ◌<◌, false, List, [], ◌∷◌, ◌++◌, map, Option, Some, None, refl, sym, ap, ◌∙◌, subst, codes}
 use Rattle.std.specs.Prelude.{slice_get, bytes_eq, IfSome}
 use Rattle.std.specs.Option.{option_map, option_map_or}
@@ -14,9 +14,10 @@ use Rattle.gl_net.specs.PortValues.{PortShape}
 use Rattle.gl_wiring.specs.EmittedPorts.{input, column_inputs, stream_inputs, streams_inputs}
 use Rattle.gl_verilog.specs.Module.{Module, Declaration, Input, Nets, Memories, number_of}
 use Rattle.gl_verilog.specs.Run.{Fit, port_of}
-use Rattle.gl_verilog.specs.Runnable.{RunsFrom, SameInputs, HasRuns}
+use Rattle.gl_verilog.specs.Runnable.{SameInputs}
 use Rattle.gl_verilog.specs.Valid.{AreDistinct}
 use Rattle.gl_verilog.specs.Widths.{is_clock}
+use Rattle.gl_verilog_orders.specs.Laws.{HasEventRuns}
 use Rattle.gl_verilog_writer.specs.Meaning.{clock, kind_of}
 use Rattle.gl_compiler.specs.Profile.{InputPort, inputs_of_schema, ports_of}
 use Rattle.gl_compiler.specs.Meets.{RunsOver}
@@ -143,7 +144,7 @@ module _ (m : Module) (schema : Schema) (beats : List Beat) (outs : List PortSha
       (subst (λ (o : Option ℕ). IfSome (option_map v o) (λ y. y ≡ p.value)) (sym number) (sym value ∙ here))
 
   -- there is a run over the beats
-  pub runs_over : (start : Nets) (words : Memories) → HasRuns m → ((t : ℕ) → AllByRecursion (λ (p : Pin). bytes_eq p.name (codes "clk") ≡ false) (pins schema beats t)) → Fit m.declarations start words → RunsOver m schema beats start words
+  pub runs_over : (start : Nets) (words : Memories) → HasEventRuns m → ((t : ℕ) → AllByRecursion (λ (p : Pin). bytes_eq p.name (codes "clk") ≡ false) (pins schema beats t)) → Fit m.declarations start words → RunsOver m schema beats start words
   runs_over start words has others fit =
       let r = has start words (λ t. given (pins schema beats t)) fit (λ t n d e. (given_fits t n d e, (fit n d e).1)) in
       record {

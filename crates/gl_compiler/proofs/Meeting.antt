@@ -18,8 +18,7 @@ use Rattle.gl_net.specs.Net.{Net}
 use Rattle.gl_net.specs.PortValues.{port_values, PortShape, port_shapes}
 use Rattle.gl_verilog.specs.Module.{Declaration}
 use Rattle.gl_verilog.specs.Run.{port_of}
-use Rattle.gl_verilog.proofs.Acyclic.{runnable}
-use Rattle.gl_verilog.proofs.Runs.{has_runs}
+use Rattle.gl_verilog_orders.proofs.EventRuns.{event_runs_are_runs, has_event_runs}
 use Rattle.gl_verilog_writer.specs.Meaning.{IsTextOf, clock}
 use Rattle.gl_wiring.specs.EmittedPorts.{column_widths, column_outputs, columns_at, result_outputs, emitted_ports}
 use Rattle.gl_wiring.specs.Select.{picks, IsRightSelect}
@@ -148,9 +147,9 @@ module _ (schema : Schema) (statement : Statement) (select : Select) (net : Net)
     widths = widths_are ∙ ap (map width_of) (sym (result_kinds-are schema statement is.built));
     runs = λ beats start words are fit.
         runs_over t.design schema beats (result_outputs (column_widths (columns_at schema.streams select.stream)) select.columns.items select.names.columns) design_ports t.has.valid.names are
-        start words (has_runs t.design (runnable t.design t.has.valid)) (pins_other schema beats) fit;
+        start words (has_event_runs t.design t.has.valid) (pins_other schema beats) fit;
     right = λ beats value word are gap run stimulus.
-        let r = t.runs value word run in
+        let r = t.runs value word (event_runs_are_runs t.design t.has.valid value word run) in
         let outs = map out_column select.names.columns in
         let port = port_of t.design value in
         let there = port_values net r.run in

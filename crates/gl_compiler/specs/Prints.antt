@@ -8,15 +8,16 @@ use Rattle.gl_schema.specs.Ports.{PortValues, IsStimulus}
 use Rattle.gl_schema.specs.Seen.{shown, seen, lines}
 use Rattle.gl_outside.specs.Taken.{Appends, AppendsFront}
 use Rattle.gl_verilog.specs.Module.{Module, Nets, Memories}
-use Rattle.gl_verilog.specs.Run.{IsRun, port_of}
+use Rattle.gl_verilog.specs.Run.{port_of}
 use Rattle.gl_verilog.specs.Text.{HasModule}
+use Rattle.gl_verilog_orders.specs.Events.{IsEventRun}
 use Rattle.gl_sim.specs.declared.start.Start.{Start}
 use Rattle.gl_sim.specs.Starts.{StartsFrom}
 use Rattle.gl_compiler.specs.Profile.{FitsSchema, result_names, result_widths}
 
--- a run of a module from this start, with these beats on its inputs
+-- a run of a module in some order of events from this start, with these beats on its inputs
 pub record IsRunOver (m : Module) (schema : Schema) (beats : List Beat) (start : Start) (value : ℕ → Nets) (word : ℕ → Memories) : Type 0 where
-  pub run : IsRun m value word
+  pub run : IsEventRun m value word
   pub starts : StartsFrom start m value word
   pub stimulus : IsStimulus schema beats (port_of m value)
 

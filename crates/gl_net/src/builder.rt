@@ -14,7 +14,7 @@ ghost use Rattle.gl_net.specs.WellFormed.{NodeFits, IsDrive};
 ghost use Rattle.gl_net.specs.Steps.{Adds, AddsPort, AddsInput, Names, Drives, DrivesMemory};
 ghost use Rattle.gl_net.specs.Finished.{IsFinished, needs_reset};
 
-use crate::netlist::{NetFault, Netlist};
+use crate::netlist::Netlist;
 use crate::node::{BinaryOp, Bit, Bus, Direction, MemoryDrive, Node, Port, Store};
 use gl_bits::{Listed, Memory, Word};
 use std::alloc::Global;
@@ -170,9 +170,9 @@ impl NetBuilder {
     }
 
     /// The finished netlist, with the same nodes, ports and names.
-    pub fn finish(self) -> Result<Netlist, NetFault>
+    pub fn finish(self) -> Netlist
         requires { IsFinished self }
-        ensures { IfOk result (λ netlist. netlist ≡ self) }
+        ensures { result ≡ self }
     {
         let NetBuilder {
             alloc: _,
@@ -181,7 +181,7 @@ impl NetBuilder {
             name,
         } = self;
         match name {
-            Some(name) => Ok(Netlist { nodes, ports, name }),
+            Some(name) => Netlist { nodes, ports, name },
             None => unreachable!(),
         }
     }

@@ -7,7 +7,7 @@ pub mod netlist;
 pub mod node;
 
 pub use builder::NetBuilder;
-pub use netlist::{NetFault, Netlist};
+pub use netlist::Netlist;
 pub use node::{BinaryOp, Bit, Bus, Buses, Direction, MemoryDrive, Node, Port, Store};
 
 #[cfg(test)]

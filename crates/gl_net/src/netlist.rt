@@ -5,15 +5,6 @@ ghost use Rattle.std.specs.Prelude.{◌≡◌, Some};
 use crate::node::{Node, Port};
 use gl_bits::Listed;
 use std::marker::Model;
-use thiserror::Error;
-
-/// Why a netlist was not finished.
-#[derive(Debug, Drop, Error)]
-pub enum NetFault {
-    /// Want of memory.
-    #[error("out of memory")]
-    Memory,
-}
 
 /// A netlist whose registers and memories are driven, and whose ports and module have names.
 #[derive(Drop)]

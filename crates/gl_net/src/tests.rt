@@ -42,7 +42,6 @@ fn count_cycles(
 }
 
 // The word of a memory at the address, which takes the value there in each cycle in which `write` is 1.
-#[tactic(auto, using(crate::proofs::Values::stored_now))]
 fn hold_word(net: &mut NetBuilder, write: Bit, address: Bus, value: Bus) -> Result<Bus, Memory>
     requires write { IsBit net.old write }
     requires address { IsBus net.old address }
@@ -90,7 +89,7 @@ fn delay_netlist(alloc: Global) -> Result<Netlist, Memory> {
     if net.needs_reset() {
         return Err(Memory);
     }
-    net.finish().map_err(|_| Memory)
+    Ok(net.finish())
 }
 
 // A node of every kind: a choice, a count that is reset, and a memory.
@@ -110,7 +109,7 @@ fn mixed_netlist(alloc: Global) -> Result<Netlist, Memory> {
     net.output(b"count", count)?;
     net.output(b"word", word)?;
     net.module(b"mixed")?;
-    net.finish().map_err(|_| Memory)
+    Ok(net.finish())
 }
 
 #[test]

@@ -1,9 +1,8 @@
 -- What records add up to are beats of the schema.
-use Rattle.std.proofs.Common.{◌≡◌, ℕ, zero, suc, ◌+◌, ◌-◌, ◌*◌, ◌^◌, ◌<◌, ◌≤◌, Bool, true, false, cond, not, ◌&&◌, ◌||◌, List, [], ◌∷◌, ◌++◌, length, drop, Option, Some, None, Result, Ok, Err, refl, sym, ap, ◌∙◌, subst, arith, inl, inr}
-use Rattle.std.specs.Prelude.{map, option_map, slice_get, slice_set, replicate, is_some, IfSome, IsTrue, IsFalse, nat_lt, nat_le, ◌==◌, bytes_eq, codes, position, unwrap_or}
+use Rattle.std.proofs.Common.{◌≡◌, ℕ, zero, suc, ◌+◌, ◌-◌, ◌*◌, ◌^◌, ◌<◌, ◌≤◌, Bool, true, false, cond, ◌&&◌, List, [], ◌∷◌, ◌++◌, length, drop, Option, Some, None, Result, Ok, Err, refl, sym, ap, subst, arith, inl, inr}
+use Rattle.std.specs.Prelude.{map, option_map, slice_get, slice_set, replicate, is_some, IsTrue, IsFalse, nat_lt, nat_le, ◌==◌, bytes_eq, codes, unwrap_or}
 use Rattle.std.specs.List.{AllByRecursion, list_any, list_all, fold}
-use Rattle.std.proofs.lemmas.Bool.{cases_Bool, ltb-true, ltb-false, leb-true, and_parts, or_left, or_right, eqb-true, eqb-false, false≢true, true≢false}
-use Rattle.std.proofs.lemmas.List.{length-replicate, length-append}
+use Rattle.std.proofs.lemmas.Bool.{cases_Bool, ltb-true, ltb-false, leb-true, and_parts, or_right, eqb-false, false≢true}
 use Rattle.std.proofs.lemmas.List.Quantifiers.{position-Some}
 use Rattle.gl_bits.specs.declared.kind.Kind.{Kind}
 use Rattle.gl_bits.specs.declared.kind.Kind.TheVariants.{Unsigned, Text}
@@ -13,20 +12,19 @@ use Rattle.gl_schema.specs.declared.schema.Column.{Column}
 use Rattle.gl_schema.specs.declared.schema.Stream.{Stream}
 use Rattle.gl_schema.specs.declared.schema.Schema.{Schema}
 use Rattle.gl_schema.specs.Schemas.{IsRowOf, number_of, text_word, padded}
-use Rattle.gl_schema.specs.Beats as plain
-use Rattle.gl_schema.specs.Beats.{AreRowsOf, IsBeat, AreBeats, AreInOrder, last_cycle}
+use Rattle.gl_schema.specs.Beats.{AreRowsOf, IsBeat, AreInOrder, last_cycle}
 use Rattle.gl_tuples.specs.declared.beats.Beat.{Beat}
 use Rattle.gl_tuples.specs.declared.entry.Entry.{Entry}
 use Rattle.gl_tuples.specs.declared.entry.Entry.TheVariants.{Tuple, End}
 use Rattle.gl_tuples.specs.declared.filing.Filing.{Filing}
 use Rattle.gl_tuples.specs.declared.fault.TupleFault.{TupleFault}
-use Rattle.gl_tuples.specs.declared.fault.TupleFault.TheVariants.{FieldCount, StreamTwice, AfterEnd, CycleFalls, CycleTooLarge, BadCycle, UnknownStream, BadValue}
+use Rattle.gl_tuples.specs.declared.fault.TupleFault.TheVariants.{FieldCount, StreamTwice, AfterEnd, CycleFalls, CycleTooLarge}
 use Rattle.gl_tuples.specs.Values.{word_of, fitting, is_plain, is_printable}
 use Rattle.gl_tuples.specs.Values as values
-use Rattle.gl_tuples.specs.Entries.{◌>>=◌, words_of, row_of, row_found, columns_at, entry_of, entry_named, tuple_of, stream_named, cycle_of, cycle_below, option_bind}
+use Rattle.gl_tuples.specs.Entries.{words_of, row_of, row_found, columns_at, entry_of, entry_named, tuple_of, stream_named, cycle_of, cycle_below, option_bind}
 use Rattle.gl_tuples.specs.Filing.{filing_after, next_filing, no_records, ended, beats_of, beat_with, beat_of, whole_before, empty_beat, open_checked, cycle_checked, has_row}
 use Rattle.gl_tuples.specs.Gaps.{plain_beat, plain_beats, AreFileBeats}
-use Rattle.gl_tuples.proofs.Numbers.{bits_more, length-padded}
+use Rattle.gl_schema.proofs.TextNumbers.{bits_more, length-padded}
 use Rattle.gl_tuples.proofs.Filings.{Next, next_tells, bind_ok, ok_is, guard_ok}
 
 -- bytes of a text in n bytes make a number of 8 * n bits

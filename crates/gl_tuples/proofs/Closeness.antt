@@ -1,7 +1,7 @@
 -- The first beat that is too close, and that there is none.
-use Rattle.std.proofs.Common.{◌≡◌, ℕ, zero, suc, ◌+◌, ◌-◌, ◌<◌, ◌≤◌, Bool, true, false, cond, List, [], ◌∷◌, length, drop, get_or, Option, Some, None, Result, Ok, Err, refl, sym, ap, ◌∙◌, arith, ◌↔◌, inl, inr}
-use Rattle.std.specs.Prelude.{IsOk, is_ok, nat_lt}
-use Rattle.std.proofs.lemmas.Bool.{cases_Bool, ltb-true, ltb-false, le-ltb, false≢true}
+use Rattle.std.proofs.Common.{◌≡◌, ℕ, zero, suc, ◌+◌, ◌-◌, ◌<◌, ◌≤◌, true, false, cond, List, [], ◌∷◌, length, drop, get_or, Option, Some, None, refl, sym, ◌∙◌, arith, ◌↔◌, inl, inr}
+use Rattle.std.specs.Prelude.{IsOk, nat_lt}
+use Rattle.std.proofs.lemmas.Bool.{cases_Bool, ltb-false, le-ltb, false≢true}
 use Rattle.gl_schema.specs.Beats.{KeepsGap}
 use Rattle.gl_tuples.specs.declared.beats.Beat.{Beat}
 use Rattle.gl_tuples.specs.Gaps.{first_close, close_answer, plain_beats}

@@ -1,24 +1,21 @@
 -- The beats that records add up to have the records' rows and numbers.
-use Rattle.std.proofs.Common.{◌≡◌, ℕ, zero, suc, ◌+◌, ◌<◌, ◌≤◌, Bool, true, false, cond, not, ◌&&◌, List, [], ◌∷◌, ◌++◌, length, drop, Option, Some, None, Result, Ok, Err, refl, sym, ap, ◌∙◌, subst, arith, append_assoc, inl, inr}
-use Rattle.std.specs.Prelude.{map, option_map, slice_get, slice_set, replicate, is_some, unwrap_or, find, nat_lt, ◌==◌, bytes_eq, codes}
-use Rattle.std.proofs.lemmas.Bool.{cases_Bool, cases_eq, eq-eqb, ne_eqb, eqb-true, eqb-false, ltb-false, and_parts, true≢false, false≢true}
+use Rattle.std.proofs.Common.{◌≡◌, ℕ, zero, suc, ◌+◌, ◌<◌, ◌≤◌, Bool, true, false, cond, List, [], ◌∷◌, ◌++◌, length, drop, Option, Some, None, Ok, Err, refl, sym, ap, ◌∙◌, subst, arith, append_assoc, inl, inr}
+use Rattle.std.specs.Prelude.{option_map, slice_get, slice_set, replicate, unwrap_or, find, nat_lt, ◌==◌, bytes_eq, codes}
+use Rattle.std.proofs.lemmas.Bool.{cases_Bool, eq-eqb, ne_eqb, eqb-true, eqb-false, ltb-false, true≢false}
 use Rattle.std.proofs.lemmas.List.{append-nil, length-append}
-use Rattle.gl_bits.specs.Words.{Word, bits_of}
+use Rattle.gl_bits.specs.Words.{Word}
 use Rattle.gl_schema.specs.declared.schema.Schema.{Schema}
-use Rattle.gl_schema.specs.Beats.{row_in}
 use Rattle.gl_tuples.specs.declared.beats.Beat.{Beat}
 use Rattle.gl_tuples.specs.declared.entry.Entry.{Entry}
 use Rattle.gl_tuples.specs.declared.entry.Entry.TheVariants.{Tuple, End}
 use Rattle.gl_tuples.specs.declared.filing.Filing.{Filing}
-use Rattle.gl_tuples.specs.declared.fault.TupleFault.{TupleFault}
 use Rattle.gl_tuples.specs.declared.fault.TupleFault.TheVariants.{StreamTwice, FieldCount, CycleTooLarge, AfterEnd, CycleFalls}
 use Rattle.gl_tuples.specs.Values.{number_of}
-use Rattle.gl_tuples.specs.Entries.{◌>>=◌, words_of, row_of, row_found, columns_at, entry_of, entry_named, tuple_of, stream_named, cycle_of, cycle_below, option_bind}
-use Rattle.gl_tuples.specs.Filing.{filing_after, next_filing, no_records, ended, beats_of, beat_with, beat_of, whole_before, empty_beat, has_row, HasRows, open_checked, cycle_checked}
-use Rattle.gl_tuples.specs.Gaps.{plain_beat}
-use Rattle.gl_tuples.specs.FileBeats.{is_number, in_cycle, names, row_named, row_for, either, row_of_records, number_from, number_of_records, number_at, row_at, AreBeatsOf}
+use Rattle.gl_tuples.specs.Entries.{words_of, row_of, columns_at, entry_of, entry_named, tuple_of, stream_named, cycle_of, cycle_below, option_bind}
+use Rattle.gl_tuples.specs.Filing.{filing_after, next_filing, no_records, ended, beat_with, beat_of, whole_before, empty_beat, has_row, HasRows, open_checked, cycle_checked}
+use Rattle.gl_tuples.specs.FileBeats.{is_number, in_cycle, row_named, row_for, either, row_of_records, number_from, number_of_records, number_at, row_among, row_at}
 use Rattle.gl_tuples.proofs.Filings.{Next, next_tells, bind_ok, ok_is, guard_ok, next_rows, beat_long}
-use Rattle.gl_tuples.proofs.Beatings.{RisesTo, IsOpen, CurrentFits, IsFiled, filed_next, beats_sound, found_row, EntryFits, entry_fits, rises_push, ok_true}
+use Rattle.gl_tuples.proofs.Beatings.{RisesTo, CurrentFits, IsFiled, filed_next, found_row, EntryFits, entry_fits, rises_push, ok_true}
 
 -- the cycle of a record, both ways
 cycle_said : (number : ℕ) (o : Option ℕ) (cycle c : ℕ) → cycle_below number o ≡ Ok cycle → is_number c o ≡ (cycle == c)
@@ -30,9 +27,9 @@ unfolding cycle_of
 in_cycle_is number fs cycle c h = cycle_said number (option_bind (slice_get fs 0) number_of) cycle c h
 
 -- the row that an entry brings to stream k
-abbrev brought : Entry → ℕ → Option (List ℕ)
+abbrev brought : Entry → ℕ → Option (List Word)
 brought End k = None
-brought (Tuple j row) k = cond (j == k) (Some (bits_of row)) None
+brought (Tuple j row) k = cond (j == k) (Some row) None
 
 row_found_is : (number : ℕ) (schema : Schema) (j : ℕ) (fs : List (List ℕ)) (row : List Word) → row_of number (columns_at schema.streams j) fs ≡ Ok row → words_of (columns_at schema.streams j) (drop 2 fs) ≡ Some row
 unfolding row_of
@@ -42,14 +39,14 @@ row_found_is number schema j fs row h = elim (cases_Bool (length fs == 2 + lengt
 ]
 
 tuple_row : (schema : Schema) (j k : ℕ) (fs : List (List ℕ)) (row : List Word) → words_of (columns_at schema.streams j) (drop 2 fs) ≡ Some row
-    → cond (j == k) (option_map bits_of (words_of (columns_at schema.streams k) (drop 2 fs))) None ≡ cond (j == k) (Some (bits_of row)) None
+    → cond (j == k) (words_of (columns_at schema.streams k) (drop 2 fs)) None ≡ cond (j == k) (Some row) None
 tuple_row schema j k fs row h = elim (cases_Bool (j == k)) [
-  | inl t ↦ rw t (ap (λ (x : ℕ). option_map bits_of (words_of (columns_at schema.streams x) (drop 2 fs))) (sym (eqb-true j k t)) ∙ ap (option_map bits_of) h)
+  | inl t ↦ rw t (ap (λ (x : ℕ). words_of (columns_at schema.streams x) (drop 2 fs)) (sym (eqb-true j k t)) ∙ h)
   | inr f ↦ rw f refl
 ]
 
 tuple_brings : (number : ℕ) (schema : Schema) (k : ℕ) (fs : List (List ℕ)) (o : Option ℕ) (entry : Entry) → tuple_of number schema fs o ≡ Ok entry
-    → cond (is_number k o) (option_map bits_of (words_of (columns_at schema.streams k) (drop 2 fs))) None ≡ brought entry k
+    → cond (is_number k o) (words_of (columns_at schema.streams k) (drop 2 fs)) None ≡ brought entry k
 tuple_brings number schema k fs None entry h = absurd cc
 tuple_brings number schema k fs (Some j) entry h =
     let a = bind_ok (row_of number (columns_at schema.streams j) fs) (λ row. Ok (Tuple j row)) entry h in
@@ -74,16 +71,12 @@ either_none : {A : Type 0} (o : Option A) → o ≡ either o None
 either_none None = refl
 either_none (Some x) = refl
 
--- the row of stream k among the rows of a beat
-abbrev row_among : List (Option (List Word)) → ℕ → Option (List ℕ)
-row_among rows k = unwrap_or (slice_get (map (λ r. option_map bits_of r) rows) k) None
-
-row_set : (rows : List (Option (List Word))) (j k : ℕ) (row : List Word) → j < length rows → row_among (slice_set rows j (Some row)) k ≡ cond (j == k) (Some (bits_of row)) (row_among rows k)
+row_set : (rows : List (Option (List Word))) (j k : ℕ) (row : List Word) → j < length rows → row_among (slice_set rows j (Some row)) k ≡ cond (j == k) (Some row) (row_among rows k)
 row_set [] j k row lt = absurd (omega arith)
 row_set (r ∷ rows) zero zero row lt = refl
 row_set (r ∷ rows) zero (suc k) row lt = rw (ne_eqb 0 (suc k) (λ e. absurd (omega (arith, e)))) refl
 row_set (r ∷ rows) (suc j) zero row lt = rw (ne_eqb (suc j) 0 (λ e. absurd (omega (arith, e)))) refl
-row_set (r ∷ rows) (suc j) (suc k) row lt = row_set rows j k row (omega arith) ∙ ap (λ (b : Bool). cond b (Some (bits_of row)) (row_among rows k)) (same_test j k)
+row_set (r ∷ rows) (suc j) (suc k) row lt = row_set rows j k row (omega arith) ∙ ap (λ (b : Bool). cond b (Some row) (row_among rows k)) (same_test j k)
   where
     same_test : (j k : ℕ) → (j == k) ≡ (suc j == suc k)
     same_test j k = elim (cases_Bool (j == k)) [
@@ -108,9 +101,9 @@ record Filled (b : Beat) (entry : Entry) (full : Beat) : Type 0 where
   number : full.number ≡ b.number
   rows : (k : ℕ) → row_among full.rows k ≡ either (row_among b.rows k) (brought entry k)
 
-set_row : (rows : List (Option (List Word))) (j k : ℕ) (row : List Word) → j < length rows → has_row rows j ≡ false → row_among (slice_set rows j (Some row)) k ≡ either (row_among rows k) (cond (j == k) (Some (bits_of row)) None)
+set_row : (rows : List (Option (List Word))) (j k : ℕ) (row : List Word) → j < length rows → has_row rows j ≡ false → row_among (slice_set rows j (Some row)) k ≡ either (row_among rows k) (cond (j == k) (Some row) None)
 set_row rows j k row lt none = row_set rows j k row lt ∙ elim (cases_Bool (j == k)) [
-  | inl t ↦ rw t (sym (ap (λ (o : Option (List ℕ)). either o (Some (bits_of row))) (ap (row_among rows) (sym (eqb-true j k t)) ∙ row_missing rows j none)))
+  | inl t ↦ rw t (sym (ap (λ (o : Option (List Word)). either o (Some row)) (ap (row_among rows) (sym (eqb-true j k t)) ∙ row_missing rows j none)))
   | inr f ↦ rw f (either_none (row_among rows k))
 ]
 
@@ -125,7 +118,7 @@ filled_is number b (Tuple j row) full lt h =
     subst (Filled b (Tuple j row)) p.1 (record { cycle = refl; number = refl; rows = λ k. set_row b.rows j k row lt p.0 })
 
 -- the beat of a cycle
-abbrev at_cycle : List Beat → ℕ → Option Beat
+abbrev pub at_cycle : List Beat → ℕ → Option Beat
 at_cycle bs c = find (λ b. b.cycle == c) bs
 
 find_other : (bs : List Beat) (b : Beat) (c : ℕ) → (b.cycle == c) ≡ false → at_cycle (bs ++ b ∷ []) c ≡ at_cycle bs c
@@ -158,22 +151,22 @@ none_at (d ∷ f ∷ bs) c h = rw (ne_eqb d.cycle c (λ e. absurd (not_less d.cy
     not_less x y z p q e = omega (arith, e)
 
 -- all beats so far
-abbrev filed_beats : List Beat → Option Beat → List Beat
+abbrev pub filed_beats : List Beat → Option Beat → List Beat
 filed_beats whole None = whole
 filed_beats whole (Some b) = whole ++ b ∷ []
 
 -- a beat was there, or none was and it is empty
-abbrev WasThere : ℕ → ℕ → Option Beat → Beat → Type 0
+abbrev pub WasThere : ℕ → ℕ → Option Beat → Beat → Type 0
 WasThere number streams None base = (base.number ≡ number) × (base.rows ≡ replicate streams None)
 WasThere number streams (Some d) base = d ≡ base
 
 -- the beats with one that an entry was added to: its cycle has that one, all others are as before
-record Turn (number streams : ℕ) (whole : List Beat) (current : Option Beat) (cycle : ℕ) (front : List Beat) (base : Beat) : Type 0 where
-  others : (c : ℕ) → (cycle == c) ≡ false → at_cycle front c ≡ at_cycle (filed_beats whole current) c
-  rises : at_cycle front cycle ≡ None
-  cycled : base.cycle ≡ cycle
+pub record Turn (number streams : ℕ) (whole : List Beat) (current : Option Beat) (cycle : ℕ) (front : List Beat) (base : Beat) : Type 0 where
+  pub others : (c : ℕ) → (cycle == c) ≡ false → at_cycle front c ≡ at_cycle (filed_beats whole current) c
+  pub rises : at_cycle front cycle ≡ None
+  pub cycled : base.cycle ≡ cycle
   -- the beat was there, or the cycle is new and the beat is empty
-  was : WasThere number streams (at_cycle (filed_beats whole current) cycle) base
+  pub was : WasThere number streams (at_cycle (filed_beats whole current) cycle) base
 
 turn_some : (number streams : ℕ) (whole : List Beat) (d : Beat) (cycle : ℕ) → RisesTo whole d.cycle → (d.cycle < cycle → RisesTo (whole ++ d ∷ []) cycle) → d.cycle ≤ cycle
     → Turn number streams whole (Some d) cycle (whole_before cycle whole (Some d)) (beat_of streams cycle number (Some d))
@@ -199,9 +192,9 @@ turn_none : (number streams : ℕ) (cycle : ℕ) → Turn number streams [] None
 turn_none number streams cycle = record { others = λ c f. refl; rises = refl; cycled = refl; was = (refl, refl) }
 
 -- the records so far are shown by the beats so far
-record Shows (schema : Schema) (rs : List (List (List ℕ))) (f : Filing) : Type 0 where
-  numbers : (c : ℕ) → number_at (filed_beats f.whole f.current) c ≡ number_from 1 c rs
-  rows : (c k : ℕ) → row_at (filed_beats f.whole f.current) c k ≡ row_of_records schema c k rs
+pub record Shows (schema : Schema) (rs : List (List (List ℕ))) (f : Filing) : Type 0 where
+  pub numbers : (c : ℕ) → number_at (filed_beats f.whole f.current) c ≡ number_from 1 c rs
+  pub rows : (c k : ℕ) → row_at (filed_beats f.whole f.current) c k ≡ row_of_records schema c k rs
 
 number_from-push : (n c : ℕ) (rs : List (List (List ℕ))) (r : List (List ℕ)) → number_from n c (rs ++ r ∷ []) ≡ either (number_from n c rs) (cond (in_cycle c r) (Some (n + length rs)) None)
 number_from-push n c [] r = ap (λ (x : ℕ). cond (in_cycle c r) (Some x) None) (let e : n ≡ n + 0 = omega arith in e)
@@ -223,7 +216,7 @@ number_here : (number streams : ℕ) (o : Option Beat) (base : Beat) → WasTher
 number_here number streams None base w = ap Some w.0
 number_here number streams (Some d) base w = ap (λ (b : Beat). Some b.number) (sym w)
 
-row_here : (number streams : ℕ) (o : Option Beat) (base : Beat) (k : ℕ) → WasThere number streams o base → row_among base.rows k ≡ option_bind o (λ b. row_in k (plain_beat b))
+pub row_here : (number streams : ℕ) (o : Option Beat) (base : Beat) (k : ℕ) → WasThere number streams o base → row_among base.rows k ≡ option_bind o (λ b. row_among b.rows k)
 row_here number streams None base k w = ap (λ (rows : List (Option (List Word))). row_among rows k) w.1 ∙ no_rows streams k
 row_here number streams (Some d) base k w = ap (λ (b : Beat). row_among b.rows k) (sym w)
 
@@ -249,13 +242,13 @@ shows_next schema rs f r g n shows counted lt turn =
             ∙ either_none (number_from 1 c rs) ∙ ap (λ (b : Bool). either (number_from 1 c rs) (cond b (Some (1 + length rs)) None)) (sym (in_cycle_is (f.records + 1) r n.cycle c n.cycled ∙ e)) ∙ sym (number_from-push 1 c rs r)
       ];
       rows = λ c k. elim (cases_Bool (n.cycle == c)) [
-        | inl t ↦ ap (λ (o : Option Beat). option_bind o (λ b. row_in k (plain_beat b))) (find_new front n.beat c (ap (at_cycle front) (sym (eqb-true n.cycle c t)) ∙ turn.rises) (ap (λ (x : ℕ). x == c) same_cycle ∙ t))
+        | inl t ↦ ap (λ (o : Option Beat). option_bind o (λ b. row_among b.rows k)) (find_new front n.beat c (ap (at_cycle front) (sym (eqb-true n.cycle c t)) ∙ turn.rises) (ap (λ (x : ℕ). x == c) same_cycle ∙ t))
             ∙ full.rows k
-            ∙ ap (λ (o : Option (List ℕ)). either o (brought n.entry k)) (row_here (f.records + 1) (length schema.streams) _ base k turn.was ∙ shows.rows n.cycle k ∙ ap (λ (x : ℕ). row_of_records schema x k rs) (eqb-true n.cycle c t))
+            ∙ ap (λ (o : Option (List Word)). either o (brought n.entry k)) (row_here (f.records + 1) (length schema.streams) _ base k turn.was ∙ shows.rows n.cycle k ∙ ap (λ (x : ℕ). row_of_records schema x k rs) (eqb-true n.cycle c t))
             ∙ ap (either (row_of_records schema c k rs)) (sym (entry_brings (f.records + 1) schema k r n.entry n.entered))
             ∙ ap (λ (b : Bool). either (row_of_records schema c k rs) (cond b (row_for schema k r) None)) (sym (in_cycle_is (f.records + 1) r n.cycle c n.cycled ∙ t))
             ∙ sym (row_of_records-push schema c k rs r)
-        | inr e ↦ ap (λ (o : Option Beat). option_bind o (λ b. row_in k (plain_beat b))) (find_other front n.beat c (ap (λ (x : ℕ). x == c) same_cycle ∙ e) ∙ turn.others c e) ∙ shows.rows c k
+        | inr e ↦ ap (λ (o : Option Beat). option_bind o (λ b. row_among b.rows k)) (find_other front n.beat c (ap (λ (x : ℕ). x == c) same_cycle ∙ e) ∙ turn.others c e) ∙ shows.rows c k
             ∙ either_none (row_of_records schema c k rs) ∙ ap (λ (b : Bool). either (row_of_records schema c k rs) (cond b (row_for schema k r) None)) (sym (in_cycle_is (f.records + 1) r n.cycle c n.cycled ∙ e)) ∙ sym (row_of_records-push schema c k rs r)
       ];
     })
@@ -264,20 +257,20 @@ entry_in : (schema : Schema) (n : ℕ) (entry : Entry) → EntryFits schema entr
 entry_in schema n End fits e = tt
 entry_in schema n (Tuple j row) fits e = subst (λ (m : ℕ). j < m) (sym e) fits.0
 
-turn_is : (schema : Schema) (number : ℕ) (whole : List Beat) (current : Option Beat) (cycle : ℕ) → CurrentFits schema whole current → open_checked number current ≡ Ok tt → cycle_checked number cycle current ≡ Ok tt
+pub turn_is : (schema : Schema) (number : ℕ) (whole : List Beat) (current : Option Beat) (cycle : ℕ) → CurrentFits schema whole current → open_checked number current ≡ Ok tt → cycle_checked number cycle current ≡ Ok tt
     → Turn number (length schema.streams) whole current cycle (whole_before cycle whole current) (beat_of (length schema.streams) cycle number current)
 turn_is schema number whole None cycle c a b = subst (λ (w : List Beat). Turn number (length schema.streams) w None cycle w (empty_beat (length schema.streams) cycle number)) (sym c) (turn_none number (length schema.streams) cycle)
 turn_is schema number whole (Some d) cycle c a b =
     turn_some number (length schema.streams) whole d cycle c.rises (λ lt. rises_push whole d cycle c.rises (ok_true d.end (AfterEnd number) a) lt) (ltb-false cycle d.cycle (ok_true (nat_lt cycle d.cycle) (CycleFalls number) b))
 
 -- the state after records, with what it shows
-record Stands (schema : Schema) (rs : List (List (List ℕ))) (f : Filing) : Type 0 where
-  filed : IsFiled schema f
-  long : HasRows (length schema.streams) f.current
-  counted : f.records ≡ length rs
-  shows : Shows schema rs f
+pub record Stands (schema : Schema) (rs : List (List (List ℕ))) (f : Filing) : Type 0 where
+  pub filed : IsFiled schema f
+  pub long : HasRows (length schema.streams) f.current
+  pub counted : f.records ≡ length rs
+  pub shows : Shows schema rs f
 
-stands_next : (schema : Schema) (rs : List (List (List ℕ))) (f : Filing) (r : List (List ℕ)) (g : Filing) → Stands schema rs f → Next schema f r g → Stands schema (rs ++ r ∷ []) g
+pub stands_next : (schema : Schema) (rs : List (List (List ℕ))) (f : Filing) (r : List (List ℕ)) (g : Filing) → Stands schema rs f → Next schema f r g → Stands schema (rs ++ r ∷ []) g
 stands_next schema rs f r g s n = record {
   filed = filed_next schema f r g s.filed n;
   long = next_rows schema f r g s.long n;
@@ -287,14 +280,14 @@ stands_next schema rs f r g s n = record {
       (turn_is schema (f.records + 1) f.whole f.current n.cycle s.filed.current n.opened n.rises);
 }
 
-stands_after : (schema : Schema) (rs us : List (List (List ℕ))) (f g : Filing) → Stands schema rs f → filing_after schema us f ≡ Ok g → Stands schema (rs ++ us) g
+pub stands_after : (schema : Schema) (rs us : List (List (List ℕ))) (f g : Filing) → Stands schema rs f → filing_after schema us f ≡ Ok g → Stands schema (rs ++ us) g
 stands_after schema rs [] f g s e = subst (λ (x : List (List (List ℕ))). Stands schema x g) (sym (append-nil rs)) (subst (Stands schema rs) (ok_is f g e) s)
 stands_after schema rs (u ∷ us) f g s e =
     let b = bind_ok (next_filing schema f u) (filing_after schema us) g e in
     subst (λ (x : List (List (List ℕ))). Stands schema x g) (append_assoc rs (u ∷ []) us)
     (stands_after schema (rs ++ u ∷ []) us b.0 g (stands_next schema rs f u b.0 s (next_tells schema f u b.0 b.1)) b.2)
 
-stands_first : (schema : Schema) → Stands schema [] no_records
+pub stands_first : (schema : Schema) → Stands schema [] no_records
 stands_first schema = record { filed = record { whole = tt; current = refl }; long = tt; counted = refl; shows = record { numbers = λ c. refl; rows = λ c k. refl } }
 
 -- the end changes neither numbers nor rows
@@ -332,24 +325,12 @@ empty_number streams c = elim (cases_Bool (0 == c)) [ inl t ↦ rw t refl | inr 
 empty_row : (streams c k : ℕ) → row_at (record (empty_beat streams 0 0) { end = true } ∷ []) c k ≡ None
 empty_row streams c k = elim (cases_Bool (0 == c)) [ inl t ↦ rw t (no_rows streams k) | inr f ↦ rw f refl ]
 
-shown_numbers : (schema : Schema) (rs : List (List (List ℕ))) (f : Filing) (c : ℕ) → filing_after schema rs no_records ≡ Ok f → number_at (ended (length schema.streams) f) c ≡ number_of_records c rs
+pub shown_numbers : (schema : Schema) (rs : List (List (List ℕ))) (f : Filing) (c : ℕ) → filing_after schema rs no_records ≡ Ok f → number_at (ended (length schema.streams) f) c ≡ number_of_records c rs
 shown_numbers schema [] f c e = ap (λ (f : Filing). number_at (ended (length schema.streams) f) c) (sym (ok_is no_records f e)) ∙ empty_number (length schema.streams) c
 shown_numbers schema (r ∷ rs) f c e = let h = after_one schema r rs no_records f e in
     ended_numbers (length schema.streams) f h.beat c h.is ∙ (stands_after schema [] (r ∷ rs) no_records f (stands_first schema) e).shows.numbers c
 
-shown_rows : (schema : Schema) (rs : List (List (List ℕ))) (f : Filing) (c k : ℕ) → filing_after schema rs no_records ≡ Ok f → row_at (ended (length schema.streams) f) c k ≡ row_of_records schema c k rs
+pub shown_rows : (schema : Schema) (rs : List (List (List ℕ))) (f : Filing) (c k : ℕ) → filing_after schema rs no_records ≡ Ok f → row_at (ended (length schema.streams) f) c k ≡ row_of_records schema c k rs
 shown_rows schema [] f c k e = ap (λ (f : Filing). row_at (ended (length schema.streams) f) c k) (sym (ok_is no_records f e)) ∙ empty_row (length schema.streams) c k
 shown_rows schema (r ∷ rs) f c k e = let h = after_one schema r rs no_records f e in
     ended_rows (length schema.streams) f h.beat c k h.is ∙ (stands_after schema [] (r ∷ rs) no_records f (stands_first schema) e).shows.rows c k
-
-pub beats_are : (schema : Schema) (rs : List (List (List ℕ))) (beats : List Beat) → beats_of schema rs ≡ Ok beats → AreBeatsOf schema rs beats
-unfolding beats_of
-beats_are schema rs beats h =
-    let b = bind_ok (filing_after schema rs no_records) (λ f. Ok (ended (length schema.streams) f)) beats h in
-    let e = ok_is (ended (length schema.streams) b.0) beats b.2 in
-    let s = beats_sound schema rs beats h in
-    record {
-      fine = s;
-      numbers = λ c. ap (λ (bs : List Beat). number_at bs c) (sym e) ∙ shown_numbers schema rs b.0 c b.1;
-      rows = λ c k. ap (λ (bs : List Beat). row_at bs c k) (sym e) ∙ shown_rows schema rs b.0 c k b.1;
-    }

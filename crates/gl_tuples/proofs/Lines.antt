@@ -1,13 +1,13 @@
 -- Steps of writing a line.
-use Rattle.std.proofs.Common.{◌≡◌, ℕ, zero, suc, ◌+◌, ◌-◌, ◌*◌, ◌<◌, ◌≤◌, List, [], ◌∷◌, ◌++◌, length, take, drop, get_or, refl, sym, ap, ◌∙◌, append_assoc, arith, add-one, sub-one, drop-cons, length-drop}
+use Rattle.std.proofs.Common.{◌≡◌, ℕ, zero, suc, ◌+◌, ◌-◌, ◌<◌, ◌≤◌, List, [], ◌∷◌, ◌++◌, length, take, drop, get_or, refl, sym, ap, ◌∙◌, append_assoc, arith, add-one, length-drop}
 use Rattle.std.proofs.lemmas.List.{take_more, take_all}
 use Rattle.std.specs.Int.{bytes_high_first}
 use Rattle.std.proofs.lemmas.List.{length-map}
-use Rattle.std.specs.Prelude.{map, slice_get, Option, Some, None}
+use Rattle.std.specs.Prelude.{map, slice_get, Some, None}
 use Rattle.gl_bits.specs.declared.kind.Kind.{Kind}
 use Rattle.gl_bits.specs.Kinds.{width_of}
 use Rattle.gl_bits.specs.Words.{Word, bits_of, widths_of}
-use Rattle.gl_schema.specs.Seen.{values_text, printed, unpadded, before, doubled, doubled_byte}
+use Rattle.gl_schema.specs.Seen.{values_text, printed, unpadded, before}
 
 -- a zero byte at the end is padding
 pub unpadded-push : (bytes : List ℕ) → unpadded (bytes ++ 0 ∷ []) ≡ unpadded bytes

@@ -1,5 +1,5 @@
 -- What a record of a tuple file says: its cycle, and a row of a stream or the end. The first broken rule comes in this order.
-use Rattle.std.specs.Prelude.{◌≡◌, ℕ, zero, suc, ◌+◌, Bool, true, false, not, List, [], ◌∷◌, length, drop, Option, Some, None, Result, Ok, Err, codes, bytes_eq, nat_lt, ◌==◌, slice_get, position, option_map, unwrap_or, if◌then◌else◌}
+use Rattle.std.specs.Prelude.{◌≡◌, ℕ, zero, suc, ◌+◌, Bool, not, List, [], ◌∷◌, length, drop, Option, Some, None, Result, Ok, Err, codes, bytes_eq, nat_lt, ◌==◌, slice_get, position, option_map, if◌then◌else◌}
 use Rattle.std.specs.List.{list_all}
 use Rattle.gl_bits.specs.Words.{Word}
 use Rattle.gl_schema.specs.declared.schema.Column.{Column}

@@ -82,3 +82,7 @@ records_of text = records default_config (strip_bom text)
 -- the beats of records, or the first rule that one of them breaks
 unfoldable pub beats_of : Schema → List (List (List ℕ)) → Result (List Beat) TupleFault
 beats_of schema rs = filing_after schema rs no_records >>= λ f. Ok (ended (length schema.streams) f)
+
+-- the first rule that is broken by records that have no beats
+abbrev pub IsFirstFault : Schema → List (List (List ℕ)) → TupleFault → Type 0
+IsFirstFault schema rs fault = beats_of schema rs ≡ Err fault

@@ -1,5 +1,5 @@
 -- Beats as plain data, and the gap between them.
-use Rattle.std.specs.Prelude.{◌≡◌, ℕ, ◌+◌, ◌≤◌, Bool, List, [], ◌∷◌, map, Option, Some, None, Result, Ok, Err, option_map, nat_lt, if◌then◌else◌}
+use Rattle.std.specs.Prelude.{ℕ, ◌+◌, ◌≤◌, List, [], ◌∷◌, map, Option, Some, None, Result, Ok, Err, option_map, nat_lt, if◌then◌else◌}
 use Rattle.gl_bits.specs.Words.{bits_of}
 use Rattle.gl_schema.specs.declared.schema.Schema.{Schema}
 use Rattle.gl_schema.specs.Beats as plain

@@ -1,9 +1,12 @@
 //! Worked tuple files and result lines.
 
-ghost use Rattle.std.specs.Prelude.{◌≡◌, [], ◌∷◌, IfOk};
+ghost use Rattle.std.specs.Prelude.{◌≡◌, List, [], ◌∷◌, IfOk, codes};
 ghost use Rattle.gl_bits.specs.Words.{widths_of};
+ghost use Rattle.gl_bits.specs.declared.kind.Kind.TheVariants as kinds;
+ghost use Rattle.gl_tuples.specs.declared.beats.Beat.{Beat};
+ghost use Rattle.gl_tuples.specs.FileBeats.{AreBeatsOf};
 
-use crate::{Beats, TupleFault, line_into, read_tuples};
+use crate::{Beats, TupleFault, line_into, one_reading, read_tuples};
 use gl_bits::{Kind, Row, Word};
 use gl_schema::read_schema;
 use std::alloc::Global;
@@ -219,4 +222,41 @@ fn a_line_quotes_a_text(rt: HostRuntime) -> Result<(), Fail> {
         assert_eq!(rt; &line[..len], want);
     }
     Ok(())
+}
+
+// Files whose records break a rule have no beats: a value too wide for its column, a second row of a
+// stream in a cycle, and a record behind the end.
+fn refused_records()
+    ensures too_wide { (beats : List Beat) → AreBeatsOf (record {
+      streams = record {
+        name = codes "s";
+        columns =
+            record { name = codes "v"; kind = kinds.Unsigned 8 } ∷ [];
+      } ∷ [];
+    })
+        ((codes "0" ∷ codes "s" ∷ codes "999" ∷ []) ∷ []) beats → ⊥ }
+    ensures twice { (beats : List Beat) → AreBeatsOf (record {
+      streams = record {
+        name = codes "s";
+        columns =
+            record { name = codes "v"; kind = kinds.Unsigned 8 } ∷ [];
+      } ∷ [];
+    })
+        ((codes "0" ∷ codes "s" ∷ codes "1" ∷ []) ∷ (codes "0" ∷ codes "s" ∷ codes "2" ∷ [])
+        ∷ []) beats → ⊥ }
+    ensures behind { (beats : List Beat) → AreBeatsOf (record {
+      streams = record {
+        name = codes "s";
+        columns =
+            record { name = codes "v"; kind = kinds.Unsigned 8 } ∷ [];
+      } ∷ [];
+    })
+        ((codes "0" ∷ codes "s" ∷ codes "1" ∷ []) ∷ (codes "0" ∷ codes "end" ∷ [])
+        ∷ (codes "1" ∷ codes "s" ∷ codes "2" ∷ []) ∷ []) beats → ⊥ }
+{}
+
+#[test]
+fn definitions_on_worked_records() {
+    one_reading();
+    refused_records();
 }

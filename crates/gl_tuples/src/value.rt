@@ -1,12 +1,13 @@
 //! Values of fields.
 
-ghost use Rattle.std.specs.Prelude.{◌≡◌, ℕ, ◌<◌, ◌≤◌, ◌^◌, ◌*◌, ◌+◌, length, slice_index, Some, option_map, min};
+ghost use Rattle.std.specs.Prelude.{◌≡◌, ◌≤◌, ◌^◌, ◌*◌, length, Some, option_map, min};
 ghost use Rattle.gl_bits.specs.Kinds.{IsKind, width_of};
 ghost use Rattle.gl_schema.specs.Schemas as schemas;
 ghost use Rattle.gl_schema.specs.Names as names;
 ghost use Rattle.gl_tuples.specs.Values as spec;
 
 use gl_bits::{Kind, Word};
+use gl_schema::text_number;
 
 /// What stands for every number that 64 bits do not hold.
 const TOO_LARGE: u128 = 0x1_0000_0000_0000_0000;
@@ -98,27 +99,6 @@ fn text_word(field: &[u8], bytes: u8) -> Option<Word>
         u128::from(text_number(field, usize::from(bytes))),
         8 * bytes,
     )
-}
-
-#[tactic(auto, unfolding(gl_schema::specs::Schemas::text_word))]
-fn text_number(field: &[u8], bytes: usize) -> u64
-    requires most { bytes ≤ 8 }
-    requires short { length field.now ≤ bytes }
-    ensures value { result ≡ schemas.text_word bytes field.now }
-    ensures small { result < 2 ^ (8 * bytes) }
-{
-    let mut bits: u64 = 0;
-    for at in 0..bytes {
-        bits = 256 * bits + u64::from(byte_at(field, at));
-    }
-    bits
-}
-
-/// The byte at a place, 0 behind the end.
-fn byte_at(field: &[u8], at: usize) -> u8
-    ensures { result ≡ slice_index field.now at }
-{
-    if at < field.len() { field[at] } else { 0 }
 }
 
 #[tactic(auto, unfolding(crate::specs::Values::is_plain))]

@@ -10,13 +10,14 @@ use Rattle.gl_net.specs.declared.node.Port.{Port}
 use Rattle.gl_net.specs.declared.node.Direction.{Direction}
 use Rattle.gl_net.specs.declared.node.Direction.TheVariants.{In, Out}
 use Rattle.gl_net.specs.Net.{Net, Value, shape_of, shape_in, binary_width}
+use Rattle.gl_net.specs.PortValues.{bits_of}
 use Rattle.gl_net.specs.WellFormed.{NodeFits, EndFits, end_at}
 use Rattle.gl_net.specs.Finished.{HasReset, has_reset_value, needs_reset}
 use Rattle.gl_verilog.specs.Module as verilog
 use Rattle.gl_verilog.specs.Module.{Module, Declaration, Kind, Expr, Statement, Assignment, number_of}
 use Rattle.gl_verilog.specs.Run.{IsRegister}
 use Rattle.gl_verilog.specs.Widths.{IsNet, IsDriven, IsMemory, IsReadable, HasSize, width_at, width_after, width_of, KeepsWidths, KeepsWidth, KeepsWidthsIn}
-use Rattle.gl_verilog_writer.specs.Meaning.{bits_of, kind_of}
+use Rattle.gl_verilog_writer.specs.Meaning.{kind_of}
 use Rattle.gl_verilog_writer.specs.Design.{node_width, numbered}
 use Rattle.gl_verilog_writer.proofs.Model.{Named, at_node, net_of, op_of, kind_for, assigned_to, assignment_for, shown_by, output_for, block_for, declarations_in, line_in}
 use Rattle.gl_verilog_writer.proofs.Digits.{all-append}

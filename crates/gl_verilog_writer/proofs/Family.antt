@@ -10,7 +10,7 @@ use Rattle.gl_verilog_writer.specs.Pieces.{family_text}
 use Rattle.gl_verilog_writer.specs.Design.{begins_port, family_from, family_of}
 use Rattle.gl_verilog_writer.proofs.Digits.{numeral-decimal}
 use Rattle.gl_verilog_writer.proofs.Lists.{split}
-use Rattle.gl_verilog_writer.proofs.Named.{bytes_same}
+use Rattle.gl_bits.proofs.Bools.{bytes_same}
 
 -- ---- a name begins so in one way at most
 

@@ -12,13 +12,13 @@ use Rattle.gl_net.specs.declared.node.Store.{Store}
 use Rattle.gl_net.specs.declared.node.Port.{Port}
 use Rattle.gl_net.specs.declared.node.Direction.{Direction}
 use Rattle.gl_net.specs.Net.{Net, Shape, Value, Words, shape_of, shape_in, binary_width, IsBus, IsBit, IsStore}
+use Rattle.gl_net.specs.PortValues.{bits_of}
 use Rattle.gl_net.specs.WellFormed.{NodeFits}
 use Rattle.gl_net.proofs.Growth.{shape_there}
 use Rattle.gl_verilog.specs.Module as verilog
 use Rattle.gl_verilog.specs.Module.{Declaration, Kind, number_of}
 use Rattle.gl_verilog.specs.Widths.{IsNet, IsMemory, IsReadable, KeepsWidths, width_at}
 use Rattle.gl_verilog.specs.Resolve.{number_read}
-use Rattle.gl_verilog_writer.specs.Meaning.{bits_of}
 use Rattle.gl_verilog_writer.specs.Pieces.{net_name}
 use Rattle.gl_verilog_writer.specs.Design.{node_width}
 use Rattle.gl_verilog_writer.proofs.Digits.{IsPlain, net-plain}

@@ -12,5 +12,6 @@ pub mod Ordered
 pub mod Driven
 pub mod Family
 pub mod Sizes
+pub mod Costs
 pub mod Running
 pub mod Means

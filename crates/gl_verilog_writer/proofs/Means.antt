@@ -10,6 +10,7 @@ use Rattle.gl_verilog_writer.proofs.Family.{family-small, family-free}
 use Rattle.gl_verilog_writer.proofs.Resolved.{resolves}
 use Rattle.gl_verilog_writer.proofs.Spelled.{written_as, module-spelled-as, module-written, module-limited}
 use Rattle.gl_verilog_writer.proofs.Driven.{module-valid, assignments-ordered}
+use Rattle.gl_verilog_writer.proofs.Costs.{registers-same, memories-same}
 use Rattle.gl_verilog_writer.proofs.Running.{runs-same, ports-declared}
 
 name-back : (o : Option (List ℕ)) → IsSomeAnd o IsName → Some (unwrap_or o []) ≡ o
@@ -34,5 +35,7 @@ text-means net h nodes ports =
       name' = name-back net.name h.finished.module_name;
       declared = ports-declared net family;
       ordered = assignments-ordered net family c;
+      registers = registers-same net family;
+      memories = memories-same net family;
       runs = λ value word r. runs-same net family c value word r;
     }

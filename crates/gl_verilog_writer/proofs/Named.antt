@@ -2,7 +2,7 @@
 use Rattle.std.proofs.Common.{◌≡◌, ℕ, zero, suc, ◌+◌, ◌<◌, ◌^◌, Bool, true, false, ◌||◌, ◌==◌, List, [], ◌∷◌, ◌++◌, length, get_or, map, Some, refl, sym, ap, ◌∙◌, arith, add-one, inl, inr, ◌⊎◌, eq-eqb}
 use Rattle.std.specs.Prelude.{slice_get, codes, decimal, bytes_eq}
 use Rattle.std.specs.List.{starts_with}
-use Rattle.std.proofs.lemmas.Slice.Eq.{bytes_eq-Decides}
+use Rattle.gl_bits.proofs.Bools.{bytes_same, bytes_own, bytes_other, not_both}
 use Rattle.std.proofs.lemmas.List.{append_cancel_left, length-map}
 use Rattle.std.proofs.lemmas.Option.{slice_get_within}
 use Rattle.std.proofs.lemmas.Fmt.{decimal_injective}
@@ -18,18 +18,6 @@ use Rattle.gl_verilog_writer.proofs.Model.{Named, at_node, declaration_for, coun
 use Rattle.gl_verilog_writer.proofs.Lists.{same_some, some_none, split, get-left, get-right, get-parts, get-mapped, get-unmapped, get-counted, get-uncounted}
 
 -- ---- names
-
-pub bytes_same : (xs ys : List ℕ) → bytes_eq xs ys ≡ true → xs ≡ ys
-bytes_same xs ys e = (bytes_eq-Decides xs ys).0 e
-
-pub bytes_own : (xs : List ℕ) → bytes_eq xs xs ≡ true
-bytes_own xs = (bytes_eq-Decides xs xs).1 refl
-
-pub true_false : (b : Bool) → b ≡ true → b ≡ false → ⊥
-true_false b e f = let g : true ≡ false = sym e ∙ f in absurd (cc)
-
-pub bytes_other : (xs ys : List ℕ) → (xs ≡ ys → ⊥) → bytes_eq xs ys ≡ false
-bytes_other xs ys ne = elim (split (bytes_eq xs ys)) [ inl e ↦ absurd (ne (bytes_same xs ys e)) | inr e ↦ e ]
 
 -- no two declarations have one name
 abbrev pub Apart : List Declaration → Type 0
@@ -149,7 +137,7 @@ module _ (net : Net) (family : ℕ) (c : Named net family) where
   port_node : (i j : ℕ) (d e : Declaration) → AsPort i d → AsNode j e → d.name ≡ e.name → ⊥
   port_node i j d e p q same =
       let n : p.port.name ≡ net_name family q.n = ap (λ (x : Declaration). x.name) (sym p.is) ∙ same ∙ ap (λ (x : Declaration). x.name) q.is in
-      true_false (starts_with ◌==◌ p.port.name (family_text family)) (ap (λ (w : List ℕ). starts_with ◌==◌ w (family_text family)) n ∙ net_begins family q.n) (port-not net.ports (family_text family) p.place p.port c.free p.there)
+      not_both (starts_with ◌==◌ p.port.name (family_text family)) (ap (λ (w : List ℕ). starts_with ◌==◌ w (family_text family)) n ∙ net_begins family q.n) (port-not net.ports (family_text family) p.place p.port c.free p.there)
 
   pub few : (n : ℕ) (x : Node) → slice_get net.nodes n ≡ Some x → n < 2 ^ 64
   few n x e = let a = slice_get_within net.nodes n x e in let b = c.few in let d : n < 2 ^ 64 = omega (arith, a, b) in d

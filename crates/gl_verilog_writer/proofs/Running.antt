@@ -2,6 +2,8 @@
 use Rattle.std.proofs.Common.{◌≡◌, ℕ, zero, suc, ◌+◌, ◌<◌, ◌^◌, Bool, true, false, ◌&&◌, List, [], ◌∷◌, ◌++◌, length, take, map, Option, Some, None, refl, sym, ap, ◌∙◌, arith, add-one, eq-eqb, ne_eqb}
 use Rattle.std.specs.Prelude.{slice_get, codes, option_map, option_and_then, unwrap_or, nat_eq, if◌then◌else◌, find, bytes_eq}
 use Rattle.std.proofs.lemmas.List.{length-map}
+use Rattle.std.specs.Option.{option_map_or}
+use Rattle.gl_bits.proofs.Bools.{bytes_other, not_both}
 use Rattle.gl_net.specs.declared.node.BinaryOp.{BinaryOp}
 use Rattle.gl_net.specs.declared.node.BinaryOp.TheVariants.{Add, Sub, Mul, And, Xor, Or, Eq, Ne, Lt, Le}
 use Rattle.gl_net.specs.declared.node.Node.{Node}
@@ -12,15 +14,16 @@ use Rattle.gl_net.specs.declared.node.Direction.TheVariants.{In, Out}
 use Rattle.gl_net.specs.Net as circuit
 use Rattle.gl_net.specs.Net.{Net, Run, Shape, Value, Words, shape_of, Holds, Fits, IsPort, IsTrace, reset_name, stored_of, open_in, open_shape}
 use Rattle.gl_net.specs.WellFormed.{EndFits}
-use Rattle.gl_net.specs.PortValues.{port_values}
+use Rattle.gl_net.specs.PortValues as circuit_ports
+use Rattle.gl_net.specs.PortValues.{port_values, leads_in, bits_of}
 use Rattle.gl_verilog.specs.Module as verilog
 use Rattle.gl_verilog.specs.Module.{Module, Declaration, Kind, Expr, Statement, Assignment, Nets, Memories, value_of, later_or, taken, assigned, written, assigned_by, written_by, number_of}
-use Rattle.gl_verilog.specs.Run.{IsRegister, IsSettled, IsRun, port_of}
-use Rattle.gl_verilog_writer.specs.Meaning.{declaration_of, clock, bits_of, IsRunOf}
+use Rattle.gl_verilog.specs.Run.{IsRegister, IsSettled, IsRun, port_of, is_input, is_input_at, input_values}
+use Rattle.gl_verilog_writer.specs.Meaning.{declaration_of, clock, kind_of, IsRunOf}
 use Rattle.gl_verilog_writer.specs.Design.{with_option, numbered}
 use Rattle.gl_verilog_writer.proofs.Model.{Named, at_node, net_of, op_of, kind_for, declaration_for, expression_of, assigned_to, assignment_for, shown_by, output_for, block_for, counted, declarations_in, line_in, module_in}
 use Rattle.gl_verilog_writer.proofs.Lists.{same_some, some_none, numbered-each, all-left, all-right}
-use Rattle.gl_verilog_writer.proofs.Named.{node_there, port_found, bytes_other, true_false}
+use Rattle.gl_verilog_writer.proofs.Named.{node_there, port_there, port_found}
 
 -- ---- the later of what blocks give
 
@@ -133,17 +136,32 @@ front : {A : Type 0} (xs ys : List A) → take (length xs) (xs ++ ys) ≡ xs
 front [] ys = refl
 front {A} (x ∷ xs) ys = ap (λ (l : List A). x ∷ l) (front xs ys)
 
-moved-up : (v : ℕ → ℕ) (o : Option ℕ) → option_map v (option_map (λ n. n + 1) o) ≡ option_map (λ n. v (n + 1)) o
+moved-up : (v : ℕ → Option ℕ) (o : Option ℕ) → option_and_then v (option_map (λ n. n + 1) o) ≡ option_and_then (λ n. v (n + 1)) o
 moved-up v None = refl
 moved-up v (Some n) = refl
 
-port-lookup : (net : Net) (name : List ℕ) (v : ℕ → ℕ) (shows : Port → ℕ) (qs : List Port) → ((k : ℕ) (q : Port) → slice_get qs k ≡ Some q → v k ≡ shows q) → option_map v (number_of (map (declaration_of net) qs) name) ≡ option_map shows (find (λ (q : Port). bytes_eq q.name name) qs)
+map-then : {A B : Type 0} (f : A → B) (o : Option A) → option_map f o ≡ option_and_then (λ x. Some (f x)) o
+map-then f None = refl
+map-then f (Some x) = refl
+
+then-map : {A B C : Type 0} (g : B → C) (f : A → Option B) (o : Option A) → option_map g (option_and_then f o) ≡ option_and_then (λ x. option_map g (f x)) o
+then-map g f None = refl
+then-map g f (Some x) = refl
+
+port-lookup : (net : Net) (name : List ℕ) (v : ℕ → Option ℕ) (shows : Port → Option ℕ) (qs : List Port) → ((k : ℕ) (q : Port) → slice_get qs k ≡ Some q → v k ≡ shows q)
+    → option_and_then v (number_of (map (declaration_of net) qs) name) ≡ option_and_then shows (find (λ (q : Port). bytes_eq q.name name) qs)
 port-lookup net name v shows [] h = refl
 port-lookup net name v shows (q ∷ qs) h = by (bytes_eq q.name name) (port-lookup net name (λ n. v (n + 1)) shows qs (λ k r e. ap v (add-one k) ∙ h (suc k) r e))
   where
-    by : (b : Bool) → option_map (λ n. v (n + 1)) (number_of (map (declaration_of net) qs) name) ≡ option_map shows (find (λ (q : Port). bytes_eq q.name name) qs) → option_map v (if b then Some 0 else option_map (λ n. n + 1) (number_of (map (declaration_of net) qs) name)) ≡ option_map shows (if b then Some q else find (λ (q : Port). bytes_eq q.name name) qs)
-    by true e = ap Some (h 0 q refl)
+    by : (b : Bool) → option_and_then (λ n. v (n + 1)) (number_of (map (declaration_of net) qs) name) ≡ option_and_then shows (find (λ (q : Port). bytes_eq q.name name) qs)
+        → option_and_then v (if b then Some 0 else option_map (λ n. n + 1) (number_of (map (declaration_of net) qs) name)) ≡ option_and_then shows (if b then Some q else find (λ (q : Port). bytes_eq q.name name) qs)
+    by true e = h 0 q refl
     by false e = moved-up v (number_of (map (declaration_of net) qs) name) ∙ e
+
+-- a port is an input in the module where it is one in the netlist
+kind-same : (d : Direction) → is_input (kind_of d) ≡ leads_in d
+kind-same In = refl
+kind-same Out = refl
 
 fits-shape : (run : Run) (n : ℕ) (s : Shape) → ((t : ℕ) → (run.at t n < 2 ^ bits_of (Some s)) × ((k : ℕ) → run.word t n k < 2 ^ bits_of (Some s))) → Fits run n s
 fits-shape run n (Value w) h = λ t. (h t).0
@@ -239,20 +257,46 @@ module _ (net : Net) (family : ℕ) (c : Named net family) (value : ℕ → Nets
       let l : line ≡ suc h.place = ap (λ (o : Option ℕ). unwrap_or o 0) f in
       ap (λ (m : ℕ). nat_eq (value t m) 1) l ∙ ap (λ (m : ℕ). nat_eq m 1) (port-at t h.place _ h.there)
 
+  -- what is found by a port's name, the clock's aside
+  found-same : (v : ℕ → Option ℕ) (shows : Port → Option ℕ) (name : List ℕ) → ((k : ℕ) (q : Port) → slice_get net.ports k ≡ Some q → v (suc k) ≡ shows q) → bytes_eq name (codes "clk") ≡ false
+      → option_and_then v (number_of (take (suc p) ds) name) ≡ option_and_then shows (find (λ (q : Port). bytes_eq q.name name) net.ports)
+  found-same v shows name h e =
+      let ps = map (declaration_of net) net.ports in
+      let ns = counted (declaration_for family) 0 net.nodes in
+      let f : bytes_eq (codes "clk") name ≡ false = bytes_other (codes "clk") name (λ q. not_both (bytes_eq name (codes "clk")) (ap (λ (w : List ℕ). bytes_eq w (codes "clk")) (sym q)) e) in
+      let g : take p (ps ++ ns) ≡ ps = ap (λ (m : ℕ). take m (ps ++ ns)) (sym (length-map net.ports (declaration_of net))) ∙ front ps ns in
+      ap (λ (l : List Declaration). option_and_then v (if bytes_eq (codes "clk") name then Some 0 else option_map (λ n. n + 1) (number_of l name))) g
+      ∙ ap (λ (b : Bool). option_and_then v (if b then Some 0 else option_map (λ n. n + 1) (number_of ps name))) f
+      ∙ moved-up v (number_of ps name)
+      ∙ port-lookup net name (λ n. v (n + 1)) shows net.ports (λ k q i. ap v (add-one k) ∙ h k q i)
+
   ports-same : (t : ℕ) (name : List ℕ) → bytes_eq name (codes "clk") ≡ false → port_of (module_in net family) value t name ≡ port_values net run t name
   unfolding module_in
   ports-same t name e =
-      let ps = map (declaration_of net) net.ports in
-      let ns = counted (declaration_for family) 0 net.nodes in
-      let f : bytes_eq (codes "clk") name ≡ false = bytes_other (codes "clk") name (λ q. true_false (bytes_eq name (codes "clk")) (ap (λ (w : List ℕ). bytes_eq w (codes "clk")) (sym q)) e) in
-      let g : take p (ps ++ ns) ≡ ps = ap (λ (m : ℕ). take m (ps ++ ns)) (sym (length-map net.ports (declaration_of net))) ∙ front ps ns in
-      ap (λ (l : List Declaration). option_map (value t) (if bytes_eq (codes "clk") name then Some 0 else option_map (λ n. n + 1) (number_of l name))) g
-      ∙ ap (λ (b : Bool). option_map (value t) (if b then Some 0 else option_map (λ n. n + 1) (number_of ps name))) f
-      ∙ moved-up (value t) (number_of ps name)
-      ∙ port-lookup net name (λ n. value t (n + 1)) (λ (q : Port). value t (at_node p q.node)) net.ports (λ k q h. ap (value t) (add-one k) ∙ port-at t k q h)
+      map-then (value t) (number_of (take (suc p) ds) name)
+      ∙ found-same (λ n. Some (value t n)) (λ (q : Port). Some (value t (at_node p q.node))) name (λ k q h. ap Some (port-at t k q h)) e
+      ∙ sym (map-then (λ (q : Port). value t (at_node p q.node)) (find (λ (q : Port). bytes_eq q.name name) net.ports))
+
+  input-at : (k : ℕ) (q : Port) → slice_get net.ports k ≡ Some q → is_input_at ds (suc k) ≡ leads_in q.direction
+  input-at k q h = ap (λ (o : Option Declaration). option_map_or (λ d. is_input d.kind) o false) (port_there net family c k q h) ∙ kind-same q.direction
+
+  inputs-same : (t : ℕ) (name : List ℕ) → bytes_eq name (codes "clk") ≡ false → input_values (module_in net family) value t name ≡ circuit_ports.input_values net run t name
+  unfolding module_in
+  inputs-same t name e =
+      let number : ℕ → Option ℕ = λ n. if is_input_at ds n then Some n else None in
+      let port : Port → Option Port = λ (q : Port). if leads_in q.direction then Some q else None in
+      let shows : Port → ℕ = λ (q : Port). value t (at_node p q.node) in
+      then-map (value t) number (number_of (take (suc p) ds) name)
+      ∙ found-same (λ n. option_map (value t) (number n)) (λ (q : Port). option_map shows (port q)) name (λ k q h. ap (λ (b : Bool). option_map (value t) (if b then Some (suc k) else None)) (input-at k q h) ∙ either-same t k q h q.direction) e
+      ∙ sym (then-map shows port (find (λ (q : Port). bytes_eq q.name name) net.ports))
+    where
+      either-same : (t k : ℕ) (q : Port) → slice_get net.ports k ≡ Some q → (d : Direction)
+          → option_map (value t) (if leads_in d then Some (suc k) else None) ≡ option_map (λ (q : Port). value t (at_node p q.node)) (if leads_in d then Some q else None)
+      either-same t k q h In = ap Some (port-at t k q h)
+      either-same t k q h Out = refl
 
   pub runs-same : IsRunOf net (module_in net family) value
-  runs-same = record { run = run; trace = record { fits = fits; holds = holds; line = line-is }; ports = ports-same }
+  runs-same = record { run = run; trace = record { fits = fits; holds = holds; line = line-is }; ports = ports-same; inputs = inputs-same }
 
 pub ports-declared : (net : Net) (family : ℕ) → take (suc (length net.ports)) (declarations_in net family) ≡ clock ∷ map (declaration_of net) net.ports
 ports-declared net family =

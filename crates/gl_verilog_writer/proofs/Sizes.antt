@@ -17,10 +17,10 @@ use Rattle.gl_net.specs.declared.node.Port.{Port}
 use Rattle.gl_net.specs.declared.node.Direction.{Direction}
 use Rattle.gl_net.specs.declared.node.Direction.TheVariants.{In, Out}
 use Rattle.gl_net.specs.Net.{Net, shape_in, IsBus, IsBit, IsStore}
+use Rattle.gl_net.specs.PortValues.{bits_of}
 use Rattle.gl_net.specs.WellFormed.{NodeFits, EndFits, end_at}
 use Rattle.gl_net.specs.Finished.{IsNetlist}
 use Rattle.gl_verilog.specs.Written.{WrittenItem, WrittenPort}
-use Rattle.gl_verilog_writer.specs.Meaning.{bits_of}
 use Rattle.gl_verilog_writer.specs.Pieces.{family_text, net_name}
 use Rattle.gl_verilog_writer.specs.Printed.{infix_text, range_text, direction_text, port_text, more_ports_text, always_text, item_text, items_text, head_text}
 use Rattle.gl_verilog_writer.specs.Design.{node_width, infix_of, port_name, last_word, vector, leads, shows, declares, with_option, numbered, declaring, assigning, showing, clocking, written_port, clock_port, items_of, family_of, module_text}

@@ -12,13 +12,13 @@ use Rattle.gl_net.specs.declared.node.Port.{Port}
 use Rattle.gl_net.specs.declared.node.Direction.{Direction}
 use Rattle.gl_net.specs.declared.node.Direction.TheVariants.{In, Out}
 use Rattle.gl_net.specs.Net.{Net, shape_in}
+use Rattle.gl_net.specs.PortValues.{bits_of}
 use Rattle.gl_net.specs.WellFormed.{NodeFits, EndFits, end_at}
 use Rattle.gl_net.specs.Finished.{IsName}
 use Rattle.gl_verilog.specs.Tokens.{tokens_of}
 use Rattle.gl_verilog.specs.Written as written
 use Rattle.gl_verilog.specs.Written.{InfixOp, WrittenExpr, Infix, WrittenStatement, Update, UpdateWord, WrittenItem, Assign, Always, WrittenPort, WrittenModule, IsExpr, IsStatement, IsItem, IsWritten, spell}
 use Rattle.gl_verilog.specs.Limits.{IsShort, depth_of, depth_in, ifs_in, AreShort, KeepsLimits, IsWithinLimits}
-use Rattle.gl_verilog_writer.specs.Meaning.{bits_of}
 use Rattle.gl_verilog_writer.specs.Pieces.{net_name}
 use Rattle.gl_verilog_writer.specs.Printed.{text_of}
 use Rattle.gl_verilog_writer.specs.Design.{port_name, infix_of, named, literal, vector, last_word, declares, takes, does, numbered, declaring, assigning, shows, showing, clocking, range_of, written_port, clock_port, items_of}

@@ -10,9 +10,9 @@ use Rattle.gl_net.specs.declared.node.Port.{Port}
 use Rattle.gl_net.specs.declared.node.Direction.{Direction}
 use Rattle.gl_net.specs.declared.node.Direction.TheVariants.{In, Out}
 use Rattle.gl_net.specs.Net.{Net, shape_of, shape_in}
+use Rattle.gl_net.specs.PortValues.{bits_of}
 use Rattle.gl_verilog.specs.Written as written
 use Rattle.gl_verilog.specs.Written.{InfixOp, Times, Added, Subtracted, Below, AtMost, Equal, NotEqual, BitAnd, BitXor, BitOr, BitNot, WrittenExpr, Named, PartOf, WordOf, Braces, Parts, Prefix, Infix, Conditional, WrittenStatement, Update, UpdateWord, IfThen, IfElse, Range, WrittenPort, WrittenItem, Wires, Registers, MemoryOf, Assign, Always, WrittenModule}
-use Rattle.gl_verilog_writer.specs.Meaning.{bits_of}
 use Rattle.gl_verilog_writer.specs.Pieces.{family_text, net_name}
 use Rattle.gl_verilog_writer.specs.Printed.{text_of}
 

@@ -4,8 +4,9 @@ ghost use Rattle.std.specs.Prelude.{◌≡◌, ◌++◌, ◌<◌, ◌≤◌, ◌
 ghost use Rattle.std.specs.Option.{option_map_or};
 ghost use Rattle.gl_net.specs.Finished.{IsNetlist};
 ghost use Rattle.gl_net.specs.Net.{shape_in};
+ghost use Rattle.gl_net.specs.PortValues.{bits_of};
 ghost use Rattle.gl_verilog.specs.Written.{WrittenItem};
-ghost use Rattle.gl_verilog_writer.specs.Meaning.{bits_of, IsTextOf};
+ghost use Rattle.gl_verilog_writer.specs.Meaning.{IsTextOf};
 ghost use Rattle.gl_verilog_writer.specs.Pieces.{family_text};
 ghost use Rattle.gl_verilog_writer.specs.Printed.{range_text, direction_text, port_text, more_ports_text, head_text, item_text, items_text};
 ghost use Rattle.gl_verilog_writer.specs.Size.{most_bytes};

@@ -1,11 +1,15 @@
 -- Lists of columns: one more, kept, and looked up by widths.
-use Rattle.std.proofs.Common.{◌≡◌, ℕ, zero, suc, List, [], ◌∷◌, ◌++◌, Some, refl, sym, ap, ◌∙◌, subst}
-use Rattle.std.specs.Prelude.{slice_get, slice_index}
+use Rattle.std.proofs.Common.{◌≡◌, ℕ, zero, suc, ◌+◌, List, [], ◌∷◌, ◌++◌, length, Some, refl, sym, ap, ◌∙◌, subst, arith, length-append}
+use Rattle.std.specs.Prelude.{slice_get, slice_index, sum_by}
+use Rattle.std.proofs.lemmas.List.Sums.{sum_by-append, sum_by-cons}
+use Rattle.std.specs.List.{sum}
 use Rattle.gl_net.specs.declared.node.Bus.{Bus}
-use Rattle.gl_net.specs.Net.{Net, Run, IsRun, IsBus, Keeps}
+use Rattle.gl_net.specs.Net.{Net, Run, IsBus, Keeps}
 use Rattle.gl_net.proofs.Determined.{keeps_then}
+use Rattle.gl_net.proofs.Growth.{same_keeps}
 use Rattle.gl_wire.specs.declared.wire.Wire.{Wire}
 use Rattle.gl_wire.specs.Wire.{AreBuses, IsWire, widths, row_at}
+use Rattle.gl_wire.specs.Stages.{AreLater, IsLaterBus}
 
 pub row_at-push : (run : Run) (t : ℕ) (bs : List Bus) (b : Bus) → row_at run t (bs ++ b ∷ []) ≡ row_at run t bs ++ run.at t b.node ∷ []
 unfolding row_at
@@ -67,29 +71,29 @@ wire_kept old new w g h = record {
   columns = buses_kept old new w.columns g h.columns;
 }
 
--- nothing is added
-pub keeps_same : (net : Net) → Keeps net net
-keeps_same net = record { runs = λ run r. r; shapes = λ n s h. h; undriven = λ n. refl; ports = refl; name = refl }
-
--- registers behind some columns
-pub record AreLater (old new : Net) (cs ds : List Bus) : Type 0 where
-  pub keeps : Keeps old new
-  pub columns : AreBuses new ds
-  pub same_widths : widths ds ≡ widths cs
-  pub row : (run : Run) → IsRun new run → (t : ℕ) → row_at run (suc (suc t)) ds ≡ row_at run (suc t) cs
+sum-push : (xs : List ℕ) (x : ℕ) → sum (xs ++ x ∷ []) ≡ sum xs + x
+sum-push xs x =
+    let one : sum_by (λ (y : ℕ). y) (x ∷ []) ≡ x = sum_by-cons (λ (y : ℕ). y) x [] ∙ omega arith in
+    sum_by-append (λ (y : ℕ). y) xs (x ∷ []) ∙ ap (λ (n : ℕ). sum xs + n) one
 
 pub later_none : (net : Net) → AreLater net net [] []
 later_none net = record {
-  keeps = keeps_same net;
-  columns = AreBuses-none net;
+  keeps = same_keeps net;
+  cost = record { nodes = omega arith; registers = omega arith; memories = omega arith };
+  buses = AreBuses-none net;
   same_widths = refl;
   row = λ run r t. row_at-none run (suc (suc t)) ∙ sym (row_at-none run (suc t));
 }
 
-pub later_more : (old mid new : Net) (cs ds : List Bus) (c d : Bus) → AreLater old mid cs ds → Keeps mid new → IsBus new d → d.width ≡ c.width → ((run : Run) → IsRun new run → (t : ℕ) → run.at (suc (suc t)) d.node ≡ run.at (suc t) c.node) → AreLater old new (cs ++ c ∷ []) (ds ++ d ∷ [])
-later_more old mid new cs ds c d h g i width value = record {
-  keeps = keeps_then old mid new h.keeps g;
-  columns = AreBuses-push new ds d (buses_kept mid new ds g h.columns) i;
-  same_widths = widths-push ds d ∙ ap (λ l. l ++ d.width ∷ []) h.same_widths ∙ ap (λ x. widths cs ++ x ∷ []) width ∙ sym (widths-push cs c);
-  row = λ run r t. row_at-push run (suc (suc t)) ds d ∙ ap (λ l. l ++ run.at (suc (suc t)) d.node ∷ []) (h.row run (g.runs run r) t) ∙ ap (λ v. row_at run (suc t) cs ++ v ∷ []) (value run r t) ∙ sym (row_at-push run (suc t) cs c);
+pub later_more : (old mid new : Net) (cs ds : List Bus) (c d : Bus) → AreLater old mid cs ds → IsLaterBus mid new c d → AreLater old new (cs ++ c ∷ []) (ds ++ d ∷ [])
+later_more old mid new cs ds c d h i = record {
+  keeps = keeps_then old mid new h.keeps i.keeps;
+  cost = record {
+    nodes = omega (arith, h.cost.nodes, i.cost.nodes, ap length (widths-push cs c), length-append (widths cs) (c.width ∷ []));
+    registers = omega (arith, h.cost.registers, i.cost.registers, ap sum (widths-push cs c), sum-push (widths cs) c.width);
+    memories = omega (arith, h.cost.memories, i.cost.memories);
+  };
+  buses = AreBuses-push new ds d (buses_kept mid new ds i.keeps h.buses) i.bus;
+  same_widths = widths-push ds d ∙ ap (λ l. l ++ d.width ∷ []) h.same_widths ∙ ap (λ x. widths cs ++ x ∷ []) i.same_width ∙ sym (widths-push cs c);
+  row = λ run r t. row_at-push run (suc (suc t)) ds d ∙ ap (λ l. l ++ run.at (suc (suc t)) d.node ∷ []) (h.row run (i.keeps.runs run r) t) ∙ ap (λ v. row_at run (suc t) cs ++ v ∷ []) (i.value run r t) ∙ sym (row_at-push run (suc t) cs c);
 }

@@ -1,14 +1,13 @@
 -- A wire some cycles behind another: what it carries, and that it serves what the other does.
-use Rattle.std.proofs.Common.{◌≡◌, ℕ, zero, suc, ◌+◌, ◌-◌, ◌<◌, ◌≤◌, List, [], ◌++◌, Some, None, Bool, true, false, refl, sym, ap, ◌∙◌, subst, arith, inl, inr, append_assoc}
-use Rattle.std.specs.Prelude.{option_to_list, if◌then◌else◌, nat_eq}
-use Rattle.std.proofs.lemmas.Bool.{cases_lt, eqb-true}
+use Rattle.std.proofs.Common.{◌≡◌, ℕ, zero, suc, ◌+◌, ◌-◌, ◌≤◌, [], Some, None, Bool, true, false, refl, sym, ap, ◌∙◌, subst, arith, inl, inr}
+use Rattle.std.proofs.lemmas.Bool.{cases_lt}
 use Rattle.std.proofs.lemmas.List.{append-nil}
 use Rattle.gl_algebra.specs.declared.figures.Figures.{Figures}
-use Rattle.gl_algebra.specs.FigureTable.{delayed}
-use Rattle.gl_algebra.specs.Results.{Row}
-use Rattle.gl_wire.specs.Beats.{Beats, last, most, gap, Spaced, NoCloser, ends_before}
+use Rattle.gl_algebra.specs.FigureTable.{NoCloser, delayed}
+use Rattle.gl_bits.specs.Results.{Row}
+use Rattle.gl_wire.specs.Beats.{Beats, last, most, gap, Spaced}
 use Rattle.gl_wire.specs.Wire.{Carried, pending, stream, rows}
-use Rattle.gl_wire.specs.Serves.{HasEnd, OneEnd, Fits, Serves, Meaning, tuples_of, MayBecome}
+use Rattle.gl_wire.specs.Serves.{HasEnd, OneEnd, Fits, Serves, Meaning}
 use Rattle.gl_wire.specs.Shapes.{IsDelayed, Same}
 
 gap_closer : (f g : Figures) → NoCloser f g → (e : Bool) → gap f e ≤ gap g e
@@ -30,68 +29,21 @@ most_delayed : (m : ℕ) (f : Figures) (e : Bool) → most (delayed m f) e ≡ m
 most_delayed m f true = refl
 most_delayed m f false = refl
 
--- what a stream may become it might have become before
-one_earlier : (s : Carried) (k c : ℕ) (xs : List Row) → MayBecome s k (suc c) xs → MayBecome s k c xs
-one_earlier s k c xs h = record {
-  rest = (if nat_eq (ends_before s.ends c) k then option_to_list (s.tuple c) else []) ++ h.rest;
-  is = h.is ∙ append_assoc (tuples_of s k c) (if nat_eq (ends_before s.ends c) k then option_to_list (s.tuple c) else []) h.rest;
-  closed = λ l. closed l (nat_eq (ends_before s.ends c) k) refl (s.ends c) refl;
-}
-  where
-    closed : k < ends_before s.ends c → (b : Bool) → nat_eq (ends_before s.ends c) k ≡ b → (e : Bool) → s.ends c ≡ e → (if nat_eq (ends_before s.ends c) k then option_to_list (s.tuple c) else []) ++ h.rest ≡ []
-    closed l true p e q = absurd (omega (arith, l, eqb-true (ends_before s.ends c) k p))
-    closed l false p true q = rw p (h.closed (rw q (omega (arith, l))))
-    closed l false p false q = rw p (h.closed (rw q l))
-
-pub earlier : (s : Carried) (k n c : ℕ) (xs : List Row) → MayBecome s k (c + n) xs → MayBecome s k c xs
-earlier s k zero c xs h = let e : c + zero ≡ c = omega arith in subst (λ i. MayBecome s k i xs) e h
-earlier s k (suc n) c xs h = let e : c + suc n ≡ suc (c + n) = omega arith in earlier s k n c xs (one_earlier s k (c + n) xs (subst (λ i. MayBecome s k i xs) e h))
-
 module _ (m : ℕ) (s b : Carried) (d : IsDelayed m s b) where
   quiet_pending : (n : ℕ) → n ≤ m → pending b n ≡ []
   quiet_pending zero l = refl
   quiet_pending (suc n) l = rw (d.no_end n (omega arith), d.before n (omega arith)) (append-nil (pending b n) ∙ quiet_pending n (omega arith))
 
-  quiet_ends : (n : ℕ) → n ≤ m → ends_before b.ends n ≡ 0
-  quiet_ends zero l = refl
-  quiet_ends (suc n) l = rw (d.no_end n (omega arith)) (quiet_ends n (omega arith))
-
-  quiet_tuples : (k n : ℕ) → n ≤ m → tuples_of b k n ≡ []
-  quiet_tuples k zero l = refl
-  quiet_tuples k (suc n) l = rw (d.before n (omega arith)) (none (nat_eq (ends_before b.ends n) k) (quiet_tuples k n (omega arith)))
-    where
-      none : (t : Bool) → tuples_of b k n ≡ [] → tuples_of b k n ++ (if t then [] else []) ≡ []
-      none true h = append-nil (tuples_of b k n) ∙ h
-      none false h = append-nil (tuples_of b k n) ∙ h
-
   pending_delayed : (c : ℕ) → pending b (c + m) ≡ pending s c
   pending_delayed zero = let e : zero + m ≡ m = omega arith in rw e (quiet_pending m (omega arith))
   pending_delayed (suc c) = let e : suc c + m ≡ suc (c + m) = omega arith in rw (e, d.ends c, d.tuples c, pending_delayed c)
 
-  stream_delayed : (c : ℕ) → stream b (c + m) ≡ stream s c
+  pub stream_delayed : (c : ℕ) → stream b (c + m) ≡ stream s c
   stream_delayed c = rw (pending_delayed c, d.tuples c)
-
-  ends_delayed : (c : ℕ) → ends_before b.ends (c + m) ≡ ends_before s.ends c
-  ends_delayed zero = let e : zero + m ≡ m = omega arith in rw e (quiet_ends m (omega arith))
-  ends_delayed (suc c) = let e : suc c + m ≡ suc (c + m) = omega arith in rw (e, d.ends c, ends_delayed c)
-
-  tuples_delayed : (k c : ℕ) → tuples_of b k (c + m) ≡ tuples_of s k c
-  tuples_delayed k zero = let e : zero + m ≡ m = omega arith in rw e (quiet_tuples k m (omega arith))
-  tuples_delayed k (suc c) = let e : suc c + m ≡ suc (c + m) = omega arith in rw (e, d.tuples c, ends_delayed c, tuples_delayed k c)
 
   rows_delayed : (n c : ℕ) → rows b (c + m) n ≡ rows s c n
   rows_delayed zero c = refl
   rows_delayed (suc n) c = let e : suc (c + m) ≡ suc c + m = omega arith in rw (d.tuples c, e, rows_delayed n (suc c))
-
-  -- what the wire may become, the one behind may become
-  become_delayed : (k c : ℕ) (ys : List Row) → MayBecome s k c ys → MayBecome b k c ys
-  become_delayed k c ys h = elim (cases_lt c m) [
-    | inl l ↦ record { rest = ys; is = rw (quiet_tuples k c (omega arith)) refl; closed = λ p. absurd (omega (arith, p, quiet_ends c (omega arith))) }
-    | inr l ↦
-        let e : c ≡ (c - m) + m = omega arith in
-        let g : MayBecome s k (c - m) ys = earlier s k m (c - m) ys (subst (λ i. MayBecome s k i ys) e h) in
-        subst (λ i. MayBecome b k i ys) (sym e) (record { rest = g.rest; is = rw (tuples_delayed k (c - m)) g.is; closed = λ p. g.closed (omega (arith, p, ends_delayed (c - m))) })
-  ]
 
   tuple_before : (c : ℕ) (r : Row) → b.tuple c ≡ Some r → (i : ℕ) × (c ≡ i + m) × (s.tuple i ≡ Some r)
   tuple_before c r h = elim (cases_lt c m) [
@@ -105,7 +57,7 @@ module _ (m : ℕ) (s b : Carried) (d : IsDelayed m s b) where
     | inr l ↦ (let e : c ≡ (c - m) + m = omega arith in (c - m, e, sym (d.ends (c - m)) ∙ ap b.ends (sym e) ∙ h))
   ]
 
-  has_end_before : (f : Figures) (t c : ℕ) → HasEnd (delayed m f) b t c → (i : ℕ) × (c ≡ i + m) × HasEnd f s t i
+  pub has_end_before : (f : Figures) (t c : ℕ) → HasEnd (delayed m f) b t c → (i : ℕ) × (c ≡ i + m) × HasEnd f s t i
   has_end_before f t c h = let x = end_before c h.is in (x.0, x.1, record { is = x.2; low = omega (arith, h.low, x.1); high = omega (arith, h.high, x.1) })
 
   -- no tuple where the wire had none
@@ -135,24 +87,18 @@ module _ (m : ℕ) (s b : Carried) (d : IsDelayed m s b) where
 
   -- a block with some cycles behind it serves the same, that much later
   pub delayed_serves : (f g : Figures) (means : Meaning) (a : Carried) → Serves f g means a s → Serves f (delayed m g) means a b
-  delayed_serves f g means a h = record {
-    served = λ beats spaced fits. let x = h.served beats (spaced_closer g (delayed m g) beats (closer_delayed m g) spaced) fits in record {
-      fits = delayed_fits g beats x.fits;
-      results = λ t i e p hi he. let y = has_end_before g t e he in
-          subst (means (stream a i)) (sym (ap (stream b) y.1 ∙ stream_delayed y.0)) (x.results t i y.0 p hi y.2);
-      later = λ t i e p hi he. let y = has_end_before g t e he in omega (arith, x.later t i y.0 p hi y.2, y.1);
-    };
-    prefix = λ beats spaced fits k c xs q. let y = h.prefix beats (spaced_closer g (delayed m g) beats (closer_delayed m g) spaced) fits k c xs q in (y.0, become_delayed k c y.0 y.1, y.2);
+  delayed_serves f g means a h = λ beats spaced fits. let x = h beats (spaced_closer g (delayed m g) beats (closer_delayed m g) spaced) fits in record {
+    fits = delayed_fits g beats x.fits;
+    results = λ t i e p hi he. let y = has_end_before g t e he in
+        subst (means (stream a i)) (sym (ap (stream b) y.1 ∙ stream_delayed y.0)) (x.results t i y.0 p hi y.2);
+    later = λ t i e p hi he. let y = has_end_before g t e he in omega (arith, x.later t i y.0 p hi y.2, y.1);
   }
 
 same_serves : (f : Figures) (a : Carried) → Serves f f Same a a
-same_serves f a = record {
-  served = λ beats spaced fits. record {
-    fits = fits;
-    results = λ t d e h hd he. let o = fits.end t h in ap (stream a) (o.only e he ∙ sym (o.only d hd));
-    later = λ t d e h hd he. let o = fits.end t h in omega (arith, o.only d hd, o.only e he);
-  };
-  prefix = λ beats spaced fits k c xs q. (xs, q, refl);
+same_serves f a = λ beats spaced fits. record {
+  fits = fits;
+  results = λ t d e h hd he. let o = fits.end t h in ap (stream a) (o.only e he ∙ sym (o.only d hd));
+  later = λ t d e h hd he. let o = fits.end t h in omega (arith, o.only d hd, o.only e he);
 }
 
 pub delay_serves : (m : ℕ) (a b : Carried) (f : Figures) → IsDelayed m a b → Serves f (delayed m f) Same a b

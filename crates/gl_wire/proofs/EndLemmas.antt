@@ -1,23 +1,16 @@
 -- A block that gives one row at each end serves the total of the stream.
 use Rattle.std.proofs.Common.{◌≡◌, ℕ, zero, suc, ◌+◌, ◌-◌, ◌<◌, ◌≤◌, List, [], ◌∷◌, ◌++◌, length, Option, Some, None, Bool, true, false, refl, sym, ap, ◌∙◌, subst, arith, inl, inr, ◌⊎◌}
-use Rattle.std.specs.Prelude.{option_to_list, if◌then◌else◌, nat_eq}
-use Rattle.std.proofs.lemmas.Bool.{cases_lt, eqb-true, eq-eqb}
-use Rattle.std.proofs.lemmas.List.{append-nil}
+use Rattle.std.specs.Prelude.{option_to_list, if◌then◌else◌}
+use Rattle.std.proofs.lemmas.Bool.{cases_lt}
 use Rattle.gl_algebra.specs.declared.figures.Figures.{Figures}
 use Rattle.gl_algebra.specs.FigureTable.{delayed, aggregate_figures}
-use Rattle.gl_algebra.specs.Results.{Row}
-use Rattle.gl_wire.specs.Beats.{Beats, last, most, Spaced, NoCloser, ends_before}
+use Rattle.gl_bits.specs.Results.{Row}
+use Rattle.gl_wire.specs.Beats.{Beats, last, most, Spaced}
 use Rattle.gl_wire.specs.Wire.{Carried, pending, stream, rows}
-use Rattle.gl_wire.specs.Serves.{HasEnd, OneEnd, EndCaused, Fits, Serves, tuples_of, MayBecome}
+use Rattle.gl_wire.specs.Serves.{HasEnd, OneEnd, EndCaused, Fits, Serves}
 use Rattle.gl_wire.specs.Shapes.{totalled, AtEnds, Totalled}
 use Rattle.gl_wire.proofs.DelayLemmas.{delayed_serves}
-
-pub closer_total : (m : ℕ) (f : Figures) → NoCloser f (aggregate_figures m f)
-closer_total m f = record { gt = omega arith; ge = omega arith }
-
-no_rows : (s : Carried) (n c : ℕ) → ((k : ℕ) → c ≤ k → k < c + n → s.tuple k ≡ None) → rows s c n ≡ []
-no_rows s zero c h = refl
-no_rows s (suc n) c h = rw (h c (omega arith) (omega arith)) (no_rows s n (suc c) (λ k l m. h k (omega arith) (omega arith)))
+use Rattle.gl_wire.proofs.RowsLemmas.{rows-quiet}
 
 -- where all tuples of some cycles stand in one cycle, there is one at most
 one_row_at : (s : Carried) (at n c : ℕ) → ((k : ℕ) (r : Row) → c ≤ k → k < c + n → s.tuple k ≡ Some r → k ≡ at) → length (rows s c n) ≤ 1
@@ -32,43 +25,7 @@ one_row_at s at (suc n) c h = one (s.tuple c) refl (one_row_at s at n (suc c) (�
     one None e rest = rw e rest
     one (Some r) e rest =
         let here : c ≡ at = h c r (omega arith) (omega arith) e in
-        rw (e, no_rows s n (suc c) (λ k l m. none_after (s.tuple k) k refl (omega arith) (omega arith) (sym here))) (omega arith)
-
--- a number that is no other is told from it
-not_eq : (x y : ℕ) → (x ≡ y → ⊥) → (b : Bool) → nat_eq x y ≡ b → nat_eq x y ≡ false
-not_eq x y h true p = absurd (h (eqb-true x y p))
-not_eq x y h false p = p
-
-abbrev no_row : Option Row
-no_row = None
-
--- nothing of the rows that there are not
-nothing : (b : Bool) → (if b then option_to_list no_row else []) ≡ []
-nothing true = refl
-nothing false = refl
-
--- a stream that has not begun has no tuples
-pub tuples_none : (s : Carried) (k c : ℕ) → ends_before s.ends c < k → tuples_of s k c ≡ []
-tuples_none s k zero l = refl
-tuples_none s k (suc c) l =
-    let below : ends_before s.ends c < k = below (s.ends c) l in
-    rw (not_eq (ends_before s.ends c) k (λ e. omega (arith, e, below)) (nat_eq (ends_before s.ends c) k) refl, tuples_none s k c below) refl
-  where
-    below : (e : Bool) → (if e then suc (ends_before s.ends c) else ends_before s.ends c) < k → ends_before s.ends c < k
-    below true h = omega (arith, h)
-    below false h = h
-
--- the tuples of the open stream are the pending ones
-pub tuples-pending : (s : Carried) (c : ℕ) → tuples_of s (ends_before s.ends c) c ≡ pending s c
-tuples-pending s zero = refl
-tuples-pending s (suc c) = by (s.ends c) refl (tuples-pending s c)
-  where
-    n : ℕ
-    n = ends_before s.ends c
-
-    by : (e : Bool) → s.ends c ≡ e → tuples_of s n c ≡ pending s c → tuples_of s (if s.ends c then suc (ends_before s.ends c) else ends_before s.ends c) c ++ (if nat_eq (ends_before s.ends c) (if s.ends c then suc (ends_before s.ends c) else ends_before s.ends c) then option_to_list (s.tuple c) else []) ≡ (if s.ends c then [] else pending s c ++ option_to_list (s.tuple c))
-    by true p h = rw (p, not_eq (ends_before s.ends c) (suc (ends_before s.ends c)) (λ e. omega (arith, e)) (nat_eq (ends_before s.ends c) (suc (ends_before s.ends c))) refl, tuples_none s (suc (ends_before s.ends c)) c (omega arith)) refl
-    by false p h = rw (p, eq-eqb (ends_before s.ends c) (ends_before s.ends c) refl, h) refl
+        rw (e, rows-quiet s n (suc c) (λ k l m. none_after (s.tuple k) k refl (omega arith) (omega arith) (sym here))) (omega arith)
 
 module _ (total : List Row → Row) (a : Carried) where
   -- between two ends nothing comes out
@@ -135,53 +92,13 @@ module _ (total : List Row → Row) (a : Carried) where
       end = λ t h. end_in t (fits.end t h);
     }
 
-  -- before its end nothing of a stream comes out, and then its total
-  open_tuples : (k c : ℕ) → ends_before a.ends c ≤ k → tuples_of (totalled total a) k c ≡ []
-  open_tuples k zero l = refl
-  open_tuples k (suc c) l = by (a.ends c) refl l (λ m. open_tuples k c m)
-    where
-      by : (e : Bool) → a.ends c ≡ e → (if a.ends c then suc (ends_before a.ends c) else ends_before a.ends c) ≤ k → (ends_before a.ends c ≤ k → tuples_of (totalled total a) k c ≡ []) → tuples_of (totalled total a) k c ++ (if nat_eq (ends_before a.ends c) k then option_to_list (if a.ends c then Some (total (stream a c)) else None) else []) ≡ []
-      by true p m ih =
-          let low : suc (ends_before a.ends c) ≤ k = rw p at m in
-          rw (ih (omega (arith, low)), not_eq (ends_before a.ends c) k (λ e. omega (arith, e, low)) (nat_eq (ends_before a.ends c) k) refl) refl
-      by false p m ih =
-          let low : ends_before a.ends c ≤ k = rw p at m in
-          rw (p, ih low) (nothing (nat_eq (ends_before a.ends c) k))
-
-  closed_tuples : (k c : ℕ) → k < ends_before a.ends c → tuples_of (totalled total a) k c ≡ total (tuples_of a k c) ∷ []
-  closed_tuples k zero l = absurd (omega (arith, l))
-  closed_tuples k (suc c) l = by (cases_lt k (ends_before a.ends c)) (a.ends c) refl (λ m. closed_tuples k c m)
-    where
-      by : (k < ends_before a.ends c) ⊎ (ends_before a.ends c ≤ k) → (e : Bool) → a.ends c ≡ e → (k < ends_before a.ends c → tuples_of (totalled total a) k c ≡ total (tuples_of a k c) ∷ []) → tuples_of (totalled total a) k (suc c) ≡ total (tuples_of a k (suc c)) ∷ []
-      by (inl m) e p ih =
-          rw (not_eq (ends_before a.ends c) k (λ q. omega (arith, q, m)) (nat_eq (ends_before a.ends c) k) refl, ih m, append-nil (tuples_of a k c)) refl
-      by (inr m) false p ih = absurd (let z : k < ends_before a.ends c = rw p at l in omega (arith, z, m))
-      by (inr m) true p ih =
-          let z : k < suc (ends_before a.ends c) = rw p at l in
-          let same : ends_before a.ends c ≡ k = omega (arith, z, m) in
-          subst (λ j. tuples_of (totalled total a) j (suc c) ≡ total (tuples_of a j (suc c)) ∷ []) same
-          (rw (eq-eqb (ends_before a.ends c) (ends_before a.ends c) refl, open_tuples (ends_before a.ends c) c (omega arith), p, tuples-pending a c) refl)
-
-  become_total : (k c : ℕ) (xs : List Row) → MayBecome a k c xs → MayBecome (totalled total a) k c (total xs ∷ [])
-  become_total k c xs h = elim (cases_lt k (ends_before a.ends c)) [
-    | inl l ↦ record {
-      rest = [];
-      is = ap (λ l. total l ∷ []) (h.is ∙ ap (λ r. tuples_of a k c ++ r) (h.closed l) ∙ append-nil (tuples_of a k c)) ∙ sym (closed_tuples k c l) ∙ sym (append-nil (tuples_of (totalled total a) k c));
-      closed = λ p. refl;
-    }
-    | inr l ↦ record { rest = total xs ∷ []; is = rw (open_tuples k c l) refl; closed = λ p. absurd (omega (arith, p, l)) }
-  ]
-
   totalled_serves : (f : Figures) → Serves f (aggregate_figures 0 f) (Totalled total) a (totalled total a)
-  totalled_serves f = record {
-    served = λ beats spaced fits. record {
-      fits = totalled_fits f beats spaced fits;
-      results = λ t d e h hd he. let o = fits.end t h in
-          let same : d ≡ e = o.only d hd ∙ sym (o.only e (same_end f t e he)) in
-          subst (λ k. stream (totalled total a) k ≡ total (stream a d) ∷ []) same (totalled_stream d hd.is);
-      later = λ t d e h hd he. let o = fits.end t h in omega (arith, o.only d hd, o.only e (same_end f t e he));
-    };
-    prefix = λ beats spaced fits k c xs q. (total xs ∷ [], become_total k c xs q, refl);
+  totalled_serves f = λ beats spaced fits. record {
+    fits = totalled_fits f beats spaced fits;
+    results = λ t d e h hd he. let o = fits.end t h in
+        let same : d ≡ e = o.only d hd ∙ sym (o.only e (same_end f t e he)) in
+        subst (λ k. stream (totalled total a) k ≡ total (stream a d) ∷ []) same (totalled_stream d hd.is);
+    later = λ t d e h hd he. let o = fits.end t h in omega (arith, o.only d hd, o.only e (same_end f t e he));
   }
 
 same_figures : (m : ℕ) (f : Figures) → delayed m (aggregate_figures 0 f) ≡ aggregate_figures m f

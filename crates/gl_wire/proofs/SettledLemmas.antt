@@ -1,16 +1,13 @@
--- What follows from the law: closing wires fit narrower figures, and every end that comes out has its result.
-use Rattle.std.proofs.Common.{◌≡◌, ℕ, zero, suc, ◌+◌, ◌-◌, ◌≤◌, length, Some, Bool, true, false, refl, sym, subst, arith, length-append}
+-- Wires on which only beats with the end cause something fit narrower figures.
+use Rattle.std.proofs.Common.{◌≡◌, ℕ, zero, suc, ◌+◌, ◌-◌, ◌≤◌, length, Some, Bool, true, false, refl, sym, subst, arith}
 use Rattle.gl_algebra.specs.declared.figures.Figures.{Figures}
 use Rattle.gl_algebra.specs.FigureTable.{IsSound, settled, last_of}
 use Rattle.gl_wire.specs.Beats.{Beats, last, most, Spaced}
-use Rattle.gl_wire.specs.Wire.{Carried, stream, rows}
-use Rattle.gl_wire.specs.Serves.{Fits, Served, Serves, Meaning}
+use Rattle.gl_wire.specs.Wire.{Carried, rows}
+use Rattle.gl_wire.specs.Serves.{Fits, Serves, Meaning}
 use Rattle.gl_wire.proofs.DelayLemmas.{spaced_closer}
-use Rattle.gl_wire.proofs.LiftLemmas.{rows-split, closing_caused}
-
--- the first of some cycles have no more tuples than all of them
-rows_fewer : (s : Carried) (m n c : ℕ) → length (rows s c m) ≤ length (rows s c (m + n))
-rows_fewer s m n c = rw (rows-split s m n c, length-append (rows s c m) (rows s (c + m) n)) (omega arith)
+use Rattle.gl_wire.proofs.ClosingLemmas.{closing_caused}
+use Rattle.gl_wire.proofs.RowsLemmas.{rows_fewer}
 
 -- where beats without the end cause no tuple, their interval may be taken as one cycle
 closed_fits : (f : Figures) (beats : Beats) (s : Carried) → Fits f beats s → Spaced f beats → f.nt ≡ 0 → IsSound f → Fits (record f { lt = f.a }) beats s
@@ -43,21 +40,11 @@ settled_fits f beats s fits spaced sound = by f.nt refl
 
 -- a block serves with settled figures too
 pub settled_serves : (f g : Figures) (m : Meaning) (a b : Carried) → IsSound g → Serves f g m a b → Serves f (settled g) m a b
-settled_serves f g m a b sound h = record {
-  served = λ beats spaced fits.
-      let near = spaced_closer g (settled g) beats (record { gt = omega arith; ge = omega arith }) spaced in
-      let x = h.served beats near fits in
-      record {
-        fits = settled_fits g beats b x.fits near sound;
-        results = λ t d e p hd he. x.results t d e p hd (record { is = he.is; low = he.low; high = he.high });
-        later = λ t d e p hd he. x.later t d e p hd (record { is = he.is; low = he.low; high = he.high });
-      };
-  prefix = λ beats spaced fits. h.prefix beats (spaced_closer g (settled g) beats (record { gt = omega arith; ge = omega arith }) spaced) fits;
-}
-
--- each end that comes out is that of a beat, and what came out since the end before is right for what came in
-pub each_end : (f g : Figures) (means : ℕ → Meaning) (beats : Beats) (a b : Carried) → Fits f beats a → Served f g means beats a b → (e : ℕ) → b.ends e ≡ true → (t : ℕ) × (d : ℕ) × (beats t ≡ Some true) × (a.ends d ≡ true) × means t (stream a d) (stream b e)
-each_end f g means beats a b fits s e h =
-    let q = s.fits.ends e h in
-    let o = fits.end q.beat q.is in
-    (q.beat, o.at, q.is, o.here.is, s.results q.beat o.at e q.is o.here (record { is = h; low = q.low; high = q.high }))
+settled_serves f g m a b sound h = λ beats spaced fits.
+    let near = spaced_closer g (settled g) beats (record { gt = omega arith; ge = omega arith }) spaced in
+    let x = h beats near fits in
+    record {
+      fits = settled_fits g beats b x.fits near sound;
+      results = λ t d e p hd he. x.results t d e p hd (record { is = he.is; low = he.low; high = he.high });
+      later = λ t d e p hd he. x.later t d e p hd (record { is = he.is; low = he.low; high = he.high });
+    }

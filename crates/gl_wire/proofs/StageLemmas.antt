@@ -1,15 +1,17 @@
 -- Registers behind a line and behind a wire, and wires that are some cycles behind.
-use Rattle.std.proofs.Common.{◌≡◌, ℕ, zero, suc, ◌+◌, ◌<◌, List, Some, None, Bool, false, refl, sym, ap, ◌∙◌, subst, arith}
+use Rattle.std.proofs.Common.{◌≡◌, ℕ, zero, suc, ◌+◌, ◌<◌, List, length, Some, None, Bool, false, refl, sym, ap, ◌∙◌, subst, arith}
 use Rattle.std.specs.Prelude.{if◌then◌else◌}
-use Rattle.gl_algebra.specs.Results.{Row}
+use Rattle.std.specs.List.{sum}
+use Rattle.gl_bits.specs.Results.{Row}
 use Rattle.gl_net.specs.declared.node.Bus.{Bus}
 use Rattle.gl_net.specs.declared.node.Bit.{Bit}
-use Rattle.gl_net.specs.Net.{Net, Run, IsRun, Keeps}
+use Rattle.gl_net.specs.Net.{Net, Run}
 use Rattle.gl_net.proofs.Determined.{keeps_then}
 use Rattle.gl_wire.specs.declared.wire.Wire.{Wire}
-use Rattle.gl_wire.specs.Wire.{Carried, IsWire, widths, carried, wire_of, line_at, row_at, tuple_at}
+use Rattle.gl_wire.specs.Wire.{Carried, IsWire, carried, wire_of, line_at, row_at, tuple_at}
 use Rattle.gl_wire.specs.Shapes.{IsDelayed}
-use Rattle.gl_wire.proofs.ColumnLemmas.{keeps_same}
+use Rattle.gl_wire.specs.Stages.{AreLater, IsLaterLine, IsPad}
+use Rattle.gl_net.proofs.Growth.{same_keeps}
 
 -- a register that is 0 after reset is one cycle behind its line, from the reset cycle on
 pub line_later : (run : Run) (line later : Bit) → run.at 1 later.node ≡ 0 → ((t : ℕ) → run.at (suc (suc t)) later.node ≡ run.at (suc t) line.node) → (t : ℕ) → line_at run later (suc t) ≡ line_at run line t
@@ -43,7 +45,7 @@ one_behind a b first first_end tuples ends = record {
   ends = λ c. let e : c + 1 ≡ suc c = omega arith in ap b.ends e ∙ ends c;
 }
 
-pub stage_delayed : (run : Run) (v e : Bit) (bs : List Bus) (w : Wire) → ((t : ℕ) → line_at run w.valid (suc t) ≡ line_at run v t) → ((t : ℕ) → line_at run w.eos (suc t) ≡ line_at run e t) → ((t : ℕ) → row_at run (suc (suc t)) w.columns ≡ row_at run (suc t) bs) → IsDelayed 1 (carried run (wire_of v e bs)) (carried run w)
+stage_delayed : (run : Run) (v e : Bit) (bs : List Bus) (w : Wire) → ((t : ℕ) → line_at run w.valid (suc t) ≡ line_at run v t) → ((t : ℕ) → line_at run w.eos (suc t) ≡ line_at run e t) → ((t : ℕ) → row_at run (suc (suc t)) w.columns ≡ row_at run (suc t) bs) → IsDelayed 1 (carried run (wire_of v e bs)) (carried run w)
 stage_delayed run v e bs w valid eos row = one_behind (carried run (wire_of v e bs)) (carried run w)
     (tuple_by run w.valid w.columns 0 ∙ ap (λ (b : Bool). if b then Some (row_at run 0 w.columns) else None) (line_first run w.valid))
     (line_first run w.eos)
@@ -83,25 +85,44 @@ delayed_same m a b d tuple ends h = record {
   ends = λ c. h.ends c ∙ ends c;
 }
 
--- what n stages behind a wire leave
-pub record IsPadded (old new : Net) (n : ℕ) (w v : Wire) : Type 0 where
-  pub keeps : Keeps old new
-  pub wire : IsWire new v
-  pub same_widths : widths v.columns ≡ widths w.columns
-  pub delayed : (run : Run) → IsRun new run → IsDelayed n (carried run w) (carried run v)
-
-pub padded_none : (net : Net) (w v : Wire) → IsWire net w → v ≡ w → IsPadded net net 0 w v
-padded_none net w v i e = subst (λ u. IsPadded net net 0 w u) (sym e) (record {
-  keeps = keeps_same net;
+pub padded_none : (net : Net) (w v : Wire) → IsWire net w → v ≡ w → IsPad net net 0 w v
+padded_none net w v i e = subst (λ u. IsPad net net 0 w u) (sym e) (record {
+  keeps = same_keeps net;
+  cost = record { nodes = omega arith; registers = omega arith; memories = omega arith };
   wire = i;
   same_widths = refl;
   delayed = λ run r. delayed_none (carried run w);
 })
 
-pub padded_more : (old mid new : Net) (n : ℕ) (w v u : Wire) → IsPadded old mid n w v → Keeps mid new → IsWire new u → widths u.columns ≡ widths v.columns → ((run : Run) → IsRun new run → IsDelayed 1 (carried run v) (carried run u)) → IsPadded old new (n + 1) w u
-padded_more old mid new n w v u h g i same one = record {
-  keeps = keeps_then old mid new h.keeps g;
-  wire = i;
-  same_widths = same ∙ h.same_widths;
-  delayed = λ run r. delayed_more n (carried run w) (carried run v) (carried run u) (h.delayed run (g.runs run r)) (one run r);
+pub padded_more : (old mid new : Net) (n : ℕ) (w v u : Wire) → IsPad old mid n w v → IsPad mid new 1 v u → IsPad old new (n + 1) w u
+padded_more old mid new n w v u h i = record {
+  keeps = keeps_then old mid new h.keeps i.keeps;
+  cost = record {
+    nodes = omega (arith, h.cost.nodes, i.cost.nodes, ap length h.same_widths);
+    registers = omega (arith, h.cost.registers, i.cost.registers, ap sum h.same_widths);
+    memories = omega (arith, h.cost.memories, i.cost.memories);
+  };
+  wire = i.wire;
+  same_widths = i.same_widths ∙ h.same_widths;
+  delayed = λ run r. delayed_more n (carried run w) (carried run v) (carried run u) (h.delayed run (i.keeps.runs run r)) (i.delayed run r);
+}
+
+-- registers behind a valid line, an end line and columns are a stage
+pub stage_is : (old valid_net eos_net new : Net) (v e v' e' : Bit) (bs cs : List Bus) → IsLaterLine old valid_net v v' → IsLaterLine valid_net eos_net e e' → AreLater eos_net new bs cs → IsPad old new 1 (wire_of v e bs) (wire_of v' e' cs)
+stage_is old valid_net eos_net new v e v' e' bs cs one two all = record {
+  keeps = keeps_then old eos_net new (keeps_then old valid_net eos_net one.keeps two.keeps) all.keeps;
+  cost = record {
+    nodes = omega (arith, one.cost.nodes, two.cost.nodes, all.cost.nodes);
+    registers = omega (arith, one.cost.registers, two.cost.registers, all.cost.registers);
+    memories = omega (arith, one.cost.memories, two.cost.memories, all.cost.memories);
+  };
+  wire = record {
+    valid = record { there = all.keeps.shapes v'.node _ (two.keeps.shapes v'.node _ one.bit.there) };
+    eos = record { there = all.keeps.shapes e'.node _ two.bit.there };
+    columns = all.buses;
+  };
+  same_widths = all.same_widths;
+  delayed = λ run r.
+      let before_columns = all.keeps.runs run r in
+      stage_delayed run v e bs (wire_of v' e' cs) (one.line run (two.keeps.runs run before_columns)) (two.line run before_columns) (all.row run r);
 }

@@ -1,14 +1,14 @@
 -- A steady block serves the row-by-row meaning of its step.
 use Rattle.std.proofs.Common.{◌≡◌, ℕ, zero, suc, ◌+◌, ◌-◌, ◌≤◌, List, [], ◌∷◌, ◌++◌, length, Option, Some, None, Bool, true, false, refl, sym, ap, ◌∙◌, subst, arith}
-use Rattle.std.specs.Prelude.{option_and_then, option_to_list, if◌then◌else◌, filter_map, nat_eq}
+use Rattle.std.specs.Prelude.{option_and_then, option_to_list, if◌then◌else◌, filter_map}
 use Rattle.std.specs.List.{cons_option}
 use Rattle.std.proofs.lemmas.List.Elements.{filter_map-append}
 use Rattle.gl_algebra.specs.declared.figures.Figures.{Figures}
 use Rattle.gl_algebra.specs.FigureTable.{delayed}
-use Rattle.gl_algebra.specs.Results.{Row}
-use Rattle.gl_wire.specs.Beats.{Beats, last, ends_before}
+use Rattle.gl_bits.specs.Results.{Row}
+use Rattle.gl_wire.specs.Beats.{Beats, last}
 use Rattle.gl_wire.specs.Wire.{Carried, pending, stream, rows}
-use Rattle.gl_wire.specs.Serves.{HasEnd, Fits, Serves, tuples_of}
+use Rattle.gl_wire.specs.Serves.{HasEnd, Fits, Serves}
 use Rattle.gl_wire.specs.Shapes.{stepped, Steady, Mapped}
 use Rattle.gl_wire.proofs.DelayLemmas.{delayed_serves}
 
@@ -48,14 +48,6 @@ module _ (step : Row → Option Row) (a : Carried) where
   stepped_rows zero c = refl
   stepped_rows (suc n) c = rw (stepped_rows n (suc c), filter_map-append step (option_to_list (a.tuple c)) (rows a (suc c) n), one_row step (a.tuple c))
 
-  stepped_tuples : (k c : ℕ) → tuples_of (stepped step a) k c ≡ filter_map step (tuples_of a k c)
-  stepped_tuples k zero = refl
-  stepped_tuples k (suc c) = next (nat_eq (ends_before a.ends c) k) (stepped_tuples k c)
-    where
-      next : (b : Bool) → tuples_of (stepped step a) k c ≡ filter_map step (tuples_of a k c) → tuples_of (stepped step a) k c ++ (if b then option_to_list (option_and_then step (a.tuple c)) else []) ≡ filter_map step (tuples_of a k c ++ (if b then option_to_list (a.tuple c) else []))
-      next true h = grown (tuples_of a k c) (tuples_of (stepped step a) k c) (a.tuple c) h
-      next false h = grown (tuples_of a k c) (tuples_of (stepped step a) k c) None h
-
   -- a tuple that comes out came in
   came : (c : ℕ) (r : Row) → option_and_then step (a.tuple c) ≡ Some r → (q : Row) × (a.tuple c ≡ Some q)
   came c r h = one (a.tuple c) h
@@ -81,23 +73,12 @@ module _ (step : Row → Option Row) (a : Carried) where
   }
 
   stepped_serves : (f : Figures) → Serves f f (Mapped step) a (stepped step a)
-  stepped_serves f = record {
-    served = λ beats spaced fits. record {
-      fits = stepped_fits f beats fits;
-      results = λ t d e h hd he. let o = fits.end t h in
-          let same : d ≡ e = o.only d hd ∙ sym (o.only e (same_end f t e he)) in
-          subst (λ k. stream (stepped step a) k ≡ filter_map step (stream a d)) same (stepped_stream d);
-      later = λ t d e h hd he. let o = fits.end t h in omega (arith, o.only d hd, o.only e (same_end f t e he));
-    };
-    prefix = λ beats spaced fits k c xs q. (
-      filter_map step xs,
-      record {
-        rest = filter_map step q.rest;
-        is = ap (filter_map step) q.is ∙ filter_map-append step (tuples_of a k c) q.rest ∙ ap (λ l. l ++ filter_map step q.rest) (sym (stepped_tuples k c));
-        closed = λ l. ap (filter_map step) (q.closed l);
-      },
-      refl,
-    );
+  stepped_serves f = λ beats spaced fits. record {
+    fits = stepped_fits f beats fits;
+    results = λ t d e h hd he. let o = fits.end t h in
+        let same : d ≡ e = o.only d hd ∙ sym (o.only e (same_end f t e he)) in
+        subst (λ k. stream (stepped step a) k ≡ filter_map step (stream a d)) same (stepped_stream d);
+    later = λ t d e h hd he. let o = fits.end t h in omega (arith, o.only d hd, o.only e (same_end f t e he));
   }
 
 pub steady_serves : (m : ℕ) (step : Row → Option Row) (a b : Carried) (f : Figures) → Steady m step a b → Serves f (delayed m f) (Mapped step) a b

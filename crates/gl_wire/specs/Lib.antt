@@ -3,7 +3,14 @@ pub mod Beats
 pub mod Serves
 pub mod Shapes
 pub mod Spills
-pub mod Gives
-pub mod Lift
+pub mod Serving
+pub mod Pace
+pub mod Apart
+pub mod Sides
+pub mod Costs
+pub mod Stages
+pub mod Gates
+pub mod Faults
+pub mod Blocks
 pub mod Laws
 pub mod Operators

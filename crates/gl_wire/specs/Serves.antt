@@ -1,9 +1,9 @@
 -- What a block of operators promises: that its output wire carries results in time.
 -- It is the latency and the issue rate by which Mueller, Teubner and Alonso, PVLDB 2(1), 2009, judge circuits, for many streams in a row.
-use Rattle.std.specs.Prelude.{◌≡◌, ℕ, zero, suc, ◌+◌, ◌-◌, ◌<◌, ◌≤◌, List, [], ◌++◌, length, Some, None, Bool, true, if◌then◌else◌, nat_eq, option_to_list}
+use Rattle.std.specs.Prelude.{◌≡◌, ℕ, suc, ◌+◌, ◌-◌, ◌<◌, ◌≤◌, List, length, Some, None, Bool, true}
 use Rattle.gl_algebra.specs.declared.figures.Figures.{Figures}
-use Rattle.gl_algebra.specs.Results.{Row}
-use Rattle.gl_wire.specs.Beats.{Beats, last, most, Spaced, ends_before}
+use Rattle.gl_bits.specs.Results.{Row}
+use Rattle.gl_wire.specs.Beats.{Beats, last, most, Spaced}
 use Rattle.gl_wire.specs.Wire.{Carried, stream, rows}
 
 -- an end in the interval of the beat t
@@ -52,30 +52,9 @@ pub record Served (f g : Figures) (means : ℕ → Meaning) (beats : Beats) (a b
   pub results : (t d e : ℕ) → beats t ≡ Some true → HasEnd f a t d → HasEnd g b t e → means t (stream a d) (stream b e)
   pub later : (t d e : ℕ) → beats t ≡ Some true → HasEnd f a t d → HasEnd g b t e → d ≤ e
 
--- the tuples before a cycle of the stream with this number
-abbrev pub tuples_of : Carried → ℕ → ℕ → List Row
-tuples_of s k zero = []
-tuples_of s k (suc c) = tuples_of s k c ++ (if nat_eq (ends_before s.ends c) k then option_to_list (s.tuple c) else [])
-
--- by what came before a cycle, the stream with this number may be xs: it begins so, and is no longer where it has ended
-pub record MayBecome (s : Carried) (k c : ℕ) (xs : List Row) : Type 0 where
-  pub rest : List Row
-  pub is : xs ≡ tuples_of s k c ++ rest
-  pub closed : k < ends_before s.ends c → rest ≡ []
-
--- the prefix claim: whatever a stream may still become on the input, the output may become a result of it;
--- it says what an overflow line means before the end, and it composes since it asks nothing of the meaning
-abbrev pub Reaches : Meaning → Carried → Carried → ℕ → ℕ → Type 0
-Reaches means a b k c = (xs : List Row) → MayBecome a k c xs → (ys : List Row) × MayBecome b k c ys × means xs ys
-
--- a block without lines serves a meaning, over every sequence of streams
-pub record Serves (f g : Figures) (means : Meaning) (a b : Carried) : Type 0 where
-  pub served : (beats : Beats) → Spaced g beats → Fits f beats a → Served f g (λ t. means) beats a b
-  pub prefix : (beats : Beats) → Spaced g beats → Fits f beats a → (k c : ℕ) → Reaches means a b k c
-
--- one meaning after another
-abbrev pub followed_by : Meaning → Meaning → Meaning
-followed_by m n xs zs = (ys : List Row) × (m xs ys) × (n ys zs)
+-- a block without lines serves a meaning: over every sequence of streams
+abbrev pub Serves : Figures → Figures → Meaning → Carried → Carried → Type 0
+Serves f g means a b = (beats : Beats) → Spaced g beats → Fits f beats a → Served f g (λ t. means) beats a b
 
 -- which lists of rows may come out for those that came in on two inputs
 abbrev pub Meaning2 : Type 1
@@ -87,12 +66,3 @@ pub record Served2 (f g k : Figures) (means : ℕ → Meaning2) (beats : Beats) 
   pub results : (t d e o : ℕ) → beats t ≡ Some true → HasEnd f a t d → HasEnd g b t e → HasEnd k c t o → means t (stream a d) (stream b e) (stream c o)
   pub later : (t d o : ℕ) → beats t ≡ Some true → HasEnd f a t d → HasEnd k c t o → d ≤ o
   pub later2 : (t e o : ℕ) → beats t ≡ Some true → HasEnd g b t e → HasEnd k c t o → e ≤ o
-
--- the prefix claim for two inputs
-abbrev pub Reaches2 : Meaning2 → Carried → Carried → Carried → ℕ → ℕ → Type 0
-Reaches2 means a b c k n = (xs ys : List Row) → MayBecome a k n xs → MayBecome b k n ys → (zs : List Row) × MayBecome c k n zs × means xs ys zs
-
--- a block of two inputs without lines serves a meaning
-pub record Serves2 (f g k : Figures) (means : Meaning2) (a b c : Carried) : Type 0 where
-  pub served : (beats : Beats) → Spaced k beats → Fits f beats a → Fits g beats b → Served2 f g k (λ t. means) beats a b c
-  pub prefix : (beats : Beats) → Spaced k beats → Fits f beats a → Fits g beats b → (j n : ℕ) → Reaches2 means a b c j n

@@ -1,10 +1,10 @@
--- The whole law of serving: with spill, and with the lines that tell of it.
-use Rattle.std.specs.Prelude.{◌≡◌, ℕ, ◌<◌, ◌≤◌, List, Some, Bool, true, false, ◌||◌}
+-- The law of serving with spill, and with the lines that tell of it.
+use Rattle.std.specs.Prelude.{◌≡◌, ℕ, ◌≤◌, List, Some, Bool, true, false, ◌||◌}
 use Rattle.gl_algebra.specs.declared.figures.Figures.{Figures}
-use Rattle.gl_algebra.specs.Results.{Row}
-use Rattle.gl_wire.specs.Beats.{Beats, Spaced, Ends, Begun}
+use Rattle.gl_bits.specs.Results.{Row}
+use Rattle.gl_wire.specs.Beats.{Beats, Spaced, Ends}
 use Rattle.gl_wire.specs.Wire.{Carried}
-use Rattle.gl_wire.specs.Serves.{Fits, Served, Served2, Reaches, Reaches2}
+use Rattle.gl_wire.specs.Serves.{Fits, Meaning, Meaning2, Served, Served2}
 
 -- which lists of rows may come out for those that came in, and whether some are left out: the spill
 abbrev pub Relation : Type 1
@@ -14,10 +14,31 @@ Relation = List Row → List Row → Bool → Type 0
 abbrev pub Relation2 : Type 1
 Relation2 = List Row → List Row → List Row → Bool → Type 0
 
+-- a meaning that never spills
+abbrev pub never : Meaning → Relation
+never m xs ys p = (m xs ys) × (p ≡ false)
+
+-- nor does one of two inputs
+abbrev pub never2 : Meaning2 → Relation2
+never2 m xs ys zs p = (m xs ys zs) × (p ≡ false)
+
 -- the lines of a block in each cycle: that a queue was passed, and that a further group came
 pub record Lines : Type 0 where
   pub passed : ℕ → Bool
   pub further : ℕ → Bool
+
+-- a block without such lines
+abbrev pub no_lines : Lines
+no_lines = record { passed = λ c. false; further = λ c. false }
+
+-- the lines of two blocks together
+abbrev pub both_lines : Lines → Lines → Lines
+both_lines p q = record { passed = λ c. p.passed c || q.passed c; further = λ c. p.further c || q.further c }
+
+-- the same lines
+pub record SameLines (p q : Lines) : Type 0 where
+  pub passed : (c : ℕ) → p.passed c ≡ q.passed c
+  pub further : (c : ℕ) → p.further c ≡ q.further c
 
 -- over these beats: a choice of spill for the stream of each beat with the end, for which the results are right and the lines true
 pub record ServedWithLines (f g : Figures) (means : Relation) (lines : Lines) (beats : Beats) (a b : Carried) : Type 0 where
@@ -31,14 +52,11 @@ pub record ServedWithLines (f g : Figures) (means : Relation) (lines : Lines) (b
   pub so : Ends beats → (c : ℕ) → lines.further c ≡ true → (t : ℕ) × (beats t ≡ Some true) × (spill t ≡ true)
   -- the line is not 1 after the last end
   pub late : Ends beats → (c : ℕ) → lines.further c ≡ true → (e : ℕ) × (c ≤ e) × (b.ends e ≡ true)
-  -- whatever a stream may still become, what came out begins a result of it
-  pub prefix : (k c : ℕ) → Reaches (λ xs ys. (p : Bool) × means xs ys p) a b k c
-  -- where the line has risen it is right before the end too: whatever some stream that has begun may still become, it spills
-  pub risen : (c d : ℕ) → d < c → lines.further d ≡ true → (k : ℕ) × Begun beats k d × Reaches (λ xs ys. means xs ys true) a b k c
 
--- a block serves a meaning: over every sequence of streams
-pub record ServesWithLines (f g : Figures) (means : Relation) (lines : Lines) (a b : Carried) : Type 0 where
-  pub served : (beats : Beats) → Spaced g beats → Fits f beats a → ServedWithLines f g means lines beats a b
+-- a block with lines serves a meaning: over every sequence of streams
+abbrev pub ServesWithLines : Figures → Figures → Relation → Lines → Carried → Carried → Type 0
+ServesWithLines f g means lines a b =
+    (beats : Beats) → Spaced g beats → Fits f beats a → ServedWithLines f g means lines beats a b
 
 -- the law over these beats for a block of two inputs, clause by clause as for one
 pub record ServedWithLines2 (f g h : Figures) (means : Relation2) (lines : Lines) (beats : Beats) (a b o : Carried) : Type 0 where
@@ -48,33 +66,16 @@ pub record ServedWithLines2 (f g h : Figures) (means : Relation2) (lines : Lines
   pub told : Ends beats → (t : ℕ) → beats t ≡ Some true → spill t ≡ true → (c : ℕ) × (lines.further c ≡ true)
   pub so : Ends beats → (c : ℕ) → lines.further c ≡ true → (t : ℕ) × (beats t ≡ Some true) × (spill t ≡ true)
   pub late : Ends beats → (c : ℕ) → lines.further c ≡ true → (e : ℕ) × (c ≤ e) × (o.ends e ≡ true)
-  pub prefix : (k c : ℕ) → Reaches2 (λ xs ys zs. (p : Bool) × means xs ys zs p) a b o k c
-  pub risen : (c d : ℕ) → d < c → lines.further d ≡ true → (k : ℕ) × Begun beats k d × Reaches2 (λ xs ys zs. means xs ys zs true) a b o k c
 
--- a block of two inputs serves a meaning
-pub record ServesWithLines2 (f g h : Figures) (means : Relation2) (lines : Lines) (a b o : Carried) : Type 0 where
-  pub served : (beats : Beats) → Spaced h beats → Fits f beats a → Fits g beats b → ServedWithLines2 f g h means lines beats a b o
+-- what a block of two inputs may ask of them beside that they fit: a condition over the beats and both wires
+abbrev pub Condition : Type 1
+Condition = Beats → Carried → Carried → Type 0
 
--- one meaning after another: either may spill
-abbrev pub spills_with : Relation → Relation → Relation
-spills_with m n xs zs p = (ys : List Row) × (q : Bool) × (r : Bool) × (m xs ys q) × (n ys zs r) × (p ≡ q || r)
+-- nothing
+abbrev pub always : Condition
+always beats a b = Unit {0}
 
--- a meaning that never spills
-abbrev pub never : (List Row → List Row → Type 0) → Relation
-never m xs ys p = (m xs ys) × (p ≡ false)
-
--- nor does one of two inputs
-abbrev pub never2 : (List Row → List Row → List Row → Type 0) → Relation2
-never2 m xs ys zs p = (m xs ys zs) × (p ≡ false)
-
--- a block without such lines
-abbrev pub no_lines : Lines
-no_lines = record { passed = λ c. false; further = λ c. false }
-
--- the lines of two blocks together
-abbrev pub both_lines : Lines → Lines → Lines
-both_lines p q = record { passed = λ c. p.passed c || q.passed c; further = λ c. p.further c || q.further c }
-
--- a meaning of two inputs after one on each of them: each may spill
-abbrev pub spills_with2 : Relation → Relation → Relation2 → Relation2
-spills_with2 m n o vs ws zs p = (xs : List Row) × (ys : List Row) × (q : Bool) × (r : Bool) × (s : Bool) × (m vs xs q) × (n ws ys r) × (o xs ys zs s) × (p ≡ (q || r) || s)
+-- a block of two inputs serves a meaning where they meet the condition
+abbrev pub ServesWhen2 : Condition → Figures → Figures → Figures → Relation2 → Lines → Carried → Carried → Carried → Type 0
+ServesWhen2 Cond f g h means lines a b o =
+    (beats : Beats) → Spaced h beats → Fits f beats a → Fits g beats b → Cond beats a b → ServedWithLines2 f g h means lines beats a b o

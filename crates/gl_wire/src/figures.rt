@@ -2,8 +2,7 @@
 
 ghost use Rattle.std.specs.Prelude.{◌≡◌};
 ghost use Rattle.gl_algebra.specs.declared.figures.Figures.{Figures};
-ghost use Rattle.gl_algebra.specs.FigureTable.{IsSound, aggregate_figures, delayed, settled};
-ghost use Rattle.gl_wire.specs.Operators.{AreSmall, with_gaps_of};
+ghost use Rattle.gl_algebra.specs.FigureTable.{AreSmall, IsSound, aggregate_figures, delayed, settled};
 
 use gl_algebra::Figures;
 
@@ -52,18 +51,5 @@ pub fn total_figures(source: Figures, cycles: u32) -> Figures
         ne: 1,
         gt: source.gt,
         ge: source.ge.max(source.le - source.a + 1),
-    }
-}
-
-/// The figures with beats no closer than the other figures let them.
-pub fn with_gaps_of(other: Figures, source: Figures) -> Figures
-    requires { IsSound source }
-    ensures value { result ≡ with_gaps_of other source }
-    ensures sound { IsSound result }
-{
-    Figures {
-        gt: source.gt.max(other.gt),
-        ge: source.ge.max(other.ge),
-        ..source
     }
 }

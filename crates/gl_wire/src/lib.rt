@@ -1,13 +1,21 @@
-//! Wires: what they carry, when a block between wires serves a meaning, and the laws by which blocks are put together.
+//! Wires: what they carry, when a block between wires serves a meaning, and the laws by which blocks are put together. Here belongs
+//! what holds of every wire and every block: registers behind wires, gates on lines, the shapes of blocks. What an operator does with
+//! rows does not, nor do the copies of a body.
 #![tactic(auto)]
 
+pub mod emitted;
+pub mod faults;
 pub mod figures;
+pub mod gates;
 pub mod laws;
 pub mod operator;
 pub mod stages;
 pub mod wire;
 
-pub use figures::{delayed_figures, settled_figures, total_figures, with_gaps_of};
+pub use emitted::{Emitted, Faults};
+pub use faults::{both_faults, either_line};
+pub use figures::{delayed_figures, settled_figures, total_figures};
+pub use gates::{both, but_not, either, same};
 pub use operator::Operator;
 pub use stages::{later, later_all, later_bit, later_wire, pad, stage};
 pub use wire::{Front, Wire, Wires};

@@ -1,62 +1,52 @@
-//! Operators between wires.
+//! Operators: what stands between a wire and a wire.
 
-ghost use Rattle.std.specs.Prelude.{◌≡◌, ℕ, List, length, IfOk, OnOk};
-ghost use Rattle.std.specs.List.{All};
+ghost use Rattle.std.specs.Prelude.{◌≡◌, ℕ, List, IfOk};
 ghost use Rattle.gl_algebra.specs.declared.figures.Figures.{Figures};
-ghost use Rattle.gl_algebra.specs.FigureTable.{IsSound};
-ghost use Rattle.gl_algebra.specs.Results.{Row};
-ghost use Rattle.gl_net.specs.Net.{Run, IsRun, Keeps};
-ghost use Rattle.gl_wire.specs.Wire.{IsWire, carried, widths};
-ghost use Rattle.gl_wire.specs.Beats.{NoCloser};
-ghost use Rattle.gl_wire.specs.Operators.{AreSmall, ServesAll, all_carried, widths_of_all};
+ghost use Rattle.gl_algebra.specs.FigureTable.{AreSmall, IsSound};
+ghost use Rattle.gl_bits.specs.Results.{Row};
+ghost use Rattle.gl_wire.specs.Blocks.{IsBehind};
+ghost use Rattle.gl_wire.specs.Costs.{Cost};
+ghost use Rattle.gl_wire.specs.Operators.{ServesIn};
+ghost use Rattle.gl_wire.specs.Wire.{Carried, IsWire, widths};
 
-use crate::wire::Wire;
+use crate::emitted::Emitted;
 use gl_algebra::Figures;
 use gl_bits::Memory;
 use gl_net::NetBuilder;
 use std::alloc::Global;
 
-/// What stands between one wire, or two, and a wire.
+/// An operator of one input. It holds the kinds of its columns where it needs them.
 pub trait Operator {
-    /// The number of inputs.
-    ghost inputs: { Self → ℕ };
+    /// Whether it takes an input with columns of these widths.
+    ghost takes: { Self → List ℕ → Type 0 };
 
-    /// Whether it takes inputs with columns of these widths.
-    ghost takes: { Self → List (List ℕ) → Type 0 };
+    /// The widths of the columns that it gives for those of its input.
+    ghost gives: { Self → List ℕ → List ℕ };
 
-    /// The widths of the columns that it gives for those of its inputs.
-    ghost gives: { Self → List (List ℕ) → List ℕ };
+    /// What it costs at most.
+    ghost most: { Self → List ℕ → Cost };
 
-    /// The figures of its output for those of its inputs.
-    ghost figures_of: { Self → List Figures → Figures };
-
-    /// Whether it is made for inputs with these figures; most operators are for any.
-    ghost suits: { Self → List Figures → Type 0 } = { λ _ _. Unit {0} };
+    /// What its wire carries, for what its input carries.
+    ghost shape: { Self → Carried → Carried → Type 0 };
 
     /// Which rows may come out for those that come in.
-    ghost means: { Self → List (List Row) → List Row → Type 0 };
+    ghost means: { Self → List Row → List Row → Type 0 };
+
+    /// The figures of its output for those of its input.
+    ghost figures_of: { Self → Figures → Figures };
 
     /// The figures of the output.
-    fn figures(&self, ins: &[Figures]) -> Figures
-        requires count { length ins.now ≡ inputs self.now }
-        requires sound { All IsSound ins.now }
-        requires small { AreSmall (figures_of self.now ins.now) }
-        ensures value { result ≡ figures_of self.now ins.now }
+    fn figures(&self, source: Figures) -> Figures
+        requires sound { IsSound source }
+        requires small { AreSmall (figures_of self.now source) }
+        ensures value { result ≡ figures_of self.now source }
         ensures sound { IsSound result };
 
-    /// Adds the operator behind its inputs, and gives the wire that comes out.
-    fn emit(&self, alloc: Global, net: &mut NetBuilder, ins: &[Wire]) -> Result<Wire, Memory>
-        requires count { length ins.now ≡ inputs self.now }
-        requires wires { All (IsWire net.old) ins.now }
-        requires columns { takes self.now (widths_of_all ins.now) }
-        ensures keeps { OnOk result (Keeps net.old net.new) }
-        ensures wire { IfOk result (λ w. IsWire net.new w) }
-        ensures widths { IfOk result (λ w. widths w.columns ≡ gives self.now (widths_of_all ins.now)) }
-        ensures serves { IfOk result (λ w. (run : Run) → IsRun net.new run → ServesAll (suits self.now) (figures_of self.now) (means self.now) (all_carried run ins.now) (carried run w)) };
-
-    /// Beats that are as far apart as the output's figures ask are so for each input.
-    ghost closer: { (s : Self) (fs : List Figures) → length fs ≡ inputs s → All (λ f. NoCloser f (figures_of s fs)) fs };
-
-    /// Sound figures come of sound ones.
-    ghost keeps_sound: { (s : Self) (fs : List Figures) → length fs ≡ inputs s → All IsSound fs → IsSound (figures_of s fs) };
+    /// Adds the operator behind its input, and gives what comes out.
+    fn emit(&self, alloc: Global, net: &mut NetBuilder, below: Emitted) -> Result<Emitted, Memory>
+        requires wire { IsWire net.old below.wire }
+        requires columns { takes self.now (widths below.wire.columns) }
+        ensures behind { IfOk result (IsBehind net.old net.new (shape self.now)
+            (gives self.now (widths below.wire.columns)) (most self.now (widths below.wire.columns)) below) }
+        ensures serves { IfOk result (ServesIn net.new (figures_of self.now) (means self.now) below) };
 }

@@ -1,9 +1,9 @@
 //! Registers behind buses, lines and whole wires.
 
-ghost use Rattle.std.specs.Prelude.{◌≡◌, ℕ, suc, ◌+◌, IfOk, OnOk};
-ghost use Rattle.gl_net.specs.Net.{Run, IsRun, IsBus, IsBit, Keeps};
-ghost use Rattle.gl_wire.specs.Wire.{AreBuses, IsWire, carried, line_at, row_at, widths, wire_of};
-ghost use Rattle.gl_wire.specs.Shapes.{IsDelayed};
+ghost use Rattle.std.specs.Prelude.{◌≡◌, IfOk};
+ghost use Rattle.gl_net.specs.Net.{IsBus, IsBit};
+ghost use Rattle.gl_wire.specs.Stages.{AreLater, IsLaterBus, IsLaterLine, IsPad};
+ghost use Rattle.gl_wire.specs.Wire.{AreBuses, IsWire, wire_of};
 
 use crate::wire::Wire;
 use gl_bits::{Memory, Word};
@@ -13,10 +13,7 @@ use std::alloc::Global;
 /// A register that carries in each cycle what the bus carried in the one before. What it carries in cycle 0 is not known.
 pub fn later(net: &mut NetBuilder, bus: Bus) -> Result<Bus, Memory>
     requires { IsBus net.old bus }
-    ensures keeps { OnOk result (Keeps net.old net.new) }
-    ensures bus { IfOk result (λ b. IsBus net.new b) }
-    ensures width { IfOk result (λ b. b.width ≡ bus.width) }
-    ensures value { IfOk result (λ b. (run : Run) → IsRun net.new run → (t : ℕ) → run.at (suc (suc t)) b.node ≡ run.at (suc t) bus.node) }
+    ensures { IfOk result (IsLaterBus net.old net.new bus) }
 {
     let register = net.register(bus.width, None)?;
     net.drive(register, bus)?;
@@ -34,9 +31,7 @@ fn clear() -> Word
 /// The same for a line, which reset clears.
 pub fn later_bit(net: &mut NetBuilder, line: Bit) -> Result<Bit, Memory>
     requires { IsBit net.old line }
-    ensures keeps { OnOk result (Keeps net.old net.new) }
-    ensures bit { IfOk result (λ b. IsBit net.new b) }
-    ensures line { IfOk result (λ b. (run : Run) → IsRun net.new run → (t : ℕ) → line_at run b (suc t) ≡ line_at run line t) }
+    ensures { IfOk result (IsLaterLine net.old net.new line) }
 {
     let register = net.register(1, Some(clear()))?;
     net.drive(register, line.bus())?;
@@ -46,10 +41,7 @@ pub fn later_bit(net: &mut NetBuilder, line: Bit) -> Result<Bit, Memory>
 /// The same for each of some columns.
 pub fn later_all(alloc: Global, net: &mut NetBuilder, columns: &[Bus]) -> Result<Buses, Memory>
     requires { AreBuses net.old columns.now }
-    ensures keeps { OnOk result (Keeps net.old net.new) }
-    ensures columns { IfOk result (λ bs. AreBuses net.new bs) }
-    ensures widths { IfOk result (λ bs. widths bs ≡ widths columns.now) }
-    ensures row { IfOk result (λ bs. (run : Run) → IsRun net.new run → (t : ℕ) → row_at run (suc (suc t)) bs ≡ row_at run (suc t) columns.now) }
+    ensures { IfOk result (AreLater net.old net.new columns.now) }
 {
     let mut all = Buses::new(alloc);
     for bus in columns {
@@ -70,10 +62,7 @@ pub fn stage(
     requires valid { IsBit net.old valid }
     requires eos { IsBit net.old eos }
     requires columns { AreBuses net.old columns.now }
-    ensures keeps { OnOk result (Keeps net.old net.new) }
-    ensures wire { IfOk result (λ w. IsWire net.new w) }
-    ensures widths { IfOk result (λ w. widths w.columns ≡ widths columns.now) }
-    ensures delayed { IfOk result (λ w. (run : Run) → IsRun net.new run → IsDelayed 1 (carried run (wire_of valid eos columns.now)) (carried run w)) }
+    ensures { IfOk result (IsPad net.old net.new 1 (wire_of valid eos columns.now)) }
 {
     let valid = later_bit(net, valid)?;
     let eos = later_bit(net, eos)?;
@@ -88,17 +77,14 @@ pub fn stage(
 /// A wire that carries what another does one cycle later.
 pub fn later_wire(alloc: Global, net: &mut NetBuilder, wire: &Wire) -> Result<Wire, Memory>
     requires { IsWire net.old wire.now }
-    ensures keeps { OnOk result (Keeps net.old net.new) }
-    ensures wire { IfOk result (λ w. IsWire net.new w) }
-    ensures widths { IfOk result (λ w. widths w.columns ≡ widths wire.now.columns) }
-    ensures delayed { IfOk result (λ w. (run : Run) → IsRun net.new run → IsDelayed 1 (carried run wire.now) (carried run w)) }
+    ensures { IfOk result (IsPad net.old net.new 1 wire.now) }
 {
     let later = stage(alloc, net, wire.valid, wire.eos, wire.columns.as_slice())?;
     Ok(later)
 }
 
 // A copy of a wire.
-fn same(alloc: Global, wire: &Wire) -> Result<Wire, Memory>
+fn copied(alloc: Global, wire: &Wire) -> Result<Wire, Memory>
     ensures { IfOk result (λ w. w ≡ wire.now) }
 {
     match Vec::from_slice(alloc, wire.columns.as_slice()) {
@@ -114,12 +100,9 @@ fn same(alloc: Global, wire: &Wire) -> Result<Wire, Memory>
 /// A wire that carries what another does so many cycles later, and nothing before.
 pub fn pad(alloc: Global, net: &mut NetBuilder, wire: &Wire, cycles: u32) -> Result<Wire, Memory>
     requires { IsWire net.old wire.now }
-    ensures keeps { OnOk result (Keeps net.old net.new) }
-    ensures wire { IfOk result (λ w. IsWire net.new w) }
-    ensures widths { IfOk result (λ w. widths w.columns ≡ widths wire.now.columns) }
-    ensures delayed { IfOk result (λ w. (run : Run) → IsRun net.new run → IsDelayed cycles (carried run wire.now) (carried run w)) }
+    ensures { IfOk result (IsPad net.old net.new cycles wire.now) }
 {
-    let mut padded = same(alloc, wire)?;
+    let mut padded = copied(alloc, wire)?;
     for _cycle in 0..cycles {
         padded = later_wire(alloc, net, &padded)?;
     }

@@ -9,7 +9,7 @@ use Rattle.std.proofs.lemmas.List.Elements.{filter_map-append}
 use Rattle.gl_schema.specs.Beats.{Beat, AreInOrder, row_in, input_of, last_cycle, beat_at, ends_at}
 use Rattle.gl_schema.specs.Ports.{PortValues}
 use Rattle.gl_schema.specs.Seen.{shown, seen, rows_of}
-use Rattle.gl_schema.specs.Right.{IsRight}
+use Rattle.gl_schema.specs.Right.{Meaning, IsRight}
 use Rattle.gl_wiring.specs.Delay.{row_at, ShowsLater}
 
 -- ---- the beats of a cycle
@@ -94,8 +94,8 @@ rows_snoc k beats at (suc n) =
 -- ---- a right run
 
 -- a select of one stream means its rows, each picked
-abbrev pub Picks : ℕ → (List ℕ → List ℕ) → (ℕ → List (List ℕ)) → List (List ℕ) → Bool → Type 0
-Picks k pick inputs rows spill = (rows ≡ map pick (inputs k)) × (spill ≡ false)
+abbrev pub Picks : ℕ → (List ℕ → List ℕ) → Meaning
+Picks k pick inputs rows spill = (rows ≡ map pick (inputs.rows k)) × (spill ≡ false)
 
 module _ (k : ℕ) (pick : List ℕ → List ℕ) (beats : List Beat) (outs : List (List ℕ)) (port : PortValues) (d : ShowsLater k pick beats outs port) where
   seen_rows : (n : ℕ) → rows_of (seen port outs n) ≡ map pick (rows_from k beats 0 n)

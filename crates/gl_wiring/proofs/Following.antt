@@ -63,30 +63,30 @@ bit_high true = refl
 bit_high false = refl
 
 -- what a module with these ports and this stimulus shows
-module _ (schema : Schema) (k : ℕ) (s : Stream) (there : slice_get schema.streams k ≡ Some s) (beats : List Beat) (port : PortValues) (stimulus : IsStimulus schema beats port) where
+module _ (schema : Schema) (k : ℕ) (s : Stream) (there : slice_get schema.streams k ≡ Some s) (beats : List Beat) (input port : PortValues) (stimulus : IsStimulus schema beats input) where
   -- the ports of the stream in the simulation cycle of a file cycle
-  stream_pins_of : (n : ℕ) → AllByRecursion (Carries port (suc n)) (stream_pins s (row_at k beats n))
+  stream_pins_of : (n : ℕ) → AllByRecursion (Carries input (suc n)) (stream_pins s (row_at k beats n))
   stream_pins_of n =
       let all = (stimulus.carries (suc n)).1 in
-      let P : Pin → Type 0 = Carries port (suc n) in
+      let P : Pin → Type 0 = Carries input (suc n) in
       let streams = All-front P (streams_pins schema.streams (rows_at beats n)) (pin eos (bit (ends_at beats n)) ∷ []) all in
       subst (λ row. AllByRecursion P (stream_pins s row)) (row_of-beat k beats n) (stream_at P schema.streams (rows_at beats n) k s there streams)
 
-  pub valid_is : (n : ℕ) → HasPort port (in_valid s.name) → value_at port (suc n) (in_valid s.name) ≡ bit (is_some (row_at k beats n))
-  valid_is n has = carried port (suc n) (in_valid s.name) (bit (is_some (row_at k beats n))) has (stream_pins_of n).0
+  pub valid_is : (n : ℕ) → HasPort input (in_valid s.name) → value_at input (suc n) (in_valid s.name) ≡ bit (is_some (row_at k beats n))
+  valid_is n has = carried input (suc n) (in_valid s.name) (bit (is_some (row_at k beats n))) has (stream_pins_of n).0
 
-  pub column_is : (n p : ℕ) (c : Column) → slice_get s.columns p ≡ Some c → HasPort port (in_column s.name c.name) → value_at port (suc n) (in_column s.name c.name) ≡ slice_index (unwrap_or (row_at k beats n) []) p
+  pub column_is : (n p : ℕ) (c : Column) → slice_get s.columns p ≡ Some c → HasPort input (in_column s.name c.name) → value_at input (suc n) (in_column s.name c.name) ≡ slice_index (unwrap_or (row_at k beats n) []) p
   column_is n p c at has =
-      carried port (suc n) (in_column s.name c.name) (slice_index (unwrap_or (row_at k beats n) []) p) has
-      (column_at (Carries port (suc n)) s.name s.columns (unwrap_or (row_at k beats n) []) p c at (stream_pins_of n).1)
+      carried input (suc n) (in_column s.name c.name) (slice_index (unwrap_or (row_at k beats n) []) p) has
+      (column_at (Carries input (suc n)) s.name s.columns (unwrap_or (row_at k beats n) []) p c at (stream_pins_of n).1)
 
-  pub eos_is : (n : ℕ) → HasPort port eos → value_at port (suc n) eos ≡ bit (ends_at beats n)
+  pub eos_is : (n : ℕ) → HasPort input eos → value_at input (suc n) eos ≡ bit (ends_at beats n)
   eos_is n has =
       let all = (stimulus.carries (suc n)).1 in
-      let P : Pin → Type 0 = Carries port (suc n) in
-      carried port (suc n) eos (bit (ends_at beats n)) has (All-back P (streams_pins schema.streams (rows_at beats n)) (pin eos (bit (ends_at beats n)) ∷ []) all).0
+      let P : Pin → Type 0 = Carries input (suc n) in
+      carried input (suc n) eos (bit (ends_at beats n)) has (All-back P (streams_pins schema.streams (rows_at beats n)) (pin eos (bit (ends_at beats n)) ∷ []) all).0
 
-  outs_are : (n : ℕ) (places : List ℕ) (outs : List (List ℕ)) → ColumnsFollow port s.name s.columns places outs → map (value_at port (suc (suc n))) outs ≡ picked places (unwrap_or (row_at k beats n) [])
+  outs_are : (n : ℕ) (places : List ℕ) (outs : List (List ℕ)) → ColumnsFollow input port s.name s.columns places outs → map (value_at port (suc (suc n))) outs ≡ picked places (unwrap_or (row_at k beats n) [])
   outs_are n [] [] f = refl
   outs_are n [] (o ∷ outs) f = absurd f
   outs_are n (p ∷ places) [] f = absurd f
@@ -100,7 +100,7 @@ module _ (schema : Schema) (k : ℕ) (s : Stream) (there : slice_get schema.stre
   shown_row places n outs (Some r) row v m = rw v (ap (λ (x : List ℕ). Some x) m)
 
   -- it shows the stream's rows one cycle later
-  pub shows_later : (places : List ℕ) (outs : List (List ℕ)) → FollowsStream s places outs port → ShowsLater k (picked places) beats outs port
+  pub shows_later : (places : List ℕ) (outs : List (List ℕ)) → FollowsStream s places outs input port → ShowsLater k (picked places) beats outs port
   unfolding shown
   shows_later places outs f = record {
     first_row = rw f.first_valid refl;

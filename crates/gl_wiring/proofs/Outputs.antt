@@ -14,7 +14,7 @@ use Rattle.gl_net.specs.Net.{Net, Run, IsRun, IsPort, IsBus, Value, reset_name}
 use Rattle.gl_net.specs.Finished.{HasReset}
 use Rattle.gl_wiring.specs.declared.parts.Source.{Source}
 use Rattle.gl_wiring.specs.Select.{HasPort, Follows, ColumnsFollow, FollowsStream}
-use Rattle.gl_net.specs.PortValues.{port_values}
+use Rattle.gl_net.specs.PortValues.{port_values, input_values}
 use Rattle.gl_wiring.specs.Emitted.{Extends, AreInputs, IsDelayed, IsDelayedBit, IsZero, AreDelayed, IsSource, FollowsNodes}
 use Rattle.gl_wiring.proofs.Inputs.{inputs_stay}
 
@@ -65,25 +65,35 @@ abbrev pub AreApart : Net → Type 0
 AreApart net = (i j : ℕ) (p q : Port) → slice_get net.ports i ≡ Some p → slice_get net.ports j ≡ Some q → p.name ≡ q.name → i ≡ j
 
 -- a port carries the value of its node
-pub port_value : (net : Net) (run : Run) (t : ℕ) (d : Direction) (name : List ℕ) (n : ℕ) → AreApart net → IsPort net d name n → port_values net run t name ≡ Some (run.at t n)
-port_value net run t d name n apart p =
+port_found : (net : Net) (d : Direction) (name : List ℕ) (n : ℕ) → AreApart net → IsPort net d name n
+    → find (λ (q : Port). bytes_eq q.name name) net.ports ≡ Some (record { direction = d; name = name; node = n })
+port_found net d name n apart p =
     let port : Port = record { direction = d; name = name; node = n } in
-    ap (option_map (λ (q : Port). run.at t q.node))
-    (find_at (λ (q : Port). bytes_eq q.name name) net.ports p.place port p.there ((bytes_eq-Decides name name).1 refl)
-    (λ j q at e. apart j p.place q port at p.there ((bytes_eq-Decides q.name name).0 e)))
+    find_at (λ (q : Port). bytes_eq q.name name) net.ports p.place port p.there ((bytes_eq-Decides name name).1 refl)
+    (λ j q at e. apart j p.place q port at p.there ((bytes_eq-Decides q.name name).0 e))
 
-pub port_at : (net : Net) (run : Run) (t : ℕ) (d : Direction) (name : List ℕ) (n : ℕ) → AreApart net → IsPort net d name n → value_at (port_values net run) t name ≡ run.at t n
+port_value : (net : Net) (run : Run) (t : ℕ) (d : Direction) (name : List ℕ) (n : ℕ) → AreApart net → IsPort net d name n → port_values net run t name ≡ Some (run.at t n)
+port_value net run t d name n apart p = ap (option_map (λ (q : Port). run.at t q.node)) (port_found net d name n apart p)
+
+-- and so does an input port
+input_value : (net : Net) (run : Run) (t : ℕ) (name : List ℕ) (n : ℕ) → AreApart net → IsPort net In name n → input_values net run t name ≡ Some (run.at t n)
+input_value net run t name n apart p = rw (port_found net In name n apart p) refl
+
+pub input_is : (net : Net) (run : Run) (t : ℕ) (name : List ℕ) (n : ℕ) → AreApart net → IsPort net In name n → value_at (input_values net run) t name ≡ run.at t n
+input_is net run t name n apart p = rw (input_value net run t name n apart p) refl
+
+pub has_input : (net : Net) (run : Run) (name : List ℕ) (n : ℕ) → AreApart net → IsPort net In name n → HasPort (input_values net run) name
+has_input net run name n apart p = λ t. (run.at t n, input_value net run t name n apart p)
+
+port_at : (net : Net) (run : Run) (t : ℕ) (d : Direction) (name : List ℕ) (n : ℕ) → AreApart net → IsPort net d name n → value_at (port_values net run) t name ≡ run.at t n
 port_at net run t d name n apart p = rw (port_value net run t d name n apart p) refl
 
-pub has_port : (net : Net) (run : Run) (d : Direction) (name : List ℕ) (n : ℕ) → AreApart net → IsPort net d name n → HasPort (port_values net run) name
-has_port net run d name n apart p = λ t. (run.at t n, port_value net run t d name n apart p)
-
 -- an output port that is delayed follows its source's port
-follows : (net : Net) (run : Run) (source out : List ℕ) (n : ℕ) → AreApart net → IsRun net run → IsPort net In source n → IsDelayed net out n → Follows (port_values net run) source out
-follows net run source out n apart h p d = λ t. port_at net run (suc (suc t)) Out out d.node apart d.port ∙ d.later run h t ∙ sym (port_at net run (suc t) In source n apart p)
+follows : (net : Net) (run : Run) (source out : List ℕ) (n : ℕ) → AreApart net → IsRun net run → IsPort net In source n → IsDelayed net out n → Follows (input_values net run) (port_values net run) source out
+follows net run source out n apart h p d = λ t. port_at net run (suc (suc t)) Out out d.node apart d.port ∙ d.later run h t ∙ sym (input_is net run (suc t) source n apart p)
 
-bit_follows : (net : Net) (run : Run) (source out : List ℕ) (n : ℕ) → AreApart net → IsRun net run → IsPort net In source n → IsDelayedBit net out n → Follows (port_values net run) source out
-bit_follows net run source out n apart h p d = λ t. port_at net run (suc (suc t)) Out out d.node apart d.port ∙ d.later run h t ∙ sym (port_at net run (suc t) In source n apart p)
+bit_follows : (net : Net) (run : Run) (source out : List ℕ) (n : ℕ) → AreApart net → IsRun net run → IsPort net In source n → IsDelayedBit net out n → Follows (input_values net run) (port_values net run) source out
+bit_follows net run source out n apart h p d = λ t. port_at net run (suc (suc t)) Out out d.node apart d.port ∙ d.later run h t ∙ sym (input_is net run (suc t) source n apart p)
 
 -- the column and the bus at a place
 input_at : (net : Net) (s : List ℕ) (cs : List Column) (bs : List Bus) (p : ℕ) (b : Bus) → AreInputs net s cs bs → slice_get bs p ≡ Some b → (c : Column) × (slice_get cs p ≡ Some c) × IsPort net In (in_column s c.name) b.node
@@ -93,23 +103,23 @@ input_at net s (c ∷ cs) [] p b h at = absurd h
 input_at net s (c ∷ cs) (d ∷ bs) zero b h at = let same : d ≡ b = cc in (c, refl, subst (λ (x : Bus). IsPort net In (in_column s c.name) x.node) same h.0.0)
 input_at net s (c ∷ cs) (d ∷ bs) (suc p) b h at = input_at net s cs bs p b h.1 at
 
-columns_follow : (net : Net) (run : Run) (s : List ℕ) (cs : List Column) (bs : List Bus) (ps : List ℕ) (ns : List (List ℕ)) → AreApart net → IsRun net run → AreInputs net s cs bs → AreDelayed net bs ps ns → ColumnsFollow (port_values net run) s cs ps (map out_column ns)
+columns_follow : (net : Net) (run : Run) (s : List ℕ) (cs : List Column) (bs : List Bus) (ps : List ℕ) (ns : List (List ℕ)) → AreApart net → IsRun net run → AreInputs net s cs bs → AreDelayed net bs ps ns → ColumnsFollow (input_values net run) (port_values net run) s cs ps (map out_column ns)
 columns_follow net run s cs bs [] [] apart h inputs d = tt
 columns_follow net run s cs bs [] (n ∷ ns) apart h inputs d = absurd d
 columns_follow net run s cs bs (p ∷ ps) [] apart h inputs d = absurd d
 columns_follow net run s cs bs (p ∷ ps) (n ∷ ns) apart h inputs d =
     let c = input_at net s cs bs p d.0.0 inputs d.0.1 in (
-      (c.0, c.1, has_port net run In (in_column s c.0.name) d.0.0.node apart c.2, follows net run (in_column s c.0.name) (out_column n) d.0.0.node apart h c.2 d.0.2),
+      (c.0, c.1, has_input net run (in_column s c.0.name) d.0.0.node apart c.2, follows net run (in_column s c.0.name) (out_column n) d.0.0.node apart h c.2 d.0.2),
       columns_follow net run s cs bs ps ns apart h inputs d.1,
     )
 
 -- the ports of a netlist whose nodes follow a stream follow it, in every run
-pub nodes_follow : (net : Net) (ss : List Stream) (k : ℕ) (ps : List ℕ) (ns : List (List ℕ)) → AreApart net → (f : FollowsNodes net ss k ps ns) → (run : Run) → IsRun net run → FollowsStream f.is.stream ps (map out_column ns) (port_values net run)
+pub nodes_follow : (net : Net) (ss : List Stream) (k : ℕ) (ps : List ℕ) (ns : List (List ℕ)) → AreApart net → (f : FollowsNodes net ss k ps ns) → (run : Run) → IsRun net run → FollowsStream f.is.stream ps (map out_column ns) (input_values net run) (port_values net run)
 nodes_follow net ss k ps ns apart f run h =
     let s = f.is.stream in
     record {
-      has_valid = has_port net run In (in_valid s.name) f.source.valid.node apart f.is.port;
-      has_eos = has_port net run In eos f.eos_node apart f.eos_port;
+      has_valid = has_input net run (in_valid s.name) f.source.valid.node apart f.is.port;
+      has_eos = has_input net run eos f.eos_node apart f.eos_port;
       first_valid = port_at net run 1 Out out_valid f.valid.node apart f.valid.port ∙ f.valid.first run h;
       valid = bit_follows net run (in_valid s.name) out_valid f.source.valid.node apart h f.is.port f.valid;
       first_eos = port_at net run 1 Out out_eos f.end.node apart f.end.port ∙ f.end.first run h;

@@ -1,5 +1,5 @@
 -- A module whose ports show, one cycle later, what came on some columns of one stream.
-use Rattle.std.specs.Prelude.{◌≡◌, ℕ, suc, false, List, [], ◌∷◌, Some, map, slice_index, slice_get}
+use Rattle.std.specs.Prelude.{◌≡◌, ℕ, suc, false, List, [], ◌∷◌, Some, map, slice_index, slice_get, IfSome}
 use Rattle.gl_schema.specs.declared.schema.Column.{Column}
 use Rattle.gl_schema.specs.declared.schema.Stream.{Stream}
 use Rattle.gl_schema.specs.declared.schema.Schema.{Schema}
@@ -7,8 +7,8 @@ use Rattle.gl_schema.specs.Ports.{PortValues, IsStimulus, eos, in_valid, in_colu
 use Rattle.gl_schema.specs.Seen.{value_at}
 use Rattle.gl_schema.specs.Right.{Meaning, IsRight}
 use Rattle.gl_schema.specs.Beats.{Beat, AreBeats}
-use Rattle.gl_net.specs.Net.{Net, Run, IsTrace}
-use Rattle.gl_net.specs.PortValues.{port_values}
+use Rattle.gl_net.specs.Net.{Net, Run, IsTrace, IsRun}
+use Rattle.gl_net.specs.PortValues.{port_values, input_values}
 
 -- the words of a row at these places
 abbrev pub picked : List ℕ → List ℕ → List ℕ
@@ -16,38 +16,45 @@ picked places row = map (slice_index row) places
 
 -- what a select of the columns at these places of stream k means: its rows are the stream's, each picked, and none is left out
 abbrev pub picks : ℕ → List ℕ → Meaning
-picks k places inputs rows spill = (rows ≡ map (picked places) (inputs k)) × (spill ≡ false)
+picks k places inputs rows spill = (rows ≡ map (picked places) (inputs.rows k)) × (spill ≡ false)
 
 -- the module has the port in every cycle
 abbrev pub HasPort : PortValues → List ℕ → Type 0
 HasPort port name = (t : ℕ) → (v : ℕ) × (port t name ≡ Some v)
 
--- from simulation cycle 1 on, the second port has in each cycle what the first had in the one before
-abbrev pub Follows : PortValues → List ℕ → List ℕ → Type 0
-Follows port source shown = (t : ℕ) → value_at port (suc (suc t)) shown ≡ value_at port (suc t) source
+-- from simulation cycle 1 on, the port has in each cycle what the input had in the one before
+abbrev pub Follows : PortValues → PortValues → List ℕ → List ℕ → Type 0
+Follows input port source shown = (t : ℕ) → value_at port (suc (suc t)) shown ≡ value_at input (suc t) source
 
 -- each output follows the column at its place
-abbrev pub ColumnsFollow : PortValues → List ℕ → List Column → List ℕ → List (List ℕ) → Type 0
-ColumnsFollow port stream columns [] [] = Unit {0}
-ColumnsFollow port stream columns [] (o ∷ outs) = ⊥
-ColumnsFollow port stream columns (p ∷ places) [] = ⊥
-ColumnsFollow port stream columns (p ∷ places) (o ∷ outs) =
-    ((c : Column) × (slice_get columns p ≡ Some c) × HasPort port (in_column stream c.name) × Follows port (in_column stream c.name) o)
-    × ColumnsFollow port stream columns places outs
+abbrev pub ColumnsFollow : PortValues → PortValues → List ℕ → List Column → List ℕ → List (List ℕ) → Type 0
+ColumnsFollow input port stream columns [] [] = Unit {0}
+ColumnsFollow input port stream columns [] (o ∷ outs) = ⊥
+ColumnsFollow input port stream columns (p ∷ places) [] = ⊥
+ColumnsFollow input port stream columns (p ∷ places) (o ∷ outs) =
+    ((c : Column) × (slice_get columns p ≡ Some c) × HasPort input (in_column stream c.name) × Follows input port (in_column stream c.name) o)
+    × ColumnsFollow input port stream columns places outs
 
--- valid, the columns and the end follow those of the stream, cleared by reset, and no fault is ever shown
-pub record FollowsStream (s : Stream) (places : List ℕ) (outs : List (List ℕ)) (port : PortValues) : Type 0 where
-  pub has_valid : HasPort port (in_valid s.name)
-  pub has_eos : HasPort port eos
+-- valid, the columns and the end follow those of the stream's inputs, cleared by reset, and no fault is ever shown
+pub record FollowsStream (s : Stream) (places : List ℕ) (outs : List (List ℕ)) (input port : PortValues) : Type 0 where
+  pub has_valid : HasPort input (in_valid s.name)
+  pub has_eos : HasPort input eos
   pub first_valid : value_at port 1 out_valid ≡ 0
-  pub valid : Follows port (in_valid s.name) out_valid
+  pub valid : Follows input port (in_valid s.name) out_valid
   pub first_eos : value_at port 1 out_eos ≡ 0
-  pub end : Follows port eos out_eos
-  pub columns : ColumnsFollow port s.name s.columns places outs
+  pub end : Follows input port eos out_eos
+  pub columns : ColumnsFollow input port s.name s.columns places outs
   pub group : (t : ℕ) → value_at port t fault_group ≡ 0
   pub queue : (t : ℕ) → value_at port t fault_queue ≡ 0
 
--- every run of the netlist over beats of the schema is right for the select, one cycle later
+-- in every run from reset the netlist's ports follow stream k
+abbrev pub FollowsIn : List Stream → ℕ → List ℕ → List (List ℕ) → Net → Type 0
+FollowsIn streams k places outs net =
+    (run : Run) → IsRun net run
+    → IfSome (slice_get streams k) (λ s. FollowsStream s places outs (input_values net run) (port_values net run))
+
+-- every run of the netlist over beats of the schema, which are on its input ports, is right for the select, one cycle later
 abbrev pub IsRightSelect : Schema → ℕ → List ℕ → List (List ℕ) → Net → Type 0
 IsRightSelect schema k places outs net =
-    (run : Run) (beats : List Beat) → IsTrace net run → AreBeats schema beats → IsStimulus schema beats (port_values net run) → IsRight (picks k places) 1 beats outs (port_values net run)
+    (run : Run) (beats : List Beat) → IsTrace net run → AreBeats schema beats → IsStimulus schema beats (input_values net run)
+    → IsRight (picks k places) 1 beats outs (port_values net run)

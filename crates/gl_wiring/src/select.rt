@@ -10,14 +10,14 @@ ghost use Rattle.gl_net.specs.Finished.{HasReset};
 ghost use Rattle.gl_net.specs.PortValues.{port_values, port_shapes};
 ghost use Rattle.gl_wiring.specs.EmittedPorts.{streams_inputs, column_outputs, result_outputs, emitted_ports};
 ghost use Rattle.gl_wiring.specs.Emitted.{bus_widths, Puts, Extends, AreInputs, IsDelayedBit, IsZero, AreDelayed, IsSource, FollowsNodes};
-ghost use Rattle.gl_wiring.specs.Select.{FollowsStream, IsRightSelect};
+ghost use Rattle.gl_wiring.specs.Select.{FollowsIn, IsRightSelect};
 
 use crate::names::{ResultNames, module_name, out_column_name};
 use crate::parts::{
     Source, put_input, put_later, put_later_bit, put_stream, put_streams, put_zero,
 };
 use gl_bits::Memory;
-use gl_net::{Bus, NetBuilder, NetFault, Netlist};
+use gl_net::{Bus, NetBuilder, Netlist};
 use gl_schema::{NameText, Schema, Stream};
 use std::alloc::Global;
 
@@ -168,8 +168,8 @@ pub fn wire_select(
     requires distinct { IsDistinct bytes_eq names.now.columns }
     ensures name { IfOk result (λ net. net.name ≡ Some (codes "q__" ++ names.now.into)) }
     ensures ports { IfOk result (λ net. port_shapes net ≡ emitted_ports schema.now stream columns.now names.now.columns) }
-    ensures follows { IfOk result (λ net. (run : Run) → IsRun net run → IfSome (slice_get schema.now.streams stream) (λ s. FollowsStream s columns.now (map out_column names.now.columns) (port_values net run))) }
-    ensures right { IfOk result (λ net. IsRightSelect schema.now stream columns.now (map out_column names.now.columns) net) }
+    ensures follows { IfOk result (FollowsIn schema.now.streams stream columns.now (map out_column names.now.columns)) }
+    ensures right { IfOk result (IsRightSelect schema.now stream columns.now (map out_column names.now.columns)) }
 {
     let mut net = NetBuilder::new(alloc);
     let name = module_name(alloc, names.into.as_slice())?;
@@ -182,8 +182,5 @@ pub fn wire_select(
         columns,
         names.columns.as_slice(),
     )?;
-    match net.finish() {
-        Ok(net) => Ok(net),
-        Err(NetFault::Memory) => Err(Memory),
-    }
+    Ok(net.finish())
 }

@@ -42,14 +42,14 @@ pub returns-in-Ok-run-clause-done : goal.returns-in-Ok-run-clause-done
 returns-in-Ok-run-clause-done g c = λ e.
     of_timely c.args.schema.now (plain_beats c.args.beats.now) c.args.latency c.args.start c.args.design c.in-Ok.prepared.sim
     (λ outs port. Writes c.args.kinds.now (plain_beats c.args.beats.now) outs port (g.K.Sink.taken c.args.out.now) (g.K.Sink.taken c.run.new.out))
-    c.in-Ok.ensures.design' c.in-Ok.ensures.started c.in-Ok-run.ensures.all
+    c.requires.can.has.valid c.in-Ok.ensures.design' c.in-Ok.ensures.started c.in-Ok-run.ensures.all
 
 pub returns-in-Err-clause-fault : goal.returns-in-Err-clause-fault
 returns-in-Err-clause-fault g c = λ e. (
   c.in-Err.ensures.cause,
   of_timely c.args.schema.now (plain_beats c.args.beats.now) c.args.latency c.args.start c.args.design c.in-Ok.prepared.sim
       (λ outs port. WritesFront c.args.kinds.now (plain_beats c.args.beats.now) outs port (g.K.Sink.taken c.args.out.now) (g.K.Sink.taken c.run.new.out))
-      c.in-Ok.ensures.design' c.in-Ok.ensures.started c.in-Err.ensures.front,
+      c.requires.can.has.valid c.in-Ok.ensures.design' c.in-Ok.ensures.started c.in-Err.ensures.front,
 )
 
 pub returns-in-Err-clause-never_falls : goal.returns-in-Err-clause-never_falls

@@ -1,4 +1,4 @@
-use Rattle.std.proofs.Common.{◌≡◌, ◌∙◌, ap, sym, arith}
+use Rattle.std.proofs.Common.{◌∙◌, ap, sym, arith}
 use Rattle.gl_tuples.specs.Gaps.{close_answer}
 use Rattle.gl_tuples.proofs.Closeness.{far_next, close_found, none_close}
 use Rattle.gl_tuples.proofs.beats.kept.Goals as goal

@@ -1,4 +1,4 @@
-use Rattle.std.proofs.Common.{Bor, List, ℕ, ◌+◌, ◌<◌, ◌≡◌, ◌∙◌, ap, sym, subst, refl, arith, rules, inl, inr, true, Some, Ok, ◌++◌, ◌∷◌, [], length}
+use Rattle.std.proofs.Common.{Bor, List, ℕ, ◌∙◌, ap, sym, subst, refl, arith, inl, inr, Some, Ok, ◌++◌, ◌∷◌, []}
 use Rattle.std.proofs.lemmas.Result.{err_from_is_err_and}
 use Rattle.std.proofs.lemmas.List.{length-append}
 use Rattle.csv.specs.Reading.{Reached, default_config, strip_bom}

@@ -1,4 +1,4 @@
-use Rattle.std.proofs.Common.{◌≡◌, ◌∙◌, sym, arith}
+use Rattle.std.proofs.Common.{◌∙◌, sym, arith}
 use Rattle.gl_tuples.proofs.Fields.{row_grows, row_stops, no_row}
 use Rattle.gl_tuples.proofs.record.row_of.Goals as goal
 

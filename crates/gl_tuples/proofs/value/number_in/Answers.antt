@@ -1,4 +1,4 @@
-use Rattle.std.proofs.Common.{◌≡◌, ◌∙◌, arith}
+use Rattle.std.proofs.Common.{arith}
 use Rattle.gl_tuples.proofs.Numbers.{digit_more, none_yet}
 use Rattle.gl_tuples.proofs.value.number_in.Goals as goal
 

@@ -1,7 +1,8 @@
 use Rattle.std.proofs.Common.{[], sym, subst}
 use Rattle.std.proofs.lemmas.List.{take_more}
 use Rattle.std.proofs.lemmas.Option.{slice_get-get_or}
-use Rattle.gl_wire.proofs.ColumnLemmas.{AreLater, bus_kept, later_none, later_more}
+use Rattle.gl_wire.specs.Stages.{AreLater}
+use Rattle.gl_wire.proofs.ColumnLemmas.{bus_kept, later_none, later_more}
 use Rattle.gl_wire.proofs.stages.later_all.Goals as goal
 
 pub loop-bus-init : goal.loop-bus-init
@@ -12,6 +13,5 @@ later-requires c = bus_kept c.args.net.now c.loop-bus.net _ c.loop-bus.invariant
 
 pub loop-bus-preserved : goal.loop-bus-preserved
 loop-bus-preserved c =
-    let here = c.in_ok-register.ensures in
     rw (take_more c.args.columns.now c.loop-bus.bus-index (record { node = 0; width = 0 }) c.loop-bus-test.true, c.in_ok-push.ensures.ok)
-    (later_more c.args.net.now c.loop-bus.net c.later.new.net _ _ _ _ c.loop-bus.invariant here.keeps here.bus here.width here.value)
+    (later_more c.args.net.now c.loop-bus.net c.later.new.net _ _ _ _ c.loop-bus.invariant c.in_ok-register.ensures)

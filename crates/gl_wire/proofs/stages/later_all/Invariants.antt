@@ -1,5 +1,5 @@
 use Rattle.std.proofs.Common.{take}
-use Rattle.gl_wire.proofs.ColumnLemmas.{AreLater}
+use Rattle.gl_wire.specs.Stages.{AreLater}
 use Rattle.gl_wire.proofs.stages.later_all.Given as goal
 
 abbrev pub invariant-loop-bus : goal.invariant-loop-bus

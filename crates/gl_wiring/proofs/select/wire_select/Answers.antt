@@ -2,13 +2,13 @@ use Rattle.std.proofs.Common.{◌≡◌, ◌++◌, ap, subst, sym, ◌∙◌, co
 use Rattle.std.specs.Prelude.{map, IfSome, slice_get}
 use Rattle.gl_schema.specs.Ports.{out_column}
 use Rattle.gl_net.specs.Net.{Net, Run, IsRun}
-use Rattle.gl_net.specs.PortValues.{port_values, port_shapes}
+use Rattle.gl_net.specs.PortValues.{port_values, input_values, port_shapes}
 use Rattle.gl_wiring.specs.EmittedPorts.{emitted_ports}
 use Rattle.gl_wiring.proofs.Shapes.{names_are}
 use Rattle.gl_wiring.proofs.Rightness.{is_right}
 use Rattle.gl_wiring.specs.Emitted.{names_of, FollowsNodes}
 use Rattle.gl_wiring.specs.PortNames.{port_names}
-use Rattle.gl_wiring.specs.Select.{FollowsStream, IsRightSelect}
+use Rattle.gl_wiring.specs.Select.{FollowsStream, FollowsIn, IsRightSelect}
 use Rattle.gl_wiring.proofs.Finishing.{finished, apart}
 use Rattle.gl_wiring.proofs.Outputs.{nodes_follow}
 use Rattle.gl_wiring.proofs.select.wire_select.Goals as goal
@@ -24,8 +24,8 @@ finish-requires c =
     let columns : names_of net ≡ port_names s names.columns = names_are net s c.args.stream c.args.columns.now names.columns c.requires.lengths (subst (λ (cs : List (List ℕ)). port_shapes net ≡ emitted_ports s c.args.stream c.args.columns.now cs) c.as_slice-2.ensures e.ports) in
     finished s names.columns names.into net c.requires.schema c.requires.column_names c.requires.distinct c.requires.into columns named driven e.reset
 
-pub returns-in-Ok-clause-follows : goal.returns-in-Ok-clause-follows
-returns-in-Ok-clause-follows c =
+pub returns-clause-follows : goal.returns-clause-follows
+returns-clause-follows c =
     let s = c.args.schema.now in
     let names = c.args.names.now in
     let net = c.put_select.new.net in
@@ -36,12 +36,12 @@ returns-in-Ok-clause-follows c =
     let columns : names_of net ≡ port_names s names.columns = names_are net s k places names.columns c.requires.lengths (subst (λ (cs : List (List ℕ)). port_shapes net ≡ emitted_ports s k places cs) here e.ports) in
     let nodes : FollowsNodes net s.streams k places names.columns = subst (λ (cs : List (List ℕ)). FollowsNodes net s.streams k places cs) here e.follows in
     let unlike = apart s names.columns net c.requires.schema c.requires.column_names c.requires.distinct columns in
-    let law : (run : Run) → IsRun net run → IfSome (slice_get s.streams k) (λ r. FollowsStream r places (map out_column names.columns) (port_values net run)) =
+    let law : FollowsIn s.streams k places (map out_column names.columns) net =
     λ run h. rw nodes.is.there (nodes_follow net s.streams k places names.columns unlike nodes run h) in
-    subst (λ (n : Net). (run : Run) → IsRun n run → IfSome (slice_get s.streams k) (λ r. FollowsStream r places (map out_column names.columns) (port_values n run))) (sym c.in-Ok.ensures) law
+    subst (FollowsIn s.streams k places (map out_column names.columns)) (sym c.finish.ensures) law
 
-pub returns-in-Ok-clause-right : goal.returns-in-Ok-clause-right
-returns-in-Ok-clause-right c =
+pub returns-clause-right : goal.returns-clause-right
+returns-clause-right c =
     let s = c.args.schema.now in
     let names = c.args.names.now in
     let net = c.put_select.new.net in
@@ -54,12 +54,12 @@ returns-in-Ok-clause-right c =
     let unlike = apart s names.columns net c.requires.schema c.requires.column_names c.requires.distinct columns in
     let law : IsRightSelect s k places (map out_column names.columns) net =
     is_right s k nodes.is.stream places (map out_column names.columns) net nodes.is.there unlike e.reset (λ run h. nodes_follow net s.streams k places names.columns unlike nodes run h) in
-    subst (λ (n : Net). IsRightSelect s k places (map out_column names.columns) n) (sym c.in-Ok.ensures) law
+    subst (IsRightSelect s k places (map out_column names.columns)) (sym c.finish.ensures) law
 
-pub returns-in-Ok-clause-ports : goal.returns-in-Ok-clause-ports
-returns-in-Ok-clause-ports c =
+pub returns-clause-ports : goal.returns-clause-ports
+returns-clause-ports c =
     let s = c.args.schema.now in
     let names = c.args.names.now in
     let net = c.put_select.new.net in
     let shapes : port_shapes net ≡ emitted_ports s c.args.stream c.args.columns.now names.columns = subst (λ (cs : List (List ℕ)). port_shapes net ≡ emitted_ports s c.args.stream c.args.columns.now cs) c.as_slice-2.ensures c.in_ok-put_select.ensures.ports in
-    ap port_shapes c.in-Ok.ensures ∙ shapes
+    ap port_shapes c.finish.ensures ∙ shapes

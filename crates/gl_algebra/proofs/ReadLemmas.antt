@@ -1,0 +1,104 @@
+-- A node whose leaves are all a body's input reads that input alone.
+use Rattle.std.proofs.Common.{◌≡◌, ℕ, ◌<◌, List, [], ◌∷◌, ◌++◌, length, Bool, false, All, refl, ◌∙◌, subst, lit<}
+use Rattle.gl_bits.specs.declared.kind.Kind.{Kind}
+use Rattle.gl_bits.specs.Lists.{slices, groups, Group as GroupOf, has_further, IsInterleaving}
+use Rattle.gl_algebra.specs.declared.node.PlanNode.{PlanNode}
+use Rattle.gl_algebra.specs.declared.node.PlanNode.TheVariants.{Stream, Body, Compute, Select, Project, Aggregate, Union, Beside, Window, Group}
+use Rattle.gl_algebra.specs.Fits.{IsPlan, Suits}
+use Rattle.gl_algebra.specs.Laws.{BodiesReadTheirInput}
+use Rattle.gl_algebra.specs.Nodewise.{named_by}
+use Rattle.gl_bits.specs.Results.{Row, Results, IsChanged, IsOfBoth, AreBeside, AreJoined, IsOfParts, IsOfGroup}
+use Rattle.gl_algebra.specs.Results.{Inputs, Meaning, given, meaning_from, IsPlanResult}
+use Rattle.gl_algebra.specs.Shapes.{Shape, shape_of, shape_from}
+use Rattle.gl_algebra.proofs.ListLemmas.{all_left, all_right}
+use Rattle.gl_algebra.proofs.PlanLemmas.{by_nodes}
+use Rattle.gl_algebra.proofs.TableLemmas.{nodes_follow_tables}
+
+-- each of the first results is among the second
+abbrev Within : Results → Results → Type 0
+Within R S = (out : List Row) (spill : Bool) → R out spill → S out spill
+
+changed_within : (R S : Results) (change : List Row → List Row) → Within R S → Within (IsChanged R change) (IsChanged S change)
+changed_within R S change within out spill r = record {
+  rows = r.rows;
+  of_source = within r.rows spill r.of_source;
+  changed = r.changed;
+}
+
+both_within : (L R L' R' : Results) (Join : List Row → List Row → List Row → Type 0) → Within L L' → Within R R'
+    → Within (IsOfBoth L R Join) (IsOfBoth L' R' Join)
+both_within L R L' R' Join left right out spill r = record {
+  left = r.left;
+  right = r.right;
+  left_spill = r.left_spill;
+  right_spill = r.right_spill;
+  of_left = left r.left r.left_spill r.of_left;
+  of_right = right r.right r.right_spill r.of_right;
+  join = r.join;
+  either = r.either;
+}
+
+joined_within : {Part : Type 0} (P Q : Part → Results) → ((part : Part) → Within (P part) (Q part)) → (parts : List Part)
+    → Within (AreJoined P parts) (AreJoined Q parts)
+joined_within P Q within [] out spill r = r
+joined_within P Q within (part ∷ parts) out spill r =
+    (r.0, r.1, r.2, r.3, within part r.0 r.2 r.4, joined_within P Q within parts r.1 r.3 r.5, r.6, r.7)
+
+parts_within : {Part : Type 0} (R S : Results) (parts : List Row → List Part) (P Q : Part → Results) (further : List Row → Bool)
+    → Within R S → ((part : Part) → Within (P part) (Q part)) → Within (IsOfParts R parts P further) (IsOfParts S parts Q further)
+parts_within R S parts P Q further source each out spill r = record {
+  rows = r.rows;
+  source_spill = r.source_spill;
+  parts_spill = r.parts_spill;
+  of_source = source r.rows r.source_spill r.of_source;
+  of_parts = joined_within P Q each (parts r.rows) out r.parts_spill r.of_parts;
+  any = r.any;
+}
+
+-- a node all of whose leaves are a body's input has the same results for inputs that give a body the same rows
+abbrev Reads : (ℕ → Shape) → (ℕ → Meaning) → ℕ → Type 0
+Reads shapes meanings child = (kinds : List Kind) → All (λ leaf. leaf ≡ Body kinds) (shapes child).leaves
+    → (inputs others : Inputs) → inputs.body ≡ others.body → Within (meanings child inputs) (meanings child others)
+
+row_reads : (s : ℕ → Shape) (m : ℕ → Meaning) (node : PlanNode) → Suits s node → All (Reads s m) (named_by node)
+    → (kinds : List Kind) → All (λ leaf. leaf ≡ Body kinds) (shape_from s node).leaves
+    → (inputs others : Inputs) → inputs.body ≡ others.body → Within (meaning_from s m node inputs) (meaning_from s m node others)
+row_reads s m (Stream number columns) suits reads kinds leaves inputs others same =
+    absurd (let is : Stream number columns ≡ Body kinds = leaves 0 (Body kinds) (lit< tt) in cc)
+row_reads s m (Body columns) suits reads kinds leaves inputs others same =
+    λ out spill r. record { rows = r.rows ∙ same; kept = r.kept }
+row_reads s m (Compute child ops) suits reads kinds leaves inputs others same =
+    changed_within _ _ _ (reads 0 0 (lit< tt) kinds leaves inputs others same)
+row_reads s m (Select child column) suits reads kinds leaves inputs others same =
+    changed_within _ _ _ (reads 0 0 (lit< tt) kinds leaves inputs others same)
+row_reads s m (Project child items) suits reads kinds leaves inputs others same =
+    changed_within _ _ _ (reads 0 0 (lit< tt) kinds leaves inputs others same)
+row_reads s m (Aggregate child aggs) suits reads kinds leaves inputs others same =
+    changed_within _ _ _ (reads 0 0 (lit< tt) kinds leaves inputs others same)
+row_reads s m (Union left right) suits reads kinds leaves inputs others same =
+    both_within _ _ _ _ IsInterleaving
+    (reads 0 0 (lit< tt) kinds (all_left (λ leaf. leaf ≡ Body kinds) (s left).leaves (s right).leaves leaves) inputs others same)
+    (reads 1 0 (lit< tt) kinds (all_right (λ leaf. leaf ≡ Body kinds) (s left).leaves (s right).leaves leaves) inputs others same)
+row_reads s m (Beside left right) suits reads kinds leaves inputs others same =
+    both_within _ _ _ _ AreBeside
+    (reads 0 0 (lit< tt) kinds (all_left (λ leaf. leaf ≡ Body kinds) (s left).leaves (s right).leaves leaves) inputs others same)
+    (reads 1 0 (lit< tt) kinds (all_right (λ leaf. leaf ≡ Body kinds) (s left).leaves (s right).leaves leaves) inputs others same)
+row_reads s m (Window source body size advance) suits reads kinds leaves inputs others same =
+    parts_within _ _ (slices size advance) (λ slice. m body (given inputs slice)) (λ slice. m body (given others slice)) (λ rows. false)
+    (reads 0 0 (lit< tt) kinds leaves inputs others same)
+    (λ slice. reads 1 0 (lit< tt) (s source).kinds suits.0.leaves (given inputs slice) (given others slice) refl)
+row_reads s m (Group source body key count) suits reads kinds leaves inputs others same =
+    parts_within _ _ _ (IsOfGroup (λ rows. m body (given inputs rows))) (IsOfGroup (λ rows. m body (given others rows))) _
+    (reads 0 0 (lit< tt) kinds leaves inputs others same)
+    (λ (group : GroupOf Row). changed_within _ _ _
+    (reads 1 0 (lit< tt) (s source).kinds suits.0.leaves (given inputs group.rows) (given others group.rows) refl))
+
+pub body_reads : BodiesReadTheirInput
+body_reads nodes number plan within =
+    by_nodes nodes plan (Reads (shape_of nodes) (IsPlanResult nodes))
+    (λ n node is fits before kinds leaves inputs others same out spill r.
+    let follows = nodes_follow_tables nodes n node plan is in
+    (follows.results others out spill).1
+    (row_reads (shape_of nodes) (IsPlanResult nodes) node fits.suits (λ k d h. before _ (fits.before k d h)) kinds
+    (rw follows.shape at leaves) inputs others same out spill ((follows.results inputs out spill).0 r)))
+    number within

@@ -1,0 +1,4 @@
+pub mod Lift
+pub mod Timed
+pub mod Rotates
+pub mod Laws
