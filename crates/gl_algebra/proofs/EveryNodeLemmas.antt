@@ -1,7 +1,6 @@
 -- Why the nodes of a small plan with a node of every kind fit, and which shapes they have.
-use Rattle.std.proofs.Common.{◌≡◌, ℕ, zero, suc, ◌+◌, ◌<◌, ◌≤◌, true, false, List, [], ◌∷◌, length, All, refl, sym, ap, ◌∙◌, subst, arith, lit<, lit≤}
+use Rattle.std.proofs.Common.{◌≡◌, ℕ, zero, suc, ◌<◌, List, [], ◌∷◌, length, All, refl, sym, ap, ◌∙◌, subst, arith, lit<, lit≤}
 use Rattle.gl_bits.specs.declared.kind.Kind.{Kind}
-use Rattle.gl_bits.specs.declared.kind.Kind.TheVariants.{Unsigned}
 use Rattle.gl_algebra.specs.declared.node.ColOp.{ColOp}
 use Rattle.gl_algebra.specs.declared.node.Operand.{Operand}
 use Rattle.gl_algebra.specs.declared.node.PlanAgg.{PlanAgg}
@@ -9,7 +8,7 @@ use Rattle.gl_algebra.specs.declared.node.PlanNode.{PlanNode}
 use Rattle.gl_algebra.specs.declared.node.PlanNode.TheVariants.{Stream, Body, Compute, Select, Project, Aggregate, Union, Beside, Window, Group}
 use Rattle.gl_algebra.specs.Columns.{OpFits, OperandFits, AggFits}
 use Rattle.gl_algebra.specs.EveryNode.{number, number_and_bit, tests, items, sums, of_stream, of_body, of_tests, of_choice, of_items, of_sums}
-use Rattle.gl_algebra.specs.Fits.{Fits, Suits, IsBodyFor}
+use Rattle.gl_algebra.specs.Fits.{Fits, IsBodyFor}
 use Rattle.gl_algebra.specs.Shapes.{Shape, shape_from, shape_of, HasShape}
 use Rattle.gl_algebra.proofs.ShapeLemmas.{shape_local, suits_local}
 

@@ -1,5 +1,5 @@
 -- The shapes of a small plan with a node of every kind.
-use Rattle.std.specs.Prelude.{ℕ, true, false, List, [], ◌∷◌}
+use Rattle.std.specs.Prelude.{true, false, List, [], ◌∷◌}
 use Rattle.gl_bits.specs.declared.kind.Kind.{Kind}
 use Rattle.gl_bits.specs.declared.kind.Kind.TheVariants.{Unsigned}
 use Rattle.gl_algebra.specs.declared.node.ColOp.{ColOp}

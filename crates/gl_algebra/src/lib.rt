@@ -8,6 +8,8 @@ pub mod laws;
 pub mod node;
 pub mod number;
 pub mod plan;
+pub mod table;
+mod wide;
 
 pub use figures::Figures;
 pub use node::{ColOp, Kinds, Operand, Operands, Ops, PlanAgg, PlanAggs, PlanNode, Weights};

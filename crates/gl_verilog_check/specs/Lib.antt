@@ -1,3 +1,4 @@
 pub mod Kept
 pub mod Tests
+pub mod Orders
 pub mod Passes

@@ -19,12 +19,13 @@ unfolding line_at
 line_later run line later start next zero = rw start refl
 line_later run line later start next (suc t) = rw (next t) refl
 
-line_first : (run : Run) (line : Bit) → line_at run line 0 ≡ false
+-- in the reset cycle no line counts
+pub line_first : (run : Run) (line : Bit) → line_at run line 0 ≡ false
 unfolding line_at
 line_first run line = refl
 
 -- a tuple is there where the line says so
-tuple_by : (run : Run) (v : Bit) (bs : List Bus) (t : ℕ) → tuple_at run v bs t ≡ (if line_at run v t then Some (row_at run t bs) else None)
+pub tuple_by : (run : Run) (v : Bit) (bs : List Bus) (t : ℕ) → tuple_at run v bs t ≡ (if line_at run v t then Some (row_at run t bs) else None)
 unfolding tuple_at
 tuple_by run v bs t = refl
 

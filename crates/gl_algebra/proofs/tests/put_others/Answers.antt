@@ -1,4 +1,3 @@
-use Rattle.gl_algebra.specs.EveryNode.{of_stream, of_sums}
 use Rattle.gl_algebra.proofs.EveryNodeLemmas.{stream_made, windows_fit, groups_fit, beside_fits}
 use Rattle.gl_algebra.proofs.tests.put_others.Goals as goal
 

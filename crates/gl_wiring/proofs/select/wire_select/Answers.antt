@@ -1,14 +1,13 @@
 use Rattle.std.proofs.Common.{◌≡◌, ◌++◌, ap, subst, sym, ◌∙◌, codes, Some, ℕ, List}
-use Rattle.std.specs.Prelude.{map, IfSome, slice_get}
+use Rattle.std.specs.Prelude.{map}
 use Rattle.gl_schema.specs.Ports.{out_column}
-use Rattle.gl_net.specs.Net.{Net, Run, IsRun}
-use Rattle.gl_net.specs.PortValues.{port_values, input_values, port_shapes}
+use Rattle.gl_net.specs.PortValues.{port_shapes}
 use Rattle.gl_wiring.specs.EmittedPorts.{emitted_ports}
 use Rattle.gl_wiring.proofs.Shapes.{names_are}
 use Rattle.gl_wiring.proofs.Rightness.{is_right}
 use Rattle.gl_wiring.specs.Emitted.{names_of, FollowsNodes}
 use Rattle.gl_wiring.specs.PortNames.{port_names}
-use Rattle.gl_wiring.specs.Select.{FollowsStream, FollowsIn, IsRightSelect}
+use Rattle.gl_wiring.specs.Select.{FollowsIn, IsRightSelect}
 use Rattle.gl_wiring.proofs.Finishing.{finished, apart}
 use Rattle.gl_wiring.proofs.Outputs.{nodes_follow}
 use Rattle.gl_wiring.proofs.select.wire_select.Goals as goal
