@@ -1,2 +1,4 @@
 pub mod PlaceLemmas
 pub mod FiguredLemmas
+pub mod CapLemmas
+pub mod WeighedLemmas

@@ -1,6 +1,6 @@
 -- Counts of drivers, names that differ, and valid modules.
 use Rattle.std.proofs.Common.{◌≡◌, ◌≢◌, ℕ, zero, suc, ◌+◌, ◌≤◌, Bool, true, false, cond, List, [], ◌∷◌, eqb, Option, Some, None, refl, sym, ap, subst, ◌∙◌, arith}
-use Rattle.std.specs.Prelude.{slice_get, not, ◌&&◌, ◌||◌, bytes_eq, option_and_then, option_map}
+use Rattle.std.specs.Prelude.{slice_get, ◌&&◌, ◌||◌, option_and_then, option_map}
 use Rattle.std.specs.List.{AllByRecursion, sum_by}
 use Rattle.std.specs.List.Sorted.{IsPermutation}
 use Rattle.std.proofs.lemmas.List.Sorted.{IsPermutation-sym, sum_by-IsPermutation}
@@ -12,7 +12,7 @@ use Rattle.gl_verilog.specs.Module.{Module, Kind, Input, OutputWire, OutputRegis
 use Rattle.gl_verilog.specs.Order.{IsUndriven, IsOrdered, CanBeOrdered}
 use Rattle.gl_verilog.specs.Widths.{IsDriven}
 use Rattle.gl_verilog.specs.Runnable.{IsRunnable}
-use Rattle.gl_verilog.specs.Valid.{assigns, blocks_of, writes_of, AssignsOnce, Differs, AreDistinct, HasDriver, IsValid, drivers_of, mentions, depends, IsChain, HasNoLoop}
+use Rattle.gl_verilog.specs.Valid.{assigns, blocks_of, writes_of, AssignsOnce, HasDriver, IsValid, drivers_of, mentions, depends, IsChain, HasNoLoop}
 use Rattle.gl_verilog.proofs.Settles.{each_in_order}
 use Rattle.gl_verilog_check.specs.Kept.{is_one, module_with}
 use Rattle.gl_verilog_check.specs.Passes.{AreOnce}

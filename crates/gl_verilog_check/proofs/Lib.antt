@@ -6,3 +6,4 @@ pub mod Ranks
 pub mod Drives
 pub mod Orders
 pub mod Names
+pub mod AtHome

@@ -4,7 +4,7 @@ use Rattle.std.specs.Prelude.{slice_get, slice_set, unwrap_or, map, replicate, I
 use Rattle.std.specs.List.{AllByRecursion}
 use Rattle.std.proofs.lemmas.Bool.{cases_eq}
 use Rattle.gl_bits.proofs.Bools.{and_both, and_left, and_right}
-use Rattle.gl_bits.proofs.AllLists.{length_map, get_below}
+use Rattle.gl_bits.proofs.AllLists.{get_below}
 use Rattle.gl_verilog.specs.Module.{Module, Declaration, Statement, Expr, Net, Literal, Invert, Binary, Choose, Join, Select, Read, Assignment}
 use Rattle.gl_verilog.specs.Order.{EachRead, CanBeOrdered}
 use Rattle.gl_verilog.specs.Widths.{IsDriven, IsReadable, KeepsWidths, KeepsWidth, width_of}

@@ -2,3 +2,4 @@ pub mod Kept
 pub mod Tests
 pub mod Orders
 pub mod Passes
+pub mod Homes

@@ -5,9 +5,11 @@ ghost use Rattle.gl_verilog.specs.View.{declaration_of, assignment_of, statement
 ghost use Rattle.gl_verilog.specs.Valid as valid;
 ghost use Rattle.gl_verilog.specs.Valid.{IsValid};
 ghost use Rattle.gl_verilog_check.specs.Kept.{made_of};
+ghost use Rattle.gl_verilog_check.specs.Homes.{home_of, all_at_home};
 ghost use Rattle.gl_verilog_check.specs.Tests as tests;
 ghost use Rattle.gl_verilog_check.specs.Tests.{at_most_two};
 
+use crate::homes::{homes_of, keep_homes};
 use crate::runnable::parts_run;
 use gl_bits::Memory;
 use gl_verilog::{Assignment, Declaration, Kind, Module, Statement};
@@ -130,7 +132,7 @@ fn is_assigned(declaration: &Declaration, n: usize, blocks: &[Statement]) -> boo
     }
 }
 
-// Whether every register and memory has a driver.
+// Whether every register and memory has a driver, by all blocks for each of them.
 fn are_assigned(declarations: &[Declaration], blocks: &[Statement]) -> bool
     ensures { result ≡ tests.all_assigned (map statement_of blocks.now) 0 (map declaration_of declarations.now) }
 {
@@ -140,6 +142,49 @@ fn are_assigned(declarations: &[Declaration], blocks: &[Statement]) -> bool
         }
     }
     true
+}
+
+// Whether the register or memory of this number has a driver in its home.
+fn is_at_home(declaration: &Declaration, n: usize, blocks: &[Statement], homes: &[usize]) -> bool
+    ensures { result ≡ tests.is_assigned (home_of homes.now (map statement_of blocks.now) n) n (declaration_of declaration.now).kind }
+{
+    let Some(home) = homes.get(n) else {
+        return is_assigned(declaration, n, &[]);
+    };
+    let Some(block) = blocks.get(*home) else {
+        return is_assigned(declaration, n, &[]);
+    };
+    is_assigned(declaration, n, std::slice::from_ref(block))
+}
+
+// Whether every register and memory has a driver in its home.
+fn are_at_home(declarations: &[Declaration], blocks: &[Statement], homes: &[usize]) -> bool
+    ensures { result ≡ all_at_home homes.now (map statement_of blocks.now) 0 (map declaration_of declarations.now) }
+{
+    for (n, declaration) in declarations.iter().enumerate() {
+        if !is_at_home(declaration, n, blocks, homes) {
+            return false;
+        }
+    }
+    true
+}
+
+// Whether every register and memory has a driver: by the one block that assigns it, where no other
+// does, in time that grows with the text.
+fn have_drivers(
+    alloc: Global,
+    declarations: &[Declaration],
+    blocks: &[Statement],
+) -> Result<bool, Memory>
+    ensures { IfOk result (λ b. b ≡ tests.all_assigned (map statement_of blocks.now) 0 (map declaration_of declarations.now)) }
+{
+    let Ok(homes) = homes_of(alloc, declarations.len(), blocks) else {
+        return Err(Memory);
+    };
+    if keep_homes(&homes, blocks) {
+        return Ok(are_at_home(declarations, blocks, &homes));
+    }
+    Ok(are_assigned(declarations, blocks))
 }
 
 // Whether these parts make a valid module.
@@ -160,7 +205,8 @@ fn parts_are_valid(
     if !runs {
         return Ok(false);
     }
-    Ok(are_assigned(declarations, blocks))
+    let assigned = have_drivers(alloc, declarations, blocks)?;
+    Ok(assigned)
 }
 
 /// Whether the module is valid: its names differ, its widths are kept, every net, register and

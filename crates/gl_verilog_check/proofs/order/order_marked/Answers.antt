@@ -1,8 +1,8 @@
-use Rattle.std.proofs.Common.{◌≡◌, ◌∙◌, ◌<◌, ℕ, List, [], Bool, true, false, length, sym, ap, subst}
+use Rattle.std.proofs.Common.{◌≡◌, ◌∙◌, ◌<◌, ℕ, List, Bool, true, false, length, sym, ap, subst}
 use Rattle.std.specs.List.{list_any}
 use Rattle.gl_verilog_check.specs.Kept.{AreNets}
 use Rattle.gl_verilog_check.specs.Orders.{meant}
-use Rattle.gl_verilog_check.specs.Passes.{IsPlacing, finds}
+use Rattle.gl_verilog_check.specs.Passes.{IsPlacing}
 use Rattle.gl_verilog_check.proofs.Orders.{count, placing_first, passed_fewer, passed_size, no_order, an_order}
 use Rattle.gl_verilog_check.proofs.order.order_marked.Goals as goal
 

@@ -1,4 +1,4 @@
-use Rattle.std.proofs.Common.{◌≡◌, ◌∙◌, ℕ, true, false, sym, subst}
+use Rattle.std.proofs.Common.{◌≡◌, ℕ, true, false, sym, subst}
 use Rattle.gl_verilog_check.specs.Kept.{AreNets}
 use Rattle.gl_verilog_check.specs.Orders.{meant}
 use Rattle.gl_verilog_check.proofs.Drives.{can_once_each}

@@ -1,4 +1,4 @@
-use Rattle.std.proofs.Common.{◌≡◌, ◌∙◌, ℕ, List, [], ◌∷◌, ◌++◌, Bool, true, not, refl, sym, ap, subst, is_ok}
+use Rattle.std.proofs.Common.{◌≡◌, ◌∙◌, List, [], ◌∷◌, ◌++◌, Bool, true, not, refl, sym, ap, subst, is_ok}
 use Rattle.gl_verilog.specs.View.{assignment_of}
 use Rattle.gl_verilog_check.specs.Orders.{meant}
 use Rattle.gl_verilog_check.specs.Passes.{IsPlacing}

@@ -1,4 +1,4 @@
-use Rattle.std.proofs.Common.{◌≡◌, ◌∙◌, ◌+◌, ℕ, Bool, not, List, map, drop, sym, ap, subst}
+use Rattle.std.proofs.Common.{◌≡◌, ◌∙◌, ◌+◌, ℕ, not, List, map, drop, sym, ap, subst}
 use Rattle.std.specs.Prelude.{bytes_eq}
 use Rattle.std.specs.List.{list_any}
 use Rattle.gl_verilog.specs.View.{declaration_of}

@@ -1,4 +1,4 @@
-use Rattle.std.proofs.Common.{◌≡◌, List, ℕ, drop, map}
+use Rattle.std.proofs.Common.{◌≡◌, drop, map}
 use Rattle.std.specs.Prelude.{[]}
 use Rattle.gl_verilog.specs.View.{declaration_of}
 use Rattle.gl_verilog_check.specs.Tests.{are_new}

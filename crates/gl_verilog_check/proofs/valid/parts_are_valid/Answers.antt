@@ -1,4 +1,4 @@
-use Rattle.std.proofs.Common.{◌∙◌, refl, sym}
+use Rattle.std.proofs.Common.{◌∙◌, sym}
 use Rattle.std.specs.Prelude.{map}
 use Rattle.gl_verilog.specs.View.{declaration_of, assignment_of, statement_of}
 use Rattle.gl_verilog.proofs.Acyclic.{runnable}
@@ -16,8 +16,8 @@ returns-then-not-runs-clause-complete c = λ v.
 
 pub returns-clause-sound : goal.returns-clause-sound
 returns-clause-sound c = λ h.
-    valid_parts (map declaration_of c.args.declarations.now) (map assignment_of c.args.assignments.now) (map statement_of c.args.blocks.now) (sym c.in_ok-distinct.ensures ∙ c.if-not-distinct.false) (c.in_ok-runs.ensures.sound c.if-not-runs.false) (sym c.are_assigned.ensures ∙ h)
+    valid_parts (map declaration_of c.args.declarations.now) (map assignment_of c.args.assignments.now) (map statement_of c.args.blocks.now) (sym c.in_ok-distinct.ensures ∙ c.if-not-distinct.false) (c.in_ok-runs.ensures.sound c.if-not-runs.false) (sym c.in_ok-assigned.ensures ∙ h)
 
 pub returns-clause-complete : goal.returns-clause-complete
 returns-clause-complete c = λ v.
-    c.are_assigned.ensures ∙ assigned_parts (map declaration_of c.args.declarations.now) (map assignment_of c.args.assignments.now) (map statement_of c.args.blocks.now) v
+    c.in_ok-assigned.ensures ∙ assigned_parts (map declaration_of c.args.declarations.now) (map assignment_of c.args.assignments.now) (map statement_of c.args.blocks.now) v
