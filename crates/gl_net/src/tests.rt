@@ -41,7 +41,8 @@ fn count_cycles(
     Ok(count)
 }
 
-// The word of a memory at the address, which takes the value there in each cycle in which `write` is 1.
+// The word of a memory at the address, which takes the value there in each cycle in which `write`
+// is 1.
 fn hold_word(net: &mut NetBuilder, write: Bit, address: Bus, value: Bus) -> Result<Bus, Memory>
     requires write { IsBit net.old write }
     requires address { IsBus net.old address }

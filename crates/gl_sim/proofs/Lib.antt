@@ -7,4 +7,3 @@ pub mod Follows
 pub mod Draws
 pub mod Exists
 pub mod Fitting
-pub mod Falling

@@ -136,7 +136,7 @@ fn push_both(
     port: Port,
     width: u8,
 ) -> Result<(), Memory>
-    ensures nodes { OnOk result (PutsInput nodes.old.items nodes.new.items (length ports.old.items) width) }
+    ensures nodes { OnOk result (PutsInput nodes.old.items nodes.new.items ports.old.items width) }
     ensures ports { OnOk result (ports.new.items ≡ ports.old.items ++ port ∷ []) }
     ensures nodes_err { OnErr result (nodes.new.items ≡ nodes.old.items) }
     ensures ports_err { OnErr result (ports.new.items ≡ ports.old.items) }
