@@ -23,11 +23,12 @@ capped n = min n (2 ^ 62)
 abbrev pub capped_at : (ℕ → ℕ) → ℕ → ℕ
 capped_at value number = capped (value number)
 
--- the weight of a node that has so many lines, from the capped weights of the nodes that it names
+-- the own part, and the weight, of a node that has so many lines, from the capped weights of the nodes that it names
+abbrev pub own_weight_by : List PlanNode → ℕ → PlanNode → ℕ
+own_weight_by nodes lines node = own_weight (shape_of nodes) (figures_of nodes) (capped_at (weight_of nodes)) lines node
+
 abbrev pub weight_by : List PlanNode → ℕ → PlanNode → ℕ
-weight_by nodes lines node =
-    let weights = capped_at (weight_of nodes) in
-    sum_over_children weights node + own_weight (shape_of nodes) (figures_of nodes) weights lines node
+weight_by nodes lines node = sum_over_children (capped_at (weight_of nodes)) node + own_weight_by nodes lines node
 
 -- the capped values of the nodes before one
 pub record HasValues (value : ℕ → ℕ) (values : List ℕ) (number : ℕ) : Type 0 where
