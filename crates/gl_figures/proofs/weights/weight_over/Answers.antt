@@ -1,4 +1,4 @@
-use Rattle.std.proofs.Common.{◌≡◌, ℕ, ◌+◌, ◌*◌, sum_by, ◌∙◌}
+use Rattle.std.proofs.Common.{◌+◌, ◌*◌, sum_by, ◌∙◌}
 use Rattle.gl_algebra.specs.FigureTable.{delay_of_aggs}
 use Rattle.gl_algebra.specs.Weights.{weight_of_agg}
 use Rattle.gl_figures.specs.Known.{capped}
