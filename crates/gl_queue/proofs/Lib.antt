@@ -1,0 +1,6 @@
+pub mod QueueLemmas
+pub mod RingLemmas
+pub mod RingLinesLemmas
+pub mod DriveLemmas
+pub mod PartLemmas
+pub mod DepthLemmas
