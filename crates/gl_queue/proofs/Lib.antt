@@ -4,3 +4,10 @@ pub mod RingLinesLemmas
 pub mod DriveLemmas
 pub mod PartLemmas
 pub mod DepthLemmas
+pub mod HeldLemmas
+pub mod PhaseLemmas
+pub mod FlowLemmas
+pub mod StreamLemmas
+pub mod UnionLemmas
+pub mod MergeLinesLemmas
+pub mod UnionNet

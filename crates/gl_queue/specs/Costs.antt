@@ -15,3 +15,11 @@ cost_of_queue depth columns = record {
   registers = 2 * address_bits depth + 1;
   memories = ring depth * sum columns;
 }
+
+-- two wires of these columns merged through queues of so many places
+abbrev pub cost_of_merging : ℕ → ℕ → List ℕ → Cost
+cost_of_merging depth_a depth_b columns = record {
+  nodes = 56 + 5 * length columns;
+  registers = 2 * address_bits depth_a + 2 * address_bits depth_b + 4;
+  memories = (ring depth_a + ring depth_b) * sum columns;
+}

@@ -4,3 +4,7 @@ pub mod RingLines
 pub mod Costs
 pub mod Parts
 pub mod Queues
+pub mod Merging
+pub mod Phases
+pub mod MergeLines
+pub mod Unions

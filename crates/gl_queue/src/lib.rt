@@ -3,7 +3,11 @@
 //! row by row does not, nor do windows and groups.
 #![tactic(auto)]
 
+pub mod laws;
+pub mod merge;
 pub mod queue;
 pub mod ring;
+pub mod union;
 
 pub use queue::{Queue, address_bits, put_queue};
+pub use union::UnionOf;
