@@ -1,23 +1,21 @@
 -- What callers of `add` need: the new node follows its rows, and the nodes before it are as they were.
-use Rattle.std.proofs.Common.{◌≡◌, ℕ, ◌+◌, ◌<◌, ◌≤◌, ◌⊎◌, inl, inr, true, false, List, [], ◌∷◌, ◌++◌, length, Some, slice_get, refl, sym, ap, ◌∙◌, subst, arith, length-append}
+use Rattle.std.proofs.Common.{◌≡◌, ℕ, ◌<◌, ◌≤◌, inl, inr, List, [], ◌∷◌, ◌++◌, length, Some, slice_get, refl, sym, ap, ◌∙◌, subst, arith, length-append}
 use Rattle.std.proofs.lemmas.Bool.{cases_lt}
 use Rattle.std.proofs.lemmas.Option.{slice_get_within}
-use Rattle.std.specs.List.{list_any}
-use Rattle.indexmap.specs.IndexSet.{insert_key}
 use Rattle.gl_bits.specs.declared.kind.Kind.{Kind}
 use Rattle.gl_bits.proofs.AllLists.{get_last}
 use Rattle.gl_bits.proofs.Bools.{by_cases}
 use Rattle.gl_algebra.specs.declared.node.PlanNode.{PlanNode}
-use Rattle.gl_algebra.specs.Added.{same_node}
+use Rattle.gl_algebra.specs.Added.{has_node, with_node, Grows, HasKinds}
 use Rattle.gl_algebra.specs.Fits.{Fits, IsPlan, AreKinds, IsPlanWith}
-use Rattle.gl_algebra.specs.Shapes.{Shape, shape_from, shape_of, kinds_of, HasShape, KeepsShapes}
+use Rattle.gl_algebra.specs.Shapes.{Shape, shape_from, shape_of, kinds_of, kinds_over, HasShape, KeepsShapes}
 use Rattle.gl_algebra.proofs.ListLemmas.{get-append}
 use Rattle.gl_algebra.specs.Nodewise.{named_by}
 use Rattle.gl_algebra.proofs.NodewiseLemmas.{agree}
 use Rattle.gl_algebra.proofs.PlanLemmas.{in_order, plan-insert}
 use Rattle.gl_algebra.proofs.ShapeLemmas.{shape-kept, shape-node, shape_local}
 
-module _ (old new : List PlanNode) (node : PlanNode) (plan : IsPlan old) (grows : (new ≡ old) ⊎ (new ≡ old ++ node ∷ [])) where
+module _ (old new : List PlanNode) (node : PlanNode) (plan : IsPlan old) (grows : Grows old new node) where
   -- a node of the old plan is one of the new, and its shape is as it was
   pub get-grown : (number : ℕ) → number < length old → slice_get new number ≡ slice_get old number
   get-grown number below = elim grows [
@@ -54,16 +52,14 @@ module _ (old new : List PlanNode) (node : PlanNode) (plan : IsPlan old) (grows 
 
 -- the kinds of the columns of a plan with a node, where those of the node stand last
 pub kinds-insert : (nodes : List PlanNode) (node : PlanNode) (kinds : List (List Kind)) (own : List Kind) (more : List (List Kind))
-    → IsPlan nodes → Fits nodes (length nodes) node → AreKinds nodes kinds → own ≡ (shape_from (shape_of nodes) node).kinds
-    → (list_any (same_node node) nodes ≡ true → more ≡ kinds)
-    → (list_any (same_node node) nodes ≡ false → more ≡ kinds ++ own ∷ [])
-    → IsPlanWith (insert_key same_node nodes node) more
-kinds-insert nodes node kinds own more plan fits are is known fresh =
+    → IsPlan nodes → Fits nodes (length nodes) node → AreKinds nodes kinds → own ≡ kinds_over nodes node
+    → HasKinds nodes node kinds own more → IsPlanWith (with_node nodes node) more
+kinds-insert nodes node kinds own more plan fits are is has =
     let next = plan-insert nodes node plan fits in
-    by_cases (list_any (same_node node) nodes)
-    (λ e. rw (e, known e) (record { plan = plan; columns = are }))
+    by_cases (has_node nodes node)
+    (λ e. rw (e, has.known e) (record { plan = plan; columns = are }))
     (λ e.
-    let wider : insert_key same_node nodes node ≡ nodes ++ node ∷ [] = rw e refl in
+    let wider : with_node nodes node ≡ nodes ++ node ∷ [] = rw e refl in
     let plan' = subst IsPlan wider next in
     let made = shape-made nodes (nodes ++ node ∷ []) node plan (inr refl) (length nodes) (get_last nodes node) plan' fits in
     let kept = shape-grown nodes (nodes ++ node ∷ []) node plan (inr refl) in
@@ -71,7 +67,7 @@ kinds-insert nodes node kinds own more plan fits are is known fresh =
     subst (λ n. slice_get (kinds ++ own ∷ []) n ≡ Some (kinds_of (nodes ++ node ∷ []) (length nodes))) are.as_many
     (get_last kinds own ∙ ap Some (is ∙ ap (λ (s : Shape). s.kinds) (sym made.is)))
     in
-    rw (e, fresh e) (record {
+    rw (e, has.fresh e) (record {
       plan = plan';
       columns = record {
         as_many = let long = length-append kinds (own ∷ []) in let long' = length-append nodes (node ∷ []) in omega (arith, are.as_many);

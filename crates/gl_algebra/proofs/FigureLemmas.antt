@@ -1,13 +1,13 @@
 -- The figures of the nodes of a plan.
-use Rattle.std.proofs.Common.{◌≡◌, ℕ, zero, suc, ◌+◌, ◌-◌, ◌*◌, ◌/◌, ◌<◌, ◌≤◌, max, Bool, true, false, cond, ◌&&◌, IsTrue, List, [], ◌∷◌, length, Some, slice_get, All, refl, sym, ap, ◌∙◌, subst, arith, lit<}
+use Rattle.std.proofs.Common.{◌≡◌, ℕ, zero, suc, ◌*◌, ◌<◌, ◌≤◌, true, false, cond, ◌&&◌, IsTrue, List, Some, slice_get, All, refl, ap, subst, arith, lit<}
 use Rattle.std.proofs.Math.Nat.{zero-mul}
 use Rattle.std.proofs.lemmas.Grind.{div_ceil_times}
 use Rattle.gl_algebra.specs.declared.figures.Figures.{Figures}
 use Rattle.gl_algebra.specs.declared.node.PlanNode.{PlanNode}
 use Rattle.gl_algebra.specs.declared.node.PlanNode.TheVariants.{Stream, Body, Compute, Select, Project, Aggregate, Union, Beside, Window, Group}
-use Rattle.gl_algebra.specs.Nodewise.{named_by, nodewise}
+use Rattle.gl_algebra.specs.Nodewise.{named_by}
 use Rattle.gl_algebra.specs.Shapes.{Shape, shape_from, shape_of, is_closing}
-use Rattle.gl_algebra.specs.Fits.{Suits, Fits, IsPlan, copies_of_window}
+use Rattle.gl_algebra.specs.Fits.{copies_of_window}
 use Rattle.gl_algebra.specs.FigureTable.{IsSound, input_figures, settled, delayed, wait_of, delay_of_aggs, window_gap, group_gap, needs_spacer, spacer_figures, spaced, is_fixed, in_step, at_end, joined, figures_from, figures_of}
 use Rattle.gl_algebra.specs.Laws.{RowsKeepSound, FiguresAreSound, ClosingNodesWait}
 use Rattle.gl_bits.proofs.Bools.{and_parts}
@@ -35,7 +35,7 @@ some_from_product : (n size advance : ℕ) → 1 ≤ size → size ≤ n * advan
 some_from_product zero size advance h g = let none : 0 * advance ≡ 0 = zero-mul advance in absurd (omega arith)
 some_from_product (suc n) size advance h g = omega arith
 
-one_copy : (size advance : ℕ) → 1 ≤ size → 1 ≤ advance → 1 ≤ copies_of_window size advance
+pub one_copy : (size advance : ℕ) → 1 ≤ size → 1 ≤ advance → 1 ≤ copies_of_window size advance
 one_copy size advance h g =
     some_from_product (copies_of_window size advance) size advance h (div_ceil_times size advance g).0
 

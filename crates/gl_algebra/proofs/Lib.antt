@@ -3,12 +3,13 @@ pub mod NodeEquality
 pub mod NodewiseLemmas
 pub mod ShapeLemmas
 pub mod PlanLemmas
+pub mod SmallLemmas
 pub mod SoundLemmas
 pub mod FigureLemmas
 pub mod ResultLemmas
 pub mod UniqueLemmas
 pub mod TableLemmas
+pub mod KindLemmas
 pub mod PaceLemmas
 pub mod ReadLemmas
 pub mod CallerLemmas
-pub mod EveryNodeLemmas

@@ -1,11 +1,11 @@
 -- A node in step with a leaf comes a fixed time after its beats, one row a beat; one of pace `once` gives one row with the end.
-use Rattle.std.proofs.Common.{◌≡◌, ℕ, zero, suc, ◌+◌, ◌-◌, ◌<◌, List, [], ◌∷◌, length, Bool, true, false, ◌&&◌, cond, nat_eq, max, All, refl, sym, ◌∙◌, subst, arith, lit<}
+use Rattle.std.proofs.Common.{◌≡◌, ℕ, zero, suc, true, false, ◌&&◌, cond, All, refl, sym, ◌∙◌, subst, arith, lit<}
 use Rattle.std.proofs.lemmas.Bool.{eq-eqb}
 use Rattle.gl_algebra.specs.declared.figures.Figures.{Figures}
 use Rattle.gl_algebra.specs.declared.node.PlanNode.{PlanNode}
 use Rattle.gl_algebra.specs.declared.node.PlanNode.TheVariants.{Stream, Body, Compute, Select, Project, Aggregate, Union, Beside, Window, Group}
 use Rattle.gl_algebra.specs.FigureTable.{delayed, settled, last_of, is_fixed, in_step, at_end, joined, wait_of, beside_figures, figures_from, figures_of}
-use Rattle.gl_algebra.specs.Fits.{IsPlan, Suits}
+use Rattle.gl_algebra.specs.Fits.{Suits}
 use Rattle.gl_algebra.specs.Laws.{IsFixed, IsOnce, PaceFixes, PacesFixFigures}
 use Rattle.gl_algebra.specs.Nodewise.{named_by}
 use Rattle.gl_algebra.specs.Shapes.{Shape, shape_of, shape_from, Pace, unsteady, once, with_stream, with_body}

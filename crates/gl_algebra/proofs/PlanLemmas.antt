@@ -1,13 +1,12 @@
 -- One more node that fits makes a plan of a plan, unless the plan has it already.
-use Rattle.std.proofs.Common.{◌≡◌, ℕ, zero, suc, ◌+◌, ◌<◌, ◌≤◌, Bool, true, false, ◌||◌, ◌⊎◌, inl, inr, List, [], ◌∷◌, ◌++◌, length, Some, None, slice_get, slice_index_or, Contains, All, refl, sym, ap, ◌∙◌, subst, arith, length-append}
-use Rattle.std.specs.List.{list_any, position_or_len}
-use Rattle.std.proofs.lemmas.Option.{slice_get_within, slice_get-get_or}
-use Rattle.indexmap.specs.IndexSet.{insert_key, insert_index}
+use Rattle.std.proofs.Common.{◌≡◌, ℕ, zero, suc, ◌<◌, ◌≤◌, true, false, List, [], ◌∷◌, ◌++◌, length, Some, slice_get, Contains, refl, sym, ap, ◌∙◌, arith}
+use Rattle.std.specs.List.{list_any}
+use Rattle.std.proofs.lemmas.Option.{slice_get-get_or}
+use Rattle.indexmap.specs.IndexSet.{insert_key}
 use Rattle.gl_algebra.specs.declared.node.PlanNode.{PlanNode}
-use Rattle.gl_algebra.specs.Nodewise.{named_by}
 use Rattle.gl_algebra.specs.Added.{same_node}
 use Rattle.gl_algebra.specs.Fits.{Fits, IsPlan}
-use Rattle.gl_algebra.proofs.ListLemmas.{get-append, IsAtPlace, earlier, last, place_in_append, any_at, IsInserted, inserted}
+use Rattle.gl_algebra.proofs.ListLemmas.{get-append, earlier, last, place_in_append, any_at, IsInserted, inserted}
 use Rattle.gl_algebra.proofs.NodeEquality.{same_node-is, same_node-self}
 use Rattle.gl_bits.proofs.Bools.{by_cases}
 use Rattle.gl_algebra.proofs.NodewiseLemmas.{AreInOrder}

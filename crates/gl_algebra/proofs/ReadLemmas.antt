@@ -1,10 +1,10 @@
 -- A node whose leaves are all a body's input reads that input alone.
-use Rattle.std.proofs.Common.{◌≡◌, ℕ, ◌<◌, List, [], ◌∷◌, ◌++◌, length, Bool, false, All, refl, ◌∙◌, subst, lit<}
+use Rattle.std.proofs.Common.{◌≡◌, ℕ, List, [], ◌∷◌, Bool, false, All, refl, ◌∙◌, lit<}
 use Rattle.gl_bits.specs.declared.kind.Kind.{Kind}
-use Rattle.gl_bits.specs.Lists.{slices, groups, Group as GroupOf, has_further, IsInterleaving}
+use Rattle.gl_bits.specs.Lists.{slices, Group as GroupOf, IsInterleaving}
 use Rattle.gl_algebra.specs.declared.node.PlanNode.{PlanNode}
 use Rattle.gl_algebra.specs.declared.node.PlanNode.TheVariants.{Stream, Body, Compute, Select, Project, Aggregate, Union, Beside, Window, Group}
-use Rattle.gl_algebra.specs.Fits.{IsPlan, Suits}
+use Rattle.gl_algebra.specs.Fits.{Suits}
 use Rattle.gl_algebra.specs.Laws.{BodiesReadTheirInput}
 use Rattle.gl_algebra.specs.Nodewise.{named_by}
 use Rattle.gl_bits.specs.Results.{Row, Results, IsChanged, IsOfBoth, AreBeside, AreJoined, IsOfParts, IsOfGroup}

@@ -1,9 +1,9 @@
 -- The meaning of a node is its row over the meanings of the nodes that it names, and later nodes change none.
-use Rattle.std.proofs.Common.{◌≡◌, ℕ, suc, ◌+◌, ◌<◌, ◌≤◌, Bool, false, List, [], ◌∷◌, ◌++◌, map, length, Some, slice_get, slice_index, refl, sym, ap, ◌∙◌, subst, arith}
+use Rattle.std.proofs.Common.{◌≡◌, ℕ, ◌<◌, Bool, false, List, map, Some, slice_get, slice_index, refl, subst, arith}
 use Rattle.gl_bits.specs.Lists.{slices, groups, has_further, IsInterleaving}
 use Rattle.gl_algebra.specs.declared.node.PlanNode.{PlanNode}
 use Rattle.gl_algebra.specs.declared.node.PlanNode.TheVariants.{Stream, Body, Compute, Select, Project, Aggregate, Union, Beside, Window, Group}
-use Rattle.gl_algebra.specs.Nodewise.{named_by, nodewise}
+use Rattle.gl_algebra.specs.Nodewise.{named_by}
 use Rattle.gl_algebra.specs.Shapes.{Shape, shape_of}
 use Rattle.gl_bits.specs.Results.{Row, IsChanged, IsOfBoth, IsOfParts, IsOfGroup, AreBeside}
 use Rattle.gl_algebra.specs.Results.{Inputs, given, Meaning, NoMeaning, computed, selected, projected, totalled, meaning_from, IsPlanResult}

@@ -1,12 +1,11 @@
 -- Shapes and fitting: later nodes change neither.
-use Rattle.std.proofs.Common.{◌≡◌, ◌≢◌, ℕ, ◌+◌, ◌<◌, ◌≤◌, List, [], ◌∷◌, ◌++◌, length, map, Some, slice_get, All, refl, sym, ap, ◌∙◌, subst, arith}
-use Rattle.gl_bits.specs.declared.kind.Kind.{Kind}
+use Rattle.std.proofs.Common.{◌≡◌, ℕ, ◌<◌, ◌≤◌, List, Some, slice_get, All, refl, ap, subst, arith}
 use Rattle.gl_algebra.specs.declared.node.PlanNode.{PlanNode}
 use Rattle.gl_algebra.specs.declared.node.PlanNode.TheVariants.{Stream, Body, Compute, Select, Project, Aggregate, Union, Beside, Window, Group}
-use Rattle.gl_algebra.specs.Columns.{bit_kind, kind_of_column, kind_of_operand, kind_of_op, kind_of_agg, OpFits, OperandFits, AggFits}
-use Rattle.gl_algebra.specs.Nodewise.{named_by, nodewise}
-use Rattle.gl_algebra.specs.Shapes.{Shape, unsteady, no_shape, shape_from, shape_of}
-use Rattle.gl_algebra.specs.Fits.{IsBodyFor, IsWithin, most_rows, most_copies, most_groups, copies_of_window, Suits, Fits}
+use Rattle.gl_algebra.specs.Columns.{bit_kind, OpFits, OperandFits, AggFits}
+use Rattle.gl_algebra.specs.Nodewise.{named_by}
+use Rattle.gl_algebra.specs.Shapes.{Shape, no_shape, shape_from, shape_of}
+use Rattle.gl_algebra.specs.Fits.{Suits, Fits}
 use Rattle.gl_algebra.proofs.NodewiseLemmas.{Agree, AreInOrder, SameSteps, agree, nodewise-kept, nodewise-node}
 
 module _ (s t : ℕ → Shape) where

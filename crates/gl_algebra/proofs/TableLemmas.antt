@@ -1,14 +1,13 @@
 -- What a plan has for a node follows the tables, and later nodes change none of it.
-use Rattle.std.proofs.Common.{◌≡◌, ℕ, suc, ◌+◌, ◌-◌, ◌*◌, ◌<◌, ◌≤◌, Bool, List, [], ◌∷◌, ◌++◌, length, Some, slice_get, refl, sym, ap, ◌∙◌, subst, arith}
+use Rattle.std.proofs.Common.{◌≡◌, ℕ, ◌<◌, List, ◌++◌, length, Some, slice_get, refl, sym, arith}
 use Rattle.gl_algebra.specs.declared.figures.Figures.{Figures}
 use Rattle.gl_algebra.specs.declared.node.PlanNode.{PlanNode}
 use Rattle.gl_algebra.specs.declared.node.PlanNode.TheVariants.{Stream, Body, Compute, Select, Project, Aggregate, Union, Beside, Window, Group}
 use Rattle.gl_algebra.specs.FigureTable.{figures_of}
-use Rattle.gl_algebra.specs.Fits.{IsPlan}
-use Rattle.gl_algebra.specs.Laws.{FollowsTables, NodesFollowTables, IsKept, EarlierNodesAreKept}
-use Rattle.gl_algebra.specs.Nodewise.{named_by, nodewise}
-use Rattle.gl_algebra.specs.Results.{meaning_from, IsPlanResult}
-use Rattle.gl_algebra.specs.Shapes.{Shape, shape_from, shape_of}
+use Rattle.gl_algebra.specs.Laws.{NodesFollowTables, EarlierNodesAreKept}
+use Rattle.gl_algebra.specs.Nodewise.{named_by}
+use Rattle.gl_algebra.specs.Shapes.{Shape, shape_of}
+use Rattle.gl_algebra.specs.Cost.{lean_from, lean_of, store_from, store_of}
 use Rattle.gl_algebra.specs.Weights.{weight_from, weight_of, copies_from, copies_of}
 use Rattle.std.proofs.lemmas.Option.{slice_get_within}
 use Rattle.gl_algebra.proofs.FigureLemmas.{figures-node, figures-kept}
@@ -16,7 +15,7 @@ use Rattle.gl_algebra.proofs.ListLemmas.{get-append}
 use Rattle.gl_algebra.proofs.NodewiseLemmas.{Agree, AreInOrder, agree, agree_self, nodewise-kept, nodewise-node}
 use Rattle.gl_algebra.proofs.PlanLemmas.{in_order}
 use Rattle.gl_algebra.proofs.ResultLemmas.{meaning-node, meaning-kept, moved}
-use Rattle.gl_algebra.proofs.ShapeLemmas.{shape_local, shape-node, shape-kept}
+use Rattle.gl_algebra.proofs.ShapeLemmas.{shape-node, shape-kept}
 
 weight_local : (s t : ℕ → Shape) (f g : ℕ → Figures) (v w : ℕ → ℕ) (node : PlanNode)
     → Agree s t (named_by node) → Agree f g (named_by node) → Agree v w (named_by node)
@@ -44,6 +43,32 @@ copies_local v w (Beside left right) h = rw (h.0, h.1.0)
 copies_local v w (Window source body size advance) h = rw (h.0, h.1.0)
 copies_local v w (Group source body key groups) h = rw (h.0, h.1.0)
 
+lean_local : (s : ℕ → Shape) (f : ℕ → Figures) (v w : ℕ → ℕ) (node : PlanNode) → Agree v w (named_by node)
+    → lean_from s f v node ≡ lean_from s f w node
+lean_local s f v w (Stream number kinds) h = refl
+lean_local s f v w (Body kinds) h = refl
+lean_local s f v w (Compute child ops) h = rw h.0
+lean_local s f v w (Select child column) h = rw h.0
+lean_local s f v w (Project child items) h = rw h.0
+lean_local s f v w (Aggregate child aggs) h = rw h.0
+lean_local s f v w (Union left right) h = rw (h.0, h.1.0)
+lean_local s f v w (Beside left right) h = rw (h.0, h.1.0)
+lean_local s f v w (Window source body size advance) h = rw (h.0, h.1.0)
+lean_local s f v w (Group source body key groups) h = rw (h.0, h.1.0)
+
+store_local : (s : ℕ → Shape) (f : ℕ → Figures) (v w : ℕ → ℕ) (node : PlanNode) → Agree v w (named_by node)
+    → store_from s f v node ≡ store_from s f w node
+store_local s f v w (Stream number kinds) h = refl
+store_local s f v w (Body kinds) h = refl
+store_local s f v w (Compute child ops) h = rw h.0
+store_local s f v w (Select child column) h = rw h.0
+store_local s f v w (Project child items) h = rw h.0
+store_local s f v w (Aggregate child aggs) h = rw h.0
+store_local s f v w (Union left right) h = rw (h.0, h.1.0)
+store_local s f v w (Beside left right) h = rw (h.0, h.1.0)
+store_local s f v w (Window source body size advance) h = rw (h.0, h.1.0)
+store_local s f v w (Group source body key groups) h = rw (h.0, h.1.0)
+
 module _ (nodes : List PlanNode) (limit : ℕ) (order : AreInOrder nodes limit) (number : ℕ) (node : PlanNode)
     (below : number < limit) (is : slice_get nodes number ≡ Some node) where
   pub weight-node : weight_of nodes number ≡ weight_from (shape_of nodes) (figures_of nodes) (weight_of nodes) node
@@ -59,6 +84,18 @@ module _ (nodes : List PlanNode) (limit : ℕ) (order : AreInOrder nodes limit) 
   copies-node =
       nodewise-node copies_from 0 nodes limit order (λ at x in_limit was v w same. copies_local v w x same) number node below is
 
+  pub lean-node : lean_of nodes number ≡ lean_from (shape_of nodes) (figures_of nodes) (lean_of nodes) node
+  unfolding lean_of
+  lean-node =
+      nodewise-node (lean_from (shape_of nodes) (figures_of nodes)) 0 nodes limit order
+      (λ at x in_limit was v w same. lean_local (shape_of nodes) (figures_of nodes) v w x same) number node below is
+
+  pub store-node : store_of nodes number ≡ store_from (shape_of nodes) (figures_of nodes) (store_of nodes) node
+  unfolding store_of
+  store-node =
+      nodewise-node (store_from (shape_of nodes) (figures_of nodes)) 0 nodes limit order
+      (λ at x in_limit was v w same. store_local (shape_of nodes) (figures_of nodes) v w x same) number node below is
+
 pub nodes_follow_tables : NodesFollowTables
 nodes_follow_tables nodes number node plan is =
     let within = slice_get_within nodes number node is in
@@ -69,6 +106,8 @@ nodes_follow_tables nodes number node plan is =
       figures = figures-node nodes (length nodes) order number node within is;
       weight = weight-node nodes (length nodes) order number node within is;
       copies = copies-node nodes (length nodes) order number node within is;
+      lean = lean-node nodes (length nodes) order number node within is;
+      store = store-node nodes (length nodes) order number node within is;
       results = λ inputs out spill. (moved _ _ meaning inputs out spill, moved _ _ (sym meaning) inputs out spill);
     }
 

@@ -1,16 +1,15 @@
 -- A node without a union has one result at most.
-use Rattle.std.proofs.Common.{◌≡◌, ℕ, suc, ◌+◌, ◌<◌, ◌≤◌, Bool, true, false, ◌||◌, List, [], ◌∷◌, ◌++◌, map, length, zip, Some, slice_get, slice_index, All, refl, sym, ap, ◌∙◌, subst, arith, lit<}
+use Rattle.std.proofs.Common.{◌≡◌, ℕ, suc, ◌<◌, Bool, false, ◌||◌, List, [], ◌∷◌, ◌++◌, map, Some, slice_get, slice_index, All, refl, sym, ap, ◌∙◌, subst, arith, lit<}
 use Rattle.gl_bits.specs.Lists.{slices, groups, Group as GroupOf, has_further}
 use Rattle.gl_algebra.specs.declared.node.PlanNode.{PlanNode}
 use Rattle.gl_algebra.specs.declared.node.PlanNode.TheVariants.{Stream, Body, Compute, Select, Project, Aggregate, Union, Beside, Window, Group}
-use Rattle.gl_algebra.specs.Fits.{Fits, IsPlan}
 use Rattle.gl_algebra.specs.Laws.{has_union_from, has_union, AreSame, ResultsAreUnique}
-use Rattle.gl_algebra.specs.Nodewise.{named_by, nodewise}
+use Rattle.gl_algebra.specs.Nodewise.{named_by}
 use Rattle.gl_algebra.specs.Shapes.{Shape, shape_of}
 use Rattle.gl_bits.specs.Results.{Row, Results, IsInput, IsChanged, IsOfBoth, beside, AreBeside, AreJoined, IsOfParts, IsOfGroup}
 use Rattle.gl_bits.proofs.Bools.{neither_parts}
 use Rattle.gl_algebra.specs.Results.{Inputs, given, Meaning, computed, selected, projected, totalled, meaning_from, IsPlanResult}
-use Rattle.gl_algebra.proofs.NodewiseLemmas.{Agree, AreInOrder, SameSteps, nodewise-node}
+use Rattle.gl_algebra.proofs.NodewiseLemmas.{Agree, AreInOrder, nodewise-node}
 use Rattle.gl_algebra.proofs.PlanLemmas.{in_order, by_nodes}
 use Rattle.gl_algebra.proofs.ResultLemmas.{meaning-node, moved}
 

@@ -1,5 +1,5 @@
 -- The kinds of columns: of operands, of operations, of aggregates, and when they fit the columns that they are applied to.
-use Rattle.std.specs.Prelude.{ℕ, ◌≡◌, ◌<◌, ◌≤◌, ◌+◌, List, [], ◌∷◌, length, slice_index_or, All, ⊤}
+use Rattle.std.specs.Prelude.{ℕ, ◌≡◌, ◌<◌, ◌≤◌, List, length, slice_index_or, All, ⊤}
 use Rattle.gl_bits.specs.Words.{Word, IsWord}
 use Rattle.gl_bits.specs.Kinds.{width_of, IsKind}
 use Rattle.gl_bits.specs.declared.kind.Kind.{Kind}

@@ -1,5 +1,6 @@
 -- Laws of plans.
-use Rattle.std.specs.Prelude.{ℕ, ◌≡◌, ◌<◌, ◌≤◌, ◌+◌, ◌↔◌, Bool, false, true, ◌||◌, List, [], ◌∷◌, ◌++◌, length, Some, slice_get, All, IsTrue, ⊤}
+use Rattle.std.specs.Prelude.{ℕ, ◌≡◌, ◌<◌, ◌≤◌, ◌↔◌, Bool, false, true, ◌||◌, List, ◌++◌, length, Some, slice_get, All, IsTrue, ⊤}
+use Rattle.gl_bits.specs.Kinds.{IsKind}
 use Rattle.gl_bits.specs.declared.kind.Kind.{Kind}
 use Rattle.gl_algebra.specs.declared.figures.Figures.{Figures}
 use Rattle.gl_algebra.specs.declared.node.PlanNode.{PlanNode}
@@ -9,7 +10,8 @@ use Rattle.gl_algebra.specs.Fits.{Suits, IsPlan}
 use Rattle.gl_algebra.specs.Nodewise.{named_by, nodewise}
 use Rattle.gl_bits.specs.Results.{Row}
 use Rattle.gl_algebra.specs.Results.{Inputs, meaning_from, IsPlanResult}
-use Rattle.gl_algebra.specs.Shapes.{Shape, Pace, unsteady, once, with_stream, with_body, shape_from, shape_of, is_closing}
+use Rattle.gl_algebra.specs.Shapes.{Shape, kinds_of, Pace, unsteady, once, with_stream, with_body, shape_from, shape_of, is_closing}
+use Rattle.gl_algebra.specs.Cost.{lean_from, lean_of, store_from, store_of}
 use Rattle.gl_algebra.specs.Weights.{weight_from, weight_of, copies_from, copies_of}
 
 -- each row of the table gives sound figures from sound ones
@@ -61,6 +63,10 @@ BodiesReadTheirInput = (nodes : List PlanNode) (number : ℕ) → IsPlan nodes �
     → (inputs others : Inputs) → inputs.body ≡ others.body
     → (out : List Row) (spill : Bool) → IsPlanResult nodes number inputs out spill → IsPlanResult nodes number others out spill
 
+-- the columns of each node of a plan have kinds of columns
+abbrev pub ColumnsHaveKinds : Type 0
+ColumnsHaveKinds = (nodes : List PlanNode) (number : ℕ) → IsPlan nodes → number < length nodes → All IsKind (kinds_of nodes number)
+
 -- whether a node is a union or has one below it, in a body too
 abbrev pub has_union_from : (ℕ → Bool) → PlanNode → Bool
 has_union_from unions (Stream number kinds) = false
@@ -94,6 +100,8 @@ pub record FollowsTables (nodes : List PlanNode) (number : ℕ) (node : PlanNode
   pub figures : figures_of nodes number ≡ figures_from (shape_of nodes) (figures_of nodes) node
   pub weight : weight_of nodes number ≡ weight_from (shape_of nodes) (figures_of nodes) (weight_of nodes) node
   pub copies : copies_of nodes number ≡ copies_from (copies_of nodes) node
+  pub lean : lean_of nodes number ≡ lean_from (shape_of nodes) (figures_of nodes) (lean_of nodes) node
+  pub store : store_of nodes number ≡ store_from (shape_of nodes) (figures_of nodes) (store_of nodes) node
   pub results : (inputs : Inputs) (out : List Row) (spill : Bool) → IsPlanResult nodes number inputs out spill
       ↔ meaning_from (shape_of nodes) (IsPlanResult nodes) node inputs out spill
 

@@ -4,7 +4,10 @@ pub mod Shapes
 pub mod Fits
 pub mod Added
 pub mod FigureTable
+pub mod Small
+pub mod Wides
 pub mod Weights
+pub mod Cost
 pub mod Values
 pub mod Results
 pub mod Laws

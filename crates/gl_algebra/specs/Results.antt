@@ -1,6 +1,6 @@
 -- What a plan means over lists of rows: the results that each node may have, and whether rows were left out of its groups.
 -- After the operators of Mueller, Teubner and Alonso, Streams on Wires, PVLDB 2(1), 2009.
-use Rattle.std.specs.Prelude.{ℕ, Bool, false, List, [], ◌∷◌, ◌++◌, map, filter, nat_eq, slice_index}
+use Rattle.std.specs.Prelude.{ℕ, false, List, [], ◌∷◌, ◌++◌, map, filter, nat_eq, slice_index}
 use Rattle.gl_bits.specs.Kinds.{width_of}
 use Rattle.gl_bits.specs.Lists.{slices, groups, has_further, IsInterleaving}
 use Rattle.gl_bits.specs.Results.{Results, IsInput, IsChanged, IsOfBoth, AreBeside, IsOfParts, IsOfGroup}

@@ -64,6 +64,10 @@ shape_of nodes = nodewise shape_from no_shape nodes
 abbrev pub kinds_of : List PlanNode → ℕ → List Kind
 kinds_of nodes number = (shape_of nodes number).kinds
 
+-- the kinds of the columns of a node over a plan
+abbrev pub kinds_over : List PlanNode → PlanNode → List Kind
+kinds_over nodes node = (shape_from (shape_of nodes) node).kinds
+
 -- a closing node gives nothing before the end
 abbrev pub is_closing : List PlanNode → ℕ → Bool
 is_closing nodes number = (shape_of nodes number).closing

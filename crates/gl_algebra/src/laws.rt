@@ -1,6 +1,6 @@
 //! Laws of plans, each of which stands in a function's contract.
 
-ghost use Rattle.gl_algebra.specs.Laws.{RowsKeepSound, SpacersKeepSound, FiguresAreSound, ClosingNodesWait, PacesFixFigures, BodiesReadTheirInput, ResultsAreUnique, NodesFollowTables, EarlierNodesAreKept};
+ghost use Rattle.gl_algebra.specs.Laws.{RowsKeepSound, SpacersKeepSound, FiguresAreSound, ClosingNodesWait, ColumnsHaveKinds, PacesFixFigures, BodiesReadTheirInput, ResultsAreUnique, NodesFollowTables, EarlierNodesAreKept};
 
 /// Each row of the table of figures gives sound figures from sound ones, and so does a spacer.
 pub fn rows_keep_sound()
@@ -16,6 +16,11 @@ pub fn figures_are_sound()
 /// A closing node gives nothing before the end.
 pub fn closing_nodes_wait()
     ensures { ClosingNodesWait }
+{}
+
+/// The columns of each node of a plan have kinds of columns.
+pub fn columns_have_kinds()
+    ensures { ColumnsHaveKinds }
 {}
 
 /// A node in step with a stream or a body's input gives each row a fixed time after its beat; one of pace `once` gives one row

@@ -1,12 +1,11 @@
 //! Plans: lists of nodes.
 
-ghost use Rattle.std.specs.Prelude.{◌≡◌, ◌<◌, ◌⊎◌, ◌++◌, ◌∷◌, [], length, slice_get, Contains, IfOk, OnOk, OnErr, true, false, not};
-ghost use Rattle.std.specs.List.{list_any, position_or_len, AllByRecursion};
-ghost use Rattle.indexmap.specs.IndexSet.{insert_key};
-ghost use Rattle.gl_algebra.specs.Added.{added, placed_at, same_node};
+ghost use Rattle.std.specs.Prelude.{◌≡◌, ◌<◌, [], length, not, slice_get, Contains, IfOk, OnOk, OnErr};
+ghost use Rattle.std.specs.List.{AllByRecursion};
+ghost use Rattle.gl_algebra.specs.Added.{added, has_node, place_of, placed_at, with_node, Grows, HasKinds};
 ghost use Rattle.gl_algebra.specs.Fits.{Fits, IsPlan};
 ghost use Rattle.gl_algebra.specs.Nodewise.{named_by};
-ghost use Rattle.gl_algebra.specs.Shapes.{kinds_of, shape_from, shape_of};
+ghost use Rattle.gl_algebra.specs.Shapes.{kinds_of, kinds_over};
 
 use crate::columns::{
     columns_of_aggs, columns_of_both, columns_of_items, columns_with_key, columns_with_ops,
@@ -59,7 +58,7 @@ impl Plan {
         ensures added { IfOk result (λ id. placed_at self.new id ≡ added self.old node) }
         ensures number { IfOk result (λ id. slice_get self.new id ≡ Some node) }
         ensures known { OnOk result (Contains self.old node → self.new ≡ self.old) }
-        ensures grows { OnOk result ((self.new ≡ self.old) ⊎ (self.new ≡ self.old ++ node ∷ [])) }
+        ensures grows { OnOk result (Grows self.old self.new node) }
         ensures err { OnErr result (self.new ≡ self.old) }
         ensures plan { IsPlan self.new }
     {
@@ -107,7 +106,7 @@ impl Plan {
     // The kinds of the columns of a node over this plan.
     fn columns_of(&self, node: &PlanNode) -> Result<Kinds, Memory>
         requires { AllByRecursion (λ child. child < length self.now) (named_by node.now) }
-        ensures { IfOk result (λ kinds. kinds ≡ (shape_from (shape_of self.now) node.now).kinds) }
+        ensures { IfOk result (λ kinds. kinds ≡ kinds_over self.now node.now) }
     {
         let alloc = self.alloc;
         match node {
@@ -152,33 +151,32 @@ impl Plan {
 // The place of the node among these nodes; where they lack it, it then stands last, with its kinds beside it.
 fn put(
     nodes: &mut IndexSet<PlanNode>,
-    columns: &mut Vec<Kinds>,
+    all: &mut Vec<Kinds>,
     node: PlanNode,
     kinds: Kinds,
 ) -> Result<usize, Memory>
-    ensures place { IfOk result (λ place. place ≡ position_or_len (same_node node) nodes.old.keys) }
-    ensures keys { OnOk result (nodes.new.keys ≡ insert_key same_node nodes.old.keys node) }
-    ensures known { OnOk result (list_any (same_node node) nodes.old.keys ≡ true → columns.new.items ≡ columns.old.items) }
-    ensures fresh { OnOk result (list_any (same_node node) nodes.old.keys ≡ false → columns.new.items ≡ columns.old.items ++ kinds ∷ []) }
+    ensures place { IfOk result (λ place. place ≡ place_of nodes.old.keys node) }
+    ensures keys { OnOk result (nodes.new.keys ≡ with_node nodes.old.keys node) }
+    ensures kinds { OnOk result (HasKinds nodes.old.keys node all.old.items kinds all.new.items) }
     ensures err_nodes { OnErr result (nodes.new.keys ≡ nodes.old.keys) }
-    ensures err_columns { OnErr result (columns.new.items ≡ columns.old.items) }
+    ensures err_kinds { OnErr result (all.new.items ≡ all.old.items) }
 {
-    columns.push(kinds)?;
+    all.push(kinds)?;
     let Ok((place, is_new)) = place_among(nodes, node) else {
-        let _ = columns.pop();
+        let _ = all.pop();
         return Err(Memory);
     };
     if !is_new {
-        let _ = columns.pop();
+        let _ = all.pop();
     }
     Ok(place)
 }
 
 // The place of the node among these nodes, and whether they lack it; then it stands last.
 fn place_among(nodes: &mut IndexSet<PlanNode>, node: PlanNode) -> Result<(usize, bool), Memory>
-    ensures place { IfOk result (λ r. r.0 ≡ position_or_len (same_node node) nodes.old.keys) }
-    ensures lacked { IfOk result (λ r. r.1 ≡ not (list_any (same_node node) nodes.old.keys)) }
-    ensures keys { OnOk result (nodes.new.keys ≡ insert_key same_node nodes.old.keys node) }
+    ensures place { IfOk result (λ r. r.0 ≡ place_of nodes.old.keys node) }
+    ensures lacked { IfOk result (λ r. r.1 ≡ not (has_node nodes.old.keys node)) }
+    ensures keys { OnOk result (nodes.new.keys ≡ with_node nodes.old.keys node) }
     ensures err { OnErr result (nodes.new.keys ≡ nodes.old.keys) }
 {
     match nodes.insert_full(node) {

@@ -369,14 +369,12 @@ module _ (f s h : Figures) (count g1 g2 : ℕ) (few many : ℕ → ℕ) {Part : 
       by t true p = few_true t p
       by t false p = few_false t p
 
-  pub whole_is : IsWhole f s h count g2 beats a who outs b
+  pub whole_is : IsWhole s h count beats a who outs b
   whole_is = record {
     fit = whole_fits;
     cause_of = cause;
     rows_of = rows_back;
     end_of = late_end;
     from_end = end_from;
-    after = later_beat;
-    short_of = short;
     turned = all_turns;
   }

@@ -7,12 +7,11 @@ use Rattle.gl_algebra.specs.declared.figures.Figures.{Figures}
 use Rattle.gl_algebra.specs.FigureTable.{IsSound, stride_of}
 use Rattle.gl_bits.specs.Results.{Row, Results, AreJoined}
 use Rattle.gl_wire.specs.Apart.{Carries, an_end}
-use Rattle.gl_wire.specs.Beats.{Beats, beats_of, last, Spaced, Ends}
+use Rattle.gl_wire.specs.Beats.{Beats, beats_of, Spaced, Ends}
 use Rattle.gl_wire.specs.Wire.{Carried, pending, stream, rows}
 use Rattle.gl_wire.specs.Serves.{HasEnd, Fits, Served}
 use Rattle.gl_wire.specs.Shapes.{IsDelayed}
 use Rattle.gl_wire.specs.Spills.{Lines, ServedWithLines}
-use Rattle.gl_wire.proofs.ApartLemmas.{carried_beat}
 use Rattle.gl_wire.proofs.FurtherLemmas.{end_of, is_end_of}
 use Rattle.gl_wire.proofs.RowsLemmas.{rows-part, rows-one, rows-quiet, pending-rows}
 use Rattle.gl_copies.specs.Lift.{Visits, visits, with_visit, tuple_of_any, all_of, Joined, LiftedWithLines}
@@ -20,16 +19,13 @@ use Rattle.gl_copies.specs.Timed.{Begins, at_first, after_end, Origin, Timed}
 use Rattle.gl_copies.specs.Rotates.{Rotates, OverCopies, lines_of_all, turns_of, delay_of_whole}
 use Rattle.gl_copies.proofs.AnyLemmas.{any_false, any_true, some_line, first_true}
 use Rattle.gl_copies.proofs.LiftLemmas.{joined, Apart}
+use Rattle.gl_copies.proofs.TimeLemmas.{next_stream}
 use Rattle.gl_copies.proofs.WholeFits.{whole_is}
 use Rattle.gl_copies.proofs.WholeTime.{IsWhole}
 
-last_high : (f : Figures) → IsSound f → (e : Bool) → last f e ≤ f.le
-last_high f sound true = omega arith
-last_high f sound false = sound.end_last
-
 module _ (f s h : Figures) (count g1 g2 : ℕ) (few many : ℕ → ℕ) {Part : Type 0} (of : ℕ × List Row → Part) (parts : List Row → List Part) (figs : OverCopies f s h count g1 g2 few many)
     (sound_f : IsSound f) (sound_s : IsSound s) (beats : Beats) (spaced : Spaced h beats) (a : Carried) (fits : Fits f beats a) (timed : Timed g1 g2 a)
-    (who : Visits) (ins outs : ℕ → Carried) (rot : Rotates s count g1 few many of parts a who ins) (b : Carried) (whole : IsWhole f s h count g2 beats a who outs b)
+    (who : Visits) (ins outs : ℕ → Carried) (rot : Rotates s count g1 few many of parts a who ins) (b : Carried) (whole : IsWhole s h count beats a who outs b)
     (OfPart : Part → Results) (lines : ℕ → Lines) (lifted : LiftedWithLines s (λ u xs. OfPart (of (u, xs))) count who lines ins outs) where
   abbrev turns : ℕ
   turns = turns_of count s
@@ -163,31 +159,9 @@ module _ (f s h : Figures) (count g1 g2 : ℕ) (few many : ℕ → ℕ) {Part : 
       by (Some j) p (inl x) ih = or_right (lifted.spill c) (any_spill (visits who ins (suc c) n)) (ih x)
       by (Some j) p (inr x) ih = let g : v ≡ c = omega (arith, l, x) in or_left (lifted.spill c) (any_spill (visits who ins (suc c) n)) (ap lifted.spill (sym g) ∙ e)
 
-  -- where the beats end, an end comes at or after what came
-  end_after : Ends beats → (x : ℕ) → Carries a x → (d : ℕ) × (x ≤ d) × (a.ends d ≡ true)
-  end_after en x k =
-      let q = carried_beat f beats a fits x k in
-      let e = en.ends q.beat q.end q.is in
-      let o = fits.end e.0 e.2 in (
-        o.at,
-        elim (cases_lt o.at x) [
-          | inl l ↦ absurd (elim (cases_lt q.beat e.0) [
-            | inl z ↦ (let w = spaced.apart q.beat e.0 q.end true q.is e.2 z in let g = whole.short_of q.end in omega (arith, w, g, q.high, o.here.low, l))
-            | inr z ↦ (let y = whole.after e.0 o.at x e.2 o.here k l in let i : q.beat ≡ e.0 = omega (arith, z, e.1) in omega (arith, y, q.high, last_high f sound_f q.end, i, figs.flush))
-          ])
-          | inr l ↦ l
-        ],
-        o.here.is,
-      )
-
-  -- the first such
+  -- where the beats end, the first end at or after what came
   next_end : Ends beats → (x : ℕ) → Carries a x → (d : ℕ) × (x ≤ d) × (a.ends d ≡ true) × ((j : ℕ) → x ≤ j → j < d → a.ends j ≡ false)
-  next_end en x k =
-      let e = end_after en x k in
-      elim (first_true a.ends (suc e.0 - x) x) [
-        | inl (i, l, n, p, g) ↦ (i, l, p, g)
-        | inr g ↦ absurd (let z = g e.0 e.1 (omega (arith, e.1)) in let y = e.2 in cc (z, y))
-      ]
+  next_end en x k = next_stream f h beats a sound_f (omega (arith, sound_f.tuples_gap, figs.keeps)) (omega (arith, figs.ge, figs.flush)) spaced fits en x k
 
   -- a visit belongs to the stream of the first end after what let it end
   in_stream : (v k d : ℕ) → who v ≡ Some k → (o : Origin turns g1 (stride_of s) a v) → o.of ≤ d → a.ends d ≡ true → ((j : ℕ) → o.of ≤ j → j < d → a.ends j ≡ false) → (rot.from d ≤ v) × (v < d + turns + 2)
@@ -210,7 +184,7 @@ module _ (f s h : Figures) (count g1 g2 : ℕ) (few many : ℕ → ℕ) {Part : 
       later : (t : ℕ) (r : Row) → (ins k).ends t ≡ false → (ins k).tuple t ≡ Some r → (u : ℕ) × (t ≤ u) × (beats_of (ins k) u ≡ Some true)
       later t r n h =
           let x = rot.caused k t r l h n in
-          let e = end_after en x.0 x.2 in
+          let e = next_end en x.0 x.2 in
           let hi : ℕ = e.0 + turns + 2 in
           elim (first_true (ins k).ends (e.0 + turns + 2 - t) t) [
             | inl (i, y, z, p, g) ↦ (i, y, beat_end (ins k) i p)
@@ -247,7 +221,8 @@ module _ (f s h : Figures) (count g1 g2 : ℕ) (few many : ℕ → ℕ) {Part : 
         let i = in_stream v.0 k.0 d.0 v.1 o d.1 d.2 d.3 in
         let q = fits.ends d.0 d.2 in
         let same = is_end_of f beats a fits q.beat d.0 q.is (record { is = d.2; low = q.low; high = q.high }) in
-        (q.beat, q.is, ap spill_of same ∙ spilt (d.0 + turns + 2 - rot.from d.0) (rot.from d.0) v.0 k.0 v.1 i.0 (omega (arith, i.0, i.1)) v.2);
+        let at : spill_of (end_of f beats a fits q.beat) ≡ spill_of d.0 = ap spill_of same in
+        (q.beat, q.is, at ∙ spilt (d.0 + turns + 2 - rot.from d.0) (rot.from d.0) v.0 k.0 v.1 i.0 (omega (arith, i.0, i.1)) v.2);
     late = λ en c e.
         let k = some_line (λ i. (lines i).further c) count e in
         let v = lifted.late (copies_end en) k.0 c k.1 k.2 in

@@ -1,5 +1,16 @@
-//! The figures of a circuit.
+//! The figures and the weight of a plan, which say what is printed of its circuit and whether it is within the limits.
+//!
+//! The tables themselves, and what keeps them, stand in gl_algebra. What builds circuits stands above.
 #![tactic(auto)]
+
+mod copied;
+pub mod figured;
+pub mod weighed;
+mod weights;
+
+pub use figured::figures;
+use thiserror::Error;
+pub use weighed::weigh;
 
 /// What is printed of a query's circuit.
 #[derive(Clone, Copy, PartialEq, Eq, Debug)]
@@ -11,3 +22,17 @@ pub struct Printed {
     /// The copies of bodies of windows and groups.
     pub copies: u64,
 }
+
+/// A limit that a plan passes.
+#[derive(Clone, Copy, PartialEq, Eq, Debug, Drop, Error)]
+pub enum Limit {
+    /// A figure of this node, the first such by number, would reach 2^32.
+    #[error("a figure of node {node} reaches 2^32")]
+    Latency { node: usize },
+    /// The weight with the output's part passes 262,144; one of 2^62 or more is given as 2^62.
+    #[error("the weight {weight} passes 262144")]
+    Nodes { weight: u64 },
+}
+
+#[cfg(test)]
+mod tests;

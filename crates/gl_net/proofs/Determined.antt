@@ -1,5 +1,5 @@
 -- The values of a netlist follow from its inputs, its reset line and its start.
-use Rattle.std.proofs.Common.{◌≡◌, ℕ, zero, suc, ◌+◌, ◌<◌, List, Option, Some, None, Bool, true, false, refl, sym, ap, ◌∙◌, subst, inl, inr, ◌⊎◌, arith}
+use Rattle.std.proofs.Common.{◌≡◌, ℕ, zero, suc, ◌<◌, Option, Some, None, sym, ap, ◌∙◌, subst, inl, inr, arith}
 use Rattle.std.specs.Prelude.{slice_get, if◌then◌else◌}
 use Rattle.std.proofs.lemmas.Bool.{cases_lt}
 use Rattle.gl_bits.specs.Words.{not_of, join_of, cut_of, choose_of}
@@ -7,10 +7,8 @@ use Rattle.gl_net.specs.declared.node.Node.{Node}
 use Rattle.gl_net.specs.declared.node.Node.TheVariants.{Input, Constant, Not, Binary, Choose, Join, Cut, Register, Memory, MemoryRead}
 use Rattle.gl_net.specs.declared.node.MemoryDrive.{MemoryDrive}
 use Rattle.gl_net.specs.declared.node.Bus.{Bus}
-use Rattle.gl_net.specs.declared.node.Bit.{Bit}
-use Rattle.gl_net.specs.declared.node.Store.{Store}
-use Rattle.gl_net.specs.Net.{Net, Run, Shape, Value, Words, shape_of, shape_in, IsTrace, IsRun, IsBus, IsBit, Keeps, binary_of, stored_of}
-use Rattle.gl_net.specs.WellFormed.{ReadsBus, ReadsBit, ReadsStore, IsDrive, NodeFits, IsWellFormed}
+use Rattle.gl_net.specs.Net.{Net, Run, Shape, shape_of, shape_in, IsTrace, IsBus, binary_of, stored_of}
+use Rattle.gl_net.specs.WellFormed.{ReadsBus, NodeFits, IsWellFormed}
 use Rattle.gl_net.specs.Laws.{Same, SameOutside, KeepsCompose, EarlierValuesStay}
 use Rattle.gl_net.proofs.Growth.{shape_there}
 

@@ -1,7 +1,8 @@
 -- A netlist in which one node is replaced by another of its shape, as by a drive.
-use Rattle.std.proofs.Common.{◌≡◌, ℕ, zero, suc, ◌+◌, ◌<◌, ◌≤◌, List, [], ◌∷◌, length, Option, Some, None, Bool, true, false, refl, sym, ap, ◌∙◌, subst, inl, inr, ◌⊎◌, arith}
-use Rattle.std.specs.Prelude.{slice_get, slice_set, option_and_then, IfSome, sum_by, if◌then◌else◌}
+use Rattle.std.proofs.Common.{◌≡◌, ℕ, suc, List, Option, Some, None, true, false, refl, sym, ap, ◌∙◌, subst, inl, inr}
+use Rattle.std.specs.Prelude.{slice_get, slice_set, option_and_then, if◌then◌else◌}
 use Rattle.std.specs.Option.{option_map}
+use Rattle.std.proofs.lemmas.Bool.{cases_eq}
 use Rattle.gl_net.specs.declared.node.Node.{Node}
 use Rattle.gl_net.specs.declared.node.Node.TheVariants.{Input, Constant, Not, Binary, Choose, Join, Cut, Register, Memory, MemoryRead}
 use Rattle.gl_net.specs.declared.node.MemoryDrive.{MemoryDrive}
@@ -9,10 +10,10 @@ use Rattle.gl_net.specs.declared.node.Bus.{Bus}
 use Rattle.gl_net.specs.declared.node.Store.{Store}
 use Rattle.gl_net.specs.declared.node.Port.{Port}
 use Rattle.gl_net.specs.declared.node.Direction.{Direction}
-use Rattle.gl_net.specs.Net.{Net, Run, Shape, Value, Words, shape_of, shape_in, open_in, open_at, open_shape, Holds, Fits, IsTrace, IsReset, IsRun, IsBus, Grows, stored_of, is_inner, size_of, register_bits, memory_bits, register_bits_of, memory_bits_of, has_no_reset, is_free}
-use Rattle.gl_net.specs.WellFormed.{IsDrive, end_at, NodeFits, EndFits, IsWellFormed}
+use Rattle.gl_net.specs.Net.{Net, Run, Shape, Value, Words, shape_of, shape_in, open_in, open_at, open_shape, Holds, Fits, IsTrace, IsRun, IsBus, Grows, stored_of, is_inner, size_of, register_bits, memory_bits, register_bits_of, memory_bits_of, has_no_reset, is_free}
+use Rattle.gl_net.specs.WellFormed.{IsDrive, end_at, NodeFits, IsWellFormed}
 use Rattle.gl_net.specs.Steps.{Drives, DrivesMemory}
-use Rattle.gl_net.proofs.Lists.{nat_dec, get_set_same, get_set_other, sum_by-replaced}
+use Rattle.gl_net.proofs.Lists.{get_set_same, get_set_other, sum_by-replaced}
 use Rattle.gl_net.proofs.Growth.{kept_bus, kept_drive, kept_node, kept_end}
 
 -- x at the place gives way to y
@@ -35,7 +36,7 @@ module _ (old new : Net) (at : ℕ) (x y : Node) (r : Replaces old new at x y) w
 
   same_shape : (k : ℕ) → shape_in new.nodes k ≡ shape_in old.nodes k
   unfolding shape_in
-  same_shape k = elim (nat_dec at k) [
+  same_shape k = elim (cases_eq at k) [
     | inl e ↦ subst (λ i. shape_in new.nodes i ≡ shape_in old.nodes i) e
         (let a = now_there in let b = r.there in rw (a, b) (ap Some r.shape))
     | inr ne ↦ ap (option_map shape_of) (others k ne)
@@ -57,11 +58,11 @@ module _ (old new : Net) (at : ℕ) (x y : Node) (r : Replaces old new at x y) w
   -- a run of the new netlist is one of the old, where the new node says all that the old one said
   old_trace : ((run : Run) → Holds run at y → Holds run at x) → (run : Run) → IsTrace new run → IsTrace old run
   old_trace weaker run tr = record {
-    fits = λ k z h. elim (nat_dec at k) [
+    fits = λ k z h. elim (cases_eq at k) [
       | inl e ↦ subst (λ u. Fits run k (shape_of u)) (was_there k z e h) (subst (Fits run k) r.shape (tr.fits k y (is_there k e)))
       | inr ne ↦ tr.fits k z (others k ne ∙ h)
     ];
-    holds = λ k z h. elim (nat_dec at k) [
+    holds = λ k z h. elim (cases_eq at k) [
       | inl e ↦ subst (λ u. Holds run k u) (was_there k z e h) (subst (λ i. Holds run i x) e (weaker run (tr.holds at y now_there)))
       | inr ne ↦ tr.holds k z (others k ne ∙ h)
     ];
@@ -96,14 +97,14 @@ module _ (old new : Net) (at : ℕ) (x y : Node) (r : Replaces old new at x y) w
 
   -- an input node is not replaced
   inputs : (n k w : ℕ) → slice_get old.nodes n ≡ Some (Input k w) → slice_get new.nodes n ≡ Some (Input k w)
-  inputs n k w h = elim (nat_dec at n) [
+  inputs n k w h = elim (cases_eq at n) [
     | inl e ↦ absurd (let q : x ≡ Input k w = was_there n _ e h in let i : is_inner (Input k w) ≡ true = subst (λ u. is_inner u ≡ true) q r.inner in cc)
     | inr ne ↦ others n ne ∙ h
   ]
 
   replaced_fits : IsWellFormed old → NodeFits new at y → IsWellFormed new
   replaced_fits w f = record {
-    nodes = λ k z h. elim (nat_dec at k) [
+    nodes = λ k z h. elim (cases_eq at k) [
       | inl e ↦ (let q : slice_get new.nodes k ≡ Some y = is_there k e in let s : y ≡ z = cc in
           subst (λ u. NodeFits new k u) s (subst (λ i. NodeFits new i y) e f))
       | inr ne ↦ kept_node old new same_shapes same_end k z (w.nodes k z (sym (others k ne) ∙ h))

@@ -1,10 +1,12 @@
 -- A netlist whose nodes and ports are all in another one with the same numbers.
-use Rattle.std.proofs.Common.{◌≡◌, ℕ, zero, suc, ◌+◌, ◌<◌, ◌≤◌, List, [], ◌∷◌, ◌++◌, length, Option, Some, None, Bool, true, false, refl, sym, ap, ◌∙◌, subst, inl, inr, ◌⊎◌, arith}
-use Rattle.std.specs.Prelude.{slice_get, slice_set, option_and_then, IfSome, is_none, if◌then◌else◌}
+use Rattle.std.proofs.Common.{◌≡◌, ℕ, ◌+◌, ◌<◌, List, [], ◌∷◌, ◌++◌, length, Option, Some, None, Bool, true, false, refl, sym, ap, ◌∙◌, subst, inl, inr, arith}
+use Rattle.std.specs.Prelude.{slice_get, option_and_then, IfSome, is_none, if◌then◌else◌}
 use Rattle.std.specs.Option.{option_map}
 use Rattle.std.proofs.lemmas.List.Sums.{sum_by_push}
 use Rattle.std.proofs.lemmas.Option.{slice_get_within}
-use Rattle.gl_bits.specs.Words.{Word, IsWidth, IsWord}
+use Rattle.std.proofs.lemmas.Bool.{cases_eq}
+use Rattle.gl_bits.proofs.AllLists.{get_front, get_last}
+use Rattle.gl_bits.specs.Words.{Word, IsWidth}
 use Rattle.gl_net.specs.declared.node.BinaryOp.{BinaryOp}
 use Rattle.gl_net.specs.declared.node.BinaryOp.TheVariants.{Add, Sub, Mul, And, Xor, Or, Eq, Ne, Lt, Le}
 use Rattle.gl_net.specs.declared.node.Node.{Node}
@@ -16,10 +18,10 @@ use Rattle.gl_net.specs.declared.node.Store.{Store}
 use Rattle.gl_net.specs.declared.node.Port.{Port}
 use Rattle.gl_net.specs.declared.node.Direction.{Direction}
 use Rattle.gl_net.specs.declared.node.Direction.TheVariants.{In, Out}
-use Rattle.gl_net.specs.Net.{Net, Run, Shape, Value, Words, shape_of, shape_in, open_in, open_at, open_shape, Holds, Fits, IsTrace, IsReset, IsRun, IsBus, IsBit, IsStore, IsPort, Grows, Keeps, is_inner, size_of, register_bits, memory_bits, register_bits_of, memory_bits_of, has_no_reset, is_free, binary_width}
+use Rattle.gl_net.specs.Net.{Net, Run, Shape, shape_of, shape_in, open_in, open_at, open_shape, Holds, IsTrace, IsRun, IsBus, IsBit, IsStore, Grows, Keeps, is_inner, size_of, register_bits, memory_bits, register_bits_of, memory_bits_of, has_no_reset, is_free, binary_width}
 use Rattle.gl_net.specs.WellFormed.{ReadsBus, ReadsBit, ReadsStore, IsDrive, end_at, NodeFits, EndFits, IsWellFormed}
-use Rattle.gl_net.specs.Steps.{Adds, AddsPort, AddsInput}
-use Rattle.gl_net.proofs.Lists.{nat_dec, get_push_old, get_push_new, get_push_other, get_push_cases, get_past}
+use Rattle.gl_net.specs.Steps.{Adds}
+use Rattle.gl_net.proofs.Lists.{get_push_other, get_push_cases, get_past}
 
 -- the node behind a shape
 pub shape_there : (o : Option Node) (s : Shape) → option_map shape_of o ≡ Some s → (x : Node) × (o ≡ Some x) × (shape_of x ≡ s)
@@ -145,12 +147,12 @@ same_grows net = record { runs = λ run r. r; shapes = λ n s h. h }
 module _ (old new : Net) (x : Node) (n : ℕ) (adds : Adds old new x n) where
   pub adds_extends : Extends old new
   adds_extends = record {
-    nodes = λ k y h. rw adds.nodes (get_push_old old.nodes x k y h);
+    nodes = λ k y h. rw adds.nodes (get_front old.nodes (x ∷ []) k y h);
     ports = λ k p h. rw adds.ports h;
   }
 
   pub adds_there : slice_get new.nodes n ≡ Some x
-  adds_there = rw (adds.nodes, adds.number) (get_push_new old.nodes x)
+  adds_there = rw (adds.nodes, adds.number) (get_last old.nodes x)
 
   pub adds_grows : Grows old new
   adds_grows = ext_grows old new adds_extends
@@ -175,7 +177,7 @@ module _ (old new : Net) (x : Node) (n : ℕ) (adds : Adds old new x n) where
   adds_open_other k h = rw adds.nodes (ap (option_and_then open_shape) (get_push_other old.nodes x k (rw adds.number at h)))
 
   pub adds_closed : open_shape x ≡ None → (k : ℕ) → open_at new k ≡ open_at old k
-  adds_closed e k = elim (nat_dec k n) [
+  adds_closed e k = elim (cases_eq k n) [
     | inl h ↦ (let a : open_at new k ≡ None = subst (λ i. open_at new i ≡ None) (sym h) (adds_open ∙ e) in
         let b : open_at old k ≡ None = subst (λ i. open_at old i ≡ None) (sym h) adds_fresh in a ∙ sym b)
     | inr h ↦ adds_open_other k h

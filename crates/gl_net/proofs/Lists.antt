@@ -1,23 +1,7 @@
 -- Elements of a list that grows at its end, and of one in which an element is replaced.
-use Rattle.std.proofs.Common.{◌≡◌, ℕ, zero, suc, List, [], ◌∷◌, ◌++◌, length, Option, Some, None, Bool, ◌+◌, ◌∙◌, zero-add, refl, sym, ap, inl, inr, ◌⊎◌, arith}
+use Rattle.std.proofs.Common.{◌≡◌, ℕ, zero, suc, List, [], ◌∷◌, ◌++◌, length, Some, None, ◌+◌, ◌∙◌, refl, sym, ap, inl, inr, ◌⊎◌}
 use Rattle.std.specs.Prelude.{slice_get, slice_set, sum_by}
 use Rattle.std.proofs.lemmas.List.Sums.{sum_by-cons}
-use Rattle.std.proofs.lemmas.Bool.{cases_lt}
-
-pub nat_dec : (a b : ℕ) → (a ≡ b) ⊎ (a ≡ b → ⊥)
-nat_dec a b = elim (cases_lt a b) [
-  | inl h ↦ inr (λ e. omega arith)
-  | inr h ↦ elim (cases_lt b a) [ inl h' ↦ inr (λ e. omega arith) | inr h' ↦ inl (omega arith) ]
-]
-
-pub get_push_old : {A : Type 0} (xs : List A) (y : A) (n : ℕ) (x : A) → slice_get xs n ≡ Some x → slice_get (xs ++ y ∷ []) n ≡ Some x
-get_push_old [] y n x h = cc
-get_push_old (z ∷ xs) y zero x h = h
-get_push_old (z ∷ xs) y (suc n) x h = get_push_old xs y n x h
-
-pub get_push_new : {A : Type 0} (xs : List A) (y : A) → slice_get (xs ++ y ∷ []) (length xs) ≡ Some y
-get_push_new [] y = refl
-get_push_new (z ∷ xs) y = get_push_new xs y
 
 pub get_push_other : {A : Type 0} (xs : List A) (y : A) (n : ℕ) → (n ≡ length xs → ⊥) → slice_get (xs ++ y ∷ []) n ≡ slice_get xs n
 get_push_other [] y zero h = absurd (h refl)

@@ -1,15 +1,13 @@
 -- What buses, bits and memories carry in a run, and what choices and memories give for known values.
-use Rattle.std.proofs.Common.{◌≡◌, ◌≢◌, ℕ, zero, suc, ◌+◌, ◌<◌, ◌^◌, List, Option, Some, None, Bool, true, false, refl, sym, ap, ◌∙◌, subst, arith, inl, inr}
-use Rattle.std.specs.Prelude.{slice_get, nat_eq, if◌then◌else◌, ◌&&◌}
-use Rattle.std.proofs.Common.{eq-eqb}
-use Rattle.std.proofs.lemmas.Bool.Decides.{eqb_tells}
+use Rattle.std.proofs.Common.{◌≡◌, ◌≢◌, ℕ, ◌<◌, ◌^◌, Some, refl, subst}
+use Rattle.std.specs.Prelude.{slice_get}
+use Rattle.std.proofs.Common.{eq-eqb, ne_eqb}
 use Rattle.std.proofs.Math.Bool.{and-false}
 use Rattle.gl_bits.specs.Words.{choose_of}
-use Rattle.gl_net.specs.declared.node.Node.{Node}
 use Rattle.gl_net.specs.declared.node.Bus.{Bus}
 use Rattle.gl_net.specs.declared.node.Bit.{Bit}
 use Rattle.gl_net.specs.declared.node.Store.{Store}
-use Rattle.gl_net.specs.Net.{Net, Run, IsRun, Shape, Value, Words, Fits, shape_in, shape_of, IsBus, IsBit, IsStore, stored_of}
+use Rattle.gl_net.specs.Net.{Net, Run, IsRun, Shape, Fits, shape_in, IsBus, IsBit, IsStore, stored_of}
 use Rattle.gl_net.proofs.Growth.{shape_there}
 
 there_fits : (net : Net) (n : ℕ) (s : Shape) (run : Run) → shape_in net.nodes n ≡ Some s → IsRun net run → Fits run n s
@@ -28,9 +26,6 @@ bit_fits net b run i r = there_fits net b.node _ run i.there r
 pub word_fits : (net : Net) (s : Store) (run : Run) → IsStore net s → IsRun net run → (t k : ℕ) → run.word t s.node k < 2 ^ s.width
 word_fits net s run i r = there_fits net s.node _ run i.there r
 
-other_eq : (a b : ℕ) → a ≢ b → nat_eq a b ≡ false
-other_eq a b ne = elim (eqb_tells a b) [ inl h ↦ absurd (ne h.1) | inr h ↦ h.0 ]
-
 -- a memory holds what was written to the address
 pub stored_now : (write address value k word : ℕ) → write ≡ 1 → address ≡ k → stored_of write address value k word ≡ value
 unfolding stored_of
@@ -39,11 +34,11 @@ stored_now write address value k word w a = let e = eq-eqb write 1 w in let f = 
 -- and keeps all other words
 pub stored_other : (write address value k word : ℕ) → address ≢ k → stored_of write address value k word ≡ word
 unfolding stored_of
-stored_other write address value k word a = let f = other_eq address k a in rw (f, and-false) refl
+stored_other write address value k word a = let f = ne_eqb address k a in rw (f, and-false) refl
 
 pub stored_idle : (write address value k word : ℕ) → write ≢ 1 → stored_of write address value k word ≡ word
 unfolding stored_of
-stored_idle write address value k word w = let e = other_eq write 1 w in rw e refl
+stored_idle write address value k word w = let e = ne_eqb write 1 w in rw e refl
 
 pub choose_yes : (test x y : ℕ) → test ≡ 1 → choose_of test x y ≡ x
 unfolding choose_of
@@ -51,4 +46,4 @@ choose_yes test x y e = let f = eq-eqb test 1 e in rw f refl
 
 pub choose_no : (test x y : ℕ) → test ≢ 1 → choose_of test x y ≡ y
 unfolding choose_of
-choose_no test x y e = let f = other_eq test 1 e in rw f refl
+choose_no test x y e = let f = ne_eqb test 1 e in rw f refl

@@ -1,13 +1,13 @@
 -- What a netlist needs to be finished: names of the Verilog subset, one for each port, and a drive for all that takes one.
 -- Names after IEEE 1364-2005, clause 3.7 (simple identifiers), without the keywords that the subset uses (annex B).
-use Rattle.std.specs.Prelude.{◌≡◌, ◌≢◌, ℕ, ◌≤◌, Bool, true, false, ◌||◌, ◌&&◌, List, [], ◌∷◌, length, Option, Some, None, slice_get, nat_eq, nat_le, codes, IsTrue, IsSomeAnd}
+use Rattle.std.specs.Prelude.{◌≡◌, ◌≢◌, ℕ, ◌≤◌, Bool, true, false, ◌||◌, ◌&&◌, List, [], ◌∷◌, length, Some, None, slice_get, nat_eq, nat_le, codes, IsTrue, IsSomeAnd}
 use Rattle.std.specs.List.{list_any, list_all}
 use Rattle.std.specs.Str.{bytes_eq}
 use Rattle.gl_net.specs.declared.node.Node.{Node}
 use Rattle.gl_net.specs.declared.node.Node.TheVariants.{Register}
 use Rattle.gl_net.specs.declared.node.Port.{Port}
 use Rattle.gl_net.specs.declared.node.Direction.TheVariants.{In}
-use Rattle.gl_net.specs.Net.{Net, Shape, Value, shape_in, open_at, IsPort, reset_name}
+use Rattle.gl_net.specs.Net.{Net, Value, shape_in, open_at, IsPort, reset_name}
 use Rattle.gl_net.specs.WellFormed.{IsWellFormed}
 
 -- A to Z, a to z and _

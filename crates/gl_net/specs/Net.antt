@@ -3,18 +3,17 @@
 -- memories change together at the edge that ends the cycle (IEEE 1364-2005, clauses 5, 6 and 9).
 use Rattle.std.specs.Prelude.{◌≡◌, ℕ, suc, ◌+◌, ◌-◌, ◌*◌, ◌^◌, ◌<◌, ◌≤◌, List, Option, Some, None, Bool, true, false, if◌then◌else◌, ◌&&◌, nat_eq, bit_and, bit_or, bit_xor, slice_get, option_and_then, codes, count_by, sum_by}
 use Rattle.std.specs.Option.{option_map, option_map_or}
-use Rattle.gl_bits.specs.Words.{Word, IsWidth, sum_of, difference_of, product_of, not_of, eq_of, lt_of, le_of, join_of, cut_of, choose_of}
+use Rattle.gl_bits.specs.Words.{IsWidth, sum_of, difference_of, product_of, not_of, eq_of, lt_of, le_of, join_of, cut_of, choose_of}
 use Rattle.gl_net.specs.declared.node.BinaryOp.{BinaryOp}
 use Rattle.gl_net.specs.declared.node.BinaryOp.TheVariants.{Add, Sub, Mul, And, Xor, Or, Eq, Ne, Lt, Le}
 use Rattle.gl_net.specs.declared.node.Node.{Node}
 use Rattle.gl_net.specs.declared.node.Node.TheVariants.{Input, Constant, Not, Binary, Choose, Join, Cut, Register, Memory, MemoryRead}
-use Rattle.gl_net.specs.declared.node.MemoryDrive.{MemoryDrive}
 use Rattle.gl_net.specs.declared.node.Bus.{Bus}
 use Rattle.gl_net.specs.declared.node.Bit.{Bit}
 use Rattle.gl_net.specs.declared.node.Store.{Store}
 use Rattle.gl_net.specs.declared.node.Port.{Port}
 use Rattle.gl_net.specs.declared.node.Direction.{Direction}
-use Rattle.gl_net.specs.declared.node.Direction.TheVariants.{In, Out}
+use Rattle.gl_net.specs.declared.node.Direction.TheVariants.{In}
 
 -- a netlist: its nodes, its ports in their order, and the name of its module
 pub record Net : Type 0 where

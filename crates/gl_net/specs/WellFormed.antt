@@ -1,5 +1,5 @@
 -- What holds of every netlist that a builder holds: operands stand before the nodes that read them, and widths agree.
-use Rattle.std.specs.Prelude.{◌≡◌, ℕ, ◌+◌, ◌^◌, ◌<◌, ◌≤◌, List, Option, Some, None, slice_get, IfSome}
+use Rattle.std.specs.Prelude.{◌≡◌, ℕ, ◌+◌, ◌^◌, ◌<◌, ◌≤◌, Option, Some, slice_get, IfSome}
 use Rattle.std.specs.Option.{option_map}
 use Rattle.gl_bits.specs.Words.{IsWord, IsWidth}
 use Rattle.gl_net.specs.declared.node.Node.{Node}
@@ -11,7 +11,7 @@ use Rattle.gl_net.specs.declared.node.Store.{Store}
 use Rattle.gl_net.specs.declared.node.Port.{Port}
 use Rattle.gl_net.specs.declared.node.Direction.{Direction}
 use Rattle.gl_net.specs.declared.node.Direction.TheVariants.{In, Out}
-use Rattle.gl_net.specs.Net.{Net, Shape, Value, Words, shape_in, IsBus, IsBit, IsStore, IsAddressWidth}
+use Rattle.gl_net.specs.Net.{Net, Value, shape_in, IsBus, IsBit, IsStore, IsAddressWidth}
 
 -- the node with the number n reads a bus, a bit or a store, which stands before it
 pub record ReadsBus (net : Net) (n : ℕ) (b : Bus) : Type 0 where

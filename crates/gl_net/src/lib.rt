@@ -1,4 +1,8 @@
-//! Netlists of clocked logic, the runs that they allow, and their builder.
+//! Netlists of clocked logic, the runs that they allow, and the builder that makes them.
+//!
+//! Here belongs what a node is, what every run of a netlist obeys, and what one call of the builder
+//! adds to both. A block of several nodes that has a purpose belongs to the crates above, and so do
+//! queries, Verilog and any text.
 #![tactic(auto)]
 
 pub mod builder;

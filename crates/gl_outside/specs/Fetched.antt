@@ -1,37 +1,21 @@
 -- The answers of a fetch.
-use Rattle.std.specs.Prelude.{ℕ}
+use Rattle.std.specs.Prelude.{◌≡◌, ℕ, ◌+◌, ◌≤◌, List, length, take, slice_range}
+use Rattle.gl_outside.specs.Told.{Told, IsLacking, IfTold}
 use Rattle.gl_outside.specs.declared.shelf.Fetch.{Fetch}
 use Rattle.gl_outside.specs.declared.shelf.Fetch.TheVariants.{Got, End, Missing, Failed, Memory}
 
--- the fact holds of the number of bytes, where there are some
-abbrev pub IfGot : Fetch → (ℕ → Type 0) → Type 0
-IfGot (Got n) P = P n
-IfGot r P = Unit {0}
+-- so many bytes were got, at least one and at most as many as there is room for
+abbrev pub FitsRoom : ℕ → Fetch → Type 0
+FitsRoom room (Got n) = (1 ≤ n) × (n ≤ room)
+FitsRoom room End = Unit {0}
+FitsRoom room Missing = Unit {0}
+FitsRoom room Failed = Unit {0}
+FitsRoom room Memory = Unit {0}
 
--- the fact holds at the end of the text
-abbrev pub OnEnd : Fetch → Type 0 → Type 0
-OnEnd End P = P
-OnEnd r P = Unit {0}
-
--- the fact holds where there is no text of the name
-abbrev pub OnMissing : Fetch → Type 0 → Type 0
-OnMissing Missing P = P
-OnMissing r P = Unit {0}
-
--- the fact holds where the call failed
-abbrev pub OnFailed : Fetch → Type 0 → Type 0
-OnFailed Failed P = P
-OnFailed r P = Unit {0}
-
--- the fact holds where the call missed or failed
-abbrev pub OnRefusal : Fetch → Type 0 → Type 0
-OnRefusal Missing P = P
-OnRefusal Failed P = P
-OnRefusal r P = Unit {0}
-
--- the fact holds where the call neither missed nor failed
-abbrev pub OnNoRefusal : Fetch → Type 0 → Type 0
-OnNoRefusal (Got n) P = P
-OnNoRefusal End P = P
-OnNoRefusal Memory P = P
-OnNoRefusal r P = Unit {0}
+-- what the answer says of the text, where it is told: these bytes stand in it from a place on, it has none there, or there is no text
+abbrev pub Says : Told → ℕ → List ℕ → Fetch → Type 0
+Says told at into (Got n) = IfTold told (λ text. take n into ≡ slice_range text at (at + n))
+Says told at into End = IfTold told (λ text. length text ≤ at)
+Says told at into Missing = IsLacking told
+Says told at into Failed = Unit {0}
+Says told at into Memory = Unit {0}

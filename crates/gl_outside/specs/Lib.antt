@@ -1,7 +1,7 @@
 pub mod Counts
-pub mod Held
 pub mod Told
-pub mod Taken
+pub mod States
 pub mod Fetched
 pub mod Reads
+pub mod Held
 pub mod Seen

@@ -1,32 +1,21 @@
 -- The answers of reading a whole text.
-use Rattle.std.specs.Prelude.{Result, Ok, Err}
+use Rattle.std.specs.Prelude.{ℕ, ◌<◌, length, Result, Ok, Err}
+use Rattle.gl_outside.specs.Told.{Told, IsLacking, IfTold}
 use Rattle.gl_outside.specs.declared.reading.ReadFault.{ReadFault}
 use Rattle.gl_outside.specs.declared.reading.ReadFault.TheVariants.{Missing, Failed, TooLong, Memory}
 
--- the fact holds where no text has the name
-abbrev pub OnMissing : {T : Type 0} → Result T ReadFault → Type 0 → Type 0
-OnMissing (Err Missing) P = P
-OnMissing r P = Unit {0}
+-- what a refusal says of the text, where it is told: there is none, or it passes the limit
+abbrev pub Refuses : {T : Type 0} → Told → Result T ReadFault → Type 0
+Refuses told (Err Missing) = IsLacking told
+Refuses told (Err TooLong) = IfTold told (λ text. 67108864 < length text)
+Refuses told (Err Failed) = Unit {0}
+Refuses told (Err Memory) = Unit {0}
+Refuses told (Ok text) = Unit {0}
 
--- the fact holds where the shelf failed
-abbrev pub OnFailed : {T : Type 0} → Result T ReadFault → Type 0 → Type 0
-OnFailed (Err Failed) P = P
-OnFailed r P = Unit {0}
-
--- the fact holds where the text is too long
-abbrev pub OnTooLong : {T : Type 0} → Result T ReadFault → Type 0 → Type 0
-OnTooLong (Err TooLong) P = P
-OnTooLong r P = Unit {0}
-
--- the fact holds where the text is missing or the shelf failed
-abbrev pub OnRefusal : {T : Type 0} → Result T ReadFault → Type 0 → Type 0
-OnRefusal (Err Missing) P = P
-OnRefusal (Err Failed) P = P
-OnRefusal r P = Unit {0}
-
--- the fact holds where neither is so
-abbrev pub OnNoRefusal : {T : Type 0} → Result T ReadFault → Type 0 → Type 0
-OnNoRefusal (Ok text) P = P
-OnNoRefusal (Err TooLong) P = P
-OnNoRefusal (Err Memory) P = P
-OnNoRefusal r P = Unit {0}
+-- adding a piece is refused where the text then has too many bytes, or for want of memory
+abbrev pub IsAdd : {T : Type 0} → ℕ → Result T ReadFault → Type 0
+IsAdd size (Ok added) = Unit {0}
+IsAdd size (Err TooLong) = 67108864 < size
+IsAdd size (Err Memory) = Unit {0}
+IsAdd size (Err Missing) = ⊥
+IsAdd size (Err Failed) = ⊥

@@ -2,6 +2,8 @@
 use Rattle.std.specs.Prelude.{ℕ, List, Option}
 use Rattle.std.specs.declared.io.ErrorKind.{ErrorKind}
 use Rattle.std.specs.declared.io.ErrorKind.TheVariants.{NotFound, OutOfMemory}
+use Rattle.gl_outside.specs.Told.{Untold}
+use Rattle.gl_outside.specs.States.{ShelfState}
 use Rattle.gl_outside.specs.declared.shelf.Fetch.{Fetch}
 use Rattle.gl_outside.specs.declared.shelf.Fetch.TheVariants.{Missing, Failed, Memory}
 
@@ -11,6 +13,10 @@ pub record FilesState : Type 0 where
   pub misses : ℕ
   pub faults : ℕ
   pub last : Option (List ℕ)
+
+-- it tells no texts
+abbrev pub files_state : FilesState → ShelfState
+files_state s = record { names = s.names; told = λ _. Untold; misses = s.misses; faults = s.faults; last = s.last }
 
 -- a file that is not there is missing, and every other refusal but want of memory is a fault
 abbrev pub refusal_of : ErrorKind → Fetch

@@ -1,6 +1,6 @@
 //! Counters of misses, faults and calls.
 
-ghost use Rattle.std.specs.Prelude.{◌≡◌, ◌≤◌};
+ghost use Rattle.std.specs.Prelude.{◌≡◌};
 ghost use Rattle.gl_outside.specs.Counts.{Rose};
 ghost use Rattle.gl_outside.specs.Held.{next_count};
 
@@ -8,7 +8,6 @@ ghost use Rattle.gl_outside.specs.Held.{next_count};
 pub fn one_more(count: u64) -> u64
     ensures value { result ≡ next_count count }
     ensures rose { Rose count result }
-    ensures never_falls { count ≤ result }
 {
     count.saturating_add(1)
 }

@@ -1,11 +1,9 @@
 //! The real files as a shelf.
 
-ghost use Rattle.std.specs.Prelude.{◌≡◌, ℕ, ◌<◌, ◌≤◌, List, length, Some, None, Contains, ⊤};
+ghost use Rattle.std.specs.Prelude.{◌≡◌, None, Contains, IfOk};
 ghost use Rattle.std.specs.Io.{ReadsAtMost};
-ghost use Rattle.gl_outside.specs.Counts.{Rose};
-ghost use Rattle.gl_outside.specs.Told.{Told, Untold};
-ghost use Rattle.gl_outside.specs.Seen.{refusal_of};
-ghost use Rattle.gl_outside.specs.Fetched.{OnMissing, OnFailed, OnRefusal, OnNoRefusal};
+ghost use Rattle.gl_outside.specs.States.{Fetched, Stays};
+ghost use Rattle.gl_outside.specs.Seen.{refusal_of, files_state};
 
 use crate::counter::one_more;
 use crate::shelf::{Fetch, Shelf};
@@ -48,7 +46,12 @@ impl<R: Files + Drop> Model for FileShelf<R> {
 
     ghost Value = { FilesState };
 
-    ghost view = { λ s. record { names = s.names; misses = s.misses; faults = s.faults; last = option_and_then (λ place. slice_get s.names place) s.last } };
+    ghost view = { λ s. record {
+      names = s.names;
+      misses = s.misses;
+      faults = s.faults;
+      last = option_and_then (λ place. slice_get s.names place) s.last;
+    } };
 }
 
 impl<R: Files + Drop> FileShelf<R> {
@@ -68,7 +71,8 @@ impl<R: Files + Drop> FileShelf<R> {
 
     // The file of this name, kept open or opened anew.
     fn open(&mut self, place: usize, name: &str) -> io::Result<OpenFile<R::File>>
-        ensures { self.new ≡ self.old }
+        ensures place { IfOk result (λ opened. opened.name ≡ place) }
+        ensures same { self.new ≡ self.old }
     {
         if let Some(opened) = self.opened.take() {
             if opened.name == place {
@@ -104,13 +108,8 @@ impl<R: Files + Drop> FileShelf<R> {
     fn refuse(&mut self, name: &str, kind: ErrorKind) -> Fetch
         requires { Contains self.old.names name.now }
         ensures answer { result ≡ refusal_of kind }
-        ensures names { self.new.names ≡ self.old.names }
-        ensures missing { OnMissing result (Rose self.old.misses self.new.misses) }
-        ensures failed { OnFailed result (Rose self.old.faults self.new.faults) }
-        ensures refused { OnRefusal result (self.new.last ≡ Some name.now) }
-        ensures unrefused { OnNoRefusal result (self.new ≡ self.old) }
-        ensures misses_never_fall { self.old.misses ≤ self.new.misses }
-        ensures faults_never_fall { self.old.faults ≤ self.new.faults }
+        ensures counts { Fetched (files_state self.old) (files_state self.new) name.now result }
+        ensures stays { Stays (files_state self.old) (files_state self.new) }
     {
         let place = self.names.place_of(name);
         match kind {
@@ -130,15 +129,7 @@ impl<R: Files + Drop> FileShelf<R> {
 }
 
 impl<R: Files + Drop> Shelf for FileShelf<R> {
-    ghost names = { λ s. s.names };
-
-    ghost told = { λ _ _. Untold };
-
-    ghost misses = { λ s. s.misses };
-
-    ghost faults = { λ s. s.faults };
-
-    ghost last = { λ s. s.last };
+    ghost state = { λ s. files_state s };
 
     fn fetch(&mut self, name: &str, at: u64, into: &mut [u8]) -> Fetch {
         let place = self.names.place_of(name);

@@ -1,10 +1,11 @@
 //! Texts in memory.
 
-ghost use Rattle.std.specs.Prelude.{◌≡◌, ◌+◌, ◌<◌, ◌≤◌, ◌++◌, ◌∷◌, [], length, take, slice_range, Some, None, OnOk, OnErr, MatchOption, Contains};
-ghost use Rattle.gl_outside.specs.Counts.{Rose};
-ghost use Rattle.gl_outside.specs.Told.{Lacks, Holds, IfTold};
-ghost use Rattle.gl_outside.specs.Fetched.{IfGot, OnMissing, OnRefusal, OnNoRefusal};
-ghost use Rattle.gl_outside.specs.Held.{told_of, given};
+ghost use Rattle.std.specs.Prelude.{◌≡◌, ℕ, ◌<◌, length, Some, OnOk, OnErr, MatchOption, Contains};
+ghost use Rattle.gl_outside.specs.Told.{Lacks, Holds};
+ghost use Rattle.gl_outside.specs.States.{Stays, Fetched};
+ghost use Rattle.gl_outside.specs.Fetched.{FitsRoom, Says};
+ghost use Rattle.gl_outside.specs.Held as spec;
+ghost use Rattle.gl_outside.specs.Held.{told_of, given, held_state};
 
 use crate::counter::one_more;
 use crate::shelf::Fetch;
@@ -62,7 +63,7 @@ impl Model for HeldTexts {
 
 impl HeldTexts {
     pub fn new(alloc: Global, names: Words) -> HeldTexts
-        ensures { result ≡ record { names = names; texts = []; misses = 0; last = None } }
+        ensures { result ≡ spec.no_texts names }
     {
         HeldTexts {
             names,
@@ -74,7 +75,7 @@ impl HeldTexts {
 
     // Adds a text behind the others.
     pub fn hold(&mut self, name: &str, bytes: &[u8]) -> Result<(), Memory>
-        ensures ok { OnOk result (self.new ≡ record self.old { texts = self.old.texts ++ (name.now, bytes.now) ∷ [] }) }
+        ensures ok { OnOk result (self.new ≡ spec.with_text self.old name.now bytes.now) }
         ensures err { OnErr result (self.new ≡ self.old) }
     {
         let text = NamedText::new(*self.texts.allocator(), name, bytes)?;
@@ -95,14 +96,15 @@ impl HeldTexts {
     // Gives as many bytes of the text of this name as there is room for.
     pub fn give(&mut self, name: &str, at: u64, into: &mut [u8]) -> Fetch
         requires listed { Contains self.old.names name.now }
+        requires room { 0 < length into.old }
         ensures answer { result ≡ given (told_of self.old.texts name.now) at (length into.old) }
-        ensures bytes { IfGot result (λ n. IfTold (told_of self.old.texts name.now) (λ text. take n into.new ≡ slice_range text at (at + n))) }
-        ensures names { self.new.names ≡ self.old.names }
-        ensures texts { self.new.texts ≡ self.old.texts }
-        ensures missing { OnMissing result (Rose self.old.misses self.new.misses) }
-        ensures refused { OnRefusal result (self.new.last ≡ Some name.now) }
-        ensures unrefused { OnNoRefusal result (self.new ≡ self.old) }
-        ensures misses_never_fall { self.old.misses ≤ self.new.misses }
+        ensures exact { self.new ≡ spec.asked self.old name.now (told_of self.old.texts name.now) }
+        ensures amount { FitsRoom (length into.old) result }
+        ensures counts { (faults : ℕ)
+            → Fetched (held_state faults self.old) (held_state faults self.new) name.now result }
+        ensures says { Says (told_of self.old.texts name.now) at into.new result }
+        ensures stays { (faults : ℕ)
+            → Stays (held_state faults self.old) (held_state faults self.new) }
     {
         match text_of(self.texts.as_slice(), name) {
             Some(text) => copy_from(text.bytes.as_slice(), at, into),
@@ -118,7 +120,8 @@ impl HeldTexts {
 // The first text that has the name.
 #[tactic(auto, using(crate::proofs::Tellings::tellings))]
 fn text_of<'a>(texts: &'a [NamedText], name: &str) -> Option<&'a NamedText>
-    ensures { MatchOption result (told_of texts.now name.now ≡ Lacks) (λ t. told_of texts.now name.now ≡ Holds t.now.1) }
+    ensures { let told = told_of texts.now name.now in
+        MatchOption result (told ≡ Lacks) (λ t. told ≡ Holds t.now.1) }
 {
     for text in texts {
         if text.name.as_str() == name {
@@ -130,8 +133,10 @@ fn text_of<'a>(texts: &'a [NamedText], name: &str) -> Option<&'a NamedText>
 
 // Copies as many bytes from this place on as there is room for.
 fn copy_from(text: &[u8], at: u64, into: &mut [u8]) -> Fetch
+    requires { 0 < length into.old }
     ensures answer { result ≡ given (Holds text.now) at (length into.old) }
-    ensures bytes { IfGot result (λ n. take n into.new ≡ slice_range text.now at (at + n)) }
+    ensures amount { FitsRoom (length into.old) result }
+    ensures says { Says (Holds text.now) at into.new result }
 {
     let at = at as usize;
     if text.len() <= at {

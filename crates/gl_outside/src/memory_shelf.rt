@@ -1,10 +1,10 @@
 //! Shelves in memory.
 
-ghost use Rattle.std.specs.Prelude.{◌≡◌, ℕ, ◌+◌, ◌<◌, ◌≤◌, ◌++◌, ◌∷◌, List, [], length, take, slice_range, Some, None, OnOk, OnErr, Contains};
-ghost use Rattle.gl_outside.specs.Counts.{Rose};
-ghost use Rattle.gl_outside.specs.Told.{Told, IsLacking, IfTold};
-ghost use Rattle.gl_outside.specs.Fetched.{IfGot, OnEnd, OnMissing, OnFailed, OnRefusal, OnNoRefusal};
-ghost use Rattle.gl_outside.specs.Held.{told_of, given, served, next_count};
+ghost use Rattle.std.specs.Prelude.{◌≡◌, ◌<◌, ◌≤◌, ◌++◌, ◌∷◌, [], length, OnOk, OnErr, Contains};
+ghost use Rattle.gl_outside.specs.States.{Stays, Fetched};
+ghost use Rattle.gl_outside.specs.Fetched.{FitsRoom, Says};
+ghost use Rattle.gl_outside.specs.Held as spec;
+ghost use Rattle.gl_outside.specs.Held.{told_of, given, held_state, shelf_state};
 
 use crate::counter::one_more;
 use crate::held::HeldTexts;
@@ -27,9 +27,9 @@ pub struct MemoryShelf {
 }
 
 impl Model for MemoryShelf {
-    ghost use Rattle.gl_outside.specs.Held.{ShelfState};
+    ghost use Rattle.gl_outside.specs.Held.{MemoryShelfState};
 
-    ghost Value = { ShelfState };
+    ghost Value = { MemoryShelfState };
 
     ghost view = { λ s. record { held = s.held; failing = s.failing.items; calls = s.calls; faults = s.faults } };
 }
@@ -37,7 +37,7 @@ impl Model for MemoryShelf {
 impl MemoryShelf {
     /// A shelf for these names, with no text.
     pub fn new(alloc: Global, names: Words) -> MemoryShelf
-        ensures { result ≡ record { held = record { names = names; texts = []; misses = 0; last = None }; failing = []; calls = 0; faults = 0 } }
+        ensures { result ≡ spec.new_shelf names }
     {
         MemoryShelf {
             held: HeldTexts::new(alloc, names),
@@ -49,7 +49,8 @@ impl MemoryShelf {
 
     /// Adds a text. The first text of a name is the one that is given.
     pub fn hold(&mut self, name: &str, bytes: &[u8]) -> Result<(), Memory>
-        ensures ok { OnOk result (self.new ≡ record self.old { held = record self.old.held { texts = self.old.held.texts ++ (name.now, bytes.now) ∷ [] } }) }
+        ensures ok { let held = spec.with_text self.old.held name.now bytes.now in
+            OnOk result (self.new ≡ record self.old { held = held }) }
         ensures err { OnErr result (self.new ≡ self.old) }
     {
         self.held.hold(name, bytes)
@@ -57,7 +58,8 @@ impl MemoryShelf {
 
     /// Lets the call of this number fail.
     pub fn fail(&mut self, call: u64) -> Result<(), Memory>
-        ensures ok { OnOk result (self.new ≡ record self.old { failing = self.old.failing ++ call ∷ [] }) }
+        ensures ok { let failing = self.old.failing ++ call ∷ [] in
+            OnOk result (self.new ≡ record self.old { failing = failing }) }
         ensures err { OnErr result (self.new ≡ self.old) }
     {
         match self.failing.push(call) {
@@ -68,35 +70,19 @@ impl MemoryShelf {
 }
 
 impl Shelf for MemoryShelf {
-    ghost names = { λ s. s.held.names };
-
-    ghost told = { λ s name. told_of s.held.texts name };
-
-    ghost misses = { λ s. s.held.misses };
-
-    ghost faults = { λ s. s.faults };
-
-    ghost last = { λ s. s.held.last };
+    ghost state = { λ s. shelf_state s };
 
     fn fetch(&mut self, name: &str, at: u64, into: &mut [u8]) -> Fetch
         requires room { 0 < length into.old }
         requires listed { Contains self.old.held.names name.now }
         requires within { at ≤ TEXT_LIMIT }
-        ensures answer { result ≡ served self.old name.now at (length into.old) }
-        ensures calls { self.new.calls ≡ next_count self.old.calls }
-        ensures failing { self.new.failing ≡ self.old.failing }
-        ensures amount { IfGot result (λ n. (1 ≤ n) × (n ≤ length into.old)) }
-        ensures missing { OnMissing result (Rose self.old.held.misses self.new.held.misses) }
-        ensures failed { OnFailed result (Rose self.old.faults self.new.faults) }
-        ensures refused { OnRefusal result (self.new.held.last ≡ Some name.now) }
-        ensures unrefused { OnNoRefusal result (self.new.held.last ≡ self.old.held.last) }
-        ensures misses_never_fall { self.old.held.misses ≤ self.new.held.misses }
-        ensures faults_never_fall { self.old.faults ≤ self.new.faults }
-        ensures lacking { OnMissing result (IsLacking (told_of self.old.held.texts name.now)) }
-        ensures ended { OnEnd result (IfTold (told_of self.old.held.texts name.now) (λ text. length text ≤ at)) }
-        ensures bytes { IfGot result (λ n. IfTold (told_of self.old.held.texts name.now) (λ text. take n into.new ≡ slice_range text at (at + n))) }
-        ensures names { self.new.held.names ≡ self.old.held.names }
-        ensures texts { (n : List ℕ) → told_of self.new.held.texts n ≡ told_of self.old.held.texts n }
+        // Each call is counted once, and a failed one once as a fault.
+        ensures answer { result ≡ spec.served self.old name.now at (length into.old) }
+        ensures exact { self.new ≡ spec.behind_call self.old name.now }
+        ensures amount { FitsRoom (length into.old) result }
+        ensures counts { Fetched (shelf_state self.old) (shelf_state self.new) name.now result }
+        ensures says { Says (told_of self.old.held.texts name.now) at into.new result }
+        ensures stays { Stays (shelf_state self.old) (shelf_state self.new) }
     {
         self.calls = one_more(self.calls);
         if self.failing.contains(&self.calls) {
@@ -126,7 +112,7 @@ impl Model for NeverFailsShelf {
 impl NeverFailsShelf {
     /// A shelf for these names, with no text.
     pub fn new(alloc: Global, names: Words) -> NeverFailsShelf
-        ensures { result ≡ record { names = names; texts = []; misses = 0; last = None } }
+        ensures { result ≡ spec.no_texts names }
     {
         NeverFailsShelf {
             held: HeldTexts::new(alloc, names),
@@ -135,7 +121,7 @@ impl NeverFailsShelf {
 
     /// Adds a text. The first text of a name is the one that is given.
     pub fn hold(&mut self, name: &str, bytes: &[u8]) -> Result<(), Memory>
-        ensures ok { OnOk result (self.new ≡ record self.old { texts = self.old.texts ++ (name.now, bytes.now) ∷ [] }) }
+        ensures ok { OnOk result (self.new ≡ spec.with_text self.old name.now bytes.now) }
         ensures err { OnErr result (self.new ≡ self.old) }
     {
         self.held.hold(name, bytes)
@@ -143,33 +129,18 @@ impl NeverFailsShelf {
 }
 
 impl Shelf for NeverFailsShelf {
-    ghost names = { λ s. s.names };
-
-    ghost told = { λ s name. told_of s.texts name };
-
-    ghost misses = { λ s. s.misses };
-
-    ghost faults = { λ _. 0 };
-
-    ghost last = { λ s. s.last };
+    ghost state = { λ s. held_state 0 s };
 
     fn fetch(&mut self, name: &str, at: u64, into: &mut [u8]) -> Fetch
         requires room { 0 < length into.old }
         requires listed { Contains self.old.names name.now }
         requires within { at ≤ TEXT_LIMIT }
         ensures answer { result ≡ given (told_of self.old.texts name.now) at (length into.old) }
-        ensures amount { IfGot result (λ n. (1 ≤ n) × (n ≤ length into.old)) }
-        ensures missing { OnMissing result (Rose self.old.misses self.new.misses) }
-        ensures failed { OnFailed result (Rose 0 0) }
-        ensures refused { OnRefusal result (self.new.last ≡ Some name.now) }
-        ensures unrefused { OnNoRefusal result (self.new.last ≡ self.old.last) }
-        ensures misses_never_fall { self.old.misses ≤ self.new.misses }
-        ensures faults_never_fall { 0 ≤ 0 }
-        ensures lacking { OnMissing result (IsLacking (told_of self.old.texts name.now)) }
-        ensures ended { OnEnd result (IfTold (told_of self.old.texts name.now) (λ text. length text ≤ at)) }
-        ensures bytes { IfGot result (λ n. IfTold (told_of self.old.texts name.now) (λ text. take n into.new ≡ slice_range text at (at + n))) }
-        ensures names { self.new.names ≡ self.old.names }
-        ensures texts { (n : List ℕ) → told_of self.new.texts n ≡ told_of self.old.texts n }
+        ensures exact { self.new ≡ spec.asked self.old name.now (told_of self.old.texts name.now) }
+        ensures amount { FitsRoom (length into.old) result }
+        ensures counts { Fetched (held_state 0 self.old) (held_state 0 self.new) name.now result }
+        ensures says { Says (told_of self.old.texts name.now) at into.new result }
+        ensures stays { Stays (held_state 0 self.old) (held_state 0 self.new) }
     {
         self.held.give(name, at, into)
     }

@@ -1,9 +1,9 @@
 //! Sinks in memory.
 
-ghost use Rattle.std.specs.Prelude.{◌≡◌, ℕ, ◌<◌, ◌≤◌, ◌++◌, ◌∷◌, List, [], length, take, Option, Some, None, OnOk, OnErr, IfOk};
-ghost use Rattle.gl_outside.specs.Counts.{Rose};
-ghost use Rattle.gl_outside.specs.Taken.{Appends, IfTook, OnFailed};
-ghost use Rattle.gl_outside.specs.Held.{put_of, next_count};
+ghost use Rattle.std.specs.Prelude.{◌≡◌, ◌<◌, ◌++◌, ◌∷◌, [], length, None, OnOk, OnErr, IfOk};
+ghost use Rattle.gl_outside.specs.States.{FitsPiece, DoesPut};
+ghost use Rattle.gl_outside.specs.Held as spec;
+ghost use Rattle.gl_outside.specs.Held.{sink_state};
 
 use crate::counter::one_more;
 use crate::sink::{Put, Sink};
@@ -27,11 +27,17 @@ pub struct MemorySink {
 
 impl Model for MemorySink {
     ghost use Rattle.std.specs.Prelude.{◌≤◌, vec_len, vec_capacity};
-    ghost use Rattle.gl_outside.specs.Held.{SinkState};
+    ghost use Rattle.gl_outside.specs.Held.{MemorySinkState};
 
-    ghost Value = { SinkState };
+    ghost Value = { MemorySinkState };
 
-    ghost view = { λ s. record { bytes = s.bytes.items; room = s.room; failing = s.failing.items; calls = s.calls; faults = s.faults } };
+    ghost view = { λ s. record {
+      bytes = s.bytes.items;
+      room = s.room;
+      failing = s.failing.items;
+      calls = s.calls;
+      faults = s.faults;
+    } };
 
     ghost invariant = { λ s. (vec_len s.bytes ≤ s.room) × (s.room ≤ vec_capacity s.bytes) };
 }
@@ -39,7 +45,7 @@ impl Model for MemorySink {
 impl MemorySink {
     /// A sink with room for so many bytes.
     pub fn new(alloc: Global, room: usize) -> Result<MemorySink, Memory>
-        ensures { IfOk result (λ s. s ≡ record { bytes = []; room = room; failing = []; calls = 0; faults = 0 }) }
+        ensures { IfOk result (λ s. s ≡ spec.new_sink room) }
     {
         match Vec::with_capacity(alloc, room) {
             Ok(bytes) => Ok(MemorySink {
@@ -55,7 +61,8 @@ impl MemorySink {
 
     /// Lets the put of this number fail.
     pub fn fail(&mut self, call: u64) -> Result<(), Memory>
-        ensures ok { OnOk result (self.new ≡ record self.old { failing = self.old.failing ++ call ∷ [] }) }
+        ensures ok { let failing = self.old.failing ++ call ∷ [] in
+            OnOk result (self.new ≡ record self.old { failing = failing }) }
         ensures err { OnErr result (self.new ≡ self.old) }
     {
         match self.failing.push(call) {
@@ -73,21 +80,15 @@ impl MemorySink {
 }
 
 impl Sink for MemorySink {
-    ghost taken = { λ s. Some s.bytes };
-
-    ghost faults = { λ s. s.faults };
+    ghost state = { λ s. sink_state s };
 
     fn put(&mut self, piece: &[u8]) -> Put
         requires { 0 < length piece.now }
-        ensures answer { result ≡ put_of self.old piece.now }
-        ensures calls { self.new.calls ≡ next_count self.old.calls }
-        ensures failing { self.new.failing ≡ self.old.failing }
-        ensures room { self.new.room ≡ self.old.room }
-        ensures amount { IfTook result (λ n. (1 ≤ n) × (n ≤ length piece.now)) }
-        ensures took { IfTook result (λ n. Appends (Some self.old.bytes) (Some self.new.bytes) (take n piece.now)) }
-        ensures untouched { OnFailed result (Appends (Some self.old.bytes) (Some self.new.bytes) []) }
-        ensures cause { OnFailed result (Rose self.old.faults self.new.faults) }
-        ensures never_falls { self.old.faults ≤ self.new.faults }
+        // Each put is counted once, and a failed one once as a fault.
+        ensures answer { result ≡ spec.put_of self.old piece.now }
+        ensures exact { self.new ≡ spec.behind_put self.old piece.now }
+        ensures amount { FitsPiece (length piece.now) result }
+        ensures does { DoesPut (sink_state self.old) (sink_state self.new) piece.now result }
     {
         self.calls = one_more(self.calls);
         let left = self.room - self.bytes.len();
@@ -108,18 +109,13 @@ impl Sink for MemorySink {
 pub struct NeverFailsSink;
 
 impl Sink for NeverFailsSink {
-    ghost taken = { λ _. None };
-
-    ghost faults = { λ _. 0 };
+    ghost state = { λ _. record { taken = None; faults = 0 } };
 
     fn put(&mut self, piece: &[u8]) -> Put
         requires { 0 < length piece.now }
         ensures answer { result ≡ Put.Took (length piece.now) }
-        ensures amount { IfTook result (λ n. (1 ≤ n) × (n ≤ length piece.now)) }
-        ensures took { IfTook result (λ n. Appends None None (take n piece.now)) }
-        ensures untouched { OnFailed result (Appends None None []) }
-        ensures cause { OnFailed result (Rose 0 0) }
-        ensures never_falls { 0 ≤ 0 }
+        ensures amount { FitsPiece (length piece.now) result }
+        ensures does { DoesPut (record { taken = None; faults = 0 }) (record { taken = None; faults = 0 }) piece.now result }
     {
         Put::Took(piece.len())
     }

@@ -1,9 +1,9 @@
 //! Whole texts from a shelf.
 
-ghost use Rattle.std.specs.Prelude.{◌≡◌, ℕ, ◌+◌, ◌<◌, ◌≤◌, ◌++◌, List, [], length, Some, IfOk, IfErr, OnOk, Contains, vec_len};
-ghost use Rattle.gl_outside.specs.Counts.{Rose};
-ghost use Rattle.gl_outside.specs.Told.{IsLacking, IfTold};
-ghost use Rattle.gl_outside.specs.Reads.{OnMissing, OnFailed, OnTooLong, OnRefusal, OnNoRefusal};
+ghost use Rattle.std.specs.Prelude.{◌≡◌, ◌+◌, ◌<◌, ◌≤◌, ◌++◌, [], length, IfOk, IfErr, OnOk, Contains, vec_len};
+ghost use Rattle.gl_outside.specs.Told.{IfTold};
+ghost use Rattle.gl_outside.specs.States.{Stays, ReadLeaves};
+ghost use Rattle.gl_outside.specs.Reads.{IsAdd, Refuses};
 
 use crate::shelf::{Fetch, Shelf, TEXT_LIMIT};
 use std::alloc::Global;
@@ -33,24 +33,16 @@ const PIECE: usize = 65_536;
 ///
 /// A text of more than `TEXT_LIMIT` bytes is refused, and never kept whole.
 pub fn read_all<S: Shelf>(alloc: Global, shelf: &mut S, name: &str) -> Result<Vec<u8>, ReadFault>
-    requires { Contains (S.names shelf.old) name.now }
-
+    requires { Contains (S.state shelf.old).names name.now }
     // The whole text, where the shelf tells it.
-    ensures text { IfOk result (λ v. IfTold (S.told shelf.old name.now) (λ text. v.items ≡ text)) }
+    ensures text { let told = (S.state shelf.old).told name.now in
+        IfOk result (λ v. IfTold told (λ text. v.items ≡ text)) }
     ensures size { IfOk result (λ v. vec_len v ≤ TEXT_LIMIT) }
-    ensures lacking { OnMissing result (IsLacking (S.told shelf.old name.now)) }
-    ensures too_long { OnTooLong result (IfTold (S.told shelf.old name.now) (λ text. TEXT_LIMIT < length text)) }
-
-    // A refusal has its cause, and leaves its name.
-    ensures missing { OnMissing result (Rose (S.misses shelf.old) (S.misses shelf.new)) }
-    ensures failed { OnFailed result (Rose (S.faults shelf.old) (S.faults shelf.new)) }
-    ensures refused { OnRefusal result (S.last shelf.new ≡ Some name.now) }
-    ensures unrefused { OnNoRefusal result (S.last shelf.new ≡ S.last shelf.old) }
-    ensures misses_never_fall { S.misses shelf.old ≤ S.misses shelf.new }
-    ensures faults_never_fall { S.faults shelf.old ≤ S.faults shelf.new }
-
-    ensures names { S.names shelf.new ≡ S.names shelf.old }
-    ensures texts { (n : List ℕ) → S.told shelf.new n ≡ S.told shelf.old n }
+    // A refusal has its cause and leaves its name; any other answer leaves the counts and the name.
+    ensures refuses { Refuses ((S.state shelf.old).told name.now) result }
+    ensures counts { ReadLeaves (S.state shelf.old) (S.state shelf.new) name.now result }
+    // The names and the texts stay.
+    ensures stays { Stays (S.state shelf.old) (S.state shelf.new) }
 {
     let mut piece = new_piece(alloc)?;
     let mut text = Vec::new(alloc);
@@ -75,8 +67,7 @@ fn add(text: &mut Vec<u8>, piece: &[u8]) -> Result<(), ReadFault>
     ensures added { OnOk result (text.new.items ≡ text.old.items ++ piece.now) }
     ensures size { OnOk result (vec_len text.new ≡ vec_len text.old + length piece.now) }
     ensures within { OnOk result (vec_len text.new ≤ TEXT_LIMIT) }
-    ensures too_long { OnTooLong result (TEXT_LIMIT < vec_len text.old + length piece.now) }
-    ensures no_refusal { OnRefusal result ⊥ }
+    ensures refused { IsAdd (vec_len text.old + length piece.now) result }
 {
     let left = TEXT_LIMIT - text.len() as u64;
     if piece.len() as u64 > left {
@@ -89,28 +80,22 @@ fn add(text: &mut Vec<u8>, piece: &[u8]) -> Result<(), ReadFault>
 }
 
 // Reads the whole text behind what is an empty list, piece by piece.
-#[tactic(auto, using(crate::proofs::Readings::readings, crate::proofs::Counting::rose_later))]
+#[tactic(auto, using(crate::proofs::Readings::readings, crate::proofs::Counting::counting))]
 fn read_into<S: Shelf>(
     shelf: &mut S,
     name: &str,
     piece: &mut [u8],
     text: &mut Vec<u8>,
 ) -> Result<(), ReadFault>
-    requires listed { Contains (S.names shelf.old) name.now }
+    requires listed { Contains (S.state shelf.old).names name.now }
     requires room { 0 < length piece.old }
     requires empty { text.old.items ≡ [] }
-    ensures text { OnOk result (IfTold (S.told shelf.old name.now) (λ whole. text.new.items ≡ whole)) }
+    ensures text { let told = (S.state shelf.old).told name.now in
+        OnOk result (IfTold told (λ whole. text.new.items ≡ whole)) }
     ensures size { OnOk result (vec_len text.new ≤ TEXT_LIMIT) }
-    ensures lacking { OnMissing result (IsLacking (S.told shelf.old name.now)) }
-    ensures too_long { OnTooLong result (IfTold (S.told shelf.old name.now) (λ whole. TEXT_LIMIT < length whole)) }
-    ensures missing { OnMissing result (Rose (S.misses shelf.old) (S.misses shelf.new)) }
-    ensures failed { OnFailed result (Rose (S.faults shelf.old) (S.faults shelf.new)) }
-    ensures refused { OnRefusal result (S.last shelf.new ≡ Some name.now) }
-    ensures unrefused { OnNoRefusal result (S.last shelf.new ≡ S.last shelf.old) }
-    ensures misses_never_fall { S.misses shelf.old ≤ S.misses shelf.new }
-    ensures faults_never_fall { S.faults shelf.old ≤ S.faults shelf.new }
-    ensures names { S.names shelf.new ≡ S.names shelf.old }
-    ensures texts { (n : List ℕ) → S.told shelf.new n ≡ S.told shelf.old n }
+    ensures refuses { Refuses ((S.state shelf.old).told name.now) result }
+    ensures counts { ReadLeaves (S.state shelf.old) (S.state shelf.new) name.now result }
+    ensures stays { Stays (S.state shelf.old) (S.state shelf.new) }
 {
     loop {
         match shelf.fetch(name, text.len() as u64, piece) {

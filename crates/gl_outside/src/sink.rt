@@ -1,8 +1,7 @@
 //! Sinks: they take bytes.
 
-ghost use Rattle.std.specs.Prelude.{◌≡◌, ℕ, ◌<◌, ◌≤◌, List, [], length, take, Option};
-ghost use Rattle.gl_outside.specs.Counts.{Rose};
-ghost use Rattle.gl_outside.specs.Taken.{Appends, IfTook, OnFailed};
+ghost use Rattle.std.specs.Prelude.{◌<◌, length};
+ghost use Rattle.gl_outside.specs.States.{SinkState, FitsPiece, DoesPut};
 
 /// What a put does.
 #[derive(Clone, Copy, PartialEq, Eq, Debug)]
@@ -15,19 +14,15 @@ pub enum Put {
 
 /// A sink of bytes.
 ///
-/// The ghost members are what is seen of a sink: the bytes that it took so far, where it tells
-/// them, and how often a put failed.
+/// What is seen of a sink are the bytes that it took so far, where it tells them, and how often a
+/// put failed.
 pub trait Sink {
-    ghost taken: { Self → Option (List ℕ) };
-
-    ghost faults: { Self → ℕ };
+    ghost state: { Self → SinkState };
 
     /// Takes a front of the piece, or fails.
     fn put(&mut self, piece: &[u8]) -> Put
         requires { 0 < length piece.now }
-        ensures amount { IfTook result (λ n. (1 ≤ n) × (n ≤ length piece.now)) }
-        ensures took { IfTook result (λ n. Appends (taken self.old) (taken self.new) (take n piece.now)) }
-        ensures untouched { OnFailed result (Appends (taken self.old) (taken self.new) []) }
-        ensures cause { OnFailed result (Rose (faults self.old) (faults self.new)) }
-        ensures never_falls { faults self.old ≤ faults self.new };
+        ensures amount { FitsPiece (length piece.now) result }
+        // A failed put has its cause and takes nothing; any other leaves the count.
+        ensures does { DoesPut (state self.old) (state self.new) piece.now result };
 }

@@ -46,9 +46,7 @@ fn write_through<W: Write>(writer: &mut W, piece: &[u8]) -> io::Result<usize>
 }
 
 impl<W: Write + Drop> Sink for StreamSink<W> {
-    ghost taken = { λ _. None };
-
-    ghost faults = { λ s. s };
+    ghost state = { λ s. record { taken = None; faults = s } };
 
     fn put(&mut self, piece: &[u8]) -> Put {
         match write_through(&mut self.writer, piece) {

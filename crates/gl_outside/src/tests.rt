@@ -92,15 +92,13 @@ fn a_failed_fetch_is_a_read_fault(rt: HostRuntime) -> Result<(), Fail> {
 struct Endless;
 
 impl Shelf for Endless {
-    ghost names = { λ _. codes "T" ∷ [] };
-
-    ghost told = { λ _ _. Untold };
-
-    ghost misses = { λ _. 0 };
-
-    ghost faults = { λ _. 0 };
-
-    ghost last = { λ _. None };
+    ghost state = { λ _. record {
+      names = codes "T" ∷ [];
+      told = λ _. Untold;
+      misses = 0;
+      faults = 0;
+      last = None;
+    } };
 
     fn fetch(&mut self, _name: &str, _at: u64, into: &mut [u8]) -> Fetch {
         Fetch::Got(into.len())
@@ -169,4 +167,25 @@ fn a_writer_without_room_is_a_fault(rt: HostRuntime) {
     let mut sink = StreamSink::new(&mut room[..]);
     assert_eq!(rt; write_all_of(&mut sink, b"1,7"), Ok(()));
     assert_eq!(rt; write_all_of(&mut sink, b"2"), Err(WriteFault));
+}
+
+// A writer that takes every byte, and whose flush fails.
+#[derive(Drop)]
+struct Unflushed;
+
+impl io::Write for Unflushed {
+    fn write(&mut self, bytes: &[u8]) -> io::Result<usize> {
+        Ok(bytes.len())
+    }
+
+    fn flush(&mut self) -> io::Result<()> {
+        Err(io::Error::from(io::ErrorKind::StorageFull))
+    }
+}
+
+#[test]
+fn a_flush_that_fails_is_a_fault(rt: HostRuntime) {
+    let mut sink = StreamSink::new(Unflushed);
+    assert_eq!(rt; sink.put(b"1,7"), Put::Failed);
+    assert_eq!(rt; write_all_of(&mut sink, b"1,7"), Err(WriteFault));
 }

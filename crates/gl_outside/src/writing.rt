@@ -1,8 +1,7 @@
 //! Whole texts into a sink.
 
-ghost use Rattle.std.specs.Prelude.{◌≡◌, ◌≤◌, length, drop, OnOk, OnErr};
-ghost use Rattle.gl_outside.specs.Counts.{Rose};
-ghost use Rattle.gl_outside.specs.Taken.{Appends, AppendsFront};
+ghost use Rattle.std.specs.Prelude.{◌≡◌, ◌≤◌, length, drop};
+ghost use Rattle.gl_outside.specs.States.{Wrote};
 
 use crate::sink::{Put, Sink};
 
@@ -20,13 +19,10 @@ fn tail(bytes: &[u8], at: usize) -> &[u8]
 
 /// Puts all of the bytes, one piece after the other. Takes no memory.
 ///
-/// Where the sink fails, a front of the bytes was taken.
-#[tactic(auto, using(crate::proofs::Takes::puts))]
+/// Where the sink fails, a front of the bytes was taken; else its count of faults is as before.
+#[tactic(auto, using(crate::proofs::Takes::took_all))]
 pub fn write_all_of<K: Sink>(sink: &mut K, bytes: &[u8]) -> Result<(), WriteFault>
-    ensures all { OnOk result (Appends (K.taken sink.old) (K.taken sink.new) bytes.now) }
-    ensures front { OnErr result (AppendsFront (K.taken sink.old) (K.taken sink.new) bytes.now) }
-    ensures cause { OnErr result (Rose (K.faults sink.old) (K.faults sink.new)) }
-    ensures never_falls { K.faults sink.old ≤ K.faults sink.new }
+    ensures { Wrote (K.state sink.old) (K.state sink.new) bytes.now result }
 {
     let mut at = 0;
     while at < bytes.len() {

@@ -6,10 +6,11 @@ use Rattle.std.proofs.lemmas.Nat.{mod_below, pow_pos}
 use Rattle.std.proofs.lemmas.List.Sums.{sum_by_more}
 use Rattle.std.proofs.lemmas.Bool.{cases_eq, cases_lt}
 use Rattle.std.proofs.lemmas.List.{get_or-set_same, get_or-set_other}
+use Rattle.gl_bits.proofs.AllLists.{get_mapped}
 use Rattle.gl_verilog.specs.Module.{Kind, Input, OutputWire, OutputRegister, Wire, Register, Memory, Declaration, Nets, Memories}
 use Rattle.gl_verilog.specs.declared.module.Declaration.{Declaration as Rust}
 use Rattle.gl_verilog.specs.View.{declaration_of}
-use Rattle.gl_sim.proofs.Settling.{slice_get-at, slice_get-map}
+use Rattle.gl_sim.proofs.Settling.{slice_get-at}
 use Rattle.gl_verilog.specs.Run.{IsRegister}
 use Rattle.gl_verilog.specs.Widths.{words_in, width_at}
 use Rattle.gl_verilog.specs.Evaluate.{IsStore, nets_of, memories_of}
@@ -227,7 +228,7 @@ drawn_all ds seed n st vs bs le h = record {
 pub declared_at : (all slice : List Rust) (n : ℕ) (x : Rust) → slice ≡ all → n < length all → x ≡ get_or slice n x → slice_get (map declaration_of all) n ≡ Some (declaration_of x)
 declared_at all slice n x same lt is =
     subst (λ (xs : List Rust). slice_get (map declaration_of xs) n ≡ Some (declaration_of x)) same
-    (slice_get-map declaration_of slice n x (slice_get-at slice n x (subst (λ (xs : List Rust). n < length xs) (sym same) lt) is))
+    (get_mapped declaration_of slice n x (slice_get-at slice n x (subst (λ (xs : List Rust). n < length xs) (sym same) lt) is))
 
 pub get-some : {T : Type 0} (xs : List T) (i : ℕ) → i < length xs → (x : T) × (slice_get xs i ≡ Some x)
 get-some [] i lt = absurd (omega arith)

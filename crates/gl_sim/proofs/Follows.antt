@@ -13,8 +13,9 @@ use Rattle.gl_verilog.proofs.Fits.{all_at}
 use Rattle.gl_verilog.proofs.Edges.{Alike, assigned_by-alike, written_by-alike}
 use Rattle.gl_verilog.proofs.Settles.{SameUndriven, settle_same, undriven_same, evaluated-undriven, evaluated-settled, with_net-other}
 use Rattle.gl_verilog.proofs.Runs.{undriven, register_undriven}
+use Rattle.gl_verilog_check.proofs.Orders.{order_whole}
 use Rattle.gl_sim.specs.Inputs.{with_inputs}
-use Rattle.gl_sim.specs.Ordering.{IsOrderOf, picked}
+use Rattle.gl_verilog_check.specs.Orders.{IsOrderOf, picked}
 
 -- ---- inputs
 
@@ -102,7 +103,7 @@ module _ (m : Module) (order inputs v0 v1 v2 v3 : List ℕ) (bs bs' : List (List
   same_undriven : SameUndriven m.declarations (picked m.assignments order) (nets_of v2) value
   same_undriven = λ n d e r u.
       ap (λ (v : Nets). v n) s.settled ∙ evaluated-undriven (picked m.assignments order) (memories_of bs) (nets_of v1) n u
-      ∙ undriven_same m (nets_of v1) value (memories_of bs) word (picked m.assignments order) s.runnable s.in_order.whole set_inputs set_state n d e r u
+      ∙ undriven_same m (nets_of v1) value (memories_of bs) word (picked m.assignments order) s.runnable (order_whole m.assignments order s.in_order) set_inputs set_state n d e r u
 
   pub nets_follow : SameNets m.declarations (nets_of v2) value
   nets_follow = λ n d e r.

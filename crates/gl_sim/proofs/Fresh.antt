@@ -2,11 +2,11 @@
 use Rattle.std.proofs.Common.{◌≡◌, ℕ, zero, suc, ◌+◌, ◌-◌, ◌*◌, ◌%◌, ◌^◌, ◌<◌, ◌≤◌, List, [], ◌∷◌, Some, None, map, replicate, refl, sym, ◌∙◌, ap, subst, arith, rules, length, get_or, bit_and}
 use Rattle.std.specs.Prelude.{slice_get, slice_index, slice_index_or}
 use Rattle.std.proofs.lemmas.Nat.{pow_pos, and_mask, shl_whole}
+use Rattle.gl_bits.proofs.AllLists.{length_map}
 use Rattle.gl_verilog.specs.Module.{Declaration}
 use Rattle.gl_verilog.specs.Widths.{words_in}
 use Rattle.gl_verilog.specs.Evaluate.{IsStore, nets_of, memories_of}
 use Rattle.gl_sim.specs.Starts.{zero_bank}
-use Rattle.gl_sim.proofs.Settling.{map_length}
 
 pub zeros_length : (n : ℕ) → length (replicate {A = ℕ} n 0) ≡ n
 zeros_length zero = refl
@@ -30,7 +30,7 @@ zero_words_at (d ∷ ds) (suc k) at = zero_words_at ds k at
 pub store_zero : (ds : List Declaration) (vs : List ℕ) (bs : List (List ℕ)) → vs ≡ replicate (length ds) 0 → bs ≡ map zero_bank ds → IsStore ds vs bs
 store_zero ds vs bs values banks = record {
   nets = ap (λ (xs : List ℕ). length xs) values ∙ zeros_length (length ds);
-  memories = ap (λ (xs : List (List ℕ)). length xs) banks ∙ map_length zero_bank ds;
+  memories = ap (λ (xs : List (List ℕ)). length xs) banks ∙ length_map zero_bank ds;
   words = λ k d e. ap (λ (xs : List (List ℕ)). length (slice_index_or xs k [])) banks ∙ ap (λ (b : List ℕ). length b) (zero_bank_at ds k d e) ∙ zeros_length (words_in d.kind);
   fits = λ n d e. (
     subst (λ x. x < 2 ^ d.width) (sym (ap (λ (xs : List ℕ). slice_index xs n) values ∙ zeros_at (length ds) n)) (pow_pos d.width),

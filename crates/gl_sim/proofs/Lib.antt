@@ -3,9 +3,7 @@ pub mod Settling
 pub mod Words
 pub mod Edges
 pub mod Fresh
-pub mod Placing
 pub mod Follows
 pub mod Draws
 pub mod Exists
 pub mod Fitting
-pub mod Falling

@@ -15,7 +15,8 @@ use Rattle.gl_sim.specs.Inputs.{with_inputs}
 use Rattle.std.proofs.lemmas.Bool.Decides.{eqb_tells}
 use Rattle.std.proofs.lemmas.List.{get_or-set_same, get_or-set_other}
 use mathlib.Core.Path.{fun_ext}
-use Rattle.gl_sim.specs.Ordering.{AreNets, picked}
+use Rattle.gl_bits.proofs.AllLists.{get_mapped, all_weaker}
+use Rattle.gl_verilog_check.specs.Orders.{picked}
 use Rattle.gl_verilog.proofs.Fits.{Found, found_in, all_at, in_range, width_at-found, value_fits, can_evaluate}
 use Rattle.gl_verilog.proofs.Stores.{store_put}
 
@@ -24,16 +25,11 @@ slice_get-at [] n x lt e = absurd (omega arith)
 slice_get-at (y ∷ xs) zero x lt e = ap (λ z. Some z) (sym e)
 slice_get-at (y ∷ xs) (suc n) x lt e = slice_get-at xs n x (omega arith) e
 
-pub slice_get-map : {S T : Type 0} (f : S → T) (xs : List S) (n : ℕ) (x : S) → slice_get xs n ≡ Some x → slice_get (map f xs) n ≡ Some (f x)
-slice_get-map f [] n x e = absurd cc
-slice_get-map f (y ∷ xs) zero x e = let same : y ≡ x = cc in ap (λ z. Some (f z)) same
-slice_get-map f (y ∷ xs) (suc n) x e = slice_get-map f xs n x e
-
 -- the assignment at a place keeps its width
 pub assignment_at : (m : Module) (as' : List Assignment) (k : ℕ) (a : Assignment) → IsRunnable m → m.assignments ≡ map assignment_of as' → k < length as' → a ≡ get_or as' k a → KeepsWidth m.declarations (assignment_of a)
 assignment_at m as' k a runnable same lt e =
     all_at (KeepsWidth m.declarations) (map assignment_of as') k (assignment_of a) (subst (λ xs. AllByRecursion (KeepsWidth m.declarations) xs) same runnable.assignments)
-    (slice_get-map assignment_of as' k a (slice_get-at as' k a lt e))
+    (get_mapped assignment_of as' k a (slice_get-at as' k a lt e))
 
 -- the store with the target of an assignment put
 pub store_assigned : (ds : List Declaration) (vs : List ℕ) (bs : List (List ℕ)) (a : spec.Assignment) → IsStore ds vs bs → KeepsWidth ds a → IsStore ds (slice_set vs a.target (value_of (nets_of vs) (memories_of bs) a.value)) bs
@@ -51,10 +47,6 @@ pub all_get : {T : Type 0} (P : T → Type 0) (xs : List T) (i : ℕ) (d : T) �
 all_get P [] i d h lt = absurd (omega arith)
 all_get P (x ∷ xs) zero d h lt = h.0
 all_get P (x ∷ xs) (suc i) d h lt = all_get P xs i d h.1 (omega arith)
-
-pub all_map : {T : Type 0} (P Q : T → Type 0) (xs : List T) → ((x : T) → P x → Q x) → AllByRecursion P xs → AllByRecursion Q xs
-all_map P Q [] f h = tt
-all_map P Q (x ∷ xs) f h = (f x h.0, all_map P Q xs f h.1)
 
 pub zip_length : {A B : Type 0} (R : A → B → Type 0) (xs : List A) (ys : List B) → AllZip R xs ys → length xs ≡ length ys
 zip_length R [] [] h = refl
@@ -86,9 +78,9 @@ inputs_from-more : (ds : List Declaration) (d : Declaration) (from : ℕ) → Al
 inputs_from-more ds d from h = pick
   where
     later : AllByRecursion (IsInputFrom (d ∷ ds) from) (inputs_from (from + 1) ds)
-    later = all_map (IsInputFrom ds (from + 1)) (IsInputFrom (d ∷ ds) from) (inputs_from (from + 1) ds)
+    later = all_weaker (IsInputFrom ds (from + 1)) (IsInputFrom (d ∷ ds) from)
         (λ n h. record { at = suc h.at; same = omega (arith, h.same); port = record { declaration = h.port.declaration; is = h.port.is; input = h.port.input; no_clock = h.port.no_clock } })
-        h
+        (inputs_from (from + 1) ds) h
 
     pick : (a b : Bool) → is_input d.kind ≡ a → is_clock d ≡ b → AllByRecursion (IsInputFrom (d ∷ ds) from) (if (a && not b) then from ∷ inputs_from (from + 1) ds else inputs_from (from + 1) ds)
     pick true false p q = (record { at = 0; same = omega arith; port = record { declaration = d; is = refl; input = p; no_clock = q } }, later)
@@ -100,9 +92,9 @@ inputs_from-ports [] from = tt
 inputs_from-ports (d ∷ ds) from = inputs_from-more ds d from (inputs_from-ports ds (from + 1)) (is_input d.kind) (is_clock d) refl refl
 
 pub inputs_of-ports : (m : Module) → AllByRecursion (IsInputPort m.declarations) (inputs_of m)
-inputs_of-ports m = all_map (IsInputFrom m.declarations 0) (IsInputPort m.declarations) (inputs_of m)
+inputs_of-ports m = all_weaker (IsInputFrom m.declarations 0) (IsInputPort m.declarations)
     (λ n h. let e : h.at ≡ n = omega (arith, h.same) in subst (IsInputPort m.declarations) e h.port)
-    (inputs_from-ports m.declarations 0)
+    (inputs_of m) (inputs_from-ports m.declarations 0)
 
 -- an input that fits, put into the store
 pub port_in : (m : Module) (vs : List ℕ) (bs : List (List ℕ)) (i : ℕ) → IsStore m.declarations vs bs → i < length (inputs_of m) → get_or (inputs_of m) i 0 < length vs
@@ -118,35 +110,10 @@ store_input m vs inputs bs i st fit lt =
     store_put m.declarations vs bs (get_or (inputs_of m) i 0) (get_or inputs i 0) port.declaration st port.is
     (subst (λ w. get_or inputs i 0 < 2 ^ w) (width_at-found m.declarations (get_or (inputs_of m) i 0) port.declaration port.is) fits)
 
-pub length_map : {S T : Type 0} (f : S → T) (xs : List S) (n : ℕ) → n < length (map f xs) → n < length xs
-length_map f [] n lt = lt
-length_map f (x ∷ xs) zero lt = omega arith
-length_map f (x ∷ xs) (suc n) lt = let h : n < length xs = length_map f xs n (omega arith) in omega arith
-
-pub map_length : {S T : Type 0} (f : S → T) (xs : List S) → length (map f xs) ≡ length xs
-map_length f [] = refl
-map_length f (x ∷ xs) = ap (λ n. suc n) (map_length f xs)
-
--- what holds of each, at a place
-pub holds_at : {S T : Type 0} (P : T → Type 0) (f : S → T) (xs : List S) (k : ℕ) (x : S) → AllByRecursion P (map f xs) → k < length xs → x ≡ get_or xs k x → P (f x)
-holds_at P f xs k x h lt e = all_at P (map f xs) k (f x) h (slice_get-map f xs k x (slice_get-at xs k x lt e))
-
--- an expression that keeps widths reads declared nets
-pub reads_declared : (ds : List Declaration) (e : spec.Expr) → KeepsWidths ds e → EachRead (λ n. n < length ds) e
-reads_declared ds (spec.Net n) h = let d = found_in (slice_get ds n) IsReadable h in in_range ds n d.item d.is
-reads_declared ds (spec.Literal value width) h = tt
-reads_declared ds (spec.Invert width arg) h = reads_declared ds arg h.1
-reads_declared ds (spec.Binary op width left right) h = (reads_declared ds left h.2, reads_declared ds right h.3)
-reads_declared ds (spec.Choose test yes' no') h = (reads_declared ds test h.2, reads_declared ds yes' h.3, reads_declared ds no' h.4)
-reads_declared ds (spec.Join low_width high low) h = (reads_declared ds high h.2, reads_declared ds low h.3)
-reads_declared ds (spec.Select high low n) h = let d = found_in (slice_get ds n) (λ d. IsReadable d × IsTrue d.is_vector × (high < d.width)) h.0 in in_range ds n d.item d.is
-reads_declared ds (spec.Read memory address) h = reads_declared ds address h.1
-
-pub are_nets : (ds : List Declaration) (assignments : List spec.Assignment) → AllByRecursion (KeepsWidth ds) assignments → AreNets (length ds) assignments
-are_nets ds [] h = tt
-are_nets ds (a ∷ rest) h =
-    let d = found_in (slice_get ds a.target) (λ d. IsDriven d.kind × (width_of ds a.value ≡ d.width)) h.0.0 in
-    ((in_range ds a.target d.item d.is, reads_declared ds a.value h.0.1), are_nets ds rest h.1)
+pub below_mapped : {S T : Type 0} (f : S → T) (xs : List S) (n : ℕ) → n < length (map f xs) → n < length xs
+below_mapped f [] n lt = lt
+below_mapped f (x ∷ xs) zero lt = omega arith
+below_mapped f (x ∷ xs) (suc n) lt = let h : n < length xs = below_mapped f xs n (omega arith) in omega arith
 
 -- the list from a place on
 pub drop_here : {T : Type 0} (xs : List T) (i : ℕ) (x : T) → slice_get xs i ≡ Some x → drop i xs ≡ x ∷ drop (i + 1) xs

@@ -3,13 +3,13 @@ use Rattle.std.proofs.Common.{◌≡◌, ◌≢◌, ℕ, zero, suc, ◌+◌, ◌
 use Rattle.std.specs.Prelude.{slice_index_or, slice_set}
 use Rattle.std.proofs.lemmas.Bool.Decides.{eqb_tells}
 use Rattle.std.proofs.lemmas.List.{drop_all}
+use Rattle.gl_bits.proofs.AllLists.{all_weaker}
 use Rattle.gl_verilog.specs.Module.{later_or}
 use Rattle.gl_verilog.specs.Evaluate.{memories_of}
 use Rattle.gl_verilog.proofs.Stores.{with_word, with_word-same, with_word-other_place, with_word-other_bank, with_word-length, with_word-bank}
 use Rattle.gl_sim.specs.declared.update.Update.{Update}
 use Rattle.gl_sim.specs.Updates.{put_by, put_of, AreInside}
 use Rattle.gl_sim.proofs.Waiting.{unwrap-later}
-use Rattle.gl_sim.proofs.Settling.{all_map}
 
 -- the banks with an update put
 pub with_word-put_by : (bs : List (List ℕ)) (u : Update) (k at : ℕ) → u.memory < length bs → u.address < length (slice_index_or bs u.memory []) → memories_of (with_word bs u.memory u.address u.value) k at ≡ unwrap_or (put_by u k at) (memories_of bs k at)
@@ -49,7 +49,7 @@ has_put-more all before after us i d bank lt h is =
     let size : length after' ≡ length after = with_word-length after u.memory u.address u.value in
     let sizes : (k : ℕ) → length (slice_index_or after' k []) ≡ length (slice_index_or after k []) = λ k. with_word-bank after u.memory u.address u.value k within.0.0 in
     subst (λ (b : List ℕ). HasPut all before (drop (i + 1) us) (slice_set after u.memory b)) (sym is) (record {
-      inside = all_map (λ w. (w.memory < length after) × (w.address < length (slice_index_or after w.memory []))) (λ w. (w.memory < length after') × (w.address < length (slice_index_or after' w.memory []))) (drop (i + 1) us) (λ w p. (subst (λ n. w.memory < n) (sym size) p.0, subst (λ n. w.address < n) (sym (sizes w.memory)) p.1)) within.1;
+      inside = all_weaker (λ w. (w.memory < length after) × (w.address < length (slice_index_or after w.memory []))) (λ w. (w.memory < length after') × (w.address < length (slice_index_or after' w.memory []))) (λ w p. (subst (λ n. w.memory < n) (sym size) p.0, subst (λ n. w.address < n) (sym (sizes w.memory)) p.1)) (drop (i + 1) us) within.1;
       size = size ∙ h.size;
       sizes = λ k. sizes k ∙ h.sizes k;
       words = λ k at.

@@ -1,5 +1,4 @@
 pub mod Simulation
 pub mod Updates
 pub mod Starts
-pub mod Ordering
 pub mod Inputs

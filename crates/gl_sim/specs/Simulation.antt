@@ -7,7 +7,7 @@ use Rattle.gl_verilog.specs.Runnable.{IsRunnable, inputs_of, HasInputs, SameStat
 use Rattle.gl_verilog.specs.Run.{IsRun}
 use Rattle.gl_verilog.specs.declared.module.Module.{Module}
 use Rattle.gl_verilog_orders.specs.Events.{State, IsCycle, StandsBefore}
-use Rattle.gl_sim.specs.Ordering.{IsOrderOf}
+use Rattle.gl_verilog_check.specs.Orders.{IsOrderOf}
 use Rattle.gl_sim.specs.Updates.{writes_in}
 
 -- the module, what each register and each word holds for the next cycle, and what each net had in the last cycle stepped

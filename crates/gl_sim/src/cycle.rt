@@ -8,7 +8,7 @@ ghost use Rattle.gl_verilog.specs.Evaluate.{nets_of, memories_of, IsStore};
 ghost use Rattle.gl_verilog.specs.Order.{evaluated};
 ghost use Rattle.gl_verilog.specs.Runnable.{IsRunnable, inputs_of, FitInputs};
 ghost use Rattle.gl_sim.specs.Inputs.{with_inputs};
-ghost use Rattle.gl_sim.specs.Ordering.{IsOrderOf, picked};
+ghost use Rattle.gl_verilog_check.specs.Orders.{IsOrderOf, picked};
 ghost use Rattle.gl_sim.specs.Updates.{put_of, AreInside, writes_in, CanExecute};
 
 use crate::update::{Update, execute};

@@ -12,7 +12,7 @@ ghost use Rattle.gl_sim.specs.Starts.{StartsFrom};
 use crate::cycle::{keep, set_inputs, settle};
 use crate::draw::begin;
 use crate::edge::clock;
-use crate::order::order_of;
+use crate::order::order_in;
 use crate::room::{banks_of, ports_of, updates_of, zeros};
 use crate::start::Start;
 use crate::update::Update;
@@ -57,7 +57,7 @@ impl Sim {
         ensures started { IfOk result (λ s. (value : ℕ → Nets) (word : ℕ → Memories) → StartsFrom start (module_of design) value word → IsAt s value word 0) }
         ensures shown { IfOk result (λ s. (port : ℕ) → slice_index s.shown port ≡ 0) }
     {
-        let order = order_of(alloc, &design)?;
+        let order = order_in(alloc, &design)?;
         let declarations = design.declarations.as_slice();
         let ports = ports_of(alloc, declarations)?;
         let mut values = zeros(alloc, declarations.len())?;

@@ -1,57 +1,26 @@
 -- Counts of drivers, names that differ, and valid modules.
 use Rattle.std.proofs.Common.{◌≡◌, ◌≢◌, ℕ, zero, suc, ◌+◌, ◌≤◌, Bool, true, false, cond, List, [], ◌∷◌, eqb, Option, Some, None, refl, sym, ap, subst, ◌∙◌, arith}
-use Rattle.std.specs.Prelude.{slice_get, not, ◌&&◌, ◌||◌, bytes_eq, option_and_then, option_map}
+use Rattle.std.specs.Prelude.{slice_get, ◌&&◌, ◌||◌, option_and_then, option_map}
 use Rattle.std.specs.List.{AllByRecursion, sum_by}
 use Rattle.std.specs.List.Sorted.{IsPermutation}
 use Rattle.std.proofs.lemmas.List.Sorted.{IsPermutation-sym, sum_by-IsPermutation}
 use Rattle.std.proofs.lemmas.List.Sums.{sum_by-cons}
 use Rattle.std.proofs.lemmas.Bool.{eqb-true, eq-eqb}
+use Rattle.gl_bits.proofs.Bools.{neither_parts, and_both, and_left, and_right}
+use Rattle.gl_bits.proofs.Options.{then_some, map_some}
 use Rattle.gl_verilog.specs.Module.{Module, Kind, Input, OutputWire, OutputRegister, Wire, Register, Memory, Declaration, Assignment, Statement, Nothing, Put, Write, Both, If}
 use Rattle.gl_verilog.specs.Order.{IsUndriven, IsOrdered, CanBeOrdered}
 use Rattle.gl_verilog.specs.Widths.{IsDriven}
 use Rattle.gl_verilog.specs.Runnable.{IsRunnable}
-use Rattle.gl_verilog.specs.Valid.{assigns, blocks_of, writes_of, AssignsOnce, Differs, AreDistinct, HasDriver, IsValid, drivers_of, mentions, depends, IsChain, HasNoLoop}
+use Rattle.gl_verilog.specs.Valid.{assigns, blocks_of, writes_of, AssignsOnce, HasDriver, IsValid, drivers_of, mentions, depends, IsChain, HasNoLoop}
 use Rattle.gl_verilog.proofs.Settles.{each_in_order}
 use Rattle.gl_verilog_check.specs.Kept.{is_one, module_with}
 use Rattle.gl_verilog_check.specs.Passes.{AreOnce}
-use Rattle.gl_verilog_check.specs.Tests.{differs, are_distinct, one_of, assigns_once, blocks_once, is_assigned, all_assigned}
-use Rattle.gl_verilog_check.proofs.Complete.{and_is, and_left, and_right}
+use Rattle.gl_verilog_check.specs.Tests.{are_new, one_of, assigns_once, blocks_once, is_assigned, all_assigned}
+use Rattle.gl_verilog_check.proofs.Names.{new_distinct}
 use Rattle.gl_verilog_check.proofs.Ranks.{no_loop, driven_once, undriven-none}
 
--- ---- names
-
-not_true : (b : Bool) → not b ≡ true → b ≡ false
-not_true true h = absurd cc
-not_true false h = refl
-
-differs-is : (d : Declaration) (es : List Declaration) → differs d es ≡ true → Differs d es
-differs-is d [] h = tt
-differs-is d (e ∷ es) h = (not_true (bytes_eq d.name e.name) (and_left (not (bytes_eq d.name e.name)) (differs d es) h), differs-is d es (and_right (not (bytes_eq d.name e.name)) (differs d es) h))
-
-pub distinct-is : (ds : List Declaration) → are_distinct ds ≡ true → AreDistinct ds
-distinct-is [] h = tt
-distinct-is (d ∷ ds) h = (differs-is d ds (and_left (differs d ds) (are_distinct ds) h), distinct-is ds (and_right (differs d ds) (are_distinct ds) h))
-
-not_false : (b : Bool) → b ≡ false → not b ≡ true
-not_false b e = rw e refl
-
-is-differs : (d : Declaration) (es : List Declaration) → Differs d es → differs d es ≡ true
-is-differs d [] h = refl
-is-differs d (e ∷ es) h = and_is (not (bytes_eq d.name e.name)) (differs d es) (not_false (bytes_eq d.name e.name) h.0) (is-differs d es h.1)
-
-pub is-distinct : (ds : List Declaration) → AreDistinct ds → are_distinct ds ≡ true
-is-distinct [] h = refl
-is-distinct (d ∷ ds) h = and_is (differs d ds) (are_distinct ds) (is-differs d ds h.0) (is-distinct ds h.1)
-
 -- ---- registers
-
-then_some : {A B : Type 0} (f : A → Option B) (o : Option A) (y : B) → option_and_then f o ≡ Some y → (x : A) × (o ≡ Some x) × (f x ≡ Some y)
-then_some f None y e = absurd cc
-then_some f (Some x) y e = (x, refl, e)
-
-map_some : {A B : Type 0} (f : A → B) (o : Option A) (y : B) → option_map f o ≡ Some y → (x : A) × (o ≡ Some x) × (f x ≡ y)
-map_some f None y e = absurd cc
-map_some f (Some x) y e = (x, refl, cc)
 
 one_of_is : (a b v : Bool) → one_of a b ≡ Some v → (v ≡ (a || b)) × ((a && b) ≡ false)
 one_of_is true true v e = absurd cc
@@ -77,7 +46,7 @@ once-is r (If test yes' no') b e =
     let x = then_some (λ a. option_map (λ b. a || b) (assigns_once r no')) (assigns_once r yes') b e in
     let y = map_some (λ b. x.0 || b) (assigns_once r no') b x.2 in
     let p = once-is r yes' x.0 x.1 in let q = once-is r no' y.0 y.1 in
-    (sym y.2 ∙ ap (λ a. a || y.0) p.0 ∙ ap (λ a. assigns yes' r || a) q.0, (p.1, q.1))
+    (y.2 ∙ ap (λ a. a || y.0) p.0 ∙ ap (λ a. assigns yes' r || a) q.0, (p.1, q.1))
 
 is-once : (r : ℕ) (s : Statement) → AssignsOnce r s → assigns_once r s ≡ Some (assigns s r)
 is-once r Nothing h = refl
@@ -92,7 +61,7 @@ blocks-is r (b ∷ bs) n e =
     let x = then_some (λ a. option_map (λ (n : ℕ). cond a 1 0 + n) (blocks_once r bs)) (assigns_once r b) n e in
     let y = map_some (λ (n : ℕ). cond x.0 1 0 + n) (blocks_once r bs) n x.2 in
     let p = once-is r b x.0 x.1 in let q = blocks-is r bs y.0 y.1 in
-    (sym y.2 ∙ ap (λ a. cond a 1 0 + y.0) p.0 ∙ ap (λ (n : ℕ). cond (assigns b r) 1 0 + n) q.0, (p.1, q.1))
+    (y.2 ∙ ap (λ a. cond a 1 0 + y.0) p.0 ∙ ap (λ (n : ℕ). cond (assigns b r) 1 0 + n) q.0, (p.1, q.1))
 
 is-blocks : (r : ℕ) (bs : List Statement) → AllByRecursion (AssignsOnce r) bs → blocks_once r bs ≡ Some (blocks_of bs r)
 is-blocks r [] h = refl
@@ -139,7 +108,7 @@ there-assigned : (bs : List Statement) (from : ℕ) (ds : List Declaration) → 
 there-assigned bs from [] h = refl
 there-assigned bs from (d ∷ ds) h =
     let here : from + 0 ≡ from = omega arith in
-    and_is (is_assigned bs from d.kind) (all_assigned bs (from + 1) ds)
+    and_both (is_assigned bs from d.kind) (all_assigned bs (from + 1) ds)
     (subst (λ (i : ℕ). is_assigned bs i d.kind ≡ true) here (h 0 d refl))
     (there-assigned bs (from + 1) ds (λ n c at. let same : from + suc n ≡ (from + 1) + n = omega arith in subst (λ (i : ℕ). is_assigned bs i c.kind ≡ true) same (h (suc n) c at)))
 
@@ -153,13 +122,9 @@ counts_of (a ∷ as') n = ap (λ (k : ℕ). cond (eqb a.target n) 1 0 + k) (coun
 abbrev IsApart : ℕ → ℕ → Assignment → Type 0
 IsApart t n a = (eqb a.target t && mentions a.value n) ≡ false
 
-or_none : (a b : Bool) → (a || b) ≡ false → (a ≡ false) × (b ≡ false)
-or_none true b e = absurd cc
-or_none false b e = (refl, e)
-
 all_apart : (as' : List Assignment) (t n : ℕ) → depends as' t n ≡ false → AllByRecursion (IsApart t n) as'
 all_apart [] t n e = tt
-all_apart (a ∷ as') t n e = let p = or_none (eqb a.target t && mentions a.value n) (depends as' t n) e in (p.0, all_apart as' t n p.1)
+all_apart (a ∷ as') t n e = let p = neither_parts (eqb a.target t && mentions a.value n) (depends as' t n) e in (p.0, all_apart as' t n p.1)
 
 none_depends : (as' : List Assignment) (t n : ℕ) → AllByRecursion (IsApart t n) as' → depends as' t n ≡ false
 none_depends [] t n h = refl
@@ -217,9 +182,9 @@ can_once_each as' o = once_each as' (λ n.
 
 -- ---- all of it
 
-pub valid_parts : (ds : List Declaration) (as' : List Assignment) (bs : List Statement) → are_distinct ds ≡ true → IsRunnable (module_with ds as' bs) → all_assigned bs 0 ds ≡ true → IsValid (module_with ds as' bs)
+pub valid_parts : (ds : List Declaration) (as' : List Assignment) (bs : List Statement) → are_new [] ds ≡ true → IsRunnable (module_with ds as' bs) → all_assigned bs 0 ds ≡ true → IsValid (module_with ds as' bs)
 valid_parts ds as' bs names r assigned = record {
-  names = distinct-is ds names;
+  names = new_distinct ds names;
   sizes = r.sizes;
   assignments = r.assignments;
   blocks = r.blocks;

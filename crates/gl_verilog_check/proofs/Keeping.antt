@@ -1,7 +1,9 @@
 -- An expression with a width keeps its widths, and has that one.
-use Rattle.std.proofs.Common.{◌≡◌, ℕ, ◌+◌, ◌-◌, ◌^◌, ◌<◌, ◌≤◌, Bool, true, false, not, ◌&&◌, List, Option, Some, None, refl, sym, ap, subst, ◌∙◌, arith}
+use Rattle.std.proofs.Common.{◌≡◌, ℕ, ◌+◌, ◌-◌, ◌^◌, ◌<◌, ◌≤◌, Bool, true, false, not, ◌&&◌, List, Option, Some, refl, sym, ap, subst, ◌∙◌, arith}
 use Rattle.std.specs.Prelude.{slice_get, option_and_then, nat_eq, nat_le, nat_lt, IsSomeAnd, IsTrue}
 use Rattle.std.proofs.lemmas.Bool.{eqb-true, leb-true, ltb-true}
+use Rattle.gl_bits.proofs.Bools.{and_left, and_right, not_true}
+use Rattle.gl_bits.proofs.Options.{then_some}
 use Rattle.gl_bits.specs.Words.{IsWidth}
 use Rattle.gl_verilog.specs.Module.{Kind, Input, OutputWire, OutputRegister, Wire, Register, Memory, Declaration, Expr, Net, Literal, Invert, Binary, Choose, Join, Select, Read, Put, Write, Assignment}
 use Rattle.gl_verilog.specs.Run.{IsRegister}
@@ -10,10 +12,6 @@ use Rattle.gl_verilog_check.specs.Kept.{is_memory, is_width, only, net_width, pa
 
 -- ---- options and tests, inverted
 
-pub and_then_some : {A : Type 0} (f : A → Option ℕ) (o : Option A) (y : ℕ) → option_and_then f o ≡ Some y → (x : A) × (o ≡ Some x) × (f x ≡ Some y)
-and_then_some f None y e = absurd cc
-and_then_some f (Some x) y e = (x, refl, e)
-
 only_test : (b : Bool) (w y : ℕ) → only b w ≡ Some y → b ≡ true
 only_test true w y e = refl
 only_test false w y e = absurd cc
@@ -21,18 +19,6 @@ only_test false w y e = absurd cc
 only_value : (b : Bool) (w y : ℕ) → only b w ≡ Some y → w ≡ y
 only_value true w y e = cc
 only_value false w y e = absurd cc
-
-and_left : (a b : Bool) → (a && b) ≡ true → a ≡ true
-and_left true b h = refl
-and_left false b h = absurd cc
-
-and_right : (a b : Bool) → (a && b) ≡ true → b ≡ true
-and_right true b h = h
-and_right false b h = absurd cc
-
-not_true : (b : Bool) → not b ≡ true → b ≡ false
-not_true true h = absurd cc
-not_true false h = refl
 
 -- ---- kinds
 
@@ -110,7 +96,7 @@ readable d w e =
 
 pub kept-keeps : (ds : List Declaration) (e : Expr) (w : ℕ) → kept ds e ≡ Some w → KeepsWidths ds e × (w ≡ width_of ds e)
 kept-keeps ds (Net n) w h =
-    let d = and_then_some net_width (slice_get ds n) w h in (
+    let d = then_some net_width (slice_get ds n) w h in (
       some_and IsReadable (slice_get ds n) d.0 d.1 (readable d.0 w d.2),
       sym (only_value (not (is_memory d.0.kind) && not (is_clock d.0)) d.0.width w d.2) ∙ width_there ds n d.0 d.1,
     )
@@ -120,13 +106,13 @@ kept-keeps ds (Literal value width) w h =
       sym (only_value (is_width width && nat_lt value (2 ^ width)) width w h),
     )
 kept-keeps ds (Invert width arg) w h =
-    let x = and_then_some (invert_width width) (kept ds arg) w h in
+    let x = then_some (invert_width width) (kept ds arg) w h in
     let k = kept-keeps ds arg x.0 x.1 in
     let same = eqb-true x.0 width (only_test (nat_eq x.0 width) width w x.2) in
     ((sym k.1 ∙ same, k.0), sym (only_value (nat_eq x.0 width) width w x.2))
 kept-keeps ds (Binary op width left right) w h =
-    let x = and_then_some (λ x. option_and_then (λ y. both_width op width x y) (kept ds right)) (kept ds left) w h in
-    let y = and_then_some (λ y. both_width op width x.0 y) (kept ds right) w x.2 in
+    let x = then_some (λ x. option_and_then (λ y. both_width op width x y) (kept ds right)) (kept ds left) w h in
+    let y = then_some (λ y. both_width op width x.0 y) (kept ds right) w x.2 in
     let k = kept-keeps ds left x.0 x.1 in
     let l = kept-keeps ds right y.0 y.1 in
     let test = only_test (nat_eq x.0 width && nat_eq y.0 width) (width_after op width) w y.2 in (
@@ -134,17 +120,17 @@ kept-keeps ds (Binary op width left right) w h =
       sym (only_value (nat_eq x.0 width && nat_eq y.0 width) (width_after op width) w y.2),
     )
 kept-keeps ds (Choose test yes' no') w h =
-    let t = and_then_some (λ t. option_and_then (λ a. option_and_then (λ b. choose_width t a b) (kept ds no')) (kept ds yes')) (kept ds test) w h in
-    let a = and_then_some (λ a. option_and_then (λ b. choose_width t.0 a b) (kept ds no')) (kept ds yes') w t.2 in
-    let b = and_then_some (λ b. choose_width t.0 a.0 b) (kept ds no') w a.2 in
+    let t = then_some (λ t. option_and_then (λ a. option_and_then (λ b. choose_width t a b) (kept ds no')) (kept ds yes')) (kept ds test) w h in
+    let a = then_some (λ a. option_and_then (λ b. choose_width t.0 a b) (kept ds no')) (kept ds yes') w t.2 in
+    let b = then_some (λ b. choose_width t.0 a.0 b) (kept ds no') w a.2 in
     let kt = kept-keeps ds test t.0 t.1 in let ka = kept-keeps ds yes' a.0 a.1 in let kb = kept-keeps ds no' b.0 b.1 in
     let is = only_test (nat_eq t.0 1 && nat_eq b.0 a.0) a.0 w b.2 in (
       (sym kt.1 ∙ eqb-true t.0 1 (and_left (nat_eq t.0 1) (nat_eq b.0 a.0) is), sym kb.1 ∙ eqb-true b.0 a.0 (and_right (nat_eq t.0 1) (nat_eq b.0 a.0) is) ∙ ka.1, kt.0, ka.0, kb.0),
       sym (only_value (nat_eq t.0 1 && nat_eq b.0 a.0) a.0 w b.2) ∙ ka.1,
     )
 kept-keeps ds (Join low_width high low) w h =
-    let x = and_then_some (λ h. option_and_then (λ l. join_width low_width h l) (kept ds low)) (kept ds high) w h in
-    let y = and_then_some (λ l. join_width low_width x.0 l) (kept ds low) w x.2 in
+    let x = then_some (λ h. option_and_then (λ l. join_width low_width h l) (kept ds low)) (kept ds high) w h in
+    let y = then_some (λ l. join_width low_width x.0 l) (kept ds low) w x.2 in
     let kx = kept-keeps ds high x.0 x.1 in let ky = kept-keeps ds low y.0 y.1 in
     let is = only_test (nat_eq y.0 low_width && nat_le (x.0 + low_width) 128) (x.0 + low_width) w y.2 in (
       (
@@ -156,7 +142,7 @@ kept-keeps ds (Join low_width high low) w h =
       sym (only_value (nat_eq y.0 low_width && nat_le (x.0 + low_width) 128) (x.0 + low_width) w y.2) ∙ ap (λ (n : ℕ). n + low_width) kx.1,
     )
 kept-keeps ds (Select high low n) w h =
-    let d = and_then_some (part_width high low) (slice_get ds n) w h in
+    let d = then_some (part_width high low) (slice_get ds n) w h in
     let test = only_test (not (is_memory d.0.kind) && not (is_clock d.0) && d.0.is_vector && nat_lt high d.0.width && nat_le low high) (high + 1 - low) w d.2 in
     let t4 = and_left (not (is_memory d.0.kind) && not (is_clock d.0) && d.0.is_vector && nat_lt high d.0.width) (nat_le low high) test in
     let t3 = and_left (not (is_memory d.0.kind) && not (is_clock d.0) && d.0.is_vector) (nat_lt high d.0.width) t4 in
@@ -169,8 +155,8 @@ kept-keeps ds (Select high low n) w h =
       sym (only_value (not (is_memory d.0.kind) && not (is_clock d.0) && d.0.is_vector && nat_lt high d.0.width && nat_le low high) (high + 1 - low) w d.2),
     )
 kept-keeps ds (Read memory address) w h =
-    let a = and_then_some (λ w. option_and_then (word_width w) (slice_get ds memory)) (kept ds address) w h in
-    let d = and_then_some (word_width a.0) (slice_get ds memory) w a.2 in
+    let a = then_some (λ w. option_and_then (word_width w) (slice_get ds memory)) (kept ds address) w h in
+    let d = then_some (word_width a.0) (slice_get ds memory) w a.2 in
     let k = kept-keeps ds address a.0 a.1 in
     let is = is_memory_of d.0.kind a.0 (only_test (has_address d.0.kind a.0) d.0.width w d.2) in (
       (some_and (λ d. IsMemory d.kind (width_of ds address)) (slice_get ds memory) d.0 d.1 (subst (IsMemory d.0.kind) k.1 is), k.0),
@@ -181,8 +167,8 @@ kept-keeps ds (Read memory address) w h =
 
 pub assignment_keeps : (ds : List Declaration) (a : Assignment) (w : ℕ) → assigned_width ds a ≡ Some w → KeepsWidth ds a
 assignment_keeps ds a w h =
-    let x = and_then_some (λ w. option_and_then (takes is_driven w) (slice_get ds a.target)) (kept ds a.value) w h in
-    let d = and_then_some (takes is_driven x.0) (slice_get ds a.target) w x.2 in
+    let x = then_some (λ w. option_and_then (takes is_driven w) (slice_get ds a.target)) (kept ds a.value) w h in
+    let d = then_some (takes is_driven x.0) (slice_get ds a.target) w x.2 in
     let k = kept-keeps ds a.value x.0 x.1 in
     let is = only_test (is_driven d.0.kind && nat_eq x.0 d.0.width) x.0 w d.2 in (
       some_and (λ d. IsDriven d.kind × (width_of ds a.value ≡ d.width)) (slice_get ds a.target) d.0 d.1
@@ -192,8 +178,8 @@ assignment_keeps ds a w h =
 
 pub put_keeps : (ds : List Declaration) (r : ℕ) (value : Expr) (w : ℕ) → put_width ds r value ≡ Some w → KeepsWidthsIn ds (Put r value)
 put_keeps ds r value w h =
-    let x = and_then_some (λ w. option_and_then (takes is_register w) (slice_get ds r)) (kept ds value) w h in
-    let d = and_then_some (takes is_register x.0) (slice_get ds r) w x.2 in
+    let x = then_some (λ w. option_and_then (takes is_register w) (slice_get ds r)) (kept ds value) w h in
+    let d = then_some (takes is_register x.0) (slice_get ds r) w x.2 in
     let k = kept-keeps ds value x.0 x.1 in
     let is = only_test (is_register d.0.kind && nat_eq x.0 d.0.width) x.0 w d.2 in (
       some_and (λ d. IsRegister d.kind × (width_of ds value ≡ d.width)) (slice_get ds r) d.0 d.1
@@ -203,9 +189,9 @@ put_keeps ds r value w h =
 
 pub write_keeps : (ds : List Declaration) (m : ℕ) (address value : Expr) (w : ℕ) → write_width ds m address value ≡ Some w → KeepsWidthsIn ds (Write m address value)
 write_keeps ds m address value w h =
-    let a = and_then_some (λ a. option_and_then (λ w. option_and_then (takes_word a w) (slice_get ds m)) (kept ds value)) (kept ds address) w h in
-    let x = and_then_some (λ w. option_and_then (takes_word a.0 w) (slice_get ds m)) (kept ds value) w a.2 in
-    let d = and_then_some (takes_word a.0 x.0) (slice_get ds m) w x.2 in
+    let a = then_some (λ a. option_and_then (λ w. option_and_then (takes_word a w) (slice_get ds m)) (kept ds value)) (kept ds address) w h in
+    let x = then_some (λ w. option_and_then (takes_word a.0 w) (slice_get ds m)) (kept ds value) w a.2 in
+    let d = then_some (takes_word a.0 x.0) (slice_get ds m) w x.2 in
     let ka = kept-keeps ds address a.0 a.1 in let kx = kept-keeps ds value x.0 x.1 in
     let is = only_test (has_address d.0.kind a.0 && nat_eq x.0 d.0.width) x.0 w d.2 in (
       some_and (λ d. IsMemory d.kind (width_of ds address) × (width_of ds value ≡ d.width)) (slice_get ds m) d.0 d.1

@@ -5,3 +5,5 @@ pub mod Marks
 pub mod Ranks
 pub mod Drives
 pub mod Orders
+pub mod Names
+pub mod AtHome

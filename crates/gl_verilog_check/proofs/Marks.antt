@@ -3,6 +3,8 @@ use Rattle.std.proofs.Common.{◌≡◌, ◌≢◌, ℕ, zero, suc, ◌+◌, ◌
 use Rattle.std.specs.Prelude.{slice_get, slice_set, unwrap_or, map, replicate, IsSomeAnd, IsTrue}
 use Rattle.std.specs.List.{AllByRecursion}
 use Rattle.std.proofs.lemmas.Bool.{cases_eq}
+use Rattle.gl_bits.proofs.Bools.{and_both, and_left, and_right}
+use Rattle.gl_bits.proofs.AllLists.{get_below}
 use Rattle.gl_verilog.specs.Module.{Module, Declaration, Statement, Expr, Net, Literal, Invert, Binary, Choose, Join, Select, Read, Assignment}
 use Rattle.gl_verilog.specs.Order.{EachRead, CanBeOrdered}
 use Rattle.gl_verilog.specs.Widths.{IsDriven, IsReadable, KeepsWidths, KeepsWidth, width_of}
@@ -10,7 +12,7 @@ use Rattle.gl_verilog.specs.Runnable.{IsRunnable}
 use Rattle.gl_verilog_check.specs.Kept.{is_driven, AreMarks, Marked, AreNets, driver_there, all_driven, all_sized, all_kept, blocks_kept, module_with}
 use Rattle.gl_verilog_check.specs.Passes.{AreOnce}
 use Rattle.gl_verilog_check.proofs.Keeping.{kind_driven, driven_kind}
-use Rattle.gl_verilog_check.proofs.Complete.{and_is, and_left, and_right, sized-all, kept-all, kept-blocks}
+use Rattle.gl_verilog_check.proofs.Complete.{sized-all, kept-all, kept-blocks}
 
 -- ---- marks
 
@@ -97,10 +99,6 @@ holds_at P f [] i x h lt e = absurd (omega (arith, lt))
 holds_at P f (y ∷ ys) zero x h lt e = subst (λ z. P (f z)) (sym e) h.0
 holds_at P f (y ∷ ys) (suc i) x h lt e = holds_at P f ys i x h.1 (omega (arith, lt)) e
 
-pub map_length : {A B : Type 0} (f : A → B) (xs : List A) → length (map f xs) ≡ length xs
-map_length f [] = refl
-map_length f (x ∷ xs) = ap suc (map_length f xs)
-
 -- ---- every net is a declared one
 
 within_of : (ds : List Declaration) (n : ℕ) (P : Declaration → Type 0) → IsSomeAnd (slice_get ds n) P → n < length ds
@@ -147,7 +145,7 @@ there-driven : (marks : List Bool) (from : ℕ) (ds : List Declaration) → ((n 
 there-driven marks from [] h = refl
 there-driven marks from (d ∷ ds) h =
     let here : from + 0 ≡ from = omega arith in
-    and_is (driver_there marks from d) (all_driven marks (from + 1) ds)
+    and_both (driver_there marks from d) (all_driven marks (from + 1) ds)
     (there_or (is_driven d.kind) (slice_get marks from) (λ k. ap (λ (i : ℕ). slice_get marks i) (sym here) ∙ h 0 d refl k))
     (there-driven marks (from + 1) ds (λ n c at k. let same : (from + 1) + n ≡ from + suc n = omega arith in ap (λ (i : ℕ). slice_get marks i) same ∙ h (suc n) c at k))
 
@@ -170,14 +168,11 @@ marked_or (true ∷ ms) zero lt h = refl
 marked_or (false ∷ ms) zero lt h = absurd (h refl)
 marked_or (m ∷ ms) (suc n) lt h = marked_or ms n (omega (arith, lt)) h
 
-get_within : (ds : List Declaration) (n : ℕ) (d : Declaration) → slice_get ds n ≡ Some d → n < length ds
-get_within ds n d e = within_of ds n (λ c. Unit {0}) (rw e tt)
-
 -- where every net that wants a driver has one, every such net is marked
 pub driven_all : (ds : List Declaration) (as' : List Assignment) (bs : List Statement) (marks : List Bool) → IsRunnable (module_with ds as' bs) → AreMarks as' marks → length marks ≡ length ds → all_driven marks 0 ds ≡ true
 driven_all ds as' bs marks r m size = there-driven marks 0 ds (λ n d at k.
     let zeroth : n ≡ 0 + n = omega arith in
-    let within : n < length marks = (let lt = get_within ds n d at in omega (arith, lt, size)) in
+    let within : n < length marks = (let lt = get_below ds n d at in omega (arith, lt, size)) in
     ap (λ (i : ℕ). slice_get marks i) (sym zeroth) ∙ marked_or marks n within (λ e. r.driven n d at (driven_kind d.kind k) (m.undriven n e)))
 
 -- the name and the ports of a module are no matter

@@ -1,26 +1,19 @@
 -- An order is found pass by pass, or none is there.
-use Rattle.std.proofs.Common.{◌≡◌, ◌≢◌, ℕ, zero, suc, ◌+◌, ◌<◌, ◌≤◌, ◌⊎◌, inl, inr, Bool, true, false, not, ◌&&◌, ◌||◌, List, [], ◌∷◌, Option, Some, None, length, length-set, refl, sym, ap, subst, ◌∙◌, arith}
-use Rattle.std.specs.Prelude.{slice_get, slice_set, unwrap_or}
-use Rattle.std.specs.List.{AllByRecursion, list_any}
+use Rattle.std.proofs.Common.{◌≡◌, ◌≢◌, ℕ, zero, suc, ◌+◌, ◌<◌, ◌≤◌, ◌⊎◌, inl, inr, Bool, true, false, not, ◌&&◌, ◌||◌, List, [], ◌∷◌, ◌++◌, Option, Some, None, length, length-set, append_assoc, append-nil, refl, sym, ap, subst, ◌∙◌, arith, Vec}
+use Rattle.std.specs.Prelude.{slice_get, slice_set, unwrap_or, IfSome, is_some}
+use Rattle.std.specs.List.{AllByRecursion, list_any, cons_option}
 use Rattle.std.specs.List.Sorted.{IsPermutation}
-use Rattle.std.proofs.lemmas.List.Sorted.{IsPermutation-refl, IsPermutation-cons, IsPermutation-trans, IsPermutation-middle, IsPermutation-sym}
+use Rattle.std.proofs.lemmas.List.Sorted.{IsPermutation-refl, IsPermutation-cons, IsPermutation-trans, IsPermutation-middle, IsPermutation-sym, IsPermutation-append}
+use Rattle.gl_bits.proofs.Bools.{neither_left, neither_right, by_cases, and_left, and_right}
 use Rattle.gl_verilog.specs.Module.{Assignment, Expr, Net, Literal, Invert, Binary, Choose, Join, Select, Read}
 use Rattle.gl_verilog.specs.Order.{EachRead, IsUndriven, IsOrdered, CanBeOrdered}
 use Rattle.gl_verilog.proofs.Settles.{each_in_order, reads_and, reads_both}
 use Rattle.gl_verilog_check.specs.Kept.{reads, AreMarks, AreNets}
-use Rattle.gl_verilog_check.specs.Passes.{AreOnce, waits, is_ready, placed, passed, finds}
-use Rattle.gl_verilog_check.proofs.Complete.{and_left, and_right}
+use Rattle.gl_verilog_check.specs.Orders.{picked, IsOrderOf, IsMissing}
+use Rattle.gl_verilog_check.specs.Passes.{AreOnce, waits, is_ready, placed, passed, finds, keep, left, IsPlacing}
 use Rattle.gl_verilog_check.proofs.Marks.{unmarked}
 
 -- ---- what is read
-
-or_left : (a b : Bool) → (a || b) ≡ false → a ≡ false
-or_left true b h = absurd cc
-or_left false b h = refl
-
-or_right : (a b : Bool) → (a || b) ≡ false → b ≡ false
-or_right true b h = absurd cc
-or_right false b h = h
 
 or_false : (a b : Bool) → a ≡ false → (a || b) ≡ true → b ≡ true
 or_false true b e h = absurd cc
@@ -36,14 +29,14 @@ reads_none : (marks : List Bool) (e : Expr) → reads marks e ≡ false → Each
 reads_none marks (Net n) h = known (slice_get marks n) h
 reads_none marks (Literal value width) h = tt
 reads_none marks (Invert width arg) h = reads_none marks arg h
-reads_none marks (Binary op width left right) h = (reads_none marks left (or_left (reads marks left) (reads marks right) h), reads_none marks right (or_right (reads marks left) (reads marks right) h))
+reads_none marks (Binary op width left right) h = (reads_none marks left (neither_left (reads marks left) (reads marks right) h), reads_none marks right (neither_right (reads marks left) (reads marks right) h))
 reads_none marks (Choose test yes' no') h =
-    let rest = or_right (reads marks test) (reads marks yes' || reads marks no') h in (
-      reads_none marks test (or_left (reads marks test) (reads marks yes' || reads marks no') h),
-      reads_none marks yes' (or_left (reads marks yes') (reads marks no') rest),
-      reads_none marks no' (or_right (reads marks yes') (reads marks no') rest),
+    let rest = neither_right (reads marks test) (reads marks yes' || reads marks no') h in (
+      reads_none marks test (neither_left (reads marks test) (reads marks yes' || reads marks no') h),
+      reads_none marks yes' (neither_left (reads marks yes') (reads marks no') rest),
+      reads_none marks no' (neither_right (reads marks yes') (reads marks no') rest),
     )
-reads_none marks (Join low_width high low) h = (reads_none marks high (or_left (reads marks high) (reads marks low) h), reads_none marks low (or_right (reads marks high) (reads marks low) h))
+reads_none marks (Join low_width high low) h = (reads_none marks high (neither_left (reads marks high) (reads marks low) h), reads_none marks low (neither_right (reads marks high) (reads marks low) h))
 reads_none marks (Select high low n) h = known (slice_get marks n) h
 reads_none marks (Read memory address) h = reads_none marks address h
 
@@ -99,14 +92,6 @@ fewer (false ∷ ms) (suc t) h = fewer ms t h
 
 -- ---- the assignments that wait
 
-abbrev pub keep : Bool → Assignment → List Assignment → List Assignment
-keep true a rest = a ∷ rest
-keep false a rest = rest
-
-abbrev pub left : List Bool → List Assignment → List Assignment
-left marks [] = []
-left marks (a ∷ rest) = keep (waits marks a.target) a (left marks rest)
-
 -- all of them, where each target is marked
 left_all : (marks : List Bool) (as' : List Assignment) → AllByRecursion (λ a. slice_get marks a.target ≡ Some true) as' → left marks as' ≡ as'
 left_all marks [] h = refl
@@ -140,14 +125,6 @@ abbrev pub IsIn : Assignment → List Assignment → Type 0
 IsIn a [] = ⊥
 IsIn a (b ∷ bs) = (b ≡ a) ⊎ IsIn a bs
 
-more_in : (c : Assignment) (as' bs : List Assignment) → AllByRecursion (λ b. IsIn b as') bs → AllByRecursion (λ b. IsIn b (c ∷ as')) bs
-more_in c as' [] h = tt
-more_in c as' (b ∷ bs) h = (inr h.0, more_in c as' bs h.1)
-
-pub each_in : (as' : List Assignment) → AllByRecursion (λ b. IsIn b as') as'
-each_in [] = tt
-each_in (c ∷ as') = (inl refl, more_in c as' as' (each_in as'))
-
 undriven_in : (bs : List Assignment) (n : ℕ) (a : Assignment) → IsUndriven bs n → IsIn a bs → a.target ≢ n
 undriven_in [] n a u i = absurd i
 undriven_in (b ∷ bs) n a u i = elim i [ inl e ↦ subst (λ (x : Assignment). x.target ≢ n) e u.0 | inr j ↦ undriven_in bs n a u.1 j ]
@@ -173,23 +150,21 @@ moved marks (b ∷ rest) a o i w = elim i [
     first : IsUndriven rest a.target → IsPermutation (left marks (a ∷ rest)) (a ∷ left (slice_set marks a.target false) (a ∷ rest))
     first u = rw (w, cleared marks a.target w, left_same marks rest a.target u) (IsPermutation-refl (a ∷ left marks rest))
 
--- an order of those that still wait gives one with it
-pub placed_first : (marks : List Bool) (as' : List Assignment) (a : Assignment) → AreOnce as' → IsIn a as' → is_ready marks a ≡ true → CanBeOrdered (left (slice_set marks a.target false) as') → CanBeOrdered (left marks as')
-placed_first marks as' a o i ready c =
+-- one that is ready stands before any order of those that wait then
+ready_first : (marks : List Bool) (as' : List Assignment) (a : Assignment) → AreOnce as' → IsIn a as' → is_ready marks a ≡ true → (rest : List Assignment) → IsPermutation (left (slice_set marks a.target false) as') rest → IsOrdered rest → IsPermutation (left marks as') (a ∷ rest) × IsOrdered (a ∷ rest)
+ready_first marks as' a o i ready rest p ordered =
     let w : slice_get marks a.target ≡ Some true = waiting (slice_get marks a.target) (and_left (waits marks a.target) (not (reads marks a.value)) ready) in
     let none : reads marks a.value ≡ false = not_true (reads marks a.value) (and_right (waits marks a.target) (not (reads marks a.value)) ready) in
     let ms = slice_set marks a.target false in
-    let same : IsPermutation (left marks as') (a ∷ c.order) =
-    IsPermutation-trans (left marks as') (a ∷ left ms as') (a ∷ c.order) (moved marks as' a o i w) (IsPermutation-cons a (left ms as') c.order c.same) in
-    record {
-      order = a ∷ c.order;
-      same = same;
-      ordered = (
-        reads_and (λ n. slice_get marks n ≡ Some false) (IsUndriven (a ∷ c.order)) a.value (λ n h. each_in_order (λ b. b.target ≢ n) (left marks as') (a ∷ c.order) same (left_undriven marks as' n h)) (reads_none marks a.value none),
-        each_in_order (λ b. b.target ≢ a.target) (left ms as') c.order c.same (left_undriven ms as' a.target (cleared marks a.target w)),
-        c.ordered,
-      );
-    }
+    let same : IsPermutation (left marks as') (a ∷ rest) =
+    IsPermutation-trans (left marks as') (a ∷ left ms as') (a ∷ rest) (moved marks as' a o i w) (IsPermutation-cons a (left ms as') rest p) in (
+      same,
+      (
+        reads_and (λ n. slice_get marks n ≡ Some false) (IsUndriven (a ∷ rest)) a.value (λ n h. each_in_order (λ b. b.target ≢ n) (left marks as') (a ∷ rest) same (left_undriven marks as' n h)) (reads_none marks a.value none),
+        each_in_order (λ b. b.target ≢ a.target) (left ms as') rest p (left_undriven ms as' a.target (cleared marks a.target w)),
+        ordered,
+      ),
+    )
   where
     not_true : (b : Bool) → not b ≡ true → b ≡ false
     not_true true h = absurd cc
@@ -197,35 +172,66 @@ placed_first marks as' a o i ready c =
 
 -- ---- passes
 
--- while an order is found: the marks are on the nets that wait, of so many
-pub record IsWaiting (as' : List Assignment) (nets : ℕ) (marks : List Bool) : Type 0 where
-  pub sound : CanBeOrdered (left marks as') → CanBeOrdered as'
-  pub size : length marks ≡ nets
-  pub driven : (n : ℕ) → slice_get marks n ≡ Some true → IsUndriven as' n → ⊥
-
-pub waiting_first : (as' : List Assignment) (marks : List Bool) → AreMarks as' marks → IsWaiting as' (length marks) marks
-waiting_first as' marks m = record {
-  sound = λ c. subst CanBeOrdered (left_all marks as' m.targets) c;
-  size = refl;
-  driven = m.driven;
-}
+pub placing_first : (as' : List Assignment) (marks : List Bool) → AreMarks as' marks → IsPlacing as' marks []
+placing_first as' marks m =
+    let all : left marks as' ≡ as' = left_all marks as' m.targets in
+    record {
+      in_range = tt;
+      same = subst (IsPermutation as') (sym all) (IsPermutation-refl as');
+      ordered = λ rest p o. o;
+      driven = m.driven;
+    }
 
 -- whether it is ready, and what is left of the marks
 by_ready : (P : List Bool → Type 0) (marks : List Bool) (a : Assignment) (b : Bool) → is_ready marks a ≡ b → (is_ready marks a ≡ true → P (slice_set marks a.target false)) → P marks → P (placed marks a)
 by_ready P marks a true e f p = rw e (f e)
 by_ready P marks a false e f p = rw e p
 
-waiting_placed : (as' : List Assignment) (nets : ℕ) (marks : List Bool) (a : Assignment) → AreOnce as' → IsIn a as' → IsWaiting as' nets marks → IsWaiting as' nets (placed marks a)
-waiting_placed as' nets marks a o i k = by_ready (IsWaiting as' nets) marks a (is_ready marks a) refl
-    (λ e. record {
-      sound = λ c. k.sound (placed_first marks as' a o i e c);
-      size = length-set marks a.target false ∙ k.size;
-      driven = λ n h u. k.driven n (waited marks a.target n h) u;
-    }) k
+picked-push : (as' : List Assignment) (o : List ℕ) (k : ℕ) (a : Assignment) → slice_get as' k ≡ Some a → picked as' (o ++ k ∷ []) ≡ picked as' o ++ a ∷ []
+picked-push as' [] k a e = rw e refl
+picked-push as' (j ∷ o) k a e = first (slice_get as' j) (picked as' (o ++ k ∷ [])) (picked as' o) (picked-push as' o k a e)
+  where
+    first : (x : Option Assignment) (xs ys : List Assignment) → xs ≡ ys ++ a ∷ [] → cons_option x xs ≡ cons_option x ys ++ a ∷ []
+    first None xs ys same = same
+    first (Some x) xs ys same = ap (λ (zs : List Assignment). x ∷ zs) same
 
-pub waiting_passed : (as' : List Assignment) (nets : ℕ) (marks : List Bool) (bs : List Assignment) → AreOnce as' → AllByRecursion (λ b. IsIn b as') bs → IsWaiting as' nets marks → IsWaiting as' nets (passed marks bs)
-waiting_passed as' nets marks [] o i k = k
-waiting_passed as' nets marks (b ∷ bs) o i k = waiting_passed as' nets (placed marks b) bs o i.1 (waiting_placed as' nets marks b o i.0 k)
+all-push : (P : ℕ → Type 0) (xs : List ℕ) (x : ℕ) → AllByRecursion P xs → P x → AllByRecursion P (xs ++ x ∷ [])
+all-push P [] x h p = (p, tt)
+all-push P (y ∷ xs) x h p = (h.0, all-push P xs x h.1 p)
+
+in_at : (as' : List Assignment) (k : ℕ) (a : Assignment) → slice_get as' k ≡ Some a → IsIn a as' × (k < length as')
+in_at [] k a e = absurd cc
+in_at (b ∷ as') zero a e = (inl (let same : b ≡ a = cc in same), omega arith)
+in_at (b ∷ as') (suc k) a e = let r = in_at as' k a e in (inr r.0, (let lt = r.1 in omega (arith, lt)))
+
+-- the assignment has its place
+placing_ready : (as' : List Assignment) (marks : List Bool) (o : List ℕ) (k : ℕ) (a : Assignment) → AreOnce as' → slice_get as' k ≡ Some a → is_ready marks a ≡ true → IsPlacing as' marks o → IsPlacing as' (slice_set marks a.target false) (o ++ k ∷ [])
+placing_ready as' marks o k a once at ready p =
+    let is = in_at as' k a at in
+    let ms = slice_set marks a.target false in
+    let w : slice_get marks a.target ≡ Some true = waiting (slice_get marks a.target) (and_left (waits marks a.target) (not (reads marks a.value)) ready) in
+    let more : (rest : List Assignment) → picked as' (o ++ k ∷ []) ++ rest ≡ picked as' o ++ a ∷ rest = λ rest. ap (λ (xs : List Assignment). xs ++ rest) (picked-push as' o k a at) ∙ append_assoc (picked as' o) (a ∷ []) rest in
+    record {
+      in_range = all-push (λ j. j < length as') o k p.in_range is.1;
+      same = subst (IsPermutation as') (sym (more (left ms as')))
+          (IsPermutation-trans as' (picked as' o ++ left marks as') (picked as' o ++ a ∷ left ms as') p.same
+          (IsPermutation-append (picked as' o) (picked as' o) (left marks as') (a ∷ left ms as') (IsPermutation-refl (picked as' o)) (moved marks as' a once is.0 w)));
+      ordered = λ rest q ord. let f = ready_first marks as' a once is.0 ready rest q ord in subst IsOrdered (sym (more rest)) (p.ordered (a ∷ rest) f.0 f.1);
+      driven = λ n h u. p.driven n (waited marks a.target n h) u;
+    }
+
+pub placing_placed : (as' : List Assignment) (marks : List Bool) (o : List ℕ) (k : ℕ) (a : Assignment) → AreOnce as' → slice_get as' k ≡ Some a → is_ready marks a ≡ true → IsPlacing as' marks o → IsPlacing as' (placed marks a) (o ++ k ∷ [])
+placing_placed as' marks o k a once at ready p = rw ready (placing_ready as' marks o k a once at ready p)
+
+pub placing_kept : (as' : List Assignment) (marks : List Bool) (o : List ℕ) (a : Assignment) → is_ready marks a ≡ false → IsPlacing as' marks o → IsPlacing as' (placed marks a) o
+placing_kept as' marks o a not_ready p = rw not_ready p
+
+pub placed_size : (marks : List Bool) (a : Assignment) → length (placed marks a) ≡ length marks
+placed_size marks a = by_ready (λ ms. length ms ≡ length marks) marks a (is_ready marks a) refl (λ e. length-set marks a.target false) refl
+
+pub passed_size : (marks : List Bool) (bs : List Assignment) → length (passed marks bs) ≡ length marks
+passed_size marks [] = refl
+passed_size marks (b ∷ bs) = passed_size (placed marks b) bs ∙ placed_size marks b
 
 most : (marks : List Bool) (a : Assignment) → count (placed marks a) ≤ count marks
 most marks a = by_ready (λ ms. count ms ≤ count marks) marks a (is_ready marks a) refl
@@ -253,23 +259,18 @@ passed_fewer marks (b ∷ bs) e = by (is_ready marks b) refl (λ f. passed_fewer
 none_ready : (marks : List Bool) (bs : List Assignment) → finds marks bs ≡ false → AllByRecursion (λ b. is_ready marks b ≡ false) bs
 none_ready marks [] e = tt
 none_ready marks (b ∷ bs) e =
-    let here : is_ready marks b ≡ false = or_left (is_ready marks b) (finds (placed marks b) bs) e in
+    let here : is_ready marks b ≡ false = neither_left (is_ready marks b) (finds (placed marks b) bs) e in
     let same : placed marks b ≡ marks = rw here refl in
-    (here, none_ready marks bs (subst (λ (ms : List Bool). finds ms bs ≡ false) same (or_right (is_ready marks b) (finds (placed marks b) bs) e)))
+    (here, none_ready marks bs (subst (λ (ms : List Bool). finds ms bs ≡ false) same (neither_right (is_ready marks b) (finds (placed marks b) bs) e)))
 
 stuck_reads : (a b : Bool) → (a && not b) ≡ false → a ≡ true → b ≡ true
 stuck_reads true true h e = refl
 stuck_reads true false h e = absurd cc
 stuck_reads false b h e = absurd cc
 
--- by a test
-split : {X : Type 0} (b : Bool) → (b ≡ true → X) → (b ≡ false → X) → X
-split true p q = p refl
-split false p q = q refl
-
 never_stuck : (o : List Assignment) (marks : List Bool) → IsOrdered o → AllByRecursion (λ b. is_ready marks b ≡ false) o → AreNets (length marks) o → ((n : ℕ) → slice_get marks n ≡ Some true → IsUndriven o n → ⊥) → (n : ℕ) → slice_get marks n ≡ Some true → ⊥
 never_stuck [] marks i h r d n w = d n w tt
-never_stuck (a ∷ rest) marks i h r d n w = split (waits marks a.target)
+never_stuck (a ∷ rest) marks i h r d n w = by_cases (waits marks a.target)
     (λ e. absurd (let none : reads marks a.value ≡ false = reads_nothing marks a.value
     (reads_and (λ k. (k < length marks) × IsUndriven (a ∷ rest) k) (λ k. slice_get marks k ≡ Some false) a.value (λ k p. unmarked marks k p.0 (λ f. d k f p.1)) (reads_both (λ k. k < length marks) (IsUndriven (a ∷ rest)) a.value r.0.1 i.0)) in
     let some : reads marks a.value ≡ true = stuck_reads (waits marks a.target) (reads marks a.value) h.0 e in cc))
@@ -288,15 +289,37 @@ none_waits (false ∷ ms) e zero = refl
 none_waits (false ∷ ms) e (suc n) = none_waits ms e n
 
 -- where some net waits and a pass finds none, there is no order
-pub no_order : (as' : List Assignment) (nets : ℕ) (marks : List Bool) → IsWaiting as' nets marks → list_any (λ w. w) marks ≡ true → finds marks as' ≡ false → AreNets nets as' → CanBeOrdered as' → ⊥
-no_order as' nets marks k any e r c =
+pub no_order : (as' : List Assignment) (marks : List Bool) (o : List ℕ) → IsPlacing as' marks o → list_any (λ w. w) marks ≡ true → finds marks as' ≡ false → AreNets (length marks) as' → CanBeOrdered as' → ⊥
+no_order as' marks o k any e r c =
     let n = some_waits marks any in
     never_stuck c.order marks c.ordered
     (each_in_order (λ b. is_ready marks b ≡ false) as' c.order c.same (none_ready marks as' e))
-    (each_in_order (λ a. (a.target < length marks) × EachRead (λ i. i < length marks) a.value) as' c.order c.same (subst (λ (size : ℕ). AreNets size as') (sym k.size) r))
+    (each_in_order (λ a. (a.target < length marks) × EachRead (λ i. i < length marks) a.value) as' c.order c.same r)
     (λ i w u. k.driven i w (each_in_order (λ b. b.target ≢ i) c.order as' (IsPermutation-sym as' c.order c.same) u))
     n.0 n.1
 
--- where none waits, there is an order
-pub an_order : (as' : List Assignment) (nets : ℕ) (marks : List Bool) → IsWaiting as' nets marks → list_any (λ w. w) marks ≡ false → CanBeOrdered as'
-an_order as' nets marks k none = k.sound (subst CanBeOrdered (sym (left_none marks as' (none_waits marks none))) (record { order = []; same = IsPermutation-refl []; ordered = tt }))
+-- where none waits, all have their place
+pub an_order : (as' : List Assignment) (marks : List Bool) (o : List ℕ) → IsPlacing as' marks o → list_any (λ w. w) marks ≡ false → IsOrderOf as' o
+an_order as' marks o p none =
+    let gone : left marks as' ≡ [] = left_none marks as' (none_waits marks none) in
+    let all : picked as' o ++ [] ≡ picked as' o = append-nil (picked as' o) in
+    record {
+      in_range = p.in_range;
+      same = subst (IsPermutation as') (ap (λ (xs : List Assignment). picked as' o ++ xs) gone ∙ all) p.same;
+      ordered = subst IsOrdered all (p.ordered [] (subst (λ (xs : List Assignment). IsPermutation xs []) (sym gone) (IsPermutation-refl [])) tt);
+    }
+
+-- an order shows that there is one, and leaves no net out
+pub can_be_ordered : (as' : List Assignment) (o : List ℕ) → IsOrderOf as' o → CanBeOrdered as'
+can_be_ordered as' o h = record { order = picked as' o; same = h.same; ordered = h.ordered }
+
+pub order_whole : (as' : List Assignment) (o : List ℕ) → IsOrderOf as' o → (n : ℕ) → IsUndriven (picked as' o) n → IsUndriven as' n
+order_whole as' o h n u = each_in_order (λ a. a.target ≢ n) (picked as' o) as' (IsPermutation-sym as' (picked as' o) h.same) u
+
+pub some_order : {A : Type 0} (as' : List Assignment) (o : Option (Vec ℕ A)) → IfSome o (λ v. IsOrderOf as' v.items) → is_some o ≡ true → CanBeOrdered as'
+some_order as' None h e = absurd cc
+some_order as' (Some v) h e = can_be_ordered as' v.items h
+
+pub not_missing : {A : Type 0} (nets : ℕ) (as' : List Assignment) (o : Option A) → IsMissing nets as' o → AreNets nets as' → CanBeOrdered as' → is_some o ≡ true
+not_missing nets as' None h n c = absurd (h n refl c)
+not_missing nets as' (Some v) h n c = refl

@@ -1,22 +1,11 @@
 -- Assignments in an order have no loop: along a chain each net is driven earlier than the one before.
-use Rattle.std.proofs.Common.{◌≡◌, ℕ, suc, ◌<◌, ◌≤◌, ◌⊎◌, inl, inr, Bool, true, false, cond, List, [], ◌∷◌, length, eqb, refl, subst, arith}
+use Rattle.std.proofs.Common.{◌≡◌, ℕ, suc, ◌<◌, ◌≤◌, inl, inr, Bool, true, false, cond, List, [], ◌∷◌, length, eqb, refl, subst, arith}
 use Rattle.std.specs.Prelude.{◌||◌, ◌&&◌}
 use Rattle.std.proofs.lemmas.Bool.{eqb-true, eq-eqb}
+use Rattle.gl_bits.proofs.Bools.{or_cases, and_left, and_right}
 use Rattle.gl_verilog.specs.Module.{Assignment, Expr, Net, Literal, Invert, Binary, Choose, Join, Select, Read}
 use Rattle.gl_verilog.specs.Order.{EachRead, IsUndriven, IsOrdered}
 use Rattle.gl_verilog.specs.Valid.{mentions, depends, IsChain, HasNoLoop, drivers_of}
-
-or_cases : (a b : Bool) → (a || b) ≡ true → (a ≡ true) ⊎ (b ≡ true)
-or_cases true b e = inl refl
-or_cases false b e = inr e
-
-and_left : (a b : Bool) → (a && b) ≡ true → a ≡ true
-and_left true b e = refl
-and_left false b e = absurd cc
-
-and_right : (a b : Bool) → (a && b) ≡ true → b ≡ true
-and_right true b e = e
-and_right false b e = absurd cc
 
 -- what holds of each net that is read holds of one that is mentioned
 mentioned : (P : ℕ → Type 0) (e : Expr) (n : ℕ) → EachRead P e → mentions e n ≡ true → P n

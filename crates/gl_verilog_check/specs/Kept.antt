@@ -1,6 +1,10 @@
 -- Tests of a module: the width of an expression whose operators keep their widths, or nothing.
-use Rattle.std.specs.Prelude.{◌≡◌, ◌||◌, unwrap_or, slice_set, ℕ, ◌+◌, ◌-◌, ◌^◌, ◌<◌, Bool, true, false, not, ◌&&◌, List, [], ◌∷◌, Option, Some, None, slice_get, option_and_then, nat_eq, nat_le, nat_lt}
+use Rattle.std.specs.Prelude.{◌≡◌, ◌||◌, unwrap_or, slice_set, ℕ, ◌+◌, ◌-◌, ◌^◌, ◌<◌, Bool, true, false, not, ◌&&◌, List, [], ◌∷◌, Option, Some, None, slice_get, option_and_then, map, nat_eq, nat_le, nat_lt}
 use Rattle.gl_verilog.specs.Module.{Module, Kind, OutputWire, OutputRegister, Wire, Register, Memory, Declaration, BinaryOp, Expr, Net, Literal, Invert, Binary, Choose, Join, Select, Read, Statement, Nothing, Put, Write, Both, If, Assignment}
+use Rattle.gl_verilog.specs.declared.module.Declaration as code
+use Rattle.gl_verilog.specs.declared.module.Assignment as coded
+use Rattle.gl_verilog.specs.declared.module.Statement as codes
+use Rattle.gl_verilog.specs.View.{declaration_of, assignment_of, statement_of}
 use Rattle.gl_verilog.specs.Order.{EachRead, IsUndriven}
 use Rattle.gl_verilog.specs.Widths.{is_clock, width_after}
 use Rattle.std.specs.List.{AllByRecursion}
@@ -175,3 +179,7 @@ AreNets nets assignments = AllByRecursion (λ a. (a.target < nets) × EachRead (
 -- a module of these parts
 abbrev pub module_with : List Declaration → List Assignment → List Statement → Module
 module_with ds as' bs = record { name = []; ports = 0; declarations = ds; assignments = as'; blocks = bs }
+
+-- a module of these parts in code
+abbrev pub made_of : List code.Declaration → List coded.Assignment → List codes.Statement → Module
+made_of ds as' bs = module_with (map declaration_of ds) (map assignment_of as') (map statement_of bs)

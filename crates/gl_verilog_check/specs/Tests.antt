@@ -1,18 +1,14 @@
 -- Tests of drivers and of names, and what they show.
-use Rattle.std.specs.Prelude.{ℕ, ◌+◌, min, Bool, true, false, not, ◌&&◌, ◌||◌, List, [], ◌∷◌, Option, Some, None, option_and_then, option_map, nat_eq, bytes_eq, if◌then◌else◌}
+use Rattle.std.specs.Prelude.{ℕ, ◌+◌, min, Bool, true, false, not, ◌&&◌, ◌||◌, List, [], ◌∷◌, ◌++◌, Option, Some, None, option_and_then, option_map, nat_eq, bytes_eq, if◌then◌else◌}
+use Rattle.std.specs.List.{list_any}
 use Rattle.gl_verilog.specs.Module.{Kind, OutputRegister, Register, Memory, Declaration, Statement, Nothing, Put, Write, Both, If}
 use Rattle.gl_verilog.specs.Valid.{writes_of}
 use Rattle.gl_verilog_check.specs.Kept.{is_one}
 
--- a name is none of the others
-abbrev pub differs : Declaration → List Declaration → Bool
-differs d [] = true
-differs d (e ∷ es) = not (bytes_eq d.name e.name) && differs d es
-
--- no name is declared twice
-abbrev pub are_distinct : List Declaration → Bool
-are_distinct [] = true
-are_distinct (d ∷ ds) = differs d ds && are_distinct ds
+-- no name is declared twice, and none is one of these
+abbrev pub are_new : List (List ℕ) → List Declaration → Bool
+are_new names [] = true
+are_new names (d ∷ ds) = not (list_any (bytes_eq d.name) names) && are_new (names ++ d.name ∷ []) ds
 
 -- whether one of two is so, where not both are
 abbrev pub one_of : Bool → Bool → Option Bool

@@ -1,10 +1,14 @@
-//! Whether a module can run: widths are kept, each net is driven, and no net depends on itself.
+//! Whether a module is valid, whether it can run, and an order of its assignments. Here belong tests that
+//! answer yes or no of a module with its names resolved; which fault a text has stands elsewhere.
 #![tactic(auto)]
 
+mod counting;
+mod homes;
 mod order;
-pub mod runnable;
-pub mod valid;
-pub mod widths;
+mod runnable;
+mod valid;
+mod widths;
 
+pub use order::order_of;
 pub use runnable::is_runnable;
 pub use valid::is_valid;

@@ -1,11 +1,11 @@
 //! The test of a module that can run: widths, drivers, and an order of its assignments.
 
-ghost use Rattle.std.specs.Prelude.{◌≡◌, map, length, true, false, IfOk, []};
+ghost use Rattle.std.specs.Prelude.{◌≡◌, map, true, false, IfOk};
 ghost use Rattle.gl_verilog.specs.View.{declaration_of, assignment_of, statement_of, module_of, expr_of};
 ghost use Rattle.gl_verilog.specs.Runnable.{IsRunnable};
-ghost use Rattle.gl_verilog_check.specs.Kept.{AreMarks, driver_there, all_driven, all_sized, all_kept, test_kept, statement_kept, blocks_kept, module_with};
+ghost use Rattle.gl_verilog_check.specs.Kept.{driver_there, all_driven, all_sized, all_kept, test_kept, statement_kept, blocks_kept, made_of};
 
-use crate::order::{can_be_ordered, mark_targets};
+use crate::order::{mark_targets, no_marks, order_marked};
 use crate::widths::{assigned_width, has_size, kept, put_width, wants_driver, write_width};
 use gl_bits::Memory;
 use gl_verilog::{Assignment, Declaration, Expr, Module, Statement};
@@ -103,50 +103,45 @@ fn all_driven(declarations: &[Declaration], marks: &[bool]) -> bool
     true
 }
 
-/// Whether these parts make a module that can run. No net is marked at first.
+/// Whether these parts make a module that can run.
 pub(crate) fn parts_run(
+    alloc: Global,
     declarations: &[Declaration],
     assignments: &[Assignment],
     blocks: &[Statement],
-    marks: &mut Vec<bool>,
-) -> bool
-    requires fresh { AreMarks [] marks.old.items }
-    requires size { length marks.old.items ≡ length declarations.now }
-    ensures sound { result ≡ true → IsRunnable (module_with (map declaration_of declarations.now) (map assignment_of assignments.now) (map statement_of blocks.now)) }
-    ensures complete { IsRunnable (module_with (map declaration_of declarations.now) (map assignment_of assignments.now) (map statement_of blocks.now)) → result ≡ true }
+) -> Result<bool, Memory>
+    ensures sound { IfOk result (λ b. b ≡ true → IsRunnable (made_of declarations.now assignments.now blocks.now)) }
+    ensures complete { IfOk result (λ b. IsRunnable (made_of declarations.now assignments.now blocks.now) → b ≡ true) }
 {
     if !have_sizes(declarations) {
-        return false;
+        return Ok(false);
     }
     if !keep_widths(declarations, assignments) {
-        return false;
+        return Ok(false);
     }
     if !blocks_keep(declarations, blocks) {
-        return false;
+        return Ok(false);
     }
-    if !mark_targets(marks, assignments) {
-        return false;
+    let mut marks = no_marks(alloc, declarations.len())?;
+    if !mark_targets(&mut marks, assignments) {
+        return Ok(false);
     }
-    if !all_driven(declarations, marks) {
-        return false;
+    if !all_driven(declarations, &marks) {
+        return Ok(false);
     }
-    can_be_ordered(marks, assignments)
+    let order = order_marked(alloc, &mut marks, assignments)?;
+    Ok(order.is_some())
 }
 
 /// Whether the module can run: its widths are kept, each net that an assignment may drive has one,
-/// and the assignments can be put in an order in which each reads only what stands before it. Where
-/// they stand so already, one pass over them finds it; else at most one pass for each of them.
-#[tactic(auto, using(crate::proofs::Marks::marks_fresh))]
-pub fn is_runnable(alloc: Global, module: &Module) -> Result<bool, Memory>
-    ensures sound { IfOk result (λ b. b ≡ true → IsRunnable (module_of module.now)) }
-    ensures complete { IfOk result (λ b. b ≡ false → IsRunnable (module_of module.now) → ⊥) }
+/// and the assignments can be put in an order in which each reads only what stands before it.
+pub fn is_runnable(alloc: Global, design: &Module) -> Result<bool, Memory>
+    ensures sound { IfOk result (λ b. b ≡ true → IsRunnable (module_of design.now)) }
+    ensures complete { IfOk result (λ b. b ≡ false → IsRunnable (module_of design.now) → ⊥) }
 {
-    let declarations = module.declarations.as_slice();
-    let Ok(mut marks) = vec![in alloc; false; declarations.len()] else {
-        return Err(Memory);
-    };
-    let assignments = module.assignments.as_slice();
-    let blocks = module.blocks.as_slice();
-    let runs = parts_run(declarations, assignments, blocks, &mut marks);
+    let declarations = design.declarations.as_slice();
+    let assignments = design.assignments.as_slice();
+    let blocks = design.blocks.as_slice();
+    let runs = parts_run(alloc, declarations, assignments, blocks)?;
     Ok(runs)
 }

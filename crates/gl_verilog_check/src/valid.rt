@@ -1,40 +1,35 @@
 //! The test of a valid module: names, drivers, and all that a module that can run needs.
 
-ghost use Rattle.std.specs.Prelude.{◌≡◌, ◌+◌, map, length, true, false, IfOk, [], option_map};
+ghost use Rattle.std.specs.Prelude.{◌≡◌, ◌+◌, map, true, false, [], IfOk, option_map};
 ghost use Rattle.gl_verilog.specs.View.{declaration_of, assignment_of, statement_of, module_of};
 ghost use Rattle.gl_verilog.specs.Valid as valid;
 ghost use Rattle.gl_verilog.specs.Valid.{IsValid};
-ghost use Rattle.gl_verilog_check.specs.Kept.{AreMarks, module_with};
+ghost use Rattle.gl_verilog_check.specs.Kept.{made_of};
+ghost use Rattle.gl_verilog_check.specs.Homes.{home_of, all_at_home};
 ghost use Rattle.gl_verilog_check.specs.Tests as tests;
 ghost use Rattle.gl_verilog_check.specs.Tests.{at_most_two};
 
+use crate::homes::{homes_of, keep_homes};
 use crate::runnable::parts_run;
 use gl_bits::Memory;
 use gl_verilog::{Assignment, Declaration, Kind, Module, Statement};
+use indexmap::IndexSet;
 use std::alloc::Global;
 
-// Whether a name is none of the others.
-fn differs(declaration: &Declaration, others: &[Declaration]) -> bool
-    ensures { result ≡ tests.differs (declaration_of declaration.now) (map declaration_of others.now) }
+// Whether no name is declared twice.
+fn are_distinct(alloc: Global, declarations: &[Declaration]) -> Result<bool, Memory>
+    ensures { IfOk result (λ b. b ≡ tests.are_new [] (map declaration_of declarations.now)) }
 {
-    for other in others {
-        if declaration.name.as_slice() == other.name.as_slice() {
-            return false;
+    let mut names = IndexSet::new(alloc);
+    for declaration in declarations {
+        let Ok(is_new) = names.insert(declaration.name.as_slice()) else {
+            return Err(Memory);
+        };
+        if !is_new {
+            return Ok(false);
         }
     }
-    true
-}
-
-// Whether no name is declared twice. The time grows with the square of their number.
-fn are_distinct(declarations: &[Declaration]) -> bool
-    ensures { result ≡ tests.are_distinct (map declaration_of declarations.now) }
-{
-    for at in 0..declarations.len() {
-        if !differs(&declarations[at], declarations.split_at(at + 1).1) {
-            return false;
-        }
-    }
-    true
+    Ok(true)
 }
 
 // Whether one of two is so; None where both are.
@@ -137,7 +132,7 @@ fn is_assigned(declaration: &Declaration, n: usize, blocks: &[Statement]) -> boo
     }
 }
 
-// Whether every register and memory has a driver.
+// Whether every register and memory has a driver, by all blocks for each of them.
 fn are_assigned(declarations: &[Declaration], blocks: &[Statement]) -> bool
     ensures { result ≡ tests.all_assigned (map statement_of blocks.now) 0 (map declaration_of declarations.now) }
 {
@@ -149,40 +144,80 @@ fn are_assigned(declarations: &[Declaration], blocks: &[Statement]) -> bool
     true
 }
 
-// Whether these parts make a valid module. No net is marked at first.
+// Whether the register or memory of this number has a driver in its home.
+fn is_at_home(declaration: &Declaration, n: usize, blocks: &[Statement], homes: &[usize]) -> bool
+    ensures { result ≡ tests.is_assigned (home_of homes.now (map statement_of blocks.now) n) n (declaration_of declaration.now).kind }
+{
+    let Some(home) = homes.get(n) else {
+        return is_assigned(declaration, n, &[]);
+    };
+    let Some(block) = blocks.get(*home) else {
+        return is_assigned(declaration, n, &[]);
+    };
+    is_assigned(declaration, n, std::slice::from_ref(block))
+}
+
+// Whether every register and memory has a driver in its home.
+fn are_at_home(declarations: &[Declaration], blocks: &[Statement], homes: &[usize]) -> bool
+    ensures { result ≡ all_at_home homes.now (map statement_of blocks.now) 0 (map declaration_of declarations.now) }
+{
+    for (n, declaration) in declarations.iter().enumerate() {
+        if !is_at_home(declaration, n, blocks, homes) {
+            return false;
+        }
+    }
+    true
+}
+
+// Whether every register and memory has a driver: by the one block that assigns it, where no other
+// does, in time that grows with the text.
+fn have_drivers(
+    alloc: Global,
+    declarations: &[Declaration],
+    blocks: &[Statement],
+) -> Result<bool, Memory>
+    ensures { IfOk result (λ b. b ≡ tests.all_assigned (map statement_of blocks.now) 0 (map declaration_of declarations.now)) }
+{
+    let Ok(homes) = homes_of(alloc, declarations.len(), blocks) else {
+        return Err(Memory);
+    };
+    if keep_homes(&homes, blocks) {
+        return Ok(are_at_home(declarations, blocks, &homes));
+    }
+    Ok(are_assigned(declarations, blocks))
+}
+
+// Whether these parts make a valid module.
 fn parts_are_valid(
+    alloc: Global,
     declarations: &[Declaration],
     assignments: &[Assignment],
     blocks: &[Statement],
-    marks: &mut Vec<bool>,
-) -> bool
-    requires fresh { AreMarks [] marks.old.items }
-    requires size { length marks.old.items ≡ length declarations.now }
-    ensures sound { result ≡ true → IsValid (module_with (map declaration_of declarations.now) (map assignment_of assignments.now) (map statement_of blocks.now)) }
-    ensures complete { IsValid (module_with (map declaration_of declarations.now) (map assignment_of assignments.now) (map statement_of blocks.now)) → result ≡ true }
+) -> Result<bool, Memory>
+    ensures sound { IfOk result (λ b. b ≡ true → IsValid (made_of declarations.now assignments.now blocks.now)) }
+    ensures complete { IfOk result (λ b. IsValid (made_of declarations.now assignments.now blocks.now) → b ≡ true) }
 {
-    if !are_distinct(declarations) {
-        return false;
+    let distinct = are_distinct(alloc, declarations)?;
+    if !distinct {
+        return Ok(false);
     }
-    if !parts_run(declarations, assignments, blocks, marks) {
-        return false;
+    let runs = parts_run(alloc, declarations, assignments, blocks)?;
+    if !runs {
+        return Ok(false);
     }
-    are_assigned(declarations, blocks)
+    let assigned = have_drivers(alloc, declarations, blocks)?;
+    Ok(assigned)
 }
 
 /// Whether the module is valid: its names differ, its widths are kept, every net, register and
 /// memory has its driver, and no net depends on itself through assignments.
-#[tactic(auto, using(crate::proofs::Marks::marks_fresh))]
 pub fn is_valid(alloc: Global, design: &Module) -> Result<bool, Memory>
     ensures sound { IfOk result (λ b. b ≡ true → IsValid (module_of design.now)) }
     ensures complete { IfOk result (λ b. b ≡ false → IsValid (module_of design.now) → ⊥) }
 {
     let declarations = design.declarations.as_slice();
-    let Ok(mut marks) = vec![in alloc; false; declarations.len()] else {
-        return Err(Memory);
-    };
     let assignments = design.assignments.as_slice();
     let blocks = design.blocks.as_slice();
-    let valid = parts_are_valid(declarations, assignments, blocks, &mut marks);
+    let valid = parts_are_valid(alloc, declarations, assignments, blocks)?;
     Ok(valid)
 }

@@ -4,6 +4,7 @@ use Rattle.std.specs.Prelude.{◌||◌, ◌&&◌, slice_get}
 use Rattle.std.specs.Option.{option_map_or}
 use Rattle.std.proofs.lemmas.Bool.{eq-eqb}
 use Rattle.std.proofs.lemmas.Bool.Decides.{eqb_tells}
+use Rattle.gl_bits.proofs.Bools.{or_left, or_right, and_left, and_right}
 use Rattle.gl_bits.specs.Words.{not_of, cut_of}
 use Rattle.gl_verilog.specs.Module.{Module, Declaration, Kind, Input, OutputWire, OutputRegister, Wire, Register, Memory, Assignment, Expr, Net, Literal, Invert, Binary, Choose, Join, Select, Read, Nets, Memories, value_of}
 use Rattle.gl_verilog.specs.Order.{with_net}
@@ -16,22 +17,6 @@ use Rattle.gl_verilog_orders.specs.Events.{Evaluates, State, reads_memory, evalu
 use Rattle.gl_verilog_orders.proofs.Among.{IsAmong, woken_keeps, woken_adds, evaluations_has}
 
 -- ---- tests
-
-pub or_left : (a b : Bool) → a ≡ true → (a || b) ≡ true
-or_left true b e = refl
-or_left false b e = absurd cc
-
-pub or_right : (a b : Bool) → b ≡ true → (a || b) ≡ true
-or_right true b e = refl
-or_right false b e = e
-
-pub and_left : (a b : Bool) → (a && b) ≡ true → a ≡ true
-and_left true b e = refl
-and_left false b e = absurd cc
-
-pub and_right : (a b : Bool) → (a && b) ≡ true → b ≡ true
-and_right true b e = e
-and_right false b e = absurd cc
 
 pub test_of : (b : Bool) → (b ≡ true) ⊎ (b ≡ false)
 test_of true = inl refl

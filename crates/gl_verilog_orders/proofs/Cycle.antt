@@ -2,6 +2,7 @@
 use Rattle.std.proofs.Common.{◌≡◌, ◌≢◌, ℕ, suc, ◌+◌, ◌^◌, ◌<◌, inl, inr, true, List, [], ◌∷◌, Some, refl, sym, ap, ◌∙◌, subst, arith}
 use Rattle.std.specs.Prelude.{slice_get, IsSomeAnd, ◌&&◌, not}
 use Rattle.std.specs.List.{AllByRecursion, AllZip}
+use Rattle.gl_bits.proofs.Bools.{and_left}
 use Rattle.gl_verilog.specs.Module.{Module, Declaration, Kind, Input, OutputWire, OutputRegister, Wire, Register, Memory, Assignment, Nets, Memories, value_of}
 use Rattle.gl_verilog.specs.Run.{IsRegister, IsSettled}
 use Rattle.gl_verilog.specs.Widths.{IsDriven, is_clock, width_at}
@@ -14,7 +15,7 @@ use Rattle.gl_verilog.proofs.Runs.{register_undriven}
 use Rattle.gl_verilog_orders.specs.Events.{Event, Evaluates, State, IsAtRest, evaluations, net_takes, at_edge, inputs_take, IsCycle, IsStart, IsSettledRest, StandsBefore}
 use Rattle.gl_verilog_orders.specs.Laws.{IsTwoPhase, CyclesAreTwoPhase}
 use Rattle.gl_verilog_orders.proofs.Among.{chosen, IsAmong, IsEvaluation, evaluations_has, evaluations_only, executions_only}
-use Rattle.gl_verilog_orders.proofs.Aware.{and_left, not_target, net_takes-cases, aware_net}
+use Rattle.gl_verilog_orders.proofs.Aware.{not_target, net_takes-cases, aware_net}
 use Rattle.gl_verilog_orders.proofs.Good.{IsFine, IsGood, good_net, good_steps, settled_at_rest}
 use Rattle.gl_verilog_orders.proofs.Phases.{IsSettling, settling_schedule, evaluations_woken, begins_behind, behind_steps, stepped_at_rest}
 

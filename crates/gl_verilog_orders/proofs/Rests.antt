@@ -5,13 +5,14 @@ use Rattle.std.specs.Option.{option_map_or}
 use Rattle.std.specs.List.{list_any}
 use Rattle.std.proofs.lemmas.Bool.{eq-eqb}
 use Rattle.std.proofs.Math.Nat.{pow-zero, pow-succ', pow-le-pow_right, mul-le-mul_left}
+use Rattle.gl_bits.proofs.Bools.{and_both, or_left, or_right}
 use Rattle.gl_verilog.specs.Module.{Module, Assignment, Expr, Statement, Nothing, Put, Write, Both, If, Nets, Memories, value_of}
 use Rattle.gl_verilog.specs.Valid.{IsValid, mentions, depends}
 use Rattle.gl_verilog.proofs.Acyclic.{IsIn, IsRanked, ranked, targets_of}
 use Rattle.gl_verilog_orders.specs.Events.{Event, Evaluates, Executes, Puts, Writes, State, IsAtRest, reads_memory, evaluations, is_evaluation, woken, net_takes, word_takes, updates_of, happened, with_active, Step, happens, releases, Schedule, no_steps, a_step}
 use Rattle.gl_verilog_orders.specs.Laws.{Rests, ComesToRest, Ends}
 use Rattle.gl_verilog_orders.proofs.Among.{chosen}
-use Rattle.gl_verilog_orders.proofs.Aware.{or_left, or_right, mapped, net_takes-cases, word_takes-cases}
+use Rattle.gl_verilog_orders.proofs.Aware.{mapped, net_takes-cases, word_takes-cases}
 
 -- ---- weights
 
@@ -169,10 +170,6 @@ in_targets : (as' : List Assignment) (j : ℕ) (a : Assignment) → slice_get as
 in_targets [] j a e = absurd cc
 in_targets (b ∷ as') zero a e = let same : b ≡ a = cc in inl (ap (λ (x : Assignment). x.target) (sym same))
 in_targets (b ∷ as') (suc j) a e = inr (in_targets as' j a e)
-
-and_both : (a b : Bool) → a ≡ true → b ≡ true → (a && b) ≡ true
-and_both true b e f = f
-and_both false b e f = absurd cc
 
 depends_on : (as' : List Assignment) (j : ℕ) (a : Assignment) (n : ℕ) → slice_get as' j ≡ Some a → mentions a.value n ≡ true → depends as' a.target n ≡ true
 depends_on [] j a n e h = absurd cc

@@ -4,11 +4,11 @@ use Rattle.std.specs.Prelude.{◌||◌, ◌&&◌, slice_get}
 use Rattle.std.specs.List.{AllByRecursion}
 use Rattle.std.proofs.lemmas.Bool.{eq-eqb}
 use Rattle.std.proofs.lemmas.Bool.Decides.{eqb_tells}
+use Rattle.gl_bits.proofs.Bools.{neither_left, neither_right, or_left, or_right}
 use Rattle.gl_verilog.specs.Module.{Statement, Nothing, Put, Write, Both, If, Nets, Memories, value_of, later_or, assigned, written, assigned_by, written_by}
 use Rattle.gl_verilog.specs.Valid.{assigns, AssignsOnce, blocks_of, writes_in, writes_of}
 use Rattle.gl_verilog_orders.specs.Events.{Event, Executes, Puts, Writes, updates_of}
 use Rattle.gl_verilog_orders.proofs.Among.{chosen, IsAmong, among_left, among_right, among_cases}
-use Rattle.gl_verilog_orders.proofs.Aware.{or_left, or_right}
 
 both_chosen : {A B : Type 0} (P : A → B → Type 0) (b : Bool) (x y : A) (x' y' : B) → P x x' → P y y' → P (cond b x y) (cond b x' y')
 both_chosen P true x y x' y' p q = p
@@ -38,14 +38,6 @@ puts_assigns v w (If test yes' no') r x i = pick (nat_eq (value_of v w test) 1) 
     pick true f g i = or_left (assigns yes' r) (assigns no' r) (f i)
     pick false f g i = or_right (assigns yes' r) (assigns no' r) (g i)
 
-or_false_left : (a b : Bool) → (a || b) ≡ false → a ≡ false
-or_false_left true b e = absurd cc
-or_false_left false b e = refl
-
-or_false_right : (a b : Bool) → (a || b) ≡ false → b ≡ false
-or_false_right true b e = absurd cc
-or_false_right false b e = e
-
 and_false : (a b : Bool) → a ≡ true → (a && b) ≡ false → b ≡ false
 and_false true b e f = f
 and_false false b e f = absurd cc
@@ -54,8 +46,8 @@ not_assigned : (v : Nets) (w : Memories) (s : Statement) (r : ℕ) → assigns s
 not_assigned v w Nothing r e = refl
 not_assigned v w (Put register value) r e = rw e refl
 not_assigned v w (Write memory address value) r e = refl
-not_assigned v w (Both first second) r e = rw (not_assigned v w second r (or_false_right (assigns first r) (assigns second r) e), not_assigned v w first r (or_false_left (assigns first r) (assigns second r) e)) refl
-not_assigned v w (If test yes' no') r e = rw (not_assigned v w yes' r (or_false_left (assigns yes' r) (assigns no' r) e), not_assigned v w no' r (or_false_right (assigns yes' r) (assigns no' r) e)) (neither (nat_eq (value_of v w test) 1))
+not_assigned v w (Both first second) r e = rw (not_assigned v w second r (neither_right (assigns first r) (assigns second r) e), not_assigned v w first r (neither_left (assigns first r) (assigns second r) e)) refl
+not_assigned v w (If test yes' no') r e = rw (not_assigned v w yes' r (neither_left (assigns yes' r) (assigns no' r) e), not_assigned v w no' r (neither_right (assigns yes' r) (assigns no' r) e)) (neither (nat_eq (value_of v w test) 1))
   where
     neither : (b : Bool) → cond {A = Option ℕ} b None None ≡ None
     neither true = refl

@@ -2,7 +2,7 @@
 use Rattle.std.specs.Prelude.{◌≡◌, ℕ, suc, List, Some, slice_get, unwrap_or}
 use Rattle.gl_verilog.specs.Module.{Module, Declaration, Nets, Memories, assigned_by, written_by}
 use Rattle.gl_verilog.specs.Run.{Fit, IsRun, IsRegister, IsSettled}
-use Rattle.gl_verilog.specs.Runnable.{FitInputs, HasInputs, SameState, SameInputs, SameNets, Settles}
+use Rattle.gl_verilog.specs.Runnable.{FitInputs, HasInputs, SameState, SameInputs, SameNets}
 use Rattle.gl_verilog_orders.specs.Events.{State, Step, Schedule, IsAtRest, IsCycle, IsStart, StandsBefore, IsEventRun}
 
 -- from a state steps lead to rest
@@ -60,10 +60,6 @@ pub record EventRunsFrom (m : Module) (start : Nets) (words : Memories) (inputs 
 -- there is one from any start and any inputs that fit
 abbrev pub HasEventRuns : Module → Type 0
 HasEventRuns m = (start : Nets) (words : Memories) (inputs : ℕ → Nets) → Fit m.declarations start words → ((t : ℕ) → Fit m.declarations (inputs t) words) → EventRunsFrom m start words inputs
-
--- each cycle settles, whatever its inputs, registers and words; `SettlesOneWay` says in one way at most
-abbrev pub SettlesSomeWay : Module → Type 0
-SettlesSomeWay m = (v : Nets) (words : Memories) → Fit m.declarations v words → Settles m v words
 
 -- what is seen in a two-phase run is seen in some order of events
 pub record IsSeen (m : Module) (value : ℕ → Nets) (word : ℕ → Memories) : Type 0 where

@@ -2,8 +2,9 @@
 
 ghost use Rattle.gl_verilog.specs.Module.{Module as Design};
 ghost use Rattle.gl_verilog.specs.Valid.{IsValid};
-ghost use Rattle.gl_verilog.specs.Runnable.{IsRunnable};
-ghost use Rattle.gl_verilog_orders.specs.Laws.{ComesToRest, CyclesAreTwoPhase, Ends, EventRunsAreRuns, HasEventRuns, HasEventRunsOf, RunsAreSeen, SettlesSomeWay};
+ghost use Rattle.gl_verilog_orders.specs.Laws.{ComesToRest, CyclesAreTwoPhase, Ends};
+ghost use Rattle.gl_verilog_orders.specs.Laws.{EventRunsAreRuns, HasEventRuns, HasEventRunsOf, RunsAreSeen};
+ghost use Rattle.gl_verilog_orders.specs.Races.{Races, twice_assigned};
 
 /// Every list of steps can be continued to rest, and none goes on for ever.
 pub fn comes_to_rest()
@@ -28,7 +29,8 @@ pub fn has_event_runs()
     ensures same { (m : Design) → IsValid m → HasEventRuns m }
 {}
 
-/// Each cycle settles, whatever its inputs, registers and words.
-pub fn settles_some_way()
-    ensures { (m : Design) → IsRunnable m → SettlesSomeWay m }
+/// A register that two blocks assign takes a value by the order of events: a race. So no valid module
+/// has one.
+pub fn two_blocks_race()
+    ensures { Races twice_assigned }
 {}

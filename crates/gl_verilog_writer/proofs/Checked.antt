@@ -1,7 +1,9 @@
 -- The module of a netlist keeps widths: every assignment and every block.
-use Rattle.std.proofs.Common.{◌≡◌, ℕ, suc, ◌+◌, ◌<◌, ◌≤◌, true, List, [], ◌∷◌, ◌++◌, length, Option, Some, None, IfSome, IsSomeAnd, IsTrue, refl, sym, ap, subst, ◌∙◌, arith, inl, inr}
+use Rattle.std.proofs.Common.{◌≡◌, ℕ, suc, ◌+◌, ◌<◌, ◌≤◌, true, List, ◌++◌, length, Option, Some, None, IfSome, IsSomeAnd, IsTrue, refl, sym, ap, subst, ◌∙◌, arith, inl, inr}
 use Rattle.std.specs.Prelude.{slice_get, option_map}
 use Rattle.std.specs.List.{AllByRecursion}
+use Rattle.gl_bits.proofs.AllLists.{all_by_place, all_append}
+use Rattle.gl_bits.proofs.Options.{some_same}
 use Rattle.gl_net.specs.declared.node.BinaryOp.{BinaryOp}
 use Rattle.gl_net.specs.declared.node.BinaryOp.TheVariants.{Add, Sub, Mul, And, Xor, Or, Eq, Ne, Lt, Le}
 use Rattle.gl_net.specs.declared.node.Node.{Node}
@@ -20,15 +22,10 @@ use Rattle.gl_verilog.specs.Widths.{IsNet, IsDriven, IsMemory, IsReadable, HasSi
 use Rattle.gl_verilog_writer.specs.Meaning.{kind_of}
 use Rattle.gl_verilog_writer.specs.Design.{node_width, numbered}
 use Rattle.gl_verilog_writer.proofs.Model.{Named, at_node, net_of, op_of, kind_for, assigned_to, assignment_for, shown_by, output_for, block_for, declarations_in, line_in}
-use Rattle.gl_verilog_writer.proofs.Digits.{all-append}
-use Rattle.gl_verilog_writer.proofs.Lists.{same_some, numbered-all}
+use Rattle.gl_verilog_writer.proofs.Lists.{numbered-all}
 use Rattle.gl_verilog_writer.proofs.Named.{node_there, port_there, port_found, port_no_clock, net_no_clock, sorted}
 use Rattle.gl_verilog_writer.proofs.Fitted.{width-fits, port_end, bus, bit, shown, stored, carried-width, carried-keeps, node-width}
 use Rattle.gl_verilog_writer.proofs.Resolved.{port-width, line-found, some-any}
-
-pub all-get : {A : Type 0} (P : A → Type 0) (xs : List A) → ((k : ℕ) (x : A) → slice_get xs k ≡ Some x → P x) → AllByRecursion P xs
-all-get P [] h = tt
-all-get P (x ∷ xs) h = (h 0 x refl, all-get P xs (λ k y e. h (suc k) y e))
 
 width-op : (o : BinaryOp) (w : ℕ) → width_after (op_of o) w ≡ binary_width o w
 width-op Add w = refl
@@ -134,7 +131,7 @@ module _ (net : Net) (family : ℕ) (c : Named net family) where
   here-port k x e = ap (λ (m : ℕ). slice_get net.ports m) (let q : 0 + k ≡ k = omega arith in q) ∙ e
 
   pub assignments-keep : AllByRecursion (KeepsWidth ds) (numbered (assignment_for p) 0 net.nodes ++ numbered (output_for p) 0 net.ports)
-  assignments-keep = all-append (KeepsWidth ds) (numbered (assignment_for p) 0 net.nodes) (numbered (output_for p) 0 net.ports)
+  assignments-keep = all_append (KeepsWidth ds) (numbered (assignment_for p) 0 net.nodes) (numbered (output_for p) 0 net.ports)
       (numbered-all (KeepsWidth ds) (assignment_for p) 0 net.nodes (λ k x e. value-keeps (0 + k) x (here k x e) (c.netlist.formed.nodes (0 + k) x (here k x e))))
       (numbered-all (KeepsWidth ds) (output_for p) 0 net.ports (λ k q e. output-keeps (0 + k) q (here-port k q e) q.direction refl (c.netlist.formed.ends (0 + k) q (here-port k q e))))
 
@@ -145,7 +142,7 @@ module _ (net : Net) (family : ℕ) (c : Named net family) where
   unfolding needs_reset
   reset-line n x e t =
       let r : HasReset net = c.netlist.finished.reset (some-any has_reset_value net.nodes n x e t) in
-      (r, same_some _ _ (sym (line-found net family c n x e t) ∙ port_found net family c r.port.place _ r.port.there))
+      (r, some_same _ _ (sym (line-found net family c n x e t) ∙ port_found net family c r.port.place _ r.port.there))
 
   line-width : (r : HasReset net) → width_at ds (suc r.port.place) ≡ 1
   line-width r = let t = port_there net family c r.port.place _ r.port.there in rw t (ap bits_of r.bit)
@@ -219,7 +216,7 @@ module _ (net : Net) (family : ℕ) (c : Named net family) where
   port-size Out bits m = absurd m
 
   pub sizes-fit : AllByRecursion HasSize ds
-  sizes-fit = all-get HasSize ds (λ i d e. elim (sorted net family c i d e) [
+  sizes-fit = all_by_place HasSize ds (λ i d e. elim (sorted net family c i d e) [
     | inl a ↦ subst HasSize (sym a.1) (record { some' = omega arith; most = omega arith }, (λ bits m. absurd m))
     | inr a ↦ elim a [
       | inl a ↦ subst HasSize (sym a.is) (port-width net family c a.place a.port a.there, (λ bits m. port-size a.port.direction bits m))

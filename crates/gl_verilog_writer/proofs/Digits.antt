@@ -1,5 +1,5 @@
 -- Names and numbers as tokens.
-use Rattle.std.proofs.Common.{◌≡◌, ℕ, ◌-◌, ◌<◌, ◌≤◌, ◌^◌, Bool, true, false, ◌||◌, ◌&&◌, List, [], ◌∷◌, ◌++◌, length, Option, None, refl, sym, ap, ◌∙◌, append_assoc, append-nil, length-append, arith, inl, inr, ◌⊎◌, le-leb, lt-ltb, ne_eqb, leb-true}
+use Rattle.std.proofs.Common.{◌≡◌, ℕ, ◌-◌, ◌<◌, ◌≤◌, ◌^◌, Bool, true, false, ◌||◌, ◌&&◌, List, [], ◌∷◌, ◌++◌, length, Option, None, refl, sym, ap, ◌∙◌, append_assoc, append-nil, length-append, arith, inl, inr, le-leb, lt-ltb, ne_eqb, leb-true}
 use Rattle.std.specs.Prelude.{codes, decimal, nat_eq, nat_le, nat_lt, bytes_eq}
 use Rattle.std.specs.List.{AllByRecursion, list_all, list_any}
 use Rattle.std.specs.Int.{IsInRange}
@@ -7,6 +7,8 @@ use Rattle.std.specs.Str.Parse.{IsNumeral, AllDigits}
 use Rattle.std.proofs.lemmas.Bool.{lt-leb}
 use Rattle.std.proofs.lemmas.Str.Parse.{tells_digits, numerals_by_fold, FoldsDigits, IsNumeralModel}
 use Rattle.std.proofs.lemmas.Fmt.{decimal_is_IsNumeral_wide, length-decimal-le}
+use Rattle.gl_bits.proofs.AllLists.{all_append}
+use Rattle.gl_bits.proofs.Bools.{or_cases, and_parts, neither_parts}
 use Rattle.gl_net.specs.Finished as net
 use Rattle.gl_net.specs.Finished.{IsName, keywords}
 use Rattle.gl_verilog.specs.Tokens.{Token, Name, Number, Sized, Keyword, Class, Letter, Digit, Between, InWord, InNumber, AtBase, InDigits, Move, to, after, scan, fresh, fresh_by, in_word, in_number, in_digits, at_base, class_of, is_letter, is_digit_of, goes_on, number_from, number_in, number_token, sized_token, reserved, word_by, word_token, Reads, ClosesWord, ClosesNumber, ClosesDigits}
@@ -34,10 +36,6 @@ digit_continues c r = λ w. let e = class_digit c r in rw e refl
 
 letter_continues : (c : ℕ) → is_letter c ≡ true → Continues c
 letter_continues c h = λ w. let e = class_letter c h in rw e refl
-
-pub all-append : {A : Type 0} (P : A → Type 0) (a b : List A) → AllByRecursion P a → AllByRecursion P b → AllByRecursion P (a ++ b)
-all-append P [] b p q = q
-all-append P (x ∷ a) b p q = (p.0, all-append P a b p.1 q)
 
 digits_continue : (ds : List ℕ) → AllDigits 10 ds → AllByRecursion Continues ds
 digits_continue [] h = tt
@@ -173,37 +171,25 @@ regroup false false false h = h
 letter_is : (c : ℕ) → net.is_letter c ≡ true → is_letter c ≡ true
 letter_is c h = regroup (nat_le 97 c && nat_le c 122) (nat_le 65 c && nat_le c 90) (nat_eq c 95) h
 
-either : (a b : Bool) → (a || b) ≡ true → (a ≡ true) ⊎ (b ≡ true)
-either true b h = inl refl
-either false b h = inr h
-
-both_true : (a b : Bool) → (a && b) ≡ true → (a ≡ true) × (b ≡ true)
-both_true true b h = (refl, h)
-both_true false b h = absurd (cc)
-
 byte_continues : (c : ℕ) → (net.is_letter c || net.is_digit c) ≡ true → Continues c
-byte_continues c h = elim (either (net.is_letter c) (net.is_digit c) h) [
+byte_continues c h = elim (or_cases (net.is_letter c) (net.is_digit c) h) [
   | inl l ↦ letter_continues c (letter_is c l)
-  | inr d ↦ (let p = both_true (nat_le 48 c) (nat_le c 57) d in digit_continues c (leb-true 48 c p.0, leb-true c 57 p.1))
+  | inr d ↦ (let p = and_parts (nat_le 48 c) (nat_le c 57) d in digit_continues c (leb-true 48 c p.0, leb-true c 57 p.1))
 ]
 
 bytes_continue : (w : List ℕ) → list_all (λ c. net.is_letter c || net.is_digit c) w ≡ true → AllByRecursion Continues w
 bytes_continue [] h = tt
-bytes_continue (c ∷ w) h = let p = both_true (net.is_letter c || net.is_digit c) (list_all (λ c. net.is_letter c || net.is_digit c) w) h in (byte_continues c p.0, bytes_continue w p.1)
+bytes_continue (c ∷ w) h = let p = and_parts (net.is_letter c || net.is_digit c) (list_all (λ c. net.is_letter c || net.is_digit c) w) h in (byte_continues c p.0, bytes_continue w p.1)
 
 name_word : (w : List ℕ) → net.begins_with_letter w ≡ true → list_all (λ c. net.is_letter c || net.is_digit c) w ≡ true → IsWordText w
 name_word [] f h = absurd (cc)
 name_word (c ∷ w) f h =
-    let p = both_true (net.is_letter c || net.is_digit c) (list_all (λ c. net.is_letter c || net.is_digit c) w) h in
+    let p = and_parts (net.is_letter c || net.is_digit c) (list_all (λ c. net.is_letter c || net.is_digit c) w) h in
     (ap (λ (k : Class). fresh_by k c) (class_letter c (letter_is c f)), bytes_continue w p.1)
-
-neither : (a b : Bool) → (a || b) ≡ false → (a ≡ false) × (b ≡ false)
-neither true b h = absurd (cc)
-neither false b h = (refl, h)
 
 none_of : (p : List ℕ → Bool) (ks : List (List ℕ)) → list_any p ks ≡ false → AllByRecursion (λ k. p k ≡ false) ks
 none_of p [] h = tt
-none_of p (k ∷ ks) h = let q = neither (p k) (list_any p ks) h in (q.0, none_of p ks q.1)
+none_of p (k ∷ ks) h = let q = neither_parts (p k) (list_any p ks) h in (q.0, none_of p ks q.1)
 
 not_reserved : (w : List ℕ) → AllByRecursion (λ k. bytes_eq w k ≡ false) keywords → reserved w ≡ None
 not_reserved w a = rw (a.0, a.1.0, a.1.1.0, a.1.1.1.0, a.1.1.1.1.0, a.1.1.1.1.1.0, a.1.1.1.1.1.1.0, a.1.1.1.1.1.1.1.0, a.1.1.1.1.1.1.1.1.0, a.1.1.1.1.1.1.1.1.1.0, a.1.1.1.1.1.1.1.1.1.1.0, a.1.1.1.1.1.1.1.1.1.1.1.0, a.1.1.1.1.1.1.1.1.1.1.1.1.0) refl
@@ -222,7 +208,7 @@ net-plain family n f h =
     let la = length-decimal-le 20 family (omega arith) (omega arith) f in
     let lb = length-decimal-le 20 n (omega arith) (omega arith) h in
     record {
-      word = (refl, all-append Continues (decimal family ++ codes "_") (decimal n) (all-append Continues (decimal family) (codes "_") (digits_continue (decimal family) a.1) ((λ w. refl), tt)) (digits_continue (decimal n) b.1));
+      word = (refl, all_append Continues (decimal family ++ codes "_") (decimal n) (all_append Continues (decimal family) (codes "_") (digits_continue (decimal family) a.1) ((λ w. refl), tt)) (digits_continue (decimal n) b.1));
       token = word_is (codes "n" ++ decimal family ++ codes "_" ++ decimal n) refl
           (omega (arith, la, lb, length-append (decimal family ++ codes "_") (decimal n), length-append (decimal family) (codes "_")));
     }

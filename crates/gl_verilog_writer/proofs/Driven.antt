@@ -1,8 +1,11 @@
 -- Each net of a netlist's module has one driver, and none depends on itself.
-use Rattle.std.proofs.Common.{◌≡◌, ℕ, zero, suc, ◌+◌, ◌<◌, ◌≤◌, Bool, true, false, ◌&&◌, ◌||◌, List, [], ◌∷◌, ◌++◌, length, Option, Some, None, IfSome, is_some, refl, sym, ap, subst, ◌∙◌, arith, inl, inr, ◌⊎◌, eq-eqb, eqb-true, ne_eqb}
+use Rattle.std.proofs.Common.{◌≡◌, ℕ, zero, suc, ◌+◌, ◌<◌, ◌≤◌, Bool, true, false, ◌&&◌, ◌||◌, List, [], ◌∷◌, ◌++◌, length, Option, Some, None, IfSome, is_some, refl, sym, ap, subst, ◌∙◌, arith, inl, inr, eq-eqb, eqb-true, ne_eqb}
 use Rattle.std.specs.Prelude.{slice_get, option_map, option_and_then, nat_eq, if◌then◌else◌}
 use Rattle.std.specs.List.{AllByRecursion}
 use Rattle.std.proofs.lemmas.Option.{slice_get_within, slice_get_past}
+use Rattle.gl_bits.proofs.AllLists.{all_append}
+use Rattle.gl_bits.proofs.Bools.{or_cases, and_parts}
+use Rattle.gl_bits.proofs.Options.{not_some}
 use Rattle.gl_net.specs.declared.node.Node.{Node}
 use Rattle.gl_net.specs.declared.node.Node.TheVariants.{Input, Constant, Not, Binary, Choose, Join, Cut, Register, Memory, MemoryRead}
 use Rattle.gl_net.specs.declared.node.Bus.{Bus}
@@ -18,9 +21,8 @@ use Rattle.gl_verilog.specs.Valid.{drivers_of, assigns, AssignsOnce, blocks_of, 
 use Rattle.gl_verilog_writer.specs.Meaning.{kind_of}
 use Rattle.gl_verilog_writer.specs.Design.{numbered}
 use Rattle.gl_verilog_writer.proofs.Model.{Named, at_node, kind_for, expression_of, assigned_to, assignment_for, shown_by, output_for, block_for, declarations_in, line_in, module_in}
-use Rattle.gl_verilog_writer.proofs.Digits.{all-append}
 use Rattle.gl_verilog_writer.proofs.Ordered.{Descends, Above, if_some, in-order, rises-append, rises-numbered}
-use Rattle.gl_verilog_writer.proofs.Lists.{some_none, numbered-all, total, count, total-append, total-none, total-one}
+use Rattle.gl_verilog_writer.proofs.Lists.{numbered-all, total, count, total-append, total-none, total-one}
 use Rattle.gl_verilog_writer.proofs.Named.{sorted, distinct, apart}
 use Rattle.gl_verilog_writer.proofs.Fitted.{port_end, shown}
 use Rattle.gl_verilog_writer.proofs.Checked.{sizes-fit, assignments-keep, blocks-keep}
@@ -119,14 +121,6 @@ once-each p line m r (MemoryRead store x) = tt
 zero_up : (n : ℕ) → 0 + n ≡ n
 zero_up n = omega arith
 
-either : (a b : Bool) → (a || b) ≡ true → (a ≡ true) ⊎ (b ≡ true)
-either true b h = inl refl
-either false b h = inr h
-
-both_true : (a b : Bool) → (a && b) ≡ true → (a ≡ true) × (b ≡ true)
-both_true true b h = (refl, h)
-both_true false b h = absurd (cc)
-
 -- ---- ranks
 
 abbrev rank_by : ℕ → ℕ → Direction → ℕ
@@ -144,8 +138,8 @@ rank ports most (suc k) = rank_at most (slice_get ports k) k
 
 descends : (r : ℕ → ℕ) (as' : List Assignment) → AllByRecursion (Descends r) as' → (t n : ℕ) → depends as' t n ≡ true → r n < r t
 descends r [] h t n e = absurd (cc)
-descends r (a ∷ as') h t n e = elim (either (nat_eq a.target t && mentions a.value n) (depends as' t n) e) [
-  | inl f ↦ (let g = both_true (nat_eq a.target t) (mentions a.value n) f in subst (λ (k : ℕ). r n < r k) (eqb-true a.target t g.0) (h.0 n g.1))
+descends r (a ∷ as') h t n e = elim (or_cases (nat_eq a.target t && mentions a.value n) (depends as' t n) e) [
+  | inl f ↦ (let g = and_parts (nat_eq a.target t) (mentions a.value n) f in subst (λ (k : ℕ). r n < r k) (eqb-true a.target t g.0) (h.0 n g.1))
   | inr f ↦ descends r as' h.1 t n f
 ]
 
@@ -199,8 +193,8 @@ module _ (net : Net) (family : ℕ) (c : Named net family) where
   unfolding open_in
   register-set n w None (Some next) e = let f : nat_eq (at_node p (0 + n)) (at_node p n) ≡ true = eq-eqb (at_node p (0 + n)) (at_node p n) (ap (at_node p) (zero_up n)) in rw f refl
   register-set n w (Some value) (Some next) e = let f : nat_eq (at_node p (0 + n)) (at_node p n) ≡ true = eq-eqb (at_node p (0 + n)) (at_node p n) (ap (at_node p) (zero_up n)) in rw f refl
-  register-set n w None None e = let f : None ≡ Some (Value w) = sym (c.netlist.finished.driven n) ∙ ap (option_and_then open_shape) e in absurd (some_none (Value w) f)
-  register-set n w (Some value) None e = let f : None ≡ Some (Value w) = sym (c.netlist.finished.driven n) ∙ ap (option_and_then open_shape) e in absurd (some_none (Value w) f)
+  register-set n w None None e = let f : None ≡ Some (Value w) = sym (c.netlist.finished.driven n) ∙ ap (option_and_then open_shape) e in absurd (not_some (Value w) f)
+  register-set n w (Some value) None e = let f : None ≡ Some (Value w) = sym (c.netlist.finished.driven n) ∙ ap (option_and_then open_shape) e in absurd (not_some (Value w) f)
 
   register-driven : (n w : ℕ) (reset : Option ℕ) (next : Option Bus) → slice_get net.nodes n ≡ Some (Register w reset next) → blocks_of blocks (at_node p n) ≡ 1
   register-driven n w reset next e =
@@ -211,7 +205,7 @@ module _ (net : Net) (family : ℕ) (c : Named net family) where
   memory-set : (n bits w : ℕ) (drive : Option MemoryDrive) → slice_get net.nodes n ≡ Some (Memory bits w drive) → count (writes (at_node p n)) (block_for p (line_in net family) (0 + n) (Memory bits w drive)) ≡ 1
   unfolding open_in
   memory-set n bits w (Some drive) e = let f : nat_eq (at_node p (0 + n)) (at_node p n) ≡ true = eq-eqb (at_node p (0 + n)) (at_node p n) (ap (at_node p) (zero_up n)) in rw f refl
-  memory-set n bits w None e = let f : None ≡ Some (Words bits w) = sym (c.netlist.finished.driven n) ∙ ap (option_and_then open_shape) e in absurd (some_none (Words bits w) f)
+  memory-set n bits w None e = let f : None ≡ Some (Words bits w) = sym (c.netlist.finished.driven n) ∙ ap (option_and_then open_shape) e in absurd (not_some (Words bits w) f)
 
   memory-driven : (n bits w : ℕ) (drive : Option MemoryDrive) → slice_get net.nodes n ≡ Some (Memory bits w drive) → writes_of blocks (at_node p n) ≡ 1
   memory-driven n bits w drive e =
@@ -279,12 +273,12 @@ module _ (net : Net) (family : ℕ) (c : Named net family) where
       let z : ranks m < ranks (at_node p n) = omega (arith, a, d) in z
   value-descends n (Constant word) e h = λ m t. absurd (cc)
   value-descends n (Not x) e h = λ m t. reads x.node n m h.before t
-  value-descends n (Binary o x y) e h = λ m t. elim (either (nat_eq (at_node p x.node) m) (nat_eq (at_node p y.node) m) t) [ inl f ↦ reads x.node n m h.0.before f | inr f ↦ reads y.node n m h.1.before f ]
-  value-descends n (Choose test x y) e h = λ m t. elim (either (nat_eq (at_node p test.node) m) (nat_eq (at_node p x.node) m || nat_eq (at_node p y.node) m) t) [
+  value-descends n (Binary o x y) e h = λ m t. elim (or_cases (nat_eq (at_node p x.node) m) (nat_eq (at_node p y.node) m) t) [ inl f ↦ reads x.node n m h.0.before f | inr f ↦ reads y.node n m h.1.before f ]
+  value-descends n (Choose test x y) e h = λ m t. elim (or_cases (nat_eq (at_node p test.node) m) (nat_eq (at_node p x.node) m || nat_eq (at_node p y.node) m) t) [
     | inl f ↦ reads test.node n m h.0.before f
-    | inr f ↦ elim (either (nat_eq (at_node p x.node) m) (nat_eq (at_node p y.node) m) f) [ inl g ↦ reads x.node n m h.1.before g | inr g ↦ reads y.node n m h.2.before g ]
+    | inr f ↦ elim (or_cases (nat_eq (at_node p x.node) m) (nat_eq (at_node p y.node) m) f) [ inl g ↦ reads x.node n m h.1.before g | inr g ↦ reads y.node n m h.2.before g ]
   ]
-  value-descends n (Join x y) e h = λ m t. elim (either (nat_eq (at_node p x.node) m) (nat_eq (at_node p y.node) m) t) [ inl f ↦ reads x.node n m h.0.before f | inr f ↦ reads y.node n m h.1.before f ]
+  value-descends n (Join x y) e h = λ m t. elim (or_cases (nat_eq (at_node p x.node) m) (nat_eq (at_node p y.node) m) t) [ inl f ↦ reads x.node n m h.0.before f | inr f ↦ reads y.node n m h.1.before f ]
   value-descends n (Cut x high low) e h = λ m t. reads x.node n m h.0.before t
   value-descends n (MemoryRead store x) e h = λ m t. reads x.node n m h.1.before t
   value-descends n (Register w reset next) e h = tt
@@ -306,7 +300,7 @@ module _ (net : Net) (family : ℕ) (c : Named net family) where
   here-port k x e = ap (λ (m : ℕ). slice_get net.ports m) (zero_up k) ∙ e
 
   all-descend : AllByRecursion (Descends ranks) (values ++ outputs)
-  all-descend = all-append (Descends ranks) values outputs
+  all-descend = all_append (Descends ranks) values outputs
       (numbered-all (Descends ranks) (assignment_for p) 0 net.nodes (λ k x e. value-descends (0 + k) x (here k x e) (c.netlist.formed.nodes (0 + k) x (here k x e))))
       (numbered-all (Descends ranks) (output_for p) 0 net.ports (λ k q e. output-descends (0 + k) q (here-port k q e) q.direction refl (c.netlist.formed.ends (0 + k) q (here-port k q e))))
 

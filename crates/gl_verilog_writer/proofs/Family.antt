@@ -9,8 +9,7 @@ use Rattle.gl_net.specs.declared.node.Port.{Port}
 use Rattle.gl_verilog_writer.specs.Pieces.{family_text}
 use Rattle.gl_verilog_writer.specs.Design.{begins_port, family_from, family_of}
 use Rattle.gl_verilog_writer.proofs.Digits.{numeral-decimal}
-use Rattle.gl_verilog_writer.proofs.Lists.{split}
-use Rattle.gl_bits.proofs.Bools.{bytes_same}
+use Rattle.gl_bits.proofs.Bools.{bytes_same, true_or_false}
 
 -- ---- a name begins so in one way at most
 
@@ -68,8 +67,8 @@ tally-or a b (suc m) = let h = tally-or a b m in let g = or-sum (a m) (b m) in o
 
 tally-one : (f : ℕ → Bool) (m : ℕ) → ((i j : ℕ) → i < m → j < m → f i ≡ true → f j ≡ true → i ≡ j) → tally f m ≤ 1
 tally-one f zero h = omega arith
-tally-one f (suc m) h = elim (split (f m)) [
-  | inl t ↦ (let a = tally-none f m (λ k l. elim (split (f k)) [
+tally-one f (suc m) h = elim (true_or_false (f m)) [
+  | inl t ↦ (let a = tally-none f m (λ k l. elim (true_or_false (f k)) [
     | inl s ↦ (let q = h k m (let z : k < suc m = omega (arith, l) in z) (omega arith) s t in absurd (omega (arith, q, l)))
     | inr s ↦ s
   ]) in rw (a, t) (let q : 0 + 1 ≤ 1 = omega arith in q))
@@ -94,7 +93,7 @@ record AllTaken (ports : List Port) (at n : ℕ) : Type 0 where
 
 outcome : (ports : List Port) (n at : ℕ) → (begins_port ports (family_text (family_from ports n at)) ≡ false) ⊎ AllTaken ports at n
 outcome ports zero at = inr (record { is = (let q : at ≡ at + 0 = omega arith in q); taken = λ k l h. absurd (omega (arith, l, h)) })
-outcome ports (suc n) at = elim (split (begins_port ports (family_text at))) [
+outcome ports (suc n) at = elim (true_or_false (begins_port ports (family_text at))) [
   | inr f ↦ inl (rw f f)
   | inl t ↦ (let e : family_from ports (suc n) at ≡ family_from ports n (at + 1) = rw t refl in
       elim (outcome ports n (at + 1)) [
@@ -117,7 +116,7 @@ outcome ports (suc n) at = elim (split (begins_port ports (family_text at))) [
 
 family-most : (ports : List Port) (n at : ℕ) → family_from ports n at ≤ at + n
 family-most ports zero at = omega arith
-family-most ports (suc n) at = elim (split (begins_port ports (family_text at))) [
+family-most ports (suc n) at = elim (true_or_false (begins_port ports (family_text at))) [
   | inr f ↦ rw f (let q : at ≤ at + suc n = omega arith in q)
   | inl t ↦ (let h = family-most ports n (at + 1) in rw t (let q : family_from ports n (at + 1) ≤ at + suc n = omega (arith, h) in q))
 ]
@@ -132,7 +131,7 @@ family-free ports l = elim (outcome ports (length ports) 0) [
   | inl f ↦ f
   | inr a ↦ (let n = length ports in
       let e : family_from ports n 0 ≡ n = a.is ∙ (let q : 0 + n ≡ n = omega arith in q) in
-      elim (split (begins_port ports (family_text n))) [
+      elim (true_or_false (begins_port ports (family_text n))) [
         | inr f ↦ ap (λ (k : ℕ). begins_port ports (family_text k)) e ∙ f
         | inl t ↦ (let all = tally-all (λ k. begins_port ports (family_text k)) n (λ k h. a.taken k (omega arith) (let z : k < 0 + n = omega (arith, h) in z)) in
             let more : tally (λ k. begins_port ports (family_text k)) (suc n) ≡ n + 1 = rw (all, t) refl in

@@ -1,24 +1,10 @@
 -- Elements of lists, and lists that are made of numbered elements.
-use Rattle.std.proofs.Common.{◌≡◌, ℕ, zero, suc, ◌+◌, Bool, true, false, List, [], ◌∷◌, ◌++◌, length, Option, Some, None, IfSome, map, refl, sym, ap, subst, ◌∙◌, arith, inl, inr, ◌⊎◌}
+use Rattle.std.proofs.Common.{◌≡◌, ℕ, zero, suc, ◌+◌, List, [], ◌∷◌, ◌++◌, length, Option, Some, None, IfSome, map, refl, sym, ap, subst, ◌∙◌, arith, inl, inr, ◌⊎◌}
 use Rattle.std.specs.Prelude.{slice_get}
 use Rattle.std.specs.List.{AllByRecursion}
+use Rattle.gl_bits.proofs.Options.{some_same, not_some}
 use Rattle.gl_verilog_writer.specs.Design.{with_option, numbered}
 use Rattle.gl_verilog_writer.proofs.Model.{counted}
-
-pub same_some : {A : Type 0} (x y : A) → Some x ≡ Some y → x ≡ y
-same_some x y e = cc
-
-pub some_none : {A : Type 0} (x : A) → None ≡ Some x → ⊥
-some_none x e = absurd (cc)
-
-pub split : (b : Bool) → (b ≡ true) ⊎ (b ≡ false)
-split true = inl refl
-split false = inr refl
-
-pub get-left : {A : Type 0} (xs ys : List A) (k : ℕ) (x : A) → slice_get xs k ≡ Some x → slice_get (xs ++ ys) k ≡ Some x
-get-left [] ys k x e = absurd (some_none x e)
-get-left (z ∷ xs) ys zero x e = e
-get-left (z ∷ xs) ys (suc k) x e = get-left xs ys k x e
 
 pub get-right : {A : Type 0} (xs ys : List A) (k : ℕ) → slice_get (xs ++ ys) (length xs + k) ≡ slice_get ys k
 get-right [] ys k = ap (slice_get ys) (let z : 0 + k ≡ k = omega arith in z)
@@ -29,27 +15,22 @@ get-parts [] ys n x e = inr (n, (let z : n ≡ 0 + n = omega arith in z), e)
 get-parts (z ∷ xs) ys zero x e = inl e
 get-parts (z ∷ xs) ys (suc n) x e = elim (get-parts xs ys n x e) [ inl p ↦ inl p | inr p ↦ inr (p.0, (let q = p.1 in let r : suc n ≡ suc (length xs) + p.0 = omega (arith, q) in r), p.2) ]
 
-pub get-mapped : {A B : Type 0} (f : A → B) (xs : List A) (k : ℕ) (x : A) → slice_get xs k ≡ Some x → slice_get (map f xs) k ≡ Some (f x)
-get-mapped f [] k x e = absurd (some_none x e)
-get-mapped f (z ∷ xs) zero x e = ap (λ y. Some (f y)) (same_some z x e)
-get-mapped f (z ∷ xs) (suc k) x e = get-mapped f xs k x e
-
 pub get-unmapped : {A B : Type 0} (f : A → B) (xs : List A) (k : ℕ) (y : B) → slice_get (map f xs) k ≡ Some y → (x : A) × (slice_get xs k ≡ Some x) × (y ≡ f x)
-get-unmapped f [] k y e = absurd (some_none y e)
-get-unmapped f (z ∷ xs) zero y e = (z, refl, sym (same_some (f z) y e))
+get-unmapped f [] k y e = absurd (not_some y e)
+get-unmapped f (z ∷ xs) zero y e = (z, refl, sym (some_same (f z) y e))
 get-unmapped f (z ∷ xs) (suc k) y e = get-unmapped f xs k y e
 
 up : (n k : ℕ) → n + 1 + k ≡ n + suc k
 up n k = omega arith
 
 pub get-counted : {A B : Type 0} (g : ℕ → A → B) (n : ℕ) (xs : List A) (k : ℕ) (x : A) → slice_get xs k ≡ Some x → slice_get (counted g n xs) k ≡ Some (g (n + k) x)
-get-counted g n [] k x e = absurd (some_none x e)
-get-counted g n (z ∷ xs) zero x e = ap (λ y. Some (g n y)) (same_some z x e) ∙ ap (λ m. Some (g m x)) (let q : n ≡ n + 0 = omega arith in q)
+get-counted g n [] k x e = absurd (not_some x e)
+get-counted g n (z ∷ xs) zero x e = ap (λ y. Some (g n y)) (some_same z x e) ∙ ap (λ m. Some (g m x)) (let q : n ≡ n + 0 = omega arith in q)
 get-counted g n (z ∷ xs) (suc k) x e = get-counted g (n + 1) xs k x e ∙ ap (λ m. Some (g m x)) (up n k)
 
 pub get-uncounted : {A B : Type 0} (g : ℕ → A → B) (n : ℕ) (xs : List A) (k : ℕ) (y : B) → slice_get (counted g n xs) k ≡ Some y → (x : A) × (slice_get xs k ≡ Some x) × (y ≡ g (n + k) x)
-get-uncounted g n [] k y e = absurd (some_none y e)
-get-uncounted g n (z ∷ xs) zero y e = (z, refl, sym (same_some (g n z) y e) ∙ ap (λ m. g m z) (let q : n ≡ n + 0 = omega arith in q))
+get-uncounted g n [] k y e = absurd (not_some y e)
+get-uncounted g n (z ∷ xs) zero y e = (z, refl, sym (some_same (g n z) y e) ∙ ap (λ m. g m z) (let q : n ≡ n + 0 = omega arith in q))
 get-uncounted g n (z ∷ xs) (suc k) y e = let r = get-uncounted g (n + 1) xs k y e in (r.0, r.1, r.2 ∙ ap (λ m. g m r.0) (up n k))
 
 with-all : {B : Type 0} (P : B → Type 0) (o : Option B) (ys : List B) → IfSome o P → AllByRecursion P ys → AllByRecursion P (with_option o ys)
@@ -65,32 +46,24 @@ numbered-all P f n (x ∷ xs) h =
     (numbered-all P f (n + 1) xs (λ k y e. subst (λ (m : ℕ). IfSome (f m y) P) (sym (up n k)) (h (suc k) y e)))
 
 with-head : {B : Type 0} (P : B → Type 0) (o : Option B) (ys : List B) (y : B) → o ≡ Some y → AllByRecursion P (with_option o ys) → P y
-with-head P None ys y e a = absurd (some_none y e)
-with-head P (Some z) ys y e a = subst P (same_some z y e) a.0
+with-head P None ys y e a = absurd (not_some y e)
+with-head P (Some z) ys y e a = subst P (some_same z y e) a.0
 
 with-tail : {B : Type 0} (P : B → Type 0) (o : Option B) (ys : List B) → AllByRecursion P (with_option o ys) → AllByRecursion P ys
 with-tail P None ys a = a
 with-tail P (Some z) ys a = a.1
 
 pub numbered-each : {A B : Type 0} (P : B → Type 0) (f : ℕ → A → Option B) (n : ℕ) (xs : List A) (k : ℕ) (x : A) (y : B) → AllByRecursion P (numbered f n xs) → slice_get xs k ≡ Some x → f (n + k) x ≡ Some y → P y
-numbered-each P f n [] k x y a e g = absurd (some_none x e)
+numbered-each P f n [] k x y a e g = absurd (not_some x e)
 numbered-each P f n (z ∷ xs) zero x y a e g =
     let q : n + 0 ≡ n = omega arith in
-    with-head P (f n z) (numbered f (n + 1) xs) y (ap (f n) (same_some z x e) ∙ ap (λ m. f m x) (sym q) ∙ g) a
+    with-head P (f n z) (numbered f (n + 1) xs) y (ap (f n) (some_same z x e) ∙ ap (λ m. f m x) (sym q) ∙ g) a
 numbered-each P f n (z ∷ xs) (suc k) x y a e g =
     numbered-each P f (n + 1) xs k x y (with-tail P (f n z) (numbered f (n + 1) xs) a) e (ap (λ m. f m x) (up n k) ∙ g)
 
 pub with-append : {B : Type 0} (o : Option B) (xs ys : List B) → with_option o xs ++ ys ≡ with_option o (xs ++ ys)
 with-append None xs ys = refl
 with-append (Some x) xs ys = refl
-
-pub all-left : {A : Type 0} (P : A → Type 0) (a b : List A) → AllByRecursion P (a ++ b) → AllByRecursion P a
-all-left P [] b h = tt
-all-left P (x ∷ a) b h = (h.0, all-left P a b h.1)
-
-pub all-right : {A : Type 0} (P : A → Type 0) (a b : List A) → AllByRecursion P (a ++ b) → AllByRecursion P b
-all-right P [] b h = h
-all-right P (x ∷ a) b h = all-right P a b h.1
 
 -- ---- sums over what is given, of which one element counts
 
@@ -121,9 +94,9 @@ module _ {B : Type 0} (c : B → ℕ) where
 
   -- the element at a place alone counts
   pub total-one : {A : Type 0} (f : ℕ → A → Option B) (n : ℕ) (xs : List A) (k : ℕ) (x : A) → slice_get xs k ≡ Some x → ((j : ℕ) (y : A) → slice_get xs j ≡ Some y → (j ≡ k → ⊥) → count (f (n + j) y) ≡ 0) → total (numbered f n xs) ≡ count (f (n + k) x)
-  total-one f n [] k x e h = absurd (some_none x e)
+  total-one f n [] k x e h = absurd (not_some x e)
   total-one f n (z ∷ xs) zero x e h =
-      let a : count (f n z) ≡ count (f (n + 0) x) = ap (λ (y : _). count (f n y)) (same_some z x e) ∙ ap (λ (m : ℕ). count (f m x)) (let q : n ≡ n + 0 = omega arith in q) in
+      let a : count (f n z) ≡ count (f (n + 0) x) = ap (λ (y : _). count (f n y)) (some_same z x e) ∙ ap (λ (m : ℕ). count (f m x)) (let q : n ≡ n + 0 = omega arith in q) in
       let b = total-none f (n + 1) xs (λ j y g. ap (λ (m : ℕ). count (f m y)) (up n j) ∙ h (suc j) y g (λ q. omega arith)) in
       total-with (f n z) (numbered f (n + 1) xs) ∙ ap (λ (m : ℕ). count (f n z) + m) b ∙ (let q : count (f n z) + 0 ≡ count (f n z) = omega arith in q) ∙ a
   total-one f n (z ∷ xs) (suc k) x e h =

@@ -2,10 +2,12 @@
 use Rattle.std.proofs.Common.{◌≡◌, ℕ, zero, suc, ◌+◌, ◌<◌, ◌^◌, Bool, true, false, ◌||◌, ◌==◌, List, [], ◌∷◌, ◌++◌, length, get_or, map, Some, refl, sym, ap, ◌∙◌, arith, add-one, inl, inr, ◌⊎◌, eq-eqb}
 use Rattle.std.specs.Prelude.{slice_get, codes, decimal, bytes_eq}
 use Rattle.std.specs.List.{starts_with}
-use Rattle.gl_bits.proofs.Bools.{bytes_same, bytes_own, bytes_other, not_both}
+use Rattle.gl_bits.proofs.Bools.{bytes_own, bytes_other, not_both}
 use Rattle.std.proofs.lemmas.List.{append_cancel_left, length-map}
 use Rattle.std.proofs.lemmas.Option.{slice_get_within}
 use Rattle.std.proofs.lemmas.Fmt.{decimal_injective}
+use Rattle.gl_bits.proofs.AllLists.{get_front, get_mapped}
+use Rattle.gl_bits.proofs.Options.{some_same, not_some}
 use Rattle.gl_net.specs.declared.node.Node.{Node}
 use Rattle.gl_net.specs.declared.node.Port.{Port}
 use Rattle.gl_net.specs.Net.{Net}
@@ -15,7 +17,7 @@ use Rattle.gl_verilog_writer.specs.Meaning.{declaration_of, clock}
 use Rattle.gl_verilog_writer.specs.Pieces.{family_text, net_name}
 use Rattle.gl_verilog_writer.specs.Design.{begins_port}
 use Rattle.gl_verilog_writer.proofs.Model.{Named, at_node, declaration_for, counted, declarations_in}
-use Rattle.gl_verilog_writer.proofs.Lists.{same_some, some_none, split, get-left, get-right, get-parts, get-mapped, get-unmapped, get-counted, get-uncounted}
+use Rattle.gl_verilog_writer.proofs.Lists.{get-right, get-parts, get-unmapped, get-counted, get-uncounted}
 
 -- ---- names
 
@@ -36,9 +38,9 @@ distinct (d ∷ ds) h = (differs d ds (λ j e p n. (let r = h 0 (suc j) d e refl
 
 -- a name is found where it is declared
 pub found : (ds : List Declaration) (i : ℕ) (d : Declaration) → Apart ds → slice_get ds i ≡ Some d → number_of ds d.name ≡ Some i
-found [] i d h e = absurd (some_none d e)
+found [] i d h e = absurd (not_some d e)
 found (x ∷ ds) zero d h e =
-    let f : bytes_eq x.name d.name ≡ true = ap (λ (y : Declaration). bytes_eq y.name d.name) (same_some x d e) ∙ bytes_own d.name in
+    let f : bytes_eq x.name d.name ≡ true = ap (λ (y : Declaration). bytes_eq y.name d.name) (some_same x d e) ∙ bytes_own d.name in
     rw f refl
 found (x ∷ ds) (suc i) d h e =
     let f : bytes_eq x.name d.name ≡ false = bytes_other x.name d.name (λ n. (let r = h 0 (suc i) x d refl e n in omega (arith, r))) in
@@ -52,8 +54,8 @@ begins-own [] b = refl
 begins-own (x ∷ a) b = let e : (x == x) ≡ true = eq-eqb x x refl in rw (e, begins-own a b) refl
 
 port-not : (ports : List Port) (front : List ℕ) (place : ℕ) (p : Port) → begins_port ports front ≡ false → slice_get ports place ≡ Some p → starts_with ◌==◌ p.name front ≡ false
-port-not [] front place p h e = absurd (some_none p e)
-port-not (q ∷ ports) front zero p h e = ap (λ (r : Port). starts_with ◌==◌ r.name front) (sym (same_some q p e)) ∙ first (starts_with ◌==◌ q.name front) (begins_port ports front) h
+port-not [] front place p h e = absurd (not_some p e)
+port-not (q ∷ ports) front zero p h e = ap (λ (r : Port). starts_with ◌==◌ r.name front) (sym (some_same q p e)) ∙ first (starts_with ◌==◌ q.name front) (begins_port ports front) h
   where
     first : (a b : Bool) → (a || b) ≡ false → a ≡ false
     first true b h = absurd (cc)
@@ -91,7 +93,7 @@ module _ (net : Net) (family : ℕ) (c : Named net family) where
       ap (slice_get (ps ++ ns)) l ∙ get-right ps ns n ∙ get-counted (declaration_for family) 0 net.nodes n x e ∙ ap (λ (m : ℕ). Some (declaration_for family m x)) (let q : 0 + n ≡ n = omega arith in q)
 
   pub port_there : (place : ℕ) (p : Port) → slice_get net.ports place ≡ Some p → slice_get (declarations_in net family) (suc place) ≡ Some (declaration_of net p)
-  port_there place p e = get-left (map (declaration_of net) net.ports) (counted (declaration_for family) 0 net.nodes) place (declaration_of net p) (get-mapped (declaration_of net) net.ports place p e)
+  port_there place p e = get_front (map (declaration_of net) net.ports) (counted (declaration_for family) 0 net.nodes) place (declaration_of net p) (get_mapped (declaration_of net) net.ports place p e)
 
   abbrev pub AsClock : ℕ → Declaration → Type 0
   AsClock i d = (i ≡ 0) × (d ≡ clock)
@@ -112,7 +114,7 @@ module _ (net : Net) (family : ℕ) (c : Named net family) where
 
   -- a declaration is the clock's, a port's or a node's
   pub sorted : (i : ℕ) (d : Declaration) → slice_get (declarations_in net family) i ≡ Some d → AsClock i d ⊎ (AsPort i d ⊎ AsNode i d)
-  sorted zero d e = inl (refl, sym (same_some clock d e))
+  sorted zero d e = inl (refl, sym (some_same clock d e))
   sorted (suc i) d e =
       let ps = map (declaration_of net) net.ports in
       let ns = counted (declaration_for family) 0 net.nodes in
@@ -178,5 +180,3 @@ module _ (net : Net) (family : ℕ) (c : Named net family) where
   pub port_no_clock : (place : ℕ) (p : Port) → slice_get net.ports place ≡ Some p → bytes_eq p.name (codes "clk") ≡ false
   port_no_clock place p e = bytes_other p.name (codes "clk") (c.netlist.finished.no_clock place p e)
 
-  pub clock_found : number_of (declarations_in net family) (codes "clk") ≡ Some 0
-  clock_found = refl

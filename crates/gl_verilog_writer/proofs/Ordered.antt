@@ -1,25 +1,18 @@
 -- Where targets rise along a list of assignments, operands are driven before they are read.
-use Rattle.std.proofs.Common.{◌≡◌, ℕ, suc, ◌+◌, ◌<◌, Bool, true, false, ◌||◌, List, [], ◌∷◌, ◌++◌, Option, Some, None, IfSome, refl, ap, subst, arith, eq-eqb}
+use Rattle.std.proofs.Common.{◌≡◌, ℕ, suc, ◌+◌, ◌<◌, true, ◌||◌, List, [], ◌∷◌, ◌++◌, Option, Some, None, IfSome, refl, ap, subst, arith, eq-eqb}
 use Rattle.std.specs.Prelude.{slice_get}
 use Rattle.std.specs.List.{AllByRecursion}
+use Rattle.gl_bits.proofs.AllLists.{all_append}
+use Rattle.gl_bits.proofs.Bools.{or_left, or_right}
 use Rattle.gl_verilog.specs.Module.{Expr, Net, Literal, Invert, Binary, Choose, Join, Select, Read, Assignment}
 use Rattle.gl_verilog.specs.Valid.{mentions}
 use Rattle.gl_verilog.specs.Order.{EachRead, IsUndriven, IsOrdered}
 use Rattle.gl_verilog_writer.specs.Design.{with_option, numbered}
-use Rattle.gl_verilog_writer.proofs.Digits.{all-append}
 use Rattle.gl_verilog_writer.proofs.Lists.{numbered-all}
 
 -- what an assignment mentions comes before its target
 abbrev pub Descends : (ℕ → ℕ) → Assignment → Type 0
 Descends r a = (n : ℕ) → mentions a.value n ≡ true → r n < r a.target
-
-or_left : (a b : Bool) → a ≡ true → (a || b) ≡ true
-or_left true b e = refl
-or_left false b e = absurd (cc)
-
-or_right : (a b : Bool) → b ≡ true → (a || b) ≡ true
-or_right true b e = refl
-or_right false b e = e
 
 -- what holds of each net that an expression mentions
 each_read : (P : ℕ → Type 0) (e : Expr) → ((n : ℕ) → mentions e n ≡ true → P n) → EachRead P e
@@ -65,7 +58,7 @@ in-order r (a ∷ as') h d = (
 
 pub rises-append : (r : ℕ → ℕ) (as' bs : List Assignment) → Rises r as' → Rises r bs → AllByRecursion (λ a. Above r (r a.target) bs) as' → Rises r (as' ++ bs)
 rises-append r [] bs h g all = g
-rises-append r (a ∷ as') bs h g all = (all-append (λ b. r a.target < r b.target) as' bs h.0 all.0, rises-append r as' bs h.1 g all.1)
+rises-append r (a ∷ as') bs h g all = (all_append (λ b. r a.target < r b.target) as' bs h.0 all.0, rises-append r as' bs h.1 g all.1)
 
 rises-with : (r : ℕ → ℕ) (o : Option Assignment) (as' : List Assignment) → IfSome o (λ a. Above r (r a.target) as') → Rises r as' → Rises r (with_option o as')
 rises-with r None as' h g = g

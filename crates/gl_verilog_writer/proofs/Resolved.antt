@@ -5,6 +5,7 @@ use Rattle.std.specs.List.{list_any}
 use Rattle.std.specs.Option.{option_map_or}
 use Rattle.std.proofs.lemmas.Nat.{pow_below, pow_pos}
 use Rattle.std.proofs.lemmas.List.{length-map}
+use Rattle.gl_bits.proofs.Options.{some_same, not_some}
 use Rattle.gl_bits.specs.Words.{IsWidth}
 use Rattle.gl_net.specs.declared.node.BinaryOp.{BinaryOp}
 use Rattle.gl_net.specs.declared.node.BinaryOp.TheVariants.{Add, Sub, Mul, And, Xor, Or, Eq, Ne, Lt, Le}
@@ -29,7 +30,7 @@ use Rattle.gl_verilog_writer.specs.Pieces.{net_name}
 use Rattle.gl_verilog_writer.specs.Design.{port_name, infix_of, named, literal, vector, last_word, declares, takes, does, with_option, numbered, declaring, assigning, shows, showing, clocking, leads, written_port, clock_port, items_of}
 use Rattle.gl_verilog_writer.proofs.Digits.{number_in-decimal}
 use Rattle.gl_verilog_writer.proofs.Model.{Named, at_node, net_of, op_of, declaration_for, expression_of, assigned_to, assignment_for, shown_by, output_for, block_for, counted, declarations_in, line_in, module_in}
-use Rattle.gl_verilog_writer.proofs.Lists.{same_some, some_none, with-append}
+use Rattle.gl_verilog_writer.proofs.Lists.{with-append}
 use Rattle.gl_verilog_writer.proofs.Named.{node_found, port_found, port_no_clock}
 use Rattle.gl_verilog_writer.proofs.Fitted.{width-fits, port_end, IsCarried, bus, bit, shown, stored, node-read, carried-width, word-small}
 
@@ -157,8 +158,8 @@ literal-means ds v w i h =
     ap (λ (a : ℕ). Some (verilog.Literal a (number_in 10 (decimal w)))) e ∙ ap (λ (b : ℕ). Some (verilog.Literal v b)) f
 
 pub some-any : (p : Node → Bool) (xs : List Node) (k : ℕ) (x : Node) → slice_get xs k ≡ Some x → p x ≡ true → list_any p xs ≡ true
-some-any p [] k x e t = absurd (some_none x e)
-some-any p (z ∷ xs) zero x e t = let f : p z ≡ true = ap p (same_some z x e) ∙ t in rw f refl
+some-any p [] k x e t = absurd (not_some x e)
+some-any p (z ∷ xs) zero x e t = let f : p z ≡ true = ap p (some_same z x e) ∙ t in rw f refl
 some-any p (z ∷ xs) (suc k) x e t = or_right (p z) (list_any p xs) (some-any p xs k x e t)
   where
     or_right : (a b : Bool) → b ≡ true → (a || b) ≡ true

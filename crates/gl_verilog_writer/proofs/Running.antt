@@ -3,6 +3,8 @@ use Rattle.std.proofs.Common.{◌≡◌, ℕ, zero, suc, ◌+◌, ◌<◌, ◌^�
 use Rattle.std.specs.Prelude.{slice_get, codes, option_map, option_and_then, unwrap_or, nat_eq, if◌then◌else◌, find, bytes_eq}
 use Rattle.std.proofs.lemmas.List.{length-map}
 use Rattle.std.specs.Option.{option_map_or}
+use Rattle.gl_bits.proofs.AllLists.{all_front, all_back}
+use Rattle.gl_bits.proofs.Options.{some_same, not_some}
 use Rattle.gl_bits.proofs.Bools.{bytes_other, not_both}
 use Rattle.gl_net.specs.declared.node.BinaryOp.{BinaryOp}
 use Rattle.gl_net.specs.declared.node.BinaryOp.TheVariants.{Add, Sub, Mul, And, Xor, Or, Eq, Ne, Lt, Le}
@@ -22,7 +24,7 @@ use Rattle.gl_verilog.specs.Run.{IsRegister, IsSettled, IsRun, port_of, is_input
 use Rattle.gl_verilog_writer.specs.Meaning.{declaration_of, clock, kind_of, IsRunOf}
 use Rattle.gl_verilog_writer.specs.Design.{with_option, numbered}
 use Rattle.gl_verilog_writer.proofs.Model.{Named, at_node, net_of, op_of, kind_for, declaration_for, expression_of, assigned_to, assignment_for, shown_by, output_for, block_for, counted, declarations_in, line_in, module_in}
-use Rattle.gl_verilog_writer.proofs.Lists.{same_some, some_none, numbered-each, all-left, all-right}
+use Rattle.gl_verilog_writer.proofs.Lists.{numbered-each}
 use Rattle.gl_verilog_writer.proofs.Named.{node_there, port_there, port_found}
 
 -- ---- the later of what blocks give
@@ -52,9 +54,9 @@ module _ (one : Statement → Option ℕ) where
       latest-with (f n x) (numbered f (n + 1) xs) ∙ ap (λ (o : Option ℕ). later_or o (given (f n x))) b ∙ a
 
   latest-one : {A : Type 0} (f : ℕ → A → Option Statement) (n : ℕ) (xs : List A) (k : ℕ) (x : A) → slice_get xs k ≡ Some x → ((j : ℕ) (y : A) → slice_get xs j ≡ Some y → (j ≡ k → ⊥) → given (f (n + j) y) ≡ None) → latest (numbered f n xs) ≡ given (f (n + k) x)
-  latest-one f n [] k x e h = absurd (some_none x e)
+  latest-one f n [] k x e h = absurd (not_some x e)
   latest-one {A} f n (z ∷ xs) zero x e h =
-      let a : given (f n z) ≡ given (f (n + 0) x) = ap (λ (y : A). given (f n y)) (same_some z x e) ∙ ap (λ (m : ℕ). given (f m x)) (let q : n ≡ n + 0 = omega arith in q) in
+      let a : given (f n z) ≡ given (f (n + 0) x) = ap (λ (y : A). given (f n y)) (some_same z x e) ∙ ap (λ (m : ℕ). given (f m x)) (let q : n ≡ n + 0 = omega arith in q) in
       let b = latest-none f (n + 1) xs (λ j y g. ap (λ (m : ℕ). given (f m y)) (let q : n + 1 + j ≡ n + suc j = omega arith in q) ∙ h (suc j) y g (λ q. omega arith)) in
       latest-with (f n z) (numbered f (n + 1) xs) ∙ ap (λ (o : Option ℕ). later_or o (given (f n z))) b ∙ a
   latest-one f n (z ∷ xs) (suc k) x e h =
@@ -188,13 +190,13 @@ module _ (net : Net) (family : ℕ) (c : Named net family) (value : ℕ → Nets
   value-at : (t n : ℕ) (x : Node) (e : Expr) → slice_get net.nodes n ≡ Some x → expression_of p x ≡ Some e → value t (at_node p n) ≡ value_of (value t) (word t) e
   value-at t n x e f g =
       numbered-each (λ (a : Assignment). value t a.target ≡ value_of (value t) (word t) a.value) (assignment_for p) 0 net.nodes n x (assigned_to (at_node p n) e)
-      (all-left (λ (a : Assignment). value t a.target ≡ value_of (value t) (word t) a.value) (numbered (assignment_for p) 0 net.nodes) (numbered (output_for p) 0 net.ports) (settled t))
+      (all_front (λ (a : Assignment). value t a.target ≡ value_of (value t) (word t) a.value) (numbered (assignment_for p) 0 net.nodes) (numbered (output_for p) 0 net.ports) (settled t))
       f (ap (option_map (assigned_to (at_node p (0 + n)))) g ∙ ap (λ (m : ℕ). Some (assigned_to (at_node p m) e)) (let q : 0 + n ≡ n = omega arith in q))
 
   output-at : (t place : ℕ) (q : Port) → slice_get net.ports place ≡ Some q → q.direction ≡ Out → value t (suc place) ≡ value t (at_node p q.node)
   output-at t place q f g =
       numbered-each (λ (a : Assignment). value t a.target ≡ value_of (value t) (word t) a.value) (output_for p) 0 net.ports place q (assigned_to (suc place) (net_of p q.node))
-      (all-right (λ (a : Assignment). value t a.target ≡ value_of (value t) (word t) a.value) (numbered (assignment_for p) 0 net.nodes) (numbered (output_for p) 0 net.ports) (settled t))
+      (all_back (λ (a : Assignment). value t a.target ≡ value_of (value t) (word t) a.value) (numbered (assignment_for p) 0 net.nodes) (numbered (output_for p) 0 net.ports) (settled t))
       f (ap (λ (d : Direction). shown_by p (0 + place) d q.node) g ∙ ap (λ (m : ℕ). Some (assigned_to (suc m) (net_of p q.node))) (let q : 0 + place ≡ place = omega arith in q))
 
   -- the node of a port shows the same
@@ -241,7 +243,7 @@ module _ (net : Net) (family : ℕ) (c : Named net family) (value : ℕ → Nets
   holds n (Cut x high low) e = λ t. value-at t n _ _ e refl
   holds n (MemoryRead store x) e = λ t. value-at t n _ _ e refl
   holds n (Register w None None) e = tt
-  holds n (Register w (Some value') None) e = λ t h. (let f : None ≡ Some (Value w) = sym (c.netlist.finished.driven n) ∙ ap (option_and_then open_shape) e in absurd (some_none (Value w) f))
+  holds n (Register w (Some value') None) e = λ t h. (let f : None ≡ Some (Value w) = sym (c.netlist.finished.driven n) ∙ ap (option_and_then open_shape) e in absurd (not_some (Value w) f))
   holds n (Register w None (Some next)) e = λ t. next-at t n _ e tt ∙ (let i = itself n in rw i refl)
   holds n (Register w (Some value') (Some next)) e = λ t. next-at t n _ e tt ∙ (let i = itself n in rw i (chosen (nat_eq (value t line) 1) value' (value t (at_node p next.node)) (value t (at_node p n))))
   holds n (Memory bits w None) e = tt

@@ -3,6 +3,7 @@ use Rattle.std.proofs.Common.{◌≡◌, ℕ, suc, ◌+◌, ◌-◌, ◌<◌, �
 use Rattle.std.specs.Prelude.{slice_get, codes, decimal, option_map, unwrap_or, ◌==◌, if◌then◌else◌}
 use Rattle.std.specs.List.{AllByRecursion}
 use Rattle.std.specs.Option.{option_map_or}
+use Rattle.gl_bits.proofs.AllLists.{all_append}
 use Rattle.gl_bits.specs.Words.{IsWidth}
 use Rattle.gl_net.specs.declared.node.BinaryOp.{BinaryOp}
 use Rattle.gl_net.specs.declared.node.BinaryOp.TheVariants.{Add, Sub, Mul, And, Xor, Or, Eq, Ne, Lt, Le}
@@ -22,7 +23,7 @@ use Rattle.gl_verilog.specs.Limits.{IsShort, depth_of, depth_in, ifs_in, AreShor
 use Rattle.gl_verilog_writer.specs.Pieces.{net_name}
 use Rattle.gl_verilog_writer.specs.Printed.{text_of}
 use Rattle.gl_verilog_writer.specs.Design.{port_name, infix_of, named, literal, vector, last_word, declares, takes, does, numbered, declaring, assigning, shows, showing, clocking, range_of, written_port, clock_port, items_of}
-use Rattle.gl_verilog_writer.proofs.Digits.{IsPlain, IsSize, name-plain, clock-plain, reset-plain, size-decimal, numeral-decimal, all-append}
+use Rattle.gl_verilog_writer.proofs.Digits.{IsPlain, IsSize, name-plain, clock-plain, reset-plain, size-decimal, numeral-decimal}
 use Rattle.gl_verilog_writer.proofs.Texts.{IsPrintable, CanPrint, IsRange, IsPrinted, IsPrintedPort, IsPrintedModule, module-spelled}
 use Rattle.gl_verilog_writer.proofs.Model.{Named}
 use Rattle.gl_verilog_writer.proofs.Lists.{numbered-all}
@@ -217,7 +218,7 @@ module _ (net : Net) (family : ℕ) (c : Named net family) where
       let ha = numbered-all IsFlatItem (assigning family net.ports) 0 net.nodes (λ k x e. assign-flat (net_name family (0 + k)) (takes family net.ports x) (node-plain net family c (0 + k) x (here k x e)) (value-flat (0 + k) x (fits (0 + k) x (here k x e)))) in
       let ho = numbered-all IsFlatItem (showing family) 0 net.ports (λ k q e. show-flat (0 + k) q (here-port k q e) q.direction (c.netlist.formed.ends (0 + k) q (here-port k q e))) in
       let hb = numbered-all IsFlatItem (clocking family) 0 net.nodes (λ k x e. always-flat (does family (0 + k) x) (block-flat (0 + k) x (here k x e) (fits (0 + k) x (here k x e)))) in
-      all-append IsFlatItem (d ++ a ++ o) b (all-append IsFlatItem (d ++ a) o (all-append IsFlatItem d a hd ha) ho) hb
+      all_append IsFlatItem (d ++ a ++ o) b (all_append IsFlatItem (d ++ a) o (all_append IsFlatItem d a hd ha) ho) hb
 
   each-item : (P : WrittenItem → Type 0) → ((i : WrittenItem) → IsFlatItem i → P i) → (is : List WrittenItem) → AllByRecursion IsFlatItem is → AllByRecursion P is
   each-item P f [] h = tt

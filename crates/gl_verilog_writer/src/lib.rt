@@ -1,4 +1,7 @@
 //! The text of a netlist: one flat Verilog module.
+//!
+//! Here belongs how a netlist is written and that the text means it. What a text means stands in
+//! `gl_verilog`, what a netlist means in `gl_net`; no query and no file is known here.
 #![tactic(auto)]
 
 pub mod nodes;

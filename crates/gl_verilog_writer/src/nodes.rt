@@ -1,11 +1,10 @@
 //! The text of one node: its declaration, its assignment, its clocked block.
 
-ghost use Rattle.std.specs.Prelude.{◌≡◌, ◌++◌, ◌+◌, ◌-◌, OnOk, codes, decimal, []};
-ghost use Rattle.std.specs.Option.{option_map_or};
-ghost use Rattle.gl_verilog.specs.Written.{Update, UpdateWord, IfThen};
+ghost use Rattle.std.specs.Prelude.{◌≡◌, ◌++◌, ◌+◌, ◌-◌, OnOk, codes};
 ghost use Rattle.gl_verilog_writer.specs.Pieces.{net_name};
-ghost use Rattle.gl_verilog_writer.specs.Printed.{range_text, infix_text, expr_text, statement_text, item_text, always_text};
-ghost use Rattle.gl_verilog_writer.specs.Design.{node_width, port_name, infix_of, vector, named, literal, last_word, declares, takes, does, declaring, assigning, clocking};
+ghost use Rattle.gl_verilog_writer.specs.Printed.{infix_text, always_text};
+ghost use Rattle.gl_verilog_writer.specs.Design.{node_width, port_name, infix_of, last_word};
+ghost use Rattle.gl_verilog_writer.specs.Texts.{net_text, pair_text, cut_text, declared_text, value_text, set_text, update_text, reset_text, write_text, block_text};
 
 use crate::pieces::{put, put_literal, put_net, put_number, put_range};
 use gl_bits::Memory;
@@ -51,7 +50,7 @@ fn put_vector(
     number: usize,
     width: u16,
 ) -> Result<(), Memory>
-    ensures { OnOk result (out.new.items ≡ out.old.items ++ word.now ++ range_text (vector width) ++ net_name family number) }
+    ensures { OnOk result (out.new.items ≡ out.old.items ++ net_text word.now family number width) }
 {
     put(out, word)?;
     put_range(out, width)?;
@@ -77,7 +76,7 @@ pub(crate) fn put_declaration(
     number: usize,
     node: &Node,
 ) -> Result<(), Memory>
-    ensures { OnOk result (out.new.items ≡ out.old.items ++ item_text (declares family number node.now)) }
+    ensures { OnOk result (out.new.items ≡ out.old.items ++ declared_text family number node.now) }
 {
     let width = width_of(node);
     match *node {
@@ -130,7 +129,7 @@ fn put_pair(
     sign: &[u8],
     right: usize,
 ) -> Result<(), Memory>
-    ensures { OnOk result (out.new.items ≡ out.old.items ++ net_name family left ++ sign.now ++ net_name family right) }
+    ensures { OnOk result (out.new.items ≡ out.old.items ++ pair_text family left sign.now right) }
 {
     put_net(out, family, left)?;
     put(out, sign)?;
@@ -139,7 +138,7 @@ fn put_pair(
 
 // The bits from `low` to `high` of a net.
 fn put_cut(out: &mut Vec<u8>, family: usize, arg: usize, high: u8, low: u8) -> Result<(), Memory>
-    ensures { OnOk result (out.new.items ≡ out.old.items ++ net_name family arg ++ codes "[" ++ decimal high ++ codes ":" ++ decimal low ++ codes "]") }
+    ensures { OnOk result (out.new.items ≡ out.old.items ++ cut_text family arg high low) }
 {
     put_net(out, family, arg)?;
     put(out, b"[")?;
@@ -161,7 +160,7 @@ fn put_port_name(out: &mut Vec<u8>, ports: &[Port], place: usize) -> Result<(), 
 
 // The right side of a node's assignment.
 fn put_value(out: &mut Vec<u8>, family: usize, ports: &[Port], node: &Node) -> Result<(), Memory>
-    ensures { OnOk result (out.new.items ≡ out.old.items ++ option_map_or expr_text (takes family ports.now node.now) []) }
+    ensures { OnOk result (out.new.items ≡ out.old.items ++ value_text family ports.now node.now) }
 {
     match *node {
         Node::Input(place, _) => put_port_name(out, ports, place),
@@ -197,10 +196,10 @@ pub(crate) fn put_assignment(
     out: &mut Vec<u8>,
     family: usize,
     ports: &[Port],
-    number: usize,
+    at: usize,
     node: &Node,
 ) -> Result<(), Memory>
-    ensures { OnOk result (out.new.items ≡ out.old.items ++ option_map_or item_text (assigning family ports.now number node.now) []) }
+    ensures { OnOk result (out.new.items ≡ out.old.items ++ set_text family ports.now at node.now) }
 {
     match *node {
         Node::Register(_, _, _) | Node::Memory(_, _, _) => Ok(()),
@@ -213,7 +212,7 @@ pub(crate) fn put_assignment(
         | Node::Cut(_, _, _)
         | Node::MemoryRead(_, _) => {
             put(out, b"assign ")?;
-            put_net(out, family, number)?;
+            put_net(out, family, at)?;
             put(out, b" = ")?;
             put_value(out, family, ports, node)?;
             put(out, b";\n")
@@ -223,7 +222,7 @@ pub(crate) fn put_assignment(
 
 // `N <= M;`
 fn put_update(out: &mut Vec<u8>, family: usize, number: usize, next: usize) -> Result<(), Memory>
-    ensures { OnOk result (out.new.items ≡ out.old.items ++ statement_text (Update (net_name family number) (named family next))) }
+    ensures { OnOk result (out.new.items ≡ out.old.items ++ update_text family number next) }
 {
     put_pair(out, family, number, b" <= ", next)?;
     put(out, b";\n")
@@ -237,7 +236,7 @@ fn put_reset(
     value: u128,
     width: u8,
 ) -> Result<(), Memory>
-    ensures { OnOk result (out.new.items ≡ out.old.items ++ statement_text (Update (net_name family number) (literal value width))) }
+    ensures { OnOk result (out.new.items ≡ out.old.items ++ reset_text family number value width) }
 {
     put_net(out, family, number)?;
     put(out, b" <= ")?;
@@ -252,7 +251,7 @@ fn put_write(
     number: usize,
     drive: MemoryDrive,
 ) -> Result<(), Memory>
-    ensures { OnOk result (out.new.items ≡ out.old.items ++ statement_text (IfThen (named family drive.write.node) (UpdateWord (net_name family number) (named family drive.address.node) (named family drive.value.node)))) }
+    ensures { OnOk result (out.new.items ≡ out.old.items ++ write_text family number drive) }
 {
     put(out, b"if (")?;
     put_net(out, family, drive.write.node)?;
@@ -285,7 +284,7 @@ pub(crate) fn put_block(
     number: usize,
     node: &Node,
 ) -> Result<(), Memory>
-    ensures { OnOk result (out.new.items ≡ out.old.items ++ option_map_or item_text (clocking family number node.now) []) }
+    ensures { OnOk result (out.new.items ≡ out.old.items ++ block_text family number node.now) }
 {
     match *node {
         Node::Register(_, None, Some(next)) => {

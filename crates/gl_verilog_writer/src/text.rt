@@ -1,16 +1,15 @@
 //! The text of a whole netlist.
 
-ghost use Rattle.std.specs.Prelude.{◌≡◌, ◌++◌, ◌<◌, ◌≤◌, ◌^◌, OnOk, OnErr, IfOk, codes, length, [], ◌∷◌, Some, map, List};
-ghost use Rattle.std.specs.Option.{option_map_or};
+ghost use Rattle.std.specs.Prelude.{◌≡◌, ◌++◌, ◌<◌, ◌≤◌, ◌^◌, OnOk, OnErr, IfOk, codes, length};
 ghost use Rattle.gl_net.specs.Finished.{IsNetlist};
 ghost use Rattle.gl_net.specs.Net.{shape_in};
 ghost use Rattle.gl_net.specs.PortValues.{bits_of};
-ghost use Rattle.gl_verilog.specs.Written.{WrittenItem};
 ghost use Rattle.gl_verilog_writer.specs.Meaning.{IsTextOf};
 ghost use Rattle.gl_verilog_writer.specs.Pieces.{family_text};
-ghost use Rattle.gl_verilog_writer.specs.Printed.{range_text, direction_text, port_text, more_ports_text, head_text, item_text, items_text};
+ghost use Rattle.gl_verilog_writer.specs.Printed.{range_text, direction_text, port_text};
+ghost use Rattle.gl_verilog_writer.specs.Texts.{next_port_text, next_ports_text, PutsHead, declarations_text, sets_text, shown_text, shows_text, blocks_text, parts_text, body_text};
 ghost use Rattle.gl_verilog_writer.specs.Size.{most_bytes};
-ghost use Rattle.gl_verilog_writer.specs.Design.{begins_port, family_of, leads, range_of, clock_port, written_port, items_of, numbered, declaring, assigning, shows, showing, clocking, module_text};
+ghost use Rattle.gl_verilog_writer.specs.Design.{begins_port, family_of, leads, range_of, clock_port, module_text};
 
 use crate::nodes::{put_assignment, put_block, put_declaration, width_of};
 use crate::pieces::{put, put_family, put_net, put_range};
@@ -76,7 +75,7 @@ fn put_port_range(out: &mut Vec<u8>, width: u16) -> Result<(), Memory>
 
 // One port behind the clock.
 fn put_port(out: &mut Vec<u8>, nodes: &[Node], port: &Port) -> Result<(), Memory>
-    ensures { OnOk result (out.new.items ≡ out.old.items ++ codes "," ++ port_text (written_port nodes.now port.now)) }
+    ensures { OnOk result (out.new.items ≡ out.old.items ++ next_port_text nodes.now port.now) }
 {
     put(out, b",")?;
     put_direction(out, port.direction)?;
@@ -86,7 +85,7 @@ fn put_port(out: &mut Vec<u8>, nodes: &[Node], port: &Port) -> Result<(), Memory
 
 #[tactic(auto, using(crate::proofs::Loops::loop_steps))]
 fn put_ports(out: &mut Vec<u8>, nodes: &[Node], ports: &[Port]) -> Result<(), Memory>
-    ensures { OnOk result (out.new.items ≡ out.old.items ++ more_ports_text (map (written_port nodes.now) ports.now)) }
+    ensures { OnOk result (out.new.items ≡ out.old.items ++ next_ports_text nodes.now ports.now) }
 {
     for port in ports {
         put_port(out, nodes, port)?;
@@ -106,7 +105,7 @@ fn put_clock(out: &mut Vec<u8>) -> Result<(), Memory>
 // The head of a module whose ports are the clock and these.
 #[tactic(auto, unfolding(crate::specs::Printed::head_text))]
 fn put_head(out: &mut Vec<u8>, name: &[u8], nodes: &[Node], ports: &[Port]) -> Result<(), Memory>
-    ensures { OnOk result ((items : List WrittenItem) → out.new.items ≡ out.old.items ++ head_text (record { name = name.now; ports = clock_port ∷ map (written_port nodes.now) ports.now; items = items })) }
+    ensures { OnOk result (PutsHead out.old.items out.new.items name.now nodes.now ports.now) }
 {
     put(out, b"module ")?;
     put(out, name)?;
@@ -118,7 +117,7 @@ fn put_head(out: &mut Vec<u8>, name: &[u8], nodes: &[Node], ports: &[Port]) -> R
 
 #[tactic(auto, using(crate::proofs::Loops::loop_steps))]
 fn put_declarations(out: &mut Vec<u8>, family: usize, nodes: &[Node]) -> Result<(), Memory>
-    ensures { OnOk result (out.new.items ≡ out.old.items ++ items_text (numbered (declaring family) 0 nodes.now)) }
+    ensures { OnOk result (out.new.items ≡ out.old.items ++ declarations_text family nodes.now) }
 {
     for (number, node) in nodes.iter().enumerate() {
         put_declaration(out, family, number, node)?;
@@ -133,7 +132,7 @@ fn put_assignments(
     nodes: &[Node],
     ports: &[Port],
 ) -> Result<(), Memory>
-    ensures { OnOk result (out.new.items ≡ out.old.items ++ items_text (numbered (assigning family ports.now) 0 nodes.now)) }
+    ensures { OnOk result (out.new.items ≡ out.old.items ++ sets_text family nodes.now ports.now) }
 {
     for (number, node) in nodes.iter().enumerate() {
         put_assignment(out, family, ports, number, node)?;
@@ -143,7 +142,7 @@ fn put_assignments(
 
 // An output port shows its node.
 fn put_output(out: &mut Vec<u8>, family: usize, port: &Port) -> Result<(), Memory>
-    ensures { OnOk result (out.new.items ≡ out.old.items ++ option_map_or item_text (shows family port.now.direction port.now.name port.now.node) []) }
+    ensures { OnOk result (out.new.items ≡ out.old.items ++ shown_text family port.now) }
 {
     match port.direction {
         Direction::In => Ok(()),
@@ -159,7 +158,7 @@ fn put_output(out: &mut Vec<u8>, family: usize, port: &Port) -> Result<(), Memor
 
 #[tactic(auto, using(crate::proofs::Loops::loop_steps))]
 fn put_outputs(out: &mut Vec<u8>, family: usize, ports: &[Port]) -> Result<(), Memory>
-    ensures { OnOk result (out.new.items ≡ out.old.items ++ items_text (numbered (showing family) 0 ports.now)) }
+    ensures { OnOk result (out.new.items ≡ out.old.items ++ shows_text family ports.now) }
 {
     for port in ports {
         put_output(out, family, port)?;
@@ -169,7 +168,7 @@ fn put_outputs(out: &mut Vec<u8>, family: usize, ports: &[Port]) -> Result<(), M
 
 #[tactic(auto, using(crate::proofs::Loops::loop_steps))]
 fn put_blocks(out: &mut Vec<u8>, family: usize, nodes: &[Node]) -> Result<(), Memory>
-    ensures { OnOk result (out.new.items ≡ out.old.items ++ items_text (numbered (clocking family) 0 nodes.now)) }
+    ensures { OnOk result (out.new.items ≡ out.old.items ++ blocks_text family nodes.now) }
 {
     for (number, node) in nodes.iter().enumerate() {
         put_block(out, family, number, node)?;
@@ -179,7 +178,7 @@ fn put_blocks(out: &mut Vec<u8>, family: usize, nodes: &[Node]) -> Result<(), Me
 
 // The items, one part after the other.
 fn put_parts(out: &mut Vec<u8>, family: usize, nodes: &[Node], ports: &[Port]) -> Result<(), Memory>
-    ensures { OnOk result (out.new.items ≡ out.old.items ++ (items_text (numbered (declaring family) 0 nodes.now) ++ items_text (numbered (assigning family ports.now) 0 nodes.now) ++ items_text (numbered (showing family) 0 ports.now) ++ items_text (numbered (clocking family) 0 nodes.now))) }
+    ensures { OnOk result (out.new.items ≡ out.old.items ++ parts_text family nodes.now ports.now) }
 {
     put_declarations(out, family, nodes)?;
     put_assignments(out, family, nodes, ports)?;
@@ -189,7 +188,7 @@ fn put_parts(out: &mut Vec<u8>, family: usize, nodes: &[Node], ports: &[Port]) -
 
 // All items.
 fn put_items(out: &mut Vec<u8>, family: usize, nodes: &[Node], ports: &[Port]) -> Result<(), Memory>
-    ensures { OnOk result (out.new.items ≡ out.old.items ++ items_text (items_of family nodes.now ports.now)) }
+    ensures { OnOk result (out.new.items ≡ out.old.items ++ body_text family nodes.now ports.now) }
 {
     put_parts(out, family, nodes, ports)
 }
@@ -222,7 +221,8 @@ fn put_module(out: &mut Vec<u8>, net: &Netlist) -> Result<(), Memory>
 /// Appends the text of a netlist's module: the clock and the ports, one declaration for each node,
 /// all before the first use, the assignments, and a clocked block for each register and memory.
 ///
-/// On want of memory nothing was appended. A netlist of 2^32 nodes or ports, or more, is refused so.
+/// On want of memory nothing was appended. A netlist of 2^32 nodes or ports, or more, is refused
+/// so.
 pub fn write_module(net: &Netlist, into: &mut Vec<u8>) -> Result<(), Memory>
     ensures text { OnOk result (into.new.items ≡ into.old.items ++ module_text net.now) }
     ensures meaning { IsTextOf net.now (module_text net.now) }

@@ -1,6 +1,6 @@
 -- Lists of columns: one more, kept, and looked up by widths.
 use Rattle.std.proofs.Common.{◌≡◌, ℕ, zero, suc, ◌+◌, List, [], ◌∷◌, ◌++◌, length, Some, refl, sym, ap, ◌∙◌, subst, arith, length-append}
-use Rattle.std.specs.Prelude.{slice_get, slice_index, sum_by}
+use Rattle.std.specs.Prelude.{slice_get, slice_index}
 use Rattle.std.proofs.lemmas.List.Sums.{sum_by-append, sum_by-cons}
 use Rattle.std.specs.List.{sum}
 use Rattle.gl_net.specs.declared.node.Bus.{Bus}
@@ -36,6 +36,15 @@ pub widths-push : (bs : List Bus) (b : Bus) → widths (bs ++ b ∷ []) ≡ widt
 widths-push [] b = refl
 widths-push (x ∷ bs) b = ap (λ l. x.width ∷ l) (widths-push bs b)
 
+pub row_at-append : (run : Run) (t : ℕ) (bs cs : List Bus) → row_at run t (bs ++ cs) ≡ row_at run t bs ++ row_at run t cs
+unfolding row_at
+row_at-append run t [] cs = refl
+row_at-append run t (b ∷ bs) cs = ap (λ l. run.at t b.node ∷ l) (row_at-append run t bs cs)
+
+pub widths-append : (bs cs : List Bus) → widths (bs ++ cs) ≡ widths bs ++ widths cs
+widths-append [] cs = refl
+widths-append (b ∷ bs) cs = ap (λ l. b.width ∷ l) (widths-append bs cs)
+
 -- the column that a width at a place tells of
 pub column_at : (bs : List Bus) (k w : ℕ) → slice_get (widths bs) k ≡ Some w → (b : Bus) × (slice_get bs k ≡ Some b) × (b.width ≡ w)
 column_at [] k w h = absurd (cc)
@@ -51,11 +60,16 @@ pushed net (y ∷ bs) b h i (suc k) x e = pushed net bs b (λ j z q. h (suc j) z
 pub AreBuses-push : (net : Net) (bs : List Bus) (b : Bus) → AreBuses net bs → IsBus net b → AreBuses net (bs ++ b ∷ [])
 AreBuses-push net bs b h i = record { each = pushed net bs b h.each i }
 
+appended : (net : Net) (bs cs : List Bus) → ((k : ℕ) (x : Bus) → slice_get bs k ≡ Some x → IsBus net x) → ((k : ℕ) (x : Bus) → slice_get cs k ≡ Some x → IsBus net x) → (k : ℕ) (x : Bus) → slice_get (bs ++ cs) k ≡ Some x → IsBus net x
+appended net [] cs h i k x e = i k x e
+appended net (b ∷ bs) cs h i zero x e = h zero x e
+appended net (b ∷ bs) cs h i (suc k) x e = appended net bs cs (λ j z q. h (suc j) z q) i k x e
+
+pub AreBuses-append : (net : Net) (bs cs : List Bus) → AreBuses net bs → AreBuses net cs → AreBuses net (bs ++ cs)
+AreBuses-append net bs cs h i = record { each = appended net bs cs h.each i.each }
+
 pub AreBuses-none : (net : Net) → AreBuses net []
 AreBuses-none net = record { each = λ k x e. absurd (cc) }
-
-pub AreBuses-one : (net : Net) (b : Bus) → IsBus net b → AreBuses net (b ∷ [])
-AreBuses-one net b i = AreBuses-push net [] b (AreBuses-none net) i
 
 -- a bus, a list of buses and a wire stay what they are
 pub bus_kept : (old new : Net) (b : Bus) → Keeps old new → IsBus old b → IsBus new b
@@ -71,10 +85,12 @@ wire_kept old new w g h = record {
   columns = buses_kept old new w.columns g h.columns;
 }
 
+-- the bits of one column more, and of one
+pub sum-one : (x : ℕ) → sum (x ∷ []) ≡ x
+sum-one x = sum_by-cons (λ (y : ℕ). y) x [] ∙ omega arith
+
 sum-push : (xs : List ℕ) (x : ℕ) → sum (xs ++ x ∷ []) ≡ sum xs + x
-sum-push xs x =
-    let one : sum_by (λ (y : ℕ). y) (x ∷ []) ≡ x = sum_by-cons (λ (y : ℕ). y) x [] ∙ omega arith in
-    sum_by-append (λ (y : ℕ). y) xs (x ∷ []) ∙ ap (λ (n : ℕ). sum xs + n) one
+sum-push xs x = sum_by-append (λ (y : ℕ). y) xs (x ∷ []) ∙ ap (λ (n : ℕ). sum xs + n) (sum-one x)
 
 pub later_none : (net : Net) → AreLater net net [] []
 later_none net = record {

@@ -13,3 +13,4 @@ pub mod FurtherLemmas
 pub mod PaceLemmas
 pub mod ApartLemmas
 pub mod SideLemmas
+pub mod PadLemmas

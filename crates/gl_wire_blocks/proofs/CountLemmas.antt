@@ -5,7 +5,7 @@ use Rattle.std.proofs.lemmas.List.{append-nil}
 use Rattle.std.proofs.Math.Nat.{mod-add-mod, zero-mod}
 use Rattle.gl_bits.specs.Totals.{count_of}
 use Rattle.gl_bits.specs.Words.{choose_of, sum_of}
-use Rattle.gl_algebra.specs.Results.{Row}
+use Rattle.gl_bits.specs.Results.{Row}
 use Rattle.gl_net.specs.declared.node.Bus.{Bus}
 use Rattle.gl_net.specs.Net.{Run}
 use Rattle.gl_wire.specs.declared.wire.Wire.{Wire}

@@ -1,3 +1,5 @@
 pub mod SelectLemmas
 pub mod CountLemmas
-pub mod LeftLemmas
+pub mod BesideLemmas
+pub mod BesideNet
+pub mod ChainLemmas

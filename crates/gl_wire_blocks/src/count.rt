@@ -1,22 +1,21 @@
 //! How many rows a stream has.
 
-ghost use Rattle.std.specs.Prelude.{◌≡◌, ℕ, ◌<◌, ◌^◌, ◌∷◌, [], List, get_or, IfOk, OnOk};
+ghost use Rattle.std.specs.Prelude.{◌≡◌, ℕ, ◌<◌, ◌^◌, ◌∷◌, [], IfOk, OnOk};
 ghost use Rattle.gl_bits.specs.Words.{Word};
 ghost use Rattle.gl_algebra.specs.declared.figures.Figures.{Figures};
-ghost use Rattle.gl_algebra.specs.FigureTable.{aggregate_figures, input_figures};
-ghost use Rattle.gl_algebra.specs.Results.{Row};
-ghost use Rattle.gl_algebra.proofs.SoundLemmas.{aggregate_sound};
+ghost use Rattle.gl_algebra.specs.FigureTable.{aggregate_figures};
 ghost use Rattle.gl_net.specs.Net.{Run, IsRun, IsBit, IsBus, Keeps};
-ghost use Rattle.gl_wire.specs.Wire.{IsWire, carried, widths};
+ghost use Rattle.gl_wire.specs.Blocks.{IsBehind};
+ghost use Rattle.gl_wire.specs.Costs.{Costs};
 ghost use Rattle.gl_wire.specs.Shapes.{AtEnds, Totalled};
-ghost use Rattle.gl_wire.proofs.EndLemmas.{closer_total};
-ghost use Rattle.gl_wire.proofs.OperatorLemmas.{closer_one, sound_one};
+ghost use Rattle.gl_wire.specs.Wire.{IsWire, widths};
+ghost use Rattle.gl_wire_blocks.specs.Costs.{cost_of_count, cost_of_counter};
 ghost use Rattle.gl_wire_blocks.specs.Counting.{Counts, count_row};
 
 use gl_algebra::Figures;
 use gl_bits::{Memory, Word};
 use gl_net::{BinaryOp, Bit, Bus, NetBuilder};
-use gl_wire::{Operator, Wire, stage, total_figures};
+use gl_wire::{Emitted, Operator, stage, total_figures};
 use std::alloc::Global;
 
 /// How many rows a stream has, in 32 bits.
@@ -37,6 +36,7 @@ fn count_tuples(net: &mut NetBuilder, valid: Bit, eos: Bit) -> Result<Bus, Memor
     requires valid { IsBit net.old valid }
     requires eos { IsBit net.old eos }
     ensures keeps { OnOk result (Keeps net.old net.new) }
+    ensures cost { OnOk result (Costs net.old net.new cost_of_counter) }
     ensures bus { IfOk result (λ b. IsBus net.new b) }
     ensures width { IfOk result (λ b. b.width ≡ 32) }
     ensures counts { IfOk result (λ b. (run : Run) → IsRun net.new run → Counts run valid eos b) }
@@ -52,39 +52,37 @@ fn count_tuples(net: &mut NetBuilder, valid: Bit, eos: Bit) -> Result<Bus, Memor
 }
 
 /// One cycle after each end, the number of tuples of the stream.
-pub fn count_rows(alloc: Global, net: &mut NetBuilder, wire: &Wire) -> Result<Wire, Memory>
-    requires { IsWire net.old wire.now }
-    ensures keeps { OnOk result (Keeps net.old net.new) }
-    ensures wire { IfOk result (λ w. IsWire net.new w) }
-    ensures widths { IfOk result (λ w. widths w.columns ≡ 32 ∷ []) }
-    ensures ends { IfOk result (λ w. (run : Run) → IsRun net.new run → AtEnds 1 count_row (carried run wire.now) (carried run w)) }
+pub fn count_rows(alloc: Global, net: &mut NetBuilder, below: Emitted) -> Result<Emitted, Memory>
+    requires { IsWire net.old below.wire }
+    ensures { IfOk result (IsBehind net.old net.new (AtEnds 1 count_row) (32 ∷ []) cost_of_count below) }
 {
-    let now = count_tuples(net, wire.valid, wire.eos)?;
-    let counted = stage(alloc, net, wire.eos, wire.eos, &[now])?;
-    Ok(counted)
+    let now = count_tuples(net, below.wire.valid, below.wire.eos)?;
+    let wire = stage(alloc, net, below.wire.eos, below.wire.eos, &[now])?;
+    Ok(Emitted {
+        wire,
+        faults: below.faults,
+    })
 }
 
 impl Operator for Count {
-    ghost inputs = { λ _. 1 };
-
     ghost takes = { λ _ _. Unit {0} };
 
     ghost gives = { λ _ _. 32 ∷ [] };
 
-    ghost figures_of = { λ _ fs. aggregate_figures 1 (get_or fs 0 input_figures) };
+    ghost most = { λ _ _. cost_of_count };
 
-    ghost means = { λ _ xs. Totalled count_row (get_or xs 0 []) };
+    ghost shape = { λ _. AtEnds 1 count_row };
 
-    ghost closer = { λ s. closer_one (λ fs. aggregate_figures 1 (get_or fs 0 input_figures)) (closer_total 1) };
+    ghost means = { λ _. Totalled count_row };
 
-    ghost keeps_sound = { λ s. sound_one (λ fs. aggregate_figures 1 (get_or fs 0 input_figures)) (aggregate_sound 1) };
+    ghost figures_of = { λ _. aggregate_figures 1 };
 
-    fn figures(&self, ins: &[Figures]) -> Figures {
-        total_figures(ins[0], 1)
+    fn figures(&self, source: Figures) -> Figures {
+        total_figures(source, 1)
     }
 
-    fn emit(&self, alloc: Global, net: &mut NetBuilder, ins: &[Wire]) -> Result<Wire, Memory> {
-        let counted = count_rows(alloc, net, &ins[0])?;
+    fn emit(&self, alloc: Global, net: &mut NetBuilder, below: Emitted) -> Result<Emitted, Memory> {
+        let counted = count_rows(alloc, net, below)?;
         Ok(counted)
     }
 }

@@ -1,18 +1,17 @@
 //! The same rows, some cycles later.
 
-ghost use Rattle.std.specs.Prelude.{◌≡◌, ℕ, List, [], get_or};
+ghost use Rattle.std.specs.Prelude.{◌≡◌, IfOk};
 ghost use Rattle.gl_algebra.specs.declared.figures.Figures.{Figures};
-ghost use Rattle.gl_algebra.specs.FigureTable.{delayed, input_figures};
-ghost use Rattle.gl_algebra.specs.Results.{Row};
-ghost use Rattle.gl_algebra.proofs.SoundLemmas.{delayed_sound};
-ghost use Rattle.gl_wire.specs.Shapes.{Same};
-ghost use Rattle.gl_wire.proofs.DelayLemmas.{closer_delayed};
-ghost use Rattle.gl_wire.proofs.OperatorLemmas.{closer_one, sound_one};
+ghost use Rattle.gl_algebra.specs.FigureTable.{delayed};
+ghost use Rattle.gl_wire.specs.Blocks.{IsBehind};
+ghost use Rattle.gl_wire.specs.Costs.{stages_behind};
+ghost use Rattle.gl_wire.specs.Shapes.{IsDelayed, Same};
+ghost use Rattle.gl_wire.specs.Wire.{IsWire, widths};
 
 use gl_algebra::Figures;
 use gl_bits::Memory;
 use gl_net::NetBuilder;
-use gl_wire::{Operator, Wire, delayed_figures, pad};
+use gl_wire::{Emitted, Operator, delayed_figures, pad};
 use std::alloc::Global;
 
 /// The same rows, so many cycles later.
@@ -22,26 +21,27 @@ pub struct Delay {
 }
 
 impl Operator for Delay {
-    ghost inputs = { λ _. 1 };
-
     ghost takes = { λ _ _. Unit {0} };
 
-    ghost gives = { λ _ ws. get_or ws 0 [] };
+    ghost gives = { λ _ columns. columns };
 
-    ghost figures_of = { λ s fs. delayed s.cycles (get_or fs 0 input_figures) };
+    ghost most = { λ s columns. stages_behind s.cycles columns };
 
-    ghost means = { λ _ xs. Same (get_or xs 0 []) };
+    ghost shape = { λ s. IsDelayed s.cycles };
 
-    ghost closer = { λ s. closer_one (λ fs. delayed s.cycles (get_or fs 0 input_figures)) (closer_delayed s.cycles) };
+    ghost means = { λ _. Same };
 
-    ghost keeps_sound = { λ s. sound_one (λ fs. delayed s.cycles (get_or fs 0 input_figures)) (delayed_sound s.cycles) };
+    ghost figures_of = { λ s. delayed s.cycles };
 
-    fn figures(&self, ins: &[Figures]) -> Figures {
-        delayed_figures(ins[0], self.cycles)
+    fn figures(&self, source: Figures) -> Figures {
+        delayed_figures(source, self.cycles)
     }
 
-    fn emit(&self, alloc: Global, net: &mut NetBuilder, ins: &[Wire]) -> Result<Wire, Memory> {
-        let padded = pad(alloc, net, &ins[0], self.cycles)?;
-        Ok(padded)
+    fn emit(&self, alloc: Global, net: &mut NetBuilder, below: Emitted) -> Result<Emitted, Memory> {
+        let wire = pad(alloc, net, &below.wire, self.cycles)?;
+        Ok(Emitted {
+            wire,
+            faults: below.faults,
+        })
     }
 }

@@ -1,20 +1,17 @@
 //! The rows whose column is 1.
 
-ghost use Rattle.std.specs.Prelude.{◌≡◌, ℕ, List, [], Some, slice_get, get_or, IfOk, OnOk};
+ghost use Rattle.std.specs.Prelude.{◌≡◌, Some, slice_get, IfOk};
 ghost use Rattle.gl_algebra.specs.declared.figures.Figures.{Figures};
-ghost use Rattle.gl_algebra.specs.FigureTable.{delayed, input_figures};
-ghost use Rattle.gl_algebra.specs.Results.{Row};
-ghost use Rattle.gl_algebra.proofs.SoundLemmas.{delayed_sound};
-ghost use Rattle.gl_net.specs.Net.{Run, IsRun, Keeps};
-ghost use Rattle.gl_wire.specs.Wire.{IsWire, carried, widths};
+ghost use Rattle.gl_algebra.specs.FigureTable.{delayed};
+ghost use Rattle.gl_wire.specs.Blocks.{IsBehind};
 ghost use Rattle.gl_wire.specs.Shapes.{Steady, Mapped, keep_where};
-ghost use Rattle.gl_wire.proofs.DelayLemmas.{closer_delayed};
-ghost use Rattle.gl_wire.proofs.OperatorLemmas.{closer_one, sound_one};
+ghost use Rattle.gl_wire.specs.Wire.{IsWire, widths};
+ghost use Rattle.gl_wire_blocks.specs.Costs.{cost_of_select};
 
 use gl_algebra::Figures;
 use gl_bits::Memory;
-use gl_net::{BinaryOp, NetBuilder};
-use gl_wire::{Operator, Wire, delayed_figures, stage};
+use gl_net::NetBuilder;
+use gl_wire::{Emitted, Operator, both, delayed_figures, stage};
 use std::alloc::Global;
 
 /// The rows whose column at this place, of one bit, is 1.
@@ -27,43 +24,48 @@ pub struct Select {
 pub fn select_rows(
     alloc: Global,
     net: &mut NetBuilder,
-    wire: &Wire,
+    below: Emitted,
     column: usize,
-) -> Result<Wire, Memory>
-    requires wire { IsWire net.old wire.now }
-    requires column { slice_get (widths wire.now.columns) column ≡ Some 1 }
-    ensures keeps { OnOk result (Keeps net.old net.new) }
-    ensures wire { IfOk result (λ w. IsWire net.new w) }
-    ensures widths { IfOk result (λ w. widths w.columns ≡ widths wire.now.columns) }
-    ensures steady { IfOk result (λ w. (run : Run) → IsRun net.new run → Steady 1 (keep_where column) (carried run wire.now) (carried run w)) }
+) -> Result<Emitted, Memory>
+    requires wire { IsWire net.old below.wire }
+    requires column { slice_get (widths below.wire.columns) column ≡ Some 1 }
+    ensures { IfOk result (IsBehind net.old net.new (Steady 1 (keep_where column))
+        (widths below.wire.columns) (cost_of_select (widths below.wire.columns)) below) }
 {
-    let test = wire.columns.as_slice()[column];
-    let keep = net.binary(BinaryOp::And, wire.valid.bus(), test)?;
-    let kept = stage(alloc, net, keep.bit(), wire.eos, wire.columns.as_slice())?;
-    Ok(kept)
+    let test = below.wire.columns.as_slice()[column];
+    let keep = both(net, below.wire.valid, test.bit())?;
+    let wire = stage(
+        alloc,
+        net,
+        keep,
+        below.wire.eos,
+        below.wire.columns.as_slice(),
+    )?;
+    Ok(Emitted {
+        wire,
+        faults: below.faults,
+    })
 }
 
 impl Operator for Select {
-    ghost inputs = { λ _. 1 };
+    ghost takes = { λ s columns. slice_get columns s.column ≡ Some 1 };
 
-    ghost takes = { λ s ws. slice_get (get_or ws 0 []) s.column ≡ Some 1 };
+    ghost gives = { λ _ columns. columns };
 
-    ghost gives = { λ _ ws. get_or ws 0 [] };
+    ghost most = { λ _ columns. cost_of_select columns };
 
-    ghost figures_of = { λ _ fs. delayed 1 (get_or fs 0 input_figures) };
+    ghost shape = { λ s. Steady 1 (keep_where s.column) };
 
-    ghost means = { λ s xs. Mapped (keep_where s.column) (get_or xs 0 []) };
+    ghost means = { λ s. Mapped (keep_where s.column) };
 
-    ghost closer = { λ s. closer_one (λ fs. delayed 1 (get_or fs 0 input_figures)) (closer_delayed 1) };
+    ghost figures_of = { λ _. delayed 1 };
 
-    ghost keeps_sound = { λ s. sound_one (λ fs. delayed 1 (get_or fs 0 input_figures)) (delayed_sound 1) };
-
-    fn figures(&self, ins: &[Figures]) -> Figures {
-        delayed_figures(ins[0], 1)
+    fn figures(&self, source: Figures) -> Figures {
+        delayed_figures(source, 1)
     }
 
-    fn emit(&self, alloc: Global, net: &mut NetBuilder, ins: &[Wire]) -> Result<Wire, Memory> {
-        let kept = select_rows(alloc, net, &ins[0], self.column)?;
+    fn emit(&self, alloc: Global, net: &mut NetBuilder, below: Emitted) -> Result<Emitted, Memory> {
+        let kept = select_rows(alloc, net, below, self.column)?;
         Ok(kept)
     }
 }

@@ -1,20 +1,22 @@
 //! Operators behind the ports of a netlist.
 
 ghost use Rattle.std.specs.Prelude.{◌≡◌, ◌∷◌, [], IfOk};
+ghost use Rattle.gl_wire.specs.Faults.{no_faults};
 ghost use Rattle.gl_wire.specs.Wire.{IsWire, widths};
 
-use crate::{Count, Delay, Left, Select, emit_both};
+use crate::{Count, Delay, Select, count_selected, put_beside};
 use gl_algebra::Figures;
 use gl_bits::Memory;
 use gl_net::{Buses, NetBuilder};
-use gl_wire::{Operator, Wire};
+use gl_wire::{Emitted, Faults, Operator, Wire};
 use std::alloc::Global;
 use std::test::Fail;
 
-// A wire with a column of one bit and one of eight.
-fn put_source(alloc: Global, net: &mut NetBuilder) -> Result<Wire, Memory>
-    ensures wire { IfOk result (λ w. IsWire net.new w) }
-    ensures widths { IfOk result (λ w. widths w.columns ≡ 1 ∷ 8 ∷ []) }
+// A stream with a column of one bit and one of eight.
+fn put_source(alloc: Global, net: &mut NetBuilder) -> Result<Emitted, Memory>
+    ensures wire { IfOk result (λ e. IsWire net.new e.wire) }
+    ensures widths { IfOk result (λ e. widths e.wire.columns ≡ 1 ∷ 8 ∷ []) }
+    ensures faults { IfOk result (λ e. e.faults ≡ no_faults) }
 {
     let valid = net.input(b"valid", 1)?;
     let eos = net.input(b"eos", 1)?;
@@ -23,35 +25,65 @@ fn put_source(alloc: Global, net: &mut NetBuilder) -> Result<Wire, Memory>
     let mut columns = Buses::new(alloc);
     columns.push(keep)?;
     columns.push(price)?;
-    Ok(Wire {
-        valid: valid.bit(),
-        eos: eos.bit(),
-        columns,
+    Ok(Emitted {
+        wire: Wire {
+            valid: valid.bit(),
+            eos: eos.bit(),
+            columns,
+        },
+        faults: Faults {
+            passed: None,
+            further: None,
+        },
     })
 }
 
-// How many of the rows whose column is 1 there are, two cycles later.
-fn put_count(alloc: Global, net: &mut NetBuilder, source: Wire) -> Result<Wire, Memory>
-    requires wire { IsWire net.old source }
-    requires widths { widths source.columns ≡ 1 ∷ 8 ∷ [] }
-    ensures wire { IfOk result (λ w. IsWire net.new w) }
-    ensures widths { IfOk result (λ w. widths w.columns ≡ 32 ∷ []) }
+// The lines of a stream, without its columns.
+fn lines_of(alloc: Global, source: &Emitted) -> Emitted
+    ensures { result ≡ record source.now { wire = record source.now.wire { columns = [] } } }
 {
-    let select = Select { column: 0 };
-    let delay = Delay { cycles: 2 };
-    let selected = emit_both(alloc, net, &[source], &select, &delay)?;
-    let counted = Count.emit(alloc, net, &[selected])?;
-    Ok(counted)
+    Emitted {
+        wire: Wire {
+            valid: source.wire.valid,
+            eos: source.wire.eos,
+            columns: Buses::new(alloc),
+        },
+        faults: source.faults,
+    }
 }
 
+// A gate and a stage of two columns, then six nodes of a count and a stage of one.
 #[test]
-fn emits_operators_behind_one_another(rt: HostRuntime) -> Result<(), Fail> {
+fn two_operators_in_a_row(rt: HostRuntime) -> Result<(), Fail> {
     let mut net = NetBuilder::new(rt.alloc());
     let source = put_source(rt.alloc(), &mut net)?;
     assert_eq!(rt; net.len(), 4);
-    let counted = put_count(rt.alloc(), &mut net, source)?;
-    assert_eq!(rt; net.len(), 26);
-    assert_eq!(rt; counted.columns.len(), 1);
+    let counted = count_selected(rt.alloc(), &mut net, source, 0)?;
+    assert_eq!(rt; net.len(), 4 + (1 + 4) + (6 + 3));
+    assert_eq!(rt; counted.wire.columns.len(), 1);
+    Ok(())
+}
+
+// Two columns beside none, which costs nothing.
+#[test]
+fn two_inputs_side_by_side(rt: HostRuntime) -> Result<(), Fail> {
+    let mut net = NetBuilder::new(rt.alloc());
+    let left = put_source(rt.alloc(), &mut net)?;
+    let right = lines_of(rt.alloc(), &left);
+    let both = put_beside(&mut net, left, right)?;
+    assert_eq!(rt; net.len(), 4);
+    assert_eq!(rt; both.wire.columns.len(), 2);
+    Ok(())
+}
+
+// Two stages of two columns.
+#[test]
+fn a_wire_later(rt: HostRuntime) -> Result<(), Fail> {
+    let mut net = NetBuilder::new(rt.alloc());
+    let source = put_source(rt.alloc(), &mut net)?;
+    let later = Delay { cycles: 2 }.emit(rt.alloc(), &mut net, source)?;
+    assert_eq!(rt; net.len(), 4 + 2 * 4);
+    assert_eq!(rt; later.wire.columns.len(), 2);
     Ok(())
 }
 
@@ -66,12 +98,12 @@ fn figures_move_with_the_rows(rt: HostRuntime) -> Result<(), Fail> {
         gt: 1,
         ge: 1,
     };
-    let later = Delay { cycles: 2 }.figures(&[stream]);
+    let later = Delay { cycles: 2 }.figures(stream);
     assert_eq!(rt; (later.a, later.lt, later.le), (2, 2, 2));
-    let counted = Count.figures(&[later]);
-    assert_eq!(rt; (counted.a, counted.lt, counted.le), (3, 3, 3));
+    let selected = Select { column: 0 }.figures(later);
+    assert_eq!(rt; (selected.a, selected.lt, selected.le), (3, 3, 3));
+    let counted = Count.figures(selected);
+    assert_eq!(rt; (counted.a, counted.lt, counted.le), (4, 4, 4));
     assert_eq!(rt; (counted.nt, counted.ne), (0, 1));
-    let left = Left.figures(&[later, stream]);
-    assert_eq!(rt; (left.a, left.lt, left.le), (3, 3, 3));
     Ok(())
 }

@@ -1,8 +1,10 @@
 -- A module that follows a stream shows, under the stimulus of beats, what the beats bring one cycle later.
-use Rattle.std.proofs.Common.{◌≡◌, ℕ, zero, suc, Bool, true, false, List, [], ◌∷◌, ◌++◌, Option, Some, None, refl, ap, subst, ◌∙◌}
+use Rattle.std.proofs.Common.{◌≡◌, ℕ, zero, suc, Bool, true, false, List, [], ◌∷◌, Option, Some, None, refl, ap, subst, ◌∙◌}
 use Rattle.std.specs.Prelude.{map, option_map, option_and_then, unwrap_or, IfSome, is_some, slice_get, slice_index, ◌==◌}
 use Rattle.std.specs.List.{AllByRecursion}
 use Rattle.std.specs.Option.{option_map_or}
+use Rattle.gl_bits.proofs.Options.{some_same}
+use Rattle.gl_bits.proofs.AllLists.{all_front, all_back}
 use Rattle.gl_bits.specs.Words.{bit}
 use Rattle.gl_schema.specs.declared.schema.Column.{Column}
 use Rattle.gl_schema.specs.declared.schema.Stream.{Stream}
@@ -17,14 +19,6 @@ use Rattle.gl_wiring.specs.Select.{picked, HasPort, ColumnsFollow, FollowsStream
 abbrev Carries : PortValues → ℕ → Pin → Type 0
 Carries port t p = IfSome (port t p.name) (λ v. v ≡ p.value)
 
-All-front : {A : Type 0} (P : A → Type 0) (xs ys : List A) → AllByRecursion P (xs ++ ys) → AllByRecursion P xs
-All-front P [] ys h = tt
-All-front P (x ∷ xs) ys h = (h.0, All-front P xs ys h.1)
-
-All-back : {A : Type 0} (P : A → Type 0) (xs ys : List A) → AllByRecursion P (xs ++ ys) → AllByRecursion P ys
-All-back P [] ys h = h
-All-back P (x ∷ xs) ys h = All-back P xs ys h.1
-
 -- a port that the module has carries its pin's value
 pub carried : (port : PortValues) (t : ℕ) (name : List ℕ) (v : ℕ) → HasPort port name → Carries port t (pin name v) → value_at port t name ≡ v
 carried port t name v has h =
@@ -32,23 +26,20 @@ carried port t name v has h =
     let g : (has t).0 ≡ v = rw e at h in
     rw e g
 
-some_is : {A : Type 0} (x y : A) → Some x ≡ Some y → x ≡ y
-some_is x y e = cc
-
 -- the pins of stream k
 stream_at : (P : Pin → Type 0) (ss : List Stream) (rows : List (Option (List ℕ))) (k : ℕ) (s : Stream) → slice_get ss k ≡ Some s → AllByRecursion P (streams_pins ss rows) → AllByRecursion P (stream_pins s (unwrap_or (slice_get rows k) None))
 stream_at P [] rows k s there h = absurd cc
-stream_at P (s ∷ ss) [] zero r there h = subst (λ x. AllByRecursion P (stream_pins x None)) (some_is s r there) (All-front P (stream_pins s None) (streams_pins ss []) h)
-stream_at P (s ∷ ss) [] (suc k) r there h = stream_at P ss [] k r there (All-back P (stream_pins s None) (streams_pins ss []) h)
-stream_at P (s ∷ ss) (row ∷ rows) zero r there h = subst (λ x. AllByRecursion P (stream_pins x row)) (some_is s r there) (All-front P (stream_pins s row) (streams_pins ss rows) h)
-stream_at P (s ∷ ss) (row ∷ rows) (suc k) r there h = stream_at P ss rows k r there (All-back P (stream_pins s row) (streams_pins ss rows) h)
+stream_at P (s ∷ ss) [] zero r there h = subst (λ x. AllByRecursion P (stream_pins x None)) (some_same s r there) (all_front P (stream_pins s None) (streams_pins ss []) h)
+stream_at P (s ∷ ss) [] (suc k) r there h = stream_at P ss [] k r there (all_back P (stream_pins s None) (streams_pins ss []) h)
+stream_at P (s ∷ ss) (row ∷ rows) zero r there h = subst (λ x. AllByRecursion P (stream_pins x row)) (some_same s r there) (all_front P (stream_pins s row) (streams_pins ss rows) h)
+stream_at P (s ∷ ss) (row ∷ rows) (suc k) r there h = stream_at P ss rows k r there (all_back P (stream_pins s row) (streams_pins ss rows) h)
 
 -- the pin of the column at a place
 column_at : (P : Pin → Type 0) (stream : List ℕ) (cs : List Column) (row : List ℕ) (p : ℕ) (c : Column) → slice_get cs p ≡ Some c → AllByRecursion P (column_pins stream cs row) → P (pin (in_column stream c.name) (slice_index row p))
 column_at P stream [] row p c there h = absurd cc
-column_at P stream (c ∷ cs) [] zero d there h = subst (λ (x : Column). P (pin (in_column stream x.name) 0)) (some_is c d there) h.0
+column_at P stream (c ∷ cs) [] zero d there h = subst (λ (x : Column). P (pin (in_column stream x.name) 0)) (some_same c d there) h.0
 column_at P stream (c ∷ cs) [] (suc p) d there h = column_at P stream cs [] p d there h.1
-column_at P stream (c ∷ cs) (n ∷ ns) zero d there h = subst (λ (x : Column). P (pin (in_column stream x.name) n)) (some_is c d there) h.0
+column_at P stream (c ∷ cs) (n ∷ ns) zero d there h = subst (λ (x : Column). P (pin (in_column stream x.name) n)) (some_same c d there) h.0
 column_at P stream (c ∷ cs) (n ∷ ns) (suc p) d there h = column_at P stream cs ns p d there h.1
 
 row_by : (k : ℕ) (o : Option Beat) → unwrap_or (slice_get (option_map_or (λ (b : Beat). b.rows) o []) k) None ≡ option_and_then (row_in k) o
@@ -69,7 +60,7 @@ module _ (schema : Schema) (k : ℕ) (s : Stream) (there : slice_get schema.stre
   stream_pins_of n =
       let all = (stimulus.carries (suc n)).1 in
       let P : Pin → Type 0 = Carries input (suc n) in
-      let streams = All-front P (streams_pins schema.streams (rows_at beats n)) (pin eos (bit (ends_at beats n)) ∷ []) all in
+      let streams = all_front P (streams_pins schema.streams (rows_at beats n)) (pin eos (bit (ends_at beats n)) ∷ []) all in
       subst (λ row. AllByRecursion P (stream_pins s row)) (row_of-beat k beats n) (stream_at P schema.streams (rows_at beats n) k s there streams)
 
   pub valid_is : (n : ℕ) → HasPort input (in_valid s.name) → value_at input (suc n) (in_valid s.name) ≡ bit (is_some (row_at k beats n))
@@ -84,7 +75,7 @@ module _ (schema : Schema) (k : ℕ) (s : Stream) (there : slice_get schema.stre
   eos_is n has =
       let all = (stimulus.carries (suc n)).1 in
       let P : Pin → Type 0 = Carries input (suc n) in
-      carried input (suc n) eos (bit (ends_at beats n)) has (All-back P (streams_pins schema.streams (rows_at beats n)) (pin eos (bit (ends_at beats n)) ∷ []) all).0
+      carried input (suc n) eos (bit (ends_at beats n)) has (all_back P (streams_pins schema.streams (rows_at beats n)) (pin eos (bit (ends_at beats n)) ∷ []) all).0
 
   outs_are : (n : ℕ) (places : List ℕ) (outs : List (List ℕ)) → ColumnsFollow input port s.name s.columns places outs → map (value_at port (suc (suc n))) outs ≡ picked places (unwrap_or (row_at k beats n) [])
   outs_are n [] [] f = refl

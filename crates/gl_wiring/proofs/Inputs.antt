@@ -1,6 +1,5 @@
 -- Input ports column by column and stream by stream.
-use Rattle.std.proofs.Common.{◌≡◌, ℕ, zero, suc, ◌+◌, ◌<◌, List, [], ◌∷◌, ◌++◌, length, take, drop, sym, ap, subst, ◌∙◌, arith, get_or, drop-cons}
-use Rattle.std.proofs.lemmas.List.{take_more}
+use Rattle.std.proofs.Common.{◌≡◌, ℕ, zero, suc, ◌+◌, ◌<◌, List, [], ◌∷◌, ◌++◌, length, drop, sym, ap, subst, ◌∙◌, arith, get_or, drop-cons}
 use Rattle.std.specs.List.{AllByRecursion}
 use Rattle.gl_schema.specs.declared.schema.Column.{Column}
 use Rattle.gl_schema.specs.declared.schema.Stream.{Stream}
@@ -36,9 +35,6 @@ all_at P [] i d h lt = absurd (omega arith)
 all_at P (x ∷ xs) zero d h lt = h.0
 all_at P (x ∷ xs) (suc i) d h lt = all_at P xs i d h.1 (omega arith)
 
-pub taken_next : (cs : List Column) (i : ℕ) (c : Column) → i < length cs → c ≡ get_or cs i c → take (i + 1) cs ≡ take i cs ++ c ∷ []
-taken_next cs i c lt e = take_more cs i c lt ∙ ap (λ (d : Column). take i cs ++ d ∷ []) (sym e)
-
 -- the columns and the streams of a schema, one by one
 pub stream_is : (ss : List Stream) (i : ℕ) (s : Stream) → AllByRecursion IsStream ss → i < length ss → s ≡ get_or ss i s → IsStream s
 stream_is ss i s all lt e = subst IsStream (sym e) (all_at IsStream ss i s all lt)
@@ -55,6 +51,3 @@ extends_then a b c x y = record {
   ports = λ d name n h. y.ports d name n (x.ports d name n h);
   module_name = y.module_name ∙ x.module_name;
 }
-
-pub taken_more : {A : Type 0} (xs : List A) (i : ℕ) (x : A) → i < length xs → x ≡ get_or xs i x → take (i + 1) xs ≡ take i xs ++ x ∷ []
-taken_more {A} xs i x lt e = take_more xs i x lt ∙ ap (λ (y : A). take i xs ++ y ∷ []) (sym e)

@@ -1,9 +1,11 @@
 -- No two ports of an emitted module have one name.
-use Rattle.std.proofs.Common.{◌≡◌, ℕ, Bool, true, false, not, ◌&&◌, ◌||◌, List, [], ◌∷◌, ◌++◌, length, map, codes, refl, sym, ap, ◌∙◌, subst, drop, ◌⊎◌, inl, inr, append_assoc, arith}
+use Rattle.std.proofs.Common.{◌≡◌, ℕ, true, false, not, ◌&&◌, List, [], ◌∷◌, ◌++◌, length, map, codes, refl, sym, ap, ◌∙◌, subst, drop, ◌⊎◌, inl, inr, append_assoc, arith}
 use Rattle.std.specs.Prelude.{nat_le, bytes_eq, ◌==◌, if◌then◌else◌}
 use Rattle.std.specs.List.{AllByRecursion, IsDistinct, list_any}
 use Rattle.std.proofs.lemmas.List.{append_cancel_left}
 use Rattle.std.proofs.lemmas.Slice.Eq.{bytes_eq-Decides}
+use Rattle.gl_bits.proofs.AllLists.{all_append, all_weaker}
+use Rattle.gl_bits.proofs.Bools.{else_false, neither_left, neither_right, not_both, and_left, and_right, not_true}
 use Rattle.gl_schema.specs.declared.schema.Column.{Column}
 use Rattle.gl_schema.specs.declared.schema.Stream.{Stream}
 use Rattle.gl_schema.specs.declared.schema.Schema.{Schema}
@@ -18,41 +20,20 @@ use Rattle.gl_wiring.specs.PortNames.{column_ports, stream_ports, streams_ports,
 abbrev pub Apart : List ℕ → List (List ℕ) → Type 0
 Apart n names = AllByRecursion (λ m. n ≡ m → ⊥) names
 
--- a test that is not true is false
-not_true : (b : Bool) → (b ≡ true → ⊥) → b ≡ false
-not_true true h = absurd (h refl)
-not_true false h = refl
-
--- the parts of an alternative that is false
-or_left : (a b : Bool) → (a || b) ≡ false → a ≡ false
-or_left true b h = absurd cc
-or_left false b h = refl
-
-or_right : (a b : Bool) → (a || b) ≡ false → b ≡ false
-or_right true b h = absurd cc
-or_right false b h = h
-
-both_false : (a b : Bool) → a ≡ false → b ≡ false → (a || b) ≡ false
-both_false true b h k = absurd cc
-both_false false b h k = k
-
 pub bytes_eq-false : (n m : List ℕ) → (n ≡ m → ⊥) → bytes_eq n m ≡ false
-bytes_eq-false n m differ = not_true (bytes_eq n m) (λ h. differ ((bytes_eq-Decides n m).0 h))
+bytes_eq-false n m differ = else_false (bytes_eq n m) (λ h. differ ((bytes_eq-Decides n m).0 h))
 
 pub all_apart : (names : List (List ℕ)) (n : List ℕ) → Apart n names → AllByRecursion (λ m. bytes_eq n m ≡ false) names
 all_apart [] n apart = tt
 all_apart (m ∷ ms) n apart = (bytes_eq-false n m apart.0, all_apart ms n apart.1)
 
-false_true : (b : Bool) → b ≡ true → b ≡ false → ⊥
-false_true b h k = cc
-
 pub apart_all : (names : List (List ℕ)) (n : List ℕ) → AllByRecursion (λ m. bytes_eq n m ≡ false) names → Apart n names
 apart_all [] n absent = tt
-apart_all (m ∷ ms) n absent = (λ e. false_true (bytes_eq n m) ((bytes_eq-Decides n m).1 e) absent.0, apart_all ms n absent.1)
+apart_all (m ∷ ms) n absent = (λ e. not_both (bytes_eq n m) ((bytes_eq-Decides n m).1 e) absent.0, apart_all ms n absent.1)
 
 -- two texts that compare as different are
 texts_differ : (n m : List ℕ) → bytes_eq n m ≡ false → n ≡ m → ⊥
-texts_differ n m h e = false_true (bytes_eq n m) ((bytes_eq-Decides n m).1 e) h
+texts_differ n m h e = not_both (bytes_eq n m) ((bytes_eq-Decides n m).1 e) h
 
 -- each name is apart from all later ones
 abbrev pub AreApart : List (List ℕ) → Type 0
@@ -69,18 +50,10 @@ unfolding IsDistinct
 distinct_apart [] h = tt
 distinct_apart (n ∷ ns) h = (all_apart ns n h.0, distinct_apart ns h.1)
 
-All-append : {A : Type 0} (P : A → Type 0) (xs ys : List A) → AllByRecursion P xs → AllByRecursion P ys → AllByRecursion P (xs ++ ys)
-All-append P [] ys h k = k
-All-append P (x ∷ xs) ys h k = (h.0, All-append P xs ys h.1 k)
-
-All-map : {A : Type 0} (P Q : A → Type 0) (xs : List A) → ((x : A) → P x → Q x) → AllByRecursion P xs → AllByRecursion Q xs
-All-map P Q [] f h = tt
-All-map P Q (x ∷ xs) f h = (f x h.0, All-map P Q xs f h.1)
-
 -- two lists, each of distinct names, of which no name of the first stands in the second
 apart-append : (xs ys : List (List ℕ)) → AreApart xs → AreApart ys → AllByRecursion (λ x. Apart x ys) xs → AreApart (xs ++ ys)
 apart-append [] ys h k across = k
-apart-append (x ∷ xs) ys h k across = (All-append (λ m. x ≡ m → ⊥) xs ys h.0 across.0, apart-append xs ys h.1 k across.1)
+apart-append (x ∷ xs) ys h k across = (all_append (λ m. x ≡ m → ⊥) xs ys h.0 across.0, apart-append xs ys h.1 k across.1)
 
 -- ---- what tells one name from another
 
@@ -103,21 +76,9 @@ unfolding before_double has_loose_underscore
 before_double-name [] rest h = refl
 before_double-name (a ∷ []) rest h = rw h refl
 before_double-name (a ∷ b ∷ bs) rest h =
-    rw (or_left ((a == 95) && (b == 95)) (has_loose_underscore (b ∷ bs)) h) (ap (λ t. a ∷ t) (before_double-name (b ∷ bs) rest (or_right ((a == 95) && (b == 95)) (has_loose_underscore (b ∷ bs)) h)))
+    rw (neither_left ((a == 95) && (b == 95)) (has_loose_underscore (b ∷ bs)) h) (ap (λ t. a ∷ t) (before_double-name (b ∷ bs) rest (neither_right ((a == 95) && (b == 95)) (has_loose_underscore (b ∷ bs)) h)))
 
 -- ---- names of streams and columns
-
-and_left : (a b : Bool) → (a && b) ≡ true → a ≡ true
-and_left true b h = refl
-and_left false b h = absurd cc
-
-and_right : (a b : Bool) → (a && b) ≡ true → b ≡ true
-and_right true b h = h
-and_right false b h = absurd cc
-
-not_of_true : (b : Bool) → not b ≡ true → b ≡ false
-not_of_true true h = absurd cc
-not_of_true false h = refl
 
 -- what a name is, part by part
 record Name (n : List ℕ) : Type 0 where
@@ -128,10 +89,10 @@ name_parts : (n : List ℕ) → IsName n → Name n
 unfolding is_name is_taken
 name_parts n h =
     let to3 = and_left (nat_le (length n) 32 && begins_with_letter n && has_name_bytes n && not (has_loose_underscore n)) (not (is_taken n)) h in
-    let taken = not_of_true (is_taken n) (and_right (nat_le (length n) 32 && begins_with_letter n && has_name_bytes n && not (has_loose_underscore n)) (not (is_taken n)) h) in
+    let taken = not_true (is_taken n) (and_right (nat_le (length n) 32 && begins_with_letter n && has_name_bytes n && not (has_loose_underscore n)) (not (is_taken n)) h) in
     record {
-      single = not_of_true (has_loose_underscore n) (and_right (nat_le (length n) 32 && begins_with_letter n && has_name_bytes n) (not (has_loose_underscore n)) to3);
-      free = or_right (list_any (bytes_eq n) keywords) (list_any (bytes_eq n) reserved) taken;
+      single = not_true (has_loose_underscore n) (and_right (nat_le (length n) 32 && begins_with_letter n && has_name_bytes n) (not (has_loose_underscore n)) to3);
+      free = neither_right (list_any (bytes_eq n) keywords) (list_any (bytes_eq n) reserved) taken;
     }
 
 in_valid-stream : (s : List ℕ) → has_loose_underscore s ≡ false → stream_of (in_valid s) ≡ s
@@ -196,7 +157,7 @@ is_reserved : (n m : List ℕ) → IsName n → list_any (bytes_eq m) reserved �
 is_reserved n m h taken e =
     let free : list_any (bytes_eq n) reserved ≡ false = (name_parts n h).free in
     let same : list_any (bytes_eq n) reserved ≡ true = subst (λ k. list_any (bytes_eq k) reserved ≡ true) e taken in
-    false_true (list_any (bytes_eq n) reserved) same free
+    not_both (list_any (bytes_eq n) reserved) same free
 
 valid_is_reserved : list_any (bytes_eq (codes "valid")) reserved ≡ true
 unfolding reserved
@@ -222,21 +183,21 @@ stream_apart s h = (valid_apart s.name s.columns h.columns, columns_apart s.name
 other_apart : (n : List ℕ) (s : Stream) (ss : List Stream) → IsOf s.name n → Apart s.name (stream_names ss) → AllByRecursion IsStream ss → Apart n (streams_ports ss)
 other_apart n s [] of apart all = tt
 other_apart n s (r ∷ rs) of apart all =
-    All-append (λ m. n ≡ m → ⊥) (stream_ports r) (streams_ports rs)
-    (All-map (IsOf r.name) (λ m. n ≡ m → ⊥) (stream_ports r) (λ m is e. apart.0 (sym of.stream ∙ ap stream_of e ∙ is.stream)) (stream_ports-of r all.0))
+    all_append (λ m. n ≡ m → ⊥) (stream_ports r) (streams_ports rs)
+    (all_weaker (IsOf r.name) (λ m. n ≡ m → ⊥) (λ m is e. apart.0 (sym of.stream ∙ ap stream_of e ∙ is.stream)) (stream_ports r) (stream_ports-of r all.0))
     (other_apart n s rs of apart.1 all.1)
 
 streams_apart : (ss : List Stream) → AllByRecursion IsStream ss → AreApart (stream_names ss) → AreApart (streams_ports ss)
 streams_apart [] all h = tt
 streams_apart (s ∷ ss) all h =
     apart-append (stream_ports s) (streams_ports ss) (stream_apart s all.0) (streams_apart ss all.1 h.1)
-    (All-map (IsOf s.name) (λ n. Apart n (streams_ports ss)) (stream_ports s) (λ n is. other_apart n s ss is h.0 all.1) (stream_ports-of s all.0))
+    (all_weaker (IsOf s.name) (λ n. Apart n (streams_ports ss)) (λ n is. other_apart n s ss is h.0 all.1) (stream_ports s) (stream_ports-of s all.0))
 
 streams_first : (ss : List Stream) → AllByRecursion IsStream ss → AllByRecursion (λ n. first_byte n ≡ 105) (streams_ports ss)
 streams_first [] all = tt
 streams_first (s ∷ ss) all =
-    All-append (λ n. first_byte n ≡ 105) (stream_ports s) (streams_ports ss)
-    (All-map (IsOf s.name) (λ n. first_byte n ≡ 105) (stream_ports s) (λ n is. is.first) (stream_ports-of s all.0))
+    all_append (λ n. first_byte n ≡ 105) (stream_ports s) (streams_ports ss)
+    (all_weaker (IsOf s.name) (λ n. first_byte n ≡ 105) (λ n is. is.first) (stream_ports s) (stream_ports-of s all.0))
     (streams_first ss all.1)
 
 -- ---- the ports of the result
@@ -290,7 +251,7 @@ valid_columns (c ∷ cs) h = (λ e. no_valid c h.0 (out_valid-column c e), valid
 
 result_apart : (cs : List (List ℕ)) → AllByRecursion IsName cs → AreApart cs → AreApart (result_ports cs)
 result_apart cs all h = (
-  All-append (λ m. out_valid ≡ m → ⊥) (map out_column cs) (out_eos ∷ fault_group ∷ fault_queue ∷ []) (valid_columns cs all) valid_tail,
+  all_append (λ m. out_valid ≡ m → ⊥) (map out_column cs) (out_eos ∷ fault_group ∷ fault_queue ∷ []) (valid_columns cs all) valid_tail,
   apart-append (map out_column cs) (out_eos ∷ fault_group ∷ fault_queue ∷ []) (columns_are_apart cs h) tail_are_apart (columns_tail cs all),
 )
 
@@ -305,7 +266,7 @@ outs_first (c ∷ cs) = (inl (out_column-first c), outs_first cs)
 result_first : (cs : List (List ℕ)) → AllByRecursion (λ n. IsResultByte (first_byte n)) (result_ports cs)
 unfolding out_valid out_eos fault_group fault_queue
 result_first cs =
-    (inl refl, All-append (λ n. IsResultByte (first_byte n)) (map out_column cs) (out_eos ∷ fault_group ∷ fault_queue ∷ []) (outs_first cs) (inl refl, (inr refl, (inr refl, tt))))
+    (inl refl, all_append (λ n. IsResultByte (first_byte n)) (map out_column cs) (out_eos ∷ fault_group ∷ fault_queue ∷ []) (outs_first cs) (inl refl, (inr refl, (inr refl, tt))))
 
 -- ---- all ports
 
@@ -341,19 +302,19 @@ rst_eos e = texts_differ rst eos refl e
 
 -- in front of the result's ports stands the end of the input
 eos_apart : (cs : List (List ℕ)) → Apart eos (result_ports cs)
-eos_apart cs = All-map (λ n. IsResultByte (first_byte n)) (λ m. eos ≡ m → ⊥) (result_ports cs) (λ m k. no_result 101 differ-101 eos m eos_first k) (result_first cs)
+eos_apart cs = all_weaker (λ n. IsResultByte (first_byte n)) (λ m. eos ≡ m → ⊥) (λ m k. no_result 101 differ-101 eos m eos_first k) (result_ports cs) (result_first cs)
 
 rst_apart : (cs : List (List ℕ)) → Apart rst (result_ports cs)
-rst_apart cs = All-map (λ n. IsResultByte (first_byte n)) (λ m. rst ≡ m → ⊥) (result_ports cs) (λ m k. no_result 114 differ-114 rst m rst_first k) (result_first cs)
+rst_apart cs = all_weaker (λ n. IsResultByte (first_byte n)) (λ m. rst ≡ m → ⊥) (λ m k. no_result 114 differ-114 rst m rst_first k) (result_ports cs) (result_first cs)
 
 inputs_apart : (ss : List Stream) (cs : List (List ℕ)) → AllByRecursion IsStream ss → AllByRecursion (λ n. Apart n (eos ∷ result_ports cs)) (streams_ports ss)
 inputs_apart ss cs all =
-    All-map (λ n. first_byte n ≡ 105) (λ n. Apart n (eos ∷ result_ports cs)) (streams_ports ss)
+    all_weaker (λ n. first_byte n ≡ 105) (λ n. Apart n (eos ∷ result_ports cs))
     (λ n h. (
       λ e. no_byte 101 (λ k. absurd (omega arith)) eos n eos_first h (sym e),
-      All-map (λ m. IsResultByte (first_byte m)) (λ m. n ≡ m → ⊥) (result_ports cs) (λ m k. no_result 105 differ-105 n m h k) (result_first cs),
+      all_weaker (λ m. IsResultByte (first_byte m)) (λ m. n ≡ m → ⊥) (λ m k. no_result 105 differ-105 n m h k) (result_ports cs) (result_first cs),
     ))
-    (streams_first ss all)
+    (streams_ports ss) (streams_first ss all)
 
 -- no two ports of an emitted module have one name
 pub port_names-distinct : (schema : Schema) (cs : List (List ℕ)) → IsSchema schema → AllByRecursion IsName cs → IsDistinct bytes_eq cs → IsDistinct bytes_eq (port_names schema cs)
@@ -361,8 +322,8 @@ port_names-distinct schema cs is all distinct =
     let streams = streams_ports schema.streams in
     let result = result_apart cs all (apart_distinct cs distinct) in
     distinct_apart (port_names schema cs) (
-      All-append (λ m. rst ≡ m → ⊥) streams (eos ∷ result_ports cs)
-          (All-map (λ n. first_byte n ≡ 105) (λ m. rst ≡ m → ⊥) streams (λ m k. no_byte 114 (λ j. absurd (omega arith)) rst m rst_first k) (streams_first schema.streams is.streams))
+      all_append (λ m. rst ≡ m → ⊥) streams (eos ∷ result_ports cs)
+          (all_weaker (λ n. first_byte n ≡ 105) (λ m. rst ≡ m → ⊥) (λ m k. no_byte 114 (λ j. absurd (omega arith)) rst m rst_first k) streams (streams_first schema.streams is.streams))
           (rst_eos, rst_apart cs),
       apart-append streams (eos ∷ result_ports cs) (streams_apart schema.streams is.streams (apart_distinct (stream_names schema.streams) is.distinct)) (eos_apart cs, result) (inputs_apart schema.streams cs is.streams),
     )

@@ -3,6 +3,7 @@ use Rattle.std.proofs.Common.{◌≡◌, ℕ, zero, suc, ◌+◌, ◌<◌, List,
 use Rattle.std.specs.Prelude.{map, slice_get, slice_index}
 use Rattle.std.specs.Option.{option_map_or}
 use Rattle.std.proofs.lemmas.List.{append-nil, map-append}
+use Rattle.gl_bits.proofs.AllLists.{taken_next}
 use Rattle.gl_bits.specs.Kinds.{width_of}
 use Rattle.gl_schema.specs.declared.schema.Column.{Column}
 use Rattle.gl_schema.specs.declared.schema.Stream.{Stream}
@@ -18,7 +19,7 @@ use Rattle.gl_wiring.specs.declared.parts.Source.{Source}
 use Rattle.gl_wiring.specs.PortNames.{column_ports, stream_ports, streams_ports, port_names}
 use Rattle.gl_wiring.specs.EmittedPorts.{input, output, column_widths, column_inputs, stream_inputs, streams_inputs, column_outputs, result_outputs, columns_at, emitted_ports}
 use Rattle.gl_wiring.specs.Emitted.{names_of, bus_widths, IsPortOf, ArePorts, HasPorts, Puts, IsSource}
-use Rattle.gl_wiring.proofs.Inputs.{drop_next, taken_more}
+use Rattle.gl_wiring.proofs.Inputs.{drop_next}
 
 -- ---- ports one by one
 
@@ -114,7 +115,7 @@ streams_join (x ∷ xs) ys = ap (λ (t : List PortShape). stream_inputs x ++ t) 
 pub streams_next : (a b c : Net) (ss : List Stream) (i : ℕ) (s : Stream) → i < length ss → s ≡ get_or ss i s → Puts a b (streams_inputs (take i ss)) → Puts b c (stream_inputs s) → Puts a c (streams_inputs (take (i + 1) ss))
 streams_next a b c ss i s lt e x y =
     subst (λ (shapes : List PortShape). Puts a c shapes)
-    (sym (ap streams_inputs (taken_more ss i s lt e) ∙ streams_join (take i ss) (s ∷ []) ∙ ap (λ (t : List PortShape). streams_inputs (take i ss) ++ t) (append-nil (stream_inputs s))))
+    (sym (ap streams_inputs (taken_next ss i s lt e) ∙ streams_join (take i ss) (s ∷ []) ∙ ap (λ (t : List PortShape). streams_inputs (take i ss) ++ t) (append-nil (stream_inputs s))))
     (puts_then a b c (streams_inputs (take i ss)) (stream_inputs s) x y)
 
 -- the streams before a place, the one there, and those behind it

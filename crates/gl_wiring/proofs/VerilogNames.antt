@@ -13,6 +13,7 @@ use Rattle.gl_schema.specs.Ports.{rst, eos, in_valid, in_column, out_valid, out_
 use Rattle.gl_net.specs.Finished as net
 use Rattle.gl_net.specs.Finished.{IsName, is_letter, clock_name}
 use Rattle.std.proofs.lemmas.Bool.{leb-true}
+use Rattle.gl_bits.proofs.Bools.{and_left, and_right, and_both}
 use Rattle.gl_wiring.specs.PortNames.{column_ports, stream_ports, streams_ports, result_ports, port_names}
 
 -- a letter or a digit of the Verilog subset
@@ -23,18 +24,6 @@ is_word_byte c = is_letter c || net.is_digit c
 record Plain (n : List ℕ) : Type 0 where
   bytes : list_all is_word_byte n ≡ true
   short : length n ≤ 32
-
-and_left : (a b : Bool) → (a && b) ≡ true → a ≡ true
-and_left true b h = refl
-and_left false b h = absurd cc
-
-and_right : (a b : Bool) → (a && b) ≡ true → b ≡ true
-and_right true b h = h
-and_right false b h = absurd cc
-
-and_both : (a b : Bool) → a ≡ true → b ≡ true → (a && b) ≡ true
-and_both true b h k = k
-and_both false b h k = absurd cc
 
 byte_by : (capital small digit bar : Bool) → (small || digit || bar) ≡ true → (((capital || small) || bar) || digit) ≡ true
 byte_by true small digit bar h = refl

@@ -1,9 +1,12 @@
 //! From a query to a netlist with the ports of an emitted module.
+//!
+//! Here belong the names of ports and the blocks that make a query's netlist. What a netlist's runs
+//! are stands in `gl_net`, what is right for a query in `gl_schema`; no text is written here.
 #![tactic(auto)]
 
 pub mod names;
 pub mod parts;
 pub mod select;
 
-pub use names::ResultNames;
+pub use names::{ResultNames, in_column_name, in_valid_name};
 pub use select::wire_select;

@@ -1,4 +1,4 @@
-use Rattle.std.proofs.Common.{◌≡◌, ◌++◌, take, map}
+use Rattle.std.proofs.Common.{◌≡◌, take, map}
 use Rattle.gl_algebra.specs.Columns.{kind_of_agg}
 use Rattle.gl_algebra.proofs.columns.columns_of_aggs.Given as goal
 

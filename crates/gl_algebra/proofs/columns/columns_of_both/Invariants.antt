@@ -1,4 +1,4 @@
-use Rattle.std.proofs.Common.{◌≡◌, ◌++◌, take, map}
+use Rattle.std.proofs.Common.{◌≡◌, ◌++◌, take}
 use Rattle.gl_algebra.proofs.columns.columns_of_both.Given as goal
 
 abbrev pub invariant-loop-kind : goal.invariant-loop-kind

@@ -3,7 +3,6 @@ use Rattle.gl_algebra.specs.FigureTable.{figures_of}
 use Rattle.gl_algebra.specs.Nodewise.{nodewise, value_to_depth}
 use Rattle.gl_algebra.specs.Shapes.{shape_of}
 use Rattle.gl_algebra.specs.Weights.{weight_of, copies_of}
-use Rattle.gl_algebra.specs.Worked.{WorkedFigures, WorkedWeights}
 use Rattle.gl_algebra.proofs.tests.worked_plans.Goals as goal
 
 pub returns-clause-figures : goal.returns-clause-figures

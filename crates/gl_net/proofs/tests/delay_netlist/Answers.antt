@@ -1,9 +1,9 @@
-use Rattle.std.proofs.Common.{◌≡◌, ◌≢◌, ℕ, zero, suc, List, [], ◌∷◌, ◌++◌, Option, Some, None, true, false, refl, sym, ap, ◌∙◌, subst, inl, inr, arith, rules}
+use Rattle.std.proofs.Common.{◌≡◌, ◌≢◌, ℕ, zero, suc, List, [], ◌∷◌, ◌++◌, Some, None, refl, sym, ap, ◌∙◌, subst, inl, inr, rules}
 use Rattle.std.specs.Prelude.{slice_get}
+use Rattle.std.proofs.lemmas.Bool.{cases_eq}
 use Rattle.gl_net.specs.Net.{Net, open_at}
 use Rattle.gl_net.specs.declared.node.Port.{Port}
-use Rattle.gl_net.specs.Finished.{IsFinished, IsName, clock_name}
-use Rattle.gl_net.proofs.Lists.{nat_dec}
+use Rattle.gl_net.specs.Finished.{IsName, clock_name}
 use Rattle.gl_net.proofs.tests.delay_netlist.Goals as goal
 
 two_ports : (a b c : List Port) (p q : Port) → c ≡ b ++ q ∷ [] → b ≡ a ++ p ∷ [] → a ≡ [] → c ≡ p ∷ q ∷ []
@@ -30,7 +30,7 @@ finish-requires c =
       driven = λ n.
           let old : open_at c.input.new.self n ≡ None = c.in_ok-data.ensures.undriven n ∙ c.new-net.ensures.undriven n in
           let now : open_at c.module.new.self n ≡ open_at c.drive.new.self n = c.in_ok-module.ensures.undriven n ∙ c.in_ok-output.ensures.undriven n in
-          now ∙ elim (nat_dec n c.in_ok-later.later.node) [
+          now ∙ elim (cases_eq n c.in_ok-later.later.node) [
             | inl e ↦ subst (λ k. open_at c.drive.new.self k ≡ None) (sym e) c.in_ok-drive.ensures.driven
             | inr ne ↦ c.in_ok-drive.ensures.others n ne ∙ c.in_ok-later.ensures.others n ne ∙ old
           ];

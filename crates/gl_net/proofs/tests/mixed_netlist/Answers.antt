@@ -1,7 +1,7 @@
-use Rattle.std.proofs.Common.{◌≡◌, ◌≢◌, ℕ, zero, suc, List, [], ◌∷◌, ◌++◌, Option, Some, None, true, false, refl, sym, ap, ◌∙◌, subst, inl, inr, arith, rules}
-use Rattle.gl_net.specs.Net.{Net, open_at}
+use Rattle.std.proofs.Common.{◌≡◌, ◌≢◌, List, [], ◌∷◌, ◌++◌, refl, ap, ◌∙◌, rules}
+use Rattle.gl_net.specs.Net.{Net}
 use Rattle.gl_net.specs.declared.node.Port.{Port}
-use Rattle.gl_net.specs.Finished.{IsFinished, IsName, clock_name}
+use Rattle.gl_net.specs.Finished.{IsName, clock_name}
 use Rattle.gl_net.proofs.Names.{each_known, own_known, differ}
 use Rattle.gl_net.proofs.tests.mixed_netlist.Goals as goal
 

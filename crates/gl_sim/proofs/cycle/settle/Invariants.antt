@@ -2,7 +2,7 @@ use Rattle.std.proofs.Common.{◌≡◌, drop}
 use Rattle.gl_verilog.specs.View.{module_of}
 use Rattle.gl_verilog.specs.Evaluate.{IsStore, nets_of, memories_of}
 use Rattle.gl_verilog.specs.Order.{evaluated}
-use Rattle.gl_sim.specs.Ordering.{picked}
+use Rattle.gl_verilog_check.specs.Orders.{picked}
 use Rattle.gl_sim.proofs.cycle.settle.Given as goal
 
 abbrev pub invariant-loop-k : goal.invariant-loop-k

@@ -1,5 +1,6 @@
 use Rattle.std.proofs.Common.{◌≡◌, ◌∙◌, ◌≤◌, ◌*◌, ◌<◌, ℕ, List, [], Some, length, map, refl, subst, sym, ap, arith}
 use Rattle.std.specs.Prelude.{slice_get, slice_set, slice_index, slice_index_or}
+use Rattle.gl_bits.proofs.AllLists.{length_map}
 use Rattle.gl_verilog.specs.View.{module_of, declaration_of, kind_of}
 use Rattle.gl_verilog.specs.Module as spec
 use Rattle.gl_verilog.specs.Run.{IsRegister}
@@ -9,7 +10,6 @@ use Rattle.gl_verilog.specs.declared.module.Kind.{Kind}
 use Rattle.gl_verilog.proofs.Fits.{all_at}
 use Rattle.gl_verilog.proofs.Stores.{same_item}
 use Rattle.gl_sim.specs.Starts.{DrawsOne, draw, draws_for, word_drawn}
-use Rattle.gl_sim.proofs.Settling.{map_length}
 use Rattle.gl_sim.proofs.Words.{get_or_default}
 use Rattle.gl_sim.proofs.Draws.{draws_register, draws_memory, draws_none, IsDrawnIn, declared_at}
 use Rattle.gl_sim.proofs.draw.draw_one.Goals as goal
@@ -56,7 +56,7 @@ returns-in-Memory c = λ d e.
     let ds = (module_of c.args.design.now).declarations in
     let item = declaration_of c.index-as_slice-n.result in
     let bs = c.args.banks.now.items in
-    let old : c.index_mut-bank.result.now ≡ slice_index_or bs c.args.n [] = c.index_mut-bank.ensures.value ∙ get_or_default bs c.args.n c.index_mut-bank.result.now [] (let size = c.requires.store.memories in let lt = c.requires.within in omega (arith, map_length declaration_of c.args.design.now.declarations)) in
+    let old : c.index_mut-bank.result.now ≡ slice_index_or bs c.args.n [] = c.index_mut-bank.ensures.value ∙ get_or_default bs c.args.n c.index_mut-bank.result.now [] (let size = c.requires.store.memories in let lt = c.requires.within in omega (arith, length_map declaration_of c.args.design.now.declarations)) in
     let size : length c.index_mut-bank.result.now ≡ words_in item.kind = ap (λ (b : List ℕ). length b) old ∙ c.requires.store.words c.args.n item there in
     let drawn : IsDrawnIn c.args.state.now c.draw_bank.new.state (words_in item.kind) item.width (slice_index_or bs c.args.n []) c.draw_bank.new.bank = record {
       moved = c.draw_bank.ensures.state ∙ ap (λ (n : ℕ). draw c.args.state.now (2 * n)) size;

@@ -1,8 +1,8 @@
-use Rattle.std.proofs.Common.{◌≡◌, drop}
-use Rattle.std.specs.Prelude.{map}
+use Rattle.std.proofs.Common.{◌≡◌, drop, map}
+use Rattle.std.specs.Prelude.{[]}
 use Rattle.gl_verilog.specs.View.{declaration_of}
-use Rattle.gl_verilog_check.specs.Tests.{are_distinct}
+use Rattle.gl_verilog_check.specs.Tests.{are_new}
 use Rattle.gl_verilog_check.proofs.valid.are_distinct.Given as goal
 
-abbrev pub invariant-loop-at : goal.invariant-loop-at
-invariant-loop-at l = are_distinct (map declaration_of (drop l.at l.declarations)) ≡ are_distinct (map declaration_of l.declarations)
+abbrev pub invariant-loop-declaration : goal.invariant-loop-declaration
+invariant-loop-declaration l = are_new (map (λ k. k.now) l.names.keys) (map declaration_of (drop l.declaration-index l.declarations)) ≡ are_new [] (map declaration_of l.declarations)

@@ -1,22 +1,23 @@
-use Rattle.std.proofs.Common.{◌∙◌, refl, sym}
+use Rattle.std.proofs.Common.{◌∙◌, sym}
 use Rattle.std.specs.Prelude.{map}
 use Rattle.gl_verilog.specs.View.{declaration_of, assignment_of, statement_of}
 use Rattle.gl_verilog.proofs.Acyclic.{runnable}
 use Rattle.gl_verilog_check.specs.Kept.{module_with}
-use Rattle.gl_verilog_check.proofs.Drives.{is-distinct, valid_parts, assigned_parts}
+use Rattle.gl_verilog_check.proofs.Drives.{valid_parts, assigned_parts}
+use Rattle.gl_verilog_check.proofs.Names.{distinct_new}
 use Rattle.gl_verilog_check.proofs.valid.parts_are_valid.Goals as goal
 
-pub returns-then-not-are_distinct-clause-complete : goal.returns-then-not-are_distinct-clause-complete
-returns-then-not-are_distinct-clause-complete c = λ v. c.if-not-are_distinct.ensures ∙ is-distinct (map declaration_of c.args.declarations.now) v.names
+pub returns-then-not-distinct-clause-complete : goal.returns-then-not-distinct-clause-complete
+returns-then-not-distinct-clause-complete c = λ v. sym c.if-not-distinct.true ∙ c.in_ok-distinct.ensures ∙ distinct_new (map declaration_of c.args.declarations.now) v.names
 
-pub returns-then-not-parts_run-clause-complete : goal.returns-then-not-parts_run-clause-complete
-returns-then-not-parts_run-clause-complete c = λ v.
-    c.if-not-parts_run.ensures.complete (runnable (module_with (map declaration_of c.args.declarations.now) (map assignment_of c.args.assignments.now) (map statement_of c.args.blocks.now)) v)
+pub returns-then-not-runs-clause-complete : goal.returns-then-not-runs-clause-complete
+returns-then-not-runs-clause-complete c = λ v.
+    sym c.if-not-runs.true ∙ c.in_ok-runs.ensures.complete (runnable (module_with (map declaration_of c.args.declarations.now) (map assignment_of c.args.assignments.now) (map statement_of c.args.blocks.now)) v)
 
 pub returns-clause-sound : goal.returns-clause-sound
 returns-clause-sound c = λ h.
-    valid_parts (map declaration_of c.args.declarations.now) (map assignment_of c.args.assignments.now) (map statement_of c.args.blocks.now) (sym c.if-not-are_distinct.ensures) (c.if-not-parts_run.ensures.sound refl) (sym c.are_assigned.ensures ∙ h)
+    valid_parts (map declaration_of c.args.declarations.now) (map assignment_of c.args.assignments.now) (map statement_of c.args.blocks.now) (sym c.in_ok-distinct.ensures ∙ c.if-not-distinct.false) (c.in_ok-runs.ensures.sound c.if-not-runs.false) (sym c.in_ok-assigned.ensures ∙ h)
 
 pub returns-clause-complete : goal.returns-clause-complete
 returns-clause-complete c = λ v.
-    c.are_assigned.ensures ∙ assigned_parts (map declaration_of c.args.declarations.now) (map assignment_of c.args.assignments.now) (map statement_of c.args.blocks.now) v
+    c.in_ok-assigned.ensures ∙ assigned_parts (map declaration_of c.args.declarations.now) (map assignment_of c.args.assignments.now) (map statement_of c.args.blocks.now) v

@@ -1,4 +1,5 @@
 use Rattle.std.proofs.Common.{rules, ◌≡◌, ◌∷◌, [], ◌∙◌, subst, take, List, ℕ, ◌<◌, length, get_or}
+use Rattle.gl_bits.proofs.AllLists.{taken_next}
 use Rattle.gl_schema.specs.declared.schema.Column.{Column}
 use Rattle.gl_net.specs.declared.node.Direction.TheVariants.{In}
 use Rattle.gl_net.specs.Net.{IsPort}
@@ -6,7 +7,7 @@ use Rattle.gl_bits.specs.Kinds.{width_of}
 use Rattle.gl_wiring.specs.EmittedPorts.{input}
 use Rattle.gl_schema.specs.Ports.{in_column}
 use Rattle.gl_wiring.specs.Emitted.{Puts}
-use Rattle.gl_wiring.proofs.Inputs.{inputs_stay, inputs_push, taken_next, extends_then}
+use Rattle.gl_wiring.proofs.Inputs.{inputs_stay, inputs_push, extends_then}
 use Rattle.gl_wiring.proofs.Shapes.{puts_nothing, columns_next, widths_push}
 use Rattle.gl_wiring.proofs.parts.put_columns.Goals as goal
 

@@ -1,10 +1,11 @@
 use Rattle.std.proofs.Common.{rules, ◌≡◌, ◌<◌, ◌∷◌, [], length, subst, List, get_or, take, ℕ, arith}
 use Rattle.std.specs.Prelude.{slice_index}
 use Rattle.std.proofs.lemmas.List.{take_more}
+use Rattle.gl_bits.proofs.AllLists.{taken_next}
 use Rattle.gl_schema.specs.Ports.{out_column}
 use Rattle.gl_wiring.specs.EmittedPorts.{output}
 use Rattle.gl_wiring.specs.Emitted.{bus_widths, Puts, IsDelayed}
-use Rattle.gl_wiring.proofs.Inputs.{extends_then, taken_more}
+use Rattle.gl_wiring.proofs.Inputs.{extends_then}
 use Rattle.gl_wiring.proofs.Shapes.{puts_nothing, outputs_next, width_there}
 use Rattle.gl_wiring.proofs.Outputs.{all_delayed_stay, all_delayed_push}
 use Rattle.gl_wiring.proofs.select.put_columns.Goals as goal
@@ -24,7 +25,7 @@ loop-at-preserved c =
     let bus = c.bus_at-bus.result in
     let there = c.bus_at-bus.ensures in
     let lt : i < length places = omega arith in
-    let more = taken_more names i name c.loop-at-test.true c.index-names-at.is in
+    let more = taken_next names i name c.loop-at-test.true c.index-names-at.is in
     let delayed = subst (λ n. IsDelayed net n bus.node) named e.delayed in
     let ports : Puts mid net (output (out_column name) (slice_index (bus_widths buses) (get_or places i 0)) ∷ []) =
     subst (λ (w : ℕ). Puts mid net (output (out_column name) w ∷ [])) (width_there buses (get_or places i 0) bus there) (subst (λ (n : List ℕ). Puts mid net (output n bus.width ∷ [])) named e.ports) in

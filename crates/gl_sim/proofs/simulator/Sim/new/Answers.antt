@@ -1,11 +1,11 @@
 use Rattle.std.proofs.Common.{◌≡◌, ◌∙◌, ℕ, ◌≤◌, List, length, map, replicate, ap, sym, subst, slice_index, vec_capacity}
+use Rattle.gl_bits.proofs.AllLists.{length_map}
 use Rattle.gl_verilog.specs.View.{declaration_of, chained, module_of}
 use Rattle.gl_verilog.specs.Runnable.{inputs_from}
 use Rattle.gl_verilog.specs.declared.module.Declaration.{Declaration}
 use Rattle.gl_verilog.specs.declared.module.Statement.{Statement}
 use Rattle.gl_sim.specs.Starts.{zero_bank}
 use Rattle.gl_sim.specs.Updates.{writes_in}
-use Rattle.gl_sim.proofs.Settling.{map_length}
 use Rattle.gl_sim.proofs.Fresh.{zeros_length, zeros_at}
 use Rattle.gl_sim.proofs.Draws.{state_along}
 use Rattle.gl_sim.proofs.simulator.Sim.new.Goals as goal
@@ -13,7 +13,7 @@ use Rattle.gl_sim.proofs.simulator.Sim.new.Goals as goal
 pub invariant_of-result : goal.invariant_of-result
 invariant_of-result c =
     let ds = (module_of c.args.design).declarations in
-    let count : length c.as_slice-declarations.result.now ≡ length ds = ap (λ (xs : List Declaration). length xs) c.as_slice-declarations.ensures ∙ sym (map_length declaration_of c.args.design.declarations) in (
+    let count : length c.as_slice-declarations.result.now ≡ length ds = ap (λ (xs : List Declaration). length xs) c.as_slice-declarations.ensures ∙ sym (length_map declaration_of c.args.design.declarations) in (
       record {
         runnable = c.requires;
         order = c.in_ok-order.ensures;
@@ -28,7 +28,7 @@ invariant_of-result c =
 pub begin-requires-clause-zero_values : goal.begin-requires-clause-zero_values
 begin-requires-clause-zero_values c =
     let ds = (module_of c.args.design).declarations in
-    let count : length c.as_slice-declarations.result.now ≡ length ds = ap (λ (xs : List Declaration). length xs) c.as_slice-declarations.ensures ∙ sym (map_length declaration_of c.args.design.declarations) in
+    let count : length c.as_slice-declarations.result.now ≡ length ds = ap (λ (xs : List Declaration). length xs) c.as_slice-declarations.ensures ∙ sym (length_map declaration_of c.args.design.declarations) in
     c.in_ok-values.ensures ∙ ap (λ (n : ℕ). replicate n 0) count
 
 pub begin-requires-clause-zero_words : goal.begin-requires-clause-zero_words

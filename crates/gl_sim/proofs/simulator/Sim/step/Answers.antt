@@ -12,7 +12,7 @@ use Rattle.gl_verilog_orders.proofs.Cycle.{cycles_are_two_phase}
 use Rattle.gl_verilog_orders.proofs.Rests.{comes_to_rest}
 use Rattle.gl_sim.specs.Simulation.{Simulation, IsAt, Holds}
 use Rattle.gl_sim.specs.Inputs.{with_inputs}
-use Rattle.gl_sim.specs.Ordering.{picked}
+use Rattle.gl_verilog_check.specs.Orders.{picked}
 use Rattle.gl_sim.proofs.Follows.{IsStepped, IsOneCycle, nets_follow, state_follows}
 use Rattle.gl_sim.proofs.simulator.Sim.step.Goals as goal
 

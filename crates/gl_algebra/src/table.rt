@@ -1,0 +1,132 @@
+//! The table of figures, row by row: each answers None exactly where a figure would reach 2^32.
+
+ghost use Rattle.std.specs.Prelude.{◌≡◌, ◌≤◌};
+ghost use Rattle.gl_algebra.specs.FigureTable.{aggregate_figures, beside_figures, delay_of_agg, delay_of_aggs, delayed, group_figures, input_figures, settled, spaced, union_figures, wait_of, window_figures};
+ghost use Rattle.gl_algebra.specs.Fits.{copies_of_window};
+ghost use Rattle.gl_algebra.specs.Small.{small_of};
+
+use crate::columns::{kind_of_operand, width_in};
+use crate::figures::Figures;
+use crate::node::PlanAgg;
+use crate::wide::{
+    aggregated, delayed, groups_over, joined, merged, narrowed, settled, spaced, widened,
+    windows_over,
+};
+use gl_bits::Kind;
+
+/// A stream, or the input of a body.
+pub fn input_figures() -> Figures
+    ensures { result ≡ input_figures }
+{
+    Figures {
+        a: 0,
+        lt: 0,
+        le: 0,
+        nt: 1,
+        ne: 1,
+        gt: 1,
+        ge: 1,
+    }
+}
+
+/// Operations on each row, or a choice of rows: one cycle later.
+pub fn row_figures(source: &Figures) -> Option<Figures>
+    ensures { result ≡ small_of (settled (delayed 1 source.now)) }
+{
+    narrowed(settled(delayed(1, widened(source))))
+}
+
+/// Values that are picked of each row: in the same cycle.
+pub fn picked_figures(source: &Figures) -> Option<Figures>
+    ensures { result ≡ small_of (settled source.now) }
+{
+    narrowed(settled(widened(source)))
+}
+
+/// The cycles from an aggregate's operand to its value.
+pub fn delay_of_agg(kinds: &[Kind], agg: &PlanAgg) -> u32
+    ensures { result ≡ delay_of_agg kinds.now agg.now }
+{
+    match agg {
+        PlanAgg::Avg(operand) => width_in(kind_of_operand(kinds, operand)) + 34,
+        PlanAgg::Count => 1,
+        PlanAgg::Sum(_) => 1,
+        PlanAgg::Min(_) => 1,
+        PlanAgg::Max(_) => 1,
+        PlanAgg::Wsum(_, _) => 1,
+    }
+}
+
+/// That of the slowest.
+pub fn delay_of_aggs(kinds: &[Kind], aggs: &[PlanAgg]) -> u32
+    ensures { result ≡ delay_of_aggs kinds.now aggs.now }
+{
+    match aggs.split_first() {
+        None => 1,
+        Some((agg, others)) => delay_of_agg(kinds, agg).max(delay_of_aggs(kinds, others)),
+    }
+}
+
+/// Aggregates with this delay.
+pub fn aggregate_figures(delay: u32, source: &Figures) -> Option<Figures>
+    ensures { result ≡ small_of (aggregate_figures delay source.now) }
+{
+    narrowed(aggregated(delay as u128, widened(source)))
+}
+
+/// The cycles by which a side waits for the other.
+pub fn wait_of(side: &Figures, other: &Figures) -> u32
+    ensures { result ≡ wait_of side.now other.now }
+{
+    other.a.saturating_sub(side.a)
+}
+
+/// Two sides merged.
+pub fn union_figures(left: &Figures, right: &Figures) -> Option<Figures>
+    ensures { result ≡ small_of (union_figures left.now right.now) }
+{
+    let first = delayed(wait_of(left, right) as u128, widened(left));
+    let second = delayed(wait_of(right, left) as u128, widened(right));
+    narrowed(merged(first, second))
+}
+
+/// Two sides side by side.
+pub fn beside_figures(left: &Figures, right: &Figures) -> Option<Figures>
+    ensures { result ≡ small_of (beside_figures left.now right.now) }
+{
+    let first = delayed(wait_of(left, right) as u128, widened(left));
+    let second = delayed(wait_of(right, left) as u128, widened(right));
+    narrowed(joined(first, second))
+}
+
+/// A source, behind a spacer of this gap where one stands.
+pub fn spaced_figures(gap: u32, source: &Figures) -> Option<Figures>
+    ensures { result ≡ small_of (spaced gap source.now) }
+{
+    narrowed(spaced(gap as u128, widened(source)))
+}
+
+/// The windows that can be open at once.
+pub fn copies_of_window(size: u32, advance: u32) -> u32
+    requires { 1 ≤ advance }
+    ensures { result ≡ copies_of_window size advance }
+{
+    size.div_ceil(advance)
+}
+
+/// Windows of so many copies.
+pub fn window_figures(copies: u32, source: &Figures, body: &Figures) -> Option<Figures>
+    ensures { result ≡ small_of (window_figures copies source.now body.now) }
+{
+    let gap = body.gt.max(body.ge);
+    let source = spaced(gap as u128, widened(source));
+    narrowed(windows_over(copies as u128, source, widened(body)))
+}
+
+/// So many groups.
+pub fn group_figures(groups: u32, source: &Figures, body: &Figures) -> Option<Figures>
+    ensures { result ≡ small_of (group_figures groups source.now body.now) }
+{
+    let source = spaced(body.gt as u128, widened(source));
+    narrowed(groups_over(groups as u128, source, widened(body)))
+}

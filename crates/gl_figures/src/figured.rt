@@ -1,0 +1,100 @@
+//! The figures of each node of a plan.
+
+ghost use Rattle.std.specs.Prelude.{◌≡◌, ◌<◌, length, slice_get, Some, IfErr, OnOk};
+ghost use Rattle.std.specs.List.{AllByRecursion};
+ghost use Rattle.gl_algebra.specs.FigureTable.{figures_from, figures_of};
+ghost use Rattle.gl_algebra.specs.Fits.{Fits};
+ghost use Rattle.gl_algebra.specs.Nodewise.{named_by};
+ghost use Rattle.gl_algebra.specs.Shapes.{shape_of};
+ghost use Rattle.gl_algebra.specs.Small.{small_of, AreFigures};
+ghost use Rattle.gl_figures.specs.Answered.{AreSmallBefore, IsLate};
+ghost use Rattle.gl_figures.specs.Known.{HasFigures};
+
+use crate::Limit;
+use gl_algebra::table::{
+    aggregate_figures, beside_figures, copies_of_window, delay_of_aggs, group_figures,
+    input_figures, picked_figures, row_figures, union_figures, window_figures,
+};
+use gl_algebra::{Figures, Plan, PlanId, PlanNode};
+
+/// Writes the figures of each node into the node's place. A figure of 2^32 or more is refused, at the first node that has one.
+pub fn figures(plan: &Plan, into: &mut [Figures]) -> Result<(), Limit>
+    requires { length into.old ≡ length plan.now }
+    ensures ok { OnOk result (AreFigures plan.now into.new) }
+    ensures small { OnOk result (AreSmallBefore plan.now (length plan.now)) }
+    ensures err { IfErr result (λ limit. IsLate plan.now into.old into.new limit) }
+{
+    for number in 0..plan.len() {
+        match figures_over(plan, into, number, plan.node(plan.id(number))) {
+            Some(own) => into[number] = own,
+            None => return Err(Limit::Latency { node: number }),
+        }
+    }
+    Ok(())
+}
+
+// The figures of a node before this one.
+pub(crate) fn figures_at(plan: &Plan, figures: &[Figures], number: usize, id: PlanId) -> Figures
+    requires below { id < number }
+    requires known { HasFigures plan.now figures.now number }
+    ensures { result ≡ figures_of plan.now id }
+{
+    let _ = plan;
+    let _ = number;
+    figures[id.number()]
+}
+
+// The figures of the node of this number, from those of the nodes before it; None where one of them would reach 2^32.
+fn figures_over(plan: &Plan, figures: &[Figures], number: usize, node: &PlanNode) -> Option<Figures>
+    requires within { number < length plan.now }
+    requires before { AllByRecursion (λ child. child < number) (named_by node.now) }
+    requires fits { Fits plan.now number node.now }
+    requires known { HasFigures plan.now figures.now number }
+    ensures { result ≡ small_of (figures_from (shape_of plan.now) (figures_of plan.now) node.now) }
+{
+    match node {
+        PlanNode::Stream(_, _) => Some(input_figures()),
+        PlanNode::Body(_) => Some(input_figures()),
+        PlanNode::Compute { child, .. } => row_figures(&figures_at(plan, figures, number, *child)),
+        PlanNode::Select { child, .. } => row_figures(&figures_at(plan, figures, number, *child)),
+        PlanNode::Project { child, .. } => picked_figures(&figures_at(
+            plan, figures, number, *child,
+        )),
+        PlanNode::Aggregate { child, aggs } => {
+            let delay = delay_of_aggs(plan.kinds(*child), aggs.as_slice());
+            aggregate_figures(delay, &figures_at(plan, figures, number, *child))
+        }
+        PlanNode::Union { left, right } => union_figures(
+            &figures_at(plan, figures, number, *left),
+            &figures_at(plan, figures, number, *right),
+        ),
+        PlanNode::Beside { left, right } => beside_figures(
+            &figures_at(plan, figures, number, *left),
+            &figures_at(plan, figures, number, *right),
+        ),
+        PlanNode::Window {
+            source,
+            body,
+            size,
+            advance,
+        } => {
+            window_figures(
+                copies_of_window(*size, *advance),
+                &figures_at(plan, figures, number, *source),
+                &figures_at(plan, figures, number, *body),
+            )
+        }
+        PlanNode::Group {
+            source,
+            body,
+            groups,
+            ..
+        } => {
+            group_figures(
+                *groups as u32,
+                &figures_at(plan, figures, number, *source),
+                &figures_at(plan, figures, number, *body),
+            )
+        }
+    }
+}
