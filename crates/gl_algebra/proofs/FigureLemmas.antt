@@ -35,7 +35,7 @@ some_from_product : (n size advance : ℕ) → 1 ≤ size → size ≤ n * advan
 some_from_product zero size advance h g = let none : 0 * advance ≡ 0 = zero-mul advance in absurd (omega arith)
 some_from_product (suc n) size advance h g = omega arith
 
-one_copy : (size advance : ℕ) → 1 ≤ size → 1 ≤ advance → 1 ≤ copies_of_window size advance
+pub one_copy : (size advance : ℕ) → 1 ≤ size → 1 ≤ advance → 1 ≤ copies_of_window size advance
 one_copy size advance h g =
     some_from_product (copies_of_window size advance) size advance h (div_ceil_times size advance g).0
 

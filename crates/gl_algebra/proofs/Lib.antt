@@ -13,4 +13,3 @@ pub mod KindLemmas
 pub mod PaceLemmas
 pub mod ReadLemmas
 pub mod CallerLemmas
-pub mod EveryNodeLemmas

@@ -10,7 +10,7 @@ use Rattle.gl_algebra.specs.declared.node.Operand.TheVariants.{Column}
 use Rattle.gl_algebra.specs.declared.node.PlanAgg.{PlanAgg}
 use Rattle.gl_algebra.specs.declared.node.PlanAgg.TheVariants.{Sum}
 use Rattle.gl_algebra.specs.declared.node.PlanNode.TheVariants.{Stream, Body}
-use Rattle.gl_algebra.specs.Shapes.{Shape, unsteady, once, with_stream, with_body}
+use Rattle.gl_algebra.specs.Shapes.{Shape, unsteady, once, with_stream}
 
 -- one number
 abbrev pub number : List Kind
@@ -35,17 +35,8 @@ sums = Sum (Column 0) ∷ []
 abbrev pub of_stream : Shape
 of_stream = record { kinds = number; closing = false; pace = with_stream 0; leaves = Stream 0 number ∷ [] }
 
-abbrev pub of_body : Shape
-of_body = record { kinds = number; closing = false; pace = with_body; leaves = Body number ∷ [] }
-
-abbrev pub of_tests : Shape
-of_tests = record { kinds = number_and_bit; closing = false; pace = with_body; leaves = Body number ∷ [] }
-
 abbrev pub of_choice : Shape
 of_choice = record { kinds = number_and_bit; closing = false; pace = unsteady; leaves = Body number ∷ [] }
-
-abbrev pub of_items : Shape
-of_items = record { kinds = number; closing = false; pace = unsteady; leaves = Body number ∷ [] }
 
 abbrev pub of_sums : Shape
 of_sums = record { kinds = number; closing = true; pace = once; leaves = Body number ∷ [] }

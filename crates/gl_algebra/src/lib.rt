@@ -1,5 +1,8 @@
-//! Plans: the nodes that a query is made of, when a node fits a plan, the figures of a node and what a plan means over lists
-//! of rows.
+//! Plans: the nodes that a query is made of, when a node fits a plan, what a plan means over lists of rows, and its figures,
+//! weights and bounds.
+//!
+//! Here belongs what is true of a plan whatever circuit it becomes. What is true of circuits belongs to the crates of wires, and how
+//! queries become plans to the crates that make them.
 #![tactic(auto)]
 
 pub mod columns;

@@ -58,7 +58,6 @@ fn sums(alloc: Global) -> Result<PlanAggs, Fail>
 }
 
 // Adds the rows of a body that pass a test.
-#[tactic(auto, using(crate::proofs::EveryNodeLemmas::tests_fit, crate::proofs::EveryNodeLemmas::tests_made, crate::proofs::EveryNodeLemmas::choice_fits, crate::proofs::EveryNodeLemmas::choice_made))]
 fn put_choice(alloc: Global, plan: &mut Plan) -> Result<PlanId, Fail>
     ensures { IfOk result (λ id. HasShape plan.new id every.of_choice) }
 {
@@ -75,7 +74,6 @@ fn put_choice(alloc: Global, plan: &mut Plan) -> Result<PlanId, Fail>
 }
 
 // Adds the sum of the numbers of such rows.
-#[tactic(auto, using(crate::proofs::EveryNodeLemmas::items_fit, crate::proofs::EveryNodeLemmas::items_made, crate::proofs::EveryNodeLemmas::sums_fit, crate::proofs::EveryNodeLemmas::sums_made))]
 fn put_sums(alloc: Global, plan: &mut Plan, child: PlanId) -> Result<PlanId, Fail>
     requires { HasShape plan.old child every.of_choice }
     ensures { IfOk result (λ id. HasShape plan.new id every.of_sums) }
@@ -98,12 +96,20 @@ fn put_sums(alloc: Global, plan: &mut Plan, child: PlanId) -> Result<PlanId, Fai
     )
 }
 
-// Adds a node of every other kind.
-#[tactic(auto, using(crate::proofs::EveryNodeLemmas::windows_fit, crate::proofs::EveryNodeLemmas::groups_fit, crate::proofs::EveryNodeLemmas::union_fits, crate::proofs::EveryNodeLemmas::beside_fits))]
-fn put_others(alloc: Global, plan: &mut Plan, body: PlanId) -> Result<(), Fail>
-    requires { HasShape plan.old body every.of_sums }
+// Adds a stream.
+fn put_stream(alloc: Global, plan: &mut Plan) -> Result<PlanId, Fail>
+    ensures made { IfOk result (λ id. HasShape plan.new id every.of_stream) }
+    ensures kept { OnOk result (KeepsShapes plan.old plan.new) }
 {
-    let source = put(plan, PlanNode::Stream(0, kinds(alloc)?))?;
+    put(plan, PlanNode::Stream(0, kinds(alloc)?))
+}
+
+// Adds sums of windows.
+fn put_windows(plan: &mut Plan, source: PlanId, body: PlanId) -> Result<(), Fail>
+    requires source { HasShape plan.old source every.of_stream }
+    requires body { HasShape plan.old body every.of_sums }
+    ensures { OnOk result (KeepsShapes plan.old plan.new) }
+{
     let windows = PlanNode::Window {
         source,
         body,
@@ -111,6 +117,14 @@ fn put_others(alloc: Global, plan: &mut Plan, body: PlanId) -> Result<(), Fail>
         advance: 2,
     };
     put(plan, windows)?;
+    Ok(())
+}
+
+// Adds sums of groups, twice in any order.
+fn put_groups(plan: &mut Plan, source: PlanId, body: PlanId) -> Result<(), Fail>
+    requires source { HasShape plan.old source every.of_stream }
+    requires body { HasShape plan.old body every.of_sums }
+{
     let groups = PlanNode::Group {
         source,
         body,
@@ -125,14 +139,30 @@ fn put_others(alloc: Global, plan: &mut Plan, body: PlanId) -> Result<(), Fail>
             right: side,
         },
     )?;
-    put(
-        plan,
-        PlanNode::Beside {
-            left: source,
-            right: source,
-        },
-    )?;
     Ok(())
+}
+
+// Adds a stream beside itself.
+fn put_beside(plan: &mut Plan, source: PlanId) -> Result<(), Fail>
+    requires { HasShape plan.old source every.of_stream }
+    ensures { OnOk result (KeepsShapes plan.old plan.new) }
+{
+    let pairs = PlanNode::Beside {
+        left: source,
+        right: source,
+    };
+    put(plan, pairs)?;
+    Ok(())
+}
+
+// Adds a node of every other kind.
+fn put_others(alloc: Global, plan: &mut Plan, body: PlanId) -> Result<(), Fail>
+    requires { HasShape plan.old body every.of_sums }
+{
+    let source = put_stream(alloc, plan)?;
+    put_beside(plan, source)?;
+    put_windows(plan, source, body)?;
+    put_groups(plan, source, body)
 }
 
 #[test]

@@ -16,7 +16,8 @@ use Rattle.gl_schema.specs.Ports.{rst, eos, in_valid, in_column, Pin, pin, colum
 use Rattle.gl_compiler.specs.declared.pins.Pin.{Pin as Carried}
 use Rattle.gl_compiler.specs.declared.pins.Pin.TheVariants as is
 use Rattle.gl_compiler.specs.Carried.{first_known, column_pin, stream_pin, pin_named, row_among, carried, at_reset, with_beat}
-use Rattle.gl_compiler.specs.Profile.{InputPort, input_port, column_inputs, streams_inputs, inputs_of_schema, input_width}
+use Rattle.gl_schema.specs.Profile.{ProfilePort, input, column_inputs, streams_inputs, input_ports}
+use Rattle.gl_compiler.specs.Profile.{input_width}
 
 -- ---- the search for a name, and the values at the same places
 
@@ -24,17 +25,17 @@ use Rattle.gl_compiler.specs.Profile.{InputPort, input_port, column_inputs, stre
 abbrev pub Fact : Type 1
 Fact = ℕ → List ℕ → ℕ → Type 0
 
-abbrev pub OfBoth : Fact → InputPort → Pin → Type 0
+abbrev pub OfBoth : Fact → ProfilePort → Pin → Type 0
 OfBoth R i p = R i.width p.name p.value
 
-abbrev width_in : List ℕ → List InputPort → Option ℕ
-width_in name ips = option_map (λ (p : InputPort). p.width) (find (λ (p : InputPort). bytes_eq p.name name) ips)
+abbrev width_in : List ℕ → List ProfilePort → Option ℕ
+width_in name ips = option_map (λ (p : ProfilePort). p.width) (find (λ (p : ProfilePort). bytes_eq p.name name) ips)
 
 abbrev IsKnown : Carried → Type 0
 IsKnown q = (other : Carried) → first_known q other ≡ q
 
 -- the port is found, or the search goes on behind a front
-abbrev Finds : Fact → List ℕ → ℕ → ℕ → Carried → List InputPort → List Pin → Type 0
+abbrev Finds : Fact → List ℕ → ℕ → ℕ → Carried → List ProfilePort → List Pin → Type 0
 Finds R name w v q ips ps = (IsKnown q × R w name v) ⊎ ((q ≡ is.Unknown) × AllZip (OfBoth R) ips ps × (width_in name ips ≡ Some w))
 
 same_bytes : (a b : List ℕ) → bytes_eq a b ≡ true → a ≡ b
@@ -47,8 +48,8 @@ column_pins-at stream x xs (n ∷ row) zero = refl
 column_pins-at stream x xs (n ∷ row) (suc c) = column_pins-at stream x xs row c
 
 -- one port of the search: it is the one, or the search goes on
-pick_found : (R : Fact) (name n : List ℕ) (width value w : ℕ) (f : Carried → ℕ) (here later : Carried) (ips : List InputPort) (ps : List Pin) (ips' : List InputPort) (ps' : List Pin) (b : Bool)
-    → bytes_eq n name ≡ b → IsKnown here → f here ≡ value → R width n value → AllZip (OfBoth R) ips' ps' → width_in name (input_port n width ∷ ips') ≡ Some w
+pick_found : (R : Fact) (name n : List ℕ) (width value w : ℕ) (f : Carried → ℕ) (here later : Carried) (ips : List ProfilePort) (ps : List Pin) (ips' : List ProfilePort) (ps' : List Pin) (b : Bool)
+    → bytes_eq n name ≡ b → IsKnown here → f here ≡ value → R width n value → AllZip (OfBoth R) ips' ps' → width_in name (input n width ∷ ips') ≡ Some w
     → (AllZip (OfBoth R) ips' ps' → width_in name ips' ≡ Some w → Finds R name w (f later) later ips ps)
     → Finds R name w (f (if b then here else later)) (if b then here else later) ips ps
 pick_found R name n width value w f here later ips ps ips' ps' true q known same r z e go =
@@ -57,13 +58,13 @@ pick_found R name n width value w f here later ips ps ips' ps' true q known same
 pick_found R name n width value w f here later ips ps ips' ps' false q known same r z e go = go z (rw q at e)
 
 -- one search behind another
-or_found : (R : Fact) (name : List ℕ) (w : ℕ) (f : Carried → ℕ) (a b : Carried) (ips : List InputPort) (ps : List Pin) (ips' : List InputPort) (ps' : List Pin)
+or_found : (R : Fact) (name : List ℕ) (w : ℕ) (f : Carried → ℕ) (a b : Carried) (ips : List ProfilePort) (ps : List Pin) (ips' : List ProfilePort) (ps' : List Pin)
     → Finds R name w (f a) a ips' ps' → (AllZip (OfBoth R) ips' ps' → width_in name ips' ≡ Some w → Finds R name w (f b) b ips ps)
     → Finds R name w (f (first_known a b)) (first_known a b) ips ps
 or_found R name w f a b ips ps ips' ps' (inl found) go = subst (λ (q : Carried). Finds R name w (f q) q ips ps) (sym (found.0 b)) (inl found)
 or_found R name w f a b ips ps ips' ps' (inr behind) go = subst (λ (q : Carried). Finds R name w (f (first_known q b)) (first_known q b) ips ps) (sym behind.0) (go behind.1 behind.2)
 
-found_column : (R : Fact) (name stream : List ℕ) (reset : ℕ) (rows : List (Option (List ℕ))) (ends : Bool) (k c : ℕ) (xs : List Column) (ips : List InputPort) (ps : List Pin) (w : ℕ)
+found_column : (R : Fact) (name stream : List ℕ) (reset : ℕ) (rows : List (Option (List ℕ))) (ends : Bool) (k c : ℕ) (xs : List Column) (ips : List ProfilePort) (ps : List Pin) (w : ℕ)
     → AllZip (OfBoth R) (column_inputs stream xs ++ ips) (column_pins stream xs (drop c (unwrap_or (row_among rows k) [])) ++ ps)
     → width_in name (column_inputs stream xs ++ ips) ≡ Some w
     → Finds R name w (carried reset rows ends (column_pin name stream k c xs)) (column_pin name stream k c xs) ips ps
@@ -82,24 +83,24 @@ streams_pins-at s ss [] (suc k) = refl
 streams_pins-at s ss (r ∷ rows) zero = refl
 streams_pins-at s ss (r ∷ rows) (suc k) = streams_pins-at s ss rows k
 
-found_stream : (R : Fact) (name : List ℕ) (reset : ℕ) (rows : List (Option (List ℕ))) (ends : Bool) (k : ℕ) (ss : List Stream) (ips : List InputPort) (ps : List Pin) (w : ℕ)
+found_stream : (R : Fact) (name : List ℕ) (reset : ℕ) (rows : List (Option (List ℕ))) (ends : Bool) (k : ℕ) (ss : List Stream) (ips : List ProfilePort) (ps : List Pin) (w : ℕ)
     → AllZip (OfBoth R) (streams_inputs ss ++ ips) (streams_pins ss (drop k rows) ++ ps)
     → width_in name (streams_inputs ss ++ ips) ≡ Some w
     → Finds R name w (carried reset rows ends (stream_pin name k ss)) (stream_pin name k ss) ips ps
 found_stream R name reset rows ends k [] ips ps w z e = inr (refl, z, e)
 found_stream R name reset rows ends k (s ∷ ss) ips ps w z e =
     let row : Option (List ℕ) = row_among rows k in
-    let inputs : List InputPort = column_inputs s.name s.columns in
+    let inputs : List ProfilePort = column_inputs s.name s.columns in
     let values : List Pin = column_pins s.name s.columns (unwrap_or row []) in
-    let inputs' : List InputPort = streams_inputs ss ++ ips in
+    let inputs' : List ProfilePort = streams_inputs ss ++ ips in
     let values' : List Pin = streams_pins ss (drop (suc k) rows) ++ ps in
-    let valid : InputPort = input_port (in_valid s.name) 1 in
+    let valid : ProfilePort = input (in_valid s.name) 1 in
     let comes : Pin = pin (in_valid s.name) (bit (is_some row)) in
     let same_inputs : ((valid ∷ inputs) ++ streams_inputs ss) ++ ips ≡ valid ∷ (inputs ++ inputs') = append_assoc (valid ∷ inputs) (streams_inputs ss) ips in
     let same_values : streams_pins (s ∷ ss) (drop k rows) ++ ps ≡ comes ∷ (values ++ values') = ap (λ (xs : List Pin). xs ++ ps) (streams_pins-at s ss rows k) ∙ append_assoc (comes ∷ values) (streams_pins ss (drop (suc k) rows)) ps in
     let both : AllZip (OfBoth R) (valid ∷ (inputs ++ inputs')) (comes ∷ (values ++ values')) =
-    subst (λ (xs : List InputPort). AllZip (OfBoth R) xs (comes ∷ (values ++ values'))) same_inputs (subst (λ (xs : List Pin). AllZip (OfBoth R) (((valid ∷ inputs) ++ streams_inputs ss) ++ ips) xs) same_values z) in
-    let width : width_in name (valid ∷ (inputs ++ inputs')) ≡ Some w = subst (λ (xs : List InputPort). width_in name xs ≡ Some w) same_inputs e in
+    subst (λ (xs : List ProfilePort). AllZip (OfBoth R) xs (comes ∷ (values ++ values'))) same_inputs (subst (λ (xs : List Pin). AllZip (OfBoth R) (((valid ∷ inputs) ++ streams_inputs ss) ++ ips) xs) same_values z) in
+    let width : width_in name (valid ∷ (inputs ++ inputs')) ≡ Some w = subst (λ (xs : List ProfilePort). width_in name xs ≡ Some w) same_inputs e in
     pick_found R name (in_valid s.name) 1 (bit (is_some row)) w (carried reset rows ends) (is.Valid k) (first_known (column_pin name s.name k 0 s.columns) (stream_pin name (k + 1) ss)) ips ps
     (inputs ++ inputs') (values ++ values') (bytes_eq (in_valid s.name) name) refl (λ other. refl) refl both.0 both.1 width
     (λ z' e'. or_found R name w (carried reset rows ends) (column_pin name s.name k 0 s.columns) (stream_pin name (k + 1) ss) ips ps inputs' values'
@@ -111,7 +112,7 @@ abbrev pub pins_with : Schema → ℕ → List (Option (List ℕ)) → Bool → 
 pins_with schema reset rows ends = pin rst reset ∷ (streams_pins schema.streams rows ++ pin eos (bit ends) ∷ [])
 
 pub found : (R : Fact) (schema : Schema) (name : List ℕ) (reset : ℕ) (rows : List (Option (List ℕ))) (ends : Bool) (w : ℕ)
-    → AllZip (OfBoth R) (inputs_of_schema schema) (pins_with schema reset rows ends) → input_width schema name ≡ Some w
+    → AllZip (OfBoth R) (input_ports schema) (pins_with schema reset rows ends) → input_width schema name ≡ Some w
     → R w name (carried reset rows ends (pin_named schema name))
 found R schema name reset rows ends w z e =
     known (pick_found R name rst 1 reset w (carried reset rows ends) is.Reset (first_known (stream_pin name 0 schema.streams) last) [] []
@@ -124,8 +125,8 @@ found R schema name reset rows ends w z e =
     last : Carried
     last = if bytes_eq eos name then is.End else is.Unknown
 
-    ends_input : List InputPort
-    ends_input = input_port eos 1 ∷ []
+    ends_input : List ProfilePort
+    ends_input = input eos 1 ∷ []
 
     ends_pin : List Pin
     ends_pin = pin eos (bit ends) ∷ []
@@ -138,59 +139,6 @@ found R schema name reset rows ends w z e =
 
 abbrev pub IsNarrow : Fact
 IsNarrow w name v = v < 2 ^ w
-
-bit_fits : (b : Bool) → bit b < 2 ^ 1
-bit_fits true = omega arith
-bit_fits false = omega arith
-
-zip_append : {A B : Type 0} (R : A → B → Type 0) (as' cs : List A) (bs ds : List B) → AllZip R as' bs → AllZip R cs ds → AllZip R (as' ++ cs) (bs ++ ds)
-zip_append R [] cs [] ds h k = k
-zip_append R [] cs (b ∷ bs) ds h k = absurd h
-zip_append R (a ∷ as') cs [] ds h k = absurd h
-zip_append R (a ∷ as') cs (b ∷ bs) ds h k = (h.0, zip_append R as' cs bs ds h.1 k)
-
-no_columns : (stream : List ℕ) (cs : List Column) → AllZip (OfBoth IsNarrow) (column_inputs stream cs) (column_pins stream cs [])
-no_columns stream [] = tt
-no_columns stream (c ∷ cs) = (pow_pos (width_of c.kind), no_columns stream cs)
-
-columns_fit : (stream : List ℕ) (cs : List Column) (row : List ℕ) → IsRowOf cs row → AllZip (OfBoth IsNarrow) (column_inputs stream cs) (column_pins stream cs row)
-columns_fit stream [] row h = tt
-columns_fit stream (c ∷ cs) [] h = absurd h
-columns_fit stream (c ∷ cs) (n ∷ ns) h = (h.0, columns_fit stream cs ns h.1)
-
-stream_fits : (s : Stream) (row : Option (List ℕ)) → IfSome row (IsRowOf s.columns) → AllZip (OfBoth IsNarrow) (column_inputs s.name s.columns) (column_pins s.name s.columns (unwrap_or row []))
-stream_fits s None h = no_columns s.name s.columns
-stream_fits s (Some row) h = columns_fit s.name s.columns row h
-
-no_streams : (ss : List Stream) → AllZip (OfBoth IsNarrow) (streams_inputs ss) (streams_pins ss [])
-no_streams [] = tt
-no_streams (s ∷ ss) = (bit_fits false, zip_append (OfBoth IsNarrow) (column_inputs s.name s.columns) (streams_inputs ss) (column_pins s.name s.columns []) (streams_pins ss []) (no_columns s.name s.columns) (no_streams ss))
-
-streams_fit : (ss : List Stream) (rows : List (Option (List ℕ))) → AreRowsOf ss rows → AllZip (OfBoth IsNarrow) (streams_inputs ss) (streams_pins ss rows)
-streams_fit [] rows h = tt
-streams_fit (s ∷ ss) [] h = absurd h
-streams_fit (s ∷ ss) (r ∷ rs) h = (bit_fits (is_some r), zip_append (OfBoth IsNarrow) (column_inputs s.name s.columns) (streams_inputs ss) (column_pins s.name s.columns (unwrap_or r [])) (streams_pins ss rs) (stream_fits s r h.0) (streams_fit ss rs h.1))
-
-pins_fit : (schema : Schema) (reset : ℕ) (rows : List (Option (List ℕ))) (ends : Bool) → reset < 2 ^ 1 → AllZip (OfBoth IsNarrow) (streams_inputs schema.streams) (streams_pins schema.streams rows) → AllZip (OfBoth IsNarrow) (inputs_of_schema schema) (pins_with schema reset rows ends)
-pins_fit schema reset rows ends small h = (small, zip_append (OfBoth IsNarrow) (streams_inputs schema.streams) (input_port eos 1 ∷ []) (streams_pins schema.streams rows) (pin eos (bit ends) ∷ []) h (bit_fits ends, tt))
-
-found_beat : (P : Beat → Type 0) (beats : List Beat) (n : ℕ) → AllByRecursion P beats → IfSome (beat_at beats n) P
-found_beat P [] n h = tt
-found_beat P (b ∷ beats) n h = pick (b.cycle == n) (found_beat P beats n h.1)
-  where
-    pick : (c : Bool) → IfSome (beat_at beats n) P → IfSome (if c then Some b else beat_at beats n) P
-    pick true later = h.0
-    pick false later = later
-
--- in a cycle of the file
-cycle_fits : (schema : Schema) (beat : Option Beat) → IfSome beat (IsBeat schema) → AllZip (OfBoth IsNarrow) (inputs_of_schema schema) (pins_with schema 0 (option_map_or (λ (b : Beat). b.rows) beat []) (option_map_or (λ (b : Beat). b.end) beat false))
-cycle_fits schema None h = pins_fit schema 0 [] false (omega arith) (no_streams schema.streams)
-cycle_fits schema (Some b) h = pins_fit schema 0 b.rows b.end (omega arith) (streams_fit schema.streams b.rows h.rows)
-
--- in every cycle
-pub pins_fit_at : (schema : Schema) (beats : List Beat) (t : ℕ) → AreBeats schema beats → AllZip (OfBoth IsNarrow) (inputs_of_schema schema) (pins schema beats t)
-pins_fit_at schema beats zero h = pins_fit schema 1 [] false (omega arith) (no_streams schema.streams)
-pins_fit_at schema beats (suc n) h = cycle_fits schema (beat_at beats n) (found_beat (IsBeat schema) beats n h.each)
 
 pub zip_all : {A B : Type 0} (R : A → B → Type 0) (P : B → Type 0) (xs : List A) (ys : List B) → AllZip R xs ys → AllByRecursion P ys → AllZip (λ (x : A) (y : B). P y) xs ys
 zip_all R P [] [] z h = tt

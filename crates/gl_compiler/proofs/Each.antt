@@ -1,5 +1,5 @@
 -- From the run that was followed to each run of the text's module.
-use Rattle.std.proofs.Common.{◌≡◌, ℕ, List, Result, Ok, Err, OnOk, OnErr, sym, ap, subst, ◌∙◌, map}
+use Rattle.std.proofs.Common.{◌≡◌, ℕ, List, Result, Ok, Err, IsErrAnd, sym, ap, subst, ◌∙◌, map}
 use Rattle.gl_bits.specs.declared.kind.Kind.{Kind}
 use Rattle.gl_bits.specs.Kinds.{width_of}
 use Rattle.gl_schema.specs.declared.schema.Schema.{Schema}
@@ -7,7 +7,7 @@ use Rattle.gl_schema.specs.Beats.{Beat, AreBeats}
 use Rattle.gl_schema.specs.Ports.{PortValues, IsStimulus}
 use Rattle.gl_verilog.specs.Module.{Module, Nets, Memories}
 use Rattle.gl_verilog.specs.declared.module.Module.{Module as Rust}
-use Rattle.gl_verilog.specs.Run.{IsRun, port_of}
+use Rattle.gl_verilog.specs.Run.{IsRun, port_of, input_values}
 use Rattle.gl_verilog.specs.Text.{HasModule}
 use Rattle.gl_verilog.specs.Valid.{IsValid}
 use Rattle.gl_verilog_orders.proofs.EventRuns.{event_runs_are_runs}
@@ -16,17 +16,22 @@ use Rattle.gl_verilog.proofs.ReadModules.{one_module}
 use Rattle.gl_sim.specs.Simulation.{Simulation, IsAt}
 use Rattle.gl_sim.specs.Starts.{StartsFrom}
 use Rattle.gl_sim.specs.declared.start.Start.{Start}
-use Rattle.gl_compiler.specs.Cycles.{CanFollow, IsFollowed, OfTimely}
-use Rattle.gl_compiler.specs.Prints.{CanRun, EndsWithin, IsRunOver, OfEachRun}
+use Rattle.gl_outside.specs.Counts.{Rose}
+use Rattle.gl_outside.specs.States.{SinkState, Counts}
+use Rattle.gl_compiler.specs.declared.executing.Outcome.{Outcome}
+use Rattle.gl_compiler.specs.declared.executing.Outcome.TheVariants.{Done, WriteFault, Memory}
+use Rattle.gl_compiler.specs.Cycles.{CanFollow, IsFollowed, WritesBy, OfTimely}
+use Rattle.gl_compiler.specs.Prints.{CanRun, EndsWithin, IsRunOver, OfEachRun, Ran, Writes, WritesFront}
 use Rattle.gl_compiler.specs.Profile.{FitsSchema, result_names, result_widths}
 
-pub on_ok : {T E : Type 0} {P Q : Type 0} (r : Result T E) → (P → Q) → OnOk r P → OnOk r Q
-on_ok (Ok x) f p = f p
-on_ok (Err e) f p = tt
+-- what is known where the sink failed
+pub by_err : {E : Type 0} {P : E → Type 0} {kinds : List Kind} {beats : List Beat} {outs : List (List ℕ)} {port : PortValues} {a b : SinkState} (r : Result (Unit {0}) E) → IsErrAnd r P → WritesFront kinds beats outs port a.taken b.taken → WritesBy kinds beats outs port a b r
+by_err (Ok u) h w = absurd h
+by_err (Err e) h w = w
 
-pub on_err : {T E : Type 0} {P Q : Type 0} (r : Result T E) → (P → Q) → OnErr r P → OnErr r Q
-on_err (Ok x) f p = tt
-on_err (Err e) f p = f p
+pub counts_err : {E : Type 0} {P : E → Type 0} (a b c : SinkState) (r : Result (Unit {0}) E) → IsErrAnd r P → b.faults ≡ a.faults → Rose b.faults c.faults → Counts a c r
+counts_err a b c (Ok u) h same rose = absurd h
+counts_err a b c (Err e) h same rose = subst (λ (n : ℕ). Rose n c.faults) same rose
 
 -- a fact of each run that the simulator is at
 abbrev pub OfRuns : Simulation → Schema → List Beat → ℕ → (List Beat → List (List ℕ) → PortValues → Type 0) → Type 0
@@ -57,7 +62,7 @@ pub of_timely : (schema : Schema) (beats : List Beat) (latency : ℕ) (start : S
 of_timely schema beats latency start d s Q valid same started h = λ value word over ends.
     let followed : IsFollowed s schema beats value word 0 = record {
       run = subst (λ (e : Rust). IsRun (module_of e) value word) (sym same) (event_runs_are_runs (module_of d) valid value word over.run);
-      stimulus = subst (λ (e : Rust). IsStimulus schema beats (port_of (module_of e) value)) (sym same) over.stimulus;
+      stimulus = subst (λ (e : Rust). IsStimulus schema beats (input_values (module_of e) value)) (sym same) over.stimulus;
       at = started value word over.starts;
     } in
     let those : EndsWithin latency beats (result_names (module_of s.design)) (port_of (module_of s.design) value) =
@@ -74,3 +79,10 @@ of_each_run text schema kinds beats latency start d Q can has h = λ m value wor
     let ends : EndsWithin latency beats (result_names (module_of d)) (port_of (module_of d) value) =
     subst (λ (x : Module). EndsWithin latency beats (result_names x) (port_of x value)) (sym mine) (can.ends value word (subst (λ (x : Module). IsRunOver x schema beats start value word) mine over)) in
     subst (λ (x : Module). Q (result_names x) (port_of x value)) (sym this) (h value word over ends)
+
+-- how the run of the text's module ended is how each run of the text did
+pub ran_each : (text : List ℕ) (schema : Schema) (kinds : List Kind) (beats : List Beat) (latency : ℕ) (start : Start) (d : Rust) (old new : SinkState) (r : Outcome) → CanRun text schema kinds beats latency start → HasModule text (module_of d)
+    → Ran (OfTimely latency (module_of d) schema beats start) kinds beats old new r → Ran (OfEachRun text schema beats start) kinds beats old new r
+ran_each text schema kinds beats latency start d old new Done can has h = (h.0, of_each_run text schema kinds beats latency start d (λ outs port. Writes kinds beats outs port old.taken new.taken) can has h.1)
+ran_each text schema kinds beats latency start d old new WriteFault can has h = (h.0, of_each_run text schema kinds beats latency start d (λ outs port. WritesFront kinds beats outs port old.taken new.taken) can has h.1)
+ran_each text schema kinds beats latency start d old new Memory can has h = h

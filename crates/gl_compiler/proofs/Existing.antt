@@ -13,15 +13,17 @@ use Rattle.gl_net.specs.declared.node.Direction.TheVariants.{In}
 use Rattle.gl_net.specs.PortValues.{PortShape}
 use Rattle.gl_wiring.specs.EmittedPorts.{input, column_inputs, stream_inputs, streams_inputs}
 use Rattle.gl_verilog.specs.Module.{Module, Declaration, Input, Nets, Memories, number_of}
-use Rattle.gl_verilog.specs.Run.{Fit, port_of}
+use Rattle.gl_verilog.specs.Run.{Fit, input_number, input_values}
 use Rattle.gl_verilog.specs.Runnable.{SameInputs}
 use Rattle.gl_verilog.specs.Valid.{AreDistinct}
 use Rattle.gl_verilog.specs.Widths.{is_clock}
 use Rattle.gl_verilog_orders.specs.Laws.{HasEventRuns}
 use Rattle.gl_verilog_writer.specs.Meaning.{clock, kind_of}
-use Rattle.gl_compiler.specs.Profile.{InputPort, inputs_of_schema, ports_of}
+use Rattle.gl_schema.specs.Profile.{ProfilePort, input_ports, CanCarry}
+use Rattle.gl_schema.proofs.Pinned.{pins_fit}
+use Rattle.gl_compiler.specs.Profile.{ports_of}
 use Rattle.gl_compiler.specs.Meets.{RunsOver}
-use Rattle.gl_compiler.proofs.Carries.{OfBoth, IsNarrow, pins_fit_at}
+use Rattle.gl_compiler.proofs.Inputs.{input_there}
 use Rattle.gl_compiler.proofs.Declared.{number_at, distinct_take, get_take}
 use Rattle.gl_compiler.proofs.Faces.{decl}
 use Rattle.gl_compiler.proofs.Fits.{inputs, asked, all_asked}
@@ -106,14 +108,14 @@ module _ (m : Module) (schema : Schema) (beats : List Beat) (outs : List PortSha
   led : (t i : ℕ) (p : Pin) → slice_get (pins schema beats t) i ≡ Some p → Led t i p
   led t i p e =
       let l = zip_at Leads (inputs schema) (pins schema beats t) i p (pins_lead schema beats t) e in
-      let w = zip_at (OfBoth IsNarrow) (inputs_of_schema schema) (pins schema beats t) i p (pins_fit_at schema beats t are) e in
-      let asks : slice_get (inputs_of_schema schema) i ≡ Some (asked l.one) = subst (λ (xs : List InputPort). slice_get xs i ≡ Some (asked l.one)) (all_asked schema) (map_at asked (inputs schema) i l.one l.there) in
+      let w = zip_at CanCarry (input_ports schema) (pins schema beats t) i p (pins_fit schema beats t are) e in
+      let asks : slice_get (input_ports schema) i ≡ Some (asked l.one) = subst (λ (xs : List ProfilePort). slice_get xs i ≡ Some (asked l.one)) (all_asked schema) (map_at asked (inputs schema) i l.one l.there) in
       let same : w.one ≡ asked l.one = cc (w.there, asks) in
       record {
         shape = l.one;
         direction = l.is.0;
         name' = l.is.1;
-        small = subst (λ (x : InputPort). p.value < 2 ^ x.width) same w.is;
+        small = subst (λ (x : ProfilePort). p.value < 2 ^ x.width) same w.is;
         port = subst (λ (xs : List Declaration). slice_get xs (suc i) ≡ Some (decl l.one)) (sym ports) (map_at decl (inputs schema ++ outs) i l.one (append_at (inputs schema) outs i l.one l.there));
       }
 
@@ -130,17 +132,18 @@ module _ (m : Module) (schema : Schema) (beats : List Beat) (outs : List PortSha
           subst (λ (x : Declaration). p.value < 2 ^ x.width) same l.small
 
   -- where the inputs have these values, the pins are carried
-  carried : (others : (t : ℕ) → AllByRecursion (λ (p : Pin). bytes_eq p.name (codes "clk") ≡ false) (pins schema beats t)) (t : ℕ) (v : Nets) → SameInputs m.declarations (given (pins schema beats t)) v → (i : ℕ) (p : Pin) → slice_get (pins schema beats t) i ≡ Some p → IfSome (option_map v (number_of (ports_of m) p.name)) (λ x. x ≡ p.value)
+  carried : (others : (t : ℕ) → AllByRecursion (λ (p : Pin). bytes_eq p.name (codes "clk") ≡ false) (pins schema beats t)) (t : ℕ) (v : Nets) → SameInputs m.declarations (given (pins schema beats t)) v → (i : ℕ) (p : Pin) → slice_get (pins schema beats t) i ≡ Some p → IfSome (option_map v (input_number m p.name)) (λ x. x ≡ p.value)
   carried others t v same i p e =
       let l = led t i p e in
       let there : slice_get m.declarations (suc i) ≡ Some (decl l.shape) = get_take m.ports m.declarations (suc i) (decl l.shape) l.port in
-      let number : number_of (ports_of m) l.shape.name ≡ Some (suc i) = number_at (ports_of m) (suc i) (decl l.shape) (distinct_take m.ports m.declarations distinct) l.port in
+      let number : input_number m l.shape.name ≡ Some (suc i) =
+      input_there m (suc i) (decl l.shape) there (ap kind_of l.direction) (number_at (ports_of m) (suc i) (decl l.shape) (distinct_take m.ports m.declarations distinct) l.port) in
       let other : bytes_eq p.name (codes "clk") ≡ false = all_there (λ (q : Pin). bytes_eq q.name (codes "clk") ≡ false) (pins schema beats t) i p (others t) e in
       let no_clock : is_clock (decl l.shape) ≡ false = subst (λ (x : List ℕ). bytes_eq x (codes "clk") ≡ false) (sym l.name') other in
       let kind : (decl l.shape).kind ≡ Input = ap kind_of l.direction in
       let value : given (pins schema beats t) (suc i) ≡ v (suc i) = same (suc i) (decl l.shape) there kind no_clock in
       let here : given (pins schema beats t) (suc i) ≡ p.value = ap (λ (o : Option Pin). option_map_or (λ (q : Pin). q.value) o 0) e in
-      subst (λ (x : List ℕ). IfSome (option_map v (number_of (ports_of m) x)) (λ y. y ≡ p.value)) l.name'
+      subst (λ (x : List ℕ). IfSome (option_map v (input_number m x)) (λ y. y ≡ p.value)) l.name'
       (subst (λ (o : Option ℕ). IfSome (option_map v o) (λ y. y ≡ p.value)) (sym number) (sym value ∙ here))
 
   -- there is a run over the beats
@@ -152,5 +155,5 @@ module _ (m : Module) (schema : Schema) (beats : List Beat) (outs : List PortSha
         word = r.word;
         run = r.is;
         starts = r.starts;
-        stimulus = record { carries = λ t. all_by_place (λ (p : Pin). IfSome (port_of m r.value t p.name) (λ v. v ≡ p.value)) (pins schema beats t) (carried others t (r.value t) (r.takes t)) };
+        stimulus = record { carries = λ t. all_by_place (λ (p : Pin). IfSome (input_values m r.value t p.name) (λ v. v ≡ p.value)) (pins schema beats t) (carried others t (r.value t) (r.takes t)) };
       }

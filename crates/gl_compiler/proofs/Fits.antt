@@ -16,8 +16,9 @@ use Rattle.gl_verilog.specs.Module.{Module, Declaration, Input}
 use Rattle.gl_verilog.specs.Widths.{is_clock}
 use Rattle.gl_verilog_writer.specs.Meaning.{clock, kind_of}
 use Rattle.gl_wiring.specs.EmittedPorts.{input, output, column_inputs, stream_inputs, streams_inputs, column_outputs, result_outputs}
-use Rattle.gl_compiler.specs.Profile.{InputPort, input_port, inputs_of_schema, input_width, ports_of, port_named, HasLine, IsLine}
-use Rattle.gl_compiler.specs.Profile as profile
+use Rattle.gl_schema.specs.Profile as profile
+use Rattle.gl_schema.specs.Profile.{ProfilePort, clk, input_ports}
+use Rattle.gl_compiler.specs.Profile.{input_width, ports_of, port_named, HasClock, HasLine, IsLine}
 use Rattle.gl_compiler.proofs.Faces.{decl, Stands, stands_next, stands_behind, found_named}
 
 -- ---- lines
@@ -80,29 +81,29 @@ in_front (x ∷ xs) ys zero s all h e = h
 in_front (x ∷ xs) ys (suc i) s all h e = in_front xs ys i s all h e
 
 -- the input ports that the schema asks for are these inputs
-abbrev pub asked : PortShape → InputPort
-asked s = input_port s.name s.width
+abbrev pub asked : PortShape → ProfilePort
+asked s = profile.input s.name s.width
 
 columns_asked : (s : List ℕ) (cs : List Column) → map asked (column_inputs s cs) ≡ profile.column_inputs s cs
 columns_asked s [] = refl
-columns_asked s (c ∷ cs) = ap (λ (x : List InputPort). input_port (in_column s c.name) (width_of c.kind) ∷ x) (columns_asked s cs)
+columns_asked s (c ∷ cs) = ap (λ (x : List ProfilePort). profile.input (in_column s c.name) (width_of c.kind) ∷ x) (columns_asked s cs)
 
 streams_asked : (ss : List Stream) → map asked (streams_inputs ss) ≡ profile.streams_inputs ss
 streams_asked [] = refl
 streams_asked (s ∷ ss) =
     map-append asked (stream_inputs s) (streams_inputs ss)
-    ∙ ap (λ (x : List InputPort). input_port (in_valid s.name) 1 ∷ (x ++ map asked (streams_inputs ss))) (columns_asked s.name s.columns)
-    ∙ ap (λ (x : List InputPort). (input_port (in_valid s.name) 1 ∷ profile.column_inputs s.name s.columns) ++ x) (streams_asked ss)
+    ∙ ap (λ (x : List ProfilePort). profile.input (in_valid s.name) 1 ∷ (x ++ map asked (streams_inputs ss))) (columns_asked s.name s.columns)
+    ∙ ap (λ (x : List ProfilePort). (profile.input (in_valid s.name) 1 ∷ profile.column_inputs s.name s.columns) ++ x) (streams_asked ss)
 
-pub all_asked : (schema : Schema) → map asked (inputs schema) ≡ inputs_of_schema schema
+pub all_asked : (schema : Schema) → map asked (inputs schema) ≡ input_ports schema
 all_asked schema =
-    ap (λ (x : List InputPort). input_port rst 1 ∷ x)
-    (map-append asked (streams_inputs schema.streams) (input eos 1 ∷ []) ∙ ap (λ (x : List InputPort). x ++ input_port eos 1 ∷ []) (streams_asked schema.streams))
+    ap (λ (x : List ProfilePort). profile.input rst 1 ∷ x)
+    (map-append asked (streams_inputs schema.streams) (input eos 1 ∷ []) ∙ ap (λ (x : List ProfilePort). x ++ profile.input eos 1 ∷ []) (streams_asked schema.streams))
 
 asked_width : (schema : Schema) (i : ℕ) (s : PortShape) → IsDistinct bytes_eq (map (λ (x : PortShape). x.name) (inputs schema)) → slice_get (inputs schema) i ≡ Some s → input_width schema s.name ≡ Some s.width
 asked_width schema i s distinct h =
-    ap (λ (ps : List InputPort). option_map (λ (p : InputPort). p.width) (find (λ (p : InputPort). bytes_eq p.name s.name) ps)) (sym (all_asked schema))
-    ∙ ap (option_map (λ (p : InputPort). p.width)) (found_named {A = InputPort} (λ p. p.name) asked (λ x. refl) (inputs schema) i s distinct h)
+    ap (λ (ps : List ProfilePort). option_map (λ (p : ProfilePort). p.width) (find (λ (p : ProfilePort). bytes_eq p.name s.name) ps)) (sym (all_asked schema))
+    ∙ ap (option_map (λ (p : ProfilePort). p.width)) (found_named {A = ProfilePort} (λ p. p.name) asked (λ x. refl) (inputs schema) i s distinct h)
 
 -- what stands in a list of declarations of shapes
 declared_at : (shapes : List PortShape) (i : ℕ) (d : Declaration) → slice_get (map decl shapes) i ≡ Some d → (s : PortShape) × (slice_get shapes i ≡ Some s) × (decl s ≡ d)
@@ -137,6 +138,7 @@ kinds_narrow (k ∷ ks) h = (kind_narrow k h.0, kinds_narrow ks h.1)
 
 -- the ports of an emitted module are those that the schema asks for
 pub record FitPorts (m : Module) (schema : Schema) : Type 0 where
+  pub clock' : HasClock m
   pub inputs : (n : ℕ) (d : Declaration) → slice_get (ports_of m) n ≡ Some d → d.kind ≡ Input → is_clock d ≡ false → input_width schema d.name ≡ Some d.width
   pub valid : HasLine m out_valid
   pub end : HasLine m out_eos
@@ -144,10 +146,11 @@ pub record FitPorts (m : Module) (schema : Schema) : Type 0 where
   pub queue : IfSome (port_named m fault_queue) IsLine
 
 pub ports_fit : (m : Module) (schema : Schema) (ws ps : List ℕ) (ns : List (List ℕ)) → ports_of m ≡ clock ∷ map decl (inputs schema ++ result_outputs ws ps ns) → IsDistinct bytes_eq (map (λ (x : PortShape). x.name) (inputs schema ++ result_outputs ws ps ns)) → FitPorts m schema
-unfolding out_valid out_eos fault_group fault_queue
+unfolding clk out_valid out_eos fault_group fault_queue
 ports_fit m schema ws ps ns e distinct =
     let shapes = inputs schema ++ result_outputs ws ps ns in
     record {
+      clock' = record { port = clock; there = ap (find (λ (d : Declaration). bytes_eq d.name clk)) e; input = refl; bit = refl };
       inputs = λ n d at is other. input_fits schema ws ps ns n d distinct (ap (λ (x : List Declaration). slice_get x n) (sym e) ∙ at) is other;
       valid = record { port = decl (output out_valid 1); there = port_there m shapes out_valid e distinct refl (valid_stands schema ws ps ns); line = line_is out_valid };
       end = record { port = decl (output out_eos 1); there = port_there m shapes out_eos e distinct refl (tail_stands (output out_eos 1) schema ws ps ns (record { place = 0; there = refl })); line = line_is out_eos };

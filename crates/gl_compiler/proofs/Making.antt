@@ -13,7 +13,7 @@ use Rattle.gl_schema.specs.Seen.{Shown, shown, is_high, row_shown, cycle_lines}
 use Rattle.gl_verilog.specs.Module.{Module, Nets, Memories, number_of}
 use Rattle.gl_verilog.specs.declared.module.Module.{Module as Rust}
 use Rattle.gl_verilog.specs.View.{module_of}
-use Rattle.gl_verilog.specs.Run.{IsRun, port_of}
+use Rattle.gl_verilog.specs.Run.{IsRun, port_of, input_values}
 use Rattle.gl_verilog.specs.Evaluate.{nets_of}
 use Rattle.gl_verilog.specs.Runnable.{inputs_of, FitInputs, HasInputs, SameNets}
 use Rattle.gl_verilog.specs.Widths.{width_at}
@@ -62,7 +62,7 @@ step_followed s s' schema kinds beats t values value word can e follows f =
 followed_on : (s s' : Simulation) (schema : Schema) (beats : List Beat) (t t' : ℕ) (value : ℕ → Nets) (word : ℕ → Memories) → s'.design ≡ s.design → IsFollowed s schema beats value word t → IsAt s' value word t' → IsFollowed s' schema beats value word t'
 followed_on s s' schema beats t t' value word e f at = record {
   run = subst (λ (d : Rust). IsRun (module_of d) value word) (sym e) f.run;
-  stimulus = subst (λ (d : Rust). IsStimulus schema beats (port_of (module_of d) value)) (sym e) f.stimulus;
+  stimulus = subst (λ (d : Rust). IsStimulus schema beats (input_values (module_of d) value)) (sym e) f.stimulus;
   at = at;
 }
 

@@ -15,9 +15,10 @@ use Rattle.gl_query.specs.declared.tree.Statement.{Statement}
 use Rattle.gl_query.specs.Values.{column_kind}
 use Rattle.gl_query.specs.Results.{IsResult}
 use Rattle.gl_net.specs.Net.{Net}
+use Rattle.gl_net.specs.PortValues as circuit
 use Rattle.gl_net.specs.PortValues.{port_values, PortShape, port_shapes}
 use Rattle.gl_verilog.specs.Module.{Declaration}
-use Rattle.gl_verilog.specs.Run.{port_of}
+use Rattle.gl_verilog.specs.Run.{port_of, input_values}
 use Rattle.gl_verilog_orders.proofs.EventRuns.{event_runs_are_runs, has_event_runs}
 use Rattle.gl_verilog_writer.specs.Meaning.{IsTextOf, clock}
 use Rattle.gl_wiring.specs.EmittedPorts.{column_widths, column_outputs, columns_at, result_outputs, emitted_ports}
@@ -127,6 +128,7 @@ module _ (schema : Schema) (statement : Statement) (select : Select) (net : Net)
   fits =
       let f = ports_fit t.design schema (column_widths (columns_at schema.streams select.stream)) select.columns.items select.names.columns design_ports distinct in
       record {
+        clock = f.clock';
         inputs = λ n d at kind other. f.inputs n d (inputs_first text t.design t.has n d at kind) kind other;
         valid = f.valid;
         end = f.end;
@@ -153,7 +155,7 @@ module _ (schema : Schema) (statement : Statement) (select : Select) (net : Net)
         let outs = map out_column select.names.columns in
         let port = port_of t.design value in
         let there = port_values net r.run in
-        let stimulus' = stimulus_same schema beats port there r.ports (pins_other schema beats) stimulus in
+        let stimulus' = stimulus_same schema beats (input_values t.design value) (circuit.input_values net r.run) r.inputs (pins_other schema beats) stimulus in
         let of_net = right r.run beats r.trace are stimulus' in
         let of_text : IsRight (IsResult schema statement) 1 beats outs port =
         right_same (picks select.stream select.columns.items) (IsResult schema statement) 1 beats outs there port

@@ -5,7 +5,7 @@ use Rattle.std.specs.List.{list_any}
 use Rattle.std.proofs.lemmas.List.{append-nil}
 use Rattle.std.proofs.lemmas.Bool.{cases_lt, cases_eq}
 use Rattle.gl_bits.specs.declared.kind.Kind.{Kind}
-use Rattle.gl_outside.specs.Taken.{Appends, AppendsFront}
+use Rattle.gl_outside.specs.States.{Appends, AppendsFront}
 use Rattle.gl_outside.proofs.Takes.{appends_none, appends_then, front_then, front_more}
 use Rattle.gl_schema.specs.declared.schema.Schema.{Schema}
 use Rattle.gl_schema.specs.Beats.{Beat, last_cycle}

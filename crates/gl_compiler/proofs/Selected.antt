@@ -13,7 +13,9 @@ use Rattle.gl_query.specs.Shapes as shape
 use Rattle.gl_query.specs.Values.{HasKind, kind_alone, column_number, column_kind}
 use Rattle.gl_query.specs.Columns.{columns_of, item_column, source_columns}
 use Rattle.gl_query.specs.Accepted.{IsAccepted, IsAcceptedOver, AreResultColumns}
-use Rattle.gl_query.specs.Results.{Row, Env, Source, numbered, env_of, rows_of, streams_of, kept, IsResult, IsResultIn}
+use Rattle.gl_bits.specs.Results.{Row}
+use Rattle.gl_schema.specs.Beats.{Inputs}
+use Rattle.gl_query.specs.Results.{Env, Source, numbered, env_of, rows_of, streams_of, kept, IsResult, IsResultIn}
 use Rattle.gl_query.specs.Results as result
 use Rattle.gl_wiring.specs.Select.{picked, picks}
 use Rattle.gl_compiler.specs.Selecting.{own, IsBuilt}
@@ -21,23 +23,23 @@ use Rattle.gl_compiler.specs.Meets.{result_columns}
 
 -- ---- the environment of a schema
 
-same_streams : (k : ℕ) (ss : List Stream) (inputs : ℕ → List Row) → streams_of (numbered k ss inputs) ≡ ss
+same_streams : (k : ℕ) (ss : List Stream) (inputs : Inputs) → streams_of (numbered k ss inputs) ≡ ss
 same_streams k [] inputs = refl
 same_streams k (s ∷ ss) inputs = ap (λ (x : List Stream). s ∷ x) (same_streams (k + 1) ss inputs)
 
-rows_found : (name : List ℕ) (k : ℕ) (ss : List Stream) (inputs : ℕ → List Row) (s : Stream) → find (λ (x : Stream). bytes_eq name x.name) ss ≡ Some s → rows_of (numbered k ss inputs) name ≡ inputs (k + position_or_len (λ (x : Stream). bytes_eq name x.name) ss)
+rows_found : (name : List ℕ) (k : ℕ) (ss : List Stream) (inputs : Inputs) (s : Stream) → find (λ (x : Stream). bytes_eq name x.name) ss ≡ Some s → rows_of (numbered k ss inputs) name ≡ inputs.rows (k + position_or_len (λ (x : Stream). bytes_eq name x.name) ss)
 rows_found name k [] inputs s h = absurd cc
 rows_found name k (x ∷ ss) inputs s h = by (bytes_eq name x.name) refl (rows_found name (k + 1) ss inputs s)
   where
     P : Stream → Bool
     P = λ (y : Stream). bytes_eq name y.name
 
-    by : (b : Bool) → bytes_eq name x.name ≡ b → (find P ss ≡ Some s → rows_of (numbered (k + 1) ss inputs) name ≡ inputs (k + 1 + position_or_len P ss)) → rows_of (numbered k (x ∷ ss) inputs) name ≡ inputs (k + position_or_len P (x ∷ ss))
-    by true e rest = let z : k ≡ k + 0 = omega arith in rw e (ap inputs z)
+    by : (b : Bool) → bytes_eq name x.name ≡ b → (find P ss ≡ Some s → rows_of (numbered (k + 1) ss inputs) name ≡ inputs.rows (k + 1 + position_or_len P ss)) → rows_of (numbered k (x ∷ ss) inputs) name ≡ inputs.rows (k + position_or_len P (x ∷ ss))
+    by true e rest = let z : k ≡ k + 0 = omega arith in rw e (ap inputs.rows z)
     by false e rest =
         let f : find P ss ≡ Some s = rw e at h in
         let z : k + 1 + position_or_len P ss ≡ k + (1 + position_or_len P ss) = omega arith in
-        rw e (rest f ∙ ap inputs z)
+        rw e (rest f ∙ ap inputs.rows z)
 
 -- ---- the rows
 
@@ -60,18 +62,18 @@ source_is : (name : List ℕ) (ss : List Stream) (s : Stream) → find (λ (x : 
 source_is name ss s h = ap (λ (o : Option Stream). unwrap_or (option_map (λ (x : Stream). x.columns) o) []) h
 
 -- the rows that the select means are a result of the statement
-pub picks_result : (schema : Schema) (statement : Statement) (b : IsBuilt schema statement) (k : ℕ) (places : List ℕ) → k ≡ position_or_len (λ (x : Stream). bytes_eq b.source x.name) schema.streams → places ≡ map (column_number b.stream.columns) b.names → (inputs : ℕ → List Row) (rows : List Row) (spill : Bool) → picks k places inputs rows spill → IsResult schema statement inputs rows spill
+pub picks_result : (schema : Schema) (statement : Statement) (b : IsBuilt schema statement) (k : ℕ) (places : List ℕ) → k ≡ position_or_len (λ (x : Stream). bytes_eq b.source x.name) schema.streams → places ≡ map (column_number b.stream.columns) b.names → (inputs : Inputs) (rows : List Row) (spill : Bool) → picks k places inputs rows spill → IsResult schema statement inputs rows spill
 picks_result schema statement b k places number where' inputs rows spill h =
     let env = env_of schema inputs in
     let cs = b.stream.columns in
     let in_env : source_columns (streams_of env) b.source ≡ cs = ap (λ (x : List Stream). source_columns x b.source) (same_streams 0 schema.streams inputs) ∙ source_is b.source schema.streams b.stream b.there in
     let z : 0 + position_or_len (λ (x : Stream). bytes_eq b.source x.name) schema.streams ≡ position_or_len (λ (x : Stream). bytes_eq b.source x.name) schema.streams = omega arith in
-    let found : rows_of env b.source ≡ inputs k = rows_found b.source 0 schema.streams inputs b.stream b.there ∙ ap inputs (z ∙ sym number) in
+    let found : rows_of env b.source ≡ inputs.rows k = rows_found b.source 0 schema.streams inputs b.stream b.there ∙ ap inputs.rows (z ∙ sym number) in
     let made : rows ≡ map (result.picked (source_columns (streams_of env) b.source) (shape.Items (map own b.names))) (kept (source_columns (streams_of env) b.source) None (rows_of env b.source)) =
-    h.0 ∙ ap (λ (x : List ℕ). map (picked x) (inputs k)) where' ∙ sym (rows_picked cs b.names (inputs k))
-    ∙ ap (λ (x : List Column). map (result.picked x (shape.Items (map own b.names))) (inputs k)) (sym in_env)
+    h.0 ∙ ap (λ (x : List ℕ). map (picked x) (inputs.rows k)) where' ∙ sym (rows_picked cs b.names (inputs.rows k))
+    ∙ ap (λ (x : List Column). map (result.picked x (shape.Items (map own b.names))) (inputs.rows k)) (sym in_env)
     ∙ ap (map (result.picked (source_columns (streams_of env) b.source) (shape.Items (map own b.names)))) (sym found ∙ sym (all_kept (rows_of env b.source))) in
-    subst (λ (q : QueryShape). IsResultIn q env rows spill) (sym b.picks) (record { rows = rows_of env b.source; is = (refl, h.1); made = made })
+    subst (λ (q : QueryShape). IsResultIn q env rows spill) (sym b.picks) (record { rows = rows_of env b.source; of_source = record { rows = refl; kept = h.1 }; changed = made })
 
 -- ---- the columns of the result
 

@@ -2,22 +2,22 @@
 use Rattle.std.proofs.Common.{◌≡◌, ℕ, List, [], ◌∷◌, Option, Some, None, Result, Ok, Err, refl, sym, ap, ◌∙◌, subst}
 use Rattle.std.specs.Prelude.{map, option_map}
 use Rattle.gl_schema.specs.declared.schema.Schema.{Schema}
-use Rattle.gl_query.specs.declared.tree.Expr.{Expr}
-use Rattle.gl_query.specs.declared.tree.Expr.TheVariants as expr
-use Rattle.gl_query.specs.declared.tree.Agg.{Agg}
-use Rattle.gl_query.specs.declared.tree.Agg.TheVariants as agg
-use Rattle.gl_query.specs.declared.tree.Item.{Item}
-use Rattle.gl_query.specs.declared.tree.AggItem.{AggItem}
+use Rattle.gl_query.specs.declared.tree.ExprTree.{Expr}
+use Rattle.gl_query.specs.declared.tree.ExprTree.TheVariants as expr
+use Rattle.gl_query.specs.declared.tree.AggTree.{Agg}
+use Rattle.gl_query.specs.declared.tree.AggTree.TheVariants as agg
+use Rattle.gl_query.specs.declared.tree.ItemTree.{Item}
+use Rattle.gl_query.specs.declared.tree.AggItemTree.{AggItem}
 use Rattle.gl_query.specs.declared.tree.Num.{Num}
-use Rattle.gl_query.specs.declared.tree.Pick.{Pick}
-use Rattle.gl_query.specs.declared.tree.Pick.TheVariants as pick
-use Rattle.gl_query.specs.declared.tree.Query.{Query}
-use Rattle.gl_query.specs.declared.tree.Query.TheVariants as query
-use Rattle.gl_query.specs.declared.tree.Statement.{Statement}
+use Rattle.gl_query.specs.declared.tree.PickTree.{Pick}
+use Rattle.gl_query.specs.declared.tree.PickTree.TheVariants as pick
+use Rattle.gl_query.specs.declared.tree.QueryTree.{Query}
+use Rattle.gl_query.specs.declared.tree.QueryTree.TheVariants as query
+use Rattle.gl_query.specs.declared.tree.StatementTree.{Statement}
 use Rattle.gl_query.specs.Shapes as shape
 use Rattle.gl_query.specs.Shapes.{expr_shape, agg_shape, item_shape, agg_item_shape, pick_shape, query_shape}
-use Rattle.gl_query_reader.specs.Meaning as tree
-use Rattle.gl_query_reader.specs.Meaning.{expr_tree, agg_tree, item_tree, agg_item_tree, pick_tree, filter_tree, query_tree, statement_tree}
+use Rattle.gl_query.specs.Trees as tree
+use Rattle.gl_query.specs.Trees.{expr_tree, agg_tree, item_tree, agg_item_tree, pick_tree, filter_tree, query_tree, statement_tree}
 use Rattle.gl_query.specs.declared.fault.QueryFault.{QueryFault}
 use Rattle.gl_query.specs.declared.fault.QueryFault.TheVariants as fault
 use Rattle.gl_query_tokens.specs.Tokens.{tokens_of}
@@ -31,7 +31,7 @@ use Rattle.gl_compiler.specs.Queries.{IsQuery, IsUnbuilt, HasNoStatement, IsQuer
 
 -- ---- the shape of a tree
 
-abbrev pub expr_of : tree.Expr → shape.ExprShape
+abbrev pub expr_of : tree.ExprTree → shape.ExprShape
 expr_of (tree.Column name) = shape.Column name.text
 expr_of (tree.Number n) = shape.Number n.value
 expr_of (tree.Letters text at) = shape.Letters text
@@ -39,7 +39,7 @@ expr_of (tree.Not e at) = shape.Not (expr_of e)
 expr_of (tree.Cast e kind at) = shape.Cast kind (expr_of e)
 expr_of (tree.Binary op l r at) = shape.Binary op (expr_of l) (expr_of r)
 
-abbrev pub agg_of : tree.Agg' → shape.AggShape
+abbrev pub agg_of : tree.AggTree → shape.AggShape
 agg_of (tree.Count at) = shape.Count
 agg_of (tree.Sum e) = shape.Sum (expr_of e)
 agg_of (tree.Min e) = shape.Min (expr_of e)
@@ -47,17 +47,17 @@ agg_of (tree.Max e) = shape.Max (expr_of e)
 agg_of (tree.Avg e) = shape.Avg (expr_of e)
 agg_of (tree.Wsum e weights) = shape.Wsum (expr_of e) (map (λ (n : Num). n.value) weights)
 
-abbrev pub item_of : tree.Item' → shape.ItemShape
+abbrev pub item_of : tree.ItemTree → shape.ItemShape
 item_of i = record { expr = expr_of i.expr; name = i.name.text }
 
-abbrev pub agg_item_of : tree.AggItem' → shape.AggItemShape
+abbrev pub agg_item_of : tree.AggItemTree → shape.AggItemShape
 agg_item_of i = record { agg = agg_of i.agg; name = i.name.text }
 
-abbrev pub pick_of : tree.Pick' → shape.PickShape
+abbrev pub pick_of : tree.PickTree → shape.PickShape
 pick_of tree.All = shape.All
 pick_of (tree.Items items) = shape.Items (map item_of items)
 
-abbrev pub query_of : tree.Query → shape.QueryShape
+abbrev pub query_of : tree.QueryTree → shape.QueryShape
 query_of (tree.Read name) = shape.Read name.text
 query_of (tree.Rows pick filter source) = shape.Rows (pick_of pick) (option_map expr_of filter) (query_of source)
 query_of (tree.Total aggs source) = shape.Total (map agg_item_of aggs) (query_of source)
@@ -126,14 +126,14 @@ query-is (query.Concat' b l c r at) = ap (λ x. shape.Concat x (query_shape r)) 
 -- ---- one statement
 
 -- a text has one statement
-pub one_meaning : (text : List ℕ) (a b : tree.Statement') → HasStatement text a → HasStatement text b → a ≡ b
+pub one_meaning : (text : List ℕ) (a b : tree.StatementTree) → HasStatement text a → HasStatement text b → a ≡ b
 one_meaning text a b h k = h.means ∙ ap tree.statement_meaning (one_statement (bare_tokens (tokens_of text)) h.written k.written h.derived k.derived) ∙ sym k.means
 
 -- what is built of one statement is of every other one of its tree
 pub built_alike : (schema : Schema) (s t : Statement) → statement_tree s ≡ statement_tree t → IsBuilt schema s → IsBuilt schema t
 built_alike schema s t e b =
-    let q : query_shape s.query ≡ query_shape t.query = query-is s.query ∙ ap (λ (x : tree.Statement'). query_of x.query) e ∙ sym (query-is t.query) in
-    let n : s.name.text ≡ t.name.text = ap (λ (x : tree.Statement'). x.name.text) e in
+    let q : query_shape s.query ≡ query_shape t.query = query-is s.query ∙ ap (λ (x : tree.StatementTree). query_of x.query) e ∙ sym (query-is t.query) in
+    let n : s.name.text ≡ t.name.text = ap (λ (x : tree.StatementTree). x.name.text) e in
     record {
       source = b.source;
       names = b.names;
@@ -147,14 +147,14 @@ built_alike schema s t e b =
     }
 
 -- a statement that is not built leaves none of its text that is
-pub none_built : (schema : Schema) (text : List ℕ) (s : Statement) → (IsBuilt schema s → ⊥) → ((m : tree.Statement') → HasStatement text m → statement_tree s ≡ m) → (t : Statement) → IsQuery schema text t → ⊥
+pub none_built : (schema : Schema) (text : List ℕ) (s : Statement) → (IsBuilt schema s → ⊥) → ((m : tree.StatementTree) → HasStatement text m → statement_tree s ≡ m) → (t : Statement) → IsQuery schema text t → ⊥
 none_built schema text s unbuilt only t is = unbuilt (built_alike schema t s (sym (only (statement_tree t) is.has)) is.built)
 
 -- ---- why a query is refused
 
 -- what is answered of a text: nothing, where it has no statement
 abbrev Only : List ℕ → QueryFault → Type 0
-Only text f = (m : tree.Statement') → HasStatement text m → IsOrMemory (Err f) m
+Only text f = (m : tree.StatementTree) → HasStatement text m → IsOrMemory (Err f) m
 
 pub fault_cause : (schema : Schema) (text : List ℕ) (f : QueryFault) → IsFault text f → Only text f → IsQueryRefused schema text (fault_of_query f)
 fault_cause schema text fault.Memory h only = tt
@@ -194,7 +194,7 @@ statement_cause schema text s (compile.Query f) has h = absurd h
 statement_cause schema text s compile.NotBuilt has h = record { statement = s; has = has; unbuilt = h }
 statement_cause schema text s compile.Memory has h = tt
 
-pub statement_refused : (schema : Schema) (text : List ℕ) (s : Statement) (f : CompileFault) → ((m : tree.Statement') → HasStatement text m → statement_tree s ≡ m) → IsRefused schema s f → IfRefused f ((t : Statement) → IsQuery schema text t → ⊥)
+pub statement_refused : (schema : Schema) (text : List ℕ) (s : Statement) (f : CompileFault) → ((m : tree.StatementTree) → HasStatement text m → statement_tree s ≡ m) → IsRefused schema s f → IfRefused f ((t : Statement) → IsQuery schema text t → ⊥)
 statement_refused schema text s (compile.Schema f) only h = absurd h
 statement_refused schema text s (compile.Query f) only h = absurd h
 statement_refused schema text s compile.NotBuilt only h = none_built schema text s h only

@@ -3,7 +3,7 @@ use Rattle.std.proofs.Common.{◌≡◌, ℕ, zero, suc, Bool, false, List, [], 
 use Rattle.std.specs.Prelude.{IsTrue, IsFalse, IfSome, bytes_eq, codes}
 use Rattle.std.specs.List.{AllByRecursion}
 use Rattle.gl_schema.specs.declared.schema.Schema.{Schema}
-use Rattle.gl_schema.specs.Beats.{Beat, input_of}
+use Rattle.gl_schema.specs.Beats.{Beat, Inputs, inputs_of}
 use Rattle.gl_schema.specs.Ports.{PortValues, Pin, pins, IsStimulus, out_valid, out_eos, fault_group, fault_queue}
 use Rattle.gl_schema.specs.Seen.{Shown, shown, seen, rows_of, value_at, row_shown}
 use Rattle.gl_schema.specs.Right.{Meaning, IsRight}
@@ -35,7 +35,7 @@ seen_same port port' outs same (suc n) =
     ap (λ (all : List Shown). all ++ shown port outs (suc n) ∷ []) (seen_same port port' outs same n) ∙ ap (λ (s : Shown). seen port' outs n ++ s ∷ []) (same (suc n))
 
 -- what is right of one is right of the other, for a meaning that is not narrower
-pub right_same : (means means' : Meaning) (latency : ℕ) (beats : List Beat) (outs : List (List ℕ)) (port port' : PortValues) → ((inputs : ℕ → List (List ℕ)) (rows : List (List ℕ)) (spill : Bool) → means inputs rows spill → means' inputs rows spill) → ((n : ℕ) → shown port outs n ≡ shown port' outs n) → IsRight means latency beats outs port → IsRight means' latency beats outs port'
+pub right_same : (means means' : Meaning) (latency : ℕ) (beats : List Beat) (outs : List (List ℕ)) (port port' : PortValues) → ((inputs : Inputs) (rows : List (List ℕ)) (spill : Bool) → means inputs rows spill → means' inputs rows spill) → ((n : ℕ) → shown port outs n ≡ shown port' outs n) → IsRight means latency beats outs port → IsRight means' latency beats outs port'
 right_same means means' latency beats outs port port' wider same r = record {
   ended = r.ended;
   soonest = r.soonest;
@@ -45,9 +45,9 @@ right_same means means' latency beats outs port port' wider same r = record {
   none_later = λ n lt. ap (λ (s : Shown). s.row) (sym (same n)) ∙ r.none_later n lt;
   no_overflow = λ n. subst (λ (s : Shown). IsFalse s.queue) (same n) (r.no_overflow n);
   meets =
-      wider (λ k. input_of k beats) (rows_of (seen port' outs r.ended)) (shown port' outs r.ended).group
-      (subst (λ (all : List Shown). means (λ k. input_of k beats) (rows_of all) (shown port' outs r.ended).group) (seen_same port port' outs same r.ended)
-      (subst (λ (s : Shown). means (λ k. input_of k beats) (rows_of (seen port outs r.ended)) s.group) (same r.ended) r.meets));
+      wider (inputs_of beats) (rows_of (seen port' outs r.ended)) (shown port' outs r.ended).group
+      (subst (λ (all : List Shown). means (inputs_of beats) (rows_of all) (shown port' outs r.ended).group) (seen_same port port' outs same r.ended)
+      (subst (λ (s : Shown). means (inputs_of beats) (rows_of (seen port outs r.ended)) s.group) (same r.ended) r.meets));
 }
 
 -- the pins of a stimulus have other names than the clock's

@@ -20,6 +20,7 @@ pub record IsCompiled (schema : Schema) (statement : Statement) (c : Compiled) :
   pub kinds : c.kinds ≡ kinds_of (result_columns schema statement)
   pub latency : c.printed.latency ≡ 1
   pub gap : c.printed.gap ≡ 1
+  pub copies : c.printed.copies ≡ 0
   pub meets : Meets schema statement c.printed.latency c.printed.gap c.text.items
 
 -- of the texts of a schema and of a query

@@ -1,13 +1,13 @@
 -- One cycle of a run over beats: the beat that is due, what was looked at, and where the simulator is after it.
-use Rattle.std.specs.Prelude.{◌≡◌, ℕ, ◌+◌, ◌<◌, ◌≤◌, Bool, false, List, [], ◌∷◌, Option, Some, None, map, length, drop, if◌then◌else◌}
+use Rattle.std.specs.Prelude.{◌≡◌, ℕ, ◌+◌, ◌<◌, ◌≤◌, Bool, false, List, [], ◌∷◌, Option, Some, None, Result, Ok, Err, map, length, drop, if◌then◌else◌}
 use Rattle.gl_bits.specs.declared.kind.Kind.{Kind}
 use Rattle.gl_bits.specs.Kinds.{width_of}
 use Rattle.gl_schema.specs.declared.schema.Schema.{Schema}
 use Rattle.gl_schema.specs.Beats.{Beat, AreBeats, beat_at}
 use Rattle.gl_schema.specs.Ports.{PortValues, IsStimulus}
-use Rattle.gl_schema.specs.Seen.{Shown, shown, cycle_lines}
+use Rattle.gl_schema.specs.Seen.{Shown, shown, row_line, overflow_line, end_line, cycle_lines}
 use Rattle.gl_verilog.specs.Module.{Module, Nets, Memories}
-use Rattle.gl_verilog.specs.Run.{IsRun, port_of}
+use Rattle.gl_verilog.specs.Run.{IsRun, port_of, input_values}
 use Rattle.gl_verilog.specs.Evaluate.{nets_of}
 use Rattle.gl_verilog.specs.View.{module_of}
 use Rattle.gl_verilog.specs.Text.{HasModule}
@@ -20,7 +20,8 @@ use Rattle.gl_compiler.specs.declared.looking.Looked.{Looked}
 use Rattle.gl_compiler.specs.declared.pins.Pin.{Pin}
 use Rattle.gl_compiler.specs.declared.pins.Shows.{Shows}
 use Rattle.gl_compiler.specs.Benches.{IsBench}
-use Rattle.gl_compiler.specs.Prints.{IsRunOver, EndsWithin}
+use Rattle.gl_outside.specs.States.{SinkState}
+use Rattle.gl_compiler.specs.Prints.{IsRunOver, EndsWithin, Writes, WritesFront}
 use Rattle.gl_compiler.specs.Profile.{FitsSchema, result_names, result_widths}
 
 -- each beat is in cycle n or later, and later than the one before
@@ -41,6 +42,16 @@ port_by s = port_of (module_of s.design) (λ t. nets_of s.shown)
 abbrev pub looked_at : Looked → ℕ → List ℕ → Shown
 looked_at l n row = record { cycle = n; row = if l.valid then Some row else None; end = l.end; group = l.group; queue = false }
 
+-- the lines that are due in a cycle
+abbrev pub overflow_if : Bool → ℕ → List ℕ
+overflow_if due n = if due then overflow_line n else []
+
+abbrev pub row_if : Bool → List Kind → ℕ → List ℕ → List ℕ
+row_if due kinds n row = row_line kinds n (if due then Some row else None)
+
+abbrev pub end_if : Bool → ℕ → List ℕ
+end_if due n = if due then end_line n else []
+
 -- the module is that of a text, with the ports of the schema and of the result, and the beats are the schema's
 pub record CanFollow (m : Module) (schema : Schema) (kinds : List Kind) (beats : List Beat) : Type 0 where
   pub text : List ℕ
@@ -52,7 +63,7 @@ pub record CanFollow (m : Module) (schema : Schema) (kinds : List Kind) (beats :
 -- the simulator is before cycle t of this run over these beats
 pub record IsFollowed (s : Simulation) (schema : Schema) (beats : List Beat) (value : ℕ → Nets) (word : ℕ → Memories) (t : ℕ) : Type 0 where
   pub run : IsRun (module_of s.design) value word
-  pub stimulus : IsStimulus schema beats (port_of (module_of s.design) value)
+  pub stimulus : IsStimulus schema beats (input_values (module_of s.design) value)
   pub at : IsAt s value word t
 
 -- file cycle n of the module was made: what was looked at is what it shows, and the simulator is before the next
@@ -73,3 +84,14 @@ pub record IsPrepared (d : Rust) (schema : Schema) (kinds : List Kind) (start : 
 -- a fact of each run of a module from this start over these beats that ends in time
 abbrev pub OfTimely : ℕ → Module → Schema → List Beat → Start → (List (List ℕ) → PortValues → Type 0) → Type 0
 OfTimely latency m schema beats start P = (value : ℕ → Nets) (word : ℕ → Memories) → IsRunOver m schema beats start value word → EndsWithin latency beats (result_names m) (port_of m value) → P (result_names m) (port_of m value)
+
+-- the lines of a run were written, or a front of them where the sink failed
+abbrev pub WritesBy : {E : Type 0} → List Kind → List Beat → List (List ℕ) → PortValues → SinkState → SinkState → Result (Unit {0}) E → Type 0
+WritesBy kinds beats outs port old new (Ok u) = Writes kinds beats outs port old.taken new.taken
+WritesBy kinds beats outs port old new (Err e) = WritesFront kinds beats outs port old.taken new.taken
+
+-- this is so of each run that the simulator is before cycle t of, if it ends in time
+abbrev pub Follows : {E : Type 0} → Simulation → Schema → List Kind → List Beat → ℕ → ℕ → SinkState → SinkState → Result (Unit {0}) E → Type 0
+Follows s schema kinds beats latency t old new result = (value : ℕ → Nets) (word : ℕ → Memories) → IsFollowed s schema beats value word t
+    → EndsWithin latency beats (result_names (module_of s.design)) (port_of (module_of s.design) value)
+    → WritesBy kinds beats (result_names (module_of s.design)) (port_of (module_of s.design) value) old new result

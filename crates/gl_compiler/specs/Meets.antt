@@ -14,7 +14,7 @@ use Rattle.gl_query.specs.Columns.{columns_of}
 use Rattle.gl_query.specs.Accepted.{IsAccepted}
 use Rattle.gl_query.specs.Results.{IsResult}
 use Rattle.gl_verilog.specs.Module.{Module, Nets, Memories}
-use Rattle.gl_verilog.specs.Run.{Fit, port_of}
+use Rattle.gl_verilog.specs.Run.{Fit, port_of, input_values}
 use Rattle.gl_verilog.specs.Runnable.{SameState}
 use Rattle.gl_verilog.specs.Text.{HasModule}
 use Rattle.gl_verilog_orders.specs.Events.{IsEventRun}
@@ -24,13 +24,13 @@ use Rattle.gl_compiler.specs.Profile.{FitsSchema, result_names, result_widths}
 abbrev pub result_columns : Schema → Statement → List Column
 result_columns schema statement = columns_of schema.streams (query_shape statement.query)
 
--- a run of the module in some order of events over these beats, which begins with these registers and words
+-- a run of the module in some order of events with these beats on its inputs, which begins with these registers and words
 pub record RunsOver (m : Module) (schema : Schema) (beats : List Beat) (start : Nets) (words : Memories) : Type 0 where
   pub value : ℕ → Nets
   pub word : ℕ → Memories
   pub run : IsEventRun m value word
   pub starts : SameState m.declarations start words (value 0) (word 0)
-  pub stimulus : IsStimulus schema beats (port_of m value)
+  pub stimulus : IsStimulus schema beats (input_values m value)
 
 -- the text has a module with the ports of the schema and of the statement's result; there is a run of it from any start over any beats
 -- of the schema, and in each, whatever the order of its events, over beats that keep the gap, what is seen is right for the statement,
@@ -43,4 +43,4 @@ pub record Meets (schema : Schema) (statement : Statement) (latency gap : ℕ) (
   pub names : result_names design ≡ map out_column (column_names (result_columns schema statement))
   pub widths : result_widths design ≡ map width_of (kinds_of (result_columns schema statement))
   pub runs : (beats : List Beat) (start : Nets) (words : Memories) → AreBeats schema beats → Fit design.declarations start words → RunsOver design schema beats start words
-  pub right : (beats : List Beat) (value : ℕ → Nets) (word : ℕ → Memories) → AreBeats schema beats → KeepsGap gap beats → IsEventRun design value word → IsStimulus schema beats (port_of design value) → IsRight (IsResult schema statement) latency beats (result_names design) (port_of design value)
+  pub right : (beats : List Beat) (value : ℕ → Nets) (word : ℕ → Memories) → AreBeats schema beats → KeepsGap gap beats → IsEventRun design value word → IsStimulus schema beats (input_values design value) → IsRight (IsResult schema statement) latency beats (result_names design) (port_of design value)

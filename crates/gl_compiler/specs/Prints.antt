@@ -6,9 +6,12 @@ use Rattle.gl_schema.specs.declared.schema.Schema.{Schema}
 use Rattle.gl_schema.specs.Beats.{Beat, last_cycle}
 use Rattle.gl_schema.specs.Ports.{PortValues, IsStimulus}
 use Rattle.gl_schema.specs.Seen.{shown, seen, lines}
-use Rattle.gl_outside.specs.Taken.{Appends, AppendsFront}
+use Rattle.gl_outside.specs.Counts.{Rose}
+use Rattle.gl_outside.specs.States.{SinkState, Appends, AppendsFront}
+use Rattle.gl_compiler.specs.declared.executing.Outcome.{Outcome}
+use Rattle.gl_compiler.specs.declared.executing.Outcome.TheVariants.{Done, WriteFault, Memory}
 use Rattle.gl_verilog.specs.Module.{Module, Nets, Memories}
-use Rattle.gl_verilog.specs.Run.{port_of}
+use Rattle.gl_verilog.specs.Run.{port_of, input_values}
 use Rattle.gl_verilog.specs.Text.{HasModule}
 use Rattle.gl_verilog_orders.specs.Events.{IsEventRun}
 use Rattle.gl_sim.specs.declared.start.Start.{Start}
@@ -19,7 +22,7 @@ use Rattle.gl_compiler.specs.Profile.{FitsSchema, result_names, result_widths}
 pub record IsRunOver (m : Module) (schema : Schema) (beats : List Beat) (start : Start) (value : ℕ → Nets) (word : ℕ → Memories) : Type 0 where
   pub run : IsEventRun m value word
   pub starts : StartsFrom start m value word
-  pub stimulus : IsStimulus schema beats (port_of m value)
+  pub stimulus : IsStimulus schema beats (input_values m value)
 
 -- the file cycle is the first from the last beat's on in which the end is seen
 pub record IsEnd (beats : List Beat) (outs : List (List ℕ)) (port : PortValues) (n : ℕ) : Type 0 where
@@ -64,3 +67,10 @@ pub record CanRun (text : List ℕ) (schema : Schema) (kinds : List Kind) (beats
 -- a fact about each run of the text's module from this start over these beats
 abbrev pub OfEachRun : List ℕ → Schema → List Beat → Start → (List (List ℕ) → PortValues → Type 0) → Type 0
 OfEachRun text schema beats start P = (m : Module) (value : ℕ → Nets) (word : ℕ → Memories) → HasModule text m → IsRunOver m schema beats start value word → P (result_names m) (port_of m value)
+
+-- how a run over beats ended: the lines of each run were written and nothing failed, or the sink failed behind a front of them, or
+-- memory ran out and nothing was put
+abbrev pub Ran : ((List (List ℕ) → PortValues → Type 0) → Type 0) → List Kind → List Beat → SinkState → SinkState → Outcome → Type 0
+Ran OfRuns kinds beats old new Done = (new.faults ≡ old.faults) × OfRuns (λ outs port. Writes kinds beats outs port old.taken new.taken)
+Ran OfRuns kinds beats old new WriteFault = Rose old.faults new.faults × OfRuns (λ outs port. WritesFront kinds beats outs port old.taken new.taken)
+Ran OfRuns kinds beats old new Memory = new ≡ old

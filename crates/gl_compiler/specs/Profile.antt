@@ -1,37 +1,15 @@
 -- When the ports of a module are those of a schema and of a result.
-use Rattle.std.specs.Prelude.{◌≡◌, ℕ, Bool, true, false, not, ◌&&◌, ◌≤◌, List, [], ◌∷◌, ◌++◌, map, filter, find, length, take, Option, Some, option_map, codes, bytes_eq, slice_get, IfSome}
+use Rattle.std.specs.Prelude.{◌≡◌, ℕ, Bool, true, false, not, ◌&&◌, ◌≤◌, List, map, filter, find, length, take, Option, Some, option_map, codes, bytes_eq, slice_get, IfSome}
 use Rattle.std.specs.List.{AllByRecursion}
-use Rattle.gl_bits.specs.Kinds.{width_of}
-use Rattle.gl_schema.specs.declared.schema.Column.{Column}
-use Rattle.gl_schema.specs.declared.schema.Stream.{Stream}
 use Rattle.gl_schema.specs.declared.schema.Schema.{Schema}
-use Rattle.gl_schema.specs.Ports.{rst, eos, in_valid, in_column, out_valid, out_eos, fault_group, fault_queue}
+use Rattle.gl_schema.specs.Ports.{out_valid, out_eos, fault_group, fault_queue}
+use Rattle.gl_schema.specs.Profile.{clk, input_ports}
 use Rattle.gl_verilog.specs.Module.{Module, Declaration, Kind, Input, OutputWire, OutputRegister}
 use Rattle.gl_verilog.specs.Widths.{is_clock}
 
--- an input port that a schema asks for, and its bits
-pub record InputPort : Type 0 where
-  pub name : List ℕ
-  pub width : ℕ
-
-abbrev pub input_port : List ℕ → ℕ → InputPort
-input_port name width = record { name = name; width = width }
-
-abbrev pub column_inputs : List ℕ → List Column → List InputPort
-column_inputs stream [] = []
-column_inputs stream (c ∷ cs) = input_port (in_column stream c.name) (width_of c.kind) ∷ column_inputs stream cs
-
-abbrev pub streams_inputs : List Stream → List InputPort
-streams_inputs [] = []
-streams_inputs (s ∷ ss) = (input_port (in_valid s.name) 1 ∷ column_inputs s.name s.columns) ++ streams_inputs ss
-
--- all of them, in the order in which beats are put on them
-abbrev pub inputs_of_schema : Schema → List InputPort
-inputs_of_schema schema = input_port rst 1 ∷ (streams_inputs schema.streams ++ input_port eos 1 ∷ [])
-
 -- the bits of the input port of a name; None where the schema asks for no such port
 abbrev pub input_width : Schema → List ℕ → Option ℕ
-input_width schema name = option_map (λ p. p.width) (find (λ p. bytes_eq p.name name) (inputs_of_schema schema))
+input_width schema name = option_map (λ p. p.width) (find (λ p. bytes_eq p.name name) (input_ports schema))
 
 abbrev pub ports_of : Module → List Declaration
 ports_of m = take m.ports m.declarations
@@ -70,9 +48,17 @@ pub record HasLine (m : Module) (name : List ℕ) : Type 0 where
   pub there : port_named m name ≡ Some port
   pub line : IsLine port
 
--- every input but the clock is one of the schema's, with its bits; the result's lines are there, and a fault line where it is there is
--- a line; at most 32 columns of at most 64 bits
+-- the module has an input of one bit that is called `clk`
+pub record HasClock (m : Module) : Type 0 where
+  pub port : Declaration
+  pub there : port_named m clk ≡ Some port
+  pub input : port.kind ≡ Input
+  pub bit : port.width ≡ 1
+
+-- the clock is there, and every other input is one of the schema's, with its bits; the result's lines are there, and a fault line where
+-- it is there is a line; at most 32 columns of at most 64 bits
 pub record FitsSchema (m : Module) (schema : Schema) : Type 0 where
+  pub clock : HasClock m
   pub inputs : (n : ℕ) (d : Declaration) → slice_get m.declarations n ≡ Some d → d.kind ≡ Input → is_clock d ≡ false → input_width schema d.name ≡ Some d.width
   pub valid : HasLine m out_valid
   pub end : HasLine m out_eos

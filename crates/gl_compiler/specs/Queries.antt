@@ -5,7 +5,7 @@ use Rattle.gl_query.specs.declared.tree.Statement.{Statement}
 use Rattle.gl_query.specs.declared.fault.QueryFault.{QueryFault}
 use Rattle.gl_query.specs.declared.fault.QueryFault.TheVariants as fault
 use Rattle.gl_query_reader.specs.Grammar.{HasStatement, IsFault}
-use Rattle.gl_query_reader.specs.Meaning.{Statement', statement_tree}
+use Rattle.gl_query.specs.Trees.{StatementTree, statement_tree}
 use Rattle.gl_compiler.specs.declared.compiling.CompileFault.{CompileFault}
 use Rattle.gl_compiler.specs.declared.compiling.CompileFault.TheVariants as compile
 use Rattle.gl_compiler.specs.Selecting.{IsBuilt}
@@ -24,7 +24,7 @@ pub record IsUnbuilt (schema : Schema) (text : List ℕ) : Type 0 where
 -- the text has no statement, and this is the first fault
 pub record HasNoStatement (text : List ℕ) (f : QueryFault) : Type 0 where
   pub fault : IsFault text f
-  pub none : (s : Statement') → HasStatement text s → ⊥
+  pub none : (s : StatementTree) → HasStatement text s → ⊥
 
 -- want of memory is no fault of the text
 abbrev pub IsQueryFault : List ℕ → QueryFault → Type 0

@@ -34,9 +34,7 @@ pub fn pins_at(
     let mut pins = Vec::new(alloc);
     for number in numbers {
         let pin = pin_of(alloc, schema, name_of(declarations, *number))?;
-        if pins.push(pin).is_err() {
-            return Err(Memory);
-        }
+        pins.push(pin)?;
     }
     Ok(pins)
 }

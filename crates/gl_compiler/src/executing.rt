@@ -1,22 +1,20 @@
 //! Running the text of a module.
 
-ghost use Rattle.std.specs.Prelude.{◌≡◌, ℕ, ◌+◌, ◌<◌, ◌≤◌, ◌^◌, length, map, option_map, IfOk, OnOk, OnErr};
+ghost use Rattle.std.specs.Prelude.{◌≡◌, ℕ, ◌+◌, ◌<◌, ◌≤◌, ◌^◌, length, map, option_map, IfOk};
 ghost use Rattle.std.specs.List.{AllByRecursion};
 ghost use Rattle.gl_bits.specs.Kinds.{IsKind, width_of};
 ghost use Rattle.gl_bits.specs.Words.{bits_of, widths_of};
-ghost use Rattle.gl_outside.specs.Counts.{Rose};
+ghost use Rattle.gl_outside.specs.States.{Counts};
 ghost use Rattle.gl_schema.specs.Beats.{AreBeats, beat_at, last_cycle};
 ghost use Rattle.gl_schema.specs.Schemas.{IsSchema};
 ghost use Rattle.gl_tuples.specs.Gaps.{plain_beat, plain_beats};
 ghost use Rattle.gl_verilog.specs.Module.{Module as Design, Nets, Memories};
-ghost use Rattle.gl_verilog.specs.Run.{port_of};
 ghost use Rattle.gl_verilog.specs.Text.{HasModule};
 ghost use Rattle.gl_verilog.specs.View.{module_of};
 ghost use Rattle.gl_verilog.specs.Runnable.{IsRunnable};
 ghost use Rattle.gl_compiler.specs.Benches.{IsBench};
-ghost use Rattle.gl_compiler.specs.Cycles.{AreDue, CanFollow, IsFollowed, IsMade, IsPrepared, OfTimely};
-ghost use Rattle.gl_compiler.specs.Profile.{result_names};
-ghost use Rattle.gl_compiler.specs.Prints.{CanRun, EndsWithin, OfEachRun, Writes, WritesFront};
+ghost use Rattle.gl_compiler.specs.Cycles.{AreDue, CanFollow, Follows, IsFollowed, IsMade, IsPrepared, OfTimely};
+ghost use Rattle.gl_compiler.specs.Prints.{CanRun, OfEachRun, Ran};
 
 use crate::bench::{pins_at, set_beat, set_reset};
 use crate::lines::{put_cycle, zero_row};
@@ -142,10 +140,9 @@ fn follow<K: Sink>(
     requires last { course.now.last ≡ last_cycle (plain_beats course.now.beats.now) }
     requires early { course.now.last ≤ 2 ^ 32 }
     requires short { course.now.latency ≤ 2 ^ 32 }
-    ensures all { OnOk result ((value : ℕ → Nets) (word : ℕ → Memories) → IsFollowed sim.old course.now.schema.now (plain_beats course.now.beats.now) value word 1 → EndsWithin course.now.latency (plain_beats course.now.beats.now) (result_names (module_of sim.old.design)) (port_of (module_of sim.old.design) value) → Writes course.now.kinds.now (plain_beats course.now.beats.now) (result_names (module_of sim.old.design)) (port_of (module_of sim.old.design) value) (K.taken out.old) (K.taken out.new)) }
-    ensures front { OnErr result ((value : ℕ → Nets) (word : ℕ → Memories) → IsFollowed sim.old course.now.schema.now (plain_beats course.now.beats.now) value word 1 → EndsWithin course.now.latency (plain_beats course.now.beats.now) (result_names (module_of sim.old.design)) (port_of (module_of sim.old.design) value) → WritesFront course.now.kinds.now (plain_beats course.now.beats.now) (result_names (module_of sim.old.design)) (port_of (module_of sim.old.design) value) (K.taken out.old) (K.taken out.new)) }
-    ensures cause { OnErr result (Rose (K.faults out.old) (K.faults out.new)) }
-    ensures never_falls { K.faults out.old ≤ K.faults out.new }
+    ensures lines { Follows sim.old course.now.schema.now course.now.kinds.now
+        (plain_beats course.now.beats.now) course.now.latency 1 (K.state out.old) (K.state out.new) result }
+    ensures counts { Counts (K.state out.old) (K.state out.new) result }
 {
     let mut next = 0;
     let mut told = false;
@@ -229,10 +226,9 @@ fn run<K: Sink>(
     requires kinds { AllByRecursion IsKind kinds.now }
     requires widths { widths_of prepared.row ≡ map width_of kinds.now }
     requires short { latency ≤ 2 ^ 32 }
-    ensures all { OnOk result ((value : ℕ → Nets) (word : ℕ → Memories) → IsFollowed prepared.sim schema.now (plain_beats beats.now) value word 0 → EndsWithin latency (plain_beats beats.now) (result_names (module_of prepared.sim.design)) (port_of (module_of prepared.sim.design) value) → Writes kinds.now (plain_beats beats.now) (result_names (module_of prepared.sim.design)) (port_of (module_of prepared.sim.design) value) (K.taken out.old) (K.taken out.new)) }
-    ensures front { OnErr result ((value : ℕ → Nets) (word : ℕ → Memories) → IsFollowed prepared.sim schema.now (plain_beats beats.now) value word 0 → EndsWithin latency (plain_beats beats.now) (result_names (module_of prepared.sim.design)) (port_of (module_of prepared.sim.design) value) → WritesFront kinds.now (plain_beats beats.now) (result_names (module_of prepared.sim.design)) (port_of (module_of prepared.sim.design) value) (K.taken out.old) (K.taken out.new)) }
-    ensures cause { OnErr result (Rose (K.faults out.old) (K.faults out.new)) }
-    ensures never_falls { K.faults out.old ≤ K.faults out.new }
+    ensures lines { Follows prepared.sim schema.now kinds.now (plain_beats beats.now) latency 0
+        (K.state out.old) (K.state out.new) result }
+    ensures counts { Counts (K.state out.old) (K.state out.new) result }
 {
     let Prepared {
         mut sim,
@@ -272,10 +268,8 @@ pub fn execute_module<K: Sink>(
     requires many { length kinds.now ≤ 32 }
     requires kinds { AllByRecursion IsKind kinds.now }
     requires short { latency ≤ 2 ^ 32 }
-    ensures done { result ≡ Outcome.Done → OfTimely latency (module_of design) schema.now (plain_beats beats.now) start (λ outs port. Writes kinds.now (plain_beats beats.now) outs port (K.taken out.old) (K.taken out.new)) }
-    ensures fault { result ≡ Outcome.WriteFault → Rose (K.faults out.old) (K.faults out.new) × OfTimely latency (module_of design) schema.now (plain_beats beats.now) start (λ outs port. WritesFront kinds.now (plain_beats beats.now) outs port (K.taken out.old) (K.taken out.new)) }
-    ensures memory { result ≡ Outcome.Memory → (K.taken out.new ≡ K.taken out.old) × (K.faults out.new ≡ K.faults out.old) }
-    ensures never_falls { K.faults out.old ≤ K.faults out.new }
+    ensures { Ran (OfTimely latency (module_of design) schema.now (plain_beats beats.now) start)
+        kinds.now (plain_beats beats.now) (K.state out.old) (K.state out.new) result }
 {
     let Ok(prepared) = prepare(alloc, design, schema, kinds, start) else {
         return Outcome::Memory;
@@ -312,10 +306,8 @@ pub fn execute<K: Sink>(
     requires many { length kinds.now ≤ 32 }
     requires kinds { AllByRecursion IsKind kinds.now }
     requires runs { CanRun text.now schema.now kinds.now (plain_beats beats.now) latency start }
-    ensures done { result ≡ Outcome.Done → OfEachRun text.now schema.now (plain_beats beats.now) start (λ outs port. Writes kinds.now (plain_beats beats.now) outs port (K.taken out.old) (K.taken out.new)) }
-    ensures fault { result ≡ Outcome.WriteFault → Rose (K.faults out.old) (K.faults out.new) × OfEachRun text.now schema.now (plain_beats beats.now) start (λ outs port. WritesFront kinds.now (plain_beats beats.now) outs port (K.taken out.old) (K.taken out.new)) }
-    ensures memory { result ≡ Outcome.Memory → (K.taken out.new ≡ K.taken out.old) × (K.faults out.new ≡ K.faults out.old) }
-    ensures never_falls { K.faults out.old ≤ K.faults out.new }
+    ensures { Ran (OfEachRun text.now schema.now (plain_beats beats.now) start)
+        kinds.now (plain_beats beats.now) (K.state out.old) (K.state out.new) result }
 {
     let design = match read_module(alloc, text) {
         Ok(design) => design,

@@ -1,4 +1,8 @@
-//! From texts to texts.
+//! From texts to texts: from a schema and a query to a module, and from a module to the lines of a
+//! result.
+//!
+//! Here belongs what joins the query's side and the hardware's. What a query means, what a circuit does
+//! and how texts are read stand below; words and statuses of the program stand above (`gl_top`).
 #![tactic(auto)]
 
 mod bench;

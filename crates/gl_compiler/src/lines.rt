@@ -1,13 +1,12 @@
 //! The lines of a result.
 
-ghost use Rattle.std.specs.Prelude.{◌≡◌, ◌+◌, ◌<◌, ◌≤◌, ◌^◌, ◌++◌, [], length, map, take, decimal, not, ◌&&◌, slice_index, slice_set, if◌then◌else◌, Some, None, IfOk, OnOk, OnErr};
+ghost use Rattle.std.specs.Prelude.{◌≡◌, ◌+◌, ◌<◌, ◌≤◌, ◌^◌, ◌++◌, length, map, take, replicate, decimal, not, ◌&&◌, slice_index, slice_set, IfOk};
 ghost use Rattle.std.specs.List.{AllByRecursion};
 ghost use Rattle.gl_bits.specs.Kinds.{IsKind, width_of};
 ghost use Rattle.gl_bits.specs.Words.{widths_of, bits_of};
-ghost use Rattle.gl_outside.specs.Counts.{Rose};
-ghost use Rattle.gl_outside.specs.Taken.{Appends, AppendsFront};
-ghost use Rattle.gl_schema.specs.Seen.{row_line, overflow_line, end_line, cycle_lines};
-ghost use Rattle.gl_compiler.specs.Cycles.{looked_at};
+ghost use Rattle.gl_outside.specs.States.{Wrote};
+ghost use Rattle.gl_schema.specs.Seen.{cycle_lines};
+ghost use Rattle.gl_compiler.specs.Cycles.{looked_at, overflow_if, end_if, row_if};
 
 use crate::looking::Looked;
 use gl_bits::{Kind, Memory, Row, Word};
@@ -19,7 +18,8 @@ use std::alloc::Global;
 /// A row of zeros of these kinds.
 pub(crate) fn zero_row(alloc: Global, kinds: &[Kind]) -> Result<Row, Memory>
     requires { AllByRecursion IsKind kinds.now }
-    ensures { IfOk result (λ r. widths_of r ≡ map width_of kinds.now) }
+    ensures widths { IfOk result (λ r. widths_of r ≡ map width_of kinds.now) }
+    ensures zeros { IfOk result (λ r. bits_of r ≡ replicate (length kinds.now) 0) }
 {
     let mut row = Row::new(alloc);
     for kind in kinds {
@@ -35,7 +35,8 @@ pub(crate) fn zero_row(alloc: Global, kinds: &[Kind]) -> Result<Row, Memory>
 #[tactic(auto, using(crate::proofs::Rows::row_steps))]
 pub(crate) fn set_value(row: &mut Row, place: usize, value: u128)
     ensures widths { widths_of row.new ≡ widths_of row.old }
-    ensures bits { value < 2 ^ slice_index (widths_of row.old) place → bits_of row.new ≡ slice_set (bits_of row.old) place value }
+    ensures bits { value < 2 ^ slice_index (widths_of row.old) place
+        → bits_of row.new ≡ slice_set (bits_of row.old) place value }
 {
     let Some(old) = row.get(place) else {
         return;
@@ -70,10 +71,7 @@ fn word_into(cycle: u64, word: &[u8], into: &mut [u8; 64]) -> usize
 // Writes a line of a cycle and a word.
 fn put_word<K: Sink>(out: &mut K, cycle: u64, word: &[u8]) -> Result<(), WriteFault>
     requires { length word.now ≤ 16 }
-    ensures all { OnOk result (Appends (K.taken out.old) (K.taken out.new) (decimal cycle ++ word.now)) }
-    ensures front { OnErr result (AppendsFront (K.taken out.old) (K.taken out.new) (decimal cycle ++ word.now)) }
-    ensures cause { OnErr result (Rose (K.faults out.old) (K.faults out.new)) }
-    ensures never_falls { K.faults out.old ≤ K.faults out.new }
+    ensures { Wrote (K.state out.old) (K.state out.new) (decimal cycle ++ word.now) result }
 {
     let mut line = [0u8; 64];
     let end = word_into(cycle, word, &mut line);
@@ -83,10 +81,7 @@ fn put_word<K: Sink>(out: &mut K, cycle: u64, word: &[u8]) -> Result<(), WriteFa
 // Writes the line that says that a further group came, if it is due.
 #[tactic(auto, using(crate::proofs::Puts::nothing_put), unfolding(gl_schema::specs::Seen::overflow_line))]
 fn put_overflow<K: Sink>(out: &mut K, cycle: u64, due: bool) -> Result<(), WriteFault>
-    ensures all { OnOk result (Appends (K.taken out.old) (K.taken out.new) (if due then overflow_line cycle else [])) }
-    ensures front { OnErr result (AppendsFront (K.taken out.old) (K.taken out.new) (if due then overflow_line cycle else [])) }
-    ensures cause { OnErr result (Rose (K.faults out.old) (K.faults out.new)) }
-    ensures never_falls { K.faults out.old ≤ K.faults out.new }
+    ensures { Wrote (K.state out.old) (K.state out.new) (overflow_if due cycle) result }
 {
     if due {
         return put_word(out, cycle, b",overflow\n");
@@ -97,10 +92,7 @@ fn put_overflow<K: Sink>(out: &mut K, cycle: u64, due: bool) -> Result<(), Write
 // Writes the line of the end, if it is due.
 #[tactic(auto, using(crate::proofs::Puts::nothing_put), unfolding(gl_schema::specs::Seen::end_line))]
 fn put_end<K: Sink>(out: &mut K, cycle: u64, due: bool) -> Result<(), WriteFault>
-    ensures all { OnOk result (Appends (K.taken out.old) (K.taken out.new) (if due then end_line cycle else [])) }
-    ensures front { OnErr result (AppendsFront (K.taken out.old) (K.taken out.new) (if due then end_line cycle else [])) }
-    ensures cause { OnErr result (Rose (K.faults out.old) (K.faults out.new)) }
-    ensures never_falls { K.faults out.old ≤ K.faults out.new }
+    ensures { Wrote (K.state out.old) (K.state out.new) (end_if due cycle) result }
 {
     if due {
         return put_word(out, cycle, b",end\n");
@@ -120,10 +112,8 @@ fn put_row<K: Sink>(
     requires many { length kinds.now ≤ 32 }
     requires kinds { AllByRecursion IsKind kinds.now }
     requires widths { widths_of row.now ≡ map width_of kinds.now }
-    ensures all { OnOk result (Appends (K.taken out.old) (K.taken out.new) (row_line kinds.now cycle (if due then Some (bits_of row.now) else None))) }
-    ensures front { OnErr result (AppendsFront (K.taken out.old) (K.taken out.new) (row_line kinds.now cycle (if due then Some (bits_of row.now) else None))) }
-    ensures cause { OnErr result (Rose (K.faults out.old) (K.faults out.new)) }
-    ensures never_falls { K.faults out.old ≤ K.faults out.new }
+    ensures { let bytes = row_if due kinds.now cycle (bits_of row.now) in
+        Wrote (K.state out.old) (K.state out.new) bytes result }
 {
     if !due {
         return Ok(());
@@ -153,14 +143,11 @@ pub(crate) fn put_cycle<K: Sink>(
     requires many { length kinds.now ≤ 32 }
     requires kinds { AllByRecursion IsKind kinds.now }
     requires widths { widths_of row.now ≡ map width_of kinds.now }
-    ensures all { OnOk result (Appends (K.taken out.old) (K.taken out.new) (cycle_lines kinds.now told (looked_at looked cycle (bits_of row.now)))) }
-    ensures front { OnErr result (AppendsFront (K.taken out.old) (K.taken out.new) (cycle_lines kinds.now told (looked_at looked cycle (bits_of row.now)))) }
-    ensures cause { OnErr result (Rose (K.faults out.old) (K.faults out.new)) }
-    ensures never_falls { K.faults out.old ≤ K.faults out.new }
+    ensures { let bytes = cycle_lines kinds.now told (looked_at looked cycle (bits_of row.now)) in
+        Wrote (K.state out.old) (K.state out.new) bytes result }
 {
     let news = is_news(looked.group, told);
     put_overflow(out, cycle, news)?;
     put_row(out, cycle, kinds, row, looked.valid)?;
-    put_end(out, cycle, looked.end)?;
-    Ok(())
+    put_end(out, cycle, looked.end)
 }

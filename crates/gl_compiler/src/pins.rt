@@ -2,7 +2,6 @@
 
 ghost use Rattle.std.specs.Prelude.{◌≡◌, ◌++◌, ◌∷◌, [], ◌<◌, ℕ, true, map, take, option_map, IfOk, OnOk, slice_index, unwrap_or};
 ghost use Rattle.gl_bits.specs.Words.{bits_of};
-ghost use Rattle.gl_schema.specs.Ports.{in_valid, in_column};
 ghost use Rattle.gl_tuples.specs.Gaps.{plain_beat};
 ghost use Rattle.gl_verilog.specs.View.{declaration_of, module_of, kind_of};
 ghost use Rattle.gl_verilog.specs.Module as spec;
@@ -14,6 +13,7 @@ use gl_bits::{Memory, Row};
 use gl_schema::{Column, Schema, Stream};
 use gl_tuples::Beat;
 use gl_verilog::{Declaration, Kind, Module};
+use gl_wiring::{in_column_name, in_valid_name};
 use std::alloc::Global;
 
 /// What an input port carries.
@@ -40,46 +40,12 @@ pub struct Shows {
     pub columns: Vec<usize>,
 }
 
-fn add(name: &mut Vec<u8>, piece: &[u8]) -> Result<(), Memory>
-    ensures { OnOk result (name.new.items ≡ name.old.items ++ piece.now) }
-{
-    match name.extend_from_slice(piece) {
-        Ok(()) => Ok(()),
-        Err(_) => Err(Memory),
-    }
-}
-
-// `in__STREAM__valid`.
-#[tactic(auto, unfolding(gl_schema::specs::Ports::in_valid))]
-fn valid_name(alloc: Global, stream: &[u8]) -> Result<Vec<u8>, Memory>
-    ensures { IfOk result (λ v. v.items ≡ in_valid stream.now) }
-{
-    let mut name = Vec::new(alloc);
-    add(&mut name, b"in__")?;
-    add(&mut name, stream)?;
-    add(&mut name, b"__valid")?;
-    Ok(name)
-}
-
-// `in__STREAM__COLUMN`.
-#[tactic(auto, unfolding(gl_schema::specs::Ports::in_column))]
-fn column_name(alloc: Global, stream: &[u8], column: &[u8]) -> Result<Vec<u8>, Memory>
-    ensures { IfOk result (λ v. v.items ≡ in_column stream.now column.now) }
-{
-    let mut name = Vec::new(alloc);
-    add(&mut name, b"in__")?;
-    add(&mut name, stream)?;
-    add(&mut name, b"__")?;
-    add(&mut name, column)?;
-    Ok(name)
-}
-
 // The column of stream `at` that the port of this name carries, if it is one.
 fn column_pin_of(alloc: Global, stream: &Stream, at: usize, name: &[u8]) -> Result<Pin, Memory>
     ensures { IfOk result (λ p. p ≡ column_pin name.now stream.now.name at 0 stream.now.columns) }
 {
     for (place, column) in stream.columns.as_slice().iter().enumerate() {
-        let port = column_name(alloc, stream.name.as_slice(), column.name.as_slice())?;
+        let port = in_column_name(alloc, stream.name.as_slice(), column.name.as_slice())?;
         if port.as_slice() == name {
             return Ok(Pin::Column(at, place));
         }
@@ -91,7 +57,7 @@ fn column_pin_of(alloc: Global, stream: &Stream, at: usize, name: &[u8]) -> Resu
 fn pin_in(alloc: Global, stream: &Stream, at: usize, name: &[u8]) -> Result<Pin, Memory>
     ensures { IfOk result (λ p. p ≡ stream_pin name.now at (stream.now ∷ [])) }
 {
-    let port = valid_name(alloc, stream.name.as_slice())?;
+    let port = in_valid_name(alloc, stream.name.as_slice())?;
     if port.as_slice() == name {
         return Ok(Pin::Valid(at));
     }
@@ -199,8 +165,8 @@ fn columns_of(alloc: Global, ports: &[Declaration]) -> Result<Vec<usize>, Memory
 {
     let mut columns = Vec::new(alloc);
     for (number, port) in ports.iter().enumerate() {
-        if shows_column(port) && columns.push(number).is_err() {
-            return Err(Memory);
+        if shows_column(port) {
+            columns.push(number)?;
         }
     }
     Ok(columns)

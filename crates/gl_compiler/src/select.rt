@@ -30,10 +30,7 @@ pub struct Select {
 fn copied(alloc: Global, name: &NameText) -> Result<NameText, Memory>
     ensures { IfOk result (λ n. n ≡ name.now) }
 {
-    match Vec::from_slice(alloc, name.as_slice()) {
-        Ok(bytes) => Ok(NameText::from_vec(bytes)),
-        Err(_) => Err(Memory),
-    }
+    Ok(NameText::from_vec(Vec::from_slice(alloc, name.as_slice())?))
 }
 
 // The number of the stream of a name, or of the streams if there is none.
@@ -164,9 +161,7 @@ fn places_of(alloc: Global, columns: &[Column], names: &[NameText]) -> Result<Ve
 {
     let mut places = Vec::new(alloc);
     for name in names {
-        if places.push(column_of(columns, name.as_slice())).is_err() {
-            return Err(Memory);
-        }
+        places.push(column_of(columns, name.as_slice()))?;
     }
     Ok(places)
 }

@@ -7,12 +7,11 @@ use Rattle.gl_algebra.specs.declared.figures.Figures.{Figures}
 use Rattle.gl_algebra.specs.FigureTable.{IsSound, stride_of}
 use Rattle.gl_bits.specs.Results.{Row, Results, AreJoined}
 use Rattle.gl_wire.specs.Apart.{Carries, an_end}
-use Rattle.gl_wire.specs.Beats.{Beats, beats_of, last, Spaced, Ends}
+use Rattle.gl_wire.specs.Beats.{Beats, beats_of, Spaced, Ends}
 use Rattle.gl_wire.specs.Wire.{Carried, pending, stream, rows}
 use Rattle.gl_wire.specs.Serves.{HasEnd, Fits, Served}
 use Rattle.gl_wire.specs.Shapes.{IsDelayed}
 use Rattle.gl_wire.specs.Spills.{Lines, ServedWithLines}
-use Rattle.gl_wire.proofs.ApartLemmas.{carried_beat}
 use Rattle.gl_wire.proofs.FurtherLemmas.{end_of, is_end_of}
 use Rattle.gl_wire.proofs.RowsLemmas.{rows-part, rows-one, rows-quiet, pending-rows}
 use Rattle.gl_copies.specs.Lift.{Visits, visits, with_visit, tuple_of_any, all_of, Joined, LiftedWithLines}
@@ -222,7 +221,8 @@ module _ (f s h : Figures) (count g1 g2 : ℕ) (few many : ℕ → ℕ) {Part : 
         let i = in_stream v.0 k.0 d.0 v.1 o d.1 d.2 d.3 in
         let q = fits.ends d.0 d.2 in
         let same = is_end_of f beats a fits q.beat d.0 q.is (record { is = d.2; low = q.low; high = q.high }) in
-        (q.beat, q.is, ap spill_of same ∙ spilt (d.0 + turns + 2 - rot.from d.0) (rot.from d.0) v.0 k.0 v.1 i.0 (omega (arith, i.0, i.1)) v.2);
+        let at : spill_of (end_of f beats a fits q.beat) ≡ spill_of d.0 = ap spill_of same in
+        (q.beat, q.is, at ∙ spilt (d.0 + turns + 2 - rot.from d.0) (rot.from d.0) v.0 k.0 v.1 i.0 (omega (arith, i.0, i.1)) v.2);
     late = λ en c e.
         let k = some_line (λ i. (lines i).further c) count e in
         let v = lifted.late (copies_end en) k.0 c k.1 k.2 in

@@ -1,11 +1,10 @@
 -- What is known of the time of a whole of front, copies and back.
-use Rattle.std.proofs.Common.{◌≡◌, ℕ, suc, ◌+◌, ◌-◌, ◌*◌, ◌<◌, ◌≤◌, Some, Bool, true}
+use Rattle.std.proofs.Common.{◌≡◌, ℕ, suc, ◌+◌, ◌*◌, ◌≤◌, Some, true}
 use Rattle.gl_algebra.specs.declared.figures.Figures.{Figures}
 use Rattle.gl_algebra.specs.FigureTable.{stride_of}
 use Rattle.gl_bits.specs.Results.{Row}
-use Rattle.gl_wire.specs.Apart.{Carries}
-use Rattle.gl_wire.specs.Beats.{Beats, gap, last}
-use Rattle.gl_wire.specs.Serves.{Fits, HasEnd}
+use Rattle.gl_wire.specs.Beats.{Beats}
+use Rattle.gl_wire.specs.Serves.{Fits}
 use Rattle.gl_wire.specs.Wire.{Carried, rows}
 use Rattle.gl_copies.specs.Lift.{Visits, all_of}
 use Rattle.gl_copies.specs.Rotates.{delay_of_whole, turns_of}

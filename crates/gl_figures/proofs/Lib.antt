@@ -1,2 +1,5 @@
 pub mod PlaceLemmas
 pub mod FiguredLemmas
+pub mod CapLemmas
+pub mod WeighedLemmas
+pub mod TradeLemmas

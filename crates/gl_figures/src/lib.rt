@@ -3,15 +3,14 @@
 //! The tables themselves, and what keeps them, stand in gl_algebra. What builds circuits stands above.
 #![tactic(auto)]
 
+mod copied;
 pub mod figured;
-//pub mod weighed;
-//mod copied;
-//mod weights;
+pub mod weighed;
+mod weights;
 
 pub use figured::figures;
-//pub use weighed::weigh;
-
 use thiserror::Error;
+pub use weighed::weigh;
 
 /// What is printed of a query's circuit.
 #[derive(Clone, Copy, PartialEq, Eq, Debug)]
@@ -35,5 +34,5 @@ pub enum Limit {
     Nodes { weight: u64 },
 }
 
-//#[cfg(test)]
-//mod tests;
+#[cfg(test)]
+mod tests;

@@ -74,12 +74,6 @@ module _ (old new : Net) (direction : Direction) (called : List ℕ) (node : ℕ
   port_extends : Extends old new
   port_extends = record { nodes = λ k y h. rw adds.nodes h; ports = λ k p h. rw adds.ports (get_front old.ports (_ ∷ []) k p h) }
 
-  pub port_grows : Grows old new
-  port_grows = ext_grows old new port_extends
-
-  pub port_open : (k : ℕ) → open_at new k ≡ open_at old k
-  port_open k = ap (λ nodes. open_in nodes k) adds.nodes
-
   pub port_size : size_of new ≡ size_of old
   unfolding size_of
   port_size = rw adds.nodes refl
@@ -105,12 +99,6 @@ module _ (old new : Net) (direction : Direction) (called : List ℕ) (node : ℕ
 module _ (old new : Net) (called : List ℕ) (names : Names old new called) where
   name_extends : Extends old new
   name_extends = record { nodes = λ k y h. rw names.nodes h; ports = λ k p h. rw names.ports h }
-
-  pub name_grows : Grows old new
-  name_grows = ext_grows old new name_extends
-
-  pub name_open : (k : ℕ) → open_at new k ≡ open_at old k
-  name_open k = ap (λ nodes. open_in nodes k) names.nodes
 
   pub name_size : size_of new ≡ size_of old
   unfolding size_of

@@ -1,5 +1,5 @@
 -- What the builder's calls promise: what the nodes that they add carry in every run, and what stays.
-use Rattle.std.specs.Prelude.{◌≡◌, ◌≢◌, ℕ, suc, ◌+◌, ◌*◌, ◌^◌, List, [], ◌∷◌, ◌++◌, Option, Some, None, slice_get, slice_set}
+use Rattle.std.specs.Prelude.{◌≡◌, ◌≢◌, ℕ, suc, ◌+◌, ◌*◌, ◌^◌, List, [], ◌∷◌, ◌++◌, Option, Some, None, slice_get, slice_set, length, true}
 use Rattle.gl_bits.specs.Words.{Word, not_of, join_of, cut_of, choose_of}
 use Rattle.gl_net.specs.declared.node.BinaryOp.{BinaryOp}
 use Rattle.gl_net.specs.declared.node.Node.{Node}
@@ -8,8 +8,9 @@ use Rattle.gl_net.specs.declared.node.MemoryDrive.{MemoryDrive}
 use Rattle.gl_net.specs.declared.node.Bus.{Bus}
 use Rattle.gl_net.specs.declared.node.Bit.{Bit}
 use Rattle.gl_net.specs.declared.node.Store.{Store}
+use Rattle.gl_net.specs.declared.node.Port.{Port}
 use Rattle.gl_net.specs.declared.node.Direction.{Direction}
-use Rattle.gl_net.specs.Net.{Net, Run, IsRun, Shape, Holds, open_at, binary_of, stored_of, register_bits_of, memory_bits_of}
+use Rattle.gl_net.specs.Net.{Net, Run, IsRun, Shape, Holds, open_at, binary_of, stored_of, register_bits_of, memory_bits_of, is_free}
 
 -- ---- gates
 
@@ -57,9 +58,9 @@ StartsAt net b word = (run : Run) → IsRun net run → run.at 1 b.node ≡ word
 abbrev pub Follows : Net → Bus → Bus → Type 0
 Follows net b next = (run : Run) → IsRun net run → (t : ℕ) → run.at (suc (suc t)) b.node ≡ run.at (suc t) next.node
 
--- and in cycle 1
-abbrev pub FollowsFirst : Net → Bus → Bus → Type 0
-FollowsFirst net b next = (run : Run) → IsRun net run → run.at 1 b.node ≡ run.at 0 next.node
+-- and in cycle 1, where it has no reset value
+abbrev pub FollowsFirst : Net → Net → Bus → Bus → Type 0
+FollowsFirst old new b next = is_free old b.node ≡ true → (run : Run) → IsRun new run → run.at 1 b.node ≡ run.at 0 next.node
 
 -- the memory takes the value at the address at the edge of each cycle in which the bit is 1
 abbrev pub Takes : Net → Store → Bit → Bus → Bus → Type 0
@@ -81,8 +82,9 @@ PutsPort old new direction name node = new.ports ≡ old.ports ++ record { direc
 
 -- ---- the lists inside
 
-abbrev pub PutsInput : List Node → List Node → ℕ → ℕ → Type 0
-PutsInput old new place width = new ≡ old ++ Input place width ∷ []
+-- the node of the port that comes next
+abbrev pub PutsInput : List Node → List Node → List Port → ℕ → Type 0
+PutsInput old new ports width = new ≡ old ++ Input (length ports) width ∷ []
 
 -- a register, or a memory, that nothing drives stands at the place
 abbrev pub IsOpenRegister : List Node → ℕ → Type 0

@@ -8,8 +8,8 @@ pub fn blocks_follow_one_another()
     ensures { KeepsCompose }
 {}
 
-/// Appending a block that drives just the registers and memories that it makes changes in no run the value of a node that was
-/// there before it.
+/// Appending a block that drives just the registers and memories that it makes changes in no run
+/// the value of a node that was there before it.
 pub fn earlier_values_stay()
     ensures { EarlierValuesStay }
 {}

@@ -109,7 +109,8 @@ pub enum Node {
     Join(Bus, Bus),
     /// The bits of a bus from the last number, the lowest, to the one before it, the highest.
     Cut(Bus, u8, u8),
-    /// A width, the number that the register takes where the reset line is 1, and what it takes else.
+    /// A width, the number that the register takes where the reset line is 1, and what it takes
+    /// else.
     Register(u8, Option<u128>, Option<Bus>),
     /// The bits of addresses and of words, and what the memory takes.
     Memory(u8, u8, Option<MemoryDrive>),

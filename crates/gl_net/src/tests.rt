@@ -2,7 +2,7 @@
 
 ghost use Rattle.std.specs.Prelude.{◌≡◌, ℕ, suc, ◌+◌, IfOk, OnOk};
 ghost use Rattle.gl_bits.specs.Words.{sum_of, choose_of};
-ghost use Rattle.gl_net.specs.Net.{Net, Run, IsRun, IsBus, IsBit, Keeps, size_of, stored_of};
+ghost use Rattle.gl_net.specs.Net.{Run, IsRun, IsBus, IsBit, Keeps, size_of};
 
 use crate::{BinaryOp, Bit, Bus, Direction, NetBuilder, Netlist, Node};
 use gl_bits::{Memory, Word};
@@ -41,7 +41,8 @@ fn count_cycles(
     Ok(count)
 }
 
-// The word of a memory at the address, which takes the value there in each cycle in which `write` is 1.
+// The word of a memory at the address, which takes the value there in each cycle in which `write`
+// is 1.
 fn hold_word(net: &mut NetBuilder, write: Bit, address: Bus, value: Bus) -> Result<Bus, Memory>
     requires write { IsBit net.old write }
     requires address { IsBus net.old address }

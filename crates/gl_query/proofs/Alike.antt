@@ -32,11 +32,11 @@ agg_same (agg.Max e) = ap shape.Max (expr_same e)
 agg_same (agg.Avg e) = ap shape.Avg (expr_same e)
 agg_same (agg.Wsum e weights) = rw (expr_same e) refl
 
-items_same : (is : List Item) → map item_alike (map item_tree is) ≡ map item_shape is
+pub items_same : (is : List Item) → map item_alike (map item_tree is) ≡ map item_shape is
 items_same [] = refl
 items_same (i ∷ is) = rw (expr_same i.expr, items_same is) refl
 
-aggs_same : (is : List AggItem) → map agg_item_alike (map agg_item_tree is) ≡ map agg_item_shape is
+pub aggs_same : (is : List AggItem) → map agg_item_alike (map agg_item_tree is) ≡ map agg_item_shape is
 aggs_same [] = refl
 aggs_same (i ∷ is) = rw (agg_same i.agg, aggs_same is) refl
 

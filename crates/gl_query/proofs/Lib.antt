@@ -4,3 +4,6 @@ pub mod Alike
 pub mod Holding
 pub mod Lengths
 pub mod Fitting
+pub mod Real
+pub mod Deciding
+pub mod FirstFaults

@@ -1,18 +1,22 @@
 -- Laws of the meaning of queries.
-use Rattle.std.specs.Prelude.{◌≡◌, ℕ, Bool, List, length}
+use Rattle.std.specs.Prelude.{◌≡◌, ◌↔◌, ℕ, ◌≤◌, Bool, List, length, None}
 use Rattle.std.specs.List.{AllByRecursion}
 use Rattle.gl_query.specs.Shapes.{QueryShape}
 use Rattle.gl_query.specs.Shapes as shape
+use Rattle.gl_bits.specs.Kinds.{IsKind}
 use Rattle.gl_bits.specs.Results.{Row}
 use Rattle.gl_query.specs.declared.tree.Statement.{Statement}
 use Rattle.gl_query.specs.Shapes.{statement_shape}
-use Rattle.gl_query.specs.Trees.{statement_tree}
-use Rattle.gl_query.specs.Alike.{statement_alike}
+use Rattle.gl_query.specs.Trees.{StatementTree, statement_tree}
+use Rattle.gl_query.specs.Alike.{query_alike, statement_alike}
 use Rattle.gl_schema.specs.declared.schema.Column.{Column}
-use Rattle.gl_schema.specs.Schemas.{IsRowOf}
-use Rattle.gl_query.specs.Columns.{source_columns}
+use Rattle.gl_schema.specs.declared.schema.Schema.{Schema}
+use Rattle.gl_schema.specs.Schemas.{IsRowOf, IsSchema}
+use Rattle.gl_query.specs.Columns.{columns_of, source_columns}
+use Rattle.gl_query.specs.Sizes.{HasItems}
+use Rattle.gl_query.specs.Faults.{first_fault}
 use Rattle.gl_query.specs.Results.{Env, IsResultIn, columns_in, rows_of, streams_of}
-use Rattle.gl_query.specs.Accepted.{Scope, IsAcceptedOver}
+use Rattle.gl_query.specs.Accepted.{AreResultColumns, Scope, IsAcceptedOver, schema_scope}
 
 -- no UNION stands in a query
 abbrev pub HasNoUnion : QueryShape → Type 0
@@ -71,3 +75,22 @@ ResultsFit = HoldsOfResults IsRowOf
 -- a statement without its places is the tree without them
 abbrev pub TreesAreAlike : Type 0
 TreesAreAlike = (s : Statement) → statement_alike (statement_tree s) ≡ statement_shape s
+
+-- the kinds of columns are kinds
+abbrev pub AreKinds : List Column → Type 0
+AreKinds columns = AllByRecursion (λ (c : Column). IsKind c.kind) columns
+
+-- columns of a result: at least one where each select has an item, at most 32, no two of one name, of kinds that are kinds
+pub record HasRealColumns (schema : Schema) (q : QueryShape) : Type 0 where
+  pub some' : HasItems q → 1 ≤ length (columns_of schema.streams q)
+  pub result : AreResultColumns (columns_of schema.streams q)
+  pub kinds : AreKinds (columns_of schema.streams q)
+
+-- an accepted query has such columns
+abbrev pub AcceptedHaveRealColumns : Type 0
+AcceptedHaveRealColumns = (schema : Schema) (q : QueryShape) → IsSchema schema → IsAcceptedOver (schema_scope schema) q → HasRealColumns schema q
+
+-- a statement has no first fault exactly where it is accepted
+abbrev pub FirstFaultsAreExact : Type 0
+FirstFaultsAreExact = (schema : Schema) (s : StatementTree) → IsSchema schema
+    → (first_fault schema s ≡ None) ↔ IsAcceptedOver (schema_scope schema) (query_alike s.query)

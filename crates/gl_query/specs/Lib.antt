@@ -5,7 +5,10 @@ pub mod Values
 pub mod Columns
 pub mod Accepted
 pub mod Sources
+pub mod Parts
 pub mod Sizes
 pub mod Names
 pub mod Results
+pub mod Checked
+pub mod Faults
 pub mod Laws

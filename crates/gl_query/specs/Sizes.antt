@@ -1,8 +1,8 @@
 -- How large the expressions of a query are.
-use Rattle.std.specs.Prelude.{ℕ, ◌+◌, ◌≤◌, Option, Some, None}
-use Rattle.std.specs.List.{AllByRecursion}
-use Rattle.gl_query.specs.Shapes.{ExprShape, AggShape, ItemShape, AggItemShape, PickShape, QueryShape}
+use Rattle.std.specs.Prelude.{ℕ, ◌+◌, ◌≤◌, length}
+use Rattle.gl_query.specs.Shapes.{ExprShape, PickShape, QueryShape}
 use Rattle.gl_query.specs.Shapes as shape
+use Rattle.gl_query.specs.Parts.{InQuery}
 
 -- the operators, NOT and CAST in an expression
 abbrev pub operators_in : ExprShape → ℕ
@@ -17,28 +17,20 @@ operators_in (shape.Binary op l r) = 1 + operators_in l + operators_in r
 abbrev pub IsSmall : ExprShape → Type 0
 IsSmall e = operators_in e ≤ 256
 
-abbrev pub PickIsSmall : PickShape → Type 0
-PickIsSmall shape.All = Unit {0}
-PickIsSmall (shape.Items items) = AllByRecursion (λ (i : ItemShape). IsSmall i.expr) items
-
-abbrev pub FilterIsSmall : Option ExprShape → Type 0
-FilterIsSmall None = Unit {0}
-FilterIsSmall (Some e) = IsSmall e
-
-abbrev pub AggIsSmall : AggShape → Type 0
-AggIsSmall shape.Count = Unit {0}
-AggIsSmall (shape.Sum e) = IsSmall e
-AggIsSmall (shape.Min e) = IsSmall e
-AggIsSmall (shape.Max e) = IsSmall e
-AggIsSmall (shape.Avg e) = IsSmall e
-AggIsSmall (shape.Wsum e weights) = IsSmall e
-
 -- each whole expression of a query is small
 abbrev pub QueryIsSmall : QueryShape → Type 0
-QueryIsSmall (shape.Read name) = Unit {0}
-QueryIsSmall (shape.Rows pick filter source) = QueryIsSmall source × PickIsSmall pick × FilterIsSmall filter
-QueryIsSmall (shape.Total aggs source) = QueryIsSmall source × AllByRecursion (λ (i : AggItemShape). AggIsSmall i.agg) aggs
-QueryIsSmall (shape.Each var source size advance body) = QueryIsSmall source × QueryIsSmall body
-QueryIsSmall (shape.PerGroup var source key groups body) = QueryIsSmall source × QueryIsSmall body
-QueryIsSmall (shape.Union l r) = QueryIsSmall l × QueryIsSmall r
-QueryIsSmall (shape.Concat l r) = QueryIsSmall l × QueryIsSmall r
+QueryIsSmall q = InQuery IsSmall (λ name. Unit {0}) q
+
+-- a select has at least one item
+abbrev pub PickHasItems : PickShape → Type 0
+PickHasItems shape.All = Unit {0}
+PickHasItems (shape.Items items) = 1 ≤ length items
+
+abbrev pub HasItems : QueryShape → Type 0
+HasItems (shape.Read name) = Unit {0}
+HasItems (shape.Rows pick filter source) = HasItems source × PickHasItems pick
+HasItems (shape.Total aggs source) = HasItems source × (1 ≤ length aggs)
+HasItems (shape.Each var source size advance body) = HasItems source × HasItems body
+HasItems (shape.PerGroup var source key groups body) = HasItems source × HasItems body
+HasItems (shape.Union l r) = HasItems l × HasItems r
+HasItems (shape.Concat l r) = HasItems l × HasItems r

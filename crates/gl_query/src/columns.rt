@@ -27,7 +27,7 @@ pub fn copy_of_name(alloc: Global, name: &[u8]) -> Result<NameText, Memory>
 }
 
 /// Columns like others.
-fn copy_of_columns(alloc: Global, columns: &[Column]) -> Result<Columns, Memory>
+pub fn copy_of_columns(alloc: Global, columns: &[Column]) -> Result<Columns, Memory>
     ensures { IfOk result (λ v. v ≡ columns.now) }
 {
     let mut out = Listed::new(alloc);

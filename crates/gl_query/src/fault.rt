@@ -1,5 +1,9 @@
 //! Why a text is no accepted statement.
 
+ghost use Rattle.std.specs.Prelude.{◌≡◌};
+ghost use Rattle.gl_query.specs.declared.fault.QueryFault.TheVariants as fault;
+
+use gl_bits::Memory as NoMemory;
 use thiserror::Error;
 
 /// What is wrong with the text of a statement. Each place is a byte of the text, counted from 0.
@@ -47,4 +51,12 @@ pub enum QueryFault {
     /// Memory ran out.
     #[error("out of memory")]
     Memory,
+}
+
+impl From<NoMemory> for QueryFault {
+    ghost from_gives = { λ _ e. e ≡ fault.Memory };
+
+    fn from(_: NoMemory) -> QueryFault {
+        QueryFault::Memory
+    }
 }

@@ -1,6 +1,6 @@
 //! Laws of the meaning of queries. The contract of each function is the law; it does nothing.
 
-ghost use Rattle.gl_query.specs.Laws.{AcceptedHaveResults, HasOneResult, ResultsAreLong, ResultsFit, TreesAreAlike};
+ghost use Rattle.gl_query.specs.Laws.{AcceptedHaveRealColumns, AcceptedHaveResults, FirstFaultsAreExact, HasOneResult, ResultsAreLong, ResultsFit, TreesAreAlike};
 
 /// A query without UNION has at most one result over given rows: its rows and its spill.
 pub fn results_are_unique()
@@ -27,4 +27,15 @@ pub fn results_fit()
 /// The tree of a statement and the statement are alike.
 pub fn trees_are_alike()
     ensures { TreesAreAlike }
+{}
+
+/// The columns of an accepted query are at most 32, no two of one name, of kinds that are kinds; and at
+/// least one where each select has an item.
+pub fn accepted_have_real_columns()
+    ensures { AcceptedHaveRealColumns }
+{}
+
+/// A statement has no first fault exactly where it is accepted.
+pub fn first_faults_are_exact()
+    ensures { FirstFaultsAreExact }
 {}

@@ -10,7 +10,7 @@ use Rattle.std.proofs.lemmas.Slice.Eq.{bytes_eq-Decides}
 use Rattle.std.proofs.lemmas.Str.Parse.{tells_digits, numerals_by_fold, FoldsDigits, IsNumeralModel}
 use Rattle.std.proofs.lemmas.Fmt.{decimal_is_IsNumeral_wide}
 use Rattle.gl_schema.specs.Names.{is_name, is_digit, is_lower, begins_with_letter, has_name_bytes, has_loose_underscore, is_taken}
-use Rattle.gl_query.specs.declared.tree.Op.TheVariants as op
+use Rattle.gl_bits.specs.declared.op.Op.TheVariants as op
 use Rattle.std.specs.List as lists
 use Rattle.gl_query_tokens.specs.declared.token.Fold.TheVariants as fold
 use Rattle.gl_query_tokens.specs.declared.token.Join.TheVariants as join
@@ -21,9 +21,10 @@ use Rattle.gl_query_tokens.specs.Tokens.{class_of}
 use Rattle.gl_query_tokens.specs.Words.{is_keyword, clause_of, window_of, operator_of, keyword_of, or_else, with_digit, number_of, number_token, word_token}
 use Rattle.gl_query_printer.specs.Canonical.{num_of}
 use Rattle.gl_query_printer.specs.Spaced.{token_text, number_text, place_behind}
-use Rattle.gl_query_printer.proofs.Lexed.{Readable, is_letter, are_letters, is_word, read_word}
+use Rattle.gl_query_printer.proofs.Lexed.{Readable, read_word}
+use Rattle.gl_query_tokens.proofs.Sound.{is_letter, are_letters, is_word}
 use Rattle.gl_query_printer.proofs.Places.{placeless}
-use Rattle.gl_query_printer.proofs.Sound.{IsSmall}
+use Rattle.gl_query_tokens.proofs.Sound.{IsSmall}
 
 -- the number that digits spell behind another
 abbrev value_from : ℕ → List ℕ → ℕ

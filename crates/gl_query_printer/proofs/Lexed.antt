@@ -17,6 +17,7 @@ use Rattle.gl_query_reader.specs.Grammar.{bare_tokens}
 use Rattle.gl_query_printer.specs.declared.text.Behind.{Behind}
 use Rattle.gl_query_printer.specs.declared.text.Behind.TheVariants.{Opening, Aggregate, Other}
 use Rattle.gl_query_printer.specs.Spaced.{token_text, plain_text, letters_text, place_behind, is_closing, is_opening, needs_space, gap, spaced, text_of}
+use Rattle.gl_query_tokens.proofs.Sound.{IsLetters, are_inside, are_letters, is_inside, is_letter, is_word}
 use Rattle.gl_query_printer.proofs.Places.{placeless}
 
 -- lexemes without where they begin
@@ -40,13 +41,6 @@ read_on_is m at (b ∷ bs) =
     ap bare (append_assoc x.tokens y.tokens (last_of y.mode)) ∙ bare-append x.tokens (y.tokens ++ last_of y.mode) ∙ ap (λ (ts : List Token). bare x.tokens ++ ts) (read_on_is x.mode (at + 1) bs)
 
 -- ---- where a word and a sign end
-
-abbrev pub is_letter : Class → Bool
-is_letter Letter = true
-is_letter Blank = false
-is_letter Quote = false
-is_letter Half = false
-is_letter Alone = false
 
 -- a byte that goes on with no word and no sign
 pub record IsEnd (b : ℕ) : Type 0 where
@@ -98,15 +92,6 @@ pub record Readable (t : Token) : Type 0 where
   pub reads : (at : ℕ) (bs : List ℕ) → EndsIn (place_behind t) bs → ReadAs at (token_text t) bs t
 
 -- ---- words
-
-abbrev pub are_letters : List ℕ → Bool
-are_letters [] = true
-are_letters (b ∷ bs) = is_letter (class_of b) && are_letters bs
-
--- at least one letter, digit or underscore, and nothing else
-abbrev pub is_word : List ℕ → Bool
-is_word [] = false
-is_word (b ∷ bs) = is_letter (class_of b) && are_letters bs
 
 a_letter : (c : Class) → is_letter c ≡ true → c ≡ Letter
 a_letter Letter h = refl
@@ -162,14 +147,6 @@ half_ends from a (b ∷ bs) at f e = ap (λ (x : Follow). bare (after_half x fro
 
 -- ---- text literals
 
--- a byte that may stand between quotes
-abbrev pub is_inside : ℕ → Bool
-is_inside b = not (b == 39) && (nat_le 32 b && nat_le b 126)
-
-abbrev pub are_inside : List ℕ → Bool
-are_inside [] = true
-are_inside (b ∷ bs) = is_inside b && are_inside bs
-
 record Quoted (from : ℕ) (front w bs : List ℕ) (at : ℕ) : Type 0 where
   behind : ℕ
   is : read_on (InText from front) at (w ++ 39 ∷ bs) ≡ placeless (text_token (front ++ w) from) ∷ read_on Between behind bs
@@ -193,11 +170,6 @@ quoted from front (b ∷ w) bs at h =
       is = ap (λ (x : Move). bare x.tokens ++ read_on x.mode (at + 1) (w ++ 39 ∷ bs)) (text_goes from front b p.0)
           ∙ r.is ∙ ap (λ (x : List ℕ). placeless (text_token x from) ∷ read_on Between r.behind bs) (append_assoc front (b ∷ []) w);
     }
-
--- at most eight bytes between quotes
-pub record IsLetters (text : List ℕ) : Type 0 where
-  pub inside : are_inside text ≡ true
-  pub short : nat_le (length text) 8 ≡ true
 
 quote_first : (at : ℕ) (bs : List ℕ) → read_on Between at (39 ∷ bs) ≡ read_on (InText at []) (at + 1) bs
 unfolding class_of

@@ -1,9 +1,7 @@
 pub mod Operands
 pub mod Loops
-pub mod Trees
 pub mod Places
 pub mod Lexed
-pub mod Sound
 pub mod Writable
 pub mod Decimals
 pub mod Readable

@@ -6,8 +6,8 @@ use Rattle.std.proofs.lemmas.Bool.{ltb-true, true≢false}
 use Rattle.std.proofs.lemmas.Slice.Eq.{bytes_eq-Decides}
 use Rattle.gl_schema.specs.SchemaText.{kind_text}
 use Rattle.gl_query.specs.declared.tree.Num.{Num}
-use Rattle.gl_query.specs.declared.tree.Op.{Op}
-use Rattle.gl_query.specs.declared.tree.Op.TheVariants as op
+use Rattle.gl_bits.specs.declared.op.Op.{Op}
+use Rattle.gl_bits.specs.declared.op.Op.TheVariants as op
 use Rattle.gl_query.specs.Shapes.{ExprShape, AggShape, ItemShape, AggItemShape, PickShape, QueryShape, StatementShape}
 use Rattle.gl_query.specs.Shapes as shape
 use Rattle.gl_query_tokens.specs.declared.token.Fold.{Fold}
@@ -21,10 +21,10 @@ use Rattle.gl_query_reader.specs.declared.written.Window.{Window}
 use Rattle.gl_query_reader.specs.declared.written.Grouping.{Grouping}
 use Rattle.gl_query_reader.specs.Written as written
 use Rattle.gl_query_reader.specs.Written.{level, looseness, left_looseness, IsExpr, IsAgg, IsItem, AreItems, IsPick, IsFilter, IsQuery, IsSource, IsTerm, spell, spell_numbers, spell_agg, spell_item, spell_items, spell_pick, spell_window, spell_filter, spell_grouping, spell_query, spell_statement}
-use Rattle.gl_query_reader.specs.Meaning as meant
+use Rattle.gl_query.specs.Trees as meant
 use Rattle.gl_query_reader.specs.Meaning.{expr_meaning, agg_meaning, fold_meaning, plain_items, agg_items, is_total, by_pick, by_items, begins_total, query_meaning, join_meaning, statement_meaning}
 use Rattle.gl_query_reader.specs.Mixed.{first_other, same, mixed_plain, mixed_pick, mixed_in, least}
-use Rattle.gl_query_printer.specs.Alike.{expr_alike, agg_alike, item_alike, agg_item_alike, pick_alike, query_alike, statement_alike}
+use Rattle.gl_query.specs.Alike.{expr_alike, agg_alike, item_alike, agg_item_alike, pick_alike, query_alike, statement_alike}
 use Rattle.gl_query_printer.specs.Brackets.{is_stream, is_term}
 use Rattle.gl_query_printer.specs.Canonical.{name_of, num_of, fitted, expr_of, agg_of, is_bare, item_of, agg_item_of, pick_of, bracketed_unless, source_of, term_of, window_of, grouping_of, query_of, statement_of, canonical_tokens}
 use Rattle.gl_query_printer.proofs.Places.{placeless, placed, Parts, parts, First, first, Alone, alone, nothing}
@@ -358,7 +358,7 @@ record ReadPick (us : List Token) (p : PickShape) : Type 0 where
   spelled : spell_pick tree ≡ us
   grammar : IsPick tree
   mixed : mixed_pick tree None ≡ None
-  alike : (f : Option meant.Expr) (s : meant.Query) → query_alike (by_pick tree f s) ≡ shape.Rows p (option_map expr_alike f) (query_alike s)
+  alike : (f : Option meant.ExprTree) (s : meant.QueryTree) → query_alike (by_pick tree f s) ≡ shape.Rows p (option_map expr_alike f) (query_alike s)
 
 items_pick : (i : written.Item) (is : List written.Item) → AreItems (i ∷ is) → IsPick (written.Items (i ∷ is))
 items_pick i is g = g
@@ -366,7 +366,7 @@ items_pick i is g = g
 mixed_by : (b : Bool) (i : written.Item) (is : List written.Item) → is_total i ≡ b → first_other b is ≡ None → mixed_plain (i ∷ is) ≡ None
 mixed_by b i is e h = rw e h
 
-plain_pick : (i : written.Item) (is : List written.Item) (f : Option meant.Expr) (s : meant.Query) (x : ItemShape) (xs : List ItemShape) → is_total i ≡ false → plains (i ∷ is) ≡ x ∷ xs
+plain_pick : (i : written.Item) (is : List written.Item) (f : Option meant.ExprTree) (s : meant.QueryTree) (x : ItemShape) (xs : List ItemShape) → is_total i ≡ false → plains (i ∷ is) ≡ x ∷ xs
     → query_alike (by_items (is_total i) (i ∷ is) f s) ≡ shape.Rows (shape.Items (x ∷ xs)) (option_map expr_alike f) (query_alike s)
 plain_pick i is f s x xs e h = ap (λ (b : Bool). query_alike (by_items b (i ∷ is) f s)) e ∙ ap (λ (ys : List ItemShape). shape.Rows (shape.Items ys) (option_map expr_alike f) (query_alike s)) h
 
@@ -390,9 +390,9 @@ record ReadAggs (us : List Token) (aggs : List AggItemShape) : Type 0 where
   spelled : spell_pick tree ≡ us
   grammar : IsPick tree
   mixed : mixed_pick tree None ≡ None
-  alike : (s : meant.Query) → query_alike (by_pick tree None s) ≡ shape.Total aggs (query_alike s)
+  alike : (s : meant.QueryTree) → query_alike (by_pick tree None s) ≡ shape.Total aggs (query_alike s)
 
-total_pick : (i : written.Item) (is : List written.Item) (s : meant.Query) (x : AggItemShape) (xs : List AggItemShape) → is_total i ≡ true → totals (i ∷ is) ≡ x ∷ xs
+total_pick : (i : written.Item) (is : List written.Item) (s : meant.QueryTree) (x : AggItemShape) (xs : List AggItemShape) → is_total i ≡ true → totals (i ∷ is) ≡ x ∷ xs
     → query_alike (by_items (is_total i) (i ∷ is) None s) ≡ shape.Total (x ∷ xs) (query_alike s)
 total_pick i is s x xs e h = ap (λ (b : Bool). query_alike (by_items b (i ∷ is) None s)) e ∙ ap (λ (ys : List AggItemShape). shape.Total ys (query_alike s)) h
 
@@ -580,7 +580,7 @@ read_join j l r n m rl rr us h =
     }
 
 alike_rows : (p : written.Pick) (f : Option written.Expr) (s : written.Query) (pick : PickShape) (filter : Option ExprShape) (source : QueryShape)
-    → ((f : Option meant.Expr) (s : meant.Query) → query_alike (by_pick p f s) ≡ shape.Rows pick (option_map expr_alike f) (query_alike s)) → option_map expr_alike (option_map expr_meaning f) ≡ filter → query_alike (query_meaning s) ≡ source
+    → ((f : Option meant.ExprTree) (s : meant.QueryTree) → query_alike (by_pick p f s) ≡ shape.Rows pick (option_map expr_alike f) (query_alike s)) → option_map expr_alike (option_map expr_meaning f) ≡ filter → query_alike (query_meaning s) ≡ source
     → query_alike (by_pick p (option_map expr_meaning f) (query_meaning s)) ≡ shape.Rows pick filter source
 alike_rows p f s pick filter source a b c =
     a (option_map expr_meaning f) (query_meaning s) ∙ ap (λ (o : Option ExprShape). shape.Rows pick o (query_alike (query_meaning s))) b ∙ ap (shape.Rows pick filter) c

@@ -3,8 +3,8 @@ use Rattle.std.proofs.Common.{◌≡◌, ℕ, ◌+◌, ◌-◌, ◌*◌, ◌^◌
 use Rattle.std.specs.Prelude.{codes, decimal, if◌then◌else◌}
 use Rattle.std.specs.List.{AllByRecursion}
 use Rattle.gl_bits.specs.declared.kind.Kind.{Kind}
-use Rattle.gl_query.specs.declared.tree.Op.{Op}
-use Rattle.gl_query.specs.declared.tree.Op.TheVariants as op
+use Rattle.gl_bits.specs.declared.op.Op.{Op}
+use Rattle.gl_bits.specs.declared.op.Op.TheVariants as op
 use Rattle.gl_query.specs.Shapes.{ExprShape, AggShape, ItemShape, AggItemShape, PickShape, QueryShape, StatementShape}
 use Rattle.gl_query.specs.Shapes as shape
 use Rattle.gl_query_tokens.specs.declared.token.Fold.{Fold}
@@ -22,9 +22,11 @@ use Rattle.gl_query_reader.specs.Written.{spell, spell_numbers, spell_agg, spell
 use Rattle.gl_query_printer.specs.Brackets.{is_stream, is_term}
 use Rattle.gl_query_printer.specs.Canonical.{name_of, num_of, fitted, expr_of, agg_of, is_bare, item_of, agg_item_of, pick_of, bracketed_unless, source_of, term_of, window_of, grouping_of, query_of, statement_of, canonical_tokens}
 use Rattle.gl_query_printer.specs.Spaced.{token_text, plain_text, operator_text, fold_text, join_text, place_behind}
-use Rattle.gl_query_printer.proofs.Lexed.{Readable, ReadAs, Ends, IsEnd, is_word, read_word, letters_readable, half_ends}
+use Rattle.gl_query_printer.proofs.Lexed.{Readable, ReadAs, Ends, IsEnd, read_word, letters_readable, half_ends}
+use Rattle.gl_query_tokens.proofs.Sound.{is_word}
 use Rattle.gl_query_printer.proofs.Places.{placeless}
-use Rattle.gl_query_printer.proofs.Sound.{IsNameWord, IsSmall, all-append}
+use Rattle.gl_query_tokens.proofs.Sound.{IsNameWord, IsSmall}
+use Rattle.gl_bits.proofs.AllLists.{all_append}
 use Rattle.gl_query_printer.proofs.Decimals.{number_readable}
 use Rattle.gl_query_printer.proofs.Writable.{CanBeExpr, AreWeights, CanBeAgg, CanBeItem, CanBeAggItem, CanBePick, CanBeFilter, CanBeSource, CanBeStatement}
 
@@ -154,7 +156,7 @@ abbrev AreReadable : List Token → Type 0
 AreReadable ts = AllByRecursion Readable ts
 
 join : (xs ys : List Token) → AreReadable xs → AreReadable ys → AreReadable (xs ++ ys)
-join xs ys p q = all-append Readable xs ys p q
+join xs ys p q = all_append Readable xs ys p q
 
 closed : AreReadable (token.Plain plain.Close ∷ [])
 closed = (close_readable, tt)

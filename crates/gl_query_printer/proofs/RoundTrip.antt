@@ -5,13 +5,16 @@ use Rattle.gl_query.specs.Shapes.{StatementShape}
 use Rattle.gl_query_tokens.specs.declared.token.Token.{Token}
 use Rattle.gl_query_tokens.specs.Tokens.{tokens_of}
 use Rattle.gl_query_reader.specs.Grammar.{HasStatement, Derives, bare_tokens}
-use Rattle.gl_query_reader.specs.Meaning.{statement_meaning, Statement'}
-use Rattle.gl_query_printer.specs.Alike.{statement_alike}
+use Rattle.gl_query_reader.specs.Meaning.{statement_meaning}
+use Rattle.gl_query.specs.Trees.{StatementTree}
+use Rattle.gl_query.specs.Alike.{statement_alike}
 use Rattle.gl_query_printer.specs.Canonical.{canonical_tokens}
 use Rattle.gl_query_printer.specs.Printing.{canonical_text, HasAlike, IsPrintable, PassesNoLimit, CanonicalTextsAreRead}
 use Rattle.gl_query_printer.proofs.Places.{placeless}
 use Rattle.gl_query_printer.proofs.Lexed.{text_has}
-use Rattle.gl_query_printer.proofs.Sound.{IsSound, text_sound}
+use Rattle.gl_bits.proofs.AllLists.{all_mapped}
+use Rattle.gl_query_tokens.specs.declared.token.Lexeme.{Lexeme}
+use Rattle.gl_query_tokens.proofs.Sound.{IsSound, text_sound}
 use Rattle.gl_query_printer.proofs.Writable.{CanBeStatement, statement_can}
 use Rattle.gl_query_printer.proofs.Readable.{statement_readable}
 use Rattle.gl_query_printer.proofs.ReadBack.{ReadStatement, read_statement}
@@ -21,7 +24,7 @@ printable_can : (s : StatementShape) → IsPrintable s → CanBeStatement s
 printable_can s p =
     let f = p.1.found in
     let w = f.written in
-    let sound = subst (AllByRecursion IsSound) (sym f.derived.spelled) (text_sound p.0) in
+    let sound = subst (AllByRecursion IsSound) (sym f.derived.spelled) (all_mapped IsSound (λ (l : Lexeme). l.token) (tokens_of p.0) (text_sound p.0)) in
     subst CanBeStatement (ap statement_alike (sym f.means) ∙ p.1.alike) (statement_can w f.derived.grammar sound f.items)
 
 pub canonical_read : CanonicalTextsAreRead

@@ -24,12 +24,13 @@ use Rattle.gl_query_tokens.specs.declared.token.Token.TheVariants as token
 use Rattle.gl_query_reader.specs.declared.written.Window.{Window}
 use Rattle.gl_query_reader.specs.declared.written.Grouping.{Grouping}
 use Rattle.gl_query_reader.specs.Written as written
-use Rattle.gl_query_reader.specs.Meaning as tree
+use Rattle.gl_query.specs.Trees as tree
 use Rattle.gl_query_reader.specs.Meaning.{expr_meaning, agg_meaning, fold_meaning, plain_items, agg_items, is_total, it, filtered, by_items, begins_total, by_pick, items_in, grouped, select_meaning, join_meaning, query_meaning, statement_meaning}
 use Rattle.gl_query_reader.specs.Mixed.{first_other, same, is_key, behind_key, mixed_plain, mixed_groups, mixed_pick, least, mixed_in, item_at}
-use Rattle.gl_query_printer.specs.Alike.{expr_alike, agg_alike, item_alike, agg_item_alike, pick_alike, query_alike, statement_alike}
-use Rattle.gl_query_printer.proofs.Lexed.{IsLetters, is_word}
-use Rattle.gl_query_printer.proofs.Sound.{IsSound, IsNameWord, IsSmall, all-parts}
+use Rattle.gl_query.specs.Alike.{expr_alike, agg_alike, item_alike, agg_item_alike, pick_alike, query_alike, statement_alike}
+use Rattle.gl_query_tokens.proofs.Sound.{IsLetters, is_word}
+use Rattle.gl_query_tokens.proofs.Sound.{IsSound, IsNameWord, IsSmall}
+use Rattle.gl_bits.proofs.AllLists.{all_parts}
 
 abbrev pub CanBeExpr : ExprShape → Type 0
 CanBeExpr (shape.Column name) = IsNameWord name
@@ -98,7 +99,7 @@ abbrev AreSound : List Token → Type 0
 AreSound ts = AllByRecursion IsSound ts
 
 split : (xs ys : List Token) → AreSound (xs ++ ys) → AreSound xs × AreSound ys
-split xs ys h = all-parts IsSound xs ys h
+split xs ys h = all_parts IsSound xs ys h
 
 kind_word : (word : List ℕ) (kind : Kind) → kind_named word ≡ Some kind → IsNameWord word → IsNameWord (kind_text kind) × (kind_named (kind_text kind) ≡ Some kind)
 kind_word word kind e h =
@@ -124,7 +125,7 @@ weights_can [] h = tt
 weights_can (n ∷ []) h = (h.0, tt)
 weights_can (n ∷ m ∷ ns) h = (h.0, weights_can (m ∷ ns) h.1.1)
 
-fold_can : (f : Fold) (e : tree.Expr) → CanBeExpr (expr_alike e) → CanBeAgg (agg_alike (fold_meaning f e))
+fold_can : (f : Fold) (e : tree.ExprTree) → CanBeExpr (expr_alike e) → CanBeAgg (agg_alike (fold_meaning f e))
 fold_can Sum e h = h
 fold_can Min e h = h
 fold_can Max e h = h
@@ -189,11 +190,11 @@ filter_can : (f : Option written.Expr) → IsSoundFilter f → CanBeFilter (opti
 filter_can None h = tt
 filter_can (Some e) h = expr_can e h.0 h.1.1
 
-filtered_can : (f : Option written.Expr) (source : tree.Query) → IsSoundFilter f → CanBeSource (query_alike source) → CanBeSource (query_alike (filtered (option_map expr_meaning f) source))
+filtered_can : (f : Option written.Expr) (source : tree.QueryTree) → IsSoundFilter f → CanBeSource (query_alike source) → CanBeSource (query_alike (filtered (option_map expr_meaning f) source))
 filtered_can None source h s = s
 filtered_can (Some e) source h s = (tt, filter_can (Some e) h, s)
 
-by_items_can : (b : Bool) (i : written.Item) (is : List written.Item) (f : Option written.Expr) (source : tree.Query) → is_total i ≡ b → AllByRecursion IsSoundItem (i ∷ is) → IsSoundFilter f → CanBeSource (query_alike source)
+by_items_can : (b : Bool) (i : written.Item) (is : List written.Item) (f : Option written.Expr) (source : tree.QueryTree) → is_total i ≡ b → AllByRecursion IsSoundItem (i ∷ is) → IsSoundFilter f → CanBeSource (query_alike source)
     → CanBeQuery (query_alike (by_items b (i ∷ is) (option_map expr_meaning f) source))
 by_items_can true i is f source e h g s = ((some_aggs i is e, aggs_can (i ∷ is) h, filtered_can f source g s), tt)
 by_items_can false i is f source e h g s = (((some_plain i is e, plain_can (i ∷ is) h), filter_can f g, s), tt)
@@ -201,7 +202,7 @@ by_items_can false i is f source e h g s = (((some_plain i is e, plain_can (i �
 abbrev IsSoundPick : written.Pick → Type 0
 IsSoundPick p = written.IsPick p × AreSound (written.spell_pick p)
 
-by_pick_can : (p : written.Pick) (f : Option written.Expr) (source : tree.Query) → IsSoundPick p → IsSoundFilter f → CanBeSource (query_alike source) → CanBeQuery (query_alike (by_pick p (option_map expr_meaning f) source))
+by_pick_can : (p : written.Pick) (f : Option written.Expr) (source : tree.QueryTree) → IsSoundPick p → IsSoundFilter f → CanBeSource (query_alike source) → CanBeQuery (query_alike (by_pick p (option_map expr_meaning f) source))
 by_pick_can (written.All at) f source h g s = ((tt, filter_can f g, s), tt)
 by_pick_can (written.Items []) f source h g s = absurd h.0
 by_pick_can (written.Items (i ∷ is)) f source h g s = by_items_can (is_total i) i is f source refl (each_sound (i ∷ is) h.0 h.1) g s
@@ -213,12 +214,16 @@ it_is_word : is_word (codes "it") ≡ true
 unfolding class_of
 it_is_word = refl
 
+it_is_name : is_name (codes "it") ≡ true
+unfolding is_name has_name_bytes begins_with_letter has_loose_underscore is_taken keywords reserved
+it_is_name = refl
+
 it_is_token : (at : ℕ) → word_token (codes "it") at ≡ token.Name (record { text = codes "it"; at = at })
 unfolding word_token is_keyword is_name has_name_bytes begins_with_letter has_loose_underscore is_taken keywords reserved
 it_is_token at = refl
 
 it_word : IsNameWord (codes "it")
-it_word = record { word = it_is_word; token = it_is_token }
+it_word = record { word = it_is_word; name = it_is_name; token = it_is_token }
 
 some_none : {A : Type 0} (x : A) → None ≡ Some x → ⊥
 some_none x h = absurd (cc)
@@ -245,7 +250,7 @@ groups_some (written.Bare name) (j ∷ is) g true e h = some_aggs j is (first_to
 groups_some (written.Named x name) is g true e h = absurd (true≢false (sym e))
 groups_some (written.Total a name) is g true e h = absurd (true≢false (sym e))
 
-grouped_can : (p : written.Pick) (f : Option written.Expr) (o : Option Grouping) (source : tree.Query) → IsSoundPick p → IsSoundFilter f → ((g : Grouping) → o ≡ Some g → IsSoundGrouping g) → mixed_pick p o ≡ None → CanBeSource (query_alike source)
+grouped_can : (p : written.Pick) (f : Option written.Expr) (o : Option Grouping) (source : tree.QueryTree) → IsSoundPick p → IsSoundFilter f → ((g : Grouping) → o ≡ Some g → IsSoundGrouping g) → mixed_pick p o ≡ None → CanBeSource (query_alike source)
     → CanBeQuery (query_alike (grouped p (option_map expr_meaning f) o source))
 grouped_can p f None source h w r m s = by_pick_can p f source h w s
 grouped_can (written.All at) f (Some g) source h w r m s = absurd (some_none at (sym m))
@@ -258,7 +263,7 @@ grouped_can (written.Items (i ∷ is)) f (Some g) source h w r m s =
 abbrev IsSoundWindow : Window → Type 0
 IsSoundWindow w = IsSmall w.size.value × IsSmall w.advance.value
 
-select_can : (p : written.Pick) (o : Option Window) (f : Option written.Expr) (g : Option Grouping) (source : tree.Query) → IsSoundPick p → ((w : Window) → o ≡ Some w → IsSoundWindow w) → IsSoundFilter f → ((r : Grouping) → g ≡ Some r → IsSoundGrouping r) → mixed_pick p g ≡ None → CanBeSource (query_alike source)
+select_can : (p : written.Pick) (o : Option Window) (f : Option written.Expr) (g : Option Grouping) (source : tree.QueryTree) → IsSoundPick p → ((w : Window) → o ≡ Some w → IsSoundWindow w) → IsSoundFilter f → ((r : Grouping) → g ≡ Some r → IsSoundGrouping r) → mixed_pick p g ≡ None → CanBeSource (query_alike source)
     → CanBeQuery (query_alike (select_meaning p o (option_map expr_meaning f) g source))
 select_can p None f g source h w k r m s = grouped_can p f g source h k r m s
 select_can p (Some v) f g source h w k r m s =
@@ -286,7 +291,7 @@ least_right None b h = h
 least_right (Some a) None h = refl
 least_right (Some a) (Some b) h = absurd (either_some (nat_le a b) a b h)
 
-join_can : (j : Join) (l r : tree.Query) (at : ℕ) → CanBeQuery (query_alike l) → CanBeQuery (query_alike r) → CanBeQuery (query_alike (join_meaning j l r at))
+join_can : (j : Join) (l r : tree.QueryTree) (at : ℕ) → CanBeQuery (query_alike l) → CanBeQuery (query_alike r) → CanBeQuery (query_alike (join_meaning j l r at))
 join_can Union l r at p q = ((p.0, p.1, q.0, q.1), tt)
 join_can Concat l r at p q = ((p.0, p.1, q.0, q.1), tt)
 

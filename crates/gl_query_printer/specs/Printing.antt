@@ -1,12 +1,11 @@
 -- The canonical text of a statement, and what is read from it.
 use Rattle.std.specs.Prelude.{◌≡◌, ℕ, true, List}
-use Rattle.gl_query.specs.declared.tree.Statement.{Statement}
-use Rattle.gl_query.specs.Shapes.{StatementShape, statement_shape}
+use Rattle.gl_query.specs.Shapes.{StatementShape}
 use Rattle.gl_query_tokens.specs.Tokens.{tokens_of}
 use Rattle.gl_query_reader.specs.Limits.{none_counted, keeps_limits}
-use Rattle.gl_query_reader.specs.Meaning.{Statement', statement_tree}
+use Rattle.gl_query.specs.Trees.{StatementTree}
 use Rattle.gl_query_reader.specs.Grammar.{HasStatement, bare_tokens}
-use Rattle.gl_query_printer.specs.Alike.{statement_alike}
+use Rattle.gl_query.specs.Alike.{statement_alike}
 use Rattle.gl_query_printer.specs.Canonical.{canonical_tokens}
 use Rattle.gl_query_printer.specs.Spaced.{text_of}
 
@@ -16,7 +15,7 @@ canonical_text s = text_of (canonical_tokens s)
 
 -- the text has a statement, and but for its places it is this one
 pub record HasAlike (text : List ℕ) (s : StatementShape) : Type 0 where
-  pub read : Statement'
+  pub read : StatementTree
   pub found : HasStatement text read
   pub alike : statement_alike read ≡ s
 
@@ -30,7 +29,3 @@ PassesNoLimit text = keeps_limits none_counted (bare_tokens (tokens_of text)) �
 -- what is read from the canonical text of a statement is that statement, but for its places
 abbrev pub CanonicalTextsAreRead : Type 0
 CanonicalTextsAreRead = (s : StatementShape) → IsPrintable s → PassesNoLimit (canonical_text s) → HasAlike (canonical_text s) s
-
--- the statement that a text has is like the shape of the tree that the reader makes
-abbrev pub TreesAreAlike : Type 0
-TreesAreAlike = (s : Statement) → statement_alike (statement_tree s) ≡ statement_shape s

@@ -11,9 +11,9 @@ use Rattle.gl_query_reader.specs.declared.parsing.ReadFault.TheVariants.{Syntax,
 use Rattle.gl_query_reader.specs.Written.{Statement}
 use Rattle.gl_query_reader.specs.Machine.{State, start, step, finish}
 use Rattle.gl_query_reader.specs.Limits.{none_counted, after, counted, is_past, keeps_limits}
-use Rattle.gl_query_reader.specs.Meaning.{Statement', statement_tree}
+use Rattle.gl_query.specs.Trees.{StatementTree, statement_tree}
 use Rattle.gl_query_reader.specs.Reading.{run, or_syntax, with_items, answered, Answers}
-use Rattle.gl_query_reader.specs.Grammar.{bare_tokens, Derives, CanBegin, Stops, IsSyntaxFault, IsDepthFault, IsItemsFault, IsErrOrMemory}
+use Rattle.gl_query_reader.specs.Grammar.{bare_tokens, Derives, CanBegin, Stops, IsSyntaxFault, IsDepthFault, IsItemsFault, IsErrOrMemory, Verdict}
 use Rattle.gl_query_reader.proofs.Steps.{steps, steps-one, and_then_some, run-steps}
 use Rattle.gl_query_reader.proofs.ReadQueries.{final, finishes, reads_statement}
 use Rattle.gl_query_reader.proofs.Sound.{derives, sound_step}
@@ -86,7 +86,7 @@ halts len at read (l ∷ left) s k e st =
     ∙ run-stops len (counted none_counted (bare_tokens read)) s l left (cannot_step read l s e st.1)
     ∙ ap (λ (n : ℕ). Err (Syntax n)) (sym st.0)
 
-syntax_answer : (text : List ℕ) (at : ℕ) → IsSyntaxFault text at → answer_for text ≡ Err (fault.Syntax at)
+pub syntax_answer : (text : List ℕ) (at : ℕ) → IsSyntaxFault text at → answer_for text ≡ Err (fault.Syntax at)
 syntax_answer text at h =
     let r = reads_front (bare_tokens h.read) h.begins in
     ap (λ (ls : List Lexeme). answered (run (length text) none_counted start ls)) h.parts
@@ -100,7 +100,7 @@ one_step : (s y : State) (t : Token) → steps s (t ∷ []) ≡ Some y → (x : 
 unfolding steps
 one_step s y t e = let g = and_then_some (λ x. steps x []) (step s t) y e in (g.0, g.1)
 
-depth_answer : (text : List ℕ) (at : ℕ) → IsDepthFault text at → answer_for text ≡ Err (fault.TooDeep at)
+pub depth_answer : (text : List ℕ) (at : ℕ) → IsDepthFault text at → answer_for text ≡ Err (fault.TooDeep at)
 depth_answer text at h =
     let r = reads_front (bare_tokens h.read ++ h.deep.token ∷ []) (subst (λ (x : List Token). CanBegin x) (bare-push h.read h.deep) h.begins) in
     let f = steps-front (bare_tokens h.read) (h.deep.token ∷ []) start r.0 r.1 in
@@ -110,7 +110,7 @@ depth_answer text at h =
     ∙ ap answered (run-front (length text) h.read (h.deep ∷ h.left) none_counted start f.0 h.limits f.1 ∙ run-deep (length text) (counted none_counted (bare_tokens h.read)) f.0 o.0 h.deep h.left o.1 p)
     ∙ ap (λ (n : ℕ). Err (fault.TooDeep n)) (sym h.place)
 
-items_answer : (text : List ℕ) (at : ℕ) → IsItemsFault text at → answer_for text ≡ Err (fault.MixedItems at)
+pub items_answer : (text : List ℕ) (at : ℕ) → IsItemsFault text at → answer_for text ≡ Err (fault.MixedItems at)
 items_answer text at h =
     let read : steps start (bare_tokens (tokens_of text)) ≡ Some (final h.written) = ap (steps start) (sym h.derived.spelled) ∙ reads_statement h.written h.derived.grammar in
     ap answered (run-steps (length text) (tokens_of text) none_counted start (final h.written) h.limits read ∙ ap (λ (o : Option Statement). or_syntax o (length text)) (finishes h.written))
@@ -118,16 +118,13 @@ items_answer text at h =
 
 -- ---- for a returned value
 
-abbrev Answer : Type 0
-Answer = Result Statement' QueryFault
-
-not_ok : (x : Answer) (e : QueryFault) (m : Statement') → x ≡ Err e → x ≡ Ok m → ⊥
+not_ok : (x : Verdict) (e : QueryFault) (m : StatementTree) → x ≡ Err e → x ≡ Ok m → ⊥
 not_ok x e m f g = absurd cc
 
-same_fault : (x : Answer) (a b : QueryFault) → x ≡ Err a → x ≡ Err b → a ≡ b
+same_fault : (x : Verdict) (a b : QueryFault) → x ≡ Err a → x ≡ Err b → a ≡ b
 same_fault x a b f g = cc
 
-is_that : (r : Result tree.Statement QueryFault) (x : Answer) (e : QueryFault) → Answers r x → x ≡ Err e → IsErrOrMemory r e
+is_that : (r : Result tree.Statement QueryFault) (x : Verdict) (e : QueryFault) → Answers r x → x ≡ Err e → IsErrOrMemory r e
 is_that (Ok s) x e a f = absurd (not_ok x e (statement_tree s) f a)
 is_that (Err fault.Memory) x e a f = inr refl
 is_that (Err d) x e a f = inl (ap (λ (y : QueryFault). Err y) (same_fault x d e a f))

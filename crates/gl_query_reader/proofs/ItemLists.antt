@@ -8,7 +8,8 @@ use Rattle.gl_query_reader.specs.declared.written.WrittenItem.{WrittenItem}
 use Rattle.gl_query_reader.specs.Written as written
 use Rattle.gl_query_reader.specs.Written.{Bare, Named, Total}
 use Rattle.gl_query_reader.specs.Trees.{item_of, items_of}
-use Rattle.gl_query_reader.specs.Meaning.{Item', AggItem', item_tree, agg_item_tree, plain_items, agg_items, is_total}
+use Rattle.gl_query_reader.specs.Meaning.{plain_items, agg_items, is_total}
+use Rattle.gl_query.specs.Trees.{ItemTree, AggItemTree, item_tree, agg_item_tree}
 use Rattle.gl_query_reader.specs.Mixed.{same, first_other, item_at}
 
 pub items-push : (xs : List WrittenItem) (x : WrittenItem) → items_of (xs ++ x ∷ []) ≡ items_of xs ++ item_of x ∷ []
@@ -33,10 +34,10 @@ agg-cons (Bare name) is = refl
 agg-cons (Named e name) is = refl
 agg-cons (Total a name) is = refl
 
-pub plain_step : (out new : List Item') (i : written.Item) (is : List written.Item) (total : List Item') → new ≡ out ++ plain_items (i ∷ []) → out ++ plain_items (i ∷ is) ≡ total → new ++ plain_items is ≡ total
+pub plain_step : (out new : List ItemTree) (i : written.Item) (is : List written.Item) (total : List ItemTree) → new ≡ out ++ plain_items (i ∷ []) → out ++ plain_items (i ∷ is) ≡ total → new ++ plain_items is ≡ total
 plain_step out new i is total e f = rw e (append_assoc out (plain_items (i ∷ [])) (plain_items is) ∙ ap (λ x. out ++ x) (sym (plain-cons i is)) ∙ f)
 
-pub agg_step : (out new : List AggItem') (i : written.Item) (is : List written.Item) (total : List AggItem') → new ≡ out ++ agg_items (i ∷ []) → out ++ agg_items (i ∷ is) ≡ total → new ++ agg_items is ≡ total
+pub agg_step : (out new : List AggItemTree) (i : written.Item) (is : List written.Item) (total : List AggItemTree) → new ≡ out ++ agg_items (i ∷ []) → out ++ agg_items (i ∷ is) ≡ total → new ++ agg_items is ≡ total
 agg_step out new i is total e f = rw e (append_assoc out (agg_items (i ∷ [])) (agg_items is) ∙ ap (λ x. out ++ x) (sym (agg-cons i is)) ∙ f)
 
 pub other_step : (sort : Bool) (items : List WrittenItem) (i : ℕ) (d : WrittenItem) → i < length items → same sort (is_total (item_of (get_or items i d))) ≡ true → first_other sort (items_of (drop i items)) ≡ first_other sort (items_of (drop (i + 1) items))

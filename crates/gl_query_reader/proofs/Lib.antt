@@ -12,3 +12,7 @@ pub mod Sound
 pub mod Begins
 pub mod Meets
 pub mod Exact
+pub mod Verdicts
+pub mod Meanings
+pub mod Small
+pub mod Regular

@@ -14,10 +14,10 @@ use Rattle.gl_query_reader.specs.declared.parsing.ReadFault.TheVariants.{Syntax,
 use Rattle.gl_query_reader.specs.Written.{Statement, spell_statement}
 use Rattle.gl_query_reader.specs.Machine.{State, start, step, finish}
 use Rattle.gl_query_reader.specs.Limits.{none_counted, after, counted, is_past, keeps_limits}
-use Rattle.gl_query_reader.specs.Meaning.{Statement', statement_tree}
+use Rattle.gl_query.specs.Trees.{StatementTree, statement_tree}
 use Rattle.gl_query_reader.specs.Mixed.{mixed_in}
 use Rattle.gl_query_reader.specs.Reading.{run, or_syntax, checked, with_items, answered, Answers}
-use Rattle.gl_query_reader.specs.Grammar.{bare_tokens, Derives, CanBegin, HasStatement, IsOrMemory, Stops, IsFault}
+use Rattle.gl_query_reader.specs.Grammar.{bare_tokens, Derives, CanBegin, HasStatement, IsOrMemory, Stops, IsFault, IsVerdict}
 use Rattle.gl_query_reader.proofs.Steps.{steps, and_then_some, steps-append, run-steps}
 use Rattle.gl_query_reader.proofs.ReadQueries.{final, finishes, reads_statement}
 use Rattle.gl_query_reader.proofs.Said.{Read}
@@ -124,58 +124,54 @@ stops len at read [] s e h = (h.0, λ w d. ends (bare_tokens read) s w e h.1 d)
 stops len at read (l ∷ left) s e h = (h.0, λ b. goes_on (bare_tokens read) l.token s e h.1 (subst (λ (x : List Token). CanBegin x) (bare-push read l) b))
 
 -- the answer for a text
-abbrev pub answer_for : List ℕ → Result Statement' QueryFault
+abbrev pub answer_for : List ℕ → Result StatementTree QueryFault
 answer_for text = answered (run (length text) none_counted start (tokens_of text))
 
 -- a statement within the limits is answered
-only_answer : (text : List ℕ) (s : Statement') → HasStatement text s → answer_for text ≡ Ok s
+pub only_answer : (text : List ℕ) (s : StatementTree) → HasStatement text s → answer_for text ≡ Ok s
 only_answer text s h =
     let read : steps start (bare_tokens (tokens_of text)) ≡ Some (final h.written) = ap (steps start) (sym h.derived.spelled) ∙ reads_statement h.written h.derived.grammar in
     ap answered (run-steps (length text) (tokens_of text) none_counted start (final h.written) h.limits read ∙ ap (λ (o : Option Statement). or_syntax o (length text)) (finishes h.written))
     ∙ ap (λ (o : Option ℕ). with_items o h.written) h.items
-    ∙ ap (λ (x : Statement'). Ok x) (sym h.means)
+    ∙ ap (λ (x : StatementTree). Ok x) (sym h.means)
 
-abbrev AnswerIs : List ℕ → Result Statement' QueryFault → Type 0
-AnswerIs text (Ok s) = HasStatement text s
-AnswerIs text (Err e) = IsFault text e
-
-of_written : (text : List ℕ) (w : Statement) → Ended none_counted start (tokens_of text) w → AnswerIs text (with_items (mixed_in w.query) w)
+of_written : (text : List ℕ) (w : Statement) → Ended none_counted start (tokens_of text) w → IsVerdict text (with_items (mixed_in w.query) w)
 of_written text w m = test (mixed_in w.query) refl
   where
-    test : (o : Option ℕ) → mixed_in w.query ≡ o → AnswerIs text (with_items o w)
+    test : (o : Option ℕ) → mixed_in w.query ≡ o → IsVerdict text (with_items o w)
     test None e = record { written = w; derived = derives _ m.there w m.came.steps m.done; limits = m.came.limits; items = e; means = refl }
     test (Some at) e = record { written = w; derived = derives _ m.there w m.came.steps m.done; limits = m.came.limits; items = e }
 
 pub read_to : (ts : List Token) (s : State) → steps start ts ≡ Some s → Read s ts
 read_to ts s e = sound_steps ts start s [] read_start e
 
-of_result : (text : List ℕ) (r : Result Statement ReadFault) → Met (length text) none_counted start (tokens_of text) r → AnswerIs text (answered r)
+of_result : (text : List ℕ) (r : Result Statement ReadFault) → Met (length text) none_counted start (tokens_of text) r → IsVerdict text (answered r)
 of_result text (Ok w) m = of_written text w m
 of_result text (Err (Syntax at)) m = record { read = m.read; left = m.left; parts = m.parts; limits = m.came.limits; begins = begins m.there (bare_tokens m.read) (read_to (bare_tokens m.read) m.there m.came.steps); stops = stops (length text) at m.read m.left m.there m.came.steps m.halts }
 of_result text (Err (TooDeep at)) m = record { read = m.read; deep = m.deep; left = m.left; parts = m.parts; place = m.place; limits = m.came.limits; past = m.past; begins = subst (λ (x : List Token). CanBegin x) (sym (bare-push m.read m.deep)) (begins m.beyond (bare_tokens m.read ++ m.deep.token ∷ []) (sound_step m.there m.beyond m.deep.token (bare_tokens m.read) (read_to (bare_tokens m.read) m.there m.came.steps) m.goes)) }
 of_result text (Err Memory) m = absurd m
 
-pub answer_is : (text : List ℕ) → AnswerIs text (answer_for text)
+pub answer_is : (text : List ℕ) → IsVerdict text (answer_for text)
 answer_is text = of_result text _ (meets (length text) (tokens_of text) none_counted start)
 
 -- ---- for a returned value
 
 pub found : (text : List ℕ) (r : Result tree.Statement QueryFault) → Answers r (answer_for text) → IfOk r (λ s. HasStatement text (statement_tree s))
-found text (Ok s) a = subst (λ (x : Result Statement' QueryFault). AnswerIs text x) a (answer_is text)
+found text (Ok s) a = subst (λ (x : Result StatementTree QueryFault). IsVerdict text x) a (answer_is text)
 found text (Err e) a = tt
 
-ok_is : (r : Result Statement' QueryFault) (a b : Statement') → r ≡ Ok a → r ≡ Ok b → a ≡ b
+ok_is : (r : Result StatementTree QueryFault) (a b : StatementTree) → r ≡ Ok a → r ≡ Ok b → a ≡ b
 ok_is r a b e f = cc
 
-pub only : (text : List ℕ) (r : Result tree.Statement QueryFault) → Answers r (answer_for text) → (s : Statement') → HasStatement text s → IsOrMemory r s
+pub only : (text : List ℕ) (r : Result tree.Statement QueryFault) → Answers r (answer_for text) → (s : StatementTree) → HasStatement text s → IsOrMemory r s
 only text (Ok s) a m h = ok_is (answer_for text) (statement_tree s) m a (only_answer text m h)
 only text (Err fault.Memory) a m h = tt
 only text (Err e) a m h = absurd (differ (answer_for text) _ m a (only_answer text m h))
   where
-    differ : (x : Result Statement' QueryFault) (e : QueryFault) (m : Statement') → x ≡ Err e → x ≡ Ok m → ⊥
+    differ : (x : Result StatementTree QueryFault) (e : QueryFault) (m : StatementTree) → x ≡ Err e → x ≡ Ok m → ⊥
     differ x e m f g = absurd cc
 
 pub faults : (text : List ℕ) (r : Result tree.Statement QueryFault) → Answers r (answer_for text) → IfErr r (λ e. IsFault text e)
 faults text (Ok s) a = tt
 faults text (Err fault.Memory) a = tt
-faults text (Err e) a = subst (λ (x : Result Statement' QueryFault). AnswerIs text x) a (answer_is text)
+faults text (Err e) a = subst (λ (x : Result StatementTree QueryFault). IsVerdict text x) a (answer_is text)

@@ -5,8 +5,8 @@ use Rattle.gl_bits.specs.declared.kind.Kind.{Kind}
 use Rattle.gl_schema.specs.SchemaFaults.{kind_named}
 use Rattle.gl_query.specs.declared.tree.Name.{Name}
 use Rattle.gl_query.specs.declared.tree.Num.{Num}
-use Rattle.gl_query.specs.declared.tree.Op.{Op}
-use Rattle.gl_query.specs.declared.tree.Op.TheVariants as op
+use Rattle.gl_bits.specs.declared.op.Op.{Op}
+use Rattle.gl_bits.specs.declared.op.Op.TheVariants as op
 use Rattle.gl_query_tokens.specs.declared.token.Plain.TheVariants as plain
 use Rattle.gl_query_tokens.specs.declared.token.Token.{Token}
 use Rattle.gl_query_tokens.specs.declared.token.Token.TheVariants as token

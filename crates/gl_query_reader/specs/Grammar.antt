@@ -3,12 +3,17 @@ use Rattle.std.specs.Prelude.{◌≡◌, ℕ, true, List, [], ◌∷◌, ◌++�
 use Rattle.gl_query.specs.declared.tree.Statement as tree
 use Rattle.gl_query.specs.declared.fault.QueryFault.{QueryFault}
 use Rattle.gl_query.specs.declared.fault.QueryFault.TheVariants as fault
+use Rattle.gl_query.specs.Shapes.{StatementShape}
+use Rattle.gl_query.specs.Alike.{statement_alike}
+use Rattle.gl_query.specs.Sizes.{QueryIsSmall}
+use Rattle.gl_query.specs.Names.{StatementHasNames}
 use Rattle.gl_query_tokens.specs.declared.token.Token.{Token}
 use Rattle.gl_query_tokens.specs.declared.token.Lexeme.{Lexeme}
 use Rattle.gl_query_tokens.specs.Tokens.{tokens_of}
 use Rattle.gl_query_reader.specs.Written.{Statement, IsQuery, spell_statement}
 use Rattle.gl_query_reader.specs.Limits.{none_counted, counted, is_past, keeps_limits}
-use Rattle.gl_query_reader.specs.Meaning.{Statement', statement_meaning, statement_tree}
+use Rattle.gl_query_reader.specs.Meaning.{statement_meaning}
+use Rattle.gl_query.specs.Trees.{StatementTree, statement_tree}
 use Rattle.gl_query_reader.specs.Mixed.{mixed_in}
 
 -- tokens without where they begin
@@ -25,7 +30,7 @@ abbrev pub CanBegin : List Token → Type 0
 CanBegin tokens = (more : List Token) × (w : Statement) × Derives (tokens ++ more) w
 
 -- the text has this statement: its tokens derive it, pass no limit, and its items go together
-pub record HasStatement (text : List ℕ) (s : Statement') : Type 0 where
+pub record HasStatement (text : List ℕ) (s : StatementTree) : Type 0 where
   pub written : Statement
   pub derived : Derives (bare_tokens (tokens_of text)) written
   pub limits : keeps_limits none_counted (bare_tokens (tokens_of text)) ≡ true
@@ -33,7 +38,7 @@ pub record HasStatement (text : List ℕ) (s : Statement') : Type 0 where
   pub means : s ≡ statement_meaning written
 
 -- what a function returned is this statement, unless memory ran out
-abbrev pub IsOrMemory : Result tree.Statement QueryFault → Statement' → Type 0
+abbrev pub IsOrMemory : Result tree.Statement QueryFault → StatementTree → Type 0
 IsOrMemory (Ok s) m = statement_tree s ≡ m
 IsOrMemory (Err fault.Memory) m = Unit {0}
 IsOrMemory (Err e) m = ⊥
@@ -74,6 +79,17 @@ pub record IsItemsFault (text : List ℕ) (at : ℕ) : Type 0 where
   pub limits : keeps_limits none_counted (bare_tokens (tokens_of text)) ≡ true
   pub items : mixed_in written.query ≡ Some at
 
+-- what a text comes to: its statement, or what is wrong with it and where
+abbrev pub Verdict : Type 0
+Verdict = Result StatementTree QueryFault
+
+abbrev pub IsVerdict : List ℕ → Verdict → Type 0
+IsVerdict text (Ok s) = HasStatement text s
+IsVerdict text (Err (fault.Syntax at)) = IsSyntaxFault text at
+IsVerdict text (Err (fault.TooDeep at)) = IsDepthFault text at
+IsVerdict text (Err (fault.MixedItems at)) = IsItemsFault text at
+IsVerdict text (Err e) = ⊥
+
 -- what is wrong with a text
 abbrev pub IsFault : List ℕ → QueryFault → Type 0
 IsFault text (fault.Syntax at) = IsSyntaxFault text at
@@ -85,3 +101,21 @@ IsFault text e = ⊥
 -- no tokens have two statements
 abbrev pub HaveOneStatement : Type 0
 HaveOneStatement = (tokens : List Token) (v w : Statement) → Derives tokens v → Derives tokens w → v ≡ w
+
+-- a text comes to one thing
+pub record HasOneVerdict (text : List ℕ) : Type 0 where
+  pub verdict : Verdict
+  pub is : IsVerdict text verdict
+  pub only : (other : Verdict) → IsVerdict text other → other ≡ verdict
+
+-- each text has exactly one of a statement, a syntax fault, a depth fault and a fault of items, at one place
+abbrev pub TextsHaveOneVerdict : Type 0
+TextsHaveOneVerdict = (text : List ℕ) → HasOneVerdict text
+
+-- the whole expressions of a statement that a text has are small, and its names are names
+pub record IsRegular (s : StatementShape) : Type 0 where
+  pub small : QueryIsSmall s.query
+  pub names : StatementHasNames s
+
+abbrev pub StatementsAreRegular : Type 0
+StatementsAreRegular = (text : List ℕ) (s : StatementTree) → HasStatement text s → IsRegular (statement_alike s)

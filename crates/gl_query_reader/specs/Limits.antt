@@ -6,9 +6,10 @@ use Rattle.gl_query_tokens.specs.declared.token.Token.{Token}
 use Rattle.gl_query_tokens.specs.declared.token.Token.TheVariants as token
 use Rattle.gl_query_reader.specs.declared.limits.Counts.{Counts}
 
--- round brackets that are open; operators, NOT and CAST of the whole expression so far; UNION and CONCAT so far
+-- round brackets that are open; operators, NOT and CAST of the whole expression so far; UNION and CONCAT so far; and whether an
+-- operand may begin here
 abbrev pub none_counted : Counts
-none_counted = record { brackets = 0; operators = 0; joins = 0 }
+none_counted = record { brackets = 0; operators = 0; joins = 0; operand = false }
 
 abbrev pub MOST_BRACKETS : ℕ
 MOST_BRACKETS = 32
@@ -19,31 +20,48 @@ MOST_OPERATORS = 256
 abbrev pub MOST_JOINS : ℕ
 MOST_JOINS = 64
 
-abbrev pub one_operator : Counts → Counts
-one_operator n = record { brackets = n.brackets; operators = n.operators + 1; joins = n.joins }
+-- whether an operand may begin behind a token
+abbrev pub begins_after : Plain → Bool
+begins_after plain.Select = true
+begins_after plain.Where = true
+begins_after plain.Comma = true
+begins_after plain.LeftSquare = true
+begins_after p = false
+
+abbrev pub begins_operand : Token → Bool
+begins_operand (token.Open at) = true
+begins_operand (token.Operator o at) = true
+begins_operand (token.Not at) = true
+begins_operand (token.Plain p) = begins_after p
+begins_operand t = false
+
+-- a sign that stands where an operand may begin is no operator, as the `*` of all columns
+abbrev pub operators_with : Counts → ℕ
+operators_with n = if n.operand then n.operators else n.operators + 1
 
 -- another whole expression may begin behind these
-abbrev pub new_expression : Counts → Counts
-new_expression n = record { brackets = n.brackets; operators = 0; joins = n.joins }
+abbrev pub with_plain : Counts → Plain → Counts
+with_plain n plain.Close = record n { brackets = n.brackets - 1 }
+with_plain n plain.Select = record n { operators = 0 }
+with_plain n plain.Comma = record n { operators = 0 }
+with_plain n plain.Where = record n { operators = 0 }
+with_plain n p = n
 
-abbrev pub after_plain : Counts → Plain → Counts
-after_plain n plain.Close = record { brackets = n.brackets - 1; operators = n.operators; joins = n.joins }
-after_plain n plain.Select = new_expression n
-after_plain n plain.Comma = new_expression n
-after_plain n plain.Where = new_expression n
-after_plain n p = n
+-- the counts with a token
+abbrev pub with_token : Counts → Token → Counts
+with_token n (token.Open at) = record n { brackets = n.brackets + 1 }
+with_token n (token.Operator o at) = record n { operators = operators_with n }
+with_token n (token.Not at) = record n { operators = n.operators + 1 }
+with_token n (token.Cast at) = record n { operators = n.operators + 1 }
+with_token n (token.Join join at) = record n { joins = n.joins + 1 }
+with_token n (token.Fold fold at) = record n { operators = 0 }
+with_token n (token.Wsum at) = record n { operators = 0 }
+with_token n (token.Plain p) = with_plain n p
+with_token n t = n
 
 -- the counts behind a token
 abbrev pub after : Counts → Token → Counts
-after n (token.Open at) = record { brackets = n.brackets + 1; operators = n.operators; joins = n.joins }
-after n (token.Operator o at) = one_operator n
-after n (token.Not at) = one_operator n
-after n (token.Cast at) = one_operator n
-after n (token.Join join at) = record { brackets = n.brackets; operators = n.operators; joins = n.joins + 1 }
-after n (token.Fold fold at) = new_expression n
-after n (token.Wsum at) = new_expression n
-after n (token.Plain p) = after_plain n p
-after n t = n
+after n t = record (with_token n t) { operand = begins_operand t }
 
 -- a count is past its limit
 abbrev pub is_past : Counts → Bool

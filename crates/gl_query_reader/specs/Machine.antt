@@ -4,8 +4,8 @@ use Rattle.gl_bits.specs.declared.kind.Kind.{Kind}
 use Rattle.gl_schema.specs.SchemaFaults.{kind_named}
 use Rattle.gl_query.specs.declared.tree.Name.{Name}
 use Rattle.gl_query.specs.declared.tree.Num.{Num}
-use Rattle.gl_query.specs.declared.tree.Op.{Op}
-use Rattle.gl_query.specs.declared.tree.Op.TheVariants as op
+use Rattle.gl_bits.specs.declared.op.Op.{Op}
+use Rattle.gl_bits.specs.declared.op.Op.TheVariants as op
 use Rattle.gl_query_tokens.specs.declared.token.Fold.{Fold}
 use Rattle.gl_query_tokens.specs.declared.token.Join.{Join}
 use Rattle.gl_query_tokens.specs.declared.token.Plain.{Plain}
@@ -105,6 +105,10 @@ start = record { control = WantTerm; frames = [] }
 abbrev pub goes : Control → List Frame → Option State
 goes control fs = Some (record { control = control; frames = fs })
 
+-- a keyword or a sign leads on
+abbrev pub expected : Plain → Control → List Frame → Token → Option State
+expected wanted next fs t = if is_plain wanted t then goes next fs else None
+
 -- ---- expressions
 
 -- what is looser than all that may stand here
@@ -160,7 +164,7 @@ abbrev pub want_kind : List Frame → ℕ → ℕ → Expr → Token → Option 
 want_kind fs at open' e t = option_and_then (λ word. option_and_then (λ kind. goes (WantCastClose at open' e word kind) fs) (kind_named word.text)) (name_in t)
 
 abbrev pub want_cast_close : List Frame → ℕ → ℕ → Expr → Name → Kind → Token → Option State
-want_cast_close fs at open' e word kind t = if is_plain plain.Close t then goes (HaveExpr (Cast at open' e word kind)) fs else None
+want_cast_close fs at open' e word kind t = expected plain.Close (HaveExpr (Cast at open' e word kind)) fs t
 
 -- ---- queries
 
@@ -249,17 +253,11 @@ want_item items fs t = if begins_agg t then want_agg items fs t else want_operan
 abbrev pub want_count_open : List Frame → List Item → ℕ → Token → Option State
 want_count_open fs items at t = option_and_then (λ n. goes (WantCountClose items at n) fs) (open_in t)
 
-abbrev pub want_count_close : List Frame → List Item → ℕ → ℕ → Token → Option State
-want_count_close fs items at open' t = if is_plain plain.Close t then goes (WantAs items (Count at open')) fs else None
-
 abbrev pub want_fold_open : List Frame → List Item → Fold → ℕ → Token → Option State
 want_fold_open fs items fold at t = option_and_then (λ n. goes WantOperand (InFold items fold at n ∷ fs)) (open_in t)
 
 abbrev pub want_wsum_open : List Frame → List Item → ℕ → Token → Option State
 want_wsum_open fs items at t = option_and_then (λ n. goes WantOperand (InWsum items at n ∷ fs)) (open_in t)
-
-abbrev pub want_weights_open : List Frame → List Item → ℕ → ℕ → Expr → Token → Option State
-want_weights_open fs items at open' e t = if is_plain plain.LeftSquare t then goes (WantWeight items at open' e []) fs else None
 
 abbrev pub want_weight : List Frame → List Item → ℕ → ℕ → Expr → List Num → Token → Option State
 want_weight fs items at open' e ns t = option_and_then (λ n. goes (HaveWeight items at open' e (ns ++ n ∷ [])) fs) (number_in t)
@@ -267,12 +265,6 @@ want_weight fs items at open' e ns t = option_and_then (λ n. goes (HaveWeight i
 abbrev pub have_weight : List Frame → List Item → ℕ → ℕ → Expr → List Num → Token → Option State
 have_weight fs items at open' e ns t = if is_plain plain.Comma t then goes (WantWeight items at open' e ns) fs else
     if is_plain plain.RightSquare t then goes (WantWsumClose items at open' e ns) fs else None
-
-abbrev pub want_wsum_close : List Frame → List Item → ℕ → ℕ → Expr → List Num → Token → Option State
-want_wsum_close fs items at open' e ns t = if is_plain plain.Close t then goes (WantAs items (Wsum at open' e ns)) fs else None
-
-abbrev pub want_as : List Frame → List Item → Agg → Token → Option State
-want_as fs items agg t = if is_plain plain.As t then goes (WantItemName items (UnnamedAgg agg)) fs else None
 
 abbrev pub under_name : Unnamed → Name → Item
 under_name (UnnamedExpr e) name = Named e name
@@ -285,9 +277,6 @@ want_item_name fs items u t = option_and_then (λ name. goes (HaveItem (items ++
 abbrev pub have_item : List Frame → List Item → Token → Option State
 have_item fs items t = if is_plain plain.Comma t then goes (WantItem items) fs else
     if is_plain plain.From t then goes (WantSource (SelectHead (Items items))) fs else None
-
-abbrev pub want_from : List Frame → ℕ → Token → Option State
-want_from fs at t = if is_plain plain.From t then goes (WantSource (SelectHead (All at))) fs else None
 
 -- ---- what stands behind an expression
 
@@ -305,16 +294,16 @@ after_filter fs pick source window e t = if is_plain plain.Group t then goes (Wa
     have_term fs (Select pick source window (Some e) None) t
 
 abbrev pub after_brackets : List Frame → ℕ → Expr → Token → Option State
-after_brackets fs at e t = if is_plain plain.Close t then goes (HaveExpr (Brackets at e)) fs else None
+after_brackets fs at e t = expected plain.Close (HaveExpr (Brackets at e)) fs t
 
 abbrev pub after_cast : List Frame → ℕ → ℕ → Expr → Token → Option State
-after_cast fs at open' e t = if is_plain plain.As t then goes (WantKind at open' e) fs else None
+after_cast fs at open' e t = expected plain.As (WantKind at open' e) fs t
 
 abbrev pub after_fold : List Frame → List Item → Fold → ℕ → ℕ → Expr → Token → Option State
-after_fold fs items fold at open' e t = if is_plain plain.Close t then goes (WantAs items (Fold' fold at open' e)) fs else None
+after_fold fs items fold at open' e t = expected plain.Close (WantAs items (Fold' fold at open' e)) fs t
 
 abbrev pub after_wsum : List Frame → List Item → ℕ → ℕ → Expr → Token → Option State
-after_wsum fs items at open' e t = if is_plain plain.Comma t then goes (WantWeightsOpen items at open' e) fs else None
+after_wsum fs items at open' e t = expected plain.Comma (WantWeightsOpen items at open' e) fs t
 
 -- what ends an expression, by what it stands in
 abbrev pub after_expr : List Frame → Expr → Token → Option State
@@ -369,30 +358,18 @@ want_size fs head source t = option_and_then (λ n. goes (WantSizeNumber head so
 abbrev pub want_size_number : List Frame → Head → Query → ℕ → Token → Option State
 want_size_number fs head source at t = option_and_then (λ n. goes (WantAdvance head source at n) fs) (number_in t)
 
-abbrev pub want_advance : List Frame → Head → Query → ℕ → Num → Token → Option State
-want_advance fs head source at size t = if is_plain plain.Advance t then goes (WantAdvanceNumber head source at size) fs else None
-
 abbrev pub want_advance_number : List Frame → Head → Query → ℕ → Num → Token → Option State
 want_advance_number fs head source at size t = option_and_then (λ n. goes (WantTuples head source (record { at = at; size = size; advance = n })) fs) (number_in t)
-
-abbrev pub want_tuples : List Frame → Head → Query → Window → Token → Option State
-want_tuples fs head source window t = if is_plain plain.Tuples t then goes (WantWindowClose head source window) fs else None
 
 abbrev pub after_window : Head → Query → Window → Control
 after_window (SelectHead pick) source window = HaveSource pick source (Some window)
 after_window (EachHead at var) source window = WantBody (WindowsHead at var source window)
-
-abbrev pub want_window_close : List Frame → Head → Query → Window → Token → Option State
-want_window_close fs head source window t = if is_plain plain.RightSquare t then goes (after_window head source window) fs else None
 
 abbrev pub want_by : List Frame → Pick → Query → Option Window → Option Expr → Token → Option State
 want_by fs pick source window filter t = option_and_then (λ n. goes (WantKey (SelectGroups pick source window filter) n) fs) (by_in t)
 
 abbrev pub want_key : List Frame → GroupsHead → ℕ → Token → Option State
 want_key fs head at t = option_and_then (λ key. goes (WantGroups head at key) fs) (name_in t)
-
-abbrev pub want_groups : List Frame → GroupsHead → ℕ → Name → Token → Option State
-want_groups fs head at key t = if is_plain plain.Groups t then goes (WantGroupsNumber head at key) fs else None
 
 abbrev pub after_groups : GroupsHead → Grouping → Control
 after_groups (SelectGroups pick source window filter) g = HaveTerm (Select pick source window filter (Some g))
@@ -416,38 +393,32 @@ want_term fs t = None
 abbrev pub want_var : List Frame → ℕ → Token → Option State
 want_var fs at t = option_and_then (λ name. goes (WantIn at name) fs) (name_in t)
 
-abbrev pub want_in : List Frame → ℕ → Name → Token → Option State
-want_in fs at var t = if is_plain plain.In t then goes (WantSource (EachHead at var)) fs else None
-
 abbrev pub want_body : List Frame → BodyHead → Token → Option State
 want_body fs head t = option_and_then (λ n. goes WantTerm (InBody head n ∷ fs)) (open_in t)
 
 abbrev pub want_name : List Frame → Query → Token → Option State
 want_name fs q t = option_and_then (λ name. goes (HaveName q name) fs) (name_in t)
 
-abbrev pub have_name : List Frame → Query → Name → Token → Option State
-have_name fs q name t = if is_plain plain.Semicolon t then goes (WantEnd q name) fs else None
-
 abbrev pub step_at : Control → List Frame → Token → Option State
 step_at WantTerm fs t = want_term fs t
 step_at (WantVar at) fs t = want_var fs at t
-step_at (WantIn at var) fs t = want_in fs at var t
+step_at (WantIn at var) fs t = expected plain.In (WantSource (EachHead at var)) fs t
 step_at (WantBody head) fs t = want_body fs head t
 step_at (HaveTerm q) fs t = have_term fs q t
 step_at (WantName q) fs t = want_name fs q t
-step_at (HaveName q name) fs t = have_name fs q name t
+step_at (HaveName q name) fs t = expected plain.Semicolon (WantEnd q name) fs t
 step_at (WantSource head) fs t = want_source fs head t
 step_at (HaveSource pick source window) fs t = have_source fs pick source window t
 step_at (HaveEachSource at var source) fs t = have_each_source fs at var source t
 step_at (WantSize head source) fs t = want_size fs head source t
 step_at (WantSizeNumber head source at) fs t = want_size_number fs head source at t
-step_at (WantAdvance head source at size) fs t = want_advance fs head source at size t
+step_at (WantAdvance head source at size) fs t = expected plain.Advance (WantAdvanceNumber head source at size) fs t
 step_at (WantAdvanceNumber head source at size) fs t = want_advance_number fs head source at size t
-step_at (WantTuples head source window) fs t = want_tuples fs head source window t
-step_at (WantWindowClose head source window) fs t = want_window_close fs head source window t
+step_at (WantTuples head source window) fs t = expected plain.Tuples (WantWindowClose head source window) fs t
+step_at (WantWindowClose head source window) fs t = expected plain.RightSquare (after_window head source window) fs t
 step_at (WantBy pick source window filter) fs t = want_by fs pick source window filter t
 step_at (WantKey head at) fs t = want_key fs head at t
-step_at (WantGroups head at key) fs t = want_groups fs head at key t
+step_at (WantGroups head at key) fs t = expected plain.Groups (WantGroupsNumber head at key) fs t
 step_at (WantGroupsNumber head at key) fs t = want_groups_number fs head at key t
 step_at (WantItem items) fs t = want_item items fs t
 step_at WantOperand fs t = want_operand fs t
@@ -456,17 +427,17 @@ step_at (WantCastOpen at) fs t = want_cast_open fs at t
 step_at (WantKind at open' e) fs t = want_kind fs at open' e t
 step_at (WantCastClose at open' e word kind) fs t = want_cast_close fs at open' e word kind t
 step_at (WantCountOpen items at) fs t = want_count_open fs items at t
-step_at (WantCountClose items at open') fs t = want_count_close fs items at open' t
+step_at (WantCountClose items at open') fs t = expected plain.Close (WantAs items (Count at open')) fs t
 step_at (WantFoldOpen items fold at) fs t = want_fold_open fs items fold at t
 step_at (WantWsumOpen items at) fs t = want_wsum_open fs items at t
-step_at (WantWeightsOpen items at open' e) fs t = want_weights_open fs items at open' e t
+step_at (WantWeightsOpen items at open' e) fs t = expected plain.LeftSquare (WantWeight items at open' e []) fs t
 step_at (WantWeight items at open' e ns) fs t = want_weight fs items at open' e ns t
 step_at (HaveWeight items at open' e ns) fs t = have_weight fs items at open' e ns t
-step_at (WantWsumClose items at open' e ns) fs t = want_wsum_close fs items at open' e ns t
-step_at (WantAs items agg) fs t = want_as fs items agg t
+step_at (WantWsumClose items at open' e ns) fs t = expected plain.Close (WantAs items (Wsum at open' e ns)) fs t
+step_at (WantAs items agg) fs t = expected plain.As (WantItemName items (UnnamedAgg agg)) fs t
 step_at (WantItemName items u) fs t = want_item_name fs items u t
 step_at (HaveItem items) fs t = have_item fs items t
-step_at (WantFrom at) fs t = want_from fs at t
+step_at (WantFrom at) fs t = expected plain.From (WantSource (SelectHead (All at))) fs t
 step_at (WantEnd q name) fs t = None
 
 -- the state behind a token that can stand there

@@ -13,7 +13,8 @@ use Rattle.gl_query_reader.specs.Machine.{State, step, finish}
 use Rattle.gl_query_reader.specs.Limits.{after, is_past}
 use Rattle.gl_query_reader.specs.declared.state.State as declared
 use Rattle.gl_query_reader.specs.Trees.{statement_of, state_of}
-use Rattle.gl_query_reader.specs.Meaning.{Statement', statement_meaning, statement_tree}
+use Rattle.gl_query_reader.specs.Meaning.{statement_meaning}
+use Rattle.gl_query.specs.Trees.{StatementTree, statement_tree}
 use Rattle.gl_query_reader.specs.Mixed.{mixed_in}
 
 abbrev pub or_syntax : Option Statement → ℕ → Result Statement ReadFault
@@ -48,19 +49,19 @@ StepGives at next past (Err (TooDeep a)) = (a ≡ at) × (is_some next ≡ true)
 StepGives at next past (Err Memory) = Unit {0}
 
 -- what is answered of a statement that is written
-abbrev pub with_items : Option ℕ → Statement → Result Statement' QueryFault
+abbrev pub with_items : Option ℕ → Statement → Result StatementTree QueryFault
 with_items None w = Ok (statement_meaning w)
 with_items (Some at) w = Err (fault.MixedItems at)
 
 -- what is answered of what was read
-abbrev pub answered : Result Statement ReadFault → Result Statement' QueryFault
+abbrev pub answered : Result Statement ReadFault → Result StatementTree QueryFault
 answered (Ok w) = with_items (mixed_in w.query) w
 answered (Err (Syntax at)) = Err (fault.Syntax at)
 answered (Err (TooDeep at)) = Err (fault.TooDeep at)
 answered (Err Memory) = Err fault.Memory
 
 -- what a function returned is this answer, unless memory ran out
-abbrev pub Answers : Result tree.Statement QueryFault → Result Statement' QueryFault → Type 0
+abbrev pub Answers : Result tree.Statement QueryFault → Result StatementTree QueryFault → Type 0
 Answers (Ok s) r = r ≡ Ok (statement_tree s)
 Answers (Err fault.Memory) r = Unit {0}
 Answers (Err e) r = r ≡ Err e

@@ -6,7 +6,7 @@ ghost use Rattle.gl_query_reader.specs.Trees.{expr_of, items_of, pick_of, query_
 
 use crate::expressions::Around;
 use crate::items::{add_item, have_item};
-use crate::parts::{give_up, goes, refuse};
+use crate::parts::{expect, give_up, goes, refuse};
 use crate::queries::have_term;
 use crate::state::{Control, Frame, ItemControl, SourceControl, State, Unnamed};
 use crate::written::{
@@ -129,17 +129,12 @@ fn after_cast(
 ) -> Result<Option<State>, AllocError>
     ensures { IfOk result (λ o. next_of o ≡ machine.after_cast (frames_of frames.items) at «open» (expr_of expr) token.now) }
 {
-    if !is_plain(token, Plain::As) {
-        return refuse((frames, expr));
-    }
-    goes(
-        Control::Item(ItemControl::WantKind {
-            at,
-            open,
-            inner: expr,
-        }),
-        frames,
-    )
+    let next = Control::Item(ItemControl::WantKind {
+        at,
+        open,
+        inner: expr,
+    });
+    expect(token, Plain::As, next, frames)
 }
 
 // Behind the argument of SUM, MIN, MAX or AVG.
@@ -154,21 +149,14 @@ fn after_fold(
 ) -> Result<Option<State>, AllocError>
     ensures { IfOk result (λ o. next_of o ≡ machine.after_fold (frames_of frames.items) (items_of items) fold at «open» (expr_of expr) token.now) }
 {
-    if !is_plain(token, Plain::Close) {
-        return refuse((frames, items, expr));
-    }
-    goes(
-        Control::Item(ItemControl::WantAs {
-            items,
-            agg: WrittenAgg::Fold {
-                fold,
-                at,
-                open,
-                arg: expr,
-            },
-        }),
-        frames,
-    )
+    let agg = WrittenAgg::Fold {
+        fold,
+        at,
+        open,
+        arg: expr,
+    };
+    let next = Control::Item(ItemControl::WantAs { items, agg });
+    expect(token, Plain::Close, next, frames)
 }
 
 // Behind the argument of WSUM.
@@ -182,18 +170,13 @@ fn after_wsum(
 ) -> Result<Option<State>, AllocError>
     ensures { IfOk result (λ o. next_of o ≡ machine.after_wsum (frames_of frames.items) (items_of items) at «open» (expr_of expr) token.now) }
 {
-    if !is_plain(token, Plain::Comma) {
-        return refuse((frames, items, expr));
-    }
-    goes(
-        Control::Item(ItemControl::WantWeightsOpen {
-            items,
-            at,
-            open,
-            arg: expr,
-        }),
-        frames,
-    )
+    let next = Control::Item(ItemControl::WantWeightsOpen {
+        items,
+        at,
+        open,
+        arg: expr,
+    });
+    expect(token, Plain::Comma, next, frames)
 }
 
 /// What ends an expression, by what it stands in.

@@ -116,28 +116,6 @@ pub fn want_count_open(
     }
 }
 
-/// `)` behind `COUNT (`.
-pub fn want_count_close(
-    frames: Vec<Frame>,
-    items: WrittenItems,
-    at: u64,
-    open: u64,
-    token: &Token,
-) -> Result<Option<State>, AllocError>
-    ensures { IfOk result (λ o. next_of o ≡ machine.want_count_close (frames_of frames.items) (items_of items) at «open» token.now) }
-{
-    if !is_plain(token, Plain::Close) {
-        return refuse((frames, items));
-    }
-    goes(
-        Control::Item(ItemControl::WantAs {
-            items,
-            agg: WrittenAgg::Count { at, open },
-        }),
-        frames,
-    )
-}
-
 /// `(` behind SUM, MIN, MAX or AVG.
 pub fn want_fold_open(
     frames: Vec<Frame>,
@@ -180,34 +158,6 @@ pub fn want_wsum_open(
         ),
         None => refuse((frames, items)),
     }
-}
-
-/// `[` behind the argument of WSUM.
-pub fn want_weights_open(
-    alloc: Global,
-    frames: Vec<Frame>,
-    items: WrittenItems,
-    at: u64,
-    open: u64,
-    arg: WrittenExpr,
-    token: &Token,
-) -> Result<Option<State>, AllocError>
-    ensures { IfOk result (λ o. next_of o ≡ machine.want_weights_open (frames_of frames.items) (items_of items) at «open» (expr_of arg) token.now) }
-{
-    if !is_plain(token, Plain::LeftSquare) {
-        return refuse((frames, items, arg));
-    }
-    let weights = Nums::new(alloc);
-    goes(
-        Control::Item(ItemControl::WantWeight {
-            items,
-            at,
-            open,
-            arg,
-            weights,
-        }),
-        frames,
-    )
 }
 
 fn add_weight(weights: &mut Nums, weight: Num) -> Result<(), AllocError>
@@ -289,56 +239,6 @@ pub fn have_weight(
     refuse((frames, items, arg, weights))
 }
 
-/// `)` behind the weights.
-pub fn want_wsum_close(
-    frames: Vec<Frame>,
-    items: WrittenItems,
-    at: u64,
-    open: u64,
-    arg: WrittenExpr,
-    weights: Nums,
-    token: &Token,
-) -> Result<Option<State>, AllocError>
-    ensures { IfOk result (λ o. next_of o ≡ machine.want_wsum_close (frames_of frames.items) (items_of items) at «open» (expr_of arg) weights token.now) }
-{
-    if !is_plain(token, Plain::Close) {
-        return refuse((frames, items, arg, weights));
-    }
-    goes(
-        Control::Item(ItemControl::WantAs {
-            items,
-            agg: WrittenAgg::Wsum {
-                at,
-                open,
-                arg,
-                weights,
-            },
-        }),
-        frames,
-    )
-}
-
-/// AS behind an aggregate.
-pub fn want_as(
-    frames: Vec<Frame>,
-    items: WrittenItems,
-    agg: WrittenAgg,
-    token: &Token,
-) -> Result<Option<State>, AllocError>
-    ensures { IfOk result (λ o. next_of o ≡ machine.want_as (frames_of frames.items) (items_of items) (agg_of agg) token.now) }
-{
-    if !is_plain(token, Plain::As) {
-        return refuse((frames, items, agg));
-    }
-    goes(
-        Control::Item(ItemControl::WantItemName {
-            items,
-            unnamed: Unnamed::Agg(agg),
-        }),
-        frames,
-    )
-}
-
 fn under_name(unnamed: Unnamed, name: Name) -> WrittenItem
     ensures { item_of result ≡ machine.under_name (unnamed_of unnamed) name }
 {
@@ -408,19 +308,4 @@ pub fn have_item(
         );
     }
     refuse((frames, items))
-}
-
-/// FROM behind `*`.
-pub fn want_from(frames: Vec<Frame>, at: u64, token: &Token) -> Result<Option<State>, AllocError>
-    ensures { IfOk result (λ o. next_of o ≡ machine.want_from (frames_of frames.items) at token.now) }
-{
-    if !is_plain(token, Plain::From) {
-        return refuse(frames);
-    }
-    goes(
-        Control::Source(SourceControl::WantSource {
-            head: Head::Select(WrittenPick::All { at }),
-        }),
-        frames,
-    )
 }

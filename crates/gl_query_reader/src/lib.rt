@@ -1,4 +1,5 @@
-//! The reader of statements: the text of a query to its tree, and back.
+//! The reader of statements: the text of a query to its tree, or its first fault. The canonical text of a
+//! statement is gl_query_printer's, and the tests are gl_query_tests'.
 #![tactic(auto)]
 
 mod expressions;
@@ -13,8 +14,6 @@ mod parts;
 mod queries;
 mod sources;
 mod state;
-#[cfg(test)]
-mod tests;
 pub mod text;
 mod written;
 

@@ -14,6 +14,8 @@ pub struct Counts {
     pub operators: u32,
     /// UNION and CONCAT so far.
     pub joins: u32,
+    /// Whether an operand may begin here.
+    pub operand: bool,
 }
 
 /// Round brackets that may be open at once.
@@ -25,6 +27,20 @@ pub const MOST_OPERATORS: u32 = 256;
 /// UNION and CONCAT that a text may have.
 pub const MOST_JOINS: u32 = 64;
 
+// Whether an operand may begin behind a token.
+fn begins_operand(token: &Token) -> bool
+    ensures { result ≡ limits.begins_operand token.now }
+{
+    match token {
+        Token::Open { .. } | Token::Operator { .. } | Token::Not { .. } => true,
+        Token::Plain(plain) => match plain {
+            Plain::Select | Plain::Where | Plain::Comma | Plain::LeftSquare => true,
+            _ => false,
+        },
+        _ => false,
+    }
+}
+
 impl Counts {
     /// Nothing.
     pub fn new() -> Counts
@@ -34,6 +50,7 @@ impl Counts {
             brackets: 0,
             operators: 0,
             joins: 0,
+            operand: false,
         }
     }
 
@@ -42,17 +59,29 @@ impl Counts {
         requires { limits.IsSmall self }
         ensures { result ≡ limits.after self token.now }
     {
+        Counts {
+            operand: begins_operand(token),
+            ..self.with(token)
+        }
+    }
+
+    fn with(self, token: &Token) -> Counts
+        requires { limits.IsSmall self }
+        ensures { result ≡ limits.with_token self token.now }
+    {
         match token {
             Token::Open { .. } => Counts {
                 brackets: self.brackets + 1,
                 ..self
             },
-            Token::Operator { .. } | Token::Not { .. } | Token::Cast { .. } => {
-                Counts {
-                    operators: self.operators + 1,
-                    ..self
-                }
-            }
+            Token::Operator { .. } => Counts {
+                operators: self.operators_with(),
+                ..self
+            },
+            Token::Not { .. } | Token::Cast { .. } => Counts {
+                operators: self.operators + 1,
+                ..self
+            },
             Token::Join { .. } => Counts {
                 joins: self.joins + 1,
                 ..self
@@ -61,13 +90,24 @@ impl Counts {
                 operators: 0,
                 ..self
             },
-            Token::Plain(plain) => self.after_plain(*plain),
+            Token::Plain(plain) => self.with_plain(*plain),
             _ => self,
         }
     }
 
-    fn after_plain(self, plain: Plain) -> Counts
-        ensures { result ≡ limits.after_plain self plain }
+    fn operators_with(self) -> u32
+        requires { limits.IsSmall self }
+        ensures { result ≡ limits.operators_with self }
+    {
+        if self.operand {
+            self.operators
+        } else {
+            self.operators + 1
+        }
+    }
+
+    fn with_plain(self, plain: Plain) -> Counts
+        ensures { result ≡ limits.with_plain self plain }
     {
         match plain {
             Plain::Close => Counts {

@@ -2,7 +2,7 @@
 
 ghost use Rattle.std.specs.Prelude.{◌≡◌, ◌++◌, ◌∷◌, [], IfOk, OnOk, map, option_map};
 ghost use Rattle.gl_query_reader.specs.Meaning as meaning;
-ghost use Rattle.gl_query_reader.specs.Meaning.{expr_tree, agg_tree, item_tree, agg_item_tree, pick_tree, filter_tree, query_tree, statement_tree};
+ghost use Rattle.gl_query.specs.Trees.{expr_tree, agg_tree, item_tree, agg_item_tree, pick_tree, filter_tree, query_tree, statement_tree, Items, Rows, Total};
 ghost use Rattle.gl_query_reader.specs.Trees.{expr_of, agg_of, item_of, items_of, pick_of, filter_of, query_of, statement_of};
 
 use crate::mixed::is_total;
@@ -191,7 +191,7 @@ fn filtered(alloc: Global, filter: Option<Expr>, source: Query) -> Result<Query,
 }
 
 fn totals(alloc: Global, items: WrittenItems, source: Query) -> Result<Query, AllocError>
-    ensures { IfOk result (λ q. query_tree q ≡ meaning.Total (meaning.agg_items (items_of items)) (query_tree source)) }
+    ensures { IfOk result (λ q. query_tree q ≡ Total (meaning.agg_items (items_of items)) (query_tree source)) }
 {
     let aggs = agg_items(alloc, items)?;
     let source = Box::new(alloc, source)?;
@@ -204,7 +204,7 @@ fn rows(
     filter: Option<Expr>,
     source: Query,
 ) -> Result<Query, AllocError>
-    ensures { IfOk result (λ q. query_tree q ≡ meaning.Rows (meaning.Items (meaning.plain_items (items_of items))) (filter_tree filter) (query_tree source)) }
+    ensures { IfOk result (λ q. query_tree q ≡ Rows (Items (meaning.plain_items (items_of items))) (filter_tree filter) (query_tree source)) }
 {
     let pick = Pick::Items(plain_items(alloc, items)?);
     let source = Box::new(alloc, source)?;

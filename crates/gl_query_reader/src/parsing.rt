@@ -9,20 +9,22 @@ ghost use Rattle.gl_query_reader.specs.declared.parsing.ReadFault.TheVariants.{M
 
 use crate::expressions::{have_expr, want_cast_close, want_cast_open, want_kind, want_operand};
 use crate::items::{
-    have_item, have_weight, want_as, want_count_close, want_count_open, want_fold_open, want_from,
-    want_item, want_item_name, want_weight, want_weights_open, want_wsum_close, want_wsum_open,
+    have_item, have_weight, want_count_open, want_fold_open, want_item, want_item_name,
+    want_weight, want_wsum_open,
 };
 use crate::limits::Counts;
-use crate::parts::refuse;
-use crate::queries::{have_name, have_term, want_body, want_in, want_name, want_term, want_var};
+use crate::parts::{expect, refuse};
+use crate::queries::{have_term, want_body, want_name, want_term, want_var};
 use crate::sources::{
-    have_each_source, have_source, want_advance, want_advance_number, want_by, want_groups,
-    want_groups_number, want_key, want_size, want_size_number, want_source, want_tuples,
-    want_window_close,
+    after_window, have_each_source, have_source, want_advance_number, want_by, want_groups_number,
+    want_key, want_size, want_size_number, want_source,
 };
-use crate::state::{Control, Frame, ItemControl, QueryControl, SourceControl, State};
-use crate::written::WrittenStatement;
-use gl_query_tokens::{Lexeme, Token};
+use crate::state::{
+    Control, Frame, Head, ItemControl, QueryControl, SourceControl, State, Unnamed,
+};
+use crate::written::{WrittenAgg, WrittenPick, WrittenStatement};
+use gl_query::Nums;
+use gl_query_tokens::{Lexeme, Plain, Token};
 use std::alloc::{AllocError, Global};
 
 /// Why tokens are no statement, with the place of the token that shows it.
@@ -66,9 +68,11 @@ fn step_item(
             kind,
         } => { want_cast_close(alloc, frames, at, open, inner, word, kind, token) }
         ItemControl::WantCountOpen { items, at } => want_count_open(frames, items, at, token),
-        ItemControl::WantCountClose { items, at, open } => want_count_close(
-            frames, items, at, open, token,
-        ),
+        ItemControl::WantCountClose { items, at, open } => {
+            let agg = WrittenAgg::Count { at, open };
+            let next = Control::Item(ItemControl::WantAs { items, agg });
+            expect(token, Plain::Close, next, frames)
+        }
         ItemControl::WantFoldOpen { items, fold, at } => want_fold_open(
             frames, items, fold, at, token,
         ),
@@ -78,7 +82,16 @@ fn step_item(
             at,
             open,
             arg,
-        } => { want_weights_open(alloc, frames, items, at, open, arg, token) }
+        } => {
+            let next = Control::Item(ItemControl::WantWeight {
+                items,
+                at,
+                open,
+                arg,
+                weights: Nums::new(alloc),
+            });
+            expect(token, Plain::LeftSquare, next, frames)
+        }
         ItemControl::WantWeight {
             items,
             at,
@@ -99,13 +112,30 @@ fn step_item(
             open,
             arg,
             weights,
-        } => { want_wsum_close(frames, items, at, open, arg, weights, token) }
-        ItemControl::WantAs { items, agg } => want_as(frames, items, agg, token),
+        } => {
+            let agg = WrittenAgg::Wsum {
+                at,
+                open,
+                arg,
+                weights,
+            };
+            let next = Control::Item(ItemControl::WantAs { items, agg });
+            expect(token, Plain::Close, next, frames)
+        }
+        ItemControl::WantAs { items, agg } => {
+            let unnamed = Unnamed::Agg(agg);
+            let next = Control::Item(ItemControl::WantItemName { items, unnamed });
+            expect(token, Plain::As, next, frames)
+        }
         ItemControl::WantItemName { items, unnamed } => want_item_name(
             alloc, frames, items, unnamed, token,
         ),
         ItemControl::HaveItem { items } => have_item(frames, items, token),
-        ItemControl::WantFrom { at } => want_from(frames, at, token),
+        ItemControl::WantFrom { at } => {
+            let head = Head::Select(WrittenPick::All { at });
+            let next = Control::Source(SourceControl::WantSource { head });
+            expect(token, Plain::From, next, frames)
+        }
     }
 }
 
@@ -137,7 +167,15 @@ fn step_source(
             source,
             at,
             size,
-        } => want_advance(frames, head, source, at, size, token),
+        } => {
+            let next = Control::Source(SourceControl::WantAdvanceNumber {
+                head,
+                source,
+                at,
+                size,
+            });
+            expect(token, Plain::Advance, next, frames)
+        }
         SourceControl::WantAdvanceNumber {
             head,
             source,
@@ -148,12 +186,22 @@ fn step_source(
             head,
             source,
             window,
-        } => want_tuples(frames, head, source, window, token),
+        } => {
+            let next = Control::Source(SourceControl::WantWindowClose {
+                head,
+                source,
+                window,
+            });
+            expect(token, Plain::Tuples, next, frames)
+        }
         SourceControl::WantWindowClose {
             head,
             source,
             window,
-        } => want_window_close(frames, head, source, window, token),
+        } => {
+            let next = after_window(head, source, window);
+            expect(token, Plain::RightSquare, next, frames)
+        }
         SourceControl::WantBy {
             pick,
             source,
@@ -161,7 +209,10 @@ fn step_source(
             filter,
         } => want_by(frames, pick, source, window, filter, token),
         SourceControl::WantKey { head, at } => want_key(alloc, frames, head, at, token),
-        SourceControl::WantGroups { head, at, key } => want_groups(frames, head, at, key, token),
+        SourceControl::WantGroups { head, at, key } => {
+            let next = Control::Source(SourceControl::WantGroupsNumber { head, at, key });
+            expect(token, Plain::Groups, next, frames)
+        }
         SourceControl::WantGroupsNumber { head, at, key } => want_groups_number(
             alloc, frames, head, at, key, token,
         ),
@@ -180,11 +231,18 @@ fn step_query(
     match control {
         QueryControl::WantTerm => want_term(alloc, frames, token),
         QueryControl::WantVar { at } => want_var(alloc, frames, at, token),
-        QueryControl::WantIn { at, var } => want_in(frames, at, var, token),
+        QueryControl::WantIn { at, var } => {
+            let head = Head::Each { at, var };
+            let next = Control::Source(SourceControl::WantSource { head });
+            expect(token, Plain::In, next, frames)
+        }
         QueryControl::WantBody { head } => want_body(frames, head, token),
         QueryControl::HaveTerm { term } => have_term(alloc, frames, term, token),
         QueryControl::WantName { query } => want_name(alloc, frames, query, token),
-        QueryControl::HaveName { query, name } => have_name(frames, query, name, token),
+        QueryControl::HaveName { query, name } => {
+            let next = Control::Query(QueryControl::WantEnd { query, name });
+            expect(token, Plain::Semicolon, next, frames)
+        }
         QueryControl::WantEnd { query, name } => { refuse((query, name, frames)) }
     }
 }

@@ -3,11 +3,13 @@
 ghost use Rattle.std.specs.Prelude.{◌≡◌, ◌∷◌, IfOk, None};
 ghost use Rattle.gl_query_tokens.specs.Sorts.{name_in};
 ghost use Rattle.gl_query_reader.specs.Machine as machine;
+ghost use Rattle.gl_query_reader.specs.Machine.{expected};
 ghost use Rattle.gl_query_reader.specs.Trees.{frame_of, frames_of, control_of, next_of};
 
 use crate::state::{Control, Frame, State};
 use gl_query::{Name, TextBytes};
-use gl_query_tokens::Token;
+use gl_query_tokens::sorts::is_plain;
+use gl_query_tokens::{Plain, Token};
 use gl_schema::NameText;
 use std::alloc::{AllocError, Global};
 
@@ -32,6 +34,22 @@ pub fn goes(control: Control, frames: Vec<Frame>) -> Result<Option<State>, Alloc
     ensures { IfOk result (λ o. next_of o ≡ machine.goes (control_of control) (frames_of frames.items)) }
 {
     Ok(Some(State { control, frames }))
+}
+
+/// The state that a keyword or a sign leads to.
+pub fn expect(
+    token: &Token,
+    wanted: Plain,
+    next: Control,
+    frames: Vec<Frame>,
+) -> Result<Option<State>, AllocError>
+    ensures { IfOk result (λ o. next_of o ≡ expected wanted (control_of next) (frames_of frames.items) token.now) }
+{
+    if is_plain(token, wanted) {
+        goes(next, frames)
+    } else {
+        refuse((next, frames))
+    }
 }
 
 /// The state of a place in these frames and one more.

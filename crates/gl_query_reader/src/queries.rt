@@ -325,26 +325,6 @@ pub fn want_var(
     }
 }
 
-/// IN.
-pub fn want_in(
-    frames: Vec<Frame>,
-    at: u64,
-    var: Name,
-    token: &Token,
-) -> Result<Option<State>, AllocError>
-    ensures { IfOk result (λ o. next_of o ≡ machine.want_in (frames_of frames.items) at var token.now) }
-{
-    if !is_plain(token, Plain::In) {
-        return refuse((frames, var));
-    }
-    goes(
-        Control::Source(SourceControl::WantSource {
-            head: Head::Each { at, var },
-        }),
-        frames,
-    )
-}
-
 /// `(` before a body.
 pub fn want_body(
     frames: Vec<Frame>,
@@ -380,22 +360,4 @@ pub fn want_name(
         Ok(None) => refuse((frames, query)),
         Err(_) => give_up((frames, query)),
     }
-}
-
-/// `;` behind the name.
-pub fn have_name(
-    frames: Vec<Frame>,
-    query: WrittenQuery,
-    name: Name,
-    token: &Token,
-) -> Result<Option<State>, AllocError>
-    ensures { IfOk result (λ o. next_of o ≡ machine.have_name (frames_of frames.items) (query_of query) name token.now) }
-{
-    if !is_plain(token, Plain::Semicolon) {
-        return refuse((frames, query, name));
-    }
-    goes(
-        Control::Query(QueryControl::WantEnd { query, name }),
-        frames,
-    )
 }

@@ -215,31 +215,6 @@ pub fn want_size_number(
     }
 }
 
-/// ADVANCE.
-pub fn want_advance(
-    frames: Vec<Frame>,
-    head: Head,
-    source: WrittenQuery,
-    at: u64,
-    size: Num,
-    token: &Token,
-) -> Result<Option<State>, AllocError>
-    ensures { IfOk result (λ o. next_of o ≡ machine.want_advance (frames_of frames.items) (head_of head) (query_of source) at size token.now) }
-{
-    if !is_plain(token, Plain::Advance) {
-        return refuse((frames, head, source));
-    }
-    goes(
-        Control::Source(SourceControl::WantAdvanceNumber {
-            head,
-            source,
-            at,
-            size,
-        }),
-        frames,
-    )
-}
-
 /// The number behind ADVANCE.
 pub fn want_advance_number(
     frames: Vec<Frame>,
@@ -264,30 +239,8 @@ pub fn want_advance_number(
     }
 }
 
-/// TUPLES.
-pub fn want_tuples(
-    frames: Vec<Frame>,
-    head: Head,
-    source: WrittenQuery,
-    window: Window,
-    token: &Token,
-) -> Result<Option<State>, AllocError>
-    ensures { IfOk result (λ o. next_of o ≡ machine.want_tuples (frames_of frames.items) (head_of head) (query_of source) window token.now) }
-{
-    if !is_plain(token, Plain::Tuples) {
-        return refuse((frames, head, source));
-    }
-    goes(
-        Control::Source(SourceControl::WantWindowClose {
-            head,
-            source,
-            window,
-        }),
-        frames,
-    )
-}
-
-fn after_window(head: Head, source: WrittenQuery, window: Window) -> Control
+/// What may stand behind a window.
+pub fn after_window(head: Head, source: WrittenQuery, window: Window) -> Control
     ensures { control_of result ≡ machine.after_window (head_of head) (query_of source) window }
 {
     match head {
@@ -305,22 +258,6 @@ fn after_window(head: Head, source: WrittenQuery, window: Window) -> Control
             },
         }),
     }
-}
-
-/// `]` behind TUPLES.
-pub fn want_window_close(
-    frames: Vec<Frame>,
-    head: Head,
-    source: WrittenQuery,
-    window: Window,
-    token: &Token,
-) -> Result<Option<State>, AllocError>
-    ensures { IfOk result (λ o. next_of o ≡ machine.want_window_close (frames_of frames.items) (head_of head) (query_of source) window token.now) }
-{
-    if !is_plain(token, Plain::RightSquare) {
-        return refuse((frames, head, source));
-    }
-    goes(after_window(head, source, window), frames)
 }
 
 /// BY behind GROUP.
@@ -369,25 +306,6 @@ pub fn want_key(
         Ok(None) => refuse((frames, head)),
         Err(_) => give_up((frames, head)),
     }
-}
-
-/// GROUPS.
-pub fn want_groups(
-    frames: Vec<Frame>,
-    head: GroupsHead,
-    at: u64,
-    key: Name,
-    token: &Token,
-) -> Result<Option<State>, AllocError>
-    ensures { IfOk result (λ o. next_of o ≡ machine.want_groups (frames_of frames.items) (groups_head_of head) at key token.now) }
-{
-    if !is_plain(token, Plain::Groups) {
-        return refuse((frames, head, key));
-    }
-    goes(
-        Control::Source(SourceControl::WantGroupsNumber { head, at, key }),
-        frames,
-    )
 }
 
 fn after_groups(alloc: Global, head: GroupsHead, grouping: Grouping) -> Result<Control, AllocError>

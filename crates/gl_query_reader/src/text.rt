@@ -7,9 +7,10 @@ ghost use Rattle.gl_query_reader.specs.Limits.{none_counted};
 ghost use Rattle.gl_query_reader.specs.Reading.{run, Gives, answered, with_items, Answers};
 ghost use Rattle.gl_query_reader.specs.Trees.{statement_of};
 ghost use Rattle.gl_query_reader.specs.Mixed.{mixed_in};
-ghost use Rattle.gl_query_reader.specs.Meaning.{Statement', statement_tree};
+ghost use Rattle.gl_query.specs.Shapes.{statement_shape};
+ghost use Rattle.gl_query.specs.Trees.{StatementTree, statement_tree};
 ghost use Rattle.gl_query.specs.declared.fault.QueryFault.TheVariants.{Syntax, TooDeep, MixedItems};
-ghost use Rattle.gl_query_reader.specs.Grammar.{HasStatement, IsOrMemory, IsErrOrMemory, IsFault, IsSyntaxFault, IsDepthFault, IsItemsFault};
+ghost use Rattle.gl_query_reader.specs.Grammar.{HasStatement, IsOrMemory, IsRegular, IsErrOrMemory, IsFault, IsSyntaxFault, IsDepthFault, IsItemsFault};
 
 use crate::meaning::statement_meaning;
 use crate::mixed::mixed_in;
@@ -73,7 +74,8 @@ fn answer(alloc: Global, text: &[u8]) -> Result<Statement, QueryFault>
 /// text is no statement but begins one. No other fault is answered.
 pub fn read_query(alloc: Global, text: &[u8]) -> Result<Statement, QueryFault>
     ensures found { IfOk result (λ s. HasStatement text.now (statement_tree s)) }
-    ensures only { (s : Statement') → HasStatement text.now s → IsOrMemory result s }
+    ensures only { (s : StatementTree) → HasStatement text.now s → IsOrMemory result s }
+    ensures regular { IfOk result (λ s. IsRegular (statement_shape s)) }
     ensures fault { IfErr result (λ e. IsFault text.now e) }
     ensures syntax { (at : ℕ) → IsSyntaxFault text.now at → IsErrOrMemory result (Syntax at) }
     ensures too_deep { (at : ℕ) → IsDepthFault text.now at → IsErrOrMemory result (TooDeep at) }

@@ -8,9 +8,11 @@ use Rattle.gl_schema.specs.declared.schema.Column.{Column}
 use Rattle.gl_query.specs.Shapes.{QueryShape}
 use Rattle.gl_query.specs.Shapes as shape
 use Rattle.gl_query.specs.Values.{column_number}
-use Rattle.gl_query.specs.Results.{Env, Row, AreBeside, IsResultIn, WithKey, columns_in, only}
-use Rattle.gl_reference.specs.Joins.{AreOverGroups, AreOverSlices}
-use Rattle.gl_reference.proofs.Joining.{first_then_second, joined_map}
+use Rattle.gl_bits.specs.Results.{Row, AreBeside}
+use Rattle.gl_query.specs.Results.{Env, IsResultIn, columns_in}
+use Rattle.gl_query.proofs.Existing.{first_then_second}
+use Rattle.gl_reference.specs.Joins.{AreOverGroups, AreOverSlices, IsOverGroup}
+use Rattle.gl_reference.proofs.Joining.{joined_map}
 
 pub each_made : (env : Env) (var : List ℕ) (source : QueryShape) (size advance : ℕ) (body : QueryShape) (from : List Row) (before : Bool) (seen : QueryShape) (named : List ℕ) (columns : List Column) (parts : List (List Row)) (inside out : List Row) (within spill : Bool)
     → IsResultIn source env from before → seen ≡ body → named ≡ var → columns ≡ columns_in env source → parts ≡ slices size advance from
@@ -22,7 +24,7 @@ each_made env var source size advance body from before seen named columns parts 
     let c = subst (λ (k : List Column). AreOverSlices body var k parts inside within) ec b in
     let d = subst (λ (p : List (List Row)). AreOverSlices body var (columns_in env source) p inside within) ep c in
     let e = subst (λ (o : List Row). AreOverSlices body var (columns_in env source) (slices size advance from) o within) (sym eo) d in
-    record { rows = from; before = before; inside = within; is = is; joined = e; spills = es }
+    record { rows = from; source_spill = before; parts_spill = within; of_source = is; of_parts = e; any = es }
 
 pub groups_made : (env : Env) (var : List ℕ) (source : QueryShape) (key : List ℕ) (n : ℕ) (body : QueryShape) (from : List Row) (before : Bool) (seen : QueryShape) (named : List ℕ) (columns : List Column) (most column : ℕ) (parts : List Keyed) (inside out : List Row) (within further spill : Bool)
     → IsResultIn source env from before → seen ≡ body → named ≡ var → columns ≡ columns_in env source → most ≡ n → column ≡ column_number columns key
@@ -41,32 +43,32 @@ groups_made env var source key n body from before seen named columns most column
     let d = subst (λ (p : List Keyed). AreOverGroups body var (columns_in env source) p inside within) whole c in
     let e = subst (λ (o : List Row). AreOverGroups body var (columns_in env source) (keyed_groups n (column_number (columns_in env source) key) from) o within) (sym eo) d in
     let shown : Group Row → Keyed = λ g. record { key = g.key; rows = g.rows } in
-    let over : Keyed → List Row → Bool → Type 0 = λ g. WithKey (IsResultIn body (only var (columns_in env source) g.rows)) g.key in
+    let over = IsOverGroup body var (columns_in env source) in
     let f = joined_map shown over (groups n (λ (r : Row). slice_index r (column_number (columns_in env source) key)) from) out within e in
-    record { rows = from; before = before; inside = within; is = is; joined = f; spills = es ∙ ap (λ (x : Bool). before || within || x) left }
+    record { rows = from; source_spill = before; parts_spill = within; of_source = is; of_parts = f; any = es ∙ ap (λ (x : Bool). before || within || x) left }
 
 pub union_made : (env : Env) (l r : QueryShape) (left right out : List Row) (p q spill : Bool)
     → IsResultIn l env left p → IsResultIn r env right q → (out ≡ left ++ right) × (spill ≡ (p || q)) → IsResultIn (shape.Union l r) env out spill
 union_made env l r left right out p q spill is is' (e, s) = record {
-  left_rows = left;
-  right_rows = right;
+  left = left;
+  right = right;
   left_spill = p;
   right_spill = q;
-  left_is = is;
-  right_is = is';
+  of_left = is;
+  of_right = is';
   join = subst (IsInterleaving left right) (sym e) (first_then_second left right);
-  spills = s;
+  either = s;
 }
 
 pub concat_made : (env : Env) (l r : QueryShape) (left right out : List Row) (p q spill : Bool)
     → IsResultIn l env left p → IsResultIn r env right q → AreBeside left right out × (spill ≡ (p || q)) → IsResultIn (shape.Concat l r) env out spill
 concat_made env l r left right out p q spill is is' (b, s) = record {
-  left_rows = left;
-  right_rows = right;
+  left = left;
+  right = right;
   left_spill = p;
   right_spill = q;
-  left_is = is;
-  right_is = is';
+  of_left = is;
+  of_right = is';
   join = b;
-  spills = s;
+  either = s;
 }

@@ -2,6 +2,7 @@
 use Rattle.std.proofs.Common.{◌≡◌, ℕ, ◌+◌, ◌*◌, ◌<◌, List, [], ◌∷◌, ◌++◌, length, take, get_or, refl, sym, ap, ◌∙◌, append_assoc, arith}
 use Rattle.std.specs.Prelude.{fold, replicate}
 use Rattle.std.proofs.lemmas.List.{replicate-append-replicate}
+use Rattle.std.proofs.lemmas.List.Sums.{fold-append}
 use Rattle.gl_bits.proofs.Totalling.{fold_more}
 use Rattle.gl_schema.specs.Schemas.{number_of}
 
@@ -9,10 +10,6 @@ pub number_more : (text : List ℕ) (i : ℕ) → i < length text → number_of 
 number_more text i lt =
     let turned : 256 * number_of (take i text) + get_or text i 0 ≡ number_of (take i text) * 256 + get_or text i 0 = omega arith in
     fold_more (λ n b. 256 * n + b) 0 text i 0 lt ∙ turned
-
-fold-append : {A B : Type 0} (f : B → A → B) (a : B) (xs ys : List A) → fold f a (xs ++ ys) ≡ fold f (fold f a xs) ys
-fold-append f a [] ys = refl
-fold-append f a (x ∷ xs) ys = fold-append f (f a x) xs ys
 
 pub number_padded : (text : List ℕ) (i : ℕ) → number_of (text ++ replicate (i + 1) 0) ≡ number_of (text ++ replicate i 0) * 256
 number_padded text i =

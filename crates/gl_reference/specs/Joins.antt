@@ -1,14 +1,18 @@
 -- A body over each part of a source, its results joined in order.
-use Rattle.std.specs.Prelude.{ℕ, List}
+use Rattle.std.specs.Prelude.{ℕ, List, ◌∷◌, map}
 use Rattle.gl_bits.specs.declared.lists.Group.{Group}
 use Rattle.gl_schema.specs.declared.schema.Column.{Column}
 use Rattle.gl_query.specs.Shapes.{QueryShape}
-use Rattle.gl_query.specs.Results.{Row, Results, AreJoined, IsResultIn, WithKey, only}
+use Rattle.gl_bits.specs.Results.{Row, Results, AreJoined, IsChanged}
+use Rattle.gl_query.specs.Results.{IsResultIn, only}
 
 -- over lists of rows
 abbrev pub AreOverSlices : QueryShape → List ℕ → List Column → List (List Row) → Results
 AreOverSlices body var columns slices = AreJoined (λ rows. IsResultIn body (only var columns rows)) slices
 
--- over groups, with the key first in each row
+-- a body over the rows of a group, with the key first in each row
+abbrev pub IsOverGroup : QueryShape → List ℕ → List Column → Group → Results
+IsOverGroup body var columns g = IsChanged (IsResultIn body (only var columns g.rows)) (map (λ row. g.key ∷ row))
+
 abbrev pub AreOverGroups : QueryShape → List ℕ → List Column → List Group → Results
-AreOverGroups body var columns groups = AreJoined (λ (g : Group). WithKey (IsResultIn body (only var columns g.rows)) g.key) groups
+AreOverGroups body var columns groups = AreJoined (IsOverGroup body var columns) groups

@@ -4,7 +4,8 @@ ghost use Rattle.std.specs.Prelude.{◌≡◌, ◌||◌, ◌++◌, IfOk, map, op
 ghost use Rattle.gl_bits.specs.Lists.{slices};
 ghost use Rattle.gl_query.specs.Shapes.{agg_item_shape, expr_shape, pick_shape, query_shape};
 ghost use Rattle.gl_query.specs.Shapes as shape;
-ghost use Rattle.gl_query.specs.Results.{AreBeside, IsResultIn};
+ghost use Rattle.gl_bits.specs.Results.{AreBeside};
+ghost use Rattle.gl_query.specs.Results.{IsResultIn};
 ghost use Rattle.gl_reference.specs.Sources.{env_view};
 
 use crate::columns::{Source, columns_of, source_named};

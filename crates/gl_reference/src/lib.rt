@@ -1,10 +1,9 @@
 //! A reference evaluator: it answers one result of a query over lists of rows, as plainly as the
-//! meaning of queries is defined.
+//! meaning of queries is defined. What is fast, or of a circuit, stands elsewhere.
 #![tactic(auto)]
 
 pub mod answers;
 pub mod columns;
-pub mod kinds;
 pub mod results;
 pub mod rows;
 pub mod values;

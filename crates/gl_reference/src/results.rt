@@ -1,16 +1,16 @@
 //! One result of a query over lists of rows.
 
-ghost use Rattle.std.specs.Prelude.{◌≡◌, [], IfOk, length, map, slice_get, unwrap_or};
+ghost use Rattle.std.specs.Prelude.{◌≡◌, IfOk, length, map};
 ghost use Rattle.gl_query.specs.Shapes.{query_shape};
 ghost use Rattle.gl_query.specs.Results.{IsResult, IsResultIn, numbered};
-ghost use Rattle.gl_reference.specs.Sources.{env_view};
+ghost use Rattle.gl_reference.specs.Sources.{env_view, given_inputs};
 ghost use Rattle.gl_reference.specs.Joins.{AreOverGroups, AreOverSlices};
 
 use crate::answers::{
     Answer, concat_of, groups_wanted, of_parts, read, rows_from, total_from, union_of, windows_of,
 };
 use crate::columns::{Source, columns_of};
-use crate::kinds::column_number;
+use gl_query::kinds::column_number;
 use crate::rows::{Fault, joined, with_key};
 use gl_bits::lists::{groups_of, some_further};
 use gl_bits::{Group, Listed, Memory, Table};
@@ -157,7 +157,7 @@ fn sources_of<'a>(
     inputs: &'a [Table],
 ) -> Result<Vec<Source<'a>>, Memory>
     requires { length inputs.now ≡ length streams.now }
-    ensures { IfOk result (λ v. env_view v.items ≡ numbered 0 streams.now (λ k. unwrap_or (slice_get inputs.now k) [])) }
+    ensures { IfOk result (λ v. env_view v.items ≡ numbered 0 streams.now (given_inputs inputs.now)) }
 {
     let mut out = Vec::new(alloc);
     for (i, stream) in streams.iter().enumerate() {
@@ -179,7 +179,7 @@ pub fn evaluate(
     inputs: &[Table],
 ) -> Result<Answer, Fault>
     requires { length inputs.now ≡ length schema.now.streams }
-    ensures { IfOk result (λ a. IsResult schema.now statement.now (λ k. unwrap_or (slice_get inputs.now k) []) a.rows a.spill) }
+    ensures { IfOk result (λ a. IsResult schema.now statement.now (given_inputs inputs.now) a.rows a.spill) }
 {
     let sources = sources_of(alloc, schema.streams.as_slice(), inputs)?;
     result_of(alloc, sources.as_slice(), &statement.query)

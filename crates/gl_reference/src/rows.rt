@@ -4,9 +4,10 @@ ghost use Rattle.std.specs.Prelude.{◌≡◌, ◌++◌, ◌∷◌, IfOk, IfSome
 ghost use Rattle.gl_query.specs.Shapes.{Items, agg_item_shape, agg_shape, expr_shape, item_shape, pick_shape};
 ghost use Rattle.gl_bits.specs.Kinds.{width_of};
 ghost use Rattle.gl_bits.specs.Totals.{average_of, sum_total, weighted_sum};
-ghost use Rattle.gl_query.specs.Results.{agg_value, beside, kept, picked, total_row, values_of};
+ghost use Rattle.gl_bits.specs.Results.{beside};
+ghost use Rattle.gl_query.specs.Results.{agg_value, kept, picked, total_row, values_of};
 
-use crate::kinds::{is_kind, kind_alone, kind_of};
+use gl_query::kinds::{is_kind, kind_alone, kind_of};
 use crate::values::{keeps, value_of};
 use gl_bits::lists::copy_of_row;
 use gl_bits::{Kind, Listed, Memory, Table, totals};

@@ -1,7 +1,7 @@
 //! Worked rows of the meaning of queries: values, columns, and the rows of results.
 
 use crate::columns::{Source, columns_of};
-use crate::kinds::{kind_alone, kind_of};
+use gl_query::kinds::{kind_alone, kind_of};
 use crate::results::evaluate;
 use crate::trees::{Trees, num};
 use crate::values::value_of;

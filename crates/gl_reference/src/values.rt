@@ -5,10 +5,12 @@ ghost use Rattle.std.specs.Prelude.{◌≡◌, ◌^◌, ◌++◌, ℕ, List, rep
 ghost use Rattle.gl_bits.specs.Words.{bit as bit_of, eq_of, not_of};
 ghost use Rattle.gl_schema.specs.Schemas.{text_word, number_of};
 ghost use Rattle.gl_query.specs.Shapes.{expr_shape};
-ghost use Rattle.gl_query.specs.Values.{bytes_in, cast_of, operate, value_of};
+ghost use Rattle.gl_bits.specs.Kinds.{is_at_most};
+ghost use Rattle.gl_bits.specs.Operators.{operate};
+ghost use Rattle.gl_query.specs.Values.{bytes_in, cast_of, value_of};
 ghost use Rattle.gl_query.specs.Results.{keeps};
 
-use crate::kinds::{column_number, is_kind, kind_alone, kind_of, operand_place};
+use gl_query::kinds::{column_number, is_kind, kind_alone, kind_of, operand_place};
 use gl_bits::Kind;
 use gl_bits::lists::number_at;
 use gl_query::{Expr, Op};
@@ -97,6 +99,15 @@ fn cast(from: Kind, to: Kind, word: u128) -> Option<u128>
     }
 }
 
+/// Whether a word of a kind is at most another one.
+fn is_at_most(kind: Kind, x: u128, y: u128) -> bool
+    ensures { result ≡ is_at_most kind x y }
+{
+    match kind {
+        Kind::Unsigned(_) | Kind::Text(_) => x <= y,
+    }
+}
+
 /// What an operator gives of two words of a kind.
 #[tactic(auto, unfolding(gl_bits::specs::Words::sum_of, gl_bits::specs::Words::difference_of, gl_bits::specs::Words::product_of))]
 fn operate(op: Op, kind: Kind, x: u128, y: u128) -> Option<u128>
@@ -113,9 +124,9 @@ fn operate(op: Op, kind: Kind, x: u128, y: u128) -> Option<u128>
         Op::Eq => equal(x, y),
         Op::Ne => Some(opposite(equal(x, y)?)),
         Op::Lt => bit(kind.is_below(x, y)),
-        Op::Le => bit(x <= y),
+        Op::Le => bit(is_at_most(kind, x, y)),
         Op::Gt => bit(kind.is_below(y, x)),
-        Op::Ge => bit(y <= x),
+        Op::Ge => bit(is_at_most(kind, y, x)),
         Op::And => Some(x & y),
         Op::Or => Some(x | y),
     }

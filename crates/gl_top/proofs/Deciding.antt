@@ -12,7 +12,7 @@ use Rattle.gl_tuples.specs.declared.fault.TupleFault.{TupleFault}
 use Rattle.gl_query.specs.declared.fault.QueryFault.{QueryFault}
 use Rattle.gl_query.specs.declared.fault.QueryFault.TheVariants as fault
 use Rattle.gl_query_reader.specs.Grammar.{HasStatement}
-use Rattle.gl_query_reader.specs.Meaning.{Statement', statement_tree}
+use Rattle.gl_query.specs.Trees.{StatementTree, statement_tree}
 use Rattle.gl_compiler.specs.Queries.{IsQuery, IsUnbuilt, IsQueryFault, gap_of}
 use Rattle.gl_compiler.proofs.Shaped.{one_meaning, none_built}
 use Rattle.gl_top.specs.declared.form.Part.{Part}
@@ -79,7 +79,7 @@ abbrev pub IsSome : List ℕ → Type 0
 IsSome text = (s : Schema) × IsSchemaText text s
 
 abbrev pub HasSome : List ℕ → Type 0
-HasSome text = (m : Statement') × HasStatement text m
+HasSome text = (m : StatementTree) × HasStatement text m
 
 abbrev pub AreTuples : Schema → Statement → List ℕ → Type 0
 AreTuples s st text = (beats : List Beat) × (kept_beats s (gap_of s st) text ≡ Ok beats)

@@ -14,7 +14,10 @@ use Rattle.gl_tuples.specs.Gaps.{AreFileBeats, plain_beats}
 use Rattle.gl_compiler.specs.declared.compiling.Compiled.{Compiled}
 use Rattle.gl_compiler.specs.Queries.{latency_of, gap_of}
 use Rattle.gl_compiler.specs.Meets.{Meets, result_columns}
-use Rattle.gl_compiler.specs.Prints.{CanRun}
+use Rattle.gl_outside.specs.States.{SinkState}
+use Rattle.gl_compiler.specs.declared.executing.Outcome.{Outcome}
+use Rattle.gl_compiler.specs.Prints.{CanRun, OfEachRun, Ran}
+use Rattle.gl_top.specs.Verdicts.{RanLines}
 use Rattle.gl_top.specs.Passing.{IsCompiled}
 
 pub can_run : (schema : Schema) (statement : Statement) (latency gap : ℕ) (text : List ℕ) (kinds : List Kind) (beats : List Beat) (start : Start)
@@ -38,3 +41,11 @@ can_run_all c beats text schema kinds printed is fine gap a b d e =
     subst (λ (x : Schema). CanRun c.text.items x kinds (plain_beats beats) printed.latency Zero) (sym b) (
     subst (λ (x : List Kind). CanRun c.text.items c.schema x (plain_beats beats) printed.latency Zero) (sym d) (
     subst (λ (x : ℕ). CanRun c.text.items c.schema c.kinds (plain_beats beats) x Zero) (sym p) run)))
+
+-- how the run of a compiled query ended
+pub ran_lines : (c : Compiled) (beats : List files.Beat) (text : List ℕ) (schema : Schema) (kinds : List Kind) (old new : SinkState) (r : Outcome) → IsCompiled c → text ≡ c.text.items → schema ≡ c.schema → kinds ≡ c.kinds
+    → Ran (OfEachRun text schema (plain_beats beats) Zero) kinds (plain_beats beats) old new r → RanLines c.schema c.statement beats c.text.items old new r
+ran_lines c beats text schema kinds old new r is a b d h =
+    subst (λ (x : List ℕ). Ran (OfEachRun x c.schema (plain_beats beats) Zero) (kinds_of (result_columns c.schema c.statement)) (plain_beats beats) old new r) a (
+    subst (λ (x : Schema). Ran (OfEachRun text x (plain_beats beats) Zero) (kinds_of (result_columns c.schema c.statement)) (plain_beats beats) old new r) b (
+    subst (λ (x : List Kind). Ran (OfEachRun text schema (plain_beats beats) Zero) x (plain_beats beats) old new r) (d ∙ is.columns) h))

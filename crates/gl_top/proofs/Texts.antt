@@ -3,9 +3,9 @@ use Rattle.std.proofs.Common.{◌≡◌, ℕ, zero, suc, ◌<◌, ◌≤◌, Lis
 use Rattle.std.specs.Prelude.{Bool, true, false, ◌&&◌, slice_get, unwrap_or, Contains}
 use Rattle.std.proofs.lemmas.Bool.{eqb-true}
 use Rattle.gl_outside.proofs.Places.{found_is}
-use Rattle.gl_outside.specs.Counts.{Rose}
+use Rattle.gl_outside.specs.States.{ShelfState, IsCalm, Missed, Faulted, ReadLeaves}
 use Rattle.gl_outside.specs.Told.{Told, Untold, Lacks, Holds, IsLacking, IfTold}
-use Rattle.gl_outside.specs.Reads.{OnMissing, OnFailed, OnTooLong, OnRefusal}
+use Rattle.gl_outside.specs.Reads.{Refuses}
 use Rattle.gl_outside.specs.declared.reading.ReadFault as reads
 use Rattle.gl_outside.specs.declared.reading.ReadFault.TheVariants as read
 use Rattle.gl_schema.specs.declared.schema.Schema.{Schema}
@@ -29,7 +29,7 @@ use Rattle.gl_top.specs.declared.form.Part.{Part}
 use Rattle.gl_top.specs.declared.form.Part.TheVariants as part
 use Rattle.gl_top.specs.Forms.{IsForm, is_form, word_at, place_of, name_of}
 use Rattle.gl_top.specs.Passing.{HasText, SchemaPasses, QueryPasses, kept_beats}
-use Rattle.gl_top.specs.Causes.{IsNext, IsBadSchema, AreBadTuples, Change, HasCause, read_refusal, schema_refusal, query_refusal, tuples_refusal}
+use Rattle.gl_top.specs.Causes.{IsNext, IsBadSchema, AreBadTuples, Change, change, HasCause, read_refusal, schema_refusal, query_refusal, tuples_refusal}
 
 -- the words are of the form where a text is judged
 pub next_form : (told : List ℕ → Told) (words : List (List ℕ)) (p : Part) → IsNext told words p → IsForm words
@@ -80,44 +80,42 @@ pub has_text : (told : List ℕ → Told) (words : List (List ℕ)) (p : Part) (
 has_text told words p P v h q = of_text (told (name_of words p)) P v h q
 
 -- the cause of a text that was not read
-pub read_cause : (T : Type 0) (words : List (List ℕ)) (c : Change) (p : Part) (name : List ℕ) (fault : reads.ReadFault) → name ≡ name_of words p → IsNext c.old.told words p
-    → OnMissing {T = T} (Err fault) (IsLacking (c.old.told name)) → OnMissing {T = T} (Err fault) (Rose c.old.misses c.new.misses) → OnFailed {T = T} (Err fault) (Rose c.old.faults c.new.faults)
-    → OnTooLong {T = T} (Err fault) (IfTold (c.old.told name) (λ text. 67108864 < length text)) → OnRefusal {T = T} (Err fault) (c.new.last ≡ Some name) → HasCause words c (read_refusal p fault)
-read_cause T words c p name read.Missing e next lacking missed failed long last =
-    (record { next = next; lacking = subst (λ n. IsLacking (c.old.told n)) e lacking }, record { rose = missed; last = last ∙ ap Some e })
-read_cause T words c p name read.Failed e next lacking missed failed long last = (next, record { rose = failed; last = last ∙ ap Some e })
-read_cause T words c p name read.TooLong e next lacking missed failed long last =
-    record { next = next; long = subst (λ n. IfTold (c.old.told n) (λ text. 67108864 < length text)) e long }
-read_cause T words c p name read.Memory e next lacking missed failed long last = tt
+pub read_cause : {T : Type 0} (words : List (List ℕ)) (a b : ShelfState) (p : Part) (name : List ℕ) (fault : reads.ReadFault) → name ≡ name_of words p → IsNext a.told words p
+    → Refuses {T = T} (a.told name) (Err fault) → ReadLeaves {T = T} a b name (Err fault) → HasCause words (change a b) (read_refusal p fault)
+read_cause words a b p name read.Missing e next told left =
+    (record { next = next; lacking = subst (λ n. IsLacking (a.told n)) e told }, subst (Missed a b) e left)
+read_cause words a b p name read.Failed e next told left = (next, subst (Faulted a b) e left)
+read_cause words a b p name read.TooLong e next told left = (record { next = next; long = subst (λ n. IfTold (a.told n) (λ text. 67108864 < length text)) e told }, left)
+read_cause words a b p name read.Memory e next told left = left
 
 -- of a schema that is refused
 is_bad : (words : List (List ℕ)) (c : Change) (v : List ℕ) (fault : faults.SchemaFault) → IsForm words → HasText c.old.told words part.Schema (λ text. v ≡ text) → schema_of v ≡ Err fault → IsBadSchema c.old.told words fault
 is_bad words c v fault form h f = record { form = form; text = has_text c.old.told words part.Schema (λ text. schema_of text ≡ Err fault) v h f }
 
-pub schema_cause : (words : List (List ℕ)) (c : Change) (v : List ℕ) (fault : faults.SchemaFault) → IsForm words → HasText c.old.told words part.Schema (λ text. v ≡ text)
+pub schema_cause : (words : List (List ℕ)) (c : Change) (v : List ℕ) (fault : faults.SchemaFault) → IsCalm c.old c.new → IsForm words → HasText c.old.told words part.Schema (λ text. v ≡ text)
     → schemas.Fails fault (schema_of v) → HasCause words c (schema_refusal fault)
-schema_cause words c v schema.Memory form h f = tt
-schema_cause words c v (schema.Syntax at) form h f = is_bad words c v (schema.Syntax at) form h f
-schema_cause words c v (schema.BadName at) form h f = is_bad words c v (schema.BadName at) form h f
-schema_cause words c v (schema.BadKind at) form h f = is_bad words c v (schema.BadKind at) form h f
-schema_cause words c v (schema.Twice at) form h f = is_bad words c v (schema.Twice at) form h f
-schema_cause words c v (schema.TooMany at) form h f = is_bad words c v (schema.TooMany at) form h f
+schema_cause words c v schema.Memory calm form h f = calm
+schema_cause words c v (schema.Syntax at) calm form h f = (is_bad words c v (schema.Syntax at) form h f, calm)
+schema_cause words c v (schema.BadName at) calm form h f = (is_bad words c v (schema.BadName at) form h f, calm)
+schema_cause words c v (schema.BadKind at) calm form h f = (is_bad words c v (schema.BadKind at) form h f, calm)
+schema_cause words c v (schema.Twice at) calm form h f = (is_bad words c v (schema.Twice at) form h f, calm)
+schema_cause words c v (schema.TooMany at) calm form h f = (is_bad words c v (schema.TooMany at) form h f, calm)
 
 pub schema_passes : (told : List ℕ → Told) (words : List (List ℕ)) (v : List ℕ) (s : Schema) → IsForm words → HasText told words part.Schema (λ text. v ≡ text) → IsSchemaText v s → SchemaPasses told words s
 schema_passes told words v s form h is = record { form = form; fine = is.schema'; text = has_text told words part.Schema (λ text. IsSchemaText text s) v h is }
 
 -- of a query that is refused
-not_built : (words : List (List ℕ)) (c : Change) (v : List ℕ) (s : Schema) → SchemaPasses c.old.told words s → HasText c.old.told words part.Query (λ text. v ≡ text) → IsUnbuilt s v → HasCause words c (query_refusal compile.NotBuilt)
-not_built words c v s before h is = record { schema = s; before = before; text = has_text c.old.told words part.Query (IsUnbuilt s) v h is }
+not_built : (words : List (List ℕ)) (c : Change) (v : List ℕ) (s : Schema) → IsCalm c.old c.new → SchemaPasses c.old.told words s → HasText c.old.told words part.Query (λ text. v ≡ text) → IsUnbuilt s v → HasCause words c (query_refusal compile.NotBuilt)
+not_built words c v s calm before h is = (record { schema = s; before = before; text = has_text c.old.told words part.Query (IsUnbuilt s) v h is }, calm)
 
-bad_query : (words : List (List ℕ)) (c : Change) (v : List ℕ) (s : Schema) (f : QueryFault) → SchemaPasses c.old.told words s → HasText c.old.told words part.Query (λ text. v ≡ text) → IsQueryFault v f → HasCause words c (query_refusal (compile.Query f))
-bad_query words c v s f before h is = record { schema = s; before = before; text = has_text c.old.told words part.Query (λ text. IsQueryFault text f) v h is }
+bad_query : (words : List (List ℕ)) (c : Change) (v : List ℕ) (s : Schema) (f : QueryFault) → IsCalm c.old c.new → SchemaPasses c.old.told words s → HasText c.old.told words part.Query (λ text. v ≡ text) → IsQueryFault v f → HasCause words c (query_refusal (compile.Query f))
+bad_query words c v s f calm before h is = (record { schema = s; before = before; text = has_text c.old.told words part.Query (λ text. IsQueryFault text f) v h is }, calm)
 
-pub query_cause : (words : List (List ℕ)) (c : Change) (v : List ℕ) (s : Schema) (fault : CompileFault) → SchemaPasses c.old.told words s → HasText c.old.told words part.Query (λ text. v ≡ text) → IsQueryRefused s v fault → HasCause words c (query_refusal fault)
-query_cause words c v s compile.Memory before h is = tt
-query_cause words c v s (compile.Schema f) before h is = absurd is
-query_cause words c v s (compile.Query f) before h is = bad_query words c v s f before h is
-query_cause words c v s compile.NotBuilt before h is = not_built words c v s before h is
+pub query_cause : (words : List (List ℕ)) (c : Change) (v : List ℕ) (s : Schema) (fault : CompileFault) → IsCalm c.old c.new → SchemaPasses c.old.told words s → HasText c.old.told words part.Query (λ text. v ≡ text) → IsQueryRefused s v fault → HasCause words c (query_refusal fault)
+query_cause words c v s compile.Memory calm before h is = calm
+query_cause words c v s (compile.Schema f) calm before h is = absurd is
+query_cause words c v s (compile.Query f) calm before h is = bad_query words c v s f calm before h is
+query_cause words c v s compile.NotBuilt calm before h is = not_built words c v s calm before h is
 
 pub query_passes : (told : List ℕ → Told) (words : List (List ℕ)) (v : List ℕ) (s t : Schema) (statement : Statement) → t ≡ s → SchemaPasses told words s → HasText told words part.Query (λ text. v ≡ text) → IsQuery s v statement → QueryPasses told words t statement
 query_passes told words v s t statement e before h built =
@@ -128,19 +126,19 @@ are_bad : (words : List (List ℕ)) (c : Change) (v : List ℕ) (s : Schema) (st
     → kept_beats s (gap_of s statement) v ≡ Err fault → AreBadTuples c.old.told words fault
 are_bad words c v s statement fault before h f = record { schema = s; statement = statement; before = before; text = has_text c.old.told words part.Tuples (λ text. kept_beats s (gap_of s statement) text ≡ Err fault) v h f }
 
-pub tuples_cause : (words : List (List ℕ)) (c : Change) (v : List ℕ) (s : Schema) (statement : Statement) (fault : TupleFault) → QueryPasses c.old.told words s statement → HasText c.old.told words part.Tuples (λ text. v ≡ text)
+pub tuples_cause : (words : List (List ℕ)) (c : Change) (v : List ℕ) (s : Schema) (statement : Statement) (fault : TupleFault) → IsCalm c.old c.new → QueryPasses c.old.told words s statement → HasText c.old.told words part.Tuples (λ text. v ≡ text)
     → Fails fault (kept_beats s (gap_of s statement) v) → HasCause words c (tuples_refusal fault)
-tuples_cause words c v s st tuples.Memory before h f = tt
-tuples_cause words c v s st (tuples.NotUtf8 n) before h f = are_bad words c v s st (tuples.NotUtf8 n) before h f
-tuples_cause words c v s st (tuples.BadCycle n) before h f = are_bad words c v s st (tuples.BadCycle n) before h f
-tuples_cause words c v s st (tuples.CycleFalls n) before h f = are_bad words c v s st (tuples.CycleFalls n) before h f
-tuples_cause words c v s st (tuples.CycleTooLarge n) before h f = are_bad words c v s st (tuples.CycleTooLarge n) before h f
-tuples_cause words c v s st (tuples.UnknownStream n) before h f = are_bad words c v s st (tuples.UnknownStream n) before h f
-tuples_cause words c v s st (tuples.FieldCount n) before h f = are_bad words c v s st (tuples.FieldCount n) before h f
-tuples_cause words c v s st (tuples.BadValue n) before h f = are_bad words c v s st (tuples.BadValue n) before h f
-tuples_cause words c v s st (tuples.StreamTwice n) before h f = are_bad words c v s st (tuples.StreamTwice n) before h f
-tuples_cause words c v s st (tuples.AfterEnd n) before h f = are_bad words c v s st (tuples.AfterEnd n) before h f
-tuples_cause words c v s st (tuples.TooClose n) before h f = are_bad words c v s st (tuples.TooClose n) before h f
+tuples_cause words c v s st tuples.Memory calm before h f = calm
+tuples_cause words c v s st (tuples.NotUtf8 n) calm before h f = (are_bad words c v s st (tuples.NotUtf8 n) before h f, calm)
+tuples_cause words c v s st (tuples.BadCycle n) calm before h f = (are_bad words c v s st (tuples.BadCycle n) before h f, calm)
+tuples_cause words c v s st (tuples.CycleFalls n) calm before h f = (are_bad words c v s st (tuples.CycleFalls n) before h f, calm)
+tuples_cause words c v s st (tuples.CycleTooLarge n) calm before h f = (are_bad words c v s st (tuples.CycleTooLarge n) before h f, calm)
+tuples_cause words c v s st (tuples.UnknownStream n) calm before h f = (are_bad words c v s st (tuples.UnknownStream n) before h f, calm)
+tuples_cause words c v s st (tuples.FieldCount n) calm before h f = (are_bad words c v s st (tuples.FieldCount n) before h f, calm)
+tuples_cause words c v s st (tuples.BadValue n) calm before h f = (are_bad words c v s st (tuples.BadValue n) before h f, calm)
+tuples_cause words c v s st (tuples.StreamTwice n) calm before h f = (are_bad words c v s st (tuples.StreamTwice n) before h f, calm)
+tuples_cause words c v s st (tuples.AfterEnd n) calm before h f = (are_bad words c v s st (tuples.AfterEnd n) before h f, calm)
+tuples_cause words c v s st (tuples.TooClose n) calm before h f = (are_bad words c v s st (tuples.TooClose n) before h f, calm)
 
 -- beats that keep the gap
 pub kept_ok : (s : Schema) (gap : ℕ) (v : List ℕ) (beats : List Beat) → beats_of s (records_of v) ≡ Ok beats → Ok tt ≡ close_answer (first_close gap beats) → kept_beats s gap v ≡ Ok beats

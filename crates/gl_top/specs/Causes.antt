@@ -1,6 +1,6 @@
 -- Why the program ends before anything is written.
-use Rattle.std.specs.Prelude.{◌≡◌, ℕ, ◌<◌, ◌≤◌, List, length, Option, Some, Result, Ok, Err}
-use Rattle.gl_outside.specs.Counts.{Rose}
+use Rattle.std.specs.Prelude.{◌≡◌, ℕ, ◌<◌, List, length, Result, Ok, Err}
+use Rattle.gl_outside.specs.States.{ShelfState, IsCalm, Missed, Faulted}
 use Rattle.gl_outside.specs.Told.{Told, IsLacking, IfTold}
 use Rattle.gl_outside.specs.declared.reading.ReadFault as reads
 use Rattle.gl_outside.specs.declared.reading.ReadFault.TheVariants as read
@@ -74,47 +74,25 @@ IsRefused told words refusal.NotBuilt = IsNotBuilt told words
 IsRefused told words (refusal.Tuples fault) = AreBadTuples told words fault
 IsRefused told words refusal.Memory = ⊥
 
--- what is seen of a shelf
-pub record Seen : Type 0 where
-  pub names : List (List ℕ)
-  pub told : List ℕ → Told
-  pub misses : ℕ
-  pub faults : ℕ
-  pub last : Option (List ℕ)
-
--- before and after a call
+-- a shelf before and after a call
 pub record Change : Type 0 where
-  pub old : Seen
-  pub new : Seen
+  pub old : ShelfState
+  pub new : ShelfState
 
-abbrev pub change : {A : Type 0} → (A → List (List ℕ)) → (A → List ℕ → Told) → (A → ℕ) → (A → ℕ) → (A → Option (List ℕ)) → A → A → Change
-change names told misses faults last old new = record {
-  old = record { names = names old; told = told old; misses = misses old; faults = faults old; last = last old };
-  new = record { names = names new; told = told new; misses = misses new; faults = faults new; last = last new };
-}
+abbrev pub change : ShelfState → ShelfState → Change
+change old new = record { old = old; new = new }
 
--- the names and the texts stay, and no count falls
-pub record IsKept (c : Change) : Type 0 where
-  pub names : c.new.names ≡ c.old.names
-  pub texts : (n : List ℕ) → c.new.told n ≡ c.old.told n
-  pub misses : c.old.misses ≤ c.new.misses
-  pub faults : c.old.faults ≤ c.new.faults
-
--- the shelf missed, or failed, and its last name is this one
-pub record IsMiss (c : Change) (name : List ℕ) : Type 0 where
-  pub rose : Rose c.old.misses c.new.misses
-  pub last : c.new.last ≡ Some name
-
-pub record IsFailure (c : Change) (name : List ℕ) : Type 0 where
-  pub rose : Rose c.old.faults c.new.faults
-  pub last : c.new.last ≡ Some name
-
--- the cause of a refusal; want of memory is free
+-- the cause of a refusal: where the shelf was not the cause, it refused nothing; want of memory is free
 abbrev pub HasCause : List (List ℕ) → Change → Refusal → Type 0
-HasCause words c (refusal.Missing part) = IsMissing c.old.told words part × IsMiss c (name_of words part)
-HasCause words c (refusal.ReadFault part) = IsNext c.old.told words part × IsFailure c (name_of words part)
-HasCause words c refusal.Memory = Unit {0}
-HasCause words c r = IsRefused c.old.told words r
+HasCause words c (refusal.Missing part) = IsMissing c.old.told words part × Missed c.old c.new (name_of words part)
+HasCause words c (refusal.ReadFault part) = IsNext c.old.told words part × Faulted c.old c.new (name_of words part)
+HasCause words c refusal.Memory = IsCalm c.old c.new
+HasCause words c r = IsRefused c.old.told words r × IsCalm c.old c.new
+
+-- what judging leaves: the shelf refused nothing, or there is a refusal with its cause
+abbrev pub Leaves : {T : Type 0} → List (List ℕ) → ShelfState → ShelfState → Result T Refusal → Type 0
+Leaves words old new (Ok x) = IsCalm old new
+Leaves words old new (Err r) = HasCause words (change old new) r
 
 -- a fault of a lower call as a refusal: want of memory is its own
 abbrev pub read_refusal : Part → reads.ReadFault → Refusal

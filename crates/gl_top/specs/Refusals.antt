@@ -1,13 +1,12 @@
 -- The status of a refusal, and the line that tells it.
-use Rattle.std.specs.Prelude.{◌≡◌, ℕ, List, ◌++◌, codes, decimal, Option, ◌⊎◌}
+use Rattle.std.specs.Prelude.{◌≡◌, ℕ, List, ◌++◌, codes, decimal, ◌⊎◌}
 use Rattle.gl_schema.specs.declared.fault.SchemaFault.{SchemaFault}
 use Rattle.gl_schema.specs.declared.fault.SchemaFault.TheVariants as schema
 use Rattle.gl_query.specs.declared.fault.QueryFault.{QueryFault}
 use Rattle.gl_query.specs.declared.fault.QueryFault.TheVariants as query
 use Rattle.gl_tuples.specs.declared.fault.TupleFault.{TupleFault}
 use Rattle.gl_tuples.specs.declared.fault.TupleFault.TheVariants as tuples
-use Rattle.gl_outside.specs.Counts.{Rose}
-use Rattle.gl_outside.specs.Taken.{Appends, AppendsFront}
+use Rattle.gl_outside.specs.States.{SinkState, Took, Broke}
 use Rattle.gl_top.specs.declared.form.Part.TheVariants as part
 use Rattle.gl_top.specs.declared.notes.Refusal.{Refusal}
 use Rattle.gl_top.specs.declared.notes.Refusal.TheVariants.{Usage, Missing, ReadFault, TooLong, Schema, Query, NotBuilt, Tuples, Memory}
@@ -110,10 +109,12 @@ line head rest = head ++ rest ++ codes "\n"
 abbrev pub kind_line : List ℕ → List ℕ → List ℕ → ℕ → List ℕ
 kind_line head kind middle number = head ++ kind ++ line middle (decimal number)
 
--- the lines that tell of no text
+-- the line of all forms, those that are not there yet among them
 unfoldable pub usage_line : List ℕ
-usage_line = codes "usage: glacier run S Q T\n"
+usage_line =
+    codes "usage: glacier compile S Q, figures S Q, explain S Q, run S Q T [--start N], sim S V T --extra N, load N\n"
 
+-- the other lines that tell of no text
 unfoldable pub memory_line : List ℕ
 memory_line = codes "out of memory\n"
 
@@ -132,25 +133,14 @@ note_of words NotBuilt = line (codes "not built: ") (name_of words part.Query)
 note_of words (Tuples fault) = kind_line (codes "tuples: ") (tuples_kind fault) (codes " at record ") (tuples_record fault)
 note_of words Memory = memory_line
 
--- what is seen of a sink before and after a call
+-- a sink before and after a call
 pub record Puts : Type 0 where
-  pub old : Option (List ℕ)
-  pub new : Option (List ℕ)
-  pub faults : ℕ
-  pub faults' : ℕ
+  pub old : SinkState
+  pub new : SinkState
 
-abbrev pub puts : {A : Type 0} → (A → Option (List ℕ)) → (A → ℕ) → A → A → Puts
-puts taken faults old new = record { old = taken old; new = taken new; faults = faults old; faults' = faults new }
-
--- all of the bytes were taken
-pub record Took (p : Puts) (bytes : List ℕ) : Type 0 where
-  pub all : Appends p.old p.new bytes
-
--- the sink failed, and a front of them was
-pub record Broke (p : Puts) (bytes : List ℕ) : Type 0 where
-  pub front : AppendsFront p.old p.new bytes
-  pub cause : Rose p.faults p.faults'
+abbrev pub puts : SinkState → SinkState → Puts
+puts old new = record { old = old; new = new }
 
 -- the line was written under this status, or the sink failed at it
 abbrev pub Notes : Status → List ℕ → Puts → Status → Type 0
-Notes own bytes p answered = ((answered ≡ own) × Took p bytes) ⊎ ((answered ≡ status.WriteFault) × Broke p bytes)
+Notes own bytes p answered = ((answered ≡ own) × Took p.old p.new bytes) ⊎ ((answered ≡ status.WriteFault) × Broke p.old p.new bytes)

@@ -2,6 +2,7 @@
 use Rattle.std.specs.Prelude.{◌≡◌, ◌≢◌, ℕ, ◌⊎◌, List, []}
 use Rattle.gl_outside.specs.Counts.{Rose}
 use Rattle.gl_outside.specs.Told.{Told, Untold}
+use Rattle.gl_outside.specs.States.{SinkState, IsCalm, Took}
 use Rattle.gl_schema.specs.declared.schema.Schema.{Schema}
 use Rattle.gl_schema.specs.Schemas.{kinds_of}
 use Rattle.gl_query.specs.declared.tree.Statement.{Statement}
@@ -10,36 +11,49 @@ use Rattle.gl_tuples.specs.declared.beats.Beat.{Beat}
 use Rattle.gl_tuples.specs.Gaps.{plain_beats}
 use Rattle.gl_compiler.specs.Queries.{latency_of, gap_of}
 use Rattle.gl_compiler.specs.Meets.{Meets, result_columns}
+use Rattle.gl_compiler.specs.declared.executing.Outcome.{Outcome}
 use Rattle.gl_compiler.specs.Prints.{OfEachRun, Writes, WritesFront}
+use Rattle.gl_compiler.specs.Prints as prints
 use Rattle.gl_top.specs.declared.form.Part.{Part}
 use Rattle.gl_top.specs.declared.notes.Refusal.{Refusal}
 use Rattle.gl_top.specs.declared.status.Status.{Status}
 use Rattle.gl_top.specs.declared.status.Status.TheVariants.{Done, WriteFault, ReadFault, Memory}
-use Rattle.gl_top.specs.Forms.{name_of}
+use Rattle.gl_top.specs.declared.status.Status.TheVariants as status
+use Rattle.gl_top.specs.declared.notes.Refusal.TheVariants as refusal
+use Rattle.gl_schema.specs.declared.fault.SchemaFault.{SchemaFault}
+use Rattle.gl_query.specs.declared.fault.QueryFault.{QueryFault}
+use Rattle.gl_tuples.specs.declared.fault.TupleFault.{TupleFault}
+use Rattle.gl_top.specs.Forms.{IsForm, name_of}
 use Rattle.gl_top.specs.Passing.{TuplesPass}
-use Rattle.gl_top.specs.Causes.{Change, HasCause}
-use Rattle.gl_top.specs.Refusals.{Puts, Took, Notes, status_of, note_of, write_line}
+use Rattle.gl_top.specs.Causes.{Change, HasCause, IsTooLong, IsBadSchema, IsBadQuery, IsNotBuilt, AreBadTuples}
+use Rattle.gl_top.specs.Refusals.{Puts, Notes, status_of, note_of, write_line}
 
 -- the lines of the run of this text over these beats were written, or a front of them
 abbrev pub WritesLines : Schema → Statement → List Beat → List ℕ → Puts → Type 0
-WritesLines schema statement beats text out = OfEachRun text schema (plain_beats beats) Zero (λ outs port. Writes (kinds_of (result_columns schema statement)) (plain_beats beats) outs port out.old out.new)
+WritesLines schema statement beats text out = OfEachRun text schema (plain_beats beats) Zero (λ outs port. Writes (kinds_of (result_columns schema statement)) (plain_beats beats) outs port out.old.taken out.new.taken)
 
 abbrev pub WritesLinesFront : Schema → Statement → List Beat → List ℕ → Puts → Type 0
-WritesLinesFront schema statement beats text out = OfEachRun text schema (plain_beats beats) Zero (λ outs port. WritesFront (kinds_of (result_columns schema statement)) (plain_beats beats) outs port out.old out.new)
+WritesLinesFront schema statement beats text out = OfEachRun text schema (plain_beats beats) Zero (λ outs port. WritesFront (kinds_of (result_columns schema statement)) (plain_beats beats) outs port out.old.taken out.new.taken)
+
+-- how the run of the text over these beats ended
+abbrev pub RanLines : Schema → Statement → List Beat → List ℕ → SinkState → SinkState → Outcome → Type 0
+RanLines schema statement beats text old new outcome = prints.Ran (OfEachRun text schema (plain_beats beats) Zero) (kinds_of (result_columns schema statement)) (plain_beats beats) old new outcome
 
 -- the texts pass, and the text that was emitted for them meets the statement
 pub record IsEmitted (told : List ℕ → Told) (words : List (List ℕ)) (schema : Schema) (statement : Statement) (beats : List Beat) (text : List ℕ) : Type 0 where
   pub passes : TuplesPass told words schema statement beats
   pub meets : Meets schema statement (latency_of schema statement) (gap_of schema statement) text
 
--- the lines of the run were written, and nothing was noted
+-- the lines of the run were written and nothing was noted; no text was missing, and nothing failed
 pub record IsDone (words : List (List ℕ)) (c : Change) (out notes : Puts) (text : List ℕ) (status : Status) : Type 0 where
   pub schema : Schema
   pub statement : Statement
   pub beats : List Beat
   pub emitted : IsEmitted c.old.told words schema statement beats text
   pub wrote : WritesLines schema statement beats text out
-  pub silent : Took notes []
+  pub silent : Took notes.old notes.new []
+  pub calm : IsCalm c.old c.new
+  pub whole : out.new.faults ≡ out.old.faults
   pub done : status ≡ Done
 
 -- the output failed, and that was noted
@@ -49,7 +63,8 @@ pub record IsBroken (words : List (List ℕ)) (c : Change) (out notes : Puts) (t
   pub beats : List Beat
   pub emitted : IsEmitted c.old.told words schema statement beats text
   pub wrote : WritesLinesFront schema statement beats text out
-  pub cause : Rose out.faults out.faults'
+  pub calm : IsCalm c.old c.new
+  pub cause : Rose out.old.faults out.new.faults
   pub noted : Notes WriteFault write_line notes status
 
 -- no text was emitted, or one that meets the statement
@@ -60,7 +75,7 @@ IsNoneOrEmitted told words text = (text ≡ []) ⊎ ((schema : Schema) × (state
 pub record IsEnded (words : List (List ℕ)) (c : Change) (out notes : Puts) (text : List ℕ) (status : Status) : Type 0 where
   pub refusal : Refusal
   pub cause : HasCause words c refusal
-  pub untouched : Took out []
+  pub untouched : Took out.old out.new []
   pub noted : Notes (status_of refusal) (note_of words refusal) notes status
   pub left : IsNoneOrEmitted c.old.told words text
 
@@ -78,11 +93,27 @@ IsTelling told words = (part : Part) → told (name_of words part) ≢ Untold
 pub data Yields (own : Status) (c : Change) (notes : Puts) (status : Status) : Type 0 where
   Same : (same : status ≡ own) → Yields own c notes status
   ToRead : (is : status ≡ ReadFault) (rose : Rose c.old.faults c.new.faults) → Yields own c notes status
-  ToWrite : (is : status ≡ WriteFault) (rose : Rose notes.faults notes.faults') → Yields own c notes status
+  ToWrite : (is : status ≡ WriteFault) (rose : Rose notes.old.faults notes.new.faults) → Yields own c notes status
   ToMemory : (is : status ≡ Memory) → Yields own c notes status
 
 -- no count of faults rose
-pub record IsCalm (c : Change) (out notes : Puts) : Type 0 where
+pub record IsFaultless (c : Change) (out notes : Puts) : Type 0 where
   pub shelf : Rose c.old.faults c.new.faults → ⊥
-  pub out' : Rose out.faults out.faults' → ⊥
-  pub notes' : Rose notes.faults notes.faults' → ⊥
+  pub out' : Rose out.old.faults out.new.faults → ⊥
+  pub notes' : Rose notes.old.faults notes.new.faults → ⊥
+
+-- what each status says
+abbrev pub Says : List (List ℕ) → Change → Puts → Puts → Status → Type 0
+Says words c out notes status.Done = IsCalm c.old c.new × (out.new.faults ≡ out.old.faults) × Took notes.old notes.new []
+Says words c out notes status.Usage = IsForm words → ⊥
+Says words c out notes status.Missing = (part : Part) × HasCause words c (refusal.Missing part)
+Says words c out notes status.ReadFault = (part : Part) × HasCause words c (refusal.ReadFault part)
+Says words c out notes status.WriteFault = Rose out.old.faults out.new.faults ⊎ Rose notes.old.faults notes.new.faults
+Says words c out notes status.Schema = (fault : SchemaFault) × IsBadSchema c.old.told words fault
+Says words c out notes status.Query = (fault : QueryFault) × IsBadQuery c.old.told words fault
+Says words c out notes status.Tuples = (fault : TupleFault) × AreBadTuples c.old.told words fault
+Says words c out notes status.Limit = (part : Part) × IsTooLong c.old.told words part
+Says words c out notes status.NotBuilt = IsNotBuilt c.old.told words
+Says words c out notes status.Memory = Unit {0}
+Says words c out notes status.Verilog = ⊥
+Says words c out notes status.NoEnd = ⊥

@@ -1,13 +1,14 @@
 //! Judging the texts: each is read and judged before the next is read.
 
-ghost use Rattle.std.specs.Prelude.{◌≡◌, ◌≤◌, Contains, IfOk, IfErr, vec_len, List, ℕ};
+ghost use Rattle.std.specs.Prelude.{◌≡◌, IfOk};
 ghost use Rattle.gl_schema.specs.Schemas.{IsSchema};
 ghost use Rattle.gl_schema.specs.Beats.{KeepsGap};
 ghost use Rattle.gl_tuples.specs.Entries.{Gives};
 ghost use Rattle.gl_tuples.specs.Gaps.{AreFileBeats, plain_beats};
 ghost use Rattle.gl_top.specs.Forms.{IsForm};
 ghost use Rattle.gl_top.specs.Causes as causes;
-ghost use Rattle.gl_top.specs.Causes.{IsNext, IsKept, HasCause, change};
+ghost use Rattle.gl_top.specs.Causes.{IsNext, Leaves};
+ghost use Rattle.gl_outside.specs.States.{Stays};
 ghost use Rattle.gl_top.specs.Passing.{HasText, SchemaPasses, QueryPasses, TuplesPass, IsCompiled, IsReady, kept_beats};
 
 use crate::form::{Part, is_form, name_of};
@@ -74,11 +75,12 @@ fn text_of<S: Shelf>(
     words: &Words,
     part: Part,
 ) -> Result<Vec<u8>, Refusal>
-    requires next { IsNext (S.told shelf.old) words.now part }
-    requires names { S.names shelf.old ≡ words.now }
-    ensures kept { IsKept (change S.names S.told S.misses S.faults S.last shelf.old shelf.new) }
-    ensures text { IfOk result (λ v. HasText (S.told shelf.old) words.now part (λ text. v.items ≡ text)) }
-    ensures refused { IfErr result (λ r. HasCause words.now (change S.names S.told S.misses S.faults S.last shelf.old shelf.new) r) }
+    requires next { IsNext (S.state shelf.old).told words.now part }
+    requires names { (S.state shelf.old).names ≡ words.now }
+    ensures stays { Stays (S.state shelf.old) (S.state shelf.new) }
+    ensures text { let told = (S.state shelf.old).told in
+        IfOk result (λ v. HasText told words.now part (λ text. v.items ≡ text)) }
+    ensures leaves { Leaves words.now (S.state shelf.old) (S.state shelf.new) result }
 {
     match read_all(alloc, shelf, name_of(words, part)) {
         Ok(text) => Ok(text),
@@ -89,10 +91,10 @@ fn text_of<S: Shelf>(
 // Reads and judges the schema.
 fn judge_schema<S: Shelf>(alloc: Global, shelf: &mut S, words: &Words) -> Result<Schema, Refusal>
     requires form { IsForm words.now }
-    requires names { S.names shelf.old ≡ words.now }
-    ensures kept { IsKept (change S.names S.told S.misses S.faults S.last shelf.old shelf.new) }
-    ensures passes { IfOk result (λ schema. SchemaPasses (S.told shelf.old) words.now schema) }
-    ensures refused { IfErr result (λ r. HasCause words.now (change S.names S.told S.misses S.faults S.last shelf.old shelf.new) r) }
+    requires names { (S.state shelf.old).names ≡ words.now }
+    ensures stays { Stays (S.state shelf.old) (S.state shelf.new) }
+    ensures passes { IfOk result (λ schema. SchemaPasses (S.state shelf.old).told words.now schema) }
+    ensures leaves { Leaves words.now (S.state shelf.old) (S.state shelf.new) result }
 {
     let text = text_of(alloc, shelf, words, Part::Schema)?;
     match read_schema(alloc, &text) {
@@ -108,12 +110,13 @@ fn judge_query<S: Shelf>(
     words: &Words,
     schema: Schema,
 ) -> Result<Compiled, Refusal>
-    requires passes { SchemaPasses (S.told shelf.old) words.now schema }
-    requires names { S.names shelf.old ≡ words.now }
-    ensures kept { IsKept (change S.names S.told S.misses S.faults S.last shelf.old shelf.new) }
-    ensures passes { IfOk result (λ c. QueryPasses (S.told shelf.old) words.now c.schema c.statement) }
+    requires passes { SchemaPasses (S.state shelf.old).told words.now schema }
+    requires names { (S.state shelf.old).names ≡ words.now }
+    ensures stays { Stays (S.state shelf.old) (S.state shelf.new) }
+    ensures passes { let told = (S.state shelf.old).told in
+        IfOk result (λ c. QueryPasses told words.now c.schema c.statement) }
     ensures compiled { IfOk result IsCompiled }
-    ensures refused { IfErr result (λ r. HasCause words.now (change S.names S.told S.misses S.faults S.last shelf.old shelf.new) r) }
+    ensures leaves { Leaves words.now (S.state shelf.old) (S.state shelf.new) result }
 {
     let text = text_of(alloc, shelf, words, Part::Query)?;
     match compile_query(alloc, schema, &text) {
@@ -146,11 +149,13 @@ fn judge_tuples<S: Shelf>(
     words: &Words,
     compiled: &Compiled,
 ) -> Result<Beats, Refusal>
-    requires passes { QueryPasses (S.told shelf.old) words.now compiled.now.schema compiled.now.statement }
+    requires passes { let told = (S.state shelf.old).told in
+        QueryPasses told words.now compiled.now.schema compiled.now.statement }
     requires compiled { IsCompiled compiled.now }
-    requires names { S.names shelf.old ≡ words.now }
-    ensures passes { IfOk result (λ beats. TuplesPass (S.told shelf.old) words.now compiled.now.schema compiled.now.statement beats) }
-    ensures refused { IfErr result (λ r. HasCause words.now (change S.names S.told S.misses S.faults S.last shelf.old shelf.new) r) }
+    requires names { (S.state shelf.old).names ≡ words.now }
+    ensures passes { let told = (S.state shelf.old).told in let c = compiled.now in
+        IfOk result (λ beats. TuplesPass told words.now c.schema c.statement beats) }
+    ensures leaves { Leaves words.now (S.state shelf.old) (S.state shelf.new) result }
 {
     let text = text_of(alloc, shelf, words, Part::Tuples)?;
     match beats_of(alloc, compiled.schema(), compiled.printed().gap, &text) {
@@ -166,11 +171,12 @@ fn judge_file<S: Shelf>(
     words: &Words,
     compiled: Compiled,
 ) -> Result<Job, Refusal>
-    requires passes { QueryPasses (S.told shelf.old) words.now compiled.schema compiled.statement }
+    requires passes { let told = (S.state shelf.old).told in
+        QueryPasses told words.now compiled.schema compiled.statement }
     requires compiled { IsCompiled compiled }
-    requires names { S.names shelf.old ≡ words.now }
-    ensures ready { IfOk result (λ job. IsReady (S.told shelf.old) words.now job) }
-    ensures refused { IfErr result (λ r. HasCause words.now (change S.names S.told S.misses S.faults S.last shelf.old shelf.new) r) }
+    requires names { (S.state shelf.old).names ≡ words.now }
+    ensures ready { IfOk result (λ job. IsReady (S.state shelf.old).told words.now job) }
+    ensures leaves { Leaves words.now (S.state shelf.old) (S.state shelf.new) result }
 {
     match judge_tuples(alloc, shelf, words, &compiled) {
         Ok(beats) => Ok(Job { compiled, beats }),
@@ -185,10 +191,10 @@ fn judge_rest<S: Shelf>(
     words: &Words,
     schema: Schema,
 ) -> Result<Job, Refusal>
-    requires passes { SchemaPasses (S.told shelf.old) words.now schema }
-    requires names { S.names shelf.old ≡ words.now }
-    ensures ready { IfOk result (λ job. IsReady (S.told shelf.old) words.now job) }
-    ensures refused { IfErr result (λ r. HasCause words.now (change S.names S.told S.misses S.faults S.last shelf.old shelf.new) r) }
+    requires passes { SchemaPasses (S.state shelf.old).told words.now schema }
+    requires names { (S.state shelf.old).names ≡ words.now }
+    ensures ready { IfOk result (λ job. IsReady (S.state shelf.old).told words.now job) }
+    ensures leaves { Leaves words.now (S.state shelf.old) (S.state shelf.new) result }
 {
     match judge_query(alloc, shelf, words, schema) {
         Ok(compiled) => judge_file(alloc, shelf, words, compiled),
@@ -199,9 +205,9 @@ fn judge_rest<S: Shelf>(
 // Judges the three texts.
 fn judge_texts<S: Shelf>(alloc: Global, shelf: &mut S, words: &Words) -> Result<Job, Refusal>
     requires form { IsForm words.now }
-    requires names { S.names shelf.old ≡ words.now }
-    ensures ready { IfOk result (λ job. IsReady (S.told shelf.old) words.now job) }
-    ensures refused { IfErr result (λ r. HasCause words.now (change S.names S.told S.misses S.faults S.last shelf.old shelf.new) r) }
+    requires names { (S.state shelf.old).names ≡ words.now }
+    ensures ready { IfOk result (λ job. IsReady (S.state shelf.old).told words.now job) }
+    ensures leaves { Leaves words.now (S.state shelf.old) (S.state shelf.new) result }
 {
     match judge_schema(alloc, shelf, words) {
         Ok(schema) => judge_rest(alloc, shelf, words, schema),
@@ -210,10 +216,11 @@ fn judge_texts<S: Shelf>(alloc: Global, shelf: &mut S, words: &Words) -> Result<
 }
 
 /// Judges the words and the texts that they name.
+#[tactic(auto, using(gl_outside::proofs::Counting::calm_none))]
 pub(crate) fn judge<S: Shelf>(alloc: Global, shelf: &mut S, words: &Words) -> Result<Job, Refusal>
-    requires { S.names shelf.old ≡ words.now }
-    ensures ready { IfOk result (λ job. IsReady (S.told shelf.old) words.now job) }
-    ensures refused { IfErr result (λ r. HasCause words.now (change S.names S.told S.misses S.faults S.last shelf.old shelf.new) r) }
+    requires { (S.state shelf.old).names ≡ words.now }
+    ensures ready { IfOk result (λ job. IsReady (S.state shelf.old).told words.now job) }
+    ensures leaves { Leaves words.now (S.state shelf.old) (S.state shelf.new) result }
 {
     if !is_form(words) {
         return Err(Refusal::Usage);

@@ -1,4 +1,6 @@
 //! All that the program does, over any shelf and any sinks.
+//!
+//! Here belong the words of the command, the order in which texts are judged, statuses and notes.
 #![tactic(auto)]
 
 mod form;

@@ -1,11 +1,11 @@
 //! The one line that tells why the program ends as it does.
 
-ghost use Rattle.std.specs.Prelude.{◌≡◌, ◌≤◌, ◌++◌, codes, decimal, OnOk, OnErr};
-ghost use Rattle.gl_outside.specs.Counts.{Rose};
-ghost use Rattle.gl_outside.specs.Taken.{Appends, AppendsFront};
+ghost use Rattle.std.specs.Prelude.{◌≡◌, decimal};
+ghost use Rattle.gl_outside.specs.States.{Wrote};
 ghost use Rattle.gl_top.specs.Forms as forms;
 ghost use Rattle.gl_top.specs.Refusals as told;
-ghost use Rattle.gl_top.specs.Refusals.{line, kind_line, note_of, usage_line, memory_line, write_line, Puts, puts, Took, Broke, Notes};
+ghost use Rattle.gl_top.specs.Refusals.{line, kind_line, note_of};
+ghost use Rattle.gl_top.specs.Refusals.{usage_line, memory_line, write_line, puts, Notes};
 
 use crate::form::{Part, name_of};
 use crate::status::Status;
@@ -38,13 +38,15 @@ pub enum Refusal {
     Memory,
 }
 
+// The line of all forms, those that are not there yet among them.
+const USAGE: &[u8] =
+    b"usage: glacier compile S Q, figures S Q, explain S Q, run S Q T [--start N], \
+sim S V T --extra N, load N\n";
+
 // Writes a line of a head and what it tells of.
-#[tactic(auto, using(gl_outside::proofs::Takes::pieces, gl_outside::proofs::Counting::rose_later))]
+#[tactic(auto, using(gl_outside::proofs::Takes::pieces))]
 fn put_line<N: Sink>(notes: &mut N, head: &[u8], rest: &[u8]) -> Result<(), WriteFault>
-    ensures all { OnOk result (Appends (N.taken notes.old) (N.taken notes.new) (line head.now rest.now)) }
-    ensures front { OnErr result (AppendsFront (N.taken notes.old) (N.taken notes.new) (line head.now rest.now)) }
-    ensures cause { OnErr result (Rose (N.faults notes.old) (N.faults notes.new)) }
-    ensures never_falls { N.faults notes.old ≤ N.faults notes.new }
+    ensures { Wrote (N.state notes.old) (N.state notes.new) (line head.now rest.now) result }
 {
     write_all_of(notes, head)?;
     write_all_of(notes, rest)?;
@@ -58,26 +60,22 @@ fn put_name<N: Sink>(
     words: &Words,
     part: Part,
 ) -> Result<(), WriteFault>
-    ensures all { OnOk result (Appends (N.taken notes.old) (N.taken notes.new) (line head.now (forms.name_of words.now part))) }
-    ensures front { OnErr result (AppendsFront (N.taken notes.old) (N.taken notes.new) (line head.now (forms.name_of words.now part))) }
-    ensures cause { OnErr result (Rose (N.faults notes.old) (N.faults notes.new)) }
+    ensures { let bytes = line head.now (forms.name_of words.now part) in
+        Wrote (N.state notes.old) (N.state notes.new) bytes result }
 {
     put_line(notes, head, name_of(words, part).as_bytes())
 }
 
 // Writes a line of a text and a number.
 fn put_number<N: Sink>(notes: &mut N, head: &[u8], number: u64) -> Result<(), WriteFault>
-    ensures all { OnOk result (Appends (N.taken notes.old) (N.taken notes.new) (line head.now (decimal number))) }
-    ensures front { OnErr result (AppendsFront (N.taken notes.old) (N.taken notes.new) (line head.now (decimal number))) }
-    ensures cause { OnErr result (Rose (N.faults notes.old) (N.faults notes.new)) }
-    ensures never_falls { N.faults notes.old ≤ N.faults notes.new }
+    ensures { Wrote (N.state notes.old) (N.state notes.new) (line head.now (decimal number)) result }
 {
     let mut buffer = Buffer::new();
     put_line(notes, head, buffer.format(number).as_bytes())
 }
 
 // Writes a line of a kind and a number.
-#[tactic(auto, using(gl_outside::proofs::Takes::pieces, gl_outside::proofs::Counting::rose_later))]
+#[tactic(auto, using(gl_outside::proofs::Takes::pieces))]
 fn put_kind<N: Sink>(
     notes: &mut N,
     head: &[u8],
@@ -85,10 +83,8 @@ fn put_kind<N: Sink>(
     middle: &[u8],
     number: u64,
 ) -> Result<(), WriteFault>
-    ensures all { OnOk result (Appends (N.taken notes.old) (N.taken notes.new) (kind_line head.now kind.now middle.now number)) }
-    ensures front { OnErr result (AppendsFront (N.taken notes.old) (N.taken notes.new) (kind_line head.now kind.now middle.now number)) }
-    ensures cause { OnErr result (Rose (N.faults notes.old) (N.faults notes.new)) }
-    ensures never_falls { N.faults notes.old ≤ N.faults notes.new }
+    ensures { let bytes = kind_line head.now kind.now middle.now number in
+        Wrote (N.state notes.old) (N.state notes.new) bytes result }
 {
     write_all_of(notes, head)?;
     write_all_of(notes, kind)?;
@@ -208,19 +204,15 @@ fn tuples_record(fault: &TupleFault) -> u64
 // Writes the usage line.
 #[tactic(auto, unfolding(crate::specs::Refusals::usage_line))]
 fn put_usage<N: Sink>(notes: &mut N) -> Result<(), WriteFault>
-    ensures all { OnOk result (Appends (N.taken notes.old) (N.taken notes.new) usage_line) }
-    ensures front { OnErr result (AppendsFront (N.taken notes.old) (N.taken notes.new) usage_line) }
-    ensures cause { OnErr result (Rose (N.faults notes.old) (N.faults notes.new)) }
+    ensures { Wrote (N.state notes.old) (N.state notes.new) usage_line result }
 {
-    write_all_of(notes, b"usage: glacier run S Q T\n")
+    write_all_of(notes, USAGE)
 }
 
 // Writes the line of want of memory.
 #[tactic(auto, unfolding(crate::specs::Refusals::memory_line))]
 fn put_memory<N: Sink>(notes: &mut N) -> Result<(), WriteFault>
-    ensures all { OnOk result (Appends (N.taken notes.old) (N.taken notes.new) memory_line) }
-    ensures front { OnErr result (AppendsFront (N.taken notes.old) (N.taken notes.new) memory_line) }
-    ensures cause { OnErr result (Rose (N.faults notes.old) (N.faults notes.new)) }
+    ensures { Wrote (N.state notes.old) (N.state notes.new) memory_line result }
 {
     write_all_of(notes, b"out of memory\n")
 }
@@ -228,18 +220,14 @@ fn put_memory<N: Sink>(notes: &mut N) -> Result<(), WriteFault>
 // Writes the line of an output that could not be written.
 #[tactic(auto, unfolding(crate::specs::Refusals::write_line))]
 fn put_write_fault<N: Sink>(notes: &mut N) -> Result<(), WriteFault>
-    ensures all { OnOk result (Appends (N.taken notes.old) (N.taken notes.new) write_line) }
-    ensures front { OnErr result (AppendsFront (N.taken notes.old) (N.taken notes.new) write_line) }
-    ensures cause { OnErr result (Rose (N.faults notes.old) (N.faults notes.new)) }
+    ensures { Wrote (N.state notes.old) (N.state notes.new) write_line result }
 {
     write_all_of(notes, b"write fault\n")
 }
 
 // Writes the line of a refusal.
 fn put_note<N: Sink>(notes: &mut N, words: &Words, refusal: &Refusal) -> Result<(), WriteFault>
-    ensures all { OnOk result (Appends (N.taken notes.old) (N.taken notes.new) (note_of words.now refusal.now)) }
-    ensures front { OnErr result (AppendsFront (N.taken notes.old) (N.taken notes.new) (note_of words.now refusal.now)) }
-    ensures cause { OnErr result (Rose (N.faults notes.old) (N.faults notes.new)) }
+    ensures { Wrote (N.state notes.old) (N.state notes.new) (note_of words.now refusal.now) result }
 {
     match refusal {
         Refusal::Usage => put_usage(notes),
@@ -291,7 +279,8 @@ fn status_of(refusal: &Refusal) -> Status
 /// Writes the line of a refusal, and answers its status: that of a failed write, if the line could
 /// not be written.
 pub(crate) fn tell<N: Sink>(notes: &mut N, words: &Words, refusal: &Refusal) -> Status
-    ensures { Notes (told.status_of refusal.now) (note_of words.now refusal.now) (puts N.taken N.faults notes.old notes.new) result }
+    ensures { let made = puts (N.state notes.old) (N.state notes.new) in
+        Notes (told.status_of refusal.now) (note_of words.now refusal.now) made result }
 {
     match put_note(notes, words, refusal) {
         Ok(()) => status_of(refusal),
@@ -301,7 +290,8 @@ pub(crate) fn tell<N: Sink>(notes: &mut N, words: &Words, refusal: &Refusal) -> 
 
 /// Writes the line of an output that could not be written.
 pub(crate) fn tell_write_fault<N: Sink>(notes: &mut N) -> Status
-    ensures { Notes Status.WriteFault write_line (puts N.taken N.faults notes.old notes.new) result }
+    ensures { let made = puts (N.state notes.old) (N.state notes.new) in
+        Notes Status.WriteFault write_line made result }
 {
     match put_write_fault(notes) {
         Ok(()) => Status::WriteFault,

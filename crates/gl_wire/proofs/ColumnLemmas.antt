@@ -71,9 +71,6 @@ AreBuses-append net bs cs h i = record { each = appended net bs cs h.each i.each
 pub AreBuses-none : (net : Net) → AreBuses net []
 AreBuses-none net = record { each = λ k x e. absurd (cc) }
 
-pub AreBuses-one : (net : Net) (b : Bus) → IsBus net b → AreBuses net (b ∷ [])
-AreBuses-one net b i = AreBuses-push net [] b (AreBuses-none net) i
-
 -- a bus, a list of buses and a wire stay what they are
 pub bus_kept : (old new : Net) (b : Bus) → Keeps old new → IsBus old b → IsBus new b
 bus_kept old new b g i = record { there = g.shapes b.node _ i.there; width = i.width }

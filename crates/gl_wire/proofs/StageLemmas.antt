@@ -1,5 +1,5 @@
 -- Registers behind a line and behind a wire, and wires that are some cycles behind.
-use Rattle.std.proofs.Common.{◌≡◌, ℕ, zero, suc, ◌+◌, ◌<◌, List, length, Some, None, Bool, false, refl, sym, ap, ◌∙◌, subst, arith}
+use Rattle.std.proofs.Common.{◌≡◌, ℕ, zero, suc, ◌+◌, ◌<◌, List, length, Some, None, Bool, false, refl, sym, ap, ◌∙◌, arith}
 use Rattle.std.specs.Prelude.{if◌then◌else◌}
 use Rattle.std.specs.List.{sum}
 use Rattle.gl_bits.specs.Results.{Row}
@@ -8,10 +8,9 @@ use Rattle.gl_net.specs.declared.node.Bit.{Bit}
 use Rattle.gl_net.specs.Net.{Net, Run}
 use Rattle.gl_net.proofs.Determined.{keeps_then}
 use Rattle.gl_wire.specs.declared.wire.Wire.{Wire}
-use Rattle.gl_wire.specs.Wire.{Carried, IsWire, carried, wire_of, line_at, row_at, tuple_at}
+use Rattle.gl_wire.specs.Wire.{Carried, carried, wire_of, line_at, row_at, tuple_at}
 use Rattle.gl_wire.specs.Shapes.{IsDelayed}
 use Rattle.gl_wire.specs.Stages.{AreLater, IsLaterLine, IsPad}
-use Rattle.gl_net.proofs.Growth.{same_keeps}
 
 -- a register that is 0 after reset is one cycle behind its line, from the reset cycle on
 pub line_later : (run : Run) (line later : Bit) → run.at 1 later.node ≡ 0 → ((t : ℕ) → run.at (suc (suc t)) later.node ≡ run.at (suc t) line.node) → (t : ℕ) → line_at run later (suc t) ≡ line_at run line t
@@ -85,15 +84,6 @@ delayed_same m a b d tuple ends h = record {
   tuples = λ c. h.tuples c ∙ tuple c;
   ends = λ c. h.ends c ∙ ends c;
 }
-
-pub padded_none : (net : Net) (w v : Wire) → IsWire net w → v ≡ w → IsPad net net 0 w v
-padded_none net w v i e = subst (λ u. IsPad net net 0 w u) (sym e) (record {
-  keeps = same_keeps net;
-  cost = record { nodes = omega arith; registers = omega arith; memories = omega arith };
-  wire = i;
-  same_widths = refl;
-  delayed = λ run r. delayed_none (carried run w);
-})
 
 pub padded_more : (old mid new : Net) (n : ℕ) (w v u : Wire) → IsPad old mid n w v → IsPad mid new 1 v u → IsPad old new (n + 1) w u
 padded_more old mid new n w v u h i = record {

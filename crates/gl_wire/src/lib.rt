@@ -18,4 +18,4 @@ pub use figures::{delayed_figures, settled_figures, total_figures};
 pub use gates::{both, but_not, either, same};
 pub use operator::Operator;
 pub use stages::{later, later_all, later_bit, later_wire, pad, stage};
-pub use wire::{Front, Wire, Wires};
+pub use wire::Wire;

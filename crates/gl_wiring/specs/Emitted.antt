@@ -2,9 +2,10 @@
 use Rattle.std.specs.Prelude.{◌≡◌, ℕ, suc, List, [], ◌∷◌, ◌++◌, Some, map, slice_get}
 use Rattle.gl_schema.specs.declared.schema.Column.{Column}
 use Rattle.gl_schema.specs.declared.schema.Stream.{Stream}
+use Rattle.gl_schema.specs.declared.schema.Schema.{Schema}
 use Rattle.gl_schema.specs.Ports.{in_valid, in_column, out_valid, out_column, out_eos, eos, fault_group, fault_queue}
 use Rattle.gl_wiring.specs.declared.parts.Source.{Source}
-use Rattle.gl_wiring.specs.EmittedPorts.{column_widths}
+use Rattle.gl_wiring.specs.EmittedPorts.{column_widths, column_outputs, result_outputs}
 use Rattle.gl_net.specs.declared.node.Bus.{Bus}
 use Rattle.gl_net.specs.declared.node.Node.{Node}
 use Rattle.gl_net.specs.declared.node.Port.{Port}
@@ -56,6 +57,9 @@ AreInputs net stream [] (b ∷ bs) = ⊥
 AreInputs net stream (c ∷ cs) [] = ⊥
 AreInputs net stream (c ∷ cs) (b ∷ bs) = (IsPort net In (in_column stream c.name) b.node × IsBus net b) × AreInputs net stream cs bs
 
+abbrev pub HasInputs : Net → Stream → List Bus → Type 0
+HasInputs net s buses = AreInputs net s.name s.columns buses
+
 -- an output port of this name has from cycle 2 on what the node had a cycle earlier
 pub record IsDelayed (net : Net) (name : List ℕ) (source : ℕ) : Type 0 where
   pub node : ℕ
@@ -82,6 +86,13 @@ AreDelayed net buses [] (n ∷ names) = ⊥
 AreDelayed net buses (p ∷ places) [] = ⊥
 AreDelayed net buses (p ∷ places) (n ∷ names) = ((b : Bus) × (slice_get buses p ≡ Some b) × IsDelayed net (out_column n) b.node) × AreDelayed net buses places names
 
+-- the outputs of the columns at these places of a source, and of a result that has them
+abbrev pub outputs : Source → List ℕ → List (List ℕ) → List PortShape
+outputs source places names = column_outputs (bus_widths source.columns) places names
+
+abbrev pub results : Source → List ℕ → List (List ℕ) → List PortShape
+results source places names = result_outputs (bus_widths source.columns) places names
+
 -- the ports of stream k are this source
 pub record IsSource (net : Net) (streams : List Stream) (k : ℕ) (source : Source) : Type 0 where
   pub stream : Stream
@@ -103,3 +114,6 @@ pub record FollowsNodes (net : Net) (streams : List Stream) (k : ℕ) (places : 
   pub end : IsDelayedBit net out_eos eos_node
   pub group : IsZero net fault_group
   pub queue : IsZero net fault_queue
+
+abbrev pub FollowsSchema : Net → Schema → ℕ → List ℕ → List (List ℕ) → Type 0
+FollowsSchema net schema k places names = FollowsNodes net schema.streams k places names

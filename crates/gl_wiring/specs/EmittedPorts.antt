@@ -1,5 +1,5 @@
 -- The ports of an emitted module, the clock aside, in their order, with their directions and bits.
-use Rattle.std.specs.Prelude.{ℕ, List, [], ◌∷◌, ◌++◌, map, slice_get, slice_index}
+use Rattle.std.specs.Prelude.{◌≡◌, ℕ, List, [], ◌∷◌, ◌++◌, map, slice_get, slice_index}
 use Rattle.std.specs.Option.{option_map_or}
 use Rattle.gl_bits.specs.Kinds.{width_of}
 use Rattle.gl_schema.specs.declared.schema.Column.{Column}
@@ -7,7 +7,8 @@ use Rattle.gl_schema.specs.declared.schema.Stream.{Stream}
 use Rattle.gl_schema.specs.declared.schema.Schema.{Schema}
 use Rattle.gl_schema.specs.Ports.{rst, eos, in_valid, in_column, out_valid, out_column, out_eos, fault_group, fault_queue}
 use Rattle.gl_net.specs.declared.node.Direction.TheVariants.{In, Out}
-use Rattle.gl_net.specs.PortValues.{PortShape}
+use Rattle.gl_net.specs.Net.{Net}
+use Rattle.gl_net.specs.PortValues.{PortShape, port_shapes}
 
 abbrev pub input : List ℕ → ℕ → PortShape
 input name width = record { direction = In; name = name; width = width }
@@ -24,8 +25,11 @@ abbrev pub column_inputs : List ℕ → List Column → List PortShape
 column_inputs stream [] = []
 column_inputs stream (c ∷ cs) = input (in_column stream c.name) (width_of c.kind) ∷ column_inputs stream cs
 
+abbrev pub stream_columns : Stream → List PortShape
+stream_columns s = column_inputs s.name s.columns
+
 abbrev pub stream_inputs : Stream → List PortShape
-stream_inputs s = input (in_valid s.name) 1 ∷ column_inputs s.name s.columns
+stream_inputs s = input (in_valid s.name) 1 ∷ stream_columns s
 
 abbrev pub streams_inputs : List Stream → List PortShape
 streams_inputs [] = []
@@ -50,3 +54,7 @@ columns_at streams k = option_map_or (λ (s : Stream). s.columns) (slice_get str
 abbrev pub emitted_ports : Schema → ℕ → List ℕ → List (List ℕ) → List PortShape
 emitted_ports schema k places names =
     input rst 1 ∷ (streams_inputs schema.streams ++ input eos 1 ∷ result_outputs (column_widths (columns_at schema.streams k)) places names)
+
+-- all ports of the netlist are these
+abbrev pub IsEmitted : Schema → ℕ → List ℕ → List (List ℕ) → Net → Type 0
+IsEmitted schema k places names net = port_shapes net ≡ emitted_ports schema k places names

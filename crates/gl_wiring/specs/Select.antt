@@ -1,9 +1,9 @@
 -- A module whose ports show, one cycle later, what came on some columns of one stream.
-use Rattle.std.specs.Prelude.{◌≡◌, ℕ, suc, false, List, [], ◌∷◌, Some, map, slice_index, slice_get, IfSome}
+use Rattle.std.specs.Prelude.{◌≡◌, ℕ, suc, false, List, [], ◌∷◌, Some, map, slice_index, slice_get, IfSome, All, length, ◌<◌}
 use Rattle.gl_schema.specs.declared.schema.Column.{Column}
 use Rattle.gl_schema.specs.declared.schema.Stream.{Stream}
 use Rattle.gl_schema.specs.declared.schema.Schema.{Schema}
-use Rattle.gl_schema.specs.Ports.{PortValues, IsStimulus, eos, in_valid, in_column, out_valid, out_eos, fault_group, fault_queue}
+use Rattle.gl_schema.specs.Ports.{PortValues, IsStimulus, eos, in_valid, in_column, out_column, out_valid, out_eos, fault_group, fault_queue}
 use Rattle.gl_schema.specs.Seen.{value_at}
 use Rattle.gl_schema.specs.Right.{Meaning, IsRight}
 use Rattle.gl_schema.specs.Beats.{Beat, AreBeats}
@@ -47,14 +47,22 @@ pub record FollowsStream (s : Stream) (places : List ℕ) (outs : List (List ℕ
   pub group : (t : ℕ) → value_at port t fault_group ≡ 0
   pub queue : (t : ℕ) → value_at port t fault_queue ≡ 0
 
--- in every run from reset the netlist's ports follow stream k
-abbrev pub FollowsIn : List Stream → ℕ → List ℕ → List (List ℕ) → Net → Type 0
-FollowsIn streams k places outs net =
+-- in every run from reset the outputs of columns of these names follow stream k
+abbrev pub FollowsIn : Schema → ℕ → List ℕ → List (List ℕ) → Net → Type 0
+FollowsIn schema k places names net =
     (run : Run) → IsRun net run
-    → IfSome (slice_get streams k) (λ s. FollowsStream s places outs (input_values net run) (port_values net run))
+    → IfSome (slice_get schema.streams k) (λ s. FollowsStream s places (map out_column names) (input_values net run) (port_values net run))
 
 -- every run of the netlist over beats of the schema, which are on its input ports, is right for the select, one cycle later
 abbrev pub IsRightSelect : Schema → ℕ → List ℕ → List (List ℕ) → Net → Type 0
 IsRightSelect schema k places outs net =
     (run : Run) (beats : List Beat) → IsTrace net run → AreBeats schema beats → IsStimulus schema beats (input_values net run)
     → IsRight (picks k places) 1 beats outs (port_values net run)
+
+-- the same for the outputs of columns of these names
+abbrev pub IsRightFor : Schema → ℕ → List ℕ → List (List ℕ) → Net → Type 0
+IsRightFor schema k places names net = IsRightSelect schema k places (map out_column names) net
+
+-- these are places of stream k's columns
+abbrev pub ArePlaces : Schema → ℕ → List ℕ → Type 0
+ArePlaces schema k places = IfSome (slice_get schema.streams k) (λ s. All (λ p. p < length s.columns) places)

@@ -8,5 +8,5 @@ pub mod names;
 pub mod parts;
 pub mod select;
 
-pub use names::ResultNames;
+pub use names::{ResultNames, in_column_name, in_valid_name};
 pub use select::wire_select;

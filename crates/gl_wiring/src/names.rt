@@ -35,7 +35,7 @@ pub(crate) fn module_name(alloc: Global, into: &[u8]) -> Result<Vec<u8>, Memory>
 
 /// `in__STREAM__valid`.
 #[tactic(auto, unfolding(gl_schema::specs::Ports::in_valid))]
-pub(crate) fn in_valid_name(alloc: Global, stream: &[u8]) -> Result<Vec<u8>, Memory>
+pub fn in_valid_name(alloc: Global, stream: &[u8]) -> Result<Vec<u8>, Memory>
     ensures { IfOk result (λ v. v.items ≡ in_valid stream.now) }
 {
     let mut name = Vec::new(alloc);
@@ -47,7 +47,7 @@ pub(crate) fn in_valid_name(alloc: Global, stream: &[u8]) -> Result<Vec<u8>, Mem
 
 /// `in__STREAM__COLUMN`.
 #[tactic(auto, unfolding(gl_schema::specs::Ports::in_column))]
-pub(crate) fn in_column_name(alloc: Global, stream: &[u8], column: &[u8]) -> Result<Vec<u8>, Memory>
+pub fn in_column_name(alloc: Global, stream: &[u8], column: &[u8]) -> Result<Vec<u8>, Memory>
     ensures { IfOk result (λ v. v.items ≡ in_column stream.now column.now) }
 {
     let mut name = Vec::new(alloc);

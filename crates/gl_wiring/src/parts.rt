@@ -6,9 +6,10 @@ ghost use Rattle.gl_bits.specs.Words.{IsWidth};
 ghost use Rattle.gl_schema.specs.Schemas.{IsColumn, IsStream};
 ghost use Rattle.gl_schema.specs.Ports.{in_valid, out_column};
 ghost use Rattle.gl_net.specs.Net.{Run, IsRun, IsBus, IsPort};
-ghost use Rattle.gl_net.specs.declared.node.Direction.{Direction};
-ghost use Rattle.gl_wiring.specs.EmittedPorts.{input, output, column_widths, column_inputs, stream_inputs, streams_inputs};
-ghost use Rattle.gl_wiring.specs.Emitted.{bus_widths, Puts, Extends, AreInputs, IsDelayed, IsDelayedBit, IsZero, AreDelayed};
+ghost use Rattle.gl_net.specs.declared.node.Direction.TheVariants.{In, Out};
+ghost use Rattle.gl_net.specs.Builds.{Follows};
+ghost use Rattle.gl_wiring.specs.EmittedPorts.{input, output, column_widths, stream_columns, stream_inputs, streams_inputs};
+ghost use Rattle.gl_wiring.specs.Emitted.{bus_widths, Puts, Extends, HasInputs, IsDelayed, IsDelayedBit, IsZero, AreDelayed};
 
 use crate::names::{in_column_name, in_valid_name, out_column_name};
 use gl_bits::{Memory, Word};
@@ -28,7 +29,7 @@ pub(crate) fn put_input(net: &mut NetBuilder, name: &[u8], width: u8) -> Result<
     requires { IsWidth width }
     ensures extends { OnOk result (Extends net.old net.new) }
     ensures ports { OnOk result (Puts net.old net.new (input name.now width ∷ [])) }
-    ensures port { IfOk result (λ b. IsPort net.new Direction.In name.now b.node) }
+    ensures port { IfOk result (λ b. IsPort net.new In name.now b.node) }
     ensures bus { IfOk result (λ b. IsBus net.new b) }
     ensures width { IfOk result (λ b. b.width ≡ width) }
 {
@@ -41,7 +42,7 @@ pub(crate) fn put_output(net: &mut NetBuilder, name: &[u8], value: Bus) -> Resul
     requires { IsBus net.old value }
     ensures extends { OnOk result (Extends net.old net.new) }
     ensures ports { OnOk result (Puts net.old net.new (output name.now value.width ∷ [])) }
-    ensures port { OnOk result (IsPort net.new Direction.Out name.now value.node) }
+    ensures port { OnOk result (IsPort net.new Out name.now value.node) }
 {
     net.output(name, value)?;
     Ok(())
@@ -54,7 +55,7 @@ fn later(net: &mut NetBuilder, source: Bus) -> Result<Bus, Memory>
     ensures extends { OnOk result (Extends net.old net.new) }
     ensures ports { OnOk result (Puts net.old net.new []) }
     ensures bus { IfOk result (λ b. IsBus net.new b) }
-    ensures later { IfOk result (λ b. (run : Run) → IsRun net.new run → (t : ℕ) → run.at (suc (suc t)) b.node ≡ run.at (suc t) source.node) }
+    ensures later { IfOk result (λ b. Follows net.new b source) }
 {
     let register = net.register(source.width, None)?;
     net.drive(register, source)?;
@@ -70,7 +71,7 @@ fn later_bit(net: &mut NetBuilder, source: Bus) -> Result<Bus, Memory>
     ensures ports { OnOk result (Puts net.old net.new []) }
     ensures bus { IfOk result (λ b. IsBus net.new b) }
     ensures first { IfOk result (λ b. (run : Run) → IsRun net.new run → run.at 1 b.node ≡ 0) }
-    ensures later { IfOk result (λ b. (run : Run) → IsRun net.new run → (t : ℕ) → run.at (suc (suc t)) b.node ≡ run.at (suc t) source.node) }
+    ensures later { IfOk result (λ b. Follows net.new b source) }
 {
     let clear = Word::new(0, 1).unwrap();
     let register = net.register(1, Some(clear))?;
@@ -118,8 +119,8 @@ pub(crate) fn put_zero(net: &mut NetBuilder, name: &[u8]) -> Result<(), Memory>
 fn put_columns(alloc: Global, net: &mut NetBuilder, stream: &Stream) -> Result<Buses, Memory>
     requires { AllByRecursion IsColumn stream.now.columns }
     ensures extends { OnOk result (Extends net.old net.new) }
-    ensures ports { OnOk result (Puts net.old net.new (column_inputs stream.now.name stream.now.columns)) }
-    ensures inputs { IfOk result (λ bs. AreInputs net.new stream.now.name stream.now.columns bs) }
+    ensures ports { OnOk result (Puts net.old net.new (stream_columns stream.now)) }
+    ensures inputs { IfOk result (HasInputs net.new stream.now) }
     ensures widths { IfOk result (λ bs. bus_widths bs ≡ column_widths stream.now.columns) }
 {
     let mut buses = Buses::new(alloc);
@@ -140,10 +141,10 @@ pub(crate) fn put_stream(
     requires { IsStream stream.now }
     ensures extends { OnOk result (Extends net.old net.new) }
     ensures ports { OnOk result (Puts net.old net.new (stream_inputs stream.now)) }
-    ensures port { IfOk result (λ s. IsPort net.new Direction.In (in_valid stream.now.name) s.valid.node) }
+    ensures port { IfOk result (λ s. IsPort net.new In (in_valid stream.now.name) s.valid.node) }
     ensures bus { IfOk result (λ s. IsBus net.new s.valid) }
     ensures bit { IfOk result (λ s. s.valid.width ≡ 1) }
-    ensures inputs { IfOk result (λ s. AreInputs net.new stream.now.name stream.now.columns s.columns) }
+    ensures inputs { IfOk result (λ s. HasInputs net.new stream.now s.columns) }
     ensures widths { IfOk result (λ s. bus_widths s.columns ≡ column_widths stream.now.columns) }
 {
     let name = in_valid_name(alloc, stream.name.as_slice())?;

@@ -8,9 +8,9 @@ ghost use Rattle.gl_schema.specs.Ports.{in_valid, out_valid, out_column, out_eos
 ghost use Rattle.gl_net.specs.Net.{Run, IsRun, IsBus, IsPort, open_at};
 ghost use Rattle.gl_net.specs.Finished.{HasReset};
 ghost use Rattle.gl_net.specs.PortValues.{port_values, port_shapes};
-ghost use Rattle.gl_wiring.specs.EmittedPorts.{streams_inputs, column_outputs, result_outputs, emitted_ports};
-ghost use Rattle.gl_wiring.specs.Emitted.{bus_widths, Puts, Extends, AreInputs, IsDelayedBit, IsZero, AreDelayed, IsSource, FollowsNodes};
-ghost use Rattle.gl_wiring.specs.Select.{FollowsIn, IsRightSelect};
+ghost use Rattle.gl_wiring.specs.EmittedPorts.{streams_inputs, IsEmitted};
+ghost use Rattle.gl_wiring.specs.Emitted.{outputs, results, Puts, Extends, AreInputs, IsDelayedBit, IsZero, AreDelayed, IsSource, FollowsSchema};
+ghost use Rattle.gl_wiring.specs.Select.{FollowsIn, IsRightFor, ArePlaces};
 
 use crate::names::{ResultNames, module_name, out_column_name};
 use crate::parts::{
@@ -77,7 +77,7 @@ fn put_columns(
     requires places { All (λ p. p < length source.now.columns) columns.now }
     requires buses { All (IsBus net.old) source.now.columns }
     ensures extends { OnOk result (Extends net.old net.new) }
-    ensures ports { OnOk result (Puts net.old net.new (column_outputs (bus_widths source.now.columns) columns.now names.now)) }
+    ensures ports { OnOk result (Puts net.old net.new (outputs source.now columns.now names.now)) }
     ensures delayed { OnOk result (AreDelayed net.new source.now.columns columns.now names.now) }
 {
     for (at, name) in names.iter().enumerate() {
@@ -106,7 +106,7 @@ fn put_result(
     requires places { All (λ p. p < length source.now.columns) columns.now }
     requires buses { All (IsBus net.old) source.now.columns }
     ensures extends { OnOk result (Extends net.old net.new) }
-    ensures ports { OnOk result (Puts net.old net.new (result_outputs (bus_widths source.now.columns) columns.now names.now)) }
+    ensures ports { OnOk result (Puts net.old net.new (results source.now columns.now names.now)) }
     ensures valid { OnOk result (IsDelayedBit net.new out_valid source.now.valid.node) }
     ensures delayed { OnOk result (AreDelayed net.new source.now.columns columns.now names.now) }
     ensures end { OnOk result (IsDelayedBit net.new out_eos end.node) }
@@ -131,13 +131,13 @@ fn put_select(
     names: &[NameText],
 ) -> Result<(), Memory>
     requires schema { IsSchema schema.now }
-    requires there { IfSome (slice_get schema.now.streams stream) (λ s. All (λ p. p < length s.columns) columns.now) }
+    requires there { ArePlaces schema.now stream columns.now }
     requires within { stream < length schema.now.streams }
     requires lengths { length columns.now ≡ length names.now }
     requires empty { net.old.ports ≡ [] }
     ensures extends { OnOk result (Extends net.old net.new) }
-    ensures ports { OnOk result (port_shapes net.new ≡ emitted_ports schema.now stream columns.now names.now) }
-    ensures follows { OnOk result (FollowsNodes net.new schema.now.streams stream columns.now names.now) }
+    ensures ports { OnOk result (IsEmitted schema.now stream columns.now names.now net.new) }
+    ensures follows { OnOk result (FollowsSchema net.new schema.now stream columns.now names.now) }
     ensures reset { OnOk result (HasReset net.new) }
 {
     put_input(net, b"rst", 1)?;
@@ -161,15 +161,15 @@ pub fn wire_select(
 ) -> Result<Netlist, Memory>
     requires schema { IsSchema schema.now }
     requires within { stream < length schema.now.streams }
-    requires there { IfSome (slice_get schema.now.streams stream) (λ s. All (λ p. p < length s.columns) columns.now) }
+    requires there { ArePlaces schema.now stream columns.now }
     requires lengths { length columns.now ≡ length names.now.columns }
     requires into { IsName names.now.into }
     requires column_names { AllByRecursion IsName names.now.columns }
     requires distinct { IsDistinct bytes_eq names.now.columns }
     ensures name { IfOk result (λ net. net.name ≡ Some (codes "q__" ++ names.now.into)) }
-    ensures ports { IfOk result (λ net. port_shapes net ≡ emitted_ports schema.now stream columns.now names.now.columns) }
-    ensures follows { IfOk result (FollowsIn schema.now.streams stream columns.now (map out_column names.now.columns)) }
-    ensures right { IfOk result (IsRightSelect schema.now stream columns.now (map out_column names.now.columns)) }
+    ensures ports { IfOk result (IsEmitted schema.now stream columns.now names.now.columns) }
+    ensures follows { IfOk result (FollowsIn schema.now stream columns.now names.now.columns) }
+    ensures right { IfOk result (IsRightFor schema.now stream columns.now names.now.columns) }
 {
     let mut net = NetBuilder::new(alloc);
     let name = module_name(alloc, names.into.as_slice())?;

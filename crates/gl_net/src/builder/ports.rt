@@ -1,6 +1,6 @@
 //! The ports of a module, and its name.
 
-ghost use Rattle.std.specs.Prelude.{◌≡◌, ℕ, [], ◌∷◌, ◌++◌, length, Some, IfOk, OnOk, OnErr};
+ghost use Rattle.std.specs.Prelude.{◌≡◌, ℕ, [], ◌∷◌, ◌++◌, Some, IfOk, OnOk, OnErr};
 ghost use Rattle.gl_bits.specs.Words.{IsWidth};
 ghost use Rattle.gl_net.specs.declared.node.Direction.TheVariants.{In, Out};
 ghost use Rattle.gl_net.specs.Net.{IsBus, Grows, open_at, size_of, register_bits_of, memory_bits_of};
@@ -136,7 +136,7 @@ fn push_both(
     port: Port,
     width: u8,
 ) -> Result<(), Memory>
-    ensures nodes { OnOk result (PutsInput nodes.old.items nodes.new.items (length ports.old.items) width) }
+    ensures nodes { OnOk result (PutsInput nodes.old.items nodes.new.items ports.old.items width) }
     ensures ports { OnOk result (ports.new.items ≡ ports.old.items ++ port ∷ []) }
     ensures nodes_err { OnErr result (nodes.new.items ≡ nodes.old.items) }
     ensures ports_err { OnErr result (ports.new.items ≡ ports.old.items) }

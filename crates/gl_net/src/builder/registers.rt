@@ -1,6 +1,6 @@
 //! Registers, and what drives them.
 
-ghost use Rattle.std.specs.Prelude.{◌≡◌, ℕ, ◌+◌, ◌^◌, ◌<◌, Some, None, true, IfSome, is_none, IfOk, OnOk, OnErr};
+ghost use Rattle.std.specs.Prelude.{◌≡◌, ◌+◌, ◌^◌, ◌<◌, Some, None, IfSome, is_none, IfOk, OnOk, OnErr};
 ghost use Rattle.std.specs.Option.{option_map};
 ghost use Rattle.gl_bits.specs.Words.{Word, IsWidth};
 ghost use Rattle.gl_net.specs.Net.{IsBus, Grows, Value, open_at, size_of, register_bits_of, memory_bits_of, is_free};
@@ -53,7 +53,7 @@ impl NetBuilder {
         ensures register_bits { register_bits_of self.new ≡ register_bits_of self.old }
         ensures memory_bits { memory_bits_of self.new ≡ memory_bits_of self.old }
         ensures value { OnOk result (Follows self.new register next) }
-        ensures first { OnOk result (is_free self.old register.node ≡ true → FollowsFirst self.new register next) }
+        ensures first { OnOk result (FollowsFirst self.old self.new register next) }
         ensures err { OnErr result (self.new ≡ self.old) }
     {
         self.set_next(register, next);

@@ -1,19 +1,15 @@
-use Rattle.gl_algebra.proofs.EveryNodeLemmas.{stream_made, windows_fit, groups_fit, beside_fits}
 use Rattle.gl_algebra.proofs.tests.put_others.Goals as goal
 
-pub put-requires-2 : goal.put-requires-2
-put-requires-2 c =
-    let source = stream_made c.args.plan.now _ _ _ c.in_ok-kinds.ensures c.in_ok-source.ensures.made in
-    windows_fit _ _ _ source (c.in_ok-source.ensures.kept _ _ c.requires)
+pub put_windows-requires-clause-source : goal.put_windows-requires-clause-source
+put_windows-requires-clause-source c = c.in_ok-put_beside.ensures _ _ c.in_ok-source.ensures.made
 
-pub put-requires-3 : goal.put-requires-3
-put-requires-3 c =
-    let source = stream_made c.args.plan.now _ _ _ c.in_ok-kinds.ensures c.in_ok-source.ensures.made in
-    groups_fit _ _ _ (c.in_ok-put.ensures.kept _ _ source)
-    (c.in_ok-put.ensures.kept _ _ (c.in_ok-source.ensures.kept _ _ c.requires))
+pub put_windows-requires-clause-body : goal.put_windows-requires-clause-body
+put_windows-requires-clause-body c = c.in_ok-put_beside.ensures _ _ (c.in_ok-source.ensures.kept _ _ c.requires)
 
-pub put-requires-5 : goal.put-requires-5
-put-requires-5 c =
-    let source = stream_made c.args.plan.now _ _ _ c.in_ok-kinds.ensures c.in_ok-source.ensures.made in
-    beside_fits _ _
-    (c.in_ok-put-2.ensures.kept _ _ (c.in_ok-side.ensures.kept _ _ (c.in_ok-put.ensures.kept _ _ source)))
+pub put_groups-requires-clause-source : goal.put_groups-requires-clause-source
+put_groups-requires-clause-source c =
+    c.in_ok-put_windows.ensures _ _ (c.in_ok-put_beside.ensures _ _ c.in_ok-source.ensures.made)
+
+pub put_groups-requires-clause-body : goal.put_groups-requires-clause-body
+put_groups-requires-clause-body c =
+    c.in_ok-put_windows.ensures _ _ (c.in_ok-put_beside.ensures _ _ (c.in_ok-source.ensures.kept _ _ c.requires))

@@ -1,5 +1,5 @@
 use Rattle.std.proofs.Common.{◌≡◌, sym, subst, ◌∙◌}
-use Rattle.gl_query_reader.specs.Meaning.{statement_tree}
+use Rattle.gl_query.specs.Trees.{statement_tree}
 use Rattle.gl_query.specs.declared.tree.Statement.{Statement as Stated}
 use Rattle.gl_compiler.specs.Queries.{IsQuery, IsQueryRefused, IfRefused, fault_of_query}
 use Rattle.gl_compiler.proofs.Shaped.{fault_cause, fault_refused, statement_refused}

@@ -18,6 +18,7 @@ returns-clause-compiled c =
       kinds = is.kinds ∙ sym (result_kinds-are c.args.schema c.args.statement is.built);
       latency = refl;
       gap = refl;
+      copies = refl;
       meets = c.in-Ok.ensures;
     }
 

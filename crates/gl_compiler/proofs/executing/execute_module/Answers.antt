@@ -38,22 +38,18 @@ run-requires-clause-widths g c = c.in-Ok.ensures.widths
 pub run-requires-clause-short : goal.run-requires-clause-short
 run-requires-clause-short g c = c.requires.short
 
-pub returns-in-Ok-run-clause-done : goal.returns-in-Ok-run-clause-done
-returns-in-Ok-run-clause-done g c = λ e.
-    of_timely c.args.schema.now (plain_beats c.args.beats.now) c.args.latency c.args.start c.args.design c.in-Ok.prepared.sim
-    (λ outs port. Writes c.args.kinds.now (plain_beats c.args.beats.now) outs port (g.K.Sink.taken c.args.out.now) (g.K.Sink.taken c.run.new.out))
-    c.requires.can.has.valid c.in-Ok.ensures.design' c.in-Ok.ensures.started c.in-Ok-run.ensures.all
-
-pub returns-in-Err-clause-fault : goal.returns-in-Err-clause-fault
-returns-in-Err-clause-fault g c = λ e. (
-  c.in-Err.ensures.cause,
+pub returns-in-Ok-run : goal.returns-in-Ok-run
+returns-in-Ok-run g c = (
+  c.in-Ok-run.ensures.counts,
   of_timely c.args.schema.now (plain_beats c.args.beats.now) c.args.latency c.args.start c.args.design c.in-Ok.prepared.sim
-      (λ outs port. WritesFront c.args.kinds.now (plain_beats c.args.beats.now) outs port (g.K.Sink.taken c.args.out.now) (g.K.Sink.taken c.run.new.out))
-      c.requires.can.has.valid c.in-Ok.ensures.design' c.in-Ok.ensures.started c.in-Err.ensures.front,
+      (λ outs port. Writes c.args.kinds.now (plain_beats c.args.beats.now) outs port (g.K.Sink.state c.args.out.now).taken (g.K.Sink.state c.run.new.out).taken)
+      c.requires.can.has.valid c.in-Ok.ensures.design' c.in-Ok.ensures.started c.in-Ok-run.ensures.lines,
 )
 
-pub returns-in-Err-clause-never_falls : goal.returns-in-Err-clause-never_falls
-returns-in-Err-clause-never_falls g c = c.run.ensures.never_falls
-
-pub returns-in-Ok-run-clause-never_falls : goal.returns-in-Ok-run-clause-never_falls
-returns-in-Ok-run-clause-never_falls g c = c.run.ensures.never_falls
+pub returns-in-Err : goal.returns-in-Err
+returns-in-Err g c = (
+  c.in-Err.ensures.counts,
+  of_timely c.args.schema.now (plain_beats c.args.beats.now) c.args.latency c.args.start c.args.design c.in-Ok.prepared.sim
+      (λ outs port. WritesFront c.args.kinds.now (plain_beats c.args.beats.now) outs port (g.K.Sink.state c.args.out.now).taken (g.K.Sink.state c.run.new.out).taken)
+      c.requires.can.has.valid c.in-Ok.ensures.design' c.in-Ok.ensures.started c.in-Err.ensures.lines,
+)

@@ -1,6 +1,5 @@
 use Rattle.std.proofs.Common.{◌≡◌, ◌∙◌, ◌<◌, ◌≤◌, ◌+◌, ℕ, Bool, true, false, arith, sym, subst, refl}
 use Rattle.gl_bits.specs.Words.{bits_of}
-use Rattle.gl_outside.proofs.Counting.{rose_later}
 use Rattle.gl_schema.specs.Beats.{last_cycle}
 use Rattle.gl_tuples.specs.Gaps.{plain_beats}
 use Rattle.gl_verilog.specs.declared.module.Module.{Module}
@@ -8,7 +7,7 @@ use Rattle.gl_verilog.specs.View.{module_of}
 use Rattle.gl_compiler.specs.Benches.{IsBench}
 use Rattle.gl_compiler.specs.Cycles.{CanFollow, IsMade}
 use Rattle.gl_compiler.proofs.Due.{due_first}
-use Rattle.gl_compiler.proofs.Puts.{err_always}
+use Rattle.gl_compiler.proofs.Each.{by_err, counts_err}
 use Rattle.gl_compiler.proofs.Running.{under_way_first, under_way_more, under_way_done, under_way_past, under_way_cut}
 use Rattle.gl_compiler.proofs.executing.follow.Goals as goal
 use Rattle.gl_compiler.proofs.executing.follow.Goals.{else-looked-via-then-looked+else-cycle-course, else-looked-via-else-looked}
@@ -24,8 +23,8 @@ loop-cycle-init g c = record {
   design = refl;
   row = c.requires.widths;
   due = due_first (plain_beats c.args.course.now.beats.now) c.requires.can.beats'.order;
-  way = λ value word f. under_way_first (module_of c.args.sim.now.design) c.args.sim.now c.args.course.now.schema.now c.args.course.now.kinds.now (plain_beats c.args.course.now.beats.now) (g.K.Sink.taken c.args.out.now) value word f;
-  falls = omega arith;
+  way = λ value word f. under_way_first (module_of c.args.sim.now.design) c.args.sim.now c.args.course.now.schema.now c.args.course.now.kinds.now (plain_beats c.args.course.now.beats.now) (g.K.Sink.state c.args.out.now).taken value word f;
+  calm = refl;
 }
 
 pub advance-looked-requires-clause-can : goal.advance-looked-requires-clause-can
@@ -54,9 +53,9 @@ put_cycle-requires-clause-kinds g c = c.requires.kinds
 pub put_cycle-requires-clause-widths : goal.put_cycle-requires-clause-widths
 put_cycle-requires-clause-widths g c = c.advance-looked.ensures.widths ∙ c.loop-cycle.invariant.row
 
-pub returns-in_err-put_cycle-clause-front : goal.returns-in_err-put_cycle-clause-front
-returns-in_err-put_cycle-clause-front g c = err_always c.from_residual.result
-    (λ value word f ends.
+pub returns-in_err-put_cycle-clause-lines : goal.returns-in_err-put_cycle-clause-lines
+returns-in_err-put_cycle-clause-lines g c = λ value word f ends. by_err c.from_residual.result c.from_residual.ensures.1
+    (
     let m = module_of c.args.sim.now.design in
     let course = c.args.course.now in
     let beats = plain_beats course.beats.now in
@@ -65,17 +64,13 @@ returns-in_err-put_cycle-clause-front g c = err_always c.from_residual.result
     let made : IsMade m c.advance-looked.new.sim course.schema.now beats c.advance-looked.result row c.loop-cycle.cycle value word =
     subst (λ (d : Module). IsMade (module_of d) c.advance-looked.new.sim course.schema.now beats c.advance-looked.result row c.loop-cycle.cycle value word) c.loop-cycle.invariant.design (c.advance-looked.ensures.made value word way.followed) in
     under_way_cut m c.loop-cycle.sim c.advance-looked.new.sim course.schema.now course.kinds.now beats c.loop-cycle.told c.advance-looked.result row c.loop-cycle.cycle course.latency
-    (g.K.Sink.taken c.args.out.now) (g.K.Sink.taken c.loop-cycle.out) (g.K.Sink.taken c.put_cycle.new.out) value word way made c.in_err-put_cycle.ensures.front ends)
+    (g.K.Sink.state c.args.out.now).taken (g.K.Sink.state c.loop-cycle.out).taken (g.K.Sink.state c.put_cycle.new.out).taken value word way made c.in_err-put_cycle.ensures.front ends)
 
-pub returns-in_err-put_cycle-clause-cause : goal.returns-in_err-put_cycle-clause-cause
-returns-in_err-put_cycle-clause-cause g c = err_always c.from_residual.result
-    (rose_later (g.K.Sink.faults c.args.out.now) (g.K.Sink.faults c.loop-cycle.out) (g.K.Sink.faults c.put_cycle.new.out) c.loop-cycle.invariant.falls c.in_err-put_cycle.ensures.cause)
+pub returns-in_err-put_cycle-clause-counts : goal.returns-in_err-put_cycle-clause-counts
+returns-in_err-put_cycle-clause-counts g c = counts_err _ _ _ c.from_residual.result c.from_residual.ensures.1 c.loop-cycle.invariant.calm c.in_err-put_cycle.ensures.cause
 
-pub returns-in_err-put_cycle-clause-never_falls : goal.returns-in_err-put_cycle-clause-never_falls
-returns-in_err-put_cycle-clause-never_falls g c = omega (arith, c.loop-cycle.invariant.falls, c.put_cycle.ensures.never_falls)
-
-pub returns-then-cycle-course-clause-all : goal.returns-then-cycle-course-clause-all
-returns-then-cycle-course-clause-all g c = λ value word f ends.
+pub returns-then-cycle-course-clause-lines : goal.returns-then-cycle-course-clause-lines
+returns-then-cycle-course-clause-lines g c = λ value word f ends.
     let m = module_of c.args.sim.now.design in
     let course = c.args.course.now in
     let beats = plain_beats course.beats.now in
@@ -85,10 +80,10 @@ returns-then-cycle-course-clause-all g c = λ value word f ends.
     subst (λ (d : Module). IsMade (module_of d) c.advance-looked.new.sim course.schema.now beats c.advance-looked.result row c.loop-cycle.cycle value word) c.loop-cycle.invariant.design (c.advance-looked.ensures.made value word way.followed) in
     let late : last_cycle beats ≤ c.loop-cycle.cycle = omega (arith, c.requires.last, c.if-cycle-course.true) in
     under_way_done m c.loop-cycle.sim c.advance-looked.new.sim course.schema.now course.kinds.now beats c.loop-cycle.told c.advance-looked.result row c.loop-cycle.cycle
-    (g.K.Sink.taken c.args.out.now) (g.K.Sink.taken c.loop-cycle.out) (g.K.Sink.taken c.put_cycle.new.out) value word way made c.in_ok-put_cycle.ensures.all c.if-looked.true late
+    (g.K.Sink.state c.args.out.now).taken (g.K.Sink.state c.loop-cycle.out).taken (g.K.Sink.state c.put_cycle.new.out).taken value word way made c.in_ok-put_cycle.ensures.all c.if-looked.true late
 
-pub returns-then-cycle-course-clause-never_falls : goal.returns-then-cycle-course-clause-never_falls
-returns-then-cycle-course-clause-never_falls g c = omega (arith, c.loop-cycle.invariant.falls, c.put_cycle.ensures.never_falls)
+pub returns-then-cycle-course-clause-counts : goal.returns-then-cycle-course-clause-counts
+returns-then-cycle-course-clause-counts g c = c.in_ok-put_cycle.ensures.calm ∙ c.loop-cycle.invariant.calm
 
 pub loop-cycle-preserved : goal.loop-cycle-preserved
 loop-cycle-preserved g c =
@@ -110,18 +105,18 @@ loop-cycle-preserved g c =
           let made : IsMade m c.advance-looked.new.sim course.schema.now beats c.advance-looked.result row c.loop-cycle.cycle value word =
           subst (λ (d : Module). IsMade (module_of d) c.advance-looked.new.sim course.schema.now beats c.advance-looked.result row c.loop-cycle.cycle value word) c.loop-cycle.invariant.design (c.advance-looked.ensures.made value word way.followed) in
           under_way_more m c.loop-cycle.sim c.advance-looked.new.sim course.schema.now course.kinds.now beats c.loop-cycle.told _ c.advance-looked.result row c.loop-cycle.cycle
-          (g.K.Sink.taken c.args.out.now) (g.K.Sink.taken c.loop-cycle.out) (g.K.Sink.taken c.put_cycle.new.out) value word way made c.in_ok-put_cycle.ensures.all refl open';
-      falls = omega (arith, c.loop-cycle.invariant.falls, c.put_cycle.ensures.never_falls);
+          (g.K.Sink.state c.args.out.now).taken (g.K.Sink.state c.loop-cycle.out).taken (g.K.Sink.state c.put_cycle.new.out).taken value word way made c.in_ok-put_cycle.ensures.all refl open';
+      calm = c.in_ok-put_cycle.ensures.calm ∙ c.loop-cycle.invariant.calm;
     }
 
-pub returns-clause-all : goal.returns-clause-all
-returns-clause-all g c = λ value word f ends.
+pub returns-clause-lines : goal.returns-clause-lines
+returns-clause-lines g c = λ value word f ends.
     let m = module_of c.args.sim.now.design in
     let course = c.args.course.now in
     let beats = plain_beats course.beats.now in
     let past : last_cycle beats + course.latency < c.loop-cycle.cycle = omega (arith, c.requires.last, c.loop-cycle-test.false) in
     absurd (under_way_past m c.loop-cycle.sim course.schema.now course.kinds.now beats c.loop-cycle.told c.loop-cycle.cycle course.latency
-    (g.K.Sink.taken c.args.out.now) (g.K.Sink.taken c.loop-cycle.out) value word (c.loop-cycle.invariant.way value word f) ends past)
+    (g.K.Sink.state c.args.out.now).taken (g.K.Sink.state c.loop-cycle.out).taken value word (c.loop-cycle.invariant.way value word f) ends past)
 
-pub returns-clause-never_falls : goal.returns-clause-never_falls
-returns-clause-never_falls g c = c.loop-cycle.invariant.falls
+pub returns-clause-counts : goal.returns-clause-counts
+returns-clause-counts g c = c.loop-cycle.invariant.calm

@@ -13,6 +13,6 @@ invariant-loop-cycle g l = record {
   design : l.sim.design ≡ l.initial.sim.design;
   row : widths_of l.row ≡ map width_of l.course.kinds.now;
   due : AreDue (plain_beats l.course.beats.now) l.next l.cycle;
-  way : (value : ℕ → Nets) (word : ℕ → Memories) → IsFollowed l.initial.sim l.course.schema.now (plain_beats l.course.beats.now) value word 1 → IsUnderWay (module_of l.initial.sim.design) l.sim l.course.schema.now l.course.kinds.now (plain_beats l.course.beats.now) l.told l.cycle (g.K.Sink.taken l.initial.out) (g.K.Sink.taken l.out) value word;
-  falls : g.K.Sink.faults l.initial.out ≤ g.K.Sink.faults l.out;
+  way : (value : ℕ → Nets) (word : ℕ → Memories) → IsFollowed l.initial.sim l.course.schema.now (plain_beats l.course.beats.now) value word 1 → IsUnderWay (module_of l.initial.sim.design) l.sim l.course.schema.now l.course.kinds.now (plain_beats l.course.beats.now) l.told l.cycle (g.K.Sink.state l.initial.out).taken (g.K.Sink.state l.out).taken value word;
+  calm : (g.K.Sink.state l.out).faults ≡ (g.K.Sink.state l.initial.out).faults;
 }

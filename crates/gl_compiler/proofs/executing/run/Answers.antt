@@ -5,9 +5,9 @@ use Rattle.gl_tuples.specs.declared.beats.Beat.{Beat}
 use Rattle.gl_verilog.specs.declared.module.Module.{Module}
 use Rattle.gl_verilog.specs.View.{module_of}
 use Rattle.gl_compiler.specs.Benches.{IsBench}
-use Rattle.gl_compiler.specs.Cycles.{CanFollow}
-use Rattle.gl_compiler.specs.Prints.{EndsWithin, Writes, WritesFront}
-use Rattle.gl_compiler.proofs.Each.{on_ok, on_err, from_reset}
+use Rattle.gl_compiler.specs.Cycles.{CanFollow, WritesBy}
+use Rattle.gl_compiler.specs.Prints.{EndsWithin}
+use Rattle.gl_compiler.proofs.Each.{from_reset}
 use Rattle.gl_compiler.proofs.executing.run.Goals as goal
 
 pub reset-requires-clause-can : goal.reset-requires-clause-can
@@ -42,27 +42,14 @@ follow-requires-clause-early g c = c.last_of.ensures.early
 pub follow-requires-clause-short : goal.follow-requires-clause-short
 follow-requires-clause-short g c = c.requires.short
 
-pub returns-clause-all : goal.returns-clause-all
-returns-clause-all g c =
-    on_ok c.follow.result
-    (from_reset c.args.prepared.sim c.reset.new.sim c.args.schema.now (plain_beats c.args.beats.now) (plain_beats c.as_slice.result.now)
-    (λ beats outs port. EndsWithin c.args.latency beats outs port → Writes c.args.kinds.now beats outs port (g.K.Sink.taken c.args.out.now) (g.K.Sink.taken c.follow.new.out))
-    c.reset.ensures.design (ap plain_beats c.as_slice.ensures) c.reset.ensures.followed)
-    c.follow.ensures.all
+pub returns-clause-lines : goal.returns-clause-lines
+returns-clause-lines g c =
+    from_reset c.args.prepared.sim c.reset.new.sim c.args.schema.now (plain_beats c.args.beats.now) (plain_beats c.as_slice.result.now)
+    (λ beats outs port. EndsWithin c.args.latency beats outs port → WritesBy c.args.kinds.now beats outs port (g.K.Sink.state c.args.out.now) (g.K.Sink.state c.follow.new.out) c.follow.result)
+    c.reset.ensures.design (ap plain_beats c.as_slice.ensures) c.reset.ensures.followed c.follow.ensures.lines
 
-pub returns-clause-front : goal.returns-clause-front
-returns-clause-front g c =
-    on_err c.follow.result
-    (from_reset c.args.prepared.sim c.reset.new.sim c.args.schema.now (plain_beats c.args.beats.now) (plain_beats c.as_slice.result.now)
-    (λ beats outs port. EndsWithin c.args.latency beats outs port → WritesFront c.args.kinds.now beats outs port (g.K.Sink.taken c.args.out.now) (g.K.Sink.taken c.follow.new.out))
-    c.reset.ensures.design (ap plain_beats c.as_slice.ensures) c.reset.ensures.followed)
-    c.follow.ensures.front
-
-pub returns-clause-cause : goal.returns-clause-cause
-returns-clause-cause g c = c.follow.ensures.cause
-
-pub returns-clause-never_falls : goal.returns-clause-never_falls
-returns-clause-never_falls g c = c.follow.ensures.never_falls
+pub returns-clause-counts : goal.returns-clause-counts
+returns-clause-counts g c = c.follow.ensures.counts
 
 pub reset-requires-clause-values : goal.reset-requires-clause-values
 reset-requires-clause-values g c = ap length c.as_mut_slice-inputs.ensures.value ∙ c.requires.values

@@ -1,10 +1,6 @@
-use Rattle.std.proofs.Common.{ℕ, List, OnOk, OnErr, subst}
-use Rattle.gl_outside.specs.Taken.{Appends, AppendsFront}
+use Rattle.gl_outside.proofs.Takes.{wrote_same}
 use Rattle.gl_compiler.proofs.Puts.{end_is}
 use Rattle.gl_compiler.proofs.lines.put_end.Goals as goal
 
-pub returns-then-due-clause-all : goal.returns-then-due-clause-all
-returns-then-due-clause-all g c = rw c.if-due.true (subst (λ (bytes : List ℕ). OnOk c.put_word.result (Appends (g.K.Sink.taken c.args.out.now) (g.K.Sink.taken c.put_word.new.out) bytes)) (end_is c.args.cycle) c.put_word.ensures.all)
-
-pub returns-then-due-clause-front : goal.returns-then-due-clause-front
-returns-then-due-clause-front g c = rw c.if-due.true (subst (λ (bytes : List ℕ). OnErr c.put_word.result (AppendsFront (g.K.Sink.taken c.args.out.now) (g.K.Sink.taken c.put_word.new.out) bytes)) (end_is c.args.cycle) c.put_word.ensures.front)
+pub returns-then-due : goal.returns-then-due
+returns-then-due g c = rw c.if-due.true (wrote_same _ _ _ _ c.put_word.result (end_is c.args.cycle) c.put_word.ensures)

@@ -1,6 +1,7 @@
 use Rattle.std.proofs.Common.{◌≡◌, ◌++◌, reverse, vec_len}
 use Rattle.std.specs.Prelude.{map}
-use Rattle.gl_query_reader.specs.Meaning.{agg_item_tree, agg_items}
+use Rattle.gl_query_reader.specs.Meaning.{agg_items}
+use Rattle.gl_query.specs.Trees.{agg_item_tree}
 use Rattle.gl_query_reader.specs.Trees.{items_of}
 use Rattle.gl_query_reader.proofs.meaning.agg_items.Given as goal
 

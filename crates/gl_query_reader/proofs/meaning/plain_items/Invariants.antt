@@ -1,6 +1,7 @@
 use Rattle.std.proofs.Common.{◌≡◌, ◌++◌, reverse, vec_len}
 use Rattle.std.specs.Prelude.{map}
-use Rattle.gl_query_reader.specs.Meaning.{item_tree, plain_items}
+use Rattle.gl_query_reader.specs.Meaning.{plain_items}
+use Rattle.gl_query.specs.Trees.{item_tree}
 use Rattle.gl_query_reader.specs.Trees.{items_of}
 use Rattle.gl_query_reader.proofs.meaning.plain_items.Given as goal
 

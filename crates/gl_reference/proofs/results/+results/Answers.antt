@@ -11,12 +11,14 @@ use Rattle.gl_query.specs.declared.tree.AggItem.{AggItem}
 use Rattle.gl_query.specs.Shapes.{agg_item_shape, expr_shape, pick_shape, query_shape}
 use Rattle.gl_query.specs.Shapes as shape
 use Rattle.gl_query.specs.Values.{column_number}
-use Rattle.gl_query.specs.Results.{Row, AreBeside, AreJoined, IsResultIn, WithKey, columns_in, only}
+use Rattle.gl_bits.specs.Results.{Row, AreBeside, AreJoined}
+use Rattle.gl_bits.proofs.AllLists.{taken_next}
+use Rattle.gl_query.specs.Results.{IsResultIn, columns_in, only}
 use Rattle.gl_reference.specs.declared.answers.Answer.{Answer}
 use Rattle.gl_reference.specs.Sources.{env_view}
-use Rattle.gl_reference.specs.Joins.{AreOverGroups, AreOverSlices}
+use Rattle.gl_reference.specs.Joins.{AreOverGroups, AreOverSlices, IsOverGroup}
 use Rattle.gl_reference.proofs.Sizes.{size_of}
-use Rattle.gl_reference.proofs.Joining.{joined_push, map_taken, taken_next}
+use Rattle.gl_reference.proofs.Joining.{joined_push, map_taken}
 use Rattle.gl_reference.proofs.Forms.{concat_made, each_made, groups_made, union_made}
 use Rattle.gl_reference.proofs.results.+results.Goals as goal
 
@@ -49,11 +51,11 @@ over_groups-loop-group-init t c = (c.new-rows.ensures, refl)
 
 pub over_groups-loop-group-preserved : goal.over_groups-loop-group-preserved
 over_groups-loop-group-preserved t c =
-    let over : Group → List Row → Bool → Type 0 = λ g. WithKey (IsResultIn (query_shape c.args.body.now) (only c.args.var.now c.args.columns.now g.rows)) g.key in
+    let over = IsOverGroup (query_shape c.args.body.now) c.args.var.now c.args.columns.now in
     let is = subst (λ (rows : List Row). IsResultIn (query_shape c.args.body.now) (only c.args.var.now c.args.columns.now rows) c.in_ok-part.part.rows c.in_ok-part.part.spill) c.as_slice.ensures c.in_ok-part.ensures in
     let made : c.in_ok-keyed.keyed ≡ map (λ (row : Row). c.group-item.result.key ∷ row) c.in_ok-part.part.rows =
     c.in_ok-keyed.ensures ∙ ap (map (λ (row : Row). c.group-item.result.key ∷ row)) c.as_slice-in-loop-group.ensures in
-    let here : over c.group-item.result c.in_ok-keyed.keyed c.in_ok-part.part.spill = record { rows = c.in_ok-part.part.rows; is = is; made = made } in
+    let here : over c.group-item.result c.in_ok-keyed.keyed c.in_ok-part.part.spill = record { rows = c.in_ok-part.part.rows; of_source = is; changed = made } in
     let more = joined_push over (take c.loop-group.group-index c.args.groups.now) c.group-item.result c.loop-group.rows c.in_ok-keyed.keyed c.loop-group.spill c.in_ok-part.part.spill c.loop-group.invariant here in
     let next = taken_next c.args.groups.now c.loop-group.group-index c.group-item.result c.loop-group-test.true c.group-item.is in
     let grown = subst (λ (gs : List Group). AreJoined over gs (c.loop-group.rows ++ c.in_ok-keyed.keyed) (c.loop-group.spill || c.in_ok-part.part.spill)) (sym next) more in

@@ -2,8 +2,8 @@ use Rattle.std.proofs.Common.{◌≡◌, ℕ, ◌+◌, ◌<◌, List, [], ◌∷
 use Rattle.gl_schema.specs.declared.schema.Column.{Column}
 use Rattle.gl_query.specs.Results.{Source, numbered}
 use Rattle.gl_reference.specs.declared.columns.Source.{Source as Given}
-use Rattle.gl_reference.specs.Sources.{env_view, source_of}
-use Rattle.gl_reference.proofs.Inputs.{env_push, input_in, input_is, numbered_more}
+use Rattle.gl_reference.specs.Sources.{env_view, given_inputs, source_of}
+use Rattle.gl_reference.proofs.Inputs.{env_push, input_is, numbered_more}
 use Rattle.gl_reference.proofs.results.sources_of.Goals as goal
 
 pub loop-i-preserved : goal.loop-i-preserved
@@ -19,7 +19,7 @@ loop-i-preserved c =
     let is : source_of new ≡ record { stream = s; rows = rows } = ap named c.as_slice.ensures ∙ ap lined c.as_slice-in-loop-i.ensures in
     let within : i < length inputs = omega arith in
     let place : i ≡ 0 + i = omega arith in
-    let from = c.as_slice-in-loop-i-2.ensures ∙ input_is inputs i c.index-inputs-i.result within c.index-inputs-i.is ∙ ap (input_in inputs) place in
-    let more = numbered_more 0 streams (input_in inputs) i s rows c.loop-i-test.true c.index-streams-i.is from in
+    let from = c.as_slice-in-loop-i-2.ensures ∙ input_is inputs i c.index-inputs-i.result within c.index-inputs-i.is ∙ ap (given_inputs inputs).rows place in
+    let more = numbered_more 0 streams (given_inputs inputs) i s rows c.loop-i-test.true c.index-streams-i.is from in
     ap env_view c.in_ok-push.ensures.items ∙ env_push c.loop-i.out.items new ∙ ap (λ (l : List Source). l ++ source_of new ∷ []) c.loop-i.invariant
-    ∙ ap (λ (z : Source). numbered 0 (take i streams) (input_in inputs) ++ z ∷ []) is ∙ sym more
+    ∙ ap (λ (z : Source). numbered 0 (take i streams) (given_inputs inputs) ++ z ∷ []) is ∙ sym more

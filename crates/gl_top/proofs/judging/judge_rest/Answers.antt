@@ -1,5 +1,5 @@
-use Rattle.gl_top.proofs.Changes.{refused_later}
+use Rattle.gl_top.proofs.Changes.{leaves_later}
 use Rattle.gl_top.proofs.judging.judge_rest.Goals as goal
 
-pub returns-in-Ok-clause-refused : goal.returns-in-Ok-clause-refused
-returns-in-Ok-clause-refused g c = refused_later _ _ _ _ c.judge_file.result c.judge_query.ensures.kept c.judge_file.ensures.refused
+pub returns-in-Ok-clause-leaves : goal.returns-in-Ok-clause-leaves
+returns-in-Ok-clause-leaves g c = leaves_later _ _ _ _ c.judge_file.result c.judge_query.ensures.stays c.in-Ok.ensures.leaves c.judge_file.ensures.leaves

@@ -1,14 +1,14 @@
-use Rattle.std.proofs.Common.{refl, inl, ◌∙◌}
-use Rattle.gl_outside.proofs.Takes.{appends_none}
+use Rattle.std.proofs.Common.{inl, ◌∙◌}
+use Rattle.gl_outside.proofs.Takes.{took_none}
 use Rattle.gl_top.specs.Verdicts.{Ended}
 use Rattle.gl_top.specs.declared.notes.Refusal.TheVariants as refusal
 use Rattle.gl_top.proofs.running.finish.Goals as goal
 
 pub returns-in-Err : goal.returns-in-Err
-returns-in-Err g c = λ ch ready. Ended (record {
+returns-in-Err g c = λ ch ready calm. Ended (record {
   refusal = refusal.Memory;
-  cause = tt;
-  untouched = record { all = appends_none _ };
+  cause = calm;
+  untouched = took_none _;
   noted = c.tell.ensures;
   left = inl (c.in-Err.ensures.items ∙ c.requires.empty);
 })

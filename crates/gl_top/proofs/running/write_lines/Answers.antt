@@ -1,6 +1,6 @@
 use Rattle.std.proofs.Common.{sym, subst}
 use Rattle.gl_schema.specs.Schemas.{IsSchema}
-use Rattle.gl_top.proofs.Runs.{can_run_all}
+use Rattle.gl_top.proofs.Runs.{can_run_all, ran_lines}
 use Rattle.gl_top.proofs.running.write_lines.Goals as goal
 
 pub execute-requires-clause-runs : goal.execute-requires-clause-runs
@@ -9,3 +9,7 @@ execute-requires-clause-runs g c =
 
 pub execute-requires-clause-schema : goal.execute-requires-clause-schema
 execute-requires-clause-schema g c = subst IsSchema (sym c.schema.ensures) c.requires.compiled.fine
+
+pub returns : goal.returns
+returns g c =
+    ran_lines c.args.job.now.compiled c.args.job.now.beats c.text.result.now c.schema.result.now c.kinds.result.now _ _ c.execute.result c.requires.compiled c.text.ensures c.schema.ensures c.kinds.ensures c.execute.ensures

@@ -35,9 +35,9 @@ returns-clause-follows c =
     let columns : names_of net ≡ port_names s names.columns = names_are net s k places names.columns c.requires.lengths (subst (λ (cs : List (List ℕ)). port_shapes net ≡ emitted_ports s k places cs) here e.ports) in
     let nodes : FollowsNodes net s.streams k places names.columns = subst (λ (cs : List (List ℕ)). FollowsNodes net s.streams k places cs) here e.follows in
     let unlike = apart s names.columns net c.requires.schema c.requires.column_names c.requires.distinct columns in
-    let law : FollowsIn s.streams k places (map out_column names.columns) net =
+    let law : FollowsIn s k places names.columns net =
     λ run h. rw nodes.is.there (nodes_follow net s.streams k places names.columns unlike nodes run h) in
-    subst (FollowsIn s.streams k places (map out_column names.columns)) (sym c.finish.ensures) law
+    subst (FollowsIn s k places names.columns) (sym c.finish.ensures) law
 
 pub returns-clause-right : goal.returns-clause-right
 returns-clause-right c =

@@ -1,0 +1,65 @@
+//! The weight of each node of a plan, and what is printed of it.
+
+ghost use Rattle.std.specs.Prelude.{◌≡◌, ◌<◌, length, IfErr, IfOk};
+ghost use Rattle.gl_algebra.specs.Small.{AreFigures};
+ghost use Rattle.gl_algebra.specs.Weights.{weight_of, weight_with_output};
+ghost use Rattle.gl_figures.specs.Answered.{AreWeights, IsHeavy, IsPrinted};
+ghost use Rattle.gl_figures.specs.Known.{capped, HasValues};
+
+use crate::copied::{cap, count_copies};
+use crate::weights::{lines_of, weight_over};
+use crate::{Limit, Printed};
+use gl_algebra::{Figures, Plan, PlanId};
+
+/// What is printed of a plan with this root, unless its weight with the output's part passes 262,144. The figures are those of
+/// each node. Each node's place then has the node's weight, or 2^62 where it is more.
+pub fn weigh(
+    plan: &Plan,
+    root: PlanId,
+    figures: &[Figures],
+    into: &mut [u64],
+) -> Result<Printed, Limit>
+    requires figures { AreFigures plan.now figures.now }
+    requires root { root < length plan.now }
+    requires into { length into.old ≡ length plan.now }
+    ensures ok { IfOk result (λ printed. IsPrinted plan.now root printed) }
+    ensures err { IfErr result (λ limit. IsHeavy plan.now root limit) }
+    ensures weights { AreWeights plan.now into.new }
+{
+    let _ = plan.len();
+    count_copies(plan, into);
+    let copies = into[root.number()];
+    weigh_nodes(plan, figures, into);
+    let weight = weight_with_output(plan, root, into[root.number()]);
+    if weight > 262_144 {
+        return Err(Limit::Nodes { weight });
+    }
+    let own = figures[root.number()];
+    Ok(Printed {
+        latency: own.le as u64 + 1,
+        gap: own.gt,
+        copies,
+    })
+}
+
+// Writes the weight of each node into the node's place.
+fn weigh_nodes(plan: &Plan, figures: &[Figures], into: &mut [u64])
+    requires figures { AreFigures plan.now figures.now }
+    requires into { length into.old ≡ length plan.now }
+    ensures { HasValues (weight_of plan.now) into.new (length plan.now) }
+{
+    for number in 0..plan.len() {
+        let id = plan.id(number);
+        let lines = lines_of(plan, id);
+        into[number] = weight_over(plan, figures, into, number, lines, plan.node(id));
+    }
+}
+
+// The weight of a plan with its output, from that of its root.
+fn weight_with_output(plan: &Plan, root: PlanId, weight: u64) -> u64
+    requires root { root < length plan.now }
+    requires weight { weight ≡ capped (weight_of plan.now root) }
+    ensures { result ≡ capped (weight_with_output plan.now root) }
+{
+    cap(weight as u128 + 8 * (lines_of(plan, root) + 8))
+}

@@ -1,0 +1,193 @@
+//! The weights of nodes, part by part.
+
+ghost use Rattle.std.specs.Prelude.{◌≡◌, ◌<◌, ◌≤◌, ◌+◌, ◌*◌, ◌^◌, All, length, sum_by};
+ghost use Rattle.std.specs.List.{AllByRecursion};
+ghost use Rattle.gl_algebra.specs.Columns.{AggFits};
+ghost use Rattle.gl_algebra.specs.Fits.{Fits};
+ghost use Rattle.gl_algebra.specs.Nodewise.{named_by};
+ghost use Rattle.gl_algebra.specs.Shapes.{shape_of};
+ghost use Rattle.gl_algebra.specs.Weights.{lines_of, pad_of, weight_of, weight_of_agg, weight_of_copies, weight_of_spacer};
+ghost use Rattle.gl_figures.specs.Known.{capped, weight_by, HasFigures, HasValues};
+
+use crate::copied::{cap, times};
+use crate::figured::figures_at;
+use gl_algebra::table::{copies_of_window, delay_of_agg, delay_of_aggs, wait_of};
+use gl_algebra::{Figures, Plan, PlanAgg, PlanId, PlanNode};
+use gl_bits::Kind;
+
+// The lines of a node's wire.
+pub(crate) fn lines_of(plan: &Plan, id: PlanId) -> u128
+    requires { id < length plan.now }
+    ensures value { result ≡ lines_of (shape_of plan.now id) }
+    ensures below { result < 2 ^ 65 }
+{
+    plan.kinds(id).len() as u128 + 2
+}
+
+// The delay that is added to the shorter of two sides.
+fn pad_of(p: &Figures, q: &Figures) -> u128
+    ensures value { result ≡ pad_of p.now q.now }
+    ensures below { result < 2 ^ 32 }
+{
+    wait_of(p, q).max(wait_of(q, p)) as u128
+}
+
+// The part of an aggregate, its delay aside.
+fn weight_of_agg(kinds: &[Kind], agg: &PlanAgg) -> u128
+    requires { AggFits kinds.now agg.now }
+    ensures value { result ≡ weight_of_agg kinds.now agg.now }
+    ensures below { result < 2 ^ 38 }
+{
+    match agg {
+        PlanAgg::Count => 24,
+        PlanAgg::Sum(_) => 24,
+        PlanAgg::Min(_) => 24,
+        PlanAgg::Max(_) => 24,
+        PlanAgg::Avg(_) => 16 * delay_of_agg(kinds, agg) as u128,
+        PlanAgg::Wsum(_, weights) => 24 + 8 * weights.len() as u128,
+    }
+}
+
+// The parts of aggregates with this delay.
+fn weight_of_aggs(kinds: &[Kind], delay: u32, aggs: &[PlanAgg]) -> u128
+    requires fit { All (AggFits kinds.now) aggs.now }
+    requires room { length aggs.now < 2 ^ 64 }
+    ensures value { result ≡ sum_by (λ agg. 2 * delay + weight_of_agg kinds.now agg) aggs.now }
+    ensures below { result ≤ length aggs.now * 2 ^ 40 }
+{
+    match aggs.split_first() {
+        None => 0,
+        Some((agg, others)) => {
+            let own = 2 * delay as u128 + weight_of_agg(kinds, agg);
+            own + weight_of_aggs(kinds, delay, others)
+        }
+    }
+}
+
+// The part of the spacer before a body of this gap, where one stands, over a source of so many lines.
+fn weight_of_spacer(gap: u32, f: &Figures, lines: u128) -> u128
+    requires { lines < 2 ^ 65 }
+    ensures value { result ≡ weight_of_spacer gap f.now lines }
+    ensures below { result < 2 ^ 110 }
+{
+    let needed = 1 < gap && f.a < f.le;
+    if needed {
+        times(8 * lines, f.ne as u128 + 6)
+    } else {
+        0
+    }
+}
+
+// So many copies of a body of this weight, with what stands before and behind each.
+fn weight_of_copies(copies: u32, weight: u128, source: u128, own: u128) -> u128
+    requires weight { weight < 2 ^ 64 }
+    requires source { source < 2 ^ 65 }
+    requires own { own < 2 ^ 65 }
+    ensures value { result ≡ weight_of_copies copies weight source own }
+    ensures below { result < 2 ^ 111 }
+{
+    times(weight + 8 * (source + own + 4), copies as u128) + 8 * (source + own + 16)
+}
+
+// The weight of a node before this one.
+fn weight_at(plan: &Plan, weights: &[u64], number: usize, id: PlanId) -> u128
+    requires below { id < number }
+    requires known { HasValues (weight_of plan.now) weights.now number }
+    ensures { result ≡ capped (weight_of plan.now id) }
+{
+    let _ = plan;
+    let _ = number;
+    weights[id.number()] as u128
+}
+
+// The weight of the node of this number, which has so many lines, from those of the nodes before it.
+pub(crate) fn weight_over(
+    plan: &Plan,
+    figures: &[Figures],
+    weights: &[u64],
+    number: usize,
+    own: u128,
+    node: &PlanNode,
+) -> u64
+    requires within { number < length plan.now }
+    requires before { AllByRecursion (λ child. child < number) (named_by node.now) }
+    requires fits { Fits plan.now number node.now }
+    requires figured { HasFigures plan.now figures.now number }
+    requires known { HasValues (weight_of plan.now) weights.now number }
+    requires own { own < 2 ^ 65 }
+    ensures { result ≡ capped (weight_by plan.now own node.now) }
+{
+    match node {
+        PlanNode::Stream(_, _) => cap(own),
+        PlanNode::Body(_) => cap(own),
+        PlanNode::Compute { child, ops } => {
+            cap(weight_at(plan, weights, number, *child) + 4 * (own + ops.len() as u128))
+        }
+        PlanNode::Select { child, .. } => cap(weight_at(plan, weights, number, *child) + 4 * own),
+        PlanNode::Project { child, .. } => cap(weight_at(plan, weights, number, *child) + 4 * own),
+        PlanNode::Aggregate { child, aggs } => {
+            let _ = aggs.len();
+            let kinds = plan.kinds(*child);
+            let parts = weight_of_aggs(
+                kinds,
+                delay_of_aggs(kinds, aggs.as_slice()),
+                aggs.as_slice(),
+            );
+            cap(weight_at(plan, weights, number, *child) + (4 * own + parts))
+        }
+        PlanNode::Union { left, right } => {
+            let p = figures_at(plan, figures, number, *left);
+            let q = figures_at(plan, figures, number, *right);
+            let places = pad_of(&p, &q) + p.ne as u128 + q.ne as u128 + 4;
+            let sides = weight_at(plan, weights, number, *left)
+                + weight_at(plan, weights, number, *right);
+            cap(sides + times(8 * own, places))
+        }
+        PlanNode::Beside { left, right } => {
+            let p = figures_at(plan, figures, number, *left);
+            let q = figures_at(plan, figures, number, *right);
+            let sides = weight_at(plan, weights, number, *left)
+                + weight_at(plan, weights, number, *right);
+            cap(sides + times(8 * own, pad_of(&p, &q) + 4))
+        }
+        PlanNode::Window {
+            source,
+            body,
+            size,
+            advance,
+        } => {
+            let f = figures_at(plan, figures, number, *body);
+            let lines = lines_of(plan, *source);
+            let copies = copies_of_window(*size, *advance);
+            let copied = weight_of_copies(
+                copies,
+                weight_at(plan, weights, number, *body),
+                lines,
+                own,
+            );
+            let spacer = weight_of_spacer(
+                f.gt.max(f.ge),
+                &figures_at(plan, figures, number, *source),
+                lines,
+            );
+            cap(weight_at(plan, weights, number, *source) + (copied + 4 * f.a as u128 + spacer))
+        }
+        PlanNode::Group {
+            source,
+            body,
+            groups,
+            ..
+        } => {
+            let f = figures_at(plan, figures, number, *body);
+            let lines = lines_of(plan, *source);
+            let copied = weight_of_copies(
+                *groups as u32,
+                weight_at(plan, weights, number, *body),
+                lines,
+                own,
+            );
+            let spacer = weight_of_spacer(f.gt, &figures_at(plan, figures, number, *source), lines);
+            cap(weight_at(plan, weights, number, *source) + (copied + spacer))
+        }
+    }
+}

@@ -1,0 +1,223 @@
+-- The columns of an accepted query are columns of a result: at most 32, no two of one name, and of kinds that are kinds.
+use Rattle.std.proofs.Common.{◌≡◌, ℕ, zero, suc, ◌+◌, ◌≤◌, Bool, true, false, List, [], ◌∷◌, ◌++◌, length, map, Option, Some, None, refl, sym, ap, subst, arith, lit≤, length-append}
+use Rattle.std.specs.Prelude.{◌||◌, bytes_eq, slice_get, unwrap_or, option_map, if◌then◌else◌}
+use Rattle.std.specs.List.{AllByRecursion, IsDistinct, list_any}
+use Rattle.gl_bits.specs.declared.kind.Kind.{Kind}
+use Rattle.gl_bits.specs.declared.kind.Kind.TheVariants.{Unsigned, Text}
+use Rattle.gl_bits.specs.declared.op.Sort.{Sort}
+use Rattle.gl_bits.specs.declared.op.Sort.TheVariants.{Arithmetic, Comparison, Logic}
+use Rattle.gl_bits.specs.Kinds.{IsKind}
+use Rattle.gl_bits.specs.Operators.{result_kind, sort_of}
+use Rattle.gl_bits.proofs.AllLists.{all_append, length_map}
+use Rattle.gl_bits.proofs.Bools.{by_cases}
+use Rattle.gl_schema.specs.declared.schema.Column.{Column}
+use Rattle.gl_schema.specs.declared.schema.Stream.{Stream}
+use Rattle.gl_schema.specs.Schemas.{IsColumn, IsStream, has_stream}
+use Rattle.gl_query.specs.Shapes.{AggItemShape, AggShape, ExprShape, ItemShape, PickShape, QueryShape}
+use Rattle.gl_query.specs.Shapes as shape
+use Rattle.gl_query.specs.Values.{CanCast, HasKind, begins_with_text, column_kind, column_number, is_loose, kind_alone, kind_of, left_place, right_place, loose_kind, operand_place}
+use Rattle.gl_query.specs.Columns.{agg_column, agg_kind, columns_of, item_column, picked_columns, source_columns, variable}
+use Rattle.gl_query.specs.Accepted.{AreResultColumns, IsAcceptedOver, IsAgg, IsPick, Scope, body_scope, columns_under}
+use Rattle.gl_query.specs.Sizes.{HasItems}
+use Rattle.gl_query.specs.Laws.{AcceptedHaveRealColumns, AreKinds}
+
+-- what holds of the columns of each source
+pub record IsScope (scope : Scope) : Type 0 where
+  pub columns : (name : List ℕ) → AreResultColumns (source_columns scope.sources name)
+  pub kinds : (name : List ℕ) → AreKinds (source_columns scope.sources name)
+
+pub no_names : IsDistinct bytes_eq []
+unfolding IsDistinct
+no_names = tt
+
+no_columns : AreResultColumns []
+no_columns = record { most = lit≤ tt; distinct = no_names }
+
+pub body_is : (var : List ℕ) (columns : List Column) → AreResultColumns columns → AreKinds columns → IsScope (body_scope var columns)
+body_is var columns h k = record {
+  columns = λ name. by_cases (bytes_eq name var) (λ e. rw e h) (λ e. rw e no_columns);
+  kinds = λ name. by_cases (bytes_eq name var) (λ e. rw e k) (λ e. rw e tt);
+}
+
+-- ---- kinds
+
+-- each CAST of an expression is to a kind
+abbrev CastsAreKinds : ExprShape → Type 0
+CastsAreKinds (shape.Column name) = Unit {0}
+CastsAreKinds (shape.Number n) = Unit {0}
+CastsAreKinds (shape.Letters text) = Unit {0}
+CastsAreKinds (shape.Not e) = CastsAreKinds e
+CastsAreKinds (shape.Cast kind e) = IsKind kind × CastsAreKinds e
+CastsAreKinds (shape.Binary op l r) = CastsAreKinds l × CastsAreKinds r
+
+cast_kind : (from to : Kind) → CanCast from to → IsKind to
+cast_kind (Unsigned v) (Unsigned w) h = h
+cast_kind (Unsigned v) (Text n) h = absurd h
+cast_kind (Text m) (Unsigned w) h = absurd h
+cast_kind (Text m) (Text n) h = h
+
+casts_are : (e : ExprShape) (columns : List Column) (place : Kind) → HasKind columns place e → CastsAreKinds e
+casts_are (shape.Column name) columns place h = tt
+casts_are (shape.Number n) columns place h = tt
+casts_are (shape.Letters text) columns place h = tt
+casts_are (shape.Not e) columns place h = casts_are e columns (Unsigned 1) h.0
+casts_are (shape.Cast kind e) columns place h =
+    (cast_kind (kind_of columns (kind_alone e) e) kind h.1, casts_are e columns (kind_alone e) h.0)
+casts_are (shape.Binary op l r) columns place h =
+    (casts_are l columns (left_place columns op place l r) h.0, casts_are r columns (right_place columns op place l r) h.1)
+
+bit_kind : IsKind (Unsigned 1)
+bit_kind = (lit≤ tt, lit≤ tt)
+
+alone_kind : (e : ExprShape) → IsKind (kind_alone e)
+alone_kind e = by_cases (begins_with_text e) (λ b. rw b (lit≤ tt, lit≤ tt)) (λ b. rw b (lit≤ tt, lit≤ tt))
+
+loose_is : (sort : Sort) (whole : Kind) (e : ExprShape) → IsKind whole → IsKind (loose_kind sort whole e)
+loose_is Arithmetic whole e h = h
+loose_is Comparison whole e h = alone_kind e
+loose_is Logic whole e h = bit_kind
+
+place_is : (b : Bool) (sort : Sort) (whole : Kind) (e : ExprShape) (other : Kind) → IsKind whole → IsKind other → IsKind (if b then loose_kind sort whole e else other)
+place_is true sort whole e other h k = loose_is sort whole e h
+place_is false sort whole e other h k = k
+
+result_is : (sort : Sort) (k : Kind) → IsKind k → IsKind (result_kind sort k)
+result_is Arithmetic k h = h
+result_is Comparison k h = bit_kind
+result_is Logic k h = bit_kind
+
+-- the kind of the column at a place
+kind_at : (columns : List Column) (place : ℕ) → AreKinds columns → IsKind (unwrap_or (option_map (λ c. c.kind) (slice_get columns place)) (Unsigned 1))
+kind_at [] place h = bit_kind
+kind_at (c ∷ cs) zero h = h.0
+kind_at (c ∷ cs) (suc place) h = kind_at cs place h.1
+
+kind_is : (e : ExprShape) (columns : List Column) (place : Kind) → AreKinds columns → IsKind place → CastsAreKinds e → IsKind (kind_of columns place e)
+kind_is (shape.Column name) columns place h p c = kind_at columns (column_number columns name) h
+kind_is (shape.Number n) columns place h p c = p
+kind_is (shape.Letters text) columns place h p c = p
+kind_is (shape.Not e) columns place h p c = bit_kind
+kind_is (shape.Cast kind e) columns place h p c = c.0
+kind_is (shape.Binary op l r) columns place h p c =
+    let other = kind_of columns place r in
+    let here = place_is (is_loose r) (sort_of op) place l other p (kind_is r columns place h p c.1) in
+    result_is (sort_of op) (kind_of columns (operand_place (sort_of op) place l r other) l)
+    (kind_is l columns (operand_place (sort_of op) place l r other) h here c.0)
+
+whole_is : (e : ExprShape) (columns : List Column) → AreKinds columns → HasKind columns (kind_alone e) e → IsKind (kind_of columns (kind_alone e) e)
+whole_is e columns h t = kind_is e columns (kind_alone e) h (alone_kind e) (casts_are e columns (kind_alone e) t)
+
+agg_is : (a : AggShape) (columns : List Column) → AreKinds columns → IsAgg columns a → IsKind (agg_kind columns a)
+agg_is shape.Count columns h t = (lit≤ tt, lit≤ tt)
+agg_is (shape.Sum e) columns h t = whole_is e columns h t.typed
+agg_is (shape.Min e) columns h t = whole_is e columns h t
+agg_is (shape.Max e) columns h t = whole_is e columns h t
+agg_is (shape.Avg e) columns h t = whole_is e columns h t.typed
+agg_is (shape.Wsum e weights) columns h t = whole_is e columns h t.summed.typed
+
+items_are : (items : List ItemShape) (columns : List Column) → AreKinds columns → AllByRecursion (λ (i : ItemShape). HasKind columns (kind_alone i.expr) i.expr) items
+    → AreKinds (map (item_column columns) items)
+items_are [] columns h t = tt
+items_are (i ∷ items) columns h t = (whole_is i.expr columns h t.0, items_are items columns h t.1)
+
+aggs_are : (items : List AggItemShape) (columns : List Column) → AreKinds columns → AllByRecursion (λ (i : AggItemShape). IsAgg columns i.agg) items
+    → AreKinds (map (agg_column columns) items)
+aggs_are [] columns h t = tt
+aggs_are (i ∷ items) columns h t = (agg_is i.agg columns h t.0, aggs_are items columns h t.1)
+
+-- ---- queries
+
+pub record AreReal (columns : List Column) : Type 0 where
+  pub result : AreResultColumns columns
+  pub kinds : AreKinds columns
+
+pub real : (q : QueryShape) (scope : Scope) → IsScope scope → IsAcceptedOver scope q → AreReal (columns_under scope q)
+real (shape.Read name) scope s a = record { result = s.columns name; kinds = s.kinds name }
+real (shape.Rows shape.All filter source) scope s a = real source scope s a.0
+real (shape.Rows (shape.Items items) filter source) scope s a =
+    let r = real source scope s a.0 in
+    record { result = a.1.picks.result; kinds = items_are items (columns_under scope source) r.kinds a.1.picks.typed }
+real (shape.Total aggs source) scope s a =
+    let r = real source scope s a.0 in
+    record { result = a.1.columns; kinds = aggs_are aggs (columns_under scope source) r.kinds a.1.typed }
+real (shape.Each var source size advance body) scope s a =
+    let r = real source scope s a.0 in
+    real body (body_scope var (columns_under scope source)) (body_is var (columns_under scope source) r.result r.kinds) a.2
+real (shape.PerGroup var source key groups body) scope s a =
+    let columns = columns_under scope source in
+    let r = real source scope s a.0 in
+    let inner = real body (body_scope var columns) (body_is var columns r.result r.kinds) a.2 in
+    record { result = a.1.columns; kinds = (kind_at columns (column_number columns key) r.kinds, inner.kinds) }
+real (shape.Union l r) scope s a = real l scope s a.0
+real (shape.Concat l r) scope s a =
+    let x = real l scope s a.0 in
+    let y = real r scope s a.1 in
+    record { result = a.3; kinds = all_append (λ (c : Column). IsKind c.kind) (columns_under scope l) (columns_under scope r) x.kinds y.kinds }
+
+-- ---- schemas
+
+abbrev AreStreams : List Stream → Type 0
+AreStreams streams = AllByRecursion IsStream streams
+
+column_kinds : (columns : List Column) → AllByRecursion IsColumn columns → AreKinds columns
+column_kinds [] h = tt
+column_kinds (c ∷ cs) h = (h.0.kind, column_kinds cs h.1)
+
+stream_columns : (streams : List Stream) (name : List ℕ) → AreStreams streams → AreReal (source_columns streams name)
+stream_columns [] name h = record { result = no_columns; kinds = tt }
+stream_columns (s ∷ streams) name h =
+    by_cases (bytes_eq name s.name)
+    (λ e. rw e (record { result = record { most = h.0.most; distinct = h.0.distinct }; kinds = column_kinds s.columns h.0.columns }))
+    (λ e. rw e (stream_columns streams name h.1))
+
+pub schema_is : (streams : List Stream) → AreStreams streams → IsScope (record { sources = streams })
+schema_is streams h = record {
+  columns = λ name. (stream_columns streams name h).result;
+  kinds = λ name. (stream_columns streams name h).kinds;
+}
+
+-- ---- at least one column
+
+-- each source has a column
+HasSome : Scope → Type 0
+HasSome scope = (name : List ℕ) → has_stream scope.sources name ≡ true → 1 ≤ length (source_columns scope.sources name)
+
+body_some : (var : List ℕ) (columns : List Column) → 1 ≤ length columns → HasSome (body_scope var columns)
+unfolding HasSome has_stream
+body_some var columns h name t =
+    by_cases (bytes_eq name var) (λ e. rw e h) (λ e. absurd (not_true_false (subst (λ (b : Bool). (b || false) ≡ true) e t)))
+  where
+    not_true_false : false ≡ true → ⊥
+    not_true_false e = cc
+
+streams_some : (streams : List Stream) → AreStreams streams → HasSome (record { sources = streams })
+unfolding HasSome has_stream
+streams_some [] h name t = absurd (cc)
+streams_some (s ∷ streams) h name t =
+    by_cases (bytes_eq name s.name) (λ e. rw e h.0.some')
+    (λ e. rw e (streams_some streams h.1 name (subst (λ (b : Bool). (b || list_any (λ (x : Stream). bytes_eq name x.name) streams) ≡ true) e t)))
+
+some : (q : QueryShape) (scope : Scope) → HasSome scope → HasItems q → IsAcceptedOver scope q → 1 ≤ length (columns_under scope q)
+unfolding HasSome
+some (shape.Read name) scope s i a = s name a
+some (shape.Rows shape.All filter source) scope s i a = some source scope s i.0 a.0
+some (shape.Rows (shape.Items items) filter source) scope s i a =
+    subst (λ (k : ℕ). 1 ≤ k) (sym (length_map (item_column (columns_under scope source)) items)) i.1
+some (shape.Total aggs source) scope s i a = subst (λ (k : ℕ). 1 ≤ k) (sym (length_map (agg_column (columns_under scope source)) aggs)) i.1
+some (shape.Each var source size advance body) scope s i a =
+    some body (body_scope var (columns_under scope source)) (body_some var (columns_under scope source) (some source scope s i.0 a.0)) i.1 a.2
+some (shape.PerGroup var source key groups body) scope s i a = omega arith
+some (shape.Union l r) scope s i a = some l scope s i.0 a.0
+some (shape.Concat l r) scope s i a =
+    let h = some l scope s i.0 a.0 in
+    let e = length-append (columns_under scope l) (columns_under scope r) in
+    omega (arith, h, e)
+
+pub real_columns : AcceptedHaveRealColumns
+real_columns schema q s a =
+    let r = real q (record { sources = schema.streams }) (schema_is schema.streams s.streams) a in
+    record {
+      some' = λ i. some q (record { sources = schema.streams }) (streams_some schema.streams s.streams) i a;
+      result = r.result;
+      kinds = r.kinds;
+    }

@@ -1,0 +1,223 @@
+-- The first rule of acceptance that a statement breaks, with its place: the sources of a query come first, then its own parts.
+use Rattle.std.specs.Prelude.{ℕ, ◌*◌, ◌^◌, Bool, true, false, not, ◌&&◌, List, [], ◌∷◌, ◌++◌, length, Option, Some, None, bytes_eq, nat_le, nat_lt, nat_eq, slice_get, if◌then◌else◌}
+use Rattle.std.specs.List.{list_all, list_any}
+use Rattle.gl_bits.specs.declared.kind.Kind.{Kind}
+use Rattle.gl_bits.specs.declared.kind.Kind.TheVariants.{Unsigned, Text}
+use Rattle.gl_bits.specs.declared.op.Sort.{Sort}
+use Rattle.gl_bits.specs.declared.op.Sort.TheVariants.{Arithmetic, Comparison, Logic}
+use Rattle.gl_bits.specs.Operators.{sort_of}
+use Rattle.gl_schema.specs.declared.schema.Column.{Column as NamedColumn}
+use Rattle.gl_schema.specs.declared.schema.Schema.{Schema}
+use Rattle.gl_schema.specs.Schemas.{column_names, has_column, has_stream, kinds_of}
+use Rattle.gl_query.specs.declared.fault.QueryFault.{QueryFault}
+use Rattle.gl_query.specs.declared.fault.QueryFault.TheVariants.{UnknownStream, UnknownColumn, KindsDiffer, LiteralTooWide, NotCondition, TwiceNamed, ColumnsDiffer, PaceDiffers, NotClosing, OutOfRange}
+use Rattle.gl_query.specs.declared.tree.Name.{Name}
+use Rattle.gl_query.specs.declared.tree.Num.{Num}
+use Rattle.gl_query.specs.Trees.{ExprTree, AggTree, ItemTree, AggItemTree, PickTree, QueryTree, StatementTree, Column, Number, Letters, Not, Cast, Binary, Count, Sum, Min, Max, Avg, Wsum, All, Items, Read, Rows, Total, Each, PerGroup, Union, Concat}
+use Rattle.gl_query.specs.Shapes.{QueryShape}
+use Rattle.gl_query.specs.Alike.{expr_alike, query_alike}
+use Rattle.gl_query.specs.Values.{is_loose, kind_alone, kind_of, left_place, right_place}
+use Rattle.gl_query.specs.Columns.{Pace, Once, Step, is_closing, pace_of}
+use Rattle.gl_query.specs.Accepted.{Scope, body_scope, columns_under, schema_scope}
+
+-- the first of two faults, where there is one
+abbrev pub or_else : Option QueryFault → Option QueryFault → Option QueryFault
+or_else None b = b
+or_else (Some f) b = Some f
+
+-- a fault where a rule is broken
+abbrev pub unless : Bool → QueryFault → Option QueryFault
+unless true f = None
+unless false f = Some f
+
+-- ---- tests
+
+abbrev pub same_kind : Kind → Kind → Bool
+same_kind (Unsigned v) (Unsigned w) = nat_eq v w
+same_kind (Unsigned v) (Text n) = false
+same_kind (Text m) (Unsigned w) = false
+same_kind (Text m) (Text n) = nat_eq m n
+
+abbrev pub same_kinds : List Kind → List Kind → Bool
+same_kinds [] [] = true
+same_kinds [] (k ∷ ks) = false
+same_kinds (j ∷ js) [] = false
+same_kinds (j ∷ js) (k ∷ ks) = same_kind j k && same_kinds js ks
+
+abbrev pub is_unsigned : Kind → Bool
+is_unsigned (Unsigned w) = true
+is_unsigned (Text n) = false
+
+-- one bit
+abbrev pub is_bit : Kind → Bool
+is_bit kind = same_kind kind (Unsigned 1)
+
+-- from 1 to the most
+abbrev pub is_within : ℕ → ℕ → Bool
+is_within n most = nat_le 1 n && nat_le n most
+
+abbrev pub can_cast : Kind → Kind → Bool
+can_cast (Unsigned v) (Unsigned w) = is_within w 64
+can_cast (Unsigned v) (Text n) = false
+can_cast (Text m) (Unsigned w) = false
+can_cast (Text m) (Text n) = is_within n 8
+
+-- at most so many bytes
+abbrev pub letters_fit : ℕ → List ℕ → Bool
+letters_fit n text = nat_le (length text) n && list_all (λ b. nat_lt b 256) text
+
+-- no two names are equal
+abbrev pub are_distinct : List (List ℕ) → Bool
+are_distinct [] = true
+are_distinct (name ∷ names) = not (list_any (bytes_eq name) names) && are_distinct names
+
+-- one and the same pace
+abbrev pub same_pace : Option Pace → Option Pace → Bool
+same_pace (Some Once) (Some Once) = true
+same_pace (Some (Step a)) (Some (Step b)) = bytes_eq a b
+same_pace p q = false
+
+-- ---- expressions: operands from left to right, but a loose left one behind a right one that is not, and then the operator
+
+-- a number as a text is of another kind
+abbrev pub number_fault : Kind → Num → Option QueryFault
+number_fault (Unsigned w) n = unless (nat_lt n.value (2 ^ w)) (LiteralTooWide n.at)
+number_fault (Text m) n = Some (KindsDiffer n.at)
+
+abbrev pub letters_fault : Kind → List ℕ → ℕ → Option QueryFault
+letters_fault (Unsigned w) text at = Some (KindsDiffer at)
+letters_fault (Text n) text at = unless (letters_fit n text) (LiteralTooWide at)
+
+abbrev pub operator_fault : Sort → Kind → Kind → ℕ → Option QueryFault
+operator_fault Arithmetic left right at = unless (same_kind left right && is_unsigned left) (KindsDiffer at)
+operator_fault Comparison left right at = unless (same_kind left right) (KindsDiffer at)
+operator_fault Logic left right at = unless (is_bit left && is_bit right) (NotCondition at)
+
+-- the operands' faults, the right one's first where only the left one is loose
+abbrev pub of_operands : Bool → Bool → Option QueryFault → Option QueryFault → Option QueryFault
+of_operands left_loose right_loose left right = if left_loose && not right_loose then or_else right left else or_else left right
+
+abbrev pub expr_fault : List NamedColumn → Kind → ExprTree → Option QueryFault
+expr_fault columns place (Column name) = unless (has_column columns name.text) (UnknownColumn name.at)
+expr_fault columns place (Number n) = number_fault place n
+expr_fault columns place (Letters text at) = letters_fault place text at
+expr_fault columns place (Not e at) =
+    or_else (expr_fault columns (Unsigned 1) e) (unless (is_bit (kind_of columns (Unsigned 1) (expr_alike e))) (NotCondition at))
+expr_fault columns place (Cast e kind at) =
+    let alone = kind_alone (expr_alike e) in
+    or_else (expr_fault columns alone e) (unless (can_cast (kind_of columns alone (expr_alike e)) kind) (KindsDiffer at))
+expr_fault columns place (Binary op l r at) =
+    let left = left_place columns op place (expr_alike l) (expr_alike r) in
+    let right = right_place columns op place (expr_alike l) (expr_alike r) in
+    or_else (of_operands (is_loose (expr_alike l)) (is_loose (expr_alike r)) (expr_fault columns left l) (expr_fault columns right r))
+    (operator_fault (sort_of op) (kind_of columns left (expr_alike l)) (kind_of columns right (expr_alike r)) at)
+
+-- an expression of an item or an argument
+abbrev pub whole_fault : List NamedColumn → ExprTree → Option QueryFault
+whole_fault columns e = expr_fault columns (kind_alone (expr_alike e)) e
+
+abbrev pub whole_kind : List NamedColumn → ExprTree → Kind
+whole_kind columns e = kind_of columns (kind_alone (expr_alike e)) (expr_alike e)
+
+-- the place of an expression's first token, opening brackets aside
+abbrev pub first_place : ExprTree → ℕ
+first_place (Column name) = name.at
+first_place (Number n) = n.at
+first_place (Letters text at) = at
+first_place (Not e at) = at
+first_place (Cast e kind at) = at
+first_place (Binary op l r at) = first_place l
+
+abbrev pub filter_fault : List NamedColumn → Option ExprTree → Option QueryFault
+filter_fault columns None = None
+filter_fault columns (Some e) =
+    or_else (expr_fault columns (Unsigned 1) e) (unless (is_bit (kind_of columns (Unsigned 1) (expr_alike e))) (NotCondition (first_place e)))
+
+-- ---- what is under a name: of each the 33rd's place, its own fault, and its name where an earlier one has it
+
+abbrev pub named_fault : {A : Type 0} → (A → Name) → (A → Option QueryFault) → List A → List A → Option QueryFault
+named_fault name own earlier [] = None
+named_fault name own earlier (i ∷ items) =
+    or_else (unless (nat_lt (length earlier) 32) (OutOfRange (name i).at))
+    (or_else (own i)
+    (or_else (unless (not (list_any (λ j. bytes_eq (name i).text (name j).text) earlier)) (TwiceNamed (name i).at))
+    (named_fault name own (earlier ++ i ∷ []) items)))
+
+abbrev pub items_fault : List NamedColumn → List ItemTree → List ItemTree → Option QueryFault
+items_fault columns earlier items = named_fault (λ (i : ItemTree). i.name) (λ (i : ItemTree). whole_fault columns i.expr) earlier items
+
+abbrev pub pick_fault : List NamedColumn → PickTree → Option QueryFault
+pick_fault columns All = None
+pick_fault columns (Items items) = items_fault columns [] items
+
+-- ---- aggregates: the argument, its kind, the 65th weight, and the first weight that is too wide
+
+abbrev pub summed_fault : List NamedColumn → ExprTree → Name → Option QueryFault
+summed_fault columns e name = or_else (whole_fault columns e) (unless (is_unsigned (whole_kind columns e)) (KindsDiffer name.at))
+
+abbrev pub too_many : Option Num → Option QueryFault
+too_many None = None
+too_many (Some n) = Some (OutOfRange n.at)
+
+abbrev pub weights_fault : Kind → List Num → Option QueryFault
+weights_fault kind [] = None
+weights_fault kind (n ∷ ns) = or_else (number_fault kind n) (weights_fault kind ns)
+
+abbrev pub agg_fault : List NamedColumn → AggTree → Name → Option QueryFault
+agg_fault columns (Count at) name = None
+agg_fault columns (Sum e) name = summed_fault columns e name
+agg_fault columns (Min e) name = whole_fault columns e
+agg_fault columns (Max e) name = whole_fault columns e
+agg_fault columns (Avg e) name = summed_fault columns e name
+agg_fault columns (Wsum e weights) name =
+    or_else (summed_fault columns e name) (or_else (too_many (slice_get weights 64)) (weights_fault (whole_kind columns e) weights))
+
+abbrev pub aggs_fault : List NamedColumn → List AggItemTree → List AggItemTree → Option QueryFault
+aggs_fault columns earlier items = named_fault (λ (i : AggItemTree). i.name) (λ (i : AggItemTree). agg_fault columns i.agg i.name) earlier items
+
+-- ---- queries
+
+-- SIZE, ADVANCE, and SIZE again for the windows that are open at once
+abbrev pub window_fault : Num → Num → Option QueryFault
+window_fault size advance =
+    or_else (unless (is_within size.value 65536) (OutOfRange size.at))
+    (or_else (unless (is_within advance.value 65536) (OutOfRange advance.at)) (unless (nat_le size.value (64 * advance.value)) (OutOfRange size.at)))
+
+-- the key's name and the count of columns, behind all faults of the body
+abbrev pub key_fault : Name → List NamedColumn → Option QueryFault
+key_fault key columns =
+    or_else (unless (not (list_any (bytes_eq key.text) (column_names columns))) (TwiceNamed key.at)) (unless (nat_lt (length columns) 32) (OutOfRange key.at))
+
+abbrev pub beside_fault : QueryShape → QueryShape → List NamedColumn → ℕ → Option QueryFault
+beside_fault l r columns at =
+    or_else (unless (same_pace (pace_of l) (pace_of r)) (PaceDiffers at))
+    (or_else (unless (are_distinct (column_names columns)) (TwiceNamed at)) (unless (nat_le (length columns) 32) (OutOfRange at)))
+
+abbrev pub query_fault : Scope → QueryTree → Option QueryFault
+query_fault scope (Read name) = unless (has_stream scope.sources name.text) (UnknownStream name.at)
+query_fault scope (Rows pick filter source) =
+    let columns = columns_under scope (query_alike source) in
+    or_else (query_fault scope source) (or_else (pick_fault columns pick) (filter_fault columns filter))
+query_fault scope (Total aggs source) = or_else (query_fault scope source) (aggs_fault (columns_under scope (query_alike source)) [] aggs)
+query_fault scope (Each var source size advance body at) =
+    let inside = body_scope var.text (columns_under scope (query_alike source)) in
+    or_else (query_fault scope source)
+    (or_else (window_fault size advance) (or_else (query_fault inside body) (unless (is_closing (query_alike body)) (NotClosing at))))
+query_fault scope (PerGroup var source key groups body at) =
+    let columns = columns_under scope (query_alike source) in
+    let inside = body_scope var.text columns in
+    or_else (query_fault scope source)
+    (or_else (unless (has_column columns key.text) (UnknownColumn key.at))
+    (or_else (unless (is_within groups.value 256) (OutOfRange groups.at))
+    (or_else (query_fault inside body)
+    (or_else (unless (is_closing (query_alike body)) (NotClosing at)) (key_fault key (columns_under inside (query_alike body)))))))
+query_fault scope (Union l r at) =
+    or_else (query_fault scope l) (or_else (query_fault scope r)
+    (unless (same_kinds (kinds_of (columns_under scope (query_alike l))) (kinds_of (columns_under scope (query_alike r)))) (ColumnsDiffer at)))
+query_fault scope (Concat l r at) =
+    or_else (query_fault scope l)
+    (or_else (query_fault scope r) (beside_fault (query_alike l) (query_alike r) (columns_under scope (query_alike (Concat l r at))) at))
+
+-- the first rule that a statement breaks over a schema
+abbrev pub first_fault : Schema → StatementTree → Option QueryFault
+first_fault schema s = query_fault (schema_scope schema) s.query

@@ -1,0 +1,38 @@
+-- What holds of each whole expression and of each name of a query.
+use Rattle.std.specs.Prelude.{ℕ, List, Option, Some, None}
+use Rattle.std.specs.List.{AllByRecursion}
+use Rattle.gl_query.specs.Shapes.{ExprShape, AggShape, ItemShape, AggItemShape, PickShape, QueryShape}
+use Rattle.gl_query.specs.Shapes as shape
+
+-- of the argument of an aggregate
+abbrev pub InAgg : (ExprShape → Type 0) → AggShape → Type 0
+InAgg E shape.Count = Unit {0}
+InAgg E (shape.Sum e) = E e
+InAgg E (shape.Min e) = E e
+InAgg E (shape.Max e) = E e
+InAgg E (shape.Avg e) = E e
+InAgg E (shape.Wsum e weights) = E e
+
+abbrev pub InItem : (ExprShape → Type 0) → (List ℕ → Type 0) → ItemShape → Type 0
+InItem E N i = E i.expr × N i.name
+
+abbrev pub InAggItem : (ExprShape → Type 0) → (List ℕ → Type 0) → AggItemShape → Type 0
+InAggItem E N i = InAgg E i.agg × N i.name
+
+abbrev pub InPick : (ExprShape → Type 0) → (List ℕ → Type 0) → PickShape → Type 0
+InPick E N shape.All = Unit {0}
+InPick E N (shape.Items items) = AllByRecursion (InItem E N) items
+
+abbrev pub InFilter : (ExprShape → Type 0) → Option ExprShape → Type 0
+InFilter E None = Unit {0}
+InFilter E (Some e) = E e
+
+-- of the items, filters and arguments, and of the names of sources, items, variables and keys
+abbrev pub InQuery : (ExprShape → Type 0) → (List ℕ → Type 0) → QueryShape → Type 0
+InQuery E N (shape.Read name) = N name
+InQuery E N (shape.Rows pick filter source) = InQuery E N source × InPick E N pick × InFilter E filter
+InQuery E N (shape.Total aggs source) = InQuery E N source × AllByRecursion (InAggItem E N) aggs
+InQuery E N (shape.Each var source size advance body) = InQuery E N source × InQuery E N body × N var
+InQuery E N (shape.PerGroup var source key groups body) = InQuery E N source × InQuery E N body × N var × N key
+InQuery E N (shape.Union l r) = InQuery E N l × InQuery E N r
+InQuery E N (shape.Concat l r) = InQuery E N l × InQuery E N r

@@ -1,0 +1,4 @@
+pub mod Testing
+pub mod Passing
+pub mod Listing
+pub mod Accepting

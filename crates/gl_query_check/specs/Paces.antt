@@ -1,0 +1,8 @@
+-- The pace of a query, as code has it.
+use Rattle.gl_query.specs.Columns as columns
+use Rattle.gl_query_check.specs.declared.queries.Pace.{Pace}
+use Rattle.gl_query_check.specs.declared.queries.Pace.TheVariants.{Once, Step}
+
+abbrev pub pace : Pace → columns.Pace
+pace Once = columns.Once
+pace (Step source) = columns.Step source.now

@@ -1,0 +1,136 @@
+//! Faults of items and aggregates.
+
+ghost use Rattle.std.specs.Prelude.{◌≡◌, ◌≤◌, bytes_eq, drop, length, map, slice_get, take};
+ghost use Rattle.std.specs.List.{list_any};
+ghost use Rattle.gl_query.specs.Faults as faults;
+ghost use Rattle.gl_query.specs.Trees.{AggItemTree, ItemTree, agg_item_tree, agg_tree, expr_tree, item_tree, pick_tree};
+
+use crate::expressions::{number_fault, whole_fault, whole_kind};
+use crate::rules::{is_unsigned, or_else, unless};
+use gl_bits::Kind;
+use gl_query::{Agg, AggItem, Expr, Item, Name, Num, Pick, QueryFault};
+use gl_schema::Column;
+
+/// Items, aggregates and columns that a select may have.
+const MOST_COLUMNS: usize = 32;
+
+// Whether an item has a name.
+fn is_item(items: &[Item], name: &[u8]) -> bool
+    ensures { result ≡ list_any (λ (j : ItemTree). bytes_eq name.now j.name.text) (map item_tree items.now) }
+{
+    match items.split_first() {
+        None => false,
+        Some((first, rest)) => name == first.name.text.as_slice() || is_item(rest, name),
+    }
+}
+
+// Whether an aggregate has a name.
+fn is_agg(aggs: &[AggItem], name: &[u8]) -> bool
+    ensures { result ≡ list_any (λ (j : AggItemTree). bytes_eq name.now j.name.text) (map agg_item_tree aggs.now) }
+{
+    match aggs.split_first() {
+        None => false,
+        Some((first, rest)) => name == first.name.text.as_slice() || is_agg(rest, name),
+    }
+}
+
+// The first fault of the items from a number on.
+fn items_fault(columns: &[Column], items: &[Item], number: usize) -> Option<QueryFault>
+    requires { number ≤ length items.now }
+    ensures { result ≡ faults.items_fault columns.now (map item_tree (take number items.now)) (map item_tree (drop number items.now)) }
+{
+    let (earlier, rest) = items.split_at(number);
+    let Some((item, _)) = rest.split_first() else {
+        return None;
+    };
+    let at = item.name.at;
+    if number >= MOST_COLUMNS {
+        return Some(QueryFault::OutOfRange { at });
+    }
+    let own = whole_fault(columns, &item.expr);
+    let fresh = !is_item(earlier, item.name.text.as_slice());
+    let later = items_fault(columns, items, number + 1);
+    or_else(
+        own,
+        or_else(unless(fresh, QueryFault::TwiceNamed { at }), later),
+    )
+}
+
+/// The first fault of what a select picks.
+pub fn pick_fault(columns: &[Column], pick: &Pick) -> Option<QueryFault>
+    ensures { result ≡ faults.pick_fault columns.now (pick_tree pick.now) }
+{
+    match pick {
+        Pick::All => None,
+        Pick::Items(items) => items_fault(columns, items.as_slice(), 0),
+    }
+}
+
+// The first fault of an argument that is added or averaged.
+fn summed_fault(columns: &[Column], expr: &Expr, name: &Name) -> Option<QueryFault>
+    ensures { result ≡ faults.summed_fault columns.now (expr_tree expr.now) name.now }
+{
+    let kind = whole_kind(columns, expr);
+    or_else(
+        whole_fault(columns, expr),
+        unless(is_unsigned(kind), QueryFault::KindsDiffer { at: name.at }),
+    )
+}
+
+// The first weight that is no number of the kind.
+fn narrow_fault(kind: Kind, weights: &[Num]) -> Option<QueryFault>
+    ensures { result ≡ faults.weights_fault kind weights.now }
+{
+    match weights.split_first() {
+        None => None,
+        Some((first, rest)) => or_else(number_fault(kind, *first), narrow_fault(kind, rest)),
+    }
+}
+
+// The 65th weight, or the first that is no number of the kind.
+fn weights_fault(kind: Kind, weights: &[Num]) -> Option<QueryFault>
+    ensures { result ≡ faults.or_else (faults.too_many (slice_get weights.now 64)) (faults.weights_fault kind weights.now) }
+{
+    match weights.get(64) {
+        Some(weight) => Some(QueryFault::OutOfRange { at: weight.at }),
+        None => narrow_fault(kind, weights),
+    }
+}
+
+// The first fault of an aggregate under a name.
+fn agg_fault(columns: &[Column], agg: &Agg, name: &Name) -> Option<QueryFault>
+    ensures { result ≡ faults.agg_fault columns.now (agg_tree agg.now) name.now }
+{
+    match agg {
+        Agg::Count { .. } => None,
+        Agg::Sum(expr) | Agg::Avg(expr) => summed_fault(columns, expr, name),
+        Agg::Min(expr) | Agg::Max(expr) => whole_fault(columns, expr),
+        Agg::Wsum { arg, weights } => {
+            let summed = summed_fault(columns, arg, name);
+            let kind = whole_kind(columns, arg);
+            or_else(summed, weights_fault(kind, weights.as_slice()))
+        }
+    }
+}
+
+/// The first fault of the aggregates from a number on.
+pub fn aggs_fault(columns: &[Column], aggs: &[AggItem], number: usize) -> Option<QueryFault>
+    requires { number ≤ length aggs.now }
+    ensures { result ≡ faults.aggs_fault columns.now (map agg_item_tree (take number aggs.now)) (map agg_item_tree (drop number aggs.now)) }
+{
+    let (earlier, rest) = aggs.split_at(number);
+    let Some((item, _)) = rest.split_first() else {
+        return None;
+    };
+    let place = item.name.at;
+    if number >= MOST_COLUMNS {
+        return Some(QueryFault::OutOfRange { at: place });
+    }
+    let own = agg_fault(columns, &item.agg, &item.name);
+    let fresh = !is_agg(earlier, item.name.text.as_slice());
+    let later = aggs_fault(columns, aggs, number + 1);
+    or_else(
+        own,
+        or_else(unless(fresh, QueryFault::TwiceNamed { at: place }), later),
+    )
+}

@@ -1,0 +1,251 @@
+//! Faults of queries, and the columns of those that have none.
+
+ghost use Rattle.std.specs.Prelude.{◌≡◌, ◌*◌, [], map, nat_le, option_map, IfOk};
+ghost use Rattle.gl_query.specs.Accepted.{columns_under};
+ghost use Rattle.gl_query.specs.Alike.{agg_item_alike, pick_alike, query_alike};
+ghost use Rattle.gl_query.specs.Columns as columns;
+ghost use Rattle.gl_query.specs.Faults as faults;
+ghost use Rattle.gl_query.specs.Sources.{scope_of};
+ghost use Rattle.gl_query.specs.Columns.{agg_column, picked_columns};
+ghost use Rattle.gl_query.specs.Trees.{agg_item_tree, filter_tree, pick_tree, query_tree};
+ghost use Rattle.gl_query_check.specs.Answers.{Answers};
+ghost use Rattle.gl_query_check.specs.Paces.{pace};
+
+use crate::expressions::filter_fault;
+use crate::items::{aggs_fault, pick_fault};
+use crate::rules::{
+    are_distinct, has_column, has_source, is_among, is_within, or_else, refuse, same_kinds, unless,
+};
+use gl_bits::Memory;
+use gl_query::columns::{
+    agg_columns, group_columns, joined_columns, picked_columns, source_columns,
+};
+use gl_query::{AggItem, AggItems, Expr, Name, Num, Pick, Query, QueryFault, Sources};
+use gl_schema::{Column, Columns};
+use std::alloc::Global;
+
+// Whether a query gives its rows at the end of its input.
+#[tactic(auto, using(gl_query::proofs::Alike::query_same))]
+fn is_closing(query: &Query) -> bool
+    ensures { result ≡ columns.is_closing (query_alike (query_tree query.now)) }
+{
+    match query {
+        Query::Read(_) => false,
+        Query::Rows { source, .. } => is_closing(source),
+        Query::Total { .. } => true,
+        Query::Each { source, .. } => is_closing(source),
+        Query::PerGroup { .. } => true,
+        Query::Union { left, right, .. } => is_closing(left) && is_closing(right),
+        Query::Concat { left, right, .. } => is_closing(left) && is_closing(right),
+    }
+}
+
+// The first fault of a window's numbers.
+fn window_fault(size: Num, advance: Num) -> Option<QueryFault>
+    ensures { result ≡ faults.window_fault size advance }
+{
+    or_else(
+        unless(
+            is_within(size.value, 65536),
+            QueryFault::OutOfRange { at: size.at },
+        ),
+        or_else(
+            unless(
+                is_within(advance.value, 65536),
+                QueryFault::OutOfRange { at: advance.at },
+            ),
+            unless(
+                keeps_copies(size.value, advance.value),
+                QueryFault::OutOfRange { at: size.at },
+            ),
+        ),
+    )
+}
+
+// Whether at most 64 windows are open at once.
+fn keeps_copies(size: u128, advance: u128) -> bool
+    ensures { result ≡ nat_le size (64 * advance) }
+{
+    match advance.checked_mul(64) {
+        Some(most) => size <= most,
+        None => true,
+    }
+}
+
+/// How many rows a query gives: one, or one for each row of a source.
+#[derive(Clone, Copy)]
+enum Pace<'a> {
+    Once,
+    Step(&'a [u8]),
+}
+
+// The pace of a query.
+fn pace_of(query: &Query) -> Option<Pace<'_>>
+    ensures { option_map pace result ≡ columns.pace_of (query_alike (query_tree query.now)) }
+{
+    match query {
+        Query::Read(name) => Some(Pace::Step(name.text.as_slice())),
+        Query::Rows { filter, source, .. } => match filter {
+            None => pace_of(source),
+            Some(_) => None,
+        },
+        Query::Total { .. } => Some(Pace::Once),
+        Query::Each { .. } | Query::PerGroup { .. } | Query::Union { .. } => None,
+        Query::Concat { left, .. } => pace_of(left),
+    }
+}
+
+// Whether two paces are one.
+fn same_pace(left: Option<Pace<'_>>, right: Option<Pace<'_>>) -> bool
+    ensures { result ≡ faults.same_pace (option_map pace left.entry) (option_map pace right.entry) }
+{
+    match (left, right) {
+        (Some(Pace::Once), Some(Pace::Once)) => true,
+        (Some(Pace::Step(a)), Some(Pace::Step(b))) => a == b,
+        _ => false,
+    }
+}
+
+// The first fault of two queries side by side, of their columns together.
+fn beside_fault(left: &Query, right: &Query, columns: &[Column], at: u64) -> Option<QueryFault>
+    ensures { result ≡ faults.beside_fault (query_alike (query_tree left.now)) (query_alike (query_tree right.now)) columns.now at }
+{
+    let paced = same_pace(pace_of(left), pace_of(right));
+    or_else(
+        unless(paced, QueryFault::PaceDiffers { at }),
+        or_else(
+            unless(are_distinct(columns), QueryFault::TwiceNamed { at }),
+            unless(columns.len() <= 32, QueryFault::OutOfRange { at }),
+        ),
+    )
+}
+
+// The first fault of a key before the columns of a body.
+fn key_fault(key: &Name, columns: &[Column]) -> Option<QueryFault>
+    ensures { result ≡ faults.key_fault key.now columns.now }
+{
+    let fresh = !is_among(key.text.as_slice(), columns);
+    or_else(
+        unless(fresh, QueryFault::TwiceNamed { at: key.at }),
+        unless(columns.len() < 32, QueryFault::OutOfRange { at: key.at }),
+    )
+}
+
+// The columns of what a select picks.
+#[tactic(auto, using(gl_query::proofs::Alike::pick_same))]
+fn picked(alloc: Global, columns: Columns, pick: &Pick) -> Result<Columns, Memory>
+    ensures { IfOk result (λ v. v ≡ picked_columns columns (pick_alike (pick_tree pick.now))) }
+{
+    picked_columns(alloc, columns, pick)
+}
+
+// The columns of aggregates.
+#[tactic(auto, using(gl_query::proofs::Alike::aggs_same))]
+fn totalled(alloc: Global, columns: &[Column], aggs: &[AggItem]) -> Result<Columns, Memory>
+    ensures { IfOk result (λ v. v ≡ map (agg_column columns.now) (map agg_item_alike (map agg_item_tree aggs.now))) }
+{
+    agg_columns(alloc, columns, aggs)
+}
+
+// A select of items over columns.
+#[tactic(auto, using(crate::proofs::Passing::passing))]
+fn rows_checked(
+    alloc: Global,
+    columns: Columns,
+    pick: &Pick,
+    filter: &Option<Expr>,
+) -> Result<Columns, QueryFault>
+    ensures { Answers (faults.or_else (faults.pick_fault columns (pick_tree pick.now)) (faults.filter_fault columns (filter_tree filter.now))) (picked_columns columns (pick_alike (pick_tree pick.now))) result }
+{
+    refuse(pick_fault(columns.as_slice(), pick))?;
+    refuse(filter_fault(columns.as_slice(), filter))?;
+    Ok(picked(alloc, columns, pick)?)
+}
+
+// A select of aggregates over columns.
+#[tactic(auto, using(crate::proofs::Passing::passing))]
+fn total_checked(alloc: Global, columns: Columns, aggs: &AggItems) -> Result<Columns, QueryFault>
+    ensures { Answers (faults.aggs_fault columns [] (map agg_item_tree aggs.now)) (map (agg_column columns) (map agg_item_alike (map agg_item_tree aggs.now))) result }
+{
+    refuse(aggs_fault(columns.as_slice(), aggs.as_slice(), 0))?;
+    Ok(totalled(alloc, columns.as_slice(), aggs.as_slice())?)
+}
+
+/// The columns of a query, where it is accepted over the sources that it may read, or its first
+/// fault.
+#[tactic(auto, using(crate::proofs::Passing::passing))]
+pub fn columns_checked(
+    alloc: Global,
+    sources: Sources<'_>,
+    query: &Query,
+) -> Result<Columns, QueryFault>
+    ensures { Answers (faults.query_fault (scope_of sources.entry) (query_tree query.now)) (columns_under (scope_of sources.entry) (query_alike (query_tree query.now))) result }
+{
+    match query {
+        Query::Read(name) => {
+            let known = has_source(sources, name.text.as_slice());
+            refuse(unless(known, QueryFault::UnknownStream { at: name.at }))?;
+            Ok(source_columns(alloc, sources, name.text.as_slice())?)
+        }
+        Query::Rows {
+            pick,
+            filter,
+            source,
+        } => {
+            let columns = columns_checked(alloc, sources, source)?;
+            rows_checked(alloc, columns, pick, filter)
+        }
+        Query::Total { aggs, source } => {
+            let columns = columns_checked(alloc, sources, source)?;
+            total_checked(alloc, columns, aggs)
+        }
+        Query::Each {
+            var,
+            source,
+            size,
+            advance,
+            body,
+            at,
+        } => {
+            let columns = columns_checked(alloc, sources, source)?;
+            refuse(window_fault(*size, *advance))?;
+            let inside = Sources::Variable(var.text.as_slice(), columns.as_slice());
+            let out = columns_checked(alloc, inside, body)?;
+            refuse(unless(is_closing(body), QueryFault::NotClosing { at: *at }))?;
+            Ok(out)
+        }
+        Query::PerGroup {
+            var,
+            source,
+            key,
+            groups,
+            body,
+            at,
+        } => {
+            let columns = columns_checked(alloc, sources, source)?;
+            let known = has_column(columns.as_slice(), key.text.as_slice());
+            refuse(unless(known, QueryFault::UnknownColumn { at: key.at }))?;
+            let within = is_within(groups.value, 256);
+            refuse(unless(within, QueryFault::OutOfRange { at: groups.at }))?;
+            let inside = Sources::Variable(var.text.as_slice(), columns.as_slice());
+            let later = columns_checked(alloc, inside, body)?;
+            refuse(unless(is_closing(body), QueryFault::NotClosing { at: *at }))?;
+            refuse(key_fault(key, later.as_slice()))?;
+            Ok(group_columns(alloc, columns.as_slice(), key.text.as_slice(), later)?)
+        }
+        Query::Union { left, right, at } => {
+            let first = columns_checked(alloc, sources, left)?;
+            let second = columns_checked(alloc, sources, right)?;
+            let same = same_kinds(first.as_slice(), second.as_slice());
+            refuse(unless(same, QueryFault::ColumnsDiffer { at: *at }))?;
+            Ok(first)
+        }
+        Query::Concat { left, right, at } => {
+            let first = columns_checked(alloc, sources, left)?;
+            let second = columns_checked(alloc, sources, right)?;
+            let both = joined_columns(first, second)?;
+            refuse(beside_fault(left, right, both.as_slice(), *at))?;
+            Ok(both)
+        }
+    }
+}

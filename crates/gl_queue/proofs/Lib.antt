@@ -1,0 +1,13 @@
+pub mod QueueLemmas
+pub mod RingLemmas
+pub mod RingLinesLemmas
+pub mod DriveLemmas
+pub mod PartLemmas
+pub mod DepthLemmas
+pub mod HeldLemmas
+pub mod PhaseLemmas
+pub mod FlowLemmas
+pub mod StreamLemmas
+pub mod UnionLemmas
+pub mod MergeLinesLemmas
+pub mod UnionNet

@@ -1,0 +1,10 @@
+pub mod Queue
+pub mod Ring
+pub mod RingLines
+pub mod Costs
+pub mod Parts
+pub mod Queues
+pub mod Merging
+pub mod Phases
+pub mod MergeLines
+pub mod Unions

@@ -1,5 +1,0 @@
-use Rattle.std.proofs.Common.{length}
-use Rattle.gl_reference.proofs.columns.+columns_named.Given as goal
-
-abbrev pub decreases-columns_named : goal.decreases-columns_named
-decreases-columns_named l = length l.sources.now

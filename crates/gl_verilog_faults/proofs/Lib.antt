@@ -1,0 +1,15 @@
+pub mod Names
+pub mod Expressions
+pub mod Statements
+pub mod Declarations
+pub mod Items
+pub mod Counts
+pub mod Drivers
+pub mod Driven
+pub mod Law
+pub mod Roles
+pub mod Limiting
+pub mod Marking
+pub mod Loops
+pub mod Exact
+pub mod Total

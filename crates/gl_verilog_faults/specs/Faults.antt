@@ -1,0 +1,53 @@
+-- What is wrong with a text: the first fault, by cases.
+use Rattle.std.specs.Prelude.{◌≡◌, ◌⊎◌, ℕ, true, false, List, [], ◌∷◌, ◌++◌, length}
+use Rattle.gl_verilog.specs.Tokens.{Token, tokens_of, IsPlaceOf}
+use Rattle.gl_verilog.specs.Written.{WrittenModule, IsWritten, spell}
+use Rattle.gl_verilog.specs.Limits.{IsWithinLimits}
+use Rattle.gl_verilog_faults.specs.Demands.{Rule, Loop, IsFirst, IsFirstLoop}
+use Rattle.gl_verilog_faults.specs.Counts.{none_counted, keeps_limits}
+use Rattle.gl_verilog_faults.specs.Marks.{Header, marks}
+
+-- some written module's tokens begin so, limits aside
+abbrev pub CanBegin : List Token → Type 0
+CanBegin read = (w : WrittenModule) × (more : List Token) × IsWritten w × (spell w ≡ read ++ more)
+
+-- the counts behind each of these first tokens keep the limits
+abbrev pub KeepsFront : List Token → Type 0
+KeepsFront read = keeps_limits none_counted (marks Header read) ≡ true
+
+-- no module goes on with the next token, or, at the end, what was read is none
+abbrev pub Stops : List Token → List Token → Type 0
+Stops read [] = (w : WrittenModule) → IsWritten w → spell w ≡ read → ⊥
+Stops read (t ∷ left) = CanBegin (read ++ t ∷ []) → ⊥
+
+pub record IsSyntaxFault (text : List ℕ) (at : ℕ) : Type 0 where
+  pub read : List Token
+  pub left : List Token
+  pub parts : tokens_of text ≡ read ++ left
+  pub limits : KeepsFront read
+  pub begins : CanBegin read
+  pub stops : Stops read left
+  pub place : IsPlaceOf text (length read) at
+
+pub record IsDepthFault (text : List ℕ) (at : ℕ) : Type 0 where
+  pub read : List Token
+  pub deep : Token
+  pub left : List Token
+  pub parts : tokens_of text ≡ read ++ deep ∷ left
+  pub limits : KeepsFront read
+  pub past : keeps_limits none_counted (marks Header (read ++ deep ∷ [])) ≡ false
+  pub begins : CanBegin (read ++ deep ∷ [])
+  pub place : IsPlaceOf text (length read) at
+
+-- the first demand that is not met, or, where all are met, the first loop
+abbrev pub IsBroken : WrittenModule → Rule → ℕ → Type 0
+IsBroken w rule token = IsFirst w rule token ⊎ ((rule ≡ Loop) × IsFirstLoop w token)
+
+pub record IsJudgedFault (text : List ℕ) (rule : Rule) (at : ℕ) : Type 0 where
+  pub written : WrittenModule
+  pub spelled : tokens_of text ≡ spell written
+  pub grammar : IsWritten written
+  pub limits : IsWithinLimits written
+  pub token : ℕ
+  pub broken : IsBroken written rule token
+  pub place : IsPlaceOf text token at
