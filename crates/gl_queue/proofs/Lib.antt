@@ -11,3 +11,9 @@ pub mod StreamLemmas
 pub mod UnionLemmas
 pub mod MergeLinesLemmas
 pub mod UnionNet
+pub mod TagLemmas
+pub mod SpacerLemmas
+pub mod SpacerTimeLemmas
+pub mod SpacerServeLemmas
+pub mod FlagLemmas
+pub mod JoinerLemmas

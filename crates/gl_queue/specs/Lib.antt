@@ -8,3 +8,6 @@ pub mod Merging
 pub mod Phases
 pub mod MergeLines
 pub mod Unions
+pub mod Spacing
+pub mod SpacerPhases
+pub mod Joining
