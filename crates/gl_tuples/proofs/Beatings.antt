@@ -4,6 +4,7 @@ use Rattle.std.specs.Prelude.{map, option_map, slice_get, slice_set, replicate, 
 use Rattle.std.specs.List.{AllByRecursion, list_any, list_all, fold}
 use Rattle.std.proofs.lemmas.Bool.{cases_Bool, ltb-true, ltb-false, leb-true, and_parts, or_right, eqb-false, false≢true}
 use Rattle.std.proofs.lemmas.List.Quantifiers.{position-Some}
+use Rattle.gl_bits.proofs.Options.{some_same}
 use Rattle.gl_bits.specs.declared.kind.Kind.{Kind}
 use Rattle.gl_bits.specs.declared.kind.Kind.TheVariants.{Unsigned, Text}
 use Rattle.gl_bits.specs.Kinds.{width_of}
@@ -49,12 +50,9 @@ text_below n text le h =
     subst (λ (k : ℕ). number_of (padded n text) < 2 ^ (8 * k)) (let e : 0 + length (padded n text) ≡ n = omega (arith, length-padded n text le) in e)
     (below_bits (padded n text) 0 0 (plain_small text (n - length text) h) (omega arith))
 
-some_is : {A : Type 0} (x y : A) → Some x ≡ Some y → x ≡ y
-some_is x y h = cc
-
 -- a test that lets a value through
 test_some : {A : Type 0} (b : Bool) (x y : A) → cond b (Some x) None ≡ Some y → (b ≡ true) × (x ≡ y)
-test_some true x y h = (refl, some_is x y h)
+test_some true x y h = (refl, some_same x y h)
 test_some false x y h = absurd cc
 
 fitting_small : (width : ℕ) (o : Option ℕ) (w : Word) → fitting width o ≡ Some w → w.bits < 2 ^ width
@@ -77,11 +75,11 @@ bind_some (Some x) f y h = (x, refl, h)
 
 map_some : {A B : Type 0} (o : Option A) (f : A → B) (y : B) → option_map f o ≡ Some y → (x : A) × (o ≡ Some x) × (f x ≡ y)
 map_some None f y h = absurd cc
-map_some (Some x) f y h = (x, refl, some_is (f x) y h)
+map_some (Some x) f y h = (x, refl, some_same (f x) y h)
 
 -- words that are found are a row of the columns
 row_fits : (cs : List Column) (fs : List (List ℕ)) (row : List Word) → words_of cs fs ≡ Some row → IsRowOf cs (bits_of row)
-row_fits [] fs row h = subst (λ (r : List Word). IsRowOf [] (bits_of r)) (some_is [] row h) tt
+row_fits [] fs row h = subst (λ (r : List Word). IsRowOf [] (bits_of r)) (some_same [] row h) tt
 row_fits (c ∷ cs) [] row h = absurd cc
 row_fits (c ∷ cs) (f ∷ fs) row h =
     let a = bind_some (word_of c.kind f) (λ w. option_map (λ ws. w ∷ ws) (words_of cs fs)) row h in

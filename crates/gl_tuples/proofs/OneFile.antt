@@ -3,6 +3,7 @@ use Rattle.std.proofs.Common.{◌≡◌, ℕ, suc, ◌<◌, ◌≤◌, Bool, tru
 use Rattle.std.specs.Prelude.{map, option_map, find, ◌==◌}
 use Rattle.std.specs.List.{AllByRecursion}
 use Rattle.std.proofs.lemmas.Bool.{cases_Bool, eq-eqb, ne_eqb, eqb-true}
+use Rattle.gl_bits.proofs.Options.{some_same}
 use Rattle.gl_bits.specs.Words.{Word, bits_of}
 use Rattle.gl_schema.specs.declared.schema.Stream.{Stream}
 use Rattle.gl_schema.specs.declared.schema.Schema.{Schema}
@@ -95,11 +96,8 @@ rows_same (x ∷ xs) (y ∷ ys) e h =
     let first : x ≡ y = h 0 in
     let rest : xs ≡ ys = rows_same xs ys (omega (arith, e)) (λ k. h (suc k)) in cc
 
-some_is : {A : Type 0} (x y : A) → Some x ≡ Some y → x ≡ y
-some_is x y h = cc
-
 number_same : (b d : Beat) (bs ds : List Beat) → Agree (b ∷ bs) (d ∷ ds) → b.cycle ≡ d.cycle → b.number ≡ d.number
-number_same b d bs ds a same = some_is b.number d.number
+number_same b d bs ds a same = some_same b.number d.number
     (sym (ap (option_map (λ (x : Beat). x.number)) (first_here b bs)) ∙ a.numbers b.cycle ∙ ap (number_at (d ∷ ds)) same ∙ ap (option_map (λ (x : Beat). x.number)) (first_here d ds))
 
 row_same : (b d : Beat) (bs ds : List Beat) → Agree (b ∷ bs) (d ∷ ds) → b.cycle ≡ d.cycle → (k : ℕ) → row_among b.rows k ≡ row_among d.rows k

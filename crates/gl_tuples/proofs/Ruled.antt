@@ -5,6 +5,7 @@ use Rattle.std.specs.Option.{option_map_or}
 use Rattle.std.specs.List.{AllByRecursion}
 use Rattle.std.proofs.lemmas.Bool.{cases_Bool, ltb-false, le-ltb, eqb-true, eq-eqb, true≢false, false≢true}
 use Rattle.std.proofs.lemmas.List.{append-nil}
+use Rattle.gl_bits.proofs.AllLists.{all_append, all_back, all_weaker}
 use Rattle.gl_bits.specs.Words.{Word}
 use Rattle.gl_schema.specs.declared.schema.Schema.{Schema}
 use Rattle.gl_tuples.specs.declared.beats.Beat.{Beat}
@@ -23,20 +24,10 @@ use Rattle.gl_tuples.proofs.FileBeating.{Stands, stands_first, stands_next, turn
 -- ---- lists
 
 all_push : {A : Type 0} (P : A → Type 0) (xs : List A) (x : A) → AllByRecursion P xs → P x → AllByRecursion P (xs ++ x ∷ [])
-all_push P [] x h p = (p, tt)
-all_push P (y ∷ xs) x h p = (h.0, all_push P xs x h.1 p)
-
-all_front : {A : Type 0} (P : A → Type 0) (xs ys : List A) → AllByRecursion P (xs ++ ys) → AllByRecursion P xs
-all_front P [] ys h = tt
-all_front P (x ∷ xs) ys h = (h.0, all_front P xs ys h.1)
+all_push P xs x h p = all_append P xs (x ∷ []) h (p, tt)
 
 all_last : {A : Type 0} (P : A → Type 0) (xs : List A) (x : A) → AllByRecursion P (xs ++ x ∷ []) → P x
-all_last P [] x h = h.0
-all_last P (y ∷ xs) x h = all_last P xs x h.1
-
-all_wider : {A : Type 0} (P Q : A → Type 0) (xs : List A) → ((x : A) → P x → Q x) → AllByRecursion P xs → AllByRecursion Q xs
-all_wider P Q [] f h = tt
-all_wider P Q (x ∷ xs) f h = (f x h.0, all_wider P Q xs f h.1)
+all_last P xs x h = (all_back P xs (x ∷ []) h).0
 
 -- ---- what the beats so far tell of the records before
 
@@ -184,7 +175,7 @@ base_open streams cycle number (Some b) h = open_if streams cycle number b (b.cy
 
 before_by : (rs : List (List (List ℕ))) (current : Option Beat) (number cycle : ℕ) → Latest rs current → cycle_checked number cycle current ≡ Ok tt → AllByRecursion (IsBy cycle) rs
 before_by rs None number cycle l h = subst (AllByRecursion (IsBy cycle)) (sym l) tt
-before_by rs (Some b) number cycle l h = all_wider (IsBy b.cycle) (IsBy cycle) rs (by_later b.cycle cycle (ltb-false cycle b.cycle (ok_true (nat_lt cycle b.cycle) (CycleFalls number) h))) l.0
+before_by rs (Some b) number cycle l h = all_weaker (IsBy b.cycle) (IsBy cycle) (by_later b.cycle cycle (ltb-false cycle b.cycle (ok_true (nat_lt cycle b.cycle) (CycleFalls number) h))) rs l.0
 
 before_still : (rs : List (List (List ℕ))) (current : Option Beat) (number : ℕ) → Latest rs current → open_checked number current ≡ Ok tt → AllByRecursion (λ r. IsFalse (says_end r)) rs
 before_still rs None number l h = subst (AllByRecursion (λ r. IsFalse (says_end r))) (sym l) tt

@@ -131,7 +131,11 @@ fn turned(
     cycle: u32,
     number: u64,
 ) -> Result<(Listed<Beat>, Beat), TupleFault>
-    ensures { Gives result (Ok (spec.whole_before cycle whole current, spec.beat_of streams cycle number current)) }
+    ensures { Gives result (Ok (
+      spec.whole_before cycle whole current,
+      spec.beat_of streams cycle
+          number current,
+    )) }
 {
     let mut whole = whole;
     match current {

@@ -1,7 +1,7 @@
 //! Tuple files, their beats, and the lines of a result.
 //!
-//! Here belongs what a file's records mean and how a row is printed. Where the bytes come from and go to
-//! does not (`gl_outside`), nor what beats put on ports (`gl_schema`).
+//! Here belongs what a file's records mean and how a row is printed. Where the bytes come from and
+//! go to does not (`gl_outside`), nor what beats put on ports (`gl_schema`).
 #![tactic(auto)]
 
 pub mod beats;

@@ -37,7 +37,8 @@ fn put_column(into: &mut [u8; 1024], at: usize, kind: Kind, word: Word) -> usize
     requires kind { IsKind kind }
     requires width { word.width ≡ width_of kind }
     ensures end { result ≤ at + 21 }
-    ensures written { take result into.new ≡ (take at into.old ++ 44 ∷ []) ++ printed kind word.bits }
+    ensures written { take result into.new ≡ (take at into.old ++ 44
+        ∷ []) ++ printed kind word.bits }
 {
     let end = put(into, at, b",");
     put_value(into, end, kind, word)
@@ -92,7 +93,8 @@ fn put_text(into: &mut [u8; 1024], at: usize, bits: u64, bytes: usize) -> usize
     requires room { at ≤ 1000 }
     requires short { bytes ≤ 8 }
     ensures end { result ≤ at + 20 }
-    ensures written { take result into.new ≡ take at into.old ++ quoted (seen.unpadded (bytes_high_first bytes bits)) }
+    ensures written { take result into.new
+        ≡ take at into.old ++ quoted (seen.unpadded (bytes_high_first bytes bits)) }
 {
     let all = bits.to_be_bytes();
     put_quoted(into, at, unpadded(&all[8 - bytes..]))

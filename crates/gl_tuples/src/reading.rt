@@ -21,7 +21,8 @@ use std::alloc::Global;
 /// `cycle,stream,v1,..` or, as the last, `cycle,end`. Else the first rule that a record breaks.
 pub fn read_tuples(alloc: Global, schema: &Schema, text: &[u8]) -> Result<Beats, TupleFault>
     requires { IsSchema schema.now }
-    // The records keep the rules, and there is a beat for each cycle of one, with the records' rows.
+    // The records keep the rules, and there is a beat for each cycle of one, with the records'
+    // rows.
     ensures found { IfOk result (AreBeatsOf schema.now (records_of text.now)) }
     // A file that has beats is read, unless memory runs out.
     ensures only { (beats : List types.Beat)
@@ -50,8 +51,8 @@ fn read(alloc: Global, schema: &Schema, text: &[u8]) -> Result<Beats, TupleFault
     filing.end(alloc, schema.streams.len())
 }
 
-/// Records have exactly one reading: beats, or the first rule that one of them breaks, which is neither
-/// want of memory nor a gap.
+/// Records have exactly one reading: beats, or the first rule that one of them breaks, which is
+/// neither want of memory nor a gap.
 pub fn one_reading()
     ensures beats { (schema : schemas.Schema) (rs : List (List (List ℕ))) (beats : List types.Beat)
         → (beats_of schema rs ≡ Ok beats) ↔ AreBeatsOf schema rs beats }
@@ -60,7 +61,8 @@ pub fn one_reading()
     ensures either { (schema : schemas.Schema) (rs : List (List (List ℕ)))
         → ((beats : List types.Beat) × AreBeatsOf schema rs beats)
         ⊎ ((e : TupleFault) × IsFirstFault schema rs e) }
-    ensures never_both { (schema : schemas.Schema) (rs : List (List (List ℕ))) (beats : List types.Beat)
+    ensures never_both { (schema : schemas.Schema) (rs : List (List (List ℕ)))
+        (beats : List types.Beat)
         (e : TupleFault) → AreBeatsOf schema rs beats → IsFirstFault schema rs e → ⊥ }
     ensures of_the_file { (schema : schemas.Schema) (rs : List (List (List ℕ)))
         → IsFirstFault schema rs Memory → ⊥ }

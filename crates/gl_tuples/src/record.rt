@@ -114,7 +114,8 @@ fn tuple_of(
     number: u64,
 ) -> Result<Entry, TupleFault>
     requires { IsSchema schema.now }
-    ensures entry { Gives result (spec.tuple_of number schema.now (fields_of fields.now) (spec.stream_named schema.now name.now)) }
+    ensures entry { Gives result (spec.tuple_of number schema.now (fields_of fields.now)
+        (spec.stream_named schema.now name.now)) }
     ensures stream { IfOk result (IsEntry (length schema.now.streams)) }
 {
     let Some(at) = stream_named(schema, name) else {
@@ -174,7 +175,8 @@ fn row_of(
 /// The word of a field in a column.
 fn word_at(fields: &ByteRecord, at: usize, column: &Column) -> Option<Word>
     requires { IsColumn column.now }
-    ensures { result ≡ spec.option_bind (slice_get (fields_of fields.now) at) (values.word_of column.now.kind) }
+    ensures { result ≡ spec.option_bind (slice_get (fields_of fields.now) at)
+        (values.word_of column.now.kind) }
 {
     let field = field(fields, at)?;
     word_of(column.kind, field)

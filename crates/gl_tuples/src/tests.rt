@@ -224,8 +224,8 @@ fn a_line_quotes_a_text(rt: HostRuntime) -> Result<(), Fail> {
     Ok(())
 }
 
-// Files whose records break a rule have no beats: a value too wide for its column, a second row of a
-// stream in a cycle, and a record behind the end.
+// Files whose records break a rule have no beats: a value too wide for its column, a second row of
+// a stream in a cycle, and a record behind the end.
 fn refused_records()
     ensures too_wide { (beats : List Beat) → AreBeatsOf (record {
       streams = record {
