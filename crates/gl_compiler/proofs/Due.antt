@@ -5,7 +5,8 @@ use Rattle.std.proofs.lemmas.Bool.Decides.{eqb_tells}
 use Rattle.gl_schema.specs.Beats.{Beat, AreInOrder, beat_at, last_cycle}
 use Rattle.gl_tuples.specs.Gaps.{plain_beat, plain_beats}
 use Rattle.gl_tuples.specs.declared.beats.Beat.{Beat as Rust}
-use Rattle.gl_sim.proofs.Settling.{drop_here, slice_get-at, slice_get-map}
+use Rattle.gl_bits.proofs.AllLists.{get_mapped}
+use Rattle.gl_sim.proofs.Settling.{drop_here, slice_get-at}
 use Rattle.gl_compiler.specs.Cycles.{AreFrom, AreDue}
 
 other_beat : (b : Beat) (bs : List Beat) (k : ℕ) → (b.cycle ≡ k → ⊥) → beat_at (b ∷ bs) k ≡ beat_at bs k
@@ -49,7 +50,7 @@ due_later bs next n b d e c =
     }
 
 plain_at : (beats : List Rust) (next : ℕ) (b : Rust) → next < length beats → b ≡ get_or beats next b → slice_get (plain_beats beats) next ≡ Some (plain_beat b)
-plain_at beats next b lt e = slice_get-map plain_beat beats next b (slice_get-at beats next b lt e)
+plain_at beats next b lt e = get_mapped plain_beat beats next b (slice_get-at beats next b lt e)
 
 pub taken_here : (beats : List Rust) (next n : ℕ) (b : Rust) → AreDue (plain_beats beats) next n → next < length beats → b ≡ get_or beats next b → b.cycle ≡ n → AfterBeat (plain_beats beats) (next + 1) n (Some (plain_beat b))
 taken_here beats next n b d lt e c = due_here (plain_beats beats) next n (plain_beat b) d (plain_at beats next b lt e) c

@@ -13,7 +13,8 @@ use Rattle.gl_verilog.specs.Runnable.{is_input, inputs_of, FitInputs, HasInputs}
 use Rattle.gl_verilog.specs.Text.{HasModule}
 use Rattle.gl_verilog.specs.Widths.{width_at}
 use Rattle.gl_verilog.proofs.Fits.{width_at-found}
-use Rattle.gl_sim.proofs.Settling.{IsInputPort, inputs_of-ports, all_map}
+use Rattle.gl_bits.proofs.AllLists.{all_weaker}
+use Rattle.gl_sim.proofs.Settling.{IsInputPort, inputs_of-ports}
 use Rattle.gl_compiler.specs.declared.pins.Pin.{Pin as Carried}
 use Rattle.gl_compiler.specs.Carried.{pin_named, pin_at, name_at, carried, at_reset, with_beat}
 use Rattle.gl_schema.specs.Profile.{input_ports}
@@ -72,18 +73,18 @@ pin_is schema m n d e = ap (λ (o : Option Declaration). pin_named schema (optio
 pub inputs_fit : (text : List ℕ) (schema : Schema) (m : Module) (beats : List Beat) (t : ℕ) → HasModule text m → FitsSchema m schema → AreBeats schema beats → FitInputs m (map (carried_at beats t) (map (pin_at schema m.declarations) (inputs_of m)))
 inputs_fit text schema m beats t has fits are =
     zip_maps (λ n x. x < 2 ^ width_at m.declarations n) (pin_at schema m.declarations) (carried_at beats t) (inputs_of m)
-    (all_map (IsInputPort m.declarations) (λ n. carried_at beats t (pin_at schema m.declarations n) < 2 ^ width_at m.declarations n) (inputs_of m)
+    (all_weaker (IsInputPort m.declarations) (λ n. carried_at beats t (pin_at schema m.declarations n) < 2 ^ width_at m.declarations n)
     (λ n p.
     let a = is_asked text schema m n has fits p in
     let small : carried_at beats t (pin_named schema a.d.name) < 2 ^ a.d.width = found_at IsNarrow schema beats t a.d.name a.d.width (pins_fit schema beats t are) a.width in
     rw (pin_is schema m n a.d a.there, width_at-found m.declarations n a.d a.there) small)
-    (inputs_of-ports m))
+    (inputs_of m) (inputs_of-ports m))
 
 -- and a run over the beats has them
 pub run_has_inputs : (text : List ℕ) (schema : Schema) (m : Module) (beats : List Beat) (value : ℕ → Nets) (t : ℕ) → HasModule text m → FitsSchema m schema → AreBeats schema beats → IsStimulus schema beats (input_values m value) → HasInputs m (value t) (map (carried_at beats t) (map (pin_at schema m.declarations) (inputs_of m)))
 run_has_inputs text schema m beats value t has fits are stimulus =
     zip_maps (λ n x. value t n ≡ x) (pin_at schema m.declarations) (carried_at beats t) (inputs_of m)
-    (all_map (IsInputPort m.declarations) (λ n. value t n ≡ carried_at beats t (pin_at schema m.declarations n)) (inputs_of m)
+    (all_weaker (IsInputPort m.declarations) (λ n. value t n ≡ carried_at beats t (pin_at schema m.declarations n))
     (λ n p.
     let a = is_asked text schema m n has fits p in
     let carries : IfSome (input_values m value t a.d.name) (λ v. v ≡ carried_at beats t (pin_named schema a.d.name)) =
@@ -92,4 +93,4 @@ run_has_inputs text schema m beats value t has fits are stimulus =
     let there : value t n ≡ carried_at beats t (pin_named schema a.d.name) =
     subst (λ (o : Option ℕ). IfSome (option_map (value t) o) (λ v. v ≡ carried_at beats t (pin_named schema a.d.name))) a.number carries in
     there ∙ sym (ap (carried_at beats t) (pin_is schema m n a.d a.there)))
-    (inputs_of-ports m))
+    (inputs_of m) (inputs_of-ports m))
