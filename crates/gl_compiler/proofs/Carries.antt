@@ -4,7 +4,7 @@ use Rattle.std.specs.Prelude.{slice_get, slice_index, unwrap_or, is_some, bytes_
 use Rattle.std.specs.Option.{option_map, option_map_or}
 use Rattle.std.specs.List.{AllByRecursion, AllZip}
 use Rattle.std.proofs.lemmas.Nat.{pow_pos}
-use Rattle.std.proofs.lemmas.Slice.Eq.{bytes_eq-Decides}
+use Rattle.gl_bits.proofs.Bools.{bytes_same}
 use Rattle.gl_bits.specs.Kinds.{width_of}
 use Rattle.gl_bits.specs.Words.{bit}
 use Rattle.gl_schema.specs.declared.schema.Column.{Column}
@@ -38,9 +38,6 @@ IsKnown q = (other : Carried) → first_known q other ≡ q
 abbrev Finds : Fact → List ℕ → ℕ → ℕ → Carried → List ProfilePort → List Pin → Type 0
 Finds R name w v q ips ps = (IsKnown q × R w name v) ⊎ ((q ≡ is.Unknown) × AllZip (OfBoth R) ips ps × (width_in name ips ≡ Some w))
 
-same_bytes : (a b : List ℕ) → bytes_eq a b ≡ true → a ≡ b
-same_bytes a b e = (bytes_eq-Decides a b).0 e
-
 column_pins-at : (stream : List ℕ) (x : Column) (xs : List Column) (row : List ℕ) (c : ℕ) → column_pins stream (x ∷ xs) (drop c row) ≡ pin (in_column stream x.name) (slice_index row c) ∷ column_pins stream xs (drop (suc c) row)
 column_pins-at stream x xs [] zero = refl
 column_pins-at stream x xs [] (suc c) = refl
@@ -54,7 +51,7 @@ pick_found : (R : Fact) (name n : List ℕ) (width value w : ℕ) (f : Carried �
     → Finds R name w (f (if b then here else later)) (if b then here else later) ips ps
 pick_found R name n width value w f here later ips ps ips' ps' true q known same r z e go =
     let wide : width ≡ w = cc (rw q at e) in
-    inl (known, subst (R w name) (sym same) (subst (λ (m : List ℕ). R w m value) (same_bytes n name q) (subst (λ (u : ℕ). R u n value) wide r)))
+    inl (known, subst (R w name) (sym same) (subst (λ (m : List ℕ). R w m value) (bytes_same n name q) (subst (λ (u : ℕ). R u n value) wide r)))
 pick_found R name n width value w f here later ips ps ips' ps' false q known same r z e go = go z (rw q at e)
 
 -- one search behind another

@@ -5,6 +5,7 @@ use Rattle.std.specs.Option.{option_map}
 use Rattle.std.specs.List.{AllByRecursion}
 use Rattle.std.proofs.lemmas.Cmp.{nat_list_eq_equiv}
 use Rattle.std.proofs.lemmas.List.{append-nil}
+use Rattle.gl_bits.proofs.AllLists.{all_append, length_map}
 use Rattle.gl_verilog.specs.Module.{Module, Declaration, Kind, Input, OutputWire, OutputRegister, Wire, Register, Memory, number_of, Expr, Statement}
 use Rattle.gl_verilog.specs.Resolve.{Resolved, resolve, resolve_items, resolve_expr, resolve_statement, module_from, declare, declare_port, three, both, with_assignment, with_block, clocked, address_bits_of, decimal_number}
 use Rattle.gl_verilog.specs.Runnable.{is_input}
@@ -59,10 +60,6 @@ record Declares (front all : List Declaration) : Type 0 where
   more : List Declaration
   same : all ≡ front ++ more
   none : AllByRecursion NoInput more
-
-all_append : {T : Type 0} (P : T → Type 0) (xs ys : List T) → AllByRecursion P xs → AllByRecursion P ys → AllByRecursion P (xs ++ ys)
-all_append P [] ys h k = k
-all_append P (x ∷ xs) ys h k = (h.0, all_append P xs ys h.1 k)
 
 further : (front new all : List Declaration) → AllByRecursion NoInput new → Declares (front ++ new) all → Declares front all
 further front new all h d = record { more = new ++ d.more; same = d.same ∙ append_assoc front new d.more; none = all_append NoInput new d.more h d.none }
@@ -133,10 +130,6 @@ take_front : {T : Type 0} (xs ys : List T) → take (length xs) (xs ++ ys) ≡ x
 take_front [] ys = refl
 take_front (x ∷ xs) ys = ap (λ zs. x ∷ zs) (take_front xs ys)
 
-map_length : {S T : Type 0} (f : S → T) (xs : List S) → length (map f xs) ≡ length xs
-map_length f [] = refl
-map_length f (x ∷ xs) = ap (λ n. suc n) (map_length f xs)
-
 -- an input is a port
 pub input_is_port : (text : List ℕ) (m : Module) (n : ℕ) (d : Declaration) → HasModule text m → slice_get m.declarations n ≡ Some d → is_input d.kind ≡ true → slice_get (ports_of m) n ≡ Some d
 input_is_port text m n d h e i =
@@ -145,7 +138,7 @@ input_is_port text m n d h e i =
     let declared = items_declare (map declare_port w.ports) w.items r.found r.there in
     let ports : length w.ports ≡ m.ports = ap (λ (x : Module). x.ports) r.is in
     let all : r.found.declarations ≡ m.declarations = ap (λ (x : Module). x.declarations) r.is in
-    let size : m.ports ≡ length (map declare_port w.ports) = sym ports ∙ sym (map_length declare_port w.ports) in
+    let size : m.ports ≡ length (map declare_port w.ports) = sym ports ∙ sym (length_map declare_port w.ports) in
     let front : take m.ports m.declarations ≡ map declare_port w.ports =
     ap (λ (xs : List Declaration). take m.ports xs) (sym all ∙ declared.same) ∙ ap (λ (k : ℕ). take k (map declare_port w.ports ++ declared.more)) size ∙ take_front (map declare_port w.ports) declared.more in
     subst (λ (xs : List Declaration). slice_get xs n ≡ Some d) (sym front)

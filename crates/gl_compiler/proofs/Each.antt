@@ -25,13 +25,13 @@ use Rattle.gl_compiler.specs.Prints.{CanRun, EndsWithin, IsRunOver, OfEachRun, R
 use Rattle.gl_compiler.specs.Profile.{FitsSchema, result_names, result_widths}
 
 -- what is known where the sink failed
-pub by_err : {E : Type 0} {P : E → Type 0} {kinds : List Kind} {beats : List Beat} {outs : List (List ℕ)} {port : PortValues} {a b : SinkState} (r : Result (Unit {0}) E) → IsErrAnd r P → WritesFront kinds beats outs port a.taken b.taken → WritesBy kinds beats outs port a b r
-by_err (Ok u) h w = absurd h
-by_err (Err e) h w = w
+pub by_err : {E : Type 0} (P : E → Type 0) (kinds : List Kind) (beats : List Beat) (outs : List (List ℕ)) (port : PortValues) (a b : SinkState) (r : Result (Unit {0}) E) → IsErrAnd r P → WritesFront kinds beats outs port a.taken b.taken → WritesBy kinds beats outs port a b r
+by_err P kinds beats outs port a b (Ok u) h w = absurd h
+by_err P kinds beats outs port a b (Err e) h w = w
 
-pub counts_err : {E : Type 0} {P : E → Type 0} (a b c : SinkState) (r : Result (Unit {0}) E) → IsErrAnd r P → b.faults ≡ a.faults → Rose b.faults c.faults → Counts a c r
-counts_err a b c (Ok u) h same rose = absurd h
-counts_err a b c (Err e) h same rose = subst (λ (n : ℕ). Rose n c.faults) same rose
+pub counts_err : {E : Type 0} (P : E → Type 0) (a b c : SinkState) (r : Result (Unit {0}) E) → IsErrAnd r P → b.faults ≡ a.faults → Rose b.faults c.faults → Counts a c r
+counts_err P a b c (Ok u) h same rose = absurd h
+counts_err P a b c (Err e) h same rose = subst (λ (n : ℕ). Rose n c.faults) same rose
 
 -- a fact of each run that the simulator is at
 abbrev pub OfRuns : Simulation → Schema → List Beat → ℕ → (List Beat → List (List ℕ) → PortValues → Type 0) → Type 0

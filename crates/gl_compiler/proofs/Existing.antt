@@ -4,6 +4,7 @@ use Rattle.std.specs.Prelude.{slice_get, bytes_eq, IfSome}
 use Rattle.std.specs.Option.{option_map, option_map_or}
 use Rattle.std.specs.List.{AllByRecursion, AllZip}
 use Rattle.std.proofs.lemmas.Nat.{pow_pos}
+use Rattle.gl_bits.proofs.AllLists.{all_at, all_by_place, zip_append, get_front, get_mapped}
 use Rattle.gl_schema.specs.declared.schema.Column.{Column}
 use Rattle.gl_schema.specs.declared.schema.Stream.{Stream}
 use Rattle.gl_schema.specs.declared.schema.Schema.{Schema}
@@ -42,31 +43,6 @@ zip_at R (a ∷ xs) [] i y z e = absurd z
 zip_at R (a ∷ xs) (b ∷ ys) zero y z e = let same : b ≡ y = cc in record { one = a; there = refl; is = subst (R a) same z.0 }
 zip_at R (a ∷ xs) (b ∷ ys) (suc i) y z e = let h = zip_at R xs ys i y z.1 e in record { one = h.one; there = h.there; is = h.is }
 
-zip_join : {A B : Type 0} (R : A → B → Type 0) (as' cs : List A) (bs ds : List B) → AllZip R as' bs → AllZip R cs ds → AllZip R (as' ++ cs) (bs ++ ds)
-zip_join R [] cs [] ds h k = k
-zip_join R [] cs (b ∷ bs) ds h k = absurd h
-zip_join R (a ∷ as') cs [] ds h k = absurd h
-zip_join R (a ∷ as') cs (b ∷ bs) ds h k = (h.0, zip_join R as' cs bs ds h.1 k)
-
-all_by_place : {A : Type 0} (P : A → Type 0) (xs : List A) → ((i : ℕ) (x : A) → slice_get xs i ≡ Some x → P x) → AllByRecursion P xs
-all_by_place P [] h = tt
-all_by_place P (x ∷ xs) h = (h 0 x refl, all_by_place P xs (λ i y e. h (suc i) y e))
-
-all_there : {A : Type 0} (P : A → Type 0) (xs : List A) (i : ℕ) (x : A) → AllByRecursion P xs → slice_get xs i ≡ Some x → P x
-all_there P [] i x h e = absurd cc
-all_there P (y ∷ xs) zero x h e = let same : y ≡ x = cc in subst P same h.0
-all_there P (y ∷ xs) (suc i) x h e = all_there P xs i x h.1 e
-
-map_at : {A B : Type 0} (f : A → B) (xs : List A) (i : ℕ) (x : A) → slice_get xs i ≡ Some x → slice_get (map f xs) i ≡ Some (f x)
-map_at f [] i x e = absurd cc
-map_at f (y ∷ xs) zero x e = let same : y ≡ x = cc in ap (λ z. Some (f z)) same
-map_at f (y ∷ xs) (suc i) x e = map_at f xs i x e
-
-append_at : {A : Type 0} (xs ys : List A) (i : ℕ) (x : A) → slice_get xs i ≡ Some x → slice_get (xs ++ ys) i ≡ Some x
-append_at [] ys i x e = absurd cc
-append_at (y ∷ xs) ys zero x e = e
-append_at (y ∷ xs) ys (suc i) x e = append_at xs ys i x e
-
 -- ---- the pins are those of the input ports, in their order
 
 abbrev Leads : PortShape → Pin → Type 0
@@ -83,12 +59,12 @@ stream_leads s (Some row) = ((refl, refl), columns_lead s.name s.columns row)
 
 streams_lead : (ss : List Stream) (rows : List (Option (List ℕ))) → AllZip Leads (streams_inputs ss) (streams_pins ss rows)
 streams_lead [] rows = tt
-streams_lead (s ∷ ss) [] = zip_join Leads (stream_inputs s) (streams_inputs ss) (stream_pins s None) (streams_pins ss []) (stream_leads s None) (streams_lead ss [])
-streams_lead (s ∷ ss) (r ∷ rows) = zip_join Leads (stream_inputs s) (streams_inputs ss) (stream_pins s r) (streams_pins ss rows) (stream_leads s r) (streams_lead ss rows)
+streams_lead (s ∷ ss) [] = zip_append Leads (stream_inputs s) (streams_inputs ss) (stream_pins s None) (streams_pins ss []) (stream_leads s None) (streams_lead ss [])
+streams_lead (s ∷ ss) (r ∷ rows) = zip_append Leads (stream_inputs s) (streams_inputs ss) (stream_pins s r) (streams_pins ss rows) (stream_leads s r) (streams_lead ss rows)
 
 pins_lead : (schema : Schema) (beats : List Beat) (t : ℕ) → AllZip Leads (inputs schema) (pins schema beats t)
-pins_lead schema beats zero = ((refl, refl), zip_join Leads (streams_inputs schema.streams) (input eos 1 ∷ []) (streams_pins schema.streams []) (pin eos 0 ∷ []) (streams_lead schema.streams []) ((refl, refl), tt))
-pins_lead schema beats (suc n) = ((refl, refl), zip_join Leads (streams_inputs schema.streams) (input eos 1 ∷ []) (streams_pins schema.streams (rows_at beats n)) (pin eos _ ∷ []) (streams_lead schema.streams (rows_at beats n)) ((refl, refl), tt))
+pins_lead schema beats zero = ((refl, refl), zip_append Leads (streams_inputs schema.streams) (input eos 1 ∷ []) (streams_pins schema.streams []) (pin eos 0 ∷ []) (streams_lead schema.streams []) ((refl, refl), tt))
+pins_lead schema beats (suc n) = ((refl, refl), zip_append Leads (streams_inputs schema.streams) (input eos 1 ∷ []) (streams_pins schema.streams (rows_at beats n)) (pin eos _ ∷ []) (streams_lead schema.streams (rows_at beats n)) ((refl, refl), tt))
 
 -- ---- the values that they put on the ports behind the clock
 
@@ -109,14 +85,14 @@ module _ (m : Module) (schema : Schema) (beats : List Beat) (outs : List PortSha
   led t i p e =
       let l = zip_at Leads (inputs schema) (pins schema beats t) i p (pins_lead schema beats t) e in
       let w = zip_at CanCarry (input_ports schema) (pins schema beats t) i p (pins_fit schema beats t are) e in
-      let asks : slice_get (input_ports schema) i ≡ Some (asked l.one) = subst (λ (xs : List ProfilePort). slice_get xs i ≡ Some (asked l.one)) (all_asked schema) (map_at asked (inputs schema) i l.one l.there) in
+      let asks : slice_get (input_ports schema) i ≡ Some (asked l.one) = subst (λ (xs : List ProfilePort). slice_get xs i ≡ Some (asked l.one)) (all_asked schema) (get_mapped asked (inputs schema) i l.one l.there) in
       let same : w.one ≡ asked l.one = cc (w.there, asks) in
       record {
         shape = l.one;
         direction = l.is.0;
         name' = l.is.1;
         small = subst (λ (x : ProfilePort). p.value < 2 ^ x.width) same w.is;
-        port = subst (λ (xs : List Declaration). slice_get xs (suc i) ≡ Some (decl l.one)) (sym ports) (map_at decl (inputs schema ++ outs) i l.one (append_at (inputs schema) outs i l.one l.there));
+        port = subst (λ (xs : List Declaration). slice_get xs (suc i) ≡ Some (decl l.one)) (sym ports) (get_mapped decl (inputs schema ++ outs) i l.one (get_front (inputs schema) outs i l.one l.there));
       }
 
   given_fits : (t n : ℕ) (d : Declaration) → slice_get m.declarations n ≡ Some d → given (pins schema beats t) n < 2 ^ d.width
@@ -138,7 +114,7 @@ module _ (m : Module) (schema : Schema) (beats : List Beat) (outs : List PortSha
       let there : slice_get m.declarations (suc i) ≡ Some (decl l.shape) = get_take m.ports m.declarations (suc i) (decl l.shape) l.port in
       let number : input_number m l.shape.name ≡ Some (suc i) =
       input_there m (suc i) (decl l.shape) there (ap kind_of l.direction) (number_at (ports_of m) (suc i) (decl l.shape) (distinct_take m.ports m.declarations distinct) l.port) in
-      let other : bytes_eq p.name (codes "clk") ≡ false = all_there (λ (q : Pin). bytes_eq q.name (codes "clk") ≡ false) (pins schema beats t) i p (others t) e in
+      let other : bytes_eq p.name (codes "clk") ≡ false = all_at (λ (q : Pin). bytes_eq q.name (codes "clk") ≡ false) (pins schema beats t) i p e (others t) in
       let no_clock : is_clock (decl l.shape) ≡ false = subst (λ (x : List ℕ). bytes_eq x (codes "clk") ≡ false) (sym l.name') other in
       let kind : (decl l.shape).kind ≡ Input = ap kind_of l.direction in
       let value : given (pins schema beats t) (suc i) ≡ v (suc i) = same (suc i) (decl l.shape) there kind no_clock in

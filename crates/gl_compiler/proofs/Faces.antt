@@ -14,10 +14,8 @@ use Rattle.gl_query.specs.Values.{column_number, column_kind}
 use Rattle.gl_net.specs.declared.node.Port.{Port}
 use Rattle.gl_net.specs.Net as net
 use Rattle.gl_net.specs.PortValues.{PortShape, port_shape, port_shapes}
-use Rattle.gl_net.specs.PortValues as seen
 use Rattle.gl_verilog.specs.Module.{Module, Declaration}
 use Rattle.gl_verilog_writer.specs.Meaning.{declaration_of, clock, kind_of}
-use Rattle.gl_verilog_writer.specs.Meaning as writer
 use Rattle.gl_wiring.specs.EmittedPorts.{input, output, column_widths, column_inputs, stream_inputs, streams_inputs, column_outputs, result_outputs}
 use Rattle.gl_wiring.proofs.PortNames.{no_valid, out_valid-column, tail_apart, bytes_eq-false}
 use Rattle.gl_compiler.proofs.Built.{next_at}
@@ -27,19 +25,9 @@ use Rattle.gl_compiler.specs.Profile.{shows_column, ports_of}
 abbrev pub decl : PortShape → Declaration
 decl s = record { name = s.name; width = s.width; is_vector = not (s.width == 1); kind = kind_of s.direction }
 
-same_bits : (o : Option net.Shape) → writer.bits_of o ≡ seen.bits_of o
-same_bits (Some (net.Value w)) = refl
-same_bits (Some (net.Words b w)) = refl
-same_bits None = refl
-
-abbrev declared : Port → ℕ → Declaration
-declared p w = record { name = p.name; width = w; is_vector = not (w == 1); kind = kind_of p.direction }
-
 declared_shapes : (n : net.Net) (ports : List Port) → map (declaration_of n) ports ≡ map decl (map (port_shape n) ports)
 declared_shapes n [] = refl
-declared_shapes n (p ∷ ports) =
-    ap (λ (w : ℕ). declared p w ∷ map (declaration_of n) ports) (same_bits (net.shape_in n.nodes p.node))
-    ∙ ap (λ (x : List Declaration). decl (port_shape n p) ∷ x) (declared_shapes n ports)
+declared_shapes n (p ∷ ports) = ap (λ (x : List Declaration). decl (port_shape n p) ∷ x) (declared_shapes n ports)
 
 pub ports_are : (n : net.Net) (m : Module) (shapes : List PortShape) → ports_of m ≡ clock ∷ map (declaration_of n) n.ports → port_shapes n ≡ shapes → ports_of m ≡ clock ∷ map decl shapes
 unfolding port_shapes

@@ -7,6 +7,7 @@ pub mod Wired
 pub mod Fits
 pub mod Existing
 pub mod Meeting
+pub mod Unbound
 pub mod Ready
 pub mod Declared
 pub mod Carries

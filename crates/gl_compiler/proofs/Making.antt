@@ -3,6 +3,7 @@ use Rattle.std.proofs.Common.{◌≡◌, ℕ, zero, suc, ◌+◌, ◌^◌, ◌<�
 use Rattle.std.specs.Prelude.{slice_index, if◌then◌else◌, unwrap_or}
 use Rattle.std.specs.Option.{option_map}
 use Rattle.std.specs.List.{AllZip}
+use Rattle.gl_bits.proofs.AllLists.{length_map}
 use Rattle.gl_bits.specs.declared.kind.Kind.{Kind}
 use Rattle.gl_bits.specs.Kinds.{width_of}
 use Rattle.gl_bits.specs.Words.{Word, widths_of, bits_of}
@@ -39,14 +40,10 @@ reset_values m schema beats ps pins values e same are = e ∙ ap (map at_reset) 
 pub values_fit : (m : Module) (schema : Schema) (kinds : List Kind) (beats : List Beat) (t : ℕ) (values : List ℕ) → CanFollow m schema kinds beats → values ≡ map (carried_at beats t) (map (pin_at schema m.declarations) (inputs_of m)) → FitInputs m values
 values_fit m schema kinds beats t values can e = subst (FitInputs m) (sym e) (inputs_fit can.text schema m beats t can.has can.fits can.beats')
 
-map_length : {S T : Type 0} (f : S → T) (xs : List S) → length (map f xs) ≡ length xs
-map_length f [] = refl
-map_length f (x ∷ xs) = ap (λ n. suc n) (map_length f xs)
-
 pub columns_count : (m : Module) (kinds : List Kind) (row : List Word) (columns : List ℕ) → columns ≡ columns_from 0 (ports_of m) → result_widths m ≡ map width_of kinds → widths_of row ≡ map width_of kinds → length columns ≡ length row
 columns_count m kinds row columns are widths same =
     let wide : map (width_at m.declarations) columns ≡ widths_of row = ap (map (width_at m.declarations)) are ∙ columns_widths m ∙ widths ∙ sym same in
-    sym (map_length (width_at m.declarations) columns) ∙ ap length wide ∙ map_length (λ (w : Word). w.width) row
+    sym (length_map (width_at m.declarations) columns) ∙ ap length wide ∙ length_map (λ (w : Word). w.width) row
 
 -- a run is followed through one cycle
 abbrev pub Follows : Rust → Simulation → Simulation → List ℕ → Type 0

@@ -3,6 +3,7 @@ use Rattle.std.proofs.Common.{◌≡◌, ℕ, zero, suc, ◌≤◌, false, List,
 use Rattle.std.specs.Prelude.{bytes_eq, filter, slice_index}
 use Rattle.std.specs.Option.{option_map_or}
 use Rattle.std.specs.List.{AllByRecursion, IsDistinct}
+use Rattle.gl_bits.proofs.AllLists.{length_map}
 use Rattle.gl_bits.specs.Kinds.{width_of}
 use Rattle.gl_schema.specs.declared.schema.Column.{Column}
 use Rattle.gl_schema.specs.declared.schema.Stream.{Stream}
@@ -68,7 +69,7 @@ streams_other [] rows = tt
 streams_other (s ∷ ss) [] = Other-join (stream_pins s None) (streams_pins ss []) (stream_other s None) (streams_other ss [])
 streams_other (s ∷ ss) (r ∷ rows) = Other-join (stream_pins s r) (streams_pins ss rows) (stream_other s r) (streams_other ss rows)
 
-pins_other : (schema : Schema) (beats : List Beat) (t : ℕ) → AllByRecursion IsOther (pins schema beats t)
+pub pins_other : (schema : Schema) (beats : List Beat) (t : ℕ) → AllByRecursion IsOther (pins schema beats t)
 unfolding rst eos
 pins_other schema beats zero = (refl, Other-join (streams_pins schema.streams []) (pin eos 0 ∷ []) (streams_other schema.streams []) (refl, tt))
 pins_other schema beats (suc n) = (refl, Other-join (streams_pins schema.streams (rows_at beats n)) _ (streams_other schema.streams (rows_at beats n)) (refl, tt))
@@ -77,10 +78,6 @@ outs_other : (ns : List (List ℕ)) → NoClock (map out_column ns)
 unfolding out_column
 outs_other [] = tt
 outs_other (n ∷ ns) = (refl, outs_other ns)
-
-length_map : {A B : Type 0} (f : A → B) (xs : List A) → length (map f xs) ≡ length xs
-length_map f [] = refl
-length_map f (x ∷ xs) = ap suc (length_map f xs)
 
 -- ---- the text
 

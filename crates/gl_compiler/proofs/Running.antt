@@ -4,6 +4,7 @@ use Rattle.std.specs.Prelude.{IsTrue, IsFalse}
 use Rattle.std.specs.List.{list_any}
 use Rattle.std.proofs.lemmas.List.{append-nil}
 use Rattle.std.proofs.lemmas.Bool.{cases_lt, cases_eq}
+use Rattle.gl_bits.proofs.Bools.{or_join, or_none}
 use Rattle.gl_bits.specs.declared.kind.Kind.{Kind}
 use Rattle.gl_outside.specs.States.{Appends, AppendsFront}
 use Rattle.gl_outside.proofs.Takes.{appends_none, appends_then, front_then, front_more}
@@ -29,28 +30,20 @@ seen_is : (port : PortValues) (outs : List (List ℕ)) (n : ℕ) → seen port o
 seen_is port outs zero = refl
 seen_is port outs (suc n) = ap (λ (all : List Shown). all ++ shown port outs (suc n) ∷ []) (seen_is port outs n)
 
-or_assoc : (a b c : Bool) → ((a || b) || c) ≡ (a || (b || c))
-or_assoc true b c = refl
-or_assoc false b c = refl
-
-or_false : (a : Bool) → (a || false) ≡ a
-or_false true = refl
-or_false false = refl
-
 pub has_group : List Shown → Bool
 has_group all = list_any (λ (s : Shown). s.group) all
 
 group_push : (all : List Shown) (s : Shown) → has_group (all ++ s ∷ []) ≡ (has_group all || s.group)
 unfolding has_group
-group_push [] s = or_false s.group
-group_push (x ∷ all) s = ap (λ (b : Bool). x.group || b) (group_push all s) ∙ sym (or_assoc x.group (has_group all) s.group)
+group_push [] s = or_none s.group
+group_push (x ∷ all) s = ap (λ (b : Bool). x.group || b) (group_push all s) ∙ sym (or_join x.group (has_group all) s.group)
 
 lines_push : (told : Bool) (kinds : List Kind) (all : List Shown) (s : Shown) → lines_after told kinds (all ++ s ∷ []) ≡ lines_after told kinds all ++ cycle_lines kinds (told || has_group all) s
 unfolding has_group
-lines_push told kinds [] s = append-nil (cycle_lines kinds told s) ∙ ap (λ (b : Bool). cycle_lines kinds b s) (sym (or_false told))
+lines_push told kinds [] s = append-nil (cycle_lines kinds told s) ∙ ap (λ (b : Bool). cycle_lines kinds b s) (sym (or_none told))
 lines_push told kinds (x ∷ all) s =
     ap (λ (bytes : List ℕ). cycle_lines kinds told x ++ bytes)
-    (lines_push (told || x.group) kinds all s ∙ ap (λ (b : Bool). lines_after (told || x.group) kinds all ++ cycle_lines kinds b s) (or_assoc told x.group (has_group all)))
+    (lines_push (told || x.group) kinds all s ∙ ap (λ (b : Bool). lines_after (told || x.group) kinds all ++ cycle_lines kinds b s) (or_join told x.group (has_group all)))
     ∙ sym (append_assoc (cycle_lines kinds told x) (lines_after (told || x.group) kinds all) (cycle_lines kinds (told || has_group (x ∷ all)) s))
 
 lines_below : (kinds : List Kind) (port : PortValues) (outs : List (List ℕ)) (n : ℕ) → lines kinds (seen_below port outs (suc n)) ≡ lines kinds (seen_below port outs n) ++ cycle_lines kinds (has_group (seen_below port outs n)) (shown port outs n)

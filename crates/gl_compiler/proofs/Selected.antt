@@ -12,7 +12,7 @@ use Rattle.gl_query.specs.Shapes.{ItemShape, QueryShape, query_shape}
 use Rattle.gl_query.specs.Shapes as shape
 use Rattle.gl_query.specs.Values.{HasKind, kind_alone, column_number, column_kind}
 use Rattle.gl_query.specs.Columns.{columns_of, item_column, source_columns}
-use Rattle.gl_query.specs.Accepted.{IsAccepted, IsAcceptedOver, AreResultColumns}
+use Rattle.gl_query.specs.Accepted.{schema_scope, IsAccepted, IsAcceptedOver, AreResultColumns}
 use Rattle.gl_bits.specs.Results.{Row}
 use Rattle.gl_schema.specs.Beats.{Inputs}
 use Rattle.gl_query.specs.Results.{Env, Source, numbered, env_of, rows_of, streams_of, kept, IsResult, IsResultIn}
@@ -131,7 +131,7 @@ items_result cs names most distinct = record {
 pub built_accepted : (schema : Schema) (statement : Statement) → IsBuilt schema statement → IsAccepted schema statement
 built_accepted schema statement b =
     let e = source_is b.source schema.streams b.stream b.there in
-    subst (IsAcceptedOver schema.streams) (sym b.picks) (
+    subst (IsAcceptedOver (schema_scope schema)) (sym b.picks) (
       stream_known schema.streams b.source b.stream b.there,
       record {
         picks = record {

@@ -5,6 +5,7 @@ use Rattle.gl_schema.specs.declared.schema.Schema.{Schema}
 use Rattle.gl_schema.specs.Ports.{out_valid, out_eos, fault_group, fault_queue}
 use Rattle.gl_schema.specs.Profile.{clk, input_ports}
 use Rattle.gl_verilog.specs.Module.{Module, Declaration, Kind, Input, OutputWire, OutputRegister}
+use Rattle.gl_verilog.specs.Run.{is_input}
 use Rattle.gl_verilog.specs.Widths.{is_clock}
 
 -- the bits of the input port of a name; None where the schema asks for no such port
@@ -66,3 +67,7 @@ pub record FitsSchema (m : Module) (schema : Schema) : Type 0 where
   pub queue : IfSome (port_named m fault_queue) IsLine
   pub many : length (result_ports m) ≤ 32
   pub narrow : AllByRecursion (λ width. width ≤ 64) (result_widths m)
+
+-- each input of the module is the clock
+abbrev pub HasOnlyClock : Module → Type 0
+HasOnlyClock m = (n : ℕ) (d : Declaration) → slice_get m.declarations n ≡ Some d → is_input d.kind ≡ true → is_clock d ≡ true

@@ -50,6 +50,10 @@ latency_of schema statement = 1
 abbrev pub gap_of : Schema → Statement → ℕ
 gap_of schema statement = 1
 
+-- the copies of a body; no query that is compiled so far has one
+abbrev pub copies_of : Schema → Statement → ℕ
+copies_of schema statement = 0
+
 -- the fault of a query's text, as the compiler answers it
 abbrev pub fault_of_query : QueryFault → CompileFault
 fault_of_query fault.Memory = compile.Memory

@@ -29,7 +29,8 @@ pub fn pins_at(
     declarations: &[Declaration],
     numbers: &[usize],
 ) -> Result<Vec<Pin>, Memory>
-    ensures { IfOk result (λ v. v.items ≡ map (pin_at schema.now (map declaration_of declarations.now)) numbers.now) }
+    ensures { IfOk result (λ v. v.items
+        ≡ map (pin_at schema.now (map declaration_of declarations.now)) numbers.now) }
 {
     let mut pins = Vec::new(alloc);
     for number in numbers {
@@ -52,7 +53,8 @@ pub fn set_reset(pins: &[Pin], values: &mut [u128])
 /// Sets the values of the pins for a cycle of the file with this beat, or with none.
 pub fn set_beat(pins: &[Pin], beat: Option<&Beat>, values: &mut [u128])
     requires { length values.old ≡ length pins.now }
-    ensures { values.new ≡ map (with_beat (option_map (λ b. plain_beat b.now) beat.entry)) pins.now }
+    ensures { values.new
+        ≡ map (with_beat (option_map (λ b. plain_beat b.now) beat.entry)) pins.now }
 {
     for (at, pin) in pins.iter().enumerate() {
         values[at] = value_of(*pin, beat);

@@ -7,7 +7,7 @@ ghost use Rattle.gl_query.specs.declared.tree.Statement.{Statement as Stated};
 ghost use Rattle.gl_schema.specs.Schemas.{IsSchema, kinds_of};
 ghost use Rattle.gl_compiler.specs.Selecting.{IsSelectOf};
 ghost use Rattle.gl_compiler.specs.Meets.{Meets, result_columns};
-ghost use Rattle.gl_compiler.specs.Queries.{IsQuery, IsQueryRefused, IfRefused, fault_of_query, latency_of, gap_of};
+ghost use Rattle.gl_compiler.specs.Queries.{IsQuery, IsQueryRefused, IfRefused, fault_of_query, latency_of, gap_of, copies_of};
 ghost use Rattle.gl_compiler.specs.Compiles.{IsCompiled, IsCompiledText, IsRefused, IsTextRefused};
 
 use crate::select::{Select, select_of};
@@ -113,7 +113,8 @@ pub fn compile_statement(
     statement: Statement,
 ) -> Result<Compiled, CompileFault>
     requires { IsSchema schema }
-    ensures compiled { MatchResult result (IsCompiled schema statement) (IsRefused schema statement) }
+    ensures compiled { MatchResult result (IsCompiled schema statement)
+        (IsRefused schema statement) }
     ensures schema { IfOk result (λ c. c.schema ≡ schema) }
     ensures many { IfOk result (λ c. length c.kinds ≤ 32) }
     ensures kinds { IfOk result (λ c. AllByRecursion IsKind c.kinds) }
@@ -152,9 +153,12 @@ pub fn compile_query(alloc: Global, schema: Schema, query: &[u8]) -> Result<Comp
     ensures columns { IfOk result (λ c. c.kinds ≡ kinds_of (result_columns schema c.statement)) }
     ensures latency { IfOk result (λ c. c.printed.latency ≡ latency_of schema c.statement) }
     ensures gap { IfOk result (λ c. c.printed.gap ≡ gap_of schema c.statement) }
-    ensures meets { IfOk result (λ c. Meets schema c.statement c.printed.latency c.printed.gap c.text.items) }
+    ensures copies { IfOk result (λ c. c.printed.copies ≡ copies_of schema c.statement) }
+    ensures meets { IfOk result (λ c. Meets schema c.statement c.printed.latency c.printed.gap
+        c.text.items) }
     ensures cause { IfErr result (IsQueryRefused schema query.now) }
-    ensures refused { IfErr result (λ fault. IfRefused fault ((statement : Stated) → IsQuery schema query.now statement → ⊥)) }
+    ensures refused { IfErr result (λ fault. IfRefused fault ((statement : Stated)
+        → IsQuery schema query.now statement → ⊥)) }
 {
     let statement = match read_query(alloc, query) {
         Ok(statement) => statement,
@@ -178,7 +182,8 @@ fn query_fault(fault: QueryFault) -> CompileFault
 
 /// Compiles the text of a query over the text of a schema.
 pub fn compile(alloc: Global, schema: &[u8], query: &[u8]) -> Result<Compiled, CompileFault>
-    ensures { MatchResult result (IsCompiledText schema.now query.now) (IsTextRefused schema.now query.now) }
+    ensures { MatchResult result (IsCompiledText schema.now query.now)
+        (IsTextRefused schema.now query.now) }
 {
     match read_schema(alloc, schema) {
         Ok(schema) => compile_query(alloc, schema, query),

@@ -74,7 +74,8 @@ struct Course<'a> {
 // The beat of this cycle, and the place behind it.
 fn due<'a>(beats: &'a [Beat], next: &mut usize, cycle: u64) -> Option<&'a Beat>
     requires { AreDue (plain_beats beats.now) next.old cycle }
-    ensures beat { option_map (λ b. plain_beat b.now) result ≡ beat_at (plain_beats beats.now) cycle }
+    ensures beat { option_map (λ b. plain_beat b.now) result
+        ≡ beat_at (plain_beats beats.now) cycle }
     ensures due { AreDue (plain_beats beats.now) next.new (cycle + 1) }
 {
     let beat = beats.get(*next)?;
@@ -94,15 +95,20 @@ fn advance(
     values: &mut [u128],
     row: &mut Row,
 ) -> Looked
-    requires can { CanFollow (module_of sim.old.design) course.now.schema.now course.now.kinds.now (plain_beats course.now.beats.now) }
-    requires bench { IsBench (module_of sim.old.design) course.now.schema.now course.now.bench.now.pins.items course.now.bench.now.shows }
+    requires can { CanFollow (module_of sim.old.design) course.now.schema.now course.now.kinds.now
+        (plain_beats course.now.beats.now) }
+    requires bench { IsBench (module_of sim.old.design) course.now.schema.now
+        course.now.bench.now.pins.items course.now.bench.now.shows }
     requires values { length values.old ≡ length course.now.bench.now.pins.items }
     requires widths { widths_of row.old ≡ map width_of course.now.kinds.now }
     requires due { AreDue (plain_beats course.now.beats.now) next.old cycle }
     ensures design { sim.new.design ≡ sim.old.design }
     ensures widths { widths_of row.new ≡ widths_of row.old }
     ensures due { AreDue (plain_beats course.now.beats.now) next.new (cycle + 1) }
-    ensures made { (value : ℕ → Nets) (word : ℕ → Memories) → IsFollowed sim.old course.now.schema.now (plain_beats course.now.beats.now) value word (cycle + 1) → IsMade (module_of sim.old.design) sim.new course.now.schema.now (plain_beats course.now.beats.now) result (bits_of row.new) cycle value word }
+    ensures made { (value : ℕ → Nets) (word : ℕ → Memories)
+        → IsFollowed sim.old course.now.schema.now (plain_beats course.now.beats.now) value word
+        (cycle + 1) → IsMade (module_of sim.old.design) sim.new course.now.schema.now
+        (plain_beats course.now.beats.now) result (bits_of row.new) cycle value word }
 {
     let beat = due(course.beats, next, cycle);
     set_beat(&course.bench.pins, beat, values);
@@ -113,11 +119,15 @@ fn advance(
 
 // Makes the cycle of the reset.
 fn reset(sim: &mut Sim, course: &Course, values: &mut [u128])
-    requires can { CanFollow (module_of sim.old.design) course.now.schema.now course.now.kinds.now (plain_beats course.now.beats.now) }
-    requires bench { IsBench (module_of sim.old.design) course.now.schema.now course.now.bench.now.pins.items course.now.bench.now.shows }
+    requires can { CanFollow (module_of sim.old.design) course.now.schema.now course.now.kinds.now
+        (plain_beats course.now.beats.now) }
+    requires bench { IsBench (module_of sim.old.design) course.now.schema.now
+        course.now.bench.now.pins.items course.now.bench.now.shows }
     requires values { length values.old ≡ length course.now.bench.now.pins.items }
     ensures design { sim.new.design ≡ sim.old.design }
-    ensures followed { (value : ℕ → Nets) (word : ℕ → Memories) → IsFollowed sim.old course.now.schema.now (plain_beats course.now.beats.now) value word 0 → IsFollowed sim.new course.now.schema.now (plain_beats course.now.beats.now) value word 1 }
+    ensures followed { (value : ℕ → Nets) (word : ℕ → Memories)
+        → IsFollowed sim.old course.now.schema.now (plain_beats course.now.beats.now) value word 0
+        → IsFollowed sim.new course.now.schema.now (plain_beats course.now.beats.now) value word 1 }
 {
     set_reset(&course.bench.pins, values);
     sim.step(values);
@@ -131,8 +141,10 @@ fn follow<K: Sink>(
     row: &mut Row,
     out: &mut K,
 ) -> Result<(), WriteFault>
-    requires can { CanFollow (module_of sim.old.design) course.now.schema.now course.now.kinds.now (plain_beats course.now.beats.now) }
-    requires bench { IsBench (module_of sim.old.design) course.now.schema.now course.now.bench.now.pins.items course.now.bench.now.shows }
+    requires can { CanFollow (module_of sim.old.design) course.now.schema.now course.now.kinds.now
+        (plain_beats course.now.beats.now) }
+    requires bench { IsBench (module_of sim.old.design) course.now.schema.now
+        course.now.bench.now.pins.items course.now.bench.now.shows }
     requires values { length values.old ≡ length course.now.bench.now.pins.items }
     requires many { length course.now.kinds.now ≤ 32 }
     requires kinds { AllByRecursion IsKind course.now.kinds.now }
@@ -195,7 +207,8 @@ fn prepare(
 ) -> Result<Prepared, Memory>
     requires runnable { IsRunnable (module_of design) }
     requires kinds { AllByRecursion IsKind kinds.now }
-    ensures { IfOk result (λ p. IsPrepared design schema.now kinds.now start p.sim p.bench.pins.items p.bench.shows p.values.items p.row) }
+    ensures { IfOk result (λ p. IsPrepared design schema.now kinds.now start p.sim
+        p.bench.pins.items p.bench.shows p.values.items p.row) }
 {
     let bench = bench_of(alloc, schema, &design)?;
     let values = zeros(alloc, bench.pins.len())?;
@@ -219,8 +232,10 @@ fn run<K: Sink>(
     latency: u64,
     out: &mut K,
 ) -> Result<(), WriteFault>
-    requires can { CanFollow (module_of prepared.sim.design) schema.now kinds.now (plain_beats beats.now) }
-    requires bench { IsBench (module_of prepared.sim.design) schema.now prepared.bench.pins.items prepared.bench.shows }
+    requires can { CanFollow (module_of prepared.sim.design) schema.now kinds.now
+        (plain_beats beats.now) }
+    requires bench { IsBench (module_of prepared.sim.design) schema.now prepared.bench.pins.items
+        prepared.bench.shows }
     requires values { length prepared.values.items ≡ length prepared.bench.pins.items }
     requires many { length kinds.now ≤ 32 }
     requires kinds { AllByRecursion IsKind kinds.now }

@@ -1,13 +1,14 @@
 //! From texts to texts: from a schema and a query to a module, and from a module to the lines of a
 //! result.
 //!
-//! Here belongs what joins the query's side and the hardware's. What a query means, what a circuit does
-//! and how texts are read stand below; words and statuses of the program stand above (`gl_top`).
+//! Here belongs what joins the query's side and the hardware's. What a query means, what a circuit
+//! does and how texts are read stand below; words and statuses of the program stand above (`gl_top`).
 #![tactic(auto)]
 
 mod bench;
 pub mod compiling;
 pub mod executing;
+pub mod laws;
 mod lines;
 pub mod looking;
 pub mod pins;
@@ -15,3 +16,4 @@ pub mod select;
 
 pub use compiling::{CompileFault, Compiled, compile, compile_query, compile_statement};
 pub use executing::{Outcome, execute, execute_module};
+pub use laws::outputs_bind_nothing;

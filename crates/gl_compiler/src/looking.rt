@@ -53,10 +53,12 @@ pub(crate) fn look(sim: &Sim, shows: &Shows) -> Looked
 
 /// Puts what the columns show into a row.
 pub(crate) fn set_row(sim: &Sim, columns: &[usize], row: &mut Row)
-    requires inside { AllByRecursion (λ n. n < length (module_of sim.now.design).declarations) columns.now }
+    requires inside { AllByRecursion (λ n. n < length (module_of sim.now.design).declarations)
+        columns.now }
     requires lengths { length columns.now ≡ length row.old }
     ensures widths { widths_of row.new ≡ widths_of row.old }
-    ensures bits { AllZip (λ n width. slice_index sim.now.shown n < 2 ^ width) columns.now (widths_of row.old) → bits_of row.new ≡ map (slice_index sim.now.shown) columns.now }
+    ensures bits { AllZip (λ n width. slice_index sim.now.shown n < 2 ^ width) columns.now
+        (widths_of row.old) → bits_of row.new ≡ map (slice_index sim.now.shown) columns.now }
 {
     for (place, port) in columns.iter().enumerate() {
         set_value(row, place, sim.output(*port));

@@ -51,7 +51,8 @@ fn stream_of(streams: &[Stream], name: &[u8]) -> usize
 
 // The stream of a number.
 fn stream_at(streams: &[Stream], number: usize) -> Option<&Stream>
-    ensures { MatchOption result (slice_get streams.now number ≡ None) (λ s. slice_get streams.now number ≡ Some s.now) }
+    ensures { let there = slice_get streams.now number in
+        MatchOption result (there ≡ None) (λ s. there ≡ Some s.now) }
 {
     streams.get(number)
 }
@@ -189,7 +190,8 @@ fn can_select(stream: &Stream, items: &[Item], names: &[NameText], into: &[u8]) 
         && is_name(into)
 }
 
-// The select of these items of a source, if there is a stream of its name and the items are its columns.
+// The select of these items of a source, if there is a stream of its name and the items are its
+// columns.
 fn select_from(
     alloc: Global,
     schema: &Schema,
@@ -197,7 +199,10 @@ fn select_from(
     source: &[u8],
     into: &NameText,
 ) -> Result<Option<Select>, Memory>
-    ensures { IfOk result (λ o. MatchOption o (can_read (slice_get schema.now.streams (stream_number schema.now.streams source.now)) (map item_shape items.now) into.now ≡ false) (IsFrom schema.now (map item_shape items.now) source.now into.now)) }
+    ensures { let streams = schema.now.streams in let shapes = map item_shape items.now in
+        let stream = slice_get streams (stream_number streams source.now) in
+        IfOk result (λ o. MatchOption o (can_read stream shapes into.now ≡ false)
+        (IsFrom schema.now shapes source.now into.now)) }
 {
     let number = stream_of(schema.streams.as_slice(), source);
     let Some(stream) = stream_at(schema.streams.as_slice(), number) else {
@@ -229,7 +234,9 @@ fn select_read(
     source: &Query,
     into: &NameText,
 ) -> Result<Option<Select>, Memory>
-    ensures { IfOk result (λ o. MatchOption o (is_read schema.now (map item_shape items.now) (query_shape source.now) into.now ≡ false) (IsRead schema.now (map item_shape items.now) (query_shape source.now) into.now)) }
+    ensures { let shapes = map item_shape items.now in let query = query_shape source.now in
+        IfOk result (λ o. MatchOption o (is_read schema.now shapes query into.now ≡ false)
+        (IsRead schema.now shapes query into.now)) }
 {
     match source {
         Query::Read(name) => select_from(alloc, schema, items, name.text.as_slice(), into),
@@ -243,7 +250,9 @@ pub(crate) fn select_of(
     schema: &Schema,
     statement: &Statement,
 ) -> Result<Option<Select>, Memory>
-    ensures { IfOk result (λ o. MatchOption o (is_built schema.now statement.now ≡ false) (IsPicked schema.now (query_shape statement.now.query) statement.now.name.text)) }
+    ensures { let query = query_shape statement.now.query in
+        IfOk result (λ o. MatchOption o (is_built schema.now statement.now ≡ false)
+        (IsPicked schema.now query statement.now.name.text)) }
 {
     match &statement.query {
         Query::Rows {

@@ -2,6 +2,7 @@
 use Rattle.std.proofs.Common.{◌≡◌, ℕ, zero, suc, ◌<◌, ◌≤◌, List, [], ◌∷◌, length, Option, Some, None, Result, Ok, Err, refl, sym, subst, ap, ◌∙◌, arith, lit<}
 use Rattle.std.specs.Prelude.{Bool, true, false, ◌&&◌, slice_get, unwrap_or, Contains}
 use Rattle.std.proofs.lemmas.Bool.{eqb-true}
+use Rattle.gl_bits.proofs.Bools.{and_left}
 use Rattle.gl_outside.proofs.Places.{found_is}
 use Rattle.gl_outside.specs.States.{ShelfState, IsCalm, Missed, Faulted, ReadLeaves}
 use Rattle.gl_outside.specs.Told.{Told, Untold, Lacks, Holds, IsLacking, IfTold}
@@ -52,13 +53,9 @@ place_below part.Schema = lit< tt
 place_below part.Query = lit< tt
 place_below part.Tuples = lit< tt
 
-left : (a b : Bool) → (a && b) ≡ true → a ≡ true
-left true b h = refl
-left false b h = h
-
 four_words : (words : List (List ℕ)) → IsForm words → length words ≡ 4
 unfolding is_form
-four_words words form = eqb-true (length words) 4 (left _ _ (left _ _ (left _ _ (left _ _ form))))
+four_words words form = eqb-true (length words) 4 (and_left _ _ (and_left _ _ (and_left _ _ (and_left _ _ form))))
 
 pub named : (words : List (List ℕ)) (p : Part) → IsForm words → Contains words (name_of words p)
 unfolding name_of

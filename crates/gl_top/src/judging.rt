@@ -93,7 +93,8 @@ fn judge_schema<S: Shelf>(alloc: Global, shelf: &mut S, words: &Words) -> Result
     requires form { IsForm words.now }
     requires names { (S.state shelf.old).names ≡ words.now }
     ensures stays { Stays (S.state shelf.old) (S.state shelf.new) }
-    ensures passes { IfOk result (λ schema. SchemaPasses (S.state shelf.old).told words.now schema) }
+    ensures passes { let told = (S.state shelf.old).told in
+        IfOk result (λ schema. SchemaPasses told words.now schema) }
     ensures leaves { Leaves words.now (S.state shelf.old) (S.state shelf.new) result }
 {
     let text = text_of(alloc, shelf, words, Part::Schema)?;

@@ -68,7 +68,8 @@ fn put_name<N: Sink>(
 
 // Writes a line of a text and a number.
 fn put_number<N: Sink>(notes: &mut N, head: &[u8], number: u64) -> Result<(), WriteFault>
-    ensures { Wrote (N.state notes.old) (N.state notes.new) (line head.now (decimal number)) result }
+    ensures { let bytes = line head.now (decimal number) in
+        Wrote (N.state notes.old) (N.state notes.new) bytes result }
 {
     let mut buffer = Buffer::new();
     put_line(notes, head, buffer.format(number).as_bytes())

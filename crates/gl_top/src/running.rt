@@ -114,8 +114,8 @@ fn answer<S: Shelf, K: Sink, N: Sink>(
 }
 
 /// Does what the words say: `run S Q T` compiles the query of the text Q over the schema of the
-/// text S, and writes to `out` what the Verilog text does over the tuple file T. Leaves that text in
-/// `text`. Where it ends before its work is done, it writes one line to `notes`.
+/// text S, and writes to `out` what the Verilog text does over the tuple file T. Leaves that text
+/// in `text`. Where it ends before its work is done, it writes one line to `notes`.
 ///
 /// The texts are fetched in the order S, Q, T, and each is judged before the next is fetched. With
 /// every status but `Done` and `WriteFault` nothing is written to `out`.

@@ -1,4 +1,5 @@
-//! What no clause says: that the work is done with ample memory, and worked rows from bytes to bytes.
+//! What no clause says: that the work is done with ample memory, and worked rows from bytes
+//! to bytes.
 
 ghost use Rattle.std.specs.Prelude.{◌≡◌, IfOk, ◌∷◌, [], codes};
 

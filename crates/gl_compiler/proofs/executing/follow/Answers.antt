@@ -54,7 +54,7 @@ pub put_cycle-requires-clause-widths : goal.put_cycle-requires-clause-widths
 put_cycle-requires-clause-widths g c = c.advance-looked.ensures.widths ∙ c.loop-cycle.invariant.row
 
 pub returns-in_err-put_cycle-clause-lines : goal.returns-in_err-put_cycle-clause-lines
-returns-in_err-put_cycle-clause-lines g c = λ value word f ends. by_err c.from_residual.result c.from_residual.ensures.1
+returns-in_err-put_cycle-clause-lines g c = λ value word f ends. by_err _ _ _ _ _ (g.K.Sink.state c.args.out.now) (g.K.Sink.state c.put_cycle.new.out) c.from_residual.result c.from_residual.ensures.1
     (
     let m = module_of c.args.sim.now.design in
     let course = c.args.course.now in
@@ -67,7 +67,7 @@ returns-in_err-put_cycle-clause-lines g c = λ value word f ends. by_err c.from_
     (g.K.Sink.state c.args.out.now).taken (g.K.Sink.state c.loop-cycle.out).taken (g.K.Sink.state c.put_cycle.new.out).taken value word way made c.in_err-put_cycle.ensures.front ends)
 
 pub returns-in_err-put_cycle-clause-counts : goal.returns-in_err-put_cycle-clause-counts
-returns-in_err-put_cycle-clause-counts g c = counts_err _ _ _ c.from_residual.result c.from_residual.ensures.1 c.loop-cycle.invariant.calm c.in_err-put_cycle.ensures.cause
+returns-in_err-put_cycle-clause-counts g c = counts_err _ (g.K.Sink.state c.args.out.now) (g.K.Sink.state c.loop-cycle.out) (g.K.Sink.state c.put_cycle.new.out) c.from_residual.result c.from_residual.ensures.1 c.loop-cycle.invariant.calm c.in_err-put_cycle.ensures.cause
 
 pub returns-then-cycle-course-clause-lines : goal.returns-then-cycle-course-clause-lines
 returns-then-cycle-course-clause-lines g c = λ value word f ends.
