@@ -1,6 +1,6 @@
 -- The columns of a plan's nodes have kinds of columns.
-use Rattle.std.proofs.Common.{◌≡◌, ℕ, ◌<◌, ◌≤◌, List, [], ◌∷◌, length, All, map, sym, subst, arith, lit<}
-use Rattle.std.proofs.lemmas.List.Elements.{All-append, All-cons, All-nil, All-map, All-weaker}
+use Rattle.std.proofs.Common.{ℕ, List, All, map, sym, subst, arith, lit<}
+use Rattle.std.proofs.lemmas.List.Elements.{All-append, All-cons, All-map, All-weaker}
 use Rattle.gl_bits.specs.Kinds.{IsKind}
 use Rattle.gl_bits.specs.Operators.{sort_of, result_kind}
 use Rattle.gl_bits.specs.declared.kind.Kind.{Kind}

@@ -3,8 +3,7 @@
 use Rattle.std.specs.Prelude.{ℕ, false, List, [], ◌∷◌, ◌++◌, map, filter, nat_eq, slice_index}
 use Rattle.gl_bits.specs.Kinds.{width_of}
 use Rattle.gl_bits.specs.Lists.{slices, groups, has_further, IsInterleaving}
-use Rattle.gl_bits.specs.Results.{Results, IsInput, IsChanged, IsOfBoth, AreBeside, IsOfParts, IsOfGroup}
-pub use Rattle.gl_bits.specs.Results.{Row}
+use Rattle.gl_bits.specs.Results.{Row, Results, IsInput, IsChanged, IsOfBoth, AreBeside, IsOfParts, IsOfGroup}
 use Rattle.gl_bits.specs.Totals.{count_of, sum_total, least_of, greatest_of, average_of, weighted_sum}
 use Rattle.gl_bits.specs.Words.{bits_of}
 use Rattle.gl_bits.specs.declared.kind.Kind.{Kind}

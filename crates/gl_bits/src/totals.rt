@@ -1,6 +1,6 @@
 //! Totals of the values of a column, answered as plainly as they are defined.
 
-ghost use Rattle.std.specs.Prelude.{◌≡◌, ◌≤◌, length};
+ghost use Rattle.std.specs.Prelude.{◌≡◌, ◌≤◌};
 ghost use Rattle.gl_bits.specs.Kinds.{IsKind};
 ghost use Rattle.gl_bits.specs.Totals.{average_of, count_of, greatest_of, least_of, sum_total, weighted_sum};
 

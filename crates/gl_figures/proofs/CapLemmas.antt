@@ -1,5 +1,5 @@
 -- Copies and weights from capped ones are the same but for the cap, and a node has no more copies than it weighs.
-use Rattle.std.proofs.Common.{◌≡◌, ℕ, ◌+◌, ◌*◌, ◌^◌, ◌<◌, ◌≤◌, min, ◌⊎◌, inl, inr, List, length, sum_by, All, refl, ap, arith, lit<}
+use Rattle.std.proofs.Common.{◌≡◌, ℕ, ◌+◌, ◌*◌, ◌^◌, ◌<◌, ◌≤◌, ◌⊎◌, inl, inr, List, length, All, refl, ap, arith, lit<}
 use Rattle.std.proofs.Math.Nat.{mul-le-mul_left, mul-le-mul_right}
 use Rattle.std.proofs.lemmas.Bool.{cases_lt}
 use Rattle.gl_algebra.specs.declared.figures.Figures.{Figures}

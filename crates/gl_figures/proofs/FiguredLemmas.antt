@@ -1,5 +1,5 @@
 -- One step of going through a plan's nodes with their figures.
-use Rattle.std.proofs.Common.{◌≡◌, ◌≢◌, ℕ, suc, ◌+◌, ◌<◌, ◌≤◌, inl, inr, List, length, Some, None, slice_get, refl, sym, ap, ◌∙◌, subst, arith}
+use Rattle.std.proofs.Common.{◌≡◌, ℕ, ◌+◌, ◌<◌, ◌≤◌, inl, inr, List, length, Some, None, slice_get, refl, sym, ap, ◌∙◌, arith}
 use Rattle.std.proofs.Math.ListN.{set}
 use Rattle.std.proofs.lemmas.Bool.{cases_lt}
 use Rattle.std.proofs.lemmas.List.{length-set}
@@ -8,15 +8,14 @@ use Rattle.std.proofs.lemmas.Option.{slice_get_within}
 use Rattle.std.specs.List.{AllByRecursion}
 use Rattle.gl_algebra.specs.declared.figures.Figures.{Figures}
 use Rattle.gl_algebra.specs.declared.node.PlanNode.{PlanNode}
-use Rattle.gl_algebra.specs.FigureTable.{AreSmall, input_figures, figures_from, figures_of}
-use Rattle.gl_algebra.specs.Fits.{Fits, IsPlan}
+use Rattle.gl_algebra.specs.FigureTable.{input_figures, figures_from, figures_of}
+use Rattle.gl_algebra.specs.Fits.{IsPlan}
 use Rattle.gl_algebra.specs.Nodewise.{named_by}
 use Rattle.gl_algebra.specs.Shapes.{shape_of}
-use Rattle.gl_algebra.specs.Small.{are_small, small_of, AreFigures}
+use Rattle.gl_algebra.specs.Small.{are_small, small_of}
 use Rattle.gl_algebra.proofs.SmallLemmas.{small-is, small-not}
 use Rattle.gl_algebra.proofs.TableLemmas.{nodes_follow_tables}
 use Rattle.gl_figures.specs.Answered.{AreSmallBefore, IsLate}
-use Rattle.gl_figures.specs.declared.Limit.{Limit}
 use Rattle.gl_figures.specs.declared.Limit.TheVariants.{Latency}
 use Rattle.gl_figures.specs.Known.{HasFigures}
 use Rattle.gl_figures.proofs.PlaceLemmas.{get-written, get-other}

@@ -1,5 +1,5 @@
 -- A body over trades stays one while nodes are added.
-use Rattle.std.proofs.Common.{◌≡◌, ℕ, List, [], ◌∷◌, refl}
+use Rattle.std.proofs.Common.{ℕ, List, refl}
 use Rattle.gl_algebra.specs.declared.node.PlanNode.{PlanNode}
 use Rattle.gl_algebra.specs.Shapes.{shape_of, KeepsShapes}
 use Rattle.gl_figures.specs.Worked.{IsOverInput}

@@ -1,5 +1,5 @@
 -- One step of going through a plan's nodes with their copies or weights.
-use Rattle.std.proofs.Common.{◌≡◌, ℕ, ◌+◌, ◌*◌, ◌^◌, ◌<◌, ◌≤◌, min, inl, inr, List, length, Some, slice_get, sym, ap, ◌∙◌, arith}
+use Rattle.std.proofs.Common.{◌≡◌, ℕ, ◌+◌, ◌<◌, ◌≤◌, inl, inr, List, length, Some, slice_get, sym, ap, ◌∙◌, arith}
 use Rattle.std.proofs.Math.ListN.{set}
 use Rattle.std.proofs.lemmas.Bool.{cases_lt}
 use Rattle.std.proofs.lemmas.List.{length-set}
@@ -7,7 +7,7 @@ use Rattle.gl_algebra.specs.declared.figures.Figures.{Figures}
 use Rattle.gl_algebra.specs.declared.node.PlanNode.{PlanNode}
 use Rattle.gl_algebra.specs.FigureTable.{figures_of}
 use Rattle.gl_algebra.specs.Fits.{IsPlan}
-use Rattle.gl_algebra.specs.Shapes.{Shape, shape_of}
+use Rattle.gl_algebra.specs.Shapes.{shape_of}
 use Rattle.gl_algebra.specs.Weights.{copies_from, copies_of, weight_of, weight_with_output, lines_of}
 use Rattle.gl_algebra.proofs.TableLemmas.{nodes_follow_tables}
 use Rattle.gl_figures.specs.Answered.{IsPrinted, most_weight}

@@ -1,15 +1,20 @@
 -- What places hold of the nodes of a plan while it is gone through: what is known of the nodes before one.
-use Rattle.std.specs.Prelude.{ℕ, ◌≡◌, ◌<◌, ◌≤◌, ◌+◌, ◌^◌, min, List, length, Some, slice_get}
+use Rattle.std.specs.Prelude.{ℕ, ◌≡◌, ◌<◌, ◌≤◌, ◌+◌, ◌^◌, min, List, length, Option, Some, slice_get}
 use Rattle.gl_algebra.specs.declared.figures.Figures.{Figures}
 use Rattle.gl_algebra.specs.declared.node.PlanNode.{PlanNode}
-use Rattle.gl_algebra.specs.FigureTable.{figures_of}
+use Rattle.gl_algebra.specs.FigureTable.{figures_from, figures_of}
 use Rattle.gl_algebra.specs.Shapes.{shape_of}
+use Rattle.gl_algebra.specs.Small.{small_of}
 use Rattle.gl_algebra.specs.Weights.{weight_of, own_weight, sum_over_children}
 
 -- the figures of the nodes before one
 pub record HasFigures (nodes : List PlanNode) (figures : List Figures) (number : ℕ) : Type 0 where
   pub room : number ≤ length figures
   pub each : (child : ℕ) → child < number → slice_get figures child ≡ Some (figures_of nodes child)
+
+-- the figures that a node has over a plan, below 2^32
+abbrev pub small_over : List PlanNode → PlanNode → Option Figures
+small_over nodes node = small_of (figures_from (shape_of nodes) (figures_of nodes) node)
 
 -- a number, or 2^62 where it is more
 abbrev pub capped : ℕ → ℕ
@@ -18,11 +23,12 @@ capped n = min n (2 ^ 62)
 abbrev pub capped_at : (ℕ → ℕ) → ℕ → ℕ
 capped_at value number = capped (value number)
 
--- the weight of a node that has so many lines, from the capped weights of the nodes that it names
+-- the own part, and the weight, of a node that has so many lines, from the capped weights of the nodes that it names
+abbrev pub own_weight_by : List PlanNode → ℕ → PlanNode → ℕ
+own_weight_by nodes lines node = own_weight (shape_of nodes) (figures_of nodes) (capped_at (weight_of nodes)) lines node
+
 abbrev pub weight_by : List PlanNode → ℕ → PlanNode → ℕ
-weight_by nodes lines node =
-    let weights = capped_at (weight_of nodes) in
-    sum_over_children weights node + own_weight (shape_of nodes) (figures_of nodes) weights lines node
+weight_by nodes lines node = sum_over_children (capped_at (weight_of nodes)) node + own_weight_by nodes lines node
 
 -- the capped values of the nodes before one
 pub record HasValues (value : ℕ → ℕ) (values : List ℕ) (number : ℕ) : Type 0 where

@@ -1,5 +1,5 @@
 -- Trades, and the shapes of nodes over them, for plans that were worked out by hand.
-use Rattle.std.specs.Prelude.{ℕ, ◌≡◌, ◌<◌, true, false, List, [], ◌∷◌, length, IsTrue}
+use Rattle.std.specs.Prelude.{ℕ, ◌≡◌, ◌<◌, false, List, [], ◌∷◌, length, IsTrue}
 use Rattle.gl_bits.specs.declared.kind.Kind.{Kind}
 use Rattle.gl_bits.specs.declared.kind.Kind.TheVariants.{Unsigned, Text}
 use Rattle.gl_algebra.specs.declared.node.Operand.TheVariants.{Column}
@@ -7,7 +7,7 @@ use Rattle.gl_algebra.specs.declared.node.PlanAgg.{PlanAgg}
 use Rattle.gl_algebra.specs.declared.node.PlanAgg.TheVariants.{Avg}
 use Rattle.gl_algebra.specs.declared.node.PlanNode.{PlanNode}
 use Rattle.gl_algebra.specs.declared.node.PlanNode.TheVariants.{Stream, Body}
-use Rattle.gl_algebra.specs.Shapes.{Shape, shape_of, once, with_stream, with_body}
+use Rattle.gl_algebra.specs.Shapes.{Shape, shape_of, with_stream, with_body}
 
 -- a symbol, a price and a volume
 abbrev pub trades : List Kind

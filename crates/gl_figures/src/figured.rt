@@ -2,13 +2,12 @@
 
 ghost use Rattle.std.specs.Prelude.{◌≡◌, ◌<◌, length, slice_get, Some, IfErr, OnOk};
 ghost use Rattle.std.specs.List.{AllByRecursion};
-ghost use Rattle.gl_algebra.specs.FigureTable.{figures_from, figures_of};
+ghost use Rattle.gl_algebra.specs.FigureTable.{figures_of};
 ghost use Rattle.gl_algebra.specs.Fits.{Fits};
 ghost use Rattle.gl_algebra.specs.Nodewise.{named_by};
-ghost use Rattle.gl_algebra.specs.Shapes.{shape_of};
-ghost use Rattle.gl_algebra.specs.Small.{small_of, AreFigures};
+ghost use Rattle.gl_algebra.specs.Small.{AreFigures};
 ghost use Rattle.gl_figures.specs.Answered.{AreSmallBefore, IsLate};
-ghost use Rattle.gl_figures.specs.Known.{HasFigures};
+ghost use Rattle.gl_figures.specs.Known.{small_over, HasFigures};
 
 use crate::Limit;
 use gl_algebra::table::{
@@ -50,7 +49,7 @@ fn figures_over(plan: &Plan, figures: &[Figures], number: usize, node: &PlanNode
     requires before { AllByRecursion (λ child. child < number) (named_by node.now) }
     requires fits { Fits plan.now number node.now }
     requires known { HasFigures plan.now figures.now number }
-    ensures { result ≡ small_of (figures_from (shape_of plan.now) (figures_of plan.now) node.now) }
+    ensures { result ≡ small_over plan.now node.now }
 {
     match node {
         PlanNode::Stream(_, _) => Some(input_figures()),

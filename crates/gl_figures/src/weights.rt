@@ -6,8 +6,8 @@ ghost use Rattle.gl_algebra.specs.Columns.{AggFits};
 ghost use Rattle.gl_algebra.specs.Fits.{Fits};
 ghost use Rattle.gl_algebra.specs.Nodewise.{named_by};
 ghost use Rattle.gl_algebra.specs.Shapes.{shape_of};
-ghost use Rattle.gl_algebra.specs.Weights.{lines_of, pad_of, weight_of, weight_of_agg, weight_of_copies, weight_of_spacer};
-ghost use Rattle.gl_figures.specs.Known.{capped, weight_by, HasFigures, HasValues};
+ghost use Rattle.gl_algebra.specs.Weights.{lines_of, pad_of, sum_over_children, weight_of, weight_of_agg, weight_of_copies, weight_of_spacer};
+ghost use Rattle.gl_figures.specs.Known.{capped, capped_at, own_weight_by, weight_by, HasFigures, HasValues};
 
 use crate::copied::{cap, times};
 use crate::figured::figures_at;
@@ -100,6 +100,101 @@ fn weight_at(plan: &Plan, weights: &[u64], number: usize, id: PlanId) -> u128
     weights[id.number()] as u128
 }
 
+// The weights of the children of the node of this number; a body is none.
+fn weight_of_children(plan: &Plan, weights: &[u64], number: usize, node: &PlanNode) -> u128
+    requires before { AllByRecursion (λ child. child < number) (named_by node.now) }
+    requires known { HasValues (weight_of plan.now) weights.now number }
+    ensures value { result ≡ sum_over_children (capped_at (weight_of plan.now)) node.now }
+    ensures below { result < 2 ^ 64 }
+{
+    match node {
+        PlanNode::Stream(_, _) => 0,
+        PlanNode::Body(_) => 0,
+        PlanNode::Compute { child, .. } => weight_at(plan, weights, number, *child),
+        PlanNode::Select { child, .. } => weight_at(plan, weights, number, *child),
+        PlanNode::Project { child, .. } => weight_at(plan, weights, number, *child),
+        PlanNode::Aggregate { child, .. } => weight_at(plan, weights, number, *child),
+        PlanNode::Window { source, .. } => weight_at(plan, weights, number, *source),
+        PlanNode::Group { source, .. } => weight_at(plan, weights, number, *source),
+        PlanNode::Union { left, right } => {
+            weight_at(plan, weights, number, *left) + weight_at(plan, weights, number, *right)
+        }
+        PlanNode::Beside { left, right } => {
+            weight_at(plan, weights, number, *left) + weight_at(plan, weights, number, *right)
+        }
+    }
+}
+
+// The own part of the node of this number, which has so many lines.
+fn own_weight(
+    plan: &Plan,
+    figures: &[Figures],
+    weights: &[u64],
+    number: usize,
+    own: u128,
+    node: &PlanNode,
+) -> u128
+    requires within { number < length plan.now }
+    requires before { AllByRecursion (λ child. child < number) (named_by node.now) }
+    requires fits { Fits plan.now number node.now }
+    requires figured { HasFigures plan.now figures.now number }
+    requires known { HasValues (weight_of plan.now) weights.now number }
+    requires own { own < 2 ^ 65 }
+    ensures value { result ≡ own_weight_by plan.now own node.now }
+    ensures below { result < 2 ^ 113 }
+{
+    match node {
+        PlanNode::Stream(_, _) => own,
+        PlanNode::Body(_) => own,
+        PlanNode::Compute { ops, .. } => 4 * (own + ops.len() as u128),
+        PlanNode::Select { .. } => 4 * own,
+        PlanNode::Project { .. } => 4 * own,
+        PlanNode::Aggregate { child, aggs } => {
+            let _ = aggs.len();
+            let kinds = plan.kinds(*child);
+            let delay = delay_of_aggs(kinds, aggs.as_slice());
+            4 * own + weight_of_aggs(kinds, delay, aggs.as_slice())
+        }
+        PlanNode::Union { left, right } => {
+            let p = figures_at(plan, figures, number, *left);
+            let q = figures_at(plan, figures, number, *right);
+            times(8 * own, pad_of(&p, &q) + p.ne as u128 + q.ne as u128 + 4)
+        }
+        PlanNode::Beside { left, right } => {
+            let p = figures_at(plan, figures, number, *left);
+            let q = figures_at(plan, figures, number, *right);
+            times(8 * own, pad_of(&p, &q) + 4)
+        }
+        PlanNode::Window {
+            source,
+            body,
+            size,
+            advance,
+        } => {
+            let inside = figures_at(plan, figures, number, *body);
+            let around = figures_at(plan, figures, number, *source);
+            let lines = lines_of(plan, *source);
+            let spacer = weight_of_spacer(inside.gt.max(inside.ge), &around, lines);
+            let copies = copies_of_window(*size, *advance);
+            let weight = weight_at(plan, weights, number, *body);
+            weight_of_copies(copies, weight, lines, own) + 4 * inside.a as u128 + spacer
+        }
+        PlanNode::Group {
+            source,
+            body,
+            groups,
+            ..
+        } => {
+            let inside = figures_at(plan, figures, number, *body);
+            let around = figures_at(plan, figures, number, *source);
+            let lines = lines_of(plan, *source);
+            let spacer = weight_of_spacer(inside.gt, &around, lines);
+            let weight = weight_at(plan, weights, number, *body);
+            weight_of_copies(*groups as u32, weight, lines, own) + spacer
+        }
+    }
+}
+
 // The weight of the node of this number, which has so many lines, from those of the nodes before it.
 pub(crate) fn weight_over(
     plan: &Plan,
@@ -117,77 +212,6 @@ pub(crate) fn weight_over(
     requires own { own < 2 ^ 65 }
     ensures { result ≡ capped (weight_by plan.now own node.now) }
 {
-    match node {
-        PlanNode::Stream(_, _) => cap(own),
-        PlanNode::Body(_) => cap(own),
-        PlanNode::Compute { child, ops } => {
-            cap(weight_at(plan, weights, number, *child) + 4 * (own + ops.len() as u128))
-        }
-        PlanNode::Select { child, .. } => cap(weight_at(plan, weights, number, *child) + 4 * own),
-        PlanNode::Project { child, .. } => cap(weight_at(plan, weights, number, *child) + 4 * own),
-        PlanNode::Aggregate { child, aggs } => {
-            let _ = aggs.len();
-            let kinds = plan.kinds(*child);
-            let parts = weight_of_aggs(
-                kinds,
-                delay_of_aggs(kinds, aggs.as_slice()),
-                aggs.as_slice(),
-            );
-            cap(weight_at(plan, weights, number, *child) + (4 * own + parts))
-        }
-        PlanNode::Union { left, right } => {
-            let p = figures_at(plan, figures, number, *left);
-            let q = figures_at(plan, figures, number, *right);
-            let places = pad_of(&p, &q) + p.ne as u128 + q.ne as u128 + 4;
-            let sides = weight_at(plan, weights, number, *left)
-                + weight_at(plan, weights, number, *right);
-            cap(sides + times(8 * own, places))
-        }
-        PlanNode::Beside { left, right } => {
-            let p = figures_at(plan, figures, number, *left);
-            let q = figures_at(plan, figures, number, *right);
-            let sides = weight_at(plan, weights, number, *left)
-                + weight_at(plan, weights, number, *right);
-            cap(sides + times(8 * own, pad_of(&p, &q) + 4))
-        }
-        PlanNode::Window {
-            source,
-            body,
-            size,
-            advance,
-        } => {
-            let f = figures_at(plan, figures, number, *body);
-            let lines = lines_of(plan, *source);
-            let copies = copies_of_window(*size, *advance);
-            let copied = weight_of_copies(
-                copies,
-                weight_at(plan, weights, number, *body),
-                lines,
-                own,
-            );
-            let spacer = weight_of_spacer(
-                f.gt.max(f.ge),
-                &figures_at(plan, figures, number, *source),
-                lines,
-            );
-            cap(weight_at(plan, weights, number, *source) + (copied + 4 * f.a as u128 + spacer))
-        }
-        PlanNode::Group {
-            source,
-            body,
-            groups,
-            ..
-        } => {
-            let f = figures_at(plan, figures, number, *body);
-            let lines = lines_of(plan, *source);
-            let copied = weight_of_copies(
-                *groups as u32,
-                weight_at(plan, weights, number, *body),
-                lines,
-                own,
-            );
-            let spacer = weight_of_spacer(f.gt, &figures_at(plan, figures, number, *source), lines);
-            cap(weight_at(plan, weights, number, *source) + (copied + spacer))
-        }
-    }
+    let children = weight_of_children(plan, weights, number, node);
+    cap(children + own_weight(plan, figures, weights, number, own, node))
 }

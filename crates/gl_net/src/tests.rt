@@ -2,7 +2,7 @@
 
 ghost use Rattle.std.specs.Prelude.{◌≡◌, ℕ, suc, ◌+◌, IfOk, OnOk};
 ghost use Rattle.gl_bits.specs.Words.{sum_of, choose_of};
-ghost use Rattle.gl_net.specs.Net.{Net, Run, IsRun, IsBus, IsBit, Keeps, size_of, stored_of};
+ghost use Rattle.gl_net.specs.Net.{Run, IsRun, IsBus, IsBit, Keeps, size_of};
 
 use crate::{BinaryOp, Bit, Bus, Direction, NetBuilder, Netlist, Node};
 use gl_bits::{Memory, Word};

@@ -176,7 +176,7 @@ expr_decides (tree.Binary op l r at) columns place =
     let left = left_place columns op place (expr_alike l) (expr_alike r) in
     let right = right_place columns op place (expr_alike l) (expr_alike r) in
     let operands = either_order (is_loose (expr_alike l) && not (is_loose (expr_alike r))) (expr_fault columns left l) (expr_fault columns right r)
-        (expr_decides l columns left) (expr_decides r columns right) in
+    (expr_decides l columns left) (expr_decides r columns right) in
     let own = operator_decides (sort_of op) (kind_of columns left (expr_alike l)) (kind_of columns right (expr_alike r)) at in
     change _ (both (of_operands (is_loose (expr_alike l)) (is_loose (expr_alike r)) (expr_fault columns left l) (expr_fault columns right r)) _ operands (λ h. own))
     (λ h. (h.0.0, h.0.1, h.1)) (λ h. ((h.0, h.1), h.2))
@@ -268,12 +268,15 @@ named_decides {A} name own Own d earlier (i ∷ items) most distinct =
     })
     (λ n. (
       (let z = length-append earlier (i ∷ items) in let m = n.most in omega (arith, z, m)),
-      (n.each.0, (
-        new_named text earlier i items n.distinct,
-        record {
-          each = n.each.1;
-          most = subst (λ (l : List A). length l ≤ 32) (sym (append_assoc earlier (i ∷ []) items)) n.most;
-          distinct = subst (λ (l : List A). IsDistinct bytes_eq (map text l)) (sym (append_assoc earlier (i ∷ []) items)) n.distinct;
-        },
-      )),
+      (
+        n.each.0,
+        (
+          new_named text earlier i items n.distinct,
+          record {
+            each = n.each.1;
+            most = subst (λ (l : List A). length l ≤ 32) (sym (append_assoc earlier (i ∷ []) items)) n.most;
+            distinct = subst (λ (l : List A). IsDistinct bytes_eq (map text l)) (sym (append_assoc earlier (i ∷ []) items)) n.distinct;
+          },
+        ),
+      ),
     ))

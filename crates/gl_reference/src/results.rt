@@ -10,10 +10,10 @@ use crate::answers::{
     Answer, concat_of, groups_wanted, of_parts, read, rows_from, total_from, union_of, windows_of,
 };
 use crate::columns::{Source, columns_of};
-use gl_query::kinds::column_number;
 use crate::rows::{Fault, joined, with_key};
 use gl_bits::lists::{groups_of, some_further};
 use gl_bits::{Group, Listed, Memory, Table};
+use gl_query::kinds::column_number;
 use gl_query::{Query, Statement};
 use gl_schema::{Column, Schema, Stream};
 use std::alloc::Global;

@@ -7,10 +7,10 @@ ghost use Rattle.gl_bits.specs.Totals.{average_of, sum_total, weighted_sum};
 ghost use Rattle.gl_bits.specs.Results.{beside};
 ghost use Rattle.gl_query.specs.Results.{agg_value, kept, picked, total_row, values_of};
 
-use gl_query::kinds::{is_kind, kind_alone, kind_of};
 use crate::values::{keeps, value_of};
 use gl_bits::lists::copy_of_row;
 use gl_bits::{Kind, Listed, Memory, Table, totals};
+use gl_query::kinds::{is_kind, kind_alone, kind_of};
 use gl_query::{Agg, AggItem, Expr, Item, Num, Pick};
 use gl_schema::Column;
 use std::alloc::{AllocError, AllocFailed, Global};

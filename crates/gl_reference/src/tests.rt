@@ -1,11 +1,8 @@
 //! Worked rows of the meaning of queries: values, columns, and the rows of results.
 
-use crate::columns::{Source, columns_of};
-use gl_query::kinds::{kind_alone, kind_of};
 use crate::results::evaluate;
 use crate::trees::{Trees, num};
-use crate::values::value_of;
-use gl_bits::{Kind, Table};
+use gl_bits::Table;
 use gl_query::{Agg, Expr, Op, Query, Statement};
 use std::alloc::Global;
 use std::test::Fail;
@@ -332,117 +329,4 @@ fn rows_side_by_side(rt: HostRuntime) -> Result<(), Fail> {
     )?;
     let given = both(&[[A, 5, 1], [A, 7, 1]], &[[B, 6, 1]]);
     gives(t, union_beside_count(t)?, given, &[[18, 2]], false)
-}
-
-/// Checks the kind and the value of an expression over a row of trades.
-fn has_value(t: Trees, expr: Expr, kind: Kind, value: u128) -> Result<(), Fail> {
-    let columns = t.trade_columns()?;
-    let place = kind_alone(&expr);
-    let found = kind_of(columns.as_slice(), place, &expr);
-    ensure(found == kind, "other kind")?;
-    let row = [UBSN, 0xFFFF_FFFE, 200];
-    let found = value_of(columns.as_slice(), place, &expr, &row);
-    ensure(found == Some(value), "other value")
-}
-
-/// Arithmetic wraps in the kind's width, also where both operands are literals.
-#[test]
-fn arithmetic(rt: HostRuntime) -> Result<(), Fail> {
-    let t = Trees(rt.alloc());
-    for (op, right, value) in [
-        (Op::Add, 3, 1),
-        (Op::Sub, 0xFFFF_FFFF, 0xFFFF_FFFF),
-        (Op::Mul, 2, 0xFFFF_FFFC),
-    ] {
-        let expr = t.binary(op, t.column("price")?, Expr::Number(num(right)))?;
-        has_value(t, expr, Kind::Unsigned(32), value)?;
-    }
-    let most = Expr::Number(num(0xFFFF_FFFF_FFFF_FFFF));
-    let loose = t.binary(Op::Add, most, Expr::Number(num(1)))?;
-    has_value(t, loose, Kind::Unsigned(64), 0)
-}
-
-/// Texts compare byte by byte, the first byte highest.
-#[test]
-fn comparisons_of_texts(rt: HostRuntime) -> Result<(), Fail> {
-    let t = Trees(rt.alloc());
-    for (op, text, value) in [
-        (Op::Eq, "UBSN", 1),
-        (Op::Ne, "UBS", 1),
-        (Op::Lt, "UC", 1),
-        (Op::Le, "UBS", 0),
-        (Op::Gt, "UBS", 1),
-        (Op::Ge, "V", 0),
-    ] {
-        let expr = t.binary(op, t.column("symbol")?, t.letters(text)?)?;
-        has_value(t, expr, Kind::Unsigned(1), value)?;
-    }
-    Ok(())
-}
-
-/// A number keeps its low bits, a text its first bytes.
-#[test]
-fn casts(rt: HostRuntime) -> Result<(), Fail> {
-    let t = Trees(rt.alloc());
-    for (column, kind, value) in [
-        ("volume", Kind::Unsigned(7), 72),
-        ("volume", Kind::Unsigned(64), 200),
-        ("symbol", Kind::Text(2), 0x5542),
-        ("symbol", Kind::Text(8), 0x5542_534E_0000_0000),
-    ] {
-        let expr = t.cast(t.column(column)?, kind)?;
-        has_value(t, expr, kind, value)?;
-    }
-    Ok(())
-}
-
-fn not_light_and_heavy(t: Trees, op: Op) -> Result<Expr, Fail> {
-    let light = t.binary(Op::Lt, t.column("volume")?, Expr::Number(num(200)))?;
-    let heavy = t.binary(Op::Lt, Expr::Number(num(5)), t.column("volume")?)?;
-    t.not(t.binary(op, light, heavy)?)
-}
-
-#[test]
-fn conditions(rt: HostRuntime) -> Result<(), Fail> {
-    let t = Trees(rt.alloc());
-    has_value(t, not_light_and_heavy(t, Op::And)?, Kind::Unsigned(1), 1)?;
-    has_value(t, not_light_and_heavy(t, Op::Or)?, Kind::Unsigned(1), 0)
-}
-
-/// Checks the kinds of the columns of a query over the streams.
-fn has_kinds(t: Trees, query: Box<Query>, want: &[Kind]) -> Result<(), Fail> {
-    let schema = t.schema()?;
-    let mut sources = Vec::new(t.0);
-    for stream in schema.streams.as_slice() {
-        let source = Source {
-            name: stream.name.as_slice(),
-            columns: stream.columns.as_slice(),
-            rows: &[],
-        };
-        sources.push(source).map_err(|_| "no room")?;
-    }
-    let query = Box::into_inner(query);
-    let columns = columns_of(t.0, sources.as_slice(), &query)?;
-    ensure(columns.len() == want.len(), "other columns")?;
-    for (column, kind) in columns.as_slice().iter().zip(want) {
-        ensure(column.kind == *kind, "other kind")?;
-    }
-    Ok(())
-}
-
-fn groups_beside_windows(t: Trees) -> Result<Box<Query>, Fail> {
-    let greatest = t.total(Agg::Max(t.column("symbol")?), "k", t.read("it")?)?;
-    let by_symbol = t.per_symbol(4, t.read("trades")?, greatest)?;
-    t.concat(by_symbol, greatest_sums(t)?)
-}
-
-#[test]
-fn columns_of_queries(rt: HostRuntime) -> Result<(), Fail> {
-    let t = Trees(rt.alloc());
-    let (text, word, byte) = (Kind::Text(4), Kind::Unsigned(32), Kind::Unsigned(8));
-    has_kinds(t, t.read("trades")?, &[text, word, word])?;
-    has_kinds(t, sum_and_average(t)?, &[byte, byte])?;
-    has_kinds(t, volume_and_count(t)?, &[word, word])?;
-    has_kinds(t, groups_beside_windows(t)?, &[text, text, word])?;
-    has_kinds(t, all_prices(t)?, &[word])
 }

@@ -43,16 +43,6 @@ impl Trees {
         })
     }
 
-    pub fn not(self, arg: Expr) -> Result<Expr, Fail> {
-        let arg = Box::new(self.0, arg).map_err(|_| "no room")?;
-        Ok(Expr::Not { arg, at: 0 })
-    }
-
-    pub fn cast(self, arg: Expr, kind: Kind) -> Result<Expr, Fail> {
-        let arg = Box::new(self.0, arg).map_err(|_| "no room")?;
-        Ok(Expr::Cast { arg, kind, at: 0 })
-    }
-
     pub fn read(self, bytes: &str) -> Result<Box<Query>, Fail> {
         self.boxed(Query::Read(self.name(bytes)?))
     }

@@ -10,9 +10,9 @@ ghost use Rattle.gl_bits.specs.Operators.{operate};
 ghost use Rattle.gl_query.specs.Values.{bytes_in, cast_of, value_of};
 ghost use Rattle.gl_query.specs.Results.{keeps};
 
-use gl_query::kinds::{column_number, is_kind, kind_alone, kind_of, operand_place};
 use gl_bits::Kind;
 use gl_bits::lists::number_at;
+use gl_query::kinds::{column_number, is_kind, kind_alone, kind_of, operand_place};
 use gl_query::{Expr, Op};
 use gl_schema::Column;
 

@@ -1,7 +1,6 @@
 -- The numbers drawn, one after another.
-use Rattle.std.proofs.Common.{◌≡◌, ◌≢◌, ℕ, zero, suc, ◌+◌, ◌*◌, ◌%◌, ◌^◌, ◌<◌, ◌≤◌, List, [], ◌∷◌, Option, Some, None, take, map, replicate, get_or, refl, sym, ◌∙◌, ap, subst, arith, rules, length, length-set, inl, inr, ◌⊎◌}
+use Rattle.std.proofs.Common.{◌≡◌, ℕ, zero, suc, ◌+◌, ◌*◌, ◌%◌, ◌^◌, ◌<◌, ◌≤◌, List, [], ◌∷◌, Some, map, replicate, get_or, refl, sym, ◌∙◌, ap, subst, arith, length, length-set, inl, inr, ◌⊎◌}
 use Rattle.std.specs.Prelude.{slice_get, slice_index, slice_index_or, slice_set}
-use Rattle.std.specs.List.{AllByRecursion, sum_by}
 use Rattle.std.proofs.lemmas.Nat.{mod_below, pow_pos}
 use Rattle.std.proofs.lemmas.List.Sums.{sum_by_more}
 use Rattle.std.proofs.lemmas.Bool.{cases_eq, cases_lt}
@@ -17,7 +16,7 @@ use Rattle.gl_verilog.specs.Evaluate.{IsStore, nets_of, memories_of}
 use Rattle.gl_verilog.specs.Runnable.{SameState}
 use Rattle.gl_verilog.proofs.Fits.{in_range, width_at-found}
 use Rattle.gl_verilog.proofs.Stores.{same_item, store_put}
-use Rattle.gl_sim.proofs.Fresh.{zeros_at, zero_words_at, store_zero}
+use Rattle.gl_sim.proofs.Fresh.{zeros_at, zero_words_at}
 use Rattle.gl_sim.specs.declared.start.Start.TheVariants.{Zero, Drawn}
 use Rattle.gl_sim.specs.Starts.{next_draw, draw, draws_for, draws_before, word_drawn, register_at, word_at, zero_bank, DrawsOne, IsDrawnTo}
 

@@ -1,17 +1,16 @@
 -- What an edge leaves: registers and words that fit.
-use Rattle.std.proofs.Common.{◌≡◌, ◌≢◌, ℕ, suc, ◌+◌, ◌^◌, ◌<◌, ◌≤◌, Bool, true, false, List, [], ◌∷◌, Option, Some, None, map, refl, sym, ◌∙◌, ap, subst, arith, rules, length, unwrap_or, slice_index, nat_eq, cond, inl, inr}
-use Rattle.std.specs.Prelude.{slice_get, slice_index_or, IsSomeAnd}
+use Rattle.std.proofs.Common.{◌≡◌, ℕ, ◌^◌, ◌<◌, ◌≤◌, List, [], ◌∷◌, Option, Some, None, map, refl, sym, ◌∙◌, ap, subst, arith, length, unwrap_or, slice_index}
+use Rattle.std.specs.Prelude.{slice_get, slice_index_or}
 use Rattle.std.specs.List.{AllByRecursion}
-use Rattle.std.proofs.lemmas.Bool.Decides.{eqb_tells}
 use Rattle.gl_verilog.specs.Module as spec
 use Rattle.gl_verilog.specs.Module.{Declaration, Nets, Memories, Nothing, Put, Write, Both, If, value_of, later_or, taken, assigned, written, assigned_by, written_by}
-use Rattle.gl_verilog.specs.Run.{Fit, IsRegister}
+use Rattle.gl_verilog.specs.Run.{IsRegister}
 use Rattle.gl_verilog.specs.declared.module.Statement.{Statement}
 use Rattle.gl_verilog.specs.View.{statement_of, chained}
-use Rattle.gl_verilog.specs.Widths.{HasSize, IsMemory, width_of, KeepsWidths, KeepsWidthsIn, words_in}
-use Rattle.gl_verilog.specs.Evaluate.{CanEvaluate, IsStore, nets_of, memories_of}
-use Rattle.gl_verilog.proofs.Fits.{Found, found_in, all_at, in_range, value_fits, can_evaluate, memory_words, pow_within}
-use Rattle.gl_verilog.proofs.Edges.{FitsIn, unwrap_fits, assigned_fits, written_fits}
+use Rattle.gl_verilog.specs.Widths.{HasSize, IsMemory, width_of, KeepsWidthsIn}
+use Rattle.gl_verilog.specs.Evaluate.{IsStore, nets_of, memories_of}
+use Rattle.gl_verilog.proofs.Fits.{found_in, all_at, in_range, value_fits, can_evaluate, memory_words, pow_within}
+use Rattle.gl_verilog.proofs.Edges.{unwrap_fits, assigned_fits, written_fits}
 use Rattle.gl_sim.specs.declared.update.Update.{Update}
 use Rattle.gl_sim.specs.Updates.{CanExecute, put_of}
 

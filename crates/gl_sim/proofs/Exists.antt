@@ -1,14 +1,14 @@
 -- A run from any start with any inputs.
-use Rattle.std.proofs.Common.{◌≡◌, ◌≢◌, ℕ, zero, suc, ◌+◌, ◌*◌, ◌^◌, ◌<◌, ◌≤◌, Bool, true, false, not, ◌&&◌, List, [], ◌∷◌, Option, Some, None, refl, sym, ◌∙◌, ap, subst, arith, rules, length, cond, inl, inr}
-use Rattle.std.specs.Prelude.{slice_get, if◌then◌else◌}
+use Rattle.std.proofs.Common.{◌≡◌, ℕ, ◌+◌, ◌*◌, ◌^◌, ◌<◌, ◌≤◌, Bool, true, false, not, ◌&&◌, List, [], ◌∷◌, refl, sym, ◌∙◌, ap, subst, arith, inl, inr}
+use Rattle.std.specs.Prelude.{if◌then◌else◌}
 use Rattle.std.specs.List.{AllByRecursion, AllZip}
 use Rattle.std.proofs.lemmas.Bool.Decides.{eqb_tells}
 use Rattle.std.proofs.lemmas.Nat.{pow_pos}
 use Rattle.gl_verilog.specs.Module.{Module, Declaration, Kind, Input, OutputWire, OutputRegister, Wire, Register, Memory, Nets, Memories}
-use Rattle.gl_verilog.specs.Run.{Fit, IsRun}
+use Rattle.gl_verilog.specs.Run.{Fit}
 use Rattle.gl_verilog.specs.Widths.{is_clock, width_at}
 use Rattle.gl_verilog.specs.Order.{with_net}
-use Rattle.gl_verilog.specs.Runnable.{IsRunnable, is_input, inputs_from, inputs_of, FitInputs, HasInputs, SameInputs, RunsFrom}
+use Rattle.gl_verilog.specs.Runnable.{IsRunnable, is_input, inputs_from, inputs_of, FitInputs, SameInputs, RunsFrom}
 use Rattle.gl_verilog.proofs.Fits.{width_at-found}
 use Rattle.gl_verilog.proofs.Runs.{has_runs}
 use Rattle.gl_verilog.proofs.Settles.{with_net-same, with_net-other}

@@ -1,12 +1,12 @@
 -- A cycle of the simulator follows every run that holds the same.
-use Rattle.std.proofs.Common.{◌≡◌, ◌≢◌, ℕ, zero, suc, ◌+◌, ◌^◌, ◌<◌, ◌≤◌, Bool, true, false, not, ◌&&◌, List, [], ◌∷◌, Option, Some, None, map, refl, sym, ◌∙◌, ap, subst, arith, rules, length, unwrap_or, slice_index, inl, inr, ◌⊎◌, cond}
+use Rattle.std.proofs.Common.{◌≡◌, ◌≢◌, ℕ, zero, suc, ◌+◌, Bool, true, false, not, ◌&&◌, List, [], ◌∷◌, Option, Some, None, refl, sym, ◌∙◌, ap, subst, arith, unwrap_or, slice_index, inl, inr, ◌⊎◌}
 use Rattle.std.specs.Prelude.{slice_get, if◌then◌else◌}
 use Rattle.std.specs.List.{AllByRecursion, AllZip, cons_option}
 use Rattle.std.proofs.lemmas.Bool.Decides.{eqb_tells}
 use Rattle.gl_verilog.specs.Module.{Module, Declaration, Input, Assignment, Nets, Memories, value_of, assigned_by, written_by}
-use Rattle.gl_verilog.specs.Run.{Fit, IsSettled, IsRegister}
-use Rattle.gl_verilog.specs.Widths.{IsReadable, KeepsWidth, is_clock, words_in}
-use Rattle.gl_verilog.specs.Order.{IsUndriven, evaluated, with_net}
+use Rattle.gl_verilog.specs.Run.{IsSettled, IsRegister}
+use Rattle.gl_verilog.specs.Widths.{KeepsWidth, is_clock}
+use Rattle.gl_verilog.specs.Order.{evaluated, with_net}
 use Rattle.gl_verilog.specs.Evaluate.{IsStore, nets_of, memories_of}
 use Rattle.gl_verilog.specs.Runnable.{IsRunnable, is_input, inputs_from, inputs_of, HasInputs, SameInputs, SameState, SameNets}
 use Rattle.gl_verilog.proofs.Fits.{all_at}

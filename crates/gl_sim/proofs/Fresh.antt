@@ -1,11 +1,11 @@
 -- A store of zeros, and words of two numbers.
-use Rattle.std.proofs.Common.{◌≡◌, ℕ, zero, suc, ◌+◌, ◌-◌, ◌*◌, ◌%◌, ◌^◌, ◌<◌, ◌≤◌, List, [], ◌∷◌, Some, None, map, replicate, refl, sym, ◌∙◌, ap, subst, arith, rules, length, get_or, bit_and}
+use Rattle.std.proofs.Common.{◌≡◌, ℕ, zero, suc, ◌+◌, ◌-◌, ◌*◌, ◌%◌, ◌^◌, ◌<◌, List, [], ◌∷◌, Some, map, replicate, refl, sym, ◌∙◌, ap, subst, arith, length, bit_and}
 use Rattle.std.specs.Prelude.{slice_get, slice_index, slice_index_or}
 use Rattle.std.proofs.lemmas.Nat.{pow_pos, and_mask, shl_whole}
 use Rattle.gl_bits.proofs.AllLists.{length_map}
 use Rattle.gl_verilog.specs.Module.{Declaration}
 use Rattle.gl_verilog.specs.Widths.{words_in}
-use Rattle.gl_verilog.specs.Evaluate.{IsStore, nets_of, memories_of}
+use Rattle.gl_verilog.specs.Evaluate.{IsStore, memories_of}
 use Rattle.gl_sim.specs.Starts.{zero_bank}
 
 pub zeros_length : (n : ℕ) → length (replicate {A = ℕ} n 0) ≡ n

@@ -1,23 +1,23 @@
 -- One assignment, one input, one word after another.
-use Rattle.std.proofs.Common.{◌≡◌, ◌≢◌, ℕ, zero, suc, ◌+◌, ◌^◌, ◌<◌, ◌≤◌, List, [], ◌∷◌, ◌++◌, Option, Some, None, Bool, true, false, map, refl, sym, ◌∙◌, ap, subst, arith, rules, length, drop, get_or, drop-cons, add-one, unwrap_or, slice_index, inl, inr}
-use Rattle.std.specs.Prelude.{if◌then◌else◌, ◌&&◌, not, slice_get, slice_index_or, slice_set, IsSomeAnd, IsTrue}
+use Rattle.std.proofs.Common.{◌≡◌, ℕ, zero, suc, ◌+◌, ◌^◌, ◌<◌, ◌≤◌, List, [], ◌∷◌, Some, Bool, true, false, map, refl, sym, ◌∙◌, ap, subst, arith, length, drop, get_or, drop-cons, add-one, slice_index, inl, inr}
+use Rattle.std.specs.Prelude.{if◌then◌else◌, ◌&&◌, not, slice_get, slice_set}
 use Rattle.std.specs.List.{AllByRecursion, AllZip}
 use Rattle.std.proofs.lemmas.List.{drop_all}
 use Rattle.gl_verilog.specs.Module as spec
 use Rattle.gl_verilog.specs.Module.{Nets, Memories, Module, Declaration, value_of}
 use Rattle.gl_verilog.specs.declared.module.Assignment.{Assignment}
-use Rattle.gl_verilog.specs.View.{assignment_of, expr_of, declaration_of}
-use Rattle.gl_verilog.specs.Widths.{IsReadable, is_clock, width_at, HasSize, IsDriven, width_of, KeepsWidths, KeepsWidth}
-use Rattle.gl_verilog.specs.Evaluate.{CanEvaluate, IsStore, nets_of, memories_of}
+use Rattle.gl_verilog.specs.View.{assignment_of}
+use Rattle.gl_verilog.specs.Widths.{is_clock, width_at, IsDriven, width_of, KeepsWidth}
+use Rattle.gl_verilog.specs.Evaluate.{IsStore, nets_of, memories_of}
 use Rattle.gl_verilog.specs.Runnable.{IsRunnable, is_input, inputs_from, inputs_of, FitInputs}
-use Rattle.gl_verilog.specs.Order.{EachRead, with_net, evaluated}
+use Rattle.gl_verilog.specs.Order.{with_net, evaluated}
 use Rattle.gl_sim.specs.Inputs.{with_inputs}
 use Rattle.std.proofs.lemmas.Bool.Decides.{eqb_tells}
 use Rattle.std.proofs.lemmas.List.{get_or-set_same, get_or-set_other}
 use mathlib.Core.Path.{fun_ext}
 use Rattle.gl_bits.proofs.AllLists.{get_mapped, all_weaker}
 use Rattle.gl_verilog_check.specs.Orders.{picked}
-use Rattle.gl_verilog.proofs.Fits.{Found, found_in, all_at, in_range, width_at-found, value_fits, can_evaluate}
+use Rattle.gl_verilog.proofs.Fits.{found_in, all_at, in_range, width_at-found, value_fits}
 use Rattle.gl_verilog.proofs.Stores.{store_put}
 
 pub slice_get-at : {T : Type 0} (xs : List T) (n : ℕ) (x : T) → n < length xs → x ≡ get_or xs n x → slice_get xs n ≡ Some x

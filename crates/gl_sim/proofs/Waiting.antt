@@ -1,5 +1,5 @@
 -- What waits for the edge, one statement after another.
-use Rattle.std.proofs.Common.{◌≡◌, ◌≢◌, ℕ, suc, ◌+◌, ◌<◌, ◌≤◌, Bool, true, false, List, [], ◌∷◌, ◌++◌, Option, Some, None, refl, sym, ◌∙◌, ap, subst, arith, rules, length, drop, get_or, drop-cons, add-one, unwrap_or, slice_index, Vec, Global}
+use Rattle.std.proofs.Common.{◌≡◌, ℕ, suc, ◌+◌, ◌<◌, ◌≤◌, List, [], ◌∷◌, ◌++◌, Option, Some, None, refl, sym, ◌∙◌, ap, length, drop, get_or, drop-cons, add-one, unwrap_or, slice_index, Vec, Global}
 use Rattle.std.specs.Prelude.{slice_index_or}
 use Rattle.std.proofs.lemmas.List.{drop_all}
 use Rattle.gl_verilog.specs.Module as spec
@@ -8,7 +8,7 @@ use Rattle.gl_verilog.specs.declared.module.Statement.{Statement, Block}
 use Rattle.gl_verilog.proofs.Chains.{block_is}
 use Rattle.gl_verilog.specs.View.{statement_of, chained}
 use Rattle.gl_sim.specs.declared.update.Update.{Update}
-use Rattle.gl_sim.specs.Updates.{put_by, put_of, AreInside, writes_in, CanExecute}
+use Rattle.gl_sim.specs.Updates.{put_by, put_of, AreInside, CanExecute}
 
 pub later_or-assoc : (a b c : Option ℕ) → later_or (later_or c b) a ≡ later_or c (later_or b a)
 later_or-assoc a b None = refl

@@ -1,10 +1,8 @@
 -- The words that waited, put one after another.
-use Rattle.std.proofs.Common.{◌≡◌, ◌≢◌, ℕ, zero, suc, ◌+◌, ◌<◌, ◌≤◌, Bool, true, false, List, [], ◌∷◌, Option, Some, None, refl, sym, ◌∙◌, ap, subst, arith, rules, length, drop, get_or, drop-cons, add-one, unwrap_or, slice_index, length-set, inl, inr, nat_eq, cond}
+use Rattle.std.proofs.Common.{◌≡◌, ℕ, zero, suc, ◌+◌, ◌<◌, List, [], ◌∷◌, refl, sym, ◌∙◌, ap, subst, arith, length, drop, get_or, drop-cons, add-one, unwrap_or, slice_index, inl, inr}
 use Rattle.std.specs.Prelude.{slice_index_or, slice_set}
 use Rattle.std.proofs.lemmas.Bool.Decides.{eqb_tells}
-use Rattle.std.proofs.lemmas.List.{drop_all}
 use Rattle.gl_bits.proofs.AllLists.{all_weaker}
-use Rattle.gl_verilog.specs.Module.{later_or}
 use Rattle.gl_verilog.specs.Evaluate.{memories_of}
 use Rattle.gl_verilog.proofs.Stores.{with_word, with_word-same, with_word-other_place, with_word-other_bank, with_word-length, with_word-bank}
 use Rattle.gl_sim.specs.declared.update.Update.{Update}

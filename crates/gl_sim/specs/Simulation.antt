@@ -1,5 +1,5 @@
 -- What a simulator holds and shows.
-use Rattle.std.specs.Prelude.{◌≡◌, ℕ, ◌+◌, ◌≤◌, List, [], length}
+use Rattle.std.specs.Prelude.{◌≡◌, ℕ, ◌+◌, ◌≤◌, List, length}
 use Rattle.gl_verilog.specs.Module.{Nets, Memories}
 use Rattle.gl_verilog.specs.View.{module_of, chained}
 use Rattle.gl_verilog.specs.Evaluate.{IsStore, nets_of, memories_of}

@@ -1,7 +1,7 @@
 -- What waits for a clock edge: the words that blocks write.
-use Rattle.std.specs.Prelude.{◌≡◌, ℕ, ◌+◌, ◌^◌, ◌<◌, List, [], ◌∷◌, Option, Some, None, length, nat_eq, if◌then◌else◌, slice_index_or, unwrap_or}
+use Rattle.std.specs.Prelude.{ℕ, ◌+◌, ◌^◌, ◌<◌, List, [], ◌∷◌, Option, Some, None, length, nat_eq, if◌then◌else◌, slice_index_or}
 use Rattle.std.specs.List.{AllByRecursion}
-use Rattle.gl_verilog.specs.Module.{Nets, Memories, Statement, Nothing, Put, Write, Both, If, value_of, later_or}
+use Rattle.gl_verilog.specs.Module.{Statement, Nothing, Put, Write, Both, If, value_of, later_or}
 use Rattle.gl_verilog.specs.Evaluate.{nets_of, memories_of, CanEvaluate}
 use Rattle.gl_sim.specs.declared.update.Update.{Update}
 

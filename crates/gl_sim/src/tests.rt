@@ -181,8 +181,7 @@ fn when(alloc: Global, test: usize, yes: Statement) -> Result<Statement, Fail> {
 
 // ---- assignments
 
-// So many bytes, from an input over wires to an output, each assigned what the one before it has; the
-// last is assigned first.
+// An input of 8 bits and so many wires, each assigned what the one before it has, the last first.
 fn falling(alloc: Global, count: usize) -> Result<Module, Fail>
     requires { count < 1000000 }
     ensures { IfOk result (λ m. IsRunnable (module_of m)) }
@@ -198,8 +197,8 @@ fn falling(alloc: Global, count: usize) -> Result<Module, Fail>
     module(alloc, &all, assignments, Vec::new(alloc))
 }
 
-// Assignments in falling order settle in the cycle itself, and their order is found in time: by passes
-// over a text of this length it would not be.
+// Assignments in falling order settle in the cycle itself, and their order is found in time: by
+// passes over a text of this length it would not be.
 #[test]
 fn assignments_settle_whatever_their_order(rt: HostRuntime) -> Result<(), Fail> {
     let alloc = rt.alloc();

@@ -40,7 +40,7 @@ still_marked [] old t h = tt
 still_marked (b ∷ bs) old t h = (set_stays old t b.target h.0, still_marked bs old t h.1)
 
 -- one assignment more in front
-pub marks_next : (rest : List Assignment) (a : Assignment) (old new : List Bool) → AreMarks rest old → Marked old new a → AreMarks (a ∷ rest) new
+pub marks_next : (rest : List Assignment) (a : Assignment) (old new : List Bool) → AreMarks rest old → Marked old new a.target → AreMarks (a ∷ rest) new
 marks_next rest a old new m k = record {
   targets = subst (λ (ms : List Bool). AllByRecursion (λ b. slice_get ms b.target ≡ Some true) (a ∷ rest)) (sym k.set) (set_same old a.target k.fresh, still_marked rest old a.target m.targets);
   undriven = λ n h. elim (cases_eq n a.target) [
@@ -53,7 +53,7 @@ marks_next rest a old new m k = record {
   ];
 }
 
-pub once_next : (rest : List Assignment) (a : Assignment) (old new : List Bool) → AreMarks rest old → Marked old new a → AreOnce rest → AreOnce (a ∷ rest)
+pub once_next : (rest : List Assignment) (a : Assignment) (old new : List Bool) → AreMarks rest old → Marked old new a.target → AreOnce rest → AreOnce (a ∷ rest)
 once_next rest a old new m k o = (m.undriven a.target k.fresh, o)
 
 -- the assignments from a place on
@@ -84,7 +84,7 @@ unmarked (false ∷ ms) zero lt h = refl
 unmarked (m ∷ ms) (suc n) lt h = unmarked ms n (omega (arith, lt)) h
 
 -- the net of one assignment more is marked, where each drives another
-pub marked_there : (rest : List Assignment) (a : Assignment) (old : List Bool) → AreMarks rest old → a.target < length old → AreOnce (a ∷ rest) → Marked old (slice_set old a.target true) a
+pub marked_there : (rest : List Assignment) (a : Assignment) (old : List Bool) → AreMarks rest old → a.target < length old → AreOnce (a ∷ rest) → Marked old (slice_set old a.target true) a.target
 marked_there rest a old m within o = record { fresh = unmarked old a.target within (λ h. m.driven a.target h o.0); set = refl }
 
 pub once_from : {A : Type 0} (f : A → Assignment) (xs : List A) (i : ℕ) → AreOnce (map f xs) → AreOnce (map f (drop i xs))

@@ -5,6 +5,8 @@ use Rattle.gl_verilog.specs.declared.module.Declaration as code
 use Rattle.gl_verilog.specs.declared.module.Assignment as coded
 use Rattle.gl_verilog.specs.declared.module.Statement as codes
 use Rattle.gl_verilog.specs.View.{declaration_of, assignment_of, statement_of}
+use Rattle.gl_verilog.specs.Runnable.{IsRunnable}
+use Rattle.gl_verilog.specs.Valid.{IsValid}
 use Rattle.gl_verilog.specs.Order.{EachRead, IsUndriven}
 use Rattle.gl_verilog.specs.Widths.{is_clock, width_after}
 use Rattle.std.specs.List.{AllByRecursion}
@@ -159,9 +161,13 @@ pub record AreMarks (assignments : List Assignment) (marks : List Bool) : Type 0
   pub driven : (n : ℕ) → slice_get marks n ≡ Some true → IsUndriven assignments n → ⊥
 
 -- one more net is marked, which no mark was on
-pub record Marked (old new : List Bool) (a : Assignment) : Type 0 where
-  pub fresh : slice_get old a.target ≡ Some false
-  pub set : new ≡ slice_set old a.target true
+pub record Marked (old new : List Bool) (net : ℕ) : Type 0 where
+  pub fresh : slice_get old net ≡ Some false
+  pub set : new ≡ slice_set old net true
+
+-- there is no such net, or it is marked
+abbrev pub CannotMark : List Bool → ℕ → Type 0
+CannotMark marks net = Marked marks (slice_set marks net true) net → ⊥
 
 -- whether the net of this declaration, of this number, is marked where it wants a driver
 abbrev pub driver_there : List Bool → ℕ → Declaration → Bool
@@ -180,6 +186,16 @@ AreNets nets assignments = AllByRecursion (λ a. (a.target < nets) × EachRead (
 abbrev pub module_with : List Declaration → List Assignment → List Statement → Module
 module_with ds as' bs = record { name = []; ports = 0; declarations = ds; assignments = as'; blocks = bs }
 
--- a module of these parts in code
-abbrev pub made_of : List code.Declaration → List coded.Assignment → List codes.Statement → Module
-made_of ds as' bs = module_with (map declaration_of ds) (map assignment_of as') (map statement_of bs)
+-- what declarations and blocks in code mean
+abbrev pub scope_of : List code.Declaration → List Declaration
+scope_of ds = map declaration_of ds
+
+abbrev pub statements_of : List codes.Statement → List Statement
+statements_of bs = map statement_of bs
+
+-- a module of these parts in code can run, or is valid
+abbrev pub CanRun : List code.Declaration → List coded.Assignment → List codes.Statement → Type 0
+CanRun ds as' bs = IsRunnable (module_with (map declaration_of ds) (map assignment_of as') (map statement_of bs))
+
+abbrev pub AreValid : List code.Declaration → List coded.Assignment → List codes.Statement → Type 0
+AreValid ds as' bs = IsValid (module_with (map declaration_of ds) (map assignment_of as') (map statement_of bs))

@@ -4,13 +4,17 @@ use Rattle.std.specs.List.{AllByRecursion}
 use Rattle.std.specs.List.Sorted.{IsPermutation}
 use Rattle.gl_verilog.specs.Module.{Assignment}
 use Rattle.gl_verilog.specs.Order.{IsUndriven, IsOrdered}
-use Rattle.gl_verilog_check.specs.Kept.{reads}
+use Rattle.gl_verilog_check.specs.Kept.{reads, AreNets}
 use Rattle.gl_verilog_check.specs.Orders.{picked}
 
 -- no net is driven twice
 abbrev pub AreOnce : List Assignment → Type 0
 AreOnce [] = Unit {0}
 AreOnce (a ∷ rest) = IsUndriven rest a.target × AreOnce rest
+
+-- each assignment drives another net, of so many
+abbrev pub CanMark : ℕ → List Assignment → Type 0
+CanMark nets assignments = AreNets nets assignments × AreOnce assignments
 
 -- whether the net waits
 abbrev pub waits : List Bool → ℕ → Bool

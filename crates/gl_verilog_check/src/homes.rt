@@ -1,5 +1,5 @@
-//! The block in which each register and memory is assigned. That it is the only one is tried where it
-//! is used, by `keep_homes`: nothing else that is proved rests on the table of homes.
+//! The block in which each register and memory is assigned. That no other assigns it is tried where
+//! the table is used, by `keep_homes`: nothing else that is proved rests on it.
 
 ghost use Rattle.std.specs.Prelude.{◌≡◌, map};
 ghost use Rattle.gl_verilog.specs.View.{statement_of};

@@ -1,5 +1,5 @@
-//! Whether a module is valid, whether it can run, and an order of its assignments. Here belong tests that
-//! answer yes or no of a module with its names resolved; which fault a text has stands elsewhere.
+//! Whether a module is valid, whether it can run, and an order of its assignments. Here belong tests
+//! of a module with its names resolved; which fault a text has stands elsewhere.
 #![tactic(auto)]
 
 mod counting;

@@ -3,9 +3,9 @@
 ghost use Rattle.std.specs.Prelude.{◌≡◌, length, slice_get, slice_set, true, false, [], Some, IfOk, OnOk, IfSome};
 ghost use Rattle.std.specs.List.{list_any};
 ghost use Rattle.gl_verilog.specs.View.{assignment_of};
-ghost use Rattle.gl_verilog_check.specs.Kept.{AreMarks, AreNets, Marked};
+ghost use Rattle.gl_verilog_check.specs.Kept.{AreMarks, Marked, CannotMark};
 ghost use Rattle.gl_verilog_check.specs.Orders.{meant, IsOrderOf, IsMissing};
-ghost use Rattle.gl_verilog_check.specs.Passes.{AreOnce, IsPlacing, is_ready, placed, passed, finds};
+ghost use Rattle.gl_verilog_check.specs.Passes.{AreOnce, CanMark, IsPlacing, is_ready, placed, passed, finds};
 
 use crate::counting::proposed;
 use crate::widths::reads;
@@ -15,8 +15,8 @@ use std::alloc::Global;
 
 // Marks the net that an assignment drives, where it is one and not marked yet.
 fn mark(marks: &mut Vec<bool>, assignment: &Assignment) -> bool
-    ensures marked { result ≡ true → Marked marks.old.items marks.new.items (assignment_of assignment.now) }
-    ensures refused { result ≡ false → Marked marks.old.items (slice_set marks.old.items assignment.now.target true) (assignment_of assignment.now) → ⊥ }
+    ensures marked { result ≡ true → Marked marks.old.items marks.new.items assignment.now.target }
+    ensures refused { result ≡ false → CannotMark marks.old.items assignment.now.target }
 {
     let target = assignment.target;
     if target >= marks.len() || marks[target] {
@@ -31,7 +31,7 @@ pub(crate) fn mark_targets(marks: &mut Vec<bool>, assignments: &[Assignment]) ->
     requires { AreMarks [] marks.old.items }
     ensures marks { result ≡ true → AreMarks (meant assignments.now) marks.new.items }
     ensures once { result ≡ true → AreOnce (meant assignments.now) }
-    ensures complete { AreNets (length marks.old.items) (meant assignments.now) → AreOnce (meant assignments.now) → result ≡ true }
+    ensures complete { CanMark (length marks.old.items) (meant assignments.now) → result ≡ true }
     ensures size { result ≡ true → length marks.new.items ≡ length marks.old.items }
 {
     for done in 0..assignments.len() {
@@ -71,7 +71,7 @@ fn place(
     requires once { AreOnce (meant assignments.now) }
     requires at { slice_get (meant assignments.now) k ≡ Some (assignment_of assignment.now) }
     requires placing { IsPlacing (meant assignments.now) marks.old.items order.old.items }
-    ensures placing { OnOk result (IsPlacing (meant assignments.now) marks.new.items order.new.items) }
+    ensures kept { OnOk result (IsPlacing (meant assignments.now) marks.new.items order.new.items) }
     ensures marks { marks.new.items ≡ placed marks.old.items (assignment_of assignment.now) }
     ensures found { IfOk result (λ b. b ≡ is_ready marks.old.items (assignment_of assignment.now)) }
 {
@@ -93,7 +93,7 @@ fn place_number(
 ) -> Result<(), Memory>
     requires once { AreOnce (meant assignments.now) }
     requires placing { IsPlacing (meant assignments.now) marks.old.items order.old.items }
-    ensures placing { OnOk result (IsPlacing (meant assignments.now) marks.new.items order.new.items) }
+    ensures kept { OnOk result (IsPlacing (meant assignments.now) marks.new.items order.new.items) }
     ensures size { length marks.new.items ≡ length marks.old.items }
 {
     let Some(assignment) = assignments.get(k) else {
@@ -112,7 +112,7 @@ fn place_each(
 ) -> Result<(), Memory>
     requires once { AreOnce (meant assignments.now) }
     requires placing { IsPlacing (meant assignments.now) marks.old.items order.old.items }
-    ensures placing { OnOk result (IsPlacing (meant assignments.now) marks.new.items order.new.items) }
+    ensures kept { OnOk result (IsPlacing (meant assignments.now) marks.new.items order.new.items) }
     ensures size { OnOk result (length marks.new.items ≡ length marks.old.items) }
 {
     for k in proposal {
@@ -129,7 +129,7 @@ fn place_ready(
 ) -> Result<bool, Memory>
     requires once { AreOnce (meant assignments.now) }
     requires placing { IsPlacing (meant assignments.now) marks.old.items order.old.items }
-    ensures placing { OnOk result (IsPlacing (meant assignments.now) marks.new.items order.new.items) }
+    ensures kept { OnOk result (IsPlacing (meant assignments.now) marks.new.items order.new.items) }
     ensures marks { OnOk result (marks.new.items ≡ passed marks.old.items (meant assignments.now)) }
     ensures found { IfOk result (λ b. b ≡ finds marks.old.items (meant assignments.now)) }
 {

@@ -3,7 +3,9 @@
 ghost use Rattle.std.specs.Prelude.{◌≡◌, map, true, false, IfOk};
 ghost use Rattle.gl_verilog.specs.View.{declaration_of, assignment_of, statement_of, module_of, expr_of};
 ghost use Rattle.gl_verilog.specs.Runnable.{IsRunnable};
-ghost use Rattle.gl_verilog_check.specs.Kept.{driver_there, all_driven, all_sized, all_kept, test_kept, statement_kept, blocks_kept, made_of};
+ghost use Rattle.gl_verilog_check.specs.Kept.{driver_there, all_driven, all_sized, all_kept, test_kept, statement_kept, blocks_kept};
+ghost use Rattle.gl_verilog_check.specs.Kept.{scope_of, statements_of, CanRun};
+ghost use Rattle.gl_verilog_check.specs.Orders.{meant};
 
 use crate::order::{mark_targets, no_marks, order_marked};
 use crate::widths::{assigned_width, has_size, kept, put_width, wants_driver, write_width};
@@ -13,7 +15,7 @@ use std::alloc::Global;
 
 // Whether every declaration has a size.
 fn have_sizes(declarations: &[Declaration]) -> bool
-    ensures { result ≡ all_sized (map declaration_of declarations.now) }
+    ensures { result ≡ all_sized (scope_of declarations.now) }
 {
     for declaration in declarations {
         if !has_size(declaration) {
@@ -25,7 +27,7 @@ fn have_sizes(declarations: &[Declaration]) -> bool
 
 // Whether every assignment keeps its widths.
 fn keep_widths(declarations: &[Declaration], assignments: &[Assignment]) -> bool
-    ensures { result ≡ all_kept (map declaration_of declarations.now) (map assignment_of assignments.now) }
+    ensures { result ≡ all_kept (scope_of declarations.now) (meant assignments.now) }
 {
     for assignment in assignments {
         if assigned_width(declarations, assignment).is_none() {
@@ -37,7 +39,7 @@ fn keep_widths(declarations: &[Declaration], assignments: &[Assignment]) -> bool
 
 // Whether an expression keeps its widths and has one bit.
 fn is_bit(declarations: &[Declaration], test: &Expr) -> bool
-    ensures { result ≡ test_kept (map declaration_of declarations.now) (expr_of test.now) }
+    ensures { result ≡ test_kept (scope_of declarations.now) (expr_of test.now) }
 {
     match kept(declarations, test) {
         Some(width) => width == 1,
@@ -47,7 +49,7 @@ fn is_bit(declarations: &[Declaration], test: &Expr) -> bool
 
 // Whether a statement keeps its widths.
 fn statement_keeps(declarations: &[Declaration], statement: &Statement) -> bool
-    ensures { result ≡ statement_kept (map declaration_of declarations.now) (statement_of statement.now) }
+    ensures { result ≡ statement_kept (scope_of declarations.now) (statement_of statement.now) }
 {
     match statement {
         Statement::Nothing => true,
@@ -74,7 +76,7 @@ fn statement_keeps(declarations: &[Declaration], statement: &Statement) -> bool
 
 // Whether every block keeps its widths.
 fn blocks_keep(declarations: &[Declaration], blocks: &[Statement]) -> bool
-    ensures { result ≡ blocks_kept (map declaration_of declarations.now) (map statement_of blocks.now) }
+    ensures { result ≡ blocks_kept (scope_of declarations.now) (statements_of blocks.now) }
 {
     for block in blocks {
         if !statement_keeps(declarations, block) {
@@ -93,7 +95,7 @@ fn has_driver(declaration: &Declaration, marks: &[bool], n: usize) -> bool
 
 // Whether every net that wants a driver is marked.
 fn all_driven(declarations: &[Declaration], marks: &[bool]) -> bool
-    ensures { result ≡ all_driven marks.now 0 (map declaration_of declarations.now) }
+    ensures { result ≡ all_driven marks.now 0 (scope_of declarations.now) }
 {
     for (n, declaration) in declarations.iter().enumerate() {
         if !has_driver(declaration, marks, n) {
@@ -110,8 +112,8 @@ pub(crate) fn parts_run(
     assignments: &[Assignment],
     blocks: &[Statement],
 ) -> Result<bool, Memory>
-    ensures sound { IfOk result (λ b. b ≡ true → IsRunnable (made_of declarations.now assignments.now blocks.now)) }
-    ensures complete { IfOk result (λ b. IsRunnable (made_of declarations.now assignments.now blocks.now) → b ≡ true) }
+    ensures yes { IfOk result (λ b. b ≡ true → CanRun declarations.now assignments.now blocks.now) }
+    ensures all { IfOk result (λ b. CanRun declarations.now assignments.now blocks.now → b ≡ true) }
 {
     if !have_sizes(declarations) {
         return Ok(false);

@@ -4,7 +4,7 @@ ghost use Rattle.std.specs.Prelude.{◌≡◌, ◌+◌, map, true, false, [], If
 ghost use Rattle.gl_verilog.specs.View.{declaration_of, assignment_of, statement_of, module_of};
 ghost use Rattle.gl_verilog.specs.Valid as valid;
 ghost use Rattle.gl_verilog.specs.Valid.{IsValid};
-ghost use Rattle.gl_verilog_check.specs.Kept.{made_of};
+ghost use Rattle.gl_verilog_check.specs.Kept.{scope_of, statements_of, AreValid};
 ghost use Rattle.gl_verilog_check.specs.Homes.{home_of, all_at_home};
 ghost use Rattle.gl_verilog_check.specs.Tests as tests;
 ghost use Rattle.gl_verilog_check.specs.Tests.{at_most_two};
@@ -18,7 +18,7 @@ use std::alloc::Global;
 
 // Whether no name is declared twice.
 fn are_distinct(alloc: Global, declarations: &[Declaration]) -> Result<bool, Memory>
-    ensures { IfOk result (λ b. b ≡ tests.are_new [] (map declaration_of declarations.now)) }
+    ensures { IfOk result (λ b. b ≡ tests.are_new [] (scope_of declarations.now)) }
 {
     let mut names = IndexSet::new(alloc);
     for declaration in declarations {
@@ -100,7 +100,7 @@ fn writes_in(statement: &Statement, memory: usize) -> u8
 
 // How many blocks assign a register, or 2 where more do; None where two statements of one list do.
 fn blocks_of(blocks: &[Statement], register: usize) -> Option<u8>
-    ensures { result ≡ option_map at_most_two (tests.blocks_once register (map statement_of blocks.now)) }
+    ensures { result ≡ option_map at_most_two (tests.blocks_once register (statements_of blocks.now)) }
 {
     let mut count = 0;
     for block in blocks {
@@ -112,7 +112,7 @@ fn blocks_of(blocks: &[Statement], register: usize) -> Option<u8>
 
 // How many writes to a memory there are, or 2 where there are more.
 fn writes_of(blocks: &[Statement], memory: usize) -> u8
-    ensures { result ≡ at_most_two (valid.writes_of (map statement_of blocks.now) memory) }
+    ensures { result ≡ at_most_two (valid.writes_of (statements_of blocks.now) memory) }
 {
     let mut count = 0;
     for block in blocks {
@@ -123,7 +123,7 @@ fn writes_of(blocks: &[Statement], memory: usize) -> u8
 
 // Whether the register or memory of this number has a driver.
 fn is_assigned(declaration: &Declaration, n: usize, blocks: &[Statement]) -> bool
-    ensures { result ≡ tests.is_assigned (map statement_of blocks.now) n (declaration_of declaration.now).kind }
+    ensures { result ≡ tests.is_assigned (statements_of blocks.now) n (declaration_of declaration.now).kind }
 {
     match declaration.kind {
         Kind::Input | Kind::OutputWire | Kind::Wire => true,
@@ -134,7 +134,7 @@ fn is_assigned(declaration: &Declaration, n: usize, blocks: &[Statement]) -> boo
 
 // Whether every register and memory has a driver, by all blocks for each of them.
 fn are_assigned(declarations: &[Declaration], blocks: &[Statement]) -> bool
-    ensures { result ≡ tests.all_assigned (map statement_of blocks.now) 0 (map declaration_of declarations.now) }
+    ensures { result ≡ tests.all_assigned (statements_of blocks.now) 0 (scope_of declarations.now) }
 {
     for (n, declaration) in declarations.iter().enumerate() {
         if !is_assigned(declaration, n, blocks) {
@@ -146,7 +146,7 @@ fn are_assigned(declarations: &[Declaration], blocks: &[Statement]) -> bool
 
 // Whether the register or memory of this number has a driver in its home.
 fn is_at_home(declaration: &Declaration, n: usize, blocks: &[Statement], homes: &[usize]) -> bool
-    ensures { result ≡ tests.is_assigned (home_of homes.now (map statement_of blocks.now) n) n (declaration_of declaration.now).kind }
+    ensures { result ≡ tests.is_assigned (home_of homes.now (statements_of blocks.now) n) n (declaration_of declaration.now).kind }
 {
     let Some(home) = homes.get(n) else {
         return is_assigned(declaration, n, &[]);
@@ -159,7 +159,7 @@ fn is_at_home(declaration: &Declaration, n: usize, blocks: &[Statement], homes: 
 
 // Whether every register and memory has a driver in its home.
 fn are_at_home(declarations: &[Declaration], blocks: &[Statement], homes: &[usize]) -> bool
-    ensures { result ≡ all_at_home homes.now (map statement_of blocks.now) 0 (map declaration_of declarations.now) }
+    ensures { result ≡ all_at_home homes.now (statements_of blocks.now) 0 (scope_of declarations.now) }
 {
     for (n, declaration) in declarations.iter().enumerate() {
         if !is_at_home(declaration, n, blocks, homes) {
@@ -176,7 +176,7 @@ fn have_drivers(
     declarations: &[Declaration],
     blocks: &[Statement],
 ) -> Result<bool, Memory>
-    ensures { IfOk result (λ b. b ≡ tests.all_assigned (map statement_of blocks.now) 0 (map declaration_of declarations.now)) }
+    ensures { IfOk result (λ b. b ≡ tests.all_assigned (statements_of blocks.now) 0 (scope_of declarations.now)) }
 {
     let Ok(homes) = homes_of(alloc, declarations.len(), blocks) else {
         return Err(Memory);
@@ -194,8 +194,8 @@ fn parts_are_valid(
     assignments: &[Assignment],
     blocks: &[Statement],
 ) -> Result<bool, Memory>
-    ensures sound { IfOk result (λ b. b ≡ true → IsValid (made_of declarations.now assignments.now blocks.now)) }
-    ensures complete { IfOk result (λ b. IsValid (made_of declarations.now assignments.now blocks.now) → b ≡ true) }
+    ensures yes { IfOk result (λ b. b ≡ true → AreValid declarations.now assignments.now blocks.now) }
+    ensures all { IfOk result (λ b. AreValid declarations.now assignments.now blocks.now → b ≡ true) }
 {
     let distinct = are_distinct(alloc, declarations)?;
     if !distinct {

@@ -3,13 +3,14 @@
 ghost use Rattle.std.specs.Prelude.{◌≡◌, map, slice_get, option_map, unwrap_or, true};
 ghost use Rattle.gl_verilog.specs.View.{declaration_of, expr_of, assignment_of, kind_of, op_of};
 ghost use Rattle.gl_verilog.specs.Widths.{width_after};
+ghost use Rattle.gl_verilog_check.specs.Kept.{scope_of};
 ghost use Rattle.gl_verilog_check.specs.Kept.{is_memory, net_width, part_width, word_width, kept, has_address, is_driven, is_register, takes, assigned_width, clock_test, literal_width, both_width, choose_width, join_width, only_taken, put_width, write_width, memory_fits, has_size, reads};
 
 use gl_verilog::{Assignment, BinaryOp, Declaration, Expr, Kind};
 
 /// The declaration of this number.
 pub(crate) fn declaration_at(declarations: &[Declaration], n: usize) -> Option<&Declaration>
-    ensures { option_map (λ d. declaration_of d.now) result ≡ slice_get (map declaration_of declarations.now) n }
+    ensures { option_map (λ d. declaration_of d.now) result ≡ slice_get (scope_of declarations.now) n }
 {
     declarations.get(n)
 }
@@ -129,7 +130,7 @@ fn join_width(low_width: u8, high: u16, low: u16) -> Option<u16>
 
 /// The bits of an expression, where its operators keep all widths.
 pub(crate) fn kept(declarations: &[Declaration], expr: &Expr) -> Option<u16>
-    ensures { result ≡ kept (map declaration_of declarations.now) (expr_of expr.now) }
+    ensures { result ≡ kept (scope_of declarations.now) (expr_of expr.now) }
 {
     match expr {
         Expr::Net(n) => net_width(declaration_at(declarations, *n)?),
@@ -210,7 +211,7 @@ pub(crate) fn wants_driver(declaration: &Declaration) -> bool
 
 /// The bits of an assignment to a net that has as many.
 pub(crate) fn assigned_width(declarations: &[Declaration], assignment: &Assignment) -> Option<u16>
-    ensures { result ≡ assigned_width (map declaration_of declarations.now) (assignment_of assignment.now) }
+    ensures { result ≡ assigned_width (scope_of declarations.now) (assignment_of assignment.now) }
 {
     let width = kept(declarations, &assignment.value)?;
     let target = declaration_at(declarations, assignment.target)?;
@@ -219,7 +220,7 @@ pub(crate) fn assigned_width(declarations: &[Declaration], assignment: &Assignme
 
 /// The bits of what a register takes.
 pub(crate) fn put_width(declarations: &[Declaration], register: usize, value: &Expr) -> Option<u16>
-    ensures { result ≡ put_width (map declaration_of declarations.now) register (expr_of value.now) }
+    ensures { result ≡ put_width (scope_of declarations.now) register (expr_of value.now) }
 {
     let width = kept(declarations, value)?;
     let target = declaration_at(declarations, register)?;
@@ -233,7 +234,7 @@ pub(crate) fn write_width(
     address: &Expr,
     value: &Expr,
 ) -> Option<u16>
-    ensures { result ≡ write_width (map declaration_of declarations.now) memory (expr_of address.now) (expr_of value.now) }
+    ensures { result ≡ write_width (scope_of declarations.now) memory (expr_of address.now) (expr_of value.now) }
 {
     let address = kept(declarations, address)?;
     let width = kept(declarations, value)?;

@@ -104,9 +104,9 @@ module _ (all : List Declaration) (distinct : AreDistinct all) (n : ℕ) (d : De
   same_test m t name e h = same_when (nat_eq m n) (bytes_eq d.name name)
       (λ f. let same : m ≡ n = eqb-true m n f in let s : slice_get all n ≡ Some t = subst (λ (k : ℕ). slice_get all k ≡ Some t) same e in let td : t ≡ d = some_same t d (sym s ∙ at) in subst (λ (c : Declaration). bytes_eq c.name name ≡ true) td h)
       (λ f. let td : d.name ≡ t.name = same_text d.name name f ∙ sym (same_text t.name name h) in
-        let a : number_of all t.name ≡ Some m = number_at all m t distinct e in
-        let b : number_of all t.name ≡ Some n = subst (λ (k : List ℕ). number_of all k ≡ Some n) td (number_at all n d distinct at) in
-        eq-eqb m n (some_same m n (sym a ∙ b)))
+      let a : number_of all t.name ≡ Some m = number_at all m t distinct e in
+      let b : number_of all t.name ≡ Some n = subst (λ (k : List ℕ). number_of all k ≡ Some n) td (number_at all n d distinct at) in
+      eq-eqb m n (some_same m n (sym a ∙ b)))
 
   module _ (ds : List Declaration) (ext : Extends ds all) where
     target_same : (name : List ℕ) (m : ℕ) → number_of ds name ≡ Some m → nat_eq m n ≡ bytes_eq d.name name
@@ -125,9 +125,12 @@ module _ (all : List Declaration) (distinct : AreDistinct all) (n : ℕ) (d : De
     then_same test yes' t x a = record { hit = rw a.hit refl; fill = rw a.fill refl; to = λ h. (a.to h.0, tt); from = λ h. (a.from h.0, tt) }
 
     both_same : (first rest : WrittenStatement) (x y : Statement) → Same n d.name first x → Same n d.name rest y → Same n d.name (Listed first rest) (Both x y)
-    both_same first rest x y a b = record { hit = rw (a.hit, b.hit) refl; fill = rw (a.fill, b.fill) refl;
+    both_same first rest x y a b = record {
+      hit = rw (a.hit, b.hit) refl;
+      fill = rw (a.fill, b.fill) refl;
       to = λ h. ((let f : (assigns x n && assigns y n) ≡ false = h.0 in rw (a.hit, b.hit) at f), a.to h.1, b.to h.2);
-      from = λ h. (rw (a.hit, b.hit) h.0, a.from h.1, b.from h.2) }
+      from = λ h. (rw (a.hit, b.hit) h.0, a.from h.1, b.from h.2);
+    }
 
     back_at : (s : WrittenStatement) (x y : Statement) → x ≡ y → Same n d.name s y → Same n d.name s x
     back_at s x y e h = subst (Same n d.name s) (sym e) h

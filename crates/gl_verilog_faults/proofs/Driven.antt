@@ -89,8 +89,13 @@ module _ (all : List Declaration) (distinct : AreDistinct all) where
 
     room_first : (done before beside : List (List ℕ)) (a b : WrittenStatement) → RoomIn done before beside (Listed a b) → RoomIn done before beside a
     room_first done before beside a b f n d at = let r = f n d at in record {
-      hit_done = λ g h. r.hit_done g (or_left (hits d.name a) (hits d.name b) h); hit_beside = λ g h. r.hit_beside g (or_left (hits d.name a) (hits d.name b) h); once = λ g. (r.once g).1;
-      fill_done = λ g h. r.fill_done g (omega arith); fill_before = λ g h. r.fill_before g (omega arith); most = λ g. (let m : fills d.name a + fills d.name b ≤ 1 = r.most g in omega arith) }
+      hit_done = λ g h. r.hit_done g (or_left (hits d.name a) (hits d.name b) h);
+      hit_beside = λ g h. r.hit_beside g (or_left (hits d.name a) (hits d.name b) h);
+      once = λ g. (r.once g).1;
+      fill_done = λ g h. r.fill_done g (omega arith);
+      fill_before = λ g h. r.fill_before g (omega arith);
+      most = λ g. (let m : fills d.name a + fills d.name b ≤ 1 = r.most g in omega arith);
+    }
 
     room_rest : (done before beside : List (List ℕ)) (a b : WrittenStatement) (x : Statement) → resolve_statement ds a ≡ Some x → KeepsWidthsIn all x → RoomIn done before beside (Listed a b) → RoomIn done (before ++ targets_in a) (beside ++ targets_in a) b
     room_rest done before beside a b x q k f n d at = let r = f n d at in record {
@@ -99,24 +104,38 @@ module _ (all : List Declaration) (distinct : AreDistinct all) where
       once = λ g. (r.once g).2;
       fill_done = λ g h. r.fill_done g (omega arith);
       fill_before = λ g h. not_among d.name before (targets_in a) (r.fill_before g (omega arith)) (no_fill a x q k n d at g (λ p. (let m : fills d.name a + fills d.name b ≤ 1 = r.most g in omega arith)));
-      most = λ g. (let m : fills d.name a + fills d.name b ≤ 1 = r.most g in omega arith) }
+      most = λ g. (let m : fills d.name a + fills d.name b ≤ 1 = r.most g in omega arith);
+    }
 
     room_yes : (done before beside : List (List ℕ)) (test : WrittenExpr) (a b : WrittenStatement) → RoomIn done before beside (IfElse test a b) → RoomIn done before beside a
     room_yes done before beside test a b f n d at = let r = f n d at in record {
-      hit_done = λ g h. r.hit_done g (or_left (hits d.name a) (hits d.name b) h); hit_beside = λ g h. r.hit_beside g (or_left (hits d.name a) (hits d.name b) h); once = λ g. (r.once g).0;
-      fill_done = λ g h. r.fill_done g (omega arith); fill_before = λ g h. r.fill_before g (omega arith); most = λ g. (let m : fills d.name a + fills d.name b ≤ 1 = r.most g in omega arith) }
+      hit_done = λ g h. r.hit_done g (or_left (hits d.name a) (hits d.name b) h);
+      hit_beside = λ g h. r.hit_beside g (or_left (hits d.name a) (hits d.name b) h);
+      once = λ g. (r.once g).0;
+      fill_done = λ g h. r.fill_done g (omega arith);
+      fill_before = λ g h. r.fill_before g (omega arith);
+      most = λ g. (let m : fills d.name a + fills d.name b ≤ 1 = r.most g in omega arith);
+    }
 
     room_no : (done before beside : List (List ℕ)) (test : WrittenExpr) (a b : WrittenStatement) (x : Statement) → resolve_statement ds a ≡ Some x → KeepsWidthsIn all x → RoomIn done before beside (IfElse test a b) → RoomIn done (before ++ targets_in a) beside b
     room_no done before beside test a b x q k f n d at = let r = f n d at in record {
-      hit_done = λ g h. r.hit_done g (or_right (hits d.name a) (hits d.name b) h); hit_beside = λ g h. r.hit_beside g (or_right (hits d.name a) (hits d.name b) h); once = λ g. (r.once g).1;
+      hit_done = λ g h. r.hit_done g (or_right (hits d.name a) (hits d.name b) h);
+      hit_beside = λ g h. r.hit_beside g (or_right (hits d.name a) (hits d.name b) h);
+      once = λ g. (r.once g).1;
       fill_done = λ g h. r.fill_done g (omega arith);
       fill_before = λ g h. not_among d.name before (targets_in a) (r.fill_before g (omega arith)) (no_fill a x q k n d at g (λ p. (let m : fills d.name a + fills d.name b ≤ 1 = r.most g in omega arith)));
-      most = λ g. (let m : fills d.name a + fills d.name b ≤ 1 = r.most g in omega arith) }
+      most = λ g. (let m : fills d.name a + fills d.name b ≤ 1 = r.most g in omega arith);
+    }
 
     room_then : (done before beside : List (List ℕ)) (test : WrittenExpr) (a : WrittenStatement) → RoomIn done before beside (IfThen test a) → RoomIn done before beside a
     room_then done before beside test a f n d at = let r = f n d at in record {
-      hit_done = λ g h. r.hit_done g (or_left (hits d.name a) false h); hit_beside = λ g h. r.hit_beside g (or_left (hits d.name a) false h); once = λ g. (r.once g).0;
-      fill_done = λ g h. r.fill_done g (omega arith); fill_before = λ g h. r.fill_before g (omega arith); most = λ g. (let m : fills d.name a + 0 ≤ 1 = r.most g in omega arith) }
+      hit_done = λ g h. r.hit_done g (or_left (hits d.name a) false h);
+      hit_beside = λ g h. r.hit_beside g (or_left (hits d.name a) false h);
+      once = λ g. (r.once g).0;
+      fill_done = λ g h. r.fill_done g (omega arith);
+      fill_before = λ g h. r.fill_before g (omega arith);
+      most = λ g. (let m : fills d.name a + 0 ≤ 1 = r.most g in omega arith);
+    }
 
     room_block : (done before beside : List (List ℕ)) (a : WrittenStatement) → RoomIn done before beside (Block a) → RoomIn done before beside a
     room_block done before beside a f n d at = let r = f n d at in record { hit_done = r.hit_done; hit_beside = r.hit_beside; once = r.once; fill_done = r.fill_done; fill_before = r.fill_before; most = r.most }
@@ -184,9 +203,11 @@ module _ (all : List Declaration) (distinct : AreDistinct all) where
         assigned_done = λ g h. not_among d.name done (target ∷ []) (c.assigned_done g (omega arith)) (alone d.name target (λ p. (let t : 1 ≤ (if bytes_eq d.name target then 1 else 0) = true_count (bytes_eq d.name target) p in let m : (if bytes_eq d.name target then 1 else 0) + assigned_in d.name is ≤ 1 = c.assigned_most g in omega arith)));
         assigned_most = λ g. (let m : (if bytes_eq d.name target then 1 else 0) + assigned_in d.name is ≤ 1 = c.assigned_most g in omega arith);
         hit_done = λ g h. not_among d.name done (target ∷ []) (c.hit_done g h) (alone d.name target (λ p. driven_register d.kind (wire p) g));
-        hit_most = c.hit_most; once = c.once;
+        hit_most = c.hit_most;
+        once = c.once;
         fill_done = λ g h. not_among d.name done (target ∷ []) (c.fill_done g h) (alone d.name target (λ p. driven_memory d.kind (wire p) g));
-        fill_most = c.fill_most }
+        fill_most = c.fill_most;
+      }
 
   untouched : (q : List ℕ) (s : WrittenStatement) → (hits q s ≡ true → ⊥) → (1 ≤ fills q s → ⊥) → is_among q (targets_in s) ≡ false
   untouched q s f g = false_from_ne_true (is_among q (targets_in s)) (λ h. elim (touched q s h) [ inl p ↦ f p | inr p ↦ g p ])
@@ -203,21 +224,29 @@ module _ (all : List Declaration) (distinct : AreDistinct all) where
         hit_most = λ g. (let m : (if hits d.name body then 1 else 0) + hit_in d.name is ≤ 1 = c.hit_most g in omega arith);
         once = λ g. (c.once g).1;
         fill_done = λ g h. not_among d.name done (targets_in body) (c.fill_done g (omega arith)) (untouched d.name body (λ p. register_memory d.kind (reg p) g) (λ p. (let m : fills d.name body + filled_in d.name is ≤ 1 = c.fill_most g in omega arith)));
-        fill_most = λ g. (let m : fills d.name body + filled_in d.name is ≤ 1 = c.fill_most g in omega arith) }
+        fill_most = λ g. (let m : fills d.name body + filled_in d.name is ≤ 1 = c.fill_most g in omega arith);
+      }
 
   room_body : (done : List (List ℕ)) (clock : List ℕ) (body : WrittenStatement) (is : List WrittenItem) → Room done (Always clock body ∷ is) → RoomIn done [] [] body
   room_body done clock body is f n d at = let c = f n d at in record {
     hit_done = λ g h. c.hit_done g (let t : 1 ≤ (if hits d.name body then 1 else 0) = true_count (hits d.name body) h in omega arith);
-    hit_beside = λ g h. refl; once = λ g. (c.once g).0;
-    fill_done = λ g h. c.fill_done g (omega arith); fill_before = λ g h. refl;
-    most = λ g. (let m : fills d.name body + filled_in d.name is ≤ 1 = c.fill_most g in omega arith) }
+    hit_beside = λ g h. refl;
+    once = λ g. (c.once g).0;
+    fill_done = λ g h. c.fill_done g (omega arith);
+    fill_before = λ g h. refl;
+    most = λ g. (let m : fills d.name body + filled_in d.name is ≤ 1 = c.fill_most g in omega arith);
+  }
 
   room_same : (done : List (List ℕ)) (i : WrittenItem) (is : List WrittenItem) → Room done (i ∷ is) → ((q : List ℕ) → (assigned_in q (i ∷ is) ≡ assigned_in q is) × (hit_in q (i ∷ is) ≡ hit_in q is) × (filled_in q (i ∷ is) ≡ filled_in q is) × (OnceIn q (i ∷ is) → OnceIn q is)) → Room done is
   room_same done i is f same' n d at = let c = f n d at in let s = same' d.name in record {
-    assigned_done = λ g h. c.assigned_done g (rw s.0 h); assigned_most = λ g. rw s.0 at (c.assigned_most g);
-    hit_done = λ g h. c.hit_done g (rw s.1 h); hit_most = λ g. rw s.1 at (c.hit_most g);
+    assigned_done = λ g h. c.assigned_done g (rw s.0 h);
+    assigned_most = λ g. rw s.0 at (c.assigned_most g);
+    hit_done = λ g h. c.hit_done g (rw s.1 h);
+    hit_most = λ g. rw s.1 at (c.hit_most g);
     once = λ g. s.3 (c.once g);
-    fill_done = λ g h. c.fill_done g (rw s.2 h); fill_most = λ g. rw s.2 at (c.fill_most g) }
+    fill_done = λ g h. c.fill_done g (rw s.2 h);
+    fill_most = λ g. rw s.2 at (c.fill_most g);
+  }
 
   pub free_items : (items : List WrittenItem) (ds : List Declaration) (done : List (List ℕ)) (r : Resolved) → all ≡ ds ++ added items → resolve_items ds items ≡ Some r → KeptItems all r → Room done items → FreeItems done items
   free_items [] ds done r e q k f = tt
@@ -233,11 +262,13 @@ module _ (all : List Declaration) (distinct : AreDistinct all) where
       let s = seen_number ds target m.0 m.3 in
       let at = extends_by ds (added is) all e m.0 s.0 s.1.at in
       let g : IsDriven s.0.kind × (width_of all m.1 ≡ s.0.width) = at_some (slice_get all m.0) s.0 (λ d. IsDriven d.kind × (width_of all m.1 ≡ d.width)) at k'.assignments.0.0 in
-      let one : 1 ≤ (if bytes_eq s.0.name target then 1 else 0) + assigned_in s.0.name is = (let t : 1 ≤ (if bytes_eq s.0.name target then 1 else 0) = true_count (bytes_eq s.0.name target) s.1.named in omega arith) in
-      (not_from_false (is_among target done) (same_among s.0.name target done s.1.named ∙ (f m.0 s.0 at).assigned_done g.0 one),
-        free_items is ds (done ++ target ∷ []) m.2 e m.5 (record { assignments = k'.assignments.1; blocks = k'.blocks }) (room_assign ds done target value is r e q k f))
+      let one : 1 ≤ (if bytes_eq s.0.name target then 1 else 0) + assigned_in s.0.name is = (let t : 1 ≤ (if bytes_eq s.0.name target then 1 else 0) = true_count (bytes_eq s.0.name target) s.1.named in omega arith) in (
+        not_from_false (is_among target done) (same_among s.0.name target done s.1.named ∙ (f m.0 s.0 at).assigned_done g.0 one),
+        free_items is ds (done ++ target ∷ []) m.2 e m.5 (record { assignments = k'.assignments.1; blocks = k'.blocks }) (room_assign ds done target value is r e q k f),
+      )
   free_items (Always clock body ∷ is) ds done r e q k f =
       let m = three_some with_block (clocked ds clock) (resolve_statement ds body) (resolve_items ds is) r q in
-      let k' = kept_at all r (with_block m.0 m.1 m.2) m.6 k in
-      (free_in ds (extends_by ds (added is) all e) done body m.1 [] [] m.4 k'.blocks.0 (room_body done clock body is f),
-        free_items is ds (done ++ targets_in body) m.2 e m.5 (record { assignments = k'.assignments; blocks = k'.blocks.1 }) (room_always ds done clock body is r e q k f))
+      let k' = kept_at all r (with_block m.0 m.1 m.2) m.6 k in (
+        free_in ds (extends_by ds (added is) all e) done body m.1 [] [] m.4 k'.blocks.0 (room_body done clock body is f),
+        free_items is ds (done ++ targets_in body) m.2 e m.5 (record { assignments = k'.assignments; blocks = k'.blocks.1 }) (room_always ds done clock body is r e q k f),
+      )

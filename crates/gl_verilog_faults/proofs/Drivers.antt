@@ -128,16 +128,23 @@ bound_put q done before beside target value f =
     record {
       hit_done = λ h. sym (same_among q target done h) ∙ not-true (is_among target done) p.0;
       hit_beside = λ h. sym (same_among q target beside h) ∙ not-true (is_among target beside) p.1;
-      once = tt; fill_done = λ h. absurd (omega arith); fill_before = λ h. absurd (omega arith); most = omega arith }
+      once = tt;
+      fill_done = λ h. absurd (omega arith);
+      fill_before = λ h. absurd (omega arith);
+      most = omega arith;
+    }
 
 bound_write : (q : List ℕ) (done before beside : List (List ℕ)) (target : List ℕ) (address value : WrittenExpr) → Free done before beside (UpdateWord target address value) → Bound q done before beside (UpdateWord target address value)
 bound_write q done before beside target address value f =
     let p = and_parts (not (is_among target done)) (not (is_among target before)) f in
     record {
-      hit_done = λ h. absurd cc; hit_beside = λ h. absurd cc; once = tt;
+      hit_done = λ h. absurd cc;
+      hit_beside = λ h. absurd cc;
+      once = tt;
       fill_done = λ h. sym (same_among q target done (count_true (bytes_eq q target) h)) ∙ not-true (is_among target done) p.0;
       fill_before = λ h. sym (same_among q target before (count_true (bytes_eq q target) h)) ∙ not-true (is_among target before) p.1;
-      most = at_most_one (bytes_eq q target) }
+      most = at_most_one (bytes_eq q target);
+    }
 
 -- two statements, the second behind the first
 most_two : (q : List ℕ) (done before beside more : List (List ℕ)) (a b : WrittenStatement) → Bound q done before beside a → Bound q done (before ++ targets_in a) more b → fills q a + fills q b ≤ 1
@@ -160,7 +167,8 @@ bound_else q done before beside test a b x y = record {
   once = (x.once, y.once);
   fill_done = λ h. (fill_two q done before beside beside a b x y h).0;
   fill_before = λ h. (fill_two q done before beside beside a b x y h).1;
-  most = most_two q done before beside beside a b x y }
+  most = most_two q done before beside beside a b x y;
+}
 
 apart_two : (q : List ℕ) (done before beside : List (List ℕ)) (a b : WrittenStatement) → Bound q done (before ++ targets_in a) (beside ++ targets_in a) b → (c : Bool) → hits q b ≡ c → (hits q a && c) ≡ false
 apart_two q done before beside a b y true e = and_left (hits q a) true (unhit q a (among_apart q beside (targets_in a) (y.hit_beside e)).1)
@@ -173,7 +181,8 @@ bound_list q done before beside a b x y = record {
   once = (apart_two q done before beside a b y (hits q b) refl, x.once, y.once);
   fill_done = λ h. (fill_two q done before beside (beside ++ targets_in a) a b x y h).0;
   fill_before = λ h. (fill_two q done before beside (beside ++ targets_in a) a b x y h).1;
-  most = most_two q done before beside (beside ++ targets_in a) a b x y }
+  most = most_two q done before beside (beside ++ targets_in a) a b x y;
+}
 
 pub bound : (q : List ℕ) (done : List (List ℕ)) (s : WrittenStatement) (before beside : List (List ℕ)) → Free done before beside s → Bound q done before beside s
 bound q done (Update target value) before beside f = bound_put q done before beside target value f
@@ -183,7 +192,11 @@ bound q done (IfThen test yes') before beside f =
     record {
       hit_done = λ h. elim (or_cases (hits q yes') false h) [ inl p ↦ x.hit_done p | inr p ↦ absurd cc ];
       hit_beside = λ h. elim (or_cases (hits q yes') false h) [ inl p ↦ x.hit_beside p | inr p ↦ absurd cc ];
-      once = (x.once, tt); fill_done = λ h. x.fill_done (omega arith); fill_before = λ h. x.fill_before (omega arith); most = (let m : fills q yes' ≤ 1 = x.most in omega arith) }
+      once = (x.once, tt);
+      fill_done = λ h. x.fill_done (omega arith);
+      fill_before = λ h. x.fill_before (omega arith);
+      most = (let m : fills q yes' ≤ 1 = x.most in omega arith);
+    }
 bound q done (IfElse test yes' no') before beside f = bound_else q done before beside test yes' no' (bound q done yes' before beside f.0) (bound q done no' (before ++ targets_in yes') beside f.1)
 bound q done (Block statements) before beside f =
     let x = bound q done statements before beside f in
@@ -217,19 +230,25 @@ bound_assign q done target value is f x =
     record {
       assigned_done = λ h. elim (one_of (if bytes_eq q target then 1 else 0) (assigned_in q is) h) [ inl p ↦ here p | inr p ↦ (among_apart q done (target ∷ []) (x.assigned_done p)).0 ];
       assigned_most = most_more (if bytes_eq q target then 1 else 0) (assigned_in q is) (at_most_one (bytes_eq q target)) x.assigned_most
-        (λ h. zero_unless (if bytes_eq q target then 1 else 0) (λ p. both_ways (is_among q (target ∷ [])) (among_apart q done (target ∷ []) (x.assigned_done h)).1 (among_one q target (count_true (bytes_eq q target) p))));
-      hit_done = λ h. (among_apart q done (target ∷ []) (x.hit_done h)).0; hit_most = x.hit_most;
-      fill_done = λ h. (among_apart q done (target ∷ []) (x.fill_done h)).0; fill_most = x.fill_most; once = x.once }
+          (λ h. zero_unless (if bytes_eq q target then 1 else 0) (λ p. both_ways (is_among q (target ∷ [])) (among_apart q done (target ∷ []) (x.assigned_done h)).1 (among_one q target (count_true (bytes_eq q target) p))));
+      hit_done = λ h. (among_apart q done (target ∷ []) (x.hit_done h)).0;
+      hit_most = x.hit_most;
+      fill_done = λ h. (among_apart q done (target ∷ []) (x.fill_done h)).0;
+      fill_most = x.fill_most;
+      once = x.once;
+    }
 
 bound_always : (q : List ℕ) (done : List (List ℕ)) (clock : List ℕ) (body : WrittenStatement) (is : List WrittenItem) → Bound q done [] [] body → BoundItems q (done ++ targets_in body) is → BoundItems q done (Always clock body ∷ is)
 bound_always q done clock body is b x = record {
-    assigned_done = λ h. (among_apart q done (targets_in body) (x.assigned_done h)).0; assigned_most = x.assigned_most;
-    hit_done = λ h. elim (one_of (if hits q body then 1 else 0) (hit_in q is) h) [ inl p ↦ b.hit_done (count_true (hits q body) p) | inr p ↦ (among_apart q done (targets_in body) (x.hit_done p)).0 ];
-    hit_most = most_more (if hits q body then 1 else 0) (hit_in q is) (at_most_one (hits q body)) x.hit_most
+  assigned_done = λ h. (among_apart q done (targets_in body) (x.assigned_done h)).0;
+  assigned_most = x.assigned_most;
+  hit_done = λ h. elim (one_of (if hits q body then 1 else 0) (hit_in q is) h) [ inl p ↦ b.hit_done (count_true (hits q body) p) | inr p ↦ (among_apart q done (targets_in body) (x.hit_done p)).0 ];
+  hit_most = most_more (if hits q body then 1 else 0) (hit_in q is) (at_most_one (hits q body)) x.hit_most
       (λ h. zero_unless (if hits q body then 1 else 0) (λ p. both_ways (hits q body) (unhit q body (among_apart q done (targets_in body) (x.hit_done h)).1) (count_true (hits q body) p)));
-    fill_done = λ h. elim (one_of (fills q body) (filled_in q is) h) [ inl p ↦ b.fill_done p | inr p ↦ (among_apart q done (targets_in body) (x.fill_done p)).0 ];
-    fill_most = most_more (fills q body) (filled_in q is) b.most x.fill_most (λ h. unfilled q body (among_apart q done (targets_in body) (x.fill_done h)).1);
-    once = (b.once, x.once) }
+  fill_done = λ h. elim (one_of (fills q body) (filled_in q is) h) [ inl p ↦ b.fill_done p | inr p ↦ (among_apart q done (targets_in body) (x.fill_done p)).0 ];
+  fill_most = most_more (fills q body) (filled_in q is) b.most x.fill_most (λ h. unfilled q body (among_apart q done (targets_in body) (x.fill_done h)).1);
+  once = (b.once, x.once);
+}
 
 pub bound_items : (q : List ℕ) (items : List WrittenItem) (done : List (List ℕ)) → FreeItems done items → BoundItems q done items
 bound_items q [] done f = record { assigned_done = λ h. absurd (omega arith); assigned_most = omega arith; hit_done = λ h. absurd (omega arith); hit_most = omega arith; fill_done = λ h. absurd (omega arith); fill_most = omega arith; once = tt }

@@ -78,7 +78,7 @@ one_place text k p q a b = elim (cases_order p q) [
   | inr h ↦ elim h [
     | inl l ↦ absurd (let x : k < length (tokens_of (take q text)) = a.behind q l b.within in let y : length (tokens_of (take q text)) ≤ k = b.before in omega arith)
     | inr l ↦ absurd (let x : k < length (tokens_of (take p text)) = b.behind p l a.within in let y : length (tokens_of (take p text)) ≤ k = a.before in omega arith)
-    ]
+  ]
 ]
 
 -- ---- none excludes another
@@ -221,6 +221,9 @@ valid_or_broken w g = elim (first_demand (demands_of w)) [
     met_case h j = elim (first_loop j.0.assignments j.0.assignments) [
       | inl f ↦ inl (demands_valid w g h (λ m e. let i : j.0 ≡ m = option_same j.0 m (sym j.1 ∙ e) in subst (λ (x : Module). IsFree x.assignments) i f))
       | inr l ↦ (let n : length l.front < length (assign_tokens (items_token w.ports) w.items) = (let a : length l.front < length (l.front ++ l.looped' ∷ l.back) = within_list l.front l.looped' l.back in let b : length (assign_tokens (items_token w.ports) w.items) ≡ length j.0.assignments = module_tokens w j.0 j.1 in let c : length j.0.assignments ≡ length (l.front ++ l.looped' ∷ l.back) = ap length l.parts in omega arith) in
-          inr (Loop, get_or (assign_tokens (items_token w.ports) w.items) (length l.front) 0,
-            inr (refl, record { met = h; meant = j.0; resolved = j.1; front = l.front; looped = l.looped'; back = l.back; parts = l.parts; free = l.free; loops = l.loops; place = slice_get-get_or (assign_tokens (items_token w.ports) w.items) (length l.front) 0 n })))
+          inr (
+            Loop,
+            get_or (assign_tokens (items_token w.ports) w.items) (length l.front) 0,
+            inr (refl, record { met = h; meant = j.0; resolved = j.1; front = l.front; looped = l.looped'; back = l.back; parts = l.parts; free = l.free; loops = l.loops; place = slice_get-get_or (assign_tokens (items_token w.ports) w.items) (length l.front) 0 n }),
+          ))
     ]

@@ -194,19 +194,30 @@ module _ (ds all : List Declaration) (ext : Extends ds all) (small : AreSmall ds
   meant_name name k h =
       let s = seen_declared ds name h.0 in
       let c : is_clock_name name ≡ false = not-true (is_clock_name name) h.1.0 in
-      let m : not (is_memory s.1) ≡ true = rw (so_by is_memory ds name s.0 s.1 s.2) at h.1.1.0 in
-      (Net s.0, record { resolved = ap (option_map Net) (read_by ds name s.0 s.1 s.2 c);
-        here = width-at ds s.0 s.1 s.2.at ∙ sym (bits_by ds name s.0 s.1 s.2);
-        wide = width-at all s.0 s.1 (ext s.0 s.1 s.2.at) ∙ sym (bits_by ds name s.0 s.1 s.2);
-        kept = some_at (slice_get all s.0) s.1 IsReadable (ext s.0 s.1 s.2.at) (net_kind s.1.kind m, not_clock name ds s.0 s.1 s.2 c);
-        small = rw (bits_by ds name s.0 s.1 s.2) (small s.0 s.1 s.2.at) })
+      let m : not (is_memory s.1) ≡ true = rw (so_by is_memory ds name s.0 s.1 s.2) at h.1.1.0 in (
+        Net s.0,
+        record {
+          resolved = ap (option_map Net) (read_by ds name s.0 s.1 s.2 c);
+          here = width-at ds s.0 s.1 s.2.at ∙ sym (bits_by ds name s.0 s.1 s.2);
+          wide = width-at all s.0 s.1 (ext s.0 s.1 s.2.at) ∙ sym (bits_by ds name s.0 s.1 s.2);
+          kept = some_at (slice_get all s.0) s.1 IsReadable (ext s.0 s.1 s.2.at) (net_kind s.1.kind m, not_clock name ds s.0 s.1 s.2 c);
+          small = rw (bits_by ds name s.0 s.1 s.2) (small s.0 s.1 s.2.at);
+        },
+      )
 
   meant_constant : (size : List ℕ) (radix : ℕ) (digits : List ℕ) (k : ℕ) → AreMet (of_expr ds k (Constant size radix digits)) → (x : Expr) × Meant ds all (Constant size radix digits) x
   meant_constant size radix digits k h =
       let p = and_parts (leb 1 (decimal_number size)) (ltb (number_in radix digits) (2 ^ decimal_number size)) h.0 in
-      let l : decimal_number size ≤ 128 = leb-true (decimal_number size) 128 h.1.0 in
-      (Literal (number_in radix digits) (decimal_number size), record { resolved = refl; here = refl; wide = refl;
-        kept = (record { some' = leb-true 1 (decimal_number size) p.0; most = l }, ltb-true (number_in radix digits) (2 ^ decimal_number size) p.1); small = l })
+      let l : decimal_number size ≤ 128 = leb-true (decimal_number size) 128 h.1.0 in (
+        Literal (number_in radix digits) (decimal_number size),
+        record {
+          resolved = refl;
+          here = refl;
+          wide = refl;
+          kept = (record { some' = leb-true 1 (decimal_number size) p.0; most = l }, ltb-true (number_in radix digits) (2 ^ decimal_number size) p.1);
+          small = l;
+        },
+      )
 
   meant_select : (e : WrittenExpr) (name : List ℕ) (high low : ℕ) (k : ℕ) → resolve_expr ds e ≡ option_map (Select high low) (number_read ds name) → bits_in ds e ≡ high + 1 - low → AreMet (of_select ds k name high low) → (x : Expr) × Meant ds all e x
   meant_select e name high low k r b h =
@@ -218,11 +229,16 @@ module _ (ds all : List Declaration) (ext : Extends ds all) (small : AreSmall ds
       let q = and_parts (leb low high) (ltb high s.1.width) p.1 in
       let lh : low ≤ high = leb-true low high q.0 in
       let hw : high < s.1.width = ltb-true high s.1.width q.1 in
-      let w : s.1.width ≤ 128 = small s.0 s.1 s.2.at in
-      (Select high low s.0, record { resolved = r ∙ ap (option_map (Select high low)) (read_by ds name s.0 s.1 s.2 c);
-        here = sym b; wide = sym b;
-        kept = (some_at (slice_get all s.0) s.1 (λ d. IsReadable d × IsTrue d.is_vector × (high < d.width)) (ext s.0 s.1 s.2.at) ((net_kind s.1.kind m, not_clock name ds s.0 s.1 s.2 c), p.0, hw), lh);
-        small = rw b (omega arith) })
+      let w : s.1.width ≤ 128 = small s.0 s.1 s.2.at in (
+        Select high low s.0,
+        record {
+          resolved = r ∙ ap (option_map (Select high low)) (read_by ds name s.0 s.1 s.2 c);
+          here = sym b;
+          wide = sym b;
+          kept = (some_at (slice_get all s.0) s.1 (λ d. IsReadable d × IsTrue d.is_vector × (high < d.width)) (ext s.0 s.1 s.2.at) ((net_kind s.1.kind m, not_clock name ds s.0 s.1 s.2 c), p.0, hw), lh);
+          small = rw b (omega arith);
+        },
+      )
 
   meant_word : (name : List ℕ) (address : WrittenExpr) (k : ℕ) (x : Expr) → Meant ds all address x → AreMet (of_expr ds k (WordOf name address)) → (y : Expr) × Meant ds all (WordOf name address) y
   meant_word name address k x a h =
@@ -230,12 +246,16 @@ module _ (ds all : List Declaration) (ext : Extends ds all) (small : AreSmall ds
       let c : is_clock_name name ≡ false = not-true (is_clock_name name) h.1.0 in
       let m : is_memory s.1 ≡ true = rw (so_by is_memory ds name s.0 s.1 s.2) at h.1.1.0 in
       let t = met_back (of_expr ds (k + 2) address) (ask BadMemory k (is_so (λ d. nat_eq (address_of d) (bits_in ds address)) ds name) ∷ []) h.1.1.1 in
-      let v : eqb (address_of s.1) (bits_in ds address) ≡ true = rw (so_by (λ d. nat_eq (address_of d) (bits_in ds address)) ds name s.0 s.1 s.2) at t.0 in
-      (Read s.0 x, record { resolved = rw (read_by ds name s.0 s.1 s.2 c, a.resolved) refl;
-        here = width-at ds s.0 s.1 s.2.at ∙ sym (bits_by ds name s.0 s.1 s.2);
-        wide = width-at all s.0 s.1 (ext s.0 s.1 s.2.at) ∙ sym (bits_by ds name s.0 s.1 s.2);
-        kept = (some_at (slice_get all s.0) s.1 (λ d. IsMemory d.kind (width_of all x)) (ext s.0 s.1 s.2.at) (memory_kind s.1.kind (width_of all x) m (eqb-true (address_of s.1) (bits_in ds address) v ∙ sym a.wide)), a.kept);
-        small = rw (bits_by ds name s.0 s.1 s.2) (small s.0 s.1 s.2.at) })
+      let v : eqb (address_of s.1) (bits_in ds address) ≡ true = rw (so_by (λ d. nat_eq (address_of d) (bits_in ds address)) ds name s.0 s.1 s.2) at t.0 in (
+        Read s.0 x,
+        record {
+          resolved = rw (read_by ds name s.0 s.1 s.2 c, a.resolved) refl;
+          here = width-at ds s.0 s.1 s.2.at ∙ sym (bits_by ds name s.0 s.1 s.2);
+          wide = width-at all s.0 s.1 (ext s.0 s.1 s.2.at) ∙ sym (bits_by ds name s.0 s.1 s.2);
+          kept = (some_at (slice_get all s.0) s.1 (λ d. IsMemory d.kind (width_of all x)) (ext s.0 s.1 s.2.at) (memory_kind s.1.kind (width_of all x) m (eqb-true (address_of s.1) (bits_in ds address) v ∙ sym a.wide)), a.kept);
+          small = rw (bits_by ds name s.0 s.1 s.2) (small s.0 s.1 s.2.at);
+        },
+      )
 
   meant_prefix : (op : PrefixOp) (arg : WrittenExpr) (x : Expr) → Meant ds all arg x → takes_prefix op (bits_in ds arg) ≡ true → Meant ds all (Prefix op arg) (prefixed ds op x)
   meant_prefix BitNot arg x a h = record { resolved = rw a.resolved refl; here = a.here; wide = a.here; kept = (a.wide ∙ sym a.here, a.kept); small = a.small }
@@ -249,10 +269,13 @@ module _ (ds all : List Declaration) (ext : Extends ds all) (small : AreSmall ds
       let same : bits_in ds l ≡ bits_in ds r = eqb-true (bits_in ds l) (bits_in ds r) p.0 in
       let t : width_taken ds op x ≡ bits_in ds l = taken-is (takes_bits op) (width_of ds x) (bits_in ds l) a.here p.1 in
       let w : width_after (op_of op) (width_taken ds op x) ≡ bits_in ds (Infix op l r) = after-is op (width_taken ds op x) ∙ ap (λ (n : ℕ). if gives_bit op then 1 else n) t in
-      record { resolved = rw (a.resolved, b.resolved) refl;
-        here = rw (infixed-is ds op x y) w; wide = rw (infixed-is ds op x y) w;
+      record {
+        resolved = rw (a.resolved, b.resolved) refl;
+        here = rw (infixed-is ds op x y) w;
+        wide = rw (infixed-is ds op x y) w;
         kept = subst (KeepsWidths all) (sym (infixed-is ds op x y)) (a.wide ∙ sym t, b.wide ∙ sym same ∙ sym t, a.kept, b.kept);
-        small = bit_small (gives_bit op) (bits_in ds l) a.small }
+        small = bit_small (gives_bit op) (bits_in ds l) a.small;
+      }
 
   pub meant : (e : WrittenExpr) (k : ℕ) → IsGrouped e → (12 ≤ level e → bits_in ds e ≤ 128) → AreMet (of_expr ds k e) → (x : Expr) × Meant ds all e x
   meant (Named name) k g w h = meant_name name k h
@@ -270,10 +293,16 @@ module _ (ds all : List Declaration) (ext : Extends ds all) (small : AreSmall ds
   meant (Parts first rest) k g w h =
       let total : bits_in ds first + bits_in ds rest ≤ 128 = w (omega arith) in
       let a = meant first k g.1 (λ l. omega arith) (met_front (of_expr ds k first) _ h) in
-      let b = meant rest (k + length (spell_expr first) + 1) g.2 (λ l. omega arith) (met_back (of_expr ds k first) _ h) in
-      (joined ds a.0 b.0, record { resolved = rw (a.1.resolved, b.1.resolved) refl;
-        here = rw (a.1.here, b.1.here) refl; wide = rw (a.1.wide, b.1.here) refl;
-        kept = (b.1.wide ∙ sym b.1.here, rw (a.1.wide, b.1.here) total, a.1.kept, b.1.kept); small = total })
+      let b = meant rest (k + length (spell_expr first) + 1) g.2 (λ l. omega arith) (met_back (of_expr ds k first) _ h) in (
+        joined ds a.0 b.0,
+        record {
+          resolved = rw (a.1.resolved, b.1.resolved) refl;
+          here = rw (a.1.here, b.1.here) refl;
+          wide = rw (a.1.wide, b.1.here) refl;
+          kept = (b.1.wide ∙ sym b.1.here, rw (a.1.wide, b.1.here) total, a.1.kept, b.1.kept);
+          small = total;
+        },
+      )
   meant (Parens inner) k g w h =
       let a = meant inner (k + 1) g.1 (λ l. absurd (let t : level inner ≤ 11 = g.0 in omega arith)) h in
       (a.0, record { resolved = a.1.resolved; here = a.1.here; wide = a.1.wide; kept = a.1.kept; small = a.1.small })
@@ -288,7 +317,6 @@ module _ (ds all : List Declaration) (ext : Extends ds all) (small : AreSmall ds
       let b = meant right (k + length (spell_expr left) + 1) g.3 (λ l. absurd (let t : level right < looseness op = g.1 in omega arith)) (met_back (of_expr ds k left) _ sides) in
       (infixed ds op a.0 b.0, meant_infix op left right a.0 b.0 a.1 b.1 own.0)
   meant (Conditional test yes' no') k g w h =
-
       let all3 = met_front (of_expr ds k test ++ of_expr ds (k + length (spell_expr test) + 1) yes' ++ of_expr ds (k + length (spell_expr test) + length (spell_expr yes') + 2) no') _ h in
       let own = met_back (of_expr ds k test ++ of_expr ds (k + length (spell_expr test) + 1) yes' ++ of_expr ds (k + length (spell_expr test) + length (spell_expr yes') + 2) no') _ h in
       let two = met_front (of_expr ds k test ++ of_expr ds (k + length (spell_expr test) + 1) yes') _ all3 in
@@ -297,9 +325,16 @@ module _ (ds all : List Declaration) (ext : Extends ds all) (small : AreSmall ds
       let b = meant no' (k + length (spell_expr test) + length (spell_expr yes') + 2) g.5 (λ l. absurd (let q : level no' ≤ 11 = g.2 in omega arith)) (met_back (of_expr ds k test ++ of_expr ds (k + length (spell_expr test) + 1) yes') _ all3) in
       let p = and_parts (eqb (bits_in ds test) 1) (eqb (bits_in ds yes') (bits_in ds no')) own.0 in
       let one : bits_in ds test ≡ 1 = eqb-true (bits_in ds test) 1 p.0 in
-      let same : bits_in ds yes' ≡ bits_in ds no' = eqb-true (bits_in ds yes') (bits_in ds no') p.1 in
-      (Choose t.0 a.0 b.0, record { resolved = rw (t.1.resolved, a.1.resolved, b.1.resolved) refl; here = a.1.here; wide = a.1.wide;
-        kept = (t.1.wide ∙ one, b.1.wide ∙ sym same ∙ sym a.1.wide, t.1.kept, a.1.kept, b.1.kept); small = a.1.small })
+      let same : bits_in ds yes' ≡ bits_in ds no' = eqb-true (bits_in ds yes') (bits_in ds no') p.1 in (
+        Choose t.0 a.0 b.0,
+        record {
+          resolved = rw (t.1.resolved, a.1.resolved, b.1.resolved) refl;
+          here = a.1.here;
+          wide = a.1.wide;
+          kept = (t.1.wide ∙ one, b.1.wide ∙ sym same ∙ sym a.1.wide, t.1.kept, a.1.kept, b.1.kept);
+          small = a.1.small;
+        },
+      )
 
   -- ---- and back
 
@@ -313,15 +348,21 @@ module _ (ds all : List Declaration) (ext : Extends ds all) (small : AreSmall ds
       let u = undeclared_met name n r.0 r.1 in
       let p : IsReadable r.0 = at_some (slice_get all n) r.0 IsReadable (ext n r.0 s.at) h in
       let m : is_so is_memory ds name ≡ is_memory r.0 = so_by is_memory ds name n r.0 s in
-      record { met = (u.0, (u.1, (rw m (kind_net r.0.kind p.0), tt)));
+      record {
+        met = (u.0, (u.1, (rw m (kind_net r.0.kind p.0), tt)));
         here = width-at ds n r.0 s.at ∙ sym (bits_by ds name n r.0 s);
         wide = width-at all n r.0 (ext n r.0 s.at) ∙ sym (bits_by ds name n r.0 s);
-        small = rw (bits_by ds name n r.0 s) (small n r.0 s.at) }
+        small = rw (bits_by ds name n r.0 s) (small n r.0 s.at);
+      }
 
   asked_constant : (size : List ℕ) (radix : ℕ) (digits : List ℕ) (k : ℕ) → KeepsWidths all (Literal (number_in radix digits) (decimal_number size)) → Asked ds all k (Constant size radix digits) (Literal (number_in radix digits) (decimal_number size))
   asked_constant size radix digits k h =
-      record { met = (and_from (leb 1 (decimal_number size)) (ltb (number_in radix digits) (2 ^ decimal_number size)) (le-leb 1 (decimal_number size) h.0.some') (lt-ltb (number_in radix digits) (2 ^ decimal_number size) h.1), (le-leb (decimal_number size) 128 h.0.most, tt));
-        here = refl; wide = refl; small = h.0.most }
+      record {
+        met = (and_from (leb 1 (decimal_number size)) (ltb (number_in radix digits) (2 ^ decimal_number size)) (le-leb 1 (decimal_number size) h.0.some') (lt-ltb (number_in radix digits) (2 ^ decimal_number size) h.1), (le-leb (decimal_number size) 128 h.0.most, tt));
+        here = refl;
+        wide = refl;
+        small = h.0.most;
+      }
 
   asked_select : (name : List ℕ) (high low k n : ℕ) → number_read ds name ≡ Some n → KeepsWidths all (Select high low n) → AreMet (of_select ds k name high low) × (high + 1 - low ≤ 128)
   asked_select name high low k n e h =
@@ -343,10 +384,12 @@ module _ (ds all : List Declaration) (ext : Extends ds all) (small : AreSmall ds
       let p : IsMemory r.0.kind (width_of all x) = at_some (slice_get all n) r.0 (λ d. IsMemory d.kind (width_of all x)) (ext n r.0 s.at) h.0 in
       let q = kind_memory r.0.kind (width_of all x) p in
       let v : is_so (λ d. nat_eq (address_of d) (bits_in ds address)) ds name ≡ eqb (address_of r.0) (bits_in ds address) = so_by (λ d. nat_eq (address_of d) (bits_in ds address)) ds name n r.0 s in
-      record { met = (u.0, (u.1, (rw (so_by is_memory ds name n r.0 s) q.0, met_join (of_expr ds (k + 2) address) _ a.met (rw v (eq-eqb (address_of r.0) (bits_in ds address) (q.1 ∙ a.wide)), tt))));
+      record {
+        met = (u.0, (u.1, (rw (so_by is_memory ds name n r.0 s) q.0, met_join (of_expr ds (k + 2) address) _ a.met (rw v (eq-eqb (address_of r.0) (bits_in ds address) (q.1 ∙ a.wide)), tt))));
         here = width-at ds n r.0 s.at ∙ sym (bits_by ds name n r.0 s);
         wide = width-at all n r.0 (ext n r.0 s.at) ∙ sym (bits_by ds name n r.0 s);
-        small = rw (bits_by ds name n r.0 s) (small n r.0 s.at) }
+        small = rw (bits_by ds name n r.0 s) (small n r.0 s.at);
+      }
 
   asked_prefix : (op : PrefixOp) (arg : WrittenExpr) (k : ℕ) (x : Expr) → Asked ds all (k + 1) arg x → KeepsWidths all (prefixed ds op x) → Asked ds all k (Prefix op arg) (prefixed ds op x)
   asked_prefix BitNot arg k x a h = record { met = met_join (of_expr ds (k + 1) arg) _ a.met (refl, tt); here = a.here; wide = a.here; small = a.small }
@@ -367,10 +410,13 @@ module _ (ds all : List Declaration) (ext : Extends ds all) (small : AreSmall ds
       let t : bits_in ds l ≡ width_taken ds op x = sym a.wide ∙ g.0 in
       let same : bits_in ds l ≡ bits_in ds r = t ∙ sym g.1 ∙ b.wide in
       let w : width_after (op_of op) (width_taken ds op x) ≡ bits_in ds (Infix op l r) = after-is op (width_taken ds op x) ∙ ap (λ (n : ℕ). if gives_bit op then 1 else n) (sym t) in
-      record { met = met_join (of_expr ds k l ++ of_expr ds (k + length (spell_expr l) + 1) r) _ (met_join (of_expr ds k l) _ a.met b.met)
-          (and_from (eqb (bits_in ds l) (bits_in ds r)) (not (takes_bits op) || eqb (bits_in ds l) 1) (eq-eqb (bits_in ds l) (bits_in ds r) same) (taken-met (takes_bits op) (width_of ds x) (bits_in ds l) t), tt);
-        here = rw (infixed-is ds op x y) w; wide = rw (infixed-is ds op x y) w;
-        small = bit_small (gives_bit op) (bits_in ds l) a.small }
+      record {
+        met = met_join (of_expr ds k l ++ of_expr ds (k + length (spell_expr l) + 1) r) _ (met_join (of_expr ds k l) _ a.met b.met)
+            (and_from (eqb (bits_in ds l) (bits_in ds r)) (not (takes_bits op) || eqb (bits_in ds l) 1) (eq-eqb (bits_in ds l) (bits_in ds r) same) (taken-met (takes_bits op) (width_of ds x) (bits_in ds l) t), tt);
+        here = rw (infixed-is ds op x y) w;
+        wide = rw (infixed-is ds op x y) w;
+        small = bit_small (gives_bit op) (bits_in ds l) a.small;
+      }
 
   moved : (e : WrittenExpr) (k : ℕ) (x y : Expr) → x ≡ y → Asked ds all k e y → Asked ds all k e x
   moved e k x y q h = subst (Asked ds all k e) (sym q) h
@@ -387,10 +433,14 @@ module _ (ds all : List Declaration) (ext : Extends ds all) (small : AreSmall ds
   asked_conditional c l r k t x y q a b h =
       let one : bits_in ds c ≡ 1 = sym q.wide ∙ h.0 in
       let same : bits_in ds l ≡ bits_in ds r = sym a.wide ∙ sym h.1 ∙ b.wide in
-      record { met = met_join (of_expr ds k c ++ of_expr ds (k + length (spell_expr c) + 1) l ++ of_expr ds (k + length (spell_expr c) + length (spell_expr l) + 2) r) _
-          (met_join (of_expr ds k c ++ of_expr ds (k + length (spell_expr c) + 1) l) _ (met_join (of_expr ds k c) _ q.met a.met) b.met)
-          (and_from (eqb (bits_in ds c) 1) (eqb (bits_in ds l) (bits_in ds r)) (eq-eqb (bits_in ds c) 1 one) (eq-eqb (bits_in ds l) (bits_in ds r) same), tt);
-        here = a.here; wide = a.wide; small = a.small }
+      record {
+        met = met_join (of_expr ds k c ++ of_expr ds (k + length (spell_expr c) + 1) l ++ of_expr ds (k + length (spell_expr c) + length (spell_expr l) + 2) r) _
+            (met_join (of_expr ds k c ++ of_expr ds (k + length (spell_expr c) + 1) l) _ (met_join (of_expr ds k c) _ q.met a.met) b.met)
+            (and_from (eqb (bits_in ds c) 1) (eqb (bits_in ds l) (bits_in ds r)) (eq-eqb (bits_in ds c) 1 one) (eq-eqb (bits_in ds l) (bits_in ds r) same), tt);
+        here = a.here;
+        wide = a.wide;
+        small = a.small;
+      }
 
   pub asked : (e : WrittenExpr) (k : ℕ) (x : Expr) → resolve_expr ds e ≡ Some x → KeepsWidths all x → Asked ds all k e x
   asked (Named name) k x r h = let m = map_some Net (number_read ds name) x r in moved (Named name) k x (Net m.0) m.2 (asked_name name k m.0 m.1 (keeps_at x (Net m.0) m.2 h))

@@ -116,10 +116,19 @@ meant_items (MemoryOf range name last ∷ is) ds all done k e s g h =
     let same : memory_declared range name last ≡ declare (Memory b.0) range name = memory-is range name last b.0 b.1 in
     let sized : HasBits (memory_declared range name last) = subst HasBits (sym same) (bits_memory range name b.0 (address_most (decimal_number last + 1) b.0 b.1)) in
     let s' = sound_new ds (memory_declared range name last ∷ []) s (sized, tt) (h.0, h.1.0, tt) in
-    let q = meant_items is (ds ++ memory_declared range name last ∷ []) all done (k + length (spell_item (MemoryOf range name last))) (e ∙ sym (append_assoc ds (memory_declared range name last ∷ []) (added is))) s' g.1 h.1.1.1 in
-    (q.0, (q.1.0, record {
-      resolved = ap (option_and_then (λ (j : ℕ). resolve_items (ds ++ declare (Memory j) range name ∷ []) is)) b.1 ∙ subst (λ (c : Declaration). resolve_items (ds ++ c ∷ []) is ≡ Some q.1.0) same q.1.1.resolved;
-      declared = q.1.1.declared; assignments = q.1.1.assignments; blocks = q.1.1.blocks; free = q.1.1.free }))
+    let q = meant_items is (ds ++ memory_declared range name last ∷ []) all done (k + length (spell_item (MemoryOf range name last))) (e ∙ sym (append_assoc ds (memory_declared range name last ∷ []) (added is))) s' g.1 h.1.1.1 in (
+      q.0,
+      (
+        q.1.0,
+        record {
+          resolved = ap (option_and_then (λ (j : ℕ). resolve_items (ds ++ declare (Memory j) range name ∷ []) is)) b.1 ∙ subst (λ (c : Declaration). resolve_items (ds ++ c ∷ []) is ≡ Some q.1.0) same q.1.1.resolved;
+          declared = q.1.1.declared;
+          assignments = q.1.1.assignments;
+          blocks = q.1.1.blocks;
+          free = q.1.1.free;
+        },
+      ),
+    )
 meant_items (Assign target value ∷ is) ds all done k e s g h =
     let ext = extends_by ds (added is) all e in
     let x = meant ds all ext (small_of ds s.1) value (k + 3) g.0.1 (λ l. absurd (let t = g.0.0 in omega arith)) (met_front (of_expr ds (k + 3) value) _ h) in
@@ -127,17 +136,36 @@ meant_items (Assign target value ∷ is) ds all done k e s g h =
     let t = seen_declared ds target own.0 in
     let w : is_wire t.1 ≡ true = rw (so_by is_wire ds target t.0 t.1 t.2) at own.1.0 in
     let same : width_of all x.0 ≡ t.1.width = x.1.wide ∙ sym (eqb-true (bits_named ds target) (bits_in ds value) own.1.1.1.0) ∙ bits_by ds target t.0 t.1 t.2 in
-    let q = meant_items is ds all (done ++ target ∷ []) (k + length (spell_item (Assign target value))) e s g.1 own.1.1.1.1 in
-    (q.0, (with_assignment t.0 x.0 q.1.0, record { resolved = rw (t.2.number, x.1.resolved, q.1.1.resolved) refl; declared = q.1.1.declared;
-      assignments = ((some_at (slice_get all t.0) t.1 (λ d. IsDriven d.kind × (width_of all x.0 ≡ d.width)) (ext t.0 t.1 t.2.at) (wire_kind t.1.kind w, same), x.1.kept), q.1.1.assignments);
-      blocks = q.1.1.blocks; free = (own.1.1.0, q.1.1.free) }))
+    let q = meant_items is ds all (done ++ target ∷ []) (k + length (spell_item (Assign target value))) e s g.1 own.1.1.1.1 in (
+      q.0,
+      (
+        with_assignment t.0 x.0 q.1.0,
+        record {
+          resolved = rw (t.2.number, x.1.resolved, q.1.1.resolved) refl;
+          declared = q.1.1.declared;
+          assignments = ((some_at (slice_get all t.0) t.1 (λ d. IsDriven d.kind × (width_of all x.0 ≡ d.width)) (ext t.0 t.1 t.2.at) (wire_kind t.1.kind w, same), x.1.kept), q.1.1.assignments);
+          blocks = q.1.1.blocks;
+          free = (own.1.1.0, q.1.1.free);
+        },
+      ),
+    )
 meant_items (Always clock body ∷ is) ds all done k e s g h =
     let ext = extends_by ds (added is) all e in
     let t = seen_declared ds clock h.0 in
     let b = meant_in ds all ext (small_of ds s.1) done body [] [] (k + 6) (grouped Single body g.0) (met_front (of_statement ds done [] [] (k + 6) body) _ h.1.1.1) in
-    let q = meant_items is ds all (done ++ targets_in body) (k + length (spell_item (Always clock body))) e s g.1 (met_back (of_statement ds done [] [] (k + 6) body) _ h.1.1.1) in
-    (q.0, (with_block t.0 b.0 q.1.0, record { resolved = rw (clocked_by ds clock t.0 t.1 t.2 h.1.0 h.1.1.0, b.1.resolved, q.1.1.resolved) refl; declared = q.1.1.declared;
-      assignments = q.1.1.assignments; blocks = (b.1.kept, q.1.1.blocks); free = (b.1.free, q.1.1.free) }))
+    let q = meant_items is ds all (done ++ targets_in body) (k + length (spell_item (Always clock body))) e s g.1 (met_back (of_statement ds done [] [] (k + 6) body) _ h.1.1.1) in (
+      q.0,
+      (
+        with_block t.0 b.0 q.1.0,
+        record {
+          resolved = rw (clocked_by ds clock t.0 t.1 t.2 h.1.0 h.1.1.0, b.1.resolved, q.1.1.resolved) refl;
+          declared = q.1.1.declared;
+          assignments = q.1.1.assignments;
+          blocks = (b.1.kept, q.1.1.blocks);
+          free = (b.1.free, q.1.1.free);
+        },
+      ),
+    )
 
 -- ---- and back
 
@@ -168,12 +196,12 @@ asked_items (Wires range names ∷ is) ds all done k r e s q h f =
     let e' : all ≡ (ds ++ map (declare Wire range) names) ++ added is = e ∙ sym (append_assoc ds (map (declare Wire range) names) (added is)) in
     let s' : IsSound (ds ++ map (declare Wire range) names) = sound_front (ds ++ map (declare Wire range) names) (added is) (subst IsSound e' s) in
     met_join (of_names Wire range ds (k + 1 + length (spell_range range)) names) _ (new_names Wire range ds (k + 1 + length (spell_range range)) names (new_sound ds (map (declare Wire range) names) s'))
-      (asked_items is (ds ++ map (declare Wire range) names) all done (k + length (spell_item (Wires range names))) r e' s q h f)
+    (asked_items is (ds ++ map (declare Wire range) names) all done (k + length (spell_item (Wires range names))) r e' s q h f)
 asked_items (Registers range names ∷ is) ds all done k r e s q h f =
     let e' : all ≡ (ds ++ map (declare Register range) names) ++ added is = e ∙ sym (append_assoc ds (map (declare Register range) names) (added is)) in
     let s' : IsSound (ds ++ map (declare Register range) names) = sound_front (ds ++ map (declare Register range) names) (added is) (subst IsSound e' s) in
     met_join (of_names Register range ds (k + 1 + length (spell_range range)) names) _ (new_names Register range ds (k + 1 + length (spell_range range)) names (new_sound ds (map (declare Register range) names) s'))
-      (asked_items is (ds ++ map (declare Register range) names) all done (k + length (spell_item (Registers range names))) r e' s q h f)
+    (asked_items is (ds ++ map (declare Register range) names) all done (k + length (spell_item (Registers range names))) r e' s q h f)
 asked_items (MemoryOf range name last ∷ is) ds all done k r e s q h f =
     let m = then_some (λ (j : ℕ). resolve_items (ds ++ declare (Memory j) range name ∷ []) is) (address_bits_of (decimal_number last + 1)) r q in
     let e' : all ≡ (ds ++ memory_declared range name last ∷ []) ++ added is = e ∙ sym (append_assoc ds (memory_declared range name last ∷ []) (added is)) in
@@ -189,16 +217,33 @@ asked_items (Assign target value ∷ is) ds all done k r e s q h f =
     let t = seen_number ds target m.0 m.3 in
     let a = asked ds all ext sm value (k + 3) m.1 m.4 h'.assignments.0.1 in
     let p : IsDriven t.0.kind × (width_of all m.1 ≡ t.0.width) = at_some (slice_get all m.0) t.0 (λ d. IsDriven d.kind × (width_of all m.1 ≡ d.width)) (ext m.0 t.0 t.1.at) h'.assignments.0.0 in
-    met_join (of_expr ds (k + 3) value) _ a.met (is_declared_by ds target m.0 t.0 t.1, (rw (so_by is_wire ds target m.0 t.0 t.1) (kind_wire t.0.kind p.0), (f.0,
-      (eq-eqb (bits_named ds target) (bits_in ds value) (bits_by ds target m.0 t.0 t.1 ∙ sym p.1 ∙ a.wide),
-      asked_items is ds all (done ++ target ∷ []) (k + length (spell_item (Assign target value))) m.2 e s m.5 (record { assignments = h'.assignments.1; blocks = h'.blocks }) f.1))))
+    met_join (of_expr ds (k + 3) value) _ a.met (
+      is_declared_by ds target m.0 t.0 t.1,
+      (
+        rw (so_by is_wire ds target m.0 t.0 t.1) (kind_wire t.0.kind p.0),
+        (
+          f.0,
+          (
+            eq-eqb (bits_named ds target) (bits_in ds value) (bits_by ds target m.0 t.0 t.1 ∙ sym p.1 ∙ a.wide),
+            asked_items is ds all (done ++ target ∷ []) (k + length (spell_item (Assign target value))) m.2 e s m.5 (record { assignments = h'.assignments.1; blocks = h'.blocks }) f.1,
+          ),
+        ),
+      ),
+    )
 asked_items (Always clock body ∷ is) ds all done k r e s q h f =
     let m = three_some with_block (clocked ds clock) (resolve_statement ds body) (resolve_items ds is) r q in
     let h' = kept_at all r (with_block m.0 m.1 m.2) m.6 h in
     let ext = extends_by ds (added is) all e in
     let sm = small_of ds (sound_front ds (added is) (subst IsSound e s)).1 in
     let c = clock_when ds clock m.0 (is_clock_name clock) (is_so is_memory ds clock) m.3 in
-    let t = seen_number ds clock m.0 c.2 in
-    (is_declared_by ds clock m.0 t.0 t.1, (c.0, (not_from_false (is_so is_memory ds clock) c.1,
-      met_join (of_statement ds done [] [] (k + 6) body) _ (asked_in ds all ext sm done body [] [] (k + 6) m.1 m.4 h'.blocks.0 f.0)
-        (asked_items is ds all (done ++ targets_in body) (k + length (spell_item (Always clock body))) m.2 e s m.5 (record { assignments = h'.assignments; blocks = h'.blocks.1 }) f.1))))
+    let t = seen_number ds clock m.0 c.2 in (
+      is_declared_by ds clock m.0 t.0 t.1,
+      (
+        c.0,
+        (
+          not_from_false (is_so is_memory ds clock) c.1,
+          met_join (of_statement ds done [] [] (k + 6) body) _ (asked_in ds all ext sm done body [] [] (k + 6) m.1 m.4 h'.blocks.0 f.0)
+              (asked_items is ds all (done ++ targets_in body) (k + length (spell_item (Always clock body))) m.2 e s m.5 (record { assignments = h'.assignments; blocks = h'.blocks.1 }) f.1),
+        ),
+      ),
+    )

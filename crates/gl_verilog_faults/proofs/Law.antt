@@ -55,9 +55,10 @@ port_needs driven k OutReg name h = (h, tt)
 
 needs_ports : (driven : List (List ℕ)) (k : ℕ) (ps : List WrittenPort) → AreMet (undriven_ports driven k ps) → AllByRecursion (NeedsMet driven) (map declare_port ps)
 needs_ports driven k [] h = tt
-needs_ports driven k (p ∷ ps) h =
-    (needs_declared driven (port_kind p.direction) p.range p.name (needs_port driven (k + name_token p) p.direction p.name (met_front (undriven_port driven (k + name_token p) (port_kind p.direction) p.name) _ h)),
-      needs_ports driven (k + length (spell_port p) + 1) ps (met_back (undriven_port driven (k + name_token p) (port_kind p.direction) p.name) _ h))
+needs_ports driven k (p ∷ ps) h = (
+  needs_declared driven (port_kind p.direction) p.range p.name (needs_port driven (k + name_token p) p.direction p.name (met_front (undriven_port driven (k + name_token p) (port_kind p.direction) p.name) _ h)),
+  needs_ports driven (k + length (spell_port p) + 1) ps (met_back (undriven_port driven (k + name_token p) (port_kind p.direction) p.name) _ h),
+)
 
 ports_need : (driven : List (List ℕ)) (k : ℕ) (ps : List WrittenPort) → AllByRecursion (NeedsMet driven) (map declare_port ps) → AreMet (undriven_ports driven k ps)
 ports_need driven k [] h = tt
@@ -168,26 +169,37 @@ module _ (w : WrittenModule) (all ports : List Declaration) (r : Resolved) (e : 
         record {
           wire = λ g. links.assigned ∙ one (assigned_in d.name w.items) b.assigned_most (elim (counted d.name w.items (wire_needs (targets_of w.items) d.kind d.name h g)) [
             | inl p ↦ p
-            | inr p ↦ elim p [ inl u ↦ absurd (driven_register d.kind g (register u)) | inr u ↦ absurd (driven_memory d.kind g (memory u)) ] ]);
-          register = λ g. (links.hit ∙ one (hit_in d.name w.items) b.hit_most (elim (counted d.name w.items (register_needs (targets_of w.items) d.kind d.name h g)) [
-            | inl p ↦ absurd (driven_register d.kind (wire p) g)
-            | inr p ↦ elim p [ inl u ↦ u | inr u ↦ absurd (register_memory d.kind g (memory u)) ] ]), links.from b.once);
+            | inr p ↦ elim p [ inl u ↦ absurd (driven_register d.kind g (register u)) | inr u ↦ absurd (driven_memory d.kind g (memory u)) ]
+          ]);
+          register = λ g. (
+            links.hit ∙ one (hit_in d.name w.items) b.hit_most (elim (counted d.name w.items (register_needs (targets_of w.items) d.kind d.name h g)) [
+              | inl p ↦ absurd (driven_register d.kind (wire p) g)
+              | inr p ↦ elim p [ inl u ↦ u | inr u ↦ absurd (register_memory d.kind g (memory u)) ]
+            ]),
+            links.from b.once,
+          );
           memory = λ g. links.fill ∙ one (filled_in d.name w.items) b.fill_most (elim (counted d.name w.items (memory_needs (targets_of w.items) d.kind d.name h g)) [
             | inl p ↦ absurd (driven_memory d.kind (wire p) g)
-            | inr p ↦ elim p [ inl u ↦ absurd (register_memory d.kind (register u) g) | inr u ↦ u ] ]) }
+            | inr p ↦ elim p [ inl u ↦ absurd (register_memory d.kind (register u) g) | inr u ↦ u ]
+          ]);
+        }
 
     room_given : Given (module_from w r) n d.kind → RoomFor d.kind d.name [] w.items
     room_given g = record {
-      assigned_done = λ x h. refl; assigned_most = λ x. (let t : assigned_in d.name w.items ≡ 1 = sym links.assigned ∙ g.wire x in omega arith);
-      hit_done = λ x h. refl; hit_most = λ x. (let t : hit_in d.name w.items ≡ 1 = sym links.hit ∙ (g.register x).0 in omega arith);
+      assigned_done = λ x h. refl;
+      assigned_most = λ x. (let t : assigned_in d.name w.items ≡ 1 = sym links.assigned ∙ g.wire x in omega arith);
+      hit_done = λ x h. refl;
+      hit_most = λ x. (let t : hit_in d.name w.items ≡ 1 = sym links.hit ∙ (g.register x).0 in omega arith);
       once = λ x. links.to (g.register x).1;
-      fill_done = λ x h. refl; fill_most = λ x. (let t : filled_in d.name w.items ≡ 1 = sym links.fill ∙ g.memory x in omega arith) }
+      fill_done = λ x h. refl;
+      fill_most = λ x. (let t : filled_in d.name w.items ≡ 1 = sym links.fill ∙ g.memory x in omega arith);
+    }
 
     needs_given : Given (module_from w r) n d.kind → NeedsMet (targets_of w.items) d
     needs_given g = needs_when (targets_of w.items) d.kind d.name
-      (λ x. assigned_target d.name w.items (let t : assigned_in d.name w.items ≡ 1 = sym links.assigned ∙ g.wire x in omega arith))
-      (λ x. hit_targets d.name w.items (let t : hit_in d.name w.items ≡ 1 = sym links.hit ∙ (g.register x).0 in omega arith))
-      (λ x. fill_targets d.name w.items (let t : filled_in d.name w.items ≡ 1 = sym links.fill ∙ g.memory x in omega arith))
+        (λ x. assigned_target d.name w.items (let t : assigned_in d.name w.items ≡ 1 = sym links.assigned ∙ g.wire x in omega arith))
+        (λ x. hit_targets d.name w.items (let t : hit_in d.name w.items ≡ 1 = sym links.hit ∙ (g.register x).0 in omega arith))
+        (λ x. fill_targets d.name w.items (let t : filled_in d.name w.items ≡ 1 = sym links.fill ∙ g.memory x in omega arith))
 
 -- ---- loops
 
@@ -230,10 +242,12 @@ pub record IsJudged (m : Module) : Type 0 where
 
 judged_all : (w : WrittenModule) (r : Resolved) (all : List Declaration) → r.declarations ≡ all → AreDistinct all → AllByRecursion HasSize all → AllByRecursion (KeepsWidth all) r.assignments → AllByRecursion (KeepsWidthsIn all) r.blocks → ((n : ℕ) (d : Declaration) → slice_get all n ≡ Some d → HasDriver (module_from w r) n d.kind) → IsJudged (module_from w r)
 judged_all w r all e a b c d f = record {
-  names = subst AreDistinct (sym e) a; sizes = subst (AllByRecursion HasSize) (sym e) b;
+  names = subst AreDistinct (sym e) a;
+  sizes = subst (AllByRecursion HasSize) (sym e) b;
   assignments = subst (λ (x : List Declaration). AllByRecursion (KeepsWidth x) r.assignments) (sym e) c;
   blocks = subst (λ (x : List Declaration). AllByRecursion (KeepsWidthsIn x) r.blocks) (sym e) d;
-  driven = subst (λ (x : List Declaration). (n : ℕ) (d : Declaration) → slice_get x n ≡ Some d → HasDriver (module_from w r) n d.kind) (sym e) f }
+  driven = subst (λ (x : List Declaration). (n : ℕ) (d : Declaration) → slice_get x n ≡ Some d → HasDriver (module_from w r) n d.kind) (sym e) f;
+}
 
 pub judged : (w : WrittenModule) → IsWritten w → AreMet (demands_of w) → (m : Module) × (resolve w ≡ Some m) × IsJudged m
 judged w written h =
@@ -245,11 +259,13 @@ judged w written h =
     let fresh = ports_new [] 3 w.ports (met_front (of_ports [] 3 w.ports) _ two) in
     let sound : IsSound (map declare_port w.ports) = sound_new [] (map declare_port w.ports) (tt, tt) (bits_ports w.ports) fresh in
     let x = meant_items w.items (map declare_port w.ports) (map declare_port w.ports ++ added w.items) [] (items_token w.ports) refl sound written.items (met_back (of_ports [] 3 w.ports) _ two) in
-    let needs = all_join (NeedsMet (targets_of w.items)) (map declare_port w.ports) (added w.items) (needs_ports (targets_of w.items) 3 w.ports named) (needs_items (targets_of w.items) (items_token w.ports) w.items last) in
-    (module_from w x.1.0, ap (option_map (module_from w)) x.1.1.resolved,
+    let needs = all_join (NeedsMet (targets_of w.items)) (map declare_port w.ports) (added w.items) (needs_ports (targets_of w.items) 3 w.ports named) (needs_items (targets_of w.items) (items_token w.ports) w.items last) in (
+      module_from w x.1.0,
+      ap (option_map (module_from w)) x.1.1.resolved,
       judged_all w x.1.0 (map declare_port w.ports ++ added w.items) x.1.1.declared x.0.0 x.0.1 x.1.1.assignments x.1.1.blocks
-        (λ n d at. has_driver (module_from w x.1.0) n d.kind (given w (map declare_port w.ports ++ added w.items) (map declare_port w.ports) x.1.0 refl x.0 x.1.1.resolved (record { assignments = x.1.1.assignments; blocks = x.1.1.blocks }) n d at x.1.1.free
-          (all_at (NeedsMet (targets_of w.items)) (map declare_port w.ports ++ added w.items) n d needs at))))
+          (λ n d at. has_driver (module_from w x.1.0) n d.kind (given w (map declare_port w.ports ++ added w.items) (map declare_port w.ports) x.1.0 refl x.0 x.1.1.resolved (record { assignments = x.1.1.assignments; blocks = x.1.1.blocks }) n d at x.1.1.free
+          (all_at (NeedsMet (targets_of w.items)) (map declare_port w.ports ++ added w.items) n d needs at))),
+    )
 
 all_from : {A : Type 0} (P : A → Type 0) (xs : List A) → ((n : ℕ) (x : A) → slice_get xs n ≡ Some x → P x) → AllByRecursion P xs
 all_from P [] f = tt
@@ -265,10 +281,10 @@ met_all w r q j =
     let needs : AllByRecursion (NeedsMet (targets_of w.items)) r.declarations = all_from (NeedsMet (targets_of w.items)) r.declarations (λ n d at. needs_given w r.declarations (map declare_port w.ports) r e s q k n d at (driver_has (module_from w r) n d.kind (j.driven n d at))) in
     let needs' = subst (AllByRecursion (NeedsMet (targets_of w.items))) e needs in
     met_join (of_ports [] 3 w.ports ++ of_items (map declare_port w.ports) [] (items_token w.ports) w.items ++ undriven_ports (targets_of w.items) 3 w.ports) _
-      (met_join (of_ports [] 3 w.ports ++ of_items (map declare_port w.ports) [] (items_token w.ports) w.items) _
-        (met_join (of_ports [] 3 w.ports) _ (new_ports [] 3 w.ports (new_sound [] (map declare_port w.ports) s')) (asked_items w.items (map declare_port w.ports) r.declarations [] (items_token w.ports) r e s q k free))
-        (ports_need (targets_of w.items) 3 w.ports (all_front (NeedsMet (targets_of w.items)) (map declare_port w.ports) (added w.items) needs')))
-      (items_need (targets_of w.items) (items_token w.ports) w.items (all_back (NeedsMet (targets_of w.items)) (map declare_port w.ports) (added w.items) needs'))
+    (met_join (of_ports [] 3 w.ports ++ of_items (map declare_port w.ports) [] (items_token w.ports) w.items) _
+    (met_join (of_ports [] 3 w.ports) _ (new_ports [] 3 w.ports (new_sound [] (map declare_port w.ports) s')) (asked_items w.items (map declare_port w.ports) r.declarations [] (items_token w.ports) r e s q k free))
+    (ports_need (targets_of w.items) 3 w.ports (all_front (NeedsMet (targets_of w.items)) (map declare_port w.ports) (added w.items) needs')))
+    (items_need (targets_of w.items) (items_token w.ports) w.items (all_back (NeedsMet (targets_of w.items)) (map declare_port w.ports) (added w.items) needs'))
 
 pub met_judged : (w : WrittenModule) (m : Module) → resolve w ≡ Some m → IsJudged m → AreMet (demands_of w)
 met_judged w m e j =

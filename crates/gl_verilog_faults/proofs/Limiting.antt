@@ -88,8 +88,11 @@ limited (Parts first rest') b o i rest f h =
     let x = limited first b o i (Plain ∷ (of_expr rest' ++ rest)) f (rw (append_assoc (of_expr first) (Plain ∷ of_expr rest') rest) at h) in
     let p = keeps_step (counts b (o + operators_of first) i) Plain (of_expr rest' ++ rest) b (o + operators_of first) i refl x.rest' in
     let y = limited rest' b (o + operators_of first) i rest p.0 p.1 in
-    record { depth' = (let t : b + depth_of first ≤ 64 = x.depth' in let u : b + depth_of rest' ≤ 64 = y.depth' in omega arith); short = (let t : o + operators_of first + operators_of rest' ≤ 1024 = y.short in omega arith);
-      rest' = keeps_at b (o + operators_of first + operators_of rest') i b (o + (operators_of first + operators_of rest')) i rest refl (omega arith) refl y.rest' }
+    record {
+      depth' = (let t : b + depth_of first ≤ 64 = x.depth' in let u : b + depth_of rest' ≤ 64 = y.depth' in omega arith);
+      short = (let t : o + operators_of first + operators_of rest' ≤ 1024 = y.short in omega arith);
+      rest' = keeps_at b (o + operators_of first + operators_of rest') i b (o + (operators_of first + operators_of rest')) i rest refl (omega arith) refl y.rest';
+    }
 limited (Parens inner) b o i rest f h =
     let q = keeps_step (counts b o i) Opens ((of_expr inner ++ Closes ∷ []) ++ rest) (b + 1) o i refl h in
     let a = limited inner (b + 1) o i (Closes ∷ rest) q.0 (rw (append_assoc (of_expr inner) (Closes ∷ []) rest) at q.1) in
@@ -103,17 +106,22 @@ limited (Infix op left right) b o i rest f h =
     let x = limited left b o i (Operates ∷ (of_expr right ++ rest)) f (rw (append_assoc (of_expr left) (Operates ∷ of_expr right) rest) at h) in
     let p = keeps_step (counts b (o + operators_of left) i) Operates (of_expr right ++ rest) b (o + operators_of left + 1) i refl x.rest' in
     let y = limited right b (o + operators_of left + 1) i rest p.0 p.1 in
-    record { depth' = (let t : b + depth_of left ≤ 64 = x.depth' in let u : b + depth_of right ≤ 64 = y.depth' in omega arith); short = (let t : o + operators_of left + 1 + operators_of right ≤ 1024 = y.short in omega arith);
-      rest' = keeps_at b (o + operators_of left + 1 + operators_of right) i b (o + (operators_of left + operators_of right + 1)) i rest refl (omega arith) refl y.rest' }
+    record {
+      depth' = (let t : b + depth_of left ≤ 64 = x.depth' in let u : b + depth_of right ≤ 64 = y.depth' in omega arith);
+      short = (let t : o + operators_of left + 1 + operators_of right ≤ 1024 = y.short in omega arith);
+      rest' = keeps_at b (o + operators_of left + 1 + operators_of right) i b (o + (operators_of left + operators_of right + 1)) i rest refl (omega arith) refl y.rest';
+    }
 limited (Conditional test yes' no') b o i rest f h =
     let t = limited test b o i (Operates ∷ ((of_expr yes' ++ Plain ∷ of_expr no') ++ rest)) f (rw (append_assoc (of_expr test) (Operates ∷ (of_expr yes' ++ Plain ∷ of_expr no')) rest) at h) in
     let p = keeps_step (counts b (o + operators_of test) i) Operates ((of_expr yes' ++ Plain ∷ of_expr no') ++ rest) b (o + operators_of test + 1) i refl t.rest' in
     let x = limited yes' b (o + operators_of test + 1) i (Plain ∷ (of_expr no' ++ rest)) p.0 (rw (append_assoc (of_expr yes') (Plain ∷ of_expr no') rest) at p.1) in
     let q = keeps_step (counts b (o + operators_of test + 1 + operators_of yes') i) Plain (of_expr no' ++ rest) b (o + operators_of test + 1 + operators_of yes') i refl x.rest' in
     let y = limited no' b (o + operators_of test + 1 + operators_of yes') i rest q.0 q.1 in
-    record { depth' = (let u1 : b + depth_of test ≤ 64 = t.depth' in let u2 : b + depth_of yes' ≤ 64 = x.depth' in let u3 : b + depth_of no' ≤ 64 = y.depth' in omega arith);
+    record {
+      depth' = (let u1 : b + depth_of test ≤ 64 = t.depth' in let u2 : b + depth_of yes' ≤ 64 = x.depth' in let u3 : b + depth_of no' ≤ 64 = y.depth' in omega arith);
       short = (let u : o + operators_of test + 1 + operators_of yes' + operators_of no' ≤ 1024 = y.short in omega arith);
-      rest' = keeps_at b (o + operators_of test + 1 + operators_of yes' + operators_of no') i b (o + (operators_of test + operators_of yes' + operators_of no' + 1)) i rest refl (omega arith) refl y.rest' }
+      rest' = keeps_at b (o + operators_of test + 1 + operators_of yes' + operators_of no') i b (o + (operators_of test + operators_of yes' + operators_of no' + 1)) i rest refl (omega arith) refl y.rest';
+    }
 
 -- and back
 pub limits : (e : WrittenExpr) (b o i : ℕ) (rest : List Role) → Fine b o i → b + depth_of e ≤ 64 → o + operators_of e ≤ 1024 → Keeps (counts b (o + operators_of e) i) rest → Keeps (counts b o i) (of_expr e ++ rest)
@@ -127,7 +135,7 @@ limits (PartOf name high low) b o i rest f d s h =
     let g : Fine (b + 1) o i = record { brackets = d; operators = f.operators; ifs = f.ifs } in
     let c : Keeps (counts (b + 1) o i) (Closes ∷ rest) = step_keeps (counts (b + 1) o i) Closes rest b o i (ap (λ (x : ℕ). counts x o i) (omega arith)) f (keeps_at b (o + 0) i b o i rest refl (omega arith) refl h) in
     step_keeps (counts b o i) Plain (Opens ∷ Plain ∷ Plain ∷ Plain ∷ Closes ∷ rest) b o i refl f (step_keeps (counts b o i) Opens (Plain ∷ Plain ∷ Plain ∷ Closes ∷ rest) (b + 1) o i refl g
-      (step_keeps (counts (b + 1) o i) Plain (Plain ∷ Plain ∷ Closes ∷ rest) (b + 1) o i refl g (step_keeps (counts (b + 1) o i) Plain (Plain ∷ Closes ∷ rest) (b + 1) o i refl g (step_keeps (counts (b + 1) o i) Plain (Closes ∷ rest) (b + 1) o i refl g c))))
+    (step_keeps (counts (b + 1) o i) Plain (Plain ∷ Plain ∷ Closes ∷ rest) (b + 1) o i refl g (step_keeps (counts (b + 1) o i) Plain (Plain ∷ Closes ∷ rest) (b + 1) o i refl g (step_keeps (counts (b + 1) o i) Plain (Closes ∷ rest) (b + 1) o i refl g c))))
 limits (WordOf name address) b o i rest f d s h =
     let g : Fine (b + 1) o i = record { brackets = (let t : b + (depth_of address + 1) ≤ 64 = d in omega arith); operators = f.operators; ifs = f.ifs } in
     let last : Fine b (o + operators_of address) i = record { brackets = f.brackets; operators = s; ifs = f.ifs } in
@@ -195,7 +203,7 @@ whole_from e b o i rest hb hi d s h =
     let f : Fine b 0 i = record { brackets = hb; operators = omega arith; ifs = hi } in
     let g : Fine b (0 + operators_of e) i = record { brackets = hb; operators = omega arith; ifs = hi } in
     step_keeps (counts b o i) Starts ((of_expr e ++ Plain ∷ []) ++ rest) b 0 i refl f (rw (append_assoc (of_expr e) (Plain ∷ []) rest) (limits e b 0 i (Plain ∷ rest) f d (omega arith)
-      (step_keeps (counts b (0 + operators_of e) i) Plain rest b (0 + operators_of e) i refl g (keeps_at b (operators_of e) i b (0 + operators_of e) i rest refl (omega arith) refl h))))
+    (step_keeps (counts b (0 + operators_of e) i) Plain rest b (0 + operators_of e) i refl g (keeps_at b (operators_of e) i b (0 + operators_of e) i rest refl (omega arith) refl h))))
 
 -- a whole expression in brackets
 held_to : (e : WrittenExpr) (b o i : ℕ) (rest : List Role) → Keeps (counts b o i) (OpensWhole ∷ (of_expr e ++ Closes ∷ rest)) → (b + (depth_of e + 1) ≤ 64) × IsShort e × Keeps (counts b (operators_of e) i) rest
@@ -211,7 +219,7 @@ held_from e b o i rest hi d s h =
     let f : Fine (b + 1) 0 i = record { brackets = omega arith; operators = omega arith; ifs = hi } in
     let g : Fine b (operators_of e) i = record { brackets = omega arith; operators = t; ifs = hi } in
     step_keeps (counts b o i) OpensWhole (of_expr e ++ Closes ∷ rest) (b + 1) 0 i refl f (limits e (b + 1) 0 i (Closes ∷ rest) f (omega arith) (omega arith)
-      (step_keeps (counts (b + 1) (0 + operators_of e) i) Closes rest b (operators_of e) i both' g h))
+    (step_keeps (counts (b + 1) (0 + operators_of e) i) Closes rest b (operators_of e) i both' g h))
   where
     both' : counts (b + 1 - 1) (0 + operators_of e) i ≡ counts b (operators_of e) i
     both' = (let p : b + 1 - 1 ≡ b = omega arith in let q : 0 + operators_of e ≡ operators_of e = omega arith in rw (p, q) refl)
@@ -231,8 +239,14 @@ limited_in (IfThen test yes') b o i rest f h =
     let x = held_to test b o (i + 1) (of_statement yes' ++ rest) (rw (append_assoc (of_expr test) (Closes ∷ of_statement yes') rest) at p.1) in
     let g : Fine b (operators_of test) (i + 1) = record { brackets = f.brackets; operators = x.1; ifs = p.0.ifs } in
     let y = limited_in yes' b (operators_of test) (i + 1) rest g x.2 in
-    record { depth' = (let t : b + (depth_of test + 1) ≤ 64 = x.0 in let u : b + depth_in yes' ≤ 64 = y.depth' in omega arith); ifs' = (let t : i + 1 + ifs_in yes' ≤ 1024 = y.ifs' in omega arith); short = (x.1, y.short); left = y.left; left' = y.left';
-      rest' = keeps_at b y.left (i + 1 + ifs_in yes') b y.left (i + (ifs_in yes' + 1)) rest refl refl (omega arith) y.rest' }
+    record {
+      depth' = (let t : b + (depth_of test + 1) ≤ 64 = x.0 in let u : b + depth_in yes' ≤ 64 = y.depth' in omega arith);
+      ifs' = (let t : i + 1 + ifs_in yes' ≤ 1024 = y.ifs' in omega arith);
+      short = (x.1, y.short);
+      left = y.left;
+      left' = y.left';
+      rest' = keeps_at b y.left (i + 1 + ifs_in yes') b y.left (i + (ifs_in yes' + 1)) rest refl refl (omega arith) y.rest';
+    }
 limited_in (IfElse test yes' no') b o i rest f h =
     let p = keeps_step (counts b o i) Tests (OpensWhole ∷ ((of_expr test ++ Closes ∷ (of_statement yes' ++ Plain ∷ of_statement no')) ++ rest)) b o (i + 1) refl h in
     let x = held_to test b o (i + 1) ((of_statement yes' ++ Plain ∷ of_statement no') ++ rest) (rw (append_assoc (of_expr test) (Closes ∷ (of_statement yes' ++ Plain ∷ of_statement no')) rest) at p.1) in
@@ -240,8 +254,14 @@ limited_in (IfElse test yes' no') b o i rest f h =
     let y = limited_in yes' b (operators_of test) (i + 1) (Plain ∷ (of_statement no' ++ rest)) g (rw (append_assoc (of_statement yes') (Plain ∷ of_statement no') rest) at x.2) in
     let q = keeps_step (counts b y.left (i + 1 + ifs_in yes')) Plain (of_statement no' ++ rest) b y.left (i + 1 + ifs_in yes') refl y.rest' in
     let z = limited_in no' b y.left (i + 1 + ifs_in yes') rest q.0 q.1 in
-    record { depth' = (let t : b + (depth_of test + 1) ≤ 64 = x.0 in let u : b + depth_in yes' ≤ 64 = y.depth' in let v : b + depth_in no' ≤ 64 = z.depth' in omega arith); ifs' = (let t : i + 1 + ifs_in yes' + ifs_in no' ≤ 1024 = z.ifs' in omega arith); short = (x.1, y.short, z.short); left = z.left; left' = z.left';
-      rest' = keeps_at b z.left (i + 1 + ifs_in yes' + ifs_in no') b z.left (i + (ifs_in yes' + ifs_in no' + 1)) rest refl refl (omega arith) z.rest' }
+    record {
+      depth' = (let t : b + (depth_of test + 1) ≤ 64 = x.0 in let u : b + depth_in yes' ≤ 64 = y.depth' in let v : b + depth_in no' ≤ 64 = z.depth' in omega arith);
+      ifs' = (let t : i + 1 + ifs_in yes' + ifs_in no' ≤ 1024 = z.ifs' in omega arith);
+      short = (x.1, y.short, z.short);
+      left = z.left;
+      left' = z.left';
+      rest' = keeps_at b z.left (i + 1 + ifs_in yes' + ifs_in no') b z.left (i + (ifs_in yes' + ifs_in no' + 1)) rest refl refl (omega arith) z.rest';
+    }
 limited_in (Block statements) b o i rest f h =
     let p = keeps_step (counts b o i) Opens ((of_statement statements ++ Closes ∷ []) ++ rest) (b + 1) o i refl h in
     let x = limited_in statements (b + 1) o i (Closes ∷ rest) p.0 (rw (append_assoc (of_statement statements) (Closes ∷ []) rest) at p.1) in
@@ -251,8 +271,14 @@ limited_in (Listed first rest') b o i rest f h =
     let x = limited_in first b o i (of_statement rest' ++ rest) f (rw (append_assoc (of_statement first) (of_statement rest') rest) at h) in
     let g : Fine b x.left (i + ifs_in first) = record { brackets = f.brackets; operators = x.left'; ifs = x.ifs' } in
     let y = limited_in rest' b x.left (i + ifs_in first) rest g x.rest' in
-    record { depth' = (let t : b + depth_in first ≤ 64 = x.depth' in let u : b + depth_in rest' ≤ 64 = y.depth' in omega arith); ifs' = (let t : i + ifs_in first + ifs_in rest' ≤ 1024 = y.ifs' in omega arith); short = (x.short, y.short); left = y.left; left' = y.left';
-      rest' = keeps_at b y.left (i + ifs_in first + ifs_in rest') b y.left (i + (ifs_in first + ifs_in rest')) rest refl refl (omega arith) y.rest' }
+    record {
+      depth' = (let t : b + depth_in first ≤ 64 = x.depth' in let u : b + depth_in rest' ≤ 64 = y.depth' in omega arith);
+      ifs' = (let t : i + ifs_in first + ifs_in rest' ≤ 1024 = y.ifs' in omega arith);
+      short = (x.short, y.short);
+      left = y.left;
+      left' = y.left';
+      rest' = keeps_at b y.left (i + ifs_in first + ifs_in rest') b y.left (i + (ifs_in first + ifs_in rest')) rest refl refl (omega arith) y.rest';
+    }
 limited_in Ended b o i rest f h = record { depth' = (let t : b ≤ 64 = f.brackets in omega arith); ifs' = (let t : i ≤ 1024 = f.ifs in omega arith); short = tt; left = o; left' = f.operators; rest' = keeps_at b o i b o (i + 0) rest refl refl (omega arith) h }
 
 pub limits_in : (s : WrittenStatement) (b o i : ℕ) (rest : List Role) → Fine b o i → b + depth_in s ≤ 64 → i + ifs_in s ≤ 1024 → AreShort s → ((o' : ℕ) → o' ≤ 1024 → Keeps (counts b o' (i + ifs_in s)) rest) → Keeps (counts b o i) (of_statement s ++ rest)
@@ -261,15 +287,15 @@ limits_in (Update target value) b o i rest f d n s h =
 limits_in (UpdateWord target address value) b o i rest f d n s h =
     let m : b + max (depth_of address + 1) (depth_of value) ≤ 64 = d in
     step_keeps (counts b o i) Plain (OpensWhole ∷ ((of_expr address ++ Closes ∷ Starts ∷ (of_expr value ++ Plain ∷ [])) ++ rest)) b o i refl f (rw (append_assoc (of_expr address) (Closes ∷ Starts ∷ (of_expr value ++ Plain ∷ [])) rest)
-      (held_from address b o i (Starts ∷ ((of_expr value ++ Plain ∷ []) ++ rest)) f.ifs (omega arith) s.0 (whole_from value b (operators_of address) i rest f.brackets f.ifs (omega arith) s.1 (keeps_at b (operators_of value) (i + 0) b (operators_of value) i rest refl refl (omega arith) (h (operators_of value) s.1)))))
+    (held_from address b o i (Starts ∷ ((of_expr value ++ Plain ∷ []) ++ rest)) f.ifs (omega arith) s.0 (whole_from value b (operators_of address) i rest f.brackets f.ifs (omega arith) s.1 (keeps_at b (operators_of value) (i + 0) b (operators_of value) i rest refl refl (omega arith) (h (operators_of value) s.1)))))
 limits_in (IfThen test yes') b o i rest f d n s h =
     let m : b + max (depth_of test + 1) (depth_in yes') ≤ 64 = d in
     let t : i + (ifs_in yes' + 1) ≤ 1024 = n in
     let f1 : Fine b o (i + 1) = record { brackets = f.brackets; operators = f.operators; ifs = omega arith } in
     let f2 : Fine b (operators_of test) (i + 1) = record { brackets = f.brackets; operators = s.0; ifs = omega arith } in
     step_keeps (counts b o i) Tests (OpensWhole ∷ ((of_expr test ++ Closes ∷ of_statement yes') ++ rest)) b o (i + 1) refl f1 (rw (append_assoc (of_expr test) (Closes ∷ of_statement yes') rest)
-      (held_from test b o (i + 1) (of_statement yes' ++ rest) (omega arith) (omega arith) s.0 (limits_in yes' b (operators_of test) (i + 1) rest f2 (omega arith) (omega arith) s.1
-        (λ o' g. keeps_at b o' (i + (ifs_in yes' + 1)) b o' (i + 1 + ifs_in yes') rest refl refl (omega arith) (h o' g)))))
+    (held_from test b o (i + 1) (of_statement yes' ++ rest) (omega arith) (omega arith) s.0 (limits_in yes' b (operators_of test) (i + 1) rest f2 (omega arith) (omega arith) s.1
+    (λ o' g. keeps_at b o' (i + (ifs_in yes' + 1)) b o' (i + 1 + ifs_in yes') rest refl refl (omega arith) (h o' g)))))
 limits_in (IfElse test yes' no') b o i rest f d n s h =
     let m : b + max (depth_of test + 1) (max (depth_in yes') (depth_in no')) ≤ 64 = d in
     let t : i + (ifs_in yes' + ifs_in no' + 1) ≤ 1024 = n in
@@ -277,25 +303,25 @@ limits_in (IfElse test yes' no') b o i rest f d n s h =
     let f2 : Fine b (operators_of test) (i + 1) = record { brackets = f.brackets; operators = s.0; ifs = omega arith } in
     let hb : b ≤ 64 = f.brackets in
     step_keeps (counts b o i) Tests (OpensWhole ∷ ((of_expr test ++ Closes ∷ (of_statement yes' ++ Plain ∷ of_statement no')) ++ rest)) b o (i + 1) refl f1 (rw (append_assoc (of_expr test) (Closes ∷ (of_statement yes' ++ Plain ∷ of_statement no')) rest)
-      (held_from test b o (i + 1) ((of_statement yes' ++ Plain ∷ of_statement no') ++ rest) (omega arith) (omega arith) s.0 (rw (append_assoc (of_statement yes') (Plain ∷ of_statement no') rest)
-        (limits_in yes' b (operators_of test) (i + 1) (Plain ∷ (of_statement no' ++ rest)) f2 (omega arith) (omega arith) s.1
-          (λ o' g. (let f3 : Fine b o' (i + 1 + ifs_in yes') = record { brackets = hb; operators = g; ifs = omega arith } in
-            step_keeps (counts b o' (i + 1 + ifs_in yes')) Plain (of_statement no' ++ rest) b o' (i + 1 + ifs_in yes') refl f3 (limits_in no' b o' (i + 1 + ifs_in yes') rest f3 (omega arith) (omega arith) s.2
-              (λ o2 g2. keeps_at b o2 (i + (ifs_in yes' + ifs_in no' + 1)) b o2 (i + 1 + ifs_in yes' + ifs_in no') rest refl refl (omega arith) (h o2 g2)))))))))
+    (held_from test b o (i + 1) ((of_statement yes' ++ Plain ∷ of_statement no') ++ rest) (omega arith) (omega arith) s.0 (rw (append_assoc (of_statement yes') (Plain ∷ of_statement no') rest)
+    (limits_in yes' b (operators_of test) (i + 1) (Plain ∷ (of_statement no' ++ rest)) f2 (omega arith) (omega arith) s.1
+    (λ o' g. (let f3 : Fine b o' (i + 1 + ifs_in yes') = record { brackets = hb; operators = g; ifs = omega arith } in
+    step_keeps (counts b o' (i + 1 + ifs_in yes')) Plain (of_statement no' ++ rest) b o' (i + 1 + ifs_in yes') refl f3 (limits_in no' b o' (i + 1 + ifs_in yes') rest f3 (omega arith) (omega arith) s.2
+    (λ o2 g2. keeps_at b o2 (i + (ifs_in yes' + ifs_in no' + 1)) b o2 (i + 1 + ifs_in yes' + ifs_in no') rest refl refl (omega arith) (h o2 g2)))))))))
 limits_in (Block statements) b o i rest f d n s h =
     let m : b + (depth_in statements + 1) ≤ 64 = d in
     let f1 : Fine (b + 1) o i = record { brackets = omega arith; operators = f.operators; ifs = f.ifs } in
     let hb : b ≤ 64 = f.brackets in
     step_keeps (counts b o i) Opens ((of_statement statements ++ Closes ∷ []) ++ rest) (b + 1) o i refl f1 (rw (append_assoc (of_statement statements) (Closes ∷ []) rest)
-      (limits_in statements (b + 1) o i (Closes ∷ rest) f1 (omega arith) n s
-        (λ o' g. step_keeps (counts (b + 1) o' (i + ifs_in statements)) Closes rest b o' (i + ifs_in statements) (ap (λ (x : ℕ). counts x o' (i + ifs_in statements)) (omega arith)) (record { brackets = hb; operators = g; ifs = n }) (h o' g))))
+    (limits_in statements (b + 1) o i (Closes ∷ rest) f1 (omega arith) n s
+    (λ o' g. step_keeps (counts (b + 1) o' (i + ifs_in statements)) Closes rest b o' (i + ifs_in statements) (ap (λ (x : ℕ). counts x o' (i + ifs_in statements)) (omega arith)) (record { brackets = hb; operators = g; ifs = n }) (h o' g))))
 limits_in (Listed first rest') b o i rest f d n s h =
     let m : b + max (depth_in first) (depth_in rest') ≤ 64 = d in
     let t : i + (ifs_in first + ifs_in rest') ≤ 1024 = n in
     let hb : b ≤ 64 = f.brackets in
     rw (append_assoc (of_statement first) (of_statement rest') rest) (limits_in first b o i (of_statement rest' ++ rest) f (omega arith) (omega arith) s.0
-      (λ o' g. limits_in rest' b o' (i + ifs_in first) rest (record { brackets = hb; operators = g; ifs = omega arith }) (omega arith) (omega arith) s.1
-        (λ o2 g2. keeps_at b o2 (i + (ifs_in first + ifs_in rest')) b o2 (i + ifs_in first + ifs_in rest') rest refl refl (omega arith) (h o2 g2))))
+    (λ o' g. limits_in rest' b o' (i + ifs_in first) rest (record { brackets = hb; operators = g; ifs = omega arith }) (omega arith) (omega arith) s.1
+    (λ o2 g2. keeps_at b o2 (i + (ifs_in first + ifs_in rest')) b o2 (i + ifs_in first + ifs_in rest') rest refl refl (omega arith) (h o2 g2))))
 limits_in Ended b o i rest f d n s h = keeps_at b o (i + 0) b o i rest refl refl (omega arith) (h o f.operators)
 
 -- ---- items and modules
@@ -360,16 +386,16 @@ limits_item (Wires range names) b o i rest k h = declared_from (spell_range rang
 limits_item (Registers range names) b o i rest k h = declared_from (spell_range range) (spell_names names) b o i rest (h 0 0 0 none)
 limits_item (MemoryOf range name last) b o i rest k h =
     begins b o i ((plain_for (spell_range range) ++ Plain ∷ Plain ∷ Plain ∷ Plain ∷ Plain ∷ Plain ∷ Plain ∷ []) ++ rest) (rw (append_assoc (plain_for (spell_range range)) (Plain ∷ Plain ∷ Plain ∷ Plain ∷ Plain ∷ Plain ∷ Plain ∷ []) rest)
-      (plain_back (spell_range range) 0 0 0 (Plain ∷ Plain ∷ Plain ∷ Plain ∷ Plain ∷ Plain ∷ Plain ∷ rest) none (under 0 0 0 (Plain ∷ Plain ∷ Plain ∷ Plain ∷ Plain ∷ Plain ∷ rest) none (under 0 0 0 (Plain ∷ Plain ∷ Plain ∷ Plain ∷ Plain ∷ rest) none (under 0 0 0 (Plain ∷ Plain ∷ Plain ∷ Plain ∷ rest) none
-        (under 0 0 0 (Plain ∷ Plain ∷ Plain ∷ rest) none (under 0 0 0 (Plain ∷ Plain ∷ rest) none (under 0 0 0 (Plain ∷ rest) none (under 0 0 0 rest none (h 0 0 0 none))))))))))
+    (plain_back (spell_range range) 0 0 0 (Plain ∷ Plain ∷ Plain ∷ Plain ∷ Plain ∷ Plain ∷ Plain ∷ rest) none (under 0 0 0 (Plain ∷ Plain ∷ Plain ∷ Plain ∷ Plain ∷ Plain ∷ rest) none (under 0 0 0 (Plain ∷ Plain ∷ Plain ∷ Plain ∷ Plain ∷ rest) none (under 0 0 0 (Plain ∷ Plain ∷ Plain ∷ Plain ∷ rest) none
+    (under 0 0 0 (Plain ∷ Plain ∷ Plain ∷ rest) none (under 0 0 0 (Plain ∷ Plain ∷ rest) none (under 0 0 0 (Plain ∷ rest) none (under 0 0 0 rest none (h 0 0 0 none))))))))))
 limits_item (Assign target value) b o i rest k h =
     begins b o i (Plain ∷ Starts ∷ ((of_expr value ++ Plain ∷ []) ++ rest)) (under 0 0 0 (Starts ∷ ((of_expr value ++ Plain ∷ []) ++ rest)) none
-      (whole_from value 0 0 0 rest (omega arith) (omega arith) (let t : depth_of value ≤ 64 = k.0 in omega arith) k.1 (h 0 (operators_of value) 0 (record { brackets = omega arith; operators = k.1; ifs = omega arith }))))
+    (whole_from value 0 0 0 rest (omega arith) (omega arith) (let t : depth_of value ≤ 64 = k.0 in omega arith) k.1 (h 0 (operators_of value) 0 (record { brackets = omega arith; operators = k.1; ifs = omega arith }))))
 limits_item (Always clock body) b o i rest k h =
     let d : depth_in body ≤ 64 = k.0 in
     let n : ifs_in body ≤ 1024 = k.1 in
     begins b o i (Plain ∷ Plain ∷ Plain ∷ Plain ∷ Plain ∷ (of_statement body ++ rest)) (under 0 0 0 (Plain ∷ Plain ∷ Plain ∷ Plain ∷ (of_statement body ++ rest)) none (under 0 0 0 (Plain ∷ Plain ∷ Plain ∷ (of_statement body ++ rest)) none (under 0 0 0 (Plain ∷ Plain ∷ (of_statement body ++ rest)) none (under 0 0 0 (Plain ∷ (of_statement body ++ rest)) none (under 0 0 0 (of_statement body ++ rest) none
-      (limits_in body 0 0 0 rest none (omega arith) (omega arith) k.2 (λ o' g. h 0 o' (0 + ifs_in body) (record { brackets = omega arith; operators = g; ifs = omega arith }))))))))
+    (limits_in body 0 0 0 rest none (omega arith) (omega arith) k.2 (λ o' g. h 0 o' (0 + ifs_in body) (record { brackets = omega arith; operators = g; ifs = omega arith }))))))))
 
 limited_items : (items : List WrittenItem) (b o i : ℕ) → Keeps (counts b o i) (of_items items ++ Begins ∷ []) → AllByRecursion KeepsLimits items
 limited_items [] b o i h = tt
@@ -408,4 +434,4 @@ within m h =
 pub within_keeps : (m : WrittenModule) → IsWithinLimits m → keeps_limits none_counted (roles_of m) ≡ true
 within_keeps m k =
     under 0 0 0 (Plain ∷ Plain ∷ (of_ports m.ports ++ Plain ∷ Plain ∷ (of_items m.items ++ Begins ∷ []))) none (under 0 0 0 (Plain ∷ (of_ports m.ports ++ Plain ∷ Plain ∷ (of_items m.items ++ Begins ∷ []))) none (under 0 0 0 (of_ports m.ports ++ Plain ∷ Plain ∷ (of_items m.items ++ Begins ∷ [])) none
-      (ports_from m.ports (Plain ∷ Plain ∷ (of_items m.items ++ Begins ∷ [])) (under 0 0 0 (Plain ∷ (of_items m.items ++ Begins ∷ [])) none (under 0 0 0 (of_items m.items ++ Begins ∷ []) none (limits_items m.items 0 0 0 k))))))
+    (ports_from m.ports (Plain ∷ Plain ∷ (of_items m.items ++ Begins ∷ [])) (under 0 0 0 (Plain ∷ (of_items m.items ++ Begins ∷ [])) none (under 0 0 0 (of_items m.items ++ Begins ∷ []) none (limits_items m.items 0 0 0 k))))))

@@ -40,9 +40,11 @@ reads_index = record { role = λ d t. refl; opening = λ d t e. ap (inside Index
   where
     open' : (d : ℕ) → inside Index Aims d Opening ≡ Index (suc d)
     open' d = refl
+
     operate : (d : ℕ) → inside Index Aims d Operating ≡ Index d
     operate zero = refl
     operate (suc d) = refl
+
     go : (d : ℕ) → inside Index Aims d Going ≡ Index d
     go zero = refl
     go (suc d) = refl
@@ -52,9 +54,11 @@ reads_test = record { role = λ d t. refl; opening = λ d t e. ap (inside Test G
   where
     open' : (d : ℕ) → inside Test Ground d Opening ≡ Test (suc d)
     open' d = refl
+
     operate : (d : ℕ) → inside Test Ground d Operating ≡ Test d
     operate zero = refl
     operate (suc d) = refl
+
     go : (d : ℕ) → inside Test Ground d Going ≡ Test d
     go zero = refl
     go (suc d) = refl
@@ -115,10 +119,10 @@ module _ (here : ℕ → State) (r : Reads here) where
       ap (marks (here d)) (append_assoc (spell_expr test) (Mark Question ∷ (spell_expr yes' ++ Mark Colon ∷ spell_expr no')) rest)
       ∙ marked test d (Mark Question ∷ ((spell_expr yes' ++ Mark Colon ∷ spell_expr no') ++ rest))
       ∙ ap (λ (x : List Role). of_expr test ++ x) (operates d (Mark Question) ((spell_expr yes' ++ Mark Colon ∷ spell_expr no') ++ rest) refl ∙ ap (λ (x : List Role). Operates ∷ x)
-        (ap (marks (here d)) (append_assoc (spell_expr yes') (Mark Colon ∷ spell_expr no') rest)
-        ∙ marked yes' d (Mark Colon ∷ (spell_expr no' ++ rest))
-        ∙ ap (λ (x : List Role). of_expr yes' ++ x) (goes d (Mark Colon) (spell_expr no' ++ rest) refl ∙ ap (λ (x : List Role). Plain ∷ x) (marked no' d rest))
-        ∙ sym (append_assoc (of_expr yes') (Plain ∷ of_expr no') (marks (here d) rest))))
+      (ap (marks (here d)) (append_assoc (spell_expr yes') (Mark Colon ∷ spell_expr no') rest)
+      ∙ marked yes' d (Mark Colon ∷ (spell_expr no' ++ rest))
+      ∙ ap (λ (x : List Role). of_expr yes' ++ x) (goes d (Mark Colon) (spell_expr no' ++ rest) refl ∙ ap (λ (x : List Role). Plain ∷ x) (marked no' d rest))
+      ∙ sym (append_assoc (of_expr yes') (Plain ∷ of_expr no') (marks (here d) rest))))
       ∙ sym (append_assoc (of_expr test) (Operates ∷ (of_expr yes' ++ Plain ∷ of_expr no')) (marks (here d) rest))
 
 -- ---- statements
@@ -137,23 +141,23 @@ pub marked_in : (s : WrittenStatement) (rest : List Token) → marks Ground (spe
 marked_in (Update target value) rest = ap (λ (x : List Role). Plain ∷ Starts ∷ x) (valued value rest)
 marked_in (UpdateWord target address value) rest =
     ap (λ (x : List Role). Plain ∷ OpensWhole ∷ x) (indexed address (Mark LessEquals ∷ (spell_expr value ++ Mark Semicolon ∷ [])) rest
-      ∙ ap (λ (x : List Role). of_expr address ++ Closes ∷ Starts ∷ x) (valued value rest)
-      ∙ sym (append_assoc (of_expr address) (Closes ∷ Starts ∷ (of_expr value ++ Plain ∷ [])) (marks Ground rest)))
+    ∙ ap (λ (x : List Role). of_expr address ++ Closes ∷ Starts ∷ x) (valued value rest)
+    ∙ sym (append_assoc (of_expr address) (Closes ∷ Starts ∷ (of_expr value ++ Plain ∷ [])) (marks Ground rest)))
 marked_in (IfThen test yes') rest =
     ap (λ (x : List Role). Tests ∷ OpensWhole ∷ x) (tested test (spell_statement yes') rest
-      ∙ ap (λ (x : List Role). of_expr test ++ Closes ∷ x) (marked_in yes' rest)
-      ∙ sym (append_assoc (of_expr test) (Closes ∷ of_statement yes') (marks Ground rest)))
+    ∙ ap (λ (x : List Role). of_expr test ++ Closes ∷ x) (marked_in yes' rest)
+    ∙ sym (append_assoc (of_expr test) (Closes ∷ of_statement yes') (marks Ground rest)))
 marked_in (IfElse test yes' no') rest =
     ap (λ (x : List Role). Tests ∷ OpensWhole ∷ x) (tested test (spell_statement yes' ++ Reserved ElseWord ∷ spell_statement no') rest
-      ∙ ap (λ (x : List Role). of_expr test ++ Closes ∷ x) (ap (marks Ground) (append_assoc (spell_statement yes') (Reserved ElseWord ∷ spell_statement no') rest)
-        ∙ marked_in yes' (Reserved ElseWord ∷ (spell_statement no' ++ rest))
-        ∙ ap (λ (x : List Role). of_statement yes' ++ Plain ∷ x) (marked_in no' rest)
-        ∙ sym (append_assoc (of_statement yes') (Plain ∷ of_statement no') (marks Ground rest)))
-      ∙ sym (append_assoc (of_expr test) (Closes ∷ (of_statement yes' ++ Plain ∷ of_statement no')) (marks Ground rest)))
+    ∙ ap (λ (x : List Role). of_expr test ++ Closes ∷ x) (ap (marks Ground) (append_assoc (spell_statement yes') (Reserved ElseWord ∷ spell_statement no') rest)
+    ∙ marked_in yes' (Reserved ElseWord ∷ (spell_statement no' ++ rest))
+    ∙ ap (λ (x : List Role). of_statement yes' ++ Plain ∷ x) (marked_in no' rest)
+    ∙ sym (append_assoc (of_statement yes') (Plain ∷ of_statement no') (marks Ground rest)))
+    ∙ sym (append_assoc (of_expr test) (Closes ∷ (of_statement yes' ++ Plain ∷ of_statement no')) (marks Ground rest)))
 marked_in (Block statements) rest =
     ap (λ (x : List Role). Opens ∷ x) (ap (marks Ground) (append_assoc (spell_statement statements) (Reserved EndWord ∷ []) rest)
-      ∙ marked_in statements (Reserved EndWord ∷ rest)
-      ∙ sym (append_assoc (of_statement statements) (Closes ∷ []) (marks Ground rest)))
+    ∙ marked_in statements (Reserved EndWord ∷ rest)
+    ∙ sym (append_assoc (of_statement statements) (Closes ∷ []) (marks Ground rest)))
 marked_in (Listed first rest') rest =
     ap (marks Ground) (append_assoc (spell_statement first) (spell_statement rest') rest)
     ∙ marked_in first (spell_statement rest' ++ rest)
@@ -180,7 +184,7 @@ declared_marks r ns rest =
     ap (marks Declares) (append_assoc (spell_range r) (spell_names ns ++ Mark Semicolon ∷ []) rest)
     ∙ range_marks r ((spell_names ns ++ Mark Semicolon ∷ []) ++ rest)
     ∙ ap (λ (x : List Role). plain_for (spell_range r) ++ x) (ap (marks Declares) (append_assoc (spell_names ns) (Mark Semicolon ∷ []) rest)
-      ∙ names_marks ns (Mark Semicolon ∷ rest) ∙ sym (append_assoc (plain_for (spell_names ns)) (Plain ∷ []) (marks Ground rest)))
+    ∙ names_marks ns (Mark Semicolon ∷ rest) ∙ sym (append_assoc (plain_for (spell_names ns)) (Plain ∷ []) (marks Ground rest)))
     ∙ sym (append_assoc (plain_for (spell_range r)) (plain_for (spell_names ns) ++ Plain ∷ []) (marks Ground rest))
 
 item_marks : (i : WrittenItem) (rest : List Token) → marks Ground (spell_item i ++ rest) ≡ of_item i ++ marks Ground rest
@@ -188,8 +192,8 @@ item_marks (Wires range names) rest = ap (λ (x : List Role). Begins ∷ x) (dec
 item_marks (Registers range names) rest = ap (λ (x : List Role). Begins ∷ x) (declared_marks range names rest)
 item_marks (MemoryOf range name last) rest =
     ap (λ (x : List Role). Begins ∷ x) (ap (marks Declares) (append_assoc (spell_range range) (Name name ∷ Mark OpenBracket ∷ Number zero_digit ∷ Mark Colon ∷ Number last ∷ Mark CloseBracket ∷ Mark Semicolon ∷ []) rest)
-      ∙ range_marks range (Name name ∷ Mark OpenBracket ∷ Number zero_digit ∷ Mark Colon ∷ Number last ∷ Mark CloseBracket ∷ Mark Semicolon ∷ rest)
-      ∙ sym (append_assoc (plain_for (spell_range range)) (Plain ∷ Plain ∷ Plain ∷ Plain ∷ Plain ∷ Plain ∷ Plain ∷ []) (marks Ground rest)))
+    ∙ range_marks range (Name name ∷ Mark OpenBracket ∷ Number zero_digit ∷ Mark Colon ∷ Number last ∷ Mark CloseBracket ∷ Mark Semicolon ∷ rest)
+    ∙ sym (append_assoc (plain_for (spell_range range)) (Plain ∷ Plain ∷ Plain ∷ Plain ∷ Plain ∷ Plain ∷ Plain ∷ []) (marks Ground rest)))
 item_marks (Assign target value) rest = ap (λ (x : List Role). Begins ∷ Plain ∷ Starts ∷ x) (valued value rest)
 item_marks (Always clock body) rest = ap (λ (x : List Role). Begins ∷ Plain ∷ Plain ∷ Plain ∷ Plain ∷ Plain ∷ x) (marked_in body rest)
 

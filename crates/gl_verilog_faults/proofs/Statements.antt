@@ -94,10 +94,14 @@ module _ (ds all : List Declaration) (ext : Extends ds all) (small : AreSmall ds
       let own = met_back (of_expr ds (k + 2) value) _ h in
       let s = seen_declared ds target own.0 in
       let c : is_clocked s.1 ≡ true = rw (so_by is_clocked ds target s.0 s.1 s.2) at own.1.0 in
-      let m : not (is_memory s.1) ≡ true = rw (so_by is_memory ds target s.0 s.1 s.2) at own.1.1.0 in
-      (Put s.0 a.0, record { resolved = rw (s.2.number, a.1.resolved) refl;
-        kept = (takes s.0 s.1 a.0 (λ c. IsRegister c.kind) target value s.2 a.1 (register_kind s.1.kind c m) own.1.1.1.1.0, a.1.kept);
-        free = own.1.1.1.0 })
+      let m : not (is_memory s.1) ≡ true = rw (so_by is_memory ds target s.0 s.1 s.2) at own.1.1.0 in (
+        Put s.0 a.0,
+        record {
+          resolved = rw (s.2.number, a.1.resolved) refl;
+          kept = (takes s.0 s.1 a.0 (λ c. IsRegister c.kind) target value s.2 a.1 (register_kind s.1.kind c m) own.1.1.1.1.0, a.1.kept);
+          free = own.1.1.1.0;
+        },
+      )
   meant_in (UpdateWord target address value) before beside k g h =
       let sides = met_front (of_expr ds (k + 2) address ++ of_expr ds (k + length (spell_expr address) + 4) value) _ h in
       let own = met_back (of_expr ds (k + 2) address ++ of_expr ds (k + length (spell_expr address) + 4) value) _ h in
@@ -105,10 +109,14 @@ module _ (ds all : List Declaration) (ext : Extends ds all) (small : AreSmall ds
       let b = whole value (k + length (spell_expr address) + 4) g.1 (met_back (of_expr ds (k + 2) address) _ sides) in
       let s = seen_declared ds target own.0 in
       let m : (is_memory s.1 && eqb (address_of s.1) (bits_in ds address)) ≡ true = rw (so_by (λ d. is_memory d && nat_eq (address_of d) (bits_in ds address)) ds target s.0 s.1 s.2) at own.1.1.0 in
-      let p = and_parts (is_memory s.1) (eqb (address_of s.1) (bits_in ds address)) m in
-      (Write s.0 a.0 b.0, record { resolved = rw (s.2.number, a.1.resolved, b.1.resolved) refl;
-        kept = (takes s.0 s.1 b.0 (λ c. IsMemory c.kind (width_of all a.0)) target value s.2 b.1 (memory_kind s.1.kind (width_of all a.0) p.0 (eqb-true (address_of s.1) (bits_in ds address) p.1 ∙ sym a.1.wide)) own.1.1.1.1.0, a.1.kept, b.1.kept);
-        free = own.1.1.1.0 })
+      let p = and_parts (is_memory s.1) (eqb (address_of s.1) (bits_in ds address)) m in (
+        Write s.0 a.0 b.0,
+        record {
+          resolved = rw (s.2.number, a.1.resolved, b.1.resolved) refl;
+          kept = (takes s.0 s.1 b.0 (λ c. IsMemory c.kind (width_of all a.0)) target value s.2 b.1 (memory_kind s.1.kind (width_of all a.0) p.0 (eqb-true (address_of s.1) (bits_in ds address) p.1 ∙ sym a.1.wide)) own.1.1.1.1.0, a.1.kept, b.1.kept);
+          free = own.1.1.1.0;
+        },
+      )
   meant_in (IfThen test yes') before beside k g h =
       let t = whole test (k + 2) g.0 (met_front (of_expr ds (k + 2) test) _ h) in
       let own = met_back (of_expr ds (k + 2) test) _ h in
@@ -156,7 +164,7 @@ module _ (ds all : List Declaration) (ext : Extends ds all) (small : AreSmall ds
       let q = kind_memory s.0.kind (width_of all m.1) p.0 in
       let v : (is_memory s.0 && eqb (address_of s.0) (bits_in ds address)) ≡ true = and_from (is_memory s.0) (eqb (address_of s.0) (bits_in ds address)) q.0 (eq-eqb (address_of s.0) (bits_in ds address) (q.1 ∙ a.wide)) in
       met_join (of_expr ds (k + 2) address ++ of_expr ds (k + length (spell_expr address) + 4) value) _ (met_join (of_expr ds (k + 2) address) _ a.met b.met)
-        (is_declared_by ds target m.0 s.0 s.1, (rw (so_by is_clocked ds target m.0 s.0 s.1) (clocked_memory s.0.kind (width_of all m.1) p.0), (rw (so_by (λ d. is_memory d && nat_eq (address_of d) (bits_in ds address)) ds target m.0 s.0 s.1) v, (f, (bits_same m.0 s.0 m.2 target value (k + length (spell_expr address) + 4) s.1 b p.1, tt)))))
+      (is_declared_by ds target m.0 s.0 s.1, (rw (so_by is_clocked ds target m.0 s.0 s.1) (clocked_memory s.0.kind (width_of all m.1) p.0), (rw (so_by (λ d. is_memory d && nat_eq (address_of d) (bits_in ds address)) ds target m.0 s.0 s.1) v, (f, (bits_same m.0 s.0 m.2 target value (k + length (spell_expr address) + 4) s.1 b p.1, tt)))))
   asked_in (IfThen test yes') before beside k x r h f =
       let m = both_some (λ c y. If c y Nothing) (resolve_expr ds test) (resolve_statement ds yes') x r in
       let g = statement_at x (If m.0 m.1 Nothing) m.4 h in
@@ -166,8 +174,10 @@ module _ (ds all : List Declaration) (ext : Extends ds all) (small : AreSmall ds
       let m = three_some If (resolve_expr ds test) (resolve_statement ds yes') (resolve_statement ds no') x r in
       let g = statement_at x (If m.0 m.1 m.2) m.6 h in
       let t = asked ds all ext small test (k + 2) m.0 m.3 g.1 in
-      met_join (of_expr ds (k + 2) test) _ t.met (eq-eqb (bits_in ds test) 1 (sym t.wide ∙ g.0),
-        met_join (of_statement ds done before beside (k + length (spell_expr test) + 3) yes') _ (asked_in yes' before beside (k + length (spell_expr test) + 3) m.1 m.4 g.2 f.0) (asked_in no' (before ++ targets_in yes') beside (k + length (spell_expr test) + length (spell_statement yes') + 4) m.2 m.5 g.3 f.1))
+      met_join (of_expr ds (k + 2) test) _ t.met (
+        eq-eqb (bits_in ds test) 1 (sym t.wide ∙ g.0),
+        met_join (of_statement ds done before beside (k + length (spell_expr test) + 3) yes') _ (asked_in yes' before beside (k + length (spell_expr test) + 3) m.1 m.4 g.2 f.0) (asked_in no' (before ++ targets_in yes') beside (k + length (spell_expr test) + length (spell_statement yes') + 4) m.2 m.5 g.3 f.1),
+      )
   asked_in (Block statements) before beside k x r h f = asked_in statements before beside (k + 1) x r h f
   asked_in (Listed first rest) before beside k x r h f =
       let m = both_some Both (resolve_statement ds first) (resolve_statement ds rest) x r in

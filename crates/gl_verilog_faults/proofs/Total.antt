@@ -32,7 +32,7 @@ place_by text k n true e h f down = (suc n, record { within = h; before = leb-tr
 place_by text k n false e h f down = down (λ q l m. elim (cases_eq q (suc n)) [
   | inl s ↦ subst (λ (x : ℕ). k < count text x) (sym s) (leb-false (count text (suc n)) k e)
   | inr d ↦ f q (further n q l d) m
-  ])
+])
 
 place_from : (text : List ℕ) (k n : ℕ) → n ≤ length text → ((q : ℕ) → n < q → q ≤ length text → k < count text q) → (p : ℕ) × IsPlaceOf text k p
 place_from text k zero h f = (0, record { within = h; before = (let e : count text 0 ≡ 0 = none_yet text in omega arith); behind = f })

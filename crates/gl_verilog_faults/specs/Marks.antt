@@ -5,15 +5,15 @@ use Rattle.gl_verilog_faults.specs.Counts.{Role, Opens, Closes, Operates, Starts
 
 -- where the reader stands
 pub data State : Type 0 where
-  Header : State              -- up to the `;` behind the ports
-  Ground : State              -- before an item or a statement
-  Declares : State            -- in a declaration, or before the `=` of an assignment
-  Clocks : State              -- in `@ ( posedge clk )`
-  Asks : State                -- behind `if`
-  Aims : State                -- behind a statement's target
+  Header : State  -- up to the `;` behind the ports
+  Ground : State  -- before an item or a statement
+  Declares : State  -- in a declaration, or before the `=` of an assignment
+  Clocks : State  -- in `@ ( posedge clk )`
+  Asks : State  -- behind `if`
+  Aims : State  -- behind a statement's target
   Index : (open' : ℕ) → State  -- in a target's index, with so many brackets open in it
-  Test : (open' : ℕ) → State   -- in a condition
-  Value : State               -- in what is assigned, up to its `;`
+  Test : (open' : ℕ) → State  -- in a condition
+  Value : State  -- in what is assigned, up to its `;`
 
 -- what a token does in an expression
 pub data Turn : Type 0 where

@@ -1,10 +1,10 @@
 -- The invariant of every schedule: what differs from its expression is active.
 use Rattle.std.proofs.Common.{◌≡◌, ◌≢◌, ℕ, zero, suc, ◌+◌, ◌≤◌, ◌⊎◌, inl, inr, Bool, true, false, List, [], ◌∷◌, Option, Some, None, nat_eq, eqb, refl, sym, ap, ◌∙◌, subst, arith}
-use Rattle.std.specs.Prelude.{◌||◌, ◌&&◌, slice_get}
+use Rattle.std.specs.Prelude.{◌||◌, slice_get}
 use Rattle.std.specs.Option.{option_map_or}
 use Rattle.std.proofs.lemmas.Bool.{eq-eqb}
 use Rattle.std.proofs.lemmas.Bool.Decides.{eqb_tells}
-use Rattle.gl_bits.proofs.Bools.{or_left, or_right, and_left, and_right}
+use Rattle.gl_bits.proofs.Bools.{or_left, or_right}
 use Rattle.gl_bits.specs.Words.{not_of, cut_of}
 use Rattle.gl_verilog.specs.Module.{Module, Declaration, Kind, Input, OutputWire, OutputRegister, Wire, Register, Memory, Assignment, Expr, Net, Literal, Invert, Binary, Choose, Join, Select, Read, Nets, Memories, value_of}
 use Rattle.gl_verilog.specs.Order.{with_net}

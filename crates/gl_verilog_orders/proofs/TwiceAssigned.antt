@@ -1,5 +1,5 @@
 -- The register that two blocks assign takes the value of the update that happens last.
-use Rattle.std.proofs.Common.{◌≡◌, ◌≢◌, ℕ, List, [], ◌∷◌, ◌++◌, refl}
+use Rattle.std.proofs.Common.{[], ◌∷◌, refl}
 use Rattle.std.proofs.lemmas.Nat.{pow_pos}
 use Rattle.gl_verilog_orders.specs.Events.{State, Executes, Puts, Schedule, no_steps, a_step, happens, releases, at_edge, happened, with_active}
 use Rattle.gl_verilog_orders.specs.Laws.{Rests}

@@ -1,5 +1,5 @@
 -- Why a register may be assigned in one block only: in two, what it takes depends on the order of events.
-use Rattle.std.specs.Prelude.{◌≢◌, ℕ, false, List, [], ◌∷◌}
+use Rattle.std.specs.Prelude.{◌≢◌, ℕ, false, [], ◌∷◌}
 use Rattle.gl_verilog.specs.Module.{Module, Register, Literal, Put}
 use Rattle.gl_verilog_orders.specs.Events.{State, at_edge, IsSettledRest}
 use Rattle.gl_verilog_orders.specs.Laws.{Rests}

@@ -29,8 +29,8 @@ pub fn has_event_runs()
     ensures same { (m : Design) → IsValid m → HasEventRuns m }
 {}
 
-/// A register that two blocks assign takes a value by the order of events: a race. So no valid module
-/// has one.
+/// A register that two blocks assign takes a value by the order of events: a race. So no valid
+/// module has one.
 pub fn two_blocks_race()
     ensures { Races twice_assigned }
 {}

@@ -179,4 +179,3 @@ module _ (net : Net) (family : ℕ) (c : Named net family) where
 
   pub port_no_clock : (place : ℕ) (p : Port) → slice_get net.ports place ≡ Some p → bytes_eq p.name (codes "clk") ≡ false
   port_no_clock place p e = bytes_other p.name (codes "clk") (c.netlist.finished.no_clock place p e)
-

@@ -1,6 +1,6 @@
 //! The ports of a module, and its name.
 
-ghost use Rattle.std.specs.Prelude.{◌≡◌, ℕ, [], ◌∷◌, ◌++◌, length, Some, IfOk, OnOk, OnErr};
+ghost use Rattle.std.specs.Prelude.{◌≡◌, ℕ, [], ◌∷◌, ◌++◌, Some, IfOk, OnOk, OnErr};
 ghost use Rattle.gl_bits.specs.Words.{IsWidth};
 ghost use Rattle.gl_net.specs.declared.node.Direction.TheVariants.{In, Out};
 ghost use Rattle.gl_net.specs.Net.{IsBus, Grows, open_at, size_of, register_bits_of, memory_bits_of};

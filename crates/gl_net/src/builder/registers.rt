@@ -1,6 +1,6 @@
 //! Registers, and what drives them.
 
-ghost use Rattle.std.specs.Prelude.{◌≡◌, ℕ, ◌+◌, ◌^◌, ◌<◌, Some, None, IfSome, is_none, IfOk, OnOk, OnErr};
+ghost use Rattle.std.specs.Prelude.{◌≡◌, ◌+◌, ◌^◌, ◌<◌, Some, None, IfSome, is_none, IfOk, OnOk, OnErr};
 ghost use Rattle.std.specs.Option.{option_map};
 ghost use Rattle.gl_bits.specs.Words.{Word, IsWidth};
 ghost use Rattle.gl_net.specs.Net.{IsBus, Grows, Value, open_at, size_of, register_bits_of, memory_bits_of, is_free};

@@ -1,4 +1,4 @@
-use Rattle.std.proofs.Common.{◌≡◌, ℕ, ◌<◌, length, Some, slice_get, subst, arith}
+use Rattle.std.proofs.Common.{◌≡◌, ℕ, Some, slice_get, subst, arith}
 use Rattle.gl_figures.proofs.FiguredLemmas.{names_before}
 use Rattle.gl_figures.proofs.WeighedLemmas.{copied_next}
 use Rattle.gl_figures.proofs.copied.count_copies.Goals as goal

@@ -1,4 +1,4 @@
-use Rattle.std.proofs.Common.{◌≡◌, ℕ, ◌<◌, length, Some, slice_get, sym, subst, arith}
+use Rattle.std.proofs.Common.{◌≡◌, ℕ, Some, slice_get, sym, subst, arith}
 use Rattle.gl_figures.proofs.FiguredLemmas.{names_before, figured_next, figured_late}
 use Rattle.gl_figures.proofs.figured.figures.Goals as goal
 

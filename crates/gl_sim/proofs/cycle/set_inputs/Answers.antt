@@ -1,5 +1,5 @@
-use Rattle.std.proofs.Common.{◌≡◌, ◌<◌, ◌∙◌, ◌^◌, ℕ, List, length, ap, sym, subst, rules}
-use Rattle.std.specs.Prelude.{slice_set, slice_index_or, vec_len}
+use Rattle.std.proofs.Common.{◌<◌, ◌∙◌, ◌^◌, ℕ, List, length, sym, subst, rules}
+use Rattle.std.specs.Prelude.{slice_set, slice_index_or}
 use Rattle.gl_verilog.specs.View.{module_of}
 use Rattle.gl_verilog.specs.Evaluate.{IsStore, nets_of}
 use Rattle.gl_verilog.specs.Widths.{width_at}

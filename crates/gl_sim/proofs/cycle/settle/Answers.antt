@@ -1,4 +1,4 @@
-use Rattle.std.proofs.Common.{◌≡◌, ◌<◌, ◌∙◌, ℕ, length, ap, sym, subst, refl, rules, map, List}
+use Rattle.std.proofs.Common.{◌≡◌, ◌<◌, ◌∙◌, ℕ, length, ap, sym, subst, rules, map, List}
 use Rattle.std.specs.Prelude.{slice_set, slice_index_or, slice_get, Some}
 use Rattle.gl_bits.proofs.AllLists.{get_mapped}
 use Rattle.gl_verilog.specs.Module as spec

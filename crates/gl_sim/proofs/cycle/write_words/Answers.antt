@@ -1,10 +1,10 @@
-use Rattle.std.proofs.Common.{◌≡◌, ◌<◌, ◌∙◌, ℕ, List, [], length, subst, sym, ap, rules, arith, unwrap_or}
-use Rattle.std.specs.Prelude.{slice_index_or, slice_set}
+use Rattle.std.proofs.Common.{◌<◌, ◌∙◌, ℕ, List, [], length, subst, sym, ap, rules, unwrap_or}
+use Rattle.std.specs.Prelude.{slice_index_or}
 use Rattle.std.proofs.lemmas.List.{drop_all}
 use Rattle.gl_verilog.specs.Evaluate.{memories_of}
 use Rattle.gl_sim.specs.declared.update.Update.{Update}
 use Rattle.gl_sim.specs.Updates.{put_of}
-use Rattle.gl_sim.proofs.Words.{inside_here, has_put-first, has_put-more, get_or_default}
+use Rattle.gl_sim.proofs.Words.{inside_here, has_put-more, get_or_default}
 use Rattle.gl_sim.proofs.cycle.write_words.Goals as goal
 
 pub index_mut-bank-requires : goal.index_mut-bank-requires

@@ -1,4 +1,4 @@
-use Rattle.std.proofs.Common.{◌≡◌, ℕ, List, subst, sym, ap}
+use Rattle.std.proofs.Common.{subst, sym}
 use Rattle.gl_verilog.specs.View.{module_of}
 use Rattle.gl_verilog.specs.Evaluate.{nets_of, memories_of}
 use Rattle.gl_verilog.specs.Runnable.{SameState}

@@ -1,5 +1,4 @@
-use Rattle.std.proofs.Common.{◌≡◌, ◌∙◌, ◌<◌, ◌≤◌, ℕ, List, length, map, subst, sym, ap, arith}
-use Rattle.std.specs.Prelude.{slice_get, Some, slice_index_or}
+use Rattle.std.proofs.Common.{◌∙◌, ◌<◌, ◌≤◌, ℕ, length, subst, sym}
 use Rattle.gl_bits.proofs.AllLists.{length_map}
 use Rattle.gl_verilog.specs.View.{module_of, declaration_of}
 use Rattle.gl_sim.proofs.Draws.{drawn_to-first, drawn_to-more, drawn_all, get-some}

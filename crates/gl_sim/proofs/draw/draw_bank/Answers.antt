@@ -1,5 +1,4 @@
-use Rattle.std.proofs.Common.{◌≡◌, ◌<◌, ◌*◌, ◌∙◌, ◌+◌, ℕ, List, length, sym, subst, ap}
-use Rattle.gl_sim.specs.Starts.{draw}
+use Rattle.std.proofs.Common.{◌<◌, ◌+◌, ℕ, List, sym, subst}
 use Rattle.gl_sim.proofs.Draws.{IsDrawnIn, drawn_in-first, drawn_in-more}
 use Rattle.gl_sim.proofs.draw.draw_bank.Goals as goal
 

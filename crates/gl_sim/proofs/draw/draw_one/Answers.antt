@@ -1,15 +1,14 @@
-use Rattle.std.proofs.Common.{◌≡◌, ◌∙◌, ◌≤◌, ◌*◌, ◌<◌, ℕ, List, [], Some, length, map, refl, subst, sym, ap, arith}
-use Rattle.std.specs.Prelude.{slice_get, slice_set, slice_index, slice_index_or}
+use Rattle.std.proofs.Common.{◌≡◌, ◌∙◌, ◌*◌, ◌<◌, ℕ, List, [], length, subst, sym, ap, arith}
+use Rattle.std.specs.Prelude.{slice_set, slice_index_or}
 use Rattle.gl_bits.proofs.AllLists.{length_map}
 use Rattle.gl_verilog.specs.View.{module_of, declaration_of, kind_of}
 use Rattle.gl_verilog.specs.Module as spec
 use Rattle.gl_verilog.specs.Run.{IsRegister}
 use Rattle.gl_verilog.specs.Widths.{HasSize, words_in}
-use Rattle.gl_verilog.specs.declared.module.Declaration.{Declaration}
 use Rattle.gl_verilog.specs.declared.module.Kind.{Kind}
 use Rattle.gl_verilog.proofs.Fits.{all_at}
 use Rattle.gl_verilog.proofs.Stores.{same_item}
-use Rattle.gl_sim.specs.Starts.{DrawsOne, draw, draws_for, word_drawn}
+use Rattle.gl_sim.specs.Starts.{DrawsOne, draw, draws_for}
 use Rattle.gl_sim.proofs.Words.{get_or_default}
 use Rattle.gl_sim.proofs.Draws.{draws_register, draws_memory, draws_none, IsDrawnIn, declared_at}
 use Rattle.gl_sim.proofs.draw.draw_one.Goals as goal

@@ -1,4 +1,4 @@
-use Rattle.std.proofs.Common.{◌≡◌, ◌∙◌, ℕ, ◌<◌, ◌^◌, ap, sym, arith}
+use Rattle.std.proofs.Common.{◌∙◌, ◌<◌, ◌^◌, ap}
 use Rattle.gl_sim.specs.Starts.{next_draw}
 use Rattle.std.proofs.lemmas.Nat.{mod_below, pow_pos}
 use Rattle.gl_sim.proofs.Fresh.{word_is}

@@ -1,12 +1,5 @@
-use Rattle.std.proofs.Common.{◌≡◌, ◌∙◌, ℕ, List, [], length, subst, sym, ap, refl, map, Option, None, unwrap_or, slice_index}
-use Rattle.std.specs.Prelude.{slice_index_or}
-use Rattle.std.specs.List.{AllByRecursion}
-use Rattle.gl_verilog.specs.Module.{assigned, written, later_or}
+use Rattle.std.proofs.Common.{◌∙◌, ℕ, List, length, ap, map}
 use Rattle.gl_verilog.specs.View.{module_of, statement_of, chained}
-use Rattle.gl_verilog.specs.Evaluate.{nets_of, memories_of, IsStore}
-use Rattle.gl_verilog.specs.declared.module.Statement.{Statement}
-use Rattle.gl_sim.specs.declared.update.Update.{Update}
-use Rattle.gl_sim.specs.Updates.{CanExecute, put_of}
 use Rattle.gl_sim.proofs.Edges.{can_execute, keeps_chain, after_edge, AfterEdge}
 use Rattle.gl_sim.proofs.edge.clock.Goals as goal
 

@@ -1,6 +1,6 @@
-use Rattle.std.proofs.Common.{◌≡◌, ◌∙◌, ℕ, List, length, map, ap, sym, subst}
+use Rattle.std.proofs.Common.{◌≡◌, ◌∙◌, ℕ, List, length, sym, subst}
 use Rattle.gl_bits.proofs.AllLists.{length_map}
-use Rattle.gl_verilog.specs.View.{assignment_of, declaration_of, module_of}
+use Rattle.gl_verilog.specs.View.{declaration_of, module_of}
 use Rattle.gl_verilog.specs.declared.module.Assignment.{Assignment}
 use Rattle.gl_verilog_check.specs.Kept.{AreNets}
 use Rattle.gl_verilog_check.specs.Orders.{meant, IsMissing}

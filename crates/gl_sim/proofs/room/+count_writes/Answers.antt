@@ -1,6 +1,5 @@
-use Rattle.std.proofs.Common.{◌≡◌, ◌∙◌, ◌<◌, ◌+◌, ℕ, sym, ap, arith, rules, refl}
-use Rattle.gl_verilog.specs.Module as spec
-use Rattle.gl_verilog.specs.View.{statement_of, chained}
+use Rattle.std.proofs.Common.{◌<◌, ap, arith, rules}
+use Rattle.gl_verilog.specs.View.{statement_of}
 use Rattle.gl_sim.specs.Updates.{writes_in}
 use Rattle.gl_sim.proofs.Waiting.{block_chain, chained_here, chained_end, parts_of}
 use Rattle.gl_sim.proofs.room.+count_writes.Goals as goal

@@ -1,9 +1,5 @@
-use Rattle.std.proofs.Common.{◌≡◌, ℕ, ◌^◌, ◌*◌, ◌%◌, ◌≤◌, ◌<◌, subst, sym, ap, refl, arith, ◌∙◌, replicate}
+use Rattle.std.proofs.Common.{◌≡◌, ◌^◌, ◌*◌, ◌%◌, refl, arith}
 use Rattle.std.proofs.lemmas.Nat.{one_shl}
-use Rattle.std.specs.Prelude.{IfOk}
-use Rattle.gl_verilog.specs.declared.module.Kind.{Kind}
-use Rattle.gl_verilog.specs.Widths.{IsMemory, words_in}
-use Rattle.gl_verilog.specs.View.{kind_of}
 use Rattle.gl_sim.proofs.room.bank_of.Goals as goal
 
 pub overflow_shl-address_bits : goal.overflow_shl-address_bits

@@ -1,4 +1,4 @@
-use Rattle.std.proofs.Common.{◌≡◌, ℕ, map, arith}
+use Rattle.std.proofs.Common.{map}
 use Rattle.gl_bits.proofs.AllLists.{get_mapped}
 use Rattle.gl_verilog.specs.View.{declaration_of}
 use Rattle.gl_verilog.specs.Widths.{HasSize}

@@ -1,7 +1,7 @@
-use Rattle.std.proofs.Common.{◌≡◌, ◌∙◌, ◌+◌, ◌≤◌, ℕ, Option, sym, ap, subst, arith, rules, refl, le_refl, vec_len, vec_capacity, ◌<◌, unwrap_or, slice_index}
+use Rattle.std.proofs.Common.{◌∙◌, ◌+◌, ◌≤◌, sym, ap, subst, arith, rules, refl, le_refl, vec_len, vec_capacity, ◌<◌, unwrap_or, slice_index}
 use Rattle.gl_verilog.specs.Module as spec
 use Rattle.gl_verilog.specs.Module.{assigned, written, later_or}
-use Rattle.gl_verilog.specs.View.{statement_of, chained}
+use Rattle.gl_verilog.specs.View.{statement_of}
 use Rattle.gl_verilog.specs.Evaluate.{nets_of, memories_of}
 use Rattle.gl_sim.specs.Updates.{CanExecute, writes_in, put_of}
 use Rattle.gl_sim.proofs.Waiting.{block_chain, chained_here, chained_end, under_way_first, parts_of}

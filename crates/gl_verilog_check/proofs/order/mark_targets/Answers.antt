@@ -29,7 +29,9 @@ loop-done-preserved c =
     }
 
 pub returns-then-not-mark-clause-complete : goal.returns-then-not-mark-clause-complete
-returns-then-not-mark-clause-complete c = λ nets once.
+returns-then-not-mark-clause-complete c = λ can.
+    let nets = can.0 in
+    let once = can.1 in
     let all = c.args.assignments.now in
     let done = c.loop-done.done in
     let a = c.index-assignments-at.result in

@@ -12,7 +12,7 @@ place_each-requires-clause-placing c =
 
 pub passes-preserved : goal.passes-preserved
 passes-preserved c = record {
-  placing = c.in_ok-found.ensures.placing;
+  placing = c.in_ok-found.ensures.kept;
   size = ap (λ (ms : List Bool). length ms) c.in_ok-found.ensures.marks ∙ passed_size c.passes.marks.items (meant c.args.assignments.now) ∙ c.passes.invariant.size;
 }
 

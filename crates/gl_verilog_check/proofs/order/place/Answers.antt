@@ -5,8 +5,8 @@ use Rattle.gl_verilog_check.specs.Passes.{IsPlacing}
 use Rattle.gl_verilog_check.proofs.Orders.{placing_placed}
 use Rattle.gl_verilog_check.proofs.order.place.Goals as goal
 
-pub returns-clause-placing : goal.returns-clause-placing
-returns-clause-placing c =
+pub returns-clause-kept : goal.returns-clause-kept
+returns-clause-kept c =
     let as' = meant c.args.assignments.now in
     let done : is_ok c.push.result ≡ true = c.is_err.ensures.negation ∙ ap (λ (b : Bool). not b) c.if-is_err.false in
     let pushed : c.push.new.self.items ≡ c.args.order.now.items ++ c.args.k ∷ [] = c.push.ensures.items ∙ rw done refl in

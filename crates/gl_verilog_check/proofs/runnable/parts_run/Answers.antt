@@ -9,30 +9,30 @@ use Rattle.gl_verilog_check.proofs.Drives.{can_once_each}
 use Rattle.gl_verilog_check.proofs.Orders.{some_order, not_missing}
 use Rattle.gl_verilog_check.proofs.runnable.parts_run.Goals as goal
 
-pub returns-then-not-have_sizes-clause-complete : goal.returns-then-not-have_sizes-clause-complete
-returns-then-not-have_sizes-clause-complete c = λ r. c.if-not-have_sizes.ensures ∙ all-sized (map declaration_of c.args.declarations.now) r.sizes
+pub returns-then-not-have_sizes-clause-all : goal.returns-then-not-have_sizes-clause-all
+returns-then-not-have_sizes-clause-all c = λ r. c.if-not-have_sizes.ensures ∙ all-sized (map declaration_of c.args.declarations.now) r.sizes
 
-pub returns-then-not-keep_widths-clause-complete : goal.returns-then-not-keep_widths-clause-complete
-returns-then-not-keep_widths-clause-complete c = λ r. c.if-not-keep_widths.ensures ∙ all-kept (map declaration_of c.args.declarations.now) (map assignment_of c.args.assignments.now) r.assignments
+pub returns-then-not-keep_widths-clause-all : goal.returns-then-not-keep_widths-clause-all
+returns-then-not-keep_widths-clause-all c = λ r. c.if-not-keep_widths.ensures ∙ all-kept (map declaration_of c.args.declarations.now) (map assignment_of c.args.assignments.now) r.assignments
 
-pub returns-then-not-blocks_keep-clause-complete : goal.returns-then-not-blocks_keep-clause-complete
-returns-then-not-blocks_keep-clause-complete c = λ r. c.if-not-blocks_keep.ensures ∙ blocks-kept (map declaration_of c.args.declarations.now) (map statement_of c.args.blocks.now) r.blocks
+pub returns-then-not-blocks_keep-clause-all : goal.returns-then-not-blocks_keep-clause-all
+returns-then-not-blocks_keep-clause-all c = λ r. c.if-not-blocks_keep.ensures ∙ blocks-kept (map declaration_of c.args.declarations.now) (map statement_of c.args.blocks.now) r.blocks
 
-pub returns-then-not-mark_targets-clause-complete : goal.returns-then-not-mark_targets-clause-complete
-returns-then-not-mark_targets-clause-complete c = λ r.
+pub returns-then-not-mark_targets-clause-all : goal.returns-then-not-mark_targets-clause-all
+returns-then-not-mark_targets-clause-all c = λ r.
     let ds = map declaration_of c.args.declarations.now in
     let as' = map assignment_of c.args.assignments.now in
-    c.if-not-mark_targets.ensures.complete (subst (λ (n : ℕ). AreNets n as') (length_map declaration_of c.args.declarations.now ∙ sym c.in_ok-marks.ensures.size) (are_nets ds as' r.assignments)) (can_once_each as' r.ordered)
+    c.if-not-mark_targets.ensures.complete (subst (λ (n : ℕ). AreNets n as') (length_map declaration_of c.args.declarations.now ∙ sym c.in_ok-marks.ensures.size) (are_nets ds as' r.assignments), can_once_each as' r.ordered)
 
-pub returns-then-not-all_driven-clause-complete : goal.returns-then-not-all_driven-clause-complete
-returns-then-not-all_driven-clause-complete c = λ r.
+pub returns-then-not-all_driven-clause-all : goal.returns-then-not-all_driven-clause-all
+returns-then-not-all_driven-clause-all c = λ r.
     let ds = map declaration_of c.args.declarations.now in
     let size : length c.mark_targets.new.marks.items ≡ length ds = c.if-not-mark_targets.ensures.size refl ∙ c.in_ok-marks.ensures.size ∙ sym (length_map declaration_of c.args.declarations.now) in
     c.if-not-all_driven.ensures ∙ ap (λ (ms : List Bool). all_driven ms 0 ds) c.deref.ensures.value
     ∙ driven_all ds (map assignment_of c.args.assignments.now) (map statement_of c.args.blocks.now) c.mark_targets.new.marks.items r (c.if-not-mark_targets.ensures.marks refl) size
 
-pub returns-clause-sound : goal.returns-clause-sound
-returns-clause-sound c = λ h.
+pub returns-clause-yes : goal.returns-clause-yes
+returns-clause-yes c = λ h.
     let ds = map declaration_of c.args.declarations.now in
     let as' = map assignment_of c.args.assignments.now in
     runs ds as' (map statement_of c.args.blocks.now) c.mark_targets.new.marks.items
@@ -40,8 +40,8 @@ returns-clause-sound c = λ h.
     (some_order as' c.in_ok-order.order c.in_ok-order.ensures.order (sym c.is_some.ensures ∙ h))
     (sym (c.if-not-all_driven.ensures ∙ ap (λ (ms : List Bool). all_driven ms 0 ds) c.deref.ensures.value))
 
-pub returns-clause-complete : goal.returns-clause-complete
-returns-clause-complete c = λ r.
+pub returns-clause-all : goal.returns-clause-all
+returns-clause-all c = λ r.
     let ds = map declaration_of c.args.declarations.now in
     let as' = map assignment_of c.args.assignments.now in
     let size : length ds ≡ length c.mark_targets.new.marks.items = length_map declaration_of c.args.declarations.now ∙ sym c.in_ok-marks.ensures.size ∙ sym (c.if-not-mark_targets.ensures.size refl) in

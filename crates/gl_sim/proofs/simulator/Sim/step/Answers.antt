@@ -1,18 +1,14 @@
-use Rattle.std.proofs.Common.{◌≡◌, ◌∙◌, ◌+◌, ℕ, List, ap, sym, subst, slice_index, rules}
-use Rattle.gl_verilog.specs.Module.{Nets, Memories}
+use Rattle.std.proofs.Common.{◌≡◌, ◌∙◌, ◌+◌, ℕ, List, sym, subst, rules}
 use Rattle.gl_verilog.specs.Valid.{IsValid}
 use Rattle.gl_verilog.specs.View.{module_of}
 use Rattle.gl_verilog.specs.Evaluate.{IsStore, nets_of, memories_of}
-use Rattle.gl_verilog.specs.Order.{evaluated}
 use Rattle.gl_verilog.specs.Run.{IsRun}
-use Rattle.gl_verilog.specs.Runnable.{SameState, SameNets, HasInputs, inputs_of}
+use Rattle.gl_verilog.specs.Runnable.{SameState, SameNets, HasInputs}
 use Rattle.gl_verilog_orders.specs.Events.{IsCycle, StandsBefore}
 use Rattle.gl_verilog_orders.specs.Laws.{IsTwoPhase}
 use Rattle.gl_verilog_orders.proofs.Cycle.{cycles_are_two_phase}
 use Rattle.gl_verilog_orders.proofs.Rests.{comes_to_rest}
 use Rattle.gl_sim.specs.Simulation.{Simulation, IsAt, Holds}
-use Rattle.gl_sim.specs.Inputs.{with_inputs}
-use Rattle.gl_verilog_check.specs.Orders.{picked}
 use Rattle.gl_sim.proofs.Follows.{IsStepped, IsOneCycle, nets_follow, state_follows}
 use Rattle.gl_sim.proofs.simulator.Sim.step.Goals as goal
 

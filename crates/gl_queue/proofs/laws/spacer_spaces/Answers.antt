@@ -1,0 +1,5 @@
+use Rattle.gl_queue.proofs.SpacerServeLemmas.{spacer_spaces}
+use Rattle.gl_queue.proofs.laws.spacer_spaces.Goals as goal
+
+pub returns : goal.returns
+returns c = spacer_spaces

@@ -1,0 +1,13 @@
+pub mod Queue
+pub mod Ring
+pub mod RingLines
+pub mod Costs
+pub mod Parts
+pub mod Queues
+pub mod Merging
+pub mod Phases
+pub mod MergeLines
+pub mod Unions
+pub mod Spacing
+pub mod SpacerPhases
+pub mod Joining

@@ -1,0 +1,13 @@
+//! Where two streams meet, or one is slowed down: queues in memories, and the blocks that stand on them. A queue is known by what it does to
+//! a list of entries, and nothing else of it is used by the blocks above it. Here belong the union, the joiner and the spacer; what goes
+//! row by row does not, nor do windows and groups.
+#![tactic(auto)]
+
+pub mod laws;
+pub mod merge;
+pub mod queue;
+pub mod ring;
+pub mod union;
+
+pub use queue::{Queue, address_bits, put_queue};
+pub use union::UnionOf;

@@ -1,0 +1,128 @@
+//! Two wires merged through queues.
+
+ghost use Rattle.std.specs.Prelude.{◌≡◌, ◌≤◌, ◌^◌, IfOk};
+ghost use Rattle.gl_net.specs.Net.{IsBit};
+ghost use Rattle.gl_wire.specs.Wire.{AreBuses, IsWire, widths};
+ghost use Rattle.gl_queue.specs.MergeLines.{AreChosenOf, IsEndOf, IsMergedOf};
+
+use crate::queue::put_queue;
+use crate::ring::word;
+use gl_bits::Memory;
+use gl_net::{Bit, Bus, Buses, NetBuilder};
+use gl_wire::{Wire, both, but_not, either};
+use std::alloc::Global;
+
+/// The columns of one list where a line is 1, else those of another.
+pub fn choose_all(
+    alloc: Global,
+    net: &mut NetBuilder,
+    test: Bit,
+    yes: &[Bus],
+    no: &[Bus],
+) -> Result<Buses, Memory>
+    requires test { IsBit net.old test }
+    requires yes { AreBuses net.old yes.now }
+    requires no { AreBuses net.old no.now }
+    requires widths { widths yes.now ≡ widths no.now }
+    ensures { IfOk result (AreChosenOf net.old net.new test yes.now no.now) }
+{
+    let mut all = Buses::new(alloc);
+    for i in 0..yes.len() {
+        let bus = net.choose(test, yes[i], no[i])?;
+        all.push(bus)?;
+    }
+    Ok(all)
+}
+
+/// The end of a union: in the first cycle after both ends in which neither queue has an entry.
+pub fn put_end(
+    net: &mut NetBuilder,
+    left_end: Bit,
+    right_end: Bit,
+    left_some: Bit,
+    right_some: Bit,
+) -> Result<Bit, Memory>
+    requires left_end { IsBit net.old left_end }
+    requires right_end { IsBit net.old right_end }
+    requires left_some { IsBit net.old left_some }
+    requires right_some { IsBit net.old right_some }
+    ensures { IfOk result (IsEndOf net.old net.new left_end right_end left_some right_some) }
+{
+    let left = net.register(1, Some(word(0, 1)))?;
+    let right = net.register(1, Some(word(0, 1)))?;
+    let left_waits = left.bit();
+    let right_waits = right.bit();
+    let ended = both(net, left_waits, right_waits)?;
+    let left_empty = but_not(net, ended, left_some)?;
+    let end = but_not(net, left_empty, right_some)?;
+    let right_stays = but_not(net, right_waits, end)?;
+    let right_next = either(net, right_end, right_stays)?;
+    net.drive(right, right_next.bus())?;
+    let left_stays = but_not(net, left_waits, end)?;
+    let left_next = either(net, left_end, left_stays)?;
+    net.drive(left, left_next.bus())?;
+    Ok(end)
+}
+
+/// A wire that carries the rows of both, and a line that is 1 where either queue is passed.
+#[derive(Drop)]
+pub struct Merged {
+    /// The rows of both, and the end behind them.
+    pub wire: Wire,
+    /// 1 where either queue is passed.
+    pub passed: Bit,
+}
+
+/// Two wires merged through queues of so many places, the left one first.
+pub fn put_merged(
+    alloc: Global,
+    net: &mut NetBuilder,
+    left: &Wire,
+    left_depth: u64,
+    right: &Wire,
+    right_depth: u64,
+) -> Result<Merged, Memory>
+    requires left { IsWire net.old left.now }
+    requires right { IsWire net.old right.now }
+    requires widths { widths left.now.columns ≡ widths right.now.columns }
+    requires left_some { 1 ≤ left_depth }
+    requires left_most { left_depth ≤ 2 ^ 32 }
+    requires right_some { 1 ≤ right_depth }
+    requires right_most { right_depth ≤ 2 ^ 32 }
+    ensures { IfOk result (IsMergedOf net.old net.new left_depth right_depth left.now right.now) }
+{
+    let never = net.constant(word(0, 1))?;
+    let hold = never.bit();
+    let first = put_queue(
+        alloc,
+        net,
+        left_depth,
+        left.valid,
+        hold,
+        left.columns.as_slice(),
+    )?;
+    let second = put_queue(
+        alloc,
+        net,
+        right_depth,
+        right.valid,
+        first.some,
+        right.columns.as_slice(),
+    )?;
+    let valid = either(net, first.some, second.some)?;
+    let columns = choose_all(
+        alloc,
+        net,
+        first.some,
+        first.columns.as_slice(),
+        second.columns.as_slice(),
+    )?;
+    let eos = put_end(net, left.eos, right.eos, first.some, second.some)?;
+    let passed = either(net, first.passed, second.passed)?;
+    let wire = Wire {
+        valid,
+        eos,
+        columns,
+    };
+    Ok(Merged { wire, passed })
+}

@@ -1,0 +1,76 @@
+//! A queue of rows.
+
+ghost use Rattle.std.specs.Prelude.{◌≡◌, ◌≤◌, ◌^◌, IfOk};
+ghost use Rattle.gl_algebra.specs.Cost.{least_exponent};
+ghost use Rattle.gl_net.specs.Net.{IsBit, IsAddressWidth};
+ghost use Rattle.gl_wire.specs.Wire.{AreBuses};
+ghost use Rattle.gl_queue.specs.Costs.{address_bits};
+ghost use Rattle.gl_queue.specs.Queues.{IsQueueOf};
+
+use crate::ring::{put_columns, put_passed, put_places};
+use gl_bits::Memory;
+use gl_net::{Bit, Bus, Buses, NetBuilder};
+use std::alloc::Global;
+
+/// What a queue shows: whether it has an entry, the oldest one's columns, and whether its places are passed.
+#[derive(Drop)]
+pub struct Queue {
+    /// 1 where an entry is there.
+    pub some: Bit,
+    /// The columns of the oldest.
+    pub columns: Buses,
+    /// 1 where a push comes, all places are taken, and no entry leaves.
+    pub passed: Bit,
+}
+
+// The least exponent, of so many from this one on, whose power of two is at least the depth.
+fn least_exponent(more: u64, exponent: u8, depth: u64) -> u8
+    requires exponent { exponent ≤ 32 }
+    requires depth { depth ≤ 2 ^ 32 }
+    ensures value { result ≡ least_exponent more exponent depth }
+    ensures low { exponent ≤ result }
+    ensures high { result ≤ 32 }
+{
+    if more == 0 || depth <= 1u64 << exponent {
+        exponent
+    } else {
+        least_exponent(more - 1, exponent + 1, depth)
+    }
+}
+
+/// The bits of an address in the memories of a queue with so many places.
+pub fn address_bits(depth: u64) -> u8
+    requires { depth ≤ 2 ^ 32 }
+    ensures value { result ≡ address_bits depth }
+    ensures bits { IsAddressWidth result }
+    ensures enough { depth ≤ 2 ^ result }
+{
+    least_exponent(depth, 1, depth)
+}
+
+/// A queue of so many places, from which the oldest entry leaves wherever the line `hold` is 0.
+pub fn put_queue(
+    alloc: Global,
+    net: &mut NetBuilder,
+    depth: u64,
+    push: Bit,
+    hold: Bit,
+    columns: &[Bus],
+) -> Result<Queue, Memory>
+    requires some_places { 1 ≤ depth }
+    requires most { depth ≤ 2 ^ 32 }
+    requires push { IsBit net.old push }
+    requires hold { IsBit net.old hold }
+    requires columns { AreBuses net.old columns.now }
+    ensures { IfOk result (IsQueueOf net.old net.new depth push hold columns.now) }
+{
+    let bits = address_bits(depth);
+    let at = put_places(net, bits, push, hold)?;
+    let passed = put_passed(net, bits, depth, push, at)?;
+    let columns = put_columns(alloc, net, bits, push, at.tail, at.head, columns)?;
+    Ok(Queue {
+        some: at.some,
+        columns,
+        passed,
+    })
+}

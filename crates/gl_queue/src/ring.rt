@@ -1,0 +1,179 @@
+//! The parts of a ring: a queue in memories, one for each column, with two places that go round and a flag.
+
+ghost use Rattle.std.specs.Prelude.{◌≡◌, ◌<◌, ◌^◌, ◌%◌, IfOk};
+ghost use Rattle.gl_net.specs.Net.{IsBit, IsBus, IsAddressWidth};
+ghost use Rattle.gl_wire.specs.Wire.{AreBuses};
+ghost use Rattle.gl_queue.specs.Parts.{ArePlacesOf, AreStored, IsMeeting, IsPassedOf, IsPlace, IsStored};
+
+use gl_bits::{Memory, Word};
+use gl_net::{BinaryOp, Bit, Bus, Buses, NetBuilder};
+use gl_wire::{both, but_not, either, same};
+use std::alloc::Global;
+
+/// A word of so many bits.
+pub fn word(number: u64, width: u8) -> Word
+    requires width { IsAddressWidth width }
+    requires number { number < 2 ^ width }
+    ensures bits { result.bits ≡ number }
+    ensures width { result.width ≡ width }
+{
+    Word::new(number as u128, width).unwrap()
+}
+
+/// A place that is 0 after reset and goes on by one, round the ring, in each cycle in which the line is 1.
+pub fn put_place(net: &mut NetBuilder, bits: u8, step: Bit) -> Result<Bus, Memory>
+    requires bits { IsAddressWidth bits }
+    requires step { IsBit net.old step }
+    ensures { IfOk result (IsPlace net.old net.new bits step) }
+{
+    let one = net.constant(word(1, bits))?;
+    let place = net.register(bits, Some(word(0, bits)))?;
+    let more = net.binary(BinaryOp::Add, place, one)?;
+    let next = net.choose(step, more, place)?;
+    net.drive(place, next)?;
+    Ok(place)
+}
+
+/// A memory of one column, written where a line is 1 and read in the same cycle.
+pub fn put_column(
+    net: &mut NetBuilder,
+    bits: u8,
+    push: Bit,
+    tail: Bus,
+    head: Bus,
+    column: Bus,
+) -> Result<Bus, Memory>
+    requires bits { IsAddressWidth bits }
+    requires push { IsBit net.old push }
+    requires tail { IsBus net.old tail }
+    requires tail_width { tail.width ≡ bits }
+    requires head { IsBus net.old head }
+    requires head_width { head.width ≡ bits }
+    requires column { IsBus net.old column }
+    ensures { IfOk result (IsStored net.old net.new bits push tail head column) }
+{
+    let store = net.memory(bits, column.width)?;
+    net.drive_memory(store, push, tail, column)?;
+    let out = net.read(store, head)?;
+    Ok(out)
+}
+
+/// A memory for each of some columns.
+pub fn put_columns(
+    alloc: Global,
+    net: &mut NetBuilder,
+    bits: u8,
+    push: Bit,
+    tail: Bus,
+    head: Bus,
+    columns: &[Bus],
+) -> Result<Buses, Memory>
+    requires bits { IsAddressWidth bits }
+    requires push { IsBit net.old push }
+    requires tail { IsBus net.old tail }
+    requires tail_width { tail.width ≡ bits }
+    requires head { IsBus net.old head }
+    requires head_width { head.width ≡ bits }
+    requires columns { AreBuses net.old columns.now }
+    ensures { IfOk result (AreStored net.old net.new bits push tail head columns.now) }
+{
+    let mut all = Buses::new(alloc);
+    for bus in columns {
+        let out = put_column(net, bits, push, tail, head, *bus)?;
+        all.push(out)?;
+    }
+    Ok(all)
+}
+
+/// A line that is 1 where one place is so many before another, round the ring.
+pub fn put_meeting(
+    net: &mut NetBuilder,
+    bits: u8,
+    number: u64,
+    head: Bus,
+    tail: Bus,
+) -> Result<Bit, Memory>
+    requires bits { IsAddressWidth bits }
+    requires number { number < 2 ^ bits }
+    requires head { IsBus net.old head }
+    requires head_width { head.width ≡ bits }
+    requires tail { IsBus net.old tail }
+    requires tail_width { tail.width ≡ bits }
+    ensures { IfOk result (IsMeeting net.old net.new bits number head tail) }
+{
+    let many = net.constant(word(number, bits))?;
+    let end = net.binary(BinaryOp::Add, head, many)?;
+    let line = same(net, end, tail)?;
+    Ok(line)
+}
+
+/// The flag and the places of a ring, and the line of what leaves.
+#[derive(Clone, Copy)]
+pub struct Places {
+    /// 1 where an entry is there.
+    pub some: Bit,
+    /// 1 where the oldest leaves.
+    pub pop: Bit,
+    /// Where the oldest is.
+    pub head: Bus,
+    /// Where the next will be.
+    pub tail: Bus,
+}
+
+/// The flag that an entry is there, and where the oldest is and the next will be.
+pub fn put_places(net: &mut NetBuilder, bits: u8, push: Bit, hold: Bit) -> Result<Places, Memory>
+    requires bits { IsAddressWidth bits }
+    requires push { IsBit net.old push }
+    requires hold { IsBit net.old hold }
+    ensures { IfOk result (ArePlacesOf net.old net.new bits push hold) }
+{
+    let flag = net.register(1, Some(word(0, 1)))?;
+    let some = flag.bit();
+    let pop = but_not(net, some, hold)?;
+    let head = put_place(net, bits, pop)?;
+    let tail = put_place(net, bits, push)?;
+    let last = put_meeting(net, bits, 1, head, tail)?;
+    let empties = both(net, pop, last)?;
+    let stays = but_not(net, some, empties)?;
+    let next = either(net, push, stays)?;
+    net.drive(flag, next.bus())?;
+    Ok(Places {
+        some,
+        pop,
+        head,
+        tail,
+    })
+}
+
+// The number modulo a power of two.
+fn modulo(number: u64, bits: u8) -> u64
+    requires { IsAddressWidth bits }
+    ensures { result ≡ number % 2 ^ bits }
+{
+    number % (1u64 << bits)
+}
+
+/// The line that is 1 where a push comes to a full ring from which nothing leaves.
+pub fn put_passed(
+    net: &mut NetBuilder,
+    bits: u8,
+    depth: u64,
+    push: Bit,
+    at: Places,
+) -> Result<Bit, Memory>
+    requires bits { IsAddressWidth bits }
+    requires push { IsBit net.old push }
+    requires some { IsBit net.old at.some }
+    requires pop { IsBit net.old at.pop }
+    requires head { IsBus net.old at.head }
+    requires head_width { at.head.width ≡ bits }
+    requires tail { IsBus net.old at.tail }
+    requires tail_width { at.tail.width ≡ bits }
+    ensures { IfOk result (IsPassedOf net.old net.new bits depth push at) }
+{
+    let meets = put_meeting(net, bits, modulo(depth, bits), at.head, at.tail)?;
+    let full = both(net, at.some, meets)?;
+    let comes = both(net, push, full)?;
+    let line = but_not(net, comes, at.pop)?;
+    Ok(line)
+}
