@@ -1,5 +1,5 @@
 -- Changes of a shelf, one after the other.
-use Rattle.std.proofs.Common.{◌≡◌, ℕ, List, Result, Ok, Err, sym, subst}
+use Rattle.std.proofs.Common.{◌≡◌, ℕ, List, Result, Ok, Err, subst}
 use mathlib.Core.Path.{fun_ext}
 use Rattle.gl_outside.specs.Told.{Told}
 use Rattle.gl_outside.specs.States.{ShelfState, Stays, IsCalm}

@@ -8,12 +8,12 @@ use Rattle.gl_top.specs.declared.notes.Refusal.{Refusal}
 use Rattle.gl_top.specs.declared.notes.Refusal.TheVariants as refusal
 use Rattle.gl_top.specs.declared.status.Status.{Status}
 use Rattle.gl_top.specs.declared.status.Status.TheVariants as status
-use Rattle.gl_top.specs.Forms.{IsForm, name_of}
+use Rattle.gl_top.specs.Forms.{IsForm}
 use Rattle.gl_outside.specs.States.{Took}
 use Rattle.gl_top.specs.Refusals.{Puts, Notes, status_of, note_of, write_line}
 use Rattle.gl_top.specs.Passing.{TuplesPass}
 use Rattle.gl_top.specs.Causes.{Change, HasCause, IsRefused}
-use Rattle.gl_top.specs.Verdicts.{IsAnswer, Ran, Broke', Ended, IsDone, IsBroken, IsEnded, IsTelling, Yields, Same, ToRead, ToWrite, ToMemory, IsFaultless, Says}
+use Rattle.gl_top.specs.Verdicts.{IsAnswer, Ran, Broke', Ended, IsTelling, Yields, Same, ToRead, ToWrite, ToMemory, IsFaultless, Says}
 use Rattle.gl_top.proofs.Texts.{next_form}
 use Rattle.gl_top.proofs.Deciding.{Stops, stops, stops_once, passes_goes}
 

@@ -1,5 +1,5 @@
 -- Words and texts are refused in one way, or not at all, where the texts are told.
-use Rattle.std.proofs.Common.{◌≡◌, ◌≢◌, ℕ, ◌<◌, ◌≤◌, List, length, Result, Ok, Err, refl, sym, subst, ap, ◌∙◌, arith}
+use Rattle.std.proofs.Common.{◌≡◌, ◌≢◌, ℕ, ◌<◌, ◌≤◌, List, length, Result, Ok, Err, refl, sym, subst, ◌∙◌, arith}
 use Rattle.gl_outside.specs.Told.{Told, Untold, Lacks, Holds, IsLacking, IfTold}
 use Rattle.gl_schema.specs.declared.schema.Schema.{Schema}
 use Rattle.gl_schema.specs.declared.fault.SchemaFault.{SchemaFault}
@@ -15,7 +15,6 @@ use Rattle.gl_query_reader.specs.Grammar.{HasStatement}
 use Rattle.gl_query.specs.Trees.{StatementTree, statement_tree}
 use Rattle.gl_compiler.specs.Queries.{IsQuery, IsUnbuilt, IsQueryFault, gap_of}
 use Rattle.gl_compiler.proofs.Shaped.{one_meaning, none_built}
-use Rattle.gl_top.specs.declared.form.Part.{Part}
 use Rattle.gl_top.specs.declared.form.Part.TheVariants as part
 use Rattle.gl_top.specs.declared.notes.Refusal.{Refusal}
 use Rattle.gl_top.specs.declared.notes.Refusal.TheVariants as refusal
@@ -23,7 +22,7 @@ use Rattle.gl_top.specs.declared.status.Status.{Status}
 use Rattle.gl_top.specs.declared.status.Status.TheVariants as status
 use Rattle.gl_top.specs.Forms.{IsForm, name_of}
 use Rattle.gl_top.specs.Refusals.{status_of}
-use Rattle.gl_top.specs.Passing.{HasText, SchemaPasses, QueryPasses, TuplesPass, kept_beats}
+use Rattle.gl_top.specs.Passing.{SchemaPasses, QueryPasses, TuplesPass, kept_beats}
 use Rattle.gl_top.specs.Causes.{IsRefused}
 use Rattle.gl_top.specs.Verdicts.{IsTelling}
 

@@ -4,3 +4,4 @@ pub mod Runs
 pub mod Deciding
 pub mod Answering
 pub mod Concluding
+pub mod Noting

@@ -1,6 +1,6 @@
 -- What a text that was read says of its part.
-use Rattle.std.proofs.Common.{◌≡◌, ℕ, zero, suc, ◌<◌, ◌≤◌, List, [], ◌∷◌, length, Option, Some, None, Result, Ok, Err, refl, sym, subst, ap, ◌∙◌, arith, lit<}
-use Rattle.std.specs.Prelude.{Bool, true, false, ◌&&◌, slice_get, unwrap_or, Contains}
+use Rattle.std.proofs.Common.{◌≡◌, ℕ, zero, suc, ◌<◌, ◌≤◌, List, [], ◌∷◌, length, Option, Some, None, Ok, Err, refl, sym, subst, arith, lit<}
+use Rattle.std.specs.Prelude.{slice_get, unwrap_or, Contains}
 use Rattle.std.proofs.lemmas.Bool.{eqb-true}
 use Rattle.gl_bits.proofs.Bools.{and_left}
 use Rattle.gl_outside.proofs.Places.{found_is}
@@ -20,7 +20,7 @@ use Rattle.gl_query.specs.declared.fault.QueryFault.{QueryFault}
 use Rattle.gl_tuples.specs.declared.beats.Beat.{Beat}
 use Rattle.gl_tuples.specs.declared.fault.TupleFault.{TupleFault}
 use Rattle.gl_tuples.specs.declared.fault.TupleFault.TheVariants as tuples
-use Rattle.gl_tuples.specs.Entries.{Fails, Gives}
+use Rattle.gl_tuples.specs.Entries.{Fails}
 use Rattle.gl_tuples.specs.Filing.{beats_of, records_of}
 use Rattle.gl_tuples.specs.Gaps.{first_close, close_answer}
 use Rattle.gl_compiler.specs.declared.compiling.CompileFault.{CompileFault}
@@ -77,8 +77,8 @@ pub has_text : (told : List ℕ → Told) (words : List (List ℕ)) (p : Part) (
 has_text told words p P v h q = of_text (told (name_of words p)) P v h q
 
 -- the cause of a text that was not read
-pub read_cause : {T : Type 0} (words : List (List ℕ)) (a b : ShelfState) (p : Part) (name : List ℕ) (fault : reads.ReadFault) → name ≡ name_of words p → IsNext a.told words p
-    → Refuses {T = T} (a.told name) (Err fault) → ReadLeaves {T = T} a b name (Err fault) → HasCause words (change a b) (read_refusal p fault)
+pub read_cause : (words : List (List ℕ)) (a b : ShelfState) (p : Part) (name : List ℕ) (fault : reads.ReadFault) → name ≡ name_of words p → IsNext a.told words p
+    → Refuses {T = Unit {0}} (a.told name) (Err fault) → ReadLeaves {T = Unit {0}} a b name (Err fault) → HasCause words (change a b) (read_refusal p fault)
 read_cause words a b p name read.Missing e next told left =
     (record { next = next; lacking = subst (λ n. IsLacking (a.told n)) e told }, subst (Missed a b) e left)
 read_cause words a b p name read.Failed e next told left = (next, subst (Faulted a b) e left)

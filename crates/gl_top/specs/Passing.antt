@@ -1,5 +1,5 @@
 -- What the texts give that the words name, one after the other. What is said of a text holds where the shelf tells it.
-use Rattle.std.specs.Prelude.{◌≡◌, ℕ, ◌≤◌, List, length, Result, Ok, Err}
+use Rattle.std.specs.Prelude.{◌≡◌, ℕ, ◌≤◌, List, length, Result, Ok}
 use Rattle.std.specs.List.{AllByRecursion}
 use Rattle.gl_bits.specs.Kinds.{IsKind}
 use Rattle.gl_outside.specs.Told.{Told, IfTold}

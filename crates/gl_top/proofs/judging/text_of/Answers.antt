@@ -1,4 +1,4 @@
-use Rattle.std.proofs.Common.{◌≡◌, List, ℕ, sym, subst, ◌∙◌}
+use Rattle.std.proofs.Common.{List, ℕ, sym, subst}
 use Rattle.std.specs.Prelude.{Contains}
 use Rattle.gl_top.proofs.Texts.{named, next_form, read_cause}
 use Rattle.gl_top.proofs.judging.text_of.Goals as goal

@@ -1,4 +1,4 @@
-use Rattle.std.proofs.Common.{refl, sym, subst, inr}
+use Rattle.std.proofs.Common.{[], refl, sym, subst, inr}
 use Rattle.gl_outside.specs.States.{SinkState, Took}
 use Rattle.gl_outside.proofs.Takes.{took_none}
 use Rattle.gl_top.specs.Verdicts.{Ran, Broke', Ended}
@@ -34,7 +34,7 @@ pub returns-in-Memory : goal.returns-in-Memory
 returns-in-Memory g c = λ ch ready calm. Ended (record {
   refusal = refusal.Memory;
   cause = calm;
-  untouched = let P : SinkState → Type 0 = λ s. Took (g.K.Sink.state c.args.out.now) s _ in subst P (sym c.in-Memory.ensures) (took_none _);
+  untouched = let P : SinkState → Type 0 = λ s. Took (g.K.Sink.state c.args.out.now) s [] in subst P (sym c.in-Memory.ensures) (took_none _);
   noted = c.tell.ensures;
   left = inr (c.args.job.now.compiled.schema, c.args.job.now.compiled.statement, c.args.job.now.beats, record { passes = ready.passes; meets = ready.compiled.meets });
 })
