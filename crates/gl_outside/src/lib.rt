@@ -1,7 +1,7 @@
 //! The outside of Glacier: shelves of texts by name, sinks of bytes, and lists of words.
 //!
-//! Here belongs what touches files and streams, and what stands for them in memory. What a text means
-//! does not: every crate above sees a shelf and a sink by their states alone.
+//! Here belongs what touches files and streams, and what stands for them in memory. What a text
+//! means does not: every crate above sees a shelf and a sink by their states alone.
 #![tactic(auto)]
 
 mod counter;

@@ -115,7 +115,8 @@ impl Sink for NeverFailsSink {
         requires { 0 < length piece.now }
         ensures answer { result ≡ Put.Took (length piece.now) }
         ensures amount { FitsPiece (length piece.now) result }
-        ensures does { DoesPut (record { taken = None; faults = 0 }) (record { taken = None; faults = 0 }) piece.now result }
+        ensures does { DoesPut (record { taken = None; faults = 0 })
+            (record { taken = None; faults = 0 }) piece.now result }
     {
         Put::Took(piece.len())
     }

@@ -1,6 +1,6 @@
 //! Shelves: texts by name.
 
-ghost use Rattle.std.specs.Prelude.{◌<◌, ◌≤◌, length, Contains};
+ghost use Rattle.std.specs.Prelude.{ℕ, ◌<◌, ◌≤◌, length, Contains};
 ghost use Rattle.gl_outside.specs.States.{ShelfState, Stays, Fetched};
 ghost use Rattle.gl_outside.specs.Fetched.{FitsRoom, Says};
 
@@ -35,7 +35,8 @@ pub trait Shelf {
         requires listed { Contains (state self.old).names name.now }
         requires within { at ≤ TEXT_LIMIT }
         ensures amount { FitsRoom (length into.old) result }
-        // A refusal has its cause and leaves its name; any other answer leaves the counts and the name.
+        // A refusal has its cause and leaves its name; any other answer leaves the counts and the
+        // name.
         ensures counts { Fetched (state self.old) (state self.new) name.now result }
         // What the answer says of the text, where the shelf tells it.
         ensures says { Says ((state self.old).told name.now) at into.new result }

@@ -5,6 +5,8 @@ use Rattle.std.specs.Option.{option_map_or}
 use Rattle.std.specs.List.{AllByRecursion, AllZip}
 use Rattle.std.proofs.lemmas.Nat.{pow_pos}
 use Rattle.std.proofs.lemmas.List.{map-append}
+use Rattle.gl_bits.proofs.Bools.{bit_fits}
+use Rattle.gl_bits.proofs.AllLists.{zip_append}
 use Rattle.gl_bits.specs.Kinds.{width_of}
 use Rattle.gl_bits.specs.Words.{bit}
 use Rattle.gl_schema.specs.declared.schema.Column.{Column}
@@ -43,16 +45,6 @@ pins_named schema beats zero = whole_named schema 1 [] 0
 pins_named schema beats (suc n) = whole_named schema 0 (rows_at beats n) (bit (ends_at beats n))
 
 -- ---- the values
-
-bit_fits : (b : Bool) → bit b < 2 ^ 1
-bit_fits true = omega arith
-bit_fits false = omega arith
-
-zip_append : {A B : Type 0} (R : A → B → Type 0) (as' cs : List A) (bs ds : List B) → AllZip R as' bs → AllZip R cs ds → AllZip R (as' ++ cs) (bs ++ ds)
-zip_append R [] cs [] ds h k = k
-zip_append R [] cs (b ∷ bs) ds h k = absurd h
-zip_append R (a ∷ as') cs [] ds h k = absurd h
-zip_append R (a ∷ as') cs (b ∷ bs) ds h k = (h.0, zip_append R as' cs bs ds h.1 k)
 
 no_columns : (stream : List ℕ) (cs : List Column) → AllZip CanCarry (column_inputs stream cs) (column_pins stream cs [])
 no_columns stream [] = tt

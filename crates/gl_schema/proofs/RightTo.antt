@@ -4,6 +4,7 @@ use Rattle.std.specs.Prelude.{filter_map, IsTrue, IsFalse, IsSome, is_some}
 use Rattle.std.specs.List.{AllByRecursion, cons_option}
 use Rattle.std.proofs.lemmas.Bool.{cases_lt, false_from_ne_true}
 use Rattle.std.proofs.lemmas.List.{append-nil}
+use Rattle.gl_bits.proofs.AllLists.{all_append}
 use Rattle.gl_schema.specs.Beats.{Beat, last_cycle, inputs_of}
 use Rattle.gl_schema.specs.Ports.{PortValues}
 use Rattle.gl_schema.specs.Seen.{Shown, shown, seen}
@@ -20,14 +21,10 @@ filter_map-push h (y ∷ xs) x = push_front (h y) (filter_map h xs) (cons_option
 push_none : {X Y : Type 0} (h : X → Option Y) (xs : List X) (x : X) → h x ≡ None → filter_map h (xs ++ x ∷ []) ≡ filter_map h xs
 push_none h xs x e = filter_map-push h xs x ∙ ap (λ o. filter_map h xs ++ cons_option o []) e ∙ append-nil (filter_map h xs)
 
-All_push : {X : Type 0} (P : X → Type 0) (xs : List X) (x : X) → AllByRecursion P xs → P x → AllByRecursion P (xs ++ x ∷ [])
-All_push P [] x h p = (p, tt)
-All_push P (y ∷ xs) x h p = (h.0, All_push P xs x h.1 p)
-
 -- what holds of each cycle holds of those seen
 all_seen : (port : PortValues) (outs : List (List ℕ)) (P : Shown → Type 0) → ((n : ℕ) → P (shown port outs n)) → (n : ℕ) → AllByRecursion P (seen port outs n)
 all_seen port outs P h zero = (h 0, tt)
-all_seen port outs P h (suc n) = All_push P (seen port outs n) (shown port outs (suc n)) (all_seen port outs P h n) (h (suc n))
+all_seen port outs P h (suc n) = all_append P (seen port outs n) (shown port outs (suc n) ∷ []) (all_seen port outs P h n) (h (suc n), tt)
 
 cycle_is : (port : PortValues) (outs : List (List ℕ)) (n : ℕ) → (shown port outs n).cycle ≡ n
 unfolding shown

@@ -2,7 +2,7 @@
 
 ghost use Rattle.std.specs.Prelude.{◌≡◌, ◌+◌, ◌<◌, ◌≤◌, length, slice_index, slice_range};
 ghost use Rattle.gl_schema.specs.SchemaText as spec;
-ghost use Rattle.gl_schema.specs.SchemaFaults.{Gives};
+ghost use Rattle.gl_schema.specs.SchemaFaults.{Gives, mark_at};
 ghost use Rattle.gl_schema.specs.Lexing.{Takes, IsInside, open_at, reading_after};
 
 use crate::fault::SchemaFault;
@@ -73,7 +73,8 @@ pub fn take(
     requires here { at < length text.now }
     requires byte { byte ≡ slice_index text.now at }
     requires inside { IsInside at standing }
-    ensures { Takes text.now (at + 1) (spec.move (open_at text.now at standing) (spec.class_of byte) at byte) reading result }
+    ensures { Takes text.now (at + 1) (spec.move (open_at text.now at standing) (spec.class_of byte)
+        at byte) reading result }
 {
     match standing {
         Standing::Between => begin(alloc, text, at, byte, reading),
@@ -102,7 +103,8 @@ fn take_in_word(
     requires here { at < length text.now }
     requires byte { byte ≡ slice_index text.now at }
     requires inside { from ≤ at }
-    ensures { Takes text.now (at + 1) (spec.move (spec.InWord from (slice_range text.now from at)) (spec.class_of byte) at byte) reading result }
+    ensures { Takes text.now (at + 1) (spec.move (spec.InWord from (slice_range text.now from at))
+        (spec.class_of byte) at byte) reading result }
 {
     if class_of(byte) == Class::Letter {
         return Ok((Standing::InWord(from), reading));
@@ -123,7 +125,8 @@ fn take_after_dash(
     requires here { at < length text.now }
     requires byte { byte ≡ slice_index text.now at }
     requires inside { from ≤ at }
-    ensures { Takes text.now (at + 1) (spec.move (spec.AfterDash from) (spec.class_of byte) at byte) reading result }
+    ensures { Takes text.now (at + 1) (spec.move (spec.AfterDash from) (spec.class_of byte) at byte)
+        reading result }
 {
     if class_of(byte) == Class::Dash {
         return Ok((Standing::InComment, reading));
@@ -140,7 +143,8 @@ pub fn finish(
     reading: Reading,
 ) -> Result<Reading, SchemaFault>
     requires { IsInside (length text.now) standing }
-    ensures { Gives result (reading_after (spec.last_tokens (open_at text.now (length text.now) standing)) reading) }
+    ensures { Gives result (reading_after
+        (spec.last_tokens (open_at text.now (length text.now) standing)) reading) }
 {
     match standing {
         Standing::Between | Standing::InComment => Ok(reading),

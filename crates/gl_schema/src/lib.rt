@@ -1,8 +1,9 @@
-//! Schemas, and what a stream of beats puts on the ports of a module and shows there: the few words that
-//! queries and hardware share.
+//! Schemas, and what a stream of beats puts on the ports of a module and shows there: the few
+//! words that queries and hardware share.
 //!
-//! Here belongs what both sides speak of: names, schemas and their texts, beats, the profile of ports,
-//! what is seen on them, and when a run is right. Neither what a query means nor how a module runs does.
+//! Here belongs what both sides speak of: names, schemas and their texts, beats, the profile of
+//! ports, what is seen on them, and when a run is right. What a query means and how a module runs
+//! do not.
 #![tactic(auto)]
 
 pub mod fault;

@@ -1,6 +1,6 @@
 //! Reading a schema from its tokens, in one pass from the left.
 
-ghost use Rattle.std.specs.Prelude.{◌≡◌};
+ghost use Rattle.std.specs.Prelude.{◌≡◌, []};
 ghost use Rattle.gl_schema.specs.Schemas as schemas;
 ghost use Rattle.gl_schema.specs.SchemaText.{Word, Sign};
 ghost use Rattle.gl_schema.specs.SchemaFaults as spec;
@@ -102,7 +102,8 @@ impl Reading {
 }
 
 fn begin_stream(streams: Streams, at: u64, word: &[u8]) -> Result<Reading, SchemaFault>
-    ensures { Gives result (spec.stream_next (record { streams = streams; place = Place.Stream }) at word.now) }
+    ensures { Gives result (spec.stream_next (record { streams = streams; place = Place.Stream }) at
+        word.now) }
 {
     if word != b"stream".as_slice() {
         return Err(SchemaFault::Syntax { at });
@@ -122,7 +123,8 @@ fn name_stream(
     at: u64,
     word: &[u8],
 ) -> Result<Reading, SchemaFault>
-    ensures { Gives result (spec.name_next (record { streams = streams; place = Place.Name }) at word.now) }
+    ensures { Gives result (spec.name_next (record { streams = streams; place = Place.Name }) at
+        word.now) }
 {
     if !is_name(word) {
         return Err(SchemaFault::BadName { at });
@@ -144,7 +146,8 @@ fn name_column(
     at: u64,
     word: &[u8],
 ) -> Result<Reading, SchemaFault>
-    ensures { Gives result (spec.column_next (record { streams = streams; place = Place.Column stream }) stream at word.now) }
+    ensures { Gives result (spec.column_next
+        (record { streams = streams; place = Place.Column stream }) stream at word.now) }
 {
     if !is_name(word) {
         return Err(SchemaFault::BadName { at });
@@ -169,7 +172,9 @@ fn end_column(
     at: u64,
     word: &[u8],
 ) -> Result<Reading, SchemaFault>
-    ensures { Gives result (spec.kind_next (record { streams = streams; place = Place.Kind stream name }) stream name at (spec.kind_named word.now)) }
+    ensures { Gives result (spec.kind_next
+        (record { streams = streams; place = Place.Kind stream name }) stream name at
+        (spec.kind_named word.now)) }
 {
     let Some(kind) = kind_named(word) else {
         return Err(SchemaFault::BadKind { at });

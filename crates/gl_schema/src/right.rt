@@ -9,7 +9,9 @@ ghost use Rattle.gl_schema.specs.Right.{IsTold, IsRight, IsRightTo};
 /// were seen by then the end came once, and the rows are a result, whatever test tells results. Of
 /// the two only this direction is needed: who sees the cycles up to one of those sees a result.
 pub fn right_at_each_cycle()
-    ensures { (test : beats.Inputs → List (List ℕ) → Bool → Bool) (latency : ℕ) (all : List beats.Beat)
-        (outs : List (List ℕ)) (port : PortValues) (n : ℕ) → beats.last_cycle all + latency ≤ n
-        → IsRight (IsTold test) latency all outs port → IsRightTo (IsTold test) latency all outs port n }
+    ensures { (test : beats.Inputs → List (List ℕ) → Bool → Bool) (latency : ℕ)
+        (all : List beats.Beat) (outs : List (List ℕ)) (port : PortValues) (n : ℕ)
+        → beats.last_cycle all + latency ≤ n
+        → IsRight (IsTold test) latency all outs port
+        → IsRightTo (IsTold test) latency all outs port n }
 {}

@@ -168,31 +168,158 @@ fn single_words(rt: HostRuntime) {
 // What two worked cycles show is told in these lines: in one cycle the overflow, the result and the
 // end in this order, the overflow once alone.
 fn worked_lines()
-    ensures quoted { seen.lines (kinds.Text 4 ∷ kinds.Unsigned 8 ∷ []) (record { cycle = 1; row = Some (text_word 4 (codes "a,b") ∷ 200 ∷ []); end = false; group = true; queue = false } ∷ record { cycle = 2; row = Some (text_word 4 (codes "\"x") ∷ 0 ∷ []); end = true; group = true; queue = false } ∷ [])
+    ensures quoted { seen.lines (kinds.Text 4 ∷ kinds.Unsigned 8
+        ∷ []) (record {
+          cycle = 1;
+          row = Some (text_word 4 (codes "a,b") ∷ 200
+              ∷ []);
+          end = false;
+          group = true;
+          queue = false;
+        } ∷ record {
+          cycle = 2;
+          row = Some
+              (text_word 4 (codes "\"x") ∷ 0 ∷ []);
+          end = true;
+          group = true;
+          queue = false;
+        } ∷ [])
         ≡ codes "1,overflow\n1,\"a,b\",200\n2,\"\"\"x\",0\n2,end\n" }
-    ensures together { seen.lines (kinds.Text 4 ∷ kinds.Unsigned 8 ∷ []) (record { cycle = 9; row = None; end = false; group = false; queue = true } ∷ record { cycle = 10; row = Some (text_word 4 (codes "UB") ∷ 255 ∷ []); end = true; group = true; queue = false } ∷ [])
+    ensures together { seen.lines (kinds.Text 4 ∷ kinds.Unsigned 8
+        ∷ []) (record { cycle = 9; row = None; end = false; group = false; queue = true }
+        ∷ record {
+          cycle = 10;
+          row = Some (text_word 4 (codes "UB") ∷ 255
+              ∷ []);
+          end = true;
+          group = true;
+          queue = false;
+        } ∷ [])
         ≡ codes "10,overflow\n10,UB,255\n10,end\n" }
 {}
 
 // Values on the output ports by name, and what is seen of them: file cycle n is simulation cycle
 // n + 1, and a port that the module lacks counts as 0.
 fn worked_seen()
-    ensures { seen.seen (λ t name. if bytes_eq name (codes "out__valid") then Some (if t == 2 then 1 else 0) else if bytes_eq name (codes "out__v") then Some (t + 5) else if bytes_eq name (codes "out__eos") then Some (if t == 3 then 1 else 0) else None) (codes "out__v" ∷ []) 2
+    ensures { seen.seen (λ t name. if bytes_eq name (codes "out__valid") then Some
+        (if t == 2 then 1 else 0) else if bytes_eq name (codes "out__v") then Some (t + 5) else if
+        bytes_eq name (codes "out__eos") then Some (if t == 3 then 1 else 0) else None)
+        (codes "out__v" ∷ []) 2
         ≡ record { cycle = 0; row = None; end = false; group = false; queue = false } ∷ record { cycle = 1; row = Some (7 ∷ []); end = false; group = false; queue = false } ∷ record { cycle = 2; row = None; end = true; group = false; queue = false } ∷ [] }
 {}
 
 // A tuple of the first of two streams in file cycle 0, and the end in file cycle 2, on the ports of
 // a module: reset first, and nothing in a cycle without a beat.
 fn worked_pins()
-    ensures reset { ports.pins (record { streams = record { name = codes "s"; columns = record { name = codes "v"; kind = kinds.Unsigned 8 } ∷ [] } ∷ record { name = codes "t"; columns = record { name = codes "w"; kind = kinds.Unsigned 8 } ∷ [] } ∷ [] }) (record { cycle = 0; rows = Some (7 ∷ []) ∷ None ∷ []; tick = false; end = false } ∷ record { cycle = 2; rows = None ∷ None ∷ []; tick = false; end = true } ∷ []) 0
+    ensures reset { ports.pins (record {
+      streams = record
+          { name = codes "s"; columns = record { name = codes "v"; kind = kinds.Unsigned 8 } ∷ [] }
+          ∷ record {
+            name = codes "t";
+            columns = record { name = codes "w"; kind = kinds.Unsigned 8 }
+                ∷ [];
+          } ∷ [];
+    }) (record {
+      cycle = 0;
+      rows = Some (7 ∷ []) ∷ None
+          ∷ [];
+      tick = false;
+      end = false;
+    } ∷ record {
+      cycle = 2;
+      rows = None ∷ None
+          ∷ [];
+      tick = false;
+      end = true;
+    } ∷ []) 0
         ≡ ports.pin (codes "rst") 1 ∷ ports.pin (codes "in__s__valid") 0 ∷ ports.pin (codes "in__s__v") 0 ∷ ports.pin (codes "in__t__valid") 0 ∷ ports.pin (codes "in__t__w") 0 ∷ ports.pin (codes "eos") 0 ∷ [] }
-    ensures first { ports.pins (record { streams = record { name = codes "s"; columns = record { name = codes "v"; kind = kinds.Unsigned 8 } ∷ [] } ∷ record { name = codes "t"; columns = record { name = codes "w"; kind = kinds.Unsigned 8 } ∷ [] } ∷ [] }) (record { cycle = 0; rows = Some (7 ∷ []) ∷ None ∷ []; tick = false; end = false } ∷ record { cycle = 2; rows = None ∷ None ∷ []; tick = false; end = true } ∷ []) 1
+    ensures first { ports.pins (record {
+      streams = record
+          { name = codes "s"; columns = record { name = codes "v"; kind = kinds.Unsigned 8 } ∷ [] }
+          ∷ record {
+            name = codes "t";
+            columns = record { name = codes "w"; kind = kinds.Unsigned 8 }
+                ∷ [];
+          } ∷ [];
+    }) (record {
+      cycle = 0;
+      rows = Some (7 ∷ []) ∷ None
+          ∷ [];
+      tick = false;
+      end = false;
+    } ∷ record {
+      cycle = 2;
+      rows = None ∷ None
+          ∷ [];
+      tick = false;
+      end = true;
+    } ∷ []) 1
         ≡ ports.pin (codes "rst") 0 ∷ ports.pin (codes "in__s__valid") 1 ∷ ports.pin (codes "in__s__v") 7 ∷ ports.pin (codes "in__t__valid") 0 ∷ ports.pin (codes "in__t__w") 0 ∷ ports.pin (codes "eos") 0 ∷ [] }
-    ensures between { ports.pins (record { streams = record { name = codes "s"; columns = record { name = codes "v"; kind = kinds.Unsigned 8 } ∷ [] } ∷ record { name = codes "t"; columns = record { name = codes "w"; kind = kinds.Unsigned 8 } ∷ [] } ∷ [] }) (record { cycle = 0; rows = Some (7 ∷ []) ∷ None ∷ []; tick = false; end = false } ∷ record { cycle = 2; rows = None ∷ None ∷ []; tick = false; end = true } ∷ []) 2
+    ensures between { ports.pins (record {
+      streams = record
+          { name = codes "s"; columns = record { name = codes "v"; kind = kinds.Unsigned 8 } ∷ [] }
+          ∷ record {
+            name = codes "t";
+            columns = record { name = codes "w"; kind = kinds.Unsigned 8 }
+                ∷ [];
+          } ∷ [];
+    }) (record {
+      cycle = 0;
+      rows = Some (7 ∷ []) ∷ None
+          ∷ [];
+      tick = false;
+      end = false;
+    } ∷ record {
+      cycle = 2;
+      rows = None ∷ None
+          ∷ [];
+      tick = false;
+      end = true;
+    } ∷ []) 2
         ≡ ports.pin (codes "rst") 0 ∷ ports.pin (codes "in__s__valid") 0 ∷ ports.pin (codes "in__s__v") 0 ∷ ports.pin (codes "in__t__valid") 0 ∷ ports.pin (codes "in__t__w") 0 ∷ ports.pin (codes "eos") 0 ∷ [] }
-    ensures last { ports.pins (record { streams = record { name = codes "s"; columns = record { name = codes "v"; kind = kinds.Unsigned 8 } ∷ [] } ∷ record { name = codes "t"; columns = record { name = codes "w"; kind = kinds.Unsigned 8 } ∷ [] } ∷ [] }) (record { cycle = 0; rows = Some (7 ∷ []) ∷ None ∷ []; tick = false; end = false } ∷ record { cycle = 2; rows = None ∷ None ∷ []; tick = false; end = true } ∷ []) 3
+    ensures last { ports.pins (record {
+      streams = record
+          { name = codes "s"; columns = record { name = codes "v"; kind = kinds.Unsigned 8 } ∷ [] }
+          ∷ record {
+            name = codes "t";
+            columns = record { name = codes "w"; kind = kinds.Unsigned 8 }
+                ∷ [];
+          } ∷ [];
+    }) (record {
+      cycle = 0;
+      rows = Some (7 ∷ []) ∷ None
+          ∷ [];
+      tick = false;
+      end = false;
+    } ∷ record {
+      cycle = 2;
+      rows = None ∷ None
+          ∷ [];
+      tick = false;
+      end = true;
+    } ∷ []) 3
         ≡ ports.pin (codes "rst") 0 ∷ ports.pin (codes "in__s__valid") 0 ∷ ports.pin (codes "in__s__v") 0 ∷ ports.pin (codes "in__t__valid") 0 ∷ ports.pin (codes "in__t__w") 0 ∷ ports.pin (codes "eos") 1 ∷ [] }
-    ensures behind { ports.pins (record { streams = record { name = codes "s"; columns = record { name = codes "v"; kind = kinds.Unsigned 8 } ∷ [] } ∷ record { name = codes "t"; columns = record { name = codes "w"; kind = kinds.Unsigned 8 } ∷ [] } ∷ [] }) (record { cycle = 0; rows = Some (7 ∷ []) ∷ None ∷ []; tick = false; end = false } ∷ record { cycle = 2; rows = None ∷ None ∷ []; tick = false; end = true } ∷ []) 4
+    ensures behind { ports.pins (record {
+      streams = record
+          { name = codes "s"; columns = record { name = codes "v"; kind = kinds.Unsigned 8 } ∷ [] }
+          ∷ record {
+            name = codes "t";
+            columns = record { name = codes "w"; kind = kinds.Unsigned 8 }
+                ∷ [];
+          } ∷ [];
+    }) (record {
+      cycle = 0;
+      rows = Some (7 ∷ []) ∷ None
+          ∷ [];
+      tick = false;
+      end = false;
+    } ∷ record {
+      cycle = 2;
+      rows = None ∷ None
+          ∷ [];
+      tick = false;
+      end = true;
+    } ∷ []) 4
         ≡ ports.pin (codes "rst") 0 ∷ ports.pin (codes "in__s__valid") 0 ∷ ports.pin (codes "in__s__v") 0 ∷ ports.pin (codes "in__t__valid") 0 ∷ ports.pin (codes "in__t__w") 0 ∷ ports.pin (codes "eos") 0 ∷ [] }
 {}
 

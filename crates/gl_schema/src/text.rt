@@ -19,7 +19,8 @@ pub fn read_schema(alloc: Global, text: &[u8]) -> Result<Schema, SchemaFault>
     // What is read is the schema of the text.
     ensures found { IfOk result (IsSchemaText text.now) }
     // A text that has a schema is read, unless memory runs out.
-    ensures only { (schema : types.Schema) → IsSchemaText text.now schema → Gives result (Ok schema) }
+    ensures only { (schema : types.Schema) → IsSchemaText text.now schema
+        → Gives result (Ok schema) }
     // Which fault it is.
     ensures exact { Gives result (schema_of text.now) }
 {
@@ -39,7 +40,8 @@ fn read(alloc: Global, text: &[u8]) -> Result<Schema, SchemaFault>
 
 /// Each text has exactly one reading: a schema, or a first fault, which is never want of memory.
 pub fn one_reading()
-    ensures schema { (text : List ℕ) (s : types.Schema) → (schema_of text ≡ Ok s) ↔ IsSchemaText text s }
+    ensures schema { (text : List ℕ) (s : types.Schema) → (schema_of text
+        ≡ Ok s) ↔ IsSchemaText text s }
     ensures one { (text : List ℕ) (s t : types.Schema)
         → IsSchemaText text s → IsSchemaText text t → s ≡ t }
     ensures either { (text : List ℕ)
