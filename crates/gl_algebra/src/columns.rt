@@ -1,6 +1,6 @@
 //! The kinds of columns: of operands, of operations, of aggregates, and of lists of these.
 
-ghost use Rattle.std.specs.Prelude.{◌≡◌, ◌<◌, ◌^◌, ◌++◌, ◌∷◌, IfOk, OnOk, map};
+ghost use Rattle.std.specs.Prelude.{◌≡◌, ◌<◌, ◌^◌, ◌++◌, ◌∷◌, IfOk, map};
 ghost use Rattle.gl_algebra.specs.Columns.{kind_of_agg, kind_of_column, kind_of_op, kind_of_operand};
 ghost use Rattle.gl_bits.specs.Kinds.{width_of};
 ghost use Rattle.gl_bits.specs.Operators.{result_kind};

@@ -1,7 +1,7 @@
 //! The rows of the table of figures, in numbers that take their sums and products whole.
 
-ghost use Rattle.std.specs.Prelude.{◌≡◌, ◌<◌, ◌≤◌, ◌+◌, ◌*◌, ◌^◌};
-ghost use Rattle.gl_algebra.specs.FigureTable.{aggregate_figures, at_end, delayed, groups_over, in_step, is_fixed, joined, last_of, merged, needs_spacer, settled, spaced, spacer_figures, stride_of, windows_over, window_gap};
+ghost use Rattle.std.specs.Prelude.{◌≡◌, ◌<◌, ◌+◌, ◌*◌, ◌^◌};
+ghost use Rattle.gl_algebra.specs.FigureTable.{aggregate_figures, at_end, delayed, groups_over, in_step, is_fixed, joined, last_of, merged, settled, spaced, spacer_figures, stride_of, windows_over};
 ghost use Rattle.gl_algebra.specs.Small.{small_of};
 ghost use Rattle.gl_algebra.specs.Wides.{plain, IsNarrow, IsWide};
 

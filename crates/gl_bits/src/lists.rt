@@ -87,7 +87,8 @@ fn first_keys(
     column: usize,
     rows: &[Listed<u128>],
 ) -> Result<Vec<u128>, Memory>
-    ensures { IfOk result (λ v. v.items ≡ take most (keys_of (λ r. slice_index r column) rows.now)) }
+    ensures { IfOk result (λ v. v.items
+        ≡ take most (keys_of (λ r. slice_index r column) rows.now)) }
 {
     let mut keys = Vec::new(alloc);
     for row in rows {

@@ -1,6 +1,6 @@
 //! The figures of each node of a plan.
 
-ghost use Rattle.std.specs.Prelude.{◌≡◌, ◌<◌, length, slice_get, Some, IfErr, OnOk};
+ghost use Rattle.std.specs.Prelude.{◌≡◌, ◌<◌, length, Some, IfErr, OnOk};
 ghost use Rattle.std.specs.List.{AllByRecursion};
 ghost use Rattle.gl_algebra.specs.FigureTable.{figures_of};
 ghost use Rattle.gl_algebra.specs.Fits.{Fits};

@@ -28,7 +28,8 @@ fn count_cycles(
     ensures width { IfOk result (λ b. b.width ≡ 8) }
     ensures size { OnOk result (size_of net.new ≡ size_of net.old + 6) }
     ensures start { IfOk result (λ b. (run : Run) → IsRun net.new run → run.at 1 b.node ≡ 0) }
-    ensures next { IfOk result (λ b. (run : Run) → IsRun net.new run → (t : ℕ) → run.at (suc (suc t)) b.node
+    ensures next { IfOk result (λ b. (run : Run) → IsRun net.new run → (t : ℕ) →
+        run.at (suc (suc t)) b.node
         ≡ choose_of (run.at (suc t) clear.node) 0 (choose_of (run.at (suc t) enable.node) (sum_of 8 (run.at (suc t) b.node) 1) (run.at (suc t) b.node))) }
 {
     let count = net.register(8, Some(zero))?;
@@ -52,7 +53,8 @@ fn hold_word(net: &mut NetBuilder, write: Bit, address: Bus, value: Bus) -> Resu
     ensures bus { IfOk result (λ b. IsBus net.new b) }
     ensures width { IfOk result (λ b. b.width ≡ value.width) }
     ensures size { OnOk result (size_of net.new ≡ size_of net.old + 2) }
-    ensures law { IfOk result (λ b. (run : Run) → IsRun net.new run → (t : ℕ) → run.at t write.node ≡ 1 → run.at t address.node ≡ run.at (suc t) address.node
+    ensures law { IfOk result (λ b. (run : Run) → IsRun net.new run → (t : ℕ) → run.at t write.node
+        ≡ 1 → run.at t address.node ≡ run.at (suc t) address.node
         → run.at (suc t) b.node ≡ run.at t value.node) }
 {
     let store = net.memory(4, value.width)?;

@@ -1,9 +1,7 @@
 -- What several calls of a shelf leave of its counts, its names and its texts.
-use Rattle.std.proofs.Common.{◌≡◌, ℕ, ◌+◌, ◌-◌, ◌<◌, ◌≤◌, ◌^◌, List, Result, Ok, Err, refl, sym, ◌∙◌, subst}
+use Rattle.std.proofs.Common.{ℕ, List, refl, ◌∙◌, subst}
 use Rattle.gl_outside.specs.Counts.{Rose}
-use Rattle.gl_outside.specs.States.{ShelfState, Stays, IsCalm, Missed, Faulted, ReadLeaves}
-use Rattle.gl_outside.specs.declared.reading.ReadFault.{ReadFault}
-use Rattle.gl_outside.specs.declared.reading.ReadFault.TheVariants.{Missing, Failed, TooLong, Memory}
+use Rattle.gl_outside.specs.States.{ShelfState, Stays, IsCalm, Missed, Faulted}
 
 pub calm_none : (a : ShelfState) → IsCalm a a
 calm_none a = record { misses = refl; faults = refl; last = refl }

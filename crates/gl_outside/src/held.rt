@@ -1,6 +1,6 @@
 //! Texts in memory.
 
-ghost use Rattle.std.specs.Prelude.{◌≡◌, ℕ, ◌<◌, ◌≤◌, length, Some, OnOk, OnErr, MatchOption, Contains};
+ghost use Rattle.std.specs.Prelude.{◌≡◌, ℕ, ◌<◌, length, Some, OnOk, OnErr, MatchOption, Contains};
 ghost use Rattle.gl_outside.specs.Told.{Lacks, Holds};
 ghost use Rattle.gl_outside.specs.States.{Stays, Fetched};
 ghost use Rattle.gl_outside.specs.Fetched.{FitsRoom, Says};

@@ -1,6 +1,6 @@
 //! Shelves: texts by name.
 
-ghost use Rattle.std.specs.Prelude.{ℕ, ◌<◌, ◌≤◌, length, Contains};
+ghost use Rattle.std.specs.Prelude.{◌<◌, ◌≤◌, length, Contains};
 ghost use Rattle.gl_outside.specs.States.{ShelfState, Stays, Fetched};
 ghost use Rattle.gl_outside.specs.Fetched.{FitsRoom, Says};
 

@@ -1,6 +1,6 @@
 //! Sinks: they take bytes.
 
-ghost use Rattle.std.specs.Prelude.{ℕ, ◌<◌, ◌≤◌, length};
+ghost use Rattle.std.specs.Prelude.{◌<◌, length};
 ghost use Rattle.gl_outside.specs.States.{SinkState, FitsPiece, DoesPut};
 
 /// What a put does.

@@ -12,7 +12,7 @@ use Rattle.gl_query.specs.declared.tree.Query.{Query}
 use Rattle.gl_query.specs.declared.tree.Query.TheVariants as query
 use Rattle.gl_query.specs.declared.tree.Statement.{Statement}
 use Rattle.gl_query.specs.Shapes as shape
-use Rattle.gl_query.specs.Shapes.{QueryShape, ExprShape, AggShape, expr_shape, agg_shape, item_shape, agg_item_shape, pick_shape, query_shape, statement_shape}
+use Rattle.gl_query.specs.Shapes.{expr_shape, agg_shape, item_shape, agg_item_shape, pick_shape, query_shape, statement_shape}
 use Rattle.gl_query.specs.Trees.{expr_tree, agg_tree, item_tree, agg_item_tree, pick_tree, filter_tree, query_tree, statement_tree}
 use Rattle.gl_query.specs.Alike.{expr_alike, agg_alike, item_alike, agg_item_alike, pick_alike, query_alike, statement_alike}
 

@@ -1,6 +1,6 @@
 -- An expression, a list of items or of aggregates has no fault exactly where it is accepted.
 use Rattle.std.proofs.Common.{◌≡◌, ℕ, zero, suc, ◌+◌, ◌^◌, ◌<◌, ◌≤◌, Bool, true, false, List, [], ◌∷◌, ◌++◌, length, map, Option, Some, None, refl, sym, ap, subst, ◌∙◌, arith, append_assoc, append-nil, length-append}
-use Rattle.std.specs.Prelude.{◌&&◌, not, IsTrue, bytes_eq, nat_eq, nat_le, nat_lt, option_map, slice_get, if◌then◌else◌}
+use Rattle.std.specs.Prelude.{◌&&◌, not, bytes_eq, nat_le, nat_lt, option_map, slice_get, if◌then◌else◌}
 use Rattle.std.specs.List.{AllByRecursion, IsDistinct, list_all, list_any}
 use Rattle.std.proofs.lemmas.Bool.{eqb-true, eq-eqb, leb-true, le-leb, ltb-true, lt-ltb}
 use Rattle.gl_bits.specs.declared.kind.Kind.{Kind}
@@ -17,10 +17,10 @@ use Rattle.gl_query.specs.declared.fault.QueryFault.{QueryFault}
 use Rattle.gl_query.specs.declared.tree.Name.{Name}
 use Rattle.gl_query.specs.declared.tree.Num.{Num}
 use Rattle.gl_query.specs.Trees as tree
-use Rattle.gl_query.specs.Trees.{ExprTree, AggTree, ItemTree, AggItemTree}
-use Rattle.gl_query.specs.Alike.{expr_alike, agg_alike, item_alike, agg_item_alike}
+use Rattle.gl_query.specs.Trees.{ExprTree, AggTree}
+use Rattle.gl_query.specs.Alike.{expr_alike, agg_alike}
 use Rattle.gl_query.specs.Values.{CanApply, CanCast, HasKind, IsLettersOf, IsNumberOf, IsUnsigned, is_loose, kind_alone, kind_of, left_place, right_place}
-use Rattle.gl_query.specs.Accepted.{IsAgg, IsCondition, IsFilter, IsSummed, IsWeighted}
+use Rattle.gl_query.specs.Accepted.{IsAgg, IsFilter, IsSummed}
 use Rattle.gl_query.specs.Faults.{or_else, unless, same_kind, same_kinds, is_unsigned, is_bit, is_within, can_cast, letters_fit, number_fault, letters_fault, operator_fault, of_operands, expr_fault, whole_fault, whole_kind, filter_fault, named_fault, summed_fault, too_many, weights_fault, agg_fault}
 
 -- no fault comes exactly where this holds

@@ -1,6 +1,6 @@
 -- A statement has no first fault exactly where it is accepted.
-use Rattle.std.proofs.Common.{◌≡◌, ℕ, suc, ◌+◌, ◌*◌, ◌<◌, ◌≤◌, Bool, true, false, List, [], ◌∷◌, ◌++◌, length, map, Option, Some, None, refl, sym, ap, subst, ◌∙◌, arith, lit≤}
-use Rattle.std.specs.Prelude.{◌&&◌, not, IsTrue, IsSome, bytes_eq, nat_le, nat_lt, option_map}
+use Rattle.std.proofs.Common.{◌≡◌, ℕ, ◌*◌, ◌<◌, ◌≤◌, true, false, List, [], ◌∷◌, length, map, Option, Some, None, refl, sym, ap, subst, arith, lit≤}
+use Rattle.std.specs.Prelude.{not, IsSome, bytes_eq, nat_le, nat_lt}
 use Rattle.std.specs.List.{AllByRecursion, IsDistinct, list_any}
 use Rattle.std.proofs.lemmas.Bool.{leb-true, le-leb, ltb-true, lt-ltb}
 use Rattle.std.proofs.lemmas.Map.Keys.{IsDistinct-cons, IsDistinct-head, IsDistinct-tail}
@@ -10,17 +10,16 @@ use Rattle.gl_schema.specs.declared.schema.Column.{Column as NamedColumn}
 use Rattle.gl_schema.specs.Schemas.{column_names, has_column, has_stream, kinds_of}
 use Rattle.gl_query.specs.declared.tree.Name.{Name}
 use Rattle.gl_query.specs.declared.tree.Num.{Num}
-use Rattle.gl_query.specs.declared.fault.QueryFault.{QueryFault}
 use Rattle.gl_query.specs.Trees as tree
 use Rattle.gl_query.specs.Trees.{ItemTree, AggItemTree, PickTree, QueryTree}
 use Rattle.gl_query.specs.Alike.{expr_alike, agg_alike, item_alike, agg_item_alike, pick_alike, query_alike}
 use Rattle.gl_query.specs.Shapes.{QueryShape}
 use Rattle.gl_query.specs.Values.{HasKind, kind_alone}
-use Rattle.gl_query.specs.Columns.{Pace, Once, Step, agg_column, is_closing, item_column, pace_of, picked_columns}
-use Rattle.gl_query.specs.Accepted.{AreResultColumns, IsAcceptedOver, IsAgg, IsFilter, IsGrouping, IsPick, IsRows, IsTotal, IsWindow, KeepPace, Scope, body_scope, columns_under}
-use Rattle.gl_query.specs.Faults.{or_else, unless, agg_fault, are_distinct, aggs_fault, beside_fault, filter_fault, is_within, items_fault, key_fault, named_fault, pick_fault, query_fault, same_kinds, same_pace, whole_fault, window_fault}
+use Rattle.gl_query.specs.Columns.{Pace, Once, Step, agg_column, is_closing, item_column, pace_of}
+use Rattle.gl_query.specs.Accepted.{AreResultColumns, IsAcceptedOver, IsAgg, IsPick, IsTotal, IsWindow, KeepPace, Scope, body_scope, columns_under}
+use Rattle.gl_query.specs.Faults.{unless, agg_fault, are_distinct, aggs_fault, beside_fault, is_within, key_fault, pick_fault, query_fault, same_kinds, same_pace, whole_fault, window_fault}
 use Rattle.gl_query.specs.Laws.{FirstFaultsAreExact}
-use Rattle.gl_query.proofs.Deciding.{AreNamed, Decides, agg_decides, always, both, change, equal_lists, filter_decides, is_within_of, lists_equal, named_decides, rule, test, whole_decides, within}
+use Rattle.gl_query.proofs.Deciding.{Decides, agg_decides, always, both, change, equal_lists, filter_decides, is_within_of, lists_equal, named_decides, rule, test, whole_decides, within}
 use Rattle.gl_query.proofs.Real.{IsScope, body_is, no_names, real, schema_is}
 
 -- ---- names

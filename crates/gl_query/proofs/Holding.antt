@@ -8,7 +8,7 @@ use Rattle.gl_bits.proofs.AllLists.{all_append, all_weaker}
 use Rattle.gl_bits.proofs.Bools.{by_cases}
 use Rattle.gl_schema.specs.declared.schema.Column.{Column}
 use Rattle.gl_schema.specs.Schemas.{has_column, kinds_of}
-use Rattle.gl_query.specs.Shapes.{AggItemShape, PickShape, QueryShape}
+use Rattle.gl_query.specs.Shapes.{AggItemShape, PickShape}
 use Rattle.gl_query.specs.Shapes as shape
 use Rattle.gl_query.specs.Values.{column_kind, column_number}
 use Rattle.gl_query.specs.Columns.{agg_column, columns_of, picked_columns, source_columns, variable}

@@ -1,5 +1,5 @@
 -- The columns of an accepted query are columns of a result: at most 32, no two of one name, and of kinds that are kinds.
-use Rattle.std.proofs.Common.{◌≡◌, ℕ, zero, suc, ◌+◌, ◌≤◌, Bool, true, false, List, [], ◌∷◌, ◌++◌, length, map, Option, Some, None, refl, sym, ap, subst, arith, lit≤, length-append}
+use Rattle.std.proofs.Common.{◌≡◌, ℕ, zero, suc, ◌≤◌, Bool, true, false, List, [], ◌∷◌, length, map, sym, subst, arith, lit≤, length-append}
 use Rattle.std.specs.Prelude.{◌||◌, bytes_eq, slice_get, unwrap_or, option_map, if◌then◌else◌}
 use Rattle.std.specs.List.{AllByRecursion, IsDistinct, list_any}
 use Rattle.gl_bits.specs.declared.kind.Kind.{Kind}
@@ -13,11 +13,11 @@ use Rattle.gl_bits.proofs.Bools.{by_cases}
 use Rattle.gl_schema.specs.declared.schema.Column.{Column}
 use Rattle.gl_schema.specs.declared.schema.Stream.{Stream}
 use Rattle.gl_schema.specs.Schemas.{IsColumn, IsStream, has_stream}
-use Rattle.gl_query.specs.Shapes.{AggItemShape, AggShape, ExprShape, ItemShape, PickShape, QueryShape}
+use Rattle.gl_query.specs.Shapes.{AggItemShape, AggShape, ExprShape, ItemShape, QueryShape}
 use Rattle.gl_query.specs.Shapes as shape
-use Rattle.gl_query.specs.Values.{CanCast, HasKind, begins_with_text, column_kind, column_number, is_loose, kind_alone, kind_of, left_place, right_place, loose_kind, operand_place}
-use Rattle.gl_query.specs.Columns.{agg_column, agg_kind, columns_of, item_column, picked_columns, source_columns, variable}
-use Rattle.gl_query.specs.Accepted.{AreResultColumns, IsAcceptedOver, IsAgg, IsPick, Scope, body_scope, columns_under}
+use Rattle.gl_query.specs.Values.{CanCast, HasKind, begins_with_text, column_number, is_loose, kind_alone, kind_of, left_place, right_place, loose_kind, operand_place}
+use Rattle.gl_query.specs.Columns.{agg_column, agg_kind, item_column, source_columns}
+use Rattle.gl_query.specs.Accepted.{AreResultColumns, IsAcceptedOver, IsAgg, Scope, body_scope, columns_under}
 use Rattle.gl_query.specs.Sizes.{HasItems}
 use Rattle.gl_query.specs.Laws.{AcceptedHaveRealColumns, AreKinds}
 

@@ -1,7 +1,6 @@
 -- A query without UNION has at most one result.
 use Rattle.std.proofs.Common.{List, [], ◌∷◌, ◌++◌, Bool, sym, ap, subst, ◌∙◌}
 use Rattle.std.specs.Prelude.{◌||◌}
-use Rattle.gl_query.specs.Shapes.{QueryShape}
 use Rattle.gl_query.specs.Shapes as shape
 use Rattle.gl_bits.specs.Results.{Row, Results, IsChanged, AreJoined, IsOfParts, IsOfBoth, AreBeside, beside}
 use Rattle.gl_query.specs.Results.{IsResultIn}

@@ -148,7 +148,9 @@ pub fn group_columns(
     key: &[u8],
     body: Columns,
 ) -> Result<Columns, Memory>
-    ensures { IfOk result (λ v. v ≡ record { name = key.now; kind = column_kind columns.now key.now } ∷ body) }
+    ensures { IfOk result (λ v. v
+        ≡ record { name = key.now; kind = column_kind columns.now key.now }
+        ∷ body) }
 {
     let mut first = Listed::new(alloc);
     first.push(Column {
@@ -160,7 +162,8 @@ pub fn group_columns(
 
 /// The columns of a query over the sources that it may read.
 pub fn columns_of(alloc: Global, sources: Sources<'_>, query: &Query) -> Result<Columns, Memory>
-    ensures { IfOk result (λ v. v ≡ columns_of (scope_of sources.entry).sources (query_shape query.now)) }
+    ensures { IfOk result (λ v. v
+        ≡ columns_of (scope_of sources.entry).sources (query_shape query.now)) }
 {
     match query {
         Query::Read(name) => source_columns(alloc, sources, name.text.as_slice()),

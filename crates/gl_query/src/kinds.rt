@@ -76,7 +76,8 @@ pub fn kind_alone(expr: &Expr) -> Kind
 
 /// The kind that the place of an operand gives, where the other operand has a kind.
 pub fn operand_place(sort: Sort, whole: Kind, expr: &Expr, other: &Expr, other_kind: Kind) -> Kind
-    ensures { result ≡ operand_place sort whole (expr_shape expr.now) (expr_shape other.now) other_kind }
+    ensures { result
+        ≡ operand_place sort whole (expr_shape expr.now) (expr_shape other.now) other_kind }
 {
     if !is_loose(other) {
         return other_kind;

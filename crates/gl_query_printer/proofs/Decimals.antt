@@ -1,7 +1,6 @@
 -- Numbers in decimal are read as these numbers.
-use Rattle.std.proofs.Common.{◌≡◌, ◌≢◌, ℕ, ◌+◌, ◌-◌, ◌*◌, ◌^◌, ◌<◌, ◌≤◌, Bool, true, false, ◌&&◌, ◌||◌, List, [], ◌∷◌, ◌++◌, length, map, Option, Some, None, refl, sym, ap, subst, ◌∙◌, arith, le-leb, lt-ltb, lit≤}
-use Rattle.std.specs.Prelude.{codes, decimal, nat_le, nat_lt, nat_eq, ◌==◌, bytes_eq, unwrap_or, if◌then◌else◌}
-use Rattle.std.specs.List.{AllByRecursion}
+use Rattle.std.proofs.Common.{◌≡◌, ◌≢◌, ℕ, ◌+◌, ◌-◌, ◌*◌, ◌^◌, ◌<◌, ◌≤◌, Bool, true, false, ◌&&◌, List, [], ◌∷◌, length, map, Option, Some, None, refl, sym, ap, ◌∙◌, arith, le-leb, lt-ltb, lit≤}
+use Rattle.std.specs.Prelude.{codes, decimal, nat_le, nat_lt, bytes_eq, if◌then◌else◌}
 use Rattle.std.specs.Int.{IsInRange}
 use Rattle.std.specs.Char.{to_ascii_lowercase}
 use Rattle.std.specs.Str.Parse.{IsNumeral, AllDigits}
@@ -9,7 +8,7 @@ use Rattle.std.proofs.lemmas.Bool.{lt-leb, ltb-true, true≢false, false_from_ne
 use Rattle.std.proofs.lemmas.Slice.Eq.{bytes_eq-Decides}
 use Rattle.std.proofs.lemmas.Str.Parse.{tells_digits, numerals_by_fold, FoldsDigits, IsNumeralModel}
 use Rattle.std.proofs.lemmas.Fmt.{decimal_is_IsNumeral_wide}
-use Rattle.gl_schema.specs.Names.{is_name, is_digit, is_lower, begins_with_letter, has_name_bytes, has_loose_underscore, is_taken}
+use Rattle.gl_schema.specs.Names.{is_name, is_digit, begins_with_letter}
 use Rattle.gl_bits.specs.declared.op.Op.TheVariants as op
 use Rattle.std.specs.List as lists
 use Rattle.gl_query_tokens.specs.declared.token.Fold.TheVariants as fold
@@ -20,7 +19,7 @@ use Rattle.gl_query_tokens.specs.declared.token.Token.TheVariants as token
 use Rattle.gl_query_tokens.specs.Tokens.{class_of}
 use Rattle.gl_query_tokens.specs.Words.{is_keyword, clause_of, window_of, operator_of, keyword_of, or_else, with_digit, number_of, number_token, word_token}
 use Rattle.gl_query_printer.specs.Canonical.{num_of}
-use Rattle.gl_query_printer.specs.Spaced.{token_text, number_text, place_behind}
+use Rattle.gl_query_printer.specs.Spaced.{token_text, place_behind}
 use Rattle.gl_query_printer.proofs.Lexed.{Readable, read_word}
 use Rattle.gl_query_tokens.proofs.Sound.{is_letter, are_letters, is_word}
 use Rattle.gl_query_printer.proofs.Places.{placeless}

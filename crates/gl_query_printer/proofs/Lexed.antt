@@ -1,8 +1,8 @@
 -- The text of tokens has these tokens.
-use Rattle.std.proofs.Common.{◌≡◌, ◌≢◌, ℕ, ◌+◌, ◌-◌, ◌*◌, ◌^◌, ◌<◌, ◌≤◌, Bool, true, false, not, ◌&&◌, List, [], ◌∷◌, ◌++◌, length, map, Option, Some, None, refl, sym, ap, subst, ◌∙◌, append_assoc, append-nil, arith, inl, inr, ◌⊎◌}
-use Rattle.std.specs.Prelude.{codes, nat_le, ◌==◌, if◌then◌else◌}
+use Rattle.std.proofs.Common.{◌≡◌, ◌≢◌, ℕ, ◌+◌, ◌-◌, Bool, true, false, not, ◌&&◌, List, [], ◌∷◌, ◌++◌, length, map, refl, sym, ap, subst, ◌∙◌, append_assoc, append-nil, inl, inr, ◌⊎◌}
+use Rattle.std.specs.Prelude.{nat_le, ◌==◌}
 use Rattle.std.specs.List.{AllByRecursion}
-use Rattle.std.proofs.lemmas.Bool.{and_parts, cases_Bool, true≢false}
+use Rattle.std.proofs.lemmas.Bool.{and_parts, true≢false}
 use Rattle.gl_query_tokens.specs.declared.token.Plain.TheVariants as plain
 use Rattle.gl_query_tokens.specs.declared.token.Token.{Token}
 use Rattle.gl_query_tokens.specs.declared.token.Token.TheVariants as token
@@ -10,8 +10,8 @@ use Rattle.gl_query_tokens.specs.declared.token.Lexeme.{Lexeme}
 use Rattle.gl_query_tokens.specs.declared.lexing.Class.{Class}
 use Rattle.gl_query_tokens.specs.declared.lexing.Class.TheVariants.{Letter, Blank, Quote, Half, Alone}
 use Rattle.gl_query_tokens.specs.declared.lexing.Follow.{Follow}
-use Rattle.gl_query_tokens.specs.declared.lexing.Follow.TheVariants.{Pair, Comment, Fresh}
-use Rattle.gl_query_tokens.specs.Tokens.{Mode, Between, InWord, InText, AfterHalf, Move, to, begin, in_word, in_text, after_half, move, last_of, then_scan, scan, tokens_of, class_of, follow_of, sign_token, text_token, lexeme}
+use Rattle.gl_query_tokens.specs.declared.lexing.Follow.TheVariants.{Fresh}
+use Rattle.gl_query_tokens.specs.Tokens.{Mode, Between, InWord, InText, AfterHalf, Move, to, begin, in_word, in_text, after_half, move, last_of, scan, tokens_of, class_of, follow_of, sign_token, text_token}
 use Rattle.gl_query_tokens.specs.Words.{word_token}
 use Rattle.gl_query_reader.specs.Grammar.{bare_tokens}
 use Rattle.gl_query_printer.specs.declared.text.Behind.{Behind}

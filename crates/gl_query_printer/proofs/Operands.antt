@@ -1,9 +1,8 @@
 -- The tokens of what stands in brackets unless it fits without.
-use Rattle.std.proofs.Common.{◌≡◌, Bool, true, false, List, [], ◌∷◌, ◌++◌, refl, sym, ap, ◌∙◌, append-nil}
-use Rattle.gl_query_tokens.specs.declared.token.Token.{Token}
+use Rattle.std.proofs.Common.{◌≡◌, Bool, true, false, ◌++◌, refl, sym, append-nil}
 use Rattle.gl_query_reader.specs.Written.{Expr, Query, spell, spell_query}
-use Rattle.gl_query_printer.specs.Brackets.{opening, closing, is_stream, is_term}
-use Rattle.gl_query_printer.specs.Canonical.{fitted, bracketed_unless, source_of, term_of}
+use Rattle.gl_query_printer.specs.Brackets.{opening, closing}
+use Rattle.gl_query_printer.specs.Canonical.{fitted, bracketed_unless}
 
 pub spell_fitted : (fits : Bool) (e : Expr) → spell (fitted fits e) ≡ opening fits ++ (spell e ++ closing fits)
 spell_fitted true e = sym (append-nil (spell e))

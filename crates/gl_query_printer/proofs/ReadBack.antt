@@ -22,13 +22,13 @@ use Rattle.gl_query_reader.specs.declared.written.Grouping.{Grouping}
 use Rattle.gl_query_reader.specs.Written as written
 use Rattle.gl_query_reader.specs.Written.{level, looseness, left_looseness, IsExpr, IsAgg, IsItem, AreItems, IsPick, IsFilter, IsQuery, IsSource, IsTerm, spell, spell_numbers, spell_agg, spell_item, spell_items, spell_pick, spell_window, spell_filter, spell_grouping, spell_query, spell_statement}
 use Rattle.gl_query.specs.Trees as meant
-use Rattle.gl_query_reader.specs.Meaning.{expr_meaning, agg_meaning, fold_meaning, plain_items, agg_items, is_total, by_pick, by_items, begins_total, query_meaning, join_meaning, statement_meaning}
+use Rattle.gl_query_reader.specs.Meaning.{expr_meaning, agg_meaning, plain_items, agg_items, is_total, by_pick, by_items, query_meaning, join_meaning, statement_meaning}
 use Rattle.gl_query_reader.specs.Mixed.{first_other, same, mixed_plain, mixed_pick, mixed_in, least}
-use Rattle.gl_query.specs.Alike.{expr_alike, agg_alike, item_alike, agg_item_alike, pick_alike, query_alike, statement_alike}
+use Rattle.gl_query.specs.Alike.{expr_alike, agg_alike, item_alike, agg_item_alike, query_alike, statement_alike}
 use Rattle.gl_query_printer.specs.Brackets.{is_stream, is_term}
-use Rattle.gl_query_printer.specs.Canonical.{name_of, num_of, fitted, expr_of, agg_of, is_bare, item_of, agg_item_of, pick_of, bracketed_unless, source_of, term_of, window_of, grouping_of, query_of, statement_of, canonical_tokens}
-use Rattle.gl_query_printer.proofs.Places.{placeless, placed, Parts, parts, First, first, Alone, alone, nothing}
-use Rattle.gl_query_printer.proofs.Writable.{CanBeExpr, AreWeights, CanBeAgg, CanBeItem, CanBeAggItem, Some', CanBePick, CanBeFilter, CanBeSource, IsNoStream, CanBeStatement}
+use Rattle.gl_query_printer.specs.Canonical.{name_of, num_of, fitted, expr_of, agg_of, is_bare, item_of, agg_item_of, pick_of, bracketed_unless, source_of, term_of, window_of, grouping_of, query_of, canonical_tokens}
+use Rattle.gl_query_printer.proofs.Places.{placeless, parts, first, alone, nothing}
+use Rattle.gl_query_printer.proofs.Writable.{CanBeExpr, CanBeAgg, CanBeItem, CanBeAggItem, Some', CanBePick, CanBeFilter, CanBeSource, IsNoStream, CanBeStatement}
 
 -- ---- lists of tokens, part by part
 

@@ -1,8 +1,7 @@
 -- The canonical tokens can be read from their text.
-use Rattle.std.proofs.Common.{◌≡◌, ℕ, ◌+◌, ◌-◌, ◌*◌, ◌^◌, ◌<◌, ◌≤◌, Bool, true, false, ◌&&◌, List, [], ◌∷◌, ◌++◌, map, Option, Some, None, option_map, refl, sym, ap, subst, ◌∙◌, arith}
-use Rattle.std.specs.Prelude.{codes, decimal, if◌then◌else◌}
+use Rattle.std.proofs.Common.{◌≡◌, ℕ, ◌+◌, Bool, true, false, List, [], ◌∷◌, ◌++◌, map, Option, Some, None, option_map, refl, ap}
+use Rattle.std.specs.Prelude.{codes, if◌then◌else◌}
 use Rattle.std.specs.List.{AllByRecursion}
-use Rattle.gl_bits.specs.declared.kind.Kind.{Kind}
 use Rattle.gl_bits.specs.declared.op.Op.{Op}
 use Rattle.gl_bits.specs.declared.op.Op.TheVariants as op
 use Rattle.gl_query.specs.Shapes.{ExprShape, AggShape, ItemShape, AggItemShape, PickShape, QueryShape, StatementShape}
@@ -19,10 +18,9 @@ use Rattle.gl_query_tokens.specs.Tokens.{class_of, follow_of, sign_token}
 use Rattle.gl_query_tokens.specs.Words.{is_keyword, word_token}
 use Rattle.gl_query_reader.specs.Written as written
 use Rattle.gl_query_reader.specs.Written.{spell, spell_numbers, spell_agg, spell_item, spell_items, spell_pick, spell_window, spell_filter, spell_grouping, spell_query}
-use Rattle.gl_query_printer.specs.Brackets.{is_stream, is_term}
-use Rattle.gl_query_printer.specs.Canonical.{name_of, num_of, fitted, expr_of, agg_of, is_bare, item_of, agg_item_of, pick_of, bracketed_unless, source_of, term_of, window_of, grouping_of, query_of, statement_of, canonical_tokens}
+use Rattle.gl_query_printer.specs.Canonical.{name_of, num_of, fitted, expr_of, agg_of, is_bare, item_of, agg_item_of, pick_of, bracketed_unless, source_of, term_of, window_of, grouping_of, query_of, canonical_tokens}
 use Rattle.gl_query_printer.specs.Spaced.{token_text, plain_text, operator_text, fold_text, join_text, place_behind}
-use Rattle.gl_query_printer.proofs.Lexed.{Readable, ReadAs, Ends, IsEnd, read_word, letters_readable, half_ends}
+use Rattle.gl_query_printer.proofs.Lexed.{Readable, ReadAs, Ends, read_word, letters_readable, half_ends}
 use Rattle.gl_query_tokens.proofs.Sound.{is_word}
 use Rattle.gl_query_printer.proofs.Places.{placeless}
 use Rattle.gl_query_tokens.proofs.Sound.{IsNameWord, IsSmall}

@@ -1,23 +1,20 @@
 -- What is read from a canonical text is the statement that it is the text of.
-use Rattle.std.proofs.Common.{◌≡◌, List, map, None, refl, sym, ap, subst, ◌∙◌}
+use Rattle.std.proofs.Common.{refl, sym, ap, subst, ◌∙◌}
 use Rattle.std.specs.List.{AllByRecursion}
 use Rattle.gl_query.specs.Shapes.{StatementShape}
-use Rattle.gl_query_tokens.specs.declared.token.Token.{Token}
 use Rattle.gl_query_tokens.specs.Tokens.{tokens_of}
-use Rattle.gl_query_reader.specs.Grammar.{HasStatement, Derives, bare_tokens}
+use Rattle.gl_query_reader.specs.Grammar.{bare_tokens}
 use Rattle.gl_query_reader.specs.Meaning.{statement_meaning}
-use Rattle.gl_query.specs.Trees.{StatementTree}
 use Rattle.gl_query.specs.Alike.{statement_alike}
 use Rattle.gl_query_printer.specs.Canonical.{canonical_tokens}
-use Rattle.gl_query_printer.specs.Printing.{canonical_text, HasAlike, IsPrintable, PassesNoLimit, CanonicalTextsAreRead}
-use Rattle.gl_query_printer.proofs.Places.{placeless}
+use Rattle.gl_query_printer.specs.Printing.{canonical_text, IsPrintable, CanonicalTextsAreRead}
 use Rattle.gl_query_printer.proofs.Lexed.{text_has}
 use Rattle.gl_bits.proofs.AllLists.{all_mapped}
 use Rattle.gl_query_tokens.specs.declared.token.Lexeme.{Lexeme}
 use Rattle.gl_query_tokens.proofs.Sound.{IsSound, text_sound}
 use Rattle.gl_query_printer.proofs.Writable.{CanBeStatement, statement_can}
 use Rattle.gl_query_printer.proofs.Readable.{statement_readable}
-use Rattle.gl_query_printer.proofs.ReadBack.{ReadStatement, read_statement}
+use Rattle.gl_query_printer.proofs.ReadBack.{read_statement}
 
 -- what some text has can be written
 printable_can : (s : StatementShape) → IsPrintable s → CanBeStatement s

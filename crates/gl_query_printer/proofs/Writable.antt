@@ -25,9 +25,9 @@ use Rattle.gl_query_reader.specs.declared.written.Window.{Window}
 use Rattle.gl_query_reader.specs.declared.written.Grouping.{Grouping}
 use Rattle.gl_query_reader.specs.Written as written
 use Rattle.gl_query.specs.Trees as tree
-use Rattle.gl_query_reader.specs.Meaning.{expr_meaning, agg_meaning, fold_meaning, plain_items, agg_items, is_total, it, filtered, by_items, begins_total, by_pick, items_in, grouped, select_meaning, join_meaning, query_meaning, statement_meaning}
-use Rattle.gl_query_reader.specs.Mixed.{first_other, same, is_key, behind_key, mixed_plain, mixed_groups, mixed_pick, least, mixed_in, item_at}
-use Rattle.gl_query.specs.Alike.{expr_alike, agg_alike, item_alike, agg_item_alike, pick_alike, query_alike, statement_alike}
+use Rattle.gl_query_reader.specs.Meaning.{expr_meaning, agg_meaning, fold_meaning, plain_items, agg_items, is_total, it, filtered, by_items, by_pick, grouped, select_meaning, join_meaning, query_meaning, statement_meaning}
+use Rattle.gl_query_reader.specs.Mixed.{first_other, is_key, behind_key, mixed_pick, least, mixed_in, item_at}
+use Rattle.gl_query.specs.Alike.{expr_alike, agg_alike, item_alike, agg_item_alike, query_alike, statement_alike}
 use Rattle.gl_query_tokens.proofs.Sound.{IsLetters, is_word}
 use Rattle.gl_query_tokens.proofs.Sound.{IsSound, IsNameWord, IsSmall}
 use Rattle.gl_bits.proofs.AllLists.{all_parts}

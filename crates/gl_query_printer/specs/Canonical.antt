@@ -1,5 +1,5 @@
 -- The statement that the canonical text writes: brackets stand exactly where the grammar needs them.
-use Rattle.std.specs.Prelude.{ℕ, Bool, true, false, List, [], ◌∷◌, map, bytes_eq, nat_le, nat_lt, Option, None, option_map, if◌then◌else◌}
+use Rattle.std.specs.Prelude.{ℕ, Bool, true, false, List, map, bytes_eq, nat_le, nat_lt, None, option_map, if◌then◌else◌}
 use Rattle.gl_schema.specs.SchemaText.{kind_text}
 use Rattle.gl_query.specs.declared.tree.Name.{Name}
 use Rattle.gl_query.specs.declared.tree.Num.{Num}

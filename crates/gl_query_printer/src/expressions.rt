@@ -54,7 +54,8 @@ fn level(expr: &Expr) -> u8
 
 // Puts a text literal.
 fn put_letters(alloc: Global, tokens: &mut Vec<Token>, letters: &[u8]) -> Result<(), Memory>
-    ensures { OnOk result (tokens.new.items ≡ tokens.old.items ++ token.Letters letters.now 0 ∷ []) }
+    ensures { OnOk result (tokens.new.items ≡ tokens.old.items ++ token.Letters letters.now 0
+        ∷ []) }
 {
     let text = TextBytes::from_vec(Vec::from_slice(alloc, letters)?);
     put(tokens, Token::Letters { text, at: 0 })
@@ -62,7 +63,8 @@ fn put_letters(alloc: Global, tokens: &mut Vec<Token>, letters: &[u8]) -> Result
 
 // Puts what stands behind the argument of a CAST.
 fn put_cast_end(alloc: Global, tokens: &mut Vec<Token>, kind: Kind) -> Result<(), Memory>
-    ensures { OnOk result (tokens.new.items ≡ tokens.old.items ++ token.Plain plain.As ∷ token.Name (name_of (kind_text kind)) ∷ token.Plain plain.Close ∷ []) }
+    ensures { OnOk result (tokens.new.items ≡ tokens.old.items ++ token.Plain plain.As
+        ∷ token.Name (name_of (kind_text kind)) ∷ token.Plain plain.Close ∷ []) }
 {
     put_plain(tokens, Plain::As)?;
     put_kind(alloc, tokens, kind)?;
@@ -72,7 +74,8 @@ fn put_cast_end(alloc: Global, tokens: &mut Vec<Token>, kind: Kind) -> Result<()
 /// Puts an expression, each operand in brackets exactly where it is looser than its place allows.
 #[tactic(auto, using(crate::proofs::Operands::operands))]
 pub(crate) fn put_expr(alloc: Global, tokens: &mut Vec<Token>, expr: &Expr) -> Result<(), Memory>
-    ensures { OnOk result (tokens.new.items ≡ tokens.old.items ++ written.spell (expr_of (expr_shape expr.now))) }
+    ensures { OnOk result (tokens.new.items ≡ tokens.old.items
+        ++ written.spell (expr_of (expr_shape expr.now))) }
 {
     match expr {
         Expr::Column(name) => put_name(alloc, tokens, name.text.as_slice()),

@@ -17,7 +17,8 @@ use std::alloc::Global;
 
 // Puts an aggregate over the values of an expression.
 fn put_fold(alloc: Global, tokens: &mut Vec<Token>, fold: Fold, arg: &Expr) -> Result<(), Memory>
-    ensures { OnOk result (tokens.new.items ≡ tokens.old.items ++ written.spell_agg (written.Fold' fold 0 0 (expr_of (expr_shape arg.now)))) }
+    ensures { OnOk result (tokens.new.items ≡ tokens.old.items
+        ++ written.spell_agg (written.Fold' fold 0 0 (expr_of (expr_shape arg.now)))) }
 {
     put(tokens, Token::Fold { fold, at: 0 })?;
     put_open(tokens)?;
@@ -28,7 +29,8 @@ fn put_fold(alloc: Global, tokens: &mut Vec<Token>, fold: Fold, arg: &Expr) -> R
 // Puts numbers with a comma between each two.
 #[tactic(auto, using(crate::proofs::Loops::number_steps))]
 fn put_numbers(tokens: &mut Vec<Token>, numbers: &[Num]) -> Result<(), Memory>
-    ensures { OnOk result (tokens.new.items ≡ tokens.old.items ++ written.spell_numbers (map num_of (map (λ n. n.value) numbers.now))) }
+    ensures { OnOk result (tokens.new.items ≡ tokens.old.items
+        ++ written.spell_numbers (map num_of (map (λ n. n.value) numbers.now))) }
 {
     let Some((first, rest)) = numbers.split_first() else {
         return Ok(());
@@ -48,7 +50,10 @@ fn put_wsum(
     arg: &Expr,
     weights: &[Num],
 ) -> Result<(), Memory>
-    ensures { OnOk result (tokens.new.items ≡ tokens.old.items ++ written.spell_agg (written.Wsum 0 0 (expr_of (expr_shape arg.now)) (map num_of (map (λ n. n.value) weights.now)))) }
+    ensures { OnOk result (tokens.new.items ≡ tokens.old.items
+        ++ written.spell_agg
+        (written.Wsum 0 0 (expr_of (expr_shape arg.now))
+        (map num_of (map (λ n. n.value) weights.now)))) }
 {
     put(tokens, Token::Wsum { at: 0 })?;
     put_open(tokens)?;
@@ -62,7 +67,8 @@ fn put_wsum(
 
 // Puts the number of rows.
 fn put_count(tokens: &mut Vec<Token>) -> Result<(), Memory>
-    ensures { OnOk result (tokens.new.items ≡ tokens.old.items ++ written.spell_agg (written.Count 0 0)) }
+    ensures { OnOk result (tokens.new.items ≡ tokens.old.items
+        ++ written.spell_agg (written.Count 0 0)) }
 {
     put(tokens, Token::Count { at: 0 })?;
     put_open(tokens)?;
@@ -70,7 +76,8 @@ fn put_count(tokens: &mut Vec<Token>) -> Result<(), Memory>
 }
 
 fn put_agg(alloc: Global, tokens: &mut Vec<Token>, agg: &Agg) -> Result<(), Memory>
-    ensures { OnOk result (tokens.new.items ≡ tokens.old.items ++ written.spell_agg (agg_of (agg_shape agg.now))) }
+    ensures { OnOk result (tokens.new.items ≡ tokens.old.items
+        ++ written.spell_agg (agg_of (agg_shape agg.now))) }
 {
     match agg {
         Agg::Count { .. } => put_count(tokens),
@@ -84,7 +91,8 @@ fn put_agg(alloc: Global, tokens: &mut Vec<Token>, agg: &Agg) -> Result<(), Memo
 
 // Puts AS and a name.
 fn put_as(alloc: Global, tokens: &mut Vec<Token>, name: &Name) -> Result<(), Memory>
-    ensures { OnOk result (tokens.new.items ≡ tokens.old.items ++ token.Plain plain.As ∷ token.Name (name_of name.now.text) ∷ []) }
+    ensures { OnOk result (tokens.new.items ≡ tokens.old.items ++ token.Plain plain.As
+        ∷ token.Name (name_of name.now.text) ∷ []) }
 {
     put_plain(tokens, Plain::As)?;
     put_name(alloc, tokens, name.text.as_slice())
@@ -102,7 +110,8 @@ fn is_bare(expr: &Expr, name: &Name) -> bool
 
 // Puts an item; a column under its own name stands alone.
 fn put_item(alloc: Global, tokens: &mut Vec<Token>, item: &Item) -> Result<(), Memory>
-    ensures { OnOk result (tokens.new.items ≡ tokens.old.items ++ written.spell_item (item_of (item_shape item.now))) }
+    ensures { OnOk result (tokens.new.items ≡ tokens.old.items
+        ++ written.spell_item (item_of (item_shape item.now))) }
 {
     if is_bare(&item.expr, &item.name) {
         return put_name(alloc, tokens, item.name.text.as_slice());
@@ -113,7 +122,8 @@ fn put_item(alloc: Global, tokens: &mut Vec<Token>, item: &Item) -> Result<(), M
 
 // Puts an aggregate under its name.
 fn put_agg_item(alloc: Global, tokens: &mut Vec<Token>, item: &AggItem) -> Result<(), Memory>
-    ensures { OnOk result (tokens.new.items ≡ tokens.old.items ++ written.spell_item (agg_item_of (agg_item_shape item.now))) }
+    ensures { OnOk result (tokens.new.items ≡ tokens.old.items
+        ++ written.spell_item (agg_item_of (agg_item_shape item.now))) }
 {
     put_agg(alloc, tokens, &item.agg)?;
     put_as(alloc, tokens, &item.name)
@@ -122,7 +132,8 @@ fn put_agg_item(alloc: Global, tokens: &mut Vec<Token>, item: &AggItem) -> Resul
 // Puts items with a comma between each two.
 #[tactic(auto, using(crate::proofs::Loops::item_steps))]
 fn put_items(alloc: Global, tokens: &mut Vec<Token>, items: &[Item]) -> Result<(), Memory>
-    ensures { OnOk result (tokens.new.items ≡ tokens.old.items ++ written.spell_items (map item_of (map item_shape items.now))) }
+    ensures { OnOk result (tokens.new.items ≡ tokens.old.items
+        ++ written.spell_items (map item_of (map item_shape items.now))) }
 {
     let Some((first, rest)) = items.split_first() else {
         return Ok(());
@@ -142,7 +153,8 @@ pub(crate) fn put_aggs(
     tokens: &mut Vec<Token>,
     aggs: &[AggItem],
 ) -> Result<(), Memory>
-    ensures { OnOk result (tokens.new.items ≡ tokens.old.items ++ written.spell_items (map agg_item_of (map agg_item_shape aggs.now))) }
+    ensures { OnOk result (tokens.new.items ≡ tokens.old.items
+        ++ written.spell_items (map agg_item_of (map agg_item_shape aggs.now))) }
 {
     let Some((first, rest)) = aggs.split_first() else {
         return Ok(());
@@ -157,7 +169,8 @@ pub(crate) fn put_aggs(
 
 /// Puts what a select picks.
 pub(crate) fn put_pick(alloc: Global, tokens: &mut Vec<Token>, pick: &Pick) -> Result<(), Memory>
-    ensures { OnOk result (tokens.new.items ≡ tokens.old.items ++ written.spell_pick (pick_of (pick_shape pick.now))) }
+    ensures { OnOk result (tokens.new.items ≡ tokens.old.items
+        ++ written.spell_pick (pick_of (pick_shape pick.now))) }
 {
     match pick {
         Pick::All => put(tokens, Token::Operator { op: Op::Mul, at: 0 }),

@@ -16,7 +16,8 @@ pub fn print_statement(
     statement: &Statement,
     into: &mut Vec<u8>,
 ) -> Result<(), Memory>
-    ensures text { OnOk result (into.new.items ≡ into.old.items ++ canonical_text (statement_shape statement.now)) }
+    ensures text { OnOk result (into.new.items ≡ into.old.items
+        ++ canonical_text (statement_shape statement.now)) }
     ensures unchanged { OnErr result (into.new.items ≡ into.old.items) }
 {
     let tokens = canonical_tokens(alloc, statement)?;

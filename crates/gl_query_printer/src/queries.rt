@@ -6,7 +6,7 @@ ghost use Rattle.gl_query_tokens.specs.declared.token.Token.TheVariants as token
 ghost use Rattle.gl_query_tokens.specs.declared.token.Plain.TheVariants as plain;
 ghost use Rattle.gl_query_reader.specs.Written as written;
 ghost use Rattle.gl_query_printer.specs.Brackets as brackets;
-ghost use Rattle.gl_query_printer.specs.Brackets.{opening, closing};
+ghost use Rattle.gl_query_printer.specs.Brackets.{opening};
 ghost use Rattle.gl_query_printer.specs.Canonical.{name_of, expr_of, agg_item_of, pick_of, window_of, grouping_of, query_of, canonical_tokens};
 
 use crate::expressions::put_expr;
@@ -39,7 +39,9 @@ fn is_term(query: &Query) -> bool
 
 // Puts what stands before the source of a select of plain items.
 fn begin_rows(alloc: Global, tokens: &mut Vec<Token>, pick: &Pick, bare: bool) -> Result<(), Memory>
-    ensures { OnOk result (tokens.new.items ≡ tokens.old.items ++ token.Plain plain.Select ∷ (written.spell_pick (pick_of (pick_shape pick.now)) ++ token.Plain plain.From ∷ opening bare)) }
+    ensures { OnOk result (tokens.new.items ≡ tokens.old.items ++ token.Plain plain.Select
+        ∷ (written.spell_pick (pick_of (pick_shape pick.now)) ++ token.Plain plain.From
+        ∷ opening bare)) }
 {
     put_plain(tokens, Plain::Select)?;
     put_pick(alloc, tokens, pick)?;
@@ -54,7 +56,9 @@ fn begin_total(
     aggs: &[AggItem],
     bare: bool,
 ) -> Result<(), Memory>
-    ensures { OnOk result (tokens.new.items ≡ tokens.old.items ++ token.Plain plain.Select ∷ (written.spell_items (map agg_item_of (map agg_item_shape aggs.now)) ++ token.Plain plain.From ∷ opening bare)) }
+    ensures { OnOk result (tokens.new.items ≡ tokens.old.items ++ token.Plain plain.Select
+        ∷ (written.spell_items (map agg_item_of (map agg_item_shape aggs.now))
+        ++ token.Plain plain.From ∷ opening bare)) }
 {
     put_plain(tokens, Plain::Select)?;
     put_aggs(alloc, tokens, aggs)?;
@@ -64,7 +68,8 @@ fn begin_total(
 
 // Puts WHERE and its condition, where there is one.
 fn put_filter(alloc: Global, tokens: &mut Vec<Token>, filter: &Option<Expr>) -> Result<(), Memory>
-    ensures { OnOk result (tokens.new.items ≡ tokens.old.items ++ written.spell_filter (option_map expr_of (option_map expr_shape filter.now))) }
+    ensures { OnOk result (tokens.new.items ≡ tokens.old.items
+        ++ written.spell_filter (option_map expr_of (option_map expr_shape filter.now))) }
 {
     match filter {
         None => Ok(()),
@@ -77,7 +82,8 @@ fn put_filter(alloc: Global, tokens: &mut Vec<Token>, filter: &Option<Expr>) -> 
 
 // Puts what stands before the source of an EACH.
 fn begin_each(alloc: Global, tokens: &mut Vec<Token>, var: &Name, bare: bool) -> Result<(), Memory>
-    ensures { OnOk result (tokens.new.items ≡ tokens.old.items ++ token.Each 0 ∷ token.Name (name_of var.now.text) ∷ token.Plain plain.In ∷ opening bare) }
+    ensures { OnOk result (tokens.new.items ≡ tokens.old.items ++ token.Each 0
+        ∷ token.Name (name_of var.now.text) ∷ token.Plain plain.In ∷ opening bare) }
 {
     put(tokens, Token::Each { at: 0 })?;
     put_name(alloc, tokens, var.text.as_slice())?;
@@ -87,7 +93,8 @@ fn begin_each(alloc: Global, tokens: &mut Vec<Token>, var: &Name, bare: bool) ->
 
 // Puts a window, and the bracket of the body.
 fn put_window(tokens: &mut Vec<Token>, size: Num, advance: Num) -> Result<(), Memory>
-    ensures { OnOk result (tokens.new.items ≡ tokens.old.items ++ written.spell_window (window_of size.value advance.value) ++ token.Open 0 ∷ []) }
+    ensures { OnOk result (tokens.new.items ≡ tokens.old.items
+        ++ written.spell_window (window_of size.value advance.value) ++ token.Open 0 ∷ []) }
 {
     put_plain(tokens, Plain::LeftSquare)?;
     put(tokens, Token::Size { at: 0 })?;
@@ -106,7 +113,8 @@ fn put_grouping(
     key: &Name,
     groups: Num,
 ) -> Result<(), Memory>
-    ensures { OnOk result (tokens.new.items ≡ tokens.old.items ++ written.spell_grouping (grouping_of key.now.text groups.value) ++ token.Open 0 ∷ []) }
+    ensures { OnOk result (tokens.new.items ≡ tokens.old.items
+        ++ written.spell_grouping (grouping_of key.now.text groups.value) ++ token.Open 0 ∷ []) }
 {
     put(tokens, Token::By { at: 0 })?;
     put_name(alloc, tokens, key.text.as_slice())?;
@@ -117,7 +125,8 @@ fn put_grouping(
 
 // Puts UNION or CONCAT, and the bracket of its right side.
 fn put_join(tokens: &mut Vec<Token>, join: Join, bare: bool) -> Result<(), Memory>
-    ensures { OnOk result (tokens.new.items ≡ tokens.old.items ++ token.Join join 0 ∷ opening bare) }
+    ensures { OnOk result (tokens.new.items ≡ tokens.old.items ++ token.Join join 0
+        ∷ opening bare) }
 {
     put(tokens, Token::Join { join, at: 0 })?;
     open_unless(tokens, bare)
@@ -126,7 +135,8 @@ fn put_join(tokens: &mut Vec<Token>, join: Join, bare: bool) -> Result<(), Memor
 // Puts a query.
 #[tactic(auto, using(crate::proofs::Operands::operands))]
 fn put_query(alloc: Global, tokens: &mut Vec<Token>, query: &Query) -> Result<(), Memory>
-    ensures { OnOk result (tokens.new.items ≡ tokens.old.items ++ written.spell_query (query_of (query_shape query.now))) }
+    ensures { OnOk result (tokens.new.items ≡ tokens.old.items
+        ++ written.spell_query (query_of (query_shape query.now))) }
 {
     match query {
         Query::Read(name) => put_name(alloc, tokens, name.text.as_slice()),
@@ -192,7 +202,8 @@ fn put_query(alloc: Global, tokens: &mut Vec<Token>, query: &Query) -> Result<()
 
 /// The tokens of a statement's canonical text.
 pub(crate) fn canonical_tokens(alloc: Global, statement: &Statement) -> Result<Vec<Token>, Memory>
-    ensures { IfOk result (λ tokens. tokens.items ≡ canonical_tokens (statement_shape statement.now)) }
+    ensures { IfOk result (λ tokens. tokens.items
+        ≡ canonical_tokens (statement_shape statement.now)) }
 {
     let mut tokens = Vec::new(alloc);
     put_query(alloc, &mut tokens, &statement.query)?;

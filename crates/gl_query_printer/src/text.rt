@@ -181,7 +181,9 @@ fn needs_space(behind: Behind, token: &Token) -> bool
 
 // Appends a token that stands behind another, and the space before it.
 fn put_behind(text: &mut Vec<u8>, behind: Behind, token: &Token) -> Result<(), Memory>
-    ensures { OnOk result (text.new.items ≡ text.old.items ++ spec.gap (spec.needs_space behind token.now) ++ spec.token_text token.now) }
+    ensures { OnOk result (text.new.items ≡ text.old.items
+        ++ spec.gap (spec.needs_space behind token.now)
+        ++ spec.token_text token.now) }
 {
     if needs_space(behind, token) {
         put(text, b" ")?;

@@ -38,7 +38,8 @@ pub(crate) fn put_open(tokens: &mut Vec<Token>) -> Result<(), Memory>
 
 /// Puts a name.
 pub(crate) fn put_name(alloc: Global, tokens: &mut Vec<Token>, name: &[u8]) -> Result<(), Memory>
-    ensures { OnOk result (tokens.new.items ≡ tokens.old.items ++ token.Name (name_of name.now) ∷ []) }
+    ensures { OnOk result (tokens.new.items ≡ tokens.old.items ++ token.Name (name_of name.now)
+        ∷ []) }
 {
     let text = NameText::from_vec(Vec::from_slice(alloc, name)?);
     put(tokens, Token::Name(Name { text, at: 0 }))
@@ -46,7 +47,8 @@ pub(crate) fn put_name(alloc: Global, tokens: &mut Vec<Token>, name: &[u8]) -> R
 
 /// Puts a number.
 pub(crate) fn put_number(tokens: &mut Vec<Token>, value: u128) -> Result<(), Memory>
-    ensures { OnOk result (tokens.new.items ≡ tokens.old.items ++ token.Number (num_of value) ∷ []) }
+    ensures { OnOk result (tokens.new.items ≡ tokens.old.items ++ token.Number (num_of value)
+        ∷ []) }
 {
     put(tokens, Token::Number(Num { value, at: 0 }))
 }
@@ -66,7 +68,8 @@ fn word_of(alloc: Global, word: &[u8], number: u8) -> Result<Vec<u8>, Memory>
 /// Puts the word that names a kind.
 #[tactic(auto, unfolding(gl_schema::specs::SchemaText::kind_text))]
 pub(crate) fn put_kind(alloc: Global, tokens: &mut Vec<Token>, kind: Kind) -> Result<(), Memory>
-    ensures { OnOk result (tokens.new.items ≡ tokens.old.items ++ token.Name (name_of (kinds.kind_text kind)) ∷ []) }
+    ensures { OnOk result (tokens.new.items ≡ tokens.old.items
+        ++ token.Name (name_of (kinds.kind_text kind)) ∷ []) }
 {
     let word = match kind {
         Kind::Unsigned(width) => word_of(alloc, b"u", width)?,

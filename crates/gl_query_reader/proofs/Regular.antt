@@ -19,7 +19,7 @@ use Rattle.gl_query_tokens.specs.declared.token.Lexeme.{Lexeme}
 use Rattle.gl_query_tokens.specs.Tokens.{tokens_of}
 use Rattle.gl_query_tokens.proofs.Sound.{IsSound, text_sound}
 use Rattle.gl_query_reader.specs.declared.written.Grouping.{Grouping}
-use Rattle.gl_query_reader.specs.Grammar.{HasStatement, IsRegular, StatementsAreRegular, bare_tokens}
+use Rattle.gl_query_reader.specs.Grammar.{IsRegular, StatementsAreRegular}
 use Rattle.gl_query_reader.specs.Limits.{keeps_limits, none_counted}
 use Rattle.gl_query_reader.specs.Meaning.{expr_meaning, statement_meaning}
 use Rattle.gl_query_reader.specs.Written as written

@@ -1,5 +1,5 @@
 -- What the reader's trees and states stand for, without where they lie in memory.
-use Rattle.std.specs.Prelude.{ℕ, List, [], ◌∷◌, map, reverse, Option, Some, None, option_map}
+use Rattle.std.specs.Prelude.{List, map, reverse, Option, option_map}
 use Rattle.gl_query_reader.specs.declared.written.WrittenExpr as expr
 use Rattle.gl_query_reader.specs.declared.written.WrittenAgg.{WrittenAgg}
 use Rattle.gl_query_reader.specs.declared.written.WrittenAgg.TheVariants as agg

@@ -3,7 +3,7 @@
 ghost use Rattle.std.specs.Prelude.{◌≡◌, ◌∷◌, IfOk};
 ghost use Rattle.gl_query_reader.specs.Written.{looseness, left_looseness};
 ghost use Rattle.gl_query_reader.specs.Machine as machine;
-ghost use Rattle.gl_query_reader.specs.Trees.{expr_of, frame_of, frames_of, control_of, next_of};
+ghost use Rattle.gl_query_reader.specs.Trees.{expr_of, frame_of, frames_of, next_of};
 
 use crate::following::after_expr;
 use crate::parts::{cloned, cloned_text, give_up, goes, goes_in, name_of, refuse};
@@ -111,7 +111,8 @@ pub fn reduced(
     expr: WrittenExpr,
     most: u8,
 ) -> Result<Around, AllocError>
-    ensures { IfOk result (λ r. machine.reduced most (frames_of frames.items) (expr_of expr) ≡ (frames_of r.frames.items, expr_of r.expr)) }
+    ensures { IfOk result (λ r. machine.reduced most (frames_of frames.items) (expr_of expr)
+        ≡ (frames_of r.frames.items, expr_of r.expr)) }
 {
     let mut frames = frames;
     let mut expr = expr;
@@ -127,7 +128,8 @@ pub fn reduced(
 // An expression in these frames and one more.
 #[tactic(auto, using(crate::proofs::Stack::reductions))]
 fn stopped(mut frames: Vec<Frame>, frame: Frame, expr: WrittenExpr) -> Result<Around, AllocError>
-    ensures { IfOk result (λ r. (frames_of r.frames.items ≡ frame_of frame ∷ frames_of frames.items) × (expr_of r.expr ≡ expr_of expr)) }
+    ensures { IfOk result (λ r. (frames_of r.frames.items ≡ frame_of frame ∷ frames_of frames.items)
+        × (expr_of r.expr ≡ expr_of expr)) }
 {
     match frames.push(frame) {
         Ok(()) => Ok(Around { frames, expr }),
@@ -141,7 +143,8 @@ fn stopped(mut frames: Vec<Frame>, frame: Frame, expr: WrittenExpr) -> Result<Ar
 
 // An operator behind an expression.
 fn with_operator(op: Op, at: u64, around: Around) -> Result<Option<State>, AllocError>
-    ensures { IfOk result (λ o. next_of o ≡ machine.with_operator op at (frames_of around.frames.items, expr_of around.expr)) }
+    ensures { IfOk result (λ o. next_of o
+        ≡ machine.with_operator op at (frames_of around.frames.items, expr_of around.expr)) }
 {
     let Around { frames, expr } = around;
     if looseness(op) >= room(&frames) {
@@ -174,7 +177,8 @@ pub fn want_operand(
     frames: Vec<Frame>,
     token: &Token,
 ) -> Result<Option<State>, AllocError>
-    ensures { IfOk result (λ o. next_of o ≡ machine.want_operand (frames_of frames.items) token.now) }
+    ensures { IfOk result (λ o. next_of o
+        ≡ machine.want_operand (frames_of frames.items) token.now) }
 {
     match token {
         Token::Name(name) => have(WrittenExpr::Column(cloned(alloc, name)?), frames),
@@ -201,7 +205,8 @@ pub fn want_operand(
 
 // Behind an expression.
 fn have(last: WrittenExpr, frames: Vec<Frame>) -> Result<Option<State>, AllocError>
-    ensures { IfOk result (λ o. next_of o ≡ machine.goes (machine.HaveExpr (expr_of last)) (frames_of frames.items)) }
+    ensures { IfOk result (λ o. next_of o
+        ≡ machine.goes (machine.HaveExpr (expr_of last)) (frames_of frames.items)) }
 {
     goes(Control::Item(ItemControl::HaveExpr { last }), frames)
 }
@@ -212,7 +217,8 @@ pub fn want_cast_open(
     at: u64,
     token: &Token,
 ) -> Result<Option<State>, AllocError>
-    ensures { IfOk result (λ o. next_of o ≡ machine.want_cast_open (frames_of frames.items) at token.now) }
+    ensures { IfOk result (λ o. next_of o
+        ≡ machine.want_cast_open (frames_of frames.items) at token.now) }
 {
     match open_in(token) {
         Some(open) => goes_in(
@@ -233,7 +239,8 @@ pub fn want_kind(
     inner: WrittenExpr,
     token: &Token,
 ) -> Result<Option<State>, AllocError>
-    ensures { IfOk result (λ o. next_of o ≡ machine.want_kind (frames_of frames.items) at «open» (expr_of inner) token.now) }
+    ensures { IfOk result (λ o. next_of o
+        ≡ machine.want_kind (frames_of frames.items) at «open» (expr_of inner) token.now) }
 {
     let Ok(found) = name_of(alloc, token) else {
         return give_up((frames, inner));
@@ -267,7 +274,9 @@ pub fn want_cast_close(
     kind: Kind,
     token: &Token,
 ) -> Result<Option<State>, AllocError>
-    ensures { IfOk result (λ o. next_of o ≡ machine.want_cast_close (frames_of frames.items) at «open» (expr_of inner) word kind token.now) }
+    ensures { IfOk result (λ o. next_of o
+        ≡ machine.want_cast_close (frames_of frames.items) at «open» (expr_of inner) word kind
+        token.now) }
 {
     if !is_plain(token, Plain::Close) {
         return refuse((frames, inner, word));
@@ -298,7 +307,8 @@ fn have_operator(
     last: WrittenExpr,
     token: &Token,
 ) -> Result<Option<State>, AllocError>
-    ensures { IfOk result (λ o. next_of o ≡ machine.have_operator (frames_of frames.items) (expr_of last) token.now) }
+    ensures { IfOk result (λ o. next_of o
+        ≡ machine.have_operator (frames_of frames.items) (expr_of last) token.now) }
 {
     match token {
         Token::Operator { op, at } => with_operator(
@@ -317,7 +327,8 @@ pub fn have_expr(
     last: WrittenExpr,
     token: &Token,
 ) -> Result<Option<State>, AllocError>
-    ensures { IfOk result (λ o. next_of o ≡ machine.have_expr (frames_of frames.items) (expr_of last) token.now) }
+    ensures { IfOk result (λ o. next_of o
+        ≡ machine.have_expr (frames_of frames.items) (expr_of last) token.now) }
 {
     if is_operator(token) {
         return have_operator(alloc, frames, last, token);

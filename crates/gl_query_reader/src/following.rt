@@ -37,7 +37,8 @@ fn after_item(
     expr: WrittenExpr,
     token: &Token,
 ) -> Result<Option<State>, AllocError>
-    ensures { IfOk result (λ o. next_of o ≡ machine.after_item (frames_of frames.items) (items_of items) (expr_of expr) token.now) }
+    ensures { IfOk result (λ o. next_of o
+        ≡ machine.after_item (frames_of frames.items) (items_of items) (expr_of expr) token.now) }
 {
     if is_plain(token, Plain::As) {
         return goes(
@@ -66,7 +67,9 @@ fn after_filter(
     expr: WrittenExpr,
     token: &Token,
 ) -> Result<Option<State>, AllocError>
-    ensures { IfOk result (λ o. next_of o ≡ machine.after_filter (frames_of frames.items) (pick_of pick) (query_of source) window (expr_of expr) token.now) }
+    ensures { IfOk result (λ o. next_of o
+        ≡ machine.after_filter (frames_of frames.items) (pick_of pick) (query_of source) window
+        (expr_of expr) token.now) }
 {
     if is_plain(token, Plain::Group) {
         return goes(
@@ -105,7 +108,8 @@ fn after_brackets(
     expr: WrittenExpr,
     token: &Token,
 ) -> Result<Option<State>, AllocError>
-    ensures { IfOk result (λ o. next_of o ≡ machine.after_brackets (frames_of frames.items) at (expr_of expr) token.now) }
+    ensures { IfOk result (λ o. next_of o
+        ≡ machine.after_brackets (frames_of frames.items) at (expr_of expr) token.now) }
 {
     if !is_plain(token, Plain::Close) {
         return refuse((frames, expr));
@@ -127,7 +131,8 @@ fn after_cast(
     expr: WrittenExpr,
     token: &Token,
 ) -> Result<Option<State>, AllocError>
-    ensures { IfOk result (λ o. next_of o ≡ machine.after_cast (frames_of frames.items) at «open» (expr_of expr) token.now) }
+    ensures { IfOk result (λ o. next_of o
+        ≡ machine.after_cast (frames_of frames.items) at «open» (expr_of expr) token.now) }
 {
     let next = Control::Item(ItemControl::WantKind {
         at,
@@ -147,7 +152,9 @@ fn after_fold(
     expr: WrittenExpr,
     token: &Token,
 ) -> Result<Option<State>, AllocError>
-    ensures { IfOk result (λ o. next_of o ≡ machine.after_fold (frames_of frames.items) (items_of items) fold at «open» (expr_of expr) token.now) }
+    ensures { IfOk result (λ o. next_of o
+        ≡ machine.after_fold (frames_of frames.items) (items_of items) fold at «open»
+        (expr_of expr) token.now) }
 {
     let agg = WrittenAgg::Fold {
         fold,
@@ -168,7 +175,9 @@ fn after_wsum(
     expr: WrittenExpr,
     token: &Token,
 ) -> Result<Option<State>, AllocError>
-    ensures { IfOk result (λ o. next_of o ≡ machine.after_wsum (frames_of frames.items) (items_of items) at «open» (expr_of expr) token.now) }
+    ensures { IfOk result (λ o. next_of o
+        ≡ machine.after_wsum (frames_of frames.items) (items_of items) at «open» (expr_of expr)
+        token.now) }
 {
     let next = Control::Item(ItemControl::WantWeightsOpen {
         items,
@@ -182,7 +191,8 @@ fn after_wsum(
 /// What ends an expression, by what it stands in.
 #[tactic(auto, using(crate::proofs::Stack::reductions))]
 pub fn after_expr(alloc: Global, around: Around, token: &Token) -> Result<Option<State>, AllocError>
-    ensures { IfOk result (λ o. next_of o ≡ machine.after_expr (frames_of around.frames.items) (expr_of around.expr) token.now) }
+    ensures { IfOk result (λ o. next_of o
+        ≡ machine.after_expr (frames_of around.frames.items) (expr_of around.expr) token.now) }
 {
     let Around { mut frames, expr } = around;
     match frames.pop() {
@@ -198,7 +208,8 @@ fn after_expr_in(
     expr: WrittenExpr,
     token: &Token,
 ) -> Result<Option<State>, AllocError>
-    ensures { IfOk result (λ o. next_of o ≡ machine.after_expr (frame_of frame ∷ frames_of frames.items) (expr_of expr) token.now) }
+    ensures { IfOk result (λ o. next_of o
+        ≡ machine.after_expr (frame_of frame ∷ frames_of frames.items) (expr_of expr) token.now) }
 {
     match frame {
         Frame::InBrackets { at } => after_brackets(alloc, frames, at, expr, token),

@@ -2,7 +2,7 @@
 
 ghost use Rattle.std.specs.Prelude.{◌≡◌, ◌∷◌, ◌++◌, [], IfOk, OnOk};
 ghost use Rattle.gl_query_reader.specs.Machine as machine;
-ghost use Rattle.gl_query_reader.specs.Trees.{expr_of, agg_of, item_of, items_of, unnamed_of, frames_of, next_of};
+ghost use Rattle.gl_query_reader.specs.Trees.{expr_of, item_of, items_of, unnamed_of, frames_of, next_of};
 
 use crate::expressions::want_operand;
 use crate::parts::{give_up, goes, goes_in, name_of, refuse};
@@ -20,7 +20,8 @@ fn want_all(
     at: u64,
     frames: Vec<Frame>,
 ) -> Result<Option<State>, AllocError>
-    ensures { IfOk result (λ o. next_of o ≡ machine.want_all op (items_of items) at (frames_of frames.items)) }
+    ensures { IfOk result (λ o. next_of o
+        ≡ machine.want_all op (items_of items) at (frames_of frames.items)) }
 {
     if matches!(op, Op::Mul) && items.len() == 0 {
         goes(Control::Item(ItemControl::WantFrom { at }), frames)
@@ -45,7 +46,8 @@ fn want_agg(
     frames: Vec<Frame>,
     token: &Token,
 ) -> Result<Option<State>, AllocError>
-    ensures { IfOk result (λ o. next_of o ≡ machine.want_agg (items_of items) (frames_of frames.items) token.now) }
+    ensures { IfOk result (λ o. next_of o
+        ≡ machine.want_agg (items_of items) (frames_of frames.items) token.now) }
 {
     match token {
         Token::Operator { op, at } => want_all(items, *op, *at, frames),
@@ -76,7 +78,8 @@ pub fn want_item(
     frames: Vec<Frame>,
     token: &Token,
 ) -> Result<Option<State>, AllocError>
-    ensures { IfOk result (λ o. next_of o ≡ machine.want_item (items_of items) (frames_of frames.items) token.now) }
+    ensures { IfOk result (λ o. next_of o
+        ≡ machine.want_item (items_of items) (frames_of frames.items) token.now) }
 {
     if begins_agg(token) {
         want_agg(items, frames, token)
@@ -92,7 +95,9 @@ fn want_operand_of_item(
     mut frames: Vec<Frame>,
     token: &Token,
 ) -> Result<Option<State>, AllocError>
-    ensures { IfOk result (λ o. next_of o ≡ machine.want_operand (machine.InItem (items_of items) ∷ frames_of frames.items) token.now) }
+    ensures { IfOk result (λ o. next_of o
+        ≡ machine.want_operand (machine.InItem (items_of items)
+        ∷ frames_of frames.items) token.now) }
 {
     frames.push(Frame::InItem { items })?;
     want_operand(alloc, frames, token)
@@ -105,7 +110,8 @@ pub fn want_count_open(
     at: u64,
     token: &Token,
 ) -> Result<Option<State>, AllocError>
-    ensures { IfOk result (λ o. next_of o ≡ machine.want_count_open (frames_of frames.items) (items_of items) at token.now) }
+    ensures { IfOk result (λ o. next_of o
+        ≡ machine.want_count_open (frames_of frames.items) (items_of items) at token.now) }
 {
     match open_in(token) {
         Some(open) => goes(
@@ -124,7 +130,8 @@ pub fn want_fold_open(
     at: u64,
     token: &Token,
 ) -> Result<Option<State>, AllocError>
-    ensures { IfOk result (λ o. next_of o ≡ machine.want_fold_open (frames_of frames.items) (items_of items) fold at token.now) }
+    ensures { IfOk result (λ o. next_of o
+        ≡ machine.want_fold_open (frames_of frames.items) (items_of items) fold at token.now) }
 {
     match open_in(token) {
         Some(open) => goes_in(
@@ -148,7 +155,8 @@ pub fn want_wsum_open(
     at: u64,
     token: &Token,
 ) -> Result<Option<State>, AllocError>
-    ensures { IfOk result (λ o. next_of o ≡ machine.want_wsum_open (frames_of frames.items) (items_of items) at token.now) }
+    ensures { IfOk result (λ o. next_of o
+        ≡ machine.want_wsum_open (frames_of frames.items) (items_of items) at token.now) }
 {
     match open_in(token) {
         Some(open) => goes_in(
@@ -179,7 +187,9 @@ pub fn want_weight(
     weights: Nums,
     token: &Token,
 ) -> Result<Option<State>, AllocError>
-    ensures { IfOk result (λ o. next_of o ≡ machine.want_weight (frames_of frames.items) (items_of items) at «open» (expr_of arg) weights token.now) }
+    ensures { IfOk result (λ o. next_of o
+        ≡ machine.want_weight (frames_of frames.items) (items_of items) at «open» (expr_of arg)
+        weights token.now) }
 {
     let Some(number) = number_in(token) else {
         return refuse((frames, items, arg, weights));
@@ -210,7 +220,9 @@ pub fn have_weight(
     weights: Nums,
     token: &Token,
 ) -> Result<Option<State>, AllocError>
-    ensures { IfOk result (λ o. next_of o ≡ machine.have_weight (frames_of frames.items) (items_of items) at «open» (expr_of arg) weights token.now) }
+    ensures { IfOk result (λ o. next_of o
+        ≡ machine.have_weight (frames_of frames.items) (items_of items) at «open» (expr_of arg)
+        weights token.now) }
 {
     if is_plain(token, Plain::Comma) {
         return goes(
@@ -267,7 +279,9 @@ pub fn want_item_name(
     unnamed: Unnamed,
     token: &Token,
 ) -> Result<Option<State>, AllocError>
-    ensures { IfOk result (λ o. next_of o ≡ machine.want_item_name (frames_of frames.items) (items_of items) (unnamed_of unnamed) token.now) }
+    ensures { IfOk result (λ o. next_of o
+        ≡ machine.want_item_name (frames_of frames.items) (items_of items) (unnamed_of unnamed)
+        token.now) }
 {
     match name_of(alloc, token) {
         Ok(Some(name)) => have_named(frames, items, under_name(unnamed, name)),
@@ -282,7 +296,9 @@ fn have_named(
     mut items: WrittenItems,
     item: WrittenItem,
 ) -> Result<Option<State>, AllocError>
-    ensures { IfOk result (λ o. next_of o ≡ machine.goes (machine.HaveItem (items_of items ++ item_of item ∷ [])) (frames_of frames.items)) }
+    ensures { IfOk result (λ o. next_of o
+        ≡ machine.goes (machine.HaveItem (items_of items ++ item_of item ∷ []))
+        (frames_of frames.items)) }
 {
     add_item(&mut items, item)?;
     goes(Control::Item(ItemControl::HaveItem { items }), frames)
@@ -294,7 +310,8 @@ pub fn have_item(
     items: WrittenItems,
     token: &Token,
 ) -> Result<Option<State>, AllocError>
-    ensures { IfOk result (λ o. next_of o ≡ machine.have_item (frames_of frames.items) (items_of items) token.now) }
+    ensures { IfOk result (λ o. next_of o
+        ≡ machine.have_item (frames_of frames.items) (items_of items) token.now) }
 {
     if is_plain(token, Plain::Comma) {
         return goes(Control::Item(ItemControl::WantItem { items }), frames);

@@ -2,7 +2,7 @@
 
 ghost use Rattle.std.specs.Prelude.{◌≡◌, ◌++◌, ◌∷◌, [], IfOk, OnOk, map, option_map};
 ghost use Rattle.gl_query_reader.specs.Meaning as meaning;
-ghost use Rattle.gl_query.specs.Trees.{expr_tree, agg_tree, item_tree, agg_item_tree, pick_tree, filter_tree, query_tree, statement_tree, Items, Rows, Total};
+ghost use Rattle.gl_query.specs.Trees.{expr_tree, agg_tree, item_tree, agg_item_tree, filter_tree, query_tree, statement_tree, Items, Rows, Total};
 ghost use Rattle.gl_query_reader.specs.Trees.{expr_of, agg_of, item_of, items_of, pick_of, filter_of, query_of, statement_of};
 
 use crate::mixed::is_total;
@@ -95,7 +95,8 @@ fn agg_meaning(alloc: Global, written: WrittenAgg) -> Result<Agg, AllocError>
 // Adds what an item means, where it is no aggregate; a column alone has its own name.
 #[tactic(auto, using(crate::proofs::ItemLists::item_steps))]
 fn add_plain(alloc: Global, items: &mut Vec<Item>, item: WrittenItem) -> Result<(), AllocError>
-    ensures { OnOk result (map item_tree items.new.items ≡ map item_tree items.old.items ++ meaning.plain_items (item_of item ∷ [])) }
+    ensures { OnOk result (map item_tree items.new.items ≡ map item_tree items.old.items
+        ++ meaning.plain_items (item_of item ∷ [])) }
 {
     match item {
         WrittenItem::Bare(name) => {
@@ -119,7 +120,8 @@ fn add_plain(alloc: Global, items: &mut Vec<Item>, item: WrittenItem) -> Result<
 // Adds what an item means, where it is an aggregate.
 #[tactic(auto, using(crate::proofs::ItemLists::item_steps))]
 fn add_agg(alloc: Global, aggs: &mut Vec<AggItem>, item: WrittenItem) -> Result<(), AllocError>
-    ensures { OnOk result (map agg_item_tree aggs.new.items ≡ map agg_item_tree aggs.old.items ++ meaning.agg_items (item_of item ∷ [])) }
+    ensures { OnOk result (map agg_item_tree aggs.new.items ≡ map agg_item_tree aggs.old.items
+        ++ meaning.agg_items (item_of item ∷ [])) }
 {
     match item {
         WrittenItem::Total { agg, name } => {
@@ -177,7 +179,8 @@ fn it(alloc: Global, at: u64) -> Result<Name, AllocError>
 
 // Aggregates are over the rows that the filter keeps.
 fn filtered(alloc: Global, filter: Option<Expr>, source: Query) -> Result<Query, AllocError>
-    ensures { IfOk result (λ q. query_tree q ≡ meaning.filtered (filter_tree filter) (query_tree source)) }
+    ensures { IfOk result (λ q. query_tree q
+        ≡ meaning.filtered (filter_tree filter) (query_tree source)) }
 {
     let Some(filter) = filter else {
         return Ok(source);
@@ -191,7 +194,8 @@ fn filtered(alloc: Global, filter: Option<Expr>, source: Query) -> Result<Query,
 }
 
 fn totals(alloc: Global, items: WrittenItems, source: Query) -> Result<Query, AllocError>
-    ensures { IfOk result (λ q. query_tree q ≡ Total (meaning.agg_items (items_of items)) (query_tree source)) }
+    ensures { IfOk result (λ q. query_tree q
+        ≡ Total (meaning.agg_items (items_of items)) (query_tree source)) }
 {
     let aggs = agg_items(alloc, items)?;
     let source = Box::new(alloc, source)?;
@@ -204,7 +208,9 @@ fn rows(
     filter: Option<Expr>,
     source: Query,
 ) -> Result<Query, AllocError>
-    ensures { IfOk result (λ q. query_tree q ≡ Rows (Items (meaning.plain_items (items_of items))) (filter_tree filter) (query_tree source)) }
+    ensures { IfOk result (λ q. query_tree q
+        ≡ Rows (Items (meaning.plain_items (items_of items))) (filter_tree filter)
+        (query_tree source)) }
 {
     let pick = Pick::Items(plain_items(alloc, items)?);
     let source = Box::new(alloc, source)?;
@@ -230,7 +236,8 @@ fn by_pick(
     filter: Option<Expr>,
     source: Query,
 ) -> Result<Query, AllocError>
-    ensures { IfOk result (λ q. query_tree q ≡ meaning.by_pick (pick_of pick) (filter_tree filter) (query_tree source)) }
+    ensures { IfOk result (λ q. query_tree q
+        ≡ meaning.by_pick (pick_of pick) (filter_tree filter) (query_tree source)) }
 {
     match pick {
         WrittenPick::All { at: _ } => {
@@ -268,7 +275,8 @@ fn grouped(
     grouping: Option<Grouping>,
     source: Query,
 ) -> Result<Query, AllocError>
-    ensures { IfOk result (λ q. query_tree q ≡ meaning.grouped (pick_of pick) (filter_tree filter) grouping (query_tree source)) }
+    ensures { IfOk result (λ q. query_tree q
+        ≡ meaning.grouped (pick_of pick) (filter_tree filter) grouping (query_tree source)) }
 {
     let Some(Grouping { at, key, groups }) = grouping else {
         return by_pick(alloc, pick, filter, source);
@@ -295,7 +303,9 @@ fn select_meaning(
     grouping: Option<Grouping>,
     source: Query,
 ) -> Result<Query, AllocError>
-    ensures { IfOk result (λ q. query_tree q ≡ meaning.select_meaning (pick_of pick) window (filter_tree filter) grouping (query_tree source)) }
+    ensures { IfOk result (λ q. query_tree q
+        ≡ meaning.select_meaning (pick_of pick) window (filter_tree filter) grouping
+        (query_tree source)) }
 {
     let Some(Window { at, size, advance }) = window else {
         return grouped(alloc, pick, filter, grouping, source);
@@ -314,7 +324,8 @@ fn select_meaning(
 }
 
 fn filter_meaning(alloc: Global, filter: Option<WrittenExpr>) -> Result<Option<Expr>, AllocError>
-    ensures { IfOk result (λ o. filter_tree o ≡ option_map meaning.expr_meaning (filter_of filter)) }
+    ensures { IfOk result (λ o. filter_tree o
+        ≡ option_map meaning.expr_meaning (filter_of filter)) }
 {
     match filter {
         None => Ok(None),
@@ -329,7 +340,8 @@ fn join_meaning(
     right: Query,
     at: u64,
 ) -> Result<Query, AllocError>
-    ensures { IfOk result (λ q. query_tree q ≡ meaning.join_meaning join (query_tree left) (query_tree right) at) }
+    ensures { IfOk result (λ q. query_tree q
+        ≡ meaning.join_meaning join (query_tree left) (query_tree right) at) }
 {
     let left = Box::new(alloc, left)?;
     let right = Box::new(alloc, right)?;
@@ -410,7 +422,8 @@ fn query_meaning(alloc: Global, written: WrittenQuery) -> Result<Query, AllocErr
 
 /// What a statement that is written means.
 pub fn statement_meaning(alloc: Global, written: WrittenStatement) -> Result<Statement, AllocError>
-    ensures { IfOk result (λ s. statement_tree s ≡ meaning.statement_meaning (statement_of written)) }
+    ensures { IfOk result (λ s. statement_tree s
+        ≡ meaning.statement_meaning (statement_of written)) }
 {
     let WrittenStatement {
         query,

@@ -1,6 +1,6 @@
 //! From tokens to a statement as it is written.
 
-ghost use Rattle.std.specs.Prelude.{◌≡◌, ◌<◌, ◌^◌, IfOk, option_map, length};
+ghost use Rattle.std.specs.Prelude.{◌≡◌, ◌<◌, IfOk, option_map};
 ghost use Rattle.gl_query_reader.specs.Machine as machine;
 ghost use Rattle.gl_query_reader.specs.Limits.{none_counted, is_past};
 ghost use Rattle.gl_query_reader.specs.Trees.{state_of, item_control_of, source_control_of, query_control_of, statement_of, frames_of, next_of};
@@ -50,7 +50,8 @@ fn step_item(
     frames: Vec<Frame>,
     token: &Token,
 ) -> Result<Option<State>, AllocError>
-    ensures { IfOk result (λ o. next_of o ≡ machine.step_at (item_control_of control) (frames_of frames.items) token.now) }
+    ensures { IfOk result (λ o. next_of o
+        ≡ machine.step_at (item_control_of control) (frames_of frames.items) token.now) }
 {
     match control {
         ItemControl::WantItem { items } => want_item(alloc, items, frames, token),
@@ -146,7 +147,8 @@ fn step_source(
     frames: Vec<Frame>,
     token: &Token,
 ) -> Result<Option<State>, AllocError>
-    ensures { IfOk result (λ o. next_of o ≡ machine.step_at (source_control_of control) (frames_of frames.items) token.now) }
+    ensures { IfOk result (λ o. next_of o
+        ≡ machine.step_at (source_control_of control) (frames_of frames.items) token.now) }
 {
     match control {
         SourceControl::WantSource { head } => want_source(alloc, frames, head, token),
@@ -226,7 +228,8 @@ fn step_query(
     frames: Vec<Frame>,
     token: &Token,
 ) -> Result<Option<State>, AllocError>
-    ensures { IfOk result (λ o. next_of o ≡ machine.step_at (query_control_of control) (frames_of frames.items) token.now) }
+    ensures { IfOk result (λ o. next_of o
+        ≡ machine.step_at (query_control_of control) (frames_of frames.items) token.now) }
 {
     match control {
         QueryControl::WantTerm => want_term(alloc, frames, token),
@@ -293,7 +296,9 @@ fn next_state(
     lexeme: &Lexeme,
     counts: Counts,
 ) -> Result<State, ReadFault>
-    ensures { StepGives lexeme.now.at (machine.step (state_of state) lexeme.now.token) (is_past counts) result }
+    ensures { StepGives lexeme.now.at (machine.step (state_of state) lexeme.now.token)
+        (is_past counts)
+        result }
 {
     match state.step(alloc, &lexeme.token) {
         Ok(Some(next)) => {

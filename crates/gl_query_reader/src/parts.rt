@@ -31,7 +31,8 @@ pub fn give_up<T: Drop>(parts: T) -> Result<Option<State>, AllocError>
 
 /// The state of a place in these frames.
 pub fn goes(control: Control, frames: Vec<Frame>) -> Result<Option<State>, AllocError>
-    ensures { IfOk result (λ o. next_of o ≡ machine.goes (control_of control) (frames_of frames.items)) }
+    ensures { IfOk result (λ o. next_of o
+        ≡ machine.goes (control_of control) (frames_of frames.items)) }
 {
     Ok(Some(State { control, frames }))
 }
@@ -43,7 +44,8 @@ pub fn expect(
     next: Control,
     frames: Vec<Frame>,
 ) -> Result<Option<State>, AllocError>
-    ensures { IfOk result (λ o. next_of o ≡ expected wanted (control_of next) (frames_of frames.items) token.now) }
+    ensures { IfOk result (λ o. next_of o
+        ≡ expected wanted (control_of next) (frames_of frames.items) token.now) }
 {
     if is_plain(token, wanted) {
         goes(next, frames)
@@ -59,7 +61,8 @@ pub fn goes_in(
     mut frames: Vec<Frame>,
     frame: Frame,
 ) -> Result<Option<State>, AllocError>
-    ensures { IfOk result (λ o. next_of o ≡ machine.goes (control_of control) (frame_of frame ∷ frames_of frames.items)) }
+    ensures { IfOk result (λ o. next_of o
+        ≡ machine.goes (control_of control) (frame_of frame ∷ frames_of frames.items)) }
 {
     match frames.push(frame) {
         Ok(()) => Ok(Some(State { control, frames })),

@@ -53,7 +53,8 @@ fn join_with(alloc: Global, frame: Frame, term: WrittenQuery) -> Result<WrittenQ
 // A term joins what stands before it.
 #[tactic(auto, using(crate::proofs::Stack::reductions))]
 fn joined(alloc: Global, mut frames: Vec<Frame>, term: WrittenQuery) -> Result<Within, AllocError>
-    ensures { IfOk result (λ r. machine.joined (frames_of frames.items) (query_of term) ≡ (frames_of r.frames.items, query_of r.query)) }
+    ensures { IfOk result (λ r. machine.joined (frames_of frames.items) (query_of term)
+        ≡ (frames_of r.frames.items, query_of r.query)) }
 {
     match frames.pop() {
         Some(frame) => joined_in(alloc, frame, frames, term),
@@ -71,7 +72,9 @@ fn joined_in(
     mut frames: Vec<Frame>,
     term: WrittenQuery,
 ) -> Result<Within, AllocError>
-    ensures { IfOk result (λ r. machine.joined (frame_of frame ∷ frames_of frames.items) (query_of term) ≡ (frames_of r.frames.items, query_of r.query)) }
+    ensures { IfOk result (λ r. machine.joined (frame_of frame
+        ∷ frames_of frames.items) (query_of term)
+        ≡ (frames_of r.frames.items, query_of r.query)) }
 {
     if is_join(&frame) {
         let query = join_with(alloc, frame, term)?;
@@ -96,7 +99,8 @@ fn body_of(
     open: u64,
     body: WrittenQuery,
 ) -> Result<WrittenQuery, AllocError>
-    ensures { IfOk result (λ q. query_of q ≡ machine.body_of (body_head_of head) «open» (query_of body)) }
+    ensures { IfOk result (λ q. query_of q
+        ≡ machine.body_of (body_head_of head) «open» (query_of body)) }
 {
     match head {
         BodyHead::Windows {
@@ -168,7 +172,8 @@ fn close_query(
     mut frames: Vec<Frame>,
     query: WrittenQuery,
 ) -> Result<Option<State>, AllocError>
-    ensures { IfOk result (λ o. next_of o ≡ machine.close_query (frames_of frames.items) (query_of query)) }
+    ensures { IfOk result (λ o. next_of o
+        ≡ machine.close_query (frames_of frames.items) (query_of query)) }
 {
     match frames.pop() {
         Some(frame) => close_query_in(alloc, frame, frames, query),
@@ -182,7 +187,8 @@ fn close_query_in(
     frames: Vec<Frame>,
     query: WrittenQuery,
 ) -> Result<Option<State>, AllocError>
-    ensures { IfOk result (λ o. next_of o ≡ machine.close_query (frame_of frame ∷ frames_of frames.items) (query_of query)) }
+    ensures { IfOk result (λ o. next_of o
+        ≡ machine.close_query (frame_of frame ∷ frames_of frames.items) (query_of query)) }
 {
     match frame {
         Frame::InQuery { at } => have(in_brackets(alloc, at, query)?, frames),
@@ -194,7 +200,8 @@ fn close_query_in(
 
 // Behind a term.
 fn have(term: WrittenQuery, frames: Vec<Frame>) -> Result<Option<State>, AllocError>
-    ensures { IfOk result (λ o. next_of o ≡ machine.goes (machine.HaveTerm (query_of term)) (frames_of frames.items)) }
+    ensures { IfOk result (λ o. next_of o
+        ≡ machine.goes (machine.HaveTerm (query_of term)) (frames_of frames.items)) }
 {
     goes(Control::Query(QueryControl::HaveTerm { term }), frames)
 }
@@ -207,7 +214,9 @@ fn close_source(
     frames: Vec<Frame>,
     query: WrittenQuery,
 ) -> Result<Option<State>, AllocError>
-    ensures { IfOk result (λ o. next_of o ≡ machine.goes (machine.after_source (head_of head) (InBrackets at (query_of query))) (frames_of frames.items)) }
+    ensures { IfOk result (λ o. next_of o
+        ≡ machine.goes (machine.after_source (head_of head) (InBrackets at (query_of query)))
+        (frames_of frames.items)) }
 {
     match in_brackets(alloc, at, query) {
         Ok(source) => goes(after_source(head, source), frames),
@@ -217,7 +226,8 @@ fn close_source(
 
 // INTO behind a query.
 fn end_query(frames: Vec<Frame>, query: WrittenQuery) -> Result<Option<State>, AllocError>
-    ensures { IfOk result (λ o. next_of o ≡ machine.end_query (frames_of frames.items) (query_of query)) }
+    ensures { IfOk result (λ o. next_of o
+        ≡ machine.end_query (frames_of frames.items) (query_of query)) }
 {
     if !frames.is_empty() {
         return refuse((frames, query));
@@ -231,7 +241,8 @@ fn after_whole(
     query: WrittenQuery,
     plain: Plain,
 ) -> Result<Option<State>, AllocError>
-    ensures { IfOk result (λ o. next_of o ≡ machine.after_whole (frames_of frames.items) (query_of query) plain) }
+    ensures { IfOk result (λ o. next_of o
+        ≡ machine.after_whole (frames_of frames.items) (query_of query) plain) }
 {
     match plain {
         Plain::Close => close_query(alloc, frames, query),
@@ -242,7 +253,8 @@ fn after_whole(
 
 // What stands behind a query.
 fn after_query(alloc: Global, within: Within, token: &Token) -> Result<Option<State>, AllocError>
-    ensures { IfOk result (λ o. next_of o ≡ machine.after_query (frames_of within.frames.items) (query_of within.query) token.now) }
+    ensures { IfOk result (λ o. next_of o
+        ≡ machine.after_query (frames_of within.frames.items) (query_of within.query) token.now) }
 {
     let Within { frames, query } = within;
     match token {
@@ -266,7 +278,8 @@ pub fn have_term(
     term: WrittenQuery,
     token: &Token,
 ) -> Result<Option<State>, AllocError>
-    ensures { IfOk result (λ o. next_of o ≡ machine.have_term (frames_of frames.items) (query_of term) token.now) }
+    ensures { IfOk result (λ o. next_of o
+        ≡ machine.have_term (frames_of frames.items) (query_of term) token.now) }
 {
     after_query(alloc, joined(alloc, frames, term)?, token)
 }
@@ -316,7 +329,8 @@ pub fn want_var(
     at: u64,
     token: &Token,
 ) -> Result<Option<State>, AllocError>
-    ensures { IfOk result (λ o. next_of o ≡ machine.want_var (frames_of frames.items) at token.now) }
+    ensures { IfOk result (λ o. next_of o
+        ≡ machine.want_var (frames_of frames.items) at token.now) }
 {
     match name_of(alloc, token) {
         Ok(Some(var)) => goes(Control::Query(QueryControl::WantIn { at, var }), frames),
@@ -331,7 +345,8 @@ pub fn want_body(
     head: BodyHead,
     token: &Token,
 ) -> Result<Option<State>, AllocError>
-    ensures { IfOk result (λ o. next_of o ≡ machine.want_body (frames_of frames.items) (body_head_of head) token.now) }
+    ensures { IfOk result (λ o. next_of o
+        ≡ machine.want_body (frames_of frames.items) (body_head_of head) token.now) }
 {
     match open_in(token) {
         Some(open) => goes_in(
@@ -350,7 +365,8 @@ pub fn want_name(
     query: WrittenQuery,
     token: &Token,
 ) -> Result<Option<State>, AllocError>
-    ensures { IfOk result (λ o. next_of o ≡ machine.want_name (frames_of frames.items) (query_of query) token.now) }
+    ensures { IfOk result (λ o. next_of o
+        ≡ machine.want_name (frames_of frames.items) (query_of query) token.now) }
 {
     match name_of(alloc, token) {
         Ok(Some(name)) => goes(

@@ -23,7 +23,8 @@ pub fn want_source(
     head: Head,
     token: &Token,
 ) -> Result<Option<State>, AllocError>
-    ensures { IfOk result (λ o. next_of o ≡ machine.want_source (frames_of frames.items) (head_of head) token.now) }
+    ensures { IfOk result (λ o. next_of o
+        ≡ machine.want_source (frames_of frames.items) (head_of head) token.now) }
 {
     match token {
         Token::Name(name) => want_stream(alloc, frames, head, name),
@@ -45,7 +46,9 @@ fn want_stream(
     head: Head,
     name: &Name,
 ) -> Result<Option<State>, AllocError>
-    ensures { IfOk result (λ o. next_of o ≡ machine.goes (machine.after_source (head_of head) (Stream name.now)) (frames_of frames.items)) }
+    ensures { IfOk result (λ o. next_of o
+        ≡ machine.goes (machine.after_source (head_of head) (Stream name.now))
+        (frames_of frames.items)) }
 {
     match cloned(alloc, name) {
         Ok(name) => goes(after_source(head, WrittenQuery::Stream(name)), frames),
@@ -60,7 +63,8 @@ fn begin_window(
     source: WrittenQuery,
     window: Option<Window>,
 ) -> Result<Option<State>, AllocError>
-    ensures { IfOk result (λ o. next_of o ≡ machine.begin_window (frames_of frames.items) (pick_of pick) (query_of source) window) }
+    ensures { IfOk result (λ o. next_of o
+        ≡ machine.begin_window (frames_of frames.items) (pick_of pick) (query_of source) window) }
 {
     match window {
         Some(_) => refuse((frames, pick, source)),
@@ -83,7 +87,9 @@ fn end_source(
     window: Option<Window>,
     token: &Token,
 ) -> Result<Option<State>, AllocError>
-    ensures { IfOk result (λ o. next_of o ≡ machine.end_source (frames_of frames.items) (pick_of pick) (query_of source) window token.now) }
+    ensures { IfOk result (λ o. next_of o
+        ≡ machine.end_source (frames_of frames.items) (pick_of pick) (query_of source) window
+        token.now) }
 {
     match Box::new(alloc, source) {
         Ok(source) => {
@@ -112,7 +118,9 @@ pub fn have_source(
     window: Option<Window>,
     token: &Token,
 ) -> Result<Option<State>, AllocError>
-    ensures { IfOk result (λ o. next_of o ≡ machine.have_source (frames_of frames.items) (pick_of pick) (query_of source) window token.now) }
+    ensures { IfOk result (λ o. next_of o
+        ≡ machine.have_source (frames_of frames.items) (pick_of pick) (query_of source) window
+        token.now) }
 {
     if is_plain(token, Plain::LeftSquare) {
         return begin_window(frames, pick, source, window);
@@ -150,7 +158,8 @@ pub fn have_each_source(
     source: WrittenQuery,
     token: &Token,
 ) -> Result<Option<State>, AllocError>
-    ensures { IfOk result (λ o. next_of o ≡ machine.have_each_source (frames_of frames.items) at var (query_of source) token.now) }
+    ensures { IfOk result (λ o. next_of o
+        ≡ machine.have_each_source (frames_of frames.items) at var (query_of source) token.now) }
 {
     if is_plain(token, Plain::LeftSquare) {
         return goes(
@@ -180,7 +189,8 @@ pub fn want_size(
     source: WrittenQuery,
     token: &Token,
 ) -> Result<Option<State>, AllocError>
-    ensures { IfOk result (λ o. next_of o ≡ machine.want_size (frames_of frames.items) (head_of head) (query_of source) token.now) }
+    ensures { IfOk result (λ o. next_of o
+        ≡ machine.want_size (frames_of frames.items) (head_of head) (query_of source) token.now) }
 {
     match size_in(token) {
         Some(at) => goes(
@@ -199,7 +209,9 @@ pub fn want_size_number(
     at: u64,
     token: &Token,
 ) -> Result<Option<State>, AllocError>
-    ensures { IfOk result (λ o. next_of o ≡ machine.want_size_number (frames_of frames.items) (head_of head) (query_of source) at token.now) }
+    ensures { IfOk result (λ o. next_of o
+        ≡ machine.want_size_number (frames_of frames.items) (head_of head) (query_of source) at
+        token.now) }
 {
     match number_in(token) {
         Some(size) => goes(
@@ -224,7 +236,9 @@ pub fn want_advance_number(
     size: Num,
     token: &Token,
 ) -> Result<Option<State>, AllocError>
-    ensures { IfOk result (λ o. next_of o ≡ machine.want_advance_number (frames_of frames.items) (head_of head) (query_of source) at size token.now) }
+    ensures { IfOk result (λ o. next_of o
+        ≡ machine.want_advance_number (frames_of frames.items) (head_of head) (query_of source)
+        at size token.now) }
 {
     match number_in(token) {
         Some(advance) => goes(
@@ -269,7 +283,9 @@ pub fn want_by(
     filter: Option<WrittenExpr>,
     token: &Token,
 ) -> Result<Option<State>, AllocError>
-    ensures { IfOk result (λ o. next_of o ≡ machine.want_by (frames_of frames.items) (pick_of pick) (query_of source) window (filter_of filter) token.now) }
+    ensures { IfOk result (λ o. next_of o
+        ≡ machine.want_by (frames_of frames.items) (pick_of pick) (query_of source) window
+        (filter_of filter) token.now) }
 {
     match by_in(token) {
         Some(at) => goes(
@@ -296,7 +312,8 @@ pub fn want_key(
     at: u64,
     token: &Token,
 ) -> Result<Option<State>, AllocError>
-    ensures { IfOk result (λ o. next_of o ≡ machine.want_key (frames_of frames.items) (groups_head_of head) at token.now) }
+    ensures { IfOk result (λ o. next_of o
+        ≡ machine.want_key (frames_of frames.items) (groups_head_of head) at token.now) }
 {
     match name_of(alloc, token) {
         Ok(Some(key)) => goes(
@@ -309,7 +326,8 @@ pub fn want_key(
 }
 
 fn after_groups(alloc: Global, head: GroupsHead, grouping: Grouping) -> Result<Control, AllocError>
-    ensures { IfOk result (λ c. control_of c ≡ machine.after_groups (groups_head_of head) grouping) }
+    ensures { IfOk result (λ c. control_of c
+        ≡ machine.after_groups (groups_head_of head) grouping) }
 {
     match head {
         GroupsHead::Select {
@@ -356,7 +374,9 @@ pub fn want_groups_number(
     key: Name,
     token: &Token,
 ) -> Result<Option<State>, AllocError>
-    ensures { IfOk result (λ o. next_of o ≡ machine.want_groups_number (frames_of frames.items) (groups_head_of head) at key token.now) }
+    ensures { IfOk result (λ o. next_of o
+        ≡ machine.want_groups_number (frames_of frames.items) (groups_head_of head) at key
+        token.now) }
 {
     match number_in(token) {
         Some(groups) => goes(

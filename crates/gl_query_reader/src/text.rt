@@ -43,7 +43,8 @@ fn fault_of(fault: ReadFault) -> QueryFault
 
 // What a statement that is written means, where its items go together.
 fn meaning_of(alloc: Global, written: WrittenStatement) -> Result<Statement, QueryFault>
-    ensures { Answers result (with_items (mixed_in (statement_of written).query) (statement_of written)) }
+    ensures { Answers result
+        (with_items (mixed_in (statement_of written).query) (statement_of written)) }
 {
     if let Some(at) = mixed_in(&written.query) {
         drop(written);
@@ -57,7 +58,8 @@ fn meaning_of(alloc: Global, written: WrittenStatement) -> Result<Statement, Que
 
 // The answer for a text, exactly.
 fn answer(alloc: Global, text: &[u8]) -> Result<Statement, QueryFault>
-    ensures { Answers result (answered (run (length text.now) none_counted start (tokens_of text.now))) }
+    ensures { Answers result
+        (answered (run (length text.now) none_counted start (tokens_of text.now))) }
 {
     match written_of(alloc, text) {
         Ok(written) => meaning_of(alloc, written),
@@ -79,7 +81,8 @@ pub fn read_query(alloc: Global, text: &[u8]) -> Result<Statement, QueryFault>
     ensures fault { IfErr result (λ e. IsFault text.now e) }
     ensures syntax { (at : ℕ) → IsSyntaxFault text.now at → IsErrOrMemory result (Syntax at) }
     ensures too_deep { (at : ℕ) → IsDepthFault text.now at → IsErrOrMemory result (TooDeep at) }
-    ensures mixed_items { (at : ℕ) → IsItemsFault text.now at → IsErrOrMemory result (MixedItems at) }
+    ensures mixed_items { (at : ℕ) → IsItemsFault text.now at →
+        IsErrOrMemory result (MixedItems at) }
 {
     answer(alloc, text)
 }

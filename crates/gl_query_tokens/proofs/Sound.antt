@@ -1,5 +1,5 @@
 -- What the tokens of a text have: names are names, numbers are small, literals are short.
-use Rattle.std.proofs.Common.{◌≡◌, ℕ, ◌+◌, ◌-◌, ◌*◌, ◌^◌, Bool, true, false, ◌&&◌, List, [], ◌∷◌, ◌++◌, length, map, Option, Some, None, refl, sym, ap, subst, ◌∙◌}
+use Rattle.std.proofs.Common.{◌≡◌, ℕ, ◌+◌, ◌-◌, ◌*◌, ◌^◌, Bool, true, false, ◌&&◌, List, [], ◌∷◌, ◌++◌, length, Option, Some, None, refl, sym, subst}
 use Rattle.std.specs.Prelude.{codes, not, nat_le, nat_lt, ◌==◌, unwrap_or, if◌then◌else◌}
 use Rattle.std.specs.List.{AllByRecursion}
 use Rattle.std.proofs.lemmas.Bool.{true≢false}
@@ -18,7 +18,7 @@ use Rattle.gl_query_tokens.specs.declared.lexing.Class.{Class}
 use Rattle.gl_query_tokens.specs.declared.lexing.Class.TheVariants.{Letter, Blank, Quote, Half, Alone}
 use Rattle.gl_query_tokens.specs.declared.lexing.Follow.{Follow}
 use Rattle.gl_query_tokens.specs.declared.lexing.Follow.TheVariants.{Pair, Comment, Fresh}
-use Rattle.gl_query_tokens.specs.Tokens.{Mode, Between, InWord, InText, AfterHalf, InComment, Move, to, begin, in_word, in_text, after_half, move, last_of, scan, tokens_of, class_of, follow_of, sign_token, text_token, lexeme}
+use Rattle.gl_query_tokens.specs.Tokens.{Mode, Between, InWord, InText, AfterHalf, InComment, Move, to, begin, in_word, after_half, move, last_of, scan, tokens_of, class_of, follow_of, sign_token, text_token, lexeme}
 use Rattle.gl_query_tokens.specs.Words.{is_keyword, clause_of, window_of, operator_of, keyword_of, or_else, with_digit, number_of, number_token, word_token}
 
 abbrev pub is_letter : Class → Bool

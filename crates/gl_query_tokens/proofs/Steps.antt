@@ -1,5 +1,5 @@
 -- A word that grows by a byte, and a text that is scanned one byte further.
-use Rattle.std.proofs.Common.{◌≡◌, ℕ, zero, suc, ◌+◌, ◌-◌, ◌<◌, ◌≤◌, List, [], ◌∷◌, ◌++◌, length, take, drop, get_or, refl, sym, ap, ◌∙◌, append_assoc, arith, length-drop, add-one, drop-cons}
+use Rattle.std.proofs.Common.{◌≡◌, ℕ, suc, ◌+◌, ◌-◌, ◌<◌, ◌≤◌, List, [], ◌∷◌, ◌++◌, length, take, drop, get_or, sym, ap, ◌∙◌, append_assoc, arith, length-drop, drop-cons}
 use Rattle.std.proofs.lemmas.List.{take_more, get_or-drop, append-nil, drop_all}
 use Rattle.gl_query_tokens.specs.declared.token.Lexeme.{Lexeme}
 use Rattle.gl_query_tokens.specs.Tokens.{Mode, Move, to, move, then_scan, scan}

@@ -121,7 +121,8 @@ fn put_word(
 ) -> Result<(), AllocError>
     requires order { from ≤ to }
     requires end { to ≤ length text.now }
-    ensures { OnOk result (out.new.items ≡ out.old.items ++ lexeme (word_token (part text.now from to) from) from ∷ []) }
+    ensures { OnOk result (out.new.items ≡ out.old.items
+        ++ lexeme (word_token (part text.now from to) from) from ∷ []) }
 {
     let token = word_token(alloc, &text[from..to], from as u64)?;
     put(out, token, from)
@@ -146,7 +147,8 @@ fn begin(text: &[u8], at: usize, b: u8, out: &mut Vec<Lexeme>) -> Result<Standin
     requires byte { b ≡ slice_index text.now at }
     ensures inside { IfOk result (λ s. IsInside (at + 1) s) }
     ensures mode { IfOk result (λ s. mode_of text.now (at + 1) s ≡ (begin (class_of b) at b).mode) }
-    ensures tokens { OnOk result (out.new.items ≡ out.old.items ++ (begin (class_of b) at b).tokens) }
+    ensures tokens { OnOk result (out.new.items ≡ out.old.items
+        ++ (begin (class_of b) at b).tokens) }
 {
     match class_of(b) {
         Class::Letter => Ok(Standing::InWord(at)),
@@ -174,8 +176,10 @@ fn go_on(
     requires here { at < length text.now }
     requires byte { b ≡ slice_index text.now at }
     ensures inside { IfOk result (λ s. IsInside (at + 1) s) }
-    ensures mode { IfOk result (λ s. mode_of text.now (at + 1) s ≡ (move (InWord from (part text.now from at)) at b).mode) }
-    ensures tokens { OnOk result (out.new.items ≡ out.old.items ++ (move (InWord from (part text.now from at)) at b).tokens) }
+    ensures mode { IfOk result (λ s. mode_of text.now (at + 1) s
+        ≡ (move (InWord from (part text.now from at)) at b).mode) }
+    ensures tokens { OnOk result (out.new.items ≡ out.old.items
+        ++ (move (InWord from (part text.now from at)) at b).tokens) }
 {
     match class_of(b) {
         Class::Letter => Ok(Standing::InWord(from)),
@@ -201,8 +205,10 @@ fn go_on_text(
     requires here { at < length text.now }
     requires byte { b ≡ slice_index text.now at }
     ensures inside { IfOk result (λ s. IsInside (at + 1) s) }
-    ensures mode { IfOk result (λ s. mode_of text.now (at + 1) s ≡ (move (InText quote (part text.now from at)) at b).mode) }
-    ensures tokens { OnOk result (out.new.items ≡ out.old.items ++ (move (InText quote (part text.now from at)) at b).tokens) }
+    ensures mode { IfOk result (λ s. mode_of text.now (at + 1) s
+        ≡ (move (InText quote (part text.now from at)) at b).mode) }
+    ensures tokens { OnOk result (out.new.items ≡ out.old.items
+        ++ (move (InText quote (part text.now from at)) at b).tokens) }
 {
     if b == b'\'' {
         let token = text_token(alloc, &text[from..at], quote as u64)?;
@@ -229,8 +235,10 @@ fn go_on_half(
     requires here { at < length text.now }
     requires byte { b ≡ slice_index text.now at }
     ensures inside { IfOk result (λ s. IsInside (at + 1) s) }
-    ensures mode { IfOk result (λ s. mode_of text.now (at + 1) s ≡ (after_half (follow_of first b) from first at b).mode) }
-    ensures tokens { OnOk result (out.new.items ≡ out.old.items ++ (after_half (follow_of first b) from first at b).tokens) }
+    ensures mode { IfOk result (λ s. mode_of text.now (at + 1) s
+        ≡ (after_half (follow_of first b) from first at b).mode) }
+    ensures tokens { OnOk result (out.new.items ≡ out.old.items
+        ++ (after_half (follow_of first b) from first at b).tokens) }
 {
     match follow_of(first, b) {
         Follow::Pair(op) => {
@@ -266,8 +274,10 @@ fn advance(
     requires byte { b ≡ slice_index text.now at }
     requires inside { IsInside at standing }
     ensures inside { IfOk result (λ s. IsInside (at + 1) s) }
-    ensures mode { IfOk result (λ s. mode_of text.now (at + 1) s ≡ (move (mode_of text.now at standing) at b).mode) }
-    ensures tokens { OnOk result (out.new.items ≡ out.old.items ++ (move (mode_of text.now at standing) at b).tokens) }
+    ensures mode { IfOk result (λ s. mode_of text.now (at + 1) s
+        ≡ (move (mode_of text.now at standing) at b).mode) }
+    ensures tokens { OnOk result (out.new.items ≡ out.old.items
+        ++ (move (mode_of text.now at standing) at b).tokens) }
 {
     match standing {
         Standing::Between => begin(text, at, b, out),
@@ -290,7 +300,8 @@ fn complete(
     out: &mut Vec<Lexeme>,
 ) -> Result<(), AllocError>
     requires { IsInside (length text.now) standing }
-    ensures { OnOk result (out.new.items ≡ out.old.items ++ last_of (mode_of text.now (length text.now) standing)) }
+    ensures { OnOk result (out.new.items ≡ out.old.items
+        ++ last_of (mode_of text.now (length text.now) standing)) }
 {
     match standing {
         Standing::Between | Standing::InComment => Ok(()),

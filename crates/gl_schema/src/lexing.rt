@@ -2,7 +2,7 @@
 
 ghost use Rattle.std.specs.Prelude.{◌≡◌, ◌+◌, ◌<◌, ◌≤◌, length, slice_index, slice_range};
 ghost use Rattle.gl_schema.specs.SchemaText as spec;
-ghost use Rattle.gl_schema.specs.SchemaFaults.{Gives, mark_at};
+ghost use Rattle.gl_schema.specs.SchemaFaults.{Gives};
 ghost use Rattle.gl_schema.specs.Lexing.{Takes, IsInside, open_at, reading_after};
 
 use crate::fault::SchemaFault;

@@ -1,6 +1,6 @@
 //! Laws about the ports of a module.
 
-ghost use Rattle.std.specs.Prelude.{◌≡◌, ℕ, List, map};
+ghost use Rattle.std.specs.Prelude.{◌≡◌, ℕ, List};
 ghost use Rattle.std.specs.List.{AllZip};
 ghost use Rattle.gl_schema.specs.declared.schema.Schema as types;
 ghost use Rattle.gl_schema.specs.Beats as beats;

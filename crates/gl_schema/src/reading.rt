@@ -1,6 +1,6 @@
 //! Reading a schema from its tokens, in one pass from the left.
 
-ghost use Rattle.std.specs.Prelude.{◌≡◌, []};
+ghost use Rattle.std.specs.Prelude.{◌≡◌};
 ghost use Rattle.gl_schema.specs.Schemas as schemas;
 ghost use Rattle.gl_schema.specs.SchemaText.{Word, Sign};
 ghost use Rattle.gl_schema.specs.SchemaFaults as spec;

@@ -1,6 +1,6 @@
 //! The records of a tuple file, one at a time.
 
-ghost use Rattle.std.specs.Prelude.{◌≡◌, ◌+◌, ◌<◌, ◌≤◌, [], length, slice_get, slice_index_or, option_map, IfOk, IfSome};
+ghost use Rattle.std.specs.Prelude.{◌≡◌, ◌+◌, ◌<◌, [], length, slice_get, slice_index_or, option_map, IfOk, IfSome};
 ghost use Rattle.std.specs.List.{AllByRecursion};
 ghost use Rattle.gl_schema.specs.Schemas.{IsSchema, IsColumn};
 ghost use Rattle.gl_tuples.specs.Entries.{Gives};

@@ -1,7 +1,7 @@
 //! Values of fields.
 
 ghost use Rattle.std.specs.Prelude.{◌≡◌, ◌≤◌, ◌^◌, ◌*◌, length, Some, option_map, min};
-ghost use Rattle.gl_bits.specs.Kinds.{IsKind, width_of};
+ghost use Rattle.gl_bits.specs.Kinds.{IsKind};
 ghost use Rattle.gl_schema.specs.Schemas as schemas;
 ghost use Rattle.gl_schema.specs.Names as names;
 ghost use Rattle.gl_tuples.specs.Values as spec;
@@ -93,7 +93,8 @@ fn number_word(number: u128, width: u8) -> Option<Word>
 fn text_word(field: &[u8], bytes: u8) -> Option<Word>
     requires bytes { (1 ≤ bytes) × (bytes ≤ 8) }
     requires short { length field.now ≤ bytes }
-    ensures { result ≡ Some (record { bits = schemas.text_word bytes field.now; width = 8 * bytes }) }
+    ensures { result
+        ≡ Some (record { bits = schemas.text_word bytes field.now; width = 8 * bytes }) }
 {
     Word::new(
         u128::from(text_number(field, usize::from(bytes))),

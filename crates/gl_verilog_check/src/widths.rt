@@ -10,7 +10,8 @@ use gl_verilog::{Assignment, BinaryOp, Declaration, Expr, Kind};
 
 /// The declaration of this number.
 pub(crate) fn declaration_at(declarations: &[Declaration], n: usize) -> Option<&Declaration>
-    ensures { option_map (λ d. declaration_of d.now) result ≡ slice_get (scope_of declarations.now) n }
+    ensures { option_map (λ d. declaration_of d.now) result
+        ≡ slice_get (scope_of declarations.now) n }
 {
     declarations.get(n)
 }
@@ -234,7 +235,9 @@ pub(crate) fn write_width(
     address: &Expr,
     value: &Expr,
 ) -> Option<u16>
-    ensures { result ≡ write_width (scope_of declarations.now) memory (expr_of address.now) (expr_of value.now) }
+    ensures { result
+        ≡ write_width (scope_of declarations.now) memory (expr_of address.now)
+        (expr_of value.now) }
 {
     let address = kept(declarations, address)?;
     let width = kept(declarations, value)?;

@@ -1,6 +1,6 @@
 //! How many rows a stream has.
 
-ghost use Rattle.std.specs.Prelude.{◌≡◌, ℕ, ◌<◌, ◌^◌, ◌∷◌, [], IfOk, OnOk};
+ghost use Rattle.std.specs.Prelude.{◌≡◌, ◌<◌, ◌^◌, ◌∷◌, [], IfOk, OnOk};
 ghost use Rattle.gl_bits.specs.Words.{Word};
 ghost use Rattle.gl_algebra.specs.declared.figures.Figures.{Figures};
 ghost use Rattle.gl_algebra.specs.FigureTable.{aggregate_figures};
@@ -8,7 +8,7 @@ ghost use Rattle.gl_net.specs.Net.{Run, IsRun, IsBit, IsBus, Keeps};
 ghost use Rattle.gl_wire.specs.Blocks.{IsBehind};
 ghost use Rattle.gl_wire.specs.Costs.{Costs};
 ghost use Rattle.gl_wire.specs.Shapes.{AtEnds, Totalled};
-ghost use Rattle.gl_wire.specs.Wire.{IsWire, widths};
+ghost use Rattle.gl_wire.specs.Wire.{IsWire};
 ghost use Rattle.gl_wire_blocks.specs.Costs.{cost_of_count, cost_of_counter};
 ghost use Rattle.gl_wire_blocks.specs.Counting.{Counts, count_row};
 
@@ -54,7 +54,8 @@ fn count_tuples(net: &mut NetBuilder, valid: Bit, eos: Bit) -> Result<Bus, Memor
 /// One cycle after each end, the number of tuples of the stream.
 pub fn count_rows(alloc: Global, net: &mut NetBuilder, below: Emitted) -> Result<Emitted, Memory>
     requires { IsWire net.old below.wire }
-    ensures { IfOk result (IsBehind net.old net.new (AtEnds 1 count_row) (32 ∷ []) cost_of_count below) }
+    ensures { IfOk result (IsBehind net.old net.new (AtEnds 1 count_row) (32
+        ∷ []) cost_of_count below) }
 {
     let now = count_tuples(net, below.wire.valid, below.wire.eos)?;
     let wire = stage(alloc, net, below.wire.eos, below.wire.eos, &[now])?;

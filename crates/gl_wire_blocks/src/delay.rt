@@ -1,12 +1,9 @@
 //! The same rows, some cycles later.
 
-ghost use Rattle.std.specs.Prelude.{◌≡◌, IfOk};
 ghost use Rattle.gl_algebra.specs.declared.figures.Figures.{Figures};
 ghost use Rattle.gl_algebra.specs.FigureTable.{delayed};
-ghost use Rattle.gl_wire.specs.Blocks.{IsBehind};
 ghost use Rattle.gl_wire.specs.Costs.{stages_behind};
 ghost use Rattle.gl_wire.specs.Shapes.{IsDelayed, Same};
-ghost use Rattle.gl_wire.specs.Wire.{IsWire, widths};
 
 use gl_algebra::Figures;
 use gl_bits::Memory;

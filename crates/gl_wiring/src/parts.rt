@@ -1,15 +1,15 @@
 //! Parts of an emitted netlist: its ports, and what stands right behind them.
 
-ghost use Rattle.std.specs.Prelude.{◌≡◌, ℕ, suc, ◌+◌, ◌≤◌, ◌<◌, ◌++◌, ◌∷◌, [], OnOk, IfOk, All, slice_get, drop, Some};
+ghost use Rattle.std.specs.Prelude.{◌≡◌, ◌<◌, ◌∷◌, [], OnOk, IfOk, Some};
 ghost use Rattle.std.specs.List.{AllByRecursion};
 ghost use Rattle.gl_bits.specs.Words.{IsWidth};
 ghost use Rattle.gl_schema.specs.Schemas.{IsColumn, IsStream};
-ghost use Rattle.gl_schema.specs.Ports.{in_valid, out_column};
+ghost use Rattle.gl_schema.specs.Ports.{in_valid};
 ghost use Rattle.gl_net.specs.Net.{Run, IsRun, IsBus, IsPort};
 ghost use Rattle.gl_net.specs.declared.node.Direction.TheVariants.{In, Out};
 ghost use Rattle.gl_net.specs.Builds.{Follows};
 ghost use Rattle.gl_wiring.specs.EmittedPorts.{input, output, column_widths, stream_columns, stream_inputs, streams_inputs};
-ghost use Rattle.gl_wiring.specs.Emitted.{bus_widths, Puts, Extends, HasInputs, IsDelayed, IsDelayedBit, IsZero, AreDelayed};
+ghost use Rattle.gl_wiring.specs.Emitted.{bus_widths, Puts, Extends, HasInputs, IsDelayed, IsDelayedBit, IsZero};
 
 use crate::names::{in_column_name, in_valid_name, out_column_name};
 use gl_bits::{Memory, Word};

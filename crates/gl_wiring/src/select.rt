@@ -1,15 +1,14 @@
 //! The netlist of a select of columns of one stream.
 
-ghost use Rattle.std.specs.Prelude.{◌≡◌, ℕ, suc, ◌+◌, ◌≤◌, ◌<◌, ◌++◌, ◌∷◌, [], OnOk, IfOk, All, length, map, slice_get, Some, None, codes, IfSome, take, drop, bytes_eq};
+ghost use Rattle.std.specs.Prelude.{◌≡◌, ◌+◌, ◌<◌, ◌++◌, [], OnOk, IfOk, All, length, slice_get, Some, codes, take, drop, bytes_eq};
 ghost use Rattle.std.specs.List.{AllByRecursion, IsDistinct};
 ghost use Rattle.gl_schema.specs.Names.{IsName};
-ghost use Rattle.gl_schema.specs.Schemas.{IsSchema, IsStream};
-ghost use Rattle.gl_schema.specs.Ports.{in_valid, out_valid, out_column, out_eos, rst, eos, fault_group, fault_queue};
-ghost use Rattle.gl_net.specs.Net.{Run, IsRun, IsBus, IsPort, open_at};
+ghost use Rattle.gl_schema.specs.Schemas.{IsSchema};
+ghost use Rattle.gl_schema.specs.Ports.{out_valid, out_eos, rst, eos, fault_group, fault_queue};
+ghost use Rattle.gl_net.specs.Net.{IsBus};
 ghost use Rattle.gl_net.specs.Finished.{HasReset};
-ghost use Rattle.gl_net.specs.PortValues.{port_values, port_shapes};
 ghost use Rattle.gl_wiring.specs.EmittedPorts.{streams_inputs, IsEmitted};
-ghost use Rattle.gl_wiring.specs.Emitted.{outputs, results, Puts, Extends, AreInputs, IsDelayedBit, IsZero, AreDelayed, IsSource, FollowsSchema};
+ghost use Rattle.gl_wiring.specs.Emitted.{outputs, results, Puts, Extends, IsDelayedBit, IsZero, AreDelayed, IsSource, FollowsSchema};
 ghost use Rattle.gl_wiring.specs.Select.{FollowsIn, IsRightFor, ArePlaces};
 
 use crate::names::{ResultNames, module_name, out_column_name};

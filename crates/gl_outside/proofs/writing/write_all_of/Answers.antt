@@ -1,5 +1,5 @@
 use Rattle.std.proofs.Common.{length, arith, ap, length-drop}
-use Rattle.gl_outside.proofs.Takes.{took_none, took_more, took_all, broke_here}
+use Rattle.gl_outside.proofs.Takes.{took_none, took_more, broke_here}
 use Rattle.gl_outside.proofs.writing.write_all_of.Goals as goal
 
 pub loop-at-init : goal.loop-at-init
