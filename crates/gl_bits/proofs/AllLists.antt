@@ -1,5 +1,5 @@
 -- Plain facts about lists: their lengths and places, and facts of all their elements.
-use Rattle.std.proofs.Common.{◌≡◌, ℕ, zero, suc, ◌+◌, ◌<◌, List, [], ◌∷◌, ◌++◌, length, take, get_or, Some, refl, sym, ap, ◌∙◌, arith}
+use Rattle.std.proofs.Common.{◌≡◌, ℕ, zero, suc, ◌+◌, ◌<◌, ◌≤◌, List, [], ◌∷◌, ◌++◌, length, take, get_or, None, Some, refl, sym, ap, ◌∙◌, arith}
 use Rattle.std.specs.Prelude.{map, slice_get}
 use Rattle.std.specs.List.{AllByRecursion, AllZip}
 use Rattle.gl_bits.proofs.Options.{not_some}
@@ -84,3 +84,15 @@ taken_next (y ∷ xs) zero x below is = ap (λ z. z ∷ []) (sym is)
 taken_next (y ∷ xs) (suc i) x below is =
     let place : suc i + 1 ≡ suc (i + 1) = omega arith in
     ap (λ n. take n (y ∷ xs)) place ∙ ap (λ l. y ∷ l) (taken_next xs i x (omega arith) is)
+
+pub get_past : {A : Type 0} (xs : List A) (i : ℕ) → length xs ≤ i → slice_get xs i ≡ None
+get_past [] i le = refl
+get_past (y ∷ xs) zero le = absurd (omega (arith, le))
+get_past (y ∷ xs) (suc i) le = get_past xs i (omega (arith, le))
+
+-- two lists that are the same begin alike and go on alike
+pub heads : {A : Type 0} (x y : A) (xs ys : List A) → x ∷ xs ≡ y ∷ ys → x ≡ y
+heads x y xs ys h = cc
+
+pub tails : {A : Type 0} (x y : A) (xs ys : List A) → x ∷ xs ≡ y ∷ ys → xs ≡ ys
+tails x y xs ys h = cc

@@ -1,8 +1,8 @@
 -- Plain facts about truth values, texts that are compared, and numbers of one bit.
-use Rattle.std.proofs.Common.{◌≡◌, ℕ, ◌^◌, ◌<◌, ◌⊎◌, inl, inr, Bool, true, false, not, List, refl, arith}
+use Rattle.std.proofs.Common.{◌≡◌, ◌≢◌, ℕ, ◌^◌, ◌<◌, ◌⊎◌, inl, inr, Bool, true, false, not, List, refl, arith, eq-eqb, ne_eqb}
 use Rattle.std.specs.Prelude.{◌&&◌, ◌||◌, bytes_eq}
 use Rattle.std.proofs.lemmas.Slice.Eq.{bytes_eq-Decides}
-use Rattle.gl_bits.specs.Words.{bit}
+use Rattle.gl_bits.specs.Words.{bit, choose_of}
 
 -- ---- and
 
@@ -103,3 +103,13 @@ bytes_other xs ys h = else_false (bytes_eq xs ys) (λ e. h (bytes_same xs ys e))
 pub bit_fits : (b : Bool) → bit b < 2 ^ 1
 bit_fits true = omega arith
 bit_fits false = omega arith
+
+-- ---- choices
+
+pub choose_yes : (test x y : ℕ) → test ≡ 1 → choose_of test x y ≡ x
+unfolding choose_of
+choose_yes test x y e = let f = eq-eqb test 1 e in rw f refl
+
+pub choose_no : (test x y : ℕ) → test ≢ 1 → choose_of test x y ≡ y
+unfolding choose_of
+choose_no test x y e = let f = ne_eqb test 1 e in rw f refl

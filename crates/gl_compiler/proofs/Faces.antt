@@ -17,9 +17,10 @@ use Rattle.gl_net.specs.PortValues.{PortShape, port_shape, port_shapes}
 use Rattle.gl_verilog.specs.Module.{Module, Declaration}
 use Rattle.gl_verilog_writer.specs.Meaning.{declaration_of, clock, kind_of}
 use Rattle.gl_wiring.specs.EmittedPorts.{input, output, column_widths, column_inputs, stream_inputs, streams_inputs, column_outputs, result_outputs}
-use Rattle.gl_wiring.proofs.PortNames.{no_valid, out_valid-column, tail_apart, bytes_eq-false}
+use Rattle.gl_wiring.proofs.PortNames.{no_valid, out_valid-column, tail_apart}
 use Rattle.gl_compiler.proofs.Built.{next_at}
 use Rattle.gl_compiler.specs.Profile.{shows_column, ports_of}
+use Rattle.gl_bits.proofs.Bools.{bytes_other}
 
 -- the declaration of a port
 abbrev pub decl : PortShape → Declaration
@@ -75,7 +76,7 @@ begins_out n = refl
 
 column_seen : (n : List ℕ) (w : ℕ) → IsName n → shows_column (decl (output (out_column n) w)) ≡ true
 column_seen n w h =
-    rw (begins_out n, bytes_eq-false (out_column n) out_valid (λ e. no_valid n h (out_valid-column n (sym e))), bytes_eq-false (out_column n) out_eos (tail_apart n h).0) refl
+    rw (begins_out n, bytes_other (out_column n) out_valid (λ e. no_valid n h (out_valid-column n (sym e))), bytes_other (out_column n) out_eos (tail_apart n h).0) refl
 
 outputs_seen : (ws ps : List ℕ) (ns : List (List ℕ)) → AllByRecursion IsName ns → Seen (column_outputs ws ps ns)
 outputs_seen ws [] ns h = tt

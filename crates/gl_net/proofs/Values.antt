@@ -39,11 +39,3 @@ stored_other write address value k word a = let f = ne_eqb address k a in rw (f,
 pub stored_idle : (write address value k word : ℕ) → write ≢ 1 → stored_of write address value k word ≡ word
 unfolding stored_of
 stored_idle write address value k word w = let e = ne_eqb write 1 w in rw e refl
-
-pub choose_yes : (test x y : ℕ) → test ≡ 1 → choose_of test x y ≡ x
-unfolding choose_of
-choose_yes test x y e = let f = eq-eqb test 1 e in rw f refl
-
-pub choose_no : (test x y : ℕ) → test ≢ 1 → choose_of test x y ≡ y
-unfolding choose_of
-choose_no test x y e = let f = ne_eqb test 1 e in rw f refl

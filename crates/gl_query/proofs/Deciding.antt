@@ -8,7 +8,7 @@ use Rattle.gl_bits.specs.declared.kind.Kind.TheVariants.{Unsigned, Text}
 use Rattle.gl_bits.specs.declared.op.Sort.{Sort}
 use Rattle.gl_bits.specs.declared.op.Sort.TheVariants.{Arithmetic, Comparison, Logic}
 use Rattle.gl_bits.specs.Operators.{sort_of}
-use Rattle.gl_bits.proofs.AllLists.{length_map}
+use Rattle.gl_bits.proofs.AllLists.{length_map, get_past}
 use Rattle.gl_bits.proofs.Bools.{and_both, and_parts, not_false, not_true}
 use Rattle.gl_schema.specs.declared.schema.Column.{Column as NamedColumn}
 use Rattle.gl_schema.specs.Schemas.{has_column}
@@ -203,11 +203,6 @@ get_none [] i e = omega arith
 get_none (x ∷ xs) zero e = absurd (cc)
 get_none (x ∷ xs) (suc i) e = let p = get_none xs i e in omega arith
 
-none_there : {A : Type 0} (xs : List A) (i : ℕ) → length xs ≤ i → slice_get xs i ≡ None
-none_there [] i le = refl
-none_there (x ∷ xs) zero le = absurd (omega arith)
-none_there (x ∷ xs) (suc i) le = none_there xs i (omega arith)
-
 none_too_many : (o : Option Num) → too_many o ≡ None → o ≡ None
 none_too_many None e = refl
 none_too_many (Some n) e = absurd (cc)
@@ -215,7 +210,7 @@ none_too_many (Some n) e = absurd (cc)
 many_decides : (ns : List Num) → Decides (too_many (slice_get ns 64)) (length ns ≤ 64)
 many_decides ns = record {
   sound = λ e. get_none ns 64 (none_too_many (slice_get ns 64) e);
-  complete = λ le. ap too_many (none_there ns 64 le);
+  complete = λ le. ap too_many (get_past ns 64 le);
 }
 
 weights_decides : (kind : Kind) (ns : List Num) → Decides (weights_fault kind ns) (AllByRecursion (IsNumberOf kind) (map (λ (n : Num). n.value) ns))

@@ -27,25 +27,9 @@ use Rattle.gl_query.specs.Accepted.{IsAgg, IsPick}
 use Rattle.gl_query.specs.Results.{agg_value, picked, total_row, values_of}
 use Rattle.gl_query.specs.Laws.{ResultsFit}
 use Rattle.gl_query.proofs.Holding.{IsKept, results_hold}
+use Rattle.gl_schema.proofs.TextNumbers.{bits_more, bytes_below, zeros_small}
 
 -- ---- texts
-
-byte_more : (i n b : ℕ) → n < 2 ^ (8 * i) → b < 256 → 256 * n + b < 2 ^ (8 * (i + 1))
-byte_more i n b lt small = below n b (2 ^ (8 * i)) (2 ^ (8 * (i + 1))) lt small
-    (ap (λ (k : ℕ). 2 ^ k) (let e : 8 * (i + 1) ≡ 8 + 8 * i = omega arith in e) ∙ pow-add 2 8 (8 * i))
-  where
-    below : (n b q p : ℕ) → n < q → b < 256 → p ≡ 256 * q → 256 * n + b < p
-    below n b q p lt small e = omega (arith, e)
-
-bytes_below : (bytes : List ℕ) (i a : ℕ) → AllByRecursion (λ b. b < 256) bytes → a < 2 ^ (8 * i) → fold (λ n b. 256 * n + b) a bytes < 2 ^ (8 * (i + length bytes))
-bytes_below [] i a h lt = subst (λ (k : ℕ). a < 2 ^ (8 * k)) (let e : i ≡ i + 0 = omega arith in e) lt
-bytes_below (b ∷ bs) i a h lt =
-    subst (λ (k : ℕ). fold (λ n b. 256 * n + b) (256 * a + b) bs < 2 ^ (8 * k)) (let e : i + 1 + length bs ≡ i + suc (length bs) = omega arith in e)
-    (bytes_below bs (i + 1) (256 * a + b) h.1 (byte_more i a b lt h.0))
-
-zeros_small : (n : ℕ) → AllByRecursion (λ b. b < 256) (replicate n 0)
-zeros_small zero = tt
-zeros_small (suc n) = (omega arith, zeros_small n)
 
 length_padded : (n : ℕ) (text : List ℕ) → length text ≤ n → 0 + length (padded n text) ≡ n
 length_padded n text le =

@@ -19,6 +19,7 @@ use Rattle.gl_query_printer.specs.declared.text.Behind.TheVariants.{Opening, Agg
 use Rattle.gl_query_printer.specs.Spaced.{token_text, plain_text, letters_text, place_behind, is_closing, is_opening, needs_space, gap, spaced, text_of}
 use Rattle.gl_query_tokens.proofs.Sound.{IsLetters, are_inside, are_letters, is_inside, is_letter, is_word}
 use Rattle.gl_query_printer.proofs.Places.{placeless}
+use Rattle.gl_bits.proofs.Bools.{not_true}
 
 -- lexemes without where they begin
 abbrev bare : List Lexeme → List Token
@@ -151,14 +152,10 @@ record Quoted (from : ℕ) (front w bs : List ℕ) (at : ℕ) : Type 0 where
   behind : ℕ
   is : read_on (InText from front) at (w ++ 39 ∷ bs) ≡ placeless (text_token (front ++ w) from) ∷ read_on Between behind bs
 
-no_quote : (q : Bool) → not q ≡ true → q ≡ false
-no_quote true h = absurd (true≢false (sym h))
-no_quote false h = refl
-
 text_goes : (from : ℕ) (front : List ℕ) (b : ℕ) → is_inside b ≡ true → in_text from front b ≡ to (InText from (front ++ b ∷ [])) []
 text_goes from front b h =
     let p = and_parts (not (b == 39)) (nat_le 32 b && nat_le b 126) h in
-    rw (no_quote (b == 39) p.0, p.1) refl
+    rw (not_true (b == 39) p.0, p.1) refl
 
 quoted : (from : ℕ) (front w bs : List ℕ) (at : ℕ) → are_inside w ≡ true → Quoted from front w bs at
 quoted from front [] bs at h = record { behind = at + 1; is = ap (λ (x : List ℕ). placeless (text_token x from) ∷ read_on Between (at + 1) bs) (sym (append-nil front)) }

@@ -4,6 +4,7 @@ use Rattle.gl_query.specs.declared.tree.Name.{Name}
 use Rattle.gl_query_tokens.specs.declared.token.Token.{Token}
 use Rattle.gl_query_tokens.specs.declared.token.Token.TheVariants as token
 use Rattle.gl_query_printer.specs.Canonical.{name_of, num_of}
+use Rattle.gl_bits.proofs.AllLists.{heads, tails}
 
 -- at place 0
 abbrev pub placeless : Token → Token
@@ -86,12 +87,6 @@ pub record Parts (us xs ys : List Token) : Type 0 where
   pub whole : us ≡ front ++ back
   pub front_is : map placeless front ≡ xs
   pub back_is : map placeless back ≡ ys
-
-heads : {A : Type 0} (x y : A) (xs ys : List A) → x ∷ xs ≡ y ∷ ys → x ≡ y
-heads x y xs ys h = cc
-
-tails : {A : Type 0} (x y : A) (xs ys : List A) → x ∷ xs ≡ y ∷ ys → xs ≡ ys
-tails x y xs ys h = cc
 
 none_some : {A : Type 0} (x : A) (xs : List A) → [] ≡ x ∷ xs → ⊥
 none_some x xs h = absurd (cc)

@@ -31,6 +31,8 @@ use Rattle.gl_query.specs.Alike.{expr_alike, agg_alike, item_alike, agg_item_ali
 use Rattle.gl_query_tokens.proofs.Sound.{IsLetters, is_word}
 use Rattle.gl_query_tokens.proofs.Sound.{IsSound, IsNameWord, IsSmall}
 use Rattle.gl_bits.proofs.AllLists.{all_parts}
+use Rattle.gl_bits.proofs.Options.{not_some, some_same}
+use Rattle.gl_query_reader.proofs.Regular.{sound_parts, AreSound}
 
 abbrev pub CanBeExpr : ExprShape → Type 0
 CanBeExpr (shape.Column name) = IsNameWord name
@@ -95,12 +97,6 @@ CanBeQuery q = CanBeSource q × IsNoStream q
 
 -- ---- what is written can be
 
-abbrev AreSound : List Token → Type 0
-AreSound ts = AllByRecursion IsSound ts
-
-split : (xs ys : List Token) → AreSound (xs ++ ys) → AreSound xs × AreSound ys
-split xs ys h = all_parts IsSound xs ys h
-
 kind_word : (word : List ℕ) (kind : Kind) → kind_named word ≡ Some kind → IsNameWord word → IsNameWord (kind_text kind) × (kind_named (kind_text kind) ≡ Some kind)
 kind_word word kind e h =
     let k = kind_named_is word kind e in
@@ -110,14 +106,14 @@ expr_can : (e : written.Expr) → written.IsExpr e → AreSound (written.spell e
 expr_can (written.Column name) g h = h.0
 expr_can (written.Number n) g h = h.0
 expr_can (written.Letters text at) g h = h.0
-expr_can (written.Brackets at e) g h = expr_can e g (split (written.spell e) (token.Plain plain.Close ∷ []) h.1).0
+expr_can (written.Brackets at e) g h = expr_can e g (sound_parts (written.spell e) (token.Plain plain.Close ∷ []) h.1).0
 expr_can (written.Cast at open' e word kind) g h =
-    let p = split (written.spell e) (token.Plain plain.As ∷ token.Name word ∷ token.Plain plain.Close ∷ []) h.1.1 in
+    let p = sound_parts (written.spell e) (token.Plain plain.As ∷ token.Name word ∷ token.Plain plain.Close ∷ []) h.1.1 in
     let k = kind_word word.text kind g.1 p.1.1.0 in
     (expr_can e g.0 p.0, k.0, k.1)
 expr_can (written.Not at e) g h = expr_can e g.1 h.1
 expr_can (written.Binary o at l r) g h =
-    let p = split (written.spell l) (token.Operator o at ∷ written.spell r) h in
+    let p = sound_parts (written.spell l) (token.Operator o at ∷ written.spell r) h in
     (expr_can l g.2 p.0, expr_can r g.3 p.1.1)
 
 weights_can : (ns : List Num) → AreSound (written.spell_numbers ns) → AllByRecursion IsSmall (map (λ (n : Num). n.value) ns)
@@ -136,12 +132,12 @@ some_weights n ns h = h
 
 agg_can : (a : written.Agg) → written.IsAgg a → AreSound (written.spell_agg a) → CanBeAgg (agg_alike (agg_meaning a))
 agg_can (written.Count at open') g h = tt
-agg_can (written.Fold' f at open' e) g h = fold_can f (expr_meaning e) (expr_can e g (split (written.spell e) (token.Plain plain.Close ∷ []) h.1.1).0)
+agg_can (written.Fold' f at open' e) g h = fold_can f (expr_meaning e) (expr_can e g (sound_parts (written.spell e) (token.Plain plain.Close ∷ []) h.1.1).0)
 agg_can (written.Wsum at open' e []) g h = absurd g
 agg_can (written.Wsum at open' e (n ∷ ns)) g h =
     let tail : List Token = token.Plain plain.RightSquare ∷ token.Plain plain.Close ∷ [] in
-    let p = split (written.spell e) (token.Plain plain.Comma ∷ token.Plain plain.LeftSquare ∷ (written.spell_numbers (n ∷ ns) ++ tail)) h.1.1 in
-    let q = split (written.spell_numbers (n ∷ ns)) tail p.1.1.1 in
+    let p = sound_parts (written.spell e) (token.Plain plain.Comma ∷ token.Plain plain.LeftSquare ∷ (written.spell_numbers (n ∷ ns) ++ tail)) h.1.1 in
+    let q = sound_parts (written.spell_numbers (n ∷ ns)) tail p.1.1.1 in
     (expr_can e g p.0, some_weights n ns (weights_can (n ∷ ns) q.0))
 
 -- each item is sound
@@ -152,14 +148,14 @@ each_sound : (is : List written.Item) → written.AreItems is → AreSound (writ
 each_sound [] g h = tt
 each_sound (i ∷ []) g h = ((g.0, h), tt)
 each_sound (i ∷ j ∷ is) g h =
-    let p = split (written.spell_item i) (token.Plain plain.Comma ∷ written.spell_items (j ∷ is)) h in
+    let p = sound_parts (written.spell_item i) (token.Plain plain.Comma ∷ written.spell_items (j ∷ is)) h in
     ((g.0, p.0), each_sound (j ∷ is) g.1 p.1.1)
 
 plain_can : (is : List written.Item) → AllByRecursion IsSoundItem is → AllByRecursion CanBeItem (map item_alike (plain_items is))
 plain_can [] h = tt
 plain_can (written.Bare name ∷ is) h = ((h.0.1.0, h.0.1.0), plain_can is h.1)
 plain_can (written.Named e name ∷ is) h =
-    let p = split (written.spell e) (token.Plain plain.As ∷ token.Name name ∷ []) h.0.1 in
+    let p = sound_parts (written.spell e) (token.Plain plain.As ∷ token.Name name ∷ []) h.0.1 in
     ((expr_can e h.0.0 p.0, p.1.1.0), plain_can is h.1)
 plain_can (written.Total a name ∷ is) h = plain_can is h.1
 
@@ -168,7 +164,7 @@ aggs_can [] h = tt
 aggs_can (written.Bare name ∷ is) h = aggs_can is h.1
 aggs_can (written.Named e name ∷ is) h = aggs_can is h.1
 aggs_can (written.Total a name ∷ is) h =
-    let p = split (written.spell_agg a) (token.Plain plain.As ∷ token.Name name ∷ []) h.0.1 in
+    let p = sound_parts (written.spell_agg a) (token.Plain plain.As ∷ token.Name name ∷ []) h.0.1 in
     ((agg_can a h.0.0 p.0, p.1.1.0), aggs_can is h.1)
 
 some_plain : (i : written.Item) (is : List written.Item) → is_total i ≡ false → Some' (map item_alike (plain_items (i ∷ is)))
@@ -225,27 +221,18 @@ it_is_token at = refl
 it_word : IsNameWord (codes "it")
 it_word = record { word = it_is_word; name = it_is_name; token = it_is_token }
 
-some_none : {A : Type 0} (x : A) → None ≡ Some x → ⊥
-some_none x h = absurd (cc)
-
-same_some : {A : Type 0} (x y : A) → Some x ≡ Some y → x ≡ y
-same_some x y h = cc
-
-none_some : {A : Type 0} (x : A) → None ≡ Some x → ⊥
-none_some x h = absurd (cc)
-
 either_some : (c : Bool) (a b : ℕ) → (if c then Some a else Some b) ≡ None → ⊥
-either_some true a b h = some_none a (sym h)
-either_some false a b h = some_none b (sym h)
+either_some true a b h = not_some a (sym h)
+either_some false a b h = not_some b (sym h)
 
 first_total : (i : written.Item) (is : List written.Item) (b : Bool) → is_total i ≡ b → first_other true (i ∷ is) ≡ None → b ≡ true
 first_total i is true e h = refl
-first_total i is false e h = absurd (let f : first_other true (i ∷ is) ≡ Some (item_at i) = rw e refl in some_none (item_at i) (sym h ∙ f))
+first_total i is false e h = absurd (let f : first_other true (i ∷ is) ≡ Some (item_at i) = rw e refl in not_some (item_at i) (sym h ∙ f))
 
 -- behind the key stands at least one aggregate
 groups_some : (i : written.Item) (is : List written.Item) (g : Grouping) (k : Bool) → is_key g.key i ≡ k → (if k then behind_key g is else Some (item_at i)) ≡ None → Some' (map agg_item_alike (agg_items (i ∷ is)))
-groups_some i is g false e h = absurd (some_none (item_at i) (sym h))
-groups_some (written.Bare name) [] g true e h = absurd (some_none g.at (sym h))
+groups_some i is g false e h = absurd (not_some (item_at i) (sym h))
+groups_some (written.Bare name) [] g true e h = absurd (not_some g.at (sym h))
 groups_some (written.Bare name) (j ∷ is) g true e h = some_aggs j is (first_total j is (is_total j) refl h)
 groups_some (written.Named x name) is g true e h = absurd (true≢false (sym e))
 groups_some (written.Total a name) is g true e h = absurd (true≢false (sym e))
@@ -253,7 +240,7 @@ groups_some (written.Total a name) is g true e h = absurd (true≢false (sym e))
 grouped_can : (p : written.Pick) (f : Option written.Expr) (o : Option Grouping) (source : tree.QueryTree) → IsSoundPick p → IsSoundFilter f → ((g : Grouping) → o ≡ Some g → IsSoundGrouping g) → mixed_pick p o ≡ None → CanBeSource (query_alike source)
     → CanBeQuery (query_alike (grouped p (option_map expr_meaning f) o source))
 grouped_can p f None source h w r m s = by_pick_can p f source h w s
-grouped_can (written.All at) f (Some g) source h w r m s = absurd (some_none at (sym m))
+grouped_can (written.All at) f (Some g) source h w r m s = absurd (not_some at (sym m))
 grouped_can (written.Items []) f (Some g) source h w r m s = absurd h.0
 grouped_can (written.Items (i ∷ is)) f (Some g) source h w r m s =
     let k = r g refl in
@@ -274,16 +261,16 @@ select_can p (Some v) f g source h w k r m s =
 -- ---- queries
 
 window_sound : (o : Option Window) → AreSound (written.spell_if_window o) → (w : Window) → o ≡ Some w → IsSoundWindow w
-window_sound None h w e = absurd (none_some w e)
-window_sound (Some v) h w e = subst IsSoundWindow (same_some v w e) (h.1.1.0, h.1.1.1.1.0)
+window_sound None h w e = absurd (not_some w e)
+window_sound (Some v) h w e = subst IsSoundWindow (some_same v w e) (h.1.1.0, h.1.1.1.1.0)
 
 grouping_sound : (o : Option Grouping) → AreSound (written.spell_if_grouping o) → (g : Grouping) → o ≡ Some g → IsSoundGrouping g
-grouping_sound None h g e = absurd (none_some g e)
-grouping_sound (Some r) h g e = subst IsSoundGrouping (same_some r g e) (h.1.1.0, h.1.1.1.1.0)
+grouping_sound None h g e = absurd (not_some g e)
+grouping_sound (Some r) h g e = subst IsSoundGrouping (some_same r g e) (h.1.1.0, h.1.1.1.1.0)
 
 least_left : (a b : Option ℕ) → least a b ≡ None → a ≡ None
 least_left None b h = refl
-least_left (Some a) None h = absurd (some_none a (sym h))
+least_left (Some a) None h = absurd (not_some a (sym h))
 least_left (Some a) (Some b) h = absurd (either_some (nat_le a b) a b h)
 
 least_right : (a b : Option ℕ) → least a b ≡ None → b ≡ None
@@ -311,16 +298,16 @@ record Can (q : written.Query) : Type 0 where
 query_can : (q : written.Query) → AreSound (written.spell_query q) → mixed_in q ≡ None → Can q
 query_can (written.Stream name) h m = record { source = λ g. h.0; query = λ g. absurd g }
 query_can (written.InBrackets at q) h m =
-    let c = query_can q (split (written.spell_query q) (token.Plain plain.Close ∷ []) h.1).0 m in
+    let c = query_can q (sound_parts (written.spell_query q) (token.Plain plain.Close ∷ []) h.1).0 m in
     record { source = λ g. (c.query g).0; query = λ g. c.query g }
 query_can (written.Select pick source window filter grouping) h m =
     let windows = written.spell_if_window window in
     let filters = written.spell_filter filter in
     let groups = written.spell_if_grouping grouping in
-    let a = split (written.spell_pick pick) (token.Plain plain.From ∷ (written.spell_query source ++ (windows ++ (filters ++ groups)))) h.1 in
-    let b = split (written.spell_query source) (windows ++ (filters ++ groups)) a.1.1 in
-    let c = split windows (filters ++ groups) b.1 in
-    let d = split filters groups c.1 in
+    let a = sound_parts (written.spell_pick pick) (token.Plain plain.From ∷ (written.spell_query source ++ (windows ++ (filters ++ groups)))) h.1 in
+    let b = sound_parts (written.spell_query source) (windows ++ (filters ++ groups)) a.1.1 in
+    let c = sound_parts windows (filters ++ groups) b.1 in
+    let d = sound_parts filters groups c.1 in
     let s = query_can source b.0 (least_right (mixed_pick pick grouping) (mixed_in source) m) in
     record {
       source = λ g. absurd g;
@@ -328,9 +315,9 @@ query_can (written.Select pick source window filter grouping) h m =
     }
 query_can (written.Windows at var source window open' body) h m =
     let tail : List Token = written.spell_query body ++ token.Plain plain.Close ∷ [] in
-    let a = split (written.spell_query source) (written.spell_window window ++ token.Open open' ∷ tail) h.1.1.1 in
-    let b = split (written.spell_window window) (token.Open open' ∷ tail) a.1 in
-    let c = split (written.spell_query body) (token.Plain plain.Close ∷ []) b.1.1 in
+    let a = sound_parts (written.spell_query source) (written.spell_window window ++ token.Open open' ∷ tail) h.1.1.1 in
+    let b = sound_parts (written.spell_window window) (token.Open open' ∷ tail) a.1 in
+    let c = sound_parts (written.spell_query body) (token.Plain plain.Close ∷ []) b.1.1 in
     let s = query_can source a.0 (least_left (mixed_in source) (mixed_in body) m) in
     let i = query_can body c.0 (least_right (mixed_in source) (mixed_in body) m) in
     record {
@@ -339,9 +326,9 @@ query_can (written.Windows at var source window open' body) h m =
     }
 query_can (written.Groups at var source grouping open' body) h m =
     let tail : List Token = written.spell_query body ++ token.Plain plain.Close ∷ [] in
-    let a = split (written.spell_query source) (written.spell_grouping grouping ++ token.Open open' ∷ tail) h.1.1.1 in
-    let b = split (written.spell_grouping grouping) (token.Open open' ∷ tail) a.1 in
-    let c = split (written.spell_query body) (token.Plain plain.Close ∷ []) b.1.1 in
+    let a = sound_parts (written.spell_query source) (written.spell_grouping grouping ++ token.Open open' ∷ tail) h.1.1.1 in
+    let b = sound_parts (written.spell_grouping grouping) (token.Open open' ∷ tail) a.1 in
+    let c = sound_parts (written.spell_query body) (token.Plain plain.Close ∷ []) b.1.1 in
     let s = query_can source a.0 (least_left (mixed_in source) (mixed_in body) m) in
     let i = query_can body c.0 (least_right (mixed_in source) (mixed_in body) m) in
     record {
@@ -349,7 +336,7 @@ query_can (written.Groups at var source grouping open' body) h m =
       query = λ g. ((h.1.0, s.source g.0, b.0.1.0, b.0.1.1.1.0, (i.query g.1).0, (i.query g.1).1), tt);
     }
 query_can (written.Join' join at l r) h m =
-    let a = split (written.spell_query l) (token.Join join at ∷ written.spell_query r) h in
+    let a = sound_parts (written.spell_query l) (token.Join join at ∷ written.spell_query r) h in
     let x = query_can l a.0 (least_left (mixed_in l) (mixed_in r) m) in
     let y = query_can r a.1.1 (least_right (mixed_in l) (mixed_in r) m) in
     record {
@@ -364,5 +351,5 @@ pub record CanBeStatement (s : shape.StatementShape) : Type 0 where
 
 pub statement_can : (w : written.Statement) → written.IsQuery w.query → AreSound (written.spell_statement w) → mixed_in w.query ≡ None → CanBeStatement (statement_alike (statement_meaning w))
 statement_can w g h m =
-    let a = split (written.spell_query w.query) (token.Plain plain.Into ∷ token.Name w.name ∷ written.spell_end w.closed) h in
+    let a = sound_parts (written.spell_query w.query) (token.Plain plain.Into ∷ token.Name w.name ∷ written.spell_end w.closed) h in
     record { query = (query_can w.query a.0 m).query g; name = a.1.1.0 }

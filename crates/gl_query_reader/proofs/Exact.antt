@@ -14,18 +14,20 @@ use Rattle.gl_query_reader.specs.Limits.{none_counted, after, counted, is_past, 
 use Rattle.gl_query.specs.Trees.{StatementTree, statement_tree}
 use Rattle.gl_query_reader.specs.Reading.{run, or_syntax, with_items, answered, Answers}
 use Rattle.gl_query_reader.specs.Grammar.{bare_tokens, Derives, CanBegin, Stops, IsSyntaxFault, IsDepthFault, IsItemsFault, IsErrOrMemory, Verdict}
-use Rattle.gl_query_reader.proofs.Steps.{steps, steps-one, and_then_some, run-steps}
+use Rattle.gl_query_reader.proofs.Steps.{steps, steps-one, run-steps, guard_true}
 use Rattle.gl_query_reader.proofs.ReadQueries.{final, finishes, reads_statement}
 use Rattle.gl_query_reader.proofs.Sound.{derives, sound_step}
 use Rattle.gl_query_reader.proofs.Begins.{begins}
 use Rattle.gl_query_reader.proofs.Meets.{answer_for, read_to, bare-push}
+use Rattle.gl_bits.proofs.Options.{then_some}
+use Rattle.gl_query_reader.proofs.Loop.{run-syntax}
 
 -- tokens that lead to a state lead to one at each of their fronts
 pub steps-front : (a b : List Token) (s y : State) → steps s (a ++ b) ≡ Some y → (x : State) × (steps s a ≡ Some x) × (steps x b ≡ Some y)
 unfolding steps
 steps-front [] b s y e = (s, refl, e)
 steps-front (t ∷ a) b s y e =
-    let g = and_then_some (λ x. steps x (a ++ b)) (step s t) y e in
+    let g = then_some (λ x. steps x (a ++ b)) (step s t) y e in
     let h = steps-front a b g.0 y g.2 in
     (h.0, steps-one s g.0 t a g.1 ∙ h.1, h.2)
 
@@ -35,22 +37,14 @@ reads_front ts b =
     let g = steps-front ts b.0 start (final b.1) (ap (steps start) (sym b.2.spelled) ∙ reads_statement b.1 b.2.grammar) in
     (g.0, g.1)
 
-guard_true : (b c : Bool) → cond b false c ≡ true → (b ≡ false) × (c ≡ true)
-guard_true true c e = absurd cc
-guard_true false c e = (refl, e)
-
 -- reading goes on behind tokens that pass no limit
 pub run-front : (len : ℕ) (ls more : List Lexeme) (n : Counts) (s s' : State) → keeps_limits n (bare_tokens ls) ≡ true → steps s (bare_tokens ls) ≡ Some s' → run len n s (ls ++ more) ≡ run len (counted n (bare_tokens ls)) s' more
 unfolding run steps
 run-front len [] more n s s' k e = let same : s ≡ s' = cc in rw same refl
 run-front len (l ∷ ls) more n s s' k e =
-    let g = and_then_some (λ x. steps x (bare_tokens ls)) (step s l.token) s' e in
+    let g = then_some (λ x. steps x (bare_tokens ls)) (step s l.token) s' e in
     let h = guard_true (is_past (after n l.token)) (keeps_limits (after n l.token) (bare_tokens ls)) k in
     rw (g.1, h.0) (run-front len ls more (after n l.token) g.0 s' h.1 g.2)
-
-run-stops : (len : ℕ) (n : Counts) (s : State) (l : Lexeme) (ls : List Lexeme) → step s l.token ≡ None → run len n s (l ∷ ls) ≡ Err (Syntax l.at)
-unfolding run
-run-stops len n s l ls e = rw e refl
 
 run-deep : (len : ℕ) (n : Counts) (s s' : State) (l : Lexeme) (ls : List Lexeme) → step s l.token ≡ Some s' → is_past (after n l.token) ≡ true → run len n s (l ∷ ls) ≡ Err (TooDeep l.at)
 unfolding run
@@ -83,7 +77,7 @@ halts len at read [] s k e st =
     ∙ ap (λ (n : ℕ). Err (Syntax n)) (sym st.0)
 halts len at read (l ∷ left) s k e st =
     run-front len read (l ∷ left) none_counted start s k e
-    ∙ run-stops len (counted none_counted (bare_tokens read)) s l left (cannot_step read l s e st.1)
+    ∙ run-syntax len (counted none_counted (bare_tokens read)) s l left (cannot_step read l s e st.1)
     ∙ ap (λ (n : ℕ). Err (Syntax n)) (sym st.0)
 
 pub syntax_answer : (text : List ℕ) (at : ℕ) → IsSyntaxFault text at → answer_for text ≡ Err (fault.Syntax at)
@@ -98,7 +92,7 @@ counted-push n (x ∷ ts) t = counted-push (after n x) ts t
 
 one_step : (s y : State) (t : Token) → steps s (t ∷ []) ≡ Some y → (x : State) × (step s t ≡ Some x)
 unfolding steps
-one_step s y t e = let g = and_then_some (λ x. steps x []) (step s t) y e in (g.0, g.1)
+one_step s y t e = let g = then_some (λ x. steps x []) (step s t) y e in (g.0, g.1)
 
 pub depth_answer : (text : List ℕ) (at : ℕ) → IsDepthFault text at → answer_for text ≡ Err (fault.TooDeep at)
 depth_answer text at h =

@@ -14,6 +14,7 @@ use Rattle.gl_query_reader.specs.Grammar.{Derives}
 use Rattle.gl_query_reader.proofs.Steps.{steps, state, steps-one}
 use Rattle.gl_query_reader.proofs.ReadExpressions.{waits, last_of, pair, wanting, having, reads_expr, reduced-whole, level-lt}
 use Rattle.gl_query_reader.proofs.ReadItems.{wanting_item, reads_pick}
+use Rattle.gl_bits.proofs.Options.{some_same}
 
 -- the state at a query's end: a select waits for what may stand behind it
 abbrev pub ended : Query → List Frame → State
@@ -278,11 +279,8 @@ finish-final q name true = refl
 pub finishes : (w : Statement) → finish (final w) ≡ Some w
 finishes w = finish-final w.query w.name w.closed
 
-some-same : {A : Type 0} (x y : A) → Some x ≡ Some y → x ≡ y
-some-same x y e = cc
-
 -- tokens have at most one statement
 pub one_statement : (ts : List Token) (v w : Statement) → Derives ts v → Derives ts w → v ≡ w
 one_statement ts v w a b =
-    let same : final v ≡ final w = some-same _ _ (sym (reads_statement v a.grammar) ∙ ap (steps start) (a.spelled ∙ sym b.spelled) ∙ reads_statement w b.grammar) in
-    some-same v w (sym (finishes v) ∙ ap finish same ∙ finishes w)
+    let same : final v ≡ final w = some_same _ _ (sym (reads_statement v a.grammar) ∙ ap (steps start) (a.spelled ∙ sym b.spelled) ∙ reads_statement w b.grammar) in
+    some_same v w (sym (finishes v) ∙ ap finish same ∙ finishes w)

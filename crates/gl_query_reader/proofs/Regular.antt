@@ -28,45 +28,45 @@ use Rattle.gl_query_reader.specs.Reading.{Answers}
 use Rattle.gl_query_reader.proofs.Meets.{answer_for, found}
 use Rattle.gl_query_reader.proofs.Small.{statement_small}
 
-abbrev AreSound : List Token → Type 0
+abbrev pub AreSound : List Token → Type 0
 AreSound ts = AllByRecursion IsSound ts
 
-split : (xs ys : List Token) → AreSound (xs ++ ys) → AreSound xs × AreSound ys
-split xs ys h = all_parts IsSound xs ys h
+pub sound_parts : (xs ys : List Token) → AreSound (xs ++ ys) → AreSound xs × AreSound ys
+sound_parts xs ys h = all_parts IsSound xs ys h
 
 expr_names : (e : written.Expr) → AreSound (written.spell e) → HasNames (expr_alike (expr_meaning e))
 expr_names (written.Column name) h = h.0.name
 expr_names (written.Number n) h = tt
 expr_names (written.Letters text at) h = tt
-expr_names (written.Brackets at e) h = expr_names e (split (written.spell e) (token.Plain plain.Close ∷ []) h.1).0
+expr_names (written.Brackets at e) h = expr_names e (sound_parts (written.spell e) (token.Plain plain.Close ∷ []) h.1).0
 expr_names (written.Cast at open' e word kind) h =
-    expr_names e (split (written.spell e) (token.Plain plain.As ∷ token.Name word ∷ token.Plain plain.Close ∷ []) h.1.1).0
+    expr_names e (sound_parts (written.spell e) (token.Plain plain.As ∷ token.Name word ∷ token.Plain plain.Close ∷ []) h.1.1).0
 expr_names (written.Not at e) h = expr_names e h.1
 expr_names (written.Binary o at l r) h =
-    let p = split (written.spell l) (token.Operator o at ∷ written.spell r) h in
+    let p = sound_parts (written.spell l) (token.Operator o at ∷ written.spell r) h in
     (expr_names l p.0, expr_names r p.1.1)
 
 agg_names : (a : written.Agg) → AreSound (written.spell_agg a) → AggHolds HasNames a
 agg_names (written.Count at open') h = tt
-agg_names (written.Fold' f at open' e) h = expr_names e (split (written.spell e) (token.Plain plain.Close ∷ []) h.1.1).0
+agg_names (written.Fold' f at open' e) h = expr_names e (sound_parts (written.spell e) (token.Plain plain.Close ∷ []) h.1.1).0
 agg_names (written.Wsum at open' e ns) h =
     let tail : List Token = token.Plain plain.Comma ∷ token.Plain plain.LeftSquare ∷ (written.spell_numbers ns ++ token.Plain plain.RightSquare ∷ token.Plain plain.Close ∷ []) in
-    expr_names e (split (written.spell e) tail h.1.1).0
+    expr_names e (sound_parts (written.spell e) tail h.1.1).0
 
 item_names : (i : written.Item) → AreSound (written.spell_item i) → ItemHolds HasNames IsName i
 item_names (written.Bare name) h = (h.0.name, h.0.name)
 item_names (written.Named e name) h =
-    let p = split (written.spell e) (token.Plain plain.As ∷ token.Name name ∷ []) h in
+    let p = sound_parts (written.spell e) (token.Plain plain.As ∷ token.Name name ∷ []) h in
     (expr_names e p.0, p.1.1.0.name)
 item_names (written.Total a name) h =
-    let p = split (written.spell_agg a) (token.Plain plain.As ∷ token.Name name ∷ []) h in
+    let p = sound_parts (written.spell_agg a) (token.Plain plain.As ∷ token.Name name ∷ []) h in
     (agg_names a p.0, p.1.1.0.name)
 
 items_names : (is : List written.Item) → AreSound (written.spell_items is) → AllByRecursion (ItemHolds HasNames IsName) is
 items_names [] h = tt
 items_names (i ∷ []) h = (item_names i h, tt)
 items_names (i ∷ j ∷ is) h =
-    let p = split (written.spell_item i) (token.Plain plain.Comma ∷ written.spell_items (j ∷ is)) h in
+    let p = sound_parts (written.spell_item i) (token.Plain plain.Comma ∷ written.spell_items (j ∷ is)) h in
     (item_names i p.0, items_names (j ∷ is) p.1.1)
 
 pick_names : (p : written.Pick) → AreSound (written.spell_pick p) → PickHolds HasNames IsName p
@@ -83,30 +83,30 @@ grouping_names (Some g) h = h.1.1.0.name
 
 query_names : (q : written.Query) → AreSound (written.spell_query q) → QueryHolds HasNames IsName q
 query_names (written.Stream name) h = h.0.name
-query_names (written.InBrackets at q) h = query_names q (split (written.spell_query q) (token.Plain plain.Close ∷ []) h.1).0
+query_names (written.InBrackets at q) h = query_names q (sound_parts (written.spell_query q) (token.Plain plain.Close ∷ []) h.1).0
 query_names (written.Select pick source window filter grouping) h =
     let windows = written.spell_if_window window in
     let filters = written.spell_filter filter in
     let groups = written.spell_if_grouping grouping in
-    let a = split (written.spell_pick pick) (token.Plain plain.From ∷ (written.spell_query source ++ (windows ++ (filters ++ groups)))) h.1 in
-    let b = split (written.spell_query source) (windows ++ (filters ++ groups)) a.1.1 in
-    let c = split windows (filters ++ groups) b.1 in
-    let d = split filters groups c.1 in
+    let a = sound_parts (written.spell_pick pick) (token.Plain plain.From ∷ (written.spell_query source ++ (windows ++ (filters ++ groups)))) h.1 in
+    let b = sound_parts (written.spell_query source) (windows ++ (filters ++ groups)) a.1.1 in
+    let c = sound_parts windows (filters ++ groups) b.1 in
+    let d = sound_parts filters groups c.1 in
     (query_names source b.0, pick_names pick a.0, filter_names filter d.0, grouping_names grouping d.1)
 query_names (written.Windows at var source window open' body) h =
     let tail : List Token = written.spell_query body ++ token.Plain plain.Close ∷ [] in
-    let a = split (written.spell_query source) (written.spell_window window ++ token.Open open' ∷ tail) h.1.1.1 in
-    let b = split (written.spell_window window) (token.Open open' ∷ tail) a.1 in
-    let c = split (written.spell_query body) (token.Plain plain.Close ∷ []) b.1.1 in
+    let a = sound_parts (written.spell_query source) (written.spell_window window ++ token.Open open' ∷ tail) h.1.1.1 in
+    let b = sound_parts (written.spell_window window) (token.Open open' ∷ tail) a.1 in
+    let c = sound_parts (written.spell_query body) (token.Plain plain.Close ∷ []) b.1.1 in
     (query_names source a.0, query_names body c.0, h.1.0.name)
 query_names (written.Groups at var source grouping open' body) h =
     let tail : List Token = written.spell_query body ++ token.Plain plain.Close ∷ [] in
-    let a = split (written.spell_query source) (written.spell_grouping grouping ++ token.Open open' ∷ tail) h.1.1.1 in
-    let b = split (written.spell_grouping grouping) (token.Open open' ∷ tail) a.1 in
-    let c = split (written.spell_query body) (token.Plain plain.Close ∷ []) b.1.1 in
+    let a = sound_parts (written.spell_query source) (written.spell_grouping grouping ++ token.Open open' ∷ tail) h.1.1.1 in
+    let b = sound_parts (written.spell_grouping grouping) (token.Open open' ∷ tail) a.1 in
+    let c = sound_parts (written.spell_query body) (token.Plain plain.Close ∷ []) b.1.1 in
     (query_names source a.0, query_names body c.0, h.1.0.name, b.0.1.0.name)
 query_names (written.Join' join at l r) h =
-    let a = split (written.spell_query l) (token.Join join at ∷ written.spell_query r) h in
+    let a = sound_parts (written.spell_query l) (token.Join join at ∷ written.spell_query r) h in
     (query_names l a.0, query_names r a.1.1)
 
 it_is_name : IsName (codes "it")
@@ -116,7 +116,7 @@ it_is_name = refl
 written_regular : (w : written.Statement) → keeps_limits none_counted (written.spell_statement w) ≡ true → AreSound (written.spell_statement w)
     → IsRegular (statement_alike (statement_meaning w))
 written_regular w k h =
-    let p = split (written.spell_query w.query) (token.Plain plain.Into ∷ token.Name w.name ∷ written.spell_end w.closed) h in
+    let p = sound_parts (written.spell_query w.query) (token.Plain plain.Into ∷ token.Name w.name ∷ written.spell_end w.closed) h in
     record {
       small = query_in IsSmall (λ name. Unit {0}) tt w.query (statement_small w k);
       names = (query_in HasNames IsName it_is_name w.query (query_names w.query p.0), p.1.1.0.name);

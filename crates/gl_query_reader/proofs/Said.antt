@@ -16,6 +16,7 @@ use Rattle.gl_query_reader.specs.Written.{Wsum, Item, Items, Query, left_loosene
 use Rattle.gl_query_reader.specs.Machine.{State, Control, Frame, Head, BodyHead, GroupsHead, Unnamed, SelectHead, EachHead, WindowsHead, GroupsHead', SelectGroups, EachGroups, UnnamedExpr, UnnamedAgg, LeftOf, NotOf, BracketOf, InCast, InItem, InFold, InWsum, InFilter, JoinOf, InQuery, InSource, InBody, WantTerm, WantItem, WantOperand, HaveExpr, WantCastOpen, WantKind, WantCastClose, WantCountOpen, WantCountClose, WantFoldOpen, WantWsumOpen, WantWeightsOpen, WantWeight, HaveWeight, WantWsumClose, WantAs, WantItemName, HaveItem, WantFrom, WantSource, HaveSource, HaveEachSource, WantSize, WantSizeNumber, WantAdvance, WantAdvanceNumber, WantTuples, WantWindowClose, WantBy, WantKey, WantGroups, WantGroupsNumber, WantVar, WantIn, WantBody, HaveTerm, WantName, HaveName, WantEnd, room}
 use Rattle.gl_query_reader.proofs.Steps.{state}
 use Rattle.gl_query_reader.proofs.ReadQueries.{NoJoin}
+use Rattle.gl_bits.proofs.Options.{some_same}
 
 -- ---- the tokens
 
@@ -219,11 +220,8 @@ pub record Read (s : State) (done : List Token) : Type 0 where
 
 -- ---- one token more
 
-pub some-same : {A : Type 0} (x y : A) → Some x ≡ Some y → x ≡ y
-some-same x y e = cc
-
 pub by_some : (x s' : State) (done : List Token) → Some x ≡ Some s' → Read x done → Read s' done
-by_some x s' done e r = subst (λ (y : State). Read y done) (some-same x s' e) r
+by_some x s' done e r = subst (λ (y : State). Read y done) (some_same x s' e) r
 
 eq_is : (q p : Plain) → plain_eq q p ≡ true → q ≡ p
 unfolding plain_eq

@@ -5,10 +5,11 @@ use Rattle.gl_query_tokens.specs.declared.token.Token.{Token}
 use Rattle.gl_query_reader.specs.Written.{Statement}
 use Rattle.gl_query_reader.specs.Machine.{State, Control, Frame, WantTerm, WantItem, WantOperand, HaveExpr, WantCastOpen, WantKind, WantCastClose, WantCountOpen, WantCountClose, WantFoldOpen, WantWsumOpen, WantWeightsOpen, WantWeight, HaveWeight, WantWsumClose, WantAs, WantItemName, HaveItem, WantFrom, WantSource, HaveSource, HaveEachSource, WantSize, WantSizeNumber, WantAdvance, WantAdvanceNumber, WantTuples, WantWindowClose, WantBy, WantKey, WantGroups, WantGroupsNumber, WantVar, WantIn, WantBody, HaveTerm, WantName, HaveName, WantEnd, start, step, finish, finish_at}
 use Rattle.gl_query_reader.specs.Grammar.{Derives}
-use Rattle.gl_query_reader.proofs.Steps.{steps, and_then_some}
-use Rattle.gl_query_reader.proofs.Said.{before, control_text, Holds, Read, some-same}
+use Rattle.gl_query_reader.proofs.Steps.{steps}
+use Rattle.gl_query_reader.proofs.Said.{before, control_text, Holds, Read}
 use Rattle.gl_query_reader.proofs.SoundTerms.{Keeps, keeps_want_term, keeps_var, keeps_in, keeps_body, keeps_have_term, keeps_want_name, keeps_have_name, keeps_end, keeps_source, keeps_have_source, keeps_each_source, keeps_size, keeps_size_number, keeps_advance, keeps_advance_number, keeps_tuples, keeps_window_close, keeps_by, keeps_key, keeps_groups, keeps_groups_number}
 use Rattle.gl_query_reader.proofs.SoundExpressions.{keeps_operand, keeps_cast_open, keeps_kind, keeps_cast_close, keeps_item, keeps_count_open, keeps_count_close, keeps_fold_open, keeps_wsum_open, keeps_weights_open, keeps_weight, keeps_have_weight, keeps_wsum_close, keeps_as, keeps_item_name, keeps_have_item, keeps_from, keeps_expr}
+use Rattle.gl_bits.proofs.Options.{some_same, then_some}
 
 pub keeps : (c : Control) → Keeps c
 keeps WantTerm = keeps_want_term
@@ -57,9 +58,9 @@ sound_step s s' t done r e = subst (λ (x : List Token). Read s' (x ++ t ∷ [])
 
 pub sound_steps : (ts : List Token) (s s' : State) (done : List Token) → Read s done → steps s ts ≡ Some s' → Read s' (done ++ ts)
 unfolding steps
-sound_steps [] s s' done r e = subst (λ (x : List Token). Read s' x) (sym (append-nil done)) (subst (λ (y : State). Read y done) (some-same s s' e) r)
+sound_steps [] s s' done r e = subst (λ (x : List Token). Read s' x) (sym (append-nil done)) (subst (λ (y : State). Read y done) (some_same s s' e) r)
 sound_steps (t ∷ ts) s s' done r e =
-    let g = and_then_some (λ x. steps x ts) (step s t) s' e in
+    let g = then_some (λ x. steps x ts) (step s t) s' e in
     subst (λ (x : List Token). Read s' x) (append_assoc done (t ∷ []) ts) (sound_steps ts g.0 s' (done ++ t ∷ []) (sound_step s g.0 t done r g.1) g.2)
 
 pub read_start : Read start []

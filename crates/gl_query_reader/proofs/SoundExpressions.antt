@@ -14,10 +14,10 @@ use Rattle.gl_query_tokens.specs.declared.token.Token.{Token}
 use Rattle.gl_query_tokens.specs.declared.token.Token.TheVariants as token
 use Rattle.gl_query_reader.specs.Written.{Expr, Column, Cast, Not, Binary, Agg, Count, Wsum, Item, Bare, All, Items, Select, looseness, left_looseness, level, IsExpr, IsAgg, IsItem, AreItems, IsPick, spell, spell_numbers, spell_agg, spell_item, spell_items, spell_pick, spell_query, spell_if_window}
 use Rattle.gl_query_reader.specs.Machine.{State, Frame, SelectHead, Unnamed, UnnamedExpr, UnnamedAgg, LeftOf, NotOf, BracketOf, InCast, InItem, InFold, InWsum, InFilter, WantItem, WantOperand, HaveExpr, WantCastOpen, WantKind, WantCastClose, WantCountOpen, WantCountClose, WantFoldOpen, WantWsumOpen, WantWeightsOpen, WantWeight, HaveWeight, WantWsumClose, WantAs, WantItemName, HaveItem, WantFrom, WantSource, Reduced, room, reduced, want_operand, have_item, after_expr, after_item, bare, under_name, goes}
-use Rattle.gl_query_reader.proofs.Steps.{and_then_some}
 use Rattle.gl_query_reader.proofs.ReadExpressions.{pair}
 use Rattle.gl_query_reader.proofs.Said.{items_before, numbers_before, in_items, unnamed_text, before, control_text, IsUnnamed, InExpr, Fits, Read, by_some, by_if, by_plain, by_name, by_number, by_open, go_on, go_in}
 use Rattle.gl_query_reader.proofs.SoundTerms.{Keeps, keeps_term}
+use Rattle.gl_bits.proofs.Options.{then_some}
 
 -- ---- lists that grow
 
@@ -104,7 +104,7 @@ cast_end x a b c d t = simp append_assoc
 
 pub keeps_kind : (at open' : ℕ) (inner : Expr) → Keeps (WantKind at open' inner)
 keeps_kind at open' inner fs t s' f h e = by_name t _ s' _ e (λ n d.
-    let g = and_then_some _ (kind_named n.text) s' d in
+    let g = then_some _ (kind_named n.text) s' d in
     by_some _ s' _ g.2 (go_on (control_text (WantKind at open' inner)) (WantCastClose at open' inner n g.0) fs (token.Name n) f (h.0, h.1, g.1) (cast_kind (spell inner) (token.Cast at) (token.Open open') (token.Plain plain.As) (token.Name n))))
 
 pub keeps_cast_close : (at open' : ℕ) (inner : Expr) (word : Name) (kind : Kind) → Keeps (WantCastClose at open' inner word kind)
@@ -261,7 +261,7 @@ after_in_item : (items : List Item) (fs : List Frame) (e : Expr) (t : Token) (s'
 after_in_item items fs e t s' f g d =
     by_if plain.As t _ _ s' _ d
     (λ d1. by_some _ s' _ d1 (record { text = text (before fs) (items_before items) (spell e) (token.Plain plain.Select) (token.Plain plain.As); fits = f.1; holds = (f.0.0, f.0.1, g) }))
-    (λ d1. let h = and_then_some _ (bare e) s' d1 in keeps_bare items fs e t s' h.0 f g h.1 h.2)
+    (λ d1. let h = then_some _ (bare e) s' d1 in keeps_bare items fs e t s' h.0 f g h.1 h.2)
   where
     text : (b i x : List Token) (s a : Token) → b ++ (s ∷ (i ++ (x ++ a ∷ []))) ≡ ((b ++ (s ∷ i)) ++ x) ++ a ∷ []
     text b i x s a = simp append_assoc

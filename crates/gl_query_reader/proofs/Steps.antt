@@ -8,6 +8,7 @@ use Rattle.gl_query_reader.specs.Machine.{State, Control, Frame, step, finish}
 use Rattle.gl_query_reader.specs.Limits.{after, is_past, keeps_limits}
 use Rattle.gl_query_reader.specs.Reading.{run, or_syntax}
 use Rattle.gl_query_reader.specs.Grammar.{bare_tokens}
+use Rattle.gl_bits.proofs.Options.{then_some}
 
 -- the state behind tokens that can stand there
 unfoldable pub steps : State → List Token → Option State
@@ -30,16 +31,12 @@ pub steps-same : (s s' : State) (t : Token) (ts : List Token) → step s t ≡ s
 unfolding steps
 steps-same s s' t ts e = rw e refl
 
-pub and_then_some : {A B : Type 0} (f : A → Option B) (o : Option A) (y : B) → option_and_then f o ≡ Some y → (x : A) × (o ≡ Some x) × (f x ≡ Some y)
-and_then_some f None y e = absurd cc
-and_then_some f (Some x) y e = (x, refl, e)
-
 pub steps-append : (a b : List Token) (s s' : State) → steps s a ≡ Some s' → steps s (a ++ b) ≡ steps s' b
 unfolding steps
 steps-append [] b s s' e = let same : s ≡ s' = cc in rw same refl
-steps-append (t ∷ a) b s s' e = let g = and_then_some (λ x. steps x a) (step s t) s' e in rw g.1 (steps-append a b g.0 s' g.2)
+steps-append (t ∷ a) b s s' e = let g = then_some (λ x. steps x a) (step s t) s' e in rw g.1 (steps-append a b g.0 s' g.2)
 
-guard_true : (b c : Bool) → cond b false c ≡ true → (b ≡ false) × (c ≡ true)
+pub guard_true : (b c : Bool) → cond b false c ≡ true → (b ≡ false) × (c ≡ true)
 guard_true true c e = absurd cc
 guard_true false c e = (refl, e)
 
@@ -48,6 +45,6 @@ pub run-steps : (len : ℕ) (ls : List Lexeme) (n : Counts) (s s' : State) → k
 unfolding run steps
 run-steps len [] n s s' k e = let same : s ≡ s' = cc in rw same refl
 run-steps len (l ∷ ls) n s s' k e =
-    let g = and_then_some (λ x. steps x (bare_tokens ls)) (step s l.token) s' e in
+    let g = then_some (λ x. steps x (bare_tokens ls)) (step s l.token) s' e in
     let h = guard_true (is_past (after n l.token)) (keeps_limits (after n l.token) (bare_tokens ls)) k in
     rw (g.1, h.0) (run-steps len ls (after n l.token) g.0 s' h.1 g.2)

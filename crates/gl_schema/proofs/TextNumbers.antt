@@ -1,6 +1,7 @@
 -- The number of a text's bytes, byte by byte.
-use Rattle.std.proofs.Common.{◌≡◌, ℕ, ◌+◌, ◌-◌, ◌*◌, ◌<◌, ◌≤◌, ◌^◌, List, length, take, get_or, refl, sym, ap, ◌∙◌, arith, inl, inr}
-use Rattle.std.specs.Prelude.{replicate}
+use Rattle.std.proofs.Common.{◌≡◌, ℕ, zero, suc, ◌+◌, ◌-◌, ◌*◌, ◌<◌, ◌≤◌, ◌^◌, List, [], ◌∷◌, length, take, get_or, refl, sym, subst, ap, ◌∙◌, arith, inl, inr}
+use Rattle.std.specs.Prelude.{fold, replicate}
+use Rattle.std.specs.List.{AllByRecursion}
 use Rattle.std.proofs.lemmas.Bool.{cases_lt}
 use Rattle.std.proofs.lemmas.Nat.{pow-add}
 use Rattle.std.proofs.lemmas.List.Sums.{fold_more}
@@ -45,3 +46,14 @@ text_more n text i v b le lt e byte = ap (λ (x : ℕ). 256 * v + x) (byte ∙ s
 
 pub text_whole : (n : ℕ) (text : List ℕ) → length text ≤ n → number_of (take n (padded n text)) ≡ number_of (padded n text)
 text_whole n text le = ap number_of (take_all n (padded n text) (omega (arith, length-padded n text le)))
+
+-- bytes of a text make a number of as many bits
+pub bytes_below : (bytes : List ℕ) (i a : ℕ) → AllByRecursion (λ b. b < 256) bytes → a < 2 ^ (8 * i) → fold (λ n b. 256 * n + b) a bytes < 2 ^ (8 * (i + length bytes))
+bytes_below [] i a h lt = subst (λ (k : ℕ). a < 2 ^ (8 * k)) (let e : i ≡ i + 0 = omega arith in e) lt
+bytes_below (b ∷ bs) i a h lt =
+    subst (λ (k : ℕ). fold (λ n b. 256 * n + b) (256 * a + b) bs < 2 ^ (8 * k)) (let e : i + 1 + length bs ≡ i + suc (length bs) = omega arith in e)
+    (bytes_below bs (i + 1) (256 * a + b) h.1 (bits_more i a b lt h.0))
+
+pub zeros_small : (n : ℕ) → AllByRecursion (λ b. b < 256) (replicate n 0)
+zeros_small zero = tt
+zeros_small (suc n) = (omega arith, zeros_small n)

@@ -30,15 +30,6 @@ pub AreInside-push : (banks : List (List ℕ)) (us : List Update) (u : Update) �
 AreInside-push banks [] u h p q = ((p, q), tt)
 AreInside-push banks (w ∷ us) u h p q = (h.0, AreInside-push banks us u h.1 p q)
 
--- the list from a place on, where s stands there
-pub chained_here : (ss : List Statement) (i : ℕ) (s : Statement) → i < length ss → s ≡ get_or ss i s → chained (drop i ss) ≡ Both (statement_of s) (chained (drop (i + 1) ss))
-chained_here ss i s lt e =
-    let here : drop i ss ≡ s ∷ drop (i + 1) ss = rw add-one (drop-cons ss i s lt ∙ ap (λ (y : Statement). y ∷ drop (suc i) ss) (sym e)) in
-    ap (λ (xs : List Statement). chained xs) here
-
-pub chained_end : (ss : List Statement) (i : ℕ) → length ss ≤ i → chained (drop i ss) ≡ Nothing
-chained_end ss i le = rw (drop_all i ss le) refl
-
 -- a write that is noted
 pub put_of-note : (us us' : List Update) (v : Nets) (m : Memories) (memory : ℕ) (address value : spec.Expr) (at word : ℕ) → us' ≡ us ++ record { memory = memory; address = at; value = word } ∷ [] → at ≡ value_of v m address → word ≡ value_of v m value → (k place : ℕ) → put_of us' k place ≡ later_or (written v m (Write memory address value) k place) (put_of us k place)
 put_of-note us us' v m memory address value at word is at_is word_is k place =
@@ -65,10 +56,6 @@ under_way_more vs bs v m all first rest next next' next'' us us' us'' way size i
   registers = λ r. ap (λ (x : ℕ). unwrap_or (assigned v m rest r) x) (registers r) ∙ sym (unwrap-later (assigned v m first r) (assigned v m rest r) (slice_index next' r)) ∙ way.registers r;
   words = λ k at. ap (λ (o : Option ℕ). later_or (written v m rest k at) o) (words k at) ∙ sym (later_or-assoc (put_of us' k at) (written v m first k at) (written v m rest k at)) ∙ way.words k at;
 }
-
--- a block is the chain of its list
-pub block_chain : (s : Statement) (subs : Vec Statement Global) (ss : List Statement) → s ≡ Block subs → ss ≡ subs.items → statement_of s ≡ chained ss
-block_chain s subs ss is items = ap (λ (x : Statement). statement_of x) is ∙ block_is subs ∙ ap (λ (xs : List Statement). chained xs) (sym items)
 
 -- how many parts a statement has
 abbrev pub parts_of : spec.Statement → ℕ

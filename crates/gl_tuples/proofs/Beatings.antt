@@ -25,17 +25,8 @@ use Rattle.gl_tuples.specs.Values as values
 use Rattle.gl_tuples.specs.Entries.{words_of, row_of, row_found, columns_at, entry_of, entry_named, tuple_of, stream_named, cycle_of, cycle_below, option_bind}
 use Rattle.gl_tuples.specs.Filing.{filing_after, next_filing, no_records, ended, beats_of, beat_with, beat_of, whole_before, empty_beat, open_checked, cycle_checked, has_row}
 use Rattle.gl_tuples.specs.Gaps.{plain_beat, plain_beats, AreFileBeats}
-use Rattle.gl_schema.proofs.TextNumbers.{bits_more, length-padded}
+use Rattle.gl_schema.proofs.TextNumbers.{bits_more, length-padded, bytes_below, zeros_small}
 use Rattle.gl_tuples.proofs.Filings.{Next, next_tells, bind_ok, ok_is, guard_ok}
-
--- bytes of a text in n bytes make a number of 8 * n bits
-below_bits : (bytes : List ℕ) (i a : ℕ) → AllByRecursion (λ b. b < 256) bytes → a < 2 ^ (8 * i) → fold (λ n b. 256 * n + b) a bytes < 2 ^ (8 * (i + length bytes))
-below_bits [] i a h lt = subst (λ (k : ℕ). a < 2 ^ (8 * k)) (let e : i ≡ i + 0 = omega arith in e) lt
-below_bits (b ∷ bs) i a h lt = subst (λ (k : ℕ). fold (λ n b. 256 * n + b) (256 * a + b) bs < 2 ^ (8 * k)) (let e : i + 1 + length bs ≡ i + suc (length bs) = omega arith in e) (below_bits bs (i + 1) (256 * a + b) h.1 (bits_more i a b lt h.0))
-
-zeros_small : (n : ℕ) → AllByRecursion (λ b. b < 256) (replicate n 0)
-zeros_small zero = tt
-zeros_small (suc n) = (omega arith, zeros_small n)
 
 plain_small : (text : List ℕ) (n : ℕ) → list_all is_printable text ≡ true → AllByRecursion (λ b. b < 256) (text ++ replicate n 0)
 plain_small [] n h = zeros_small n
@@ -48,7 +39,7 @@ text_below : (n : ℕ) (text : List ℕ) → length text ≤ n → is_plain text
 unfolding is_plain text_word
 text_below n text le h =
     subst (λ (k : ℕ). number_of (padded n text) < 2 ^ (8 * k)) (let e : 0 + length (padded n text) ≡ n = omega (arith, length-padded n text le) in e)
-    (below_bits (padded n text) 0 0 (plain_small text (n - length text) h) (omega arith))
+    (bytes_below (padded n text) 0 0 (plain_small text (n - length text) h) (omega arith))
 
 -- a test that lets a value through
 test_some : {A : Type 0} (b : Bool) (x y : A) → cond b (Some x) None ≡ Some y → (b ≡ true) × (x ≡ y)

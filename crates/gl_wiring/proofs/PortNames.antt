@@ -5,7 +5,7 @@ use Rattle.std.specs.List.{AllByRecursion, IsDistinct, list_any}
 use Rattle.std.proofs.lemmas.List.{append_cancel_left}
 use Rattle.std.proofs.lemmas.Slice.Eq.{bytes_eq-Decides}
 use Rattle.gl_bits.proofs.AllLists.{all_append, all_weaker}
-use Rattle.gl_bits.proofs.Bools.{else_false, neither_left, neither_right, not_both, and_left, and_right, not_true}
+use Rattle.gl_bits.proofs.Bools.{else_false, neither_left, neither_right, not_both, and_left, and_right, not_true, bytes_other}
 use Rattle.gl_schema.specs.declared.schema.Column.{Column}
 use Rattle.gl_schema.specs.declared.schema.Stream.{Stream}
 use Rattle.gl_schema.specs.declared.schema.Schema.{Schema}
@@ -20,12 +20,9 @@ use Rattle.gl_wiring.specs.PortNames.{column_ports, stream_ports, streams_ports,
 abbrev pub Apart : List ℕ → List (List ℕ) → Type 0
 Apart n names = AllByRecursion (λ m. n ≡ m → ⊥) names
 
-pub bytes_eq-false : (n m : List ℕ) → (n ≡ m → ⊥) → bytes_eq n m ≡ false
-bytes_eq-false n m differ = else_false (bytes_eq n m) (λ h. differ ((bytes_eq-Decides n m).0 h))
-
 pub all_apart : (names : List (List ℕ)) (n : List ℕ) → Apart n names → AllByRecursion (λ m. bytes_eq n m ≡ false) names
 all_apart [] n apart = tt
-all_apart (m ∷ ms) n apart = (bytes_eq-false n m apart.0, all_apart ms n apart.1)
+all_apart (m ∷ ms) n apart = (bytes_other n m apart.0, all_apart ms n apart.1)
 
 pub apart_all : (names : List (List ℕ)) (n : List ℕ) → AllByRecursion (λ m. bytes_eq n m ≡ false) names → Apart n names
 apart_all [] n absent = tt

@@ -1,8 +1,9 @@
 use Rattle.std.proofs.Common.{◌<◌, ap, arith, rules}
 use Rattle.gl_verilog.specs.View.{statement_of}
 use Rattle.gl_sim.specs.Updates.{writes_in}
-use Rattle.gl_sim.proofs.Waiting.{block_chain, chained_here, chained_end, parts_of}
+use Rattle.gl_sim.proofs.Waiting.{parts_of}
 use Rattle.gl_sim.proofs.room.+count_writes.Goals as goal
+use Rattle.gl_verilog_check.proofs.Blocks.{chained_here, chained_end, block_chain}
 
 pub count_writes-requires : goal.count_writes-requires
 count_writes-requires t c =

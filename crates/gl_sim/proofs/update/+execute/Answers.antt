@@ -4,8 +4,9 @@ use Rattle.gl_verilog.specs.Module.{assigned, written, later_or}
 use Rattle.gl_verilog.specs.View.{statement_of}
 use Rattle.gl_verilog.specs.Evaluate.{nets_of, memories_of}
 use Rattle.gl_sim.specs.Updates.{CanExecute, writes_in, put_of}
-use Rattle.gl_sim.proofs.Waiting.{block_chain, chained_here, chained_end, under_way_first, parts_of}
+use Rattle.gl_sim.proofs.Waiting.{under_way_first, parts_of}
 use Rattle.gl_sim.proofs.update.+execute.Goals as goal
+use Rattle.gl_verilog_check.proofs.Blocks.{chained_here, chained_end, block_chain}
 
 pub loop-statement-init : goal.loop-statement-init
 loop-statement-init t c =
