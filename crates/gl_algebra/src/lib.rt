@@ -18,6 +18,3 @@ pub use figures::Figures;
 pub use node::{ColOp, Kinds, Operand, Operands, Ops, PlanAgg, PlanAggs, PlanNode, Weights};
 pub use number::PlanId;
 pub use plan::Plan;
-
-#[cfg(test)]
-mod tests;

@@ -21,6 +21,3 @@ pub use lists::{Group, Table};
 pub use op::{Op, Sort};
 pub use row::{Memory, Row};
 pub use word::Word;
-
-#[cfg(test)]
-mod tests;

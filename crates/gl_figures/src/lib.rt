@@ -33,6 +33,3 @@ pub enum Limit {
     #[error("the weight {weight} passes 262144")]
     Nodes { weight: u64 },
 }
-
-#[cfg(test)]
-mod tests;

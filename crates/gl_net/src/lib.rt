@@ -13,6 +13,3 @@ pub mod node;
 pub use builder::NetBuilder;
 pub use netlist::Netlist;
 pub use node::{BinaryOp, Bit, Bus, Buses, Direction, MemoryDrive, Node, Port, Store};
-
-#[cfg(test)]
-mod tests;

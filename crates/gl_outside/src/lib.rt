@@ -25,6 +25,3 @@ pub use sink::{Put, Sink};
 pub use stream_sink::StreamSink;
 pub use words::{Memory, Words};
 pub use writing::{WriteFault, write_all_of};
-
-#[cfg(test)]
-mod tests;

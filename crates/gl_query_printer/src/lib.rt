@@ -6,8 +6,6 @@ mod items;
 pub mod laws;
 pub mod printing;
 mod queries;
-#[cfg(test)]
-mod tests;
 mod text;
 mod tokens;
 

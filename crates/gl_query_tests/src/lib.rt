@@ -5,4 +5,6 @@
 #[cfg(test)]
 mod checking;
 #[cfg(test)]
+mod printing;
+#[cfg(test)]
 mod reading;

@@ -25,6 +25,3 @@ pub use right::right_at_each_cycle;
 pub use schema::{Column, Columns, NameText, Schema, Stream, Streams};
 pub use text::{one_reading, read_schema};
 pub use value::text_number;
-
-#[cfg(test)]
-mod tests;

@@ -15,6 +15,3 @@ pub mod update;
 pub use simulator::Sim;
 pub use start::Start;
 pub use update::Update;
-
-#[cfg(test)]
-mod tests;

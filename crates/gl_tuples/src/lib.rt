@@ -17,6 +17,3 @@ pub use beats::{Beat, Beats, StreamRows};
 pub use fault::TupleFault;
 pub use line::line_into;
 pub use reading::{one_reading, read_tuples};
-
-#[cfg(test)]
-mod tests;

@@ -13,6 +13,3 @@ pub use chain::count_selected;
 pub use count::Count;
 pub use delay::Delay;
 pub use select::Select;
-
-#[cfg(test)]
-mod tests;

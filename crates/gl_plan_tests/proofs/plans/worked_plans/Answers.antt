@@ -1,0 +1,24 @@
+use Rattle.std.proofs.Common.{refl}
+use Rattle.gl_algebra.specs.FigureTable.{figures_of}
+use Rattle.gl_algebra.specs.Nodewise.{nodewise, value_to_depth}
+use Rattle.gl_algebra.specs.Shapes.{shape_of}
+use Rattle.gl_algebra.specs.Weights.{weight_of, copies_of}
+use Rattle.gl_plan_tests.proofs.plans.worked_plans.Goals as goal
+
+pub returns-clause-figures : goal.returns-clause-figures
+unfolding figures_of shape_of copies_of nodewise value_to_depth
+returns-clause-figures c = record {
+  counts = refl;
+  counts_in_windows = record { is_late = refl; is_apart = refl; is_copied = refl };
+  greatest_sums = record { is_late = refl; is_apart = refl; is_copied = refl };
+  greatest_sums_of_both = record { is_late = refl; is_apart = refl; is_copied = refl };
+  counts_of_both = record { is_late = refl; is_apart = refl; is_copied = refl };
+  sum_beside_count = record { is_late = refl; is_apart = refl; is_copied = refl };
+  price_beside_sum = record { is_late = refl; is_apart = refl; is_copied = refl };
+  sums_by_symbol = record { is_late = refl; is_apart = refl; is_copied = refl };
+  prices_of_both = record { is_late = refl; is_apart = refl; is_copied = refl };
+}
+
+pub returns-clause-weights : goal.returns-clause-weights
+unfolding figures_of shape_of weight_of nodewise value_to_depth
+returns-clause-weights c = record { most = refl; more = refl; all = refl }

@@ -1,0 +1,12 @@
+//! Tests of plans, their figures, netlists and operators between ports: worked rows. They stand
+//! apart from the crates that they test, since a crate with tests is proved twice.
+#![tactic(auto)]
+
+#[cfg(test)]
+mod blocks;
+#[cfg(test)]
+mod figures;
+#[cfg(test)]
+mod netlists;
+#[cfg(test)]
+mod plans;

@@ -1,0 +1,191 @@
+//! Tests: what no clause says, and plans with known figures.
+
+ghost use Rattle.std.specs.Prelude.{◌≡◌, ◌∷◌, [], length, IfOk, OnOk};
+ghost use Rattle.gl_bits.specs.declared.kind.Kind.TheVariants.{Unsigned};
+ghost use Rattle.gl_algebra.specs.EveryNode as every;
+ghost use Rattle.gl_algebra.specs.Fits.{Fits};
+ghost use Rattle.gl_algebra.specs.Shapes.{shape_from, shape_of, HasShape, KeepsShapes};
+ghost use Rattle.gl_algebra.specs.Worked.{WorkedFigures, WorkedWeights};
+
+use gl_algebra::*;
+use gl_bits::{Kind, Listed, Op};
+use std::alloc::Global;
+use std::test::Fail;
+
+// The figures and weights of plans that were worked out by hand.
+fn worked_plans()
+    ensures figures { WorkedFigures }
+    ensures weights { WorkedWeights }
+{}
+
+// The kinds of one number.
+fn kinds(alloc: Global) -> Result<Kinds, Fail>
+    ensures { IfOk result (λ kinds. kinds ≡ Unsigned 8 ∷ []) }
+{
+    Ok(Listed::from_vec(vec![in alloc; Kind::Unsigned(8)]?))
+}
+
+// Adds a node that fits.
+fn put(plan: &mut Plan, node: PlanNode) -> Result<PlanId, Fail>
+    requires { Fits plan.old (length plan.old) node }
+    ensures made { IfOk result (λ id. HasShape plan.new id (shape_from (shape_of plan.old) node)) }
+    ensures kept { OnOk result (KeepsShapes plan.old plan.new) }
+{
+    let _ = plan.len();
+    Ok(plan.add(node)?)
+}
+
+// The operations, the items and the aggregates of the plan below.
+fn tests(alloc: Global) -> Result<Ops, Fail>
+    ensures { IfOk result (λ ops. ops ≡ every.tests) }
+{
+    let same = ColOp::Binary(Op::Eq, Operand::Column(0), Operand::Column(0));
+    Ok(Listed::from_vec(vec![in alloc; same]?))
+}
+
+fn items(alloc: Global) -> Result<Operands, Fail>
+    ensures { IfOk result (λ xs. xs ≡ every.items) }
+{
+    Ok(Listed::from_vec(vec![in alloc; Operand::Column(0)]?))
+}
+
+fn sums(alloc: Global) -> Result<PlanAggs, Fail>
+    ensures { IfOk result (λ aggs. aggs ≡ every.sums) }
+{
+    let mut aggs = Listed::new(alloc);
+    aggs.push(PlanAgg::Sum(Operand::Column(0)))?;
+    Ok(aggs)
+}
+
+// Adds the rows of a body that pass a test.
+fn put_choice(alloc: Global, plan: &mut Plan) -> Result<PlanId, Fail>
+    ensures { IfOk result (λ id. HasShape plan.new id every.of_choice) }
+{
+    let input = put(plan, PlanNode::Body(kinds(alloc)?))?;
+    let ops = tests(alloc)?;
+    let tested = put(plan, PlanNode::Compute { child: input, ops })?;
+    put(
+        plan,
+        PlanNode::Select {
+            child: tested,
+            column: 1,
+        },
+    )
+}
+
+// Adds the sum of the numbers of such rows.
+fn put_sums(alloc: Global, plan: &mut Plan, child: PlanId) -> Result<PlanId, Fail>
+    requires { HasShape plan.old child every.of_choice }
+    ensures { IfOk result (λ id. HasShape plan.new id every.of_sums) }
+{
+    let values = items(alloc)?;
+    let values = put(
+        plan,
+        PlanNode::Project {
+            child,
+            items: values,
+        },
+    )?;
+    let aggs = sums(alloc)?;
+    put(
+        plan,
+        PlanNode::Aggregate {
+            child: values,
+            aggs,
+        },
+    )
+}
+
+// Adds a stream.
+fn put_stream(alloc: Global, plan: &mut Plan) -> Result<PlanId, Fail>
+    ensures made { IfOk result (λ id. HasShape plan.new id every.of_stream) }
+    ensures kept { OnOk result (KeepsShapes plan.old plan.new) }
+{
+    put(plan, PlanNode::Stream(0, kinds(alloc)?))
+}
+
+// Adds sums of windows.
+fn put_windows(plan: &mut Plan, source: PlanId, body: PlanId) -> Result<(), Fail>
+    requires source { HasShape plan.old source every.of_stream }
+    requires body { HasShape plan.old body every.of_sums }
+    ensures { OnOk result (KeepsShapes plan.old plan.new) }
+{
+    let windows = PlanNode::Window {
+        source,
+        body,
+        size: 4,
+        advance: 2,
+    };
+    put(plan, windows)?;
+    Ok(())
+}
+
+// Adds sums of groups, twice in any order.
+fn put_groups(plan: &mut Plan, source: PlanId, body: PlanId) -> Result<(), Fail>
+    requires source { HasShape plan.old source every.of_stream }
+    requires body { HasShape plan.old body every.of_sums }
+{
+    let groups = PlanNode::Group {
+        source,
+        body,
+        key: 0,
+        groups: 4,
+    };
+    let side = put(plan, groups)?;
+    put(
+        plan,
+        PlanNode::Union {
+            left: side,
+            right: side,
+        },
+    )?;
+    Ok(())
+}
+
+// Adds a stream beside itself.
+fn put_beside(plan: &mut Plan, source: PlanId) -> Result<(), Fail>
+    requires { HasShape plan.old source every.of_stream }
+    ensures { OnOk result (KeepsShapes plan.old plan.new) }
+{
+    let pairs = PlanNode::Beside {
+        left: source,
+        right: source,
+    };
+    put(plan, pairs)?;
+    Ok(())
+}
+
+// Adds a node of every other kind.
+fn put_others(alloc: Global, plan: &mut Plan, body: PlanId) -> Result<(), Fail>
+    requires { HasShape plan.old body every.of_sums }
+{
+    let source = put_stream(alloc, plan)?;
+    put_beside(plan, source)?;
+    put_windows(plan, source, body)?;
+    put_groups(plan, source, body)
+}
+
+#[test]
+fn a_plan_takes_a_node_of_every_kind(rt: HostRuntime) -> Result<(), Fail> {
+    let mut plan = Plan::new(rt.alloc());
+    let choice = put_choice(rt.alloc(), &mut plan)?;
+    let sums = put_sums(rt.alloc(), &mut plan, choice)?;
+    assert_eq!(rt; plan.len(), 5);
+    put_others(rt.alloc(), &mut plan, sums)?;
+    assert_eq!(rt; plan.len(), 10);
+    let first = plan.id(0);
+    assert_eq!(rt; *plan.node(first), PlanNode::Body(kinds(rt.alloc())?));
+    Ok(())
+}
+
+#[test]
+fn adding_a_node_twice_keeps_one(rt: HostRuntime) -> Result<(), Fail> {
+    worked_plans();
+    let mut plan = Plan::new(rt.alloc());
+    let first = plan.add(PlanNode::Stream(0, kinds(rt.alloc())?))?;
+    let second = plan.add(PlanNode::Stream(0, kinds(rt.alloc())?))?;
+    assert_eq!(rt; second, first);
+    assert_eq!(rt; first.number(), 0);
+    assert_eq!(rt; plan.len(), 1);
+    Ok(())
+}
