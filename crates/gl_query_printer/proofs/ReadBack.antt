@@ -1,5 +1,5 @@
 -- What is read from tokens that are the canonical ones but for their places.
-use Rattle.std.proofs.Common.{◌≡◌, ℕ, ◌+◌, ◌<◌, ◌≤◌, Bool, true, false, List, [], ◌∷◌, ◌++◌, map, Option, Some, None, option_map, refl, sym, ap, subst, ◌∙◌, arith, leb-true, lit<}
+use Rattle.std.proofs.Common.{◌≡◌, ℕ, ◌+◌, ◌<◌, ◌≤◌, Bool, true, false, List, [], ◌∷◌, ◌++◌, map, None, refl, sym, ap, subst, ◌∙◌, arith, leb-true, lit<}
 use Rattle.std.specs.Prelude.{nat_le, nat_lt, bytes_eq, if◌then◌else◌}
 use Rattle.std.specs.List.{AllByRecursion}
 use Rattle.std.proofs.lemmas.Bool.{ltb-true, true≢false}
@@ -8,34 +8,28 @@ use Rattle.gl_schema.specs.SchemaText.{kind_text}
 use Rattle.gl_query.specs.declared.tree.Num.{Num}
 use Rattle.gl_bits.specs.declared.op.Op.{Op}
 use Rattle.gl_bits.specs.declared.op.Op.TheVariants as op
-use Rattle.gl_query.specs.Shapes.{ExprShape, AggShape, ItemShape, AggItemShape, PickShape, QueryShape, StatementShape}
+use Rattle.gl_query.specs.Shapes.{ExprShape, AggShape, ItemShape, AggItemShape}
 use Rattle.gl_query.specs.Shapes as shape
 use Rattle.gl_query_tokens.specs.declared.token.Fold.{Fold}
 use Rattle.gl_query_tokens.specs.declared.token.Fold.TheVariants.{Sum, Min, Max, Avg}
-use Rattle.gl_query_tokens.specs.declared.token.Join.{Join}
-use Rattle.gl_query_tokens.specs.declared.token.Join.TheVariants.{Union, Concat}
 use Rattle.gl_query_tokens.specs.declared.token.Plain.TheVariants as plain
 use Rattle.gl_query_tokens.specs.declared.token.Token.{Token}
 use Rattle.gl_query_tokens.specs.declared.token.Token.TheVariants as token
-use Rattle.gl_query_reader.specs.declared.written.Window.{Window}
-use Rattle.gl_query_reader.specs.declared.written.Grouping.{Grouping}
 use Rattle.gl_query_reader.specs.Written as written
-use Rattle.gl_query_reader.specs.Written.{level, looseness, left_looseness, IsExpr, IsAgg, IsItem, AreItems, IsPick, IsFilter, IsQuery, IsSource, IsTerm, spell, spell_numbers, spell_agg, spell_item, spell_items, spell_pick, spell_window, spell_filter, spell_grouping, spell_query, spell_statement}
-use Rattle.gl_query.specs.Trees as meant
-use Rattle.gl_query_reader.specs.Meaning.{expr_meaning, agg_meaning, plain_items, agg_items, is_total, by_pick, by_items, query_meaning, join_meaning, statement_meaning}
-use Rattle.gl_query_reader.specs.Mixed.{first_other, same, mixed_plain, mixed_pick, mixed_in, least}
-use Rattle.gl_query.specs.Alike.{expr_alike, agg_alike, item_alike, agg_item_alike, query_alike, statement_alike}
-use Rattle.gl_query_printer.specs.Brackets.{is_stream, is_term}
-use Rattle.gl_query_printer.specs.Canonical.{name_of, num_of, fitted, expr_of, agg_of, is_bare, item_of, agg_item_of, pick_of, bracketed_unless, source_of, term_of, window_of, grouping_of, query_of, canonical_tokens}
-use Rattle.gl_query_printer.proofs.Places.{placeless, parts, first, alone, nothing}
-use Rattle.gl_query_printer.proofs.Writable.{CanBeExpr, CanBeAgg, CanBeItem, CanBeAggItem, Some', CanBePick, CanBeFilter, CanBeSource, IsNoStream, CanBeStatement}
+use Rattle.gl_query_reader.specs.Written.{level, looseness, left_looseness, IsExpr, IsAgg, IsItem, AreItems, spell, spell_numbers, spell_agg, spell_item, spell_items}
+use Rattle.gl_query_reader.specs.Meaning.{expr_meaning, agg_meaning, plain_items, agg_items, is_total}
+use Rattle.gl_query_reader.specs.Mixed.{first_other, same}
+use Rattle.gl_query.specs.Alike.{expr_alike, agg_alike, item_alike, agg_item_alike}
+use Rattle.gl_query_printer.specs.Canonical.{name_of, num_of, fitted, expr_of, agg_of, is_bare, item_of, agg_item_of}
+use Rattle.gl_query_printer.proofs.Places.{placeless, parts, first, alone}
+use Rattle.gl_query_printer.proofs.Writable.{CanBeExpr, CanBeAgg, CanBeItem, CanBeAggItem}
 
 -- ---- lists of tokens, part by part
 
-cons : (t : Token) (us rest ss : List Token) → us ≡ t ∷ rest → ss ≡ rest → t ∷ ss ≡ us
+pub cons : (t : Token) (us rest ss : List Token) → us ≡ t ∷ rest → ss ≡ rest → t ∷ ss ≡ us
 cons t us rest ss a b = ap (λ (ts : List Token). t ∷ ts) b ∙ sym a
 
-two : (us front back xs ys : List Token) → us ≡ front ++ back → xs ≡ front → ys ≡ back → xs ++ ys ≡ us
+pub two : (us front back xs ys : List Token) → us ≡ front ++ back → xs ≡ front → ys ≡ back → xs ++ ys ≡ us
 two us front back xs ys a b c = ap (λ (ts : List Token). ts ++ ys) b ∙ ap (λ (ts : List Token). front ++ ts) c ∙ sym a
 
 -- ---- expressions
@@ -87,7 +81,7 @@ binds op.Or = lit< tt
 none_least : (n : ℕ) → 0 ≤ n
 none_least n = omega arith
 
-read_expr : (e : ExprShape) → CanBeExpr e → (us : List Token) → map placeless us ≡ spell (expr_of e) → ReadExpr us e
+pub read_expr : (e : ExprShape) → CanBeExpr e → (us : List Token) → map placeless us ≡ spell (expr_of e) → ReadExpr us e
 read_expr (shape.Column name) c us h =
     let a = alone us (token.Name (name_of name)) h in
     record { tree = written.Column (record { text = name; at = a.at }); spelled = sym a.whole; level_is = refl; grammar = tt; alike = refl }
@@ -258,7 +252,7 @@ same_refl false = refl
 others_more : (b : Bool) (i : written.Item) (is : List written.Item) → is_total i ≡ b → first_other b is ≡ None → first_other b (i ∷ is) ≡ None
 others_more b i is e h = rw (e, same_refl b) h
 
-read_list : {A : Type 0} (f : A → written.Item) (C : A → Type 0) (g : List written.Item → List A) (b : Bool) → ((x : written.Item) (xs : List written.Item) → g (x ∷ xs) ≡ g (x ∷ []) ++ g xs)
+pub read_list : {A : Type 0} (f : A → written.Item) (C : A → Type 0) (g : List written.Item → List A) (b : Bool) → ((x : written.Item) (xs : List written.Item) → g (x ∷ xs) ≡ g (x ∷ []) ++ g xs)
     → ((i : A) → C i → (us : List Token) → map placeless us ≡ spell_item (f i) → ReadOne g b us i) → (i : A) (is : List A) → AllByRecursion C (i ∷ is)
     → (us : List Token) → map placeless us ≡ spell_items (map f (i ∷ is)) → ReadList g b us i is
 read_list f C g b parted one i [] c us h =
@@ -280,18 +274,18 @@ read_list f C g b parted one i (j ∷ is) c us h =
       alike = parted x.tree (r.first' ∷ r.rest) ∙ ap (λ (ys : List _). ys ++ g (r.first' ∷ r.rest)) x.alike ∙ ap (λ (ys : List _). i ∷ ys) r.alike;
     }
 
-abbrev plains : List written.Item → List ItemShape
+abbrev pub plains : List written.Item → List ItemShape
 plains is = map item_alike (plain_items is)
 
-abbrev totals : List written.Item → List AggItemShape
+abbrev pub totals : List written.Item → List AggItemShape
 totals is = map agg_item_alike (agg_items is)
 
-plains_parted : (x : written.Item) (xs : List written.Item) → plains (x ∷ xs) ≡ plains (x ∷ []) ++ plains xs
+pub plains_parted : (x : written.Item) (xs : List written.Item) → plains (x ∷ xs) ≡ plains (x ∷ []) ++ plains xs
 plains_parted (written.Bare name) xs = refl
 plains_parted (written.Named e name) xs = refl
 plains_parted (written.Total a name) xs = refl
 
-totals_parted : (x : written.Item) (xs : List written.Item) → totals (x ∷ xs) ≡ totals (x ∷ []) ++ totals xs
+pub totals_parted : (x : written.Item) (xs : List written.Item) → totals (x ∷ xs) ≡ totals (x ∷ []) ++ totals xs
 totals_parted (written.Bare name) xs = refl
 totals_parted (written.Named e name) xs = refl
 totals_parted (written.Total a name) xs = refl
@@ -334,10 +328,10 @@ read_item_by false e name q c us h =
       alike = ap (λ (z : ExprShape). plain_item z name ∷ []) x.alike;
     }
 
-read_item : (i : ItemShape) → CanBeItem i → (us : List Token) → map placeless us ≡ spell_item (item_of i) → ReadOne plains false us i
+pub read_item : (i : ItemShape) → CanBeItem i → (us : List Token) → map placeless us ≡ spell_item (item_of i) → ReadOne plains false us i
 read_item i c us h = read_item_by (is_bare i.expr i.name) i.expr i.name refl c.0 us h
 
-read_agg_item : (i : AggItemShape) → CanBeAggItem i → (us : List Token) → map placeless us ≡ spell_item (agg_item_of i) → ReadOne totals true us i
+pub read_agg_item : (i : AggItemShape) → CanBeAggItem i → (us : List Token) → map placeless us ≡ spell_item (agg_item_of i) → ReadOne totals true us i
 read_agg_item i c us h =
     let p = parts us (spell_agg (agg_of i.agg)) (token.Plain plain.As ∷ token.Name (name_of i.name) ∷ []) h in
     let x = read_agg i.agg c.0 p.front p.front_is in
@@ -349,402 +343,4 @@ read_agg_item i c us h =
       grammar = x.grammar;
       total = refl;
       alike = ap (λ (z : AggShape). total_item z i.name ∷ []) x.alike;
-    }
-
--- ---- selects
-
-record ReadPick (us : List Token) (p : PickShape) : Type 0 where
-  tree : written.Pick
-  spelled : spell_pick tree ≡ us
-  grammar : IsPick tree
-  mixed : mixed_pick tree None ≡ None
-  alike : (f : Option meant.ExprTree) (s : meant.QueryTree) → query_alike (by_pick tree f s) ≡ shape.Rows p (option_map expr_alike f) (query_alike s)
-
-items_pick : (i : written.Item) (is : List written.Item) → AreItems (i ∷ is) → IsPick (written.Items (i ∷ is))
-items_pick i is g = g
-
-mixed_by : (b : Bool) (i : written.Item) (is : List written.Item) → is_total i ≡ b → first_other b is ≡ None → mixed_plain (i ∷ is) ≡ None
-mixed_by b i is e h = rw e h
-
-plain_pick : (i : written.Item) (is : List written.Item) (f : Option meant.ExprTree) (s : meant.QueryTree) (x : ItemShape) (xs : List ItemShape) → is_total i ≡ false → plains (i ∷ is) ≡ x ∷ xs
-    → query_alike (by_items (is_total i) (i ∷ is) f s) ≡ shape.Rows (shape.Items (x ∷ xs)) (option_map expr_alike f) (query_alike s)
-plain_pick i is f s x xs e h = ap (λ (b : Bool). query_alike (by_items b (i ∷ is) f s)) e ∙ ap (λ (ys : List ItemShape). shape.Rows (shape.Items ys) (option_map expr_alike f) (query_alike s)) h
-
-read_pick : (p : PickShape) → CanBePick p → (us : List Token) → map placeless us ≡ spell_pick (pick_of p) → ReadPick us p
-read_pick shape.All c us h =
-    let a = alone us (token.Operator op.Mul 0) h in
-    record { tree = written.All a.at; spelled = sym a.whole; grammar = tt; mixed = refl; alike = λ f s. refl }
-read_pick (shape.Items []) c us h = absurd c.0
-read_pick (shape.Items (i ∷ is)) c us h =
-    let r = read_list item_of CanBeItem plains false plains_parted read_item i is c.1 us h in
-    record {
-      tree = written.Items (r.first' ∷ r.rest);
-      spelled = r.spelled;
-      grammar = items_pick r.first' r.rest r.grammar;
-      mixed = mixed_by false r.first' r.rest r.total r.others;
-      alike = λ f s. plain_pick r.first' r.rest f s i is r.total r.alike;
-    }
-
-record ReadAggs (us : List Token) (aggs : List AggItemShape) : Type 0 where
-  tree : written.Pick
-  spelled : spell_pick tree ≡ us
-  grammar : IsPick tree
-  mixed : mixed_pick tree None ≡ None
-  alike : (s : meant.QueryTree) → query_alike (by_pick tree None s) ≡ shape.Total aggs (query_alike s)
-
-total_pick : (i : written.Item) (is : List written.Item) (s : meant.QueryTree) (x : AggItemShape) (xs : List AggItemShape) → is_total i ≡ true → totals (i ∷ is) ≡ x ∷ xs
-    → query_alike (by_items (is_total i) (i ∷ is) None s) ≡ shape.Total (x ∷ xs) (query_alike s)
-total_pick i is s x xs e h = ap (λ (b : Bool). query_alike (by_items b (i ∷ is) None s)) e ∙ ap (λ (ys : List AggItemShape). shape.Total ys (query_alike s)) h
-
-read_aggs : (aggs : List AggItemShape) → Some' aggs → AllByRecursion CanBeAggItem aggs → (us : List Token) → map placeless us ≡ spell_items (map agg_item_of aggs) → ReadAggs us aggs
-read_aggs [] s c us h = absurd s
-read_aggs (i ∷ is) s c us h =
-    let r = read_list agg_item_of CanBeAggItem totals true totals_parted read_agg_item i is c us h in
-    record {
-      tree = written.Items (r.first' ∷ r.rest);
-      spelled = r.spelled;
-      grammar = items_pick r.first' r.rest r.grammar;
-      mixed = mixed_by true r.first' r.rest r.total r.others;
-      alike = λ s. total_pick r.first' r.rest s i is r.total r.alike;
-    }
-
-record ReadFilter (us : List Token) (f : Option ExprShape) : Type 0 where
-  tree : Option written.Expr
-  spelled : spell_filter tree ≡ us
-  grammar : IsFilter tree
-  alike : option_map expr_alike (option_map expr_meaning tree) ≡ f
-
-read_filter : (f : Option ExprShape) → CanBeFilter f → (us : List Token) → map placeless us ≡ spell_filter (option_map expr_of f) → ReadFilter us f
-read_filter None c us h = record { tree = None; spelled = sym (nothing us h); grammar = tt; alike = refl }
-read_filter (Some e) c us h =
-    let a = first us (token.Plain plain.Where) (spell (expr_of e)) h in
-    let x = read_expr e c a.rest a.rest_is in
-    record { tree = Some x.tree; spelled = cons (token.Plain plain.Where) us a.rest (spell x.tree) a.whole x.spelled; grammar = x.grammar; alike = ap Some x.alike }
-
--- ---- queries
-
-record ReadWindow (us : List Token) (size advance : ℕ) : Type 0 where
-  window : Window
-  spelled : spell_window window ≡ us
-  size_is : window.size.value ≡ size
-  advance_is : window.advance.value ≡ advance
-
-read_window : (size advance : ℕ) (us : List Token) → map placeless us ≡ spell_window (window_of size advance) → ReadWindow us size advance
-read_window size advance us h =
-    let end : List Token = token.Plain plain.RightSquare ∷ [] in
-    let after_size : List Token = token.Plain plain.Advance ∷ token.Number (num_of advance) ∷ token.Plain plain.Tuples ∷ end in
-    let a = first us (token.Plain plain.LeftSquare) (token.Size 0 ∷ token.Number (num_of size) ∷ after_size) h in
-    let b = first a.rest (token.Size 0) (token.Number (num_of size) ∷ after_size) a.rest_is in
-    let s = first b.rest (token.Number (num_of size)) after_size b.rest_is in
-    let c = first s.rest (token.Plain plain.Advance) (token.Number (num_of advance) ∷ token.Plain plain.Tuples ∷ end) s.rest_is in
-    let d = first c.rest (token.Number (num_of advance)) (token.Plain plain.Tuples ∷ end) c.rest_is in
-    let t = first d.rest (token.Plain plain.Tuples) end d.rest_is in
-    let k = alone t.rest (token.Plain plain.RightSquare) t.rest_is in
-    record {
-      window = record { at = b.at; size = record { value = size; at = s.at }; advance = record { value = advance; at = d.at } };
-      spelled = cons (token.Plain plain.LeftSquare) us a.rest _ a.whole (cons (token.Size b.at) a.rest b.rest _ b.whole (cons (token.Number (record { value = size; at = s.at })) b.rest s.rest _ s.whole
-          (cons (token.Plain plain.Advance) s.rest c.rest _ c.whole (cons (token.Number (record { value = advance; at = d.at })) c.rest d.rest _ d.whole (cons (token.Plain plain.Tuples) d.rest t.rest _ t.whole (sym k.whole))))));
-      size_is = refl;
-      advance_is = refl;
-    }
-
-record ReadGrouping (us : List Token) (key : List ℕ) (groups : ℕ) : Type 0 where
-  grouping : Grouping
-  spelled : spell_grouping grouping ≡ us
-  key_is : grouping.key.text ≡ key
-  groups_is : grouping.groups.value ≡ groups
-
-read_grouping : (key : List ℕ) (groups : ℕ) (us : List Token) → map placeless us ≡ spell_grouping (grouping_of key groups) → ReadGrouping us key groups
-read_grouping key groups us h =
-    let a = first us (token.By 0) (token.Name (name_of key) ∷ token.Plain plain.Groups ∷ token.Number (num_of groups) ∷ []) h in
-    let b = first a.rest (token.Name (name_of key)) (token.Plain plain.Groups ∷ token.Number (num_of groups) ∷ []) a.rest_is in
-    let c = first b.rest (token.Plain plain.Groups) (token.Number (num_of groups) ∷ []) b.rest_is in
-    let k = alone c.rest (token.Number (num_of groups)) c.rest_is in
-    record {
-      grouping = record { at = a.at; key = record { text = key; at = b.at }; groups = record { value = groups; at = k.at } };
-      spelled = cons (token.By a.at) us a.rest _ a.whole (cons (token.Name (record { text = key; at = b.at })) a.rest b.rest _ b.whole (cons (token.Plain plain.Groups) b.rest c.rest _ c.whole (sym k.whole)));
-      key_is = refl;
-      groups_is = refl;
-    }
-
-record ReadQuery (us : List Token) (q : QueryShape) : Type 0 where
-  tree : written.Query
-  spelled : spell_query tree ≡ us
-  grammar : IsNoStream q → IsQuery tree
-  bare : is_stream (query_of q) ≡ true → IsSource tree
-  term : IsNoStream q → is_term (query_of q) ≡ true → IsTerm tree
-  mixed : mixed_in tree ≡ None
-  alike : query_alike (query_meaning tree) ≡ q
-
-record ReadSource (us : List Token) (q : QueryShape) : Type 0 where
-  tree : written.Query
-  spelled : spell_query tree ≡ us
-  grammar : IsSource tree
-  mixed : mixed_in tree ≡ None
-  alike : query_alike (query_meaning tree) ≡ q
-
-record ReadTerm (us : List Token) (q : QueryShape) : Type 0 where
-  tree : written.Query
-  spelled : spell_query tree ≡ us
-  grammar : IsTerm tree
-  mixed : mixed_in tree ≡ None
-  alike : query_alike (query_meaning tree) ≡ q
-
--- how a query is read
-abbrev Reads : QueryShape → Type 0
-Reads q = (us : List Token) → map placeless us ≡ spell_query (query_of q) → ReadQuery us q
-
-no_stream : (q : QueryShape) → is_stream (query_of q) ≡ false → IsNoStream q
-no_stream (shape.Read name) h = absurd (true≢false h)
-no_stream (shape.Rows pick filter source) h = tt
-no_stream (shape.Total aggs source) h = tt
-no_stream (shape.Each var source size advance body) h = tt
-no_stream (shape.PerGroup var source key groups body) h = tt
-no_stream (shape.Union l r) h = tt
-no_stream (shape.Concat l r) h = tt
-
-record InBrackets' (us : List Token) (q : QueryShape) : Type 0 where
-  at : ℕ
-  inner : written.Query
-  spelled : spell_query (written.InBrackets at inner) ≡ us
-  grammar : IsNoStream q → IsQuery inner
-  mixed : mixed_in inner ≡ None
-  alike : query_alike (query_meaning inner) ≡ q
-
-in_brackets : (q : QueryShape) → Reads q → (us : List Token) → map placeless us ≡ token.Open 0 ∷ (spell_query (query_of q) ++ token.Plain plain.Close ∷ []) → InBrackets' us q
-in_brackets q r us h =
-    let a = first us (token.Open 0) (spell_query (query_of q) ++ token.Plain plain.Close ∷ []) h in
-    let p = parts a.rest (spell_query (query_of q)) (token.Plain plain.Close ∷ []) a.rest_is in
-    let k = alone p.back (token.Plain plain.Close) p.back_is in
-    let x = r p.front p.front_is in
-    record {
-      at = a.at;
-      inner = x.tree;
-      spelled = cons (token.Open a.at) us a.rest _ a.whole (two a.rest p.front p.back (spell_query x.tree) _ p.whole x.spelled (sym k.whole));
-      grammar = x.grammar;
-      mixed = x.mixed;
-      alike = x.alike;
-    }
-
-read_source : (b : Bool) (q : QueryShape) → is_stream (query_of q) ≡ b → Reads q → (us : List Token) → map placeless us ≡ spell_query (bracketed_unless b (query_of q)) → ReadSource us q
-read_source true q e r us h = let x = r us h in record { tree = x.tree; spelled = x.spelled; grammar = x.bare e; mixed = x.mixed; alike = x.alike }
-read_source false q e r us h =
-    let x = in_brackets q r us h in
-    record { tree = written.InBrackets x.at x.inner; spelled = x.spelled; grammar = x.grammar (no_stream q e); mixed = x.mixed; alike = x.alike }
-
-read_term : (b : Bool) (q : QueryShape) → is_term (query_of q) ≡ b → IsNoStream q → Reads q → (us : List Token) → map placeless us ≡ spell_query (bracketed_unless b (query_of q)) → ReadTerm us q
-read_term true q e n r us h = let x = r us h in record { tree = x.tree; spelled = x.spelled; grammar = x.term n e; mixed = x.mixed; alike = x.alike }
-read_term false q e n r us h =
-    let x = in_brackets q r us h in
-    record { tree = written.InBrackets x.at x.inner; spelled = x.spelled; grammar = x.grammar n; mixed = x.mixed; alike = x.alike }
-
-some_none : (n : ℕ) → None ≡ Some n → ⊥
-some_none n h = absurd (cc)
-
-none_mixed : (a b : Option ℕ) → a ≡ None → b ≡ None → least a b ≡ None
-none_mixed None b e f = f
-none_mixed (Some a) b e f = absurd (some_none a (sym e))
-
-abbrev joined : Join → QueryShape → QueryShape → QueryShape
-joined Union l r = shape.Union l r
-joined Concat l r = shape.Concat l r
-
-alike_join : (j : Join) (l r : written.Query) (at : ℕ) (x y : QueryShape) → query_alike (query_meaning l) ≡ x → query_alike (query_meaning r) ≡ y → query_alike (join_meaning j (query_meaning l) (query_meaning r) at) ≡ joined j x y
-alike_join Union l r at x y e f = ap (λ (z : QueryShape). shape.Union z (query_alike (query_meaning r))) e ∙ ap (shape.Union x) f
-alike_join Concat l r at x y e f = ap (λ (z : QueryShape). shape.Concat z (query_alike (query_meaning r))) e ∙ ap (shape.Concat x) f
-
-record ReadJoin (us : List Token) (j : Join) (l r : QueryShape) : Type 0 where
-  at : ℕ
-  left : written.Query
-  right : written.Query
-  spelled : spell_query (written.Join' j at left right) ≡ us
-  grammar : IsQuery (written.Join' j at left right)
-  mixed : mixed_in (written.Join' j at left right) ≡ None
-  alike : query_alike (query_meaning (written.Join' j at left right)) ≡ joined j l r
-
-read_join : (j : Join) (l r : QueryShape) → IsNoStream l → IsNoStream r → Reads l → Reads r → (us : List Token) → map placeless us ≡ spell_query (query_of l) ++ token.Join j 0 ∷ spell_query (term_of (query_of r)) → ReadJoin us j l r
-read_join j l r n m rl rr us h =
-    let right = spell_query (term_of (query_of r)) in
-    let p = parts us (spell_query (query_of l)) (token.Join j 0 ∷ right) h in
-    let x = rl p.front p.front_is in
-    let a = first p.back (token.Join j 0) right p.back_is in
-    let y = read_term (is_term (query_of r)) r refl m rr a.rest a.rest_is in
-    record {
-      at = a.at;
-      left = x.tree;
-      right = y.tree;
-      spelled = two us p.front p.back (spell_query x.tree) _ p.whole x.spelled (cons (token.Join j a.at) p.back a.rest (spell_query y.tree) a.whole y.spelled);
-      grammar = (x.grammar n, y.grammar);
-      mixed = none_mixed (mixed_in x.tree) (mixed_in y.tree) x.mixed y.mixed;
-      alike = alike_join j x.tree y.tree a.at l r x.alike y.alike;
-    }
-
-alike_rows : (p : written.Pick) (f : Option written.Expr) (s : written.Query) (pick : PickShape) (filter : Option ExprShape) (source : QueryShape)
-    → ((f : Option meant.ExprTree) (s : meant.QueryTree) → query_alike (by_pick p f s) ≡ shape.Rows pick (option_map expr_alike f) (query_alike s)) → option_map expr_alike (option_map expr_meaning f) ≡ filter → query_alike (query_meaning s) ≡ source
-    → query_alike (by_pick p (option_map expr_meaning f) (query_meaning s)) ≡ shape.Rows pick filter source
-alike_rows p f s pick filter source a b c =
-    a (option_map expr_meaning f) (query_meaning s) ∙ ap (λ (o : Option ExprShape). shape.Rows pick o (query_alike (query_meaning s))) b ∙ ap (shape.Rows pick filter) c
-
-alike_each : (var : List ℕ) (a b s m : ℕ) (x y source body : QueryShape) → x ≡ source → a ≡ s → b ≡ m → y ≡ body → shape.Each var x a b y ≡ shape.Each var source s m body
-alike_each var a b s m x y source body e f g h = rw (e, f, g, h) refl
-
-alike_groups : (var k key : List ℕ) (a n : ℕ) (x y source body : QueryShape) → x ≡ source → k ≡ key → a ≡ n → y ≡ body → shape.PerGroup var x k a y ≡ shape.PerGroup var source key n body
-alike_groups var k key a n x y source body e f g h = rw (e, f, g, h) refl
-
--- the part of an EACH in front of its window or its key
-record ReadHead (us : List Token) (var : List ℕ) (source : QueryShape) (more : List Token) : Type 0 where
-  at : ℕ
-  name_at : ℕ
-  tree : written.Query
-  rest : List Token
-  whole : us ≡ token.Each at ∷ token.Name (record { text = var; at = name_at }) ∷ token.Plain plain.In ∷ (spell_query tree ++ rest)
-  rest_is : map placeless rest ≡ more
-  grammar : IsSource tree
-  mixed : mixed_in tree ≡ None
-  alike : query_alike (query_meaning tree) ≡ source
-
-read_head : (var : List ℕ) (source : QueryShape) (more : List Token) → Reads source → (us : List Token) → map placeless us ≡ token.Each 0 ∷ token.Name (name_of var) ∷ token.Plain plain.In ∷ (spell_query (source_of (query_of source)) ++ more) → ReadHead us var source more
-read_head var source more r us h =
-    let inner = spell_query (source_of (query_of source)) in
-    let a = first us (token.Each 0) (token.Name (name_of var) ∷ token.Plain plain.In ∷ (inner ++ more)) h in
-    let b = first a.rest (token.Name (name_of var)) (token.Plain plain.In ∷ (inner ++ more)) a.rest_is in
-    let c = first b.rest (token.Plain plain.In) (inner ++ more) b.rest_is in
-    let p = parts c.rest inner more c.rest_is in
-    let x = read_source (is_stream (query_of source)) source refl r p.front p.front_is in
-    record {
-      at = a.at;
-      name_at = b.at;
-      tree = x.tree;
-      rest = p.back;
-      whole = sym (cons (token.Each a.at) us a.rest _ a.whole (cons (token.Name (record { text = var; at = b.at })) a.rest b.rest _ b.whole (cons (token.Plain plain.In) b.rest c.rest _ c.whole (two c.rest p.front p.back (spell_query x.tree) p.back p.whole x.spelled refl))));
-      rest_is = p.back_is;
-      grammar = x.grammar;
-      mixed = x.mixed;
-      alike = x.alike;
-    }
-
--- the body in its brackets
-record ReadBody (us : List Token) (body : QueryShape) : Type 0 where
-  at : ℕ
-  tree : written.Query
-  spelled : token.Open at ∷ (spell_query tree ++ token.Plain plain.Close ∷ []) ≡ us
-  grammar : IsQuery tree
-  mixed : mixed_in tree ≡ None
-  alike : query_alike (query_meaning tree) ≡ body
-
-read_body : (body : QueryShape) → IsNoStream body → Reads body → (us : List Token) → map placeless us ≡ token.Open 0 ∷ (spell_query (query_of body) ++ token.Plain plain.Close ∷ []) → ReadBody us body
-read_body body n r us h = let x = in_brackets body r us h in record { at = x.at; tree = x.inner; spelled = x.spelled; grammar = x.grammar n; mixed = x.mixed; alike = x.alike }
-
-head_spelled : (a b c : Token) (us xs rest ys : List Token) → us ≡ a ∷ b ∷ c ∷ (xs ++ rest) → ys ≡ rest → a ∷ b ∷ c ∷ (xs ++ ys) ≡ us
-head_spelled a b c us xs rest ys h e = ap (λ (zs : List Token). a ∷ b ∷ c ∷ (xs ++ zs)) e ∙ sym h
-
-read_query : (q : QueryShape) → CanBeSource q → Reads q
-read_query (shape.Read name) c us h =
-    let a = alone us (token.Name (name_of name)) h in
-    record { tree = written.Stream (record { text = name; at = a.at }); spelled = sym a.whole; grammar = λ n. absurd n; bare = λ e. tt; term = λ n e. absurd n; mixed = refl; alike = refl }
-read_query (shape.Rows pick filter source) c us h =
-    let filters = spell_filter (option_map expr_of filter) in
-    let inner = spell_query (source_of (query_of source)) in
-    let a = first us (token.Plain plain.Select) (spell_pick (pick_of pick) ++ token.Plain plain.From ∷ (inner ++ (filters ++ []))) h in
-    let p = parts a.rest (spell_pick (pick_of pick)) (token.Plain plain.From ∷ (inner ++ (filters ++ []))) a.rest_is in
-    let x = read_pick pick c.0 p.front p.front_is in
-    let b = first p.back (token.Plain plain.From) (inner ++ (filters ++ [])) p.back_is in
-    let d = parts b.rest inner (filters ++ []) b.rest_is in
-    let y = read_source (is_stream (query_of source)) source refl (λ vs k. read_query source c.2 vs k) d.front d.front_is in
-    let f = parts d.back filters [] d.back_is in
-    let z = read_filter filter c.1 f.front f.front_is in
-    record {
-      tree = written.Select x.tree y.tree None z.tree None;
-      spelled = cons (token.Plain plain.Select) us a.rest _ a.whole (two a.rest p.front p.back (spell_pick x.tree) _ p.whole x.spelled (cons (token.Plain plain.From) p.back b.rest _ b.whole
-          (two b.rest d.front d.back (spell_query y.tree) _ d.whole y.spelled (two d.back f.front f.back (spell_filter z.tree) [] f.whole z.spelled (sym (nothing f.back f.back_is))))));
-      grammar = λ n. (x.grammar, y.grammar, z.grammar);
-      bare = λ e. absurd (true≢false (sym e));
-      term = λ n e. (x.grammar, y.grammar, z.grammar);
-      mixed = none_mixed (mixed_pick x.tree None) (mixed_in y.tree) x.mixed y.mixed;
-      alike = alike_rows x.tree z.tree y.tree pick filter source x.alike z.alike y.alike;
-    }
-read_query (shape.Total aggs source) c us h =
-    let items = spell_items (map agg_item_of aggs) in
-    let inner = spell_query (source_of (query_of source)) in
-    let a = first us (token.Plain plain.Select) (items ++ token.Plain plain.From ∷ (inner ++ [])) h in
-    let p = parts a.rest items (token.Plain plain.From ∷ (inner ++ [])) a.rest_is in
-    let x = read_aggs aggs c.0 c.1 p.front p.front_is in
-    let b = first p.back (token.Plain plain.From) (inner ++ []) p.back_is in
-    let d = parts b.rest inner [] b.rest_is in
-    let y = read_source (is_stream (query_of source)) source refl (λ vs k. read_query source c.2 vs k) d.front d.front_is in
-    record {
-      tree = written.Select x.tree y.tree None None None;
-      spelled = cons (token.Plain plain.Select) us a.rest _ a.whole (two a.rest p.front p.back (spell_pick x.tree) _ p.whole x.spelled (cons (token.Plain plain.From) p.back b.rest _ b.whole
-          (two b.rest d.front d.back (spell_query y.tree) [] d.whole y.spelled (sym (nothing d.back d.back_is)))));
-      grammar = λ n. (x.grammar, y.grammar, tt);
-      bare = λ e. absurd (true≢false (sym e));
-      term = λ n e. (x.grammar, y.grammar, tt);
-      mixed = none_mixed (mixed_pick x.tree None) (mixed_in y.tree) x.mixed y.mixed;
-      alike = x.alike (query_meaning y.tree) ∙ ap (shape.Total aggs) y.alike;
-    }
-read_query (shape.Each var source size advance body) c us h =
-    let end : List Token = token.Open 0 ∷ (spell_query (query_of body) ++ token.Plain plain.Close ∷ []) in
-    let windows = spell_window (window_of size advance) in
-    let a = read_head var source (windows ++ end) (λ vs k. read_query source c.1 vs k) us h in
-    let p = parts a.rest windows end a.rest_is in
-    let w = read_window size advance p.front p.front_is in
-    let b = read_body body c.5 (λ vs k. read_query body c.4 vs k) p.back p.back_is in
-    record {
-      tree = written.Windows a.at (record { text = var; at = a.name_at }) a.tree w.window b.at b.tree;
-      spelled = head_spelled (token.Each a.at) (token.Name (record { text = var; at = a.name_at })) (token.Plain plain.In) us (spell_query a.tree) a.rest _ a.whole (two a.rest p.front p.back (spell_window w.window) _ p.whole w.spelled b.spelled);
-      grammar = λ n. (a.grammar, b.grammar);
-      bare = λ e. absurd (true≢false (sym e));
-      term = λ n e. (a.grammar, b.grammar);
-      mixed = none_mixed (mixed_in a.tree) (mixed_in b.tree) a.mixed b.mixed;
-      alike = alike_each var w.window.size.value w.window.advance.value size advance (query_alike (query_meaning a.tree)) (query_alike (query_meaning b.tree)) source body a.alike w.size_is w.advance_is b.alike;
-    }
-read_query (shape.PerGroup var source key groups body) c us h =
-    let end : List Token = token.Open 0 ∷ (spell_query (query_of body) ++ token.Plain plain.Close ∷ []) in
-    let by = spell_grouping (grouping_of key groups) in
-    let a = read_head var source (by ++ end) (λ vs k. read_query source c.1 vs k) us h in
-    let p = parts a.rest by end a.rest_is in
-    let g = read_grouping key groups p.front p.front_is in
-    let b = read_body body c.5 (λ vs k. read_query body c.4 vs k) p.back p.back_is in
-    record {
-      tree = written.Groups a.at (record { text = var; at = a.name_at }) a.tree g.grouping b.at b.tree;
-      spelled = head_spelled (token.Each a.at) (token.Name (record { text = var; at = a.name_at })) (token.Plain plain.In) us (spell_query a.tree) a.rest _ a.whole (two a.rest p.front p.back (spell_grouping g.grouping) _ p.whole g.spelled b.spelled);
-      grammar = λ n. (a.grammar, b.grammar);
-      bare = λ e. absurd (true≢false (sym e));
-      term = λ n e. (a.grammar, b.grammar);
-      mixed = none_mixed (mixed_in a.tree) (mixed_in b.tree) a.mixed b.mixed;
-      alike = alike_groups var g.grouping.key.text key g.grouping.groups.value groups (query_alike (query_meaning a.tree)) (query_alike (query_meaning b.tree)) source body a.alike g.key_is g.groups_is b.alike;
-    }
-read_query (shape.Union l r) c us h =
-    let x = read_join Union l r c.1 c.3 (λ vs k. read_query l c.0 vs k) (λ vs k. read_query r c.2 vs k) us h in
-    record { tree = written.Join' Union x.at x.left x.right; spelled = x.spelled; grammar = λ n. x.grammar; bare = λ e. absurd (true≢false (sym e)); term = λ n e. absurd (true≢false (sym e)); mixed = x.mixed; alike = x.alike }
-read_query (shape.Concat l r) c us h =
-    let x = read_join Concat l r c.1 c.3 (λ vs k. read_query l c.0 vs k) (λ vs k. read_query r c.2 vs k) us h in
-    record { tree = written.Join' Concat x.at x.left x.right; spelled = x.spelled; grammar = λ n. x.grammar; bare = λ e. absurd (true≢false (sym e)); term = λ n e. absurd (true≢false (sym e)); mixed = x.mixed; alike = x.alike }
-
--- a statement
-pub record ReadStatement (us : List Token) (s : StatementShape) : Type 0 where
-  pub tree : written.Statement
-  pub spelled : spell_statement tree ≡ us
-  pub grammar : IsQuery tree.query
-  pub mixed : mixed_in tree.query ≡ None
-  pub alike : statement_alike (statement_meaning tree) ≡ s
-
-abbrev named_query : QueryShape → List ℕ → StatementShape
-named_query q name = record { query = q; name = name }
-
-alike_statement : (q p : QueryShape) (name : List ℕ) → q ≡ p → named_query q name ≡ named_query p name
-alike_statement q p name e = ap (λ (z : QueryShape). named_query z name) e
-
-pub read_statement : (s : StatementShape) → CanBeStatement s → (us : List Token) → map placeless us ≡ canonical_tokens s → ReadStatement us s
-read_statement s c us h =
-    let p = parts us (spell_query (query_of s.query)) (token.Plain plain.Into ∷ token.Name (name_of s.name) ∷ []) h in
-    let x = read_query s.query c.query.0 p.front p.front_is in
-    let a = first p.back (token.Plain plain.Into) (token.Name (name_of s.name) ∷ []) p.back_is in
-    let n = alone a.rest (token.Name (name_of s.name)) a.rest_is in
-    record {
-      tree = record { query = x.tree; name = record { text = s.name; at = n.at }; closed = false };
-      spelled = two us p.front p.back (spell_query x.tree) _ p.whole x.spelled (cons (token.Plain plain.Into) p.back a.rest _ a.whole (sym n.whole));
-      grammar = x.grammar c.query.1;
-      mixed = x.mixed;
-      alike = alike_statement (query_alike (query_meaning x.tree)) s.query s.name x.alike;
     }

@@ -14,7 +14,7 @@ use Rattle.gl_query_tokens.specs.declared.token.Lexeme.{Lexeme}
 use Rattle.gl_query_tokens.proofs.Sound.{IsSound, text_sound}
 use Rattle.gl_query_printer.proofs.Writable.{CanBeStatement, statement_can}
 use Rattle.gl_query_printer.proofs.Readable.{statement_readable}
-use Rattle.gl_query_printer.proofs.ReadBack.{read_statement}
+use Rattle.gl_query_printer.proofs.ReadBackStatement.{read_statement}
 
 -- what some text has can be written
 printable_can : (s : StatementShape) → IsPrintable s → CanBeStatement s

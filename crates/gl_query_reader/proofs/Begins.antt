@@ -1,7 +1,6 @@
 -- What was read so far begins a statement.
-use Rattle.std.proofs.Common.{◌≡◌, ℕ, true, false, List, [], ◌∷◌, ◌++◌, Option, Some, None, refl, sym, ap, subst, ◌∙◌, arith}
+use Rattle.std.proofs.Common.{◌≡◌, ℕ, true, false, List, [], ◌∷◌, ◌++◌, Option, Some, None, refl, sym, ap, ◌∙◌, arith}
 use Rattle.std.specs.Prelude.{codes}
-use Rattle.gl_bits.specs.declared.kind.Kind.{Kind}
 use Rattle.gl_bits.specs.declared.kind.Kind.TheVariants.{Unsigned}
 use Rattle.gl_schema.specs.SchemaText.{kind_text}
 use Rattle.gl_schema.specs.SchemaFaults.{kind_named}
@@ -16,14 +15,12 @@ use Rattle.gl_query_tokens.specs.declared.token.Token.TheVariants as token
 use Rattle.gl_query_tokens.specs.Sorts.{plain_eq, is_plain}
 use Rattle.gl_query_reader.specs.declared.written.Window.{Window}
 use Rattle.gl_query_reader.specs.declared.written.Grouping.{Grouping}
-use Rattle.gl_query_reader.specs.Written.{Expr, Column, Brackets, Cast, Not, Binary, Agg, Count, Fold', Wsum, Item, Pick, All, Items, Query, Stream, InBrackets, Select, Groups, Join', Statement}
-use Rattle.gl_query_reader.specs.Machine.{State, Control, Frame, Head, BodyHead, GroupsHead, Unnamed, SelectHead, EachHead, WindowsHead, GroupsHead', SelectGroups, EachGroups, UnnamedExpr, UnnamedAgg, LeftOf, NotOf, BracketOf, InCast, InItem, InFold, InWsum, InFilter, JoinOf, InQuery, InSource, InBody, WantTerm, WantItem, WantOperand, HaveExpr, WantCastOpen, WantKind, WantCastClose, WantCountOpen, WantCountClose, WantFoldOpen, WantWsumOpen, WantWeightsOpen, WantWeight, HaveWeight, WantWsumClose, WantAs, WantItemName, HaveItem, WantFrom, WantSource, HaveSource, HaveEachSource, WantSize, WantSizeNumber, WantAdvance, WantAdvanceNumber, WantTuples, WantWindowClose, WantBy, WantKey, WantGroups, WantGroupsNumber, WantVar, WantIn, WantBody, HaveTerm, WantName, HaveName, WantEnd, Reduced, reduced, have_term, after_expr, after_source, after_window, after_groups, body_of, under_name, is_operator, step, finish}
+use Rattle.gl_query_reader.specs.Written.{Expr, Column, Brackets, Cast, Not, Binary, Agg, Fold', Wsum, Item, Pick, All, Items, Query, Stream, InBrackets, Select, Groups, Join', Statement}
+use Rattle.gl_query_reader.specs.Machine.{State, Frame, Head, BodyHead, GroupsHead, Unnamed, SelectHead, EachHead, WindowsHead, GroupsHead', SelectGroups, EachGroups, UnnamedExpr, UnnamedAgg, LeftOf, NotOf, BracketOf, InCast, InItem, InFold, InWsum, InFilter, JoinOf, InQuery, InSource, InBody, WantKind, WantWeightsOpen, WantWeight, HaveWeight, WantWsumClose, WantAs, WantItemName, HaveItem, WantSource, HaveSource, HaveEachSource, WantSize, WantSizeNumber, WantAdvance, WantAdvanceNumber, WantTuples, WantWindowClose, WantKey, WantGroups, WantGroupsNumber, WantBody, HaveTerm, WantName, HaveName, WantEnd, Reduced, reduced, have_term, after_expr, after_source, after_window, after_groups, body_of, under_name, is_operator, step, finish}
 use Rattle.gl_query_reader.proofs.Steps.{steps, state, steps-one, steps-append}
 use Rattle.gl_query_reader.proofs.ReadExpressions.{wanting, having, reduced-not, reduced-binary, looseness-le}
 use Rattle.gl_query_reader.proofs.ReadQueries.{Follows, close-follows, into-follows, have-source, have-whole, term-alone}
-use Rattle.gl_query_reader.specs.Grammar.{CanBegin}
-use Rattle.gl_query_reader.proofs.Said.{InExpr, InTerm, Fits, Holds, Read}
-use Rattle.gl_query_reader.proofs.Sound.{sound_steps, sound_finish}
+use Rattle.gl_query_reader.proofs.Said.{InExpr, InTerm, Fits}
 
 abbrev pub some_name : Name
 some_name = record { text = codes "a"; at = 0 }
@@ -46,10 +43,10 @@ pub record Ends (s : State) : Type 0 where
   pub steps : steps s more ≡ Some there
   pub done : finish there ≡ Some written
 
-by_token : (s s' : State) (t : Token) → step s t ≡ Some s' → Ends s' → Ends s
+pub by_token : (s s' : State) (t : Token) → step s t ≡ Some s' → Ends s' → Ends s
 by_token s s' t e x = record { more = t ∷ x.more; there = x.there; written = x.written; steps = steps-one s s' t x.more e ∙ x.steps; done = x.done }
 
-by_tokens : (s s' : State) (ts : List Token) → steps s ts ≡ Some s' → Ends s' → Ends s
+pub by_tokens : (s s' : State) (ts : List Token) → steps s ts ≡ Some s' → Ends s' → Ends s
 by_tokens s s' ts e x = record { more = ts ++ x.more; there = x.there; written = x.written; steps = steps-append ts x.more s s' e ∙ x.steps; done = x.done }
 
 -- ---- behind a term
@@ -94,11 +91,11 @@ each_steps fs at var source = refl
 each_ends : (fs : List Frame) (at : ℕ) (var : Name) (source : Query) → TermEnds fs (Groups at var source (some_grouping 0) 0 all_of_one) → Ends (state (HaveEachSource at var source) fs)
 each_ends fs at var source x = by_tokens (state (HaveEachSource at var source) fs) (state (WantBody (GroupsHead' at var source (some_grouping 0))) fs) (token.By 0 ∷ token.Name some_name ∷ token.Plain plain.Groups ∷ token.Number some_number ∷ []) (each_steps fs at var source) (body_ends fs (GroupsHead' at var source (some_grouping 0)) x)
 
-named_ends : (q : Query) (name : Name) → Ends (state (HaveName q name) [])
+pub named_ends : (q : Query) (name : Name) → Ends (state (HaveName q name) [])
 unfolding steps finish
 named_ends q name = record { more = []; there = state (HaveName q name) []; written = record { query = q; name = name; closed = false }; steps = refl; done = refl }
 
-closed_ends : (q : Query) (name : Name) → Ends (state (WantEnd q name) [])
+pub closed_ends : (q : Query) (name : Name) → Ends (state (WantEnd q name) [])
 unfolding steps finish
 closed_ends q name = record { more = []; there = state (WantEnd q name) []; written = record { query = q; name = name; closed = true }; steps = refl; done = refl }
 
@@ -106,7 +103,7 @@ name_step : (q : Query) → step (state (WantName q) []) (token.Name some_name) 
 unfolding step
 name_step q = refl
 
-unnamed_ends : (q : Query) → Ends (state (WantName q) [])
+pub unnamed_ends : (q : Query) → Ends (state (WantName q) [])
 unnamed_ends q = by_token (state (WantName q) []) (state (HaveName q some_name) []) (token.Name some_name) (name_step q) (named_ends q some_name)
 
 -- what waits for a query ends
@@ -146,16 +143,16 @@ term_ends (InBody head open' ∷ fs) q f i = record {
 term_ends fs q f i = absurd i
 
 -- a term, a source or a body that is still wanted
-have_term_ends : (fs : List Frame) (q : Query) → Fits fs → InTerm fs → Ends (state (HaveTerm q) fs)
+pub have_term_ends : (fs : List Frame) (q : Query) → Fits fs → InTerm fs → Ends (state (HaveTerm q) fs)
 have_term_ends fs q f i = whole_ends fs q (term_ends fs q f i)
 
-have_source_ends : (fs : List Frame) (pick : Pick) (source : Query) (window : Option Window) → Fits fs → InTerm fs → Ends (state (HaveSource pick source window) fs)
+pub have_source_ends : (fs : List Frame) (pick : Pick) (source : Query) (window : Option Window) → Fits fs → InTerm fs → Ends (state (HaveSource pick source window) fs)
 have_source_ends fs pick source window f i = source_ends fs pick source window (term_ends fs (Select pick source window None None) f i)
 
-want_body_ends : (fs : List Frame) (head : BodyHead) → Fits fs → InTerm fs → Ends (state (WantBody head) fs)
+pub want_body_ends : (fs : List Frame) (head : BodyHead) → Fits fs → InTerm fs → Ends (state (WantBody head) fs)
 want_body_ends fs head f i = body_ends fs head (term_ends fs (body_of head 0 all_of_one) f i)
 
-have_each_ends : (fs : List Frame) (at : ℕ) (var : Name) (source : Query) → Fits fs → InTerm fs → Ends (state (HaveEachSource at var source) fs)
+pub have_each_ends : (fs : List Frame) (at : ℕ) (var : Name) (source : Query) → Fits fs → InTerm fs → Ends (state (HaveEachSource at var source) fs)
 have_each_ends fs at var source f i = each_ends fs at var source (term_ends fs (Groups at var source (some_grouping 0) 0 all_of_one) f i)
 
 -- ---- items
@@ -164,49 +161,49 @@ from_steps : (fs : List Frame) (items : List Item) → steps (state (HaveItem it
 unfolding steps step plain_eq
 from_steps fs items = refl
 
-have_item_ends : (fs : List Frame) (items : List Item) → Fits fs → InTerm fs → Ends (state (HaveItem items) fs)
+pub have_item_ends : (fs : List Frame) (items : List Item) → Fits fs → InTerm fs → Ends (state (HaveItem items) fs)
 have_item_ends fs items f i = by_tokens _ (state (HaveSource (Items items) (Stream some_name) None) fs) (token.Plain plain.From ∷ token.Name some_name ∷ []) (from_steps fs items) (have_source_ends fs (Items items) (Stream some_name) None f i)
 
 item_name_step : (fs : List Frame) (items : List Item) (u : Unnamed) → step (state (WantItemName items u) fs) (token.Name some_name) ≡ Some (state (HaveItem (items ++ under_name u some_name ∷ [])) fs)
 unfolding step
 item_name_step fs items u = refl
 
-item_name_ends : (fs : List Frame) (items : List Item) (u : Unnamed) → Fits fs → InTerm fs → Ends (state (WantItemName items u) fs)
+pub item_name_ends : (fs : List Frame) (items : List Item) (u : Unnamed) → Fits fs → InTerm fs → Ends (state (WantItemName items u) fs)
 item_name_ends fs items u f i = by_token _ (state (HaveItem (items ++ under_name u some_name ∷ [])) fs) (token.Name some_name) (item_name_step fs items u) (have_item_ends fs (items ++ under_name u some_name ∷ []) f i)
 
 as_step : (fs : List Frame) (items : List Item) (agg : Agg) → step (state (WantAs items agg) fs) (token.Plain plain.As) ≡ Some (state (WantItemName items (UnnamedAgg agg)) fs)
 unfolding step plain_eq
 as_step fs items agg = refl
 
-as_ends : (fs : List Frame) (items : List Item) (agg : Agg) → Fits fs → InTerm fs → Ends (state (WantAs items agg) fs)
+pub as_ends : (fs : List Frame) (items : List Item) (agg : Agg) → Fits fs → InTerm fs → Ends (state (WantAs items agg) fs)
 as_ends fs items agg f i = by_token _ (state (WantItemName items (UnnamedAgg agg)) fs) (token.Plain plain.As) (as_step fs items agg) (item_name_ends fs items (UnnamedAgg agg) f i)
 
 wsum_close_step : (fs : List Frame) (items : List Item) (at open' : ℕ) (e : Expr) (ns : List Num) → step (state (WantWsumClose items at open' e ns) fs) (token.Plain plain.Close) ≡ Some (state (WantAs items (Wsum at open' e ns)) fs)
 unfolding step plain_eq
 wsum_close_step fs items at open' e ns = refl
 
-wsum_close_ends : (fs : List Frame) (items : List Item) (at open' : ℕ) (e : Expr) (ns : List Num) → Fits fs → InTerm fs → Ends (state (WantWsumClose items at open' e ns) fs)
+pub wsum_close_ends : (fs : List Frame) (items : List Item) (at open' : ℕ) (e : Expr) (ns : List Num) → Fits fs → InTerm fs → Ends (state (WantWsumClose items at open' e ns) fs)
 wsum_close_ends fs items at open' e ns f i = by_token _ (state (WantAs items (Wsum at open' e ns)) fs) (token.Plain plain.Close) (wsum_close_step fs items at open' e ns) (as_ends fs items (Wsum at open' e ns) f i)
 
 have_weight_step : (fs : List Frame) (items : List Item) (at open' : ℕ) (e : Expr) (ns : List Num) → step (state (HaveWeight items at open' e ns) fs) (token.Plain plain.RightSquare) ≡ Some (state (WantWsumClose items at open' e ns) fs)
 unfolding step plain_eq
 have_weight_step fs items at open' e ns = refl
 
-have_weight_ends : (fs : List Frame) (items : List Item) (at open' : ℕ) (e : Expr) (ns : List Num) → Fits fs → InTerm fs → Ends (state (HaveWeight items at open' e ns) fs)
+pub have_weight_ends : (fs : List Frame) (items : List Item) (at open' : ℕ) (e : Expr) (ns : List Num) → Fits fs → InTerm fs → Ends (state (HaveWeight items at open' e ns) fs)
 have_weight_ends fs items at open' e ns f i = by_token _ (state (WantWsumClose items at open' e ns) fs) (token.Plain plain.RightSquare) (have_weight_step fs items at open' e ns) (wsum_close_ends fs items at open' e ns f i)
 
 weight_step : (fs : List Frame) (items : List Item) (at open' : ℕ) (e : Expr) (ns : List Num) → step (state (WantWeight items at open' e ns) fs) (token.Number some_number) ≡ Some (state (HaveWeight items at open' e (ns ++ some_number ∷ [])) fs)
 unfolding step
 weight_step fs items at open' e ns = refl
 
-weight_ends : (fs : List Frame) (items : List Item) (at open' : ℕ) (e : Expr) (ns : List Num) → Fits fs → InTerm fs → Ends (state (WantWeight items at open' e ns) fs)
+pub weight_ends : (fs : List Frame) (items : List Item) (at open' : ℕ) (e : Expr) (ns : List Num) → Fits fs → InTerm fs → Ends (state (WantWeight items at open' e ns) fs)
 weight_ends fs items at open' e ns f i = by_token _ (state (HaveWeight items at open' e (ns ++ some_number ∷ [])) fs) (token.Number some_number) (weight_step fs items at open' e ns) (have_weight_ends fs items at open' e (ns ++ some_number ∷ []) f i)
 
 weights_open_step : (fs : List Frame) (items : List Item) (at open' : ℕ) (e : Expr) → step (state (WantWeightsOpen items at open' e) fs) (token.Plain plain.LeftSquare) ≡ Some (state (WantWeight items at open' e []) fs)
 unfolding step plain_eq
 weights_open_step fs items at open' e = refl
 
-weights_open_ends : (fs : List Frame) (items : List Item) (at open' : ℕ) (e : Expr) → Fits fs → InTerm fs → Ends (state (WantWeightsOpen items at open' e) fs)
+pub weights_open_ends : (fs : List Frame) (items : List Item) (at open' : ℕ) (e : Expr) → Fits fs → InTerm fs → Ends (state (WantWeightsOpen items at open' e) fs)
 weights_open_ends fs items at open' e f i = by_token _ (state (WantWeight items at open' e []) fs) (token.Plain plain.LeftSquare) (weights_open_step fs items at open' e) (weight_ends fs items at open' e [] f i)
 
 -- ---- behind an expression
@@ -229,7 +226,7 @@ kind_steps : (fs : List Frame) (at open' : ℕ) (e : Expr) → steps (state (Wan
 unfolding steps step plain_eq
 kind_steps fs at open' e = rw word_is_kind refl
 
-kind_then : (fs : List Frame) (at open' : ℕ) (e : Expr) → ExprEnds fs (Cast at open' e some_word (Unsigned 1)) → Ends (state (WantKind at open' e) fs)
+pub kind_then : (fs : List Frame) (at open' : ℕ) (e : Expr) → ExprEnds fs (Cast at open' e some_word (Unsigned 1)) → Ends (state (WantKind at open' e) fs)
 kind_then fs at open' e x = by_tokens _ (having (Cast at open' e some_word (Unsigned 1)) fs) (token.Name some_word ∷ token.Plain plain.Close ∷ []) (kind_steps fs at open' e) (expr_then fs (Cast at open' e some_word (Unsigned 1)) x)
 
 -- the token that ends an expression where nothing binds it
@@ -275,14 +272,14 @@ expr_ends (InFilter pick source window ∷ fs) e f i =
     record { next = x.next; operator = x.follows.operator; there = x.there; goes = filter_goes pick source window fs e x.next x.follows.group ∙ x.goes; ends = x.ends }
 expr_ends fs e f i = absurd i
 
-have_expr_ends : (fs : List Frame) (e : Expr) → Fits fs → InExpr fs → Ends (having e fs)
+pub have_expr_ends : (fs : List Frame) (e : Expr) → Fits fs → InExpr fs → Ends (having e fs)
 have_expr_ends fs e f i = expr_then fs e (expr_ends fs e f i)
 
 operand_step : (fs : List Frame) → step (wanting fs) (token.Name some_name) ≡ Some (having (Column some_name) fs)
 unfolding step
 operand_step fs = refl
 
-operand_ends : (fs : List Frame) → Fits fs → InExpr fs → Ends (wanting fs)
+pub operand_ends : (fs : List Frame) → Fits fs → InExpr fs → Ends (wanting fs)
 operand_ends fs f i = by_token (wanting fs) (having (Column some_name) fs) (token.Name some_name) (operand_step fs) (have_expr_ends fs (Column some_name) f i)
 
 -- ---- sources, windows and groups
@@ -295,7 +292,7 @@ after_source_ends : (fs : List Frame) (head : Head) → Fits fs → InTerm fs �
 after_source_ends fs (SelectHead pick) f i = have_source_ends fs pick (Stream some_name) None f i
 after_source_ends fs (EachHead at var) f i = have_each_ends fs at var (Stream some_name) f i
 
-want_source_ends : (fs : List Frame) (head : Head) → Fits fs → InTerm fs → Ends (state (WantSource head) fs)
+pub want_source_ends : (fs : List Frame) (head : Head) → Fits fs → InTerm fs → Ends (state (WantSource head) fs)
 want_source_ends fs head f i = by_token _ (state (after_source head (Stream some_name)) fs) (token.Name some_name) (source_step fs head) (after_source_ends fs head f i)
 
 after_window_ends : (fs : List Frame) (head : Head) (source : Query) (w : Window) → Fits fs → InTerm fs → Ends (state (after_window head source w) fs)
@@ -306,14 +303,14 @@ window_close_step : (fs : List Frame) (head : Head) (source : Query) (w : Window
 unfolding step plain_eq
 window_close_step fs head source w = refl
 
-window_close_ends : (fs : List Frame) (head : Head) (source : Query) (w : Window) → Fits fs → InTerm fs → Ends (state (WantWindowClose head source w) fs)
+pub window_close_ends : (fs : List Frame) (head : Head) (source : Query) (w : Window) → Fits fs → InTerm fs → Ends (state (WantWindowClose head source w) fs)
 window_close_ends fs head source w f i = by_token _ (state (after_window head source w) fs) (token.Plain plain.RightSquare) (window_close_step fs head source w) (after_window_ends fs head source w f i)
 
 tuples_step : (fs : List Frame) (head : Head) (source : Query) (w : Window) → step (state (WantTuples head source w) fs) (token.Plain plain.Tuples) ≡ Some (state (WantWindowClose head source w) fs)
 unfolding step plain_eq
 tuples_step fs head source w = refl
 
-tuples_ends : (fs : List Frame) (head : Head) (source : Query) (w : Window) → Fits fs → InTerm fs → Ends (state (WantTuples head source w) fs)
+pub tuples_ends : (fs : List Frame) (head : Head) (source : Query) (w : Window) → Fits fs → InTerm fs → Ends (state (WantTuples head source w) fs)
 tuples_ends fs head source w f i = by_token _ (state (WantWindowClose head source w) fs) (token.Plain plain.Tuples) (tuples_step fs head source w) (window_close_ends fs head source w f i)
 
 abbrev pub window_at : ℕ → Num → Window
@@ -323,28 +320,28 @@ advance_number_step : (fs : List Frame) (head : Head) (source : Query) (at : ℕ
 unfolding step
 advance_number_step fs head source at size = refl
 
-advance_number_ends : (fs : List Frame) (head : Head) (source : Query) (at : ℕ) (size : Num) → Fits fs → InTerm fs → Ends (state (WantAdvanceNumber head source at size) fs)
+pub advance_number_ends : (fs : List Frame) (head : Head) (source : Query) (at : ℕ) (size : Num) → Fits fs → InTerm fs → Ends (state (WantAdvanceNumber head source at size) fs)
 advance_number_ends fs head source at size f i = by_token _ (state (WantTuples head source (window_at at size)) fs) (token.Number some_number) (advance_number_step fs head source at size) (tuples_ends fs head source (window_at at size) f i)
 
 advance_step : (fs : List Frame) (head : Head) (source : Query) (at : ℕ) (size : Num) → step (state (WantAdvance head source at size) fs) (token.Plain plain.Advance) ≡ Some (state (WantAdvanceNumber head source at size) fs)
 unfolding step plain_eq
 advance_step fs head source at size = refl
 
-advance_ends : (fs : List Frame) (head : Head) (source : Query) (at : ℕ) (size : Num) → Fits fs → InTerm fs → Ends (state (WantAdvance head source at size) fs)
+pub advance_ends : (fs : List Frame) (head : Head) (source : Query) (at : ℕ) (size : Num) → Fits fs → InTerm fs → Ends (state (WantAdvance head source at size) fs)
 advance_ends fs head source at size f i = by_token _ (state (WantAdvanceNumber head source at size) fs) (token.Plain plain.Advance) (advance_step fs head source at size) (advance_number_ends fs head source at size f i)
 
 size_number_step : (fs : List Frame) (head : Head) (source : Query) (at : ℕ) → step (state (WantSizeNumber head source at) fs) (token.Number some_number) ≡ Some (state (WantAdvance head source at some_number) fs)
 unfolding step
 size_number_step fs head source at = refl
 
-size_number_ends : (fs : List Frame) (head : Head) (source : Query) (at : ℕ) → Fits fs → InTerm fs → Ends (state (WantSizeNumber head source at) fs)
+pub size_number_ends : (fs : List Frame) (head : Head) (source : Query) (at : ℕ) → Fits fs → InTerm fs → Ends (state (WantSizeNumber head source at) fs)
 size_number_ends fs head source at f i = by_token _ (state (WantAdvance head source at some_number) fs) (token.Number some_number) (size_number_step fs head source at) (advance_ends fs head source at some_number f i)
 
 size_step : (fs : List Frame) (head : Head) (source : Query) → step (state (WantSize head source) fs) (token.Size 0) ≡ Some (state (WantSizeNumber head source 0) fs)
 unfolding step
 size_step fs head source = refl
 
-size_ends : (fs : List Frame) (head : Head) (source : Query) → Fits fs → InTerm fs → Ends (state (WantSize head source) fs)
+pub size_ends : (fs : List Frame) (head : Head) (source : Query) → Fits fs → InTerm fs → Ends (state (WantSize head source) fs)
 size_ends fs head source f i = by_token _ (state (WantSizeNumber head source 0) fs) (token.Size 0) (size_step fs head source) (size_number_ends fs head source 0 f i)
 
 abbrev pub grouping_at : ℕ → Name → Grouping
@@ -358,123 +355,19 @@ groups_number_step : (fs : List Frame) (head : GroupsHead) (at : ℕ) (key : Nam
 unfolding step
 groups_number_step fs head at key = refl
 
-groups_number_ends : (fs : List Frame) (head : GroupsHead) (at : ℕ) (key : Name) → Fits fs → InTerm fs → Ends (state (WantGroupsNumber head at key) fs)
+pub groups_number_ends : (fs : List Frame) (head : GroupsHead) (at : ℕ) (key : Name) → Fits fs → InTerm fs → Ends (state (WantGroupsNumber head at key) fs)
 groups_number_ends fs head at key f i = by_token _ (state (after_groups head (grouping_at at key)) fs) (token.Number some_number) (groups_number_step fs head at key) (after_groups_ends fs head (grouping_at at key) f i)
 
 groups_step : (fs : List Frame) (head : GroupsHead) (at : ℕ) (key : Name) → step (state (WantGroups head at key) fs) (token.Plain plain.Groups) ≡ Some (state (WantGroupsNumber head at key) fs)
 unfolding step plain_eq
 groups_step fs head at key = refl
 
-groups_ends : (fs : List Frame) (head : GroupsHead) (at : ℕ) (key : Name) → Fits fs → InTerm fs → Ends (state (WantGroups head at key) fs)
+pub groups_ends : (fs : List Frame) (head : GroupsHead) (at : ℕ) (key : Name) → Fits fs → InTerm fs → Ends (state (WantGroups head at key) fs)
 groups_ends fs head at key f i = by_token _ (state (WantGroupsNumber head at key) fs) (token.Plain plain.Groups) (groups_step fs head at key) (groups_number_ends fs head at key f i)
 
 key_step : (fs : List Frame) (head : GroupsHead) (at : ℕ) → step (state (WantKey head at) fs) (token.Name some_name) ≡ Some (state (WantGroups head at some_name) fs)
 unfolding step
 key_step fs head at = refl
 
-key_ends : (fs : List Frame) (head : GroupsHead) (at : ℕ) → Fits fs → InTerm fs → Ends (state (WantKey head at) fs)
+pub key_ends : (fs : List Frame) (head : GroupsHead) (at : ℕ) → Fits fs → InTerm fs → Ends (state (WantKey head at) fs)
 key_ends fs head at f i = by_token _ (state (WantGroups head at some_name) fs) (token.Name some_name) (key_step fs head at) (groups_ends fs head at some_name f i)
-
--- ---- single tokens before these
-
-all_steps : (fs : List Frame) → steps (state WantTerm fs) all_text ≡ Some (state (HaveSource (All 0) (Stream some_name) None) fs)
-unfolding steps step plain_eq
-all_steps fs = refl
-
-item_step : (fs : List Frame) (items : List Item) → step (state (WantItem items) fs) (token.Name some_name) ≡ Some (having (Column some_name) (InItem items ∷ fs))
-unfolding step
-item_step fs items = refl
-
-cast_open_step : (fs : List Frame) (at : ℕ) → step (state (WantCastOpen at) fs) (token.Open 0) ≡ Some (wanting (InCast at 0 ∷ fs))
-unfolding step
-cast_open_step fs at = refl
-
-cast_close_step : (fs : List Frame) (at open' : ℕ) (e : Expr) (word : Name) (kind : Kind) → step (state (WantCastClose at open' e word kind) fs) (token.Plain plain.Close) ≡ Some (having (Cast at open' e word kind) fs)
-unfolding step plain_eq
-cast_close_step fs at open' e word kind = refl
-
-count_open_step : (fs : List Frame) (items : List Item) (at : ℕ) → step (state (WantCountOpen items at) fs) (token.Open 0) ≡ Some (state (WantCountClose items at 0) fs)
-unfolding step
-count_open_step fs items at = refl
-
-count_close_step : (fs : List Frame) (items : List Item) (at open' : ℕ) → step (state (WantCountClose items at open') fs) (token.Plain plain.Close) ≡ Some (state (WantAs items (Count at open')) fs)
-unfolding step plain_eq
-count_close_step fs items at open' = refl
-
-count_close_ends : (fs : List Frame) (items : List Item) (at open' : ℕ) → Fits fs → InTerm fs → Ends (state (WantCountClose items at open') fs)
-count_close_ends fs items at open' f i = by_token _ (state (WantAs items (Count at open')) fs) (token.Plain plain.Close) (count_close_step fs items at open') (as_ends fs items (Count at open') f i)
-
-fold_open_step : (fs : List Frame) (items : List Item) (fold : Fold) (at : ℕ) → step (state (WantFoldOpen items fold at) fs) (token.Open 0) ≡ Some (wanting (InFold items fold at 0 ∷ fs))
-unfolding step
-fold_open_step fs items fold at = refl
-
-wsum_open_step : (fs : List Frame) (items : List Item) (at : ℕ) → step (state (WantWsumOpen items at) fs) (token.Open 0) ≡ Some (wanting (InWsum items at 0 ∷ fs))
-unfolding step
-wsum_open_step fs items at = refl
-
-from_step : (fs : List Frame) (at : ℕ) → step (state (WantFrom at) fs) (token.Plain plain.From) ≡ Some (state (WantSource (SelectHead (All at))) fs)
-unfolding step plain_eq
-from_step fs at = refl
-
-by_step : (fs : List Frame) (pick : Pick) (source : Query) (window : Option Window) (filter : Option Expr) → step (state (WantBy pick source window filter) fs) (token.By 0) ≡ Some (state (WantKey (SelectGroups pick source window filter) 0) fs)
-unfolding step
-by_step fs pick source window filter = refl
-
-in_step : (fs : List Frame) (at : ℕ) (var : Name) → step (state (WantIn at var) fs) (token.Plain plain.In) ≡ Some (state (WantSource (EachHead at var)) fs)
-unfolding step plain_eq
-in_step fs at var = refl
-
-in_ends : (fs : List Frame) (at : ℕ) (var : Name) → Fits fs → InTerm fs → Ends (state (WantIn at var) fs)
-in_ends fs at var f i = by_token _ (state (WantSource (EachHead at var)) fs) (token.Plain plain.In) (in_step fs at var) (want_source_ends fs (EachHead at var) f i)
-
-var_step : (fs : List Frame) (at : ℕ) → step (state (WantVar at) fs) (token.Name some_name) ≡ Some (state (WantIn at some_name) fs)
-unfolding step
-var_step fs at = refl
-
--- every state goes on to a whole statement
-pub state_ends : (c : Control) (fs : List Frame) → Fits fs → Holds c fs → Ends (state c fs)
-state_ends WantTerm fs f h = by_tokens (state WantTerm fs) (state (HaveSource (All 0) (Stream some_name) None) fs) all_text (all_steps fs) (have_source_ends fs (All 0) (Stream some_name) None f h)
-state_ends (WantItem items) fs f h = by_token _ (having (Column some_name) (InItem items ∷ fs)) (token.Name some_name) (item_step fs items) (have_expr_ends (InItem items ∷ fs) (Column some_name) (h, f) tt)
-state_ends WantOperand fs f h = operand_ends fs f h
-state_ends (HaveExpr e) fs f h = have_expr_ends fs e f h.0
-state_ends (WantCastOpen at) fs f h = by_token _ (wanting (InCast at 0 ∷ fs)) (token.Open 0) (cast_open_step fs at) (operand_ends (InCast at 0 ∷ fs) (h, f) tt)
-state_ends (WantKind at open' e) fs f h = kind_then fs at open' e (expr_ends fs (Cast at open' e some_word (Unsigned 1)) f h.0)
-state_ends (WantCastClose at open' e word kind) fs f h = by_token _ (having (Cast at open' e word kind) fs) (token.Plain plain.Close) (cast_close_step fs at open' e word kind) (have_expr_ends fs (Cast at open' e word kind) f h.0)
-state_ends (WantCountOpen items at) fs f h = by_token _ (state (WantCountClose items at 0) fs) (token.Open 0) (count_open_step fs items at) (count_close_ends fs items at 0 f h.0)
-state_ends (WantCountClose items at open') fs f h = count_close_ends fs items at open' f h.0
-state_ends (WantFoldOpen items fold at) fs f h = by_token _ (wanting (InFold items fold at 0 ∷ fs)) (token.Open 0) (fold_open_step fs items fold at) (operand_ends (InFold items fold at 0 ∷ fs) (h, f) tt)
-state_ends (WantWsumOpen items at) fs f h = by_token _ (wanting (InWsum items at 0 ∷ fs)) (token.Open 0) (wsum_open_step fs items at) (operand_ends (InWsum items at 0 ∷ fs) (h, f) tt)
-state_ends (WantWeightsOpen items at open' e) fs f h = weights_open_ends fs items at open' e f h.0
-state_ends (WantWeight items at open' e ns) fs f h = weight_ends fs items at open' e ns f h.0
-state_ends (HaveWeight items at open' e ns) fs f h = have_weight_ends fs items at open' e ns f h.0
-state_ends (WantWsumClose items at open' e ns) fs f h = wsum_close_ends fs items at open' e ns f h.0
-state_ends (WantAs items agg) fs f h = as_ends fs items agg f h.0
-state_ends (WantItemName items u) fs f h = item_name_ends fs items u f h.0
-state_ends (HaveItem items) fs f h = have_item_ends fs items f h.0
-state_ends (WantFrom at) fs f h = by_token _ (state (WantSource (SelectHead (All at))) fs) (token.Plain plain.From) (from_step fs at) (want_source_ends fs (SelectHead (All at)) f h)
-state_ends (WantSource head) fs f h = want_source_ends fs head f h.0
-state_ends (HaveSource pick source window) fs f h = have_source_ends fs pick source window f h.0
-state_ends (HaveEachSource at var source) fs f h = have_each_ends fs at var source f h.0
-state_ends (WantSize head source) fs f h = size_ends fs head source f h.0
-state_ends (WantSizeNumber head source at) fs f h = size_number_ends fs head source at f h.0
-state_ends (WantAdvance head source at size) fs f h = advance_ends fs head source at size f h.0
-state_ends (WantAdvanceNumber head source at size) fs f h = advance_number_ends fs head source at size f h.0
-state_ends (WantTuples head source w) fs f h = tuples_ends fs head source w f h.0
-state_ends (WantWindowClose head source w) fs f h = window_close_ends fs head source w f h.0
-state_ends (WantBy pick source window filter) fs f h = by_token _ (state (WantKey (SelectGroups pick source window filter) 0) fs) (token.By 0) (by_step fs pick source window filter) (key_ends fs (SelectGroups pick source window filter) 0 f h.0)
-state_ends (WantKey head at) fs f h = key_ends fs head at f h.0
-state_ends (WantGroups head at key) fs f h = groups_ends fs head at key f h.0
-state_ends (WantGroupsNumber head at key) fs f h = groups_number_ends fs head at key f h.0
-state_ends (WantVar at) fs f h = by_token _ (state (WantIn at some_name) fs) (token.Name some_name) (var_step fs at) (in_ends fs at some_name f h)
-state_ends (WantIn at var) fs f h = in_ends fs at var f h
-state_ends (WantBody head) fs f h = want_body_ends fs head f h.0
-state_ends (HaveTerm q) fs f h = have_term_ends fs q f h.0
-state_ends (WantName q) fs f h = subst (λ (x : List Frame). Ends (state (WantName q) x)) (sym h.0) (unnamed_ends q)
-state_ends (HaveName q name) fs f h = subst (λ (x : List Frame). Ends (state (HaveName q name) x)) (sym h.0) (named_ends q name)
-state_ends (WantEnd q name) fs f h = subst (λ (x : List Frame). Ends (state (WantEnd q name) x)) (sym h.0) (closed_ends q name)
-
--- what was read so far begins a statement
-pub begins : (s : State) (done : List Token) → Read s done → CanBegin done
-begins s done r =
-    let e = state_ends s.control s.frames r.fits r.holds in
-    (e.more, e.written, sound_finish e.there (done ++ e.more) e.written (sound_steps e.more s e.there done r e.steps) e.done)

@@ -17,7 +17,7 @@ use Rattle.gl_query_reader.specs.Grammar.{bare_tokens, Derives, CanBegin, Stops,
 use Rattle.gl_query_reader.proofs.Steps.{steps, steps-one, run-steps, guard_true}
 use Rattle.gl_query_reader.proofs.ReadQueries.{final, finishes, reads_statement}
 use Rattle.gl_query_reader.proofs.Sound.{derives, sound_step}
-use Rattle.gl_query_reader.proofs.Begins.{begins}
+use Rattle.gl_query_reader.proofs.BeginsAll.{begins}
 use Rattle.gl_query_reader.proofs.Meets.{answer_for, read_to, bare-push}
 use Rattle.gl_bits.proofs.Options.{then_some}
 use Rattle.gl_query_reader.proofs.Loop.{run-syntax}

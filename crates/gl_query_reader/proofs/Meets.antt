@@ -22,7 +22,7 @@ use Rattle.gl_query_reader.proofs.Steps.{steps, steps-append, run-steps}
 use Rattle.gl_query_reader.proofs.ReadQueries.{final, finishes, reads_statement}
 use Rattle.gl_query_reader.proofs.Said.{Read}
 use Rattle.gl_query_reader.proofs.Sound.{derives, sound_step, sound_steps, read_start}
-use Rattle.gl_query_reader.proofs.Begins.{begins}
+use Rattle.gl_query_reader.proofs.BeginsAll.{begins}
 use Rattle.gl_bits.proofs.Options.{then_some}
 
 -- tokens that were read to a state, within the limits
