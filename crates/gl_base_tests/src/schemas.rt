@@ -8,8 +8,7 @@ ghost use Rattle.gl_schema.specs.Seen as seen;
 
 use gl_bits::Kind;
 use gl_schema::{
-    SchemaFault, is_name, kind_named, one_reading, pins_go_by_the_profile, read_schema,
-    right_at_each_cycle,
+    is_name, kind_named, one_reading, pins_go_by_the_profile, read_schema, right_at_each_cycle,
 };
 use std::alloc::Global;
 use std::test::Fail;

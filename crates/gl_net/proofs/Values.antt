@@ -3,7 +3,6 @@ use Rattle.std.proofs.Common.{◌≡◌, ◌≢◌, ℕ, ◌<◌, ◌^◌, Some,
 use Rattle.std.specs.Prelude.{slice_get}
 use Rattle.std.proofs.Common.{eq-eqb, ne_eqb}
 use Rattle.std.proofs.Math.Bool.{and-false}
-use Rattle.gl_bits.specs.Words.{choose_of}
 use Rattle.gl_net.specs.declared.node.Bus.{Bus}
 use Rattle.gl_net.specs.declared.node.Bit.{Bit}
 use Rattle.gl_net.specs.declared.node.Store.{Store}

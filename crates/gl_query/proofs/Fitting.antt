@@ -3,7 +3,7 @@ use Rattle.std.proofs.Common.{◌≡◌, ℕ, zero, suc, ◌+◌, ◌-◌, ◌*�
 use Rattle.std.specs.Prelude.{◌||◌, bytes_eq, bit_and, bit_or, replicate, sum, slice_get, slice_index, option_map, unwrap_or}
 use Rattle.std.specs.List.{AllByRecursion, fold, list_any}
 use Rattle.std.proofs.Math.Nat.{mod-lt, div-lt_iff_lt-mul, mul_comm, mul-lt-mul_of_pos_right}
-use Rattle.std.proofs.lemmas.Nat.{pow-add, pow_pos, and_le_l, or_lt}
+use Rattle.std.proofs.lemmas.Nat.{pow_pos, and_le_l, or_lt}
 use Rattle.std.proofs.lemmas.List.{length-append, length-replicate}
 use Rattle.gl_bits.specs.declared.kind.Kind.{Kind}
 use Rattle.gl_bits.specs.declared.kind.Kind.TheVariants.{Unsigned, Text}
@@ -27,7 +27,7 @@ use Rattle.gl_query.specs.Accepted.{IsAgg, IsPick}
 use Rattle.gl_query.specs.Results.{agg_value, picked, total_row, values_of}
 use Rattle.gl_query.specs.Laws.{ResultsFit}
 use Rattle.gl_query.proofs.Holding.{IsKept, results_hold}
-use Rattle.gl_schema.proofs.TextNumbers.{bits_more, bytes_below, zeros_small}
+use Rattle.gl_schema.proofs.TextNumbers.{bytes_below, zeros_small}
 
 -- ---- texts
 

@@ -29,8 +29,7 @@ use Rattle.gl_query_reader.specs.Meaning.{expr_meaning, agg_meaning, fold_meanin
 use Rattle.gl_query_reader.specs.Mixed.{first_other, is_key, behind_key, mixed_pick, least, mixed_in, item_at}
 use Rattle.gl_query.specs.Alike.{expr_alike, agg_alike, item_alike, agg_item_alike, query_alike, statement_alike}
 use Rattle.gl_query_tokens.proofs.Sound.{IsLetters, is_word}
-use Rattle.gl_query_tokens.proofs.Sound.{IsSound, IsNameWord, IsSmall}
-use Rattle.gl_bits.proofs.AllLists.{all_parts}
+use Rattle.gl_query_tokens.proofs.Sound.{IsNameWord, IsSmall}
 use Rattle.gl_bits.proofs.Options.{not_some, some_same}
 use Rattle.gl_query_reader.proofs.Regular.{sound_parts, AreSound}
 

@@ -7,7 +7,7 @@ ghost use Rattle.gl_query_reader.specs.Trees.{expr_of, item_of, items_of, unname
 use crate::expressions::want_operand;
 use crate::parts::{give_up, goes, goes_in, name_of, refuse};
 use crate::state::{Control, Frame, Head, ItemControl, SourceControl, State, Unnamed};
-use crate::written::{WrittenAgg, WrittenExpr, WrittenItem, WrittenItems, WrittenPick};
+use crate::written::{WrittenExpr, WrittenItem, WrittenItems, WrittenPick};
 use gl_query::{Name, Num, Nums, Op};
 use gl_query_tokens::sorts::{is_plain, number_in, open_in};
 use gl_query_tokens::{Fold, Plain, Token};

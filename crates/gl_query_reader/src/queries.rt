@@ -11,7 +11,7 @@ use crate::state::{
 };
 use crate::written::{WrittenItems, WrittenQuery};
 use gl_query::Name;
-use gl_query_tokens::sorts::{is_plain, open_in};
+use gl_query_tokens::sorts::open_in;
 use gl_query_tokens::{Plain, Token};
 use std::alloc::{AllocError, Global};
 

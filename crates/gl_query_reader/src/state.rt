@@ -1,7 +1,7 @@
 //! What the reader has read so far.
 
 use crate::written::{
-    Grouping, Window, WrittenAgg, WrittenExpr, WrittenItem, WrittenItems, WrittenPick, WrittenQuery,
+    Grouping, Window, WrittenAgg, WrittenExpr, WrittenItems, WrittenPick, WrittenQuery,
 };
 use gl_bits::Kind;
 use gl_query::{Name, Num, Nums, Op};

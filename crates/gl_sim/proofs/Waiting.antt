@@ -1,12 +1,9 @@
 -- What waits for the edge, one statement after another.
-use Rattle.std.proofs.Common.{◌≡◌, ℕ, suc, ◌+◌, ◌<◌, ◌≤◌, List, [], ◌∷◌, ◌++◌, Option, Some, None, refl, sym, ◌∙◌, ap, length, drop, get_or, drop-cons, add-one, unwrap_or, slice_index, Vec, Global}
+use Rattle.std.proofs.Common.{◌≡◌, ℕ, ◌+◌, ◌<◌, List, [], ◌∷◌, ◌++◌, Option, Some, None, refl, sym, ◌∙◌, ap, length, unwrap_or, slice_index}
 use Rattle.std.specs.Prelude.{slice_index_or}
-use Rattle.std.proofs.lemmas.List.{drop_all}
 use Rattle.gl_verilog.specs.Module as spec
 use Rattle.gl_verilog.specs.Module.{Nets, Memories, Both, Nothing, Write, value_of, later_or, assigned, written}
-use Rattle.gl_verilog.specs.declared.module.Statement.{Statement, Block}
-use Rattle.gl_verilog.proofs.Chains.{block_is}
-use Rattle.gl_verilog.specs.View.{statement_of, chained}
+use Rattle.gl_verilog.specs.declared.module.Statement.{Statement}
 use Rattle.gl_sim.specs.declared.update.Update.{Update}
 use Rattle.gl_sim.specs.Updates.{put_by, put_of, AreInside, CanExecute}
 

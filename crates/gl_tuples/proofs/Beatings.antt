@@ -1,7 +1,7 @@
 -- What records add up to are beats of the schema.
 use Rattle.std.proofs.Common.{◌≡◌, ℕ, zero, suc, ◌+◌, ◌-◌, ◌*◌, ◌^◌, ◌<◌, ◌≤◌, Bool, true, false, cond, ◌&&◌, List, [], ◌∷◌, ◌++◌, length, drop, Option, Some, None, Result, Ok, Err, refl, sym, ap, subst, arith, inl, inr}
 use Rattle.std.specs.Prelude.{map, option_map, slice_get, slice_set, replicate, is_some, IsTrue, IsFalse, nat_lt, nat_le, ◌==◌, bytes_eq, codes, unwrap_or}
-use Rattle.std.specs.List.{AllByRecursion, list_any, list_all, fold}
+use Rattle.std.specs.List.{AllByRecursion, list_any, list_all}
 use Rattle.std.proofs.lemmas.Bool.{cases_Bool, ltb-true, ltb-false, leb-true, and_parts, or_right, eqb-false, false≢true}
 use Rattle.std.proofs.lemmas.List.Quantifiers.{position-Some}
 use Rattle.gl_bits.proofs.Options.{some_same}
@@ -25,7 +25,7 @@ use Rattle.gl_tuples.specs.Values as values
 use Rattle.gl_tuples.specs.Entries.{words_of, row_of, row_found, columns_at, entry_of, entry_named, tuple_of, stream_named, cycle_of, cycle_below, option_bind}
 use Rattle.gl_tuples.specs.Filing.{filing_after, next_filing, no_records, ended, beats_of, beat_with, beat_of, whole_before, empty_beat, open_checked, cycle_checked, has_row}
 use Rattle.gl_tuples.specs.Gaps.{plain_beat, plain_beats, AreFileBeats}
-use Rattle.gl_schema.proofs.TextNumbers.{bits_more, length-padded, bytes_below, zeros_small}
+use Rattle.gl_schema.proofs.TextNumbers.{length-padded, bytes_below, zeros_small}
 use Rattle.gl_tuples.proofs.Filings.{Next, next_tells, bind_ok, ok_is, guard_ok}
 
 plain_small : (text : List ℕ) (n : ℕ) → list_all is_printable text ≡ true → AllByRecursion (λ b. b < 256) (text ++ replicate n 0)

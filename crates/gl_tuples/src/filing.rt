@@ -11,7 +11,7 @@ use crate::entry::Entry;
 use crate::fault::TupleFault;
 use crate::record::{check_text, cycle_of, entry_of};
 use csv::ByteRecord;
-use gl_bits::{Listed, Row};
+use gl_bits::Listed;
 use gl_schema::Schema;
 use std::alloc::Global;
 

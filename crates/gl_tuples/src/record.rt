@@ -14,7 +14,7 @@ use crate::fault::TupleFault;
 use crate::value::{is_utf8, number_of, word_of};
 use csv::ByteRecord;
 use gl_bits::{Row, Word};
-use gl_schema::{Column, Schema, Stream};
+use gl_schema::{Column, Schema};
 use std::alloc::Global;
 
 /// The last cycle that a file may have.

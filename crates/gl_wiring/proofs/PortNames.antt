@@ -5,7 +5,7 @@ use Rattle.std.specs.List.{AllByRecursion, IsDistinct, list_any}
 use Rattle.std.proofs.lemmas.List.{append_cancel_left}
 use Rattle.std.proofs.lemmas.Slice.Eq.{bytes_eq-Decides}
 use Rattle.gl_bits.proofs.AllLists.{all_append, all_weaker}
-use Rattle.gl_bits.proofs.Bools.{else_false, neither_left, neither_right, not_both, and_left, and_right, not_true, bytes_other}
+use Rattle.gl_bits.proofs.Bools.{neither_left, neither_right, not_both, and_left, and_right, not_true, bytes_other}
 use Rattle.gl_schema.specs.declared.schema.Column.{Column}
 use Rattle.gl_schema.specs.declared.schema.Stream.{Stream}
 use Rattle.gl_schema.specs.declared.schema.Schema.{Schema}

@@ -11,10 +11,10 @@ ghost use Rattle.gl_net.specs.Builds.{Follows};
 ghost use Rattle.gl_wiring.specs.EmittedPorts.{input, output, column_widths, stream_columns, stream_inputs, streams_inputs};
 ghost use Rattle.gl_wiring.specs.Emitted.{bus_widths, Puts, Extends, HasInputs, IsDelayed, IsDelayedBit, IsZero};
 
-use crate::names::{in_column_name, in_valid_name, out_column_name};
+use crate::names::{in_column_name, in_valid_name};
 use gl_bits::{Memory, Word};
 use gl_net::{Bus, Buses, NetBuilder};
-use gl_schema::{NameText, Stream};
+use gl_schema::Stream;
 use std::alloc::Global;
 
 /// The input ports of a stream.

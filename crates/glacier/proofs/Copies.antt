@@ -1,5 +1,5 @@
 -- Words that are copied one by one.
-use Rattle.std.proofs.Common.{◌≡◌, ℕ, zero, suc, ◌+◌, ◌++◌, ◌∙◌, List, [], ◌∷◌, Some, take, refl, ap, sym, arith}
+use Rattle.std.proofs.Common.{◌≡◌, ℕ, zero, suc, ◌+◌, ◌++◌, ◌∙◌, List, [], ◌∷◌, Some, take, ap, sym, arith}
 use Rattle.std.specs.Prelude.{slice_get}
 
 taken_next : (words : List (List ℕ)) (i : ℕ) (word : List ℕ) → slice_get words i ≡ Some word → take i words ++ word ∷ [] ≡ take (suc i) words
