@@ -1,11 +1,14 @@
 //! Rows, and the steps that a query makes on them.
 
-ghost use Rattle.std.specs.Prelude.{◌≡◌, ◌++◌, ◌∷◌, IfOk, IfSome, length, map, option_map};
+ghost use Rattle.std.specs.Prelude.{◌≡◌, ◌++◌, ◌∷◌, IfOk, IfSome, IsSome, length, map, option_map};
 ghost use Rattle.gl_query.specs.Shapes.{Items, agg_item_shape, agg_shape, expr_shape, item_shape, pick_shape};
-ghost use Rattle.gl_bits.specs.Kinds.{width_of};
+ghost use Rattle.gl_bits.specs.Kinds.{IsKind, width_of};
 ghost use Rattle.gl_bits.specs.Totals.{average_of, sum_total, weighted_sum};
 ghost use Rattle.gl_bits.specs.Results.{beside};
+ghost use Rattle.gl_query.specs.Accepted.{IsAgg, IsPick, IsRows};
 ghost use Rattle.gl_query.specs.Results.{agg_value, kept, picked, total_row, values_of};
+ghost use Rattle.gl_reference.specs.declared.rows.Fault.TheVariants as fault;
+ghost use Rattle.gl_reference.specs.Fits.{AreAggs, AreRows, HasKindAlone, IsOrMemory, IsRow};
 
 use crate::values::{keeps, value_of};
 use gl_bits::lists::copy_of_row;
@@ -25,18 +28,24 @@ pub enum Fault {
 }
 
 impl From<Memory> for Fault {
+    ghost from_gives = { λ _ e. e ≡ fault.Memory };
+
     fn from(_error: Memory) -> Fault {
         Fault::Memory
     }
 }
 
 impl<T: Drop> From<AllocFailed<T>> for Fault {
+    ghost from_gives = { λ _ e. e ≡ fault.Memory };
+
     fn from(_error: AllocFailed<T>) -> Fault {
         Fault::Memory
     }
 }
 
 impl From<AllocError> for Fault {
+    ghost from_gives = { λ _ e. e ≡ fault.Memory };
+
     fn from(_error: AllocError) -> Fault {
         Fault::Memory
     }
@@ -70,7 +79,8 @@ fn item_values(
     items: &[Item],
     row: &[u128],
 ) -> Result<Listed<u128>, Fault>
-    ensures { IfOk result (λ v. v ≡ picked columns.now (Items (map item_shape items.now)) row.now) }
+    ensures value { IfOk result (λ v. v ≡ picked columns.now (Items (map item_shape items.now)) row.now) }
+    ensures fits { IsPick columns.now (Items (map item_shape items.now)) → IsRow columns.now row.now → IsOrMemory result }
 {
     let mut out = Listed::new(alloc);
     for item in items {
@@ -87,7 +97,8 @@ fn picked_row(
     pick: &Pick,
     row: &[u128],
 ) -> Result<Listed<u128>, Fault>
-    ensures { IfOk result (λ v. v ≡ picked columns.now (pick_shape pick.now) row.now) }
+    ensures value { IfOk result (λ v. v ≡ picked columns.now (pick_shape pick.now) row.now) }
+    ensures fits { IsPick columns.now (pick_shape pick.now) → IsRow columns.now row.now → IsOrMemory result }
 {
     match pick {
         Pick::All => Ok(copy_of_row(alloc, row)?),
@@ -103,7 +114,8 @@ pub fn picked_rows(
     filter: &Option<Expr>,
     rows: &[Listed<u128>],
 ) -> Result<Table, Fault>
-    ensures { IfOk result (λ v. v ≡ map (picked columns.now (pick_shape pick.now)) (kept columns.now (option_map expr_shape filter.now) rows.now)) }
+    ensures value { IfOk result (λ v. v ≡ map (picked columns.now (pick_shape pick.now)) (kept columns.now (option_map expr_shape filter.now) rows.now)) }
+    ensures fits { IsRows columns.now (pick_shape pick.now) (option_map expr_shape filter.now) → AreRows columns.now rows.now → IsOrMemory result }
 {
     let mut out = Listed::new(alloc);
     for row in rows {
@@ -121,7 +133,8 @@ fn values_over(
     expr: &Expr,
     rows: &[Listed<u128>],
 ) -> Result<Vec<u128>, Fault>
-    ensures { IfOk result (λ v. v.items ≡ values_of columns.now (expr_shape expr.now) rows.now) }
+    ensures value { IfOk result (λ v. v.items ≡ values_of columns.now (expr_shape expr.now) rows.now) }
+    ensures fits { HasKindAlone columns.now (expr_shape expr.now) → AreRows columns.now rows.now → IsOrMemory result }
 {
     let place = kind_alone(expr);
     let mut out = Vec::new(alloc);
@@ -135,7 +148,8 @@ fn values_over(
 /// The sum in the width of a kind.
 #[tactic(auto, using(crate::proofs::Widths::kind_width))]
 fn sum_in(kind: Kind, values: &[u128]) -> Option<u128>
-    ensures { IfSome result (λ v. v ≡ sum_total (width_of kind) values.now) }
+    ensures value { IfSome result (λ v. v ≡ sum_total (width_of kind) values.now) }
+    ensures fits { IsKind kind → IsSome result }
 {
     if !is_kind(kind) {
         return None;
@@ -145,7 +159,8 @@ fn sum_in(kind: Kind, values: &[u128]) -> Option<u128>
 
 /// The average in a kind.
 fn average_in(kind: Kind, values: &[u128]) -> Option<u128>
-    ensures { IfSome result (λ v. v ≡ average_of kind values.now) }
+    ensures value { IfSome result (λ v. v ≡ average_of kind values.now) }
+    ensures fits { IsKind kind → IsSome result }
 {
     if !is_kind(kind) {
         return None;
@@ -156,7 +171,8 @@ fn average_in(kind: Kind, values: &[u128]) -> Option<u128>
 /// The sum by weights in the width of a kind.
 #[tactic(auto, using(crate::proofs::Widths::kind_width))]
 fn weigh_in(kind: Kind, weights: &[u128], values: &[u128]) -> Option<u128>
-    ensures { IfSome result (λ v. v ≡ weighted_sum (width_of kind) weights.now values.now) }
+    ensures value { IfSome result (λ v. v ≡ weighted_sum (width_of kind) weights.now values.now) }
+    ensures fits { IsKind kind → IsSome result }
 {
     if !is_kind(kind) {
         return None;
@@ -182,7 +198,8 @@ fn agg_value(
     rows: &[Listed<u128>],
     agg: &Agg,
 ) -> Result<u128, Fault>
-    ensures { IfOk result (λ v. v ≡ agg_value columns.now rows.now (agg_shape agg.now)) }
+    ensures value { IfOk result (λ v. v ≡ agg_value columns.now rows.now (agg_shape agg.now)) }
+    ensures fits { IsAgg columns.now (agg_shape agg.now) → AreRows columns.now rows.now → IsOrMemory result }
 {
     let expr = match agg {
         Agg::Count { .. } => return Ok(totals::count(rows)),
@@ -211,7 +228,8 @@ pub fn total_row(
     aggs: &[AggItem],
     rows: &[Listed<u128>],
 ) -> Result<Listed<u128>, Fault>
-    ensures { IfOk result (λ v. v ≡ total_row columns.now (map agg_item_shape aggs.now) rows.now) }
+    ensures value { IfOk result (λ v. v ≡ total_row columns.now (map agg_item_shape aggs.now) rows.now) }
+    ensures fits { AreAggs columns.now (map agg_item_shape aggs.now) → AreRows columns.now rows.now → IsOrMemory result }
 {
     let mut out = Listed::new(alloc);
     for item in aggs {
