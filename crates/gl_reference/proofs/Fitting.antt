@@ -119,8 +119,7 @@ statement_fits schema statement tables env fit e =
     let given = ap scope_of e in
     let named = ap (λ (l : List Stream). schema_scope (record { streams = l })) (numbered_streams 0 schema.streams (given_inputs tables)) in
     let scope : scope_of env ≡ schema_scope schema = given ∙ named in
-    let is = subst IsScope (sym scope) (schema_is schema.streams fit.of_schema.streams) in
-    (
+    let is = subst IsScope (sym scope) (schema_is schema.streams fit.of_schema.streams) in (
       record { columns = is.columns; kinds = is.kinds; rows = subst (HoldsIn IsRowOf) (sym e) fit.rows },
       subst (λ (x : Scope). IsAcceptedOver x (query_shape statement.query)) (sym scope) fit.accepted,
     )

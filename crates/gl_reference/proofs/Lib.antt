@@ -8,4 +8,4 @@ pub mod Accepting
 pub mod Words
 pub mod Fitting
 pub mod Passing
-pub mod Rows
+pub mod Elements

@@ -10,8 +10,9 @@ ghost use Rattle.gl_query.specs.Results.{IsResultIn, columns_in};
 ghost use Rattle.gl_reference.specs.Fits.{AreAggs, AreRows, IsOrMemory};
 ghost use Rattle.gl_reference.specs.Sources.{env_view};
 
+use crate::aggregates::total_row;
 use crate::columns::{Source, columns_of, source_named};
-use crate::rows::{Fault, beside, copy_of_table, joined, picked_rows, total_row};
+use crate::rows::{Fault, beside, copy_of_table, joined, picked_rows};
 use gl_bits::lists::slices_of;
 use gl_bits::{Listed, Memory, Table};
 use gl_query::{AggItem, Expr, Name, Pick, Query};

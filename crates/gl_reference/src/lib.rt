@@ -2,6 +2,7 @@
 //! meaning of queries is defined. What is fast, or of a circuit, stands elsewhere.
 #![tactic(auto)]
 
+pub mod aggregates;
 pub mod answers;
 pub mod columns;
 pub mod results;

@@ -1,5 +1,5 @@
 use Rattle.std.proofs.Common.{rules, ◌≡◌, IsSome, IfErr}
-use Rattle.gl_reference.proofs.Rows.{item_word}
+use Rattle.gl_reference.proofs.Elements.{item_word}
 use Rattle.gl_reference.proofs.rows.item_values.Goals as goal
 
 pub returns-in_err-ok_or-clause-fits : goal.returns-in_err-ok_or-clause-fits
