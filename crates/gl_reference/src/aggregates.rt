@@ -24,7 +24,8 @@ fn values_over(
     expr: &Expr,
     rows: &[Listed<u128>],
 ) -> Result<Vec<u128>, Fault>
-    ensures value { IfOk result (λ v. v.items ≡ values_of columns.now (expr_shape expr.now) rows.now) }
+    ensures value { IfOk result (λ v. v.items
+        ≡ values_of columns.now (expr_shape expr.now) rows.now) }
     ensures fits { HasKindAlone columns.now (expr_shape expr.now) → AreRows columns.now rows.now
         → IsOrMemory result }
 {
@@ -86,8 +87,10 @@ fn numbers(alloc: Global, nums: &[Num]) -> Result<Vec<u128>, Memory>
 /// The kind of an expression that stands alone.
 #[tactic(auto, using(crate::proofs::Words::whole_kind))]
 fn own_kind(columns: &[Column], expr: &Expr) -> Kind
-    ensures value { result ≡ kind_of columns.now (kind_alone (expr_shape expr.now)) (expr_shape expr.now) }
-    ensures real { AreKinds columns.now → HasKindAlone columns.now (expr_shape expr.now) → IsKind result }
+    ensures value { result
+        ≡ kind_of columns.now (kind_alone (expr_shape expr.now)) (expr_shape expr.now) }
+    ensures real { AreKinds columns.now → HasKindAlone columns.now (expr_shape expr.now)
+        → IsKind result }
 {
     kinds::kind_of(columns, kinds::kind_alone(expr), expr)
 }
@@ -100,7 +103,8 @@ fn agg_value(
     agg: &Agg,
 ) -> Result<u128, Fault>
     ensures value { IfOk result (λ v. v ≡ agg_value columns.now rows.now (agg_shape agg.now)) }
-    ensures fits { IsAgg columns.now (agg_shape agg.now) → AreRows columns.now rows.now → IsOrMemory result }
+    ensures fits { IsAgg columns.now (agg_shape agg.now) → AreRows columns.now rows.now
+        → IsOrMemory result }
 {
     match agg {
         Agg::Count { .. } => Ok(totals::count(rows)),
@@ -139,7 +143,8 @@ pub fn total_row(
     aggs: &[AggItem],
     rows: &[Listed<u128>],
 ) -> Result<Listed<u128>, Fault>
-    ensures value { IfOk result (λ v. v ≡ total_row columns.now (map agg_item_shape aggs.now) rows.now) }
+    ensures value { IfOk result (λ v. v
+        ≡ total_row columns.now (map agg_item_shape aggs.now) rows.now) }
     ensures fits { AreAggs columns.now (map agg_item_shape aggs.now) → AreRows columns.now rows.now
         → IsOrMemory result }
 {

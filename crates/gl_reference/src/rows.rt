@@ -77,7 +77,8 @@ fn item_values(
     items: &[Item],
     row: &[u128],
 ) -> Result<Listed<u128>, Fault>
-    ensures value { IfOk result (λ v. v ≡ picked columns.now (Items (map item_shape items.now)) row.now) }
+    ensures value { IfOk result (λ v. v
+        ≡ picked columns.now (Items (map item_shape items.now)) row.now) }
     ensures fits { IsPick columns.now (Items (map item_shape items.now)) → IsRow columns.now row.now
         → IsOrMemory result }
 {
@@ -97,7 +98,8 @@ fn picked_row(
     row: &[u128],
 ) -> Result<Listed<u128>, Fault>
     ensures value { IfOk result (λ v. v ≡ picked columns.now (pick_shape pick.now) row.now) }
-    ensures fits { IsPick columns.now (pick_shape pick.now) → IsRow columns.now row.now → IsOrMemory result }
+    ensures fits { IsPick columns.now (pick_shape pick.now) → IsRow columns.now row.now
+        → IsOrMemory result }
 {
     match pick {
         Pick::All => Ok(copy_of_row(alloc, row)?),

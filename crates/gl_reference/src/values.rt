@@ -118,7 +118,8 @@ fn operate(op: Op, kind: Kind, x: u128, y: u128) -> Option<u128>
 
 /// The value of an expression over a row, in a place that gives what is loose this kind.
 pub fn value_of(columns: &[Column], place: Kind, expr: &Expr, row: &[u128]) -> Option<u128>
-    ensures value { IfSome result (λ v. v ≡ value_of columns.now place (expr_shape expr.now) row.now) }
+    ensures value { IfSome result (λ v. v
+        ≡ value_of columns.now place (expr_shape expr.now) row.now) }
     ensures fits { HasWord columns.now place (expr_shape expr.now) row.now → IsSome result }
 {
     match expr {
@@ -152,8 +153,10 @@ pub fn value_of(columns: &[Column], place: Kind, expr: &Expr, row: &[u128]) -> O
 
 /// Whether a filter keeps a row.
 pub fn keeps(columns: &[Column], filter: &Option<Expr>, row: &[u128]) -> Option<bool>
-    ensures value { IfSome result (λ b. b ≡ keeps columns.now (option_map expr_shape filter.now) row.now) }
-    ensures fits { IsFilter columns.now (option_map expr_shape filter.now) → IsRow columns.now row.now → IsSome result }
+    ensures value { IfSome result (λ b. b
+        ≡ keeps columns.now (option_map expr_shape filter.now) row.now) }
+    ensures fits { IsFilter columns.now (option_map expr_shape filter.now)
+        → IsRow columns.now row.now → IsSome result }
 {
     match filter {
         None => Some(true),
