@@ -14,8 +14,3 @@ pub use answers::Answer;
 pub use columns::Source;
 pub use results::evaluate;
 pub use rows::Fault;
-
-#[cfg(test)]
-mod tests;
-#[cfg(test)]
-mod trees;

@@ -1,4 +1,4 @@
-use Rattle.std.proofs.Common.{rules, ◌≡◌, IfErr}
+use Rattle.std.proofs.Common.{rules}
 use Rattle.gl_reference.proofs.Elements.{agg_at}
 use Rattle.gl_reference.proofs.aggregates.total_row.Goals as goal
 

@@ -1,7 +1,7 @@
-use Rattle.std.proofs.Common.{rules, arith, ◌≡◌, ◌<◌, ◌+◌, ◌*◌, ◌++◌, ◌∙◌, List, ◌∷◌, Bool, take, map, refl, sym, ap, subst, IfOk, Bor, slice_index}
+use Rattle.std.proofs.Common.{◌≡◌, ◌+◌, ◌++◌, ◌∙◌, List, ◌∷◌, Bool, take, map, sym, ap, subst, IfOk, Bor, slice_index}
 use Rattle.std.specs.Prelude.{◌||◌, option_map}
 use Rattle.std.proofs.lemmas.List.{take_all}
-use Rattle.std.proofs.lemmas.Result.{IfOk-weaker, err_from_is_err_and}
+use Rattle.std.proofs.lemmas.Result.{IfOk-weaker}
 use Rattle.std.specs.List.{AllByRecursion}
 use Rattle.gl_bits.specs.Lists.{has_further, slices}
 use Rattle.gl_bits.specs.Tables.{keyed_groups}
@@ -22,7 +22,6 @@ use Rattle.gl_reference.specs.declared.answers.Answer.{Answer}
 use Rattle.gl_reference.specs.Sources.{env_view}
 use Rattle.gl_reference.specs.Joins.{AreOverGroups, AreOverSlices, IsOverGroup}
 use Rattle.gl_reference.specs.Fits.{AreAggs, AreRows, IsOrMemory}
-use Rattle.gl_reference.proofs.Sizes.{size_of}
 use Rattle.gl_reference.proofs.Fitting.{all_place, inside_fits, one_length, rows_fit}
 use Rattle.gl_reference.proofs.Passing.{each_passes, groups_pass, passes}
 use Rattle.gl_reference.proofs.Joining.{joined_push, map_taken}

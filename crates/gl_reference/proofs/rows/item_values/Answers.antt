@@ -1,4 +1,4 @@
-use Rattle.std.proofs.Common.{rules, ◌≡◌, IsSome, IfErr}
+use Rattle.std.proofs.Common.{rules}
 use Rattle.gl_reference.proofs.Elements.{item_word}
 use Rattle.gl_reference.proofs.rows.item_values.Goals as goal
 

@@ -1,4 +1,4 @@
-use Rattle.std.proofs.Common.{rules, ◌≡◌, ◌^◌, ◌<◌, IsSome, List, subst}
+use Rattle.std.proofs.Common.{rules, subst}
 use Rattle.gl_query.specs.declared.tree.Expr.{Expr}
 use Rattle.gl_query.specs.Shapes.{expr_shape}
 use Rattle.gl_reference.specs.Fits.{HasWord}
