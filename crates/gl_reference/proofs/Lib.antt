@@ -1,4 +1,3 @@
-pub mod Spelling
 pub mod Widths
 pub mod Siding
 pub mod Joining
@@ -6,3 +5,7 @@ pub mod Sizes
 pub mod Forms
 pub mod Inputs
 pub mod Accepting
+pub mod Words
+pub mod Fitting
+pub mod Passing
+pub mod Elements

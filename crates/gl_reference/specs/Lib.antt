@@ -1,3 +1,4 @@
 pub mod Sources
 pub mod Joins
 pub mod Worked
+pub mod Fits

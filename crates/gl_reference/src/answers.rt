@@ -1,15 +1,17 @@
 //! Results, and the steps that make one of others.
 
-ghost use Rattle.std.specs.Prelude.{◌≡◌, ◌||◌, ◌++◌, IfOk, map, option_map};
+ghost use Rattle.std.specs.Prelude.{◌≡◌, ◌≤◌, ◌||◌, ◌++◌, IfOk, length, map, option_map};
 ghost use Rattle.gl_bits.specs.Lists.{slices};
 ghost use Rattle.gl_query.specs.Shapes.{agg_item_shape, expr_shape, pick_shape, query_shape};
 ghost use Rattle.gl_query.specs.Shapes as shape;
 ghost use Rattle.gl_bits.specs.Results.{AreBeside};
-ghost use Rattle.gl_query.specs.Results.{IsResultIn};
-ghost use Rattle.gl_reference.specs.Sources.{env_view};
+ghost use Rattle.gl_query.specs.Accepted.{IsRows, IsWindow};
+ghost use Rattle.gl_reference.specs.Fits.{AreAggs, AreRows, IsOrMemory};
+ghost use Rattle.gl_reference.specs.Sources.{IsAnswer, columns_over};
 
+use crate::aggregates::total_row;
 use crate::columns::{Source, columns_of, source_named};
-use crate::rows::{Fault, beside, copy_of_table, joined, picked_rows, total_row};
+use crate::rows::{Fault, beside, copy_of_table, joined, picked_rows};
 use gl_bits::lists::slices_of;
 use gl_bits::{Listed, Memory, Table};
 use gl_query::{AggItem, Expr, Name, Pick, Query};
@@ -26,7 +28,8 @@ pub struct Answer {
 
 /// The rows of a source, by its name.
 pub fn read(alloc: Global, sources: &[Source<'_>], name: &Name) -> Result<Answer, Fault>
-    ensures { IfOk result (λ a. IsResultIn (shape.Read name.now.text) (env_view sources.now) a.rows a.spill) }
+    ensures value { IfOk result (IsAnswer sources.now (shape.Read name.now.text)) }
+    ensures fits { IsOrMemory result }
 {
     let rows = match source_named(sources, name.text.as_slice()) {
         Some(source) => copy_of_table(alloc, source.rows)?,
@@ -44,8 +47,13 @@ pub fn rows_from(
     filter: &Option<Expr>,
     from: Answer,
 ) -> Result<Answer, Fault>
-    requires { IsResultIn (query_shape source.now) (env_view sources.now) from.rows from.spill }
-    ensures { IfOk result (λ a. IsResultIn (shape.Rows (pick_shape pick.now) (option_map expr_shape filter.now) (query_shape source.now)) (env_view sources.now) a.rows a.spill) }
+    requires { IsAnswer sources.now (query_shape source.now) from }
+    ensures value { IfOk result (IsAnswer sources.now
+        (shape.Rows (pick_shape pick.now) (option_map expr_shape filter.now)
+        (query_shape source.now))) }
+    ensures fits { let columns = columns_over sources.now source.now in
+        IsRows columns (pick_shape pick.now) (option_map expr_shape filter.now)
+        → AreRows columns from.rows → IsOrMemory result }
 {
     let columns = columns_of(alloc, sources, source)?;
     let rows = picked_rows(
@@ -69,8 +77,12 @@ pub fn total_from(
     aggs: &[AggItem],
     from: Answer,
 ) -> Result<Answer, Fault>
-    requires { IsResultIn (query_shape source.now) (env_view sources.now) from.rows from.spill }
-    ensures { IfOk result (λ a. IsResultIn (shape.Total (map agg_item_shape aggs.now) (query_shape source.now)) (env_view sources.now) a.rows a.spill) }
+    requires { IsAnswer sources.now (query_shape source.now) from }
+    ensures value { IfOk result (IsAnswer sources.now
+        (shape.Total (map agg_item_shape aggs.now) (query_shape source.now))) }
+    ensures fits { let columns = columns_over sources.now source.now in
+        AreAggs columns (map agg_item_shape aggs.now) → AreRows columns from.rows
+        → IsOrMemory result }
 {
     let columns = columns_of(alloc, sources, source)?;
     let row = total_row(alloc, columns.as_slice(), aggs, from.rows.as_slice())?;
@@ -89,7 +101,8 @@ pub fn windows_of<'a>(
     advance: u128,
     rows: &'a [Listed<u128>],
 ) -> Result<Vec<&'a [Listed<u128>]>, Fault>
-    ensures { IfOk result (λ v. map (λ s. s.now) v.items ≡ slices size advance rows.now) }
+    ensures value { IfOk result (λ v. map (λ s. s.now) v.items ≡ slices size advance rows.now) }
+    ensures fits { IsWindow size advance → IsOrMemory result }
 {
     if size > 65536 || advance == 0 || advance > 65536 {
         return Err(Fault::Unfit);
@@ -99,7 +112,8 @@ pub fn windows_of<'a>(
 
 /// GROUPS within its limit.
 pub fn groups_wanted(groups: u128) -> Result<usize, Fault>
-    ensures { IfOk result (λ n. n ≡ groups) }
+    ensures value { IfOk result (λ n. n ≡ groups) }
+    ensures fits { groups ≤ 256 → IsOrMemory result }
 {
     if groups > 256 {
         return Err(Fault::Unfit);
@@ -121,7 +135,9 @@ pub fn of_parts(before: bool, inside: Answer, left_out: bool) -> Answer
 
 /// The rows of the left side, then those of the right one.
 pub fn union_of(left: Answer, right: Answer) -> Result<Answer, Fault>
-    ensures { IfOk result (λ a. (a.rows ≡ left.rows ++ right.rows) × (a.spill ≡ (left.spill || right.spill))) }
+    ensures value { IfOk result (λ a. (a.rows ≡ left.rows ++ right.rows)
+        × (a.spill ≡ (left.spill || right.spill))) }
+    ensures fits { IsOrMemory result }
 {
     let rows = joined(left.rows, right.rows)?;
     Ok(Answer {
@@ -132,7 +148,9 @@ pub fn union_of(left: Answer, right: Answer) -> Result<Answer, Fault>
 
 /// The rows of both sides side by side.
 pub fn concat_of(alloc: Global, left: Answer, right: Answer) -> Result<Answer, Fault>
-    ensures { IfOk result (λ a. AreBeside left.rows right.rows a.rows × (a.spill ≡ (left.spill || right.spill))) }
+    ensures value { IfOk result (λ a. AreBeside left.rows right.rows a.rows
+        × (a.spill ≡ (left.spill || right.spill))) }
+    ensures fits { length left.rows ≡ length right.rows → IsOrMemory result }
 {
     if left.rows.len() != right.rows.len() {
         return Err(Fault::Unfit);

@@ -1,12 +1,10 @@
 //! Sources by name, and the columns of queries over them.
 
 ghost use Rattle.std.specs.Prelude.{◌≡◌, IfOk, bytes_eq, find, option_map};
-ghost use Rattle.gl_query.specs.Shapes.{query_shape};
-ghost use Rattle.gl_query.specs.Columns.{columns_of};
 ghost use Rattle.gl_query.specs.Results.{streams_of};
 
 use gl_bits::{Listed, Memory};
-use gl_query::columns::{columns_of as columns_over, copy_of_columns, copy_of_name};
+use gl_query::columns::{self, copy_of_columns, copy_of_name};
 use gl_query::{Query, Sources};
 use gl_schema::{Column, Columns, Stream, Streams};
 use std::alloc::Global;
@@ -22,11 +20,12 @@ pub struct Source<'a> {
     pub rows: &'a [Listed<u128>],
 }
 
-ghost use Rattle.gl_reference.specs.Sources.{env_view, source_of};
+ghost use Rattle.gl_reference.specs.Sources.{columns_over, env_view, source_of};
 
 /// The first source with a name.
 pub fn source_named<'a>(sources: &[Source<'a>], name: &[u8]) -> Option<Source<'a>>
-    ensures { option_map source_of result ≡ find (λ s. bytes_eq name.now s.stream.name) (env_view sources.now) }
+    ensures { option_map source_of result
+        ≡ find (λ s. bytes_eq name.now s.stream.name) (env_view sources.now) }
 {
     let (first, others) = sources.split_first()?;
     if name == first.name {
@@ -50,8 +49,8 @@ fn streams_of(alloc: Global, sources: &[Source<'_>]) -> Result<Streams, Memory>
 
 /// The columns of a query over the sources that it sees.
 pub fn columns_of(alloc: Global, sources: &[Source<'_>], query: &Query) -> Result<Columns, Memory>
-    ensures { IfOk result (λ v. v ≡ columns_of (streams_of (env_view sources.now)) (query_shape query.now)) }
+    ensures { IfOk result (λ v. v ≡ columns_over sources.now query.now) }
 {
     let streams = streams_of(alloc, sources)?;
-    columns_over(alloc, Sources::Schema(streams.as_slice()), query)
+    columns::columns_of(alloc, Sources::Schema(streams.as_slice()), query)
 }

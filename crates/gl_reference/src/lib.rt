@@ -2,6 +2,7 @@
 //! meaning of queries is defined. What is fast, or of a circuit, stands elsewhere.
 #![tactic(auto)]
 
+pub mod aggregates;
 pub mod answers;
 pub mod columns;
 pub mod results;
@@ -13,8 +14,3 @@ pub use answers::Answer;
 pub use columns::Source;
 pub use results::evaluate;
 pub use rows::Fault;
-
-#[cfg(test)]
-mod tests;
-#[cfg(test)]
-mod trees;

@@ -2,8 +2,14 @@
 
 ghost use Rattle.std.specs.Prelude.{◌≡◌, IfOk, length, map};
 ghost use Rattle.gl_query.specs.Shapes.{query_shape};
-ghost use Rattle.gl_query.specs.Results.{IsResult, IsResultIn, numbered};
-ghost use Rattle.gl_reference.specs.Sources.{env_view, given_inputs};
+ghost use Rattle.std.specs.List.{AllByRecursion};
+ghost use Rattle.gl_bits.specs.declared.lists.Group.{Group};
+ghost use Rattle.gl_schema.specs.Schemas.{IsRowOf};
+ghost use Rattle.gl_query.specs.Accepted.{IsAcceptedOver};
+ghost use Rattle.gl_query.specs.Laws.{scope_of};
+ghost use Rattle.gl_query.specs.Results.{IsResult, numbered};
+ghost use Rattle.gl_reference.specs.Fits.{AreSources, IsBody, IsFit, IsOrMemory};
+ghost use Rattle.gl_reference.specs.Sources.{IsAnswer, env_view, given_inputs};
 ghost use Rattle.gl_reference.specs.Joins.{AreOverGroups, AreOverSlices};
 
 use crate::answers::{
@@ -20,7 +26,6 @@ use std::alloc::Global;
 
 /// A body over each slice, its results joined in order.
 #[cycle(results)]
-#[tactic(none)]
 fn over_slices(
     alloc: Global,
     body: &Query,
@@ -28,7 +33,11 @@ fn over_slices(
     columns: &[Column],
     slices: &[&[Listed<u128>]],
 ) -> Result<Answer, Fault>
-    ensures { IfOk result (λ a. AreOverSlices (query_shape body.now) var.now columns.now (map (λ s. s.now) slices.now) a.rows a.spill) }
+    ensures value { IfOk result (λ a. AreOverSlices (query_shape body.now) var.now columns.now
+        (map (λ s. s.now) slices.now) a.rows a.spill) }
+    ensures fits { IsBody var.now columns.now (query_shape body.now)
+        → AllByRecursion (AllByRecursion (IsRowOf columns.now)) (map (λ s. s.now) slices.now)
+        → IsOrMemory result }
 {
     let mut rows = Listed::new(alloc);
     let mut spill = false;
@@ -47,7 +56,6 @@ fn over_slices(
 
 /// A body over each group, its results joined in order, the key first in each row.
 #[cycle(results)]
-#[tactic(none)]
 fn over_groups(
     alloc: Global,
     body: &Query,
@@ -55,7 +63,11 @@ fn over_groups(
     columns: &[Column],
     groups: &[Group],
 ) -> Result<Answer, Fault>
-    ensures { IfOk result (λ a. AreOverGroups (query_shape body.now) var.now columns.now groups.now a.rows a.spill) }
+    ensures value { IfOk result (λ a. AreOverGroups (query_shape body.now) var.now columns.now
+        groups.now a.rows a.spill) }
+    ensures fits { IsBody var.now columns.now (query_shape body.now)
+        → AllByRecursion (λ (g : Group). AllByRecursion (IsRowOf columns.now) g.rows) groups.now
+        → IsOrMemory result }
 {
     let mut rows = Listed::new(alloc);
     let mut spill = false;
@@ -76,9 +88,11 @@ fn over_groups(
 /// One result of a query over the sources that it sees; a UNION has the rows of its left side
 /// first.
 #[cycle(results)]
-#[tactic(none)]
 pub fn result_of(alloc: Global, sources: &[Source<'_>], query: &Query) -> Result<Answer, Fault>
-    ensures { IfOk result (λ a. IsResultIn (query_shape query.now) (env_view sources.now) a.rows a.spill) }
+    ensures value { IfOk result (IsAnswer sources.now (query_shape query.now)) }
+    ensures fits { AreSources (env_view sources.now)
+        → IsAcceptedOver (scope_of (env_view sources.now)) (query_shape query.now)
+        → IsOrMemory result }
 {
     match query {
         Query::Read(name) => read(alloc, sources, name),
@@ -157,7 +171,8 @@ fn sources_of<'a>(
     inputs: &'a [Table],
 ) -> Result<Vec<Source<'a>>, Memory>
     requires { length inputs.now ≡ length streams.now }
-    ensures { IfOk result (λ v. env_view v.items ≡ numbered 0 streams.now (given_inputs inputs.now)) }
+    ensures { IfOk result (λ v. env_view v.items
+        ≡ numbered 0 streams.now (given_inputs inputs.now)) }
 {
     let mut out = Vec::new(alloc);
     for (i, stream) in streams.iter().enumerate() {
@@ -179,7 +194,9 @@ pub fn evaluate(
     inputs: &[Table],
 ) -> Result<Answer, Fault>
     requires { length inputs.now ≡ length schema.now.streams }
-    ensures { IfOk result (λ a. IsResult schema.now statement.now (given_inputs inputs.now) a.rows a.spill) }
+    ensures value { IfOk result (λ a. IsResult schema.now statement.now (given_inputs inputs.now)
+        a.rows a.spill) }
+    ensures fits { IsFit schema.now statement.now inputs.now → IsOrMemory result }
 {
     let sources = sources_of(alloc, schema.streams.as_slice(), inputs)?;
     result_of(alloc, sources.as_slice(), &statement.query)

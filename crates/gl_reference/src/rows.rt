@@ -1,17 +1,18 @@
 //! Rows, and the steps that a query makes on them.
 
-ghost use Rattle.std.specs.Prelude.{◌≡◌, ◌++◌, ◌∷◌, IfOk, IfSome, length, map, option_map};
-ghost use Rattle.gl_query.specs.Shapes.{Items, agg_item_shape, agg_shape, expr_shape, item_shape, pick_shape};
-ghost use Rattle.gl_bits.specs.Kinds.{width_of};
-ghost use Rattle.gl_bits.specs.Totals.{average_of, sum_total, weighted_sum};
+ghost use Rattle.std.specs.Prelude.{◌≡◌, ◌++◌, ◌∷◌, IfOk, length, map, option_map};
+ghost use Rattle.gl_query.specs.Shapes.{Items, expr_shape, item_shape, pick_shape};
 ghost use Rattle.gl_bits.specs.Results.{beside};
-ghost use Rattle.gl_query.specs.Results.{agg_value, kept, picked, total_row, values_of};
+ghost use Rattle.gl_query.specs.Accepted.{IsPick, IsRows};
+ghost use Rattle.gl_query.specs.Results.{kept, picked};
+ghost use Rattle.gl_reference.specs.declared.rows.Fault.TheVariants as fault;
+ghost use Rattle.gl_reference.specs.Fits.{AreRows, IsOrMemory, IsRow};
 
 use crate::values::{keeps, value_of};
 use gl_bits::lists::copy_of_row;
-use gl_bits::{Kind, Listed, Memory, Table, totals};
-use gl_query::kinds::{is_kind, kind_alone, kind_of};
-use gl_query::{Agg, AggItem, Expr, Item, Num, Pick};
+use gl_bits::{Listed, Memory, Table};
+use gl_query::kinds::kind_alone;
+use gl_query::{Expr, Item, Pick};
 use gl_schema::Column;
 use std::alloc::{AllocError, AllocFailed, Global};
 
@@ -25,18 +26,24 @@ pub enum Fault {
 }
 
 impl From<Memory> for Fault {
+    ghost from_gives = { λ _ e. e ≡ fault.Memory };
+
     fn from(_error: Memory) -> Fault {
         Fault::Memory
     }
 }
 
 impl<T: Drop> From<AllocFailed<T>> for Fault {
+    ghost from_gives = { λ _ e. e ≡ fault.Memory };
+
     fn from(_error: AllocFailed<T>) -> Fault {
         Fault::Memory
     }
 }
 
 impl From<AllocError> for Fault {
+    ghost from_gives = { λ _ e. e ≡ fault.Memory };
+
     fn from(_error: AllocError) -> Fault {
         Fault::Memory
     }
@@ -70,7 +77,10 @@ fn item_values(
     items: &[Item],
     row: &[u128],
 ) -> Result<Listed<u128>, Fault>
-    ensures { IfOk result (λ v. v ≡ picked columns.now (Items (map item_shape items.now)) row.now) }
+    ensures value { IfOk result (λ v. v
+        ≡ picked columns.now (Items (map item_shape items.now)) row.now) }
+    ensures fits { IsPick columns.now (Items (map item_shape items.now)) → IsRow columns.now row.now
+        → IsOrMemory result }
 {
     let mut out = Listed::new(alloc);
     for item in items {
@@ -87,7 +97,9 @@ fn picked_row(
     pick: &Pick,
     row: &[u128],
 ) -> Result<Listed<u128>, Fault>
-    ensures { IfOk result (λ v. v ≡ picked columns.now (pick_shape pick.now) row.now) }
+    ensures value { IfOk result (λ v. v ≡ picked columns.now (pick_shape pick.now) row.now) }
+    ensures fits { IsPick columns.now (pick_shape pick.now) → IsRow columns.now row.now
+        → IsOrMemory result }
 {
     match pick {
         Pick::All => Ok(copy_of_row(alloc, row)?),
@@ -103,119 +115,17 @@ pub fn picked_rows(
     filter: &Option<Expr>,
     rows: &[Listed<u128>],
 ) -> Result<Table, Fault>
-    ensures { IfOk result (λ v. v ≡ map (picked columns.now (pick_shape pick.now)) (kept columns.now (option_map expr_shape filter.now) rows.now)) }
+    ensures value { IfOk result (λ v. v
+        ≡ map (picked columns.now (pick_shape pick.now))
+        (kept columns.now (option_map expr_shape filter.now) rows.now)) }
+    ensures fits { IsRows columns.now (pick_shape pick.now) (option_map expr_shape filter.now)
+        → AreRows columns.now rows.now → IsOrMemory result }
 {
     let mut out = Listed::new(alloc);
     for row in rows {
         if keeps(columns, filter, row.as_slice()).ok_or(Fault::Unfit)? {
             out.push(picked_row(alloc, columns, pick, row.as_slice())?)?;
         }
-    }
-    Ok(out)
-}
-
-/// The values of an expression over rows.
-fn values_over(
-    alloc: Global,
-    columns: &[Column],
-    expr: &Expr,
-    rows: &[Listed<u128>],
-) -> Result<Vec<u128>, Fault>
-    ensures { IfOk result (λ v. v.items ≡ values_of columns.now (expr_shape expr.now) rows.now) }
-{
-    let place = kind_alone(expr);
-    let mut out = Vec::new(alloc);
-    for row in rows {
-        let value = value_of(columns, place, expr, row.as_slice()).ok_or(Fault::Unfit)?;
-        out.push(value)?;
-    }
-    Ok(out)
-}
-
-/// The sum in the width of a kind.
-#[tactic(auto, using(crate::proofs::Widths::kind_width))]
-fn sum_in(kind: Kind, values: &[u128]) -> Option<u128>
-    ensures { IfSome result (λ v. v ≡ sum_total (width_of kind) values.now) }
-{
-    if !is_kind(kind) {
-        return None;
-    }
-    Some(totals::sum(kind.width(), values))
-}
-
-/// The average in a kind.
-fn average_in(kind: Kind, values: &[u128]) -> Option<u128>
-    ensures { IfSome result (λ v. v ≡ average_of kind values.now) }
-{
-    if !is_kind(kind) {
-        return None;
-    }
-    Some(totals::average(kind, values))
-}
-
-/// The sum by weights in the width of a kind.
-#[tactic(auto, using(crate::proofs::Widths::kind_width))]
-fn weigh_in(kind: Kind, weights: &[u128], values: &[u128]) -> Option<u128>
-    ensures { IfSome result (λ v. v ≡ weighted_sum (width_of kind) weights.now values.now) }
-{
-    if !is_kind(kind) {
-        return None;
-    }
-    Some(totals::weigh(kind.width(), weights, values))
-}
-
-/// The values of numbers.
-fn numbers(alloc: Global, nums: &[Num]) -> Result<Vec<u128>, Memory>
-    ensures { IfOk result (λ v. v.items ≡ map (λ n. n.value) nums.now) }
-{
-    let mut out = Vec::new(alloc);
-    for num in nums {
-        out.push(num.value)?;
-    }
-    Ok(out)
-}
-
-/// An aggregate over rows.
-fn agg_value(
-    alloc: Global,
-    columns: &[Column],
-    rows: &[Listed<u128>],
-    agg: &Agg,
-) -> Result<u128, Fault>
-    ensures { IfOk result (λ v. v ≡ agg_value columns.now rows.now (agg_shape agg.now)) }
-{
-    let expr = match agg {
-        Agg::Count { .. } => return Ok(totals::count(rows)),
-        Agg::Sum(expr) | Agg::Min(expr) | Agg::Max(expr) | Agg::Avg(expr) => expr,
-        Agg::Wsum { arg, .. } => arg,
-    };
-    let kind = kind_of(columns, kind_alone(expr), expr);
-    let values = values_over(alloc, columns, expr, rows)?;
-    match agg {
-        Agg::Count { .. } => Ok(totals::count(rows)),
-        Agg::Sum(_) => sum_in(kind, values.as_slice()).ok_or(Fault::Unfit),
-        Agg::Min(_) => Ok(totals::least(kind, values.as_slice())),
-        Agg::Max(_) => Ok(totals::greatest(kind, values.as_slice())),
-        Agg::Avg(_) => average_in(kind, values.as_slice()).ok_or(Fault::Unfit),
-        Agg::Wsum { weights, .. } => {
-            let weights = numbers(alloc, weights.as_slice())?;
-            weigh_in(kind, weights.as_slice(), values.as_slice()).ok_or(Fault::Unfit)
-        }
-    }
-}
-
-/// The one row of aggregates.
-pub fn total_row(
-    alloc: Global,
-    columns: &[Column],
-    aggs: &[AggItem],
-    rows: &[Listed<u128>],
-) -> Result<Listed<u128>, Fault>
-    ensures { IfOk result (λ v. v ≡ total_row columns.now (map agg_item_shape aggs.now) rows.now) }
-{
-    let mut out = Listed::new(alloc);
-    for item in aggs {
-        out.push(agg_value(alloc, columns, rows, &item.agg)?)?;
     }
     Ok(out)
 }

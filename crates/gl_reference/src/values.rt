@@ -1,24 +1,27 @@
 //! Values of expressions. Each answers None where a kind is none or a number leaves 128 bits, which
 //! no accepted query over rows of its columns brings about.
 
-ghost use Rattle.std.specs.Prelude.{◌≡◌, ◌^◌, ◌++◌, ℕ, List, replicate, IfSome, Option, option_map};
+ghost use Rattle.std.specs.Prelude.{◌≡◌, ◌^◌, ◌<◌, IfSome, IsSome, Option, option_map};
 ghost use Rattle.gl_bits.specs.Words.{bit as bit_of, eq_of, not_of};
-ghost use Rattle.gl_schema.specs.Schemas.{text_word, number_of};
+ghost use Rattle.gl_schema.specs.Schemas.{text_word};
 ghost use Rattle.gl_query.specs.Shapes.{expr_shape};
-ghost use Rattle.gl_bits.specs.Kinds.{is_at_most};
+ghost use Rattle.gl_bits.specs.Kinds.{IsKind, is_at_most};
 ghost use Rattle.gl_bits.specs.Operators.{operate};
-ghost use Rattle.gl_query.specs.Values.{bytes_in, cast_of, value_of};
+ghost use Rattle.gl_query.specs.Accepted.{IsFilter};
+ghost use Rattle.gl_query.specs.Values.{CanCast, IsLettersOf, bytes_in, cast_of, value_of};
 ghost use Rattle.gl_query.specs.Results.{keeps};
+ghost use Rattle.gl_reference.specs.Fits.{HasWord, IsRow};
 
 use gl_bits::Kind;
 use gl_bits::lists::number_at;
 use gl_query::kinds::{column_number, is_kind, kind_alone, kind_of, operand_place};
 use gl_query::{Expr, Op};
-use gl_schema::Column;
+use gl_schema::{Column, text_number};
 
 /// A power of two; None past 127.
 fn power(width: u8) -> Option<u128>
-    ensures { IfSome result (λ p. p ≡ 2 ^ width) }
+    ensures value { IfSome result (λ p. p ≡ 2 ^ width) }
+    ensures fits { width < 128 → IsSome result }
 {
     if width < 128 {
         Some(1u128 << width)
@@ -49,45 +52,25 @@ fn opposite(x: u128) -> u128
     1u128.saturating_sub(x)
 }
 
-/// The number that bytes spell, the first one highest.
-#[tactic(auto, using(crate::proofs::Spelling::number_more))]
-fn spelled(text: &[u8]) -> Option<u128>
-    ensures { IfSome result (λ v. v ≡ number_of text.now) }
-{
-    let mut number = 0u128;
-    for byte in text {
-        number = number.checked_mul(256)?.checked_add(u128::from(*byte))?;
-    }
-    Some(number)
-}
-
-/// A number with zero bytes behind it.
-#[tactic(auto, using(crate::proofs::Spelling::number_padded))]
-fn padded(word: u128, zeros: usize) -> Option<u128>
-    ensures { (text : List ℕ) → word ≡ number_of text → IfSome result (λ v. v ≡ number_of (text ++ replicate zeros 0)) }
-{
-    let mut number = word;
-    for _i in 0..zeros {
-        number = number.checked_mul(256)?;
-    }
-    Some(number)
-}
-
 /// The word of a text literal in its kind.
-#[tactic(auto, unfolding(gl_schema::specs::Schemas::text_word))]
 fn letters(place: Kind, text: &[u8]) -> Option<u128>
-    ensures { IfSome result (λ v. v ≡ text_word (bytes_in place) text.now) }
+    ensures value { IfSome result (λ v. v ≡ text_word (bytes_in place) text.now) }
+    ensures fits { IsKind place → IsLettersOf place text.now → IsSome result }
 {
     let Kind::Text(bytes) = place else {
         return None;
     };
-    let missing = usize::from(bytes).checked_sub(text.len())?;
-    padded(spelled(text)?, missing)
+    let bytes = usize::from(bytes);
+    if bytes > 8 || text.len() > bytes {
+        return None;
+    }
+    Some(u128::from(text_number(text, bytes)))
 }
 
 /// The word of one kind as another.
 fn cast(from: Kind, to: Kind, word: u128) -> Option<u128>
-    ensures { IfSome result (λ v. v ≡ cast_of from to word) }
+    ensures value { IfSome result (λ v. v ≡ cast_of from to word) }
+    ensures fits { IsKind from → CanCast from to → word < 2 ^ 64 → IsSome result }
 {
     match (from, to) {
         (Kind::Unsigned(_), Kind::Unsigned(width)) => Some(word % power(width)?),
@@ -111,7 +94,8 @@ fn is_at_most(kind: Kind, x: u128, y: u128) -> bool
 /// What an operator gives of two words of a kind.
 #[tactic(auto, unfolding(gl_bits::specs::Words::sum_of, gl_bits::specs::Words::difference_of, gl_bits::specs::Words::product_of))]
 fn operate(op: Op, kind: Kind, x: u128, y: u128) -> Option<u128>
-    ensures { IfSome result (λ v. v ≡ operate op kind x y) }
+    ensures value { IfSome result (λ v. v ≡ operate op kind x y) }
+    ensures fits { IsKind kind → x < 2 ^ 64 → y < 2 ^ 64 → IsSome result }
 {
     if !is_kind(kind) {
         return None;
@@ -134,7 +118,9 @@ fn operate(op: Op, kind: Kind, x: u128, y: u128) -> Option<u128>
 
 /// The value of an expression over a row, in a place that gives what is loose this kind.
 pub fn value_of(columns: &[Column], place: Kind, expr: &Expr, row: &[u128]) -> Option<u128>
-    ensures { IfSome result (λ v. v ≡ value_of columns.now place (expr_shape expr.now) row.now) }
+    ensures value { IfSome result (λ v. v
+        ≡ value_of columns.now place (expr_shape expr.now) row.now) }
+    ensures fits { HasWord columns.now place (expr_shape expr.now) row.now → IsSome result }
 {
     match expr {
         Expr::Column(name) => Some(number_at(row, column_number(columns, name.text.as_slice()))),
@@ -167,7 +153,10 @@ pub fn value_of(columns: &[Column], place: Kind, expr: &Expr, row: &[u128]) -> O
 
 /// Whether a filter keeps a row.
 pub fn keeps(columns: &[Column], filter: &Option<Expr>, row: &[u128]) -> Option<bool>
-    ensures { IfSome result (λ b. b ≡ keeps columns.now (option_map expr_shape filter.now) row.now) }
+    ensures value { IfSome result (λ b. b
+        ≡ keeps columns.now (option_map expr_shape filter.now) row.now) }
+    ensures fits { IsFilter columns.now (option_map expr_shape filter.now)
+        → IsRow columns.now row.now → IsSome result }
 {
     match filter {
         None => Some(true),

@@ -1,7 +1,8 @@
-use Rattle.std.proofs.Common.{rules, arith, ◌≡◌, ◌<◌, ◌+◌, ◌*◌, ◌++◌, ◌∙◌, List, ◌∷◌, Bool, take, map, refl, sym, ap, subst, IfOk, Bor, slice_index}
+use Rattle.std.proofs.Common.{◌≡◌, ◌+◌, ◌++◌, ◌∙◌, List, ◌∷◌, Bool, take, map, sym, ap, subst, IfOk, Bor, slice_index}
 use Rattle.std.specs.Prelude.{◌||◌, option_map}
 use Rattle.std.proofs.lemmas.List.{take_all}
-use Rattle.std.proofs.lemmas.Result.{IfOk-weaker, err_from_is_err_and}
+use Rattle.std.proofs.lemmas.Result.{IfOk-weaker}
+use Rattle.std.specs.List.{AllByRecursion}
 use Rattle.gl_bits.specs.Lists.{has_further, slices}
 use Rattle.gl_bits.specs.Tables.{keyed_groups}
 use Rattle.gl_bits.specs.declared.lists.Group.{Group}
@@ -12,47 +13,33 @@ use Rattle.gl_query.specs.Shapes.{agg_item_shape, expr_shape, pick_shape, query_
 use Rattle.gl_query.specs.Shapes as shape
 use Rattle.gl_query.specs.Values.{column_number}
 use Rattle.gl_bits.specs.Results.{Row, AreBeside, AreJoined}
-use Rattle.gl_bits.proofs.AllLists.{taken_next}
+use Rattle.gl_bits.proofs.AllLists.{all_of_mapped, taken_next}
+use Rattle.gl_schema.specs.Schemas.{IsRowOf}
+use Rattle.gl_query.specs.Accepted.{IsAcceptedOver, IsRows}
+use Rattle.gl_query.specs.Laws.{scope_of}
 use Rattle.gl_query.specs.Results.{IsResultIn, columns_in, only}
 use Rattle.gl_reference.specs.declared.answers.Answer.{Answer}
 use Rattle.gl_reference.specs.Sources.{env_view}
 use Rattle.gl_reference.specs.Joins.{AreOverGroups, AreOverSlices, IsOverGroup}
-use Rattle.gl_reference.proofs.Sizes.{size_of}
+use Rattle.gl_reference.specs.Fits.{AreAggs, AreRows, IsOrMemory}
+use Rattle.gl_reference.proofs.Fitting.{all_place, inside_fits, one_length, rows_fit}
+use Rattle.gl_reference.proofs.Passing.{each_passes, groups_pass, passes}
 use Rattle.gl_reference.proofs.Joining.{joined_push, map_taken}
 use Rattle.gl_reference.proofs.Forms.{concat_made, each_made, groups_made, union_made}
 use Rattle.gl_reference.proofs.results.+results.Goals as goal
+use Rattle.gl_reference.specs.declared.columns.Source.{Source as Given}
 
-pub over_groups-result_of-requires : goal.over_groups-result_of-requires
-over_groups-result_of-requires t c = let less : 2 * size_of (query_shape c.args.body.now) < 2 * size_of (query_shape c.args.body.now) + 1 = omega arith in search rules
+-- a query is accepted over sources, and an answer is a result of a query over them
+abbrev Accepted : List Given → Query → Type 0
+Accepted sources q = IsAcceptedOver (scope_of (env_view sources)) (query_shape q)
 
-pub over_groups-returns-in_err-part : goal.over_groups-returns-in_err-part
-over_groups-returns-in_err-part t c = let p = err_from_is_err_and c.from_residual.result c.from_residual.ensures.1 in rw (p.1) tt
-
-pub over_groups-returns-in_err-keyed : goal.over_groups-returns-in_err-keyed
-over_groups-returns-in_err-keyed t c = let p = err_from_is_err_and c.from_residual-in_err-keyed.result c.from_residual-in_err-keyed.ensures.1 in rw (p.1) tt
-
-pub over_groups-same-rows : goal.over_groups-same-rows
-over_groups-same-rows t c = refl
-
-pub over_groups-returns-in_err-rows : goal.over_groups-returns-in_err-rows
-over_groups-returns-in_err-rows t c = let p = err_from_is_err_and c.from_residual-in_err-rows.result c.from_residual-in_err-rows.ensures.1 in rw (p.1) tt
-
-pub over_groups-loop-group-smaller : goal.over_groups-loop-group-smaller
-over_groups-loop-group-smaller t c = search rules
-
-pub over_groups-offset_bounds-groups-group-index : goal.over_groups-offset_bounds-groups-group-index
-over_groups-offset_bounds-groups-group-index t c = search rules
-
-pub over_groups-slice_bounds-result_of-end : goal.over_groups-slice_bounds-result_of-end
-over_groups-slice_bounds-result_of-end t c = search rules
-
-pub over_groups-loop-group-init : goal.over_groups-loop-group-init
-over_groups-loop-group-init t c = (c.new-rows.ensures, refl)
+abbrev Gives : List Given → Answer → Query → Type 0
+Gives sources a q = IsResultIn (query_shape q) (env_view sources) a.rows a.spill
 
 pub over_groups-loop-group-preserved : goal.over_groups-loop-group-preserved
 over_groups-loop-group-preserved t c =
     let over = IsOverGroup (query_shape c.args.body.now) c.args.var.now c.args.columns.now in
-    let is = subst (λ (rows : List Row). IsResultIn (query_shape c.args.body.now) (only c.args.var.now c.args.columns.now rows) c.in_ok-part.part.rows c.in_ok-part.part.spill) c.as_slice.ensures c.in_ok-part.ensures in
+    let is = subst (λ (rows : List Row). IsResultIn (query_shape c.args.body.now) (only c.args.var.now c.args.columns.now rows) c.in_ok-part.part.rows c.in_ok-part.part.spill) c.as_slice.ensures c.in_ok-part.ensures.value in
     let made : c.in_ok-keyed.keyed ≡ map (λ (row : Row). c.group-item.result.key ∷ row) c.in_ok-part.part.rows =
     c.in_ok-keyed.ensures ∙ ap (map (λ (row : Row). c.group-item.result.key ∷ row)) c.as_slice-in-loop-group.ensures in
     let here : over c.group-item.result c.in_ok-keyed.keyed c.in_ok-part.part.spill = record { rows = c.in_ok-part.part.rows; of_source = is; changed = made } in
@@ -61,166 +48,55 @@ over_groups-loop-group-preserved t c =
     let grown = subst (λ (gs : List Group). AreJoined over gs (c.loop-group.rows ++ c.in_ok-keyed.keyed) (c.loop-group.spill || c.in_ok-part.part.spill)) (sym next) more in
     subst (λ (rows : List Row). AreJoined over (take (c.loop-group.group-index + 1) c.args.groups.now) rows (c.loop-group.spill || c.in_ok-part.part.spill)) (sym c.in_ok-rows.ensures) grown
 
-pub over_groups-returns : goal.over_groups-returns
-over_groups-returns t c = subst (λ (gs : List Group). AreOverGroups (query_shape c.args.body.now) c.args.var.now c.args.columns.now gs c.loop-group.rows c.loop-group.spill) (take_all c.loop-group.group-index c.args.groups.now c.loop-group-test.false) c.loop-group.invariant
-
-pub over_slices-result_of-requires : goal.over_slices-result_of-requires
-over_slices-result_of-requires t c = let less : 2 * size_of (query_shape c.args.body.now) < 2 * size_of (query_shape c.args.body.now) + 1 = omega arith in search rules
-
-pub over_slices-returns-in_err-part : goal.over_slices-returns-in_err-part
-over_slices-returns-in_err-part t c = let p = err_from_is_err_and c.from_residual.result c.from_residual.ensures.1 in rw (p.1) tt
-
-pub over_slices-same-rows : goal.over_slices-same-rows
-over_slices-same-rows t c = refl
-
-pub over_slices-returns-in_err-rows : goal.over_slices-returns-in_err-rows
-over_slices-returns-in_err-rows t c = let p = err_from_is_err_and c.from_residual-in_err-rows.result c.from_residual-in_err-rows.ensures.1 in rw (p.1) tt
-
-pub over_slices-loop-slice-smaller : goal.over_slices-loop-slice-smaller
-over_slices-loop-slice-smaller t c = search rules
-
-pub over_slices-offset_bounds-slices-slice-index : goal.over_slices-offset_bounds-slices-slice-index
-over_slices-offset_bounds-slices-slice-index t c = search rules
-
-pub over_slices-slice_bounds-inside-end : goal.over_slices-slice_bounds-inside-end
-over_slices-slice_bounds-inside-end t c = search rules
-
-pub over_slices-slice_bounds-result_of-end : goal.over_slices-slice_bounds-result_of-end
-over_slices-slice_bounds-result_of-end t c = search rules
-
-pub over_slices-loop-slice-init : goal.over_slices-loop-slice-init
-over_slices-loop-slice-init t c = (c.new-rows.ensures, refl)
+pub over_groups-returns-clause-value : goal.over_groups-returns-clause-value
+over_groups-returns-clause-value t c = subst (λ (gs : List Group). AreOverGroups (query_shape c.args.body.now) c.args.var.now c.args.columns.now gs c.loop-group.rows c.loop-group.spill) (take_all c.loop-group.group-index c.args.groups.now c.loop-group-test.false) c.loop-group.invariant
 
 pub over_slices-loop-slice-preserved : goal.over_slices-loop-slice-preserved
 over_slices-loop-slice-preserved t c =
     let over : List Row → List Row → Bool → Type 0 = λ rows. IsResultIn (query_shape c.args.body.now) (only c.args.var.now c.args.columns.now rows) in
     let now : Bor (List Row) → List Row = λ s. s.now in
-    let more = joined_push over (map now (take c.loop-slice.slice-index c.args.slices.now)) c.slice-item.result.now c.loop-slice.rows c.in_ok-part.part.rows c.loop-slice.spill c.in_ok-part.part.spill c.loop-slice.invariant c.in_ok-part.ensures in
+    let more = joined_push over (map now (take c.loop-slice.slice-index c.args.slices.now)) c.slice-item.result.now c.loop-slice.rows c.in_ok-part.part.rows c.loop-slice.spill c.in_ok-part.part.spill c.loop-slice.invariant c.in_ok-part.ensures.value in
     let next = map_taken now c.args.slices.now c.loop-slice.slice-index c.slice-item.result c.loop-slice-test.true c.slice-item.is in
     let grown = subst (λ (parts : List (List Row)). AreJoined over parts (c.loop-slice.rows ++ c.in_ok-part.part.rows) (c.loop-slice.spill || c.in_ok-part.part.spill)) (sym next) more in
     subst (λ (rows : List Row). AreJoined over (map now (take (c.loop-slice.slice-index + 1) c.args.slices.now)) rows (c.loop-slice.spill || c.in_ok-part.part.spill)) (sym c.in_ok-rows.ensures) grown
 
-pub over_slices-returns : goal.over_slices-returns
-over_slices-returns t c = subst (λ (ss : List (Bor (List Row))). AreOverSlices (query_shape c.args.body.now) c.args.var.now c.args.columns.now (map (λ s. s.now) ss) c.loop-slice.rows c.loop-slice.spill) (take_all c.loop-slice.slice-index c.args.slices.now c.loop-slice-test.false) c.loop-slice.invariant
+pub over_slices-returns-clause-value : goal.over_slices-returns-clause-value
+over_slices-returns-clause-value t c = subst (λ (ss : List (Bor (List Row))). AreOverSlices (query_shape c.args.body.now) c.args.var.now c.args.columns.now (map (λ s. s.now) ss) c.loop-slice.rows c.loop-slice.spill) (take_all c.loop-slice.slice-index c.args.slices.now c.loop-slice-test.false) c.loop-slice.invariant
 
-pub result_of-result_of-requires : goal.result_of-result_of-requires
-result_of-result_of-requires t c = let less : 2 * size_of (query_shape c.deref.result.now) < 2 * size_of (query_shape c.args.query.now) = omega (arith, ap (λ q. size_of (query_shape q)) c.in-Rows.is, ap (λ q. size_of (query_shape q)) c.deref.ensures) in search rules
+pub result_of-returns-in-Read-clause-value : goal.result_of-returns-in-Read-clause-value
+result_of-returns-in-Read-clause-value t c = subst (λ (q : Query). IfOk c.read.result (λ a. IsResultIn (query_shape q) (env_view c.args.sources.now) a.rows a.spill)) (sym c.in-Read.is) c.read.ensures.value
 
-pub result_of-result_of-requires-in-Total : goal.result_of-result_of-requires-in-Total
-result_of-result_of-requires-in-Total t c = let less : 2 * size_of (query_shape c.deref-in-Total.result.now) < 2 * size_of (query_shape c.args.query.now) = omega (arith, ap (λ q. size_of (query_shape q)) c.in-Total.is, ap (λ q. size_of (query_shape q)) c.deref-in-Total.ensures) in search rules
-
-pub result_of-result_of-requires-in-Each : goal.result_of-result_of-requires-in-Each
-result_of-result_of-requires-in-Each t c = let less : 2 * size_of (query_shape c.deref-in-Each.result.now) < 2 * size_of (query_shape c.args.query.now) = omega (arith, ap (λ q. size_of (query_shape q)) c.in-Each.is, ap (λ q. size_of (query_shape q)) c.deref-in-Each.ensures) in search rules
-
-pub result_of-result_of-requires-in-PerGroup : goal.result_of-result_of-requires-in-PerGroup
-result_of-result_of-requires-in-PerGroup t c = let less : 2 * size_of (query_shape c.deref-in-PerGroup.result.now) < 2 * size_of (query_shape c.args.query.now) = omega (arith, ap (λ q. size_of (query_shape q)) c.in-PerGroup.is, ap (λ q. size_of (query_shape q)) c.deref-in-PerGroup.ensures) in search rules
-
-pub result_of-result_of-requires-in-Union : goal.result_of-result_of-requires-in-Union
-result_of-result_of-requires-in-Union t c = let less : 2 * size_of (query_shape c.deref-in-Union.result.now) < 2 * size_of (query_shape c.args.query.now) = omega (arith, ap (λ q. size_of (query_shape q)) c.in-Union.is, ap (λ q. size_of (query_shape q)) c.deref-in-Union.ensures) in search rules
-
-pub result_of-result_of-requires-in-Concat : goal.result_of-result_of-requires-in-Concat
-result_of-result_of-requires-in-Concat t c = let less : 2 * size_of (query_shape c.deref-in-Concat.result.now) < 2 * size_of (query_shape c.args.query.now) = omega (arith, ap (λ q. size_of (query_shape q)) c.in-Concat.is, ap (λ q. size_of (query_shape q)) c.deref-in-Concat.ensures) in search rules
-
-pub result_of-result_of-requires-in-Union-2 : goal.result_of-result_of-requires-in-Union-2
-result_of-result_of-requires-in-Union-2 t c = let less : 2 * size_of (query_shape c.deref-in-Union-2.result.now) < 2 * size_of (query_shape c.args.query.now) = omega (arith, ap (λ q. size_of (query_shape q)) c.in-Union.is, ap (λ q. size_of (query_shape q)) c.deref-in-Union-2.ensures) in search rules
-
-pub result_of-result_of-requires-in-Concat-2 : goal.result_of-result_of-requires-in-Concat-2
-result_of-result_of-requires-in-Concat-2 t c = let less : 2 * size_of (query_shape c.deref-in-Concat-2.result.now) < 2 * size_of (query_shape c.args.query.now) = omega (arith, ap (λ q. size_of (query_shape q)) c.in-Concat.is, ap (λ q. size_of (query_shape q)) c.deref-in-Concat-2.ensures) in search rules
-
-pub result_of-over_slices-requires : goal.result_of-over_slices-requires
-result_of-over_slices-requires t c = let less : 2 * size_of (query_shape c.deref-in-Each-3.result.now) + 1 < 2 * size_of (query_shape c.args.query.now) = omega (arith, ap (λ q. size_of (query_shape q)) c.in-Each.is, ap (λ q. size_of (query_shape q)) c.deref-in-Each-3.ensures) in search rules
-
-pub result_of-over_groups-requires : goal.result_of-over_groups-requires
-result_of-over_groups-requires t c = let less : 2 * size_of (query_shape c.deref-in-PerGroup-3.result.now) + 1 < 2 * size_of (query_shape c.args.query.now) = omega (arith, ap (λ q. size_of (query_shape q)) c.in-PerGroup.is, ap (λ q. size_of (query_shape q)) c.deref-in-PerGroup-3.ensures) in search rules
-
-pub result_of-returns-in_err-from-in-Rows : goal.result_of-returns-in_err-from-in-Rows
-result_of-returns-in_err-from-in-Rows t c = let p = err_from_is_err_and c.from_residual.result c.from_residual.ensures.1 in rw (p.1) tt
-
-pub result_of-returns-in_err-from-in-Total : goal.result_of-returns-in_err-from-in-Total
-result_of-returns-in_err-from-in-Total t c = let p = err_from_is_err_and c.from_residual-in_err-from-in-Total.result c.from_residual-in_err-from-in-Total.ensures.1 in rw (p.1) tt
-
-pub result_of-returns-in_err-from-in-Each : goal.result_of-returns-in_err-from-in-Each
-result_of-returns-in_err-from-in-Each t c = let p = err_from_is_err_and c.from_residual-in_err-from-in-Each.result c.from_residual-in_err-from-in-Each.ensures.1 in rw (p.1) tt
-
-pub result_of-returns-in_err-columns-in-Each : goal.result_of-returns-in_err-columns-in-Each
-result_of-returns-in_err-columns-in-Each t c = let p = err_from_is_err_and c.from_residual-in_err-columns-in-Each.result c.from_residual-in_err-columns-in-Each.ensures.1 in rw (p.1) tt
-
-pub result_of-returns-in_err-slices-in-Each : goal.result_of-returns-in_err-slices-in-Each
-result_of-returns-in_err-slices-in-Each t c = let p = err_from_is_err_and c.from_residual-in_err-slices-in-Each.result c.from_residual-in_err-slices-in-Each.ensures.1 in rw (p.1) tt
-
-pub result_of-returns-in_err-inside-in-Each : goal.result_of-returns-in_err-inside-in-Each
-result_of-returns-in_err-inside-in-Each t c = let p = err_from_is_err_and c.from_residual-in_err-inside-in-Each.result c.from_residual-in_err-inside-in-Each.ensures.1 in rw (p.1) tt
-
-pub result_of-returns-in_err-from-in-PerGroup : goal.result_of-returns-in_err-from-in-PerGroup
-result_of-returns-in_err-from-in-PerGroup t c = let p = err_from_is_err_and c.from_residual-in_err-from-in-PerGroup.result c.from_residual-in_err-from-in-PerGroup.ensures.1 in rw (p.1) tt
-
-pub result_of-returns-in_err-columns-in-PerGroup : goal.result_of-returns-in_err-columns-in-PerGroup
-result_of-returns-in_err-columns-in-PerGroup t c = let p = err_from_is_err_and c.from_residual-in_err-columns-in-PerGroup.result c.from_residual-in_err-columns-in-PerGroup.ensures.1 in rw (p.1) tt
-
-pub result_of-returns-in_err-most-in-PerGroup : goal.result_of-returns-in_err-most-in-PerGroup
-result_of-returns-in_err-most-in-PerGroup t c = let p = err_from_is_err_and c.from_residual-in_err-most-in-PerGroup.result c.from_residual-in_err-most-in-PerGroup.ensures.1 in rw (p.1) tt
-
-pub result_of-returns-in_err-parts-in-PerGroup : goal.result_of-returns-in_err-parts-in-PerGroup
-result_of-returns-in_err-parts-in-PerGroup t c = let p = err_from_is_err_and c.from_residual-in_err-parts-in-PerGroup.result c.from_residual-in_err-parts-in-PerGroup.ensures.1 in rw (p.1) tt
-
-pub result_of-returns-in_err-inside-in-PerGroup : goal.result_of-returns-in_err-inside-in-PerGroup
-result_of-returns-in_err-inside-in-PerGroup t c = let p = err_from_is_err_and c.from_residual-in_err-inside-in-PerGroup.result c.from_residual-in_err-inside-in-PerGroup.ensures.1 in rw (p.1) tt
-
-pub result_of-returns-in_err-further-in-PerGroup : goal.result_of-returns-in_err-further-in-PerGroup
-result_of-returns-in_err-further-in-PerGroup t c = let p = err_from_is_err_and c.from_residual-in_err-further-in-PerGroup.result c.from_residual-in_err-further-in-PerGroup.ensures.1 in rw (p.1) tt
-
-pub result_of-returns-in_err-first-in-Union : goal.result_of-returns-in_err-first-in-Union
-result_of-returns-in_err-first-in-Union t c = let p = err_from_is_err_and c.from_residual-in_err-first-in-Union.result c.from_residual-in_err-first-in-Union.ensures.1 in rw (p.1) tt
-
-pub result_of-returns-in_err-second-in-Union : goal.result_of-returns-in_err-second-in-Union
-result_of-returns-in_err-second-in-Union t c = let p = err_from_is_err_and c.from_residual-in_err-second-in-Union.result c.from_residual-in_err-second-in-Union.ensures.1 in rw (p.1) tt
-
-pub result_of-returns-in_err-first-in-Concat : goal.result_of-returns-in_err-first-in-Concat
-result_of-returns-in_err-first-in-Concat t c = let p = err_from_is_err_and c.from_residual-in_err-first-in-Concat.result c.from_residual-in_err-first-in-Concat.ensures.1 in rw (p.1) tt
-
-pub result_of-returns-in_err-second-in-Concat : goal.result_of-returns-in_err-second-in-Concat
-result_of-returns-in_err-second-in-Concat t c = let p = err_from_is_err_and c.from_residual-in_err-second-in-Concat.result c.from_residual-in_err-second-in-Concat.ensures.1 in rw (p.1) tt
-
-pub result_of-rows_from-requires : goal.result_of-rows_from-requires
-result_of-rows_from-requires t c = subst (λ (q : Query). IsResultIn (query_shape q) (env_view c.args.sources.now) c.in_ok-from-in-Rows.from.rows c.in_ok-from-in-Rows.from.spill) (c.deref.ensures ∙ sym c.deref-in-Rows.ensures) c.in_ok-from-in-Rows.ensures
-
-pub result_of-total_from-requires : goal.result_of-total_from-requires
-result_of-total_from-requires t c = subst (λ (q : Query). IsResultIn (query_shape q) (env_view c.args.sources.now) c.in_ok-from-in-Total.from.rows c.in_ok-from-in-Total.from.spill) (c.deref-in-Total.ensures ∙ sym c.deref-in-Total-2.ensures) c.in_ok-from-in-Total.ensures
-
-pub result_of-returns-in-Read : goal.result_of-returns-in-Read
-result_of-returns-in-Read t c = subst (λ (q : Query). IfOk c.read.result (λ a. IsResultIn (query_shape q) (env_view c.args.sources.now) a.rows a.spill)) (sym c.in-Read.is) c.read.ensures
-
-pub result_of-returns-in_ok-from-in-Rows : goal.result_of-returns-in_ok-from-in-Rows
-result_of-returns-in_ok-from-in-Rows t c =
-    let made = subst (λ (q : Query). IfOk c.rows_from.result (λ a. IsResultIn (shape.Rows (pick_shape c.in-Rows.pick) (option_map expr_shape c.in-Rows.filter) (query_shape q)) (env_view c.args.sources.now) a.rows a.spill)) c.deref-in-Rows.ensures c.rows_from.ensures in
+pub result_of-returns-in_ok-from-in-Rows-clause-value : goal.result_of-returns-in_ok-from-in-Rows-clause-value
+result_of-returns-in_ok-from-in-Rows-clause-value t c =
+    let made = subst (λ (q : Query). IfOk c.rows_from.result (λ a. IsResultIn (shape.Rows (pick_shape c.in-Rows.pick) (option_map expr_shape c.in-Rows.filter) (query_shape q)) (env_view c.args.sources.now) a.rows a.spill)) c.deref-in-Rows.ensures c.rows_from.ensures.value in
     subst (λ (q : Query). IfOk c.rows_from.result (λ a. IsResultIn (query_shape q) (env_view c.args.sources.now) a.rows a.spill)) (sym c.in-Rows.is) made
 
-pub result_of-returns-in_ok-from-in-Total : goal.result_of-returns-in_ok-from-in-Total
-result_of-returns-in_ok-from-in-Total t c =
-    let made = subst (λ (q : Query). IfOk c.total_from.result (λ a. IsResultIn (shape.Total (map agg_item_shape c.as_slice.result.now) (query_shape q)) (env_view c.args.sources.now) a.rows a.spill)) c.deref-in-Total-2.ensures c.total_from.ensures in
+pub result_of-returns-in_ok-from-in-Total-clause-value : goal.result_of-returns-in_ok-from-in-Total-clause-value
+result_of-returns-in_ok-from-in-Total-clause-value t c =
+    let made = subst (λ (q : Query). IfOk c.total_from.result (λ a. IsResultIn (shape.Total (map agg_item_shape c.as_slice.result.now) (query_shape q)) (env_view c.args.sources.now) a.rows a.spill)) c.deref-in-Total-2.ensures c.total_from.ensures.value in
     let all = subst (λ (aggs : List AggItem). IfOk c.total_from.result (λ a. IsResultIn (shape.Total (map agg_item_shape aggs) (query_shape c.in-Total.source.value)) (env_view c.args.sources.now) a.rows a.spill)) c.as_slice.ensures made in
     subst (λ (q : Query). IfOk c.total_from.result (λ a. IsResultIn (query_shape q) (env_view c.args.sources.now) a.rows a.spill)) (sym c.in-Total.is) all
 
-pub result_of-returns-in_ok-inside-in-Each : goal.result_of-returns-in_ok-inside-in-Each
-result_of-returns-in_ok-inside-in-Each t c =
+pub result_of-returns-in_ok-inside-in-Each-clause-value : goal.result_of-returns-in_ok-inside-in-Each-clause-value
+result_of-returns-in_ok-inside-in-Each-clause-value t c =
     let env = env_view c.args.sources.now in
     let from = c.in_ok-from-in-Each.from in
-    let is = subst (λ (q : Query). IsResultIn (query_shape q) env from.rows from.spill) c.deref-in-Each.ensures c.in_ok-from-in-Each.ensures in
+    let is = subst (Gives c.args.sources.now from) c.deref-in-Each.ensures c.in_ok-from-in-Each.ensures.value in
     let columns : c.as_slice-in-Each-3.result.now ≡ columns_in env (query_shape c.in-Each.source.value) =
     c.as_slice-in-Each-3.ensures ∙ c.in_ok-columns-in-Each.ensures ∙ ap (λ (q : Query). columns_in env (query_shape q)) c.deref-in-Each-2.ensures in
     let parts : map (λ (s : Bor (List Row)). s.now) c.as_slice-in-Each-4.result.now ≡ slices c.in-Each.size.value c.in-Each.advance.value from.rows =
-    ap (map (λ (s : Bor (List Row)). s.now)) c.as_slice-in-Each-4.ensures.value ∙ c.in_ok-slices-in-Each.ensures
+    ap (map (λ (s : Bor (List Row)). s.now)) c.as_slice-in-Each-4.ensures.value ∙ c.in_ok-slices-in-Each.ensures.value
     ∙ ap (slices c.in-Each.size.value c.in-Each.advance.value) c.as_slice-in-Each.ensures in
-    let made = each_made env c.in-Each.var.text (query_shape c.in-Each.source.value) c.in-Each.size.value c.in-Each.advance.value (query_shape c.in-Each.body.value) from.rows from.spill _ _ _ _ _ _ _ _ is (ap query_shape c.deref-in-Each-3.ensures) c.as_slice-in-Each-2.ensures columns parts c.in_ok-inside-in-Each.ensures c.of_parts.ensures.rows c.of_parts.ensures.spill in
+    let made = each_made env c.in-Each.var.text (query_shape c.in-Each.source.value) c.in-Each.size.value c.in-Each.advance.value (query_shape c.in-Each.body.value) from.rows from.spill _ _ _ _ _ _ _ _ is (ap query_shape c.deref-in-Each-3.ensures) c.as_slice-in-Each-2.ensures columns parts c.in_ok-inside-in-Each.ensures.value c.of_parts.ensures.rows c.of_parts.ensures.spill in
     subst (λ (q : Query). IsResultIn (query_shape q) env c.of_parts.result.rows c.of_parts.result.spill) (sym c.in-Each.is) made
 
-pub result_of-returns-in_ok-further-in-PerGroup : goal.result_of-returns-in_ok-further-in-PerGroup
-result_of-returns-in_ok-further-in-PerGroup t c =
+pub result_of-returns-in_ok-further-in-PerGroup-clause-value : goal.result_of-returns-in_ok-further-in-PerGroup-clause-value
+result_of-returns-in_ok-further-in-PerGroup-clause-value t c =
     let env = env_view c.args.sources.now in
     let from = c.in_ok-from-in-PerGroup.from in
     let most = c.in_ok-most-in-PerGroup.most in
     let column = c.column_number-column.result in
-    let is = subst (λ (q : Query). IsResultIn (query_shape q) env from.rows from.spill) c.deref-in-PerGroup.ensures c.in_ok-from-in-PerGroup.ensures in
+    let is = subst (Gives c.args.sources.now from) c.deref-in-PerGroup.ensures c.in_ok-from-in-PerGroup.ensures.value in
     let of_source = c.in_ok-columns-in-PerGroup.ensures ∙ ap (λ (q : Query). columns_in env (query_shape q)) c.deref-in-PerGroup-2.ensures in
     let columns : c.as_slice-in-PerGroup-5.result.now ≡ columns_in env (query_shape c.in-PerGroup.source.value) = c.as_slice-in-PerGroup-5.ensures ∙ of_source in
     let place : column ≡ column_number c.as_slice-in-PerGroup-5.result.now c.in-PerGroup.key.text =
@@ -230,27 +106,158 @@ result_of-returns-in_ok-further-in-PerGroup t c =
     c.as_slice-in-PerGroup-6.ensures ∙ c.in_ok-parts-in-PerGroup.ensures ∙ ap (keyed_groups most column) c.as_slice-in-PerGroup-3.ensures in
     let further : c.in_ok-further-in-PerGroup.further ≡ has_further most (λ (r : Row). slice_index r column) from.rows =
     c.in_ok-further-in-PerGroup.ensures ∙ ap (has_further most (λ (r : Row). slice_index r column)) c.as_slice-in-PerGroup-7.ensures in
-    let made = groups_made env c.in-PerGroup.var.text (query_shape c.in-PerGroup.source.value) c.in-PerGroup.key.text c.in-PerGroup.groups.value (query_shape c.in-PerGroup.body.value) from.rows from.spill _ _ _ most column _ _ _ _ _ _ is (ap query_shape c.deref-in-PerGroup-3.ensures) c.as_slice-in-PerGroup-4.ensures columns c.in_ok-most-in-PerGroup.ensures place parts c.in_ok-inside-in-PerGroup.ensures further c.of_parts-in-PerGroup.ensures.rows c.of_parts-in-PerGroup.ensures.spill in
+    let made = groups_made env c.in-PerGroup.var.text (query_shape c.in-PerGroup.source.value) c.in-PerGroup.key.text c.in-PerGroup.groups.value (query_shape c.in-PerGroup.body.value) from.rows from.spill _ _ _ most column _ _ _ _ _ _ is (ap query_shape c.deref-in-PerGroup-3.ensures) c.as_slice-in-PerGroup-4.ensures columns c.in_ok-most-in-PerGroup.ensures.value place parts c.in_ok-inside-in-PerGroup.ensures.value further c.of_parts-in-PerGroup.ensures.rows c.of_parts-in-PerGroup.ensures.spill in
     subst (λ (q : Query). IsResultIn (query_shape q) env c.of_parts-in-PerGroup.result.rows c.of_parts-in-PerGroup.result.spill) (sym c.in-PerGroup.is) made
 
-pub result_of-returns-in_ok-second-in-Union : goal.result_of-returns-in_ok-second-in-Union
-result_of-returns-in_ok-second-in-Union t c =
+pub result_of-returns-in_ok-second-in-Union-clause-value : goal.result_of-returns-in_ok-second-in-Union-clause-value
+result_of-returns-in_ok-second-in-Union-clause-value t c =
     let env = env_view c.args.sources.now in
     let first = c.in_ok-first-in-Union.first in
     let second = c.in_ok-second-in-Union.second in
-    let l = subst (λ (q : Query). IsResultIn (query_shape q) env first.rows first.spill) c.deref-in-Union.ensures c.in_ok-first-in-Union.ensures in
-    let r = subst (λ (q : Query). IsResultIn (query_shape q) env second.rows second.spill) c.deref-in-Union-2.ensures c.in_ok-second-in-Union.ensures in
+    let l = subst (Gives c.args.sources.now first) c.deref-in-Union.ensures c.in_ok-first-in-Union.ensures.value in
+    let r = subst (Gives c.args.sources.now second) c.deref-in-Union-2.ensures c.in_ok-second-in-Union.ensures.value in
     let made = IfOk-weaker c.union_of.result (λ (a : Answer). (a.rows ≡ first.rows ++ second.rows) × (a.spill ≡ (first.spill || second.spill))) (λ (a : Answer). IsResultIn (shape.Union (query_shape c.in-Union.left.value) (query_shape c.in-Union.right.value)) env a.rows a.spill)
-    (λ (a : Answer) facts. union_made env (query_shape c.in-Union.left.value) (query_shape c.in-Union.right.value) first.rows second.rows a.rows first.spill second.spill a.spill l r facts) c.union_of.ensures in
+    (λ (a : Answer) facts. union_made env (query_shape c.in-Union.left.value) (query_shape c.in-Union.right.value) first.rows second.rows a.rows first.spill second.spill a.spill l r facts) c.union_of.ensures.value in
     subst (λ (q : Query). IfOk c.union_of.result (λ a. IsResultIn (query_shape q) (env_view c.args.sources.now) a.rows a.spill)) (sym c.in-Union.is) made
 
-pub result_of-returns-in_ok-second-in-Concat : goal.result_of-returns-in_ok-second-in-Concat
-result_of-returns-in_ok-second-in-Concat t c =
+pub result_of-returns-in_ok-second-in-Concat-clause-value : goal.result_of-returns-in_ok-second-in-Concat-clause-value
+result_of-returns-in_ok-second-in-Concat-clause-value t c =
     let env = env_view c.args.sources.now in
     let first = c.in_ok-first-in-Concat.first in
     let second = c.in_ok-second-in-Concat.second in
-    let l = subst (λ (q : Query). IsResultIn (query_shape q) env first.rows first.spill) c.deref-in-Concat.ensures c.in_ok-first-in-Concat.ensures in
-    let r = subst (λ (q : Query). IsResultIn (query_shape q) env second.rows second.spill) c.deref-in-Concat-2.ensures c.in_ok-second-in-Concat.ensures in
+    let l = subst (Gives c.args.sources.now first) c.deref-in-Concat.ensures c.in_ok-first-in-Concat.ensures.value in
+    let r = subst (Gives c.args.sources.now second) c.deref-in-Concat-2.ensures c.in_ok-second-in-Concat.ensures.value in
     let made = IfOk-weaker c.concat_of.result (λ (a : Answer). AreBeside first.rows second.rows a.rows × (a.spill ≡ (first.spill || second.spill))) (λ (a : Answer). IsResultIn (shape.Concat (query_shape c.in-Concat.left.value) (query_shape c.in-Concat.right.value)) env a.rows a.spill)
-    (λ (a : Answer) facts. concat_made env (query_shape c.in-Concat.left.value) (query_shape c.in-Concat.right.value) first.rows second.rows a.rows first.spill second.spill a.spill l r facts) c.concat_of.ensures in
+    (λ (a : Answer) facts. concat_made env (query_shape c.in-Concat.left.value) (query_shape c.in-Concat.right.value) first.rows second.rows a.rows first.spill second.spill a.spill l r facts) c.concat_of.ensures.value in
     subst (λ (q : Query). IfOk c.concat_of.result (λ a. IsResultIn (query_shape q) (env_view c.args.sources.now) a.rows a.spill)) (sym c.in-Concat.is) made
+
+pub over_groups-returns-in_err-part-clause-fits : goal.over_groups-returns-in_err-part-clause-fits
+over_groups-returns-in_err-part-clause-fits t c = λ b h.
+    let here = all_place (λ (g : Group). AllByRecursion (IsRowOf c.args.columns.now) g.rows) c.args.groups.now c.loop-group.group-index c.group-item.result c.loop-group-test.true c.group-item.is h in
+    let rows = subst (AllByRecursion (IsRowOf c.args.columns.now)) (sym c.as_slice.ensures) here in
+    let sources = inside_fits c.args.var.now c.args.columns.now (query_shape c.args.body.now) c.as_slice.result.now b rows in
+    passes _ c.from_residual.ensures.1 (λ y e. e ∙ c.in_err-part.ensures.fits sources b.accepted)
+
+pub over_slices-returns-in_err-part-clause-fits : goal.over_slices-returns-in_err-part-clause-fits
+over_slices-returns-in_err-part-clause-fits t c = λ b h.
+    let now : Bor (List Row) → List Row = λ s. s.now in
+    let all = all_of_mapped (AllByRecursion (IsRowOf c.args.columns.now)) now c.args.slices.now h in
+    let here = all_place (λ (s : Bor (List Row)). AllByRecursion (IsRowOf c.args.columns.now) s.now) c.args.slices.now c.loop-slice.slice-index c.slice-item.result c.loop-slice-test.true c.slice-item.is all in
+    let sources = inside_fits c.args.var.now c.args.columns.now (query_shape c.args.body.now) c.slice-item.result.now b here in
+    passes _ c.from_residual.ensures.1 (λ y e. e ∙ c.in_err-part.ensures.fits sources b.accepted)
+
+pub result_of-returns-in_err-from-in-Rows-clause-fits : goal.result_of-returns-in_err-from-in-Rows-clause-fits
+result_of-returns-in_err-from-in-Rows-clause-fits t c = λ s a.
+    let whole = subst (Accepted c.args.sources.now) c.in-Rows.is a in
+    let part = subst (Accepted c.args.sources.now) (sym c.deref.ensures) whole.0 in
+    passes _ c.from_residual.ensures.1 (λ y e. e ∙ c.in_err-from-in-Rows.ensures.fits s part)
+
+pub result_of-returns-in_err-from-in-Total-clause-fits : goal.result_of-returns-in_err-from-in-Total-clause-fits
+result_of-returns-in_err-from-in-Total-clause-fits t c = λ s a.
+    let whole = subst (Accepted c.args.sources.now) c.in-Total.is a in
+    let part = subst (Accepted c.args.sources.now) (sym c.deref-in-Total.ensures) whole.0 in
+    passes _ c.from_residual-in_err-from-in-Total.ensures.1 (λ y e. e ∙ c.in_err-from-in-Total.ensures.fits s part)
+
+pub result_of-returns-in_err-from-in-Each-clause-fits : goal.result_of-returns-in_err-from-in-Each-clause-fits
+result_of-returns-in_err-from-in-Each-clause-fits t c = λ s a.
+    let whole = subst (Accepted c.args.sources.now) c.in-Each.is a in
+    let part = subst (Accepted c.args.sources.now) (sym c.deref-in-Each.ensures) whole.0 in
+    passes _ c.from_residual-in_err-from-in-Each.ensures.1 (λ y e. e ∙ c.in_err-from-in-Each.ensures.fits s part)
+
+pub result_of-returns-in_err-from-in-PerGroup-clause-fits : goal.result_of-returns-in_err-from-in-PerGroup-clause-fits
+result_of-returns-in_err-from-in-PerGroup-clause-fits t c = λ s a.
+    let whole = subst (Accepted c.args.sources.now) c.in-PerGroup.is a in
+    let part = subst (Accepted c.args.sources.now) (sym c.deref-in-PerGroup.ensures) whole.0 in
+    passes _ c.from_residual-in_err-from-in-PerGroup.ensures.1 (λ y e. e ∙ c.in_err-from-in-PerGroup.ensures.fits s part)
+
+pub result_of-returns-in_err-first-in-Union-clause-fits : goal.result_of-returns-in_err-first-in-Union-clause-fits
+result_of-returns-in_err-first-in-Union-clause-fits t c = λ s a.
+    let whole = subst (Accepted c.args.sources.now) c.in-Union.is a in
+    let part = subst (Accepted c.args.sources.now) (sym c.deref-in-Union.ensures) whole.0 in
+    passes _ c.from_residual-in_err-first-in-Union.ensures.1 (λ y e. e ∙ c.in_err-first-in-Union.ensures.fits s part)
+
+pub result_of-returns-in_err-second-in-Union-clause-fits : goal.result_of-returns-in_err-second-in-Union-clause-fits
+result_of-returns-in_err-second-in-Union-clause-fits t c = λ s a.
+    let whole = subst (Accepted c.args.sources.now) c.in-Union.is a in
+    let part = subst (Accepted c.args.sources.now) (sym c.deref-in-Union-2.ensures) whole.1 in
+    passes _ c.from_residual-in_err-second-in-Union.ensures.1 (λ y e. e ∙ c.in_err-second-in-Union.ensures.fits s part)
+
+pub result_of-returns-in_err-first-in-Concat-clause-fits : goal.result_of-returns-in_err-first-in-Concat-clause-fits
+result_of-returns-in_err-first-in-Concat-clause-fits t c = λ s a.
+    let whole = subst (Accepted c.args.sources.now) c.in-Concat.is a in
+    let part = subst (Accepted c.args.sources.now) (sym c.deref-in-Concat.ensures) whole.0 in
+    passes _ c.from_residual-in_err-first-in-Concat.ensures.1 (λ y e. e ∙ c.in_err-first-in-Concat.ensures.fits s part)
+
+pub result_of-returns-in_err-second-in-Concat-clause-fits : goal.result_of-returns-in_err-second-in-Concat-clause-fits
+result_of-returns-in_err-second-in-Concat-clause-fits t c = λ s a.
+    let whole = subst (Accepted c.args.sources.now) c.in-Concat.is a in
+    let part = subst (Accepted c.args.sources.now) (sym c.deref-in-Concat-2.ensures) whole.1 in
+    passes _ c.from_residual-in_err-second-in-Concat.ensures.1 (λ y e. e ∙ c.in_err-second-in-Concat.ensures.fits s part)
+
+pub result_of-returns-in_err-slices-in-Each-clause-fits : goal.result_of-returns-in_err-slices-in-Each-clause-fits
+result_of-returns-in_err-slices-in-Each-clause-fits t c = λ s a.
+    let whole = subst (Accepted c.args.sources.now) c.in-Each.is a in
+    passes _ c.from_residual-in_err-slices-in-Each.ensures.1 (λ y e. e ∙ c.in_err-slices-in-Each.ensures.fits whole.1)
+
+pub result_of-returns-in_err-most-in-PerGroup-clause-fits : goal.result_of-returns-in_err-most-in-PerGroup-clause-fits
+result_of-returns-in_err-most-in-PerGroup-clause-fits t c = λ s a.
+    let whole = subst (Accepted c.args.sources.now) c.in-PerGroup.is a in
+    passes _ c.from_residual-in_err-most-in-PerGroup.ensures.1 (λ y e. e ∙ c.in_err-most-in-PerGroup.ensures.fits whole.1.most_groups)
+
+pub result_of-returns-in_err-inside-in-Each-clause-fits : goal.result_of-returns-in_err-inside-in-Each-clause-fits
+result_of-returns-in_err-inside-in-Each-clause-fits t c = λ s a.
+    let env = env_view c.args.sources.now in
+    let from = c.in_ok-from-in-Each.from in
+    let whole = subst (Accepted c.args.sources.now) c.in-Each.is a in
+    let is = subst (Gives c.args.sources.now from) c.deref-in-Each.ensures c.in_ok-from-in-Each.ensures.value in
+    let columns : c.as_slice-in-Each-3.result.now ≡ columns_in env (query_shape c.in-Each.source.value) =
+    c.as_slice-in-Each-3.ensures ∙ c.in_ok-columns-in-Each.ensures ∙ ap (λ (q : Query). columns_in env (query_shape q)) c.deref-in-Each-2.ensures in
+    let parts : map (λ (s : Bor (List Row)). s.now) c.as_slice-in-Each-4.result.now ≡ slices c.in-Each.size.value c.in-Each.advance.value from.rows =
+    ap (map (λ (s : Bor (List Row)). s.now)) c.as_slice-in-Each-4.ensures.value ∙ c.in_ok-slices-in-Each.ensures.value
+    ∙ ap (slices c.in-Each.size.value c.in-Each.advance.value) c.as_slice-in-Each.ensures in
+    let want = each_passes env c.in-Each.var.text (query_shape c.in-Each.source.value) c.in-Each.size.value c.in-Each.advance.value (query_shape c.in-Each.body.value) from.rows from.spill _ _ _ _ _ s whole is (ap query_shape c.deref-in-Each-3.ensures) c.as_slice-in-Each-2.ensures columns parts c.in_err-inside-in-Each.ensures.fits in
+    passes _ c.from_residual-in_err-inside-in-Each.ensures.1 (λ y e. e ∙ want)
+
+pub result_of-returns-in_err-inside-in-PerGroup-clause-fits : goal.result_of-returns-in_err-inside-in-PerGroup-clause-fits
+result_of-returns-in_err-inside-in-PerGroup-clause-fits t c = λ s a.
+    let env = env_view c.args.sources.now in
+    let from = c.in_ok-from-in-PerGroup.from in
+    let most = c.in_ok-most-in-PerGroup.most in
+    let column = c.column_number-column.result in
+    let whole = subst (Accepted c.args.sources.now) c.in-PerGroup.is a in
+    let is = subst (Gives c.args.sources.now from) c.deref-in-PerGroup.ensures c.in_ok-from-in-PerGroup.ensures.value in
+    let columns : c.as_slice-in-PerGroup-5.result.now ≡ columns_in env (query_shape c.in-PerGroup.source.value) =
+    c.as_slice-in-PerGroup-5.ensures ∙ c.in_ok-columns-in-PerGroup.ensures ∙ ap (λ (q : Query). columns_in env (query_shape q)) c.deref-in-PerGroup-2.ensures in
+    let parts : c.as_slice-in-PerGroup-6.result.now ≡ keyed_groups most column from.rows =
+    c.as_slice-in-PerGroup-6.ensures ∙ c.in_ok-parts-in-PerGroup.ensures ∙ ap (keyed_groups most column) c.as_slice-in-PerGroup-3.ensures in
+    let want = groups_pass env c.in-PerGroup.var.text (query_shape c.in-PerGroup.source.value) c.in-PerGroup.key.text c.in-PerGroup.groups.value (query_shape c.in-PerGroup.body.value) from.rows from.spill _ _ _ most column _ _ s whole is (ap query_shape c.deref-in-PerGroup-3.ensures) c.as_slice-in-PerGroup-4.ensures columns parts c.in_err-inside-in-PerGroup.ensures.fits in
+    passes _ c.from_residual-in_err-inside-in-PerGroup.ensures.1 (λ y e. e ∙ want)
+
+pub result_of-returns-in_ok-from-in-Rows-clause-fits : goal.result_of-returns-in_ok-from-in-Rows-clause-fits
+result_of-returns-in_ok-from-in-Rows-clause-fits t c = λ s a.
+    let env = env_view c.args.sources.now in
+    let from = c.in_ok-from-in-Rows.from in
+    let whole = subst (Accepted c.args.sources.now) c.in-Rows.is a in
+    let is = subst (Gives c.args.sources.now from) c.deref.ensures c.in_ok-from-in-Rows.ensures.value in
+    let pass = subst (λ (q : Query). IsRows (columns_in env (query_shape q)) (pick_shape c.in-Rows.pick) (option_map expr_shape c.in-Rows.filter) → AreRows (columns_in env (query_shape q)) from.rows → IsOrMemory c.rows_from.result) c.deref-in-Rows.ensures c.rows_from.ensures.fits in
+    pass whole.1 (rows_fit env (query_shape c.in-Rows.source.value) from.rows from.spill s whole.0 is)
+
+pub result_of-returns-in_ok-from-in-Total-clause-fits : goal.result_of-returns-in_ok-from-in-Total-clause-fits
+result_of-returns-in_ok-from-in-Total-clause-fits t c = λ s a.
+    let env = env_view c.args.sources.now in
+    let from = c.in_ok-from-in-Total.from in
+    let whole = subst (Accepted c.args.sources.now) c.in-Total.is a in
+    let is = subst (Gives c.args.sources.now from) c.deref-in-Total.ensures c.in_ok-from-in-Total.ensures.value in
+    let pass = subst (λ (q : Query). AreAggs (columns_in env (query_shape q)) (map agg_item_shape c.as_slice.result.now) → AreRows (columns_in env (query_shape q)) from.rows → IsOrMemory c.total_from.result) c.deref-in-Total-2.ensures c.total_from.ensures.fits in
+    let aggs = subst (λ (l : List AggItem). AreAggs (columns_in env (query_shape c.in-Total.source.value)) (map agg_item_shape l)) (sym c.as_slice.ensures) whole.1.typed in
+    pass aggs (rows_fit env (query_shape c.in-Total.source.value) from.rows from.spill s whole.0 is)
+
+pub result_of-returns-in_ok-second-in-Concat-clause-fits : goal.result_of-returns-in_ok-second-in-Concat-clause-fits
+result_of-returns-in_ok-second-in-Concat-clause-fits t c = λ s a.
+    let env = env_view c.args.sources.now in
+    let first = c.in_ok-first-in-Concat.first in
+    let second = c.in_ok-second-in-Concat.second in
+    let whole = subst (Accepted c.args.sources.now) c.in-Concat.is a in
+    let l = subst (Gives c.args.sources.now first) c.deref-in-Concat.ensures c.in_ok-first-in-Concat.ensures.value in
+    let r = subst (Gives c.args.sources.now second) c.deref-in-Concat-2.ensures c.in_ok-second-in-Concat.ensures.value in
+    c.concat_of.ensures.fits (one_length env (query_shape c.in-Concat.left.value) (query_shape c.in-Concat.right.value) first.rows second.rows first.spill second.spill whole.2 l r)

@@ -1,0 +1,125 @@
+-- What the parts of an accepted query see over sources whose rows fit, and that their results fit.
+use Rattle.std.proofs.Common.{◌≡◌, ℕ, zero, suc, ◌+◌, ◌*◌, ◌<◌, Bool, List, [], ◌∷◌, length, refl, sym, ap, subst, ◌∙◌, map, filter, take, drop, nat_lt, nat_eq, get_or, arith}
+use Rattle.std.specs.Prelude.{bytes_eq, slice_index, Option, Some, None, IsSome}
+use Rattle.std.specs.List.{AllByRecursion, filter_map, range_with_len}
+use Rattle.gl_bits.specs.Lists.{Group as GroupOf}
+use Rattle.gl_bits.specs.Lists.{groups, keys_of, rows_with, slice_at, slices}
+use Rattle.gl_bits.specs.Tables.{keyed_groups}
+use Rattle.gl_bits.specs.Results.{Row}
+use Rattle.gl_bits.specs.declared.lists.Group.{Group}
+use Rattle.gl_bits.proofs.Bools.{by_cases}
+use Rattle.gl_schema.specs.declared.schema.Column.{Column}
+use Rattle.gl_schema.specs.declared.schema.Schema.{Schema}
+use Rattle.gl_schema.specs.declared.schema.Stream.{Stream}
+use Rattle.gl_schema.specs.Beats.{Inputs}
+use Rattle.gl_schema.specs.Schemas.{IsRowOf}
+use Rattle.gl_query.specs.declared.tree.Statement.{Statement}
+use Rattle.gl_query.specs.Shapes.{QueryShape, query_shape}
+use Rattle.gl_query.specs.Columns.{Pace, Once, Step, pace_of}
+use Rattle.gl_query.specs.Accepted.{IsAcceptedOver, KeepPace, Scope, body_scope, schema_scope}
+use Rattle.gl_query.specs.Results.{Env, IsResultIn, columns_in, env_of, numbered, only, streams_of}
+use Rattle.gl_query.specs.Laws.{HoldsIn, scope_of}
+use Rattle.gl_query.proofs.Existing.{IsPaced, paced}
+use Rattle.gl_query.proofs.Fitting.{fitting}
+use Rattle.gl_query.proofs.Real.{IsScope, body_is, real, schema_is}
+use Rattle.gl_reference.specs.Fits.{AreRows, AreSources, IsBody, IsFit}
+use Rattle.gl_reference.specs.Sources.{given_inputs}
+
+-- ---- sources
+
+scope_is : (env : Env) → AreSources env → IsScope (scope_of env)
+scope_is env s = record { columns = s.columns; kinds = s.kinds }
+
+-- the columns of an accepted query are real, and the rows of its results fit them
+pub rows_fit : (env : Env) (q : QueryShape) (out : List Row) (spill : Bool) → AreSources env → IsAcceptedOver (scope_of env) q → IsResultIn q env out spill
+    → AreRows (columns_in env q) out
+rows_fit env q out spill s a is = record { kinds = (real q (scope_of env) (scope_is env s) a).kinds; fit = fitting q env out spill a s.rows is }
+
+-- a body over the columns of an accepted query
+pub body_fits : (env : Env) (var : List ℕ) (source body : QueryShape) → AreSources env → IsAcceptedOver (scope_of env) source
+    → IsAcceptedOver (body_scope var (columns_in env source)) body → IsBody var (columns_in env source) body
+body_fits env var source body s a b =
+    let r = real source (scope_of env) (scope_is env s) a in
+    record { result = r.result; kinds = r.kinds; accepted = b }
+
+-- what it sees
+pub inside_fits : (var : List ℕ) (columns : List Column) (body : QueryShape) (rows : List Row) → IsBody var columns body → AllByRecursion (IsRowOf columns) rows
+    → AreSources (only var columns rows)
+inside_fits var columns body rows b h =
+    let scope = body_is var columns b.result b.kinds in
+    record { columns = scope.columns; kinds = scope.kinds; rows = λ name. by_cases (bytes_eq name var) (λ e. rw e h) (λ e. rw e tt) }
+
+-- ---- parts of a list
+
+pub all_place : {A : Type 0} (P : A → Type 0) (xs : List A) (i : ℕ) (x : A) → i < length xs → x ≡ get_or xs i x → AllByRecursion P xs → P x
+all_place P [] i x lt is h = absurd (omega arith)
+all_place P (y ∷ xs) zero x lt is h = subst P (sym is) h.0
+all_place P (y ∷ xs) (suc i) x lt is h = all_place P xs i x (omega arith) is h.1
+
+all_filter : {A : Type 0} (P : A → Type 0) (p : A → Bool) (xs : List A) → AllByRecursion P xs → AllByRecursion P (filter p xs)
+all_filter P p [] h = tt
+all_filter P p (x ∷ xs) h = by_cases (p x) (λ e. rw e (h.0, all_filter P p xs h.1)) (λ e. rw e (all_filter P p xs h.1))
+
+all_take : {A : Type 0} (P : A → Type 0) (n : ℕ) (xs : List A) → AllByRecursion P xs → AllByRecursion P (take n xs)
+all_take P zero xs h = tt
+all_take P (suc n) [] h = tt
+all_take P (suc n) (x ∷ xs) h = (h.0, all_take P n xs h.1)
+
+all_drop : {A : Type 0} (P : A → Type 0) (n : ℕ) (xs : List A) → AllByRecursion P xs → AllByRecursion P (drop n xs)
+all_drop P zero xs h = h
+all_drop P (suc n) [] h = tt
+all_drop P (suc n) (x ∷ xs) h = all_drop P n xs h.1
+
+all_slices_at : (P : Row → Type 0) (size advance : ℕ) (rows : List Row) (places : List ℕ) → AllByRecursion P rows
+    → AllByRecursion (AllByRecursion P) (filter_map (slice_at size advance rows) places)
+all_slices_at P size advance rows [] h = tt
+all_slices_at P size advance rows (j ∷ places) h =
+    by_cases (nat_lt (j * advance) (length rows))
+    (λ e. rw e (all_take P size (drop (j * advance) rows) (all_drop P (j * advance) rows h), all_slices_at P size advance rows places h))
+    (λ e. rw e (all_slices_at P size advance rows places h))
+
+pub all_slices : (P : Row → Type 0) (size advance : ℕ) (rows : List Row) → AllByRecursion P rows → AllByRecursion (AllByRecursion P) (slices size advance rows)
+unfolding slices
+all_slices P size advance rows h = all_slices_at P size advance rows (range_with_len 0 (length rows)) h
+
+all_groups_at : (P : Row → Type 0) (key_of : Row → ℕ) (rows : List Row) (keys : List ℕ) → AllByRecursion P rows
+    → AllByRecursion (λ (g : Group). AllByRecursion P g.rows) (map (λ (g : GroupOf Row). record { key = g.key; rows = g.rows }) (map (λ (key : ℕ). record { key = key; rows = rows_with key_of rows key }) keys))
+all_groups_at P key_of rows [] h = tt
+all_groups_at P key_of rows (key ∷ keys) h = (all_filter P (λ x. nat_eq (key_of x) key) rows h, all_groups_at P key_of rows keys h)
+
+pub all_groups : (P : Row → Type 0) (n column : ℕ) (rows : List Row) → AllByRecursion P rows
+    → AllByRecursion (λ (g : Group). AllByRecursion P g.rows) (keyed_groups n column rows)
+unfolding groups
+all_groups P n column rows h =
+    let key_of : Row → ℕ = λ r. slice_index r column in
+    all_groups_at P key_of rows (take n (keys_of key_of rows)) h
+
+-- ---- pace
+
+one_pace : (env : Env) (pace : Option Pace) (xs ys : List Row) → IsSome pace → IsPaced env pace xs → IsPaced env pace ys → length xs ≡ length ys
+one_pace env None xs ys some p q = cc
+one_pace env (Some Once) xs ys some p q = p ∙ sym q
+one_pace env (Some (Step name)) xs ys some p q = p ∙ sym q
+
+-- sides that keep pace have results of one length
+pub one_length : (env : Env) (l r : QueryShape) (xs ys : List Row) (p q : Bool) → KeepPace l r → IsResultIn l env xs p → IsResultIn r env ys q → length xs ≡ length ys
+one_length env l r xs ys p q k is is' =
+    one_pace env (pace_of l) xs ys k.paced (paced l env xs p is) (subst (λ (pace : Option Pace). IsPaced env pace ys) (sym k.same) (paced r env ys q is'))
+
+-- ---- schemas
+
+numbered_streams : (k : ℕ) (streams : List Stream) (inputs : Inputs) → streams_of (numbered k streams inputs) ≡ streams
+numbered_streams k [] inputs = refl
+numbered_streams k (s ∷ streams) inputs = ap (λ l. s ∷ l) (numbered_streams (k + 1) streams inputs)
+
+-- a statement that is accepted over a schema, over rows that fit it
+pub statement_fits : (schema : Schema) (statement : Statement) (tables : List (List Row)) (env : Env) → IsFit schema statement tables
+    → env ≡ env_of schema (given_inputs tables) → AreSources env × IsAcceptedOver (scope_of env) (query_shape statement.query)
+statement_fits schema statement tables env fit e =
+    let given = ap scope_of e in
+    let named = ap (λ (l : List Stream). schema_scope (record { streams = l })) (numbered_streams 0 schema.streams (given_inputs tables)) in
+    let scope : scope_of env ≡ schema_scope schema = given ∙ named in
+    let is = subst IsScope (sym scope) (schema_is schema.streams fit.of_schema.streams) in (
+      record { columns = is.columns; kinds = is.kinds; rows = subst (HoldsIn IsRowOf) (sym e) fit.rows },
+      subst (λ (x : Scope). IsAcceptedOver x (query_shape statement.query)) (sym scope) fit.accepted,
+    )
