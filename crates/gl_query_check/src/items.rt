@@ -3,9 +3,10 @@
 ghost use Rattle.std.specs.Prelude.{◌≡◌, ◌≤◌, bytes_eq, drop, length, map, slice_get, take};
 ghost use Rattle.std.specs.List.{list_any};
 ghost use Rattle.gl_query.specs.Faults as faults;
+ghost use Rattle.gl_query.specs.declared.fault.QueryFault.TheVariants.{KindsDiffer};
 ghost use Rattle.gl_query.specs.Trees.{AggItemTree, ItemTree, agg_item_tree, agg_tree, expr_tree, item_tree, pick_tree};
 
-use crate::expressions::{number_fault, whole_fault, whole_kind};
+use crate::expressions::{Placed, judge_whole, number_fault};
 use crate::rules::{is_unsigned, or_else, unless};
 use gl_bits::Kind;
 use gl_query::{Agg, AggItem, Expr, Item, Name, Num, Pick, QueryFault};
@@ -47,7 +48,7 @@ fn items_fault(columns: &[Column], items: &[Item], number: usize) -> Option<Quer
     if number >= MOST_COLUMNS {
         return Some(QueryFault::OutOfRange { at });
     }
-    let own = whole_fault(columns, &item.expr);
+    let own = judge_whole(columns, &item.expr).fault;
     let fresh = !is_item(earlier, item.name.text.as_slice());
     let later = items_fault(columns, items, number + 1);
     or_else(
@@ -67,13 +68,13 @@ pub fn pick_fault(columns: &[Column], pick: &Pick) -> Option<QueryFault>
 }
 
 // The first fault of an argument that is added or averaged.
-fn summed_fault(columns: &[Column], expr: &Expr, name: &Name) -> Option<QueryFault>
-    ensures { result ≡ faults.summed_fault columns.now (expr_tree expr.now) name.now }
+fn summed_fault(arg: Placed, name: &Name) -> Option<QueryFault>
+    ensures { result ≡ faults.or_else arg.fault (faults.unless (faults.is_unsigned arg.kind) (KindsDiffer name.now.at)) }
 {
-    let kind = whole_kind(columns, expr);
+    let unsigned = is_unsigned(arg.kind);
     or_else(
-        whole_fault(columns, expr),
-        unless(is_unsigned(kind), QueryFault::KindsDiffer { at: name.at }),
+        arg.fault,
+        unless(unsigned, QueryFault::KindsDiffer { at: name.at }),
     )
 }
 
@@ -103,11 +104,12 @@ fn agg_fault(columns: &[Column], agg: &Agg, name: &Name) -> Option<QueryFault>
 {
     match agg {
         Agg::Count { .. } => None,
-        Agg::Sum(expr) | Agg::Avg(expr) => summed_fault(columns, expr, name),
-        Agg::Min(expr) | Agg::Max(expr) => whole_fault(columns, expr),
+        Agg::Sum(expr) | Agg::Avg(expr) => summed_fault(judge_whole(columns, expr), name),
+        Agg::Min(expr) | Agg::Max(expr) => judge_whole(columns, expr).fault,
         Agg::Wsum { arg, weights } => {
-            let summed = summed_fault(columns, arg, name);
-            let kind = whole_kind(columns, arg);
+            let whole = judge_whole(columns, arg);
+            let kind = whole.kind;
+            let summed = summed_fault(whole, name);
             or_else(summed, weights_fault(kind, weights.as_slice()))
         }
     }
