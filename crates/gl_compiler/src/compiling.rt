@@ -163,9 +163,13 @@ pub fn compile_query(alloc: Global, schema: Schema, query: &[u8]) -> Result<Comp
         → IsQuery schema query.now statement → ⊥)) }
     ensures told { TellsCauses schema query.now result }
 {
-    match judge_query(alloc, &schema, query) {
-        Ok(checked) => compile_statement(alloc, schema, statement_of(checked)),
-        Err(fault) => Err(query_fault(fault)),
+    let statement = match judge_query(alloc, &schema, query) {
+        Ok(checked) => statement_of(checked),
+        Err(fault) => return Err(query_fault(fault)),
+    };
+    match compile_statement(alloc, schema, statement) {
+        Ok(compiled) => Ok(compiled),
+        Err(fault) => Err(fault),
     }
 }
 

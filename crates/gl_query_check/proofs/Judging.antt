@@ -1,9 +1,8 @@
 -- An expression that is judged before its place is known.
-use Rattle.std.proofs.Common.{◌≡◌, ◌≢◌, ℕ, Bool, true, false, List, Option, Some, None, refl, sym, ap, subst, ◌∙◌}
-use Rattle.std.specs.Prelude.{◌&&◌, not, nat_eq, if◌then◌else◌}
+use Rattle.std.proofs.Common.{◌≡◌, ℕ, Bool, true, false, List, Option, refl, sym, ap, ◌∙◌}
+use Rattle.std.specs.Prelude.{◌&&◌}
 use Rattle.gl_bits.proofs.Bools.{and_left, and_right}
 use Rattle.gl_bits.specs.declared.kind.Kind.{Kind}
-use Rattle.gl_bits.specs.declared.kind.Kind.TheVariants.{Unsigned, Text}
 use Rattle.gl_bits.specs.declared.op.Op.{Op}
 use Rattle.gl_bits.specs.declared.op.Sort.{Sort}
 use Rattle.gl_bits.specs.declared.op.Sort.TheVariants.{Arithmetic, Comparison, Logic}
@@ -12,16 +11,15 @@ use Rattle.gl_schema.specs.declared.schema.Column.{Column}
 use Rattle.gl_query.specs.declared.fault.QueryFault.{QueryFault}
 use Rattle.gl_query.specs.declared.fault.QueryFault.TheVariants.{KindsDiffer}
 use Rattle.gl_query.specs.Alike.{expr_alike}
-use Rattle.gl_query.specs.Faults.{expr_fault, is_unsigned, of_operands, operator_fault, or_else, same_kind, unless}
-use Rattle.gl_query.specs.Shapes.{ExprShape}
+use Rattle.gl_query.specs.Faults.{expr_fault, is_unsigned, of_operands, operator_fault, or_else, unless}
 use Rattle.gl_query.specs.Trees.{ExprTree}
 use Rattle.gl_query.specs.Trees as tree
-use Rattle.gl_query.specs.Values.{is_loose, kind_alone, kind_of, left_place, right_place, loose_kind, operand_place}
+use Rattle.gl_query.specs.Values.{is_loose, kind_of, operand_place}
 use Rattle.gl_query.proofs.Deciding.{equal_kinds}
 use Rattle.gl_query_check.specs.declared.expressions.Judged.{Judged}
 use Rattle.gl_query_check.specs.declared.expressions.Judged.TheVariants.{Loose, Fixed}
 use Rattle.gl_query_check.specs.declared.expressions.Placed.{Placed}
-use Rattle.gl_query_check.specs.Judging.{IsFixed, IsPlaced, Judges, are_loose, kind_judged, loose_judged, loose_place, place_beside}
+use Rattle.gl_query_check.specs.Judging.{IsFixed, IsPlaced, Judges, are_loose, kind_judged, loose_judged, place_beside}
 
 -- ---- what is loose
 

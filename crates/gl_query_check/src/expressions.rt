@@ -8,7 +8,8 @@ ghost use Rattle.gl_bits.specs.Operators as operators;
 ghost use Rattle.gl_schema.specs.declared.schema.Column.{Column as NamedColumn};
 ghost use Rattle.gl_query.specs.Alike.{expr_alike};
 ghost use Rattle.gl_query.specs.Faults as faults;
-ghost use Rattle.gl_query.specs.Trees.{Binary, expr_tree, filter_tree};
+ghost use Rattle.gl_query.specs.Trees as tree;
+ghost use Rattle.gl_query.specs.Trees.{expr_tree, filter_tree};
 ghost use Rattle.gl_query.specs.Values as values;
 ghost use Rattle.gl_query_check.specs.Judging as judging;
 ghost use Rattle.gl_query_check.specs.Judging.{IsPlaced, Judges};
@@ -17,7 +18,7 @@ use crate::rules::{
     can_cast, has_column, is_bit, is_unsigned, letters_fit, number_fits, or_else, same_kind, unless,
 };
 use gl_bits::{Kind, Op, Sort};
-use gl_query::{Expr, Num, QueryFault, kinds};
+use gl_query::{Expr, Name, Num, QueryFault, kinds};
 use gl_schema::Column;
 
 /// What an expression is whatever its place.
@@ -205,7 +206,7 @@ fn combined(
 ) -> Judged
     ensures { (columns : List NamedColumn) → Judges columns (expr_tree left.now) left_judged
         → Judges columns (expr_tree right.now) right_judged
-        → Judges columns (Binary op (expr_tree left.now) (expr_tree right.now) at) result }
+        → Judges columns (tree.Binary op (expr_tree left.now) (expr_tree right.now) at) result }
 {
     let sort = op.sort();
     if are_loose(sort, &left_judged, &right_judged) {
@@ -227,18 +228,25 @@ fn combined(
     }
 }
 
+// A column.
+fn column_judged(columns: &[Column], name: &Name) -> Judged
+    ensures { Judges columns.now (tree.Column name.now) result }
+{
+    Judged::Fixed {
+        kind: kinds::column_kind(columns, name.text.as_slice()),
+        fault: unless(
+            has_column(columns, name.text.as_slice()),
+            QueryFault::UnknownColumn { at: name.at },
+        ),
+    }
+}
+
 // An expression is judged whatever its place.
 fn judge(columns: &[Column], expr: &Expr) -> Judged
     ensures { Judges columns.now (expr_tree expr.now) result }
 {
     match expr {
-        Expr::Column(name) => Judged::Fixed {
-            kind: kinds::column_kind(columns, name.text.as_slice()),
-            fault: unless(
-                has_column(columns, name.text.as_slice()),
-                QueryFault::UnknownColumn { at: name.at },
-            ),
-        },
+        Expr::Column(name) => column_judged(columns, name),
         Expr::Number(_) | Expr::Letters { .. } => Judged::Loose,
         Expr::Not { arg, at } => {
             let inside = settle(Kind::Unsigned(1), judge(columns, arg), arg);

@@ -1,7 +1,6 @@
 -- Each select of a statement that a text has has an item; so its result has a column.
-use Rattle.std.proofs.Common.{◌≡◌, ◌⊎◌, ℕ, ◌≤◌, Bool, true, false, List, [], ◌∷◌, length, map, Option, Some, None, refl, sym, ap, subst, ◌∙◌, inl, inr, arith}
+use Rattle.std.proofs.Common.{◌≡◌, ◌⊎◌, ℕ, ◌≤◌, Bool, true, false, List, [], ◌∷◌, length, map, Option, Some, None, refl, sym, subst, inl, inr, arith}
 use Rattle.std.specs.Prelude.{nat_le, option_map, if◌then◌else◌}
-use Rattle.gl_schema.specs.declared.schema.Schema.{Schema}
 use Rattle.gl_query.specs.declared.tree.Statement.{Statement}
 use Rattle.gl_query.specs.Alike.{item_alike, agg_item_alike, query_alike}
 use Rattle.gl_query.specs.Shapes.{QueryShape, query_shape}
@@ -15,7 +14,7 @@ use Rattle.gl_query_reader.specs.declared.written.Grouping.{Grouping}
 use Rattle.gl_query_reader.specs.declared.written.Window.{Window}
 use Rattle.gl_query_reader.specs.Grammar.{HasStatement}
 use Rattle.gl_query_reader.specs.Meaning.{agg_items, by_items, expr_meaning, filtered, grouped, is_total, it, join_meaning, plain_items, query_meaning, select_meaning}
-use Rattle.gl_query_reader.specs.Mixed.{behind_key, first_other, is_key, item_at, least, mixed_in, mixed_pick, same}
+use Rattle.gl_query_reader.specs.Mixed.{behind_key, first_other, is_key, item_at, least, mixed_in, mixed_pick}
 use Rattle.gl_query_reader.specs.Written.{IsPick, IsQuery, IsSource, IsTerm}
 use Rattle.gl_query_reader.specs.Written as written
 use Rattle.gl_query_judge.specs.Judged.{AcceptedTextsHaveColumns}

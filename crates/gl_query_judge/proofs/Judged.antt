@@ -5,18 +5,16 @@ use Rattle.gl_schema.specs.Schemas.{IsSchema}
 use Rattle.gl_query.specs.declared.tree.Statement.{Statement}
 use Rattle.gl_query.specs.declared.fault.QueryFault.{QueryFault}
 use Rattle.gl_query.specs.declared.fault.QueryFault.TheVariants as fault
-use Rattle.gl_query.specs.Accepted.{IsAccepted, IsAcceptedOver, schema_scope}
 use Rattle.gl_query.specs.Faults.{first_fault}
 use Rattle.gl_query.specs.Trees.{StatementTree, statement_tree}
-use Rattle.gl_query.proofs.Alike.{query_same}
-use Rattle.gl_query.proofs.FirstFaults.{exact}
 use Rattle.gl_query_tokens.specs.Tokens.{tokens_of}
 use Rattle.gl_query_reader.specs.Grammar.{HasStatement, IsOrMemory, IsFault, IsVerdict, Verdict, bare_tokens}
 use Rattle.gl_query_reader.specs.Meaning.{statement_meaning}
 use Rattle.gl_query_reader.proofs.ReadQueries.{one_statement}
 use Rattle.gl_query_reader.proofs.Verdicts.{verdicts}
 use Rattle.gl_query_check.specs.Answers.{IsOr}
-use Rattle.gl_query_judge.specs.Judged.{IsAcceptedText, HasNoStatement, BreaksRule, IsQueryFault, IsFaultOrMemory, HasOneFault, TextsHaveOneFault}
+use Rattle.gl_query_check.proofs.Accepting.{accepted_none}
+use Rattle.gl_query_judge.specs.Judged.{IsAcceptedText, HasNoStatement, BreaksRule, IsQueryFault, IsFaultOrMemory, TextsHaveOneFault}
 
 -- a text has one statement
 pub one_meaning : (text : List ℕ) (a b : StatementTree) → HasStatement text a → HasStatement text b → a ≡ b
@@ -73,10 +71,6 @@ unaccepted schema text s f has (inl first) = by (memory_or f)
     by (inr e) = inr e
 
 -- ---- one fault
-
--- an accepted statement breaks no rule
-accepted_none : (schema : Schema) (s : Statement) → IsSchema schema → IsAccepted schema s → first_fault schema (statement_tree s) ≡ None
-accepted_none schema s fine is = (exact schema (statement_tree s) fine).1 (subst (IsAcceptedOver (schema_scope schema)) (sym (query_same s.query)) is)
 
 pub accepted_goes : (schema : Schema) (text : List ℕ) (f : QueryFault) → IsSchema schema → IsQueryFault schema text f → (s : Statement) → IsAcceptedText schema text s → ⊥
 accepted_goes schema text f fine is s accepted = by is.found

@@ -1,5 +1,4 @@
 use Rattle.std.proofs.Common.{◌≡◌, false, sym, ◌∙◌}
-use Rattle.gl_bits.specs.declared.kind.Kind.{Kind}
 use Rattle.gl_bits.specs.Operators.{sort_of}
 use Rattle.gl_query.specs.Alike.{expr_alike}
 use Rattle.gl_query.specs.Trees.{expr_tree}
