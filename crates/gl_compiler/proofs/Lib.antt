@@ -20,3 +20,4 @@ pub mod Making
 pub mod Running
 pub mod Each
 pub mod Shaped
+pub mod Refusing

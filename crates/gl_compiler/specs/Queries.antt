@@ -1,11 +1,13 @@
 -- Which queries are compiled so far, and the figures that are printed for them.
-use Rattle.std.specs.Prelude.{ℕ, List}
+use Rattle.std.specs.Prelude.{◌≡◌, ◌⊎◌, ℕ, List, Result, Err}
 use Rattle.gl_schema.specs.declared.schema.Schema.{Schema}
 use Rattle.gl_query.specs.declared.tree.Statement.{Statement}
 use Rattle.gl_query.specs.declared.fault.QueryFault.{QueryFault}
 use Rattle.gl_query.specs.declared.fault.QueryFault.TheVariants as fault
-use Rattle.gl_query_reader.specs.Grammar.{HasStatement, IsFault}
-use Rattle.gl_query.specs.Trees.{StatementTree, statement_tree}
+use Rattle.gl_query.specs.Trees.{statement_tree}
+use Rattle.gl_query_reader.specs.Grammar.{HasStatement}
+use Rattle.gl_query_judge.specs.Judged.{IsAcceptedText, IsQueryFault}
+use Rattle.gl_compiler.specs.declared.compiling.Compiled.{Compiled}
 use Rattle.gl_compiler.specs.declared.compiling.CompileFault.{CompileFault}
 use Rattle.gl_compiler.specs.declared.compiling.CompileFault.TheVariants as compile
 use Rattle.gl_compiler.specs.Selecting.{IsBuilt}
@@ -15,26 +17,16 @@ pub record IsQuery (schema : Schema) (text : List ℕ) (statement : Statement) :
   pub has : HasStatement text (statement_tree statement)
   pub built : IsBuilt schema statement
 
--- the text has a statement, which is not of that form
+-- the text has a statement that is accepted, but not of the form that is compiled
 pub record IsUnbuilt (schema : Schema) (text : List ℕ) : Type 0 where
   pub statement : Statement
-  pub has : HasStatement text (statement_tree statement)
+  pub is : IsAcceptedText schema text statement
   pub unbuilt : IsBuilt schema statement → ⊥
-
--- the text has no statement, and this is the first fault
-pub record HasNoStatement (text : List ℕ) (f : QueryFault) : Type 0 where
-  pub fault : IsFault text f
-  pub none : (s : StatementTree) → HasStatement text s → ⊥
-
--- want of memory is no fault of the text
-abbrev pub IsQueryFault : List ℕ → QueryFault → Type 0
-IsQueryFault text fault.Memory = ⊥
-IsQueryFault text f = HasNoStatement text f
 
 -- why a query was refused; want of memory is free
 abbrev pub IsQueryRefused : Schema → List ℕ → CompileFault → Type 0
 IsQueryRefused schema text (compile.Schema f) = ⊥
-IsQueryRefused schema text (compile.Query f) = IsQueryFault text f
+IsQueryRefused schema text (compile.Query f) = IsQueryFault schema text f
 IsQueryRefused schema text compile.NotBuilt = IsUnbuilt schema text
 IsQueryRefused schema text compile.Memory = Unit {0}
 
@@ -42,6 +34,10 @@ IsQueryRefused schema text compile.Memory = Unit {0}
 abbrev pub IfRefused : CompileFault → Type 0 → Type 0
 IfRefused compile.Memory P = Unit {0}
 IfRefused f P = P
+
+-- each cause of a refusal is what was answered, unless memory ran out
+abbrev pub TellsCauses : Schema → List ℕ → Result Compiled CompileFault → Type 0
+TellsCauses schema text r = (f : CompileFault) → IfRefused f (IsQueryRefused schema text f → (r ≡ Err f) ⊎ (r ≡ Err compile.Memory))
 
 -- the cycles from the last beat to the end of the result, and from one beat to the next
 abbrev pub latency_of : Schema → Statement → ℕ

@@ -7,14 +7,15 @@ ghost use Rattle.gl_query.specs.declared.tree.Statement.{Statement as Stated};
 ghost use Rattle.gl_schema.specs.Schemas.{IsSchema, kinds_of};
 ghost use Rattle.gl_compiler.specs.Selecting.{IsSelectOf};
 ghost use Rattle.gl_compiler.specs.Meets.{Meets, result_columns};
-ghost use Rattle.gl_compiler.specs.Queries.{IsQuery, IsQueryRefused, IfRefused, fault_of_query, latency_of, gap_of, copies_of};
+ghost use Rattle.gl_compiler.specs.Queries.{IsQuery, IsQueryRefused, IfRefused, TellsCauses, fault_of_query, latency_of, gap_of, copies_of};
 ghost use Rattle.gl_compiler.specs.Compiles.{IsCompiled, IsCompiledText, IsRefused, IsTextRefused};
 
 use crate::select::{Select, select_of};
 use gl_bits::{Kind, Listed, Memory};
 use gl_figures::Printed;
 use gl_query::{QueryFault, Statement};
-use gl_query_reader::read_query;
+use gl_query_check::Checked;
+use gl_query_judge::judge_query;
 use gl_schema::{Schema, SchemaFault, read_schema};
 use gl_verilog_writer::write_module;
 use gl_wiring::wire_select;
@@ -27,8 +28,8 @@ pub enum CompileFault {
     /// The schema's text has no schema.
     #[error("the schema is not read")]
     Schema(SchemaFault),
-    /// The query's text has no statement.
-    #[error("the query is not read")]
+    /// The query's text has no statement, or one that is not accepted.
+    #[error("the query is refused")]
     Query(QueryFault),
     /// The query is of a form that is not compiled yet.
     #[error("the query is not compiled yet")]
@@ -142,8 +143,9 @@ pub fn compile_statement(
 
 /// Compiles the text of a query over a schema.
 ///
-/// `Query` is the first fault of the text, and comes exactly where it has no statement; `NotBuilt`
-/// comes exactly where its statement is not of the form that is compiled.
+/// `Query` is the first fault of the text, by reading and then by the rules of acceptance, and comes
+/// exactly where it has one; `NotBuilt` comes exactly where its statement is accepted and not of the
+/// form that is compiled.
 pub fn compile_query(alloc: Global, schema: Schema, query: &[u8]) -> Result<Compiled, CompileFault>
     requires { IsSchema schema }
     ensures schema { IfOk result (λ c. c.schema ≡ schema) }
@@ -159,15 +161,25 @@ pub fn compile_query(alloc: Global, schema: Schema, query: &[u8]) -> Result<Comp
     ensures cause { IfErr result (IsQueryRefused schema query.now) }
     ensures refused { IfErr result (λ fault. IfRefused fault ((statement : Stated)
         → IsQuery schema query.now statement → ⊥)) }
+    ensures told { TellsCauses schema query.now result }
 {
-    let statement = match read_query(alloc, query) {
-        Ok(statement) => statement,
+    let statement = match judge_query(alloc, &schema, query) {
+        Ok(checked) => statement_of(checked),
         Err(fault) => return Err(query_fault(fault)),
     };
     match compile_statement(alloc, schema, statement) {
         Ok(compiled) => Ok(compiled),
         Err(fault) => Err(fault),
     }
+}
+
+// The statement of what was checked.
+fn statement_of(checked: Checked) -> Statement
+    ensures { result ≡ checked.statement }
+{
+    let Checked { statement, schema } = checked;
+    drop(schema);
+    statement
 }
 
 // The fault of a query's text.

@@ -1,9 +1,11 @@
 -- A statement without a first fault is checked.
-use Rattle.std.proofs.Common.{◌≡◌, None, subst}
+use Rattle.std.proofs.Common.{◌≡◌, Option, Some, None, sym, subst, ◌∙◌, inl, inr}
 use Rattle.gl_schema.specs.declared.schema.Schema.{Schema}
 use Rattle.gl_schema.specs.Schemas.{IsSchema}
 use Rattle.gl_query.specs.declared.tree.Statement.{Statement}
-use Rattle.gl_query.specs.Accepted.{IsAcceptedOver, schema_scope}
+use Rattle.gl_query.specs.declared.fault.QueryFault.{QueryFault}
+use Rattle.gl_query.specs.declared.fault.QueryFault.TheVariants.{Memory}
+use Rattle.gl_query.specs.Accepted.{IsAccepted, IsAcceptedOver, schema_scope}
 use Rattle.gl_query.specs.Checked.{IsChecked}
 use Rattle.gl_query.specs.Faults.{first_fault}
 use Rattle.gl_query.specs.Shapes.{query_shape}
@@ -11,6 +13,7 @@ use Rattle.gl_query.specs.Sizes.{QueryIsSmall}
 use Rattle.gl_query.specs.Trees.{statement_tree}
 use Rattle.gl_query.proofs.Alike.{query_same}
 use Rattle.gl_query.proofs.FirstFaults.{exact}
+use Rattle.gl_query_check.specs.Answers.{IsOr}
 
 pub checked : (schema : Schema) (statement : Statement) → IsSchema schema → QueryIsSmall (query_shape statement.query)
     → first_fault schema (statement_tree statement) ≡ None → IsChecked schema statement
@@ -19,3 +22,11 @@ checked schema s h small none = record {
   accepted = subst (IsAcceptedOver (schema_scope schema)) (query_same s.query) ((exact schema (statement_tree s) h).0 none);
   small = small;
 }
+
+-- one that is accepted has none
+pub accepted_none : (schema : Schema) (s : Statement) → IsSchema schema → IsAccepted schema s → first_fault schema (statement_tree s) ≡ None
+accepted_none schema s h is = (exact schema (statement_tree s) h).1 (subst (IsAcceptedOver (schema_scope schema)) (sym (query_same s.query)) is)
+
+pub only_memory : (schema : Schema) (s : Statement) (e : QueryFault) → IsSchema schema → IsOr (first_fault schema (statement_tree s)) e → IsAccepted schema s → e ≡ Memory
+only_memory schema s e h (inr memory) is = memory
+only_memory schema s e h (inl first) is = absurd (let f : ◌≡◌ {A = Option QueryFault} None (Some e) = sym (accepted_none schema s h is) ∙ first in cc)

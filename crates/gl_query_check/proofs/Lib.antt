@@ -2,3 +2,4 @@ pub mod Testing
 pub mod Passing
 pub mod Listing
 pub mod Accepting
+pub mod Judging

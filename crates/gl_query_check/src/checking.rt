@@ -2,8 +2,10 @@
 
 ghost use Rattle.std.specs.Prelude.{◌≡◌, IfErr, IfOk};
 ghost use Rattle.gl_schema.specs.Schemas.{IsSchema};
+ghost use Rattle.gl_query.specs.Accepted.{IsAccepted};
 ghost use Rattle.gl_query.specs.Checked.{IsChecked};
 ghost use Rattle.gl_query.specs.Faults.{first_fault};
+ghost use Rattle.gl_query.specs.declared.fault.QueryFault.TheVariants as fault;
 ghost use Rattle.gl_query.specs.Shapes.{query_shape};
 ghost use Rattle.gl_query.specs.Sizes.{QueryIsSmall};
 ghost use Rattle.gl_query.specs.Trees.{statement_tree};
@@ -45,6 +47,7 @@ pub fn check(alloc: Global, schema: &Schema, statement: Statement) -> Result<Che
     ensures statement { IfOk result (λ c. c.statement ≡ statement) }
     ensures checked { IfOk result (λ c. IsChecked c.schema c.statement) }
     ensures fault { IfErr result (λ e. IsOr (first_fault schema.now (statement_tree statement)) e) }
+    ensures only { IsAccepted schema.now statement → IfErr result (λ e. e ≡ fault.Memory) }
 {
     let sources = Sources::Schema(schema.streams.as_slice());
     match columns_checked(alloc, sources, &statement.query) {

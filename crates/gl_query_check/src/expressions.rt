@@ -1,24 +1,43 @@
-//! Faults of expressions.
+//! Kinds and faults of expressions, in one pass.
+//!
+//! What is not loose has one kind and one first fault whatever its place. So operands are judged before
+//! their places are known, and only what is loose is gone over again, once, in its place.
 
-ghost use Rattle.std.specs.Prelude.{◌≡◌, option_map};
+ghost use Rattle.std.specs.Prelude.{◌≡◌, List, true};
+ghost use Rattle.gl_bits.specs.Operators as operators;
+ghost use Rattle.gl_schema.specs.declared.schema.Column.{Column as NamedColumn};
 ghost use Rattle.gl_query.specs.Alike.{expr_alike};
 ghost use Rattle.gl_query.specs.Faults as faults;
+ghost use Rattle.gl_query.specs.Trees as tree;
 ghost use Rattle.gl_query.specs.Trees.{expr_tree, filter_tree};
 ghost use Rattle.gl_query.specs.Values as values;
+ghost use Rattle.gl_query_check.specs.Judging as judging;
+ghost use Rattle.gl_query_check.specs.Judging.{IsPlaced, Judges};
 
 use crate::rules::{
     can_cast, has_column, is_bit, is_unsigned, letters_fit, number_fits, or_else, same_kind, unless,
 };
 use gl_bits::{Kind, Op, Sort};
-use gl_query::{Expr, Num, QueryFault, kinds};
+use gl_query::{Expr, Name, Num, QueryFault, kinds};
 use gl_schema::Column;
 
-/// The kind of an expression in a place.
-#[tactic(auto, using(gl_query::proofs::Alike::expr_same))]
-pub fn kind_in(columns: &[Column], place: Kind, expr: &Expr) -> Kind
-    ensures { result ≡ values.kind_of columns.now place (expr_alike (expr_tree expr.now)) }
-{
-    kinds::kind_of(columns, place, expr)
+/// What an expression is whatever its place.
+#[derive(Drop)]
+pub enum Judged {
+    /// Its kind and its faults come from its place.
+    Loose,
+    /// Its kind and its first fault are these in any place.
+    Fixed {
+        kind: Kind,
+        fault: Option<QueryFault>,
+    },
+}
+
+/// The kind and the first fault of an expression in its place.
+#[derive(Drop)]
+pub struct Placed {
+    pub kind: Kind,
+    pub fault: Option<QueryFault>,
 }
 
 // The kind of a loose expression alone.
@@ -27,41 +46,6 @@ fn kind_alone(expr: &Expr) -> Kind
     ensures { result ≡ values.kind_alone (expr_alike (expr_tree expr.now)) }
 {
     kinds::kind_alone(expr)
-}
-
-#[tactic(auto, using(gl_query::proofs::Alike::expr_same))]
-fn is_loose(expr: &Expr) -> bool
-    ensures { result ≡ values.is_loose (expr_alike (expr_tree expr.now)) }
-{
-    kinds::is_loose(expr)
-}
-
-// The kind that an operand's place gives beside another one.
-#[tactic(auto, using(gl_query::proofs::Alike::expr_same))]
-fn operand_place(sort: Sort, whole: Kind, expr: &Expr, other: &Expr, other_kind: Kind) -> Kind
-    ensures { result ≡ values.operand_place sort whole (expr_alike (expr_tree expr.now)) (expr_alike (expr_tree other.now)) other_kind }
-{
-    kinds::operand_place(sort, whole, expr, other, other_kind)
-}
-
-// The kind that the left operand's place gives.
-fn left_place(columns: &[Column], op: Op, place: Kind, left: &Expr, right: &Expr) -> Kind
-    ensures { result ≡ values.left_place columns.now op place (expr_alike (expr_tree left.now)) (expr_alike (expr_tree right.now)) }
-{
-    operand_place(
-        op.sort(),
-        place,
-        left,
-        right,
-        kind_in(columns, place, right),
-    )
-}
-
-// The kind that the right operand's place gives.
-fn right_place(columns: &[Column], op: Op, place: Kind, left: &Expr, right: &Expr) -> Kind
-    ensures { result ≡ values.right_place columns.now op place (expr_alike (expr_tree left.now)) (expr_alike (expr_tree right.now)) }
-{
-    operand_place(op.sort(), place, right, left, kind_in(columns, place, left))
 }
 
 /// The fault of a number in a place.
@@ -120,33 +104,166 @@ fn of_operands(
     }
 }
 
-/// The first fault of an expression in a place.
-pub fn expr_fault(columns: &[Column], place: Kind, expr: &Expr) -> Option<QueryFault>
-    ensures { result ≡ faults.expr_fault columns.now place (expr_tree expr.now) }
+// The first fault of a loose expression in a place; it has no columns.
+fn loose_fault(place: Kind, expr: &Expr) -> Option<QueryFault>
+    ensures { (columns : List NamedColumn)
+        → values.is_loose (expr_alike (expr_tree expr.now)) ≡ true
+        → result ≡ faults.expr_fault columns place (expr_tree expr.now) }
 {
     match expr {
-        Expr::Column(name) => unless(
+        Expr::Number(number) => number_fault(place, *number),
+        Expr::Letters { text, at } => letters_fault(place, text.as_slice(), *at),
+        Expr::Binary {
+            left,
+            right,
+            at,
+            ..
+        } => {
+            let operands = or_else(loose_fault(place, left), loose_fault(place, right));
+            let unsigned = unless(is_unsigned(place), QueryFault::KindsDiffer { at: *at });
+            or_else(operands, unsigned)
+        }
+        Expr::Column(_) | Expr::Not { .. } | Expr::Cast { .. } => None,
+    }
+}
+
+// An expression that was judged, in its place.
+fn settle(place: Kind, judged: Judged, expr: &Expr) -> Placed
+    ensures { (columns : List NamedColumn) → Judges columns (expr_tree expr.now) judged
+        → IsPlaced columns place (expr_tree expr.now) result }
+{
+    match judged {
+        Judged::Loose => Placed {
+            kind: place,
+            fault: loose_fault(place, expr),
+        },
+        Judged::Fixed { kind, fault } => Placed { kind, fault },
+    }
+}
+
+// Whether it was judged to be loose.
+fn is_loose(judged: &Judged) -> bool
+    ensures { result ≡ judging.loose_judged judged.now }
+{
+    match judged {
+        Judged::Loose => true,
+        Judged::Fixed { .. } => false,
+    }
+}
+
+// The kind of what is not loose.
+fn kind_judged(judged: &Judged) -> Option<Kind>
+    ensures { result ≡ judging.kind_judged judged.now }
+{
+    match judged {
+        Judged::Loose => None,
+        Judged::Fixed { kind, .. } => Some(*kind),
+    }
+}
+
+// The place that an operand has beside another one. One bit where that comes from the whole, which
+// only a loose whole asks for.
+fn place_beside(sort: Sort, other: Option<Kind>, expr: &Expr) -> Kind
+    ensures { result ≡ judging.place_beside sort other (expr_alike (expr_tree expr.now)) }
+{
+    match other {
+        Some(kind) => kind,
+        None => match sort {
+            Sort::Comparison => kind_alone(expr),
+            Sort::Arithmetic | Sort::Logic => Kind::Unsigned(1),
+        },
+    }
+}
+
+// Whether an operator over these operands is loose.
+fn are_loose(sort: Sort, left: &Judged, right: &Judged) -> bool
+    ensures { result ≡ judging.are_loose sort left.now right.now }
+{
+    match sort {
+        Sort::Arithmetic => is_loose(left) && is_loose(right),
+        Sort::Comparison | Sort::Logic => false,
+    }
+}
+
+// The kind of what an operator gives.
+fn result_kind(sort: Sort, kind: Kind) -> Kind
+    ensures { result ≡ operators.result_kind sort kind }
+{
+    match sort {
+        Sort::Arithmetic => kind,
+        Sort::Comparison | Sort::Logic => Kind::Unsigned(1),
+    }
+}
+
+// An operator over operands that were judged.
+fn combined(
+    op: Op,
+    at: u64,
+    left: &Expr,
+    right: &Expr,
+    left_judged: Judged,
+    right_judged: Judged,
+) -> Judged
+    ensures { (columns : List NamedColumn) → Judges columns (expr_tree left.now) left_judged
+        → Judges columns (expr_tree right.now) right_judged
+        → Judges columns (tree.Binary op (expr_tree left.now) (expr_tree right.now) at) result }
+{
+    let sort = op.sort();
+    if are_loose(sort, &left_judged, &right_judged) {
+        drop(left_judged);
+        drop(right_judged);
+        return Judged::Loose;
+    }
+    let left_loose = is_loose(&left_judged);
+    let right_loose = is_loose(&right_judged);
+    let left_place = place_beside(sort, kind_judged(&right_judged), left);
+    let right_place = place_beside(sort, kind_judged(&left_judged), right);
+    let of_left = settle(left_place, left_judged, left);
+    let of_right = settle(right_place, right_judged, right);
+    let operands = of_operands(left_loose, right_loose, of_left.fault, of_right.fault);
+    let own = operator_fault(sort, of_left.kind, of_right.kind, at);
+    Judged::Fixed {
+        kind: result_kind(sort, of_left.kind),
+        fault: or_else(operands, own),
+    }
+}
+
+// A column.
+fn column_judged(columns: &[Column], name: &Name) -> Judged
+    ensures { Judges columns.now (tree.Column name.now) result }
+{
+    Judged::Fixed {
+        kind: kinds::column_kind(columns, name.text.as_slice()),
+        fault: unless(
             has_column(columns, name.text.as_slice()),
             QueryFault::UnknownColumn { at: name.at },
         ),
-        Expr::Number(number) => number_fault(place, *number),
-        Expr::Letters { text, at } => letters_fault(place, text.as_slice(), *at),
+    }
+}
+
+// An expression is judged whatever its place.
+fn judge(columns: &[Column], expr: &Expr) -> Judged
+    ensures { Judges columns.now (expr_tree expr.now) result }
+{
+    match expr {
+        Expr::Column(name) => column_judged(columns, name),
+        Expr::Number(_) | Expr::Letters { .. } => Judged::Loose,
         Expr::Not { arg, at } => {
-            let inside = expr_fault(columns, Kind::Unsigned(1), arg);
-            let kind = kind_in(columns, Kind::Unsigned(1), arg);
-            or_else(
-                inside,
-                unless(is_bit(kind), QueryFault::NotCondition { at: *at }),
-            )
+            let inside = settle(Kind::Unsigned(1), judge(columns, arg), arg);
+            let bit = unless(is_bit(inside.kind), QueryFault::NotCondition { at: *at });
+            Judged::Fixed {
+                kind: Kind::Unsigned(1),
+                fault: or_else(inside.fault, bit),
+            }
         }
         Expr::Cast { arg, kind, at } => {
-            let alone = kind_alone(arg);
-            let inside = expr_fault(columns, alone, arg);
-            let from = kind_in(columns, alone, arg);
-            or_else(
-                inside,
-                unless(can_cast(from, *kind), QueryFault::KindsDiffer { at: *at }),
-            )
+            let inside = settle(kind_alone(arg), judge(columns, arg), arg);
+            let can = can_cast(inside.kind, *kind);
+            let can = unless(can, QueryFault::KindsDiffer { at: *at });
+            Judged::Fixed {
+                kind: *kind,
+                fault: or_else(inside.fault, can),
+            }
         }
         Expr::Binary {
             op,
@@ -154,33 +271,26 @@ pub fn expr_fault(columns: &[Column], place: Kind, expr: &Expr) -> Option<QueryF
             right,
             at,
         } => {
-            let of_left = left_place(columns, *op, place, left, right);
-            let of_right = right_place(columns, *op, place, left, right);
-            let operands = of_operands(
-                is_loose(left),
-                is_loose(right),
-                expr_fault(columns, of_left, left),
-                expr_fault(columns, of_right, right),
-            );
-            let left = kind_in(columns, of_left, left);
-            let right = kind_in(columns, of_right, right);
-            or_else(operands, operator_fault(op.sort(), left, right, *at))
+            let left_judged = judge(columns, left);
+            let right_judged = judge(columns, right);
+            combined(*op, *at, left, right, left_judged, right_judged)
         }
     }
 }
 
-/// The first fault of an item's expression or of an argument.
-pub fn whole_fault(columns: &[Column], expr: &Expr) -> Option<QueryFault>
-    ensures { result ≡ faults.whole_fault columns.now (expr_tree expr.now) }
+// An expression in a place.
+fn judge_in(columns: &[Column], place: Kind, expr: &Expr) -> Placed
+    ensures { IsPlaced columns.now place (expr_tree expr.now) result }
 {
-    expr_fault(columns, kind_alone(expr), expr)
+    settle(place, judge(columns, expr), expr)
 }
 
-/// The kind of an item's expression or of an argument.
-pub fn whole_kind(columns: &[Column], expr: &Expr) -> Kind
-    ensures { result ≡ faults.whole_kind columns.now (expr_tree expr.now) }
+/// The kind of an item's expression or of an argument, and its first fault.
+pub fn judge_whole(columns: &[Column], expr: &Expr) -> Placed
+    ensures kind { result.kind ≡ faults.whole_kind columns.now (expr_tree expr.now) }
+    ensures fault { result.fault ≡ faults.whole_fault columns.now (expr_tree expr.now) }
 {
-    kind_in(columns, kind_alone(expr), expr)
+    judge_in(columns, kind_alone(expr), expr)
 }
 
 // The place of an expression's first token, opening brackets aside.
@@ -204,17 +314,10 @@ pub fn filter_fault(columns: &[Column], filter: &Option<Expr>) -> Option<QueryFa
     match filter {
         None => None,
         Some(expr) => {
-            let inside = expr_fault(columns, Kind::Unsigned(1), expr);
-            let kind = kind_in(columns, Kind::Unsigned(1), expr);
-            or_else(
-                inside,
-                unless(
-                    is_bit(kind),
-                    QueryFault::NotCondition {
-                        at: first_place(expr),
-                    },
-                ),
-            )
+            let inside = judge_in(columns, Kind::Unsigned(1), expr);
+            let at = first_place(expr);
+            let bit = unless(is_bit(inside.kind), QueryFault::NotCondition { at });
+            or_else(inside.fault, bit)
         }
     }
 }

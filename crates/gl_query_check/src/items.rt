@@ -3,12 +3,13 @@
 ghost use Rattle.std.specs.Prelude.{◌≡◌, ◌≤◌, bytes_eq, drop, length, map, slice_get, take};
 ghost use Rattle.std.specs.List.{list_any};
 ghost use Rattle.gl_query.specs.Faults as faults;
-ghost use Rattle.gl_query.specs.Trees.{AggItemTree, ItemTree, agg_item_tree, agg_tree, expr_tree, item_tree, pick_tree};
+ghost use Rattle.gl_query.specs.declared.fault.QueryFault.TheVariants.{KindsDiffer};
+ghost use Rattle.gl_query.specs.Trees.{AggItemTree, ItemTree, agg_item_tree, agg_tree, item_tree, pick_tree};
 
-use crate::expressions::{number_fault, whole_fault, whole_kind};
+use crate::expressions::{Placed, judge_whole, number_fault};
 use crate::rules::{is_unsigned, or_else, unless};
 use gl_bits::Kind;
-use gl_query::{Agg, AggItem, Expr, Item, Name, Num, Pick, QueryFault};
+use gl_query::{Agg, AggItem, Item, Name, Num, Pick, QueryFault};
 use gl_schema::Column;
 
 /// Items, aggregates and columns that a select may have.
@@ -16,7 +17,8 @@ const MOST_COLUMNS: usize = 32;
 
 // Whether an item has a name.
 fn is_item(items: &[Item], name: &[u8]) -> bool
-    ensures { result ≡ list_any (λ (j : ItemTree). bytes_eq name.now j.name.text) (map item_tree items.now) }
+    ensures { let names_it = λ (j : ItemTree). bytes_eq name.now j.name.text in
+        result ≡ list_any names_it (map item_tree items.now) }
 {
     match items.split_first() {
         None => false,
@@ -26,7 +28,8 @@ fn is_item(items: &[Item], name: &[u8]) -> bool
 
 // Whether an aggregate has a name.
 fn is_agg(aggs: &[AggItem], name: &[u8]) -> bool
-    ensures { result ≡ list_any (λ (j : AggItemTree). bytes_eq name.now j.name.text) (map agg_item_tree aggs.now) }
+    ensures { let names_it = λ (j : AggItemTree). bytes_eq name.now j.name.text in
+        result ≡ list_any names_it (map agg_item_tree aggs.now) }
 {
     match aggs.split_first() {
         None => false,
@@ -37,7 +40,9 @@ fn is_agg(aggs: &[AggItem], name: &[u8]) -> bool
 // The first fault of the items from a number on.
 fn items_fault(columns: &[Column], items: &[Item], number: usize) -> Option<QueryFault>
     requires { number ≤ length items.now }
-    ensures { result ≡ faults.items_fault columns.now (map item_tree (take number items.now)) (map item_tree (drop number items.now)) }
+    ensures { let earlier = map item_tree (take number items.now) in
+        let rest = map item_tree (drop number items.now) in
+        result ≡ faults.items_fault columns.now earlier rest }
 {
     let (earlier, rest) = items.split_at(number);
     let Some((item, _)) = rest.split_first() else {
@@ -47,7 +52,7 @@ fn items_fault(columns: &[Column], items: &[Item], number: usize) -> Option<Quer
     if number >= MOST_COLUMNS {
         return Some(QueryFault::OutOfRange { at });
     }
-    let own = whole_fault(columns, &item.expr);
+    let own = judge_whole(columns, &item.expr).fault;
     let fresh = !is_item(earlier, item.name.text.as_slice());
     let later = items_fault(columns, items, number + 1);
     or_else(
@@ -67,13 +72,14 @@ pub fn pick_fault(columns: &[Column], pick: &Pick) -> Option<QueryFault>
 }
 
 // The first fault of an argument that is added or averaged.
-fn summed_fault(columns: &[Column], expr: &Expr, name: &Name) -> Option<QueryFault>
-    ensures { result ≡ faults.summed_fault columns.now (expr_tree expr.now) name.now }
+fn summed_fault(arg: Placed, name: &Name) -> Option<QueryFault>
+    ensures { let unsigned = faults.is_unsigned arg.kind in
+        result ≡ faults.or_else arg.fault (faults.unless unsigned (KindsDiffer name.now.at)) }
 {
-    let kind = whole_kind(columns, expr);
+    let unsigned = is_unsigned(arg.kind);
     or_else(
-        whole_fault(columns, expr),
-        unless(is_unsigned(kind), QueryFault::KindsDiffer { at: name.at }),
+        arg.fault,
+        unless(unsigned, QueryFault::KindsDiffer { at: name.at }),
     )
 }
 
@@ -89,7 +95,8 @@ fn narrow_fault(kind: Kind, weights: &[Num]) -> Option<QueryFault>
 
 // The 65th weight, or the first that is no number of the kind.
 fn weights_fault(kind: Kind, weights: &[Num]) -> Option<QueryFault>
-    ensures { result ≡ faults.or_else (faults.too_many (slice_get weights.now 64)) (faults.weights_fault kind weights.now) }
+    ensures { let many = faults.too_many (slice_get weights.now 64) in
+        result ≡ faults.or_else many (faults.weights_fault kind weights.now) }
 {
     match weights.get(64) {
         Some(weight) => Some(QueryFault::OutOfRange { at: weight.at }),
@@ -103,11 +110,12 @@ fn agg_fault(columns: &[Column], agg: &Agg, name: &Name) -> Option<QueryFault>
 {
     match agg {
         Agg::Count { .. } => None,
-        Agg::Sum(expr) | Agg::Avg(expr) => summed_fault(columns, expr, name),
-        Agg::Min(expr) | Agg::Max(expr) => whole_fault(columns, expr),
+        Agg::Sum(expr) | Agg::Avg(expr) => summed_fault(judge_whole(columns, expr), name),
+        Agg::Min(expr) | Agg::Max(expr) => judge_whole(columns, expr).fault,
         Agg::Wsum { arg, weights } => {
-            let summed = summed_fault(columns, arg, name);
-            let kind = whole_kind(columns, arg);
+            let whole = judge_whole(columns, arg);
+            let kind = whole.kind;
+            let summed = summed_fault(whole, name);
             or_else(summed, weights_fault(kind, weights.as_slice()))
         }
     }
@@ -116,7 +124,9 @@ fn agg_fault(columns: &[Column], agg: &Agg, name: &Name) -> Option<QueryFault>
 /// The first fault of the aggregates from a number on.
 pub fn aggs_fault(columns: &[Column], aggs: &[AggItem], number: usize) -> Option<QueryFault>
     requires { number ≤ length aggs.now }
-    ensures { result ≡ faults.aggs_fault columns.now (map agg_item_tree (take number aggs.now)) (map agg_item_tree (drop number aggs.now)) }
+    ensures { let earlier = map agg_item_tree (take number aggs.now) in
+        let rest = map agg_item_tree (drop number aggs.now) in
+        result ≡ faults.aggs_fault columns.now earlier rest }
 {
     let (earlier, rest) = aggs.split_at(number);
     let Some((item, _)) = rest.split_first() else {

@@ -108,7 +108,9 @@ fn same_pace(left: Option<Pace<'_>>, right: Option<Pace<'_>>) -> bool
 
 // The first fault of two queries side by side, of their columns together.
 fn beside_fault(left: &Query, right: &Query, columns: &[Column], at: u64) -> Option<QueryFault>
-    ensures { result ≡ faults.beside_fault (query_alike (query_tree left.now)) (query_alike (query_tree right.now)) columns.now at }
+    ensures { let l = query_alike (query_tree left.now) in
+        let r = query_alike (query_tree right.now) in
+        result ≡ faults.beside_fault l r columns.now at }
 {
     let paced = same_pace(pace_of(left), pace_of(right));
     or_else(
@@ -142,7 +144,8 @@ fn picked(alloc: Global, columns: Columns, pick: &Pick) -> Result<Columns, Memor
 // The columns of aggregates.
 #[tactic(auto, using(gl_query::proofs::Alike::aggs_same))]
 fn totalled(alloc: Global, columns: &[Column], aggs: &[AggItem]) -> Result<Columns, Memory>
-    ensures { IfOk result (λ v. v ≡ map (agg_column columns.now) (map agg_item_alike (map agg_item_tree aggs.now))) }
+    ensures { let shapes = map agg_item_alike (map agg_item_tree aggs.now) in
+        IfOk result (λ v. v ≡ map (agg_column columns.now) shapes) }
 {
     agg_columns(alloc, columns, aggs)
 }
@@ -155,7 +158,10 @@ fn rows_checked(
     pick: &Pick,
     filter: &Option<Expr>,
 ) -> Result<Columns, QueryFault>
-    ensures { Answers (faults.or_else (faults.pick_fault columns (pick_tree pick.now)) (faults.filter_fault columns (filter_tree filter.now))) (picked_columns columns (pick_alike (pick_tree pick.now))) result }
+    ensures { let of_pick = faults.pick_fault columns (pick_tree pick.now) in
+        let of_filter = faults.filter_fault columns (filter_tree filter.now) in
+        let out = picked_columns columns (pick_alike (pick_tree pick.now)) in
+        Answers (faults.or_else of_pick of_filter) out result }
 {
     refuse(pick_fault(columns.as_slice(), pick))?;
     refuse(filter_fault(columns.as_slice(), filter))?;
@@ -165,7 +171,9 @@ fn rows_checked(
 // A select of aggregates over columns.
 #[tactic(auto, using(crate::proofs::Passing::passing))]
 fn total_checked(alloc: Global, columns: Columns, aggs: &AggItems) -> Result<Columns, QueryFault>
-    ensures { Answers (faults.aggs_fault columns [] (map agg_item_tree aggs.now)) (map (agg_column columns) (map agg_item_alike (map agg_item_tree aggs.now))) result }
+    ensures { let trees = map agg_item_tree aggs.now in
+        let out = map (agg_column columns) (map agg_item_alike trees) in
+        Answers (faults.aggs_fault columns [] trees) out result }
 {
     refuse(aggs_fault(columns.as_slice(), aggs.as_slice(), 0))?;
     Ok(totalled(alloc, columns.as_slice(), aggs.as_slice())?)
@@ -179,7 +187,8 @@ pub fn columns_checked(
     sources: Sources<'_>,
     query: &Query,
 ) -> Result<Columns, QueryFault>
-    ensures { Answers (faults.query_fault (scope_of sources.entry) (query_tree query.now)) (columns_under (scope_of sources.entry) (query_alike (query_tree query.now))) result }
+    ensures { let scope = scope_of sources.entry in let tree = query_tree query.now in
+        Answers (faults.query_fault scope tree) (columns_under scope (query_alike tree)) result }
 {
     match query {
         Query::Read(name) => {

@@ -3,6 +3,7 @@ use Rattle.std.proofs.Common.{◌≡◌, ◌≢◌, ◌⊎◌, ℕ, List, [], re
 use Rattle.gl_outside.specs.Counts.{Rose}
 use Rattle.gl_schema.specs.declared.schema.Schema.{Schema}
 use Rattle.gl_query.specs.declared.tree.Statement.{Statement}
+use Rattle.gl_query.specs.declared.fault.QueryFault.{QueryFault}
 use Rattle.gl_tuples.specs.declared.beats.Beat.{Beat}
 use Rattle.gl_top.specs.declared.notes.Refusal.{Refusal}
 use Rattle.gl_top.specs.declared.notes.Refusal.TheVariants as refusal
@@ -12,14 +13,19 @@ use Rattle.gl_top.specs.Forms.{IsForm}
 use Rattle.gl_outside.specs.States.{Took}
 use Rattle.gl_top.specs.Refusals.{Puts, Notes, status_of, note_of, write_line}
 use Rattle.gl_top.specs.Passing.{TuplesPass}
-use Rattle.gl_top.specs.Causes.{Change, HasCause, IsRefused}
-use Rattle.gl_top.specs.Verdicts.{IsAnswer, Ran, Broke', Ended, IsTelling, Yields, Same, ToRead, ToWrite, ToMemory, IsFaultless, Says}
+use Rattle.gl_top.specs.Causes.{Change, HasCause, IsBadQuery, IsRefused}
+use Rattle.gl_top.specs.Verdicts.{IsAnswer, Ran, Broke', Ended, IsTelling, Yields, Same, ToRead, ToWrite, ToMemory, IsFaultless, Says, TellsFault}
 use Rattle.gl_top.proofs.Texts.{next_form}
-use Rattle.gl_top.proofs.Deciding.{Stops, stops, stops_once, passes_goes}
+use Rattle.gl_top.proofs.Deciding.{Stops, one_bad_query, stops, stops_once, passes_goes}
 
 noted_write : (own answered : Status) (line : List ℕ) (notes : Puts) → own ≡ status.WriteFault → Notes own line notes answered → answered ≡ status.WriteFault
 noted_write own answered line notes e (inl n) = n.0 ∙ e
 noted_write own answered line notes e (inr n) = n.0
+
+-- a note of another status
+other_status : (r : Refusal) (answered : Status) (notes : Puts) (line : List ℕ) {A : Type 0} → (status_of r ≡ status.Query → ⊥) → answered ≡ status.Query → Notes (status_of r) line notes answered → A
+other_status r answered notes line other e (inl n) = absurd (other (sym n.0 ∙ e))
+other_status r answered notes line other e (inr n) = absurd (let f : status.Query ≡ status.WriteFault = sym e ∙ n.0 in cc)
 
 -- what a refusal says
 of_refusal : (words : List (List ℕ)) (c : Change) (out notes : Puts) (r : Refusal) → HasCause words c r → Says words c out notes (status_of r)
@@ -41,6 +47,26 @@ pub when_says : (words : List (List ℕ)) (c : Change) (out notes : Puts) (text 
 when_says words c out notes text answered (Ran d) = subst (Says words c out notes) (sym d.done) (d.calm, d.whole, d.silent)
 when_says words c out notes text answered (Broke' b) = says_noted words c out notes status.WriteFault answered write_line (inl b.cause) b.noted
 when_says words c out notes text answered (Ended d) = says_noted words c out notes (status_of d.refusal) answered (note_of words d.refusal) (of_refusal words c out notes d.refusal d.cause) d.noted
+
+-- with the status of a refused query its one fault is noted
+told_by : (words : List (List ℕ)) (c : Change) (notes : Puts) (answered : Status) (fault : QueryFault) → IsTelling c.old.told words → IsBadQuery c.old.told words fault → answered ≡ status.Query
+    → (r : Refusal) → HasCause words c r → Notes (status_of r) (note_of words r) notes answered → Took notes.old notes.new (note_of words (refusal.Query fault))
+told_by words c notes answered fault tells bad e (refusal.Query g) h (inl n) =
+    let same : g ≡ fault = one_bad_query c.old.told words g fault tells h.0 bad in subst (λ (f : QueryFault). Took notes.old notes.new (note_of words (refusal.Query f))) same n.1
+told_by words c notes answered fault tells bad e (refusal.Query g) h (inr n) = absurd (let f : status.Query ≡ status.WriteFault = sym e ∙ n.0 in cc)
+told_by words c notes answered fault tells bad e refusal.Usage h n = other_status refusal.Usage answered notes (note_of words refusal.Usage) (λ f. absurd cc) e n
+told_by words c notes answered fault tells bad e (refusal.Missing p) h n = other_status (refusal.Missing p) answered notes (note_of words (refusal.Missing p)) (λ f. absurd cc) e n
+told_by words c notes answered fault tells bad e (refusal.ReadFault p) h n = other_status (refusal.ReadFault p) answered notes (note_of words (refusal.ReadFault p)) (λ f. absurd cc) e n
+told_by words c notes answered fault tells bad e (refusal.TooLong p) h n = other_status (refusal.TooLong p) answered notes (note_of words (refusal.TooLong p)) (λ f. absurd cc) e n
+told_by words c notes answered fault tells bad e (refusal.Schema g) h n = other_status (refusal.Schema g) answered notes (note_of words (refusal.Schema g)) (λ f. absurd cc) e n
+told_by words c notes answered fault tells bad e refusal.NotBuilt h n = other_status refusal.NotBuilt answered notes (note_of words refusal.NotBuilt) (λ f. absurd cc) e n
+told_by words c notes answered fault tells bad e (refusal.Tuples g) h n = other_status (refusal.Tuples g) answered notes (note_of words (refusal.Tuples g)) (λ f. absurd cc) e n
+told_by words c notes answered fault tells bad e refusal.Memory h n = other_status refusal.Memory answered notes (note_of words refusal.Memory) (λ f. absurd cc) e n
+
+pub when_told : (words : List (List ℕ)) (c : Change) (out notes : Puts) (text : List ℕ) (answered : Status) → IsAnswer words c out notes text answered → TellsFault words c notes answered
+when_told words c out notes text answered (Ran d) fault tells bad e = absurd (let f : status.Query ≡ status.Done = sym e ∙ d.done in cc)
+when_told words c out notes text answered (Broke' b) fault tells bad e = absurd (let f : status.Query ≡ status.WriteFault = sym e ∙ noted_write status.WriteFault answered write_line notes refl b.noted in cc)
+when_told words c out notes text answered (Ended d) fault tells bad e = told_by words c notes answered fault tells bad e d.refusal d.cause d.noted
 
 -- nothing is written but by a run
 pub when_untouched : (words : List (List ℕ)) (c : Change) (out notes : Puts) (text : List ℕ) (answered : Status) → IsAnswer words c out notes text answered → answered ≢ status.Done → answered ≢ status.WriteFault → Took out.old out.new []

@@ -10,11 +10,11 @@ use Rattle.gl_query.specs.declared.tree.Statement.{Statement}
 use Rattle.gl_tuples.specs.declared.beats.Beat.{Beat}
 use Rattle.gl_tuples.specs.declared.fault.TupleFault.{TupleFault}
 use Rattle.gl_query.specs.declared.fault.QueryFault.{QueryFault}
-use Rattle.gl_query.specs.declared.fault.QueryFault.TheVariants as fault
-use Rattle.gl_query_reader.specs.Grammar.{HasStatement}
-use Rattle.gl_query.specs.Trees.{StatementTree, statement_tree}
-use Rattle.gl_compiler.specs.Queries.{IsQuery, IsUnbuilt, IsQueryFault, gap_of}
-use Rattle.gl_compiler.proofs.Shaped.{one_meaning, none_built}
+use Rattle.gl_schema.specs.Schemas.{IsSchema}
+use Rattle.gl_query_judge.specs.Judged.{IsQueryFault}
+use Rattle.gl_query_judge.proofs.Judged.{accepted_goes, one_fault}
+use Rattle.gl_compiler.specs.Queries.{IsQuery, IsUnbuilt, gap_of}
+use Rattle.gl_compiler.proofs.Refusing.{query_accepted, unbuilt_goes}
 use Rattle.gl_top.specs.declared.form.Part.TheVariants as part
 use Rattle.gl_top.specs.declared.notes.Refusal.{Refusal}
 use Rattle.gl_top.specs.declared.notes.Refusal.TheVariants as refusal
@@ -23,7 +23,7 @@ use Rattle.gl_top.specs.declared.status.Status.TheVariants as status
 use Rattle.gl_top.specs.Forms.{IsForm, name_of}
 use Rattle.gl_top.specs.Refusals.{status_of}
 use Rattle.gl_top.specs.Passing.{SchemaPasses, QueryPasses, TuplesPass, kept_beats}
-use Rattle.gl_top.specs.Causes.{IsRefused}
+use Rattle.gl_top.specs.Causes.{IsRefused, IsBadQuery}
 use Rattle.gl_top.specs.Verdicts.{IsTelling}
 
 -- a text of at most 64 MiB with a property
@@ -77,8 +77,8 @@ weaker (Holds text) P Q f h = (h.0, f text h.1)
 abbrev pub IsSome : List ℕ → Type 0
 IsSome text = (s : Schema) × IsSchemaText text s
 
-abbrev pub HasSome : List ℕ → Type 0
-HasSome text = (m : StatementTree) × HasStatement text m
+abbrev pub HasNoFault : Schema → List ℕ → Type 0
+HasNoFault s text = (f : QueryFault) → IsQueryFault s text f → ⊥
 
 abbrev pub AreTuples : Schema → Statement → List ℕ → Type 0
 AreTuples s st text = (beats : List Beat) × (kept_beats s (gap_of s st) text ≡ Ok beats)
@@ -87,28 +87,15 @@ AreTuples s st text = (beats : List Beat) × (kept_beats s (gap_of s st) text �
 pub data Stops (told : List ℕ → Told) (words : List (List ℕ)) (answered : Status) : Type 0 where
   AtWords : (formless : IsForm words → ⊥) (is : answered ≡ status.Usage) → Stops told words answered
   AtSchema : (form : IsForm words) (fails : Failing (told (name_of words part.Schema)) IsSome status.Schema answered) → Stops told words answered
-  AtQuery : (s : Schema) (before : SchemaPasses told words s) (fails : Failing (told (name_of words part.Query)) HasSome status.Query answered) → Stops told words answered
+  AtQuery : (s : Schema) (before : SchemaPasses told words s) (fails : Failing (told (name_of words part.Query)) (HasNoFault s) status.Query answered) → Stops told words answered
   AtForm : (s : Schema) (before : SchemaPasses told words s) (bad : Fine (told (name_of words part.Query)) (IsUnbuilt s)) (is : answered ≡ status.NotBuilt) → Stops told words answered
   AtTuples : (s : Schema) (st : Statement) (before : QueryPasses told words s st) (fails : Failing (told (name_of words part.Tuples)) (AreTuples s st) status.Tuples answered) → Stops told words answered
 
 no_schema : (fault : SchemaFault) (text : List ℕ) → schema_of text ≡ Err fault → IsSome text → ⊥
 no_schema fault text e h = let f : schema_of text ≡ Ok h.0 = read_again text h.0 h.1 in cc
 
-no_statement : (f : QueryFault) (text : List ℕ) → IsQueryFault text f → HasSome text → ⊥
-no_statement fault.Memory text e h = e
-no_statement (fault.Syntax at) text e h = e.none h.0 h.1
-no_statement (fault.UnknownStream at) text e h = e.none h.0 h.1
-no_statement (fault.UnknownColumn at) text e h = e.none h.0 h.1
-no_statement (fault.KindsDiffer at) text e h = e.none h.0 h.1
-no_statement (fault.LiteralTooWide at) text e h = e.none h.0 h.1
-no_statement (fault.NotCondition at) text e h = e.none h.0 h.1
-no_statement (fault.MixedItems at) text e h = e.none h.0 h.1
-no_statement (fault.TwiceNamed at) text e h = e.none h.0 h.1
-no_statement (fault.ColumnsDiffer at) text e h = e.none h.0 h.1
-no_statement (fault.PaceDiffers at) text e h = e.none h.0 h.1
-no_statement (fault.NotClosing at) text e h = e.none h.0 h.1
-no_statement (fault.OutOfRange at) text e h = e.none h.0 h.1
-no_statement (fault.TooDeep at) text e h = e.none h.0 h.1
+no_statement : (s : Schema) (f : QueryFault) (text : List ℕ) → IsQueryFault s text f → HasNoFault s text → ⊥
+no_statement s f text is none = none f is
 
 no_tuples : (s : Schema) (st : Statement) (fault : TupleFault) (text : List ℕ) → kept_beats s (gap_of s st) text ≡ Err fault → AreTuples s st text → ⊥
 no_tuples s st fault text e h = let f : kept_beats s (gap_of s st) text ≡ Ok h.0 = h.1 in cc
@@ -123,7 +110,7 @@ stops told words (refusal.TooLong part.Schema) h = AtSchema h.next (Long h.long 
 stops told words (refusal.TooLong part.Query) h = AtQuery h.next.0 h.next.1 (Long h.long refl)
 stops told words (refusal.TooLong part.Tuples) h = AtTuples h.next.0 h.next.1 h.next.2 (Long h.long refl)
 stops told words (refusal.Schema fault) h = AtSchema h.form (Bad (weaker (told (name_of words part.Schema)) (λ text. schema_of text ≡ Err fault) (λ text. IsSome text → ⊥) (no_schema fault) h.text) refl)
-stops told words (refusal.Query fault) h = AtQuery h.schema h.before (Bad (weaker (told (name_of words part.Query)) (λ text. IsQueryFault text fault) (λ text. HasSome text → ⊥) (no_statement fault) h.text) refl)
+stops told words (refusal.Query fault) h = AtQuery h.schema h.before (Bad (weaker (told (name_of words part.Query)) (λ text. IsQueryFault h.schema text fault) (λ text. HasNoFault h.schema text → ⊥) (no_statement h.schema fault) h.text) refl)
 stops told words refusal.NotBuilt h = AtForm h.schema h.before h.text refl
 stops told words (refusal.Tuples fault) h =
     AtTuples h.schema h.statement h.before (Bad (weaker (told (name_of words part.Tuples)) (λ text. kept_beats h.schema (gap_of h.schema h.statement) text ≡ Err fault) (λ text. AreTuples h.schema h.statement text → ⊥) (no_tuples h.schema h.statement fault) h.text) refl)
@@ -136,14 +123,27 @@ same_schema s t text a b = let e : ◌≡◌ {A = Result Schema SchemaFault} (Ok
 pub one_schema : (told : List ℕ → Told) (words : List (List ℕ)) (s t : Schema) → IsTelling told words → SchemaPasses told words s → SchemaPasses told words t → s ≡ t
 one_schema told words s t tells a b = with_both (told (name_of words part.Schema)) (λ text. IsSchemaText text s) (λ text. IsSchemaText text t) (tells part.Schema) a.text b.text (same_schema s t)
 
+-- a text has one fault over its schema
+pub one_bad_query : (told : List ℕ → Told) (words : List (List ℕ)) (f g : QueryFault) → IsTelling told words → IsBadQuery told words f → IsBadQuery told words g → f ≡ g
+one_bad_query told words f g tells a b =
+    let e : b.schema ≡ a.schema = one_schema told words b.schema a.schema tells b.before a.before in
+    with_both (told (name_of words part.Query)) (λ text. IsQueryFault a.schema text f) (λ text. IsQueryFault a.schema text g) (tells part.Query) a.text
+    (subst (λ (x : Schema). Fine (told (name_of words part.Query)) (λ text. IsQueryFault x text g)) e b.text) (λ text h k. one_fault a.schema text f g h k)
+
 fine_schema : (told : List ℕ → Told) (words : List (List ℕ)) (s : Schema) → SchemaPasses told words s → Fine (told (name_of words part.Schema)) IsSome
 fine_schema told words s a = weaker (told (name_of words part.Schema)) (λ text. IsSchemaText text s) IsSome (λ text h. (s, h)) a.text
 
-fine_query : (told : List ℕ → Told) (words : List (List ℕ)) (s : Schema) (st : Statement) → QueryPasses told words s st → Fine (told (name_of words part.Query)) HasSome
-fine_query told words s st a = weaker (told (name_of words part.Query)) (λ text. IsQuery s text st) HasSome (λ text h. (statement_tree st, h.has)) a.text
+query_has_none : (s : Schema) (st : Statement) → IsSchema s → (text : List ℕ) → IsQuery s text st → HasNoFault s text
+query_has_none s st fine text is f h = accepted_goes s text f fine h st (query_accepted s text st is)
 
-fine_unbuilt : (told : List ℕ → Told) (words : List (List ℕ)) (s : Schema) → Fine (told (name_of words part.Query)) (IsUnbuilt s) → Fine (told (name_of words part.Query)) HasSome
-fine_unbuilt told words s a = weaker (told (name_of words part.Query)) (IsUnbuilt s) HasSome (λ text h. (statement_tree h.statement, h.has)) a
+unbuilt_has_none : (s : Schema) → IsSchema s → (text : List ℕ) → IsUnbuilt s text → HasNoFault s text
+unbuilt_has_none s fine text is f h = accepted_goes s text f fine h is.statement is.is
+
+fine_query : (told : List ℕ → Told) (words : List (List ℕ)) (s : Schema) (st : Statement) → QueryPasses told words s st → Fine (told (name_of words part.Query)) (HasNoFault s)
+fine_query told words s st a = weaker (told (name_of words part.Query)) (λ text. IsQuery s text st) (HasNoFault s) (query_has_none s st a.before.fine) a.text
+
+fine_unbuilt : (told : List ℕ → Told) (words : List (List ℕ)) (s : Schema) → SchemaPasses told words s → Fine (told (name_of words part.Query)) (IsUnbuilt s) → Fine (told (name_of words part.Query)) (HasNoFault s)
+fine_unbuilt told words s p a = weaker (told (name_of words part.Query)) (IsUnbuilt s) (HasNoFault s) (unbuilt_has_none s p.fine) a
 
 fine_tuples : (told : List ℕ → Told) (words : List (List ℕ)) (s t : Schema) (st st' : Statement) (beats : List Beat) → s ≡ t → TuplesPass told words s st beats → Fine (told (name_of words part.Tuples)) (AreTuples t st')
 fine_tuples told words s t st st' beats e a = subst (λ (x : Schema). Fine (told (name_of words part.Tuples)) (AreTuples x st')) e (weaker (told (name_of words part.Tuples)) (λ text. kept_beats s (gap_of s st) text ≡ Ok beats) (AreTuples s st') (λ text h. (beats, h)) a.text)
@@ -152,22 +152,25 @@ fine_tuples told words s t st st' beats e a = subst (λ (x : Schema). Fine (told
 schema_goes : (told : List ℕ → Told) (words : List (List ℕ)) (s : Schema) (a : Status) {A : Type 0} → IsTelling told words → SchemaPasses told words s → Failing (told (name_of words part.Schema)) IsSome status.Schema a → A
 schema_goes told words s a tells p f = absurd (not_both (told (name_of words part.Schema)) IsSome status.Schema a (tells part.Schema) (fine_schema told words s p) f)
 
-query_goes : (told : List ℕ → Told) (words : List (List ℕ)) (a : Status) {A : Type 0} → IsTelling told words → Fine (told (name_of words part.Query)) HasSome → Failing (told (name_of words part.Query)) HasSome status.Query a → A
-query_goes told words a tells p f = absurd (not_both (told (name_of words part.Query)) HasSome status.Query a (tells part.Query) p f)
+query_goes : (told : List ℕ → Told) (words : List (List ℕ)) (s t : Schema) (a : Status) {A : Type 0} → IsTelling told words → SchemaPasses told words s → SchemaPasses told words t → Fine (told (name_of words part.Query)) (HasNoFault s)
+    → Failing (told (name_of words part.Query)) (HasNoFault t) status.Query a → A
+query_goes told words s t a tells p q fine f =
+    let e : s ≡ t = one_schema told words s t tells p q in
+    absurd (not_both (told (name_of words part.Query)) (HasNoFault t) status.Query a (tells part.Query) (subst (λ (x : Schema). Fine (told (name_of words part.Query)) (HasNoFault x)) e fine) f)
 
 -- nor does the form of a query that is built
-unbuilt_goes : (s : Schema) (st : Statement) (text : List ℕ) → IsQuery s text st → IsUnbuilt s text → ⊥
-unbuilt_goes s st text q u = none_built s text u.statement u.unbuilt (λ m h. one_meaning text (statement_tree u.statement) m u.has h) st q
+built_goes : (s : Schema) (st : Statement) (text : List ℕ) → IsQuery s text st → IsUnbuilt s text → ⊥
+built_goes s st text q u = unbuilt_goes s text st u q
 
 form_goes : (told : List ℕ → Told) (words : List (List ℕ)) (s t : Schema) (st : Statement) {A : Type 0} → IsTelling told words → QueryPasses told words s st → SchemaPasses told words t → Fine (told (name_of words part.Query)) (IsUnbuilt t) → A
 form_goes told words s t st tells p q bad =
     let e : t ≡ s = one_schema told words t s tells q p.before in
-    absurd (with_both (told (name_of words part.Query)) (λ text. IsQuery s text st) (IsUnbuilt s) (tells part.Query) p.text (subst (λ (x : Schema). Fine (told (name_of words part.Query)) (IsUnbuilt x)) e bad) (unbuilt_goes s st))
+    absurd (with_both (told (name_of words part.Query)) (λ text. IsQuery s text st) (IsUnbuilt s) (tells part.Query) p.text (subst (λ (x : Schema). Fine (told (name_of words part.Query)) (IsUnbuilt x)) e bad) (built_goes s st))
 
 pub passes_goes : (told : List ℕ → Told) (words : List (List ℕ)) (s : Schema) (st : Statement) (beats : List Beat) (a : Status) → IsTelling told words → TuplesPass told words s st beats → Stops told words a → ⊥
 passes_goes told words s st beats a tells p (AtWords no' e) = no' p.before.before.form
 passes_goes told words s st beats a tells p (AtSchema form f) = schema_goes told words s a tells p.before.before f
-passes_goes told words s st beats a tells p (AtQuery t q f) = query_goes told words a tells (fine_query told words s st p.before) f
+passes_goes told words s st beats a tells p (AtQuery t q f) = query_goes told words s t a tells p.before.before q (fine_query told words s st p.before) f
 passes_goes told words s st beats a tells p (AtForm t q f e) = form_goes told words s t st tells p.before q f
 passes_goes told words s st beats a tells p (AtTuples t st' q f) =
     not_both (told (name_of words part.Tuples)) (AreTuples t st') status.Tuples a (tells part.Tuples) (fine_tuples told words s t st st' beats (one_schema told words s t tells p.before.before q.before) p) f
@@ -186,17 +189,18 @@ stops_once told words a b tells (AtSchema form f) (AtForm s p g h) = schema_goes
 stops_once told words a b tells (AtSchema form f) (AtTuples s st p g) = schema_goes told words s a tells p.before f
 stops_once told words a b tells (AtQuery s p f) (AtWords m h) = absurd (m p.form)
 stops_once told words a b tells (AtQuery s p f) (AtSchema form g) = schema_goes told words s b tells p g
-stops_once told words a b tells (AtQuery s p f) (AtQuery t q g) = fails_once (told (name_of words part.Query)) HasSome status.Query a b (tells part.Query) f g
-stops_once told words a b tells (AtQuery s p f) (AtForm t q g h) = query_goes told words a tells (fine_unbuilt told words t g) f
-stops_once told words a b tells (AtQuery s p f) (AtTuples t st q g) = query_goes told words a tells (fine_query told words t st q) f
+stops_once told words a b tells (AtQuery s p f) (AtQuery t q g) =
+    fails_once (told (name_of words part.Query)) (HasNoFault t) status.Query a b (tells part.Query) (subst (λ (x : Schema). Failing (told (name_of words part.Query)) (HasNoFault x) status.Query a) (one_schema told words s t tells p q) f) g
+stops_once told words a b tells (AtQuery s p f) (AtForm t q g h) = query_goes told words t s a tells q p (fine_unbuilt told words t q g) f
+stops_once told words a b tells (AtQuery s p f) (AtTuples t st q g) = query_goes told words t s a tells q.before p (fine_query told words t st q) f
 stops_once told words a b tells (AtForm s p f e) (AtWords m h) = absurd (m p.form)
 stops_once told words a b tells (AtForm s p f e) (AtSchema form g) = schema_goes told words s b tells p g
-stops_once told words a b tells (AtForm s p f e) (AtQuery t q g) = query_goes told words b tells (fine_unbuilt told words s f) g
+stops_once told words a b tells (AtForm s p f e) (AtQuery t q g) = query_goes told words s t b tells p q (fine_unbuilt told words s p f) g
 stops_once told words a b tells (AtForm s p f e) (AtForm t q g h) = e ∙ sym h
 stops_once told words a b tells (AtForm s p f e) (AtTuples t st q g) = form_goes told words t s st tells q p f
 stops_once told words a b tells (AtTuples s st p f) (AtWords m h) = absurd (m p.before.form)
 stops_once told words a b tells (AtTuples s st p f) (AtSchema form g) = schema_goes told words s b tells p.before g
-stops_once told words a b tells (AtTuples s st p f) (AtQuery t q g) = query_goes told words b tells (fine_query told words s st p) g
+stops_once told words a b tells (AtTuples s st p f) (AtQuery t q g) = query_goes told words s t b tells p.before q (fine_query told words s st p) g
 stops_once told words a b tells (AtTuples s st p f) (AtForm t q g h) = form_goes told words s t st tells p q g
 stops_once told words a b tells (AtTuples s st p f) (AtTuples t st' q g) =
     fails_once (told (name_of words part.Tuples)) (AreTuples t st') status.Tuples a b (tells part.Tuples) (subst (λ (x : Schema). Failing (told (name_of words part.Tuples)) (AreTuples x st') status.Tuples a) (one_schema told words s t tells p.before q.before) f) g

@@ -25,7 +25,8 @@ use Rattle.gl_tuples.specs.Filing.{beats_of, records_of}
 use Rattle.gl_tuples.specs.Gaps.{first_close, close_answer}
 use Rattle.gl_compiler.specs.declared.compiling.CompileFault.{CompileFault}
 use Rattle.gl_compiler.specs.declared.compiling.CompileFault.TheVariants as compile
-use Rattle.gl_compiler.specs.Queries.{IsQuery, IsQueryFault, IsUnbuilt, IsQueryRefused, gap_of}
+use Rattle.gl_query_judge.specs.Judged.{IsQueryFault}
+use Rattle.gl_compiler.specs.Queries.{IsQuery, IsUnbuilt, IsQueryRefused, gap_of}
 use Rattle.gl_top.specs.declared.form.Part.{Part}
 use Rattle.gl_top.specs.declared.form.Part.TheVariants as part
 use Rattle.gl_top.specs.Forms.{IsForm, is_form, word_at, place_of, name_of}
@@ -105,8 +106,8 @@ schema_passes told words v s form h is = record { form = form; fine = is.schema'
 not_built : (words : List (List ℕ)) (c : Change) (v : List ℕ) (s : Schema) → IsCalm c.old c.new → SchemaPasses c.old.told words s → HasText c.old.told words part.Query (λ text. v ≡ text) → IsUnbuilt s v → HasCause words c (query_refusal compile.NotBuilt)
 not_built words c v s calm before h is = (record { schema = s; before = before; text = has_text c.old.told words part.Query (IsUnbuilt s) v h is }, calm)
 
-bad_query : (words : List (List ℕ)) (c : Change) (v : List ℕ) (s : Schema) (f : QueryFault) → IsCalm c.old c.new → SchemaPasses c.old.told words s → HasText c.old.told words part.Query (λ text. v ≡ text) → IsQueryFault v f → HasCause words c (query_refusal (compile.Query f))
-bad_query words c v s f calm before h is = (record { schema = s; before = before; text = has_text c.old.told words part.Query (λ text. IsQueryFault text f) v h is }, calm)
+bad_query : (words : List (List ℕ)) (c : Change) (v : List ℕ) (s : Schema) (f : QueryFault) → IsCalm c.old c.new → SchemaPasses c.old.told words s → HasText c.old.told words part.Query (λ text. v ≡ text) → IsQueryFault s v f → HasCause words c (query_refusal (compile.Query f))
+bad_query words c v s f calm before h is = (record { schema = s; before = before; text = has_text c.old.told words part.Query (λ text. IsQueryFault s text f) v h is }, calm)
 
 pub query_cause : (words : List (List ℕ)) (c : Change) (v : List ℕ) (s : Schema) (fault : CompileFault) → IsCalm c.old c.new → SchemaPasses c.old.told words s → HasText c.old.told words part.Query (λ text. v ≡ text) → IsQueryRefused s v fault → HasCause words c (query_refusal fault)
 query_cause words c v s compile.Memory calm before h is = calm

@@ -14,7 +14,8 @@ use Rattle.gl_tuples.specs.declared.fault.TupleFault.{TupleFault}
 use Rattle.gl_tuples.specs.declared.fault.TupleFault.TheVariants as tuples
 use Rattle.gl_compiler.specs.declared.compiling.CompileFault.{CompileFault}
 use Rattle.gl_compiler.specs.declared.compiling.CompileFault.TheVariants as compile
-use Rattle.gl_compiler.specs.Queries.{IsQueryFault, IsUnbuilt, gap_of}
+use Rattle.gl_query_judge.specs.Judged.{IsQueryFault}
+use Rattle.gl_compiler.specs.Queries.{IsUnbuilt, gap_of}
 use Rattle.gl_top.specs.declared.form.Part.{Part}
 use Rattle.gl_top.specs.declared.form.Part.TheVariants as part
 use Rattle.gl_top.specs.declared.notes.Refusal.{Refusal}
@@ -43,13 +44,13 @@ pub record IsBadSchema (told : List ℕ → Told) (words : List (List ℕ)) (fau
   pub form : IsForm words
   pub text : HasText told words part.Schema (λ text. schema_of text ≡ Err fault)
 
--- it has no statement, and this is the first fault
+-- it has no statement, or one that is not accepted over the schema, and this is the first fault
 pub record IsBadQuery (told : List ℕ → Told) (words : List (List ℕ)) (fault : QueryFault) : Type 0 where
   pub schema : Schema
   pub before : SchemaPasses told words schema
-  pub text : HasText told words part.Query (λ text. IsQueryFault text fault)
+  pub text : HasText told words part.Query (λ text. IsQueryFault schema text fault)
 
--- it has a statement that is not built over the schema
+-- it has a statement that is accepted over the schema, and not built
 pub record IsNotBuilt (told : List ℕ → Told) (words : List (List ℕ)) : Type 0 where
   pub schema : Schema
   pub before : SchemaPasses told words schema

@@ -102,6 +102,10 @@ pub record IsFaultless (c : Change) (out notes : Puts) : Type 0 where
   pub out' : Rose out.old.faults out.new.faults → ⊥
   pub notes' : Rose notes.old.faults notes.new.faults → ⊥
 
+-- with the status of a query that is refused, what was noted is the fault of its text
+abbrev pub TellsFault : List (List ℕ) → Change → Puts → Status → Type 0
+TellsFault words c notes answered = (fault : QueryFault) → IsTelling c.old.told words → IsBadQuery c.old.told words fault → answered ≡ status.Query → Took notes.old notes.new (note_of words (refusal.Query fault))
+
 -- what each status says
 abbrev pub Says : List (List ℕ) → Change → Puts → Puts → Status → Type 0
 Says words c out notes status.Done = IsCalm c.old c.new × (out.new.faults ≡ out.old.faults) × Took notes.old notes.new []

@@ -12,6 +12,3 @@ pub mod status;
 pub use form::Part;
 pub use running::run;
 pub use status::Status;
-
-#[cfg(test)]
-mod tests;

@@ -13,7 +13,7 @@ ghost use Rattle.gl_top.specs.Forms.{IsForm};
 ghost use Rattle.gl_top.specs.Causes.{Change, change, IsRefused};
 ghost use Rattle.gl_top.specs.Passing.{IsCompiled, IsReady, TuplesPass};
 ghost use Rattle.gl_top.specs.Refusals.{puts, status_of};
-ghost use Rattle.gl_top.specs.Verdicts.{IsAnswer, IsTelling, IsFaultless, RanLines, Says, Yields};
+ghost use Rattle.gl_top.specs.Verdicts.{IsAnswer, IsTelling, IsFaultless, RanLines, Says, TellsFault, Yields};
 
 use crate::judging::{Job, judge};
 use crate::notes::{Refusal, tell, tell_write_fault};
@@ -140,6 +140,11 @@ pub fn run<S: Shelf, K: Sink, N: Sink>(
         let made = puts (K.state out.old) (K.state out.new) in
         let noted = puts (N.state notes.old) (N.state notes.new) in
         Says words.now seen made noted result }
+
+    // Where the query is refused, its fault and the place are what is noted.
+    ensures told { let seen = change (S.state shelf.old) (S.state shelf.new) in
+        let noted = puts (N.state notes.old) (N.state notes.new) in
+        TellsFault words.now seen noted result }
 
     // Nothing is written but by a run.
     ensures untouched { result ≢ Status.Done → result ≢ Status.WriteFault

@@ -1,8 +1,11 @@
-use Rattle.gl_top.proofs.Concluding.{when_says, when_formless, when_untouched, when_refused, when_calm}
+use Rattle.gl_top.proofs.Concluding.{when_says, when_told, when_formless, when_untouched, when_refused, when_calm}
 use Rattle.gl_top.proofs.running.run.Goals as goal
 
 pub returns-clause-says : goal.returns-clause-says
 returns-clause-says g c = when_says _ _ _ _ _ _ c.answer.ensures
+
+pub returns-clause-told : goal.returns-clause-told
+returns-clause-told g c = when_told _ _ _ _ _ _ c.answer.ensures
 
 pub returns-clause-untouched : goal.returns-clause-untouched
 returns-clause-untouched g c = when_untouched _ _ _ _ _ _ c.answer.ensures

@@ -3,19 +3,21 @@
 
 ghost use Rattle.std.specs.Prelude.{◌≡◌, IfOk, ◌∷◌, [], codes};
 
-use super::*;
 use gl_outside::{Memory, MemoryShelf, MemorySink, Words};
+use gl_top::run;
 use std::alloc::Global;
 use std::test::Fail;
 
-const SCHEMA: &str = "stream trades (symbol text4, price u32, volume u32);";
+/// A stream of trades.
+pub const SCHEMA: &str = "stream trades (symbol text4, price u32, volume u32);";
 
 const QUERY: &str = "SELECT price FROM trades INTO r";
 
-const TUPLES: &str = "0,trades,UBSN,7,1";
+/// One trade.
+pub const TUPLES: &str = "0,trades,UBSN,7,1";
 
-// A text that is not there.
-const NONE: &str = "-";
+/// A text that is not there.
+pub const NONE: &str = "-";
 
 // The words `run S Q T`.
 fn run_words(alloc: Global) -> Result<Words, Memory>
@@ -29,13 +31,13 @@ fn run_words(alloc: Global) -> Result<Words, Memory>
     Ok(words)
 }
 
-// The three texts, and the numbers of the fetch, of the put and of the note that fail, 0 for none.
+/// The three texts, and the numbers of the fetch, of the put and of the note that fail, 0 for none.
 #[derive(Clone, Copy)]
-struct Row {
-    schema: &'static str,
-    query: &'static str,
-    tuples: &'static str,
-    failing: [u64; 3],
+pub struct Row {
+    pub schema: &'static str,
+    pub query: &'static str,
+    pub tuples: &'static str,
+    pub failing: [u64; 3],
 }
 
 fn hold(shelf: &mut MemoryShelf, name: &str, text: &str) -> Result<(), Memory>
@@ -67,8 +69,8 @@ fn sink_with(alloc: Global, failing: u64) -> Result<MemorySink, Memory> {
     Ok(sink)
 }
 
-// The status, what was written and what was noted, each behind the other.
-fn told(alloc: Global, row: &Row) -> Result<String, Fail> {
+/// The status, what was written and what was noted, each behind the other.
+pub fn told(alloc: Global, row: &Row) -> Result<String, Fail> {
     let words = run_words(alloc)?;
     let mut shelf = shelf_with(alloc, row)?;
     let mut out = sink_with(alloc, row.failing[1])?;
@@ -85,8 +87,6 @@ fn told(alloc: Global, row: &Row) -> Result<String, Fail> {
 fn from_bytes_to_bytes(rt: HostRuntime) -> Result<(), Fail> {
     let quoted = "SELECT symbol FROM trades INTO r";
     let commented = "select price -- of all\nFROM trades INTO r ;";
-    let filtered = "SELECT price FROM trades WHERE volume > 1 INTO r";
-    let mixed = "SELECT price, count() AS n FROM trades INTO r";
     let wide = "stream s (v u65);";
     for (schema, query, tuples, failing, want) in [
         (SCHEMA, QUERY, TUPLES, [0, 0, 0], "0|1,7\n1,end\n|"),
@@ -99,14 +99,6 @@ fn from_bytes_to_bytes(rt: HostRuntime) -> Result<(), Fail> {
             "0|1,\"a,b\"\n1,end\n|",
         ),
         (SCHEMA, commented, TUPLES, [0, 0, 0], "0|1,7\n1,end\n|"),
-        (SCHEMA, filtered, TUPLES, [0, 0, 0], "64||not built: Q\n"),
-        (
-            SCHEMA,
-            mixed,
-            TUPLES,
-            [0, 0, 0],
-            "6||query: MixedItems at 14\n",
-        ),
         (wide, QUERY, TUPLES, [0, 0, 0], "5||schema: BadKind at 12\n"),
         (
             SCHEMA,

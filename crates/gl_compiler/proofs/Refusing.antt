@@ -1,0 +1,93 @@
+-- Why a query is refused: each text has one cause at most, and none where it has a statement that is built.
+use Rattle.std.proofs.Common.{◌≡◌, ◌≢◌, ◌⊎◌, ℕ, List, Result, Ok, Err, refl, inl, inr}
+use Rattle.gl_schema.specs.declared.schema.Schema.{Schema}
+use Rattle.gl_schema.specs.Schemas.{IsSchema}
+use Rattle.gl_query.specs.declared.tree.Statement.{Statement}
+use Rattle.gl_query.specs.declared.fault.QueryFault.{QueryFault}
+use Rattle.gl_query.specs.declared.fault.QueryFault.TheVariants as fault
+use Rattle.gl_query.specs.Trees.{statement_tree}
+use Rattle.gl_query_judge.specs.Judged.{IsAcceptedText, IsQueryFault, IsFaultOrMemory}
+use Rattle.gl_query_judge.proofs.Judged.{one_meaning, one_fault, accepted_goes}
+use Rattle.gl_compiler.specs.declared.compiling.Compiled.{Compiled}
+use Rattle.gl_compiler.specs.declared.compiling.CompileFault.{CompileFault}
+use Rattle.gl_compiler.specs.declared.compiling.CompileFault.TheVariants as compile
+use Rattle.gl_compiler.specs.Compiles.{IsRefused}
+use Rattle.gl_compiler.specs.Queries.{IsQuery, IsUnbuilt, IsQueryRefused, IfRefused, TellsCauses, fault_of_query}
+use Rattle.gl_compiler.proofs.Selected.{built_accepted}
+use Rattle.gl_compiler.proofs.Shaped.{built_alike}
+
+-- a fault is answered as it is
+told_as : (f : QueryFault) → f ≢ fault.Memory → fault_of_query f ≡ compile.Query f
+told_as fault.Memory real = absurd (real refl)
+told_as (fault.Syntax at) real = refl
+told_as (fault.UnknownStream at) real = refl
+told_as (fault.UnknownColumn at) real = refl
+told_as (fault.KindsDiffer at) real = refl
+told_as (fault.LiteralTooWide at) real = refl
+told_as (fault.NotCondition at) real = refl
+told_as (fault.MixedItems at) real = refl
+told_as (fault.TwiceNamed at) real = refl
+told_as (fault.ColumnsDiffer at) real = refl
+told_as (fault.PaceDiffers at) real = refl
+told_as (fault.NotClosing at) real = refl
+told_as (fault.OutOfRange at) real = refl
+told_as (fault.TooDeep at) real = refl
+
+-- why a text is refused that has no accepted statement
+pub refusal : (schema : Schema) (text : List ℕ) (f : QueryFault) → IsFaultOrMemory schema text f → IsQueryRefused schema text (fault_of_query f)
+refusal schema text f (inl is) = rw (told_as f is.real) is
+refusal schema text f (inr e) = rw e tt
+
+-- ---- one cause
+
+-- a statement that is built is accepted
+pub query_accepted : (schema : Schema) (text : List ℕ) (s : Statement) → IsQuery schema text s → IsAcceptedText schema text s
+query_accepted schema text s is = record { has = is.has; accepted = built_accepted schema s is.built }
+
+-- one that is not leaves none of its text that is
+pub unbuilt_goes : (schema : Schema) (text : List ℕ) (s : Statement) → IsUnbuilt schema text → IsQuery schema text s → ⊥
+unbuilt_goes schema text s u is =
+    let same : statement_tree s ≡ statement_tree u.statement = one_meaning text (statement_tree s) (statement_tree u.statement) is.has u.is.has in
+    u.unbuilt (built_alike schema s u.statement same is.built)
+
+pub refused_goes : (schema : Schema) (text : List ℕ) (f : CompileFault) → IsSchema schema → IsQueryRefused schema text f → IfRefused f ((s : Statement) → IsQuery schema text s → ⊥)
+refused_goes schema text (compile.Schema f) fine h = absurd h
+refused_goes schema text (compile.Query f) fine h = λ s is. accepted_goes schema text f fine h s (query_accepted schema text s is)
+refused_goes schema text compile.NotBuilt fine h = λ s is. unbuilt_goes schema text s h is
+refused_goes schema text compile.Memory fine h = tt
+
+-- why a statement that is accepted is not compiled
+pub statement_cause : (schema : Schema) (text : List ℕ) (s : Statement) (f : CompileFault) → IsAcceptedText schema text s → IsRefused schema s f → IsQueryRefused schema text f
+statement_cause schema text s (compile.Schema f) is h = h
+statement_cause schema text s (compile.Query f) is h = absurd h
+statement_cause schema text s compile.NotBuilt is h = record { statement = s; is = is; unbuilt = h }
+statement_cause schema text s compile.Memory is h = tt
+
+-- ---- each cause is told
+
+abbrev IsToldAs : Result Compiled CompileFault → CompileFault → Type 0
+IsToldAs r f = (r ≡ Err f) ⊎ (r ≡ Err compile.Memory)
+
+query_told : (schema : Schema) (text : List ℕ) (g : CompileFault) (f : QueryFault) → IsSchema schema → IsQueryRefused schema text g → IsQueryFault schema text f → IsToldAs (Err g) (compile.Query f)
+query_told schema text (compile.Schema g) f fine h is = absurd h
+query_told schema text (compile.Query g) f fine h is = inl (let e : g ≡ f = one_fault schema text g f h is in rw e refl)
+query_told schema text compile.NotBuilt f fine h is = absurd (accepted_goes schema text f fine is h.statement h.is)
+query_told schema text compile.Memory f fine h is = inr refl
+
+unbuilt_told : (schema : Schema) (text : List ℕ) (g : CompileFault) → IsSchema schema → IsQueryRefused schema text g → IsUnbuilt schema text → IsToldAs (Err g) compile.NotBuilt
+unbuilt_told schema text (compile.Schema g) fine h is = absurd h
+unbuilt_told schema text (compile.Query g) fine h is = absurd (accepted_goes schema text g fine h is.statement is.is)
+unbuilt_told schema text compile.NotBuilt fine h is = inl refl
+unbuilt_told schema text compile.Memory fine h is = inr refl
+
+pub tells_of : (schema : Schema) (text : List ℕ) (g : CompileFault) → IsSchema schema → IsQueryRefused schema text g → TellsCauses schema text (Err g)
+tells_of schema text g fine h (compile.Schema f) = λ is. absurd is
+tells_of schema text g fine h (compile.Query f) = query_told schema text g f fine h
+tells_of schema text g fine h compile.NotBuilt = unbuilt_told schema text g fine h
+tells_of schema text g fine h compile.Memory = tt
+
+pub tells_none : (schema : Schema) (text : List ℕ) (c : Compiled) → IsSchema schema → IsQuery schema text c.statement → TellsCauses schema text (Ok c)
+tells_none schema text c fine built (compile.Schema f) = λ is. absurd is
+tells_none schema text c fine built (compile.Query f) = λ is. absurd (accepted_goes schema text f fine is c.statement (query_accepted schema text c.statement built))
+tells_none schema text c fine built compile.NotBuilt = λ is. absurd (unbuilt_goes schema text c.statement is built)
+tells_none schema text c fine built compile.Memory = tt
