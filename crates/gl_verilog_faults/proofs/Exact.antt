@@ -63,7 +63,7 @@ marks_join : (s : State) (a b : List Token) → marks s (a ++ b) ≡ marks s a +
 marks_join s [] b = refl
 marks_join s (t ∷ a) b = ap (λ (x : List Role). role_at s t ∷ x) (marks_join (next s t) a b)
 
-keeps_tokens : (a b : List Token) → KeepsFront (a ++ b) → KeepsFront a
+pub keeps_tokens : (a b : List Token) → KeepsFront (a ++ b) → KeepsFront a
 keeps_tokens a b h = keeps_front none_counted (marks Header a) (marks (behind Header a) b) (rw (marks_join Header a b) at h)
 
 pub spelled_keeps : (w : WrittenModule) → IsWithinLimits w → KeepsFront (spell w)

@@ -3,7 +3,7 @@ use Rattle.std.proofs.Common.{◌≡◌, ◌≤◌, ◌<◌, length, get_or, ari
 use Rattle.std.specs.Prelude.{map}
 use Rattle.std.proofs.lemmas.List.{reverse-append, map-append}
 use Rattle.gl_verilog.specs.Written as written
-use Rattle.gl_verilog.specs.Machine as machine
+use Rattle.gl_verilog_grammar.specs.Machine as machine
 use Rattle.gl_verilog_written.specs.declared.written.WrittenExpr.{WrittenExpr, Named}
 use Rattle.gl_verilog_grammar.specs.declared.frames.Frame.{Frame}
 use Rattle.gl_verilog_written.specs.declared.token.Word.{Word}
@@ -64,22 +64,6 @@ parts-onto [] e = refl
 parts-onto (p ∷ []) e = refl
 parts-onto (p ∷ q ∷ ps) e = ap (written.Parts p) (parts-onto (q ∷ ps) e)
 
+pub ruleset closings = (frames-push)
+
 pub ruleset pushes = (frames-push, map-append, braces_are, block_is, parts-onto)
-
--- ---- one name
-
-pub one_name : (xs names : List Word) (sort : Sort) (range : Option Word) (d : Word) (s : machine.State) → xs ≡ names → sort ≡ sort_is.RegisterSort → 1 ≤ length xs → length xs < 2
-    → machine.goto s (stage_of (stage_is.WantFirst range (get_or xs 0 d))) ≡ machine.memory_of (sort_of sort) (range_of range) (names_of names) s
-unfolding stage_of
-one_name [] names sort range d s e f lo hi = absurd (omega arith)
-one_name (x ∷ []) names sort range d s e f lo hi =
-    ap (λ (k : Sort). machine.memory_of (sort_of k) (range_of range) (names_of (x ∷ [])) s) (sym f)
-    ∙ ap (λ (ns : List Word). machine.memory_of (sort_of sort) (range_of range) (names_of ns) s) e
-one_name (x ∷ y ∷ xs) names sort range d s e f lo hi = absurd (omega arith)
-
--- ---- a name
-
-pub not_named : (s : machine.State) (e : WrittenExpr) → ((name : Word) → e ≡ Named name → ⊥) → machine.indexed s (expr_of e) ≡ None
-unfolding expr_of
-not_named s (Named name) h = absurd (h name refl)
-not_named s e h = refl

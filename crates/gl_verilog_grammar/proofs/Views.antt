@@ -2,7 +2,7 @@
 use Rattle.std.proofs.Common.{◌≡◌, ℕ, Option, Vec, Global, Box, refl}
 use Rattle.std.specs.Prelude.{map}
 use Rattle.gl_verilog.specs.Written as written
-use Rattle.gl_verilog.specs.Machine as machine
+use Rattle.gl_verilog_grammar.specs.Machine as machine
 use Rattle.gl_verilog_written.specs.declared.token.Word.{Word}
 use Rattle.gl_verilog_written.specs.declared.written.PrefixOp.{PrefixOp}
 use Rattle.gl_verilog_written.specs.declared.written.InfixOp.{InfixOp}

@@ -2,7 +2,7 @@
 use Rattle.std.specs.Prelude.{◌≡◌, ℕ, ◌≤◌, Bool, List, [], ◌∷◌, map, reverse, Option, Some, None, option_map, Result, Ok, IfOk, MatchBool, MatchResult, ◌+◌}
 use Rattle.gl_verilog.specs.Tokens as tokens
 use Rattle.gl_verilog.specs.Written as written
-use Rattle.gl_verilog.specs.Machine as machine
+use Rattle.gl_verilog_grammar.specs.Machine as machine
 use Rattle.gl_verilog_written.specs.declared.token.Word.{Word}
 use Rattle.gl_verilog_written.specs.declared.token.Keyword.{Keyword}
 use Rattle.gl_verilog_written.specs.declared.token.Keyword.TheVariants as keyword_is
@@ -25,6 +25,10 @@ use Rattle.gl_verilog_written.specs.declared.written.WrittenItem.TheVariants as 
 use Rattle.gl_verilog_written.specs.declared.written.WrittenModule.{WrittenModule}
 use Rattle.gl_verilog_grammar.specs.declared.frames.Frame.{Frame}
 use Rattle.gl_verilog_grammar.specs.declared.frames.Frame.TheVariants as frame_is
+use Rattle.gl_verilog_grammar.specs.declared.frames.Stated.{Stated}
+use Rattle.gl_verilog_grammar.specs.declared.frames.Stated.TheVariants as stated_is
+use Rattle.gl_verilog_grammar.specs.declared.closing.Closed.{Closed}
+use Rattle.gl_verilog_grammar.specs.declared.closing.Closed.TheVariants as closed_is
 use Rattle.gl_verilog_grammar.specs.declared.stage.Sort.{Sort}
 use Rattle.gl_verilog_grammar.specs.declared.stage.Sort.TheVariants as sort_is
 use Rattle.gl_verilog_grammar.specs.declared.stage.Owner.{Owner}
@@ -67,6 +71,20 @@ frame_of (frame_is.ThenOf at test) = machine.ThenOf (expr_of test)
 frame_of (frame_is.ElseOf at test yes') = machine.ElseOf (expr_of test) (statement_of yes')
 frame_of (frame_is.InBegin done) = machine.InBegin (map statement_of done.items)
 frame_of (frame_is.BodyOf clock) = machine.BodyOf (name_of clock)
+
+unfoldable pub stated_of : Stated → machine.Stated
+stated_of (stated_is.InList done) = machine.InList (map statement_of done.items)
+stated_of (stated_is.AsBody item) = machine.AsBody (item_of item)
+stated_of stated_is.Nowhere = machine.Nowhere
+
+unfoldable pub closed_of : Closed → machine.Closed
+closed_of (closed_is.AnOperand operand) = machine.AnOperand (expr_of operand)
+closed_of (closed_is.ATest at test) = machine.ATest (expr_of test)
+closed_of (closed_is.AnAddress target address) = machine.AnAddress (name_of target) (expr_of address)
+closed_of (closed_is.AnItem item) = machine.AnItem (item_of item)
+closed_of (closed_is.AStatement statement) = machine.AStatement (statement_of statement)
+closed_of (closed_is.Further frame) = machine.Further (frame_of frame)
+closed_of closed_is.Unclosed = machine.Unclosed
 
 abbrev pub frames_of : List Frame → List machine.Frame
 frames_of frames = map frame_of (reverse frames)
@@ -120,40 +138,15 @@ stage_of (stage_is.WantLow name high) = machine.WantLow (name_of name) (name_of 
 stage_of (stage_is.AtPart name high low) = machine.AtPart (name_of name) (name_of high) (name_of low)
 stage_of stage_is.Complete = machine.Complete
 
-abbrev pub view : Reading → machine.State
+unfoldable pub view : Reading → machine.State
 view r = record {
   name = name_of r.name;
   ports = map port_of r.ports.items;
   items = map item_of r.items.items;
   stage = stage_of r.stage;
   frames = frames_of r.frames.items;
-  brackets = r.brackets;
-  operators = r.operators;
-  ifs = r.ifs;
 }
-
--- no limit is passed
-pub record IsWithin (r : Reading) : Type 0 where
-  pub brackets : r.brackets ≤ 64
-  pub operators : r.operators ≤ 1024
-  pub ifs : r.ifs ≤ 1024
 
 -- a call answers whether the machine goes on, and then stands where the machine does
 abbrev pub Moves : {E : Type 0} → Result Bool E → Option machine.State → machine.State → Type 0
 Moves result next new = IfOk result (λ stands. MatchBool stands (next ≡ Some new) (next ≡ None))
-
--- the machine goes from one state to the other by this token, whatever follows
-abbrev pub Goes : tokens.Token → machine.State → machine.State → Type 0
-Goes t s s' = (at : ℕ) (ts : List tokens.Token) → machine.run at s (t ∷ ts) ≡ machine.run (at + 1) s' ts
-
--- where the machine reads a module, the fault is want of memory
-abbrev pub OnlyMemory : VerilogFault → Result written.WrittenModule machine.Fault → Type 0
-OnlyMemory e run = (w : written.WrittenModule) → run ≡ Ok w → e ≡ fault.Memory
-
--- the machine reads no module past this token, or memory is wanted
-abbrev pub StopsAt : VerilogFault → tokens.Token → machine.State → Type 0
-StopsAt e t s = (at : ℕ) (ts : List tokens.Token) → OnlyMemory e (machine.run at s (t ∷ ts))
-
--- what the machine reads is answered, or memory is wanted
-abbrev pub IsRun : Result WrittenModule VerilogFault → Result written.WrittenModule machine.Fault → Type 0
-IsRun result run = MatchResult result (λ w. run ≡ Ok (module_of w)) (λ e. OnlyMemory e run)

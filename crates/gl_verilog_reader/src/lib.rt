@@ -3,11 +3,13 @@
 
 ghost use Rattle.std.specs.Prelude.{◌≡◌, Some, None, IfOk, IfSome, MatchResult};
 ghost use Rattle.gl_verilog.specs.Module as spec;
-ghost use Rattle.gl_verilog.specs.Text.{HasModule};
+ghost use Rattle.gl_verilog.specs.Text.{HasModule, IsSpelling};
+ghost use Rattle.gl_verilog.specs.Tokens.{tokens_of};
 ghost use Rattle.gl_verilog.specs.Resolve.{resolve};
 ghost use Rattle.gl_verilog.specs.Valid.{IsValid};
 ghost use Rattle.gl_verilog.specs.View as meant;
 ghost use Rattle.gl_verilog_written.specs.View.{module_of};
+ghost use Rattle.gl_verilog_grammar.specs.Answers.{IsOnly};
 
 #[cfg(test)]
 mod tests;
@@ -15,11 +17,22 @@ mod tests;
 use gl_bits::Memory;
 use gl_verilog::Module;
 use gl_verilog_check::is_valid;
-pub use gl_verilog_grammar::read_written;
+use gl_verilog_grammar::read_tokens;
 use gl_verilog_resolver::{Unresolved, resolved};
+use gl_verilog_tokens::lexemes;
 pub use gl_verilog_written::VerilogFault;
 use gl_verilog_written::WrittenModule;
 use std::alloc::Global;
+
+/// The module that a text spells as it is written, or the first token that cannot stand there or
+/// passes a limit.
+pub fn read_written<'a>(alloc: Global, text: &'a [u8]) -> Result<WrittenModule<'a>, VerilogFault>
+    ensures found { IfOk result (λ w. IsSpelling (tokens_of text.now) (module_of w)) }
+    ensures only { IsOnly result (tokens_of text.now) }
+{
+    let lexemes = lexemes(alloc, text)?;
+    read_tokens(alloc, &lexemes, text.len())
+}
 
 // The first fault of a written module that means no valid one. That the judging pass finds it is
 // shown by tests alone.
