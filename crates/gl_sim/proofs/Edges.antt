@@ -3,7 +3,7 @@ use Rattle.std.proofs.Common.{◌≡◌, ℕ, ◌^◌, ◌<◌, ◌≤◌, List,
 use Rattle.std.specs.Prelude.{slice_get, slice_index_or}
 use Rattle.std.specs.List.{AllByRecursion}
 use Rattle.gl_verilog.specs.Module as spec
-use Rattle.gl_verilog.specs.Module.{Declaration, Nets, Memories, Nothing, Put, Write, Both, If, value_of, later_or, taken, assigned, written, assigned_by, written_by}
+use Rattle.gl_verilog.specs.Module.{Declaration, Nets, Memories, Nothing, Put, Write, Both, If, value_of, later_or, assigned, written, assigned_by, written_by}
 use Rattle.gl_verilog.specs.Run.{IsRegister}
 use Rattle.gl_verilog.specs.declared.module.Statement.{Statement}
 use Rattle.gl_verilog.specs.View.{statement_of, chained}

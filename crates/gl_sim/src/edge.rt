@@ -1,6 +1,6 @@
 //! The clock's edge.
 
-ghost use Rattle.std.specs.Prelude.{◌≡◌, ℕ, [], ◌≤◌, unwrap_or, slice_index, vec_len, vec_capacity};
+ghost use Rattle.std.specs.Prelude.{◌≡◌, ℕ, [], ◌≤◌, unwrap_or, slice_index, vec_capacity};
 ghost use Rattle.gl_verilog.specs.Module.{assigned_by, written_by};
 ghost use Rattle.gl_verilog.specs.View.{module_of, chained};
 ghost use Rattle.gl_verilog.specs.Evaluate.{nets_of, memories_of, IsStore};
@@ -28,8 +28,12 @@ pub fn clock(
     ensures store { IsStore (module_of design.now).declarations next.new.items banks.new.items }
     ensures none { waiting.new.items ≡ [] }
     ensures room { vec_capacity waiting.new ≡ vec_capacity waiting.old }
-    ensures registers { (r : ℕ) → slice_index next.new.items r ≡ unwrap_or (assigned_by (nets_of settled.now) (memories_of banks.old.items) (module_of design.now).blocks r) (slice_index settled.now r) }
-    ensures words { (k at : ℕ) → memories_of banks.new.items k at ≡ unwrap_or (written_by (nets_of settled.now) (memories_of banks.old.items) (module_of design.now).blocks k at) (memories_of banks.old.items k at) }
+    ensures registers { (r : ℕ) → slice_index next.new.items r
+        ≡ unwrap_or (assigned_by (nets_of settled.now) (memories_of banks.old.items)
+        (module_of design.now).blocks r) (slice_index settled.now r) }
+    ensures words { (k at : ℕ) → memories_of banks.new.items k at
+        ≡ unwrap_or (written_by (nets_of settled.now) (memories_of banks.old.items)
+        (module_of design.now).blocks k at) (memories_of banks.old.items k at) }
 {
     run_blocks(design.blocks.as_slice(), settled, banks, next, waiting);
     write_words(waiting, banks);

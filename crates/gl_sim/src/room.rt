@@ -1,6 +1,6 @@
 //! The memory that a simulator takes.
 
-ghost use Rattle.std.specs.Prelude.{◌≡◌, ℕ, ◌^◌, ◌≤◌, length, map, replicate, not, ◌&&◌, IfOk, IfSome, [], vec_capacity};
+ghost use Rattle.std.specs.Prelude.{◌≡◌, ℕ, ◌≤◌, map, replicate, not, ◌&&◌, IfOk, IfSome, [], vec_capacity};
 ghost use Rattle.std.specs.List.{AllByRecursion};
 ghost use Rattle.gl_verilog.specs.View.{declaration_of, kind_of, statement_of, chained};
 ghost use Rattle.gl_verilog.specs.Widths.{HasSize, IsMemory, words_in, is_clock};
@@ -51,7 +51,8 @@ pub fn banks_of(alloc: Global, declarations: &[Declaration]) -> Result<Vec<Bank>
 
 // Whether it is an input port, and not the clock.
 fn is_set(declaration: &Declaration) -> bool
-    ensures { result ≡ (is_input (kind_of declaration.now.kind) && not (is_clock (declaration_of declaration.now))) }
+    ensures { result ≡ (is_input (kind_of declaration.now.kind) && not
+        (is_clock (declaration_of declaration.now))) }
 {
     matches!(declaration.kind, Kind::Input) && declaration.name.as_slice() != b"clk".as_slice()
 }

@@ -35,7 +35,8 @@ fn widths_at(
     declarations: &[Declaration],
     numbers: &[usize],
 ) -> Result<Vec<u8>, Fail>
-    ensures { IfOk result (λ v. v.items ≡ map (width_at (map declaration_of declarations.now)) numbers.now) }
+    ensures { IfOk result (λ v. v.items ≡ map (width_at (map declaration_of declarations.now))
+        numbers.now) }
 {
     let mut widths = Vec::new(alloc);
     for number in numbers {
@@ -69,7 +70,8 @@ fn cycle(
     port: usize,
 ) -> Result<u128, Fail>
     requires count { count ≡ length (module_of sim.old.design).declarations }
-    requires widths { widths.now ≡ map (width_at (module_of sim.old.design).declarations) (inputs_of (module_of sim.old.design)) }
+    requires widths { widths.now ≡ map (width_at (module_of sim.old.design).declarations)
+        (inputs_of (module_of sim.old.design)) }
     ensures { sim.new.design ≡ sim.old.design }
 {
     if port >= count {

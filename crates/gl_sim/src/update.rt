@@ -25,13 +25,17 @@ fn note(
     banks: &[Bank],
     waiting: &mut Vec<Update>,
 )
-    requires can { CanExecute values.now banks.now (Write memory (expr_of address.now) (expr_of value.now)) }
+    requires can { CanExecute values.now banks.now
+        (Write memory (expr_of address.now) (expr_of value.now)) }
     requires room { vec_len waiting.old < vec_capacity waiting.old }
     requires inside { AreInside banks.now waiting.old.items }
     ensures capacity { vec_capacity waiting.new ≡ vec_capacity waiting.old }
     ensures room { vec_len waiting.new ≡ vec_len waiting.old + 1 }
     ensures inside { AreInside banks.now waiting.new.items }
-    ensures words { (k at : ℕ) → put_of waiting.new.items k at ≡ later_or (written (nets_of values.now) (memories_of banks.now) (Write memory (expr_of address.now) (expr_of value.now)) k at) (put_of waiting.old.items k at) }
+    ensures words { (k at : ℕ) → put_of waiting.new.items k at
+        ≡ later_or (written (nets_of values.now) (memories_of banks.now)
+        (Write memory (expr_of address.now) (expr_of value.now)) k at)
+        (put_of waiting.old.items k at) }
 {
     let at = evaluate(address, values, banks);
     let word = evaluate(value, values, banks);
@@ -53,14 +57,20 @@ pub fn execute(
 )
     requires can { CanExecute values.now banks.now (statement_of statement.now) }
     requires size { length next.old.items ≡ length values.now }
-    requires room { vec_len waiting.old + writes_in (statement_of statement.now) ≤ vec_capacity waiting.old }
+    requires room { vec_len waiting.old + writes_in (statement_of statement.now) ≤ vec_capacity
+        waiting.old }
     requires inside { AreInside banks.now waiting.old.items }
     ensures size { length next.new.items ≡ length next.old.items }
     ensures capacity { vec_capacity waiting.new ≡ vec_capacity waiting.old }
-    ensures room { vec_len waiting.new ≤ vec_len waiting.old + writes_in (statement_of statement.now) }
+    ensures room { vec_len waiting.new ≤ vec_len waiting.old + writes_in
+        (statement_of statement.now) }
     ensures inside { AreInside banks.now waiting.new.items }
-    ensures registers { (r : ℕ) → slice_index next.new.items r ≡ unwrap_or (assigned (nets_of values.now) (memories_of banks.now) (statement_of statement.now) r) (slice_index next.old.items r) }
-    ensures words { (k at : ℕ) → put_of waiting.new.items k at ≡ later_or (written (nets_of values.now) (memories_of banks.now) (statement_of statement.now) k at) (put_of waiting.old.items k at) }
+    ensures registers { (r : ℕ) → slice_index next.new.items r
+        ≡ unwrap_or (assigned (nets_of values.now) (memories_of banks.now)
+        (statement_of statement.now) r) (slice_index next.old.items r) }
+    ensures words { (k at : ℕ) → put_of waiting.new.items k at
+        ≡ later_or (written (nets_of values.now) (memories_of banks.now)
+        (statement_of statement.now) k at) (put_of waiting.old.items k at) }
 {
     match statement {
         Statement::Nothing => {}

@@ -1,8 +1,8 @@
 -- From every state that the machine reaches, some tokens complete a module. Limits aside.
-use Rattle.std.proofs.Common.{◌≡◌, ℕ, ◌+◌, ◌-◌, ◌≤◌, Bool, true, false, List, [], ◌∷◌, ◌++◌, Option, Some, None, leb, refl, sym, ap, subst, ◌∙◌, arith}
+use Rattle.std.proofs.Common.{◌≡◌, ℕ, ◌+◌, ◌-◌, ◌≤◌, true, List, [], ◌∷◌, ◌++◌, Option, Some, None, leb, refl, ap, ◌∙◌, arith}
 use Rattle.std.proofs.lemmas.Bool.{le-leb}
-use Rattle.gl_verilog.specs.Tokens.{Token, Reserved, Name, Number, Sized, Mark, ModuleWord, EndModuleWord, InputWord, AssignWord, PosedgeWord, EndWord, ElseWord, OpenParen, CloseParen, OpenBracket, CloseBracket, OpenBrace, CloseBrace, Semicolon, Comma, Colon, At, Equals, LessEquals}
-use Rattle.gl_verilog.specs.Written.{WrittenExpr, Named, Constant, BitOf, PartOf, WordOf, Braces, Parts, Parens, Prefix, Infix, Conditional, InfixOp, looseness, WrittenStatement, Update, UpdateWord, IfThen, IfElse, Block, Range, WrittenItem, Wires, Registers, MemoryOf, Assign, Always, In, zero_digit}
+use Rattle.gl_verilog.specs.Tokens.{Token, Reserved, Name, Number, Mark, ModuleWord, EndModuleWord, InputWord, PosedgeWord, EndWord, OpenParen, CloseParen, CloseBracket, CloseBrace, Semicolon, Colon, At, Equals, LessEquals}
+use Rattle.gl_verilog.specs.Written.{WrittenExpr, Named, BitOf, PartOf, WordOf, Parens, Prefix, Infix, Conditional, InfixOp, looseness, WrittenStatement, Update, UpdateWord, IfThen, IfElse, Range, Wires, Registers, MemoryOf, Assign, Always, In, zero_digit}
 use Rattle.gl_verilog_grammar.specs.Machine.{Frame, InParens, InBraces, InIndex, PrefixOf, InfixOf, TestOf, ColonOf, AssignTo, UpdateTo, AddressFor, UpdateWordTo, IfTest, ThenOf, ElseOf, InBegin, BodyOf, Sort, WireSort, RegisterSort, Owner, OfPort, OfItem, Stage, WantModule, WantTitle, WantPorts, WantPort, Declaring, WantHigh, WantColon, WantZero, WantClose, WantName, AfterPort, AfterPorts, AfterName, WantMore, WantFirst, WantMemoryColon, WantLast, WantMemoryClose, WantMemoryEnd, WantItem, WantAssigned, WantEquals, WantAt, WantEdge, WantPosedge, WantClock, WantEdgeEnd, WantStatement, AfterTarget, WantArrow, WantTest, HaveStatement, WantOperand, HaveOperand, AtIndex, AtPlace, WantLow, AtPart, Complete, State, Open, IsColon, IsBrace, IsParen, IsBracket, IsSemicolon, close_top, after_close, reduce, at_end, settled, step}
 use Rattle.gl_verilog_grammar.proofs.Steps.{steps, steps-nil, steps-one}
 use Rattle.gl_verilog_grammar.proofs.OpenTexts.{OnStatement, OnExpr, loose-range}

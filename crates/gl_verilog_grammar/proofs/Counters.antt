@@ -1,9 +1,9 @@
 -- What an expression has open is counted among all brackets.
-use Rattle.std.proofs.Common.{◌≡◌, ℕ, zero, suc, ◌≤◌, Bool, true, false, ltb, arith, refl, subst, sym, ap}
+use Rattle.std.proofs.Common.{◌≡◌, ℕ, zero, suc, ◌≤◌, Bool, false, ltb, arith, refl, subst, sym, ap}
 use Rattle.std.specs.Prelude.{◌||◌}
 use Rattle.std.proofs.lemmas.Bool.{ltb-false}
 use Rattle.gl_verilog.specs.Tokens.{Token, Reserved, Mark, Keyword, WireWord, RegWord, AssignWord, AlwaysWord, IfWord, CloseParen, OpenBracket, Semicolon, Equals, LessEquals}
-use Rattle.gl_verilog_faults.specs.Counts.{Role, Counts, after, is_past}
+use Rattle.gl_verilog_faults.specs.Counts.{Counts, after, is_past}
 use Rattle.gl_verilog_faults.specs.Marks.{State, Header, Ground, Declares, Clocks, Asks, Aims, Index, Test, Value, Turn, Opening, Closing, Operating, Ending, Going, turn, turn_role, inside, in_value, word_next, ground_next, aim_next, declare_next, clock_next, header_next, role_at, next}
 use Rattle.gl_verilog_grammar.specs.declared.counting.Counter.{Counter}
 use Rattle.gl_verilog_grammar.specs.Counting.{place_of, depth_of, counts_of, IsWithin}

@@ -8,6 +8,7 @@ pub mod ReadStatements
 pub mod ReadModules
 pub mod OpenTexts
 pub mod Told
+pub mod SoundStatements
 pub mod Sound
 pub mod Counters
 pub mod Completes

@@ -1,19 +1,12 @@
 -- A list of one name.
-use Rattle.std.proofs.Common.{◌≡◌, ◌<◌, ◌≤◌, ℕ, List, [], ◌∷◌, length, get_or, Option, Some, None, Vec, Global, refl, sym, ap, arith}
-use Rattle.gl_verilog.specs.Written as written
+use Rattle.std.proofs.Common.{◌≡◌, ◌<◌, ◌≤◌, List, [], ◌∷◌, length, get_or, Option, Some, sym, ap, arith}
 use Rattle.gl_verilog_written.specs.declared.token.Word.{Word}
-use Rattle.gl_verilog_written.specs.declared.written.WrittenExpr.{WrittenExpr, Named}
-use Rattle.gl_verilog_written.specs.declared.written.WrittenStatement.{WrittenStatement}
-use Rattle.gl_verilog_written.specs.View.{expr_of, range_of, names_of}
-use Rattle.gl_verilog_grammar.specs.declared.frames.Frame.{Frame}
-use Rattle.gl_verilog_grammar.specs.declared.frames.Frame.TheVariants as frame_is
-use Rattle.gl_verilog_grammar.specs.declared.frames.Stated.TheVariants as stated_is
-use Rattle.gl_verilog_grammar.specs.declared.closing.Closed.TheVariants as closed_is
+use Rattle.gl_verilog_written.specs.View.{range_of, names_of}
 use Rattle.gl_verilog_grammar.specs.declared.stage.Sort.{Sort}
 use Rattle.gl_verilog_grammar.specs.declared.stage.Sort.TheVariants as sort_is
 use Rattle.gl_verilog_grammar.specs.declared.stage.Stage.TheVariants as stage_is
 use Rattle.gl_verilog_grammar.specs.Stages as machine
-use Rattle.gl_verilog_grammar.specs.View.{frame_of, closed_of, stated_of, sort_of, stage_of}
+use Rattle.gl_verilog_grammar.specs.View.{sort_of, stage_of}
 
 -- a register alone may be a memory
 pub one_name : (xs : List Word) (sort : Sort) (range : Option Word) (d : Word) → sort ≡ sort_is.RegisterSort → 1 ≤ length xs → length xs < 2 → Some (stage_of (stage_is.WantFirst range (get_or xs 0 d))) ≡ machine.memory_stage (sort_of sort) (range_of range) (names_of xs)

@@ -1,10 +1,10 @@
 -- The text of what is open while tokens are read, and what makes it the beginning of a module.
-use Rattle.std.proofs.Common.{◌≡◌, ℕ, suc, ◌+◌, ◌-◌, ◌<◌, ◌≤◌, Bool, true, false, cond, leb, List, [], ◌∷◌, ◌++◌, Option, Some, None, max, refl, sym, ap, subst, ◌∙◌, append_assoc, arith}
+use Rattle.std.proofs.Common.{◌≡◌, ℕ, ◌+◌, ◌-◌, ◌<◌, ◌≤◌, Bool, true, false, cond, leb, List, [], ◌∷◌, ◌++◌, Some, refl, sym, ap, subst, ◌∙◌, append_assoc, arith}
 use Rattle.std.proofs.lemmas.Bool.{leb-true, leb-false}
 use Rattle.std.proofs.lemmas.List.{append-nil}
 use Rattle.gl_verilog.specs.Tokens.{Token, Reserved, Name, Mark, AssignWord, AlwaysWord, PosedgeWord, BeginWord, IfWord, ElseWord, OpenParen, CloseParen, OpenBracket, CloseBracket, OpenBrace, Comma, Colon, Question, At, Equals, LessEquals}
-use Rattle.gl_verilog.specs.Written.{PrefixOp, InfixOp, Times, Added, Subtracted, Below, AtMost, Above, AtLeast, Equal, NotEqual, BitAnd, BitXor, BitOr, LogicalAnd, LogicalOr, WrittenExpr, Parts, Prefix, Infix, Conditional, looseness, level, IsGrouped, IsExpr, prefix_token, infix_token, spell_expr, WrittenStatement, Update, UpdateWord, IfThen, IfElse, Block, Listed, Ended, ends_open, Single, InBlock, IsStatementAt, IsStatement, spell_statement, listed}
-use Rattle.gl_verilog_grammar.specs.Machine.{Frame, InParens, InBraces, InIndex, PrefixOf, InfixOf, TestOf, ColonOf, AssignTo, UpdateTo, AddressFor, UpdateWordTo, IfTest, ThenOf, ElseOf, InBegin, BodyOf, Open, reduce, applied, parts_of, at_else, at_end, if_of}
+use Rattle.gl_verilog.specs.Written.{InfixOp, Times, Added, Subtracted, Below, AtMost, Above, AtLeast, Equal, NotEqual, BitAnd, BitXor, BitOr, LogicalAnd, LogicalOr, WrittenExpr, Prefix, Infix, Conditional, looseness, level, IsGrouped, IsExpr, prefix_token, infix_token, spell_expr, WrittenStatement, IfThen, IfElse, ends_open, InBlock, IsStatementAt, IsStatement, spell_statement, listed}
+use Rattle.gl_verilog_grammar.specs.Machine.{Frame, InParens, InBraces, InIndex, PrefixOf, InfixOf, TestOf, ColonOf, AssignTo, UpdateTo, AddressFor, UpdateWordTo, IfTest, ThenOf, ElseOf, InBegin, BodyOf, Open, reduce, parts_of, at_else, at_end}
 
 -- ---- texts
 

@@ -1,5 +1,5 @@
 -- A statement that is spelled is read again.
-use Rattle.std.proofs.Common.{◌≡◌, ℕ, ◌+◌, ◌-◌, ◌≤◌, false, List, [], ◌∷◌, ◌++◌, Some, refl, sym, ap, ◌∙◌, append_assoc, arith}
+use Rattle.std.proofs.Common.{◌≡◌, ℕ, ◌+◌, ◌-◌, false, List, [], ◌∷◌, ◌++◌, Some, refl, sym, ap, ◌∙◌, append_assoc}
 use Rattle.gl_verilog.specs.Tokens.{Token, Reserved, Name, Mark, BeginWord, EndWord, IfWord, ElseWord, OpenParen, CloseParen, OpenBracket, CloseBracket, Semicolon, LessEquals}
 use Rattle.gl_verilog.specs.Written.{WrittenExpr, IsExpr, spell_expr, WrittenStatement, Update, UpdateWord, IfThen, IfElse, Block, Listed, Ended, ends_open, Single, InBlock, IsStatementAt, spell_statement, listed}
 use Rattle.gl_verilog_grammar.specs.Machine.{State, Frame, UpdateTo, AddressFor, UpdateWordTo, IfTest, ThenOf, ElseOf, InBegin, WantStatement, AfterTarget, WantArrow, WantTest, HaveStatement, step, reduce, at_else, at_end, Open}

@@ -12,7 +12,7 @@ use Rattle.gl_verilog_written.specs.declared.fault.VerilogFault.TheVariants as f
 use Rattle.gl_verilog_written.specs.declared.written.WrittenModule as code
 use Rattle.gl_verilog_written.specs.View.{module_of, token_of, tokens_in}
 use Rattle.gl_verilog_grammar.specs.Machine.{State, step, finish}
-use Rattle.gl_verilog_grammar.specs.Reading.{Fault, Syntax, TooDeep, or_fault, if_past, then_read, read_from}
+use Rattle.gl_verilog_grammar.specs.Reading.{Fault, Syntax, TooDeep, or_fault, read_from}
 use Rattle.gl_verilog_grammar.specs.Answers.{place_in, Stand, read_on, Goes, IsGiven, StopsAt, IsRead}
 
 pub goes : (s s' : Stand) (t : Token) → step s.state t ≡ Some s'.state → s'.place ≡ next s.place t → s'.counts ≡ after s.counts (role_at s.place t) → is_past s'.counts ≡ false → Goes t s s'

@@ -1,20 +1,19 @@
 -- What the reader answers is the page: the module, or the first token that cannot stand there or passes a limit.
-use Rattle.std.proofs.Common.{◌≡◌, ℕ, suc, ◌+◌, ◌⊎◌, inl, inr, Bool, true, false, List, [], ◌∷◌, ◌++◌, length, Option, Some, None, Result, Ok, Err, refl, sym, ap, subst, ◌∙◌, arith, append_assoc}
+use Rattle.std.proofs.Common.{◌≡◌, ℕ, ◌+◌, Bool, true, false, List, [], ◌∷◌, ◌++◌, length, Option, Some, None, Result, Ok, Err, refl, sym, ap, subst, ◌∙◌, arith, append_assoc}
 use Rattle.std.specs.Prelude.{if◌then◌else◌}
 use Rattle.std.proofs.lemmas.List.{append-nil}
 use Rattle.gl_verilog.specs.Tokens.{Token}
 use Rattle.gl_verilog.specs.Written.{WrittenModule, IsWritten, spell}
 use Rattle.gl_verilog.specs.Limits.{IsWithinLimits}
-use Rattle.gl_verilog_grammar.specs.Machine.{State, start, step, finish, complete}
+use Rattle.gl_verilog_grammar.specs.Machine.{State, start, step, finish}
 use Rattle.gl_verilog_faults.specs.Counts.{Role, Counts, none_counted, after, is_past, keeps_limits}
 use Rattle.gl_verilog_faults.specs.Marks.{State as Place, Header, marks, behind, role_at, next}
-use Rattle.gl_verilog_faults.specs.Faults.{CanBegin, KeepsFront, Stops}
+use Rattle.gl_verilog_faults.specs.Faults.{KeepsFront}
 use Rattle.gl_verilog_grammar.specs.Reading.{Fault, Syntax, TooDeep, or_fault, if_past, then_read, read_from}
 use Rattle.gl_verilog_grammar.specs.Answers.{IsSyntaxAt, IsDeepAt}
 use Rattle.gl_verilog_grammar.proofs.Steps.{steps, steps-nil}
 use Rattle.gl_verilog_faults.proofs.Exact.{keeps_spelled}
-use Rattle.gl_verilog_grammar.proofs.Tells.{begins_when, reads_when, tell, tell_all, spelt_when, spelt_stage, steps_push, push_none}
-use Rattle.gl_verilog_faults.proofs.Total.{IsSpelt}
+use Rattle.gl_verilog_grammar.proofs.Tells.{begins_when, reads_when, spelt_when, spelt_stage, steps_push, push_none}
 
 -- the counts behind roles
 abbrev pub counted : Counts → List Role → Counts

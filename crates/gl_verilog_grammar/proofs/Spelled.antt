@@ -1,10 +1,9 @@
 -- What the machine reads is what is answered for the tokens.
-use Rattle.std.proofs.Common.{◌≡◌, ℕ, true, false, List, [], ◌∷◌, ◌++◌, Result, Ok, Err, refl, sym, ap, subst, ◌∙◌, append_assoc}
+use Rattle.std.proofs.Common.{◌≡◌, ℕ, List, [], ◌∷◌, ◌++◌, Result, Ok, Err, refl, sym, subst, ◌∙◌, append_assoc}
 use Rattle.std.proofs.lemmas.Bool.{both_ways}
 use Rattle.std.proofs.lemmas.List.{append-nil}
 use Rattle.gl_verilog.specs.Tokens.{Token}
-use Rattle.gl_verilog.specs.Written.{WrittenModule, IsWritten, spell}
-use Rattle.gl_verilog.specs.Limits.{IsWithinLimits}
+use Rattle.gl_verilog.specs.Written.{WrittenModule, spell}
 use Rattle.gl_verilog.specs.Text.{IsSpelling}
 use Rattle.gl_verilog_faults.specs.Counts.{none_counted, keeps_limits}
 use Rattle.gl_verilog_faults.specs.Marks.{Header, marks}

@@ -1,18 +1,14 @@
 -- The stack of what is open, whose top is the last of a Vec.
-use Rattle.std.proofs.Common.{◌≡◌, ◌≤◌, ◌<◌, length, get_or, arith, ℕ, true, false, List, [], ◌∷◌, ◌++◌, Option, None, Vec, Global, refl, sym, ap, ◌∙◌}
+use Rattle.std.proofs.Common.{◌≡◌, ℕ, true, false, List, [], ◌∷◌, ◌++◌, None, refl, ap}
 use Rattle.std.specs.Prelude.{map}
 use Rattle.std.proofs.lemmas.List.{reverse-append, map-append}
 use Rattle.gl_verilog.specs.Written as written
 use Rattle.gl_verilog_grammar.specs.Machine as machine
-use Rattle.gl_verilog_written.specs.declared.written.WrittenExpr.{WrittenExpr, Named}
+use Rattle.gl_verilog_written.specs.declared.written.WrittenExpr.{WrittenExpr}
 use Rattle.gl_verilog_grammar.specs.declared.frames.Frame.{Frame}
-use Rattle.gl_verilog_written.specs.declared.token.Word.{Word}
-use Rattle.gl_verilog_grammar.specs.declared.stage.Sort.{Sort}
-use Rattle.gl_verilog_grammar.specs.declared.stage.Sort.TheVariants as sort_is
-use Rattle.gl_verilog_grammar.specs.declared.stage.Stage.TheVariants as stage_is
 use Rattle.gl_verilog_written.proofs.Views.{braces_are, block_is}
-use Rattle.gl_verilog_written.specs.View.{range_of, names_of, expr_of, parts_list}
-use Rattle.gl_verilog_grammar.specs.View.{stage_of, sort_of, frame_of, frames_of}
+use Rattle.gl_verilog_written.specs.View.{parts_list}
+use Rattle.gl_verilog_grammar.specs.View.{frame_of, frames_of}
 
 pub frames-push : (frames : List Frame) (x : Frame) → frames_of (frames ++ x ∷ []) ≡ frame_of x ∷ frames_of frames
 frames-push frames x = ap (map frame_of) (reverse-append frames (x ∷ []))

@@ -1,7 +1,7 @@
 -- A step goes by the stage that it is given, whatever stands in its place, and puts another there.
 use Rattle.std.proofs.Common.{◌≡◌, ℕ, Bool, true, false, List, [], ◌∷◌, ◌++◌, Option, Some, None, refl}
 use Rattle.std.specs.Prelude.{option_map, option_and_then, if◌then◌else◌}
-use Rattle.gl_verilog.specs.Tokens.{Token, Reserved, Name, Number, Sized, Mark, Never, IfWord, BeginWord, EndWord, ElseWord, OpenParen, CloseParen, OpenBracket, CloseBracket, OpenBrace, Semicolon, Comma, Colon, Equals, Tilde, Exclamation, LessEquals}
+use Rattle.gl_verilog.specs.Tokens.{Token, Reserved, Name, Number, Sized, Mark, IfWord, BeginWord, EndWord, ElseWord, OpenParen, CloseParen, OpenBracket, CloseBracket, OpenBrace, Semicolon, Comma, Colon, Equals, Tilde, Exclamation, LessEquals}
 use Rattle.gl_verilog.specs.Written.{BitNot, LogicalNot, WrittenExpr, BitOf, PartOf, WrittenStatement, WrittenItem, MemoryOf, Range}
 use Rattle.gl_verilog_grammar.specs.Machine as machine
 use Rattle.gl_verilog_grammar.specs.Machine.{State, Frame, Stage, Owner, OfPort, OfItem, Sort, Open, Role, IsInfix, IsQuestion, IsColon, IsComma, IsBrace, IsParen, IsBracket, IsSemicolon, IsIndex, IsOther, role_of, Closed, AnOperand, ATest, AnAddress, AnItem, AStatement, Further, Unclosed, close_top, reduce, alone, Stated, InList, AsBody, Nowhere, stated, block_of, at_else, at_end, item_of, memory_stage, item_stage, next_stage, is_mark, is_word, name_in, expect, with_word}

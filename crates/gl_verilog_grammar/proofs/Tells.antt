@@ -1,10 +1,9 @@
 -- It can be told which tokens begin a module, and which are one: the machine, limits aside, stops just where none goes on.
-use Rattle.std.proofs.Common.{◌≡◌, ℕ, ◌≤◌, ◌⊎◌, inl, inr, Bool, true, false, List, [], ◌∷◌, ◌++◌, Option, Some, None, refl, sym, ap, subst, ◌∙◌, arith, append_assoc}
+use Rattle.std.proofs.Common.{◌≡◌, ℕ, ◌⊎◌, inl, inr, List, [], ◌∷◌, ◌++◌, Option, Some, None, refl, sym, ap, subst, ◌∙◌, append_assoc}
 use Rattle.std.proofs.lemmas.List.{append-nil}
-use Rattle.gl_verilog.specs.Tokens.{Token, Reserved, EndModuleWord}
+use Rattle.gl_verilog.specs.Tokens.{Token}
 use Rattle.gl_verilog.specs.Written.{WrittenModule, IsWritten, spell}
 use Rattle.gl_verilog_grammar.specs.Machine.{State, Stage, Complete, start, step, complete, finish}
-use Rattle.gl_verilog_faults.specs.Demands.{Rule}
 use Rattle.gl_verilog_faults.specs.Faults.{CanBegin}
 use Rattle.gl_verilog_grammar.proofs.Steps.{steps, steps-nil, kept}
 use Rattle.gl_verilog_grammar.proofs.ReadModules.{between, read_again}

@@ -1,15 +1,10 @@
 -- What the reader's state tells of the tokens that were read, and what is known of it at each stage.
-use Rattle.std.proofs.Common.{◌≡◌, ℕ, suc, ◌+◌, ◌-◌, ◌<◌, ◌≤◌, Bool, true, false, cond, ltb, List, [], ◌∷◌, ◌++◌, Option, Some, None, Result, Ok, Err, refl, sym, ap, subst, ◌∙◌, append_assoc, arith}
+use Rattle.std.proofs.Common.{◌≡◌, ℕ, ◌+◌, false, List, [], ◌∷◌, ◌++◌, Some, subst, ◌∙◌}
 use Rattle.std.specs.List.{AllByRecursion}
-use Rattle.std.specs.Str.{bytes_eq}
-use Rattle.std.specs.Prelude.{◌||◌}
-use Rattle.std.proofs.lemmas.Bool.{ltb-false}
-use Rattle.std.proofs.lemmas.List.{append-nil}
-use Rattle.std.proofs.lemmas.Slice.Eq.{bytes_eq-Decides}
-use Rattle.gl_verilog.specs.Tokens.{Token, Reserved, Name, Number, Sized, Mark, Never, ModuleWord, EndModuleWord, InputWord, OutputWord, WireWord, RegWord, AssignWord, AlwaysWord, PosedgeWord, BeginWord, EndWord, IfWord, ElseWord, Keyword, Sign, OpenParen, CloseParen, OpenBracket, CloseBracket, OpenBrace, CloseBrace, Semicolon, Comma, Colon, Question, At, Equals, Tilde, Exclamation, Star, Plus, Minus, Less, Greater, Ampersand, Caret, Bar, LessEquals, GreaterEquals, EqualsEquals, ExclamationEquals, AmpersandAmpersand, BarBar}
-use Rattle.gl_verilog.specs.Written.{PrefixOp, BitNot, LogicalNot, InfixOp, Times, Added, Subtracted, Below, AtMost, Above, AtLeast, Equal, NotEqual, BitAnd, BitXor, BitOr, LogicalAnd, LogicalOr, WrittenExpr, Named, Constant, BitOf, PartOf, WordOf, Braces, Parens, looseness, level, IsGrouped, IsExpr, IsStatement, infix_token, spell_expr, WrittenStatement, Update, UpdateWord, Block, ends_open, spell_statement, Direction, In, InWire, Out, OutWire, OutReg, Range, WrittenPort, WrittenItem, Wires, Registers, MemoryOf, Assign, Always, WrittenModule, spell_direction, spell_range, spell_port, spell_ports, spell_more_ports, spell_names, spell_more_names, spell_item, spell_items, spell, IsNonempty, IsItem, IsWritten, zero_digit, listed}
-use Rattle.gl_verilog_grammar.specs.Machine.{State, Frame, InParens, InBraces, InIndex, PrefixOf, InfixOf, TestOf, ColonOf, AssignTo, UpdateTo, AddressFor, UpdateWordTo, IfTest, ThenOf, ElseOf, InBegin, BodyOf, Sort, WireSort, RegisterSort, Owner, OfPort, OfItem, Stage, WantModule, WantTitle, WantPorts, WantPort, Declaring, WantHigh, WantColon, WantZero, WantClose, WantName, AfterPort, AfterPorts, AfterName, WantMore, WantFirst, WantMemoryColon, WantLast, WantMemoryClose, WantMemoryEnd, WantItem, WantAssigned, WantEquals, WantAt, WantEdge, WantPosedge, WantClock, WantEdgeEnd, WantStatement, AfterTarget, WantArrow, WantTest, HaveStatement, WantOperand, HaveOperand, AtIndex, AtPlace, WantLow, AtPart, Complete, start, item_of, end_block, at_else, at_end, after_else, after_statement, reduce, parts_of, Open, at_infix, at_question, indexed, named, declaring, after_name, want_more, want_statement, after_target, have_statement, want_operand, have_operand, at_index, at_place, step, step_at, finish, complete}
-use Rattle.gl_verilog_grammar.proofs.OpenTexts.{with_commas, spell_all, text_of, room, AreParts, AreDone, OnStatement, OnExpr, loose-range, room-some, room-wide, Reduced, reduces, Settled, ends, Continued, elses, parts-more, commas-more, joins, done-more, all-more, lists}
+use Rattle.gl_verilog.specs.Tokens.{Token, Reserved, Name, Number, Mark, ModuleWord, EndModuleWord, WireWord, RegWord, AssignWord, AlwaysWord, PosedgeWord, IfWord, OpenParen, CloseParen, OpenBracket, CloseBracket, Semicolon, Comma, Colon, At}
+use Rattle.gl_verilog.specs.Written.{WrittenExpr, level, IsGrouped, IsExpr, IsStatement, spell_expr, WrittenStatement, ends_open, spell_statement, WrittenPort, WrittenItem, spell_direction, spell_range, spell_ports, spell_names, spell_items, IsNonempty, IsItem, zero_digit}
+use Rattle.gl_verilog_grammar.specs.Machine.{State, Frame, Sort, WireSort, RegisterSort, Owner, OfPort, OfItem, Stage, WantModule, WantTitle, WantPorts, WantPort, Declaring, WantHigh, WantColon, WantZero, WantClose, WantName, AfterPort, AfterPorts, AfterName, WantMore, WantFirst, WantMemoryColon, WantLast, WantMemoryClose, WantMemoryEnd, WantItem, WantAssigned, WantEquals, WantAt, WantEdge, WantPosedge, WantClock, WantEdgeEnd, WantStatement, AfterTarget, WantArrow, WantTest, HaveStatement, WantOperand, HaveOperand, AtIndex, AtPlace, WantLow, AtPart, Complete}
+use Rattle.gl_verilog_grammar.proofs.OpenTexts.{text_of, OnStatement, OnExpr}
 
 -- ---- texts
 

@@ -1,19 +1,15 @@
 -- A text has exactly one verdict.
-use Rattle.std.proofs.Common.{◌≡◌, ℕ, suc, ◌+◌, ◌<◌, ◌≤◌, ◌⊎◌, inl, inr, Bool, true, false, List, [], ◌∷◌, ◌++◌, length, Option, Some, None, refl, sym, ap, subst, ◌∙◌, arith, append_assoc}
+use Rattle.std.proofs.Common.{◌≡◌, ℕ, suc, ◌+◌, inl, inr, true, false, List, [], ◌∷◌, ◌++◌, length, Some, refl, sym, ap, subst, ◌∙◌}
 use Rattle.std.specs.Prelude.{slice_get}
 use Rattle.std.specs.List.{AllByRecursion}
-use Rattle.gl_verilog.specs.Tokens.{Token, tokens_of, IsPlaceOf}
-use Rattle.gl_verilog.specs.Written.{WrittenModule, IsWritten, spell}
-use Rattle.gl_verilog.specs.Limits.{IsWithinLimits}
+use Rattle.gl_verilog.specs.Tokens.{IsPlaceOf}
+use Rattle.gl_verilog.specs.Written.{WrittenModule}
 use Rattle.gl_verilog.specs.Module.{Module, Assignment}
-use Rattle.gl_verilog.specs.Resolve.{resolve}
 use Rattle.gl_verilog.specs.Text.{HasModule}
-use Rattle.gl_verilog_faults.specs.Demands.{Rule, Loop, Demand, ask, AreMet, IsFirst, IsFirstLoop, IsLooped, assign_tokens, items_token, demands_of}
+use Rattle.gl_verilog_faults.specs.Demands.{Rule, Demand, ask, AreMet, IsFirstLoop, IsLooped, assign_tokens, items_token}
 use Rattle.gl_verilog_faults.specs.Faults.{IsSyntaxFault, IsDepthFault, IsBroken, IsJudgedFault}
-use Rattle.gl_verilog_grammar.proofs.ReadModules.{one_spelt, one_module}
-use Rattle.gl_verilog_grammar.proofs.Tells.{has_verdict}
-use Rattle.gl_verilog_faults.proofs.Total.{HasVerdict}
-use Rattle.gl_verilog_faults.proofs.Exact.{one_place, first_met, judged_module, syntax_spelled, depth_spelled, syntax_depth, syntax_one, depth_one}
+use Rattle.gl_verilog_grammar.proofs.ReadModules.{one_spelt}
+use Rattle.gl_verilog_faults.proofs.Exact.{one_place, first_met, judged_module, syntax_spelled, depth_spelled}
 
 pub module_judged : (text : List ℕ) (rule : Rule) (at : ℕ) (m : Module) → IsJudgedFault text rule at → HasModule text m → ⊥
 module_judged text rule at m j h = judged_module text rule at m (λ v w gv lv gw lw e. one_spelt v w gv gw e) j h

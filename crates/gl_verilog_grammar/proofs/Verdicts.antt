@@ -1,5 +1,5 @@
 -- A text has exactly one verdict.
-use Rattle.std.proofs.Common.{◌≡◌, ℕ, ◌⊎◌, inl, inr, List, refl, ap, ◌∙◌}
+use Rattle.std.proofs.Common.{◌≡◌, ℕ, inl, inr, List, ap, ◌∙◌}
 use Rattle.gl_verilog_faults.specs.Faults.{Verdict, IsModule, IsSyntax, IsTooDeep, Breaks, IsVerdict}
 use Rattle.gl_verilog_faults.proofs.Exact.{syntax_depth, syntax_one, depth_one}
 use Rattle.gl_verilog_faults.proofs.Total.{HasVerdict}

@@ -1,28 +1,6 @@
 -- What the values of the reader stand for: what was read so far.
-use Rattle.std.specs.Prelude.{◌≡◌, ℕ, ◌≤◌, Bool, List, [], ◌∷◌, map, reverse, Option, Some, None, option_map, Result, Ok, IfOk, MatchBool, MatchResult, ◌+◌}
-use Rattle.gl_verilog.specs.Tokens as tokens
-use Rattle.gl_verilog.specs.Written as written
+use Rattle.std.specs.Prelude.{◌≡◌, Bool, List, map, reverse, Option, Some, None, Result, IfOk, MatchBool}
 use Rattle.gl_verilog_grammar.specs.Machine as machine
-use Rattle.gl_verilog_written.specs.declared.token.Word.{Word}
-use Rattle.gl_verilog_written.specs.declared.token.Keyword.{Keyword}
-use Rattle.gl_verilog_written.specs.declared.token.Keyword.TheVariants as keyword_is
-use Rattle.gl_verilog_written.specs.declared.token.Sign.{Sign}
-use Rattle.gl_verilog_written.specs.declared.token.Sign.TheVariants as sign_is
-use Rattle.gl_verilog_written.specs.declared.token.Token.{Token}
-use Rattle.gl_verilog_written.specs.declared.token.Token.TheVariants as token_is
-use Rattle.gl_verilog_written.specs.declared.token.Lexeme.{Lexeme}
-use Rattle.gl_verilog_written.specs.declared.written.PrefixOp.{PrefixOp}
-use Rattle.gl_verilog_written.specs.declared.written.PrefixOp.TheVariants as prefix_is
-use Rattle.gl_verilog_written.specs.declared.written.InfixOp.{InfixOp}
-use Rattle.gl_verilog_written.specs.declared.written.InfixOp.TheVariants as infix_is
-use Rattle.gl_verilog_written.specs.declared.written.WrittenExpr.{WrittenExpr, Named, Constant, BitOf, PartOf, WordOf', Braces', Parens', Prefix', Infix', Conditional', Row_of-WrittenExpr, end_of-WrittenExpr, more_of-WrittenExpr}
-use Rattle.gl_verilog_written.specs.declared.written.WrittenStatement.{WrittenStatement, Update, UpdateWord, IfThen', IfElse', Block', Row_of-WrittenStatement, end_of-WrittenStatement, more_of-WrittenStatement}
-use Rattle.gl_verilog_written.specs.declared.written.Direction.{Direction}
-use Rattle.gl_verilog_written.specs.declared.written.Direction.TheVariants as direction_is
-use Rattle.gl_verilog_written.specs.declared.written.WrittenPort.{WrittenPort}
-use Rattle.gl_verilog_written.specs.declared.written.WrittenItem.{WrittenItem}
-use Rattle.gl_verilog_written.specs.declared.written.WrittenItem.TheVariants as item_is
-use Rattle.gl_verilog_written.specs.declared.written.WrittenModule.{WrittenModule}
 use Rattle.gl_verilog_grammar.specs.declared.frames.Frame.{Frame}
 use Rattle.gl_verilog_grammar.specs.declared.frames.Frame.TheVariants as frame_is
 use Rattle.gl_verilog_grammar.specs.declared.frames.Stated.{Stated}
@@ -38,9 +16,7 @@ use Rattle.gl_verilog_grammar.specs.declared.stage.Stage.TheVariants as stage_is
 use Rattle.gl_verilog_grammar.specs.declared.stage.Role.{Role}
 use Rattle.gl_verilog_grammar.specs.declared.stage.Role.TheVariants as role_name
 use Rattle.gl_verilog_grammar.specs.declared.reading.Reading.{Reading}
-use Rattle.gl_verilog_written.specs.declared.fault.VerilogFault.{VerilogFault}
-use Rattle.gl_verilog_written.specs.declared.fault.VerilogFault.TheVariants as fault
-use Rattle.gl_verilog_written.specs.View.{keyword_of, sign_of, token_of, tokens_in, prefix_of, infix_of, parts_list, expr_of, exprs_of, statement_of, statements_of, name_of, names_of, range_of, direction_of, port_of, item_of, module_of}
+use Rattle.gl_verilog_written.specs.View.{prefix_of, infix_of, expr_of, statement_of, name_of, names_of, range_of, direction_of, port_of, item_of}
 
 abbrev pub role_is : Role → machine.Role
 role_is (role_name.IsInfix op) = machine.IsInfix (infix_of op)

@@ -26,7 +26,8 @@ pub enum Closed<'a> {
 
 #[tactic(auto, unfolding(crate::specs::View::frame_of, crate::specs::View::closed_of))]
 fn at_colon<'a>(frame: Frame<'a>, operand: WrittenExpr<'a>) -> Closed<'a>
-    ensures { closed_of result ≡ machine.closed machine.IsColon (frame_of frame.entry) (expr_of operand.entry) }
+    ensures { closed_of result ≡ machine.closed machine.IsColon (frame_of frame.entry)
+        (expr_of operand.entry) }
 {
     match frame {
         Frame::TestOf { at, test } => Closed::Further(Frame::ColonOf {
@@ -44,7 +45,8 @@ fn at_colon<'a>(frame: Frame<'a>, operand: WrittenExpr<'a>) -> Closed<'a>
 
 #[tactic(auto, using(crate::proofs::Stack::pushes), unfolding(crate::specs::View::frame_of, crate::specs::View::closed_of))]
 fn at_comma<'a>(frame: Frame<'a>, operand: WrittenExpr<'a>) -> Result<Closed<'a>, AllocError>
-    ensures { IfOk result (λ c. closed_of c ≡ machine.closed machine.IsComma (frame_of frame.entry) (expr_of operand.entry)) }
+    ensures { IfOk result (λ c. closed_of c ≡ machine.closed machine.IsComma (frame_of frame.entry)
+        (expr_of operand.entry)) }
 {
     match frame {
         Frame::InBraces { at, parts } => {
@@ -62,7 +64,8 @@ fn at_comma<'a>(frame: Frame<'a>, operand: WrittenExpr<'a>) -> Result<Closed<'a>
 
 #[tactic(auto, using(gl_verilog_written::proofs::Views::exprs, crate::proofs::Stack::pushes), unfolding(crate::specs::View::frame_of, crate::specs::View::closed_of))]
 fn at_brace<'a>(frame: Frame<'a>, operand: WrittenExpr<'a>) -> Result<Closed<'a>, AllocError>
-    ensures { IfOk result (λ c. closed_of c ≡ machine.closed machine.IsBrace (frame_of frame.entry) (expr_of operand.entry)) }
+    ensures { IfOk result (λ c. closed_of c ≡ machine.closed machine.IsBrace (frame_of frame.entry)
+        (expr_of operand.entry)) }
 {
     match frame {
         Frame::InBraces { at, parts } => {
@@ -84,7 +87,8 @@ fn at_paren<'a>(
     frame: Frame<'a>,
     operand: WrittenExpr<'a>,
 ) -> Result<Closed<'a>, AllocError>
-    ensures { IfOk result (λ c. closed_of c ≡ machine.closed machine.IsParen (frame_of frame.entry) (expr_of operand.entry)) }
+    ensures { IfOk result (λ c. closed_of c ≡ machine.closed machine.IsParen (frame_of frame.entry)
+        (expr_of operand.entry)) }
 {
     match frame {
         Frame::InParens => {
@@ -106,7 +110,8 @@ fn at_bracket<'a>(
     frame: Frame<'a>,
     operand: WrittenExpr<'a>,
 ) -> Result<Closed<'a>, AllocError>
-    ensures { IfOk result (λ c. closed_of c ≡ machine.closed machine.IsBracket (frame_of frame.entry) (expr_of operand.entry)) }
+    ensures { IfOk result (λ c. closed_of c ≡ machine.closed machine.IsBracket
+        (frame_of frame.entry) (expr_of operand.entry)) }
 {
     match frame {
         Frame::InIndex(name) => {
@@ -124,7 +129,8 @@ fn at_bracket<'a>(
 
 #[tactic(auto, using(gl_verilog_written::proofs::Views::items, gl_verilog_written::proofs::Views::exprs), unfolding(crate::specs::View::frame_of, crate::specs::View::closed_of))]
 fn at_semicolon<'a>(frame: Frame<'a>, operand: WrittenExpr<'a>) -> Closed<'a>
-    ensures { closed_of result ≡ machine.closed machine.IsSemicolon (frame_of frame.entry) (expr_of operand.entry) }
+    ensures { closed_of result ≡ machine.closed machine.IsSemicolon (frame_of frame.entry)
+        (expr_of operand.entry) }
 {
     match frame {
         Frame::AssignTo(target) => Closed::AnItem(WrittenItem::Assign {
@@ -158,7 +164,8 @@ fn close_frame<'a>(
     frame: Frame<'a>,
     operand: WrittenExpr<'a>,
 ) -> Result<Closed<'a>, AllocError>
-    ensures { IfOk result (λ c. closed_of c ≡ machine.closed (role_is role) (frame_of frame.entry) (expr_of operand.entry)) }
+    ensures { IfOk result (λ c. closed_of c ≡ machine.closed (role_is role) (frame_of frame.entry)
+        (expr_of operand.entry)) }
 {
     match role {
         Role::IsColon => Ok(at_colon(frame, operand)),
@@ -183,7 +190,9 @@ pub(crate) fn close_top<'a>(
     role: Role,
     operand: WrittenExpr<'a>,
 ) -> Result<Closed<'a>, AllocError>
-    ensures { IfOk result (λ c. machine.close_top (role_is role) (machine.reduce 11 (frames_of frames.old.items) (expr_of operand.entry)) ≡ (frames_of frames.new.items, closed_of c)) }
+    ensures { IfOk result (λ c. machine.close_top (role_is role)
+        (machine.reduce 11 (frames_of frames.old.items) (expr_of operand.entry))
+        ≡ (frames_of frames.new.items, closed_of c)) }
 {
     let operand = reduce(alloc, frames, operand, 11)?;
     match frames.pop() {

@@ -16,7 +16,7 @@ pub const MOST_OPERATORS: usize = 1024;
 pub const MOST_IFS: usize = 1024;
 
 /// Where the reader stands, as far as the limits ask.
-#[derive(Clone, Copy, PartialEq, Eq, Debug)]
+#[derive(Clone, Copy)]
 pub enum Place {
     /// Up to the `;` behind the ports.
     Header,
@@ -39,7 +39,7 @@ pub enum Place {
 }
 
 /// What a token does in an expression.
-#[derive(Clone, Copy, PartialEq, Eq, Debug)]
+#[derive(Clone, Copy)]
 pub enum Turn {
     Opening,
     Closing,
@@ -49,7 +49,7 @@ pub enum Turn {
 }
 
 /// What a token counts for.
-#[derive(Clone, Copy, PartialEq, Eq, Debug)]
+#[derive(Clone, Copy)]
 pub enum Weight {
     /// A bracket or `begin` opens.
     Opens,
@@ -279,7 +279,7 @@ fn behind(place: Place, token: Token) -> Place
 }
 
 /// The counts behind the tokens that were read.
-#[derive(Clone, Copy, Debug)]
+#[derive(Clone, Copy)]
 pub struct Counter {
     place: Place,
     brackets: usize,
@@ -337,8 +337,10 @@ impl Counter {
     pub(crate) fn passes(&mut self, token: Token) -> bool
         requires { IsWithin self.old }
         ensures is { result ≡ counts.is_past (counts_of self.new) }
-        ensures place { place_of self.new.place ≡ marks.next (place_of self.old.place) (token_of token.entry) }
-        ensures counts { counts_of self.new ≡ counts.after (counts_of self.old) (marks.role_at (place_of self.old.place) (token_of token.entry)) }
+        ensures place { place_of self.new.place
+            ≡ marks.next (place_of self.old.place) (token_of token.entry) }
+        ensures counts { counts_of self.new ≡ counts.after (counts_of self.old)
+            (marks.role_at (place_of self.old.place) (token_of token.entry)) }
         ensures within { result ≡ false → IsWithin self.new }
     {
         let weight = weight_at(self.place, token);

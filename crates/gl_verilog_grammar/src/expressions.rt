@@ -1,6 +1,4 @@
 //! Reading expressions.
-
-ghost use Rattle.std.specs.Prelude.{◌≡◌};
 ghost use Rattle.gl_verilog.specs.Written.{looseness};
 ghost use Rattle.gl_verilog_grammar.specs.Machine as machine;
 ghost use Rattle.gl_verilog_written.specs.View.{token_of, infix_of, expr_of, name_of};
@@ -19,7 +17,8 @@ impl<'a> Reading<'a> {
     // What begins an operand that is more than a token.
     #[tactic(auto, using(crate::proofs::Views::frames))]
     fn at_opening(&mut self, at: usize, token: Token<'a>) -> Result<bool, AllocError>
-        ensures { Moves result (machine.at_opening (view self.old) (token_of token.entry)) (view self.new) }
+        ensures { Moves result (machine.at_opening (view self.old) (token_of token.entry))
+            (view self.new) }
     {
         if is_mark(token, Sign::OpenParen) {
             return self.push(Frame::InParens);
@@ -41,7 +40,8 @@ impl<'a> Reading<'a> {
 
     #[tactic(auto, using(crate::proofs::Views::stages, gl_verilog_written::proofs::Views::exprs))]
     pub(crate) fn want_operand(&mut self, at: usize, token: Token<'a>) -> Result<bool, AllocError>
-        ensures { Moves result (machine.want_operand (view self.old) (token_of token.entry)) (view self.new) }
+        ensures { Moves result (machine.want_operand (view self.old) (token_of token.entry))
+            (view self.new) }
     {
         match token {
             Token::Name(name) => self.goto(Stage::HaveOperand(WrittenExpr::Named(name))),
@@ -65,7 +65,9 @@ impl<'a> Reading<'a> {
         operand: WrittenExpr<'a>,
         at: usize,
     ) -> Result<bool, AllocError>
-        ensures { Moves result (machine.at_infix (view self.old) (infix_of op) (machine.reduce (looseness (infix_of op)) (frames_of self.old.frames.items) (expr_of operand.entry))) (view self.new) }
+        ensures { Moves result (machine.at_infix (view self.old) (infix_of op)
+            (machine.reduce (looseness (infix_of op)) (frames_of self.old.frames.items)
+            (expr_of operand.entry))) (view self.new) }
     {
         let left = reduce(self.alloc, &mut self.frames, operand, looseness_of(op))?;
         self.push(Frame::InfixOf { op, at, left })
@@ -73,7 +75,9 @@ impl<'a> Reading<'a> {
 
     #[tactic(auto, using(crate::proofs::Views::frames), unfolding(crate::specs::View::view))]
     fn at_question(&mut self, operand: WrittenExpr<'a>, at: usize) -> Result<bool, AllocError>
-        ensures { Moves result (machine.at_question (view self.old) (machine.reduce 10 (frames_of self.old.frames.items) (expr_of operand.entry))) (view self.new) }
+        ensures { Moves result (machine.at_question (view self.old)
+            (machine.reduce 10 (frames_of self.old.frames.items) (expr_of operand.entry)))
+            (view self.new) }
     {
         let test = reduce(self.alloc, &mut self.frames, operand, 10)?;
         self.push(Frame::TestOf { at, test })
@@ -82,7 +86,8 @@ impl<'a> Reading<'a> {
     // The condition of an `if` is complete.
     #[tactic(auto, using(crate::proofs::Views::stages, crate::proofs::Views::frames, crate::proofs::Stack::pushes), unfolding(crate::specs::View::view))]
     fn end_test(&mut self, at: usize, test: WrittenExpr<'a>) -> Result<bool, AllocError>
-        ensures { Moves result (machine.after_close (view self.old) (frames_of self.old.frames.items, machine.ATest (expr_of test.entry))) (view self.new) }
+        ensures { Moves result (machine.after_close (view self.old)
+            (frames_of self.old.frames.items, machine.ATest (expr_of test.entry))) (view self.new) }
     {
         self.frames.push(Frame::ThenOf { at, test })?;
         self.goto(Stage::WantStatement)
@@ -91,7 +96,8 @@ impl<'a> Reading<'a> {
     // What was open on top is closed.
     #[tactic(auto, using(crate::proofs::Views::stages), unfolding(crate::specs::View::view, crate::specs::View::closed_of))]
     fn after_close(&mut self, closed: Closed<'a>) -> Result<bool, AllocError>
-        ensures { Moves result (machine.after_close (view self.old) (frames_of self.old.frames.items, closed_of closed.entry)) (view self.new) }
+        ensures { Moves result (machine.after_close (view self.old)
+            (frames_of self.old.frames.items, closed_of closed.entry)) (view self.new) }
     {
         match closed {
             Closed::AnOperand(operand) => self.close(operand),
@@ -107,7 +113,10 @@ impl<'a> Reading<'a> {
     // A sign behind a whole expression.
     #[tactic(auto, unfolding(crate::specs::View::view))]
     fn at_close(&mut self, role: Role, operand: WrittenExpr<'a>) -> Result<bool, AllocError>
-        ensures { Moves result (machine.after_close (view self.old) (machine.close_top (role_is role) (machine.reduce 11 (frames_of self.old.frames.items) (expr_of operand.entry)))) (view self.new) }
+        ensures { Moves result (machine.after_close (view self.old)
+            (machine.close_top (role_is role)
+            (machine.reduce 11 (frames_of self.old.frames.items) (expr_of operand.entry))))
+            (view self.new) }
     {
         let closed = close_top(self.alloc, &mut self.frames, role, operand)?;
         self.after_close(closed)
@@ -115,7 +124,8 @@ impl<'a> Reading<'a> {
 
     #[tactic(auto, using(crate::proofs::Views::stages))]
     fn indexed(&mut self, operand: WrittenExpr<'a>) -> Result<bool, AllocError>
-        ensures { Moves result (machine.indexed (view self.old) (expr_of operand.entry)) (view self.new) }
+        ensures { Moves result (machine.indexed (view self.old) (expr_of operand.entry))
+            (view self.new) }
     {
         match alone(operand) {
             Some(name) => { self.goto(Stage::AtIndex(name)) }
@@ -130,7 +140,8 @@ impl<'a> Reading<'a> {
         at: usize,
         role: Role,
     ) -> Result<bool, AllocError>
-        ensures { Moves result (machine.have_operand_by (role_is role) (expr_of operand.entry) (view self.old)) (view self.new) }
+        ensures { Moves result (machine.have_operand_by (role_is role) (expr_of operand.entry)
+            (view self.old)) (view self.new) }
     {
         match role {
             Role::IsInfix(op) => self.at_infix(op, operand, at),
@@ -155,7 +166,8 @@ impl<'a> Reading<'a> {
         at: usize,
         token: Token<'a>,
     ) -> Result<bool, AllocError>
-        ensures { Moves result (machine.have_operand (expr_of operand.entry) (view self.old) (token_of token.entry)) (view self.new) }
+        ensures { Moves result (machine.have_operand (expr_of operand.entry) (view self.old)
+            (token_of token.entry)) (view self.new) }
     {
         match token {
             Token::Mark(sign) => self.have_operand(operand, at, role_of(sign)),
@@ -174,7 +186,8 @@ impl<'a> Reading<'a> {
         at: usize,
         token: Token<'a>,
     ) -> Result<bool, AllocError>
-        ensures { Moves result (machine.at_index (name_of name.entry) (view self.old) (token_of token.entry)) (view self.new) }
+        ensures { Moves result (machine.at_index (name_of name.entry) (view self.old)
+            (token_of token.entry)) (view self.new) }
     {
         match token {
             Token::Number(place) => self.goto(Stage::AtPlace(name, place)),
@@ -192,7 +205,8 @@ impl<'a> Reading<'a> {
         place: Word<'a>,
         token: Token<'a>,
     ) -> Result<bool, AllocError>
-        ensures { Moves result (machine.at_place (name_of name.entry) (name_of place.entry) (view self.old) (token_of token.entry)) (view self.new) }
+        ensures { Moves result (machine.at_place (name_of name.entry) (name_of place.entry)
+            (view self.old) (token_of token.entry)) (view self.new) }
     {
         if is_mark(token, Sign::Colon) {
             return self.goto(Stage::WantLow(name, place));

@@ -1,6 +1,6 @@
 //! What is open while a module is read, the top of the stack last.
 
-ghost use Rattle.std.specs.Prelude.{◌≡◌, ◌≤◌, option_map, IfOk, MatchBool, Some, None};
+ghost use Rattle.std.specs.Prelude.{◌≡◌, option_map, IfOk, MatchBool, Some, None};
 ghost use Rattle.gl_verilog_grammar.specs.Stages as machine;
 ghost use Rattle.gl_verilog.specs.Written.{looseness};
 ghost use Rattle.gl_verilog_written.specs.View.{infix_of, expr_of, statement_of};
@@ -95,7 +95,8 @@ pub(crate) fn apply<'a>(
     frame: Frame<'a>,
     operand: WrittenExpr<'a>,
 ) -> Result<WrittenExpr<'a>, AllocError>
-    ensures { IfOk result (λ e. expr_of e ≡ machine.applied (frame_of frame.entry) (expr_of operand.entry)) }
+    ensures { IfOk result (λ e. expr_of e ≡ machine.applied (frame_of frame.entry)
+        (expr_of operand.entry)) }
 {
     match frame {
         Frame::PrefixOf { op, at } => {
@@ -133,7 +134,8 @@ pub(crate) fn reduce<'a>(
     operand: WrittenExpr<'a>,
     level: u8,
 ) -> Result<WrittenExpr<'a>, AllocError>
-    ensures { IfOk result (λ e. machine.reduce level (frames_of frames.old.items) (expr_of operand.entry) ≡ (frames_of frames.new.items, expr_of e)) }
+    ensures { IfOk result (λ e. machine.reduce level (frames_of frames.old.items)
+        (expr_of operand.entry) ≡ (frames_of frames.new.items, expr_of e)) }
 {
     let mut operand = operand;
     while let Some(top) = frames.pop() {
@@ -160,7 +162,8 @@ pub(crate) fn if_of<'a>(
     frame: Frame<'a>,
     statement: WrittenStatement<'a>,
 ) -> Result<WrittenStatement<'a>, AllocError>
-    ensures { IfOk result (λ s. statement_of s ≡ machine.if_of (frame_of frame.entry) (statement_of statement.entry)) }
+    ensures { IfOk result (λ s. statement_of s
+        ≡ machine.if_of (frame_of frame.entry) (statement_of statement.entry)) }
 {
     match frame {
         Frame::ThenOf { at, test } => {
@@ -186,7 +189,8 @@ pub(crate) fn end_ifs<'a>(
     frames: &mut Vec<Frame<'a>>,
     statement: WrittenStatement<'a>,
 ) -> Result<WrittenStatement<'a>, AllocError>
-    ensures { IfOk result (λ s. machine.at_end (frames_of frames.old.items) (statement_of statement.entry) ≡ (frames_of frames.new.items, statement_of s)) }
+    ensures { IfOk result (λ s. machine.at_end (frames_of frames.old.items)
+        (statement_of statement.entry) ≡ (frames_of frames.new.items, statement_of s)) }
 {
     let mut statement = statement;
     while let Some(top) = frames.pop() {
@@ -206,7 +210,10 @@ pub(crate) fn take_else<'a>(
     frames: &mut Vec<Frame<'a>>,
     statement: WrittenStatement<'a>,
 ) -> Result<bool, AllocError>
-    ensures { IfOk result (λ stands. MatchBool stands (machine.at_else (frames_of frames.old.items) (statement_of statement.entry) ≡ Some (frames_of frames.new.items)) (machine.at_else (frames_of frames.old.items) (statement_of statement.entry) ≡ None)) }
+    ensures { IfOk result (λ stands. MatchBool stands
+        (machine.at_else (frames_of frames.old.items) (statement_of statement.entry)
+        ≡ Some (frames_of frames.new.items)) (machine.at_else (frames_of frames.old.items)
+        (statement_of statement.entry) ≡ None)) }
 {
     let mut statement = statement;
     while let Some(top) = frames.pop() {
@@ -258,7 +265,8 @@ pub(crate) fn end_statement<'a>(
     frame: Frame<'a>,
     statement: WrittenStatement<'a>,
 ) -> Result<Stated<'a>, AllocError>
-    ensures { IfOk result (λ s. stated_of s ≡ machine.stated (frame_of frame.entry) (statement_of statement.entry)) }
+    ensures { IfOk result (λ s. stated_of s ≡ machine.stated (frame_of frame.entry)
+        (statement_of statement.entry)) }
 {
     match frame {
         Frame::InBegin(done) => {

@@ -1,6 +1,6 @@
 //! Reading the header and declarations.
 
-ghost use Rattle.std.specs.Prelude.{◌≡◌, option_and_then};
+ghost use Rattle.std.specs.Prelude.{option_and_then};
 ghost use Rattle.gl_verilog.specs.Tokens.{OpenBracket};
 ghost use Rattle.gl_verilog_grammar.specs.Machine as machine;
 ghost use Rattle.gl_verilog_written.specs.View.{token_of, name_of, names_of, range_of};
@@ -15,7 +15,8 @@ use std::alloc::AllocError;
 impl<'a> Reading<'a> {
     #[tactic(auto, using(crate::proofs::Views::stages), unfolding(crate::specs::View::view))]
     pub(crate) fn want_title(&mut self, token: Token<'a>) -> Result<bool, AllocError>
-        ensures { Moves result (option_and_then (machine.titled (view self.old)) (machine.name_in (token_of token.entry))) (view self.new) }
+        ensures { Moves result (option_and_then (machine.titled (view self.old))
+            (machine.name_in (token_of token.entry))) (view self.new) }
     {
         match name_in(token) {
             Some(name) => {
@@ -33,7 +34,8 @@ impl<'a> Reading<'a> {
         range: Option<Word<'a>>,
         name: Word<'a>,
     ) -> Result<bool, AllocError>
-        ensures { Moves result (machine.named (owner_of owner) (range_of range.entry) (name_of name.entry) (view self.old)) (view self.new) }
+        ensures { Moves result (machine.named (owner_of owner) (range_of range.entry)
+            (name_of name.entry) (view self.old)) (view self.new) }
     {
         match owner {
             Owner::OfPort(direction) => {
@@ -53,7 +55,8 @@ impl<'a> Reading<'a> {
     }
 
     pub(crate) fn declaring(&mut self, owner: Owner, token: Token<'a>) -> Result<bool, AllocError>
-        ensures { Moves result (machine.declaring (owner_of owner) (view self.old) (token_of token.entry)) (view self.new) }
+        ensures { Moves result (machine.declaring (owner_of owner) (view self.old)
+            (token_of token.entry)) (view self.new) }
     {
         match token {
             Token::Reserved(word) => self.go(word_stage(owner, word)),
@@ -64,7 +67,9 @@ impl<'a> Reading<'a> {
 
     #[tactic(auto, using(crate::proofs::Views::stages))]
     fn at_range(&mut self, owner: Owner, token: Token<'a>) -> Result<bool, AllocError>
-        ensures { Moves result (machine.go (machine.expect (machine.is_mark OpenBracket (token_of token.entry)) (machine.WantHigh (owner_of owner))) (view self.old)) (view self.new) }
+        ensures { Moves result (machine.go (machine.expect
+            (machine.is_mark OpenBracket (token_of token.entry))
+            (machine.WantHigh (owner_of owner))) (view self.old)) (view self.new) }
     {
         self.expect(is_mark(token, Sign::OpenBracket), Stage::WantHigh(owner))
     }
@@ -75,7 +80,8 @@ impl<'a> Reading<'a> {
         range: Option<Word<'a>>,
         token: Token<'a>,
     ) -> Result<bool, AllocError>
-        ensures { Moves result (machine.named_in (owner_of owner) (range_of range.entry) (view self.old) (token_of token.entry)) (view self.new) }
+        ensures { Moves result (machine.named_in (owner_of owner) (range_of range.entry)
+            (view self.old) (token_of token.entry)) (view self.new) }
     {
         match name_in(token) {
             Some(name) => self.named(owner, range, name),
@@ -91,7 +97,8 @@ impl<'a> Reading<'a> {
         names: Vec<Word<'a>>,
         token: Token<'a>,
     ) -> Result<bool, AllocError>
-        ensures { Moves result (machine.after_name (sort_of sort) (range_of range.entry) (names_of names.entry.items) (view self.old) (token_of token.entry)) (view self.new) }
+        ensures { Moves result (machine.after_name (sort_of sort) (range_of range.entry)
+            (names_of names.entry.items) (view self.old) (token_of token.entry)) (view self.new) }
     {
         if is_mark(token, Sign::Comma) {
             return self.goto(Stage::WantMore(sort, range, names));
@@ -113,7 +120,8 @@ impl<'a> Reading<'a> {
         names: Vec<Word<'a>>,
         token: Token<'a>,
     ) -> Result<bool, AllocError>
-        ensures { Moves result (machine.want_more (sort_of sort) (range_of range.entry) (names_of names.entry.items) (view self.old) (token_of token.entry)) (view self.new) }
+        ensures { Moves result (machine.want_more (sort_of sort) (range_of range.entry)
+            (names_of names.entry.items) (view self.old) (token_of token.entry)) (view self.new) }
     {
         match name_in(token) {
             Some(name) => {

@@ -1,8 +1,6 @@
 //! Tests of tokens.
 
-ghost use Rattle.std.specs.Prelude.{◌≡◌, option_map, nat_eq};
-ghost use Rattle.std.specs.Str.{bytes_eq};
-ghost use Rattle.gl_verilog.specs.Written.{zero_digit};
+ghost use Rattle.std.specs.Prelude.{◌≡◌, option_map};
 ghost use Rattle.gl_verilog_grammar.specs.Stages as machine;
 ghost use Rattle.gl_verilog_written.specs.View.{keyword_of, sign_of, token_of, name_of};
 

@@ -1,6 +1,6 @@
 //! From tokens to a written module, with what is open on a stack: one step for each token.
 
-ghost use Rattle.std.specs.Prelude.{◌≡◌, ◌≤◌, ◌<◌, ℕ, option_map, IfOk, IfErr, MatchBool, MatchResult, Some, None};
+ghost use Rattle.std.specs.Prelude.{◌≡◌, ◌<◌, option_map, IfOk, IfErr, MatchResult, Some, None};
 ghost use Rattle.gl_verilog_grammar.specs.Machine as machine;
 ghost use Rattle.gl_verilog_written.specs.View.{token_of, tokens_in, expr_of, name_of, range_of, item_of, module_of};
 ghost use Rattle.gl_verilog_grammar.specs.Counting.{IsWithin};
@@ -49,7 +49,8 @@ impl<'a> Reading<'a> {
 
     #[tactic(auto, unfolding(crate::specs::View::view))]
     pub(crate) fn goto(&mut self, stage: Stage<'a>) -> Result<bool, AllocError>
-        ensures { Moves result (machine.goto (view self.old) (stage_of stage.entry)) (view self.new) }
+        ensures { Moves result (machine.goto (view self.old) (stage_of stage.entry))
+            (view self.new) }
     {
         mem::drop(mem::replace(&mut self.stage, stage));
         Ok(true)
@@ -57,7 +58,8 @@ impl<'a> Reading<'a> {
 
     // Goes to the next stage, where there is one.
     pub(crate) fn go(&mut self, next: Option<Stage<'a>>) -> Result<bool, AllocError>
-        ensures { Moves result (machine.go (option_map stage_of next.entry) (view self.old)) (view self.new) }
+        ensures { Moves result (machine.go (option_map stage_of next.entry) (view self.old))
+            (view self.new) }
     {
         match next {
             Some(stage) => self.goto(stage),
@@ -67,7 +69,8 @@ impl<'a> Reading<'a> {
 
     // Goes to the next stage, where the token is the one that is wanted.
     pub(crate) fn expect(&mut self, stands: bool, next: Stage<'a>) -> Result<bool, AllocError>
-        ensures { Moves result (machine.go (machine.expect stands (stage_of next.entry)) (view self.old)) (view self.new) }
+        ensures { Moves result (machine.go (machine.expect stands (stage_of next.entry))
+            (view self.old)) (view self.new) }
     {
         if stands {
             self.goto(next)
@@ -80,7 +83,8 @@ impl<'a> Reading<'a> {
     // A frame more, and an operand is wanted.
     #[tactic(auto, using(crate::proofs::Views::stages, crate::proofs::Stack::pushes), unfolding(crate::specs::View::view))]
     pub(crate) fn push(&mut self, frame: Frame<'a>) -> Result<bool, AllocError>
-        ensures { Moves result (machine.push (view self.old) (frame_of frame.entry)) (view self.new) }
+        ensures { Moves result (machine.push (view self.old) (frame_of frame.entry))
+            (view self.new) }
     {
         self.frames.push(frame)?;
         self.goto(Stage::WantOperand)
@@ -89,14 +93,16 @@ impl<'a> Reading<'a> {
     // An operand is complete.
     #[tactic(auto, using(crate::proofs::Views::stages))]
     pub(crate) fn close(&mut self, operand: WrittenExpr<'a>) -> Result<bool, AllocError>
-        ensures { Moves result (machine.close (view self.old) (expr_of operand.entry)) (view self.new) }
+        ensures { Moves result (machine.close (view self.old) (expr_of operand.entry))
+            (view self.new) }
     {
         self.goto(Stage::HaveOperand(operand))
     }
 
     #[tactic(auto, using(crate::proofs::Views::stages, crate::proofs::Stack::pushes), unfolding(crate::specs::View::view))]
     pub(crate) fn put_item(&mut self, item: WrittenItem<'a>) -> Result<bool, AllocError>
-        ensures { Moves result (Some (machine.with_item (view self.old) (item_of item.entry))) (view self.new) }
+        ensures { Moves result (Some (machine.with_item (view self.old) (item_of item.entry)))
+            (view self.new) }
     {
         self.items.push(item)?;
         self.goto(Stage::WantItem)
@@ -107,7 +113,8 @@ impl<'a> Reading<'a> {
         stands: bool,
         item: WrittenItem<'a>,
     ) -> Result<bool, AllocError>
-        ensures { Moves result (machine.item_if stands (item_of item.entry) (view self.old)) (view self.new) }
+        ensures { Moves result (machine.item_if stands (item_of item.entry) (view self.old))
+            (view self.new) }
     {
         if stands {
             self.put_item(item)
@@ -118,7 +125,8 @@ impl<'a> Reading<'a> {
     }
 
     pub(crate) fn push_if(&mut self, stands: bool, frame: Frame<'a>) -> Result<bool, AllocError>
-        ensures { Moves result (machine.push_if stands (frame_of frame.entry) (view self.old)) (view self.new) }
+        ensures { Moves result (machine.push_if stands (frame_of frame.entry) (view self.old))
+            (view self.new) }
     {
         if stands {
             self.push(frame)
@@ -133,7 +141,8 @@ impl<'a> Reading<'a> {
         stands: bool,
         operand: WrittenExpr<'a>,
     ) -> Result<bool, AllocError>
-        ensures { Moves result (machine.close_if stands (expr_of operand.entry) (view self.old)) (view self.new) }
+        ensures { Moves result (machine.close_if stands (expr_of operand.entry) (view self.old))
+            (view self.new) }
     {
         if stands {
             self.close(operand)
@@ -153,7 +162,9 @@ impl<'a> Reading<'a> {
         last: Word<'a>,
         token: Token<'a>,
     ) -> Result<bool, AllocError>
-        ensures { Moves result (machine.step_at (machine.WantMemoryEnd (range_of range.entry) (name_of name.entry) (name_of last.entry)) (view self.old) (token_of token.entry)) (view self.new) }
+        ensures { Moves result (machine.step_at
+            (machine.WantMemoryEnd (range_of range.entry) (name_of name.entry) (name_of last.entry))
+            (view self.old) (token_of token.entry)) (view self.new) }
     {
         let stands = is_mark(token, Sign::Semicolon);
         self.item_if(stands, WrittenItem::MemoryOf { range, name, last })
@@ -167,7 +178,9 @@ impl<'a> Reading<'a> {
         low: Word<'a>,
         token: Token<'a>,
     ) -> Result<bool, AllocError>
-        ensures { Moves result (machine.step_at (machine.AtPart (name_of name.entry) (name_of high.entry) (name_of low.entry)) (view self.old) (token_of token.entry)) (view self.new) }
+        ensures { Moves result (machine.step_at
+            (machine.AtPart (name_of name.entry) (name_of high.entry) (name_of low.entry))
+            (view self.old) (token_of token.entry)) (view self.new) }
     {
         let stands = is_mark(token, Sign::CloseBracket);
         self.close_if(stands, WrittenExpr::PartOf { name, high, low })
@@ -175,7 +188,8 @@ impl<'a> Reading<'a> {
 
     #[tactic(auto, using(crate::proofs::Views::stages, crate::proofs::Views::frames), unfolding(crate::specs::View::stage_of))]
     fn take_at(&mut self, stage: Stage<'a>, at: usize, token: Token<'a>) -> Result<bool, AllocError>
-        ensures { Moves result (machine.step_at (stage_of stage.entry) (view self.old) (token_of token.entry)) (view self.new) }
+        ensures { Moves result (machine.step_at (stage_of stage.entry) (view self.old)
+            (token_of token.entry)) (view self.new) }
     {
         match stage {
             Stage::WantModule => self.expect(is_word(token, Keyword::Module), Stage::WantTitle),
@@ -250,7 +264,8 @@ impl<'a> Reading<'a> {
     // Takes a token, or says that it cannot stand there; then the reading is given up.
     #[tactic(auto, unfolding(crate::specs::View::view, crate::specs::Machine::step))]
     pub(crate) fn take(&mut self, lexeme: Lexeme<'a>) -> Result<bool, AllocError>
-        ensures { Moves result (machine.step (view self.old) (token_of lexeme.entry.token)) (view self.new) }
+        ensures { Moves result (machine.step (view self.old) (token_of lexeme.entry.token))
+            (view self.new) }
     {
         let stage = mem::replace(&mut self.stage, Stage::Complete);
         self.take_at(stage, lexeme.at, lexeme.token)
@@ -260,8 +275,10 @@ impl<'a> Reading<'a> {
     fn advance(&mut self, counter: &mut Counter, lexeme: Lexeme<'a>) -> Result<(), VerilogFault>
         requires { IsWithin counter.old }
         ensures within { IfOk result (λ done. IsWithin counter.new) }
-        ensures next { IfOk result (λ done. Goes (token_of lexeme.entry.token) (stand self.old counter.old) (stand self.new counter.new)) }
-        ensures stops { IfErr result (λ e. StopsAt e lexeme.entry.at (token_of lexeme.entry.token) (stand self.old counter.old)) }
+        ensures next { IfOk result (λ done. Goes (token_of lexeme.entry.token)
+            (stand self.old counter.old) (stand self.new counter.new)) }
+        ensures stops { IfErr result (λ e. StopsAt e lexeme.entry.at (token_of lexeme.entry.token)
+            (stand self.old counter.old)) }
     {
         let at = lexeme.at as u64;
         if !self.take(lexeme)? {
@@ -276,7 +293,8 @@ impl<'a> Reading<'a> {
     // The module, where the text may end here.
     #[tactic(auto, unfolding(crate::specs::View::stage_of, crate::specs::View::view))]
     fn finish(self, end: usize) -> Result<WrittenModule<'a>, VerilogFault>
-        ensures { MatchResult result (λ w. machine.finish (view self.entry) ≡ Some (module_of w)) (λ e. (machine.finish (view self.entry) ≡ None) × (e ≡ VerilogFault.Syntax end)) }
+        ensures { MatchResult result (λ w. machine.finish (view self.entry) ≡ Some (module_of w))
+            (λ e. (machine.finish (view self.entry) ≡ None) × (e ≡ VerilogFault.Syntax end)) }
     {
         let Reading {
             name,

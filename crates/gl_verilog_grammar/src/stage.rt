@@ -11,14 +11,14 @@ use gl_verilog_written::{
 };
 
 /// What a list of names declares.
-#[derive(Clone, Copy, PartialEq, Eq, Debug)]
+#[derive(Clone, Copy)]
 pub enum Sort {
     WireSort,
     RegisterSort,
 }
 
 /// What a range and a name belong to.
-#[derive(Clone, Copy, PartialEq, Eq, Debug)]
+#[derive(Clone, Copy)]
 pub enum Owner {
     OfPort(Direction),
     OfItem(Sort),
@@ -69,7 +69,7 @@ pub enum Stage<'a> {
 }
 
 /// What a sign does behind an operand.
-#[derive(Clone, Copy, PartialEq, Eq, Debug)]
+#[derive(Clone, Copy)]
 pub enum Role {
     IsInfix(InfixOp),
     IsQuestion,
@@ -119,7 +119,8 @@ pub(crate) fn item_of_names<'a>(
     range: Option<Word<'a>>,
     names: Vec<Word<'a>>,
 ) -> WrittenItem<'a>
-    ensures { item_of result ≡ machine.item_of (sort_of sort) (range_of range.entry) (names_of names.entry.items) }
+    ensures { item_of result ≡ machine.item_of (sort_of sort) (range_of range.entry)
+        (names_of names.entry.items) }
 {
     match sort {
         Sort::WireSort => WrittenItem::Wires { range, names },
@@ -142,7 +143,8 @@ pub(crate) fn with_word(owner: Owner, word: Keyword) -> Option<Owner>
 // The stage behind `wire` or `reg`, where one may stand behind a direction.
 #[tactic(auto, using(crate::proofs::Views::stages))]
 pub(crate) fn word_stage<'a>(owner: Owner, word: Keyword) -> Option<Stage<'a>>
-    ensures { option_map stage_of result ≡ option_map machine.Declaring (machine.with_word (owner_of owner) (keyword_of word)) }
+    ensures { option_map stage_of result ≡ option_map machine.Declaring
+        (machine.with_word (owner_of owner) (keyword_of word)) }
 {
     match with_word(owner, word) {
         Some(owner) => Some(Stage::Declaring(owner)),
@@ -152,7 +154,8 @@ pub(crate) fn word_stage<'a>(owner: Owner, word: Keyword) -> Option<Stage<'a>>
 
 #[tactic(auto, using(crate::proofs::Views::stages))]
 pub(crate) fn port_stage<'a>(token: Token<'a>) -> Option<Stage<'a>>
-    ensures { option_map stage_of result ≡ machine.next_stage machine.WantPort (token_of token.entry) }
+    ensures { option_map stage_of result ≡ machine.next_stage machine.WantPort
+        (token_of token.entry) }
 {
     if is_word(token, Keyword::Input) {
         return Some(Stage::Declaring(Owner::OfPort(Direction::In)));
@@ -165,7 +168,8 @@ pub(crate) fn port_stage<'a>(token: Token<'a>) -> Option<Stage<'a>>
 
 #[tactic(auto, using(crate::proofs::Views::stages))]
 pub(crate) fn behind_port<'a>(token: Token<'a>) -> Option<Stage<'a>>
-    ensures { option_map stage_of result ≡ machine.next_stage machine.AfterPort (token_of token.entry) }
+    ensures { option_map stage_of result ≡ machine.next_stage machine.AfterPort
+        (token_of token.entry) }
 {
     if is_mark(token, Sign::Comma) {
         return Some(Stage::WantPort);
@@ -205,7 +209,8 @@ pub(crate) fn memory_stage<'a>(
     range: Option<Word<'a>>,
     names: &[Word<'a>],
 ) -> Option<Stage<'a>>
-    ensures { option_map stage_of result ≡ machine.memory_stage (sort_of sort) (range_of range.entry) (names_of names.now) }
+    ensures { option_map stage_of result ≡ machine.memory_stage (sort_of sort)
+        (range_of range.entry) (names_of names.now) }
 {
     match (sort, names) {
         (Sort::RegisterSort, [name]) => Some(Stage::WantFirst(range, *name)),
@@ -215,7 +220,8 @@ pub(crate) fn memory_stage<'a>(
 
 #[tactic(auto, using(crate::proofs::Views::stages))]
 pub(crate) fn high_stage<'a>(owner: Owner, token: Token<'a>) -> Option<Stage<'a>>
-    ensures { option_map stage_of result ≡ machine.next_stage (machine.WantHigh (owner_of owner)) (token_of token.entry) }
+    ensures { option_map stage_of result ≡ machine.next_stage (machine.WantHigh (owner_of owner))
+        (token_of token.entry) }
 {
     match digits_in(token) {
         Some(high) => Some(Stage::WantColon(owner, high)),
@@ -229,7 +235,8 @@ pub(crate) fn last_stage<'a>(
     name: Word<'a>,
     token: Token<'a>,
 ) -> Option<Stage<'a>>
-    ensures { option_map stage_of result ≡ machine.next_stage (machine.WantLast (range_of range.entry) (name_of name.entry)) (token_of token.entry) }
+    ensures { option_map stage_of result ≡ machine.next_stage
+        (machine.WantLast (range_of range.entry) (name_of name.entry)) (token_of token.entry) }
 {
     match digits_in(token) {
         Some(last) => Some(Stage::WantMemoryClose(range, name, last)),
@@ -239,7 +246,8 @@ pub(crate) fn last_stage<'a>(
 
 #[tactic(auto, using(crate::proofs::Views::stages))]
 pub(crate) fn assigned_stage<'a>(token: Token<'a>) -> Option<Stage<'a>>
-    ensures { option_map stage_of result ≡ machine.next_stage machine.WantAssigned (token_of token.entry) }
+    ensures { option_map stage_of result ≡ machine.next_stage machine.WantAssigned
+        (token_of token.entry) }
 {
     match name_in(token) {
         Some(target) => Some(Stage::WantEquals(target)),
@@ -249,7 +257,8 @@ pub(crate) fn assigned_stage<'a>(token: Token<'a>) -> Option<Stage<'a>>
 
 #[tactic(auto, using(crate::proofs::Views::stages))]
 pub(crate) fn clock_stage<'a>(token: Token<'a>) -> Option<Stage<'a>>
-    ensures { option_map stage_of result ≡ machine.next_stage machine.WantClock (token_of token.entry) }
+    ensures { option_map stage_of result ≡ machine.next_stage machine.WantClock
+        (token_of token.entry) }
 {
     match name_in(token) {
         Some(clock) => Some(Stage::WantEdgeEnd(clock)),
@@ -259,7 +268,8 @@ pub(crate) fn clock_stage<'a>(token: Token<'a>) -> Option<Stage<'a>>
 
 #[tactic(auto, using(crate::proofs::Views::stages))]
 pub(crate) fn low_stage<'a>(name: Word<'a>, high: Word<'a>, token: Token<'a>) -> Option<Stage<'a>>
-    ensures { option_map stage_of result ≡ machine.next_stage (machine.WantLow (name_of name.entry) (name_of high.entry)) (token_of token.entry) }
+    ensures { option_map stage_of result ≡ machine.next_stage
+        (machine.WantLow (name_of name.entry) (name_of high.entry)) (token_of token.entry) }
 {
     match digits_in(token) {
         Some(low) => Some(Stage::AtPart(name, high, low)),

@@ -1,6 +1,4 @@
 //! Reading items and statements.
-
-ghost use Rattle.std.specs.Prelude.{◌≡◌};
 ghost use Rattle.gl_verilog_grammar.specs.Machine as machine;
 ghost use Rattle.gl_verilog_written.specs.View.{token_of, statement_of, name_of};
 ghost use Rattle.gl_verilog_grammar.specs.View.{frames_of, view, Moves};
@@ -16,7 +14,8 @@ use std::mem;
 impl<'a> Reading<'a> {
     #[tactic(auto, using(crate::proofs::Views::stages, crate::proofs::Views::frames, crate::proofs::Stack::pushes), unfolding(crate::specs::View::view))]
     pub(crate) fn body_if(&mut self, stands: bool, clock: Word<'a>) -> Result<bool, AllocError>
-        ensures { Moves result (machine.body_if stands (name_of clock.entry) (view self.old)) (view self.new) }
+        ensures { Moves result (machine.body_if stands (name_of clock.entry) (view self.old))
+            (view self.new) }
     {
         if !stands {
             return Ok(false);
@@ -27,7 +26,8 @@ impl<'a> Reading<'a> {
 
     #[tactic(auto, using(crate::proofs::Views::stages, crate::proofs::Stack::pushes), unfolding(crate::specs::View::view))]
     pub(crate) fn end_block(&mut self) -> Result<bool, AllocError>
-        ensures { Moves result (machine.end_block (frames_of self.old.frames.items) (view self.old)) (view self.new) }
+        ensures { Moves result (machine.end_block (frames_of self.old.frames.items) (view self.old))
+            (view self.new) }
     {
         let Some(frame) = self.frames.pop() else {
             return Ok(false);
@@ -49,7 +49,8 @@ impl<'a> Reading<'a> {
     // A word that begins a statement, or ends a block.
     #[tactic(auto, using(crate::proofs::Views::stages), unfolding(crate::specs::View::view))]
     fn at_word(&mut self, at: usize, token: Token<'a>) -> Result<bool, AllocError>
-        ensures { Moves result (machine.at_word (view self.old) (token_of token.entry)) (view self.new) }
+        ensures { Moves result (machine.at_word (view self.old) (token_of token.entry))
+            (view self.new) }
     {
         if is_word(token, Keyword::If) {
             return self.goto(Stage::WantTest(at));
@@ -65,7 +66,8 @@ impl<'a> Reading<'a> {
 
     #[tactic(auto, using(crate::proofs::Views::stages))]
     pub(crate) fn want_statement(&mut self, at: usize, token: Token<'a>) -> Result<bool, AllocError>
-        ensures { Moves result (machine.want_statement (view self.old) (token_of token.entry)) (view self.new) }
+        ensures { Moves result (machine.want_statement (view self.old) (token_of token.entry))
+            (view self.new) }
     {
         match token {
             Token::Name(name) => self.goto(Stage::AfterTarget(name)),
@@ -79,7 +81,8 @@ impl<'a> Reading<'a> {
         target: Word<'a>,
         token: Token<'a>,
     ) -> Result<bool, AllocError>
-        ensures { Moves result (machine.after_target (name_of target.entry) (view self.old) (token_of token.entry)) (view self.new) }
+        ensures { Moves result (machine.after_target (name_of target.entry) (view self.old)
+            (token_of token.entry)) (view self.new) }
     {
         if is_mark(token, Sign::LessEquals) {
             return self.push(Frame::UpdateTo(target));
@@ -95,7 +98,9 @@ impl<'a> Reading<'a> {
         at: usize,
         token: Token<'a>,
     ) -> Result<bool, AllocError>
-        ensures { Moves result (machine.after_statement (view self.old) (frames_of self.old.frames.items) (statement_of statement.entry) (token_of token.entry)) (view self.new) }
+        ensures { Moves result (machine.after_statement (view self.old)
+            (frames_of self.old.frames.items) (statement_of statement.entry) (token_of token.entry))
+            (view self.new) }
     {
         let Some(frame) = self.frames.pop() else {
             mem::drop(statement);
@@ -116,7 +121,9 @@ impl<'a> Reading<'a> {
 
     #[tactic(auto, using(crate::proofs::Views::stages), unfolding(crate::specs::View::view))]
     fn after_else(&mut self, statement: WrittenStatement<'a>) -> Result<bool, AllocError>
-        ensures { Moves result (machine.after_else (view self.old) (machine.at_else (frames_of self.old.frames.items) (statement_of statement.entry))) (view self.new) }
+        ensures { Moves result (machine.after_else (view self.old)
+            (machine.at_else (frames_of self.old.frames.items) (statement_of statement.entry)))
+            (view self.new) }
     {
         if take_else(self.alloc, &mut self.frames, statement)? {
             self.goto(Stage::WantStatement)
@@ -132,7 +139,8 @@ impl<'a> Reading<'a> {
         at: usize,
         token: Token<'a>,
     ) -> Result<bool, AllocError>
-        ensures { Moves result (machine.have_statement (statement_of statement.entry) (view self.old) (token_of token.entry)) (view self.new) }
+        ensures { Moves result (machine.have_statement (statement_of statement.entry)
+            (view self.old) (token_of token.entry)) (view self.new) }
     {
         if is_word(token, Keyword::Else) {
             return self.after_else(statement);

@@ -12,6 +12,8 @@ ghost use Rattle.gl_verilog_written.specs.View.{module_of};
 ghost use Rattle.gl_verilog_grammar.specs.Answers.{IsOnly};
 
 #[cfg(test)]
+mod fault_tests;
+#[cfg(test)]
 mod tests;
 
 use gl_bits::Memory;
@@ -45,9 +47,11 @@ fn fault_of(alloc: Global, written: &WrittenModule) -> VerilogFault {
 
 // The valid module that is meant; None where there is none.
 fn valid_module(alloc: Global, written: &WrittenModule) -> Result<Option<Module>, Memory>
-    ensures resolved { IfOk result (λ o. IfSome o (λ m. resolve (module_of written.now) ≡ Some (meant.module_of m))) }
+    ensures resolved { IfOk result (λ o. IfSome o (λ m. resolve (module_of written.now)
+        ≡ Some (meant.module_of m))) }
     ensures valid { IfOk result (λ o. IfSome o (λ m. IsValid (meant.module_of m))) }
-    ensures none { IfOk result (λ o. o ≡ None → (m : spec.Module) → resolve (module_of written.now) ≡ Some m → IsValid m → ⊥) }
+    ensures none { IfOk result (λ o. o ≡ None → (m : spec.Module) → resolve (module_of written.now)
+        ≡ Some m → IsValid m → ⊥) }
 {
     let design = match resolved(alloc, written) {
         Ok(design) => design,
@@ -66,7 +70,8 @@ fn valid_module(alloc: Global, written: &WrittenModule) -> Result<Option<Module>
 /// Which fault is answered, and at what place, is shown by tests: it is that of the judging pass.
 pub fn read_module(alloc: Global, text: &[u8]) -> Result<Module, VerilogFault>
     ensures found { IfOk result (λ m. HasModule text.now (meant.module_of m)) }
-    ensures only { (m : spec.Module) → HasModule text.now m → MatchResult result (λ d. meant.module_of d ≡ m) (λ e. e ≡ VerilogFault.Memory) }
+    ensures only { (m : spec.Module) → HasModule text.now m
+        → MatchResult result (λ d. meant.module_of d ≡ m) (λ e. e ≡ VerilogFault.Memory) }
 {
     let written = read_written(alloc, text)?;
     match valid_module(alloc, &written) {

@@ -1,8 +1,7 @@
 -- A word that grows by a byte, and a text read byte by byte.
-use Rattle.std.proofs.Common.{◌≡◌, ℕ, suc, ◌+◌, ◌-◌, ◌*◌, ◌<◌, ◌≤◌, Bool, true, false, cond, List, [], ◌∷◌, ◌++◌, length, take, drop, get_or, refl, sym, ap, ◌∙◌, append_assoc, arith, length-drop, add-one, drop-cons}
-use Rattle.std.specs.Prelude.{nat_eq}
+use Rattle.std.proofs.Common.{◌≡◌, ℕ, suc, ◌+◌, ◌-◌, ◌<◌, ◌≤◌, List, [], ◌∷◌, ◌++◌, length, take, drop, get_or, sym, ap, ◌∙◌, append_assoc, arith, length-drop, add-one, drop-cons}
 use Rattle.std.proofs.lemmas.List.{take_more, get_or-drop, map-append, append-nil, drop_all}
-use Rattle.gl_verilog.specs.Tokens.{Token, Mode, Between, Move, to, after, move, scan, last_of, tokens_of, digit_of, with_digit, number_from}
+use Rattle.gl_verilog.specs.Tokens.{Token, Mode, Between, Move, to, after, move, scan, last_of, tokens_of}
 
 pub word_grows : (text : List ℕ) (from at : ℕ) → from ≤ at → at < length text → take (at + 1 - from) (drop from text) ≡ take (at - from) (drop from text) ++ get_or text at 0 ∷ []
 word_grows text from at le lt =

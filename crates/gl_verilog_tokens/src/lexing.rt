@@ -2,13 +2,14 @@
 
 ghost use Rattle.std.specs.Prelude.{◌≡◌, ◌≤◌, ◌<◌, ◌+◌, ◌++◌, ◌∷◌, [], length, slice_index, IfOk, OnOk};
 ghost use Rattle.gl_verilog.specs.Tokens as tokens;
-ghost use Rattle.gl_verilog_written.specs.View.{token_of, tokens_in, name_of};
+ghost use Rattle.gl_verilog_written.specs.View.{tokens_in, name_of};
 ghost use Rattle.gl_verilog_tokens.specs.Lexed.{piece, mode_of, IsInside};
 
 use crate::classes::{
-    Class, Follow, class_of, follow_of, goes_on, is_digit_of, radix_of, reserved, sign_token,
+    Class, Follow, class_of, follow_of, goes_on, is_digit_of, radix_of, sign_token,
 };
-use gl_verilog_written::{Lexeme, Token, Word, small_number};
+use crate::pieces::{number_token, put, put_quoted, sized_token, word_at, word_token};
+use gl_verilog_written::{Lexeme, Token, Word};
 use std::alloc::{AllocError, Global};
 
 /// Where the reader stands. A place in it is that of a token's first byte.
@@ -45,62 +46,6 @@ pub enum Standing<'a> {
     AtStar(usize),
 }
 
-fn word_at<'a>(text: &'a [u8], from: usize, to: usize) -> Word<'a>
-    requires order { from ≤ to }
-    requires within { to ≤ length text.now }
-    ensures { name_of result ≡ piece text.now from to }
-{
-    Word {
-        bytes: &text[from..to],
-        at: from,
-    }
-}
-
-fn word_token<'a>(word: Word<'a>) -> Token<'a>
-    ensures { token_of result ≡ tokens.word_token (name_of word.entry) }
-{
-    match reserved(word.bytes) {
-        Some(keyword) => Token::Reserved(keyword),
-        None => {
-            if word.bytes.len() <= 128 {
-                Token::Name(word)
-            } else {
-                Token::Never
-            }
-        }
-    }
-}
-
-fn number_token<'a>(word: Word<'a>) -> Token<'a>
-    ensures { token_of result ≡ tokens.number_token (name_of word.entry) }
-{
-    match small_number(word.bytes) {
-        Some(_) => Token::Number(word),
-        None => Token::Never,
-    }
-}
-
-fn sized_token<'a>(size: Word<'a>, radix: u8, digits: Word<'a>) -> Token<'a>
-    ensures { token_of result ≡ tokens.sized_token (name_of size.entry) radix (name_of digits.entry) }
-{
-    match small_number(size.bytes) {
-        Some(_) => Token::Sized {
-            size,
-            radix,
-            digits,
-        },
-        None => Token::Never,
-    }
-}
-
-#[tactic(auto, using(crate::proofs::LexSteps::steps))]
-fn put<'a>(out: &mut Vec<Lexeme<'a>>, token: Token<'a>, at: usize) -> Result<(), AllocError>
-    ensures { OnOk result (tokens_in out.new.items ≡ tokens_in out.old.items ++ token_of token.entry ∷ []) }
-{
-    out.push(Lexeme { token, at })?;
-    Ok(())
-}
-
 // A byte between tokens.
 #[tactic(auto, using(crate::proofs::LexSteps::steps))]
 fn begin<'a>(
@@ -113,7 +58,8 @@ fn begin<'a>(
     requires byte { b ≡ slice_index text.now at }
     ensures inside { IfOk result (λ s. IsInside text.now (at + 1) s) }
     ensures mode { IfOk result (λ s. mode_of text.now (at + 1) s ≡ (tokens.fresh b).mode) }
-    ensures tokens { OnOk result (tokens_in out.new.items ≡ tokens_in out.old.items ++ (tokens.fresh b).tokens) }
+    ensures tokens { OnOk result (tokens_in out.new.items ≡ tokens_in out.old.items
+        ++ (tokens.fresh b).tokens) }
 {
     match class_of(b) {
         Class::Letter => Ok(Standing::InWord(at)),
@@ -144,8 +90,10 @@ fn in_word<'a>(
     requires here { at < length text.now }
     requires byte { b ≡ slice_index text.now at }
     ensures inside { IfOk result (λ s. IsInside text.now (at + 1) s) }
-    ensures mode { IfOk result (λ s. mode_of text.now (at + 1) s ≡ (tokens.in_word (tokens.class_of b) (piece text.now from at) b).mode) }
-    ensures tokens { OnOk result (tokens_in out.new.items ≡ tokens_in out.old.items ++ (tokens.in_word (tokens.class_of b) (piece text.now from at) b).tokens) }
+    ensures mode { IfOk result (λ s. mode_of text.now (at + 1) s
+        ≡ (tokens.in_word (tokens.class_of b) (piece text.now from at) b).mode) }
+    ensures tokens { OnOk result (tokens_in out.new.items ≡ tokens_in out.old.items
+        ++ (tokens.in_word (tokens.class_of b) (piece text.now from at) b).tokens) }
 {
     match class_of(b) {
         Class::Letter | Class::Digit => Ok(Standing::InWord(from)),
@@ -169,8 +117,10 @@ fn in_number<'a>(
     requires here { at < length text.now }
     requires byte { b ≡ slice_index text.now at }
     ensures inside { IfOk result (λ s. IsInside text.now (at + 1) s) }
-    ensures mode { IfOk result (λ s. mode_of text.now (at + 1) s ≡ (tokens.in_number (tokens.class_of b) (piece text.now from at) b).mode) }
-    ensures tokens { OnOk result (tokens_in out.new.items ≡ tokens_in out.old.items ++ (tokens.in_number (tokens.class_of b) (piece text.now from at) b).tokens) }
+    ensures mode { IfOk result (λ s. mode_of text.now (at + 1) s
+        ≡ (tokens.in_number (tokens.class_of b) (piece text.now from at) b).mode) }
+    ensures tokens { OnOk result (tokens_in out.new.items ≡ tokens_in out.old.items
+        ++ (tokens.in_number (tokens.class_of b) (piece text.now from at) b).tokens) }
 {
     match class_of(b) {
         Class::Digit => Ok(Standing::InNumber(from)),
@@ -180,15 +130,6 @@ fn in_number<'a>(
             begin(text, at, b, out)
         }
     }
-}
-
-// A number and a quote that is part of no token.
-#[tactic(auto, using(crate::proofs::LexSteps::steps))]
-fn put_quoted<'a>(size: Word<'a>, out: &mut Vec<Lexeme<'a>>) -> Result<(), AllocError>
-    ensures { OnOk result (tokens_in out.new.items ≡ tokens_in out.old.items ++ tokens.number_token (name_of size.entry) ∷ tokens.Never ∷ []) }
-{
-    put(out, number_token(size), size.at)?;
-    put(out, Token::Never, size.at.saturating_add(size.bytes.len()))
 }
 
 // A byte behind a number's quote.
@@ -203,8 +144,10 @@ fn at_quote<'a>(
     requires here { at < length text.now }
     requires byte { b ≡ slice_index text.now at }
     ensures inside { IfOk result (λ s. IsInside text.now (at + 1) s) }
-    ensures mode { IfOk result (λ s. mode_of text.now (at + 1) s ≡ (tokens.at_quote (tokens.radix_of b) (name_of size.entry) b).mode) }
-    ensures tokens { OnOk result (tokens_in out.new.items ≡ tokens_in out.old.items ++ (tokens.at_quote (tokens.radix_of b) (name_of size.entry) b).tokens) }
+    ensures mode { IfOk result (λ s. mode_of text.now (at + 1) s
+        ≡ (tokens.at_quote (tokens.radix_of b) (name_of size.entry) b).mode) }
+    ensures tokens { OnOk result (tokens_in out.new.items ≡ tokens_in out.old.items
+        ++ (tokens.at_quote (tokens.radix_of b) (name_of size.entry) b).tokens) }
 {
     match radix_of(b) {
         Some(radix) => Ok(Standing::AtBase {
@@ -237,8 +180,10 @@ fn at_base<'a>(
     requires here { at < length text.now }
     requires byte { b ≡ slice_index text.now at }
     ensures inside { IfOk result (λ s. IsInside text.now (at + 1) s) }
-    ensures mode { IfOk result (λ s. mode_of text.now (at + 1) s ≡ (tokens.at_base (tokens.is_digit_of radix b) (name_of size.entry) base radix b).mode) }
-    ensures tokens { OnOk result (tokens_in out.new.items ≡ tokens_in out.old.items ++ (tokens.at_base (tokens.is_digit_of radix b) (name_of size.entry) base radix b).tokens) }
+    ensures mode { IfOk result (λ s. mode_of text.now (at + 1) s
+        ≡ (tokens.at_base (tokens.is_digit_of radix b) (name_of size.entry) base radix b).mode) }
+    ensures tokens { OnOk result (tokens_in out.new.items ≡ tokens_in out.old.items
+        ++ (tokens.at_base (tokens.is_digit_of radix b) (name_of size.entry) base radix b).tokens) }
 {
     if is_digit_of(radix, b) {
         return Ok(Standing::InDigits {
@@ -266,8 +211,12 @@ fn in_digits<'a>(
     requires here { at < length text.now }
     requires byte { b ≡ slice_index text.now at }
     ensures inside { IfOk result (λ s. IsInside text.now (at + 1) s) }
-    ensures mode { IfOk result (λ s. mode_of text.now (at + 1) s ≡ (tokens.in_digits (tokens.goes_on radix b) (name_of size.entry) radix (piece text.now from at) b).mode) }
-    ensures tokens { OnOk result (tokens_in out.new.items ≡ tokens_in out.old.items ++ (tokens.in_digits (tokens.goes_on radix b) (name_of size.entry) radix (piece text.now from at) b).tokens) }
+    ensures mode { IfOk result (λ s. mode_of text.now (at + 1) s
+        ≡ (tokens.in_digits (tokens.goes_on radix b) (name_of size.entry) radix
+        (piece text.now from at) b).mode) }
+    ensures tokens { OnOk result (tokens_in out.new.items ≡ tokens_in out.old.items
+        ++ (tokens.in_digits (tokens.goes_on radix b) (name_of size.entry) radix
+        (piece text.now from at) b).tokens) }
 {
     if goes_on(radix, b) {
         return Ok(Standing::InDigits { size, radix, from });
@@ -292,8 +241,10 @@ fn after_half<'a>(
     requires here { at < length text.now }
     requires byte { b ≡ slice_index text.now at }
     ensures inside { IfOk result (λ s. IsInside text.now (at + 1) s) }
-    ensures mode { IfOk result (λ s. mode_of text.now (at + 1) s ≡ (tokens.after_half (tokens.follow_of first b) first b).mode) }
-    ensures tokens { OnOk result (tokens_in out.new.items ≡ tokens_in out.old.items ++ (tokens.after_half (tokens.follow_of first b) first b).tokens) }
+    ensures mode { IfOk result (λ s. mode_of text.now (at + 1) s
+        ≡ (tokens.after_half (tokens.follow_of first b) first b).mode) }
+    ensures tokens { OnOk result (tokens_in out.new.items ≡ tokens_in out.old.items
+        ++ (tokens.after_half (tokens.follow_of first b) first b).tokens) }
 {
     let from = at.saturating_sub(1);
     match follow_of(first, b) {
@@ -323,8 +274,10 @@ fn advance<'a>(
     requires byte { b ≡ slice_index text.now at }
     requires inside { IsInside text.now at standing }
     ensures inside { IfOk result (λ s. IsInside text.now (at + 1) s) }
-    ensures mode { IfOk result (λ s. mode_of text.now (at + 1) s ≡ (tokens.move (mode_of text.now at standing.entry) b).mode) }
-    ensures tokens { OnOk result (tokens_in out.new.items ≡ tokens_in out.old.items ++ (tokens.move (mode_of text.now at standing.entry) b).tokens) }
+    ensures mode { IfOk result (λ s. mode_of text.now (at + 1) s
+        ≡ (tokens.move (mode_of text.now at standing.entry) b).mode) }
+    ensures tokens { OnOk result (tokens_in out.new.items ≡ tokens_in out.old.items
+        ++ (tokens.move (mode_of text.now at standing.entry) b).tokens) }
 {
     match standing {
         Standing::Between => begin(text, at, b, out),
@@ -365,7 +318,8 @@ fn end<'a>(
     out: &mut Vec<Lexeme<'a>>,
 ) -> Result<(), AllocError>
     requires inside { IsInside text.now (length text.now) standing }
-    ensures { OnOk result (tokens_in out.new.items ≡ tokens_in out.old.items ++ tokens.last_of (mode_of text.now (length text.now) standing.entry)) }
+    ensures { OnOk result (tokens_in out.new.items ≡ tokens_in out.old.items
+        ++ tokens.last_of (mode_of text.now (length text.now) standing.entry)) }
 {
     let at = text.len();
     match standing {

@@ -4,5 +4,6 @@
 
 pub mod classes;
 pub mod lexing;
+pub mod pieces;
 
 pub use lexing::lexemes;

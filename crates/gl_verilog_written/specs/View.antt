@@ -1,5 +1,5 @@
 -- What the values stand for: tokens and written modules.
-use Rattle.std.specs.Prelude.{◌≡◌, ℕ, ◌≤◌, Bool, List, [], ◌∷◌, map, reverse, Option, Some, None, option_map, Result, Ok, IfOk, MatchBool, MatchResult, ◌+◌}
+use Rattle.std.specs.Prelude.{ℕ, List, [], ◌∷◌, map, Option, option_map}
 use Rattle.gl_verilog.specs.Tokens as tokens
 use Rattle.gl_verilog.specs.Written as written
 use Rattle.gl_verilog_written.specs.declared.token.Word.{Word}
