@@ -12,7 +12,7 @@ use Rattle.gl_verilog.specs.Text.{HasModule}
 use Rattle.gl_verilog.specs.Valid.{IsValid}
 use Rattle.gl_verilog_orders.proofs.EventRuns.{event_runs_are_runs}
 use Rattle.gl_verilog.specs.View.{module_of}
-use Rattle.gl_verilog.proofs.ReadModules.{one_module}
+use Rattle.gl_verilog_grammar.proofs.ReadModules.{one_module}
 use Rattle.gl_sim.specs.Simulation.{Simulation, IsAt}
 use Rattle.gl_sim.specs.Starts.{StartsFrom}
 use Rattle.gl_sim.specs.declared.start.Start.{Start}

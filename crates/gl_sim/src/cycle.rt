@@ -20,8 +20,8 @@ pub fn settle(design: &Module, order: &[usize], values: &mut Vec<u128>, banks: &
     requires store { IsStore (module_of design.now).declarations values.old.items banks.now }
     ensures store { IsStore (module_of design.now).declarations values.new.items banks.now }
     ensures settled { nets_of values.new.items
-        ≡ evaluated (picked (module_of design.now).assignments order.now)
-        (memories_of banks.now) (nets_of values.old.items) }
+        ≡ evaluated (picked (module_of design.now).assignments order.now) (memories_of banks.now)
+        (nets_of values.old.items) }
 {
     let assignments = design.assignments.as_slice();
     for k in order {
@@ -42,8 +42,8 @@ pub fn set_inputs(
     requires fit { FitInputs (module_of design.now) inputs.now }
     requires store { IsStore (module_of design.now).declarations values.old.items banks.now }
     ensures store { IsStore (module_of design.now).declarations values.new.items banks.now }
-    ensures set { nets_of values.new.items
-        ≡ with_inputs ports.now inputs.now (nets_of values.old.items) }
+    ensures set { nets_of values.new.items ≡ with_inputs ports.now inputs.now
+        (nets_of values.old.items) }
 {
     for (i, port) in ports.iter().enumerate() {
         values[*port] = inputs[i];
@@ -68,18 +68,17 @@ pub fn run_blocks(
 )
     requires can { CanExecute values.now banks.now (chained blocks.now) }
     requires size { length next.old.items ≡ length values.now }
-    requires room { vec_len waiting.old + writes_in (chained blocks.now) ≤ vec_capacity waiting.old }
+    requires room { vec_len waiting.old + writes_in
+        (chained blocks.now) ≤ vec_capacity waiting.old }
     requires inside { AreInside banks.now waiting.old.items }
     ensures size { length next.new.items ≡ length next.old.items }
     ensures capacity { vec_capacity waiting.new ≡ vec_capacity waiting.old }
     ensures inside { AreInside banks.now waiting.new.items }
     ensures registers { (r : ℕ) → slice_index next.new.items r
-        ≡ unwrap_or
-        (assigned (nets_of values.now) (memories_of banks.now) (chained blocks.now) r)
+        ≡ unwrap_or (assigned (nets_of values.now) (memories_of banks.now) (chained blocks.now) r)
         (slice_index next.old.items r) }
     ensures words { (k at : ℕ) → put_of waiting.new.items k at
-        ≡ later_or
-        (written (nets_of values.now) (memories_of banks.now) (chained blocks.now) k at)
+        ≡ later_or (written (nets_of values.now) (memories_of banks.now) (chained blocks.now) k at)
         (put_of waiting.old.items k at) }
 {
     for block in blocks {

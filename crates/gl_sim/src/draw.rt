@@ -26,8 +26,8 @@ fn draw(state: &mut u64) -> u64
 fn draw_word(state: &mut u64, width: u8) -> u128
     requires { width ≤ 128 }
     ensures state { state.new ≡ next_draw (next_draw state.old) }
-    ensures value { result
-        ≡ (next_draw state.old * 2 ^ 64 + next_draw (next_draw state.old)) % 2 ^ width }
+    ensures value { result ≡ (next_draw state.old * 2 ^ 64 + next_draw (next_draw state.old)) % 2 ^
+        width }
 {
     let high = draw(state);
     let low = draw(state);
@@ -59,8 +59,8 @@ fn draw_one(
     requires runnable { IsRunnable (module_of design.now) }
     requires store { IsStore (module_of design.now).declarations values.old.items banks.old.items }
     requires within { n < length design.now.declarations }
-    ensures { (d : Declared) → slice_get (module_of design.now).declarations n ≡ Some d →
-        DrawsOne (module_of design.now).declarations n d state.old state.new values.old.items
+    ensures { (d : Declared) → slice_get (module_of design.now).declarations n ≡ Some d
+        → DrawsOne (module_of design.now).declarations n d state.old state.new values.old.items
         values.new.items banks.old.items banks.new.items }
 {
     let declaration = &design.declarations.as_slice()[n];
@@ -96,8 +96,8 @@ pub fn draw_all(design: &Module, seed: u64, values: &mut Vec<u128>, banks: &mut 
 /// Gives zeroed registers and words their start.
 pub fn begin(design: &Module, start: Start, values: &mut Vec<u128>, banks: &mut Vec<Bank>)
     requires runnable { IsRunnable (module_of design.now) }
-    requires zero_values { values.old.items
-        ≡ replicate (length (module_of design.now).declarations) 0 }
+    requires zero_values { values.old.items ≡ replicate (length (module_of design.now).declarations)
+        0 }
     requires zero_words { banks.old.items ≡ map zero_bank (module_of design.now).declarations }
     ensures store { IsStore (module_of design.now).declarations values.new.items banks.new.items }
     ensures started { SameState (module_of design.now).declarations

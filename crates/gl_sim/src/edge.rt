@@ -29,12 +29,10 @@ pub fn clock(
     ensures none { waiting.new.items ≡ [] }
     ensures room { vec_capacity waiting.new ≡ vec_capacity waiting.old }
     ensures registers { (r : ℕ) → slice_index next.new.items r
-        ≡ unwrap_or
-        (assigned_by (nets_of settled.now) (memories_of banks.old.items)
+        ≡ unwrap_or (assigned_by (nets_of settled.now) (memories_of banks.old.items)
         (module_of design.now).blocks r) (slice_index settled.now r) }
     ensures words { (k at : ℕ) → memories_of banks.new.items k at
-        ≡ unwrap_or
-        (written_by (nets_of settled.now) (memories_of banks.old.items)
+        ≡ unwrap_or (written_by (nets_of settled.now) (memories_of banks.old.items)
         (module_of design.now).blocks k at) (memories_of banks.old.items k at) }
 {
     run_blocks(design.blocks.as_slice(), settled, banks, next, waiting);

@@ -8,6 +8,6 @@ ghost use Rattle.gl_sim.specs.Starts.{RunsWith};
 
 /// There is a run from any start with any inputs that fit: the one that a simulator follows.
 pub fn a_run_is_there()
-    ensures { (m : Design) (start : Begin) (rows : ℕ → List ℕ) → IsRunnable m →
-        ((t : ℕ) → FitInputs m (rows t)) → RunsWith start m rows }
+    ensures { (m : Design) (start : Begin) (rows : ℕ → List ℕ) → IsRunnable m
+        → ((t : ℕ) → FitInputs m (rows t)) → RunsWith start m rows }
 {}

@@ -51,9 +51,8 @@ pub fn banks_of(alloc: Global, declarations: &[Declaration]) -> Result<Vec<Bank>
 
 // Whether it is an input port, and not the clock.
 fn is_set(declaration: &Declaration) -> bool
-    ensures { result
-        ≡ (is_input (kind_of declaration.now.kind)
-        && not (is_clock (declaration_of declaration.now))) }
+    ensures { result ≡ (is_input (kind_of declaration.now.kind) && not
+        (is_clock (declaration_of declaration.now))) }
 {
     matches!(declaration.kind, Kind::Input) && declaration.name.as_slice() != b"clk".as_slice()
 }

@@ -54,8 +54,8 @@ impl Sim {
     pub fn new(alloc: Global, design: Module, start: Start) -> Result<Sim, Memory>
         requires { IsRunnable (module_of design) }
         ensures design { IfOk result (λ s. s.design ≡ design) }
-        ensures started { IfOk result (λ s. (value : ℕ → Nets) (word : ℕ → Memories) →
-            StartsFrom start (module_of design) value word → IsAt s value word 0) }
+        ensures started { IfOk result (λ s. (value : ℕ → Nets) (word : ℕ → Memories)
+            → StartsFrom start (module_of design) value word → IsAt s value word 0) }
         ensures shown { IfOk result (λ s. (port : ℕ) → slice_index s.shown port ≡ 0) }
     {
         let order = order_in(alloc, &design)?;
@@ -90,10 +90,10 @@ impl Sim {
 
         // Every order of events of a valid module is followed through the cycle, and none goes on
         // without rest.
-        ensures orders { IsValid (module_of self.old.design) →
-            FollowsOrders self.old self.new inputs.now }
-        ensures rests { IsValid (module_of self.old.design) →
-            ComesToRest (module_of self.old.design) }
+        ensures orders { IsValid (module_of self.old.design)
+            → FollowsOrders self.old self.new inputs.now }
+        ensures rests { IsValid (module_of self.old.design)
+            → ComesToRest (module_of self.old.design) }
     {
         set_inputs(
             &self.design,

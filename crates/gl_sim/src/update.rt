@@ -33,8 +33,7 @@ fn note(
     ensures room { vec_len waiting.new ≡ vec_len waiting.old + 1 }
     ensures inside { AreInside banks.now waiting.new.items }
     ensures words { (k at : ℕ) → put_of waiting.new.items k at
-        ≡ later_or
-        (written (nets_of values.now) (memories_of banks.now)
+        ≡ later_or (written (nets_of values.now) (memories_of banks.now)
         (Write memory (expr_of address.now) (expr_of value.now)) k at)
         (put_of waiting.old.items k at) }
 {
@@ -67,13 +66,11 @@ pub fn execute(
         (statement_of statement.now) }
     ensures inside { AreInside banks.now waiting.new.items }
     ensures registers { (r : ℕ) → slice_index next.new.items r
-        ≡ unwrap_or
-        (assigned (nets_of values.now) (memories_of banks.now) (statement_of statement.now) r)
-        (slice_index next.old.items r) }
+        ≡ unwrap_or (assigned (nets_of values.now) (memories_of banks.now)
+        (statement_of statement.now) r) (slice_index next.old.items r) }
     ensures words { (k at : ℕ) → put_of waiting.new.items k at
-        ≡ later_or
-        (written (nets_of values.now) (memories_of banks.now) (statement_of statement.now) k at)
-        (put_of waiting.old.items k at) }
+        ≡ later_or (written (nets_of values.now) (memories_of banks.now)
+        (statement_of statement.now) k at) (put_of waiting.old.items k at) }
 {
     match statement {
         Statement::Nothing => {}

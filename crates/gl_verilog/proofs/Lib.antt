@@ -1,8 +1,4 @@
 pub mod Operators
-pub mod Steps
-pub mod ReadExpressions
-pub mod ReadStatements
-pub mod ReadModules
 pub mod Fits
 pub mod Stores
 pub mod Chains
@@ -11,6 +7,3 @@ pub mod Settles
 pub mod Runs
 pub mod Acyclic
 pub mod Pieces
-pub mod Frames
-pub mod Told
-pub mod Sound

@@ -4,14 +4,14 @@ use Rattle.std.specs.Prelude.{slice_get}
 use Rattle.std.specs.List.{AllByRecursion}
 use Rattle.std.proofs.lemmas.Bool.Decides.{eqb_tells}
 use Rattle.std.proofs.lemmas.List.Sorted.{IsPermutation-sym}
-use Rattle.gl_verilog.specs.Module.{Declaration, Kind, Input, OutputWire, OutputRegister, Wire, Register, Memory, Assignment, Module, Nets, Memories, Statement, Nothing, Put, Write, Both, If, value_of, later_or, taken, assigned, assigned_by, written_by}
-use Rattle.gl_verilog.specs.Run.{Fit, IsRun, IsRegister, IsSettled}
-use Rattle.gl_verilog.specs.Widths.{IsNet, IsDriven, IsReadable, is_clock, KeepsWidth, words_in, width_of}
+use Rattle.gl_verilog.specs.Module.{Declaration, Kind, Input, OutputWire, OutputRegister, Wire, Register, Memory, Assignment, Module, Nets, Memories, Statement, Nothing, Put, Write, Both, If, value_of, assigned, assigned_by, written_by}
+use Rattle.gl_verilog.specs.Run.{Fit, IsRun, IsRegister}
+use Rattle.gl_verilog.specs.Widths.{IsNet, IsDriven, KeepsWidth, width_of}
 use Rattle.gl_verilog.specs.Order.{IsUndriven, evaluated}
-use Rattle.gl_verilog.specs.Runnable.{IsRunnable, SameNets, SameState, SameInputs, RunsAgree, RunsAreCausal, SettlesSomeWay, Settles, RunsFrom, HasRuns, LeavesAlone, KeepsStart}
-use Rattle.gl_verilog.proofs.Fits.{Found, found_in}
+use Rattle.gl_verilog.specs.Runnable.{IsRunnable, SameState, SameInputs, RunsAgree, RunsAreCausal, SettlesSomeWay, RunsFrom, HasRuns, LeavesAlone, KeepsStart}
+use Rattle.gl_verilog.proofs.Fits.{found_in}
 use Rattle.gl_verilog.proofs.Stores.{same_item}
-use Rattle.gl_verilog.proofs.Edges.{Alike, FitsIn, unwrap_fits, assigned_by-alike, written_by-alike, assigned_by_fits, written_by_fits}
+use Rattle.gl_verilog.proofs.Edges.{Alike, unwrap_fits, assigned_by-alike, written_by-alike, assigned_by_fits, written_by_fits}
 use Rattle.gl_verilog.proofs.Settles.{settles_one_way, each_in_order, evaluated-undriven, evaluated-fits, evaluated-settled}
 
 -- ---- two runs agree

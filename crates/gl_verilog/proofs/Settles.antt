@@ -1,5 +1,5 @@
 -- Assignments in order settle in exactly one way.
-use Rattle.std.proofs.Common.{◌≡◌, ◌≢◌, ℕ, ◌^◌, ◌<◌, List, [], ◌∷◌, Option, Some, None, All, refl, sym, ◌∙◌, ap, subst, nat_eq, cond, inl, inr}
+use Rattle.std.proofs.Common.{◌≡◌, ◌≢◌, ℕ, ◌^◌, ◌<◌, List, [], ◌∷◌, Option, Some, None, All, refl, sym, ◌∙◌, ap, subst, inl, inr}
 use Rattle.std.specs.Prelude.{slice_get, IsSomeAnd, IsTrue}
 use Rattle.std.specs.List.{AllByRecursion}
 use Rattle.std.specs.List.Sorted.{IsPermutation}
@@ -8,10 +8,10 @@ use Rattle.std.proofs.lemmas.List.Elements.{All-nil, All-cons, All-head, All-tai
 use Rattle.std.proofs.lemmas.List.Sorted.{All-permutation, IsPermutation-sym}
 use Rattle.gl_verilog.specs.Module.{Declaration, Kind, Input, OutputWire, OutputRegister, Wire, Register, Memory, Assignment, Module, Nets, Memories, Expr, Net, Literal, Invert, Binary, Choose, Join, Select, Read, value_of}
 use Rattle.gl_verilog.specs.Run.{Fit, IsRegister, IsSettled}
-use Rattle.gl_verilog.specs.Widths.{HasSize, IsNet, IsDriven, IsReadable, is_clock, width_of, KeepsWidths, KeepsWidth, words_in}
-use Rattle.gl_verilog.specs.Order.{EachRead, IsUndriven, IsOrdered, CanBeOrdered, with_net, evaluated}
-use Rattle.gl_verilog.specs.Runnable.{IsRunnable, SameNets, SameState, SameInputs, SettlesOneWay, Settles}
-use Rattle.gl_verilog.proofs.Fits.{Found, found_in, value_fits}
+use Rattle.gl_verilog.specs.Widths.{IsNet, IsDriven, IsReadable, width_of, KeepsWidths, KeepsWidth}
+use Rattle.gl_verilog.specs.Order.{EachRead, IsUndriven, IsOrdered, with_net, evaluated}
+use Rattle.gl_verilog.specs.Runnable.{IsRunnable, SameState, SameInputs, SettlesOneWay}
+use Rattle.gl_verilog.proofs.Fits.{found_in, value_fits}
 use Rattle.gl_verilog.proofs.Stores.{same_item}
 use Rattle.gl_verilog.proofs.Edges.{SameWords, value_of-same}
 

@@ -12,4 +12,3 @@ pub mod Limits
 pub mod Resolve
 pub mod Valid
 pub mod Text
-pub mod Machine

@@ -1,7 +1,7 @@
 -- The modules that have a run from any start and any inputs, and only one.
-use Rattle.std.specs.Prelude.{◌≡◌, ◌≢◌, ℕ, ◌+◌, ◌^◌, ◌<◌, ◌≤◌, Bool, true, false, List, [], ◌∷◌, Some, slice_get, if◌then◌else◌, not, ◌&&◌}
+use Rattle.std.specs.Prelude.{◌≡◌, ◌≢◌, ℕ, ◌+◌, ◌^◌, ◌<◌, ◌≤◌, false, List, [], ◌∷◌, Some, slice_get, if◌then◌else◌, not, ◌&&◌}
 use Rattle.std.specs.List.{AllByRecursion, AllZip}
-use Rattle.gl_verilog.specs.Module.{Kind, Input, Declaration, Module, Nets, Memories, Statement, Nothing, Put, Write, Both, If}
+use Rattle.gl_verilog.specs.Module.{Input, Declaration, Module, Nets, Memories, Statement, Nothing, Put, Write, Both, If}
 use Rattle.gl_verilog.specs.Run.{IsRun, IsRegister, IsSettled, Fit}
 pub use Rattle.gl_verilog.specs.Run.{is_input}
 use Rattle.gl_verilog.specs.Widths.{HasSize, IsDriven, IsReadable, KeepsWidth, KeepsWidthsIn, is_clock, width_at, words_in}

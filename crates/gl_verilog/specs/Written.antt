@@ -135,6 +135,11 @@ pub data WrittenStatement : Type 0 where
   Listed : (first rest : WrittenStatement) → WrittenStatement
   Ended : WrittenStatement
 
+-- the list of these statements
+abbrev pub listed : List WrittenStatement → WrittenStatement
+listed [] = Ended
+listed (s ∷ ss) = Listed s (listed ss)
+
 -- whether it ends with an `if` to which a further `else` would belong
 abbrev pub ends_open : WrittenStatement → Bool
 ends_open (Update target value) = false

@@ -1,6 +1,6 @@
 //! The value of an expression.
 
-ghost use Rattle.std.specs.Prelude.{◌≡◌, ◌+◌, ◌-◌, ◌*◌, ◌^◌, ◌<◌, ◌≤◌, length, slice_index, slice_index_or};
+ghost use Rattle.std.specs.Prelude.{◌≡◌, ◌+◌, ◌-◌, ◌*◌, ◌^◌, ◌<◌, ◌≤◌};
 ghost use Rattle.gl_bits.specs.Words.{not_of, join_of, cut_of, bit};
 ghost use Rattle.gl_verilog.specs.Module.{binary_of, value_of};
 ghost use Rattle.gl_verilog.specs.View.{op_of, expr_of};

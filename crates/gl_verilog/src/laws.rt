@@ -1,7 +1,8 @@
-//! Laws of runs: each function's contract is the law.
+//! Laws of runs and of valid modules: each function's contract is the law.
 
 ghost use Rattle.gl_verilog.specs.Module.{Module as Design};
 ghost use Rattle.gl_verilog.specs.Runnable.{IsRunnable, SettlesOneWay, SettlesSomeWay, RunsAgree, RunsAreCausal, HasRuns, KeepsStart};
+ghost use Rattle.gl_verilog.specs.Valid.{IsValid};
 
 /// Given its inputs, registers and words, a cycle settles in one way at most.
 pub fn settles_one_way()
@@ -31,4 +32,10 @@ pub fn has_runs()
 /// A register that no block assigns keeps its start.
 pub fn keeps_start()
     ensures { (m : Design) → KeepsStart m }
+{}
+
+/// The assignments of a valid module can be put in an order, so that it runs from any start and any
+/// inputs.
+pub fn valid_modules_run()
+    ensures { (m : Design) → IsValid m → IsRunnable m }
 {}

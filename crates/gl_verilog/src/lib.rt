@@ -5,7 +5,6 @@ pub mod bank;
 pub mod evaluation;
 pub mod laws;
 pub mod module;
-pub mod texts;
 
 pub use bank::Bank;
 pub use evaluation::{evaluate, mask};

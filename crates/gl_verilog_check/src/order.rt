@@ -1,6 +1,6 @@
 //! An order of assignments in which each reads only what stands before it, or that there is none.
 
-ghost use Rattle.std.specs.Prelude.{◌≡◌, length, slice_get, slice_set, true, false, [], Some, IfOk, OnOk, IfSome};
+ghost use Rattle.std.specs.Prelude.{◌≡◌, length, slice_get, true, false, [], Some, IfOk, OnOk, IfSome};
 ghost use Rattle.std.specs.List.{list_any};
 ghost use Rattle.gl_verilog.specs.View.{assignment_of};
 ghost use Rattle.gl_verilog_check.specs.Kept.{AreMarks, Marked, CannotMark};

@@ -1,7 +1,7 @@
 //! The test of a module that can run: widths, drivers, and an order of its assignments.
 
-ghost use Rattle.std.specs.Prelude.{◌≡◌, map, true, false, IfOk};
-ghost use Rattle.gl_verilog.specs.View.{declaration_of, assignment_of, statement_of, module_of, expr_of};
+ghost use Rattle.std.specs.Prelude.{◌≡◌, true, false, IfOk};
+ghost use Rattle.gl_verilog.specs.View.{declaration_of, statement_of, module_of, expr_of};
 ghost use Rattle.gl_verilog.specs.Runnable.{IsRunnable};
 ghost use Rattle.gl_verilog_check.specs.Kept.{driver_there, all_driven, all_sized, all_kept, test_kept, statement_kept, blocks_kept};
 ghost use Rattle.gl_verilog_check.specs.Kept.{scope_of, statements_of, CanRun};

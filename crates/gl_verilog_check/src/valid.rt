@@ -1,7 +1,7 @@
 //! The test of a valid module: names, drivers, and all that a module that can run needs.
 
-ghost use Rattle.std.specs.Prelude.{◌≡◌, ◌+◌, map, true, false, [], IfOk, option_map};
-ghost use Rattle.gl_verilog.specs.View.{declaration_of, assignment_of, statement_of, module_of};
+ghost use Rattle.std.specs.Prelude.{◌≡◌, ◌+◌, true, false, [], IfOk, option_map};
+ghost use Rattle.gl_verilog.specs.View.{declaration_of, statement_of, module_of};
 ghost use Rattle.gl_verilog.specs.Valid as valid;
 ghost use Rattle.gl_verilog.specs.Valid.{IsValid};
 ghost use Rattle.gl_verilog_check.specs.Kept.{scope_of, statements_of, AreValid};
@@ -100,8 +100,8 @@ fn writes_in(statement: &Statement, memory: usize) -> u8
 
 // How many blocks assign a register, or 2 where more do; None where two statements of one list do.
 fn blocks_of(blocks: &[Statement], register: usize) -> Option<u8>
-    ensures { result
-        ≡ option_map at_most_two (tests.blocks_once register (statements_of blocks.now)) }
+    ensures { result ≡ option_map at_most_two
+        (tests.blocks_once register (statements_of blocks.now)) }
 {
     let mut count = 0;
     for block in blocks {
@@ -124,8 +124,8 @@ fn writes_of(blocks: &[Statement], memory: usize) -> u8
 
 // Whether the register or memory of this number has a driver.
 fn is_assigned(declaration: &Declaration, n: usize, blocks: &[Statement]) -> bool
-    ensures { result
-        ≡ tests.is_assigned (statements_of blocks.now) n (declaration_of declaration.now).kind }
+    ensures { result ≡ tests.is_assigned (statements_of blocks.now) n
+        (declaration_of declaration.now).kind }
 {
     match declaration.kind {
         Kind::Input | Kind::OutputWire | Kind::Wire => true,
@@ -148,8 +148,7 @@ fn are_assigned(declarations: &[Declaration], blocks: &[Statement]) -> bool
 
 // Whether the register or memory of this number has a driver in its home.
 fn is_at_home(declaration: &Declaration, n: usize, blocks: &[Statement], homes: &[usize]) -> bool
-    ensures { result
-        ≡ tests.is_assigned (home_of homes.now (statements_of blocks.now) n) n
+    ensures { result ≡ tests.is_assigned (home_of homes.now (statements_of blocks.now) n) n
         (declaration_of declaration.now).kind }
 {
     let Some(home) = homes.get(n) else {
@@ -163,8 +162,8 @@ fn is_at_home(declaration: &Declaration, n: usize, blocks: &[Statement], homes: 
 
 // Whether every register and memory has a driver in its home.
 fn are_at_home(declarations: &[Declaration], blocks: &[Statement], homes: &[usize]) -> bool
-    ensures { result
-        ≡ all_at_home homes.now (statements_of blocks.now) 0 (scope_of declarations.now) }
+    ensures { result ≡ all_at_home homes.now (statements_of blocks.now) 0
+        (scope_of declarations.now) }
 {
     for (n, declaration) in declarations.iter().enumerate() {
         if !is_at_home(declaration, n, blocks, homes) {
@@ -181,8 +180,8 @@ fn have_drivers(
     declarations: &[Declaration],
     blocks: &[Statement],
 ) -> Result<bool, Memory>
-    ensures { IfOk result (λ b. b
-        ≡ tests.all_assigned (statements_of blocks.now) 0 (scope_of declarations.now)) }
+    ensures { IfOk result (λ b. b ≡ tests.all_assigned (statements_of blocks.now) 0
+        (scope_of declarations.now)) }
 {
     let Ok(homes) = homes_of(alloc, declarations.len(), blocks) else {
         return Err(Memory);
@@ -200,8 +199,8 @@ fn parts_are_valid(
     assignments: &[Assignment],
     blocks: &[Statement],
 ) -> Result<bool, Memory>
-    ensures yes { IfOk result (λ b. b ≡ true →
-        AreValid declarations.now assignments.now blocks.now) }
+    ensures yes { IfOk result (λ b. b ≡ true → AreValid declarations.now assignments.now
+        blocks.now) }
     ensures all { IfOk result (λ b. AreValid declarations.now assignments.now blocks.now → b
         ≡ true) }
 {

@@ -1,10 +1,10 @@
 //! Widths of expressions, and which names stand where their kind may.
 
-ghost use Rattle.std.specs.Prelude.{◌≡◌, map, slice_get, option_map, unwrap_or, true};
+ghost use Rattle.std.specs.Prelude.{◌≡◌, slice_get, option_map, unwrap_or, true};
 ghost use Rattle.gl_verilog.specs.View.{declaration_of, expr_of, assignment_of, kind_of, op_of};
 ghost use Rattle.gl_verilog.specs.Widths.{width_after};
 ghost use Rattle.gl_verilog_check.specs.Kept.{scope_of};
-ghost use Rattle.gl_verilog_check.specs.Kept.{is_memory, net_width, part_width, word_width, kept, has_address, is_driven, is_register, takes, assigned_width, clock_test, literal_width, both_width, choose_width, join_width, only_taken, put_width, write_width, memory_fits, has_size, reads};
+ghost use Rattle.gl_verilog_check.specs.Kept.{is_memory, net_width, part_width, word_width, kept, has_address, is_driven, is_register, assigned_width, clock_test, literal_width, both_width, choose_width, join_width, only_taken, put_width, write_width, memory_fits, has_size, reads};
 
 use gl_verilog::{Assignment, BinaryOp, Declaration, Expr, Kind};
 
@@ -235,8 +235,7 @@ pub(crate) fn write_width(
     address: &Expr,
     value: &Expr,
 ) -> Option<u16>
-    ensures { result
-        ≡ write_width (scope_of declarations.now) memory (expr_of address.now)
+    ensures { result ≡ write_width (scope_of declarations.now) memory (expr_of address.now)
         (expr_of value.now) }
 {
     let address = kept(declarations, address)?;

@@ -1,19 +1,19 @@
 -- How often a name is driven, in what is written and in what it means.
-use Rattle.std.proofs.Common.{◌≡◌, ℕ, zero, suc, ◌+◌, ◌-◌, ◌<◌, ◌≤◌, ◌^◌, ◌⊎◌, inl, inr, Bool, true, false, cond, List, [], ◌∷◌, ◌++◌, length, map, Option, Some, None, eqb, leb, ltb, refl, sym, ap, subst, ◌∙◌, arith, append_assoc}
-use Rattle.std.specs.Prelude.{◌&&◌, ◌||◌, not, nat_eq, nat_le, nat_lt, slice_get, option_map, option_and_then, IsSomeAnd, codes, if◌then◌else◌}
-use Rattle.std.specs.List.{AllByRecursion, list_any}
+use Rattle.std.proofs.Common.{◌≡◌, ℕ, zero, suc, ◌+◌, ◌-◌, ◌≤◌, ◌⊎◌, inl, inr, Bool, true, false, List, [], ◌∷◌, ◌++◌, map, Some, eqb, refl, sym, ap, subst, ◌∙◌, arith, append_assoc}
+use Rattle.std.specs.Prelude.{◌&&◌, ◌||◌, nat_eq, slice_get, IsSomeAnd, if◌then◌else◌}
+use Rattle.std.specs.List.{AllByRecursion}
 use Rattle.std.specs.Str.{bytes_eq}
-use Rattle.std.proofs.lemmas.Bool.{eq-eqb, eqb-true, ne_eqb, false_from_ne_true, or_cases, or_left, or_right, or_parts, or_from, not-true, and_parts, and_from}
-use Rattle.std.proofs.lemmas.List.Folds.{list_any-append}
+use Rattle.std.proofs.lemmas.Bool.{eq-eqb, eqb-true, or_cases}
 use Rattle.gl_verilog.specs.Written.{WrittenExpr, WrittenStatement, Update, UpdateWord, IfThen, IfElse, Block, Listed, Ended, WrittenItem, Wires, Registers, MemoryOf, Assign, Always}
-use Rattle.gl_verilog.specs.Module.{Declaration, Assignment, Kind, Input, OutputWire, OutputRegister, Wire, Register, Memory, Expr, Statement, Nothing, Put, Write, Both, If, number_of}
+use Rattle.gl_verilog.specs.Module.{Declaration, Assignment, Wire, Register, Memory, Expr, Statement, Nothing, Put, Write, Both, If, number_of}
 use Rattle.gl_verilog.specs.Run.{IsRegister}
 use Rattle.gl_verilog.specs.Widths.{IsDriven, IsMemory, width_of, KeepsWidth, KeepsWidthsIn}
 use Rattle.gl_verilog.specs.Valid.{AreDistinct, drivers_of, assigns, AssignsOnce, blocks_of, writes_in, writes_of}
-use Rattle.gl_verilog.specs.Resolve.{Resolved, both, with_assignment, with_block, clocked, decimal_number, declare, address_bits_of, three, resolve_expr, resolve_statement, resolve_items, is_memory_kind}
-use Rattle.gl_verilog_faults.specs.Demands.{is_among, targets_in, targets_of, memory_declared}
-use Rattle.gl_verilog_faults.proofs.Names.{Seen, seen_number, same_text, Extends, extends_more}
-use Rattle.gl_verilog_faults.proofs.Expressions.{both_some, three_some, some_same, at_some, kind_memory}
+use Rattle.gl_verilog.specs.Resolve.{Resolved, with_assignment, with_block, clocked, decimal_number, declare, address_bits_of, resolve_expr, resolve_statement, resolve_items, is_memory_kind}
+use Rattle.gl_verilog_faults.specs.Demands.{memory_declared}
+use Rattle.gl_verilog_faults.proofs.Names.{seen_number, same_text, Extends}
+use Rattle.gl_verilog_faults.proofs.Expressions.{some_same, at_some}
+use Rattle.gl_verilog_faults.proofs.Operators.{both_some, three_some, kind_memory}
 use Rattle.gl_verilog_faults.proofs.Declarations.{number_at}
 use Rattle.gl_verilog_faults.proofs.Items.{added, extends_by, memory-is, then_some}
 

@@ -1,19 +1,17 @@
 -- Declarations one behind the other: new names, and sizes.
-use Rattle.std.proofs.Common.{◌≡◌, ℕ, zero, suc, ◌+◌, ◌-◌, ◌<◌, ◌≤◌, ◌^◌, ◌⊎◌, inl, inr, Bool, true, false, cond, List, [], ◌∷◌, ◌++◌, length, map, Option, Some, None, eqb, leb, ltb, refl, sym, ap, subst, ◌∙◌, arith, append_assoc}
-use Rattle.std.specs.Prelude.{◌&&◌, ◌||◌, not, nat_eq, nat_le, nat_lt, slice_get, option_map, if◌then◌else◌}
+use Rattle.std.proofs.Common.{◌≡◌, ℕ, zero, suc, ◌+◌, ◌-◌, ◌≤◌, ◌^◌, Bool, true, false, List, [], ◌∷◌, ◌++◌, length, map, Some, None, leb, refl, sym, subst, arith, append_assoc}
+use Rattle.std.specs.Prelude.{not, nat_eq, nat_le, slice_get, if◌then◌else◌}
 use Rattle.std.specs.List.{AllByRecursion}
 use Rattle.std.specs.Str.{bytes_eq}
-use Rattle.std.proofs.lemmas.Bool.{le-leb, leb-true, not-true, not_from_false, eqb-true}
+use Rattle.std.proofs.lemmas.Bool.{le-leb, leb-true, not-true, not_from_false}
 use Rattle.std.proofs.lemmas.List.{append-nil}
 use Rattle.std.proofs.lemmas.Cmp.{nat_list_eq_equiv}
-use Rattle.gl_bits.specs.Words.{IsWidth}
 use Rattle.gl_verilog.specs.Written.{Range, WrittenPort, Direction, In, InWire, Out, OutWire, OutReg, spell_port}
-use Rattle.gl_verilog.specs.Module.{Declaration, Kind, Input, OutputWire, OutputRegister, Wire, Register, Memory, number_of}
+use Rattle.gl_verilog.specs.Module.{Declaration, Kind, Memory, number_of}
 use Rattle.gl_verilog.specs.Widths.{IsMemory, HasSize}
 use Rattle.gl_verilog.specs.Valid.{Differs, AreDistinct}
-use Rattle.gl_verilog.specs.Resolve.{decimal_number, declare, port_kind, declare_port, address_bits_to, address_bits_of, declared_in}
-use Rattle.gl_verilog_faults.specs.Demands.{Demand, IsMet, AreMet, ask, is_declared, of_declaration, of_names, of_ports, name_token, memory_declared}
-use Rattle.gl_verilog_faults.proofs.Names.{met_join, met_front, met_back, same_text}
+use Rattle.gl_verilog.specs.Resolve.{declare, port_kind, declare_port, address_bits_to, address_bits_of}
+use Rattle.gl_verilog_faults.specs.Demands.{AreMet, is_declared, of_names, of_ports}
 use Rattle.gl_verilog_faults.proofs.Expressions.{AreSmall}
 
 -- ---- lists

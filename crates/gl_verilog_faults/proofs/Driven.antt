@@ -1,22 +1,22 @@
 -- One driver each gives free targets, and the other way round.
-use Rattle.std.proofs.Common.{◌≡◌, ℕ, zero, suc, ◌+◌, ◌-◌, ◌<◌, ◌≤◌, ◌^◌, ◌⊎◌, inl, inr, Bool, true, false, cond, List, [], ◌∷◌, ◌++◌, length, map, Option, Some, None, eqb, leb, ltb, refl, sym, ap, subst, ◌∙◌, arith, append_assoc}
-use Rattle.std.specs.Prelude.{◌&&◌, ◌||◌, not, nat_eq, nat_le, nat_lt, slice_get, option_map, option_and_then, IsSomeAnd, codes, if◌then◌else◌}
-use Rattle.std.specs.List.{AllByRecursion, list_any}
+use Rattle.std.proofs.Common.{◌≡◌, ℕ, ◌+◌, ◌-◌, ◌≤◌, inl, inr, Bool, true, false, List, [], ◌∷◌, ◌++◌, map, Some, refl, sym, subst, ◌∙◌, arith, append_assoc}
+use Rattle.std.specs.Prelude.{◌&&◌, not, slice_get, if◌then◌else◌}
 use Rattle.std.specs.Str.{bytes_eq}
-use Rattle.std.proofs.lemmas.Bool.{eq-eqb, eqb-true, false_from_ne_true, or_cases, or_left, or_right, or_parts, or_from, not-true, not_from_false, and_parts, and_from, both_ways}
+use Rattle.std.proofs.lemmas.Bool.{false_from_ne_true, or_left, or_right, not_from_false, and_from, both_ways}
 use Rattle.gl_verilog.specs.Written.{WrittenExpr, WrittenStatement, Update, UpdateWord, IfThen, IfElse, Block, Listed, Ended, WrittenItem, Wires, Registers, MemoryOf, Assign, Always}
-use Rattle.gl_verilog.specs.Module.{Module, Declaration, Assignment, Kind, Input, OutputWire, OutputRegister, Wire, Register, Memory, Expr, Statement, Nothing, Put, Write, Both, If, number_of}
+use Rattle.gl_verilog.specs.Module.{Declaration, Kind, Input, OutputWire, OutputRegister, Wire, Register, Memory, Statement, Nothing, Put, Write, Both, If, number_of}
 use Rattle.gl_verilog.specs.Run.{IsRegister}
-use Rattle.gl_verilog.specs.Widths.{IsDriven, IsMemory, width_of, KeepsWidth, KeepsWidthsIn}
-use Rattle.gl_verilog.specs.Valid.{AreDistinct, drivers_of, assigns, AssignsOnce, blocks_of, writes_in, writes_of, HasDriver}
-use Rattle.gl_verilog.specs.Resolve.{Resolved, both, with_assignment, with_block, clocked, decimal_number, declare, address_bits_of, three, resolve_expr, resolve_statement, resolve_items, is_memory_kind}
-use Rattle.gl_verilog_faults.specs.Demands.{is_among, targets_in, targets_of, memory_declared}
-use Rattle.gl_verilog_faults.proofs.Names.{Seen, seen_number, Extends}
-use Rattle.gl_verilog_faults.proofs.Expressions.{both_some, three_some, at_some, kind_memory}
+use Rattle.gl_verilog.specs.Widths.{IsDriven, IsMemory, width_of, KeepsWidthsIn}
+use Rattle.gl_verilog.specs.Valid.{AreDistinct}
+use Rattle.gl_verilog.specs.Resolve.{Resolved, with_assignment, with_block, clocked, decimal_number, declare, address_bits_of, resolve_expr, resolve_statement, resolve_items, is_memory_kind}
+use Rattle.gl_verilog_faults.specs.Demands.{is_among, targets_in, memory_declared}
+use Rattle.gl_verilog_faults.proofs.Names.{seen_number, Extends}
+use Rattle.gl_verilog_faults.proofs.Expressions.{at_some}
+use Rattle.gl_verilog_faults.proofs.Operators.{both_some, three_some, kind_memory}
 use Rattle.gl_verilog_faults.proofs.Statements.{Free}
 use Rattle.gl_verilog_faults.proofs.Items.{added, extends_by, memory-is, then_some, FreeItems, KeptItems, kept_at}
-use Rattle.gl_verilog_faults.proofs.Counts.{hits, fills, Once, assigned_in, hit_in, filled_in, OnceIn, Same, SameItems, same, same_items, assigned_kind, written_kind, driven_kind, blocks_kind, writes_kind}
-use Rattle.gl_verilog_faults.proofs.Drivers.{same_among, not_among, one_among, count_true, true_count, one_of, zero_unless, Touched, touched, BoundItems, bound_items, IsCounted, counted, assigned_target, hit_targets, fill_targets}
+use Rattle.gl_verilog_faults.proofs.Counts.{hits, fills, Once, assigned_in, hit_in, filled_in, OnceIn, same, same_items, assigned_kind, written_kind, driven_kind, blocks_kind, writes_kind}
+use Rattle.gl_verilog_faults.proofs.Drivers.{same_among, not_among, one_among, true_count, touched}
 
 -- ---- kinds exclude one another
 

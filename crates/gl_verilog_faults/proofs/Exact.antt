@@ -1,9 +1,9 @@
 -- A text has at most one of a module, a Syntax, a TooDeep and a judged fault, and of each at most one; it has one wherever it can be told
 -- which tokens begin a module.
-use Rattle.std.proofs.Common.{◌≡◌, ℕ, zero, suc, ◌+◌, ◌<◌, ◌≤◌, ◌⊎◌, inl, inr, Bool, true, false, List, [], ◌∷◌, ◌++◌, length, map, get_or, take, Option, Some, None, refl, sym, ap, subst, ◌∙◌, arith, append_assoc, length-append}
+use Rattle.std.proofs.Common.{◌≡◌, ℕ, suc, ◌+◌, ◌<◌, ◌≤◌, ◌⊎◌, inl, inr, Bool, true, false, List, [], ◌∷◌, ◌++◌, length, map, get_or, take, Option, Some, None, refl, sym, ap, subst, ◌∙◌, arith, append_assoc}
 use Rattle.std.specs.Prelude.{slice_get, option_map, option_and_then, if◌then◌else◌}
 use Rattle.std.specs.List.{AllByRecursion}
-use Rattle.std.proofs.lemmas.Bool.{both_ways, cases_order, cases_Bool}
+use Rattle.std.proofs.lemmas.Bool.{both_ways, cases_order}
 use Rattle.std.proofs.lemmas.List.{append-nil}
 use Rattle.std.proofs.lemmas.Option.{slice_get-get_or}
 use Rattle.gl_verilog.specs.Tokens.{Token, tokens_of, IsPlaceOf}
@@ -13,16 +13,14 @@ use Rattle.gl_verilog.specs.Module.{Module, Assignment, Declaration, Memory, num
 use Rattle.gl_verilog.specs.Resolve.{resolve, resolve_items, module_from, declare_port, Resolved, with_assignment, with_block, clocked, three, resolve_expr, resolve_statement, declare, address_bits_of, decimal_number}
 use Rattle.gl_verilog.specs.Text.{HasModule}
 use Rattle.gl_verilog.specs.Valid.{IsValid}
-use Rattle.gl_verilog_faults.specs.Demands.{Rule, Loop, Demand, ask, AreMet, IsFirst, IsFirstLoop, IsLooped, assign_tokens, items_token, demands_of}
+use Rattle.gl_verilog_faults.specs.Demands.{Rule, Loop, Demand, ask, AreMet, IsFirst, IsLooped, assign_tokens, items_token, demands_of}
 use Rattle.gl_verilog_faults.specs.Counts.{Role, Counts, none_counted, after, is_past, keeps_limits}
-use Rattle.gl_verilog_faults.proofs.Roles.{roles_of}
 use Rattle.gl_verilog_faults.specs.Marks.{State, Header, marks, behind, role_at, next}
 use Rattle.gl_verilog_faults.specs.Faults.{CanBegin, KeepsFront, Stops, IsSyntaxFault, IsDepthFault, IsBroken, IsJudgedFault}
-use Rattle.gl_verilog_faults.proofs.Names.{met_front}
 use Rattle.gl_verilog_faults.proofs.Law.{demands_valid, valid_demands, judged, IsJudged, IsFree}
 use Rattle.gl_verilog_faults.proofs.Limiting.{within, within_keeps}
 use Rattle.gl_verilog_faults.proofs.Marking.{module_marks}
-use Rattle.gl_verilog_faults.proofs.Loops.{first_loop, FirstLoop}
+use Rattle.gl_verilog_faults.proofs.Loops.{first_loop}
 
 -- ---- lists
 
@@ -63,7 +61,7 @@ marks_join : (s : State) (a b : List Token) → marks s (a ++ b) ≡ marks s a +
 marks_join s [] b = refl
 marks_join s (t ∷ a) b = ap (λ (x : List Role). role_at s t ∷ x) (marks_join (next s t) a b)
 
-keeps_tokens : (a b : List Token) → KeepsFront (a ++ b) → KeepsFront a
+pub keeps_tokens : (a b : List Token) → KeepsFront (a ++ b) → KeepsFront a
 keeps_tokens a b h = keeps_front none_counted (marks Header a) (marks (behind Header a) b) (rw (marks_join Header a b) at h)
 
 pub spelled_keeps : (w : WrittenModule) → IsWithinLimits w → KeepsFront (spell w)

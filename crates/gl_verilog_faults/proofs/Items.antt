@@ -1,20 +1,19 @@
 -- The demands of items are met exactly where they mean assignments and blocks that keep their widths, with free targets.
-use Rattle.std.proofs.Common.{◌≡◌, ℕ, zero, suc, ◌+◌, ◌-◌, ◌<◌, ◌≤◌, ◌^◌, ◌⊎◌, inl, inr, Bool, true, false, cond, List, [], ◌∷◌, ◌++◌, length, map, Option, Some, None, eqb, leb, ltb, refl, sym, ap, subst, ◌∙◌, arith, append_assoc}
-use Rattle.std.specs.Prelude.{◌&&◌, ◌||◌, not, nat_eq, nat_le, nat_lt, slice_get, option_map, option_and_then, IsSomeAnd, codes, if◌then◌else◌}
+use Rattle.std.proofs.Common.{◌≡◌, ℕ, ◌+◌, ◌-◌, Bool, true, false, List, [], ◌∷◌, ◌++◌, length, map, Option, Some, None, eqb, refl, sym, ap, subst, ◌∙◌, arith, append_assoc}
+use Rattle.std.specs.Prelude.{not, slice_get, option_and_then, if◌then◌else◌}
 use Rattle.std.specs.List.{AllByRecursion}
-use Rattle.std.specs.Option.{option_map_or}
-use Rattle.std.specs.Str.{bytes_eq}
-use Rattle.std.proofs.lemmas.Bool.{eq-eqb, eqb-true, not-true, not_from_false, and_parts, and_from}
+use Rattle.std.proofs.lemmas.Bool.{eq-eqb, eqb-true, not-true, not_from_false}
 use Rattle.std.proofs.lemmas.List.{append-nil}
-use Rattle.gl_verilog.specs.Written.{WrittenExpr, WrittenStatement, Single, IsStatement, IsExpr, IsItem, Range, WrittenItem, Wires, Registers, MemoryOf, Assign, Always, spell_expr, spell_statement, spell_item, spell_range}
-use Rattle.gl_verilog.specs.Module.{Declaration, Assignment, Kind, Input, OutputWire, OutputRegister, Wire, Register, Memory, Expr, Statement, number_of}
-use Rattle.gl_verilog.specs.Widths.{IsDriven, IsMemory, width_of, KeepsWidth, KeepsWidthsIn}
-use Rattle.gl_verilog.specs.Resolve.{Resolved, with_assignment, with_block, clocked, decimal_number, declare, address_bits_of, three, resolve_expr, resolve_statement, resolve_items, is_so, is_memory}
-use Rattle.gl_verilog_faults.specs.Demands.{Demand, IsMet, AreMet, Undeclared, ClockRead, BadTarget, BadMemory, TwiceDriven, WidthsDiffer, ask, is_declared, bits_named, bits_in, is_wire, is_wire_kind, is_clock_name, is_among, of_expr, of_statement, of_names, of_declaration, of_items, memory_declared, has_bits, targets_in}
+use Rattle.gl_verilog.specs.Written.{Single, IsItem, Range, WrittenItem, Wires, Registers, MemoryOf, Assign, Always, spell_item, spell_range}
+use Rattle.gl_verilog.specs.Module.{Declaration, Kind, Input, OutputWire, OutputRegister, Wire, Register, Memory, number_of}
+use Rattle.gl_verilog.specs.Widths.{IsDriven, width_of, KeepsWidth, KeepsWidthsIn}
+use Rattle.gl_verilog.specs.Resolve.{Resolved, with_assignment, with_block, clocked, decimal_number, declare, address_bits_of, resolve_expr, resolve_statement, resolve_items, is_so, is_memory}
+use Rattle.gl_verilog_faults.specs.Demands.{AreMet, bits_named, bits_in, is_wire, is_wire_kind, is_clock_name, is_among, of_expr, of_statement, of_names, of_items, memory_declared, has_bits, targets_in}
 use Rattle.gl_verilog_faults.proofs.Names.{met_join, met_front, met_back, Seen, seen_declared, seen_number, is_declared_by, so_by, bits_by, Extends, extends_more}
-use Rattle.gl_verilog_faults.proofs.Expressions.{Meant, Asked, meant, asked, three_some, some_same, some_at, at_some}
-use Rattle.gl_verilog_faults.proofs.Statements.{grouped, Free, MeantIn, meant_in, asked_in}
-use Rattle.gl_verilog_faults.proofs.Declarations.{all_back, all_at, small_of, IsSound, AreNew, HasBits, sound_new, new_sound, sound_front, names_new, new_names, bits_names, bits_memory, address_most, NoMemory}
+use Rattle.gl_verilog_faults.proofs.Expressions.{meant, asked, some_same, some_at, at_some}
+use Rattle.gl_verilog_faults.proofs.Operators.{three_some}
+use Rattle.gl_verilog_faults.proofs.Statements.{grouped, Free, meant_in, asked_in}
+use Rattle.gl_verilog_faults.proofs.Declarations.{small_of, IsSound, HasBits, sound_new, new_sound, sound_front, names_new, new_names, bits_names, bits_memory, address_most, NoMemory}
 
 -- what items declare
 abbrev pub added : List WrittenItem → List Declaration

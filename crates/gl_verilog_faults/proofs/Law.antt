@@ -1,21 +1,21 @@
 -- All demands of a written module are met and no net depends on itself, exactly where it means a valid module.
-use Rattle.std.proofs.Common.{◌≡◌, ℕ, zero, suc, ◌+◌, ◌-◌, ◌<◌, ◌≤◌, ◌^◌, ◌⊎◌, inl, inr, Bool, true, false, cond, List, [], ◌∷◌, ◌++◌, length, map, Option, Some, None, eqb, leb, ltb, refl, sym, ap, subst, ◌∙◌, arith, append_assoc}
-use Rattle.std.specs.Prelude.{◌&&◌, ◌||◌, not, nat_eq, slice_get, option_map, IsSomeAnd, if◌then◌else◌}
+use Rattle.std.proofs.Common.{◌≡◌, ℕ, suc, ◌+◌, ◌-◌, ◌≤◌, inl, inr, true, List, [], ◌∷◌, ◌++◌, length, map, Some, None, eqb, refl, sym, ap, subst, ◌∙◌, arith}
+use Rattle.std.specs.Prelude.{◌&&◌, nat_eq, slice_get, option_map}
 use Rattle.std.specs.List.{AllByRecursion}
 use Rattle.std.proofs.lemmas.Bool.{or_cases, and_parts, eqb-true}
 use Rattle.gl_verilog.specs.Written.{Direction, In, InWire, Out, OutWire, OutReg, Range, WrittenPort, WrittenItem, Wires, Registers, MemoryOf, Assign, Always, WrittenModule, IsWritten, spell_port, spell_item, spell_range}
-use Rattle.gl_verilog.specs.Module.{Module, Declaration, Assignment, Kind, Input, OutputWire, OutputRegister, Wire, Register, Memory, Statement}
+use Rattle.gl_verilog.specs.Module.{Module, Declaration, Assignment, Kind, Input, OutputWire, OutputRegister, Wire, Register, Memory}
 use Rattle.gl_verilog.specs.Run.{IsRegister}
 use Rattle.gl_verilog.specs.Widths.{IsDriven, HasSize, KeepsWidth, KeepsWidthsIn}
-use Rattle.gl_verilog.specs.Valid.{AreDistinct, AssignsOnce, drivers_of, blocks_of, writes_of, HasDriver, depends, mentions, IsChain, HasNoCycle, HasNoLoop, IsValid}
-use Rattle.gl_verilog.specs.Resolve.{Resolved, decimal_number, declare, port_kind, declare_port, address_bits_of, resolve_items, module_from, resolve, is_memory_kind}
-use Rattle.gl_verilog_faults.specs.Demands.{Demand, NeverDriven, ask, IsMet, AreMet, is_among, targets_of, name_token, undriven_names, undriven_port, undriven_ports, undriven_items, of_ports, of_items, items_token, memory_declared, demands_of, IsLooped}
+use Rattle.gl_verilog.specs.Valid.{AreDistinct, AssignsOnce, drivers_of, blocks_of, writes_of, HasDriver, depends, mentions, IsChain, HasNoLoop, IsValid}
+use Rattle.gl_verilog.specs.Resolve.{Resolved, declare, port_kind, declare_port, resolve_items, module_from, resolve, is_memory_kind}
+use Rattle.gl_verilog_faults.specs.Demands.{AreMet, is_among, targets_of, name_token, undriven_names, undriven_port, undriven_ports, undriven_items, of_ports, of_items, items_token, demands_of, IsLooped}
 use Rattle.gl_verilog_faults.proofs.Names.{met_join, met_front, met_back}
-use Rattle.gl_verilog_faults.proofs.Expressions.{map_some}
+use Rattle.gl_verilog_faults.proofs.Operators.{map_some}
 use Rattle.gl_verilog_faults.proofs.Declarations.{all_join, all_front, all_back, all_at, IsSound, sound_new, new_sound, sound_front, ports_new, new_ports, bits_ports}
-use Rattle.gl_verilog_faults.proofs.Items.{added, FreeItems, MeantItems, meant_items, KeptItems, asked_items, declared_as}
-use Rattle.gl_verilog_faults.proofs.Counts.{assigned_in, hit_in, filled_in, OnceIn, SameItems, same_items}
-use Rattle.gl_verilog_faults.proofs.Drivers.{BoundItems, bound_items, IsCounted, counted, assigned_target, hit_targets, fill_targets}
+use Rattle.gl_verilog_faults.proofs.Items.{added, FreeItems, meant_items, KeptItems, asked_items, declared_as}
+use Rattle.gl_verilog_faults.proofs.Counts.{assigned_in, hit_in, filled_in, SameItems, same_items}
+use Rattle.gl_verilog_faults.proofs.Drivers.{bound_items, counted, assigned_target, hit_targets, fill_targets}
 use Rattle.gl_verilog_faults.proofs.Driven.{RoomFor, register_memory, driven_register, driven_memory, assigned_in_kind, hit_in_kind, filled_in_kind, free_items}
 
 -- ---- what must be driven

@@ -1,4 +1,5 @@
 pub mod Names
+pub mod Operators
 pub mod Expressions
 pub mod Statements
 pub mod Declarations
@@ -8,6 +9,7 @@ pub mod Drivers
 pub mod Driven
 pub mod Law
 pub mod Roles
+pub mod LimitingExpressions
 pub mod Limiting
 pub mod Marking
 pub mod Loops

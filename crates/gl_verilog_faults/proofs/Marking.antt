@@ -1,11 +1,10 @@
 -- The roles of a spelled module are those that its tokens have one behind the other, so a front's roles are the front's alone.
-use Rattle.std.proofs.Common.{◌≡◌, ℕ, zero, suc, ◌+◌, ◌≤◌, Bool, true, false, List, [], ◌∷◌, ◌++◌, length, take, None, Some, refl, sym, ap, subst, ◌∙◌, arith, append_assoc}
-use Rattle.std.proofs.lemmas.List.{append-nil}
-use Rattle.gl_verilog.specs.Tokens.{Token, Reserved, Name, Number, Sized, Mark, Never, Keyword, ModuleWord, EndModuleWord, InputWord, OutputWord, WireWord, RegWord, AssignWord, AlwaysWord, PosedgeWord, BeginWord, EndWord, IfWord, ElseWord, Sign, OpenParen, CloseParen, OpenBracket, CloseBracket, OpenBrace, CloseBrace, Semicolon, Comma, Colon, Question, At, Equals, LessEquals}
+use Rattle.std.proofs.Common.{◌≡◌, ℕ, zero, suc, ◌+◌, List, [], ◌∷◌, ◌++◌, length, take, None, Some, refl, sym, ap, subst, ◌∙◌, append_assoc}
+use Rattle.gl_verilog.specs.Tokens.{Token, Reserved, Name, Number, Sized, Mark, EndModuleWord, EndWord, ElseWord, OpenParen, CloseParen, OpenBracket, CloseBracket, OpenBrace, CloseBrace, Semicolon, Comma, Colon, Question, LessEquals}
 use Rattle.gl_verilog.specs.Written.{PrefixOp, BitNot, LogicalNot, InfixOp, Times, Added, Subtracted, Below, AtMost, Above, AtLeast, Equal, NotEqual, BitAnd, BitXor, BitOr, LogicalAnd, LogicalOr, WrittenExpr, Named, Constant, BitOf, PartOf, WordOf, Braces, Parts, Parens, Prefix, Infix, Conditional, WrittenStatement, Update, UpdateWord, IfThen, IfElse, Block, Listed, Ended, Direction, In, InWire, Out, OutWire, OutReg, Range, WrittenPort, WrittenItem, Wires, Registers, MemoryOf, Assign, Always, WrittenModule, prefix_token, infix_token, spell_expr, spell_statement, spell_direction, spell_range, spell_port, spell_more_ports, spell_ports, spell_more_names, spell_names, spell_item, spell_items, spell, zero_digit}
 use Rattle.gl_verilog_faults.specs.Counts.{Role, Opens, Closes, Operates, Starts, OpensWhole, Tests, Begins, Plain}
 use Rattle.gl_verilog_faults.proofs.Roles.{of_expr, of_statement, plain_for, of_item, of_items, of_more_ports, of_ports, roles_of}
-use Rattle.gl_verilog_faults.specs.Marks.{State, Header, Ground, Declares, Clocks, Asks, Aims, Index, Test, Value, Turn, Opening, Closing, Operating, Ending, Going, turn, turn_role, inside, in_value, role_at, next, marks, behind}
+use Rattle.gl_verilog_faults.specs.Marks.{State, Header, Ground, Declares, Aims, Index, Test, Value, Opening, Closing, Operating, Going, turn, turn_role, inside, in_value, role_at, next, marks, behind}
 
 prefix_turn : (op : PrefixOp) → turn (prefix_token op) ≡ Operating
 prefix_turn BitNot = refl

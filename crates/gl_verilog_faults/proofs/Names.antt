@@ -1,13 +1,11 @@
 -- What is declared under a name, and demands that are met.
-use Rattle.std.proofs.Common.{◌≡◌, ℕ, zero, suc, ◌+◌, ◌<◌, ◌≤◌, ◌⊎◌, inl, inr, Bool, true, false, List, [], ◌∷◌, ◌++◌, Option, Some, None, refl, sym, ap, ◌∙◌, subst, arith}
-use Rattle.std.specs.Prelude.{slice_get, not}
-use Rattle.std.specs.List.{AllByRecursion}
-use Rattle.std.specs.Option.{option_map, option_map_or}
+use Rattle.std.proofs.Common.{◌≡◌, ℕ, zero, suc, ◌+◌, ◌⊎◌, inl, inr, Bool, true, false, List, [], ◌∷◌, ◌++◌, Some, None, refl, sym, ap, ◌∙◌, subst, arith}
+use Rattle.std.specs.Prelude.{slice_get}
 use Rattle.std.specs.Str.{bytes_eq}
 use Rattle.std.proofs.lemmas.Slice.Eq.{bytes_eq-Decides}
 use Rattle.gl_verilog.specs.Module.{Declaration, number_of}
 use Rattle.gl_verilog.specs.Resolve.{declared_in, is_so}
-use Rattle.gl_verilog_faults.specs.Demands.{Demand, IsMet, AreMet, is_declared, bits_named}
+use Rattle.gl_verilog_faults.specs.Demands.{Demand, AreMet, is_declared, bits_named}
 
 pub met_join : (a b : List Demand) → AreMet a → AreMet b → AreMet (a ++ b)
 met_join [] b h k = k

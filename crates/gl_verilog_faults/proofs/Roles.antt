@@ -1,6 +1,6 @@
 -- What each token of a spelled module counts for, told by the tree.
 use Rattle.std.specs.Prelude.{List, [], ◌∷◌, ◌++◌, map}
-use Rattle.gl_verilog.specs.Written.{PrefixOp, InfixOp, WrittenExpr, Named, Constant, BitOf, PartOf, WordOf, Braces, Parts, Parens, Prefix, Infix, Conditional, WrittenStatement, Update, UpdateWord, IfThen, IfElse, Block, Listed, Ended, Range, WrittenPort, WrittenItem, Wires, Registers, MemoryOf, Assign, Always, WrittenModule, spell_port, spell_range, spell_names}
+use Rattle.gl_verilog.specs.Written.{WrittenExpr, Named, Constant, BitOf, PartOf, WordOf, Braces, Parts, Parens, Prefix, Infix, Conditional, WrittenStatement, Update, UpdateWord, IfThen, IfElse, Block, Listed, Ended, WrittenPort, WrittenItem, Wires, Registers, MemoryOf, Assign, Always, WrittenModule, spell_port, spell_range, spell_names}
 use Rattle.gl_verilog_faults.specs.Counts.{Role, Opens, Closes, Operates, Starts, OpensWhole, Tests, Begins, Plain}
 
 abbrev pub of_expr : WrittenExpr → List Role

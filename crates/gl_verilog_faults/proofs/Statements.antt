@@ -1,15 +1,16 @@
 -- The demands of a statement are met exactly where it means one that keeps its widths, and its targets are free.
-use Rattle.std.proofs.Common.{◌≡◌, ℕ, zero, suc, ◌+◌, ◌-◌, ◌<◌, ◌≤◌, ◌^◌, Bool, true, false, cond, List, [], ◌∷◌, ◌++◌, length, Option, Some, None, eqb, leb, ltb, refl, sym, ap, subst, ◌∙◌, arith}
-use Rattle.std.specs.Prelude.{◌&&◌, ◌||◌, not, nat_eq, nat_le, nat_lt, slice_get, option_map, IsSomeAnd, IsTrue, codes, if◌then◌else◌}
-use Rattle.std.proofs.lemmas.Bool.{eq-eqb, eqb-true, not-true, not_from_false, and_parts, and_from}
-use Rattle.gl_verilog.specs.Written.{WrittenExpr, WrittenStatement, Update, UpdateWord, IfThen, IfElse, Block, Listed, Ended, Place, Single, InBlock, IsStatementAt, IsExpr, ends_open, level, IsGrouped, spell_expr, spell_statement}
+use Rattle.std.proofs.Common.{◌≡◌, ℕ, ◌+◌, ◌-◌, ◌≤◌, true, List, ◌++◌, length, Some, eqb, refl, sym, subst, ◌∙◌, arith}
+use Rattle.std.specs.Prelude.{◌&&◌, not, nat_eq, slice_get, IsSomeAnd}
+use Rattle.std.proofs.lemmas.Bool.{eq-eqb, eqb-true, and_parts, and_from}
+use Rattle.gl_verilog.specs.Written.{WrittenExpr, WrittenStatement, Update, UpdateWord, IfThen, IfElse, Block, Listed, Ended, Place, Single, InBlock, IsStatementAt, IsExpr, level, spell_expr, spell_statement}
 use Rattle.gl_verilog.specs.Module.{Declaration, Kind, Input, OutputWire, OutputRegister, Wire, Register, Memory, Expr, Statement, Nothing, Put, Write, Both, If, number_of}
 use Rattle.gl_verilog.specs.Run.{IsRegister}
-use Rattle.gl_verilog.specs.Widths.{IsMemory, width_of, KeepsWidths, KeepsWidthsIn}
-use Rattle.gl_verilog.specs.Resolve.{both, three, resolve_expr, resolve_statement, declared_in, is_so, is_memory, is_memory_kind}
-use Rattle.gl_verilog_faults.specs.Demands.{Demand, IsMet, AreMet, Undeclared, BadTarget, BadMemory, TwiceDriven, WidthsDiffer, ask, is_declared, bits_named, address_of, is_clocked, is_clocked_kind, bits_in, of_expr, of_statement, targets_in, is_among}
+use Rattle.gl_verilog.specs.Widths.{IsMemory, width_of, KeepsWidthsIn}
+use Rattle.gl_verilog.specs.Resolve.{resolve_expr, resolve_statement, is_memory, is_memory_kind}
+use Rattle.gl_verilog_faults.specs.Demands.{AreMet, bits_named, address_of, is_clocked, is_clocked_kind, bits_in, of_expr, of_statement, targets_in, is_among}
 use Rattle.gl_verilog_faults.proofs.Names.{met_join, met_front, met_back, Seen, seen_declared, seen_number, is_declared_by, so_by, bits_by, Extends}
-use Rattle.gl_verilog_faults.proofs.Expressions.{Meant, Asked, AreSmall, meant, asked, memory_kind, kind_memory, both_some, three_some, some_at, at_some}
+use Rattle.gl_verilog_faults.proofs.Expressions.{Meant, Asked, AreSmall, meant, asked, some_at, at_some}
+use Rattle.gl_verilog_faults.proofs.Operators.{memory_kind, kind_memory, both_some, three_some}
 
 -- ---- the expressions of a statement are grouped
 

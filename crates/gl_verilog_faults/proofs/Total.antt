@@ -1,18 +1,16 @@
 -- A text has one of a module and a fault, wherever it can be told which tokens begin a module and which are one; and each place exists.
-use Rattle.std.proofs.Common.{◌≡◌, ℕ, zero, suc, ◌+◌, ◌<◌, ◌≤◌, ◌⊎◌, inl, inr, Bool, true, false, List, [], ◌∷◌, ◌++◌, length, take, leb, Option, Some, None, refl, sym, ap, subst, ◌∙◌, arith, append_assoc}
+use Rattle.std.proofs.Common.{◌≡◌, ℕ, zero, suc, ◌+◌, ◌<◌, ◌≤◌, ◌⊎◌, inl, inr, Bool, true, false, List, [], ◌∷◌, ◌++◌, length, take, leb, None, refl, sym, subst, ◌∙◌, arith, append_assoc}
 use Rattle.std.proofs.lemmas.Bool.{leb-true, leb-false, cases_eq, cases_order}
 use Rattle.std.proofs.lemmas.List.{append-nil}
-use Rattle.gl_verilog.specs.Tokens.{Token, tokens_of, scan, IsPlaceOf}
+use Rattle.gl_verilog.specs.Tokens.{Token, tokens_of, IsPlaceOf}
 use Rattle.gl_verilog.specs.Written.{WrittenModule, In, IsWritten, spell}
 use Rattle.gl_verilog.specs.Limits.{IsWithinLimits}
 use Rattle.gl_verilog.specs.Module.{Module}
-use Rattle.gl_verilog.specs.Resolve.{resolve}
 use Rattle.gl_verilog.specs.Text.{HasModule}
-use Rattle.gl_verilog.specs.Valid.{IsValid}
 use Rattle.gl_verilog_faults.specs.Demands.{Rule}
 use Rattle.gl_verilog_faults.specs.Counts.{none_counted, keeps_limits}
 use Rattle.gl_verilog_faults.specs.Marks.{Header, marks}
-use Rattle.gl_verilog_faults.specs.Faults.{CanBegin, KeepsFront, Stops, IsSyntaxFault, IsDepthFault, IsBroken, IsJudgedFault}
+use Rattle.gl_verilog_faults.specs.Faults.{CanBegin, KeepsFront, IsSyntaxFault, IsDepthFault, IsJudgedFault}
 use Rattle.gl_verilog_faults.proofs.Exact.{keeps_spelled, valid_or_broken}
 
 -- ---- places

@@ -3,6 +3,8 @@ use Rattle.std.specs.Prelude.{◌≡◌, ◌⊎◌, ℕ, true, false, List, [], 
 use Rattle.gl_verilog.specs.Tokens.{Token, tokens_of, IsPlaceOf}
 use Rattle.gl_verilog.specs.Written.{WrittenModule, IsWritten, spell}
 use Rattle.gl_verilog.specs.Limits.{IsWithinLimits}
+use Rattle.gl_verilog.specs.Module.{Module}
+use Rattle.gl_verilog.specs.Text.{HasModule}
 use Rattle.gl_verilog_faults.specs.Demands.{Rule, Loop, IsFirst, IsFirstLoop}
 use Rattle.gl_verilog_faults.specs.Counts.{none_counted, keeps_limits}
 use Rattle.gl_verilog_faults.specs.Marks.{Header, marks}
@@ -51,3 +53,16 @@ pub record IsJudgedFault (text : List ℕ) (rule : Rule) (at : ℕ) : Type 0 whe
   pub token : ℕ
   pub broken : IsBroken written rule token
   pub place : IsPlaceOf text token at
+
+-- what is said of a text: its module, or a fault and its place
+pub data Verdict : Type 0 where
+  IsModule : (m : Module) → Verdict
+  IsSyntax : (at : ℕ) → Verdict
+  IsTooDeep : (at : ℕ) → Verdict
+  Breaks : (rule : Rule) (at : ℕ) → Verdict
+
+abbrev pub IsVerdict : List ℕ → Verdict → Type 0
+IsVerdict text (IsModule m) = HasModule text m
+IsVerdict text (IsSyntax at) = IsSyntaxFault text at
+IsVerdict text (IsTooDeep at) = IsDepthFault text at
+IsVerdict text (Breaks rule at) = IsJudgedFault text rule at

@@ -1,80 +1,70 @@
--- One token of the machine's run, its end, and what the run says of the tokens.
-use Rattle.std.proofs.Common.{◌≡◌, ℕ, ◌+◌, ◌<◌, ◌≤◌, true, false, List, [], ◌∷◌, length, drop, get_or, Option, Some, None, Result, Ok, Err, refl, sym, ap, ◌∙◌, add-one, drop-cons}
+-- One token of what the machine reads, its end, and what is said of the tokens.
+use Rattle.std.proofs.Common.{◌≡◌, ℕ, zero, suc, ◌+◌, ◌<◌, ◌≤◌, true, false, List, [], ◌∷◌, length, drop, get_or, Option, Some, None, Result, Ok, Err, refl, sym, ap, subst, ◌∙◌, add-one, drop-cons, arith}
+use Rattle.std.specs.Prelude.{MatchResult}
 use Rattle.std.proofs.lemmas.List.{drop_all}
 use Rattle.gl_verilog.specs.Tokens.{Token}
 use Rattle.gl_verilog.specs.Written.{WrittenModule}
-use Rattle.gl_verilog.specs.Machine.{State, start, step, is_past, run, checked, finish, Fault, Syntax, TooDeep, or_fault}
-use Rattle.gl_verilog.specs.Text.{IsSpelling}
-use Rattle.gl_verilog.proofs.ReadModules.{run_spell}
-use Rattle.gl_verilog.proofs.Sound.{sound}
+use Rattle.gl_verilog_faults.specs.Counts.{Counts, after, is_past}
+use Rattle.gl_verilog_faults.specs.Marks.{State as Place, role_at, next}
 use Rattle.gl_verilog_written.specs.declared.token.Lexeme.{Lexeme}
 use Rattle.gl_verilog_written.specs.declared.fault.VerilogFault.{VerilogFault}
-use Rattle.std.specs.Prelude.{MatchResult}
+use Rattle.gl_verilog_written.specs.declared.fault.VerilogFault.TheVariants as fault
 use Rattle.gl_verilog_written.specs.declared.written.WrittenModule as code
 use Rattle.gl_verilog_written.specs.View.{module_of, token_of, tokens_in}
-use Rattle.gl_verilog_grammar.specs.View.{IsRun, Goes, StopsAt, OnlyMemory}
+use Rattle.gl_verilog_grammar.specs.Machine.{State, step, finish}
+use Rattle.gl_verilog_grammar.specs.Reading.{Fault, Syntax, TooDeep, or_fault, read_from}
+use Rattle.gl_verilog_grammar.specs.Answers.{place_in, Stand, read_on, Goes, IsGiven, StopsAt, IsRead}
 
-pub run_goes : (s s' : State) (t : Token) → step s t ≡ Some s' → is_past s' ≡ false → (at : ℕ) (ts : List Token) → run at s (t ∷ ts) ≡ run (at + 1) s' ts
-unfolding run
-run_goes s s' t e p at ts = rw (e, p) refl
+pub goes : (s s' : Stand) (t : Token) → step s.state t ≡ Some s'.state → s'.place ≡ next s.place t → s'.counts ≡ after s.counts (role_at s.place t) → is_past s'.counts ≡ false → Goes t s s'
+unfolding read_from
+goes s s' t e q n p at ts =
+    let p' : is_past (after s.counts (role_at s.place t)) ≡ false = subst (λ (x : Counts). is_past x ≡ false) n p in
+    rw (e, p') (ap (λ (x : Place). read_from (at + 1) s'.state x (after s.counts (role_at s.place t)) ts) (sym q) ∙ ap (λ (x : Counts). read_from (at + 1) s'.state s'.place x ts) (sym n))
 
-pub run_stops : (s : State) (t : Token) → step s t ≡ None → (at : ℕ) (ts : List Token) (w : WrittenModule) → run at s (t ∷ ts) ≡ Ok w → ⊥
-unfolding run
-run_stops s t e at ts w h =
-    let z : Err (Syntax at) ≡ Ok w = sym (ap (λ (o : Option State). checked at o (λ (x : State). run (at + 1) x ts)) e) ∙ h in
-    cc
+pub stops : (s : Stand) (t : Token) → step s.state t ≡ None → (at : ℕ) (ts : List Token) → read_on at s (t ∷ ts) ≡ Err (Syntax at)
+unfolding read_from
+stops s t e at ts = rw e refl
 
-pub run_passes : (s s' : State) (t : Token) → step s t ≡ Some s' → is_past s' ≡ true → (at : ℕ) (ts : List Token) (w : WrittenModule) → run at s (t ∷ ts) ≡ Ok w → ⊥
-unfolding run
-run_passes s s' t e p at ts w h =
-    let z : Err (TooDeep at) ≡ Ok w = sym (rw (e, p) refl) ∙ h in
-    cc
+pub passes : (s : Stand) (x : State) (n : Counts) (t : Token) → step s.state t ≡ Some x → n ≡ after s.counts (role_at s.place t) → is_past n ≡ true → (at : ℕ) (ts : List Token) → read_on at s (t ∷ ts) ≡ Err (TooDeep at)
+unfolding read_from
+passes s x n t e q p at ts =
+    let p' : is_past (after s.counts (role_at s.place t)) ≡ true = subst (λ (y : Counts). is_past y ≡ true) q p in
+    rw (e, p') refl
 
-pub run_ends : (s : State) (at : ℕ) (w : WrittenModule) → finish s ≡ Some w → run at s [] ≡ Ok w
-unfolding run
-run_ends s at w e = rw e refl
-
-pub run_lacks : (s : State) (at : ℕ) (w : WrittenModule) → finish s ≡ None → run at s [] ≡ Ok w → ⊥
-unfolding run
-run_lacks s at w e h =
-    let z : Err (Syntax at) ≡ Ok w = sym (ap (λ (o : Option WrittenModule). or_fault o (Syntax at)) e) ∙ h in
-    cc
+pub ends : (s : Stand) (at : ℕ) → read_on at s [] ≡ or_fault (finish s.state) (Syntax at)
+unfolding read_from
+ends s at = refl
 
 -- ---- the loop over lexemes
 
-pub tokens_next : (xs : List Lexeme) (i : ℕ) (d : Lexeme) → i < length xs → tokens_in (drop i xs) ≡ token_of (get_or xs i d).token ∷ tokens_in (drop (i + 1) xs)
+tokens_next : (xs : List Lexeme) (i : ℕ) (d : Lexeme) → i < length xs → tokens_in (drop i xs) ≡ token_of (get_or xs i d).token ∷ tokens_in (drop (i + 1) xs)
 tokens_next xs i d lt = ap tokens_in (drop-cons xs i d lt) ∙ ap (λ (k : ℕ). token_of (get_or xs i d).token ∷ tokens_in (drop k xs)) (sym (add-one i))
 
-pub run_next : (xs : List Lexeme) (i : ℕ) (d : Lexeme) (s s' : State) (total : Result WrittenModule Fault) → i < length xs → Goes (token_of (get_or xs i d).token) s s' → run i s (tokens_in (drop i xs)) ≡ total → run (i + 1) s' (tokens_in (drop (i + 1) xs)) ≡ total
-run_next xs i d s s' total lt g h = sym (g i (tokens_in (drop (i + 1) xs))) ∙ ap (run i s) (sym (tokens_next xs i d lt)) ∙ h
+pub read_next : (xs : List Lexeme) (i : ℕ) (d : Lexeme) (s s' : Stand) (total : Result WrittenModule Fault) → i < length xs → Goes (token_of (get_or xs i d).token) s s' → read_on i s (tokens_in (drop i xs)) ≡ total → read_on (i + 1) s' (tokens_in (drop (i + 1) xs)) ≡ total
+read_next xs i d s s' total lt g h = sym (g i (tokens_in (drop (i + 1) xs))) ∙ ap (read_on i s) (sym (tokens_next xs i d lt)) ∙ h
 
-pub run_fails : (xs : List Lexeme) (i : ℕ) (d : Lexeme) (s : State) (e : VerilogFault) (total : Result WrittenModule Fault) → i < length xs → StopsAt e (token_of (get_or xs i d).token) s → run i s (tokens_in (drop i xs)) ≡ total → OnlyMemory e total
-run_fails xs i d s e total lt stop h = λ w q. stop i (tokens_in (drop (i + 1) xs)) w (ap (run i s) (sym (tokens_next xs i d lt)) ∙ h ∙ q)
+place_is : (xs : List Lexeme) (end' i : ℕ) (d : Lexeme) → i < length xs → (get_or xs i d).at ≡ place_in xs end' i
+place_is [] end' i d lt = absurd (omega arith)
+place_is (x ∷ xs) end' zero d lt = refl
+place_is (x ∷ xs) end' (suc i) d lt = place_is xs end' i d (omega arith)
 
-pub run_done : (xs : List Lexeme) (i : ℕ) (s : State) (w : WrittenModule) (total : Result WrittenModule Fault) → length xs ≤ i → finish s ≡ Some w → run i s (tokens_in (drop i xs)) ≡ total → total ≡ Ok w
-run_done xs i s w total le e h = sym h ∙ ap (λ (x : List Lexeme). run i s (tokens_in x)) (drop_all i xs le) ∙ run_ends s i w e
+place_end : (xs : List Lexeme) (end' i : ℕ) → length xs ≤ i → end' ≡ place_in xs end' i
+place_end [] end' i le = refl
+place_end (x ∷ xs) end' zero le = absurd (omega arith)
+place_end (x ∷ xs) end' (suc i) le = place_end xs end' i (omega arith)
 
-pub run_undone : (xs : List Lexeme) (i : ℕ) (s : State) (f : VerilogFault) (total : Result WrittenModule Fault) → length xs ≤ i → finish s ≡ None → run i s (tokens_in (drop i xs)) ≡ total → OnlyMemory f total
-run_undone xs i s f total le e h = λ w q. absurd (run_lacks s i w e (sym (ap (λ (x : List Lexeme). run i s (tokens_in x)) (drop_all i xs le)) ∙ h ∙ q))
+given : (e : VerilogFault) (place place' k : ℕ) (run total : Result WrittenModule Fault) → place ≡ place' → run ≡ total → IsGiven e place k run → IsGiven e place' k total
+given e place place' k run total p q h = subst (λ (x : ℕ). IsGiven e x k total) p (subst (IsGiven e place k) q h)
 
-pub run_finish : (xs : List Lexeme) (i : ℕ) (s : State) (r : Result code.WrittenModule VerilogFault) (total : Result WrittenModule Fault) → length xs ≤ i → MatchResult r (λ w. finish s ≡ Some (module_of w)) (λ e. finish s ≡ None) → run i s (tokens_in (drop i xs)) ≡ total → IsRun r total
-run_finish xs i s (Ok w) total le m h = run_done xs i s (module_of w) total le m h
-run_finish xs i s (Err e) total le m h = run_undone xs i s e total le m h
+pub read_fails : (xs : List Lexeme) (end' i : ℕ) (d : Lexeme) (s : Stand) (e : VerilogFault) (total : Result WrittenModule Fault) → i < length xs → StopsAt e (get_or xs i d).at (token_of (get_or xs i d).token) s → read_on i s (tokens_in (drop i xs)) ≡ total → IsRead (Err e) xs end' total
+read_fails xs end' i d s e total lt stop h =
+    (i, given e (get_or xs i d).at (place_in xs end' i) i (read_on i s (token_of (get_or xs i d).token ∷ tokens_in (drop (i + 1) xs))) total (place_is xs end' i d lt) (ap (read_on i s) (sym (tokens_next xs i d lt)) ∙ h) (stop i (tokens_in (drop (i + 1) xs))))
 
--- ---- what the run says of the tokens
+pub read_finish : (xs : List Lexeme) (end' i : ℕ) (s : Stand) (r : Result code.WrittenModule VerilogFault) (total : Result WrittenModule Fault) → length xs ≤ i → MatchResult r (λ w. finish s.state ≡ Some (module_of w)) (λ e. (finish s.state ≡ None) × (e ≡ fault.Syntax end')) → read_on i s (tokens_in (drop i xs)) ≡ total → IsRead r xs end' total
+read_finish xs end' i s (Ok w) total le m h =
+    sym h ∙ ap (λ (x : List Lexeme). read_on i s (tokens_in x)) (drop_all i xs le) ∙ ends s i ∙ ap (λ (o : Option WrittenModule). or_fault o (Syntax i)) m
+read_finish xs end' i s (Err e) total le m h =
+    let run : total ≡ Err (Syntax i) = sym h ∙ ap (λ (x : List Lexeme). read_on i s (tokens_in x)) (drop_all i xs le) ∙ ends s i ∙ ap (λ (o : Option WrittenModule). or_fault o (Syntax i)) m.0 in
+    (i, subst (λ (x : VerilogFault). IsGiven x (place_in xs end' i) i total) (sym m.1) (place_end xs end' i le, run))
 
-pub spells : (ts : List Token) (w : WrittenModule) → run 0 start ts ≡ Ok w → IsSpelling ts w
-spells ts w e = sound ts w e
-
-pub spelled : (ts : List Token) (w : WrittenModule) → IsSpelling ts w → run 0 start ts ≡ Ok w
-spelled ts w h = ap (run 0 start) h.spelled ∙ run_spell w h.grammar h.limits
-
-same_ok : (v w : WrittenModule) (r : Result WrittenModule Fault) → r ≡ Ok v → r ≡ Ok w → v ≡ w
-same_ok v w r e f = cc
-
-pub only_one : (ts : List Token) (v w : WrittenModule) → run 0 start ts ≡ Ok v → IsSpelling ts w → v ≡ w
-only_one ts v w e h = same_ok v w (run 0 start ts) e (spelled ts w h)
-
-pub ruleset runs = (run_goes, run_stops, run_passes, run_ends, run_lacks)
-
-pub ruleset loops = (run_next, run_fails, run_finish)
+pub ruleset loops = (read_next)

@@ -1,18 +1,14 @@
 -- The stack of what is open, whose top is the last of a Vec.
-use Rattle.std.proofs.Common.{◌≡◌, ◌≤◌, ◌<◌, length, get_or, arith, ℕ, true, false, List, [], ◌∷◌, ◌++◌, Option, None, Vec, Global, refl, sym, ap, ◌∙◌}
+use Rattle.std.proofs.Common.{◌≡◌, ℕ, true, false, List, [], ◌∷◌, ◌++◌, None, refl, ap}
 use Rattle.std.specs.Prelude.{map}
 use Rattle.std.proofs.lemmas.List.{reverse-append, map-append}
 use Rattle.gl_verilog.specs.Written as written
-use Rattle.gl_verilog.specs.Machine as machine
-use Rattle.gl_verilog_written.specs.declared.written.WrittenExpr.{WrittenExpr, Named}
+use Rattle.gl_verilog_grammar.specs.Machine as machine
+use Rattle.gl_verilog_written.specs.declared.written.WrittenExpr.{WrittenExpr}
 use Rattle.gl_verilog_grammar.specs.declared.frames.Frame.{Frame}
-use Rattle.gl_verilog_written.specs.declared.token.Word.{Word}
-use Rattle.gl_verilog_grammar.specs.declared.stage.Sort.{Sort}
-use Rattle.gl_verilog_grammar.specs.declared.stage.Sort.TheVariants as sort_is
-use Rattle.gl_verilog_grammar.specs.declared.stage.Stage.TheVariants as stage_is
 use Rattle.gl_verilog_written.proofs.Views.{braces_are, block_is}
-use Rattle.gl_verilog_written.specs.View.{range_of, names_of, expr_of, parts_list}
-use Rattle.gl_verilog_grammar.specs.View.{stage_of, sort_of, frame_of, frames_of}
+use Rattle.gl_verilog_written.specs.View.{parts_list}
+use Rattle.gl_verilog_grammar.specs.View.{frame_of, frames_of}
 
 pub frames-push : (frames : List Frame) (x : Frame) → frames_of (frames ++ x ∷ []) ≡ frame_of x ∷ frames_of frames
 frames-push frames x = ap (map frame_of) (reverse-append frames (x ∷ []))
@@ -64,22 +60,6 @@ parts-onto [] e = refl
 parts-onto (p ∷ []) e = refl
 parts-onto (p ∷ q ∷ ps) e = ap (written.Parts p) (parts-onto (q ∷ ps) e)
 
+pub ruleset closings = (frames-push)
+
 pub ruleset pushes = (frames-push, map-append, braces_are, block_is, parts-onto)
-
--- ---- one name
-
-pub one_name : (xs names : List Word) (sort : Sort) (range : Option Word) (d : Word) (s : machine.State) → xs ≡ names → sort ≡ sort_is.RegisterSort → 1 ≤ length xs → length xs < 2
-    → machine.goto s (stage_of (stage_is.WantFirst range (get_or xs 0 d))) ≡ machine.memory_of (sort_of sort) (range_of range) (names_of names) s
-unfolding stage_of
-one_name [] names sort range d s e f lo hi = absurd (omega arith)
-one_name (x ∷ []) names sort range d s e f lo hi =
-    ap (λ (k : Sort). machine.memory_of (sort_of k) (range_of range) (names_of (x ∷ [])) s) (sym f)
-    ∙ ap (λ (ns : List Word). machine.memory_of (sort_of sort) (range_of range) (names_of ns) s) e
-one_name (x ∷ y ∷ xs) names sort range d s e f lo hi = absurd (omega arith)
-
--- ---- a name
-
-pub not_named : (s : machine.State) (e : WrittenExpr) → ((name : Word) → e ≡ Named name → ⊥) → machine.indexed s (expr_of e) ≡ None
-unfolding expr_of
-not_named s (Named name) h = absurd (h name refl)
-not_named s e h = refl

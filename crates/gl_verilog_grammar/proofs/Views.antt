@@ -1,22 +1,17 @@
 -- What each value stands for, by its variant.
-use Rattle.std.proofs.Common.{◌≡◌, ℕ, Option, Vec, Global, Box, refl}
+use Rattle.std.proofs.Common.{◌≡◌, ℕ, Option, Vec, Global, refl}
 use Rattle.std.specs.Prelude.{map}
-use Rattle.gl_verilog.specs.Written as written
-use Rattle.gl_verilog.specs.Machine as machine
+use Rattle.gl_verilog_grammar.specs.Machine as machine
 use Rattle.gl_verilog_written.specs.declared.token.Word.{Word}
 use Rattle.gl_verilog_written.specs.declared.written.PrefixOp.{PrefixOp}
 use Rattle.gl_verilog_written.specs.declared.written.InfixOp.{InfixOp}
-use Rattle.gl_verilog_written.specs.declared.written.WrittenExpr as expr
 use Rattle.gl_verilog_written.specs.declared.written.WrittenExpr.{WrittenExpr}
-use Rattle.gl_verilog_written.specs.declared.written.WrittenStatement as stmt
 use Rattle.gl_verilog_written.specs.declared.written.WrittenStatement.{WrittenStatement}
-use Rattle.gl_verilog_written.specs.declared.written.WrittenPort.{WrittenPort}
-use Rattle.gl_verilog_written.specs.declared.written.WrittenItem.TheVariants as item_is
 use Rattle.gl_verilog_grammar.specs.declared.frames.Frame.TheVariants as frame_is
 use Rattle.gl_verilog_grammar.specs.declared.stage.Sort.{Sort}
 use Rattle.gl_verilog_grammar.specs.declared.stage.Owner.{Owner}
 use Rattle.gl_verilog_grammar.specs.declared.stage.Stage.TheVariants as stage_is
-use Rattle.gl_verilog_written.specs.View.{prefix_of, infix_of, expr_of, statement_of, name_of, names_of, range_of, direction_of, port_of, item_of}
+use Rattle.gl_verilog_written.specs.View.{prefix_of, infix_of, expr_of, statement_of, name_of, names_of, range_of}
 use Rattle.gl_verilog_grammar.specs.View.{frame_of, sort_of, owner_of, stage_of}
 
 pub stage-WantModule : stage_of stage_is.WantModule ≡ machine.WantModule

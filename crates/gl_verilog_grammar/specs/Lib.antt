@@ -1,2 +1,6 @@
+pub mod Stages
+pub mod Machine
+pub mod Reading
+pub mod Counting
 pub mod View
-pub mod Lexed
+pub mod Answers

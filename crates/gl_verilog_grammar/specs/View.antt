@@ -1,30 +1,12 @@
 -- What the values of the reader stand for: what was read so far.
-use Rattle.std.specs.Prelude.{◌≡◌, ℕ, ◌≤◌, Bool, List, [], ◌∷◌, map, reverse, Option, Some, None, option_map, Result, Ok, IfOk, MatchBool, MatchResult, ◌+◌}
-use Rattle.gl_verilog.specs.Tokens as tokens
-use Rattle.gl_verilog.specs.Written as written
-use Rattle.gl_verilog.specs.Machine as machine
-use Rattle.gl_verilog_written.specs.declared.token.Word.{Word}
-use Rattle.gl_verilog_written.specs.declared.token.Keyword.{Keyword}
-use Rattle.gl_verilog_written.specs.declared.token.Keyword.TheVariants as keyword_is
-use Rattle.gl_verilog_written.specs.declared.token.Sign.{Sign}
-use Rattle.gl_verilog_written.specs.declared.token.Sign.TheVariants as sign_is
-use Rattle.gl_verilog_written.specs.declared.token.Token.{Token}
-use Rattle.gl_verilog_written.specs.declared.token.Token.TheVariants as token_is
-use Rattle.gl_verilog_written.specs.declared.token.Lexeme.{Lexeme}
-use Rattle.gl_verilog_written.specs.declared.written.PrefixOp.{PrefixOp}
-use Rattle.gl_verilog_written.specs.declared.written.PrefixOp.TheVariants as prefix_is
-use Rattle.gl_verilog_written.specs.declared.written.InfixOp.{InfixOp}
-use Rattle.gl_verilog_written.specs.declared.written.InfixOp.TheVariants as infix_is
-use Rattle.gl_verilog_written.specs.declared.written.WrittenExpr.{WrittenExpr, Named, Constant, BitOf, PartOf, WordOf', Braces', Parens', Prefix', Infix', Conditional', Row_of-WrittenExpr, end_of-WrittenExpr, more_of-WrittenExpr}
-use Rattle.gl_verilog_written.specs.declared.written.WrittenStatement.{WrittenStatement, Update, UpdateWord, IfThen', IfElse', Block', Row_of-WrittenStatement, end_of-WrittenStatement, more_of-WrittenStatement}
-use Rattle.gl_verilog_written.specs.declared.written.Direction.{Direction}
-use Rattle.gl_verilog_written.specs.declared.written.Direction.TheVariants as direction_is
-use Rattle.gl_verilog_written.specs.declared.written.WrittenPort.{WrittenPort}
-use Rattle.gl_verilog_written.specs.declared.written.WrittenItem.{WrittenItem}
-use Rattle.gl_verilog_written.specs.declared.written.WrittenItem.TheVariants as item_is
-use Rattle.gl_verilog_written.specs.declared.written.WrittenModule.{WrittenModule}
+use Rattle.std.specs.Prelude.{◌≡◌, Bool, List, map, reverse, Option, Some, None, Result, IfOk, MatchBool}
+use Rattle.gl_verilog_grammar.specs.Machine as machine
 use Rattle.gl_verilog_grammar.specs.declared.frames.Frame.{Frame}
 use Rattle.gl_verilog_grammar.specs.declared.frames.Frame.TheVariants as frame_is
+use Rattle.gl_verilog_grammar.specs.declared.frames.Stated.{Stated}
+use Rattle.gl_verilog_grammar.specs.declared.frames.Stated.TheVariants as stated_is
+use Rattle.gl_verilog_grammar.specs.declared.closing.Closed.{Closed}
+use Rattle.gl_verilog_grammar.specs.declared.closing.Closed.TheVariants as closed_is
 use Rattle.gl_verilog_grammar.specs.declared.stage.Sort.{Sort}
 use Rattle.gl_verilog_grammar.specs.declared.stage.Sort.TheVariants as sort_is
 use Rattle.gl_verilog_grammar.specs.declared.stage.Owner.{Owner}
@@ -34,9 +16,7 @@ use Rattle.gl_verilog_grammar.specs.declared.stage.Stage.TheVariants as stage_is
 use Rattle.gl_verilog_grammar.specs.declared.stage.Role.{Role}
 use Rattle.gl_verilog_grammar.specs.declared.stage.Role.TheVariants as role_name
 use Rattle.gl_verilog_grammar.specs.declared.reading.Reading.{Reading}
-use Rattle.gl_verilog_written.specs.declared.fault.VerilogFault.{VerilogFault}
-use Rattle.gl_verilog_written.specs.declared.fault.VerilogFault.TheVariants as fault
-use Rattle.gl_verilog_written.specs.View.{keyword_of, sign_of, token_of, tokens_in, prefix_of, infix_of, parts_list, expr_of, exprs_of, statement_of, statements_of, name_of, names_of, range_of, direction_of, port_of, item_of, module_of}
+use Rattle.gl_verilog_written.specs.View.{prefix_of, infix_of, expr_of, statement_of, name_of, names_of, range_of, direction_of, port_of, item_of}
 
 abbrev pub role_is : Role → machine.Role
 role_is (role_name.IsInfix op) = machine.IsInfix (infix_of op)
@@ -67,6 +47,20 @@ frame_of (frame_is.ThenOf at test) = machine.ThenOf (expr_of test)
 frame_of (frame_is.ElseOf at test yes') = machine.ElseOf (expr_of test) (statement_of yes')
 frame_of (frame_is.InBegin done) = machine.InBegin (map statement_of done.items)
 frame_of (frame_is.BodyOf clock) = machine.BodyOf (name_of clock)
+
+unfoldable pub stated_of : Stated → machine.Stated
+stated_of (stated_is.InList done) = machine.InList (map statement_of done.items)
+stated_of (stated_is.AsBody item) = machine.AsBody (item_of item)
+stated_of stated_is.Nowhere = machine.Nowhere
+
+unfoldable pub closed_of : Closed → machine.Closed
+closed_of (closed_is.AnOperand operand) = machine.AnOperand (expr_of operand)
+closed_of (closed_is.ATest at test) = machine.ATest (expr_of test)
+closed_of (closed_is.AnAddress target address) = machine.AnAddress (name_of target) (expr_of address)
+closed_of (closed_is.AnItem item) = machine.AnItem (item_of item)
+closed_of (closed_is.AStatement statement) = machine.AStatement (statement_of statement)
+closed_of (closed_is.Further frame) = machine.Further (frame_of frame)
+closed_of closed_is.Unclosed = machine.Unclosed
 
 abbrev pub frames_of : List Frame → List machine.Frame
 frames_of frames = map frame_of (reverse frames)
@@ -120,40 +114,15 @@ stage_of (stage_is.WantLow name high) = machine.WantLow (name_of name) (name_of 
 stage_of (stage_is.AtPart name high low) = machine.AtPart (name_of name) (name_of high) (name_of low)
 stage_of stage_is.Complete = machine.Complete
 
-abbrev pub view : Reading → machine.State
+unfoldable pub view : Reading → machine.State
 view r = record {
   name = name_of r.name;
   ports = map port_of r.ports.items;
   items = map item_of r.items.items;
   stage = stage_of r.stage;
   frames = frames_of r.frames.items;
-  brackets = r.brackets;
-  operators = r.operators;
-  ifs = r.ifs;
 }
-
--- no limit is passed
-pub record IsWithin (r : Reading) : Type 0 where
-  pub brackets : r.brackets ≤ 64
-  pub operators : r.operators ≤ 1024
-  pub ifs : r.ifs ≤ 1024
 
 -- a call answers whether the machine goes on, and then stands where the machine does
 abbrev pub Moves : {E : Type 0} → Result Bool E → Option machine.State → machine.State → Type 0
 Moves result next new = IfOk result (λ stands. MatchBool stands (next ≡ Some new) (next ≡ None))
-
--- the machine goes from one state to the other by this token, whatever follows
-abbrev pub Goes : tokens.Token → machine.State → machine.State → Type 0
-Goes t s s' = (at : ℕ) (ts : List tokens.Token) → machine.run at s (t ∷ ts) ≡ machine.run (at + 1) s' ts
-
--- where the machine reads a module, the fault is want of memory
-abbrev pub OnlyMemory : VerilogFault → Result written.WrittenModule machine.Fault → Type 0
-OnlyMemory e run = (w : written.WrittenModule) → run ≡ Ok w → e ≡ fault.Memory
-
--- the machine reads no module past this token, or memory is wanted
-abbrev pub StopsAt : VerilogFault → tokens.Token → machine.State → Type 0
-StopsAt e t s = (at : ℕ) (ts : List tokens.Token) → OnlyMemory e (machine.run at s (t ∷ ts))
-
--- what the machine reads is answered, or memory is wanted
-abbrev pub IsRun : Result WrittenModule VerilogFault → Result written.WrittenModule machine.Fault → Type 0
-IsRun result run = MatchResult result (λ w. run ≡ Ok (module_of w)) (λ e. OnlyMemory e run)

@@ -1,13 +1,14 @@
 //! What is open while a module is read, the top of the stack last.
 
-ghost use Rattle.std.specs.Prelude.{◌≡◌, ◌≤◌, ◌<◌, ◌+◌, ◌||◌, ◌++◌, ◌∷◌, [], ℕ, map, length, reverse, nat_le, nat_lt, IfOk, MatchBool, MatchOption, MatchResult, Some, None, Ok, Err};
-ghost use Rattle.gl_verilog.specs.Machine as machine;
-ghost use Rattle.gl_verilog.specs.Written.{looseness, zero_digit};
-ghost use Rattle.gl_verilog_written.specs.View.{keyword_of, sign_of, token_of, tokens_in, prefix_of, infix_of, expr_of, statement_of, name_of, names_of, range_of, direction_of, item_of, module_of};
-ghost use Rattle.gl_verilog_grammar.specs.View.{frame_of, frames_of, sort_of, owner_of, stage_of, view, role_is, IsWithin, Moves};
+ghost use Rattle.std.specs.Prelude.{◌≡◌, option_map, IfOk, MatchBool, Some, None};
+ghost use Rattle.gl_verilog_grammar.specs.Stages as machine;
+ghost use Rattle.gl_verilog.specs.Written.{looseness};
+ghost use Rattle.gl_verilog_written.specs.View.{infix_of, expr_of, statement_of};
+ghost use Rattle.gl_verilog_grammar.specs.View.{frame_of, frames_of, stated_of};
 
-use gl_verilog_written::{InfixOp, PrefixOp, Word, WrittenExpr, WrittenStatement};
+use gl_verilog_written::{InfixOp, PrefixOp, Word, WrittenExpr, WrittenItem, WrittenStatement};
 use std::alloc::{AllocError, Global};
+use std::mem;
 
 /// What is open: brackets, operators that wait for their right side, the beginnings of items and
 /// statements.
@@ -94,7 +95,8 @@ pub(crate) fn apply<'a>(
     frame: Frame<'a>,
     operand: WrittenExpr<'a>,
 ) -> Result<WrittenExpr<'a>, AllocError>
-    ensures { IfOk result (λ e. expr_of e ≡ machine.applied (frame_of frame.entry) (expr_of operand.entry)) }
+    ensures { IfOk result (λ e. expr_of e ≡ machine.applied (frame_of frame.entry)
+        (expr_of operand.entry)) }
 {
     match frame {
         Frame::PrefixOf { op, at } => {
@@ -117,7 +119,10 @@ pub(crate) fn apply<'a>(
             let no = Box::new(alloc, operand)?;
             Ok(WrittenExpr::Conditional { at, test, yes, no })
         }
-        _ => Ok(operand),
+        other => {
+            mem::drop(other);
+            Ok(operand)
+        }
     }
 }
 
@@ -129,7 +134,8 @@ pub(crate) fn reduce<'a>(
     operand: WrittenExpr<'a>,
     level: u8,
 ) -> Result<WrittenExpr<'a>, AllocError>
-    ensures { IfOk result (λ e. machine.reduce level (frames_of frames.old.items) (expr_of operand.entry) ≡ (frames_of frames.new.items, expr_of e)) }
+    ensures { IfOk result (λ e. machine.reduce level (frames_of frames.old.items)
+        (expr_of operand.entry) ≡ (frames_of frames.new.items, expr_of e)) }
 {
     let mut operand = operand;
     while let Some(top) = frames.pop() {
@@ -156,7 +162,8 @@ pub(crate) fn if_of<'a>(
     frame: Frame<'a>,
     statement: WrittenStatement<'a>,
 ) -> Result<WrittenStatement<'a>, AllocError>
-    ensures { IfOk result (λ s. statement_of s ≡ machine.if_of (frame_of frame.entry) (statement_of statement.entry)) }
+    ensures { IfOk result (λ s. statement_of s
+        ≡ machine.if_of (frame_of frame.entry) (statement_of statement.entry)) }
 {
     match frame {
         Frame::ThenOf { at, test } => {
@@ -168,7 +175,10 @@ pub(crate) fn if_of<'a>(
             let no = Box::new(alloc, statement)?;
             Ok(WrittenStatement::IfElse { at, test, yes, no })
         }
-        _ => Ok(statement),
+        other => {
+            mem::drop(other);
+            Ok(statement)
+        }
     }
 }
 
@@ -179,7 +189,8 @@ pub(crate) fn end_ifs<'a>(
     frames: &mut Vec<Frame<'a>>,
     statement: WrittenStatement<'a>,
 ) -> Result<WrittenStatement<'a>, AllocError>
-    ensures { IfOk result (λ s. machine.at_end (frames_of frames.old.items) (statement_of statement.entry) ≡ (frames_of frames.new.items, statement_of s)) }
+    ensures { IfOk result (λ s. machine.at_end (frames_of frames.old.items)
+        (statement_of statement.entry) ≡ (frames_of frames.new.items, statement_of s)) }
 {
     let mut statement = statement;
     while let Some(top) = frames.pop() {
@@ -199,7 +210,10 @@ pub(crate) fn take_else<'a>(
     frames: &mut Vec<Frame<'a>>,
     statement: WrittenStatement<'a>,
 ) -> Result<bool, AllocError>
-    ensures { IfOk result (λ stands. MatchBool stands (machine.at_else (frames_of frames.old.items) (statement_of statement.entry) ≡ Some (frames_of frames.new.items)) (machine.at_else (frames_of frames.old.items) (statement_of statement.entry) ≡ None)) }
+    ensures { IfOk result (λ stands. MatchBool stands
+        (machine.at_else (frames_of frames.old.items) (statement_of statement.entry)
+        ≡ Some (frames_of frames.new.items)) (machine.at_else (frames_of frames.old.items)
+        (statement_of statement.entry) ≡ None)) }
 {
     let mut statement = statement;
     while let Some(top) = frames.pop() {
@@ -213,8 +227,61 @@ pub(crate) fn take_else<'a>(
                 return Ok(true);
             }
             Frame::ElseOf { .. } => statement = if_of(alloc, top, statement)?,
-            _ => return Ok(false),
+            other => {
+                mem::drop(other);
+                mem::drop(statement);
+                return Ok(false);
+            }
         }
     }
+    mem::drop(statement);
     Ok(false)
+}
+
+// The statements of a block.
+#[tactic(auto, using(gl_verilog_written::proofs::Views::exprs, crate::proofs::Stack::pushes), unfolding(crate::specs::View::frame_of))]
+pub(crate) fn block_of<'a>(frame: Frame<'a>) -> Option<WrittenStatement<'a>>
+    ensures { option_map statement_of result ≡ machine.block_of (frame_of frame.entry) }
+{
+    match frame {
+        Frame::InBegin(done) => Some(WrittenStatement::Block(done)),
+        other => {
+            mem::drop(other);
+            None
+        }
+    }
+}
+
+/// What a whole statement goes to: the list of its block, or the item that it is the body of.
+#[derive(Drop)]
+pub enum Stated<'a> {
+    InList(Vec<WrittenStatement<'a>>),
+    AsBody(WrittenItem<'a>),
+    Nowhere,
+}
+
+#[tactic(auto, using(gl_verilog_written::proofs::Views::items, crate::proofs::Stack::pushes), unfolding(crate::specs::View::frame_of, crate::specs::View::stated_of))]
+pub(crate) fn end_statement<'a>(
+    frame: Frame<'a>,
+    statement: WrittenStatement<'a>,
+) -> Result<Stated<'a>, AllocError>
+    ensures { IfOk result (λ s. stated_of s ≡ machine.stated (frame_of frame.entry)
+        (statement_of statement.entry)) }
+{
+    match frame {
+        Frame::InBegin(done) => {
+            let mut done = done;
+            done.push(statement)?;
+            Ok(Stated::InList(done))
+        }
+        Frame::BodyOf(clock) => Ok(Stated::AsBody(WrittenItem::Always {
+            clock,
+            body: statement,
+        })),
+        other => {
+            mem::drop(other);
+            mem::drop(statement);
+            Ok(Stated::Nowhere)
+        }
+    }
 }

@@ -1,25 +1,24 @@
 //! Where the reading of a module stands.
 
-ghost use Rattle.std.specs.Prelude.{◌≡◌, ◌≤◌, ◌<◌, ◌+◌, ◌||◌, ◌++◌, ◌∷◌, [], ℕ, map, length, reverse, nat_le, nat_lt, IfOk, MatchBool, MatchOption, MatchResult, Some, None, Ok, Err};
-ghost use Rattle.std.specs.Str.{bytes_eq};
-ghost use Rattle.gl_verilog.specs.Machine as machine;
-ghost use Rattle.gl_verilog.specs.Written.{looseness, zero_digit};
-ghost use Rattle.gl_verilog_written.specs.View.{keyword_of, sign_of, token_of, tokens_in, prefix_of, infix_of, expr_of, statement_of, name_of, names_of, range_of, direction_of, item_of, module_of};
-ghost use Rattle.gl_verilog_grammar.specs.View.{frame_of, frames_of, sort_of, owner_of, stage_of, view, role_is, IsWithin, Moves};
+ghost use Rattle.std.specs.Prelude.{◌≡◌, option_map};
+ghost use Rattle.gl_verilog_grammar.specs.Stages as machine;
+ghost use Rattle.gl_verilog_written.specs.View.{keyword_of, sign_of, token_of, name_of, names_of, range_of, item_of};
+ghost use Rattle.gl_verilog_grammar.specs.View.{sort_of, owner_of, stage_of, role_is};
 
+use crate::matching::{digits_in, is_mark, is_word, name_in};
 use gl_verilog_written::{
-    Direction, InfixOp, Sign, Word, WrittenExpr, WrittenItem, WrittenStatement,
+    Direction, InfixOp, Keyword, Sign, Token, Word, WrittenExpr, WrittenItem, WrittenStatement,
 };
 
 /// What a list of names declares.
-#[derive(Clone, Copy, PartialEq, Eq, Debug)]
+#[derive(Clone, Copy)]
 pub enum Sort {
     WireSort,
     RegisterSort,
 }
 
 /// What a range and a name belong to.
-#[derive(Clone, Copy, PartialEq, Eq, Debug)]
+#[derive(Clone, Copy)]
 pub enum Owner {
     OfPort(Direction),
     OfItem(Sort),
@@ -70,7 +69,7 @@ pub enum Stage<'a> {
 }
 
 /// What a sign does behind an operand.
-#[derive(Clone, Copy, PartialEq, Eq, Debug)]
+#[derive(Clone, Copy)]
 pub enum Role {
     IsInfix(InfixOp),
     IsQuestion,
@@ -114,23 +113,166 @@ pub(crate) fn role_of(sign: Sign) -> Role
     }
 }
 
-// Whether a number is written `0`.
-pub(crate) fn is_zero(digits: Word) -> bool
-    ensures { result ≡ bytes_eq (name_of digits.entry) zero_digit }
-{
-    matches!(digits.bytes, b"0")
-}
-
 #[tactic(auto, unfolding(gl_verilog_written::specs::View::item_of))]
 pub(crate) fn item_of_names<'a>(
     sort: Sort,
     range: Option<Word<'a>>,
     names: Vec<Word<'a>>,
 ) -> WrittenItem<'a>
-    ensures { item_of result ≡ machine.item_of (sort_of sort) (range_of range.entry) (names_of names.entry.items) }
+    ensures { item_of result ≡ machine.item_of (sort_of sort) (range_of range.entry)
+        (names_of names.entry.items) }
 {
     match sort {
         Sort::WireSort => WrittenItem::Wires { range, names },
         Sort::RegisterSort => WrittenItem::Registers { range, names },
+    }
+}
+
+// `wire` or `reg` behind a direction.
+pub(crate) fn with_word(owner: Owner, word: Keyword) -> Option<Owner>
+    ensures { option_map owner_of result ≡ machine.with_word (owner_of owner) (keyword_of word) }
+{
+    match (owner, word) {
+        (Owner::OfPort(Direction::In), Keyword::Wire) => Some(Owner::OfPort(Direction::InWire)),
+        (Owner::OfPort(Direction::Out), Keyword::Wire) => Some(Owner::OfPort(Direction::OutWire)),
+        (Owner::OfPort(Direction::Out), Keyword::Reg) => Some(Owner::OfPort(Direction::OutReg)),
+        _ => None,
+    }
+}
+
+// The stage behind `wire` or `reg`, where one may stand behind a direction.
+#[tactic(auto, using(crate::proofs::Views::stages))]
+pub(crate) fn word_stage<'a>(owner: Owner, word: Keyword) -> Option<Stage<'a>>
+    ensures { option_map stage_of result ≡ option_map machine.Declaring
+        (machine.with_word (owner_of owner) (keyword_of word)) }
+{
+    match with_word(owner, word) {
+        Some(owner) => Some(Stage::Declaring(owner)),
+        None => None,
+    }
+}
+
+#[tactic(auto, using(crate::proofs::Views::stages))]
+pub(crate) fn port_stage<'a>(token: Token<'a>) -> Option<Stage<'a>>
+    ensures { option_map stage_of result ≡ machine.next_stage machine.WantPort
+        (token_of token.entry) }
+{
+    if is_word(token, Keyword::Input) {
+        return Some(Stage::Declaring(Owner::OfPort(Direction::In)));
+    }
+    if is_word(token, Keyword::Output) {
+        return Some(Stage::Declaring(Owner::OfPort(Direction::Out)));
+    }
+    None
+}
+
+#[tactic(auto, using(crate::proofs::Views::stages))]
+pub(crate) fn behind_port<'a>(token: Token<'a>) -> Option<Stage<'a>>
+    ensures { option_map stage_of result ≡ machine.next_stage machine.AfterPort
+        (token_of token.entry) }
+{
+    if is_mark(token, Sign::Comma) {
+        return Some(Stage::WantPort);
+    }
+    if is_mark(token, Sign::CloseParen) {
+        return Some(Stage::AfterPorts);
+    }
+    None
+}
+
+#[tactic(auto, using(crate::proofs::Views::stages))]
+pub(crate) fn item_stage<'a>(token: Token<'a>) -> Option<Stage<'a>>
+    ensures { option_map stage_of result ≡ machine.item_stage (token_of token.entry) }
+{
+    if is_word(token, Keyword::Wire) {
+        return Some(Stage::Declaring(Owner::OfItem(Sort::WireSort)));
+    }
+    if is_word(token, Keyword::Reg) {
+        return Some(Stage::Declaring(Owner::OfItem(Sort::RegisterSort)));
+    }
+    if is_word(token, Keyword::Assign) {
+        return Some(Stage::WantAssigned);
+    }
+    if is_word(token, Keyword::Always) {
+        return Some(Stage::WantAt);
+    }
+    if is_word(token, Keyword::EndModule) {
+        return Some(Stage::Complete);
+    }
+    None
+}
+
+// A register alone may be a memory.
+#[tactic(auto, using(crate::proofs::Views::stages))]
+pub(crate) fn memory_stage<'a>(
+    sort: Sort,
+    range: Option<Word<'a>>,
+    names: &[Word<'a>],
+) -> Option<Stage<'a>>
+    ensures { option_map stage_of result ≡ machine.memory_stage (sort_of sort)
+        (range_of range.entry) (names_of names.now) }
+{
+    match (sort, names) {
+        (Sort::RegisterSort, [name]) => Some(Stage::WantFirst(range, *name)),
+        _ => None,
+    }
+}
+
+#[tactic(auto, using(crate::proofs::Views::stages))]
+pub(crate) fn high_stage<'a>(owner: Owner, token: Token<'a>) -> Option<Stage<'a>>
+    ensures { option_map stage_of result ≡ machine.next_stage (machine.WantHigh (owner_of owner))
+        (token_of token.entry) }
+{
+    match digits_in(token) {
+        Some(high) => Some(Stage::WantColon(owner, high)),
+        None => None,
+    }
+}
+
+#[tactic(auto, using(crate::proofs::Views::stages))]
+pub(crate) fn last_stage<'a>(
+    range: Option<Word<'a>>,
+    name: Word<'a>,
+    token: Token<'a>,
+) -> Option<Stage<'a>>
+    ensures { option_map stage_of result ≡ machine.next_stage
+        (machine.WantLast (range_of range.entry) (name_of name.entry)) (token_of token.entry) }
+{
+    match digits_in(token) {
+        Some(last) => Some(Stage::WantMemoryClose(range, name, last)),
+        None => None,
+    }
+}
+
+#[tactic(auto, using(crate::proofs::Views::stages))]
+pub(crate) fn assigned_stage<'a>(token: Token<'a>) -> Option<Stage<'a>>
+    ensures { option_map stage_of result ≡ machine.next_stage machine.WantAssigned
+        (token_of token.entry) }
+{
+    match name_in(token) {
+        Some(target) => Some(Stage::WantEquals(target)),
+        None => None,
+    }
+}
+
+#[tactic(auto, using(crate::proofs::Views::stages))]
+pub(crate) fn clock_stage<'a>(token: Token<'a>) -> Option<Stage<'a>>
+    ensures { option_map stage_of result ≡ machine.next_stage machine.WantClock
+        (token_of token.entry) }
+{
+    match name_in(token) {
+        Some(clock) => Some(Stage::WantEdgeEnd(clock)),
+        None => None,
+    }
+}
+
+#[tactic(auto, using(crate::proofs::Views::stages))]
+pub(crate) fn low_stage<'a>(name: Word<'a>, high: Word<'a>, token: Token<'a>) -> Option<Stage<'a>>
+    ensures { option_map stage_of result ≡ machine.next_stage
+        (machine.WantLow (name_of name.entry) (name_of high.entry)) (token_of token.entry) }
+{
+    match digits_in(token) {
+        Some(low) => Some(Stage::AtPart(name, high, low)),
+        None => None,
     }
 }

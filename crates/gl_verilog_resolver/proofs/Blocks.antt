@@ -2,10 +2,10 @@
 use Rattle.std.proofs.Common.{◌≡◌, ℕ, suc, ◌+◌, ◌<◌, Option, Some, None, refl, sym, ◌∙◌, ap, List, [], ◌∷◌, ◌++◌, length, drop, get_or, drop-cons, add-one, map, Vec, Global}
 use Rattle.std.specs.Prelude.{option_map, option_and_then}
 use Rattle.std.proofs.lemmas.List.{map-append}
+use Rattle.gl_verilog.specs.Written.{listed}
 use Rattle.gl_verilog.specs.Module as spec
 use Rattle.gl_verilog.specs.Written as written
 use Rattle.gl_verilog.specs.Resolve.{both}
-use Rattle.gl_verilog.specs.Machine.{listed}
 use Rattle.gl_verilog.specs.declared.module.Statement as stmt
 use Rattle.gl_verilog.specs.View as meant
 use Rattle.gl_verilog.specs.View.{chained}

@@ -1,6 +1,6 @@
 //! The expressions that are meant.
 
-ghost use Rattle.std.specs.Prelude.{◌≡◌, map, option_map, Some, MatchResult, nat_le, []};
+ghost use Rattle.std.specs.Prelude.{◌≡◌, map, option_map, Some, MatchResult, nat_le};
 ghost use Rattle.gl_verilog.specs.Module as spec;
 ghost use Rattle.gl_verilog.specs.Resolve as resolve;
 ghost use Rattle.gl_verilog.specs.View.{declaration_of, op_of};
@@ -17,7 +17,8 @@ use gl_verilog_written::{InfixOp, PrefixOp, Word, WrittenExpr};
 use std::alloc::Global;
 
 fn net(declarations: &[Declaration], name: &[u8]) -> Result<Expr, Unresolved>
-    ensures { Gives meant.expr_of (option_map spec.Net (resolve.number_read (map declaration_of declarations.now) name.now)) result }
+    ensures { Gives meant.expr_of (option_map spec.Net
+        (resolve.number_read (map declaration_of declarations.now) name.now)) result }
 {
     match number_read(declarations, name) {
         Some(n) => Ok(Expr::Net(n)),
@@ -26,7 +27,8 @@ fn net(declarations: &[Declaration], name: &[u8]) -> Result<Expr, Unresolved>
 }
 
 fn literal(size: Word, radix: u8, digits: Word) -> Result<Expr, Unresolved>
-    ensures { Gives meant.expr_of (fitting.literal_meant radix (name_of size.entry) (name_of digits.entry)) result }
+    ensures { Gives meant.expr_of (fitting.literal_meant radix (name_of size.entry)
+        (name_of digits.entry)) result }
 {
     let Some(width) = byte_number(size.bytes) else {
         return Err(Unresolved::Unmeant);
@@ -43,7 +45,8 @@ fn select(
     high: Word,
     low: Word,
 ) -> Result<Expr, Unresolved>
-    ensures { Gives meant.expr_of (fitting.select_meant (map declaration_of declarations.now) (name_of name.entry) (name_of high.entry) (name_of low.entry)) result }
+    ensures { Gives meant.expr_of (fitting.select_meant (map declaration_of declarations.now)
+        (name_of name.entry) (name_of high.entry) (name_of low.entry)) result }
 {
     let Some(high) = byte_number(high.bytes) else {
         return Err(Unresolved::Unmeant);
@@ -59,7 +62,9 @@ fn select(
 
 // A memory by its name.
 fn memory_read(declarations: &[Declaration], name: Word) -> Result<usize, Unresolved>
-    ensures { MatchResult result (λ n. resolve.number_read (map declaration_of declarations.now) (name_of name.entry) ≡ Some n) (λ _. resolve.number_read (map declaration_of declarations.now) (name_of name.entry) ≡ None) }
+    ensures { MatchResult result (λ n. resolve.number_read (map declaration_of declarations.now)
+        (name_of name.entry) ≡ Some n) (λ _. resolve.number_read
+        (map declaration_of declarations.now) (name_of name.entry) ≡ None) }
 {
     match number_read(declarations, name.bytes) {
         Some(n) => Ok(n),
@@ -80,7 +85,8 @@ fn prefix(
     op: PrefixOp,
     arg: Expr,
 ) -> Result<Expr, Unresolved>
-    ensures { Gives meant.expr_of (fitting.prefix_meant (map declaration_of declarations.now) (prefix_of op) (meant.expr_of arg)) result }
+    ensures { Gives meant.expr_of (fitting.prefix_meant (map declaration_of declarations.now)
+        (prefix_of op) (meant.expr_of arg)) result }
 {
     let Some(width) = inverted_width(declarations, op, &arg) else {
         return Err(Unresolved::Unmeant);
@@ -116,7 +122,8 @@ fn infix(
     left: Expr,
     right: Expr,
 ) -> Result<Expr, Unresolved>
-    ensures { Gives meant.expr_of (fitting.infix_meant (map declaration_of declarations.now) (infix_of op) (meant.expr_of left) (meant.expr_of right)) result }
+    ensures { Gives meant.expr_of (fitting.infix_meant (map declaration_of declarations.now)
+        (infix_of op) (meant.expr_of left) (meant.expr_of right)) result }
 {
     let Some(width) = operand_width(declarations, op, &left) else {
         return Err(Unresolved::Unmeant);
@@ -133,7 +140,8 @@ fn infix(
 }
 
 fn choose(alloc: Global, test: Expr, yes: Expr, no: Expr) -> Result<Expr, Unresolved>
-    ensures { Gives meant.expr_of (Some (spec.Choose (meant.expr_of test) (meant.expr_of yes) (meant.expr_of no))) result }
+    ensures { Gives meant.expr_of (Some (spec.Choose (meant.expr_of test) (meant.expr_of yes)
+        (meant.expr_of no))) result }
 {
     let test = Box::new(alloc, test)?;
     let yes = Box::new(alloc, yes)?;
@@ -148,7 +156,8 @@ fn join(
     high: Expr,
     low: Expr,
 ) -> Result<Expr, Unresolved>
-    ensures { Gives meant.expr_of (fitting.join_meant (map declaration_of declarations.now) (meant.expr_of high) (meant.expr_of low)) result }
+    ensures { Gives meant.expr_of (fitting.join_meant (map declaration_of declarations.now)
+        (meant.expr_of high) (meant.expr_of low)) result }
 {
     let Some(low_width) = width_of(declarations, &low) else {
         return Err(Unresolved::Unmeant);
@@ -170,7 +179,8 @@ fn parts_meant(
     declarations: &[Declaration],
     parts: &[WrittenExpr],
 ) -> Result<Expr, Unresolved>
-    ensures { Gives meant.expr_of (fitting.expr_meant (map declaration_of declarations.now) (parts_list (map expr_of parts.now))) result }
+    ensures { Gives meant.expr_of (fitting.expr_meant (map declaration_of declarations.now)
+        (parts_list (map expr_of parts.now))) result }
 {
     let Some((first, rest)) = parts.split_first() else {
         return net(declarations, b"".as_slice());
@@ -199,7 +209,9 @@ fn braces_meant(
     declarations: &[Declaration],
     parts: &[WrittenExpr],
 ) -> Result<Expr, Unresolved>
-    ensures { Gives meant.expr_of (fitting.few_meant (parts_list (map expr_of parts.now)) (fitting.expr_meant (map declaration_of declarations.now) (parts_list (map expr_of parts.now)))) result }
+    ensures { Gives meant.expr_of (fitting.few_meant (parts_list (map expr_of parts.now))
+        (fitting.expr_meant (map declaration_of declarations.now)
+        (parts_list (map expr_of parts.now)))) result }
 {
     if !are_few(parts) {
         return Err(Unresolved::Unmeant);
@@ -215,7 +227,8 @@ pub(crate) fn expr_meant(
     declarations: &[Declaration],
     written: &WrittenExpr,
 ) -> Result<Expr, Unresolved>
-    ensures { Gives meant.expr_of (fitting.expr_meant (map declaration_of declarations.now) (expr_of written.now)) result }
+    ensures { Gives meant.expr_of (fitting.expr_meant (map declaration_of declarations.now)
+        (expr_of written.now)) result }
 {
     match written {
         WrittenExpr::Named(name) => net(declarations, name.bytes),

@@ -1,6 +1,6 @@
 //! The declarations, assignments and blocks that are meant.
 
-ghost use Rattle.std.specs.Prelude.{◌≡◌, ◌+◌, ◌^◌, ◌≤◌, map, option_map, option_and_then, Some, None, [], IfErr, OnOk, MatchResult};
+ghost use Rattle.std.specs.Prelude.{◌≡◌, ◌+◌, ◌^◌, ◌≤◌, map, option_map, option_and_then, Some, None, [], IfErr, OnOk};
 ghost use Rattle.gl_verilog.specs.Module as spec;
 ghost use Rattle.gl_verilog.specs.Resolve as resolve;
 ghost use Rattle.gl_verilog.specs.View.{declaration_of, kind_of};
@@ -50,7 +50,8 @@ fn declare(
     range: Option<Word>,
     name: Word,
 ) -> Result<Declaration, Unresolved>
-    ensures { Gives declaration_of (fitting.declaration_meant (kind_of kind) (range_of range.entry) (name_of name.entry)) result }
+    ensures { Gives declaration_of (fitting.declaration_meant (kind_of kind) (range_of range.entry)
+        (name_of name.entry)) result }
 {
     let Some(width) = width_of_range(range) else {
         return Err(Unresolved::Unmeant);
@@ -74,8 +75,12 @@ fn declare_one(
     range: Option<Word>,
     name: &Word,
 ) -> Result<(), Unresolved>
-    ensures done { OnOk result (fitting.declared_next (kind_of kind) (range_of range.entry) (map declaration_of declarations.old.items) (name_of name.now) ≡ Some (map declaration_of declarations.new.items)) }
-    ensures unmeant { IfErr result (λ e. e ≡ Unmeant → fitting.declared_next (kind_of kind) (range_of range.entry) (map declaration_of declarations.old.items) (name_of name.now) ≡ None) }
+    ensures done { OnOk result (fitting.declared_next (kind_of kind) (range_of range.entry)
+        (map declaration_of declarations.old.items) (name_of name.now)
+        ≡ Some (map declaration_of declarations.new.items)) }
+    ensures unmeant { IfErr result (λ e. e ≡ Unmeant
+        → fitting.declared_next (kind_of kind) (range_of range.entry)
+        (map declaration_of declarations.old.items) (name_of name.now) ≡ None) }
 {
     let declaration = declare(alloc, kind, range, *name)?;
     declarations.push(declaration)?;
@@ -90,8 +95,12 @@ fn declare_all(
     range: Option<Word>,
     names: &[Word],
 ) -> Result<(), Unresolved>
-    ensures done { OnOk result (passed (fitting.declared_next (kind_of kind) (range_of range.entry)) (map declaration_of declarations.old.items) (names_of names.now) ≡ Some (map declaration_of declarations.new.items)) }
-    ensures unmeant { IfErr result (λ e. e ≡ Unmeant → passed (fitting.declared_next (kind_of kind) (range_of range.entry)) (map declaration_of declarations.old.items) (names_of names.now) ≡ None) }
+    ensures done { OnOk result (passed (fitting.declared_next (kind_of kind) (range_of range.entry))
+        (map declaration_of declarations.old.items) (names_of names.now)
+        ≡ Some (map declaration_of declarations.new.items)) }
+    ensures unmeant { IfErr result (λ e. e ≡ Unmeant
+        → passed (fitting.declared_next (kind_of kind) (range_of range.entry))
+        (map declaration_of declarations.old.items) (names_of names.now) ≡ None) }
 {
     for name in names {
         declare_one(alloc, declarations, kind, range, name)?;
@@ -147,8 +156,14 @@ fn take_memory(
     name: Word,
     last: Word,
 ) -> Result<(), Unresolved>
-    ensures done { OnOk result (option_and_then (with_memory (resolved_of built.old) (range_of range.entry) (name_of name.entry)) (resolve.address_bits_of (resolve.decimal_number (name_of last.entry) + 1)) ≡ Some (resolved_of built.new)) }
-    ensures unmeant { IfErr result (λ e. e ≡ Unmeant → option_and_then (with_memory (resolved_of built.old) (range_of range.entry) (name_of name.entry)) (resolve.address_bits_of (resolve.decimal_number (name_of last.entry) + 1)) ≡ None) }
+    ensures done { OnOk result (option_and_then
+        (with_memory (resolved_of built.old) (range_of range.entry) (name_of name.entry))
+        (resolve.address_bits_of (resolve.decimal_number (name_of last.entry) + 1))
+        ≡ Some (resolved_of built.new)) }
+    ensures unmeant { IfErr result (λ e. e ≡ Unmeant
+        → option_and_then (with_memory (resolved_of built.old) (range_of range.entry)
+        (name_of name.entry)) (resolve.address_bits_of
+        (resolve.decimal_number (name_of last.entry) + 1)) ≡ None) }
 {
     let Some(address_bits) = address_bits(last) else {
         return Err(Unresolved::Unmeant);
@@ -165,8 +180,14 @@ fn take_assignment(
     target: Word,
     value: &WrittenExpr,
 ) -> Result<(), Unresolved>
-    ensures done { OnOk result (resolve.both (with_assignment (resolved_of built.old)) (spec.number_of (resolved_of built.old).declarations (name_of target.entry)) (fitting.expr_meant (resolved_of built.old).declarations (expr_of value.now)) ≡ Some (resolved_of built.new)) }
-    ensures unmeant { IfErr result (λ e. e ≡ Unmeant → resolve.both (with_assignment (resolved_of built.old)) (spec.number_of (resolved_of built.old).declarations (name_of target.entry)) (fitting.expr_meant (resolved_of built.old).declarations (expr_of value.now)) ≡ None) }
+    ensures done { OnOk result (resolve.both (with_assignment (resolved_of built.old))
+        (spec.number_of (resolved_of built.old).declarations (name_of target.entry))
+        (fitting.expr_meant (resolved_of built.old).declarations (expr_of value.now))
+        ≡ Some (resolved_of built.new)) }
+    ensures unmeant { IfErr result (λ e. e ≡ Unmeant
+        → resolve.both (with_assignment (resolved_of built.old))
+        (spec.number_of (resolved_of built.old).declarations (name_of target.entry))
+        (fitting.expr_meant (resolved_of built.old).declarations (expr_of value.now)) ≡ None) }
 {
     let target = target_of(&built.declarations, target)?;
     let value = expr_meant(alloc, &built.declarations, value)?;
@@ -181,8 +202,15 @@ fn take_block(
     clock: Word,
     body: &WrittenStatement,
 ) -> Result<(), Unresolved>
-    ensures done { OnOk result (resolve.both (with_block (resolved_of built.old)) (resolve.clocked (resolved_of built.old).declarations (name_of clock.entry)) (fitting.statement_meant (resolved_of built.old).declarations (statement_of body.now)) ≡ Some (resolved_of built.new)) }
-    ensures unmeant { IfErr result (λ e. e ≡ Unmeant → resolve.both (with_block (resolved_of built.old)) (resolve.clocked (resolved_of built.old).declarations (name_of clock.entry)) (fitting.statement_meant (resolved_of built.old).declarations (statement_of body.now)) ≡ None) }
+    ensures done { OnOk result (resolve.both (with_block (resolved_of built.old))
+        (resolve.clocked (resolved_of built.old).declarations (name_of clock.entry))
+        (fitting.statement_meant (resolved_of built.old).declarations (statement_of body.now))
+        ≡ Some (resolved_of built.new)) }
+    ensures unmeant { IfErr result (λ e. e ≡ Unmeant
+        → resolve.both (with_block (resolved_of built.old))
+        (resolve.clocked (resolved_of built.old).declarations (name_of clock.entry))
+        (fitting.statement_meant (resolved_of built.old).declarations (statement_of body.now))
+        ≡ None) }
 {
     let Some(_) = clocked(&built.declarations, clock.bytes) else {
         return Err(Unresolved::Unmeant);
@@ -201,8 +229,13 @@ fn take_names(
     range: Option<Word>,
     names: &[Word],
 ) -> Result<(), Unresolved>
-    ensures done { OnOk result (option_map (with_declarations (resolved_of built.old)) (passed (fitting.declared_next (kind_of kind) (range_of range.entry)) (resolved_of built.old).declarations (names_of names.now)) ≡ Some (resolved_of built.new)) }
-    ensures unmeant { IfErr result (λ e. e ≡ Unmeant → option_map (with_declarations (resolved_of built.old)) (passed (fitting.declared_next (kind_of kind) (range_of range.entry)) (resolved_of built.old).declarations (names_of names.now)) ≡ None) }
+    ensures done { OnOk result (option_map (with_declarations (resolved_of built.old))
+        (passed (fitting.declared_next (kind_of kind) (range_of range.entry))
+        (resolved_of built.old).declarations (names_of names.now)) ≡ Some (resolved_of built.new)) }
+    ensures unmeant { IfErr result (λ e. e ≡ Unmeant
+        → option_map (with_declarations (resolved_of built.old))
+        (passed (fitting.declared_next (kind_of kind) (range_of range.entry))
+        (resolved_of built.old).declarations (names_of names.now)) ≡ None) }
 {
     declare_all(alloc, &mut built.declarations, kind, range, names)?;
     Ok(())
@@ -211,8 +244,10 @@ fn take_names(
 // One more item.
 #[tactic(auto, using(crate::proofs::ItemSteps::items))]
 fn take_item(alloc: Global, built: &mut Built, item: &WrittenItem) -> Result<(), Unresolved>
-    ensures done { OnOk result (step (resolved_of built.old) (item_of item.now) ≡ Some (resolved_of built.new)) }
-    ensures unmeant { IfErr result (λ e. e ≡ Unmeant → step (resolved_of built.old) (item_of item.now) ≡ None) }
+    ensures done { OnOk result (step (resolved_of built.old) (item_of item.now)
+        ≡ Some (resolved_of built.new)) }
+    ensures unmeant { IfErr result (λ e. e ≡ Unmeant
+        → step (resolved_of built.old) (item_of item.now) ≡ None) }
 {
     match item {
         WrittenItem::Wires { range, names } => take_names(
@@ -243,8 +278,10 @@ pub(crate) fn take_items(
     built: &mut Built,
     items: &[WrittenItem],
 ) -> Result<(), Unresolved>
-    ensures done { OnOk result (passed step (resolved_of built.old) (map item_of items.now) ≡ Some (resolved_of built.new)) }
-    ensures unmeant { IfErr result (λ e. e ≡ Unmeant → passed step (resolved_of built.old) (map item_of items.now) ≡ None) }
+    ensures done { OnOk result (passed step (resolved_of built.old) (map item_of items.now)
+        ≡ Some (resolved_of built.new)) }
+    ensures unmeant { IfErr result (λ e. e ≡ Unmeant
+        → passed step (resolved_of built.old) (map item_of items.now) ≡ None) }
 {
     for item in items {
         take_item(alloc, built, item)?;
@@ -268,8 +305,10 @@ fn declare_port(
     declarations: &mut Vec<Declaration>,
     port: &WrittenPort,
 ) -> Result<(), Unresolved>
-    ensures done { OnOk result (fitting.port_next (map declaration_of declarations.old.items) (port_of port.now) ≡ Some (map declaration_of declarations.new.items)) }
-    ensures unmeant { IfErr result (λ e. e ≡ Unmeant → fitting.port_next (map declaration_of declarations.old.items) (port_of port.now) ≡ None) }
+    ensures done { OnOk result (fitting.port_next (map declaration_of declarations.old.items)
+        (port_of port.now) ≡ Some (map declaration_of declarations.new.items)) }
+    ensures unmeant { IfErr result (λ e. e ≡ Unmeant
+        → fitting.port_next (map declaration_of declarations.old.items) (port_of port.now) ≡ None) }
 {
     declare_one(
         alloc,
@@ -285,7 +324,8 @@ pub(crate) fn declare_ports(
     alloc: Global,
     ports: &[WrittenPort],
 ) -> Result<Vec<Declaration>, Unresolved>
-    ensures { Gives (λ v. map declaration_of v.items) (passed fitting.port_next [] (map port_of ports.now)) result }
+    ensures { Gives (λ v. map declaration_of v.items)
+        (passed fitting.port_next [] (map port_of ports.now)) result }
 {
     let mut declarations = Vec::new(alloc);
     for port in ports {

@@ -1,9 +1,9 @@
 //! Names become the numbers of their declarations, and digits become numbers.
 
-ghost use Rattle.std.specs.Prelude.{◌≡◌, ◌+◌, ◌^◌, ◌<◌, ◌≤◌, map, MatchOption, IfNone, IfSome, option_map, Some, None};
+ghost use Rattle.std.specs.Prelude.{◌≡◌, ◌^◌, ◌<◌, ◌≤◌, map, MatchOption, IfNone, IfSome, Some, None};
 ghost use Rattle.gl_verilog.specs.Module as spec;
 ghost use Rattle.gl_verilog.specs.Resolve as resolve;
-ghost use Rattle.gl_verilog.specs.Tokens.{number_in, number_from};
+ghost use Rattle.gl_verilog.specs.Tokens.{number_in};
 ghost use Rattle.gl_verilog.specs.Tokens as tokens;
 ghost use Rattle.gl_verilog.specs.View.{declaration_of};
 ghost use Rattle.gl_verilog_resolver.specs.Fitting.{byte, long};
@@ -36,7 +36,8 @@ pub(crate) fn number_read(declarations: &[Declaration], name: &[u8]) -> Option<u
 
 // Whether a name is that of a memory.
 fn is_memory(declarations: &[Declaration], name: &[u8]) -> bool
-    ensures { result ≡ resolve.is_so resolve.is_memory (map declaration_of declarations.now) name.now }
+    ensures { result ≡ resolve.is_so resolve.is_memory
+        (map declaration_of declarations.now) name.now }
 {
     for declaration in declarations {
         if declaration.name.as_slice() == name {
@@ -61,7 +62,8 @@ pub(crate) fn clocked(declarations: &[Declaration], clock: &[u8]) -> Option<usiz
 fn with_digit(radix: u8, number: u128, b: u8) -> Option<u128>
     ensures radix { IfNone result (1 ≤ radix) }
     ensures small { IfSome result (λ n. n < 2 ^ 128) }
-    ensures value { MatchOption result (2 ^ 128 ≤ tokens.with_digit radix number b) (λ n. n ≡ tokens.with_digit radix number b) }
+    ensures value { MatchOption result (2 ^ 128 ≤ tokens.with_digit radix number b) (λ n. n
+        ≡ tokens.with_digit radix number b) }
 {
     if b == b'_' {
         return Some(number);

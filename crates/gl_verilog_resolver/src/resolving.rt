@@ -35,8 +35,10 @@ fn build(alloc: Global, written: &WrittenModule) -> Result<Built, Unresolved>
 /// The module that is meant. Where there is memory, a written module that means a valid one gives
 /// it.
 pub fn resolved(alloc: Global, written: &WrittenModule) -> Result<Module, Unresolved>
-    ensures found { IfOk result (λ m. resolve.resolve (module_of written.now) ≡ Some (meant.module_of m)) }
-    ensures unmeant { IfErr result (λ e. e ≡ Unmeant → (m : spec.Module) → resolve.resolve (module_of written.now) ≡ Some m → IsValid m → ⊥) }
+    ensures found { IfOk result (λ m. resolve.resolve (module_of written.now)
+        ≡ Some (meant.module_of m)) }
+    ensures unmeant { IfErr result (λ e. e ≡ Unmeant → (m : spec.Module)
+        → resolve.resolve (module_of written.now) ≡ Some m → IsValid m → ⊥) }
 {
     let built = build(alloc, written)?;
     let bytes = Vec::from_slice(alloc, written.name.bytes)?;

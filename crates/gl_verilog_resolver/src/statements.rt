@@ -18,7 +18,9 @@ use std::alloc::Global;
 
 // What takes a value, by its name.
 pub(crate) fn target_of(declarations: &[Declaration], name: Word) -> Result<usize, Unresolved>
-    ensures { MatchResult result (λ n. spec.number_of (map declaration_of declarations.now) (name_of name.entry) ≡ Some n) (λ _. spec.number_of (map declaration_of declarations.now) (name_of name.entry) ≡ None) }
+    ensures { MatchResult result (λ n. spec.number_of (map declaration_of declarations.now)
+        (name_of name.entry) ≡ Some n) (λ _. spec.number_of (map declaration_of declarations.now)
+        (name_of name.entry) ≡ None) }
 {
     match number_of(declarations, name.bytes) {
         Some(n) => Ok(n),
@@ -33,7 +35,9 @@ fn put(
     target: Word,
     value: &WrittenExpr,
 ) -> Result<Statement, Unresolved>
-    ensures { Gives meant.statement_of (resolve.both spec.Put (spec.number_of (map declaration_of declarations.now) (name_of target.entry)) (fitting.expr_meant (map declaration_of declarations.now) (expr_of value.now))) result }
+    ensures { Gives meant.statement_of (resolve.both spec.Put
+        (spec.number_of (map declaration_of declarations.now) (name_of target.entry))
+        (fitting.expr_meant (map declaration_of declarations.now) (expr_of value.now))) result }
 {
     let register = target_of(declarations, target)?;
     let value = expr_meant(alloc, declarations, value)?;
@@ -48,7 +52,10 @@ fn write(
     address: &WrittenExpr,
     value: &WrittenExpr,
 ) -> Result<Statement, Unresolved>
-    ensures { Gives meant.statement_of (resolve.three spec.Write (spec.number_of (map declaration_of declarations.now) (name_of target.entry)) (fitting.expr_meant (map declaration_of declarations.now) (expr_of address.now)) (fitting.expr_meant (map declaration_of declarations.now) (expr_of value.now))) result }
+    ensures { Gives meant.statement_of (resolve.three spec.Write
+        (spec.number_of (map declaration_of declarations.now) (name_of target.entry))
+        (fitting.expr_meant (map declaration_of declarations.now) (expr_of address.now))
+        (fitting.expr_meant (map declaration_of declarations.now) (expr_of value.now))) result }
 {
     let memory = target_of(declarations, target)?;
     let address = expr_meant(alloc, declarations, address)?;
@@ -62,7 +69,8 @@ fn write(
 
 // One of two statements.
 fn choice(alloc: Global, test: Expr, yes: Statement, no: Statement) -> Result<Statement, Unresolved>
-    ensures { Gives meant.statement_of (Some (spec.If (meant.expr_of test) (meant.statement_of yes) (meant.statement_of no))) result }
+    ensures { Gives meant.statement_of (Some (spec.If (meant.expr_of test) (meant.statement_of yes)
+        (meant.statement_of no))) result }
 {
     let yes = Box::new(alloc, yes)?;
     let no = Box::new(alloc, no)?;
@@ -76,7 +84,8 @@ pub(crate) fn statement_meant(
     declarations: &[Declaration],
     written: &WrittenStatement,
 ) -> Result<Statement, Unresolved>
-    ensures { Gives meant.statement_of (fitting.statement_meant (map declaration_of declarations.now) (statement_of written.now)) result }
+    ensures { Gives meant.statement_of (fitting.statement_meant
+        (map declaration_of declarations.now) (statement_of written.now)) result }
 {
     match written {
         WrittenStatement::Update { target, value } => put(alloc, declarations, *target, value),

@@ -1,6 +1,6 @@
 //! The bits of what is resolved.
 
-ghost use Rattle.std.specs.Prelude.{◌≡◌, ◌+◌, ◌-◌, ◌<◌, ◌^◌, map};
+ghost use Rattle.std.specs.Prelude.{◌≡◌, ◌+◌, ◌-◌, ◌<◌, map};
 ghost use Rattle.gl_verilog.specs.Widths as widths;
 ghost use Rattle.gl_verilog.specs.View.{declaration_of, op_of};
 ghost use Rattle.gl_verilog.specs.View as meant;
@@ -61,7 +61,8 @@ fn width_of_both(high: u8, low: u8) -> Option<u8>
 // The bits of an expression.
 #[tactic(auto, using(crate::proofs::Bytes::bytes))]
 pub(crate) fn width_of(declarations: &[Declaration], expr: &Expr) -> Option<u8>
-    ensures { result ≡ byte (widths.width_of (map declaration_of declarations.now) (meant.expr_of expr.now)) }
+    ensures { result ≡ byte (widths.width_of (map declaration_of declarations.now)
+        (meant.expr_of expr.now)) }
 {
     match expr {
         Expr::Net(n) => byte_of(u16::from(width_at(declarations, *n))),
@@ -84,7 +85,8 @@ pub(crate) fn width_of(declarations: &[Declaration], expr: &Expr) -> Option<u8>
 
 // The width that a prefix operator keeps.
 pub(crate) fn inverted_width(declarations: &[Declaration], op: PrefixOp, arg: &Expr) -> Option<u8>
-    ensures { result ≡ byte (prefix_width (map declaration_of declarations.now) (prefix_of op) (meant.expr_of arg.now)) }
+    ensures { result ≡ byte (prefix_width (map declaration_of declarations.now) (prefix_of op)
+        (meant.expr_of arg.now)) }
 {
     match op {
         PrefixOp::BitNot => width_of(declarations, arg),
@@ -94,7 +96,8 @@ pub(crate) fn inverted_width(declarations: &[Declaration], op: PrefixOp, arg: &E
 
 // The width that an operator keeps.
 pub(crate) fn operand_width(declarations: &[Declaration], op: InfixOp, left: &Expr) -> Option<u8>
-    ensures { result ≡ byte (width_meant (map declaration_of declarations.now) (infix_of op) (meant.expr_of left.now)) }
+    ensures { result ≡ byte (width_meant (map declaration_of declarations.now) (infix_of op)
+        (meant.expr_of left.now)) }
 {
     match op {
         InfixOp::LogicalAnd | InfixOp::LogicalOr => byte_of(1),

@@ -16,7 +16,7 @@ use Rattle.gl_net.specs.PortValues.{bits_of}
 use Rattle.gl_net.specs.WellFormed.{NodeFits, EndFits, end_at}
 use Rattle.gl_net.specs.Finished.{HasReset, has_reset_value, needs_reset}
 use Rattle.gl_verilog.specs.Module as verilog
-use Rattle.gl_verilog.specs.Module.{Module, Declaration, Kind, Expr, Statement, Assignment, number_of}
+use Rattle.gl_verilog.specs.Module.{Declaration, Expr}
 use Rattle.gl_verilog.specs.Run.{IsRegister}
 use Rattle.gl_verilog.specs.Widths.{IsNet, IsDriven, IsMemory, IsReadable, HasSize, width_at, width_after, width_of, KeepsWidths, KeepsWidth, KeepsWidthsIn}
 use Rattle.gl_verilog_writer.specs.Meaning.{kind_of}

@@ -16,7 +16,7 @@ use Rattle.gl_net.specs.PortValues.{bits_of}
 use Rattle.gl_net.specs.WellFormed.{NodeFits}
 use Rattle.gl_net.proofs.Growth.{shape_there}
 use Rattle.gl_verilog.specs.Module as verilog
-use Rattle.gl_verilog.specs.Module.{Declaration, Kind, number_of}
+use Rattle.gl_verilog.specs.Module.{Declaration}
 use Rattle.gl_verilog.specs.Widths.{IsNet, IsMemory, IsReadable, KeepsWidths, width_at}
 use Rattle.gl_verilog.specs.Resolve.{number_read}
 use Rattle.gl_verilog_writer.specs.Pieces.{net_name}

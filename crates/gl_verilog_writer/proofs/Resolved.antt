@@ -20,9 +20,9 @@ use Rattle.gl_net.specs.WellFormed.{NodeFits, EndFits, end_at}
 use Rattle.gl_net.specs.Finished.{has_reset_value, needs_reset}
 use Rattle.gl_verilog.specs.Tokens.{number_in}
 use Rattle.gl_verilog.specs.Written as written
-use Rattle.gl_verilog.specs.Written.{InfixOp, BitNot, WrittenExpr, WrittenStatement, WrittenItem, Wires, Registers, MemoryOf, Assign, Always, WrittenPort, WrittenModule}
+use Rattle.gl_verilog.specs.Written.{BitNot, WrittenExpr, WrittenStatement, WrittenItem, Wires, Assign, Always, WrittenModule}
 use Rattle.gl_verilog.specs.Module as verilog
-use Rattle.gl_verilog.specs.Module.{Module, Declaration, Expr, Statement, Assignment, number_of}
+use Rattle.gl_verilog.specs.Module.{Declaration, Expr, Statement, Assignment, number_of}
 use Rattle.gl_verilog.specs.Widths.{width_of}
 use Rattle.gl_verilog.specs.Resolve.{number_read, both, three, prefixed, infixed, decimal_number, resolve_expr, resolve_statement, declare, port_kind, declare_port, address_bits_to, address_bits_of, Resolved, clocked, resolve_items, module_from, resolve}
 use Rattle.gl_verilog_writer.specs.Meaning.{declaration_of, clock, kind_of}

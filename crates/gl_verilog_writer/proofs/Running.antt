@@ -14,12 +14,12 @@ use Rattle.gl_net.specs.declared.node.Port.{Port}
 use Rattle.gl_net.specs.declared.node.Direction.{Direction}
 use Rattle.gl_net.specs.declared.node.Direction.TheVariants.{In, Out}
 use Rattle.gl_net.specs.Net as circuit
-use Rattle.gl_net.specs.Net.{Net, Run, Shape, Value, Words, shape_of, Holds, Fits, IsPort, IsTrace, reset_name, stored_of, open_in, open_shape}
+use Rattle.gl_net.specs.Net.{Net, Run, Shape, Value, Words, shape_of, Holds, Fits, IsPort, reset_name, stored_of, open_in, open_shape}
 use Rattle.gl_net.specs.WellFormed.{EndFits}
 use Rattle.gl_net.specs.PortValues as circuit_ports
 use Rattle.gl_net.specs.PortValues.{port_values, leads_in, bits_of}
 use Rattle.gl_verilog.specs.Module as verilog
-use Rattle.gl_verilog.specs.Module.{Module, Declaration, Kind, Expr, Statement, Assignment, Nets, Memories, value_of, later_or, taken, assigned, written, assigned_by, written_by, number_of}
+use Rattle.gl_verilog.specs.Module.{Declaration, Expr, Statement, Assignment, Nets, Memories, value_of, later_or, taken, assigned, written, assigned_by, written_by, number_of}
 use Rattle.gl_verilog.specs.Run.{IsRegister, IsSettled, IsRun, port_of, is_input, is_input_at, input_values}
 use Rattle.gl_verilog_writer.specs.Meaning.{declaration_of, clock, kind_of, IsRunOf}
 use Rattle.gl_verilog_writer.specs.Design.{with_option, numbered}

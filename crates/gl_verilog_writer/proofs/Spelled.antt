@@ -18,7 +18,7 @@ use Rattle.gl_net.specs.WellFormed.{NodeFits, EndFits, end_at}
 use Rattle.gl_net.specs.Finished.{IsName}
 use Rattle.gl_verilog.specs.Tokens.{tokens_of}
 use Rattle.gl_verilog.specs.Written as written
-use Rattle.gl_verilog.specs.Written.{InfixOp, WrittenExpr, Infix, WrittenStatement, Update, UpdateWord, WrittenItem, Assign, Always, WrittenPort, WrittenModule, IsExpr, IsStatement, IsItem, IsWritten, spell}
+use Rattle.gl_verilog.specs.Written.{WrittenExpr, Infix, WrittenStatement, Update, WrittenItem, Assign, Always, WrittenModule, IsExpr, IsStatement, IsItem, IsWritten, spell}
 use Rattle.gl_verilog.specs.Limits.{IsShort, depth_of, depth_in, ifs_in, AreShort, KeepsLimits, IsWithinLimits}
 use Rattle.gl_verilog_writer.specs.Pieces.{net_name}
 use Rattle.gl_verilog_writer.specs.Printed.{text_of}

@@ -1,6 +1,6 @@
 //! Small pieces of a module's text.
 
-ghost use Rattle.std.specs.Prelude.{◌≡◌, ◌++◌, OnOk, codes, decimal};
+ghost use Rattle.std.specs.Prelude.{◌≡◌, ◌++◌, OnOk, decimal};
 ghost use Rattle.gl_verilog_writer.specs.Pieces.{family_text, net_name};
 ghost use Rattle.gl_verilog_writer.specs.Printed.{range_text, expr_text};
 ghost use Rattle.gl_verilog_writer.specs.Design.{vector, literal};

@@ -1,11 +1,10 @@
 //! The text of a whole netlist.
 
-ghost use Rattle.std.specs.Prelude.{◌≡◌, ◌++◌, ◌<◌, ◌≤◌, ◌^◌, OnOk, OnErr, IfOk, codes, length};
+ghost use Rattle.std.specs.Prelude.{◌≡◌, ◌++◌, ◌<◌, ◌≤◌, ◌^◌, OnOk, OnErr, IfOk, length};
 ghost use Rattle.gl_net.specs.Finished.{IsNetlist};
 ghost use Rattle.gl_net.specs.Net.{shape_in};
 ghost use Rattle.gl_net.specs.PortValues.{bits_of};
 ghost use Rattle.gl_verilog_writer.specs.Meaning.{IsTextOf};
-ghost use Rattle.gl_verilog_writer.specs.Pieces.{family_text};
 ghost use Rattle.gl_verilog_writer.specs.Printed.{range_text, direction_text, port_text};
 ghost use Rattle.gl_verilog_writer.specs.Texts.{next_port_text, next_ports_text, PutsHead, declarations_text, sets_text, shown_text, shows_text, blocks_text, parts_text, body_text};
 ghost use Rattle.gl_verilog_writer.specs.Size.{most_bytes};

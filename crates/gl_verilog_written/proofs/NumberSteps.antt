@@ -1,8 +1,8 @@
 -- A number that only grows, digit by digit.
-use Rattle.std.proofs.Common.{◌≡◌, ℕ, suc, ◌+◌, ◌-◌, ◌*◌, ◌<◌, ◌≤◌, Bool, true, false, cond, List, [], ◌∷◌, ◌++◌, length, take, drop, get_or, refl, sym, ap, ◌∙◌, append_assoc, arith, length-drop, add-one, drop-cons}
+use Rattle.std.proofs.Common.{◌≡◌, ℕ, suc, ◌+◌, ◌-◌, ◌*◌, ◌<◌, ◌≤◌, Bool, true, false, cond, List, [], ◌∷◌, length, drop, get_or, sym, ap, ◌∙◌, arith, add-one, drop-cons}
 use Rattle.std.specs.Prelude.{nat_eq}
-use Rattle.std.proofs.lemmas.List.{take_more, get_or-drop, map-append, append-nil, drop_all}
-use Rattle.gl_verilog.specs.Tokens.{Token, Mode, Between, Move, to, after, move, scan, last_of, tokens_of, digit_of, with_digit, number_from}
+use Rattle.std.proofs.lemmas.List.{drop_all}
+use Rattle.gl_verilog.specs.Tokens.{digit_of, with_digit, number_from}
 
 grows : (b : Bool) (n d : ℕ) → n ≤ cond b n (n * 10 + d)
 grows true n d = omega arith

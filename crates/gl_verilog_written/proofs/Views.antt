@@ -3,7 +3,6 @@ use Rattle.std.proofs.Common.{◌≡◌, ℕ, List, ◌∷◌, Option, Vec, Glob
 use Rattle.std.specs.Prelude.{map}
 use mathlib.Core.Former.{Count}
 use Rattle.gl_verilog.specs.Written as written
-use Rattle.gl_verilog.specs.Machine as machine
 use Rattle.gl_verilog_written.specs.declared.token.Word.{Word}
 use Rattle.gl_verilog_written.specs.declared.written.PrefixOp.{PrefixOp}
 use Rattle.gl_verilog_written.specs.declared.written.InfixOp.{InfixOp}
@@ -118,12 +117,12 @@ abbrev statement_row : WrittenStatement → (n : Count) × Row_of-WrittenStateme
 statement_row (Block' shape row) = (_, row)
 statement_row _ = (_, end_of-WrittenStatement)
 
-pub block_is : (statements : Vec WrittenStatement Global) → statement_of (Block statements) ≡ written.Block (machine.listed (map statement_of statements.items))
+pub block_is : (statements : Vec WrittenStatement Global) → statement_of (Block statements) ≡ written.Block (written.listed (map statement_of statements.items))
 unfolding statement_of
 block_is statements =
     let row = statement_row (Block statements) in
-    ap (λ (x : List written.WrittenStatement). written.Block (machine.listed x)) (statements-are row.0 row.1)
-    ∙ ap (λ (x : List WrittenStatement). written.Block (machine.listed (map statement_of x))) (items_hidden-the_row-WrittenStatement-0 statements)
+    ap (λ (x : List written.WrittenStatement). written.Block (written.listed x)) (statements-are row.0 row.1)
+    ∙ ap (λ (x : List WrittenStatement). written.Block (written.listed (map statement_of x))) (items_hidden-the_row-WrittenStatement-0 statements)
 
 pub ruleset items = (item-Wires, item-Registers, item-MemoryOf, item-Assign, item-Always, port-is)
 

@@ -1,8 +1,7 @@
 -- What the values stand for: tokens and written modules.
-use Rattle.std.specs.Prelude.{◌≡◌, ℕ, ◌≤◌, Bool, List, [], ◌∷◌, map, reverse, Option, Some, None, option_map, Result, Ok, IfOk, MatchBool, MatchResult, ◌+◌}
+use Rattle.std.specs.Prelude.{ℕ, List, [], ◌∷◌, map, Option, option_map}
 use Rattle.gl_verilog.specs.Tokens as tokens
 use Rattle.gl_verilog.specs.Written as written
-use Rattle.gl_verilog.specs.Machine as machine
 use Rattle.gl_verilog_written.specs.declared.token.Word.{Word}
 use Rattle.gl_verilog_written.specs.declared.token.Keyword.{Keyword}
 use Rattle.gl_verilog_written.specs.declared.token.Keyword.TheVariants as keyword_is
@@ -133,7 +132,7 @@ unfoldable mutual
   statement_of (UpdateWord target address value) = written.UpdateWord target.bytes.now (expr_of address) (expr_of value)
   statement_of (IfThen' at test p yes') = written.IfThen (expr_of test) (statement_of yes')
   statement_of (IfElse' at test p yes' q no') = written.IfElse (expr_of test) (statement_of yes') (statement_of no')
-  statement_of (Block' shape row) = written.Block (machine.listed (statements_of row))
+  statement_of (Block' shape row) = written.Block (written.listed (statements_of row))
 
   pub statements_of : {m : _} → Row_of-WrittenStatement m → List written.WrittenStatement
   statements_of end_of-WrittenStatement = []

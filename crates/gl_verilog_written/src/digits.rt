@@ -18,7 +18,8 @@ pub fn digit_of(b: u8) -> u8
 
 // A number with a digit more, where it is below 2^32.
 fn with_digit(number: u32, b: u8) -> Option<u32>
-    ensures { MatchOption result (2 ^ 32 ≤ tokens.with_digit 10 number b) (λ n. n ≡ tokens.with_digit 10 number b) }
+    ensures { MatchOption result (2 ^ 32 ≤ tokens.with_digit 10 number b) (λ n. n
+        ≡ tokens.with_digit 10 number b) }
 {
     if b == b'_' {
         return Some(number);
@@ -34,7 +35,8 @@ fn with_digit(number: u32, b: u8) -> Option<u32>
 /// The decimal number of these digits, where it is below 2^32.
 #[tactic(auto, using(crate::proofs::NumberSteps::numbers))]
 pub fn small_number(digits: &[u8]) -> Option<u32>
-    ensures { MatchOption result (2 ^ 32 ≤ tokens.number_in 10 digits.now) (λ n. n ≡ tokens.number_in 10 digits.now) }
+    ensures { MatchOption result (2 ^ 32 ≤ tokens.number_in 10 digits.now) (λ n. n
+        ≡ tokens.number_in 10 digits.now) }
 {
     let mut number = 0u32;
     for b in digits {

@@ -1,7 +1,7 @@
 use Rattle.std.proofs.Common.{◌≡◌, ◌≤◌, [], drop, map}
+use Rattle.gl_verilog.specs.Written.{listed}
 use Rattle.gl_verilog.specs.View as meant
 use Rattle.gl_verilog.specs.View.{declaration_of}
-use Rattle.gl_verilog.specs.Machine.{listed}
 use Rattle.gl_verilog_written.specs.View.{statement_of}
 use Rattle.gl_verilog_resolver.specs.Fitting.{passed, statement_next}
 use Rattle.gl_verilog_resolver.proofs.Braces.{parts_of}

@@ -1,0 +1,50 @@
+-- What the lexer's values stand for: where it stands in a text, and what was read.
+use Rattle.std.specs.Prelude.{◌≡◌, ℕ, ◌-◌, ◌≤◌, List, [], ◌∷◌, take, drop}
+use Rattle.gl_verilog.specs.Tokens as tokens
+use Rattle.gl_verilog_tokens.specs.declared.lexing.Standing.{Standing}
+use Rattle.gl_verilog_tokens.specs.declared.lexing.Standing.TheVariants as standing_is
+use Rattle.gl_verilog_tokens.specs.declared.classes.Class.{Class}
+use Rattle.gl_verilog_tokens.specs.declared.classes.Class.TheVariants as class_name
+use Rattle.gl_verilog_tokens.specs.declared.classes.Follow.{Follow}
+use Rattle.gl_verilog_tokens.specs.declared.classes.Follow.TheVariants as follow_name
+use Rattle.gl_verilog_written.specs.View.{token_of}
+
+abbrev pub class_is : Class → tokens.Class
+class_is class_name.Letter = tokens.Letter
+class_is class_name.Digit = tokens.Digit
+class_is class_name.Quote = tokens.Quote
+class_is class_name.Blank = tokens.Blank
+class_is class_name.LineEnd = tokens.LineEnd
+class_is class_name.Opens = tokens.Opens
+class_is class_name.Alone = tokens.Alone
+
+abbrev pub follow_is : Follow → tokens.Follow
+follow_is (follow_name.Pair token) = tokens.IsPair (token_of token)
+follow_is follow_name.Line = tokens.IsLine
+follow_is follow_name.Block = tokens.IsBlock
+follow_is follow_name.New = tokens.IsNew
+
+-- the bytes from a place up to another
+abbrev pub piece : List ℕ → ℕ → ℕ → List ℕ
+piece text from at = take (at - from) (drop from text)
+
+-- the mode of the lexer that has read so many bytes
+abbrev pub mode_of : List ℕ → ℕ → Standing → tokens.Mode
+mode_of text at standing_is.Between = tokens.Between
+mode_of text at (standing_is.InWord from) = tokens.InWord (piece text from at)
+mode_of text at (standing_is.InNumber from) = tokens.InNumber (piece text from at)
+mode_of text at (standing_is.AtQuote size) = tokens.AtQuote size.bytes.now
+mode_of text at (standing_is.AtBase size base radix from) = tokens.AtBase size.bytes.now base radix
+mode_of text at (standing_is.InDigits size radix from) = tokens.InDigits size.bytes.now radix (piece text from at)
+mode_of text at (standing_is.Half b) = tokens.Half b
+mode_of text at standing_is.InLine = tokens.InLine
+mode_of text at (standing_is.InBlock from) = tokens.InBlock
+mode_of text at (standing_is.AtStar from) = tokens.AtStar
+
+-- what is open begins in what was read
+abbrev pub IsInside : List ℕ → ℕ → Standing → Type 0
+IsInside text at (standing_is.InWord from) = from ≤ at
+IsInside text at (standing_is.InNumber from) = from ≤ at
+IsInside text at (standing_is.AtBase size base radix from) = (from ≤ at) × (piece text from at ≡ base ∷ [])
+IsInside text at (standing_is.InDigits size radix from) = from ≤ at
+IsInside text at s = Unit {0}

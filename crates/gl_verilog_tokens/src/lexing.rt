@@ -1,0 +1,358 @@
+//! Bytes to tokens.
+
+ghost use Rattle.std.specs.Prelude.{◌≡◌, ◌≤◌, ◌<◌, ◌+◌, ◌++◌, ◌∷◌, [], length, slice_index, IfOk, OnOk};
+ghost use Rattle.gl_verilog.specs.Tokens as tokens;
+ghost use Rattle.gl_verilog_written.specs.View.{tokens_in, name_of};
+ghost use Rattle.gl_verilog_tokens.specs.Lexed.{piece, mode_of, IsInside};
+
+use crate::classes::{
+    Class, Follow, class_of, follow_of, goes_on, is_digit_of, radix_of, sign_token,
+};
+use crate::pieces::{number_token, put, put_quoted, sized_token, word_at, word_token};
+use gl_verilog_written::{Lexeme, Token, Word};
+use std::alloc::{AllocError, Global};
+
+/// Where the reader stands. A place in it is that of a token's first byte.
+#[derive(Clone, Copy, Debug)]
+pub enum Standing<'a> {
+    /// Between tokens.
+    Between,
+    /// In a name or a reserved word.
+    InWord(usize),
+    /// In a number.
+    InNumber(usize),
+    /// Behind a number's quote.
+    AtQuote(Word<'a>),
+    /// Behind a number's quote and a base letter, which stands at `from`.
+    AtBase {
+        size: Word<'a>,
+        base: u8,
+        radix: u8,
+        from: usize,
+    },
+    /// In the digits of a literal, which begin at `from`.
+    InDigits {
+        size: Word<'a>,
+        radix: u8,
+        from: usize,
+    },
+    /// Behind a byte that may begin a sign of two bytes, or a comment.
+    Half(u8),
+    /// In a comment of one line.
+    InLine,
+    /// In a comment that ends with `*/`.
+    InBlock(usize),
+    /// In such a comment, behind a star.
+    AtStar(usize),
+}
+
+// A byte between tokens.
+#[tactic(auto, using(crate::proofs::LexSteps::steps))]
+fn begin<'a>(
+    text: &'a [u8],
+    at: usize,
+    b: u8,
+    out: &mut Vec<Lexeme<'a>>,
+) -> Result<Standing<'a>, AllocError>
+    requires here { at < length text.now }
+    requires byte { b ≡ slice_index text.now at }
+    ensures inside { IfOk result (λ s. IsInside text.now (at + 1) s) }
+    ensures mode { IfOk result (λ s. mode_of text.now (at + 1) s ≡ (tokens.fresh b).mode) }
+    ensures tokens { OnOk result (tokens_in out.new.items ≡ tokens_in out.old.items
+        ++ (tokens.fresh b).tokens) }
+{
+    match class_of(b) {
+        Class::Letter => Ok(Standing::InWord(at)),
+        Class::Digit => Ok(Standing::InNumber(at)),
+        Class::Blank | Class::LineEnd => Ok(Standing::Between),
+        Class::Opens => Ok(Standing::Half(b)),
+        Class::Quote => {
+            put(out, Token::Never, at)?;
+            Ok(Standing::Between)
+        }
+        Class::Alone => {
+            put(out, sign_token(b), at)?;
+            Ok(Standing::Between)
+        }
+    }
+}
+
+// A byte behind a word's.
+#[tactic(auto, using(crate::proofs::LexSteps::steps))]
+fn in_word<'a>(
+    text: &'a [u8],
+    from: usize,
+    at: usize,
+    b: u8,
+    out: &mut Vec<Lexeme<'a>>,
+) -> Result<Standing<'a>, AllocError>
+    requires order { from ≤ at }
+    requires here { at < length text.now }
+    requires byte { b ≡ slice_index text.now at }
+    ensures inside { IfOk result (λ s. IsInside text.now (at + 1) s) }
+    ensures mode { IfOk result (λ s. mode_of text.now (at + 1) s
+        ≡ (tokens.in_word (tokens.class_of b) (piece text.now from at) b).mode) }
+    ensures tokens { OnOk result (tokens_in out.new.items ≡ tokens_in out.old.items
+        ++ (tokens.in_word (tokens.class_of b) (piece text.now from at) b).tokens) }
+{
+    match class_of(b) {
+        Class::Letter | Class::Digit => Ok(Standing::InWord(from)),
+        _ => {
+            put(out, word_token(word_at(text, from, at)), from)?;
+            begin(text, at, b, out)
+        }
+    }
+}
+
+// A byte behind a number's.
+#[tactic(auto, using(crate::proofs::LexSteps::steps))]
+fn in_number<'a>(
+    text: &'a [u8],
+    from: usize,
+    at: usize,
+    b: u8,
+    out: &mut Vec<Lexeme<'a>>,
+) -> Result<Standing<'a>, AllocError>
+    requires order { from ≤ at }
+    requires here { at < length text.now }
+    requires byte { b ≡ slice_index text.now at }
+    ensures inside { IfOk result (λ s. IsInside text.now (at + 1) s) }
+    ensures mode { IfOk result (λ s. mode_of text.now (at + 1) s
+        ≡ (tokens.in_number (tokens.class_of b) (piece text.now from at) b).mode) }
+    ensures tokens { OnOk result (tokens_in out.new.items ≡ tokens_in out.old.items
+        ++ (tokens.in_number (tokens.class_of b) (piece text.now from at) b).tokens) }
+{
+    match class_of(b) {
+        Class::Digit => Ok(Standing::InNumber(from)),
+        Class::Quote => Ok(Standing::AtQuote(word_at(text, from, at))),
+        _ => {
+            put(out, number_token(word_at(text, from, at)), from)?;
+            begin(text, at, b, out)
+        }
+    }
+}
+
+// A byte behind a number's quote.
+#[tactic(auto, using(crate::proofs::LexSteps::steps))]
+fn at_quote<'a>(
+    text: &'a [u8],
+    size: Word<'a>,
+    at: usize,
+    b: u8,
+    out: &mut Vec<Lexeme<'a>>,
+) -> Result<Standing<'a>, AllocError>
+    requires here { at < length text.now }
+    requires byte { b ≡ slice_index text.now at }
+    ensures inside { IfOk result (λ s. IsInside text.now (at + 1) s) }
+    ensures mode { IfOk result (λ s. mode_of text.now (at + 1) s
+        ≡ (tokens.at_quote (tokens.radix_of b) (name_of size.entry) b).mode) }
+    ensures tokens { OnOk result (tokens_in out.new.items ≡ tokens_in out.old.items
+        ++ (tokens.at_quote (tokens.radix_of b) (name_of size.entry) b).tokens) }
+{
+    match radix_of(b) {
+        Some(radix) => Ok(Standing::AtBase {
+            size,
+            base: b,
+            radix,
+            from: at,
+        }),
+        None => {
+            put_quoted(size, out)?;
+            begin(text, at, b, out)
+        }
+    }
+}
+
+// A byte behind a base letter, which stands at `from`.
+#[tactic(auto, using(crate::proofs::LexSteps::steps))]
+fn at_base<'a>(
+    text: &'a [u8],
+    size: Word<'a>,
+    base: u8,
+    radix: u8,
+    from: usize,
+    at: usize,
+    b: u8,
+    out: &mut Vec<Lexeme<'a>>,
+) -> Result<Standing<'a>, AllocError>
+    requires order { from ≤ at }
+    requires letter { piece text.now from at ≡ base ∷ [] }
+    requires here { at < length text.now }
+    requires byte { b ≡ slice_index text.now at }
+    ensures inside { IfOk result (λ s. IsInside text.now (at + 1) s) }
+    ensures mode { IfOk result (λ s. mode_of text.now (at + 1) s
+        ≡ (tokens.at_base (tokens.is_digit_of radix b) (name_of size.entry) base radix b).mode) }
+    ensures tokens { OnOk result (tokens_in out.new.items ≡ tokens_in out.old.items
+        ++ (tokens.at_base (tokens.is_digit_of radix b) (name_of size.entry) base radix b).tokens) }
+{
+    if is_digit_of(radix, b) {
+        return Ok(Standing::InDigits {
+            size,
+            radix,
+            from: at,
+        });
+    }
+    put_quoted(size, out)?;
+    in_word(text, from, at, b, out)
+}
+
+// A byte behind a literal's digits.
+#[tactic(auto, using(crate::proofs::LexSteps::steps))]
+fn in_digits<'a>(
+    text: &'a [u8],
+    size: Word<'a>,
+    radix: u8,
+    from: usize,
+    at: usize,
+    b: u8,
+    out: &mut Vec<Lexeme<'a>>,
+) -> Result<Standing<'a>, AllocError>
+    requires order { from ≤ at }
+    requires here { at < length text.now }
+    requires byte { b ≡ slice_index text.now at }
+    ensures inside { IfOk result (λ s. IsInside text.now (at + 1) s) }
+    ensures mode { IfOk result (λ s. mode_of text.now (at + 1) s
+        ≡ (tokens.in_digits (tokens.goes_on radix b) (name_of size.entry) radix
+        (piece text.now from at) b).mode) }
+    ensures tokens { OnOk result (tokens_in out.new.items ≡ tokens_in out.old.items
+        ++ (tokens.in_digits (tokens.goes_on radix b) (name_of size.entry) radix
+        (piece text.now from at) b).tokens) }
+{
+    if goes_on(radix, b) {
+        return Ok(Standing::InDigits { size, radix, from });
+    }
+    put(
+        out,
+        sized_token(size, radix, word_at(text, from, at)),
+        size.at,
+    )?;
+    begin(text, at, b, out)
+}
+
+// A byte behind one that may begin a sign of two bytes, or a comment.
+#[tactic(auto, using(crate::proofs::LexSteps::steps))]
+fn after_half<'a>(
+    text: &'a [u8],
+    first: u8,
+    at: usize,
+    b: u8,
+    out: &mut Vec<Lexeme<'a>>,
+) -> Result<Standing<'a>, AllocError>
+    requires here { at < length text.now }
+    requires byte { b ≡ slice_index text.now at }
+    ensures inside { IfOk result (λ s. IsInside text.now (at + 1) s) }
+    ensures mode { IfOk result (λ s. mode_of text.now (at + 1) s
+        ≡ (tokens.after_half (tokens.follow_of first b) first b).mode) }
+    ensures tokens { OnOk result (tokens_in out.new.items ≡ tokens_in out.old.items
+        ++ (tokens.after_half (tokens.follow_of first b) first b).tokens) }
+{
+    let from = at.saturating_sub(1);
+    match follow_of(first, b) {
+        Follow::Pair(token) => {
+            put(out, token, from)?;
+            Ok(Standing::Between)
+        }
+        Follow::Line => Ok(Standing::InLine),
+        Follow::Block => Ok(Standing::InBlock(from)),
+        Follow::New => {
+            put(out, sign_token(first), from)?;
+            begin(text, at, b, out)
+        }
+    }
+}
+
+// One byte.
+#[tactic(auto, using(crate::proofs::LexSteps::steps))]
+fn advance<'a>(
+    text: &'a [u8],
+    standing: Standing<'a>,
+    at: usize,
+    b: u8,
+    out: &mut Vec<Lexeme<'a>>,
+) -> Result<Standing<'a>, AllocError>
+    requires here { at < length text.now }
+    requires byte { b ≡ slice_index text.now at }
+    requires inside { IsInside text.now at standing }
+    ensures inside { IfOk result (λ s. IsInside text.now (at + 1) s) }
+    ensures mode { IfOk result (λ s. mode_of text.now (at + 1) s
+        ≡ (tokens.move (mode_of text.now at standing.entry) b).mode) }
+    ensures tokens { OnOk result (tokens_in out.new.items ≡ tokens_in out.old.items
+        ++ (tokens.move (mode_of text.now at standing.entry) b).tokens) }
+{
+    match standing {
+        Standing::Between => begin(text, at, b, out),
+        Standing::InWord(from) => in_word(text, from, at, b, out),
+        Standing::InNumber(from) => in_number(text, from, at, b, out),
+        Standing::AtQuote(size) => at_quote(text, size, at, b, out),
+        Standing::AtBase {
+            size,
+            base,
+            radix,
+            from,
+        } => at_base(text, size, base, radix, from, at, b, out),
+        Standing::InDigits { size, radix, from } => in_digits(text, size, radix, from, at, b, out),
+        Standing::Half(first) => after_half(text, first, at, b, out),
+        Standing::InLine => Ok(if b == b'\n' {
+            Standing::Between
+        } else {
+            Standing::InLine
+        }),
+        Standing::InBlock(from) => Ok(if b == b'*' {
+            Standing::AtStar(from)
+        } else {
+            Standing::InBlock(from)
+        }),
+        Standing::AtStar(from) => Ok(match b {
+            b'/' => Standing::Between,
+            b'*' => Standing::AtStar(from),
+            _ => Standing::InBlock(from),
+        }),
+    }
+}
+
+// The end of the text ends its last token.
+#[tactic(auto, using(crate::proofs::LexSteps::steps))]
+fn end<'a>(
+    text: &'a [u8],
+    standing: Standing<'a>,
+    out: &mut Vec<Lexeme<'a>>,
+) -> Result<(), AllocError>
+    requires inside { IsInside text.now (length text.now) standing }
+    ensures { OnOk result (tokens_in out.new.items ≡ tokens_in out.old.items
+        ++ tokens.last_of (mode_of text.now (length text.now) standing.entry)) }
+{
+    let at = text.len();
+    match standing {
+        Standing::Between | Standing::InLine => Ok(()),
+        Standing::InWord(from) => put(out, word_token(word_at(text, from, at)), from),
+        Standing::InNumber(from) => put(out, number_token(word_at(text, from, at)), from),
+        Standing::AtQuote(size) => put_quoted(size, out),
+        Standing::AtBase { size, from, .. } => {
+            put_quoted(size, out)?;
+            put(out, word_token(word_at(text, from, at)), from)
+        }
+        Standing::InDigits { size, radix, from } => {
+            put(
+                out,
+                sized_token(size, radix, word_at(text, from, at)),
+                size.at,
+            )
+        }
+        Standing::Half(first) => put(out, sign_token(first), at.saturating_sub(1)),
+        Standing::InBlock(from) | Standing::AtStar(from) => put(out, Token::Never, from),
+    }
+}
+
+/// The tokens of a text.
+#[tactic(auto, using(crate::proofs::LexSteps::passes))]
+pub fn lexemes<'a>(alloc: Global, text: &'a [u8]) -> Result<Vec<Lexeme<'a>>, AllocError>
+    ensures { IfOk result (λ v. tokens_in v.items ≡ tokens.tokens_of text.now) }
+{
+    let mut out = Vec::new(alloc);
+    let mut standing = Standing::Between;
+    for (at, b) in text.iter().enumerate() {
+        standing = advance(text, standing, at, *b, &mut out)?;
+    }
+    end(text, standing, &mut out)?;
+    Ok(out)
+}
