@@ -7,6 +7,8 @@ use Rattle.gl_bits.specs.Lists.{groups, keys_of, rows_with, slice_at, slices}
 use Rattle.gl_bits.specs.Tables.{keyed_groups}
 use Rattle.gl_bits.specs.Results.{Row}
 use Rattle.gl_bits.specs.declared.lists.Group.{Group}
+use Rattle.std.proofs.lemmas.List.{take-append-drop}
+use Rattle.gl_bits.proofs.AllLists.{all_back, all_front}
 use Rattle.gl_bits.proofs.Bools.{by_cases}
 use Rattle.gl_schema.specs.declared.schema.Column.{Column}
 use Rattle.gl_schema.specs.declared.schema.Schema.{Schema}
@@ -60,22 +62,17 @@ all_filter : {A : Type 0} (P : A → Type 0) (p : A → Bool) (xs : List A) → 
 all_filter P p [] h = tt
 all_filter P p (x ∷ xs) h = by_cases (p x) (λ e. rw e (h.0, all_filter P p xs h.1)) (λ e. rw e (all_filter P p xs h.1))
 
-all_take : {A : Type 0} (P : A → Type 0) (n : ℕ) (xs : List A) → AllByRecursion P xs → AllByRecursion P (take n xs)
-all_take P zero xs h = tt
-all_take P (suc n) [] h = tt
-all_take P (suc n) (x ∷ xs) h = (h.0, all_take P n xs h.1)
-
-all_drop : {A : Type 0} (P : A → Type 0) (n : ℕ) (xs : List A) → AllByRecursion P xs → AllByRecursion P (drop n xs)
-all_drop P zero xs h = h
-all_drop P (suc n) [] h = tt
-all_drop P (suc n) (x ∷ xs) h = all_drop P n xs h.1
+all_slice : {A : Type 0} (P : A → Type 0) (n m : ℕ) (xs : List A) → AllByRecursion P xs → AllByRecursion P (take n (drop m xs))
+all_slice P n m xs h =
+    let rest = all_back P (take m xs) (drop m xs) (rw (take-append-drop m xs) h) in
+    all_front P (take n (drop m xs)) (drop n (drop m xs)) (rw (take-append-drop n (drop m xs)) rest)
 
 all_slices_at : (P : Row → Type 0) (size advance : ℕ) (rows : List Row) (places : List ℕ) → AllByRecursion P rows
     → AllByRecursion (AllByRecursion P) (filter_map (slice_at size advance rows) places)
 all_slices_at P size advance rows [] h = tt
 all_slices_at P size advance rows (j ∷ places) h =
     by_cases (nat_lt (j * advance) (length rows))
-    (λ e. rw e (all_take P size (drop (j * advance) rows) (all_drop P (j * advance) rows h), all_slices_at P size advance rows places h))
+    (λ e. rw e (all_slice P size (j * advance) rows h, all_slices_at P size advance rows places h))
     (λ e. rw e (all_slices_at P size advance rows places h))
 
 pub all_slices : (P : Row → Type 0) (size advance : ℕ) (rows : List Row) → AllByRecursion P rows → AllByRecursion (AllByRecursion P) (slices size advance rows)

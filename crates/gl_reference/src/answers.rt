@@ -13,7 +13,7 @@ use crate::aggregates::total_row;
 use crate::columns::{Source, columns_of, source_named};
 use crate::rows::{Fault, beside, copy_of_table, joined, picked_rows};
 use gl_bits::lists::slices_of;
-use gl_bits::{Listed, Memory, Table};
+use gl_bits::{Listed, Table};
 use gl_query::{AggItem, Expr, Name, Pick, Query};
 use std::alloc::Global;
 
