@@ -17,3 +17,11 @@ pub mod SpacerTimeLemmas
 pub mod SpacerServeLemmas
 pub mod FlagLemmas
 pub mod JoinerLemmas
+pub mod QueueMapLemmas
+pub mod SpacerLinesLemmas
+pub mod PacingLemmas
+pub mod SpacerNet
+pub mod BesideLemmas
+pub mod BesideNet
+pub mod JoinLinesLemmas
+pub mod JoinerNet

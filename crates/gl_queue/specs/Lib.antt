@@ -11,3 +11,7 @@ pub mod Unions
 pub mod Spacing
 pub mod SpacerPhases
 pub mod Joining
+pub mod SpacerLines
+pub mod Spacers
+pub mod JoinLines
+pub mod Joiners
