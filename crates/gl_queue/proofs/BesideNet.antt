@@ -1,13 +1,13 @@
 -- The columns of two wires under the lines of the left one carry rows side by side.
-use Rattle.std.proofs.Common.{◌≡◌, ℕ, ◌+◌, List, ◌++◌, Some, None, Bool, true, false, refl, sym, ap, ◌∙◌, subst, arith}
+use Rattle.std.proofs.Common.{◌≡◌, ℕ, ◌+◌, ◌++◌, Some, None, Bool, true, false, refl, sym, ap, ◌∙◌, arith}
 use Rattle.std.specs.Prelude.{if◌then◌else◌, is_some}
 use Rattle.gl_bits.proofs.Options.{some_same}
 use Rattle.gl_bits.specs.Results.{Row}
 use Rattle.gl_net.specs.Net.{Run}
 use Rattle.gl_wire.specs.declared.wire.Wire.{Wire}
 use Rattle.gl_wire.specs.Pace.{Follows}
-use Rattle.gl_wire.specs.Wire.{IsWire, carried, line_at, row_at, tuple_at, wire_of}
-use Rattle.gl_wire.proofs.ColumnLemmas.{AreBuses-append, row_at-append, widths-append, wire_kept}
+use Rattle.gl_wire.specs.Wire.{carried, line_at, row_at, tuple_at, wire_of}
+use Rattle.gl_wire.proofs.ColumnLemmas.{row_at-append}
 use Rattle.gl_wire.proofs.StageLemmas.{tuple_by}
 use Rattle.gl_queue.specs.Joining.{IsBeside}
 

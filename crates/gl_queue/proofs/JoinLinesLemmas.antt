@@ -1,6 +1,6 @@
 -- Registers that keep rows, and what a joiner's lines make.
-use Rattle.std.proofs.Common.{◌≡◌, ℕ, zero, suc, ◌+◌, ◌*◌, ◌<◌, List, [], ◌∷◌, ◌++◌, length, Some, None, Bool, true, false, refl, sym, ap, ◌∙◌, arith, length-append}
-use Rattle.std.specs.Prelude.{not, ◌&&◌, ◌||◌, if◌then◌else◌, nat_eq}
+use Rattle.std.proofs.Common.{◌≡◌, ℕ, zero, suc, ◌+◌, List, [], ◌∷◌, ◌++◌, length, Some, None, Bool, true, false, refl, sym, ap, ◌∙◌, arith, length-append}
+use Rattle.std.specs.Prelude.{not, ◌&&◌, ◌||◌, if◌then◌else◌}
 use Rattle.std.specs.List.{sum}
 use Rattle.std.proofs.lemmas.List.Sums.{sum_by-append}
 use Rattle.gl_bits.proofs.Options.{some_same}
@@ -8,12 +8,12 @@ use Rattle.gl_bits.specs.Results.{Row}
 use Rattle.gl_bits.specs.Words.{choose_of}
 use Rattle.gl_net.specs.declared.node.Bus.{Bus}
 use Rattle.gl_net.specs.declared.node.Bit.{Bit}
-use Rattle.gl_net.specs.Net.{Net, Run, IsRun}
+use Rattle.gl_net.specs.Net.{Net, Run}
 use Rattle.gl_net.proofs.Determined.{keeps_then}
 use Rattle.gl_net.proofs.Growth.{same_keeps}
 use Rattle.gl_wire.specs.declared.wire.Wire.{Wire}
 use Rattle.gl_wire.specs.Shapes.{IsDelayed}
-use Rattle.gl_wire.specs.Wire.{Carried, carried, line_at, row_at, tuple_at, widths, wire_of}
+use Rattle.gl_wire.specs.Wire.{carried, line_at, row_at, tuple_at, widths, wire_of}
 use Rattle.gl_wire.proofs.ColumnLemmas.{AreBuses-none, AreBuses-push, buses_kept, row_at-append, row_at-none, row_at-push, sum-one, widths-push}
 use Rattle.gl_wire.proofs.StageLemmas.{line_first, line_later, tuple_by}
 use Rattle.gl_queue.specs.Joining.{IsJoiner}

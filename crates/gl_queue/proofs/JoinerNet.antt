@@ -1,25 +1,25 @@
 -- A joiner behind two padded sides: what it asks, what it serves, and what it costs.
-use Rattle.std.proofs.Common.{◌≡◌, ℕ, zero, suc, ◌+◌, ◌-◌, ◌*◌, ◌<◌, ◌≤◌, List, ◌++◌, length, Option, Some, None, Bool, true, false, refl, sym, ap, ◌∙◌, subst, arith, inl, inr, length-append}
-use Rattle.std.specs.Prelude.{◌&&◌, is_some, if◌then◌else◌, nat_eq, max}
+use Rattle.std.proofs.Common.{◌≡◌, ℕ, zero, suc, ◌+◌, ◌-◌, ◌*◌, ◌≤◌, List, ◌++◌, length, Some, None, Bool, true, false, refl, sym, ap, ◌∙◌, subst, arith, inl, inr, length-append}
+use Rattle.std.specs.Prelude.{◌&&◌, is_some, if◌then◌else◌, nat_eq}
 use Rattle.std.specs.List.{sum}
 use Rattle.std.proofs.lemmas.Bool.{cases_lt, eqb-true, eqb-false, eq-eqb, ne_eqb}
 use Rattle.std.proofs.lemmas.List.Sums.{sum_by-append}
 use Rattle.std.proofs.Math.Nat.{mul-le-mul_left}
 use Rattle.gl_algebra.specs.declared.figures.Figures.{Figures}
-use Rattle.gl_algebra.specs.FigureTable.{IsSound, at_end, beside_figures, delayed, in_step, is_fixed, joined, wait_of}
+use Rattle.gl_algebra.specs.FigureTable.{IsSound, at_end, beside_figures, delayed, in_step, is_fixed, wait_of}
 use Rattle.gl_algebra.specs.Shapes.{once, with_stream}
 use Rattle.gl_algebra.specs.Weights.{pad_of}
 use Rattle.gl_algebra.proofs.SoundLemmas.{delayed_sound}
 use Rattle.gl_bits.proofs.Bools.{and_left, and_right, or_none}
 use Rattle.gl_bits.specs.Results.{AreBeside, Row}
-use Rattle.gl_net.specs.Net.{Net, Run, IsRun}
+use Rattle.gl_net.specs.Net.{Net}
 use Rattle.gl_net.proofs.Determined.{keeps_then}
 use Rattle.gl_wire.specs.declared.emitted.Emitted.{Emitted}
 use Rattle.gl_wire.specs.declared.emitted.Faults.{Faults}
 use Rattle.gl_wire.specs.declared.wire.Wire.{Wire}
 use Rattle.gl_wire.specs.Costs.{CostsAtMost}
 use Rattle.gl_wire.specs.Faults.{AreBoth}
-use Rattle.gl_wire.specs.Pace.{BothWithEnds, Follows, InStep, SameCycles, WithEnds}
+use Rattle.gl_wire.specs.Pace.{BothWithEnds, InStep, SameCycles, WithEnds}
 use Rattle.gl_wire.specs.Shapes.{IsDelayed}
 use Rattle.gl_wire.specs.Spills.{ServesWhen2, never2, no_lines}
 use Rattle.gl_wire.specs.Stages.{IsPad}
@@ -27,7 +27,7 @@ use Rattle.gl_wire.specs.Wire.{Carried, carried, widths}
 use Rattle.gl_wire.proofs.ColumnLemmas.{wire_kept}
 use Rattle.gl_wire.proofs.PaceLemmas.{delayed_follows, follows_pace}
 use Rattle.gl_wire.proofs.PadLemmas.{padded_when}
-use Rattle.gl_queue.specs.Joining.{IsBeside, IsJoiner}
+use Rattle.gl_queue.specs.Joining.{IsJoiner}
 use Rattle.gl_queue.specs.JoinLines.{AreSides, JoinsSides}
 use Rattle.gl_queue.specs.Joiners.{IsJoinerOf, OfOneWire, cost_of_joiner, joined_pace, joins_when}
 use Rattle.gl_queue.proofs.BesideLemmas.{beside_serves}

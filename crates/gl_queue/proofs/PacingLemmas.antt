@@ -1,5 +1,5 @@
 -- The timer of a spacer.
-use Rattle.std.proofs.Common.{◌≡◌, ℕ, zero, suc, ◌+◌, ◌-◌, ◌%◌, ◌^◌, ◌<◌, ◌≤◌, List, Bool, true, false, refl, sym, ap, ◌∙◌, subst, arith}
+use Rattle.std.proofs.Common.{◌≡◌, ℕ, zero, suc, ◌+◌, ◌-◌, ◌%◌, ◌^◌, ◌<◌, List, Bool, true, false, refl, sym, ap, ◌∙◌, subst, arith}
 use mathlib.Core.Path.{fun_ext}
 use Rattle.std.specs.Prelude.{not, ◌&&◌, if◌then◌else◌, nat_eq, nat_lt}
 use Rattle.std.proofs.lemmas.Bool.{lt-ltb, ne_eqb}

@@ -1,9 +1,9 @@
 -- A queue of rows is a queue of what the rows stand for.
-use Rattle.std.proofs.Common.{◌≡◌, ℕ, zero, suc, List, [], ◌∷◌, map, length, Option, Some, None, Bool, true, false, refl, sym, ap, ◌∙◌}
-use Rattle.std.specs.Prelude.{is_some, not, ◌&&◌, nat_eq}
+use Rattle.std.proofs.Common.{◌≡◌, ℕ, List, [], ◌∷◌, map, Option, Some, None, Bool, refl, sym, ap, ◌∙◌}
+use Rattle.std.specs.Prelude.{is_some}
 use Rattle.std.specs.Option.{option_map}
 use Rattle.std.proofs.lemmas.List.{length-map}
-use Rattle.gl_queue.specs.Queue.{oldest, entries, passes, LowBefore, IsQueue}
+use Rattle.gl_queue.specs.Queue.{oldest, entries, passes, IsQueue}
 use Rattle.gl_queue.proofs.TagLemmas.{entries-map}
 
 oldest-map : {A B : Type 0} (f : A → B) (xs : List A) → oldest (map f xs) ≡ option_map f (oldest xs)

@@ -1,16 +1,15 @@
 -- Lines and a ring that make a spacer.
-use Rattle.std.proofs.Common.{◌≡◌, ℕ, zero, suc, ◌-◌, List, [], ◌∷◌, Option, Some, None, Bool, true, false, refl, sym, ap, ◌∙◌, subst}
-use Rattle.std.specs.Prelude.{is_some, not, ◌&&◌, ◌||◌, if◌then◌else◌, nat_eq}
+use Rattle.std.proofs.Common.{◌≡◌, ℕ, zero, suc, ◌-◌, List, ◌∷◌, Option, Some, None, Bool, true, false, refl, sym, ap, ◌∙◌, subst}
+use Rattle.std.specs.Prelude.{is_some, ◌&&◌, ◌||◌, if◌then◌else◌, nat_eq}
 use Rattle.std.specs.Option.{option_map}
 use Rattle.gl_bits.specs.Results.{Row}
 use Rattle.gl_net.specs.declared.node.Bus.{Bus}
 use Rattle.gl_net.specs.declared.node.Bit.{Bit}
 use Rattle.gl_net.specs.Net.{Run}
 use Rattle.gl_wire.specs.declared.wire.Wire.{Wire}
-use Rattle.gl_wire.specs.Wire.{Carried, carried, line_at, row_at, tuple_at}
+use Rattle.gl_wire.specs.Wire.{carried, line_at, row_at, tuple_at}
 use Rattle.gl_queue.specs.Queue.{IsQueue}
-use Rattle.gl_wire.specs.Apart.{carries}
-use Rattle.gl_queue.specs.Spacing.{Entry, entry_at, arrives, row_in, end_in, IsSpacer}
+use Rattle.gl_queue.specs.Spacing.{Entry, arrives, row_in, end_in, IsSpacer}
 use Rattle.gl_queue.specs.declared.pacing.Paced.{Paced}
 use Rattle.gl_queue.specs.SpacerLines.{bus_of, entry_of, IsPacing}
 use Rattle.gl_queue.proofs.QueueMapLemmas.{queue_map}

@@ -1,10 +1,9 @@
 -- A spacer behind a wire: what it costs, and what it serves.
-use Rattle.std.proofs.Common.{◌≡◌, ℕ, zero, suc, ◌+◌, ◌*◌, ◌^◌, ◌≤◌, List, [], ◌∷◌, drop, length, Option, Some, Bool, refl, sym, ap, ◌∙◌, subst, arith}
+use Rattle.std.proofs.Common.{◌≡◌, ℕ, zero, suc, ◌+◌, ◌*◌, ◌^◌, ◌≤◌, List, [], ◌∷◌, drop, length, Option, Some, refl, sym, ap, ◌∙◌, subst, arith}
 use Rattle.std.specs.Prelude.{slice_get, slice_index_or}
 use Rattle.std.specs.List.{sum}
 use Rattle.std.proofs.lemmas.List.Sums.{sum_by-cons}
 use Rattle.std.proofs.Math.Nat.{mul-le-mul_left}
-use Rattle.gl_algebra.specs.Cost.{ring}
 use Rattle.gl_algebra.specs.declared.figures.Figures.{Figures}
 use Rattle.gl_algebra.specs.FigureTable.{IsSound}
 use Rattle.gl_bits.proofs.Bools.{or_none}
@@ -17,12 +16,11 @@ use Rattle.gl_bits.proofs.Options.{some_same}
 use Rattle.gl_net.proofs.Determined.{keeps_then}
 use Rattle.gl_wire.specs.declared.emitted.Emitted.{Emitted}
 use Rattle.gl_wire.specs.Costs.{CostsAtMost}
-use Rattle.gl_wire.specs.Faults.{AreLines, IsEither, line_of, lines_of}
+use Rattle.gl_wire.specs.Faults.{AreLines, IsEither, line_of}
 use Rattle.gl_wire.specs.Wire.{AreBuses, IsWire, carried, widths}
 use Rattle.gl_wire.proofs.ColumnLemmas.{wire_kept}
 use Rattle.gl_wire.proofs.FaultLemmas.{line_kept}
 use Rattle.gl_queue.specs.declared.merge.Merged.{Merged}
-use Rattle.gl_queue.specs.Costs.{address_bits}
 use Rattle.gl_queue.specs.Merging.{only_passed}
 use Rattle.gl_queue.specs.SpacerLines.{IsSpacedOf, bus_of}
 use Rattle.gl_queue.specs.Spacers.{IsSpacerOf, cost_of_spacer}

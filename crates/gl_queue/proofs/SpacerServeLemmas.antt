@@ -1,19 +1,19 @@
 -- A spacer serves the same rows, apart.
-use Rattle.std.proofs.Common.{◌≡◌, ℕ, zero, suc, ◌+◌, ◌-◌, ◌*◌, ◌<◌, ◌≤◌, List, [], ◌∷◌, ◌++◌, map, length, Option, Some, None, Bool, true, false, refl, sym, ap, ◌∙◌, subst, arith, inl, inr, ◌⊎◌, append_assoc, length-append}
-use Rattle.std.specs.Prelude.{option_to_list, is_some, not, ◌&&◌, ◌||◌, if◌then◌else◌, nat_eq}
+use Rattle.std.proofs.Common.{◌≡◌, ℕ, zero, suc, ◌+◌, ◌-◌, ◌*◌, ◌<◌, ◌≤◌, List, [], ◌∷◌, ◌++◌, map, length, Option, Some, None, Bool, true, false, refl, sym, ap, ◌∙◌, arith, inl, inr, ◌⊎◌, length-append}
+use Rattle.std.specs.Prelude.{option_to_list, is_some, ◌&&◌, if◌then◌else◌, nat_eq}
 use Rattle.std.specs.Option.{option_map}
-use Rattle.std.proofs.lemmas.Bool.{cases_lt, cases_order, false_from_ne_true, eqb-true, eq-eqb, and_parts, or_right, or_left}
-use Rattle.std.proofs.lemmas.List.{append-nil, length-map}
+use Rattle.std.proofs.lemmas.Bool.{cases_lt, cases_order, or_right, or_left}
+use Rattle.std.proofs.lemmas.List.{length-map}
 use Rattle.std.proofs.Math.Nat.{mul-le-mul_left}
 use Rattle.gl_algebra.specs.declared.figures.Figures.{Figures}
 use Rattle.gl_bits.specs.Results.{Row}
 use Rattle.gl_algebra.specs.FigureTable.{IsSound, spacer_figures, last_of}
-use Rattle.gl_wire.specs.Beats.{Beats, last, most, gap, Spaced}
+use Rattle.gl_wire.specs.Beats.{Beats, last, most, Spaced}
 use Rattle.gl_wire.specs.Wire.{Carried, pending, stream, rows}
-use Rattle.gl_wire.specs.Serves.{HasEnd, OneEnd, Caused, EndCaused, Fits, Served}
-use Rattle.gl_wire.specs.Spills.{ServedWithLines, ServesWithLines, never}
-use Rattle.gl_queue.specs.Queue.{oldest, behind, entries, LowBefore, IsQueue}
-use Rattle.gl_wire.specs.Sides.{IsOpen, IsIdle, ItsEnd, Side}
+use Rattle.gl_wire.specs.Serves.{HasEnd, OneEnd, Fits}
+use Rattle.gl_wire.specs.Spills.{ServedWithLines, never}
+use Rattle.gl_queue.specs.Queue.{oldest, behind, entries, LowBefore}
+use Rattle.gl_wire.specs.Sides.{IsOpen, Side}
 use Rattle.gl_wire.specs.Apart.{Carries, CarriesApart, a_tuple, an_end, carries}
 use Rattle.gl_wire.specs.Shapes.{Same}
 use Rattle.gl_queue.specs.Merging.{only_passed}
@@ -21,9 +21,9 @@ use Rattle.gl_queue.specs.Spacing.{Entry, entry_at, arrives, row_in, end_in, IsS
 use Rattle.gl_queue.specs.SpacerPhases.{most_entries, Wide}
 use Rattle.gl_wire.proofs.SideLemmas.{fits_side}
 use Rattle.gl_queue.proofs.QueueLemmas.{not_passed}
-use Rattle.gl_queue.proofs.TagLemmas.{tag, cycles, held_entries}
-use Rattle.gl_queue.proofs.SpacerLemmas.{Spaces, Leaves, leaving_tag, leaves_tag, leaves_or_not, carried_leaves, leave_apart, flow, first_at, pending_at, in_order}
-use Rattle.gl_queue.proofs.SpacerTimeLemmas.{Phase, idle, busy, phases, Timely, timely, few_out, end_leaves, open_to, latest}
+use Rattle.gl_queue.proofs.TagLemmas.{tag, held_entries}
+use Rattle.gl_queue.proofs.SpacerLemmas.{Spaces, Leaves, leaving_tag, leaves_tag, leaves_or_not, carried_leaves, leave_apart, flow, pending_at, in_order}
+use Rattle.gl_queue.proofs.SpacerTimeLemmas.{Phase, idle, busy, phases, Timely, timely, few_out, end_leaves, open_to}
 
 last_some : (n first last : ℕ) → 1 ≤ n → last_of n first last ≡ last
 last_some zero f l h = absurd (omega (arith, h))

@@ -8,8 +8,8 @@ use Rattle.gl_queue.specs.JoinLines.{AreSides}
 use Rattle.gl_queue.proofs.BesideNet.{follows, is_beside}
 use Rattle.gl_queue.proofs.joiner.put_sides.Goals as goal
 
-pub returns-then-in_step : goal.returns-then-in_step
-returns-then-in_step c =
+pub returns-in_ok-side_by_side : goal.returns-in_ok-side_by_side
+returns-in_ok-side_by_side c =
     let net = c.args.net.now in
     let a = c.args.left in
     let b = c.args.right in
@@ -25,8 +25,8 @@ returns-then-in_step c =
     } in
     subst (λ (x : Bool). AreSides net net x a b c.in_ok-side_by_side.side_by_side) (sym c.if-in_step.true) (subst (λ (v : Wire). AreSides net net true a b v) (sym is) sides)
 
-pub returns-else-in_step : goal.returns-else-in_step
-returns-else-in_step c =
+pub returns-in_ok-joined : goal.returns-in_ok-joined
+returns-in_ok-joined c =
     let new = c.put_joined.new.net in
     let j = c.in_ok-joined.ensures in
     let sides : AreSides c.args.net.now new false c.args.left c.args.right c.in_ok-joined.joined =

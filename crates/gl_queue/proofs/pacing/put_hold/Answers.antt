@@ -1,5 +1,4 @@
-use Rattle.std.proofs.Common.{ℕ, ap, arith, ◌∙◌}
-use Rattle.gl_bits.specs.Words.{lt_of}
+use Rattle.std.proofs.Common.{ap, arith, ◌∙◌}
 use Rattle.gl_net.proofs.Determined.{keeps_then}
 use Rattle.gl_wire.proofs.GateLemmas.{bit_of}
 use Rattle.gl_queue.proofs.PacingLemmas.{hold_is}
