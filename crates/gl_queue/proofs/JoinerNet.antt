@@ -12,7 +12,7 @@ use Rattle.gl_algebra.specs.Weights.{pad_of}
 use Rattle.gl_algebra.proofs.SoundLemmas.{delayed_sound}
 use Rattle.gl_bits.proofs.Bools.{and_left, and_right, or_none}
 use Rattle.gl_bits.specs.Results.{AreBeside, Row}
-use Rattle.gl_net.specs.Net.{Net}
+use Rattle.gl_net.specs.Net.{Net, Run, IsRun}
 use Rattle.gl_net.proofs.Determined.{keeps_then}
 use Rattle.gl_wire.specs.declared.emitted.Emitted.{Emitted}
 use Rattle.gl_wire.specs.declared.emitted.Faults.{Faults}
@@ -29,8 +29,9 @@ use Rattle.gl_wire.proofs.PaceLemmas.{delayed_follows, follows_pace}
 use Rattle.gl_wire.proofs.PadLemmas.{padded_when}
 use Rattle.gl_queue.specs.Joining.{IsJoiner}
 use Rattle.gl_queue.specs.JoinLines.{AreSides, JoinsSides}
-use Rattle.gl_queue.specs.Joiners.{IsJoinerOf, OfOneWire, cost_of_joiner, joined_pace, joins_when}
+use Rattle.gl_queue.specs.Joiners.{IsJoinerIn, IsJoinerOf, OfOneWire, cost_of_joiner, joined_pace, joins_when}
 use Rattle.gl_queue.proofs.BesideLemmas.{beside_serves}
+use Rattle.gl_queue.proofs.FigureLemmas.{one_pad}
 use Rattle.gl_queue.proofs.JoinerLemmas.{joiner_serves}
 
 -- what comes a fixed time after its beats does so some cycles later too
@@ -119,9 +120,6 @@ module _ (p q : Figures) (a b a' b' o : Carried) (sound_p : IsSound p) (sound_q 
       subst (λ (x : Bool). ServesWhen2 (joins_when p q (is_fixed p && is_fixed q)) p q (by_fixed p' q' x) (never2 AreBeside) no_lines a b o) (sym (both_fixed p q))
       (serves_by (is_fixed p && is_fixed q) refl m)
 
-one_pad : (p q : Figures) → wait_of p q + wait_of q p ≡ pad_of p q
-one_pad p q = omega arith
-
 -- pads of both sides within one of all lines
 pads_within : (m n pad x y : ℕ) → m + n ≡ pad → m * (x + 2) + n * (y + 2) ≤ pad * (x + y + 2)
 pads_within m n pad x y e =
@@ -133,7 +131,6 @@ pads_within m n pad x y e =
 module _ (old n1 n2 n3 new : Net) (p q : Figures) (a b : Emitted) (first second out : Wire) (faults : Faults) (sound_p : IsSound p) (sound_q : IsSound q)
     (pad_a : IsPad old n1 (wait_of p q) a.wire first) (pad_b : IsPad n1 n2 (wait_of q p) b.wire second) (m : AreSides n2 n3 (is_fixed p && is_fixed q) first second out)
     (told : AreBoth n3 new a.faults b.faults faults) where
-
   abbrev columns_a : List ℕ
   columns_a = widths a.wire.columns
 
@@ -171,26 +168,36 @@ module _ (old n1 n2 n3 new : Net) (p q : Figures) (a b : Emitted) (first second 
       bits : (sum (columns_a ++ columns_b) + 2) * (pad_of p q + 2) ≡ pad_of p q * (sum columns_a + sum columns_b + 2) + 2 * (sum columns_a + sum columns_b + 2)
       bits = ap (λ (n : ℕ). (n + 2) * (pad_of p q + 2)) wide ∙ omega arith
 
+  joins : (run : Run) → IsRun new run → IsJoinerIn run p q a b (record { wire = out; faults = faults })
+  joins run r =
+      let at_3 = told.keeps.runs run r in
+      let at_2 = m.keeps.runs run at_3 in
+      record {
+        first = carried run first;
+        second = carried run second;
+        left_waits = pad_a.delayed run (pad_b.keeps.runs run at_2);
+        right_waits = pad_b.delayed run at_2;
+        joins = m.joins run at_3;
+        told = told.lines run r;
+      }
+
   pub joiner_of : IsJoinerOf old new p q a b (record { wire = out; faults = faults })
   joiner_of = record {
-    keeps = keeps_then old n1 new pad_a.keeps (keeps_then n1 n2 new pad_b.keeps (keeps_then n2 n3 new m.keeps told.keeps));
-    cost = costs;
-    wire = wire_kept n3 new out told.keeps m.wire;
-    same_widths = m.same_widths ∙ ap (λ (ws : List ℕ). ws ++ widths second.columns) pad_a.same_widths ∙ ap (λ (ws : List ℕ). columns_a ++ ws) pad_b.same_widths;
-    lines = told.are;
-    paced = λ run r.
-        let at_3 = told.keeps.runs run r in
-        let at_2 = m.keeps.runs run at_3 in
-        paced p q (carried run a.wire) (carried run b.wire) (carried run first) (carried run second) (carried run out) sound_p sound_q (pad_a.delayed run (pad_b.keeps.runs run at_2)) (pad_b.delayed run at_2)
-        (is_fixed p && is_fixed q) (m.joins run at_3);
-    serves = λ run r.
-        let at_3 = told.keeps.runs run r in
-        let at_2 = m.keeps.runs run at_3 in
-        let both = told.lines run r in
-        (
-          no_lines,
-          record { passed = λ c. both.passed c ∙ sym (or_none _); further = λ c. both.further c ∙ sym (or_none _) },
-          serves p q (carried run a.wire) (carried run b.wire) (carried run first) (carried run second) (carried run out) sound_p sound_q (pad_a.delayed run (pad_b.keeps.runs run at_2)) (pad_b.delayed run at_2)
-          (m.joins run at_3),
-        );
+    behind = record {
+      keeps = keeps_then old n1 new pad_a.keeps (keeps_then n1 n2 new pad_b.keeps (keeps_then n2 n3 new m.keeps told.keeps));
+      cost = costs;
+      wire = wire_kept n3 new out told.keeps m.wire;
+      same_widths = m.same_widths ∙ ap (λ (ws : List ℕ). ws ++ widths second.columns) pad_a.same_widths ∙ ap (λ (ws : List ℕ). columns_a ++ ws) pad_b.same_widths;
+      lines = told.are;
+      paced = λ run r.
+          let j = joins run r in
+          paced p q (carried run a.wire) (carried run b.wire) j.first j.second (carried run out) sound_p sound_q j.left_waits j.right_waits (is_fixed p && is_fixed q) j.joins;
+      serves = λ run r.
+          let j = joins run r in (
+            no_lines,
+            record { passed = λ c. j.told.passed c ∙ sym (or_none _); further = λ c. j.told.further c ∙ sym (or_none _) },
+            serves p q (carried run a.wire) (carried run b.wire) j.first j.second (carried run out) sound_p sound_q j.left_waits j.right_waits j.joins,
+          );
+    };
+    joins = joins;
   }

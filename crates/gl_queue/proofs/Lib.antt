@@ -1,3 +1,4 @@
+pub mod FigureLemmas
 pub mod QueueLemmas
 pub mod RingLemmas
 pub mod RingLinesLemmas
@@ -25,3 +26,4 @@ pub mod BesideLemmas
 pub mod BesideNet
 pub mod JoinLinesLemmas
 pub mod JoinerNet
+pub mod CountLemmas

@@ -9,7 +9,7 @@ use Rattle.gl_algebra.specs.FigureTable.{IsSound}
 use Rattle.gl_bits.proofs.Bools.{or_none}
 use Rattle.gl_net.specs.declared.node.Bit.{Bit}
 use Rattle.gl_net.specs.declared.node.Bus.{Bus}
-use Rattle.gl_net.specs.Net.{Net, IsBit, IsBus}
+use Rattle.gl_net.specs.Net.{Net, Run, IsRun, IsBit, IsBus}
 use Rattle.gl_wire.specs.declared.wire.Wire.{Wire}
 use Rattle.gl_wire.proofs.GateLemmas.{bit_of}
 use Rattle.gl_bits.proofs.Options.{some_same}
@@ -23,7 +23,7 @@ use Rattle.gl_wire.proofs.FaultLemmas.{line_kept}
 use Rattle.gl_queue.specs.declared.merge.Merged.{Merged}
 use Rattle.gl_queue.specs.Merging.{only_passed}
 use Rattle.gl_queue.specs.SpacerLines.{IsSpacedOf, bus_of}
-use Rattle.gl_queue.specs.Spacers.{IsSpacerOf, cost_of_spacer}
+use Rattle.gl_queue.specs.Spacers.{IsSpacerIn, IsSpacerOf, cost_of_spacer}
 use Rattle.gl_queue.proofs.DepthLemmas.{address_low}
 use Rattle.gl_queue.proofs.SpacerServeLemmas.{spacer_serves, spacer_spaces}
 
@@ -87,6 +87,13 @@ module _ (old mid new : Net) (g : ℕ) (f : Figures) (a : Emitted) (out : Merged
     memories = omega (arith, m.cost.memories, line.cost.memories);
   }
 
+  spaces : (run : Run) → IsRun new run → IsSpacerIn run g f a (record { wire = out.wire; faults = record { passed = passed; further = a.faults.further } })
+  spaces run r = record {
+    passed = line_of run (Some out.passed);
+    spacing = m.spacing run (line.keeps.runs run r);
+    told = record { passed = line.line run r; further = λ c. sym (or_none _) };
+  }
+
   pub spacer_of : IsSpacerOf old new g f a (record { wire = out.wire; faults = record { passed = passed; further = a.faults.further } })
   spacer_of = record {
     behind = record {
@@ -95,11 +102,10 @@ module _ (old mid new : Net) (g : ℕ) (f : Figures) (a : Emitted) (out : Merged
       wire = wire_kept mid new out.wire line.keeps m.wire;
       same_widths = m.same_widths;
       lines = record { passed = line.is; further = line_kept mid new a.faults.further line.keeps (line_kept old mid a.faults.further m.keeps lines.further) };
-      serves = λ run r. (
-        only_passed (line_of run (Some out.passed)),
-        record { passed = line.line run r; further = λ c. sym (or_none _) },
-        spacer_serves g f (line_of run (Some out.passed)) (carried run a.wire) (carried run out.wire) one sound (m.spacing run (line.keeps.runs run r)),
-      );
+      serves = λ run r.
+          let s = spaces run r in
+          (only_passed s.passed, s.told, spacer_serves g f s.passed (carried run a.wire) (carried run out.wire) one sound s.spacing);
     };
-    apart = λ run r. spacer_spaces g f (line_of run (Some out.passed)) (carried run a.wire) (carried run out.wire) one sound (m.spacing run (line.keeps.runs run r));
+    spaces = spaces;
+    apart = λ run r. let s = spaces run r in spacer_spaces g f s.passed (carried run a.wire) (carried run out.wire) one sound s.spacing;
   }

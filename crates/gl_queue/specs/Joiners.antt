@@ -5,13 +5,16 @@ use Rattle.gl_algebra.specs.declared.figures.Figures.{Figures}
 use Rattle.gl_algebra.specs.FigureTable.{beside_figures, is_fixed, wait_of}
 use Rattle.gl_algebra.specs.Weights.{pad_of}
 use Rattle.gl_bits.specs.Results.{AreBeside}
-use Rattle.gl_net.specs.Net.{Net}
+use Rattle.gl_net.specs.Net.{Net, Run, IsRun}
 use Rattle.gl_wire.specs.declared.emitted.Emitted.{Emitted}
 use Rattle.gl_wire.specs.Blocks.{IsBehind2}
 use Rattle.gl_wire.specs.Costs.{Cost}
 use Rattle.gl_wire.specs.Pace.{BothWithEnds, Follows, InStep, WithEnds}
-use Rattle.gl_wire.specs.Spills.{Condition, never2}
-use Rattle.gl_wire.specs.Wire.{Carried, widths}
+use Rattle.gl_wire.specs.Faults.{lines_of}
+use Rattle.gl_wire.specs.Shapes.{IsDelayed}
+use Rattle.gl_wire.specs.Spills.{Condition, SameLines, both_lines, never2}
+use Rattle.gl_wire.specs.Wire.{Carried, carried, widths}
+use Rattle.gl_queue.specs.JoinLines.{JoinsSides}
 
 -- tuples of both sides come so many cycles behind those of one wire
 abbrev pub OfOneWire : ℕ → ℕ → Condition
@@ -35,8 +38,18 @@ cost_of_joiner p q columns = record {
   memories = 0;
 }
 
+-- what it is in a run: both sides, of which the faster one waits for the other, joined; it has no line of its own
+pub record IsJoinerIn (run : Run) (p q : Figures) (a b o : Emitted) : Type 0 where
+  pub first : Carried
+  pub second : Carried
+  pub left_waits : IsDelayed (wait_of p q) (carried run a.wire) first
+  pub right_waits : IsDelayed (wait_of q p) (carried run b.wire) second
+  pub joins : JoinsSides (is_fixed p && is_fixed q) first second (carried run o.wire)
+  pub told : SameLines (lines_of run o.faults) (both_lines (lines_of run a.faults) (lines_of run b.faults))
+
 -- it serves the rows side by side
-abbrev pub IsJoinerOf : Net → Net → Figures → Figures → Emitted → Emitted → Emitted → Type 0
-IsJoinerOf old new p q a b o =
-    IsBehind2 old new (joins_when p q (is_fixed p && is_fixed q)) (joined_pace p q (is_fixed p && is_fixed q)) p q (beside_figures p q) (never2 AreBeside)
-    (widths a.wire.columns ++ widths b.wire.columns) (cost_of_joiner p q (widths a.wire.columns ++ widths b.wire.columns)) a b o
+pub record IsJoinerOf (old new : Net) (p q : Figures) (a b o : Emitted) : Type 0 where
+  pub behind : IsBehind2 old new (joins_when p q (is_fixed p && is_fixed q)) (joined_pace p q (is_fixed p && is_fixed q))
+      p q (beside_figures p q) (never2 AreBeside)
+      (widths a.wire.columns ++ widths b.wire.columns) (cost_of_joiner p q (widths a.wire.columns ++ widths b.wire.columns)) a b o
+  pub joins : (run : Run) → IsRun new run → IsJoinerIn run p q a b o

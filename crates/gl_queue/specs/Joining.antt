@@ -37,4 +37,3 @@ pub record IsBeside (a b o : Carried) : Type 0 where
   pub both : (c : ℕ) (r q : Row) → a.tuple c ≡ Some r → b.tuple c ≡ Some q → o.tuple c ≡ Some (r ++ q)
   pub none : (c : ℕ) → a.tuple c ≡ None → o.tuple c ≡ None
   pub ends : (c : ℕ) → o.ends c ≡ a.ends c
-

@@ -15,3 +15,4 @@ pub mod SpacerLines
 pub mod Spacers
 pub mod JoinLines
 pub mod Joiners
+pub mod Counted

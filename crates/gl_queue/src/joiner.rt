@@ -95,7 +95,12 @@ pub fn put_waiting(net: &mut NetBuilder, left_end: Bit, right_end: Bit) -> Resul
 }
 
 /// The rows of two sides that bring one with each end, side by side.
-pub fn put_joined(alloc: Global, net: &mut NetBuilder, left: &Wire, right: &Wire) -> Result<Wire, Memory>
+pub fn put_joined(
+    alloc: Global,
+    net: &mut NetBuilder,
+    left: &Wire,
+    right: &Wire,
+) -> Result<Wire, Memory>
     requires left { IsWire net.old left.now }
     requires right { IsWire net.old right.now }
     ensures { IfOk result (IsJoinedOf net.old net.new left.now right.now) }
@@ -156,7 +161,8 @@ impl Joiner {
     /// The figures of the rows side by side.
     pub fn figures(&self) -> Figures
         requires { AreSmall (beside_figures self.now.left self.now.right) }
-        ensures { result ≡ beside_figures self.now.left self.now.right }
+        ensures value { result ≡ beside_figures self.now.left self.now.right }
+        ensures sound { IsSound self.now.left → IsSound self.now.right → IsSound result }
     {
         table::beside_figures(&self.left, &self.right).unwrap()
     }

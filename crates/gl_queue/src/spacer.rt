@@ -1,7 +1,7 @@
 //! The spacer.
 
-ghost use Rattle.std.specs.Prelude.{◌≡◌, ◌≤◌, ◌∷◌, ◌^◌, true, drop, length, IfOk};
-ghost use Rattle.gl_algebra.specs.FigureTable.{AreSmall, IsSound, needs_spacer, spacer_figures};
+ghost use Rattle.std.specs.Prelude.{◌≡◌, ◌≤◌, ◌∷◌, ◌^◌, drop, length, IfOk};
+ghost use Rattle.gl_algebra.specs.FigureTable.{AreSmall, IsSound, spacer_figures};
 ghost use Rattle.gl_wire.specs.Faults.{AreLines};
 ghost use Rattle.gl_wire.specs.Wire.{IsWire};
 ghost use Rattle.gl_queue.specs.SpacerLines.{IsSpacedOf, bus_of};
@@ -9,7 +9,7 @@ ghost use Rattle.gl_queue.specs.Spacers.{IsSpacerOf};
 
 use crate::merge::Merged;
 use crate::pacing::put_paced;
-use gl_algebra::{Figures, table};
+use gl_algebra::Figures;
 use gl_bits::Memory;
 use gl_net::{Bus, Buses, NetBuilder};
 use gl_wire::{Emitted, Faults, Wire, both, either, either_line};
@@ -17,7 +17,8 @@ use std::alloc::Global;
 
 // The columns of a wire behind its lines.
 fn with_lines(alloc: Global, wire: &Wire) -> Result<Buses, Memory>
-    ensures { IfOk result (λ bs. bs ≡ bus_of wire.now.valid ∷ bus_of wire.now.eos ∷ wire.now.columns) }
+    ensures { IfOk result (λ bs.
+        bs ≡ bus_of wire.now.valid ∷ bus_of wire.now.eos ∷ wire.now.columns) }
 {
     let mut all = Buses::new(alloc);
     all.push(wire.valid.bus())?;
@@ -82,11 +83,27 @@ pub struct Spacer {
 impl Spacer {
     /// The figures of what leaves.
     pub fn figures(&self) -> Figures
-        requires needed { needs_spacer self.now.gap self.now.source ≡ true }
-        requires small { AreSmall (spacer_figures self.now.gap self.now.source) }
-        ensures { result ≡ spacer_figures self.now.gap self.now.source }
+        requires { AreSmall (spacer_figures self.now.gap self.now.source) }
+        ensures value { result ≡ spacer_figures self.now.gap self.now.source }
+        ensures sound { 1 ≤ self.now.gap → IsSound self.now.source → IsSound result }
     {
-        table::spaced_figures(self.gap, &self.source).unwrap()
+        let source = &self.source;
+        let a = source.a + 1;
+        let lt = if source.nt == 0 {
+            a
+        } else {
+            source.lt + 1 + (source.nt - 1) * self.gap
+        };
+        let le = source.le + 1 + source.ne * self.gap;
+        Figures {
+            a,
+            lt,
+            le,
+            nt: source.nt,
+            ne: source.ne,
+            gt: source.gt.max(lt.saturating_sub(a) + self.gap),
+            ge: source.ge.max(le.saturating_sub(a) + self.gap),
+        }
     }
 
     /// Adds the spacer behind its input, and gives what comes out.
