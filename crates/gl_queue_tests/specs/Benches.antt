@@ -23,9 +23,9 @@ pub record IsReady (net : Net) : Type 0 where
 -- the ports of both streams are there
 pub record IsBench (net : Net) (left right : Bus) : Type 0 where
   pub ready : IsReady net
-  pub left : IsBus net left
+  pub left_bus : IsBus net left
   pub left_width : left.width ≡ 67
-  pub right : IsBus net right
+  pub right_bus : IsBus net right
   pub right_width : right.width ≡ 67
 
 -- so many pairs of columns

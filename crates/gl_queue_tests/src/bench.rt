@@ -171,7 +171,12 @@ impl Shown<'_> {
         let mut letters = Vec::new(alloc);
         for at in 0..left.len() {
             let other = right.get(at).copied().unwrap_or(b'.');
-            trace.step(alloc, nodes, &[0, input_of(left[at]), input_of(other)], at == 0)?;
+            trace.step(
+                alloc,
+                nodes,
+                &[0, input_of(left[at]), input_of(other)],
+                at == 0,
+            )?;
             if letters.push(self.letter(&trace)).is_err() {
                 return Err(Memory);
             }

@@ -8,7 +8,11 @@ use std::test::Fail;
 
 // What a queue of so many places shows, for what comes, and where a letter holds it.
 fn queue_shows(alloc: Global, depth: u16, push: &str, hold: &str) -> Result<Vec<u8>, Memory> {
-    let Bench { mut net, left, right } = begin(alloc)?;
+    let Bench {
+        mut net,
+        left,
+        right,
+    } = begin(alloc)?;
     let source = put_source(alloc, &mut net, left, 1)?;
     let held = put_source(alloc, &mut net, right, 1)?;
     let queue = put_queue(
@@ -51,9 +55,33 @@ fn queues_of_some_depths(rt: HostRuntime) -> Result<(), Fail> {
 // The least power of two that is at least 2 and at least the depth.
 #[test]
 fn address_bits_of_depths(rt: HostRuntime) -> Result<(), Fail> {
-    assert_eq!(rt; (address_bits(1), address_bits(2), address_bits(3)), (1, 1, 2));
-    assert_eq!(rt; (address_bits(4), address_bits(5), address_bits(1024)), (2, 3, 10));
+    assert_eq!(rt;
+        (address_bits(1), address_bits(2), address_bits(3)),
+        (1, 1, 2)
+    );
+    assert_eq!(rt;
+        (address_bits(4), address_bits(5), address_bits(1024)),
+        (2, 3, 10)
+    );
     assert_eq!(rt; (address_bits(1025), address_bits(4_294_967_296)), (11, 32));
+    Ok(())
+}
+
+// Each figure of three blocks by the table's row.
+#[test]
+fn figures_of_blocks(rt: HostRuntime) -> Result<(), Fail> {
+    let (left, right) = (figures(0, 0, 1), figures(0, 0, 1));
+    let union = UnionOf { left, right }.figures();
+    assert_eq!(rt; (union.a, union.lt, union.le), (1, 2, 3));
+    assert_eq!(rt; (union.nt, union.ne, union.gt, union.ge), (2, 2, 2, 3));
+    let (left, right) = (figures(0, 3, 1), figures(0, 3, 1));
+    let joiner = Joiner { left, right }.figures();
+    assert_eq!(rt; (joiner.a, joiner.lt, joiner.le), (1, 1, 5));
+    assert_eq!(rt; (joiner.nt, joiner.ne, joiner.gt, joiner.ge), (0, 1, 4, 5));
+    let source = figures(0, 1, 2);
+    let spacer = Spacer { source, gap: 3 }.figures();
+    assert_eq!(rt; (spacer.a, spacer.lt, spacer.le), (1, 2, 8));
+    assert_eq!(rt; (spacer.nt, spacer.ne, spacer.gt, spacer.ge), (1, 2, 4, 10));
     Ok(())
 }
 
@@ -65,7 +93,11 @@ fn union_shows(
     left: &str,
     right: &str,
 ) -> Result<Vec<u8>, Memory> {
-    let Bench { mut net, left: first, right: second } = begin(alloc)?;
+    let Bench {
+        mut net,
+        left: first,
+        right: second,
+    } = begin(alloc)?;
     let one = put_source(alloc, &mut net, first, pairs)?;
     let other = put_source(alloc, &mut net, second, pairs)?;
     let (p, q) = sides;
@@ -93,10 +125,28 @@ fn unions_of_two_sides(rt: HostRuntime) -> Result<(), Fail> {
         (stream, 1, "-...", "B...", ".b-."),
         (stream, 1, "-..", "-..", ".-."),
         (stream, 1, "A..B..C...", "D..-..E...", ".ad-b-.ce-"),
-        (((0, 0, 1), (0, 5, 2)), 1, "A.......", "b....C..", ".ab...c-"),
+        (
+            ((0, 0, 1), (0, 5, 2)),
+            1,
+            "A.......",
+            "b....C..",
+            ".ab...c-",
+        ),
         (((0, 1, 2), (0, 1, 2)), 1, "aB....", "cD....", ".abcd-"),
-        (((0, 2, 3), (0, 2, 3)), 1, "abC.....", "deF.....", ".abcdef-"),
-        (((0, 4, 5), (0, 4, 5)), 1, "abcdE.......", "fghiJ.......", ".abcdefghij-"),
+        (
+            ((0, 2, 3), (0, 2, 3)),
+            1,
+            "abC.....",
+            "deF.....",
+            ".abcdef-",
+        ),
+        (
+            ((0, 4, 5), (0, 4, 5)),
+            1,
+            "abcdE.......",
+            "fghiJ.......",
+            ".abcdefghij-",
+        ),
         (((0, 0, 1), (2, 0, 1)), 1, "A.....", "..B...", "...ab-"),
         (stream, 1, "ab", "cd", ".!"),
     ];
@@ -115,7 +165,11 @@ fn spacer_shows(
     pairs: usize,
     letters: &str,
 ) -> Result<Vec<u8>, Memory> {
-    let Bench { mut net, left, right: _ } = begin(alloc)?;
+    let Bench {
+        mut net,
+        left,
+        right: _,
+    } = begin(alloc)?;
     let source = put_source(alloc, &mut net, left, pairs)?;
     let spacer = Spacer {
         source: figures(stream.0, stream.1, stream.2),
@@ -149,15 +203,19 @@ fn spacers_of_some_gaps(rt: HostRuntime) -> Result<(), Fail> {
     Ok(())
 }
 
-// What a joiner of two streams with these figures shows on the columns of each side.
+// What a joiner of two streams with these figures shows on the columns of each side, with a '/' between.
 fn joiner_shows(
     alloc: Global,
     sides: ((u16, u16, u16), (u16, u16, u16)),
     pairs: usize,
     left: &str,
     right: &str,
-) -> Result<(Vec<u8>, Vec<u8>), Memory> {
-    let Bench { mut net, left: first, right: second } = begin(alloc)?;
+) -> Result<Vec<u8>, Memory> {
+    let Bench {
+        mut net,
+        left: first,
+        right: second,
+    } = begin(alloc)?;
     let one = put_source(alloc, &mut net, first, pairs)?;
     let other = put_source(alloc, &mut net, second, pairs)?;
     let (p, q) = sides;
@@ -181,9 +239,12 @@ fn joiner_shows(
         columns: high,
         passed: out.faults.passed,
     };
-    let first = below.letters(alloc, &netlist, left.as_bytes(), right.as_bytes())?;
+    let mut both = below.letters(alloc, &netlist, left.as_bytes(), right.as_bytes())?;
     let second = above.letters(alloc, &netlist, left.as_bytes(), right.as_bytes())?;
-    Ok((first, second))
+    if both.push(b'/').is_err() || both.extend_from_slice(&second).is_err() {
+        return Err(Memory);
+    }
+    Ok(both)
 }
 
 #[test]
@@ -191,16 +252,28 @@ fn joiners_of_two_sides(rt: HostRuntime) -> Result<(), Fail> {
     let stream = ((0, 0, 1), (0, 0, 1));
     let late = ((0, 3, 1), (0, 3, 1));
     let rows = [
-        (stream, 1, "aB-.", "cD-.", "aB-.", "cD-."),
-        (((0, 0, 1), (2, 0, 1)), 1, "aB-...", "..cD-.", "..aB-.", "..cD-."),
-        (late, 1, "A.....", "...B..", ".....A", ".....B"),
-        (late, 1, "A....B..", "C....D..", "..A....B", "..C....D"),
-        (late, 15, "A..", "B..", "..A", "..B"),
-        (((0, 3, 1), (2, 3, 1)), 1, "A......", "....B..", "......A", "......B"),
+        (stream, 1, "aB-.", "cD-.", "aB-./cD-."),
+        (
+            ((0, 0, 1), (2, 0, 1)),
+            1,
+            "aB-...",
+            "..cD-.",
+            "..aB-./..cD-.",
+        ),
+        (late, 1, "A.....", "...B..", ".....A/.....B"),
+        (late, 1, "A....B..", "C....D..", "..A....B/..C....D"),
+        (late, 15, "A..", "B..", "..A/..B"),
+        (
+            ((0, 3, 1), (2, 3, 1)),
+            1,
+            "A......",
+            "....B..",
+            "......A/......B",
+        ),
     ];
-    for (sides, pairs, left, right, low, high) in rows {
-        let (first, second) = joiner_shows(rt.alloc(), sides, pairs, left, right)?;
-        assert_eq!(rt; (first.as_slice(), second.as_slice()), (low.as_bytes(), high.as_bytes()));
+    for (sides, pairs, left, right, want) in rows {
+        let shown = joiner_shows(rt.alloc(), sides, pairs, left, right)?;
+        assert_eq!(rt; shown.as_slice(), want.as_bytes());
     }
     Ok(())
 }

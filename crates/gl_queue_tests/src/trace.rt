@@ -70,10 +70,14 @@ fn binary(op: BinaryOp, width: u8, x: u128, y: u128) -> u128 {
 
 // What a register takes: its reset value where the last cycle was the reset, else what it was to take then.
 fn next_of(reset: Option<u128>, next: Option<Bus>, before: &[u128], was_reset: bool) -> u128 {
-    match (was_reset, reset, next) {
-        (true, Some(value), _) => value,
-        (_, _, Some(bus)) => value_at(before, bus.node),
-        _ => 1,
+    if was_reset {
+        if let Some(value) = reset {
+            return value;
+        }
+    }
+    match next {
+        Some(bus) => value_at(before, bus.node),
+        None => 1,
     }
 }
 
@@ -106,7 +110,8 @@ impl Trace {
             }
             Node::Join(_, low) => value_at(now, low.node),
             Node::Cut(x, high, low) => {
-                above(value_at(now, x.node), *low) & mask(high.saturating_sub(*low).saturating_add(1))
+                above(value_at(now, x.node), *low)
+                    & mask(high.saturating_sub(*low).saturating_add(1))
             }
             Node::Register(_, reset, next) => {
                 next_of(*reset, *next, self.values.as_slice(), was_reset)
@@ -125,7 +130,15 @@ impl Trace {
                 if self.value(drive.write.node) == 1 {
                     let address = self.value(drive.address.node);
                     let value = self.value(drive.value.node);
-                    if self.taken.push(Taken { store, address, value }).is_err() {
+                    if self
+                        .taken
+                        .push(Taken {
+                            store,
+                            address,
+                            value,
+                        })
+                        .is_err()
+                    {
                         return Err(Memory);
                     }
                 }
