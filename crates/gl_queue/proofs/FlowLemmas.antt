@@ -2,6 +2,7 @@
 use Rattle.std.proofs.Common.{◌≡◌, ℕ, zero, suc, ◌+◌, ◌-◌, ◌<◌, ◌≤◌, List, [], ◌∷◌, length, Some, None, Bool, true, false, refl, sym, ap, ◌∙◌, subst, arith, inl, inr, length-append}
 use Rattle.std.specs.Prelude.{option_to_list}
 use Rattle.std.proofs.lemmas.Bool.{cases_lt, cases_order}
+use Rattle.gl_bits.proofs.Options.{some_same}
 use Rattle.gl_bits.specs.Results.{Row}
 use Rattle.gl_wire.specs.Beats.{Beats}
 use Rattle.gl_wire.specs.Wire.{Carried, rows}
@@ -11,9 +12,6 @@ use Rattle.gl_wire.specs.Sides.{IsOpen, Side}
 use Rattle.gl_queue.specs.Phases.{Held, Works, held, Bounds, most_of, Roomy, Quiet}
 use Rattle.gl_queue.proofs.HeldLemmas.{rows-push, empty}
 use Rattle.gl_queue.proofs.PhaseLemmas.{Phase, idle, busy, Busy, EndOf, leaving, leaves_then, held_next}
-
-same_some : (x y : Bool) → Some x ≡ Some y → x ≡ y
-same_some x y h = cc
 
 one_leaves : (xs ys : List Row) → length (option_to_list (first_of (oldest xs) (oldest ys))) + (length xs + length ys - 1) ≡ length xs + length ys
 one_leaves [] [] = refl
@@ -51,7 +49,7 @@ module _ (k : Bounds) (la lb : Bool → ℕ) (beats : Beats) (h : Held) (a b o :
     where
       same : (u : ℕ) (d : Bool) → u ≡ t → AtBusy c u d → AtBusy c t e
       same u d q y =
-          let z : d ≡ e = same_some d e (sym y.open_beat.is ∙ ap beats q ∙ p.is) in
+          let z : d ≡ e = some_same d e (sym y.open_beat.is ∙ ap beats q ∙ p.is) in
           subst (λ v. AtBusy c t v) z (subst (λ v. AtBusy c v d) q y)
 
       by : Phase k la lb beats h a b o sa sb in_a in_b roomy c → AtBusy c t e

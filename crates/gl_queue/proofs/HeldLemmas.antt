@@ -1,6 +1,7 @@
 -- One cycle of two lists and two flags.
 use Rattle.std.proofs.Common.{◌≡◌, ℕ, suc, ◌+◌, ◌-◌, ◌<◌, ◌≤◌, List, [], ◌∷◌, length, Bool, true, false, refl, sym, ap, ◌∙◌, arith, length-append}
 use Rattle.std.specs.Prelude.{option_to_list, is_some, not, ◌&&◌, ◌||◌, if◌then◌else◌}
+use Rattle.gl_bits.proofs.Bools.{not_both}
 use Rattle.gl_bits.specs.Results.{Row}
 use Rattle.gl_wire.specs.Wire.{Carried, rows}
 use Rattle.gl_queue.specs.Queue.{oldest, behind}
@@ -48,10 +49,6 @@ flag_kept false w true p q = absurd (cc)
 flag_kept false true false p q = refl
 flag_kept false false false p q = refl
 
-not_true_false : (e : Bool) → e ≡ true → e ≡ false → ⊥
-not_true_false true p q = cc
-not_true_false false p q = cc
-
 module _ (ends wait leaves : ℕ → Bool) (at c : ℕ) (next : wait (suc c) ≡ ends c || (wait c && not (leaves c))) (is : ends at ≡ true) (only : ends c ≡ true → c ≡ at) where
   pub start_wait : c ≤ at → (wait c ≡ true → leaves c ≡ true) → IsWaiting wait at (suc c)
   start_wait l clear = record {
@@ -76,7 +73,7 @@ module _ (ends wait leaves : ℕ → Bool) (at c : ℕ) (next : wait (suc c) ≡
           }
         where
           differ : at ≡ c → ⊥
-          differ e = not_true_false (ends c) (ap ends (sym e) ∙ is) p
+          differ e = not_both (ends c) (ap ends (sym e) ∙ is) p
 
           before : at < suc c → at < c
           before l = omega (arith, l, differ)

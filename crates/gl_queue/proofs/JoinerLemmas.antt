@@ -1,24 +1,22 @@
 -- A joiner of two sides that bring one row with each end.
-use Rattle.std.proofs.Common.{◌≡◌, ℕ, zero, suc, ◌+◌, ◌-◌, ◌<◌, ◌≤◌, List, [], ◌∷◌, ◌++◌, length, Option, Some, None, Bool, true, false, refl, sym, ap, ◌∙◌, subst, arith, inl, inr, ◌⊎◌, append_assoc, length-append}
-use Rattle.std.specs.Prelude.{option_to_list, is_some, not, ◌&&◌, ◌||◌, if◌then◌else◌, max}
+use Rattle.std.proofs.Common.{◌≡◌, ℕ, zero, suc, ◌+◌, ◌-◌, ◌<◌, ◌≤◌, [], ◌∷◌, ◌++◌, length, Option, Some, None, Bool, true, false, refl, sym, ap, ◌∙◌, subst, arith, inl, inr, ◌⊎◌}
+use Rattle.std.specs.Prelude.{option_to_list, is_some, ◌&&◌, max}
 use Rattle.std.proofs.lemmas.Bool.{cases_lt, cases_order, false_from_ne_true, and_parts}
+use Rattle.gl_bits.proofs.Options.{some_same}
 use Rattle.gl_algebra.specs.declared.figures.Figures.{Figures}
 use Rattle.gl_bits.specs.Results.{Row}
 use Rattle.gl_algebra.specs.FigureTable.{IsSound, at_end}
-use Rattle.gl_wire.specs.Beats.{Beats, last, most, gap, Spaced}
-use Rattle.gl_wire.specs.Wire.{Carried, pending, stream, rows}
-use Rattle.gl_wire.specs.Serves.{HasEnd, OneEnd, Caused, EndCaused, Fits, Served2}
-use Rattle.gl_wire.specs.Spills.{ServedWithLines2, ServesWhen2, never2, no_lines}
-use Rattle.gl_wire.specs.Pace.{BothWithEnds, WithEnds}
+use Rattle.gl_wire.specs.Beats.{Beats, last, most, Spaced}
+use Rattle.gl_wire.specs.Wire.{Carried, stream, rows}
+use Rattle.gl_wire.specs.Serves.{HasEnd, Fits}
+use Rattle.gl_wire.specs.Spills.{ServedWithLines2, never2, no_lines}
+use Rattle.gl_wire.specs.Pace.{WithEnds}
 use Rattle.gl_bits.specs.Results.{AreBeside}
 use Rattle.gl_queue.specs.Joining.{IsJoiner, JoinerServes}
 use Rattle.gl_wire.specs.Sides.{IsOpen, IsIdle, ItsEnd, Side}
 use Rattle.gl_wire.proofs.SideLemmas.{fits_side}
 use Rattle.gl_queue.proofs.HeldLemmas.{flag_off}
-use Rattle.gl_queue.proofs.FlagLemmas.{Flag, flag_next, flag_start, none_unless, once_none, once_pending, once_some, once_stream}
-
-same_some : (x y : Bool) → Some x ≡ Some y → x ≡ y
-same_some x y h = cc
+use Rattle.gl_queue.proofs.FlagLemmas.{Flag, flag_next, flag_start, none_unless, once_none, once_some, once_stream}
 
 -- a row that waits stays
 kept_a : {a b o : Carried} (m : IsJoiner a b o) (c : ℕ) → 1 ≤ c → a.tuple c ≡ None → m.row_a (suc c) ≡ m.row_a c
@@ -195,7 +193,7 @@ module _ (p q : Figures) (a b o : Carried) (sound_p : IsSound p) (sound_q : IsSo
     where
       as_this : (u : ℕ) (d : Bool) → u ≡ t → Busy c u d → Busy c t e
       as_this u d w y =
-          let z : d ≡ e = same_some d e (sym y.open_beat.is ∙ ap beats w ∙ n.is) in
+          let z : d ≡ e = some_same d e (sym y.open_beat.is ∙ ap beats w ∙ n.is) in
           subst (λ v. Busy c t v) z (subst (λ v. Busy c v d) w y)
 
       by : Phase c → Busy c t e

@@ -1,3 +1,4 @@
+pub mod FigureLemmas
 pub mod QueueLemmas
 pub mod RingLemmas
 pub mod RingLinesLemmas
@@ -17,3 +18,12 @@ pub mod SpacerTimeLemmas
 pub mod SpacerServeLemmas
 pub mod FlagLemmas
 pub mod JoinerLemmas
+pub mod QueueMapLemmas
+pub mod SpacerLinesLemmas
+pub mod PacingLemmas
+pub mod SpacerNet
+pub mod BesideLemmas
+pub mod BesideNet
+pub mod JoinLinesLemmas
+pub mod JoinerNet
+pub mod CountLemmas

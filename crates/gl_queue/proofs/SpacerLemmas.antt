@@ -1,24 +1,12 @@
 -- A spacer: what leaves, and that it leaves apart, in time and in order.
-use Rattle.std.proofs.Common.{◌≡◌, ℕ, zero, suc, ◌+◌, ◌-◌, ◌*◌, ◌<◌, ◌≤◌, List, [], ◌∷◌, ◌++◌, map, length, Option, Some, None, Bool, true, false, refl, sym, ap, ◌∙◌, subst, arith, inl, inr, ◌⊎◌, append_assoc, length-append}
-use Rattle.std.specs.Prelude.{option_to_list, is_some, not, ◌&&◌, ◌||◌, if◌then◌else◌, nat_eq}
-use Rattle.std.proofs.lemmas.Bool.{cases_lt, cases_order, false_from_ne_true, eqb-true, eq-eqb, and_parts, or_from}
+use Rattle.std.proofs.Common.{◌≡◌, ℕ, zero, suc, ◌+◌, ◌-◌, ◌*◌, ◌<◌, ◌≤◌, List, [], ◌∷◌, ◌++◌, length, Option, Some, None, Bool, true, false, refl, sym, ap, ◌∙◌, subst, arith, inl, inr, ◌⊎◌, length-append}
+use Rattle.std.specs.Prelude.{option_to_list, is_some, ◌&&◌, if◌then◌else◌, nat_eq}
+use Rattle.std.proofs.lemmas.Bool.{cases_lt, cases_order, eqb-true, eq-eqb}
 use Rattle.std.proofs.lemmas.List.{append-nil}
-use Rattle.std.proofs.Math.Nat.{mul-le-mul_left}
-use Rattle.gl_algebra.specs.declared.figures.Figures.{Figures}
-use Rattle.gl_bits.specs.Results.{Row}
-use Rattle.gl_algebra.specs.FigureTable.{IsSound, spacer_figures, last_of}
-use Rattle.gl_wire.specs.Beats.{Beats, last, most, gap, Spaced}
-use Rattle.gl_wire.specs.Wire.{Carried, pending, stream, rows}
-use Rattle.gl_wire.specs.Serves.{HasEnd, OneEnd, Caused, EndCaused, Fits, Served}
-use Rattle.gl_wire.specs.Spills.{ServedWithLines, ServesWithLines, never}
-use Rattle.gl_queue.specs.Queue.{oldest, behind, entries, LowBefore, IsQueue}
-use Rattle.gl_wire.specs.Sides.{IsOpen, IsIdle, ItsEnd, Side}
-use Rattle.gl_wire.specs.Apart.{Carries, CarriesApart, a_tuple, an_end, carries}
-use Rattle.gl_wire.specs.Shapes.{Same}
-use Rattle.gl_queue.specs.Merging.{only_passed}
-use Rattle.gl_queue.specs.Spacing.{Entry, entry_at, arrives, row_in, end_in, IsSpacer, SpacerServes, SpacerSpaces}
-use Rattle.gl_queue.proofs.HeldLemmas.{rows-push, empty}
-use Rattle.gl_queue.proofs.TagLemmas.{tag, cycles, cycles-push, First, first, none_tuple, none_end, cycles-quiet, pending-quiet, rows_at, rows_at-append, rows_at-tag, rows_at-cycles, held_entries}
+use Rattle.gl_wire.specs.Wire.{Carried, pending, rows}
+use Rattle.gl_queue.specs.Queue.{oldest, behind}
+use Rattle.gl_wire.specs.Apart.{carries}
+use Rattle.gl_queue.proofs.TagLemmas.{tag, cycles, cycles-push, First, first, pending-quiet, rows_at, rows_at-append, rows_at-tag}
 
 -- a spacer in one cycle: the entry whose turn it is leaves, named by the cycle in which it came
 abbrev pub leaving_tag : Bool → List ℕ → Option ℕ

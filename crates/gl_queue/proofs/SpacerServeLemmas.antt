@@ -1,37 +1,31 @@
 -- A spacer serves the same rows, apart.
-use Rattle.std.proofs.Common.{◌≡◌, ℕ, zero, suc, ◌+◌, ◌-◌, ◌*◌, ◌<◌, ◌≤◌, List, [], ◌∷◌, ◌++◌, map, length, Option, Some, None, Bool, true, false, refl, sym, ap, ◌∙◌, subst, arith, inl, inr, ◌⊎◌, append_assoc, length-append}
-use Rattle.std.specs.Prelude.{option_to_list, is_some, not, ◌&&◌, ◌||◌, if◌then◌else◌, nat_eq}
+use Rattle.std.proofs.Common.{◌≡◌, ℕ, zero, suc, ◌+◌, ◌-◌, ◌*◌, ◌<◌, ◌≤◌, List, [], ◌∷◌, ◌++◌, map, length, Option, Some, None, Bool, true, false, refl, sym, ap, ◌∙◌, arith, inl, inr, ◌⊎◌, length-append}
+use Rattle.std.specs.Prelude.{option_to_list, is_some, ◌&&◌, if◌then◌else◌, nat_eq}
 use Rattle.std.specs.Option.{option_map}
-use Rattle.std.proofs.lemmas.Bool.{cases_lt, cases_order, false_from_ne_true, eqb-true, eq-eqb, and_parts, or_right, or_left}
-use Rattle.std.proofs.lemmas.List.{append-nil, length-map}
+use Rattle.std.proofs.lemmas.Bool.{cases_lt, cases_order, or_right, or_left}
+use Rattle.std.proofs.lemmas.List.{length-map}
 use Rattle.std.proofs.Math.Nat.{mul-le-mul_left}
 use Rattle.gl_algebra.specs.declared.figures.Figures.{Figures}
 use Rattle.gl_bits.specs.Results.{Row}
 use Rattle.gl_algebra.specs.FigureTable.{IsSound, spacer_figures, last_of}
-use Rattle.gl_wire.specs.Beats.{Beats, last, most, gap, Spaced}
+use Rattle.gl_wire.specs.Beats.{Beats, last, most, Spaced}
 use Rattle.gl_wire.specs.Wire.{Carried, pending, stream, rows}
-use Rattle.gl_wire.specs.Serves.{HasEnd, OneEnd, Caused, EndCaused, Fits, Served}
-use Rattle.gl_wire.specs.Spills.{ServedWithLines, ServesWithLines, never}
-use Rattle.gl_queue.specs.Queue.{oldest, behind, entries, LowBefore, IsQueue}
-use Rattle.gl_wire.specs.Sides.{IsOpen, IsIdle, ItsEnd, Side}
-use Rattle.gl_wire.specs.Apart.{Carries, CarriesApart, a_tuple, an_end, carries}
+use Rattle.gl_wire.specs.Serves.{HasEnd, OneEnd, Fits}
+use Rattle.gl_wire.specs.Spills.{ServedWithLines, never}
+use Rattle.gl_queue.specs.Queue.{oldest, behind, entries, LowBefore}
+use Rattle.gl_wire.specs.Sides.{IsOpen, Side}
+use Rattle.gl_wire.specs.Apart.{CarriesApart, carries}
 use Rattle.gl_wire.specs.Shapes.{Same}
 use Rattle.gl_queue.specs.Merging.{only_passed}
 use Rattle.gl_queue.specs.Spacing.{Entry, entry_at, arrives, row_in, end_in, IsSpacer, SpacerServes, SpacerSpaces}
 use Rattle.gl_queue.specs.SpacerPhases.{most_entries, Wide}
 use Rattle.gl_wire.proofs.SideLemmas.{fits_side}
+use Rattle.gl_wire.proofs.ApartLemmas.{is_carries}
+use Rattle.gl_queue.proofs.FigureLemmas.{last_some}
 use Rattle.gl_queue.proofs.QueueLemmas.{not_passed}
-use Rattle.gl_queue.proofs.TagLemmas.{tag, cycles, held_entries}
-use Rattle.gl_queue.proofs.SpacerLemmas.{Spaces, Leaves, leaving_tag, leaves_tag, leaves_or_not, carried_leaves, leave_apart, flow, first_at, pending_at, in_order}
-use Rattle.gl_queue.proofs.SpacerTimeLemmas.{Phase, idle, busy, phases, Timely, timely, few_out, end_leaves, open_to, latest}
-
-last_some : (n first last : ℕ) → 1 ≤ n → last_of n first last ≡ last
-last_some zero f l h = absurd (omega (arith, h))
-last_some (suc n) f l h = refl
-
-carries_true : (s : Carried) (c : ℕ) → Carries s c → carries s c ≡ true
-carries_true s c (a_tuple r h) = or_left (is_some (s.tuple c)) (s.ends c) (ap is_some h)
-carries_true s c (an_end h) = or_right (is_some (s.tuple c)) (s.ends c) h
+use Rattle.gl_queue.proofs.TagLemmas.{tag, held_entries}
+use Rattle.gl_queue.proofs.SpacerLemmas.{Spaces, Leaves, leaving_tag, leaves_tag, leaves_or_not, carried_leaves, leave_apart, flow, pending_at, in_order}
+use Rattle.gl_queue.proofs.SpacerTimeLemmas.{Phase, idle, busy, phases, Timely, timely, few_out, end_leaves, open_to}
 
 minus_one : (n g : ℕ) → 1 ≤ n → (n - 1) * g + g ≡ g * n
 minus_one zero g h = absurd (omega (arith, h))
@@ -338,7 +332,7 @@ module _ (g : ℕ) (f : Figures) (passed : ℕ → Bool) (a o : Carried) (one : 
   }
 
   carries_apart : CarriesApart g o
-  carries_apart c d p q l = let x = leaves_at c (carries_true o c p) in let y = leaves_at d (carries_true o d q) in leave_apart g one m.timer a o tags spaces refl c d x.0 y.0 x.1 y.1 l
+  carries_apart c d p q l = let x = leaves_at c (is_carries o c p) in let y = leaves_at d (is_carries o d q) in leave_apart g one m.timer a o tags spaces refl c d x.0 y.0 x.1 y.1 l
 
 pub spacer_serves : SpacerServes
 spacer_serves g f passed a o one sound m beats spaced fits_a = with_lines g f passed a o one sound m beats spaced fits_a

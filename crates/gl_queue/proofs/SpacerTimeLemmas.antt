@@ -1,25 +1,20 @@
 -- A spacer in time.
-use Rattle.std.proofs.Common.{◌≡◌, ℕ, zero, suc, ◌+◌, ◌-◌, ◌*◌, ◌<◌, ◌≤◌, List, [], ◌∷◌, ◌++◌, map, length, Option, Some, None, Bool, true, false, refl, sym, ap, ◌∙◌, subst, arith, inl, inr, ◌⊎◌, append_assoc, length-append}
-use Rattle.std.specs.Prelude.{option_to_list, is_some, not, ◌&&◌, ◌||◌, if◌then◌else◌, nat_eq}
-use Rattle.std.proofs.lemmas.Bool.{cases_lt, cases_order, false_from_ne_true, eqb-true, eq-eqb, and_parts, or_right, or_left}
-use Rattle.std.proofs.lemmas.List.{append-nil}
+use Rattle.std.proofs.Common.{◌≡◌, ℕ, zero, suc, ◌+◌, ◌-◌, ◌*◌, ◌<◌, ◌≤◌, List, [], ◌∷◌, ◌++◌, length, Option, Some, None, Bool, true, false, refl, sym, ap, ◌∙◌, subst, arith, inl, inr, ◌⊎◌, length-append}
+use Rattle.std.specs.Prelude.{option_to_list, is_some, ◌||◌, if◌then◌else◌, nat_eq}
+use Rattle.std.proofs.lemmas.Bool.{cases_lt, cases_order, false_from_ne_true, or_right}
 use Rattle.std.proofs.Math.Nat.{mul-le-mul_left}
+use Rattle.gl_bits.proofs.Options.{some_same}
 use Rattle.gl_algebra.specs.declared.figures.Figures.{Figures}
 use Rattle.gl_bits.specs.Results.{Row}
-use Rattle.gl_algebra.specs.FigureTable.{IsSound, spacer_figures, last_of}
-use Rattle.gl_wire.specs.Beats.{Beats, last, most, gap, Spaced}
-use Rattle.gl_wire.specs.Wire.{Carried, pending, stream, rows}
-use Rattle.gl_wire.specs.Sides.{IsOpen, IsIdle, ItsEnd, Side}
-use Rattle.gl_queue.specs.Queue.{oldest, behind}
+use Rattle.gl_wire.specs.Beats.{Beats, last, most}
+use Rattle.gl_wire.specs.Wire.{Carried, rows}
+use Rattle.gl_wire.specs.Sides.{IsOpen, IsIdle, Side}
 use Rattle.gl_wire.specs.Apart.{carries}
 use Rattle.gl_queue.specs.SpacerPhases.{most_entries, Wide}
 use Rattle.gl_wire.proofs.RowsLemmas.{rows-split, rows-quiet}
-use Rattle.gl_queue.proofs.HeldLemmas.{rows-push, empty}
+use Rattle.gl_queue.proofs.HeldLemmas.{rows-push}
 use Rattle.gl_queue.proofs.TagLemmas.{tag, cycles, cycles-push, First, first, none_tuple, none_end, rows_at, rows_at-cycles}
-use Rattle.gl_queue.proofs.SpacerLemmas.{Spaces, Leaves, leaving_tag, leaves_tag, work, work_next, leaves_or_not, carried_leaves, front, front_more, Flow, flow, first_at, pending_at, in_order, kept_rows}
-
-same_some : (x y : Bool) → Some x ≡ Some y → x ≡ y
-same_some x y h = cc
+use Rattle.gl_queue.proofs.SpacerLemmas.{Spaces, Leaves, leaving_tag, leaves_tag, work, work_next, leaves_or_not, front, front_more, Flow, flow, first_at, kept_rows}
 
 tag_rows : (s : Carried) (c : ℕ) → s.ends c ≡ false → length (option_to_list (tag s c)) ≤ length (option_to_list (s.tuple c))
 tag_rows s c h = by (s.tuple c) (s.ends c) h
@@ -240,7 +235,7 @@ module _ (g : ℕ) (one : 1 ≤ g) (timer : ℕ → ℕ) (a o : Carried) (vs : �
         where
           same : (u : ℕ) (d : Bool) → u ≡ t → Busy c u d → Busy c t e
           same u d q y =
-              let z : d ≡ e = same_some d e (sym y.open_beat.is ∙ ap beats q ∙ p.is) in
+              let z : d ≡ e = some_same d e (sym y.open_beat.is ∙ ap beats q ∙ p.is) in
               subst (λ v. Busy c t v) z (subst (λ v. Busy c v d) q y)
 
           by : Phase c → Busy c t e

@@ -1,14 +1,14 @@
 -- The cycles in which a wire carries something, as the entries of a queue.
-use Rattle.std.proofs.Common.{◌≡◌, ℕ, zero, suc, ◌+◌, ◌-◌, ◌<◌, ◌≤◌, List, [], ◌∷◌, ◌++◌, map, length, Option, Some, None, Bool, true, false, refl, sym, ap, ◌∙◌, subst, arith, inl, inr, append_assoc, length-append}
-use Rattle.std.specs.Prelude.{option_to_list, is_some, ◌||◌, if◌then◌else◌}
+use Rattle.std.proofs.Common.{◌≡◌, ℕ, zero, suc, ◌+◌, ◌-◌, ◌<◌, ◌≤◌, List, [], ◌∷◌, ◌++◌, map, Option, Some, None, Bool, true, false, refl, sym, ap, ◌∙◌, arith, inl, inr, append_assoc}
+use Rattle.std.specs.Prelude.{option_to_list, is_some, if◌then◌else◌}
 use Rattle.std.specs.Option.{option_map}
 use Rattle.std.proofs.lemmas.Bool.{cases_lt, or_parts}
 use Rattle.std.proofs.lemmas.List.{append-nil, map-append}
 use Rattle.gl_bits.specs.Results.{Row}
-use Rattle.gl_wire.specs.Wire.{Carried, pending, stream, rows}
-use Rattle.gl_queue.specs.Queue.{oldest, behind, entries}
+use Rattle.gl_wire.specs.Wire.{Carried, pending, rows}
+use Rattle.gl_queue.specs.Queue.{behind, entries}
 use Rattle.gl_wire.specs.Apart.{carries}
-use Rattle.gl_queue.specs.Spacing.{Entry, entry_at, arrives}
+use Rattle.gl_queue.specs.Spacing.{entry_at, arrives}
 
 -- a cycle in which it carries something
 abbrev pub tag : Carried → ℕ → Option ℕ

@@ -14,14 +14,11 @@ use Rattle.gl_queue.specs.Merging.{IsMerging, UnionServes, only_passed}
 use Rattle.gl_wire.specs.Sides.{IsOpen, Side}
 use Rattle.gl_queue.specs.Phases.{Held, Works, Bounds, Roomy, Quiet}
 use Rattle.gl_wire.proofs.SideLemmas.{fits_side}
+use Rattle.gl_queue.proofs.FigureLemmas.{last_some}
 use Rattle.gl_queue.proofs.QueueLemmas.{not_passed}
 use Rattle.gl_queue.proofs.PhaseLemmas.{Phase, idle, busy, EndOf, leaving, left_length, starts, Starts, StartsNot, still_open, clear_busy, phase_next}
 use Rattle.gl_queue.proofs.FlowLemmas.{OutEnd, few_out, out_caused, end_caused, out_end}
 use Rattle.gl_queue.proofs.StreamLemmas.{since, mixed, Ended, ended}
-
-last_some : (n first last : ℕ) → 1 ≤ n → last_of n first last ≡ last
-last_some zero f l h = absurd (omega (arith, h))
-last_some (suc n) f l h = refl
 
 -- while its end waits, a side brings nothing
 module _ (k : Bounds) (la lb : Bool → ℕ) (beats : Beats) (h : Held) (a b o : Carried) (sa : Side k.first la k.most_a beats a) (sb : Side k.first lb k.most_b beats b) (in_a : (e : Bool) → la e ≤ k.late e) (in_b : (e : Bool) → lb e ≤ k.late e) (roomy : Roomy k beats) (works : (c : ℕ) → Works h a b o c) (phases : (c : ℕ) → Phase k la lb beats h a b o sa sb in_a in_b roomy c) where

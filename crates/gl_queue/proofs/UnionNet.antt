@@ -1,6 +1,6 @@
 -- A union behind two padded sides: what it costs, and what it serves.
-use Rattle.std.proofs.Common.{◌≡◌, ℕ, ◌+◌, ◌*◌, ◌^◌, ◌≤◌, List, length, Option, Some, Bool, sym, ap, ◌∙◌, arith}
-use Rattle.std.specs.Prelude.{◌||◌}
+use Rattle.std.proofs.Common.{◌≡◌, ℕ, ◌+◌, ◌*◌, ◌^◌, ◌≤◌, List, length, Option, Some, None, Bool, true, false, refl, sym, ap, ◌∙◌, arith}
+use Rattle.std.specs.Prelude.{◌&&◌, ◌||◌, is_some, not}
 use Rattle.std.specs.List.{sum}
 use Rattle.std.proofs.Math.Nat.{mul-le-mul_left}
 use Rattle.gl_algebra.specs.Cost.{ring}
@@ -11,7 +11,8 @@ use Rattle.gl_algebra.proofs.SoundLemmas.{delayed_sound}
 use Rattle.gl_bits.proofs.Bools.{or_none}
 use Rattle.gl_bits.specs.Lists.{IsInterleaving}
 use Rattle.gl_net.specs.declared.node.Bit.{Bit}
-use Rattle.gl_net.specs.Net.{Net}
+use Rattle.gl_bits.specs.Results.{Row}
+use Rattle.gl_net.specs.Net.{Net, Run, IsRun}
 use Rattle.gl_net.proofs.Determined.{keeps_then}
 use Rattle.gl_wire.specs.declared.emitted.Emitted.{Emitted}
 use Rattle.gl_wire.specs.declared.emitted.Faults.{Faults}
@@ -28,9 +29,10 @@ use Rattle.gl_wire.proofs.PadLemmas.{padded_when}
 use Rattle.gl_queue.specs.declared.merge.Merged.{Merged}
 use Rattle.gl_queue.specs.Costs.{address_bits}
 use Rattle.gl_queue.specs.MergeLines.{IsMergedOf}
-use Rattle.gl_queue.specs.Merging.{IsMerging, only_passed}
-use Rattle.gl_queue.specs.Unions.{IsUnionOf, cost_of_union}
+use Rattle.gl_queue.specs.Merging.{IsMerging, first_of, only_passed}
+use Rattle.gl_queue.specs.Unions.{IsUnionIn, IsUnionOf, cost_of_union}
 use Rattle.gl_queue.proofs.DepthLemmas.{address_low}
+use Rattle.gl_queue.proofs.FigureLemmas.{one_pad}
 use Rattle.gl_queue.proofs.UnionLemmas.{union_serves}
 
 -- sides padded to begin together, merged, serve the interleavings of the sides
@@ -40,9 +42,16 @@ padded_union p q passed a b a' b' o sound_p sound_q da db m =
     padded_when (wait_of p q) (wait_of q p) p q (union_figures p q) (never2 IsInterleaving) (only_passed passed) always always a a' b b' o da db (λ beats fa fb c. tt)
     (union_serves (delayed (wait_of p q) p) (delayed (wait_of q p) q) passed a' b' o (delayed_sound (wait_of p q) p sound_p) (delayed_sound (wait_of q p) q sound_q) (omega arith) m)
 
--- both pads together
-one_pad : (p q : Figures) → wait_of p q + wait_of q p ≡ pad_of p q
-one_pad p q = omega arith
+-- an end leaves where neither queue has a row
+ends_alone : (n m : ℕ) (passed : ℕ → Bool) (a b o : Carried) → IsMerging n m passed a b o → (c : ℕ) → o.ends c ≡ true → o.tuple c ≡ None
+ends_alone n m passed a b o u c e = u.out c ∙ by (u.wait_a c && u.wait_b c) (u.left c) (u.right c) (sym (u.leaves c) ∙ e)
+  where
+    by : (w : Bool) (p q : Option Row) → w && not (is_some p) && not (is_some q) ≡ true → first_of p q ≡ None
+    by w None None h = refl
+    by true None (Some r) h = absurd (cc)
+    by false None (Some r) h = absurd (cc)
+    by true (Some r) q h = absurd (cc)
+    by false (Some r) q h = absurd (cc)
 
 -- what is added within the bounds
 cost_nodes : (lines pad n m : ℕ) → 2 ≤ lines → 1 ≤ n → 1 ≤ m → pad * lines + (46 + 5 * lines) + 4 ≤ 8 * lines * (pad + n + m + 4)
@@ -97,26 +106,41 @@ module _ (old n1 n2 n3 n4 new : Net) (p q : Figures) (a b : Emitted) (first seco
       stores : (ring p.ne + ring q.ne) * sum (widths first.columns) ≡ (ring p.ne + ring q.ne) * sum columns
       stores = ap (λ (xs : List ℕ). (ring p.ne + ring q.ne) * sum xs) first_columns
 
+  merges : (run : Run) → IsRun new run → IsUnionIn run p q a b (record { wire = out.wire; faults = record { passed = passed; further = sides.further } })
+  merges run r =
+      let at_4 = line.keeps.runs run r in
+      let at_3 = told.keeps.runs run at_4 in
+      let at_2 = m.keeps.runs run at_3 in
+      let both = told.lines run at_4 in
+      record {
+        first = carried run first;
+        second = carried run second;
+        passed = line_of run (Some out.passed);
+        left_waits = pad_a.delayed run (pad_b.keeps.runs run at_2);
+        right_waits = pad_b.delayed run at_2;
+        merging = m.merging run at_3;
+        told = record {
+          passed = λ c. line.line run r c ∙ ap (λ (x : Bool). x || line_of run (Some out.passed) c) (both.passed c);
+          further = λ c. both.further c ∙ sym (or_none _);
+        };
+      }
+
   pub union_of : IsUnionOf old new p q a b (record { wire = out.wire; faults = record { passed = passed; further = sides.further } })
   union_of = record {
-    keeps = keeps_then old n1 new pad_a.keeps (keeps_then n1 n2 new pad_b.keeps (keeps_then n2 n3 new m.keeps (keeps_then n3 n4 new told.keeps line.keeps)));
-    cost = costs;
-    wire = wire_kept n4 new out.wire line.keeps (wire_kept n3 n4 out.wire told.keeps m.wire);
-    same_widths = m.same_widths ∙ first_columns;
-    lines = record { passed = line.is; further = line_kept n4 new sides.further line.keeps told.are.further };
-    paced = λ run r. tt;
-    serves = λ run r.
-        let at_4 = line.keeps.runs run r in
-        let at_3 = told.keeps.runs run at_4 in
-        let at_2 = m.keeps.runs run at_3 in
-        let at_1 = pad_b.keeps.runs run at_2 in
-        let both = told.lines run at_4 in (
-          only_passed (line_of run (Some out.passed)),
-          record {
-            passed = λ c. line.line run r c ∙ ap (λ (x : Bool). x || line_of run (Some out.passed) c) (both.passed c);
-            further = λ c. both.further c ∙ sym (or_none _);
-          },
-          padded_union p q (line_of run (Some out.passed)) (carried run a.wire) (carried run b.wire) (carried run first) (carried run second) (carried run out.wire) sound_p sound_q
-              (pad_a.delayed run at_1) (pad_b.delayed run at_2) (m.merging run at_3),
-        );
+    behind = record {
+      keeps = keeps_then old n1 new pad_a.keeps (keeps_then n1 n2 new pad_b.keeps (keeps_then n2 n3 new m.keeps (keeps_then n3 n4 new told.keeps line.keeps)));
+      cost = costs;
+      wire = wire_kept n4 new out.wire line.keeps (wire_kept n3 n4 out.wire told.keeps m.wire);
+      same_widths = m.same_widths ∙ first_columns;
+      lines = record { passed = line.is; further = line_kept n4 new sides.further line.keeps told.are.further };
+      paced = λ run r. tt;
+      serves = λ run r.
+          let u = merges run r in (
+            only_passed u.passed,
+            u.told,
+            padded_union p q u.passed (carried run a.wire) (carried run b.wire) u.first u.second (carried run out.wire) sound_p sound_q u.left_waits u.right_waits u.merging,
+          );
+    };
+    merges = merges;
+    alone = λ run r. let u = merges run r in ends_alone p.ne q.ne u.passed u.first u.second (carried run out.wire) u.merging;
   }

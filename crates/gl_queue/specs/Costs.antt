@@ -23,3 +23,27 @@ cost_of_merging depth_a depth_b columns = record {
   registers = 2 * address_bits depth_a + 2 * address_bits depth_b + 4;
   memories = (ring depth_a + ring depth_b) * sum columns;
 }
+
+-- a queue whose entries leave apart: a timer of 32 bits beside it
+abbrev pub cost_of_pacing : ℕ → List ℕ → Cost
+cost_of_pacing depth columns = record {
+  nodes = 32 + 2 * length columns;
+  registers = 2 * address_bits depth + 33;
+  memories = ring depth * sum columns;
+}
+
+-- all that a wire of these columns carries, some cycles apart
+abbrev pub cost_of_spacing : ℕ → List ℕ → Cost
+cost_of_spacing depth columns = record {
+  nodes = 39 + 2 * length columns;
+  registers = 2 * address_bits depth + 33;
+  memories = ring depth * (sum columns + 2);
+}
+
+-- two wires of these columns joined at their ends
+abbrev pub cost_of_joining : List ℕ → List ℕ → Cost
+cost_of_joining left right = record {
+  nodes = 9 + 3 * length left + 3 * length right;
+  registers = 4 + 2 * sum left + 2 * sum right;
+  memories = 0;
+}

@@ -1,5 +1,5 @@
 -- A joiner of two sides that bring one row with each end: it holds the row of each side, and gives both side by side once both are there.
-use Rattle.std.specs.Prelude.{◌≡◌, ℕ, suc, ◌++◌, Option, Some, None, Bool, false, not, ◌&&◌, ◌||◌, if◌then◌else◌}
+use Rattle.std.specs.Prelude.{◌≡◌, ℕ, suc, ◌++◌, Some, None, Bool, false, not, ◌&&◌, ◌||◌, if◌then◌else◌}
 use Rattle.gl_algebra.specs.declared.figures.Figures.{Figures}
 use Rattle.gl_algebra.specs.FigureTable.{IsSound, at_end}
 use Rattle.gl_bits.specs.Results.{AreBeside, Row}
@@ -31,3 +31,9 @@ abbrev pub JoinerServes : Type 0
 JoinerServes =
     (p q : Figures) (a b o : Carried) → IsSound p → IsSound q → p.a ≡ q.a → IsJoiner a b o
     → ServesWhen2 BothWithEnds p q (at_end p q) (never2 AreBeside) no_lines a b o
+
+-- where both sides carry a tuple, one of both rows; ends are those of the left side
+pub record IsBeside (a b o : Carried) : Type 0 where
+  pub both : (c : ℕ) (r q : Row) → a.tuple c ≡ Some r → b.tuple c ≡ Some q → o.tuple c ≡ Some (r ++ q)
+  pub none : (c : ℕ) → a.tuple c ≡ None → o.tuple c ≡ None
+  pub ends : (c : ℕ) → o.ends c ≡ a.ends c

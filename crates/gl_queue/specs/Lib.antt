@@ -11,3 +11,8 @@ pub mod Unions
 pub mod Spacing
 pub mod SpacerPhases
 pub mod Joining
+pub mod SpacerLines
+pub mod Spacers
+pub mod JoinLines
+pub mod Joiners
+pub mod Counted

@@ -1,5 +1,6 @@
-//! Laws of the blocks on queues, from the equations of their lines alone.
+//! Laws of the blocks on queues: what they serve, from the equations of their lines alone, and what they cost.
 
+ghost use Rattle.gl_queue.specs.Counted.{JoinersAreCounted, SpacersAreCounted, UnionsAreCounted};
 ghost use Rattle.gl_queue.specs.Joining.{JoinerServes};
 ghost use Rattle.gl_queue.specs.Merging.{UnionServes};
 ghost use Rattle.gl_queue.specs.Spacing.{SpacerServes, SpacerSpaces};
@@ -22,4 +23,11 @@ pub fn spacer_spaces()
 /// A joiner of two sides that bring a row with each end serves the rows side by side.
 pub fn joiner_serves()
     ensures { JoinerServes }
+{}
+
+/// What the blocks cost at most is within what a plan counts for them in nodes, registers and memories.
+pub fn costs_are_counted()
+    ensures unions { UnionsAreCounted }
+    ensures joiners { JoinersAreCounted }
+    ensures spacers { SpacersAreCounted }
 {}

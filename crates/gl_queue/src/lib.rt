@@ -3,11 +3,16 @@
 //! row by row does not, nor do windows and groups.
 #![tactic(auto)]
 
+pub mod joiner;
 pub mod laws;
 pub mod merge;
+pub mod pacing;
 pub mod queue;
 pub mod ring;
+pub mod spacer;
 pub mod union;
 
+pub use joiner::Joiner;
 pub use queue::{Queue, address_bits, put_queue};
+pub use spacer::Spacer;
 pub use union::UnionOf;

@@ -101,12 +101,13 @@ pub fn put_merged(
         hold,
         left.columns.as_slice(),
     )?;
+    let right_hold = first.some;
     let second = put_queue(
         alloc,
         net,
         right_depth,
         right.valid,
-        first.some,
+        right_hold,
         right.columns.as_slice(),
     )?;
     let valid = either(net, first.some, second.some)?;

@@ -26,7 +26,8 @@ impl UnionOf {
     /// The figures of the rows of both.
     pub fn figures(&self) -> Figures
         requires { AreSmall (union_figures self.now.left self.now.right) }
-        ensures { result ≡ union_figures self.now.left self.now.right }
+        ensures value { result ≡ union_figures self.now.left self.now.right }
+        ensures sound { IsSound self.now.left → IsSound self.now.right → IsSound result }
     {
         table::union_figures(&self.left, &self.right).unwrap()
     }

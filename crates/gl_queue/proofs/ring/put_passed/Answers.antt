@@ -12,8 +12,8 @@ returns c =
     let line = c.in_ok-line.ensures in
     let at = c.args.at in
     record {
-      keeps = keeps_then c.args.net.now c.both.new.net c.but_not.new.net
-          (keeps_then c.args.net.now c.put_meeting.new.net c.both.new.net meets.keeps full.keeps) (keeps_then c.both.new.net c.both-2.new.net c.but_not.new.net comes.keeps line.keeps);
+      keeps = keeps_then c.args.net.now c.both.new.net _
+          (keeps_then c.args.net.now c.put_meeting.new.net c.both.new.net meets.keeps full.keeps) (keeps_then c.both.new.net c.both-2.new.net _ comes.keeps line.keeps);
       cost = record {
         nodes = omega (arith, meets.cost.nodes, full.cost.nodes, comes.cost.nodes, line.cost.nodes);
         registers = omega (arith, meets.cost.registers, full.cost.registers, comes.cost.registers, line.cost.registers);
