@@ -1,5 +1,5 @@
 -- What is made of columns: buses that carry values of a run, in every cycle.
-use Rattle.std.specs.Prelude.{◌≡◌, ℕ, ◌*◌, List, length, map}
+use Rattle.std.specs.Prelude.{◌≡◌, ℕ, ◌-◌, ◌*◌, ◌/◌, ◌%◌, ◌^◌, List, length, map}
 use Rattle.gl_bits.specs.Kinds.{width_of}
 use Rattle.gl_bits.specs.Results.{Row}
 use Rattle.gl_bits.specs.declared.kind.Kind.{Kind}
@@ -60,3 +60,11 @@ IsCast old new from to bus b = Carries old new 2 (width_of to) (λ run t. value_
 abbrev pub IsOperated : Net → Net → Op → Kind → Bus → Bus → Bus → Type 0
 IsOperated old new op kind left right b =
     Carries old new 1 (width_of (result_kind (sort_of op) kind)) (λ run t. operate op kind (run.at t left.node) (run.at t right.node)) b
+
+-- the lowest bits of a bus, or all of them with zero bits above
+abbrev pub AreLow : Net → Net → ℕ → Bus → Bus → Type 0
+AreLow old new width bus b = Carries old new 2 width (λ run t. run.at t bus.node % 2 ^ width) b
+
+-- the highest bits of a bus, or all of them with zero bits below
+abbrev pub AreHigh : Net → Net → ℕ → Bus → Bus → Type 0
+AreHigh old new width bus b = Carries old new 2 width (λ run t. run.at t bus.node / 2 ^ (bus.width - width) * 2 ^ (width - bus.width)) b

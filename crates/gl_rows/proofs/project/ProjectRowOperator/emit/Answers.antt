@@ -1,6 +1,7 @@
 use Rattle.std.proofs.Common.{Some, subst}
 use Rattle.gl_algebra.specs.declared.figures.Figures.{Figures}
-use Rattle.gl_algebra.specs.Results.{Row, projected}
+use Rattle.gl_algebra.specs.Results.{projected}
+use Rattle.gl_bits.specs.Results.{Row}
 use Rattle.gl_wire.specs.Wire.{carried}
 use Rattle.gl_wire.specs.Serves.{Serves}
 use Rattle.gl_wire.specs.Shapes.{Mapped}
