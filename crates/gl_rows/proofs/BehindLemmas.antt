@@ -1,5 +1,5 @@
 -- Columns made of a wire's columns, as an operator behind it.
-use Rattle.std.proofs.Common.{◌≡◌, ℕ, ◌*◌, List, ◌++◌, map, length, Some, refl, arith, ap, ◌∙◌, length-append}
+use Rattle.std.proofs.Common.{List, map, Some, refl, arith}
 use Rattle.std.proofs.lemmas.List.{length-map}
 use Rattle.gl_bits.specs.Kinds.{width_of}
 use Rattle.gl_bits.specs.declared.kind.Kind.{Kind}
@@ -12,14 +12,13 @@ use Rattle.gl_wire.specs.declared.emitted.Emitted.{Emitted}
 use Rattle.gl_wire.specs.Blocks.{IsBehind}
 use Rattle.gl_wire.specs.Shapes.{Steady}
 use Rattle.gl_wire.specs.Wire.{IsWire, wire_of}
-use Rattle.gl_rows.specs.Costs.{cost_of_items}
+use Rattle.gl_rows.specs.Costs.{cost_of_items, projected_widths}
 use Rattle.gl_rows.specs.Made.{AreOperands}
 use Rattle.gl_rows.proofs.RowLemmas.{changed_now}
 
 pub project_behind : (old new : Net) (a : Emitted) (kinds : List Kind) (items : List Operand) (bs : List Bus) → IsWire old a.wire
     → AreOperands old new a.wire.columns kinds items bs
-    → IsBehind old new (Steady 0 (λ row. Some (projected items row))) (map width_of (map (kind_of_operand kinds) items))
-    (cost_of_items (map width_of (map (kind_of_operand kinds) items))) a (record { wire = wire_of a.wire.valid a.wire.eos bs; faults = a.faults })
+    → IsBehind old new (Steady 0 (λ row. Some (projected items row))) (projected_widths kinds items) (cost_of_items (projected_widths kinds items)) a (record { wire = wire_of a.wire.valid a.wire.eos bs; faults = a.faults })
 project_behind old new a kinds items bs wire made = record {
   keeps = made.keeps;
   cost = record {

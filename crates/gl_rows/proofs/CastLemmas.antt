@@ -1,5 +1,5 @@
 -- Values as words of another width.
-use Rattle.std.proofs.Common.{◌≡◌, ℕ, ◌+◌, ◌-◌, ◌*◌, ◌/◌, ◌%◌, ◌^◌, ◌<◌, ◌≤◌, refl, sym, ap, ◌∙◌, subst, arith}
+use Rattle.std.proofs.Common.{◌≡◌, ℕ, ◌+◌, ◌-◌, ◌*◌, ◌/◌, ◌%◌, ◌^◌, ◌<◌, ◌≤◌, sym, ap, ◌∙◌, subst, arith}
 use Rattle.std.proofs.Math.Nat.{mod-eq_of_lt, div-one, mul-one, div-lt_iff_lt-mul}
 use Rattle.std.proofs.lemmas.Nat.{pow-add, pow_pos}
 use Rattle.gl_bits.proofs.Wrapping.{fits_wider}

@@ -1,11 +1,11 @@
 -- Buses that carry values of another width.
-use Rattle.std.proofs.Common.{◌≡◌, ℕ, ◌+◌, ◌-◌, ◌*◌, ◌/◌, ◌%◌, ◌^◌, ◌<◌, ◌≤◌, refl, sym, ap, ◌∙◌, arith}
+use Rattle.std.proofs.Common.{◌≡◌, ℕ, ◌+◌, ◌-◌, ◌*◌, ◌/◌, ◌%◌, ◌^◌, ◌<◌, ◌≤◌, sym, ap, ◌∙◌, arith}
 use Rattle.std.proofs.Math.Nat.{mod-eq_of_lt}
 use Rattle.gl_bits.proofs.Wrapping.{fits_wider}
-use Rattle.gl_bits.specs.Words.{cut_of, join_of}
+use Rattle.gl_bits.specs.Words.{join_of}
 use Rattle.gl_net.specs.declared.node.Bus.{Bus}
 use Rattle.gl_net.specs.Builds.{IsCut, IsJoined}
-use Rattle.gl_net.specs.Net.{Net, Run, IsBus, Keeps}
+use Rattle.gl_net.specs.Net.{Net, IsBus, Keeps}
 use Rattle.gl_net.proofs.Determined.{keeps_then}
 use Rattle.gl_net.proofs.Values.{bus_fits}
 use Rattle.gl_wire.specs.Costs.{CostsAtMost, nodes_alone}

@@ -1,5 +1,5 @@
 -- A wire's columns and the operations over them, behind a stage.
-use Rattle.std.proofs.Common.{◌≡◌, ℕ, ◌*◌, List, ◌++◌, map, length, Some, refl, sym, ap, ◌∙◌, arith}
+use Rattle.std.proofs.Common.{◌≡◌, ℕ, List, ◌++◌, map, length, Some, refl, sym, ap, ◌∙◌, arith}
 use Rattle.std.specs.List.{sum}
 use Rattle.std.proofs.lemmas.List.{map-append}
 use Rattle.gl_bits.specs.Kinds.{width_of}
@@ -17,16 +17,13 @@ use Rattle.gl_wire.specs.Shapes.{Steady}
 use Rattle.gl_wire.specs.Stages.{IsPad}
 use Rattle.gl_wire.specs.Wire.{row_at, widths, wire_of}
 use Rattle.gl_wire.proofs.ColumnLemmas.{row_at-append, widths-append}
-use Rattle.gl_rows.specs.Costs.{cost_of_rows}
+use Rattle.gl_rows.specs.Costs.{computed_widths, cost_of_rows}
 use Rattle.gl_rows.specs.Made.{AreOperations}
 use Rattle.gl_rows.proofs.RowLemmas.{changed_later}
 
 module _ (old mid new : Net) (a : Emitted) (kinds : List Kind) (ops : List ColOp) (made columns : List Bus) (is : columns ≡ a.wire.columns ++ made)
     (given : widths a.wire.columns ≡ map width_of kinds) (all : AreOperations old mid a.wire.columns kinds ops made) where
-  abbrev out : List ℕ
-  out = map width_of (kinds ++ map (kind_of_op kinds) ops)
-
-  out_widths : widths columns ≡ out
+  out_widths : widths columns ≡ computed_widths kinds ops
   out_widths =
       ap widths is ∙ widths-append a.wire.columns made ∙ ap (λ l. l ++ widths made) given ∙ ap (λ l. map width_of kinds ++ l) all.same_widths
       ∙ sym (map-append width_of kinds (map (kind_of_op kinds) ops))
@@ -36,7 +33,7 @@ module _ (old mid new : Net) (a : Emitted) (kinds : List Kind) (ops : List ColOp
       ap (row_at run t) is ∙ row_at-append run t a.wire.columns made ∙ ap (λ l. row_at run t a.wire.columns ++ l) (all.row run r t)
 
   pub compute_behind : (w : Wire) → IsPad mid new 1 (wire_of a.wire.valid a.wire.eos columns) w
-      → IsBehind old new (Steady 1 (λ row. Some (computed kinds ops row))) out (cost_of_rows out (length ops)) a (record { wire = w; faults = a.faults })
+      → IsBehind old new (Steady 1 (λ row. Some (computed kinds ops row))) (computed_widths kinds ops) (cost_of_rows (computed_widths kinds ops) (length ops)) a (record { wire = w; faults = a.faults })
   compute_behind w staged = record {
     keeps = keeps_then old mid new all.keeps staged.keeps;
     cost = record {

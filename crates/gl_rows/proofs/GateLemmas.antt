@@ -1,5 +1,5 @@
 -- What an operator's gate gives of two words of a kind.
-use Rattle.std.proofs.Common.{◌≡◌, ℕ, Bool, true, false, refl, ap}
+use Rattle.std.proofs.Common.{◌≡◌, ℕ, true, false, refl, ap}
 use Rattle.gl_bits.specs.Kinds.{width_of}
 use Rattle.gl_bits.specs.Operators.{operate, result_kind, sort_of}
 use Rattle.gl_bits.specs.Words.{le_of, lt_of}

@@ -6,13 +6,13 @@ use Rattle.std.proofs.lemmas.Option.{slice_get-get_or}
 use Rattle.gl_bits.specs.Kinds.{width_of}
 use Rattle.gl_bits.specs.Results.{Row}
 use Rattle.gl_bits.specs.declared.kind.Kind.{Kind}
-use Rattle.gl_algebra.specs.Columns.{bit_kind, kind_of_column}
+use Rattle.gl_algebra.specs.Columns.{kind_of_column}
 use Rattle.gl_net.specs.declared.node.Bus.{Bus}
 use Rattle.gl_net.specs.Net.{Net, Run, IsRun, Keeps}
 use Rattle.gl_net.proofs.Determined.{keeps_then}
 use Rattle.gl_net.proofs.Growth.{same_keeps}
-use Rattle.gl_wire.specs.Wire.{AreBuses, row_at, widths}
-use Rattle.gl_wire.proofs.ColumnLemmas.{AreBuses-none, AreBuses-push, bus_kept, buses_kept, row_at-none, row_at-push, row_at-value, widths-push}
+use Rattle.gl_wire.specs.Wire.{row_at, widths}
+use Rattle.gl_wire.proofs.ColumnLemmas.{AreBuses-none, AreBuses-push, buses_kept, row_at-none, row_at-push, row_at-value, widths-push}
 use Rattle.gl_rows.specs.Made.{AreMade, Carries, IsSource}
 
 pub source_kept : (old new : Net) (columns : List Bus) (kinds : List Kind) → Keeps old new → IsSource old columns kinds → IsSource new columns kinds

@@ -1,14 +1,13 @@
 -- A gate that takes two buses of a kind, as an operator.
-use Rattle.std.proofs.Common.{◌≡◌, ℕ, true, false, ap, sym, ◌∙◌, arith}
+use Rattle.std.proofs.Common.{◌≡◌, ℕ, true, false, ap, ◌∙◌}
 use Rattle.gl_bits.specs.Kinds.{width_of}
 use Rattle.gl_bits.specs.Operators.{sort_of}
 use Rattle.gl_bits.specs.declared.kind.Kind.{Kind}
 use Rattle.gl_bits.specs.declared.op.Op.{Op}
 use Rattle.gl_algebra.specs.Columns.{SortFits}
-use Rattle.gl_net.specs.declared.node.BinaryOp.{BinaryOp}
 use Rattle.gl_net.specs.declared.node.Bus.{Bus}
 use Rattle.gl_net.specs.Builds.{IsBinary}
-use Rattle.gl_net.specs.Net.{Net, Run, IsBus, Keeps, binary_of, binary_width}
+use Rattle.gl_net.specs.Net.{Net, IsBus, Keeps, binary_of, binary_width}
 use Rattle.gl_wire.specs.Costs.{CostsAtMost, nodes_alone}
 use Rattle.gl_rows.specs.Gates.{gate_of, is_turned}
 use Rattle.gl_rows.specs.Made.{IsOperated}

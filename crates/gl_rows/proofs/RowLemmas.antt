@@ -1,5 +1,5 @@
 -- Columns made of a wire's columns, under its lines.
-use Rattle.std.proofs.Common.{◌≡◌, ℕ, zero, suc, ◌+◌, List, ◌++◌, length, map, Option, Some, None, Bool, true, false, refl, sym, ap, ◌∙◌, arith}
+use Rattle.std.proofs.Common.{◌≡◌, ℕ, zero, suc, ◌+◌, List, Some, None, Bool, true, false, refl, sym, ap, ◌∙◌, arith}
 use Rattle.std.specs.Prelude.{if◌then◌else◌, nat_eq, option_and_then, slice_get, slice_index, ◌&&◌}
 use Rattle.gl_bits.specs.Results.{Row}
 use Rattle.gl_algebra.specs.declared.figures.Figures.{Figures}

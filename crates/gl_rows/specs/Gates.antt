@@ -1,7 +1,6 @@
 -- The gate of each operator, and whether it takes the right operand first: there is no gate for > and >=.
 use Rattle.std.specs.Prelude.{Bool, true, false}
 use Rattle.gl_bits.specs.declared.op.Op.{Op}
-use Rattle.gl_bits.specs.declared.op.Op.TheVariants as Op
 use Rattle.gl_net.specs.declared.node.BinaryOp.{BinaryOp}
 use Rattle.gl_net.specs.declared.node.BinaryOp.TheVariants as Gate
 

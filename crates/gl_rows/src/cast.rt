@@ -83,7 +83,8 @@ pub fn high_bits(net: &mut NetBuilder, bus: Bus, width: u8) -> Result<Bus, Memor
 pub fn put_cast(net: &mut NetBuilder, bus: Bus, to: Kind) -> Result<Bus, Memory>
     requires bus { IsBus net.old bus }
     requires kind { IsKind to }
-    ensures { (from : Kind) → bus.width ≡ width_of from → CastFits from to → IfOk result (IsCast net.old net.new from to bus) }
+    ensures { (from : Kind) → bus.width ≡ width_of from → CastFits from to
+        → IfOk result (IsCast net.old net.new from to bus) }
 {
     match to {
         Kind::Unsigned(width) => low_bits(net, bus, width),

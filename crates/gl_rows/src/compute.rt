@@ -1,12 +1,12 @@
 //! Each row with one more column for each operation.
 
 ghost use Rattle.std.specs.Prelude.{◌≡◌, ◌++◌, All, IfOk, Some, length, map};
-ghost use Rattle.gl_algebra.specs.Columns.{OpFits, kind_of_op};
+ghost use Rattle.gl_algebra.specs.Columns.{OpFits};
 ghost use Rattle.gl_algebra.specs.FigureTable.{delayed, settled};
 ghost use Rattle.gl_algebra.specs.Results.{computed};
 ghost use Rattle.gl_bits.specs.Kinds.{width_of};
 ghost use Rattle.gl_net.specs.declared.node.Bus.{Bus};
-ghost use Rattle.gl_rows.specs.Costs.{cost_of_rows};
+ghost use Rattle.gl_rows.specs.Costs.{computed_widths, cost_of_rows};
 ghost use Rattle.gl_wire.specs.Blocks.{IsBehind};
 ghost use Rattle.gl_wire.specs.Shapes.{Mapped, Steady};
 ghost use Rattle.gl_wire.specs.Wire.{IsWire, widths};
@@ -52,9 +52,9 @@ pub fn put_compute(
     requires wire { IsWire net.old below.wire }
     requires kinds { widths below.wire.columns ≡ map width_of kinds.now }
     requires ops { All (OpFits kinds.now) ops.now }
-    ensures { IfOk result (IsBehind net.old net.new (Steady 1 (λ row. Some (computed kinds.now ops.now row)))
-        (map width_of (kinds.now ++ map (kind_of_op kinds.now) ops.now))
-        (cost_of_rows (map width_of (kinds.now ++ map (kind_of_op kinds.now) ops.now)) (length ops.now)) below) }
+    ensures { IfOk result (IsBehind net.old net.new
+        (Steady 1 (λ row. Some (computed kinds.now ops.now row))) (computed_widths kinds.now ops.now)
+        (cost_of_rows (computed_widths kinds.now ops.now) (length ops.now)) below) }
 {
     let source = Source {
         columns: below.wire.columns.as_slice(),
@@ -78,9 +78,9 @@ pub fn put_compute(
 impl Operator for ComputeRow<'_> {
     ghost takes = { λ s columns. (columns ≡ map width_of s.kinds.now) × All (OpFits s.kinds.now) s.ops.now };
 
-    ghost gives = { λ s _. map width_of (s.kinds.now ++ map (kind_of_op s.kinds.now) s.ops.now) };
+    ghost gives = { λ s _. computed_widths s.kinds.now s.ops.now };
 
-    ghost most = { λ s _. cost_of_rows (map width_of (s.kinds.now ++ map (kind_of_op s.kinds.now) s.ops.now)) (length s.ops.now) };
+    ghost most = { λ s _. cost_of_rows (computed_widths s.kinds.now s.ops.now) (length s.ops.now) };
 
     ghost shape = { λ s. Steady 1 (λ row. Some (computed s.kinds.now s.ops.now row)) };
 

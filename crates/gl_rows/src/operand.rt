@@ -22,7 +22,8 @@ pub struct Source<'a> {
 pub fn put_operand(net: &mut NetBuilder, source: Source, operand: Operand) -> Result<Bus, Memory>
     requires source { IsSource net.old source.columns.now source.kinds.now }
     requires fits { OperandFits source.kinds.now operand }
-    ensures { IfOk result (IsOperand net.old net.new source.entry.columns.now source.entry.kinds.now operand) }
+    ensures { IfOk result
+        (IsOperand net.old net.new source.entry.columns.now source.entry.kinds.now operand) }
 {
     match operand {
         Operand::Column(column) => Ok(source.columns[column as usize]),
@@ -42,7 +43,8 @@ pub fn put_operands(
 ) -> Result<Buses, Memory>
     requires source { IsSource net.old source.columns.now source.kinds.now }
     requires fit { All (OperandFits source.kinds.now) operands.now }
-    ensures { IfOk result (AreOperands net.old net.new source.entry.columns.now source.entry.kinds.now operands.now) }
+    ensures { IfOk result (AreOperands net.old net.new
+        source.entry.columns.now source.entry.kinds.now operands.now) }
 {
     let mut all = Buses::new(alloc);
     for operand in operands {

@@ -64,7 +64,8 @@ pub fn put_operator(net: &mut NetBuilder, op: Op, left: Bus, right: Bus) -> Resu
 fn put_not(net: &mut NetBuilder, source: Source, operand: Operand) -> Result<Bus, Memory>
     requires source { IsSource net.old source.columns.now source.kinds.now }
     requires fits { OpFits source.kinds.now (Not operand) }
-    ensures { IfOk result (IsOperation net.old net.new source.entry.columns.now source.entry.kinds.now (Not operand)) }
+    ensures { IfOk result (IsOperation net.old net.new
+        source.entry.columns.now source.entry.kinds.now (Not operand)) }
 {
     let arg = put_operand(net, source, operand)?;
     let bus = net.not(arg)?;
@@ -75,7 +76,8 @@ fn put_not(net: &mut NetBuilder, source: Source, operand: Operand) -> Result<Bus
 fn put_as(net: &mut NetBuilder, source: Source, operand: Operand, kind: Kind) -> Result<Bus, Memory>
     requires source { IsSource net.old source.columns.now source.kinds.now }
     requires fits { OpFits source.kinds.now (Cast operand kind) }
-    ensures { IfOk result (IsOperation net.old net.new source.entry.columns.now source.entry.kinds.now (Cast operand kind)) }
+    ensures { IfOk result (IsOperation net.old net.new
+        source.entry.columns.now source.entry.kinds.now (Cast operand kind)) }
 {
     let arg = put_operand(net, source, operand)?;
     let bus = put_cast(net, arg, kind)?;
@@ -92,7 +94,8 @@ fn put_binary(
 ) -> Result<Bus, Memory>
     requires source { IsSource net.old source.columns.now source.kinds.now }
     requires fits { OpFits source.kinds.now (Binary op left right) }
-    ensures { IfOk result (IsOperation net.old net.new source.entry.columns.now source.entry.kinds.now (Binary op left right)) }
+    ensures { IfOk result (IsOperation net.old net.new
+        source.entry.columns.now source.entry.kinds.now (Binary op left right)) }
 {
     let first = put_operand(net, source, left)?;
     let second = put_operand(net, source, right)?;
@@ -104,7 +107,8 @@ fn put_binary(
 pub fn put_operation(net: &mut NetBuilder, source: Source, op: ColOp) -> Result<Bus, Memory>
     requires source { IsSource net.old source.columns.now source.kinds.now }
     requires fits { OpFits source.kinds.now op }
-    ensures { IfOk result (IsOperation net.old net.new source.entry.columns.now source.entry.kinds.now op) }
+    ensures { IfOk result (IsOperation net.old net.new
+        source.entry.columns.now source.entry.kinds.now op) }
 {
     match op {
         ColOp::Not(operand) => put_not(net, source, operand),
@@ -122,7 +126,8 @@ pub fn put_operations(
 ) -> Result<Buses, Memory>
     requires source { IsSource net.old source.columns.now source.kinds.now }
     requires fit { All (OpFits source.kinds.now) ops.now }
-    ensures { IfOk result (AreOperations net.old net.new source.entry.columns.now source.entry.kinds.now ops.now) }
+    ensures { IfOk result (AreOperations net.old net.new
+        source.entry.columns.now source.entry.kinds.now ops.now) }
 {
     let mut all = Buses::new(alloc);
     for op in ops {

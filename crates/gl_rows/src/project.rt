@@ -1,11 +1,11 @@
 //! Of each row some values.
 
 ghost use Rattle.std.specs.Prelude.{◌≡◌, All, IfOk, Some, map};
-ghost use Rattle.gl_algebra.specs.Columns.{OperandFits, kind_of_operand};
+ghost use Rattle.gl_algebra.specs.Columns.{OperandFits};
 ghost use Rattle.gl_algebra.specs.FigureTable.{settled};
 ghost use Rattle.gl_algebra.specs.Results.{projected};
 ghost use Rattle.gl_bits.specs.Kinds.{width_of};
-ghost use Rattle.gl_rows.specs.Costs.{cost_of_items};
+ghost use Rattle.gl_rows.specs.Costs.{cost_of_items, projected_widths};
 ghost use Rattle.gl_wire.specs.Blocks.{IsBehind};
 ghost use Rattle.gl_wire.specs.Shapes.{Mapped, Steady};
 ghost use Rattle.gl_wire.specs.Wire.{IsWire, widths};
@@ -35,9 +35,9 @@ pub fn put_project(
     requires wire { IsWire net.old below.wire }
     requires kinds { widths below.wire.columns ≡ map width_of kinds.now }
     requires items { All (OperandFits kinds.now) items.now }
-    ensures { IfOk result (IsBehind net.old net.new (Steady 0 (λ row. Some (projected items.now row)))
-        (map width_of (map (kind_of_operand kinds.now) items.now))
-        (cost_of_items (map width_of (map (kind_of_operand kinds.now) items.now))) below) }
+    ensures { IfOk result (IsBehind net.old net.new
+        (Steady 0 (λ row. Some (projected items.now row))) (projected_widths kinds.now items.now)
+        (cost_of_items (projected_widths kinds.now items.now)) below) }
 {
     let source = Source {
         columns: below.wire.columns.as_slice(),
@@ -57,9 +57,9 @@ pub fn put_project(
 impl Operator for ProjectRow<'_> {
     ghost takes = { λ s columns. (columns ≡ map width_of s.kinds.now) × All (OperandFits s.kinds.now) s.items.now };
 
-    ghost gives = { λ s _. map width_of (map (kind_of_operand s.kinds.now) s.items.now) };
+    ghost gives = { λ s _. projected_widths s.kinds.now s.items.now };
 
-    ghost most = { λ s _. cost_of_items (map width_of (map (kind_of_operand s.kinds.now) s.items.now)) };
+    ghost most = { λ s _. cost_of_items (projected_widths s.kinds.now s.items.now) };
 
     ghost shape = { λ s. Steady 0 (λ row. Some (projected s.items.now row)) };
 
