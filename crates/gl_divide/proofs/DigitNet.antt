@@ -20,7 +20,7 @@ pub line_value : (net : Net) (run : Run) (b : Bit) → IsBit net b → IsRun net
 unfolding line_at
 line_value net run b is r t = bit_value (run.at (suc t) b.node) (bit_fits net b run is r (suc t))
 
-bit_is : (b : Bool) → nat_eq (bit b) 1 ≡ b
+pub bit_is : (b : Bool) → nat_eq (bit b) 1 ≡ b
 bit_is true = refl
 bit_is false = refl
 

@@ -1,6 +1,6 @@
 //! What operands carry.
 
-ghost use Rattle.std.specs.Prelude.{◌≡◌, All, IfOk};
+ghost use Rattle.std.specs.Prelude.{All, IfOk};
 ghost use Rattle.gl_algebra.specs.Columns.{OperandFits};
 ghost use Rattle.gl_rows.specs.Made.{AreOperands, IsOperand, IsSource};
 

@@ -24,5 +24,5 @@ module _ (run : Run) (valid eos : Bit) (width : ℕ) (best : Best) (flag flag_no
       folds_second run valid eos best.value (best_step best.extreme best.kind) (0, 0) (λ c. run.at c flag.node) (λ c. run.at c flag_now.node) (λ c. run.at c before.node)
       (λ c. run.at c now.node) counts.start h.start counts.next h.next counts.with_row
       (λ c. h.with_row c ∙ ap (λ (b : Bool). if line_at run valid (suc c) then (if b then better best.extreme best.kind (run.at (suc c) before.node) (run.at (suc c) best.value.node)
-          else run.at (suc c) best.value.node) else run.at (suc c) before.node) (some_line c)) t
+      else run.at (suc c) best.value.node) else run.at (suc c) before.node) (some_line c)) t
       ∙ folds_best best.extreme best.kind (values_at run valid eos best.value (suc t))

@@ -7,7 +7,7 @@ use Rattle.gl_net.specs.declared.node.Bus.{Bus}
 use Rattle.gl_net.specs.declared.node.Bit.{Bit}
 use Rattle.gl_net.specs.Net.{Run}
 use Rattle.gl_wire.specs.Wire.{line_at}
-use Rattle.gl_totals.specs.Open.{value_in, values_at, values_before}
+use Rattle.gl_totals.specs.Open.{values_at, values_before}
 
 module _ {A : Type 0} (step : A → ℕ → A) (first : A) where
   fold_value : (b : Bool) (a : A) (n : ℕ) (xs : List ℕ) → a ≡ fold step first xs → (if b then step a n else a) ≡ fold step first (xs ++ (if b then n ∷ [] else []))

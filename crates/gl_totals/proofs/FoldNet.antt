@@ -1,18 +1,16 @@
 -- What the gates of a fold give.
-use Rattle.std.proofs.Common.{◌≡◌, ◌≢◌, ℕ, zero, suc, ◌+◌, ◌^◌, ◌<◌, ◌≤◌, Some, None, Bool, true, false, refl, sym, ap, ◌∙◌, arith}
+use Rattle.std.proofs.Common.{◌≡◌, ◌≢◌, ℕ, suc, ◌^◌, ◌<◌, ◌≤◌, Some, None, Bool, true, false, refl, sym, ap, ◌∙◌, arith}
 use Rattle.std.specs.Prelude.{if◌then◌else◌, nat_eq}
 use Rattle.std.proofs.Math.Nat.{pow-le-pow_right}
 use Rattle.std.proofs.lemmas.Bool.{eqb-true, eqb-false}
-use Rattle.gl_bits.specs.Kinds.{width_of}
 use Rattle.gl_bits.specs.Words.{bit, choose_of}
 use Rattle.gl_bits.specs.declared.kind.Kind.{Kind}
-use Rattle.gl_net.specs.declared.node.Bus.{Bus}
 use Rattle.gl_net.specs.declared.node.Bit.{Bit}
-use Rattle.gl_net.specs.Net.{Net, Run, Shape, Grows, Keeps, IsBit, IsBus, open_at, shape_in}
+use Rattle.gl_net.specs.Net.{Net, Run, Shape, Grows, Keeps, open_at, shape_in}
 use Rattle.gl_net.specs.Builds.{OthersStay}
 use Rattle.gl_wire.specs.Wire.{line_at}
-use Rattle.gl_totals.specs.Folds.{BestFits, StepFits, better, is_better}
-use Rattle.gl_totals.specs.declared.fold.Best.{Best}
+use Rattle.gl_divide.proofs.DigitNet.{bit_is}
+use Rattle.gl_totals.specs.Folds.{StepFits, better, is_better}
 use Rattle.gl_totals.specs.declared.fold.Extreme.{Extreme}
 use Rattle.gl_totals.specs.declared.fold.Extreme.TheVariants.{Least, Greatest}
 use Rattle.gl_totals.specs.declared.fold.Step.{Step}
@@ -21,10 +19,6 @@ use Rattle.gl_totals.specs.declared.fold.Step.TheVariants.{Add, Keep, Shift, Set
 -- 0 and 1 are words of every width
 pub small_fits : (n width : ℕ) → n < 2 → 1 ≤ width → n < 2 ^ width
 small_fits n width lt some = let wider : 2 ^ 1 ≤ 2 ^ width = pow-le-pow_right {n = 2} (omega arith) some in omega (arith, wider)
-
-bit_is : (b : Bool) → nat_eq (bit b) 1 ≡ b
-bit_is true = refl
-bit_is false = refl
 
 -- a choice by a line
 pub choose_line : (run : Run) (line : Bit) (t x y : ℕ) → choose_of (run.at (suc t) line.node) x y ≡ (if line_at run line (suc t) then x else y)

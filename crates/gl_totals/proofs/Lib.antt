@@ -9,3 +9,7 @@ pub mod PairLemmas
 pub mod ExtremeNet
 pub mod WeighNet
 pub mod AverageNet
+pub mod AggNet
+pub mod AggListNet
+pub mod KindLemmas
+pub mod TotalsBehind

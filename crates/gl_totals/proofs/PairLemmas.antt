@@ -30,4 +30,4 @@ module _ (run : Run) (valid eos : Bit) (x : Bus) (step : ℕ × ℕ → ℕ → 
       (folds_now step first run valid eos x (λ c. pair (one c) (two c)) (λ c. pair (one_now c) (two_now c)) (pair_same (one 1) first.0 (two 1) first.1 one_start two_start)
       (λ c. pair_same _ _ _ _ (one_next c) (two_next c) ∙ pair_if (line_at run eos (suc c)) first (pair (one_now (suc c)) (two_now (suc c))))
       (λ c. pair_same _ _ _ _ (one_row c) (two_row c)
-          ∙ pair_if (line_at run valid (suc c)) (step (pair (one (suc c)) (two (suc c))) (run.at (suc c) x.node)) (pair (one (suc c)) (two (suc c)))) t)
+      ∙ pair_if (line_at run valid (suc c)) (step (pair (one (suc c)) (two (suc c))) (run.at (suc c) x.node)) (pair (one (suc c)) (two (suc c)))) t)

@@ -1,6 +1,6 @@
 -- The weights of values in order, picked by a bit that moves up.
-use Rattle.std.proofs.Common.{◌≡◌, ℕ, zero, suc, ◌+◌, ◌-◌, ◌*◌, ◌/◌, ◌%◌, ◌^◌, ◌<◌, ◌≤◌, ◌⊎◌, inl, inr, List, [], ◌∷◌, length, drop, get_or, Bool, true, false, refl, sym, ap, ◌∙◌, arith}
-use Rattle.std.specs.Prelude.{fold, if◌then◌else◌, nat_eq}
+use Rattle.std.proofs.Common.{◌≡◌, ℕ, zero, suc, ◌+◌, ◌-◌, ◌*◌, ◌/◌, ◌%◌, ◌^◌, ◌<◌, ◌≤◌, inl, inr, List, [], ◌∷◌, length, drop, get_or, false, refl, sym, ap, ◌∙◌, arith}
+use Rattle.std.specs.Prelude.{fold}
 use Rattle.std.proofs.Math.Nat.{add-mod-mod, div-eq_of_eq-mul_left, mod-add-mod, mod-eq_of_lt, mul-mod_left, two-pow-succ, zero-div, zero-mod}
 use Rattle.std.proofs.Math.Pow.{pow-lt}
 use Rattle.std.proofs.lemmas.Bool.{cases_lt}
@@ -57,8 +57,9 @@ picked_there (n ∷ ws) (suc p) =
 
 picked_placed : (ws : List ℕ) (p : ℕ) → picked ws (placed (length ws) p) ≡ get_or ws p 0
 picked_placed ws p = elim (cases_lt p (length ws)) [
-    inl lt ↦ ap (picked ws) (placed_there (length ws) p lt) ∙ picked_there ws p
-    | inr le ↦ ap (picked ws) (placed_past (length ws) p le) ∙ picked_none ws ∙ sym (past ws p le) ]
+  | inl lt ↦ ap (picked ws) (placed_there (length ws) p lt) ∙ picked_there ws p
+  | inr le ↦ ap (picked ws) (placed_past (length ws) p le) ∙ picked_none ws ∙ sym (past ws p le)
+]
   where
     past : (xs : List ℕ) (i : ℕ) → length xs ≤ i → get_or xs i 0 ≡ 0
     past [] i le = refl

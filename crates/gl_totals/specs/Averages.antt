@@ -6,7 +6,7 @@ use Rattle.gl_net.specs.declared.node.Bit.{Bit}
 use Rattle.gl_net.specs.Net.{Net, Run, IsRun, IsBus, Keeps}
 use Rattle.gl_totals.specs.Open.{values_at}
 use Rattle.gl_totals.specs.declared.average.Fraction.{Fraction}
-use Rattle.gl_wire.specs.Costs.{Cost, CostsAtMost, nodes_alone}
+use Rattle.gl_wire.specs.Costs.{CostsAtMost, nodes_alone}
 
 -- the sum of the values of the open stream, in 32 bits more than they have, and their number
 pub record IsFraction (old new : Net) (valid eos : Bit) (value : Bus) (f : Fraction) : Type 0 where

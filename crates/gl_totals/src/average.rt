@@ -61,7 +61,7 @@ pub fn put_average(net: &mut NetBuilder, valid: Bit, eos: Bit, value: Bus) -> Re
     requires width { value.width ≤ 96 }
     ensures { (kind : Kind) → value.width ≡ width_of kind
         → IfOk result (IsTotalOf net.old net.new (cost_of_average value.width) value.width
-            (value.width + 33) valid eos value (average_of kind)) }
+        (value.width + 33) valid eos value (average_of kind)) }
 {
     let fraction = put_fraction(net, valid, eos, value)?;
     let guarded = put_guarded(net, fraction)?;

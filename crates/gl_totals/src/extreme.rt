@@ -33,6 +33,12 @@ pub fn put_extreme(
         some: some.before.bit(),
         value,
     };
-    let fold = put_fold(net, valid, eos, small_word(false, value.width), Step::Keep(best))?;
+    let fold = put_fold(
+        net,
+        valid,
+        eos,
+        small_word(false, value.width),
+        Step::Keep(best),
+    )?;
     Ok(fold.now)
 }

@@ -18,7 +18,13 @@ pub fn put_sum(net: &mut NetBuilder, valid: Bit, eos: Bit, value: Bus) -> Result
     ensures { IfOk result (IsTotalOf net.old net.new (cost_of_fold value.width) value.width 0
         valid eos value (sum_total value.width)) }
 {
-    let fold = put_fold(net, valid, eos, small_word(false, value.width), Step::Add(value))?;
+    let fold = put_fold(
+        net,
+        valid,
+        eos,
+        small_word(false, value.width),
+        Step::Add(value),
+    )?;
     Ok(fold.now)
 }
 

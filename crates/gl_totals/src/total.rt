@@ -53,7 +53,8 @@ fn put_extreme_of(
 ) -> Result<Bus, Memory>
     requires stream { IsStream net.old stream }
     requires fits { AggFits stream.source.kinds.now (agg_of_extreme extreme operand) }
-    ensures { IfOk result (IsAggOf net.old net.new 0 0 stream.entry (agg_of_extreme extreme operand)) }
+    ensures { IfOk result
+        (IsAggOf net.old net.new 0 0 stream.entry (agg_of_extreme extreme operand)) }
 {
     let kind = kind_of_operand(stream.source.kinds, &operand);
     let value = put_operand(net, stream.source, operand)?;

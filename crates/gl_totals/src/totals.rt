@@ -1,9 +1,8 @@
 //! All aggregates of a node.
 
 ghost use Rattle.std.specs.Prelude.{◌≡◌, All, IfOk, map};
-ghost use Rattle.gl_algebra.specs.Columns.{AggFits, kind_of_agg};
+ghost use Rattle.gl_algebra.specs.Columns.{AggFits};
 ghost use Rattle.gl_algebra.specs.FigureTable.{aggregate_figures, delay_of_aggs};
-ghost use Rattle.gl_algebra.specs.Results.{total_of};
 ghost use Rattle.gl_bits.specs.Kinds.{IsKind, width_of};
 ghost use Rattle.gl_totals.specs.Costs.{cost_of_aggs};
 ghost use Rattle.gl_totals.specs.Totals.{total_row, total_widths};

@@ -1,6 +1,6 @@
 //! The sum of the values of the open stream by their weights.
 
-ghost use Rattle.std.specs.Prelude.{◌≡◌, ◌+◌, ◌≤◌, All, IfOk, length};
+ghost use Rattle.std.specs.Prelude.{◌+◌, ◌≤◌, All, IfOk, length};
 ghost use Rattle.gl_bits.specs.Totals.{weighted_sum};
 ghost use Rattle.gl_bits.specs.Words.{IsWidth, bits_of};
 ghost use Rattle.gl_net.specs.Net.{IsBit, IsBus};

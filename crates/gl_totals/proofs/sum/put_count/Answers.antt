@@ -1,4 +1,4 @@
-use Rattle.std.proofs.Common.{◌≡◌, ℕ, suc, ◌+◌, arith, ap, ◌∙◌}
+use Rattle.std.proofs.Common.{ℕ, suc, arith, ap, ◌∙◌}
 use Rattle.gl_bits.specs.Totals.{sum_total}
 use Rattle.gl_net.proofs.Determined.{keeps_then}
 use Rattle.gl_totals.specs.Open.{values_at}

@@ -19,7 +19,7 @@ returns t c =
     let out = c.in_ok-out.ensures in
     let n = c.in-Some.first.now.bits in
     let ns = bits_of c.in-Some.others.now in
-    let first_width : c.in-Some.first.now.width ≡ c.args.width = 
+    let first_width : c.in-Some.first.now.width ≡ c.args.width =
     subst (All (HasWidth c.args.width)) c.in-Some.ensures.cases.0 c.requires.weights 0 c.in-Some.first.now (omega arith) in
     subst (λ (ws : List Word). Carries old new (3 * length (bits_of ws) + 1) c.args.width (λ run u. picked (bits_of ws) (run.at u place.node / 2 ^ from)) c.in_ok-out.out)
     (sym c.in-Some.ensures.cases.0)

@@ -1,4 +1,4 @@
-use Rattle.std.proofs.Common.{◌≡◌, ◌≢◌, ℕ, suc, ◌+◌, ◌≤◌, ◌/◌, length, ap, arith, sym, subst, ◌∙◌}
+use Rattle.std.proofs.Common.{◌≡◌, ◌≢◌, ℕ, suc, ◌+◌, ◌≤◌, length, ap, arith, sym, subst, ◌∙◌}
 use Rattle.std.proofs.Math.Nat.{div-one}
 use Rattle.std.proofs.lemmas.Bool.{eqb-false, eqb-true}
 use Rattle.std.proofs.lemmas.List.{length-map}
@@ -65,9 +65,9 @@ returns c =
           (subst (λ (w : ℕ). IsFolded run w 1 Shift valid eos p.before p.now) (c.small_word-first.ensures.width ∙ sym many)
           (subst (λ (b : ℕ). IsFolded run c.small_word-first.result.width b Shift valid eos p.before p.now) c.small_word-first.ensures.bits (place.folded run at_place)))
           (λ u. part.value run at_part (suc u)
-              ∙ ap (λ (w : ℕ). product_of w (run.at (suc u) c.in_ok-weight.weight.node) (run.at (suc u) value.node)) weight.same_width
-              ∙ ap (λ (n : ℕ). product_of width n (run.at (suc u) value.node)) (weight.carries run at_weight (suc u))
-              ∙ ap (λ (n : ℕ). product_of width (picked (bits_of ws) n) (run.at (suc u) value.node)) (div-one (run.at (suc u) p.before.node)))
+          ∙ ap (λ (w : ℕ). product_of w (run.at (suc u) c.in_ok-weight.weight.node) (run.at (suc u) value.node)) weight.same_width
+          ∙ ap (λ (n : ℕ). product_of width n (run.at (suc u) value.node)) (weight.carries run at_weight (suc u))
+          ∙ ap (λ (n : ℕ). product_of width (picked (bits_of ws) n) (run.at (suc u) value.node)) (div-one (run.at (suc u) p.before.node)))
           (subst (λ (w : ℕ). IsFolded run w 0 (Add x) valid eos f.before f.now) c.small_word-2.ensures.width
           (subst (λ (b : ℕ). IsFolded run c.small_word-2.result.width b (Add x) valid eos f.before f.now) c.small_word-2.ensures.bits (sum.folded run r))) t;
     }
