@@ -1,0 +1,40 @@
+-- Values as words of another width.
+use Rattle.std.proofs.Common.{◌≡◌, ℕ, ◌+◌, ◌-◌, ◌*◌, ◌/◌, ◌%◌, ◌^◌, ◌<◌, ◌≤◌, sym, ap, ◌∙◌, subst, arith}
+use Rattle.std.proofs.Math.Nat.{mod-eq_of_lt, div-one, mul-one, div-lt_iff_lt-mul}
+use Rattle.std.proofs.lemmas.Nat.{pow-add, pow_pos}
+use Rattle.gl_bits.proofs.Wrapping.{fits_wider}
+use Rattle.gl_bits.specs.Words.{cut_of, join_of}
+
+-- the lowest bits
+pub low_cut : (w x : ℕ) → 1 ≤ w → cut_of (w - 1) 0 x ≡ x % 2 ^ w
+unfolding cut_of
+low_cut w x some =
+    let e : w - 1 + 1 - 0 ≡ w = omega (arith, some) in
+    let d : x / 2 ^ 0 ≡ x = div-one x in
+    ap (λ (n : ℕ). x / 2 ^ 0 % 2 ^ n) e ∙ ap (λ (n : ℕ). n % 2 ^ w) d
+
+-- all of them, with zero bits above
+pub low_join : (v w x : ℕ) → x < 2 ^ v → v ≤ w → join_of v 0 x ≡ x % 2 ^ w
+unfolding join_of
+low_join v w x fits le = let z : 0 * 2 ^ v + x ≡ x = omega arith in z ∙ sym (mod-eq_of_lt (fits_wider x v w fits le))
+
+-- the highest bits
+pub high_cut : (v w x : ℕ) → x < 2 ^ v → 1 ≤ w → w ≤ v → cut_of (v - 1) (v - w) x ≡ x / 2 ^ (v - w) * 2 ^ (w - v)
+unfolding cut_of
+high_cut v w x fits some le =
+    let e : v - 1 + 1 - (v - w) ≡ w = omega (arith, some, le) in
+    let n : w - v ≡ 0 = omega (arith, le) in
+    let s : w + (v - w) ≡ v = omega (arith, le) in
+    let f : x < 2 ^ (w + (v - w)) = subst (λ (k : ℕ). x < 2 ^ k) (sym s) fits in
+    let p : x < 2 ^ w * 2 ^ (v - w) = subst (λ (k : ℕ). x < k) (pow-add 2 w (v - w)) f in
+    let below : x / 2 ^ (v - w) < 2 ^ w = (div-lt_iff_lt-mul (pow_pos (v - w))).1 p in
+    ap (λ (k : ℕ). x / 2 ^ (v - w) % 2 ^ k) e ∙ mod-eq_of_lt below
+    ∙ sym (ap (λ (k : ℕ). x / 2 ^ (v - w) * 2 ^ k) n ∙ mul-one (x / 2 ^ (v - w)))
+
+-- all of them, with zero bits below
+pub high_join : (v w x : ℕ) → v ≤ w → join_of (w - v) x 0 ≡ x / 2 ^ (v - w) * 2 ^ (w - v)
+unfolding join_of
+high_join v w x le =
+    let n : v - w ≡ 0 = omega (arith, le) in
+    let z : x * 2 ^ (w - v) + 0 ≡ x * 2 ^ (w - v) = omega arith in
+    z ∙ sym (ap (λ (k : ℕ). x / 2 ^ k * 2 ^ (w - v)) n ∙ ap (λ (k : ℕ). k * 2 ^ (w - v)) (div-one x))

@@ -1,0 +1,96 @@
+-- Buses that carry values of another width.
+use Rattle.std.proofs.Common.{◌≡◌, ℕ, ◌+◌, ◌-◌, ◌*◌, ◌/◌, ◌%◌, ◌^◌, ◌<◌, ◌≤◌, sym, ap, ◌∙◌, arith}
+use Rattle.std.proofs.Math.Nat.{mod-eq_of_lt}
+use Rattle.gl_bits.proofs.Wrapping.{fits_wider}
+use Rattle.gl_bits.specs.Words.{join_of}
+use Rattle.gl_net.specs.declared.node.Bus.{Bus}
+use Rattle.gl_net.specs.Builds.{IsCut, IsJoined}
+use Rattle.gl_net.specs.Net.{Net, IsBus, Keeps}
+use Rattle.gl_net.proofs.Determined.{keeps_then}
+use Rattle.gl_net.proofs.Values.{bus_fits}
+use Rattle.gl_wire.specs.Costs.{CostsAtMost, nodes_alone}
+use Rattle.gl_bits.specs.Kinds.{width_of}
+use Rattle.gl_bits.specs.declared.kind.Kind.{Kind}
+use Rattle.gl_bits.specs.declared.kind.Kind.TheVariants.{Unsigned, Text}
+use Rattle.gl_algebra.specs.Columns.{CastFits}
+use Rattle.gl_rows.specs.Made.{AreHigh, AreLow, Carries, IsCast}
+use Rattle.gl_rows.proofs.CastLemmas.{high_cut, high_join, low_cut}
+use Rattle.gl_rows.proofs.MadeLemmas.{carries_as}
+
+module _ (old mid new : Net) (width : ℕ) (bus zeros b : Bus) (is : IsBus old bus) (more : bus.width < width)
+    (none : Carries old mid 1 (width - bus.width) (λ run t. 0) zeros) (keeps : Keeps mid new) (cost : CostsAtMost mid new (nodes_alone 1)) (there : IsBus new b) where
+  two_nodes : CostsAtMost old new (nodes_alone 2)
+  two_nodes = record {
+    nodes = omega (arith, none.cost.nodes, cost.nodes);
+    registers = omega (arith, none.cost.registers, cost.registers);
+    memories = omega (arith, none.cost.memories, cost.memories);
+  }
+
+  -- zero bits above, as the lowest bits of a wider word
+  pub above : b.width ≡ zeros.width + bus.width → IsJoined new zeros bus b → Carries old new 2 width (λ run t. run.at t bus.node % 2 ^ width) b
+  unfolding join_of
+  above wide value = record {
+    keeps = keeps_then old mid new none.keeps keeps;
+    cost = two_nodes;
+    bus = there;
+    same_width = omega (arith, wide, none.same_width, more);
+    carries = λ run r t.
+        let before = keeps.runs run r in
+        let fits = fits_wider (run.at t bus.node) bus.width width (bus_fits old bus run is (none.keeps.runs run before) t) (omega (arith, more)) in
+        let zero : run.at t zeros.node ≡ 0 = none.carries run before t in
+        let z : 0 * 2 ^ bus.width + run.at t bus.node ≡ run.at t bus.node = omega arith in
+        value run r t ∙ ap (λ (n : ℕ). n * 2 ^ bus.width + run.at t bus.node) zero ∙ z ∙ sym (mod-eq_of_lt fits);
+  }
+
+  -- zero bits below
+  pub below : b.width ≡ bus.width + zeros.width → IsJoined new bus zeros b → Carries old new 2 width (λ run t. run.at t bus.node / 2 ^ (bus.width - width) * 2 ^ (width - bus.width)) b
+  below wide value = record {
+    keeps = keeps_then old mid new none.keeps keeps;
+    cost = two_nodes;
+    bus = there;
+    same_width = omega (arith, wide, none.same_width, more);
+    carries = λ run r t.
+        let before = keeps.runs run r in
+        value run r t ∙ ap (λ (n : ℕ). join_of zeros.width (run.at t bus.node) n) (none.carries run before t)
+        ∙ ap (λ (w : ℕ). join_of w (run.at t bus.node) 0) none.same_width ∙ high_join bus.width width (run.at t bus.node) (omega (arith, more));
+  }
+
+module _ (old new : Net) (width : ℕ) (bus b : Bus) (is : IsBus old bus) (some : 1 ≤ width) (less : width ≤ bus.width) (keeps : Keeps old new)
+    (cost : CostsAtMost old new (nodes_alone 1)) (there : IsBus new b) where
+  one_node : CostsAtMost old new (nodes_alone 2)
+  one_node = record { nodes = omega (arith, cost.nodes); registers = cost.registers; memories = cost.memories }
+
+  pub low : b.width ≡ width - 1 + 1 - 0 → IsCut new bus (width - 1) 0 b → Carries old new 2 width (λ run t. run.at t bus.node % 2 ^ width) b
+  low wide value = record {
+    keeps = keeps;
+    cost = one_node;
+    bus = there;
+    same_width = omega (arith, wide, some);
+    carries = λ run r t. value run r t ∙ low_cut width (run.at t bus.node) some;
+  }
+
+  pub high : b.width ≡ bus.width - 1 + 1 - (bus.width - width) → IsCut new bus (bus.width - 1) (bus.width - width) b
+      → Carries old new 2 width (λ run t. run.at t bus.node / 2 ^ (bus.width - width) * 2 ^ (width - bus.width)) b
+  high wide value = record {
+    keeps = keeps;
+    cost = one_node;
+    bus = there;
+    same_width = omega (arith, wide, some, less);
+    carries = λ run r t. value run r t ∙ high_cut bus.width width (run.at t bus.node) (bus_fits old bus run is (keeps.runs run r) t) some less;
+  }
+
+-- a number as another number
+pub low_casts : (old new : Net) (bus b : Bus) (from : Kind) (width : ℕ) → CastFits from (Unsigned width) → AreLow old new width bus b → IsCast old new from (Unsigned width) bus b
+low_casts old new bus b (Unsigned v) width fits are = are
+low_casts old new bus b (Text n) width fits are = absurd fits
+
+-- a text as another text
+pub high_casts : (old new : Net) (bus b : Bus) (from : Kind) (bytes : ℕ) → bus.width ≡ width_of from → CastFits from (Text bytes) → AreHigh old new (8 * bytes) bus b
+    → IsCast old new from (Text bytes) bus b
+high_casts old new bus b (Unsigned v) bytes wide fits are = absurd fits
+high_casts old new bus b (Text n) bytes wide fits are =
+    let less : bus.width - 8 * bytes ≡ 8 * (n - bytes) = omega arith in
+    let more : 8 * bytes - bus.width ≡ 8 * (bytes - n) = omega arith in
+    carries_as old new 2 (8 * bytes) (λ run t. run.at t bus.node / 2 ^ (bus.width - 8 * bytes) * 2 ^ (8 * bytes - bus.width))
+    (λ run t. run.at t bus.node / 2 ^ (8 * (n - bytes)) * 2 ^ (8 * (bytes - n))) b
+    (λ run r t. ap (λ (k : ℕ). run.at t bus.node / 2 ^ k * 2 ^ (8 * bytes - bus.width)) less ∙ ap (λ (k : ℕ). run.at t bus.node / 2 ^ (8 * (n - bytes)) * 2 ^ k) more) are

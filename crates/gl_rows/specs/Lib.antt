@@ -1,0 +1,3 @@
+pub mod Costs
+pub mod Gates
+pub mod Made

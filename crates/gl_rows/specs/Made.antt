@@ -1,0 +1,70 @@
+-- What is made of columns: buses that carry values of a run, in every cycle.
+use Rattle.std.specs.Prelude.{◌≡◌, ℕ, ◌-◌, ◌*◌, ◌/◌, ◌%◌, ◌^◌, List, length, map}
+use Rattle.gl_bits.specs.Kinds.{width_of}
+use Rattle.gl_bits.specs.Results.{Row}
+use Rattle.gl_bits.specs.declared.kind.Kind.{Kind}
+use Rattle.gl_algebra.specs.declared.node.ColOp.{ColOp}
+use Rattle.gl_algebra.specs.declared.node.Operand.{Operand}
+use Rattle.gl_algebra.specs.Columns.{kind_of_op, kind_of_operand}
+use Rattle.gl_algebra.specs.Values.{value_as, value_of_op, value_of_operand}
+use Rattle.gl_bits.specs.declared.op.Op.{Op}
+use Rattle.gl_bits.specs.Operators.{operate, result_kind, sort_of}
+use Rattle.gl_net.specs.declared.node.Bus.{Bus}
+use Rattle.gl_net.specs.Net.{Net, Run, IsRun, IsBus, Keeps}
+use Rattle.gl_wire.specs.Costs.{CostsAtMost, nodes_alone}
+use Rattle.gl_wire.specs.Wire.{AreBuses, row_at, widths}
+
+-- columns of these kinds
+pub record IsSource (net : Net) (columns : List Bus) (kinds : List Kind) : Type 0 where
+  pub buses : AreBuses net columns
+  pub same_widths : widths columns ≡ map width_of kinds
+
+-- a bus of a width that carries this value in every cycle of every run, and at most so many nodes for it
+pub record Carries (old new : Net) (most width : ℕ) (value : Run → ℕ → ℕ) (b : Bus) : Type 0 where
+  pub keeps : Keeps old new
+  pub cost : CostsAtMost old new (nodes_alone most)
+  pub bus : IsBus new b
+  pub same_width : b.width ≡ width
+  pub carries : (run : Run) → IsRun new run → (t : ℕ) → run.at t b.node ≡ value run t
+
+-- a bus for each item, of its kind, which carries its value of the row, and at most so many nodes for each
+pub record AreMade {Item : Type 0} (old new : Net) (most : ℕ) (columns : List Bus) (kind_of : Item → Kind) (value_of : Row → Item → ℕ)
+    (items : List Item) (bs : List Bus) : Type 0 where
+  pub keeps : Keeps old new
+  pub cost : CostsAtMost old new (nodes_alone (most * length items))
+  pub buses : AreBuses new bs
+  pub same_widths : widths bs ≡ map width_of (map kind_of items)
+  pub row : (run : Run) → IsRun new run → (t : ℕ) → row_at run t bs ≡ map (value_of (row_at run t columns)) items
+
+-- the value of an operand, for a node at most
+abbrev pub IsOperand : Net → Net → List Bus → List Kind → Operand → Bus → Type 0
+IsOperand old new columns kinds operand b =
+    Carries old new 1 (width_of (kind_of_operand kinds operand)) (λ run t. value_of_operand (row_at run t columns) operand) b
+
+abbrev pub AreOperands : Net → Net → List Bus → List Kind → List Operand → List Bus → Type 0
+AreOperands old new columns kinds operands bs = AreMade old new 1 columns (kind_of_operand kinds) value_of_operand operands bs
+
+-- the value of an operation, for three nodes at most: two literals and a gate
+abbrev pub IsOperation : Net → Net → List Bus → List Kind → ColOp → Bus → Type 0
+IsOperation old new columns kinds op b =
+    Carries old new 3 (width_of (kind_of_op kinds op)) (λ run t. value_of_op kinds (row_at run t columns) op) b
+
+abbrev pub AreOperations : Net → Net → List Bus → List Kind → List ColOp → List Bus → Type 0
+AreOperations old new columns kinds ops bs = AreMade old new 3 columns (kind_of_op kinds) (value_of_op kinds) ops bs
+
+-- the bus's value as another kind
+abbrev pub IsCast : Net → Net → Kind → Kind → Bus → Bus → Type 0
+IsCast old new from to bus b = Carries old new 2 (width_of to) (λ run t. value_as from to (run.at t bus.node)) b
+
+-- what an operator gives of two buses of a kind
+abbrev pub IsOperated : Net → Net → Op → Kind → Bus → Bus → Bus → Type 0
+IsOperated old new op kind left right b =
+    Carries old new 1 (width_of (result_kind (sort_of op) kind)) (λ run t. operate op kind (run.at t left.node) (run.at t right.node)) b
+
+-- the lowest bits of a bus, or all of them with zero bits above
+abbrev pub AreLow : Net → Net → ℕ → Bus → Bus → Type 0
+AreLow old new width bus b = Carries old new 2 width (λ run t. run.at t bus.node % 2 ^ width) b
+
+-- the highest bits of a bus, or all of them with zero bits below
+abbrev pub AreHigh : Net → Net → ℕ → Bus → Bus → Type 0
+AreHigh old new width bus b = Carries old new 2 width (λ run t. run.at t bus.node / 2 ^ (bus.width - width) * 2 ^ (width - bus.width)) b

@@ -1,0 +1,15 @@
+pub mod FoldLemmas
+pub mod DelayLemmas
+pub mod ValueLemmas
+pub mod TotalLemmas
+pub mod WeighLemmas
+pub mod FoldNet
+pub mod SumNet
+pub mod PairLemmas
+pub mod ExtremeNet
+pub mod WeighNet
+pub mod AverageNet
+pub mod AggNet
+pub mod AggListNet
+pub mod KindLemmas
+pub mod TotalsBehind

@@ -1,0 +1,15 @@
+use Rattle.std.proofs.Common.{ℕ, map, ap, refl, arith}
+use Rattle.gl_algebra.specs.declared.node.PlanAgg.TheVariants.{Sum}
+use Rattle.gl_algebra.specs.Values.{value_of_operand}
+use Rattle.gl_bits.specs.Totals.{sum_total}
+use Rattle.gl_totals.specs.Costs.{cost_of_fold}
+use Rattle.gl_totals.proofs.AggNet.{agg_is}
+use Rattle.gl_totals.proofs.total.put_sum_of.Goals as goal
+
+pub returns : goal.returns
+returns c =
+    let x = c.in_ok-value.value in
+    let value = c.in_ok-value.ensures in
+    agg_is c.args.net.now c.put_operand.new.net c.put_sum.new.net c.args.stream c.args.operand (Sum c.args.operand) x c.in_ok-sum.sum (cost_of_fold x.width) x.width 0
+    (sum_total x.width) value c.in_ok-sum.ensures (omega arith) (omega (arith, value.same_width)) refl value.same_width
+    (λ rows. ap (λ (w : ℕ). sum_total w (map (λ row. value_of_operand row c.args.operand) rows)) value.same_width)

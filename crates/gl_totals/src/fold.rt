@@ -1,0 +1,143 @@
+//! A register that folds the rows of the open stream, and begins anew behind each end.
+
+ghost use Rattle.std.specs.Prelude.{◌≡◌, ◌<◌, IfOk};
+ghost use Rattle.gl_bits.specs.Words.{IsWidth, bit};
+ghost use Rattle.gl_net.specs.Net.{IsBit, IsBus};
+ghost use Rattle.gl_totals.specs.Folds.{BestFits, IsBetter, IsFold, IsNext, StepFits};
+ghost use Rattle.gl_totals.specs.declared.fold.Step.TheVariants.{Keep};
+
+use gl_bits::{Kind, Memory, Op, Word};
+use gl_divide::digit::shifted;
+use gl_net::{BinaryOp, Bit, Bus, NetBuilder};
+use gl_rows::operation::put_operator;
+
+/// An end of the order.
+#[derive(Clone, Copy, PartialEq, Eq, Debug)]
+pub enum Extreme {
+    /// The least.
+    Least,
+    /// The greatest.
+    Greatest,
+}
+
+/// A value that a state is compared with.
+#[derive(Clone, Copy)]
+pub struct Best {
+    /// Which of them is kept.
+    pub extreme: Extreme,
+    /// The kind of both.
+    pub kind: Kind,
+    /// 1 where the state counts.
+    pub some: Bit,
+    /// The value.
+    pub value: Bus,
+}
+
+/// What a state becomes with a row.
+#[derive(Clone, Copy)]
+pub enum Step {
+    /// Its sum with a value, which wraps.
+    Add(Bus),
+    /// The better of it and a value; the value alone where the state does not count.
+    Keep(Best),
+    /// All bits one place higher.
+    Shift,
+    /// 1.
+    Set,
+}
+
+/// A state of the open stream.
+#[derive(Clone, Copy)]
+pub struct Fold {
+    /// Before this cycle's row.
+    pub before: Bus,
+    /// With it.
+    pub now: Bus,
+}
+
+// 1 for true.
+fn bit_number(number: bool) -> u128
+    ensures value { result ≡ bit number }
+    ensures small { result < 2 }
+{
+    if number { 1 } else { 0 }
+}
+
+/// A word of 0 or 1.
+pub fn small_word(number: bool, width: u8) -> Word
+    requires { IsWidth width }
+    ensures bits { result.bits ≡ bit number }
+    ensures width { result.width ≡ width }
+{
+    Word::new(bit_number(number), width).unwrap()
+}
+
+// Whether a value is better than a state.
+fn put_better(net: &mut NetBuilder, state: Bus, best: Best) -> Result<Bus, Memory>
+    requires state { IsBus net.old state }
+    requires best { BestFits net.old state.width best }
+    ensures { IfOk result (IsBetter net.old net.new state best) }
+{
+    match best.extreme {
+        Extreme::Least => put_operator(net, Op::Lt, best.value, state),
+        Extreme::Greatest => put_operator(net, Op::Lt, state, best.value),
+    }
+}
+
+// The better of a state and a value, or the value alone.
+fn put_kept(net: &mut NetBuilder, state: Bus, best: Best) -> Result<Bus, Memory>
+    requires state { IsBus net.old state }
+    requires best { BestFits net.old state.width best }
+    ensures { IfOk result (IsNext net.old net.new state (Keep best)) }
+{
+    let better = put_better(net, state, best)?;
+    let kept = net.choose(better.bit(), best.value, state)?;
+    let out = net.choose(best.some, kept, best.value)?;
+    Ok(out)
+}
+
+/// What a state becomes with this cycle's row.
+pub fn put_next(net: &mut NetBuilder, state: Bus, step: Step) -> Result<Bus, Memory>
+    requires state { IsBus net.old state }
+    requires step { StepFits net.old state.width step }
+    ensures { IfOk result (IsNext net.old net.new state step) }
+{
+    match step {
+        Step::Add(value) => {
+            let out = net.binary(BinaryOp::Add, state, value)?;
+            Ok(out)
+        }
+        Step::Keep(best) => put_kept(net, state, best),
+        Step::Shift => {
+            let low = net.constant(small_word(false, 1))?;
+            let out = shifted(net, state, low.bit())?;
+            Ok(out)
+        }
+        Step::Set => {
+            let out = net.constant(small_word(true, state.width))?;
+            Ok(out)
+        }
+    }
+}
+
+/// The fold of the open stream's rows from a first state on.
+pub fn put_fold(
+    net: &mut NetBuilder,
+    valid: Bit,
+    eos: Bit,
+    first: Word,
+    step: Step,
+) -> Result<Fold, Memory>
+    requires valid { IsBit net.old valid }
+    requires eos { IsBit net.old eos }
+    requires step { StepFits net.old first.width step }
+    ensures { IfOk result (IsFold net.old net.new first.width first.bits step valid eos) }
+{
+    let before = net.register(first.width(), Some(first))?;
+    let stepped = put_next(net, before, step)?;
+    let now = net.choose(valid, stepped, before)?;
+    let again = net.constant(first)?;
+    let next = net.choose(eos, again, now)?;
+    net.drive(before, next)?;
+    Ok(Fold { before, now })
+}

@@ -1,0 +1,151 @@
+//! The aggregates of a node, one by one.
+
+ghost use Rattle.std.specs.Prelude.{◌≤◌, ◌-◌, All, IfOk};
+ghost use Rattle.gl_algebra.specs.Columns.{AggFits};
+ghost use Rattle.gl_algebra.specs.FigureTable.{delay_of_agg, delay_of_aggs};
+ghost use Rattle.gl_algebra.specs.declared.node.PlanAgg.TheVariants.{Avg, Sum, Wsum};
+ghost use Rattle.gl_bits.specs.Kinds.{IsKind};
+ghost use Rattle.gl_totals.specs.Totals.{AreAggsOf, IsAggOf, IsStream, agg_of_extreme};
+
+use crate::average::put_average;
+use crate::delay::delay_bus;
+use crate::extreme::put_extreme;
+use crate::fold::Extreme;
+use crate::sum::{put_count, put_sum};
+use crate::weighted::put_weighted;
+use gl_algebra::columns::kind_of_operand;
+use gl_algebra::table::delay_of_agg;
+use gl_algebra::{Operand, PlanAgg, Weights};
+use gl_bits::Memory;
+use gl_net::{Bit, Bus, Buses, NetBuilder};
+use gl_rows::Source;
+use gl_rows::operand::put_operand;
+use std::alloc::Global;
+
+/// The lines of a stream, and its columns with their kinds.
+#[derive(Clone, Copy)]
+pub struct Stream<'a> {
+    /// 1 in a cycle with a row.
+    pub valid: Bit,
+    /// 1 in a cycle with the end.
+    pub eos: Bit,
+    /// The columns of the row.
+    pub source: Source<'a>,
+}
+
+// The sum of an operand's values.
+fn put_sum_of(net: &mut NetBuilder, stream: Stream, operand: Operand) -> Result<Bus, Memory>
+    requires stream { IsStream net.old stream }
+    requires fits { AggFits stream.source.kinds.now (Sum operand) }
+    ensures { IfOk result (IsAggOf net.old net.new 0 0 stream.entry (Sum operand)) }
+{
+    let value = put_operand(net, stream.source, operand)?;
+    let sum = put_sum(net, stream.valid, stream.eos, value)?;
+    Ok(sum)
+}
+
+// An extreme of an operand's values.
+fn put_extreme_of(
+    net: &mut NetBuilder,
+    stream: Stream,
+    extreme: Extreme,
+    operand: Operand,
+) -> Result<Bus, Memory>
+    requires stream { IsStream net.old stream }
+    requires fits { AggFits stream.source.kinds.now (agg_of_extreme extreme operand) }
+    ensures { IfOk result
+        (IsAggOf net.old net.new 0 0 stream.entry (agg_of_extreme extreme operand)) }
+{
+    let kind = kind_of_operand(stream.source.kinds, &operand);
+    let value = put_operand(net, stream.source, operand)?;
+    let best = put_extreme(net, stream.valid, stream.eos, extreme, kind, value)?;
+    Ok(best)
+}
+
+// The average of an operand's values, which is there one cycle before the aggregate's own delay is over.
+fn put_average_of(net: &mut NetBuilder, stream: Stream, operand: Operand) -> Result<Bus, Memory>
+    requires stream { IsStream net.old stream }
+    requires kinds { All IsKind stream.source.kinds.now }
+    requires fits { AggFits stream.source.kinds.now (Avg operand) }
+    ensures { IfOk result (IsAggOf net.old net.new
+        0 (delay_of_agg stream.entry.source.kinds.now (Avg operand) - 1) stream.entry (Avg operand)) }
+{
+    let value = put_operand(net, stream.source, operand)?;
+    let average = put_average(net, stream.valid, stream.eos, value)?;
+    Ok(average)
+}
+
+// The sum of an operand's values by their weights.
+fn put_weighted_of(
+    net: &mut NetBuilder,
+    stream: Stream,
+    operand: Operand,
+    weights: &Weights,
+) -> Result<Bus, Memory>
+    requires stream { IsStream net.old stream }
+    requires fits { AggFits stream.source.kinds.now (Wsum operand weights.now) }
+    ensures { IfOk result (IsAggOf net.old net.new 0 0 stream.entry (Wsum operand weights.now)) }
+{
+    let value = put_operand(net, stream.source, operand)?;
+    let sum = put_weighted(net, stream.valid, stream.eos, weights.as_slice(), value)?;
+    Ok(sum)
+}
+
+// An aggregate of the open stream, one cycle before its own delay is over.
+fn put_early(net: &mut NetBuilder, stream: Stream, agg: &PlanAgg) -> Result<Bus, Memory>
+    requires stream { IsStream net.old stream }
+    requires kinds { All IsKind stream.source.kinds.now }
+    requires fits { AggFits stream.source.kinds.now agg.now }
+    ensures { IfOk result (IsAggOf net.old net.new
+        0 (delay_of_agg stream.entry.source.kinds.now agg.now - 1) stream.entry agg.now) }
+{
+    match agg {
+        PlanAgg::Count => put_count(net, stream.valid, stream.eos),
+        PlanAgg::Sum(operand) => put_sum_of(net, stream, *operand),
+        PlanAgg::Min(operand) => put_extreme_of(net, stream, Extreme::Least, *operand),
+        PlanAgg::Max(operand) => put_extreme_of(net, stream, Extreme::Greatest, *operand),
+        PlanAgg::Avg(operand) => put_average_of(net, stream, *operand),
+        PlanAgg::Wsum(operand, weights) => put_weighted_of(net, stream, *operand, weights),
+    }
+}
+
+/// An aggregate of the open stream, so many cycles later, which are no fewer than its own delay.
+pub fn put_agg(
+    net: &mut NetBuilder,
+    stream: Stream,
+    agg: &PlanAgg,
+    cycles: u32,
+) -> Result<Bus, Memory>
+    requires stream { IsStream net.old stream }
+    requires kinds { All IsKind stream.source.kinds.now }
+    requires fits { AggFits stream.source.kinds.now agg.now }
+    requires late { delay_of_agg stream.source.kinds.now agg.now ≤ cycles }
+    ensures { IfOk result (IsAggOf net.old net.new cycles cycles stream.entry agg.now) }
+{
+    let early = put_early(net, stream, agg)?;
+    let gone = delay_of_agg(stream.source.kinds, agg) - 1;
+    let out = delay_bus(net, early, cycles - gone)?;
+    Ok(out)
+}
+
+/// Some aggregates of the open stream, so many cycles later, which are no fewer than the delay of the slowest.
+pub fn put_aggs(
+    alloc: Global,
+    net: &mut NetBuilder,
+    stream: Stream,
+    aggs: &[PlanAgg],
+    cycles: u32,
+) -> Result<Buses, Memory>
+    requires stream { IsStream net.old stream }
+    requires kinds { All IsKind stream.source.kinds.now }
+    requires fit { All (AggFits stream.source.kinds.now) aggs.now }
+    requires late { delay_of_aggs stream.source.kinds.now aggs.now ≤ cycles }
+    ensures { IfOk result (AreAggsOf net.old net.new cycles stream.entry aggs.now) }
+{
+    let mut all = Buses::new(alloc);
+    for agg in aggs {
+        let bus = put_agg(net, stream, agg, cycles)?;
+        all.push(bus)?;
+    }
+    Ok(all)
+}
