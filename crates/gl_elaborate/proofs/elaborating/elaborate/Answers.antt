@@ -1,0 +1,22 @@
+use Rattle.std.proofs.Common.{List, sym, subst}
+use Rattle.gl_schema.specs.declared.schema.Stream.{Stream}
+use Rattle.gl_query.specs.Shapes.{query_shape}
+use Rattle.gl_algebra.specs.declared.node.PlanNode.{PlanNode}
+use Rattle.gl_elaborate.specs.Fitting.{CanPlace, PlacedFit}
+use Rattle.gl_elaborate.specs.Plans.{stream_node}
+use Rattle.gl_elaborate.proofs.CanLemmas.{can-place, all-fit}
+use Rattle.gl_elaborate.proofs.elaborating.elaborate.Goals as goal
+
+pub query_into-requires-clause-can : goal.query_into-requires-clause-can
+query_into-requires-clause-can c =
+    let statement = c.args.checked.now.statement in
+    subst (λ (streams : List Stream). CanPlace streams (query_shape statement.query)) (sym c.as_slice.ensures)
+    (can-place c.args.checked.now.schema statement c.requires)
+
+pub query_into-requires-clause-fit : goal.query_into-requires-clause-fit
+query_into-requires-clause-fit c =
+    let schema = c.args.checked.now.schema in
+    let statement = c.args.checked.now.statement in
+    subst (λ (streams : List Stream). PlacedFit (stream_node streams) streams (query_shape statement.query) c.new-plan.result) (sym c.as_slice.ensures)
+    (subst (λ (nodes : List PlanNode). PlacedFit (stream_node schema.streams) schema.streams (query_shape statement.query) nodes)
+    (sym c.new-plan.ensures) (all-fit schema statement c.requires))
