@@ -1,7 +1,6 @@
 -- Code can place a checked statement: its columns have numbers of 16 bits.
 use Rattle.std.proofs.Common.{◌≡◌, ℕ, zero, suc, ◌+◌, ◌*◌, ◌≤◌, List, [], ◌∷◌, length, Option, Some, None, refl, ap, arith, map, lit≤}
 use Rattle.std.specs.List.{AllByRecursion, range_with_len}
-use Rattle.std.specs.Prelude.{bytes_eq}
 use Rattle.std.proofs.lemmas.List.{length-map}
 use Rattle.gl_bits.specs.Kinds.{IsKind}
 use Rattle.gl_bits.specs.declared.kind.Kind.{Kind}
@@ -9,18 +8,17 @@ use Rattle.gl_bits.specs.declared.kind.Kind.TheVariants.{Unsigned}
 use Rattle.gl_schema.specs.declared.schema.Column.{Column as NamedColumn}
 use Rattle.gl_schema.specs.declared.schema.Stream.{Stream}
 use Rattle.gl_schema.specs.declared.schema.Schema.{Schema}
-use Rattle.gl_schema.specs.Schemas.{IsStream}
 use Rattle.gl_query.specs.declared.tree.Statement.{Statement}
 use Rattle.gl_query.specs.Shapes.{ExprShape, ItemShape, AggShape, AggItemShape, PickShape, QueryShape, query_shape}
 use Rattle.gl_query.specs.Shapes as shape
 use Rattle.gl_query.specs.Values.{kind_alone, left_place, right_place}
 use Rattle.gl_query.specs.Columns.{agg_column, agg_kind, columns_of, variable, item_column}
-use Rattle.gl_query.specs.Accepted.{IsAcceptedOver, IsAgg, IsFilter, IsPick}
+use Rattle.gl_query.specs.Accepted.{IsAcceptedOver, IsFilter, IsPick}
 use Rattle.gl_query.specs.Sizes.{IsSmall, QueryIsSmall, operators_in}
 use Rattle.gl_query.specs.Parts.{InAgg, InAggItem, InFilter, InItem, InPick}
 use Rattle.gl_query.specs.Checked.{IsChecked}
 use Rattle.gl_query.specs.Laws.{AreKinds}
-use Rattle.gl_query.proofs.Real.{AreReal, IsScope, body_is, real}
+use Rattle.gl_query.proofs.Real.{IsScope, body_is, real}
 use Rattle.gl_bits.proofs.AllLists.{all_of_mapped}
 use Rattle.gl_terms.specs.Terms.{Term, Column, Literal, Not, Cast, Binary, ops_in, ops_in_all, term_of}
 use Rattle.gl_elaborate.specs.Plans.{condition_of, conditions_of, picked_terms, arguments_of, arguments_of_all, stream_node}

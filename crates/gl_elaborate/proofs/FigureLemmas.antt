@@ -22,7 +22,7 @@ use Rattle.gl_algebra.proofs.PlanLemmas.{in_order}
 use Rattle.gl_terms.specs.Terms.{Term, Column, depth_of, depth_of_all, term_of}
 use Rattle.gl_terms.specs.Levels.{level_of, reduced, operand_of}
 use Rattle.gl_algebra.specs.Added.{Placed, added}
-use Rattle.gl_elaborate.specs.Plans.{levels, levelled, placed, condition_of, conditions_of, picked_terms, aggs_of, arguments_of, arguments_of_all, selected, projected, rows_over, totals_over, column_under}
+use Rattle.gl_elaborate.specs.Plans.{levels, levelled, placed, condition_of, conditions_of, picked_terms, aggs_of, arguments_of, arguments_of_all, selected, rows_over, totals_over, column_under}
 use Rattle.gl_elaborate.specs.Fitting.{FitsNext, LevelsFit, SelectFits, RowsFit, TotalsFit}
 use Rattle.gl_elaborate.specs.Figures.{expr_depth, filter_depth, items_depth, pick_depth, condition_depth, agg_depth, aggs_depth, aggs_delay, computed_figures, filtered_figures, query_figures}
 use Rattle.gl_elaborate.proofs.PlacedLemmas.{IsOver, is_added}

@@ -10,12 +10,12 @@ use Rattle.gl_schema.specs.declared.schema.Column.{Column as NamedColumn}
 use Rattle.gl_schema.specs.Schemas.{kinds_of}
 use Rattle.gl_query.specs.Shapes.{ExprShape, ItemShape, PickShape}
 use Rattle.gl_query.specs.Shapes as shape
-use Rattle.gl_query.specs.Values.{HasKind, kind_alone, kind_of, value_of}
+use Rattle.gl_query.specs.Values.{HasKind, kind_alone, value_of}
 use Rattle.gl_query.specs.Columns.{item_column, picked_columns}
 use Rattle.gl_query.specs.Accepted.{IsRows, IsPick}
 use Rattle.gl_query.specs.Results.{picked, keeps, kept}
 use Rattle.gl_algebra.specs.declared.node.PlanNode.{PlanNode}
-use Rattle.gl_algebra.specs.Columns.{bit_kind, kind_of_column, kind_of_operand, OperandFits}
+use Rattle.gl_algebra.specs.Columns.{bit_kind, kind_of_operand, OperandFits}
 use Rattle.gl_algebra.specs.Values.{value_as}
 use Rattle.gl_algebra.specs.Shapes.{Shape, Pace, unsteady}
 use Rattle.gl_bits.specs.Results.{Row, Results, IsChanged}

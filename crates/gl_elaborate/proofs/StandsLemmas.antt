@@ -1,5 +1,5 @@
 -- Levels over a node of a plan: their nodes fit, and what they make of a result of the node.
-use Rattle.std.proofs.Common.{◌≡◌, ℕ, zero, suc, ◌+◌, ◌<◌, ◌≤◌, Bool, true, List, [], ◌∷◌, ◌++◌, length, Some, slice_get, refl, sym, ap, subst, ◌∙◌, arith, map, All, length-append, append_assoc}
+use Rattle.std.proofs.Common.{◌≡◌, ℕ, zero, suc, ◌+◌, ◌<◌, ◌≤◌, Bool, true, List, [], ◌∷◌, ◌++◌, length, Some, slice_get, refl, sym, ap, subst, ◌∙◌, arith, map, All, length-append}
 use Rattle.std.specs.List.{AllByRecursion, AllZip}
 use Rattle.std.proofs.lemmas.List.{length-map, map-id}
 use Rattle.std.proofs.lemmas.List.Elements.{All-cons, All-nil, All-from_recursion}
@@ -18,7 +18,7 @@ use Rattle.gl_algebra.specs.Added.{Placed, added}
 use Rattle.gl_algebra.specs.Results.{Inputs, Meaning, IsPlanResult, meaning_from, computed, selected, projected, totalled}
 use Rattle.gl_algebra.proofs.ResultLemmas.{moved}
 use Rattle.gl_terms.specs.Terms.{Term, IsTerm, depth_of_all}
-use Rattle.gl_terms.specs.Levels.{innermost, innermost_of_all, level_of, reduced}
+use Rattle.gl_terms.specs.Levels.{innermost_of_all, level_of, reduced}
 use Rattle.gl_elaborate.specs.Plans.{Levelled, levels}
 use Rattle.gl_elaborate.specs.Fitting.{LevelsFit}
 use Rattle.gl_elaborate.proofs.PlacedLemmas.{IsOver, over-then, is_added}

@@ -1,9 +1,7 @@
 -- The plan of a statement.
-use Rattle.std.proofs.Common.{◌≡◌, ℕ, suc, ◌+◌, true, List, [], ◌∷◌, length, Some, slice_get, refl, sym, ap, subst, ◌∙◌, arith}
-use Rattle.std.specs.List.{AllByRecursion}
+use Rattle.std.proofs.Common.{◌≡◌, ℕ, suc, ◌+◌, true, List, [], ◌∷◌, Some, slice_get, refl, sym, ap, subst, ◌∙◌, arith}
 use Rattle.std.specs.Prelude.{bytes_eq}
 use Rattle.std.proofs.Math.Numerals.{one-add}
-use Rattle.gl_schema.specs.declared.schema.Column.{Column}
 use Rattle.gl_schema.specs.declared.schema.Stream.{Stream}
 use Rattle.gl_schema.specs.declared.schema.Schema.{Schema}
 use Rattle.gl_schema.specs.Schemas.{IsSchema, has_stream}
@@ -11,10 +9,8 @@ use Rattle.gl_query.specs.Shapes.{query_shape}
 use Rattle.gl_query.specs.Columns.{source_columns}
 use Rattle.gl_query.specs.Results.{env_of, numbered, rows_of, streams_of}
 use Rattle.gl_algebra.specs.Fits.{IsPlan}
-use Rattle.gl_bits.specs.Results.{Row}
 use Rattle.gl_bits.proofs.Bools.{by_cases}
 use Rattle.gl_schema.specs.Beats as beats
-use Rattle.gl_query.specs.Laws.{IsLongAs}
 use Rattle.gl_query.proofs.Real.{schema_is}
 use Rattle.gl_algebra.specs.Results.{Inputs}
 use Rattle.gl_elaborate.specs.Laws.{AreLongRows, PlansAreRight, query_inputs}

@@ -1,5 +1,5 @@
 -- One step of the levels, as code takes it.
-use Rattle.std.proofs.Common.{◌≡◌, ℕ, suc, ◌+◌, ◌<◌, ◌≤◌, List, [], ◌∷◌, ◌++◌, length, sym, ap, subst, ◌∙◌, arith, map, length-append}
+use Rattle.std.proofs.Common.{◌≡◌, ℕ, suc, ◌+◌, ◌<◌, ◌≤◌, List, ◌++◌, length, sym, ap, subst, ◌∙◌, arith, map, length-append}
 use Rattle.gl_algebra.specs.declared.node.ColOp.{ColOp}
 use Rattle.gl_algebra.specs.declared.node.PlanNode.TheVariants as node
 use Rattle.gl_algebra.specs.Added.{Placed, added}

@@ -45,4 +45,3 @@ shape_for read sources q = record {
   pace = plan_pace read (pace_of q);
   leaves = leaves_of read q;
 }
-

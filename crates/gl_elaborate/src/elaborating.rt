@@ -1,6 +1,6 @@
 //! Plans of queries.
 
-ghost use Rattle.std.specs.Prelude.{◌≡◌, ◌≤◌, IfOk};
+ghost use Rattle.std.specs.Prelude.{◌≡◌, ◌<◌, ◌≤◌, length, IfOk};
 ghost use Rattle.gl_query.specs.Checked.{IsChecked};
 ghost use Rattle.gl_query.specs.Columns.{columns_of};
 ghost use Rattle.gl_query.specs.Shapes.{query_shape};
@@ -37,10 +37,8 @@ fn put_window(
     requires most_size { size ≤ 65536 }
     requires most_advance { advance ≤ 65536 }
     requires fits { FitsNext plan.old (node.Window source body size advance) }
-    ensures {
-        IfOk result (λ id.
-        placed_at plan.new id ≡ added plan.old (node.Window source body size advance))
-    }
+    ensures { IfOk result (λ id.
+        placed_at plan.new id ≡ added plan.old (node.Window source body size advance)) }
 {
     let size = size as u32;
     let advance = advance as u32;
@@ -66,10 +64,8 @@ fn put_group(
     requires most_key { key ≤ 255 }
     requires most_groups { groups ≤ 256 }
     requires fits { FitsNext plan.old (node.Group source body key groups) }
-    ensures {
-        IfOk result (λ id.
-        placed_at plan.new id ≡ added plan.old (node.Group source body key groups))
-    }
+    ensures { IfOk result (λ id.
+        placed_at plan.new id ≡ added plan.old (node.Group source body key groups)) }
 {
     let key = key as u8;
     let groups = groups as u16;
@@ -92,18 +88,14 @@ pub fn query_into(
     plan: &mut Plan,
 ) -> Result<(PlanId, Columns), Memory>
     requires can { CanPlace (scope_of sources).sources (query_shape query.now) }
-    requires fit {
-        PlacedFit (read_of sources) (scope_of sources).sources (query_shape query.now) plan.old
-    }
-    ensures root {
-        IfOk result (λ r.
+    requires fit { PlacedFit (read_of sources) (scope_of sources).sources
+        (query_shape query.now) plan.old }
+    ensures root { IfOk result (λ r.
         placed_at plan.new r.0
         ≡ placed (read_of sources.entry) (scope_of sources.entry).sources
-        (query_shape query.now) plan.old)
-    }
-    ensures columns {
-        IfOk result (λ r. r.1 ≡ columns_of (scope_of sources.entry).sources (query_shape query.now))
-    }
+        (query_shape query.now) plan.old) }
+    ensures columns { IfOk result (λ r.
+        r.1 ≡ columns_of (scope_of sources.entry).sources (query_shape query.now)) }
 {
     match query {
         Query::Read(name) => {
@@ -172,14 +164,13 @@ pub fn query_into(
     }
 }
 
-/// The plan of a checked statement, and its root: exactly `plan_of`. Only want of memory may come in its
+/// The plan of a checked statement, exactly `plan_of`, and its root. Only want of memory may come in their
 /// place.
 pub fn elaborate(alloc: Global, checked: &Checked) -> Result<(Plan, PlanId), Memory>
     requires { IsChecked checked.now.schema checked.now.statement }
-    ensures {
-        IfOk result (λ r.
-        placed_at r.0 r.1 ≡ plan_of checked.now.schema checked.now.statement)
-    }
+    ensures plan { IfOk result (λ r.
+        placed_at r.0 r.1 ≡ plan_of checked.now.schema checked.now.statement) }
+    ensures within { IfOk result (λ r. r.1 < length r.0) }
 {
     let mut plan = Plan::new(alloc);
     let sources = Sources::Schema(checked.schema.streams.as_slice());

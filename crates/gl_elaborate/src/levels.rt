@@ -22,7 +22,8 @@ pub fn put(plan: &mut Plan, node: PlanNode) -> Result<PlanId, Memory>
 
 // Whether no operation is left.
 fn are_done(items: &[Tree], conditions: &[Tree]) -> bool
-    ensures { IsTrue result ↔ (depth_of_all (map term items.now ++ map term conditions.now) ≡ 0) }
+    ensures { IsTrue result
+        ↔ (depth_of_all (map term items.now ++ map term conditions.now) ≡ 0) }
 {
     are_flat(items) && are_flat(conditions)
 }
@@ -37,15 +38,12 @@ fn add_level(
     conditions: &mut [Tree],
 ) -> Result<(PlanId, u16), Memory>
     requires deep { 1 ≤ depth_of_all (map term items.old ++ map term conditions.old) }
-    requires fit {
-        LevelledFit base (placed_at plan.old at) (map term items.old) (map term conditions.old)
-    }
+    requires fit { LevelledFit base (placed_at plan.old at)
+        (map term items.old) (map term conditions.old) }
     requires room { base + ops_in_all (map term items.old ++ map term conditions.old) < 65536 }
-    ensures {
-        IfOk result (λ r.
+    ensures { IfOk result (λ r.
         IsStep base (placed_at plan.old at) (map term items.old) (map term conditions.old)
-        r.1 (placed_at plan.new r.0) (map term items.new) (map term conditions.new))
-    }
+        r.1 (placed_at plan.new r.0) (map term items.new) (map term conditions.new)) }
 {
     let level = level_over(alloc, items, conditions)?;
     let ops = ops_of(alloc, &level)?;
@@ -65,15 +63,12 @@ pub fn levelled(
     items: &mut [Tree],
     conditions: &mut [Tree],
 ) -> Result<PlanId, Memory>
-    requires fit {
-        LevelledFit base (placed_at plan.old at) (map term items.old) (map term conditions.old)
-    }
+    requires fit { LevelledFit base (placed_at plan.old at)
+        (map term items.old) (map term conditions.old) }
     requires room { base + ops_in_all (map term items.old ++ map term conditions.old) < 65536 }
-    ensures {
-        IfOk result (λ id.
+    ensures { IfOk result (λ id.
         levelled_at plan.new id (map term items.new) (map term conditions.new)
-        ≡ levelled base (placed_at plan.old at) (map term items.old) (map term conditions.old))
-    }
+        ≡ levelled base (placed_at plan.old at) (map term items.old) (map term conditions.old)) }
 {
     if are_done(items, conditions) {
         return Ok(at);

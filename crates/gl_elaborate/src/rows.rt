@@ -30,20 +30,15 @@ fn push_items(
     items: &[Item],
     trees: &mut Vec<Tree>,
 ) -> Result<(), Memory>
-    requires typed {
-        AllByRecursion (λ (i : ItemShape). HasKind columns.now (kind_alone i.expr) i.expr)
-        (map item_shape items.now)
-    }
-    requires fits {
-        AllByRecursion (IsTerm (kinds_of columns.now))
-        (picked_terms columns.now (shape.Items (map item_shape items.now)))
-    }
+    requires typed { AllByRecursion
+        (λ (i : ItemShape). HasKind columns.now (kind_alone i.expr) i.expr)
+        (map item_shape items.now) }
+    requires fits { AllByRecursion (IsTerm (kinds_of columns.now))
+        (picked_terms columns.now (shape.Items (map item_shape items.now))) }
     requires most { length columns.now < 65536 }
-    ensures {
-        OnOk result
+    ensures { OnOk result
         (map term trees.new.items ≡ map term trees.old.items
-        ++ picked_terms columns.now (shape.Items (map item_shape items.now)))
-    }
+        ++ picked_terms columns.now (shape.Items (map item_shape items.now))) }
 {
     let Some((first, rest)) = items.split_first() else {
         return Ok(());
@@ -55,7 +50,8 @@ fn push_items(
 // The trees of columns.
 fn column_trees(alloc: Global, columns: usize) -> Result<Vec<Tree>, Memory>
     requires { columns < 65536 }
-    ensures { IfOk result (λ trees. map term trees.items ≡ map TermColumn (range_with_len 0 columns)) }
+    ensures { IfOk result (λ trees.
+        map term trees.items ≡ map TermColumn (range_with_len 0 columns)) }
 {
     let mut trees = Vec::new(alloc);
     for number in 0..columns {
@@ -67,14 +63,11 @@ fn column_trees(alloc: Global, columns: usize) -> Result<Vec<Tree>, Memory>
 // The trees of what a select picks.
 fn picked_trees(alloc: Global, columns: &[Column], pick: &Pick) -> Result<Vec<Tree>, Memory>
     requires typed { IsPick columns.now (pick_shape pick.now) }
-    requires fits {
-        AllByRecursion (IsTerm (kinds_of columns.now)) (picked_terms columns.now (pick_shape pick.now))
-    }
+    requires fits { AllByRecursion (IsTerm (kinds_of columns.now))
+        (picked_terms columns.now (pick_shape pick.now)) }
     requires most { length columns.now < 65536 }
-    ensures {
-        IfOk result (λ trees.
-        map term trees.items ≡ picked_terms columns.now (pick_shape pick.now))
-    }
+    ensures { IfOk result (λ trees.
+        map term trees.items ≡ picked_terms columns.now (pick_shape pick.now)) }
 {
     match pick {
         Pick::All => column_trees(alloc, columns.len()),
@@ -108,10 +101,8 @@ fn condition_trees(
     requires typed { IsFilter columns.now (option_map expr_shape filter.now) }
     requires fits { FilterTerm columns.now (option_map expr_shape filter.now) }
     requires most { length columns.now < 65536 }
-    ensures {
-        IfOk result (λ trees.
-        map term trees.items ≡ conditions_of columns.now (option_map expr_shape filter.now))
-    }
+    ensures { IfOk result (λ trees.
+        map term trees.items ≡ conditions_of columns.now (option_map expr_shape filter.now)) }
 {
     let mut trees = Vec::new(alloc);
     if let Some(expr) = filter {
@@ -146,10 +137,8 @@ fn column_under(tree: &Tree) -> u16
 // Selects the rows for which the conditions, at most one, are 1.
 fn select(plan: &mut Plan, at: PlanId, conditions: &[Tree]) -> Result<PlanId, Memory>
     requires { SelectFits (placed_at plan.old at) (map term conditions.now) }
-    ensures {
-        IfOk result (λ id.
-        placed_at plan.new id ≡ selected (placed_at plan.old at) (map term conditions.now))
-    }
+    ensures { IfOk result (λ id.
+        placed_at plan.new id ≡ selected (placed_at plan.old at) (map term conditions.now)) }
 {
     match conditions.first() {
         Some(condition) => put(
@@ -166,10 +155,8 @@ fn select(plan: &mut Plan, at: PlanId, conditions: &[Tree]) -> Result<PlanId, Me
 // Picks of each row the trees' values.
 fn project(alloc: Global, plan: &mut Plan, at: PlanId, items: &[Tree]) -> Result<PlanId, Memory>
     requires { ProjectFits (placed_at plan.old at) (map term items.now) }
-    ensures {
-        IfOk result (λ id.
-        placed_at plan.new id ≡ projected (placed_at plan.old at) (map term items.now))
-    }
+    ensures { IfOk result (λ id.
+        placed_at plan.new id ≡ projected (placed_at plan.old at) (map term items.now)) }
 {
     let items = operands_of(alloc, items)?;
     put(plan, PlanNode::Project { child: at, items })
@@ -184,17 +171,14 @@ pub fn rows_over(
     filter: &Option<Expr>,
     at: PlanId,
 ) -> Result<PlanId, Memory>
-    requires can { CanPlaceRows columns.now (pick_shape pick.now) (option_map expr_shape filter.now) }
-    requires fit {
-        RowsFit columns.now (pick_shape pick.now) (option_map expr_shape filter.now)
-        (placed_at plan.old at)
-    }
-    ensures {
-        IfOk result (λ id.
+    requires can { CanPlaceRows columns.now
+        (pick_shape pick.now) (option_map expr_shape filter.now) }
+    requires fit { RowsFit columns.now (pick_shape pick.now) (option_map expr_shape filter.now)
+        (placed_at plan.old at) }
+    ensures { IfOk result (λ id.
         placed_at plan.new id
         ≡ rows_over columns.now (pick_shape pick.now) (option_map expr_shape filter.now)
-        (placed_at plan.old at))
-    }
+        (placed_at plan.old at)) }
 {
     let mut items = picked_trees(alloc, columns, pick)?;
     let mut conditions = condition_trees(alloc, columns, filter)?;

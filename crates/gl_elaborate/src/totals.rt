@@ -32,16 +32,12 @@ fn push_tree(
     trees: &mut Vec<Tree>,
 ) -> Result<(), Memory>
     requires typed { HasKind columns.now (kind_alone (expr_shape expr.now)) (expr_shape expr.now) }
-    requires fits {
-        IsTerm (kinds_of columns.now)
-        (term_of columns.now (kind_alone (expr_shape expr.now)) (expr_shape expr.now))
-    }
+    requires fits { IsTerm (kinds_of columns.now)
+        (term_of columns.now (kind_alone (expr_shape expr.now)) (expr_shape expr.now)) }
     requires most { length columns.now < 65536 }
-    ensures {
-        OnOk result
+    ensures { OnOk result
         (map term trees.new.items ≡ map term trees.old.items
-        ++ term_of columns.now (kind_alone (expr_shape expr.now)) (expr_shape expr.now) ∷ [])
-    }
+        ++ term_of columns.now (kind_alone (expr_shape expr.now)) (expr_shape expr.now) ∷ []) }
 {
     trees.push(tree_of(alloc, columns, kind_alone(expr), expr)?)?;
     Ok(())
@@ -55,15 +51,12 @@ fn push_argument(
     trees: &mut Vec<Tree>,
 ) -> Result<(), Memory>
     requires typed { IsAgg columns.now (agg_shape agg.now) }
-    requires fits {
-        AllByRecursion (IsTerm (kinds_of columns.now)) (arguments_of columns.now (agg_shape agg.now))
-    }
+    requires fits { AllByRecursion (IsTerm (kinds_of columns.now))
+        (arguments_of columns.now (agg_shape agg.now)) }
     requires most { length columns.now < 65536 }
-    ensures {
-        OnOk result
+    ensures { OnOk result
         (map term trees.new.items ≡ map term trees.old.items
-        ++ arguments_of columns.now (agg_shape agg.now))
-    }
+        ++ arguments_of columns.now (agg_shape agg.now)) }
 {
     match agg {
         Agg::Count { .. } => Ok(()),
@@ -83,19 +76,14 @@ fn push_arguments(
     items: &[AggItem],
     trees: &mut Vec<Tree>,
 ) -> Result<(), Memory>
-    requires typed {
-        AllByRecursion (λ (i : AggItemShape). IsAgg columns.now i.agg) (map agg_item_shape items.now)
-    }
-    requires fits {
-        AllByRecursion (IsTerm (kinds_of columns.now))
-        (arguments_of_all columns.now (map agg_item_shape items.now))
-    }
+    requires typed { AllByRecursion (λ (i : AggItemShape). IsAgg columns.now i.agg)
+        (map agg_item_shape items.now) }
+    requires fits { AllByRecursion (IsTerm (kinds_of columns.now))
+        (arguments_of_all columns.now (map agg_item_shape items.now)) }
     requires most { length columns.now < 65536 }
-    ensures {
-        OnOk result
+    ensures { OnOk result
         (map term trees.new.items ≡ map term trees.old.items
-        ++ arguments_of_all columns.now (map agg_item_shape items.now))
-    }
+        ++ arguments_of_all columns.now (map agg_item_shape items.now)) }
 {
     let Some((first, rest)) = items.split_first() else {
         return Ok(());
@@ -141,10 +129,8 @@ fn word_of(kind: Kind, bits: u128) -> Word
 fn push_weights(kind: Kind, weights: &[Num], words: &mut Weights) -> Result<(), Memory>
     requires kind { IsKind kind }
     requires fit { AllByRecursion (IsNumberOf kind) (map (λ (n : Num). n.value) weights.now) }
-    ensures {
-        OnOk result
-        (words.new ≡ words.old ++ weights_of kind (map (λ (n : Num). n.value) weights.now))
-    }
+    ensures { OnOk result
+        (words.new ≡ words.old ++ weights_of kind (map (λ (n : Num). n.value) weights.now)) }
 {
     let Some((first, rest)) = weights.split_first() else {
         return Ok(());
@@ -157,10 +143,8 @@ fn push_weights(kind: Kind, weights: &[Num], words: &mut Weights) -> Result<(), 
 fn weights_of(alloc: Global, kind: Kind, weights: &[Num]) -> Result<Weights, Memory>
     requires kind { IsKind kind }
     requires fit { AllByRecursion (IsNumberOf kind) (map (λ (n : Num). n.value) weights.now) }
-    ensures {
-        IfOk result (λ words.
-        words ≡ weights_of kind (map (λ (n : Num). n.value) weights.now))
-    }
+    ensures { IfOk result (λ words.
+        words ≡ weights_of kind (map (λ (n : Num). n.value) weights.now)) }
 {
     let mut words = Listed::new(alloc);
     push_weights(kind, weights, &mut words)?;
@@ -171,7 +155,8 @@ fn weights_of(alloc: Global, kind: Kind, weights: &[Num]) -> Result<Weights, Mem
 fn agg_over(alloc: Global, columns: &[Column], agg: &Agg, trees: &[Tree]) -> Result<PlanAgg, Memory>
     requires typed { IsAgg columns.now (agg_shape agg.now) }
     requires kind { IsKind (agg_kind columns.now (agg_shape agg.now)) }
-    ensures { IfOk result (λ a. a ≡ agg_over columns.now (agg_shape agg.now) (map term trees.now)) }
+    ensures { IfOk result (λ a.
+        a ≡ agg_over columns.now (agg_shape agg.now) (map term trees.now)) }
 {
     match agg {
         Agg::Count { .. } => Ok(PlanAgg::Count),
@@ -205,18 +190,13 @@ fn push_aggs(
     trees: &[Tree],
     aggs: &mut PlanAggs,
 ) -> Result<(), Memory>
-    requires typed {
-        AllByRecursion (λ (i : AggItemShape). IsAgg columns.now i.agg) (map agg_item_shape items.now)
-    }
-    requires kinds {
-        AllByRecursion (λ (i : AggItemShape). IsKind (agg_kind columns.now i.agg))
-        (map agg_item_shape items.now)
-    }
-    ensures {
-        OnOk result
+    requires typed { AllByRecursion (λ (i : AggItemShape). IsAgg columns.now i.agg)
+        (map agg_item_shape items.now) }
+    requires kinds { AllByRecursion (λ (i : AggItemShape). IsKind (agg_kind columns.now i.agg))
+        (map agg_item_shape items.now) }
+    ensures { OnOk result
         (aggs.new ≡ aggs.old
-        ++ aggs_of columns.now (map agg_item_shape items.now) (map term trees.now))
-    }
+        ++ aggs_of columns.now (map agg_item_shape items.now) (map term trees.now)) }
 {
     let _holds = Operand::Column(0);
     let Some((first, rest)) = items.split_first() else {
@@ -236,11 +216,9 @@ pub fn totals_over(
 ) -> Result<PlanId, Memory>
     requires can { CanPlaceTotal columns.now (map agg_item_shape items.now) }
     requires fit { TotalsFit columns.now (map agg_item_shape items.now) (placed_at plan.old at) }
-    ensures {
-        IfOk result (λ id.
+    ensures { IfOk result (λ id.
         placed_at plan.new id
-        ≡ totals_over columns.now (map agg_item_shape items.now) (placed_at plan.old at))
-    }
+        ≡ totals_over columns.now (map agg_item_shape items.now) (placed_at plan.old at)) }
 {
     let mut trees = Vec::new(alloc);
     push_arguments(alloc, columns, items, &mut trees)?;

@@ -1,5 +1,5 @@
 -- The term of an accepted expression is one.
-use Rattle.std.proofs.Common.{◌≡◌, ℕ, zero, suc, ◌+◌, ◌-◌, ◌*◌, ◌^◌, ◌<◌, ◌≤◌, true, List, [], ◌∷◌, ◌++◌, length, slice_get, refl, sym, ap, subst, ◌∙◌, arith, fold, replicate, length-append, lit<, lit≤}
+use Rattle.std.proofs.Common.{◌≡◌, ℕ, zero, suc, ◌+◌, ◌-◌, ◌*◌, ◌^◌, ◌<◌, ◌≤◌, true, List, [], ◌∷◌, length, slice_get, refl, sym, ap, subst, ◌∙◌, arith, fold, replicate, length-append, lit<, lit≤}
 use Rattle.std.specs.Prelude.{unwrap_or, option_map, bytes_eq}
 use Rattle.std.specs.List.{AllByRecursion}
 use Rattle.std.proofs.lemmas.List.{length-map, length-replicate}
@@ -10,7 +10,6 @@ use Rattle.gl_bits.specs.Kinds.{IsKind}
 use Rattle.gl_bits.specs.Operators.{result_kind, sort_of}
 use Rattle.gl_bits.specs.declared.kind.Kind.{Kind}
 use Rattle.gl_bits.specs.declared.kind.Kind.TheVariants.{Unsigned, Text}
-use Rattle.gl_bits.specs.declared.op.Op.{Op}
 use Rattle.gl_bits.specs.declared.op.Sort.{Sort}
 use Rattle.gl_bits.specs.declared.op.Sort.TheVariants.{Arithmetic, Comparison, Logic}
 use Rattle.gl_bits.proofs.AllLists.{all_append}

@@ -38,7 +38,8 @@ fn place_of(level: &IndexSet<ColOp>, op: ColOp) -> u16
 
 // Inserts the innermost operations of a tree.
 fn gather(tree: &Tree, level: &mut IndexSet<ColOp>) -> Result<(), Memory>
-    ensures { OnOk result (level.new.keys ≡ insert_all same_op level.old.keys (innermost (term tree.now))) }
+    ensures { OnOk result
+        (level.new.keys ≡ insert_all same_op level.old.keys (innermost (term tree.now))) }
 {
     if let Some(op) = op_of(tree) {
         return insert_op(level, op);
@@ -76,10 +77,9 @@ fn reduce(base: u16, level: &IndexSet<ColOp>, tree: &mut Tree)
 
 // Inserts the innermost operations of trees.
 fn gather_all(trees: &[Tree], level: &mut IndexSet<ColOp>) -> Result<(), Memory>
-    ensures {
-        OnOk result
-        (level.new.keys ≡ insert_all same_op level.old.keys (innermost_of_all (map term trees.now)))
-    }
+    ensures { OnOk result
+        (level.new.keys
+        ≡ insert_all same_op level.old.keys (innermost_of_all (map term trees.now))) }
 {
     let Some((first, rest)) = trees.split_first() else {
         return Ok(());
@@ -117,7 +117,8 @@ pub fn level_over(
     items: &[Tree],
     conditions: &[Tree],
 ) -> Result<IndexSet<ColOp>, Memory>
-    ensures { IfOk result (λ level. level.keys ≡ level_of (map term items.now ++ map term conditions.now)) }
+    ensures { IfOk result (λ level.
+        level.keys ≡ level_of (map term items.now ++ map term conditions.now)) }
 {
     let mut level = IndexSet::new(alloc);
     gather_all(items, &mut level)?;

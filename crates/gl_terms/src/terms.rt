@@ -40,7 +40,8 @@ fn text_literal(place: Kind, text: &[u8]) -> Tree
 /// The tree of an expression, in a place that gives what is loose this kind.
 pub fn tree_of(alloc: Global, columns: &[Column], place: Kind, expr: &Expr) -> Result<Tree, Memory>
     requires typed { HasKind columns.now place (expr_shape expr.now) }
-    requires fits { IsTerm (kinds_of columns.now) (term_of columns.now place (expr_shape expr.now)) }
+    requires fits { IsTerm (kinds_of columns.now)
+        (term_of columns.now place (expr_shape expr.now)) }
     requires most { length columns.now < 65536 }
     ensures { IfOk result (λ tree. term tree ≡ term_of columns.now place (expr_shape expr.now)) }
 {

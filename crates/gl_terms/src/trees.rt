@@ -1,7 +1,6 @@
 //! Expressions over numbered columns.
 
 ghost use Rattle.std.specs.Prelude.{◌≡◌};
-ghost use Rattle.gl_terms.specs.Terms.{depth_of};
 ghost use Rattle.gl_terms.specs.Levels.{leaf_of, op_of, operand_of};
 ghost use Rattle.gl_terms.specs.Trees.{term};
 
