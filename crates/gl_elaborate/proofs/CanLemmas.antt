@@ -1,0 +1,172 @@
+-- Code can place a checked statement: its columns have numbers of 16 bits.
+use Rattle.std.proofs.Common.{◌≡◌, ℕ, zero, suc, ◌+◌, ◌*◌, ◌≤◌, List, [], ◌∷◌, length, Option, Some, None, refl, ap, arith, map, lit≤}
+use Rattle.std.specs.List.{AllByRecursion, range_with_len}
+use Rattle.std.proofs.lemmas.List.{length-map}
+use Rattle.gl_bits.specs.Kinds.{IsKind}
+use Rattle.gl_bits.specs.declared.kind.Kind.{Kind}
+use Rattle.gl_bits.specs.declared.kind.Kind.TheVariants.{Unsigned}
+use Rattle.gl_schema.specs.declared.schema.Column.{Column as NamedColumn}
+use Rattle.gl_schema.specs.declared.schema.Stream.{Stream}
+use Rattle.gl_schema.specs.declared.schema.Schema.{Schema}
+use Rattle.gl_query.specs.declared.tree.Statement.{Statement}
+use Rattle.gl_query.specs.Shapes.{ExprShape, ItemShape, AggShape, AggItemShape, PickShape, QueryShape, query_shape}
+use Rattle.gl_query.specs.Shapes as shape
+use Rattle.gl_query.specs.Values.{kind_alone, left_place, right_place}
+use Rattle.gl_query.specs.Columns.{agg_column, agg_kind, columns_of, variable, item_column}
+use Rattle.gl_query.specs.Accepted.{IsAcceptedOver, IsFilter, IsPick}
+use Rattle.gl_query.specs.Sizes.{IsSmall, QueryIsSmall, operators_in}
+use Rattle.gl_query.specs.Parts.{InAgg, InAggItem, InFilter, InItem, InPick}
+use Rattle.gl_query.specs.Checked.{IsChecked}
+use Rattle.gl_query.specs.Laws.{AreKinds}
+use Rattle.gl_query.proofs.Real.{IsScope, body_is, real}
+use Rattle.gl_bits.proofs.AllLists.{all_of_mapped}
+use Rattle.gl_terms.specs.Terms.{Term, Column, Literal, Not, Cast, Binary, ops_in, ops_in_all, term_of}
+use Rattle.gl_elaborate.specs.Plans.{condition_of, conditions_of, picked_terms, arguments_of, arguments_of_all, stream_node}
+use Rattle.gl_elaborate.specs.Fitting.{CanPlace, FilterTerm, PlacedFit}
+use Rattle.gl_terms.proofs.AcceptedLemmas.{column-fits, term-fits}
+use Rattle.gl_elaborate.proofs.RowsLemmas.{pick-fits}
+use Rattle.gl_elaborate.proofs.TotalsLemmas.{arguments-fit}
+use Rattle.gl_terms.proofs.RoomLemmas.{ops-both}
+use Rattle.gl_elaborate.proofs.StatementLemmas.{plans-right, schema-reader}
+
+-- no more is asked of names
+abbrev AnyName : List ℕ → Type 0
+AnyName name = Unit {0}
+
+-- ---- operations
+
+term-ops : (columns : List NamedColumn) (place : Kind) (e : ExprShape) → ops_in (term_of columns place e) ≡ operators_in e
+term-ops columns place (shape.Column name) = refl
+term-ops columns place (shape.Number n) = refl
+term-ops columns place (shape.Letters text) = refl
+term-ops columns place (shape.Not e) = ap (λ (n : ℕ). 1 + n) (term-ops columns (Unsigned 1) e)
+term-ops columns place (shape.Cast kind e) = ap (λ (n : ℕ). 1 + n) (term-ops columns (kind_alone e) e)
+term-ops columns place (shape.Binary o l r) = λ i.
+    1 + term-ops columns (left_place columns o place l r) l i + term-ops columns (right_place columns o place l r) r i
+
+condition-ops : (t : Term) → ops_in (condition_of t) ≤ ops_in t + 1
+condition-ops (Column n) = omega arith
+condition-ops (Literal w k) = omega arith
+condition-ops (Not t) = omega arith
+condition-ops (Cast t k) = omega arith
+condition-ops (Binary o l r) = omega arith
+
+columns-ops : (k n : ℕ) → ops_in_all (map Column (range_with_len k n)) ≡ 0
+columns-ops k zero = refl
+columns-ops k (suc n) = let rest = columns-ops (k + 1) n in omega arith
+
+items-ops : (columns : List NamedColumn) (items : List ItemShape) → AllByRecursion (InItem IsSmall AnyName) items
+    → ops_in_all (map (λ (i : ItemShape). term_of columns (kind_alone i.expr) i.expr) items) ≤ 256 * length items
+items-ops columns [] h = omega arith
+items-ops columns (i ∷ items) h =
+    let one = term-ops columns (kind_alone i.expr) i.expr in
+    let small : operators_in i.expr ≤ 256 = h.0.0 in
+    let rest = items-ops columns items h.1 in
+    omega arith
+
+pick-ops : (columns : List NamedColumn) (pick : PickShape) → IsPick columns pick → InPick IsSmall AnyName pick → ops_in_all (picked_terms columns pick) ≤ 8192
+pick-ops columns shape.All h s = let none = columns-ops 0 (length columns) in omega arith
+pick-ops columns (shape.Items items) h s =
+    let all = items-ops columns items s in
+    let few = h.result.most in
+    let same = length-map items (item_column columns) in
+    omega arith
+
+filter-ops : (columns : List NamedColumn) (condition : Option ExprShape) → InFilter IsSmall condition → ops_in_all (conditions_of columns condition) ≤ 257
+filter-ops columns None s = omega arith
+filter-ops columns (Some e) s =
+    let one = term-ops columns (Unsigned 1) e in
+    let more = condition-ops (term_of columns (Unsigned 1) e) in
+    let small : operators_in e ≤ 256 = s in
+    omega arith
+
+argument-ops : (columns : List NamedColumn) (a : AggShape) → InAgg IsSmall a → ops_in_all (arguments_of columns a) ≤ 256
+argument-ops columns shape.Count s = omega arith
+argument-ops columns (shape.Sum e) s = let one = term-ops columns (kind_alone e) e in omega arith
+argument-ops columns (shape.Min e) s = let one = term-ops columns (kind_alone e) e in omega arith
+argument-ops columns (shape.Max e) s = let one = term-ops columns (kind_alone e) e in omega arith
+argument-ops columns (shape.Avg e) s = let one = term-ops columns (kind_alone e) e in omega arith
+argument-ops columns (shape.Wsum e weights) s = let one = term-ops columns (kind_alone e) e in omega arith
+
+arguments-ops : (columns : List NamedColumn) (items : List AggItemShape) → AllByRecursion (InAggItem IsSmall AnyName) items
+    → ops_in_all (arguments_of_all columns items) ≤ 256 * length items
+arguments-ops columns [] h = omega arith
+arguments-ops columns (i ∷ items) h =
+    let one = argument-ops columns i.agg h.0.0 in
+    let rest = arguments-ops columns items h.1 in
+    let both = ops-both (arguments_of columns i.agg) (arguments_of_all columns items) in
+    omega arith
+
+-- ---- queries
+
+filter-term : (columns : List NamedColumn) → AreKinds columns → (condition : Option ExprShape) → IsFilter columns condition → FilterTerm columns condition
+filter-term columns kinds None h = tt
+filter-term columns kinds (Some e) h = term-fits columns kinds e (Unsigned 1) (lit≤ tt, lit≤ tt) h.typed
+
+items-are : (columns : List NamedColumn) (items : List AggItemShape) → AreKinds (map (agg_column columns) items)
+    → AllByRecursion (λ (i : AggItemShape). IsKind (agg_kind columns i.agg)) items
+items-are columns items h = all_of_mapped (λ (c : NamedColumn). IsKind c.kind) (agg_column columns) items h
+
+can : (q : QueryShape) (sources : List Stream) → length sources ≤ 8 → IsScope (record { sources = sources })
+    → IsAcceptedOver (record { sources = sources }) q → QueryIsSmall q → CanPlace sources q
+can (shape.Read name) sources most is a s = most
+can (shape.Rows pick condition source) sources most is a s =
+    let columns = columns_of sources source in
+    let own = real source (record { sources = sources }) is a.0 in
+    let narrow = own.result.most in
+    let picks = pick-ops columns pick a.1.picks s.1 in
+    let filters = filter-ops columns condition s.2 in
+    let both = ops-both (picked_terms columns pick) (conditions_of columns condition) in (
+      can source sources most is a.0 s.0,
+      record {
+        rows = a.1;
+        terms = pick-fits columns own.kinds pick a.1.picks;
+        filter_term = filter-term columns own.kinds condition a.1.filters;
+        room = omega arith;
+      },
+    )
+can (shape.Total aggs source) sources most is a s =
+    let columns = columns_of sources source in
+    let own = real source (record { sources = sources }) is a.0 in
+    let whole = real (shape.Total aggs source) (record { sources = sources }) is a in
+    let narrow = own.result.most in
+    let all = arguments-ops columns aggs s.1 in
+    let short = a.1.columns.most in
+    let same = length-map aggs (agg_column columns) in (
+      can source sources most is a.0 s.0,
+      record {
+        typed = a.1.typed;
+        kinds = items-are columns aggs whole.kinds;
+        terms = arguments-fit columns own.kinds aggs a.1.typed;
+        room = omega arith;
+      },
+    )
+can (shape.Each var source size advance body) sources most is a s =
+    let columns = columns_of sources source in
+    let own = real source (record { sources = sources }) is a.0 in (
+      can source sources most is a.0 s.0,
+      can body (variable var columns) (lit≤ tt) (body_is var columns own.result own.kinds) a.2 s.1,
+      a.1.most_size,
+      a.1.most_advance,
+    )
+can (shape.PerGroup var source key count body) sources most is a s =
+    let columns = columns_of sources source in
+    let own = real source (record { sources = sources }) is a.0 in
+    let narrow = own.result.most in
+    let known = column-fits columns own.kinds key a.1.known in
+    let same = length-map columns (λ (c : NamedColumn). c.kind) in (
+      can source sources most is a.0 s.0,
+      can body (variable var columns) (lit≤ tt) (body_is var columns own.result own.kinds) a.2 s.1,
+      omega arith,
+      a.1.most_groups,
+    )
+can (shape.Union l r) sources most is a s = (can l sources most is a.0 s.0, can r sources most is a.1 s.1)
+can (shape.Concat l r) sources most is a s = (can l sources most is a.0 s.0, can r sources most is a.1 s.1)
+
+pub can-place : (schema : Schema) (statement : Statement) → IsChecked schema statement → CanPlace schema.streams (query_shape statement.query)
+can-place schema statement checked =
+    can (query_shape statement.query) schema.streams checked.of_schema.most (schema-reader schema checked.of_schema).scope checked.accepted checked.small
+
+pub all-fit : (schema : Schema) (statement : Statement) → IsChecked schema statement
+    → PlacedFit (stream_node schema.streams) schema.streams (query_shape statement.query) []
+all-fit schema statement checked = (plans-right schema statement checked).fit

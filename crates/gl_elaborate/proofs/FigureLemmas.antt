@@ -1,0 +1,254 @@
+-- The figures of a query's plan are the query's.
+use Rattle.std.proofs.Common.{◌≡◌, ℕ, zero, suc, ◌+◌, ◌<◌, List, [], ◌∷◌, ◌++◌, length, Option, Some, None, refl, sym, ap, subst, ◌∙◌, arith, map, max}
+use Rattle.std.specs.List.{range_with_len}
+use Rattle.gl_bits.specs.declared.kind.Kind.{Kind}
+use Rattle.gl_bits.specs.declared.kind.Kind.TheVariants.{Unsigned}
+use Rattle.gl_schema.specs.declared.schema.Column.{Column as NamedColumn}
+use Rattle.gl_schema.specs.declared.schema.Stream.{Stream}
+use Rattle.gl_schema.specs.Schemas.{kinds_of}
+use Rattle.gl_query.specs.Shapes.{ExprShape, ItemShape, AggShape, AggItemShape, PickShape, QueryShape}
+use Rattle.gl_query.specs.Shapes as shape
+use Rattle.gl_query.specs.Values.{kind_alone, left_place, right_place}
+use Rattle.gl_query.specs.Columns.{columns_of, variable}
+use Rattle.gl_query.specs.Accepted.{IsAcceptedOver}
+use Rattle.gl_algebra.specs.declared.figures.Figures.{Figures}
+use Rattle.gl_algebra.specs.declared.node.PlanNode.{PlanNode}
+use Rattle.gl_algebra.specs.declared.node.PlanNode.TheVariants as node
+use Rattle.gl_algebra.specs.FigureTable.{input_figures, settled, delayed, aggregate_figures, union_figures, beside_figures, window_figures, group_figures, figures_from, figures_of}
+use Rattle.gl_algebra.specs.Fits.{IsPlan, copies_of_window}
+use Rattle.gl_algebra.specs.Shapes.{Shape, shape_of}
+use Rattle.gl_algebra.proofs.FigureLemmas.{figures-kept}
+use Rattle.gl_algebra.proofs.PlanLemmas.{in_order}
+use Rattle.gl_terms.specs.Terms.{Term, Column, depth_of, depth_of_all, term_of}
+use Rattle.gl_terms.specs.Levels.{level_of, reduced, operand_of}
+use Rattle.gl_algebra.specs.Added.{Placed, added}
+use Rattle.gl_elaborate.specs.Plans.{levels, levelled, placed, condition_of, conditions_of, picked_terms, aggs_of, arguments_of, arguments_of_all, selected, rows_over, totals_over, column_under}
+use Rattle.gl_elaborate.specs.Fitting.{FitsNext, LevelsFit, SelectFits, RowsFit, TotalsFit}
+use Rattle.gl_elaborate.specs.Figures.{expr_depth, filter_depth, items_depth, pick_depth, condition_depth, agg_depth, aggs_depth, aggs_delay, computed_figures, filtered_figures, query_figures}
+use Rattle.gl_elaborate.proofs.PlacedLemmas.{IsOver, is_added}
+use Rattle.gl_terms.proofs.DepthLemmas.{depth-both}
+use Rattle.gl_elaborate.proofs.TotalsLemmas.{HasDelay}
+use Rattle.gl_elaborate.proofs.ReadLemmas.{IsLeafOf, IsReader, body-reader}
+use Rattle.gl_elaborate.proofs.QueryLemmas.{right, total-delay, columns-are}
+
+-- ---- depths
+
+term-depth : (columns : List NamedColumn) (place : Kind) (e : ExprShape) → depth_of (term_of columns place e) ≡ expr_depth e
+term-depth columns place (shape.Column name) = refl
+term-depth columns place (shape.Number n) = refl
+term-depth columns place (shape.Letters text) = refl
+term-depth columns place (shape.Not e) = ap (λ (n : ℕ). 1 + n) (term-depth columns (Unsigned 1) e)
+term-depth columns place (shape.Cast kind e) = ap (λ (n : ℕ). 1 + n) (term-depth columns (kind_alone e) e)
+term-depth columns place (shape.Binary o l r) = λ i.
+    1 + max (term-depth columns (left_place columns o place l r) l i) (term-depth columns (right_place columns o place l r) r i)
+
+condition-depth : (columns : List NamedColumn) (e : ExprShape) → depth_of (condition_of (term_of columns (Unsigned 1) e)) ≡ filter_depth e
+condition-depth columns (shape.Column name) = refl
+condition-depth columns (shape.Number n) = refl
+condition-depth columns (shape.Letters text) = refl
+condition-depth columns (shape.Not e) = term-depth columns (Unsigned 1) (shape.Not e)
+condition-depth columns (shape.Cast kind e) = term-depth columns (Unsigned 1) (shape.Cast kind e)
+condition-depth columns (shape.Binary o l r) = term-depth columns (Unsigned 1) (shape.Binary o l r)
+
+columns-depth : (k n : ℕ) → depth_of_all (map Column (range_with_len k n)) ≡ 0
+columns-depth k zero = refl
+columns-depth k (suc n) = let rest = columns-depth (k + 1) n in omega arith
+
+pick-depth : (columns : List NamedColumn) (pick : PickShape) → depth_of_all (picked_terms columns pick) ≡ pick_depth pick
+pick-depth columns shape.All = columns-depth 0 (length columns)
+pick-depth columns (shape.Items items) = each items
+  where
+    each : (items : List ItemShape) → depth_of_all (map (λ (i : ItemShape). term_of columns (kind_alone i.expr) i.expr) items) ≡ items_depth items
+    each [] = refl
+    each (i ∷ items) = λ k. max (term-depth columns (kind_alone i.expr) i.expr k) (each items k)
+
+conditions-depth : (columns : List NamedColumn) (condition : Option ExprShape) → depth_of_all (conditions_of columns condition) ≡ condition_depth condition
+conditions-depth columns None = refl
+conditions-depth columns (Some e) = let one = condition-depth columns e in omega arith
+
+arguments-depth : (columns : List NamedColumn) (items : List AggItemShape) → depth_of_all (arguments_of_all columns items) ≡ aggs_depth items
+arguments-depth columns [] = refl
+arguments-depth columns (i ∷ items) =
+    depth-both (arguments_of columns i.agg) (arguments_of_all columns items) ∙ (λ k. max (one i.agg k) (arguments-depth columns items k))
+  where
+    one : (a : AggShape) → depth_of_all (arguments_of columns a) ≡ agg_depth a
+    one shape.Count = refl
+    one (shape.Sum e) = let d = term-depth columns (kind_alone e) e in omega arith
+    one (shape.Min e) = let d = term-depth columns (kind_alone e) e in omega arith
+    one (shape.Max e) = let d = term-depth columns (kind_alone e) e in omega arith
+    one (shape.Avg e) = let d = term-depth columns (kind_alone e) e in omega arith
+    one (shape.Wsum e weights) = let d = term-depth columns (kind_alone e) e in omega arith
+
+-- ---- nodes
+
+at : Placed → Figures
+at p = figures_of p.nodes p.root
+
+-- a node of a plan with these figures
+pub record HasFigures (p : Placed) (f : Figures) : Type 0 where
+  pub plan : IsPlan p.nodes
+  pub is : figures_of p.nodes p.root ≡ f
+
+more : (p : Placed) (f : Figures) (n : PlanNode) (g : Figures → Figures) → HasFigures p f → FitsNext p.nodes n
+    → ((s : ℕ → Shape) (v : ℕ → Figures) → figures_from s v n ≡ g (v p.root)) → HasFigures (added p.nodes n) (g f)
+more p f n g h fits row =
+    let new = is_added p.nodes n h.plan fits in
+    record { plan = new.over.plan; is = new.figures ∙ row (shape_of p.nodes) (figures_of p.nodes) ∙ ap g h.is }
+
+levels-figures : (depth base : ℕ) (p : Placed) (f : Figures) (items conditions : List Term) → HasFigures p f → LevelsFit depth base p items conditions
+    → HasFigures (levels depth base p items conditions).at (computed_figures depth f)
+levels-figures zero base p f items conditions h fits = h
+levels-figures (suc depth) base p f items conditions h fits =
+    let level = level_of (items ++ conditions) in
+    levels-figures depth (base + length level) (added p.nodes (node.Compute p.root level)) (settled (delayed 1 f))
+    (map (reduced base level) items) (map (reduced base level) conditions)
+    (more p f (node.Compute p.root level) (λ x. settled (delayed 1 x)) h fits.0 (λ s v. refl)) fits.1
+
+-- as many conditions as there are filters
+abbrev Same : Option ExprShape → List Term → Type 0
+Same None [] = Unit {0}
+Same None (t ∷ ts) = ⊥
+Same (Some e) [] = ⊥
+Same (Some e) (t ∷ ts) = Unit {0}
+
+same-map : (condition : Option ExprShape) (f : Term → Term) (ts : List Term) → Same condition ts → Same condition (map f ts)
+same-map None f [] h = tt
+same-map None f (t ∷ ts) h = absurd h
+same-map (Some e) f [] h = absurd h
+same-map (Some e) f (t ∷ ts) h = tt
+
+same-levels : (depth base : ℕ) (p : Placed) (items conditions : List Term) (condition : Option ExprShape) → Same condition conditions
+    → Same condition (levels depth base p items conditions).conditions
+same-levels zero base p items conditions condition h = h
+same-levels (suc depth) base p items conditions condition h =
+    let level = level_of (items ++ conditions) in
+    same-levels depth (base + length level) (added p.nodes (node.Compute p.root level)) (map (reduced base level) items) (map (reduced base level) conditions)
+    condition (same-map condition (reduced base level) conditions h)
+
+same-conditions : (columns : List NamedColumn) (condition : Option ExprShape) → Same condition (conditions_of columns condition)
+same-conditions columns None = tt
+same-conditions columns (Some e) = tt
+
+select-figures : (p : Placed) (f : Figures) (condition : Option ExprShape) (conditions : List Term) → HasFigures p f → Same condition conditions → SelectFits p conditions
+    → HasFigures (selected p conditions) (filtered_figures condition f)
+select-figures p f None [] h same fits = h
+select-figures p f None (t ∷ ts) h same fits = absurd same
+select-figures p f (Some e) [] h same fits = absurd same
+select-figures p f (Some e) (t ∷ ts) h same fits =
+    more p f (node.Select p.root (column_under (operand_of t))) (λ x. settled (delayed 1 x)) h fits (λ s v. refl)
+
+rows-figures : (columns : List NamedColumn) (pick : PickShape) (condition : Option ExprShape) (p : Placed) (f : Figures) → HasFigures p f → RowsFit columns pick condition p
+    → HasFigures (rows_over columns pick condition p)
+    (settled (filtered_figures condition (computed_figures (max (pick_depth pick) (condition_depth condition)) f)))
+rows-figures columns pick condition p f h fits =
+    let items = picked_terms columns pick in
+    let conditions = conditions_of columns condition in
+    let over = levelled (length columns) p items conditions in
+    let depth = depth-both items conditions ∙ (λ i. max (pick-depth columns pick i) (conditions-depth columns condition i)) in
+    let first = subst (λ (d : ℕ). HasFigures over.at (computed_figures d f)) depth
+    (levels-figures (depth_of_all (items ++ conditions)) (length columns) p f items conditions h fits.of_levels) in
+    let same = same-levels (depth_of_all (items ++ conditions)) (length columns) p items conditions condition (same-conditions columns condition) in
+    let second = select-figures over.at (computed_figures (max (pick_depth pick) (condition_depth condition)) f) condition over.conditions first same fits.of_select in
+    more (selected over.at over.conditions) (filtered_figures condition (computed_figures (max (pick_depth pick) (condition_depth condition)) f))
+    (node.Project (selected over.at over.conditions).root (map operand_of over.items)) settled second fits.of_project (λ s v. refl)
+
+totals-figures : (columns : List NamedColumn) (items : List AggItemShape) (p : Placed) (f : Figures) → HasFigures p f → TotalsFit columns items p → HasDelay columns items p
+    → HasFigures (totals_over columns items p) (aggregate_figures (aggs_delay columns items) (computed_figures (aggs_depth items) f))
+totals-figures columns items p f h fits delay =
+    let terms = arguments_of_all columns items in
+    let over = levelled (length columns) p terms [] in
+    let depth : depth_of_all (terms ++ []) ≡ aggs_depth items = (let d = depth-both terms [] in let e = arguments-depth columns items in omega arith) in
+    let first = subst (λ (d : ℕ). HasFigures over.at (computed_figures d f)) depth
+    (levels-figures (depth_of_all (terms ++ [])) (length columns) p f terms [] h fits.of_levels) in
+    let aggs = node.Aggregate over.at.root (aggs_of columns items over.items) in
+    let new = is_added over.at.nodes aggs first.plan fits.of_aggregate in
+    record {
+      plan = new.over.plan;
+      is = new.figures ∙ (λ i. aggregate_figures (delay i) (first.is i));
+    }
+
+-- two nodes, of which the second was placed behind the first
+both-figures : (l r : Placed) (f g : Figures) (n : PlanNode) (row : Figures → Figures → Figures) → HasFigures l f → HasFigures r g → l.root < length l.nodes → IsOver l.nodes r
+    → FitsNext r.nodes n → ((s : ℕ → Shape) (v : ℕ → Figures) → figures_from s v n ≡ row (v l.root) (v r.root)) → HasFigures (added r.nodes n) (row f g)
+both-figures l r f g n row h k within over fits local =
+    let new = is_added r.nodes n k.plan fits in
+    let still : figures_of r.nodes l.root ≡ f =
+    sym (figures-kept l.nodes r.nodes (length l.nodes) (in_order l.nodes h.plan (length l.nodes)) over.kept l.root within) ∙ h.is in
+    record {
+      plan = new.over.plan;
+      is = new.figures ∙ local (shape_of r.nodes) (figures_of r.nodes) ∙ (λ i. row (still i) (k.is i));
+    }
+
+read-figures : (n : PlanNode) (kinds : List Kind) (s : ℕ → Shape) (v : ℕ → Figures) → IsLeafOf n kinds → figures_from s v n ≡ input_figures
+read-figures (node.Stream k own) kinds s v h = refl
+read-figures (node.Body own) kinds s v h = refl
+read-figures (node.Compute child ops) kinds s v h = absurd h
+read-figures (node.Select child column) kinds s v h = absurd h
+read-figures (node.Project child items) kinds s v h = absurd h
+read-figures (node.Aggregate child aggs) kinds s v h = absurd h
+read-figures (node.Union left right) kinds s v h = absurd h
+read-figures (node.Beside left right) kinds s v h = absurd h
+read-figures (node.Window source body size advance) kinds s v h = absurd h
+read-figures (node.Group source body key groups) kinds s v h = absurd h
+
+pub figures-right : (q : QueryShape) (read : List ℕ → PlanNode) (sources : List Stream) (nodes : List PlanNode) → IsReader read sources → IsAcceptedOver (record { sources = sources }) q
+    → IsPlan nodes → HasFigures (placed read sources q nodes) (query_figures sources q)
+figures-right (shape.Read name) read sources nodes reader a plan =
+    let done = right (shape.Read name) read sources nodes reader a plan in
+    let new = is_added nodes (read name) plan done.0 in
+    record {
+      plan = new.over.plan;
+      is = new.figures ∙ read-figures (read name) _ (shape_of nodes) (figures_of nodes) (reader.leaf name a);
+    }
+figures-right (shape.Rows pick condition source) read sources nodes reader a plan =
+    let done = right (shape.Rows pick condition source) read sources nodes reader a plan in
+    rows-figures (columns_of sources source) pick condition (placed read sources source nodes) (query_figures sources source)
+    (figures-right source read sources nodes reader a.0 plan) done.0.1
+figures-right (shape.Total aggs source) read sources nodes reader a plan =
+    let done = right (shape.Total aggs source) read sources nodes reader a plan in
+    totals-figures (columns_of sources source) aggs (placed read sources source nodes) (query_figures sources source)
+    (figures-right source read sources nodes reader a.0 plan) done.0.1 (total-delay aggs source read sources nodes reader a plan)
+figures-right (shape.Each var source size advance body) read sources nodes reader a plan =
+    let columns = columns_of sources source in
+    let inner : List ℕ → PlanNode = λ name. node.Body (kinds_of columns) in
+    let done = right (shape.Each var source size advance body) read sources nodes reader a plan in
+    let below = right source read sources nodes reader a.0 plan in
+    let from = placed read sources source nodes in
+    let kinds = body-reader var columns (columns-are source read sources reader a.0) in
+    let inside = right body inner (variable var columns) from.nodes kinds a.2 below.1.over.plan in
+    let into = placed inner (variable var columns) body from.nodes in
+    both-figures from into (query_figures sources source) (query_figures (variable var columns) body)
+    (node.Window from.root into.root size advance) (window_figures (copies_of_window size advance))
+    (figures-right source read sources nodes reader a.0 plan) (figures-right body inner (variable var columns) from.nodes kinds a.2 below.1.over.plan)
+    below.1.over.within inside.1.over done.0.2 (λ s v. refl)
+figures-right (shape.PerGroup var source key count body) read sources nodes reader a plan =
+    let columns = columns_of sources source in
+    let inner : List ℕ → PlanNode = λ name. node.Body (kinds_of columns) in
+    let done = right (shape.PerGroup var source key count body) read sources nodes reader a plan in
+    let below = right source read sources nodes reader a.0 plan in
+    let from = placed read sources source nodes in
+    let kinds = body-reader var columns (columns-are source read sources reader a.0) in
+    let inside = right body inner (variable var columns) from.nodes kinds a.2 below.1.over.plan in
+    let into = placed inner (variable var columns) body from.nodes in
+    both-figures from into (query_figures sources source) (query_figures (variable var columns) body)
+    (node.Group from.root into.root (Rattle.gl_query.specs.Values.column_number columns key) count) (group_figures count)
+    (figures-right source read sources nodes reader a.0 plan) (figures-right body inner (variable var columns) from.nodes kinds a.2 below.1.over.plan)
+    below.1.over.within inside.1.over done.0.2 (λ s v. refl)
+figures-right (shape.Union l r) read sources nodes reader a plan =
+    let done = right (shape.Union l r) read sources nodes reader a plan in
+    let first = right l read sources nodes reader a.0 plan in
+    let left = placed read sources l nodes in
+    let second = right r read sources left.nodes reader a.1 first.1.over.plan in
+    let both = placed read sources r left.nodes in
+    both-figures left both (query_figures sources l) (query_figures sources r) (node.Union left.root both.root) union_figures
+    (figures-right l read sources nodes reader a.0 plan) (figures-right r read sources left.nodes reader a.1 first.1.over.plan)
+    first.1.over.within second.1.over done.0.2 (λ s v. refl)
+figures-right (shape.Concat l r) read sources nodes reader a plan =
+    let done = right (shape.Concat l r) read sources nodes reader a plan in
+    let first = right l read sources nodes reader a.0 plan in
+    let left = placed read sources l nodes in
+    let second = right r read sources left.nodes reader a.1 first.1.over.plan in
+    let both = placed read sources r left.nodes in
+    both-figures left both (query_figures sources l) (query_figures sources r) (node.Beside left.root both.root) beside_figures
+    (figures-right l read sources nodes reader a.0 plan) (figures-right r read sources left.nodes reader a.1 first.1.over.plan)
+    first.1.over.within second.1.over done.0.2 (λ s v. refl)

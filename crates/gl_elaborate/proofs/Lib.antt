@@ -1,0 +1,15 @@
+pub mod PlacedLemmas
+pub mod StandsLemmas
+pub mod RowsLemmas
+pub mod TotalsLemmas
+pub mod LongLemmas
+pub mod ReadLemmas
+pub mod TwoLemmas
+pub mod QueryLemmas
+pub mod FigureLemmas
+pub mod StatementLemmas
+pub mod StepLemmas
+pub mod CanLemmas
+pub mod BodyLemmas
+pub mod ArgumentLemmas
+pub mod TreeLemmas

@@ -1,0 +1,65 @@
+-- Rows that are as long as columns are many: in parts of a list, and in results.
+use Rattle.std.proofs.Common.{◌≡◌, ℕ, zero, suc, ◌*◌, Bool, List, [], ◌∷◌, length, sym, subst, map, filter, take, drop, nat_lt, nat_eq}
+use Rattle.std.specs.List.{AllByRecursion, filter_map, range_with_len}
+use Rattle.gl_bits.specs.Lists.{Group, groups, keys_of, rows_with, slice_at, slices}
+use Rattle.gl_bits.specs.Results.{Row}
+use Rattle.gl_bits.proofs.Bools.{by_cases}
+use Rattle.gl_schema.specs.declared.schema.Column.{Column}
+use Rattle.gl_schema.specs.declared.schema.Stream.{Stream}
+use Rattle.gl_query.specs.Shapes.{QueryShape}
+use Rattle.gl_query.specs.Columns.{columns_of}
+use Rattle.gl_query.specs.Accepted.{IsAcceptedOver}
+use Rattle.gl_query.specs.Results.{Env, IsResultIn, streams_of}
+use Rattle.gl_query.specs.Laws.{HoldsIn, IsLongAs}
+use Rattle.gl_query.proofs.Lengths.{long}
+
+abbrev pub AreLong : List Column → List Row → Type 0
+AreLong columns rows = AllByRecursion (IsLongAs columns) rows
+
+-- ---- parts of a list
+
+all-filter : {A : Type 0} (P : A → Type 0) (p : A → Bool) (xs : List A) → AllByRecursion P xs → AllByRecursion P (filter p xs)
+all-filter P p [] h = tt
+all-filter P p (x ∷ xs) h = by_cases (p x) (λ e. rw e (h.0, all-filter P p xs h.1)) (λ e. rw e (all-filter P p xs h.1))
+
+all-take : {A : Type 0} (P : A → Type 0) (n : ℕ) (xs : List A) → AllByRecursion P xs → AllByRecursion P (take n xs)
+all-take P zero xs h = tt
+all-take P (suc n) [] h = tt
+all-take P (suc n) (x ∷ xs) h = (h.0, all-take P n xs h.1)
+
+all-drop : {A : Type 0} (P : A → Type 0) (n : ℕ) (xs : List A) → AllByRecursion P xs → AllByRecursion P (drop n xs)
+all-drop P zero xs h = h
+all-drop P (suc n) [] h = tt
+all-drop P (suc n) (x ∷ xs) h = all-drop P n xs h.1
+
+module _ (P : Row → Type 0) where
+  slices_at : (size advance : ℕ) (rows : List Row) (places : List ℕ) → AllByRecursion P rows
+      → AllByRecursion (AllByRecursion P) (filter_map (slice_at size advance rows) places)
+  slices_at size advance rows [] h = tt
+  slices_at size advance rows (j ∷ places) h =
+      by_cases (nat_lt (j * advance) (length rows))
+      (λ e. rw e (all-take P size (drop (j * advance) rows) (all-drop P (j * advance) rows h), slices_at size advance rows places h))
+      (λ e. rw e (slices_at size advance rows places h))
+
+  pub in-slices : (size advance : ℕ) (rows : List Row) → AllByRecursion P rows → AllByRecursion (AllByRecursion P) (slices size advance rows)
+  unfolding slices
+  in-slices size advance rows h = slices_at size advance rows (range_with_len 0 (length rows)) h
+
+  groups_of : (key_of : Row → ℕ) (rows : List Row) (keys : List ℕ) → AllByRecursion P rows
+      → AllByRecursion (λ (g : Group Row). AllByRecursion P g.rows) (map (λ key. record { key = key; rows = rows_with key_of rows key }) keys)
+  groups_of key_of rows [] h = tt
+  groups_of key_of rows (key ∷ keys) h = (all-filter P (λ x. nat_eq (key_of x) key) rows h, groups_of key_of rows keys h)
+
+  pub in-groups : (count : ℕ) (key_of : Row → ℕ) (rows : List Row) → AllByRecursion P rows
+      → AllByRecursion (λ (g : Group Row). AllByRecursion P g.rows) (groups count key_of rows)
+  unfolding groups
+  in-groups count key_of rows h = groups_of key_of rows (take count (keys_of key_of rows)) h
+
+-- ---- results
+
+pub results-long : (q : QueryShape) (sources : List Stream) (env : Env) (out : List Row) (spill : Bool)
+    → IsAcceptedOver (record { sources = sources }) q → streams_of env ≡ sources → HoldsIn IsLongAs env → IsResultIn q env out spill
+    → AreLong (columns_of sources q) out
+results-long q sources env out spill a same h r =
+    subst (λ (s : List Stream). AreLong (columns_of s q) out) same
+    (long q env out spill (subst (λ (s : List Stream). IsAcceptedOver (record { sources = s }) q) (sym same) a) h r)

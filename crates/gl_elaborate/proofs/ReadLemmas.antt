@@ -1,0 +1,145 @@
+-- The leaves of a query's plan: their shapes, that they fit, and what they give.
+use Rattle.std.proofs.Common.{◌≡◌, ◌≢◌, ℕ, ◌<◌, Bool, true, false, List, [], ◌∷◌, length, refl, sym, subst}
+use Rattle.std.specs.List.{AllByRecursion}
+use Rattle.std.specs.Prelude.{bytes_eq}
+use Rattle.std.proofs.lemmas.List.Elements.{All-nil, All-from_recursion}
+use Rattle.gl_bits.specs.Kinds.{IsKind}
+use Rattle.gl_bits.specs.Results.{Row}
+use Rattle.gl_bits.specs.declared.kind.Kind.{Kind}
+use Rattle.gl_bits.proofs.AllLists.{all_append, all_mapped}
+use Rattle.gl_bits.proofs.Bools.{by_cases}
+use Rattle.gl_schema.specs.declared.schema.Column.{Column as NamedColumn}
+use Rattle.gl_schema.specs.declared.schema.Stream.{Stream}
+use Rattle.gl_schema.specs.Schemas.{kinds_of, has_stream}
+use Rattle.gl_query.specs.Shapes.{QueryShape}
+use Rattle.gl_query.specs.Shapes as shape
+use Rattle.gl_query.specs.Columns.{source_columns, variable}
+use Rattle.gl_query.specs.Results.{Env, IsResultIn, only, rows_of, streams_of}
+use Rattle.gl_query.specs.Laws.{AreKinds, HoldsIn, IsLongAs}
+use Rattle.gl_query.proofs.Real.{AreReal, IsScope, body_is}
+use Rattle.gl_algebra.specs.declared.node.PlanNode.{PlanNode}
+use Rattle.gl_algebra.specs.declared.node.PlanNode.TheVariants as node
+use Rattle.gl_algebra.specs.Shapes.{Shape, unsteady, shape_from}
+use Rattle.gl_algebra.specs.Results.{Inputs, Meaning, given, meaning_from}
+use Rattle.gl_elaborate.specs.Fitting.{FitsNext}
+use Rattle.gl_elaborate.specs.Right.{pace_at, leaves_of}
+use Rattle.gl_elaborate.proofs.LongLemmas.{AreLong}
+
+-- a leaf of a plan whose columns have these kinds
+abbrev pub IsLeafOf : PlanNode → List Kind → Type 0
+IsLeafOf (node.Stream number own) kinds = own ≡ kinds
+IsLeafOf (node.Body own) kinds = own ≡ kinds
+IsLeafOf (node.Compute child ops) kinds = ⊥
+IsLeafOf (node.Select child column) kinds = ⊥
+IsLeafOf (node.Project child items) kinds = ⊥
+IsLeafOf (node.Aggregate child aggs) kinds = ⊥
+IsLeafOf (node.Union left right) kinds = ⊥
+IsLeafOf (node.Beside left right) kinds = ⊥
+IsLeafOf (node.Window source body size advance) kinds = ⊥
+IsLeafOf (node.Group source body key groups) kinds = ⊥
+
+-- the rows that a leaf gives
+abbrev pub leaf_rows : PlanNode → Inputs → List Row
+leaf_rows (node.Stream number kinds) inputs = inputs.streams number
+leaf_rows (node.Body kinds) inputs = inputs.body
+leaf_rows (node.Compute child ops) inputs = []
+leaf_rows (node.Select child column) inputs = []
+leaf_rows (node.Project child items) inputs = []
+leaf_rows (node.Aggregate child aggs) inputs = []
+leaf_rows (node.Union left right) inputs = []
+leaf_rows (node.Beside left right) inputs = []
+leaf_rows (node.Window source body size advance) inputs = []
+leaf_rows (node.Group source body key groups) inputs = []
+
+-- the leaves of sources by their names
+pub record IsReader (read : List ℕ → PlanNode) (sources : List Stream) : Type 0 where
+  pub scope : IsScope (record { sources = sources })
+  pub leaf : (name : List ℕ) → has_stream sources name ≡ true → IsLeafOf (read name) (kinds_of (source_columns sources name))
+  pub steady : (name : List ℕ) → pace_at (read name) ≢ unsteady
+
+-- what the leaves of sources give is what an environment has
+pub record Sees (read : List ℕ → PlanNode) (sources : List Stream) (env : Env) (inputs : Inputs) : Type 0 where
+  pub streams : streams_of env ≡ sources
+  pub are_long : HoldsIn IsLongAs env
+  pub reads : (name : List ℕ) → has_stream sources name ≡ true → leaf_rows (read name) inputs ≡ rows_of env name
+
+-- the results of a query over what its leaves give
+abbrev pub means_for : (List ℕ → PlanNode) → List Stream → QueryShape → Meaning
+means_for read sources q inputs out spill = (env : Env) → Sees read sources env inputs → IsResultIn q env out spill
+
+-- ---- one leaf
+
+pub all-kinds : (columns : List NamedColumn) → AreKinds columns → AllByRecursion IsKind (kinds_of columns)
+all-kinds columns h = all_mapped IsKind (λ (c : NamedColumn). c.kind) columns h
+
+pub read-shape : (n : PlanNode) (kinds : List Kind) (s : ℕ → Shape) → IsLeafOf n kinds
+    → shape_from s n ≡ record { kinds = kinds; closing = false; pace = pace_at n; leaves = n ∷ [] }
+read-shape (node.Stream k own) kinds s h = λ i. record { kinds = h i; closing = false; pace = pace_at (node.Stream k own); leaves = node.Stream k own ∷ [] }
+read-shape (node.Body own) kinds s h = λ i. record { kinds = h i; closing = false; pace = pace_at (node.Body own); leaves = node.Body own ∷ [] }
+read-shape (node.Compute child ops) kinds s h = absurd h
+read-shape (node.Select child column) kinds s h = absurd h
+read-shape (node.Project child items) kinds s h = absurd h
+read-shape (node.Aggregate child aggs) kinds s h = absurd h
+read-shape (node.Union left right) kinds s h = absurd h
+read-shape (node.Beside left right) kinds s h = absurd h
+read-shape (node.Window source body size advance) kinds s h = absurd h
+read-shape (node.Group source body key groups) kinds s h = absurd h
+
+pub read-fits : (n : PlanNode) (kinds : List Kind) (nodes : List PlanNode) → IsLeafOf n kinds → AllByRecursion IsKind kinds → FitsNext nodes n
+read-fits (node.Stream k own) kinds nodes h a = record {
+  before = All-nil (λ child. child < length nodes);
+  suits = All-from_recursion IsKind own (subst (AllByRecursion IsKind) (sym h) a);
+}
+read-fits (node.Body own) kinds nodes h a = record {
+  before = All-nil (λ child. child < length nodes);
+  suits = All-from_recursion IsKind own (subst (AllByRecursion IsKind) (sym h) a);
+}
+read-fits (node.Compute child ops) kinds nodes h a = absurd h
+read-fits (node.Select child column) kinds nodes h a = absurd h
+read-fits (node.Project child items) kinds nodes h a = absurd h
+read-fits (node.Aggregate child aggs) kinds nodes h a = absurd h
+read-fits (node.Union left right) kinds nodes h a = absurd h
+read-fits (node.Beside left right) kinds nodes h a = absurd h
+read-fits (node.Window source body size advance) kinds nodes h a = absurd h
+read-fits (node.Group source body key groups) kinds nodes h a = absurd h
+
+pub read-means : (n : PlanNode) (kinds : List Kind) (s : ℕ → Shape) (m : ℕ → Meaning) (inputs : Inputs) (out : List Row) (spill : Bool) → IsLeafOf n kinds
+    → meaning_from s m n inputs out spill → (out ≡ leaf_rows n inputs) × (spill ≡ false)
+read-means (node.Stream k own) kinds s m inputs out spill h r = (r.rows, r.kept)
+read-means (node.Body own) kinds s m inputs out spill h r = (r.rows, r.kept)
+read-means (node.Compute child ops) kinds s m inputs out spill h r = absurd h
+read-means (node.Select child column) kinds s m inputs out spill h r = absurd h
+read-means (node.Project child items) kinds s m inputs out spill h r = absurd h
+read-means (node.Aggregate child aggs) kinds s m inputs out spill h r = absurd h
+read-means (node.Union left right) kinds s m inputs out spill h r = absurd h
+read-means (node.Beside left right) kinds s m inputs out spill h r = absurd h
+read-means (node.Window source body size advance) kinds s m inputs out spill h r = absurd h
+read-means (node.Group source body key groups) kinds s m inputs out spill h r = absurd h
+
+lost : (var : List ℕ) (columns : List NamedColumn) (name : List ℕ) → bytes_eq name var ≡ false → has_stream (variable var columns) name ≡ true → ⊥
+unfolding has_stream
+lost var columns name e has = let both = rw e at has in cc
+
+pub body-reader : (var : List ℕ) (columns : List NamedColumn) → AreReal columns → IsReader (λ name. node.Body (kinds_of columns)) (variable var columns)
+body-reader var columns are = record {
+  scope = body_is var columns are.result are.kinds;
+  leaf = λ name has. by_cases (bytes_eq name var) (λ e. rw e refl) (λ e. absurd (lost var columns name e has));
+  steady = λ name e. absurd (cc);
+}
+
+pub body-sees : (var : List ℕ) (columns : List NamedColumn) (inputs : Inputs) (rows : List Row) → AreLong columns rows
+    → Sees (λ name. node.Body (kinds_of columns)) (variable var columns) (only var columns rows) (given inputs rows)
+body-sees var columns inputs rows long = record {
+  streams = refl;
+  are_long = λ name. by_cases (bytes_eq name var) (λ e. rw e long) (λ e. rw e tt);
+  reads = λ name has. by_cases (bytes_eq name var) (λ e. rw e refl) (λ e. absurd (lost var columns name e has));
+}
+
+pub body-leaves : (n : PlanNode) (q : QueryShape) → AllByRecursion (λ leaf. leaf ≡ n) (leaves_of (λ name. n) q)
+body-leaves n (shape.Read name) = (refl, tt)
+body-leaves n (shape.Rows pick condition source) = body-leaves n source
+body-leaves n (shape.Total aggs source) = body-leaves n source
+body-leaves n (shape.Each var source size advance body) = body-leaves n source
+body-leaves n (shape.PerGroup var source key groups body) = body-leaves n source
+body-leaves n (shape.Union l r) = all_append (λ leaf. leaf ≡ n) (leaves_of (λ name. n) l) (leaves_of (λ name. n) r) (body-leaves n l) (body-leaves n r)
+body-leaves n (shape.Concat l r) = all_append (λ leaf. leaf ≡ n) (leaves_of (λ name. n) l) (leaves_of (λ name. n) r) (body-leaves n l) (body-leaves n r)

@@ -1,0 +1,302 @@
+-- A select over a node of a plan: its nodes fit, and its results are those of the select.
+use Rattle.std.proofs.Common.{◌≡◌, ℕ, zero, suc, ◌+◌, ◌%◌, ◌^◌, ◌<◌, ◌≤◌, Bool, true, List, [], ◌∷◌, ◌++◌, length, Option, Some, None, slice_get, get_or, slice_index, refl, sym, ap, subst, ◌∙◌, arith, map, filter, nat_eq, lit≤}
+use Rattle.std.specs.List.{AllByRecursion, AllZip, range_with_len}
+use Rattle.std.proofs.lemmas.List.{length-map}
+use Rattle.std.proofs.lemmas.Option.{slice_get-get_or}
+use Rattle.gl_bits.specs.Kinds.{width_of}
+use Rattle.gl_bits.specs.declared.kind.Kind.{Kind}
+use Rattle.gl_bits.specs.declared.kind.Kind.TheVariants.{Unsigned}
+use Rattle.gl_schema.specs.declared.schema.Column.{Column as NamedColumn}
+use Rattle.gl_schema.specs.Schemas.{kinds_of}
+use Rattle.gl_query.specs.Shapes.{ExprShape, ItemShape, PickShape}
+use Rattle.gl_query.specs.Shapes as shape
+use Rattle.gl_query.specs.Values.{HasKind, kind_alone, value_of}
+use Rattle.gl_query.specs.Columns.{item_column, picked_columns}
+use Rattle.gl_query.specs.Accepted.{IsRows, IsPick}
+use Rattle.gl_query.specs.Results.{picked, keeps, kept}
+use Rattle.gl_algebra.specs.declared.node.PlanNode.{PlanNode}
+use Rattle.gl_algebra.specs.Columns.{bit_kind, kind_of_operand, OperandFits}
+use Rattle.gl_algebra.specs.Values.{value_as}
+use Rattle.gl_algebra.specs.Shapes.{Shape, Pace, unsteady}
+use Rattle.gl_bits.specs.Results.{Row, Results, IsChanged}
+use Rattle.gl_bits.proofs.Bools.{by_cases}
+use Rattle.gl_query.specs.Laws.{AreKinds, IsLongAs}
+use Rattle.gl_algebra.specs.Columns.{CastFits}
+use Rattle.gl_algebra.specs.Added.{Placed}
+use Rattle.gl_algebra.specs.Results.{Meaning}
+use Rattle.gl_algebra.specs.Results as algebra
+use Rattle.gl_terms.specs.Terms.{Term, Column, Literal, Not, Cast, Binary, IsTerm, term_of, term_kind, term_value, depth_of, depth_of_all}
+use Rattle.gl_terms.specs.Levels.{operand_of}
+use Rattle.gl_elaborate.specs.Plans.{projected, levelled, condition_of, conditions_of, picked_terms, column_under, selected, rows_over}
+use Rattle.gl_elaborate.specs.Fitting.{LevelledFit, SelectFits, ProjectFits, RowsFit}
+use Rattle.gl_terms.proofs.TermLemmas.{term-kind, term-value}
+use Rattle.gl_terms.proofs.AcceptedLemmas.{alone, term-fits}
+use Rattle.gl_terms.proofs.LevelLemmas.{IsLeaf, IsCarried}
+use Rattle.gl_terms.proofs.DepthLemmas.{IsNoLiteral}
+use Rattle.gl_elaborate.proofs.LongLemmas.{AreLong}
+use Rattle.gl_elaborate.proofs.StandsLemmas.{Stands, weaker, select-stands, project-stands, select-fits, project-fits, IsLevelled, levels-stand, zip-fits}
+
+-- ---- terms of depth 0
+
+pub flat-operand : (kinds : List Kind) (t : Term) → depth_of t ≡ 0 → IsTerm kinds t → IsLeaf kinds t (operand_of t)
+flat-operand kinds (Column n) d fits = record { fits = fits; kind = refl; value = λ row. refl }
+flat-operand kinds (Literal w k) d fits = record { fits = fits; kind = refl; value = λ row. refl }
+flat-operand kinds (Not t) d fits = absurd (omega arith)
+flat-operand kinds (Cast t k) d fits = absurd (omega arith)
+flat-operand kinds (Binary o l r) d fits = absurd (omega arith)
+
+-- a column of one bit has a term's value
+pub record IsBitOf (kinds : List Kind) (t : Term) (column : ℕ) : Type 0 where
+  pub is : slice_get kinds column ≡ Some bit_kind
+  pub value : (row : Row) → slice_index row column ≡ term_value kinds row t
+
+pub flat-column : (kinds : List Kind) (t : Term) → depth_of t ≡ 0 → IsTerm kinds t → IsNoLiteral t → term_kind kinds t ≡ bit_kind
+    → IsBitOf kinds t (column_under (operand_of t))
+flat-column kinds (Column n) d fits nl bit = record {
+  is = slice_get-get_or kinds n bit_kind fits ∙ ap Some bit;
+  value = λ row. refl;
+}
+flat-column kinds (Literal w k) d fits nl bit = absurd nl
+flat-column kinds (Not t) d fits nl bit = absurd (omega arith)
+flat-column kinds (Cast t k) d fits nl bit = absurd (omega arith)
+flat-column kinds (Binary o l r) d fits nl bit = absurd (omega arith)
+
+-- ---- conditions
+
+record IsCast (kinds : List Kind) (t t' : Term) : Type 0 where
+  pub fits : IsTerm kinds t'
+  pub kind : term_kind kinds t' ≡ bit_kind
+  pub no : IsNoLiteral t'
+  pub value : (row : Row) → term_value kinds row t' ≡ term_value kinds row t
+
+same_bit : (n width : ℕ) (kind : Kind) → kind ≡ bit_kind → width ≡ width_of kind → n < 2 ^ width → value_as kind (Unsigned 1) n ≡ n
+same_bit n width kind k w fits =
+    let narrow : 2 ^ width ≡ 2 = ap (λ (i : ℕ). 2 ^ i) (w ∙ ap width_of k) in
+    let less : n < 2 = omega (arith, fits, narrow) in
+    ap (λ (j : Kind). value_as j (Unsigned 1) n) k ∙ (let same : n % 2 ≡ n = omega arith in same)
+
+condition : (kinds : List Kind) (t : Term) → IsTerm kinds t → term_kind kinds t ≡ bit_kind → IsCast kinds t (condition_of t)
+condition kinds (Column n) fits bit = record { fits = fits; kind = bit; no = tt; value = λ row. refl }
+condition kinds (Literal w k) fits bit = record {
+  fits = (fits, (lit≤ tt, lit≤ tt), subst (λ (j : Kind). CastFits j (Unsigned 1)) (sym bit) tt);
+  kind = refl;
+  no = tt;
+  value = λ row. same_bit w.bits w.width k bit fits.2 fits.0.fits;
+}
+condition kinds (Not t) fits bit = record { fits = fits; kind = bit; no = tt; value = λ row. refl }
+condition kinds (Cast t k) fits bit = record { fits = fits; kind = bit; no = tt; value = λ row. refl }
+condition kinds (Binary o l r) fits bit = record { fits = fits; kind = bit; no = tt; value = λ row. refl }
+
+-- ---- items
+
+each_from : {A : Type 0} (f : ℕ → A) (d : A) (xs : List A) (k : ℕ) → ((i : ℕ) → i < length xs → f (k + i) ≡ get_or xs i d)
+    → map f (range_with_len k (length xs)) ≡ xs
+each_from f d [] k h = refl
+each_from f d (x ∷ xs) k h =
+    let here : f k ≡ x = ap f (let e : k ≡ k + 0 = omega arith in e) ∙ h 0 (omega arith) in
+    let rest = each_from f d xs (k + 1) (λ i below. ap f (let e : k + 1 + i ≡ k + suc i = omega arith in e) ∙ h (suc i) (omega arith)) in
+    λ i. here i ∷ rest i
+
+each : {A : Type 0} (d : A) (xs : List A) → map (λ i. get_or xs i d) (range_with_len 0 (length xs)) ≡ xs
+each d xs = each_from (λ i. get_or xs i d) d xs 0 (λ i below. ap (λ (j : ℕ). get_or xs j d) (let e : 0 + i ≡ i = omega arith in e))
+
+over_columns : {A : Type 0} (f : Term → A) (k n : ℕ) → map f (map Column (range_with_len k n)) ≡ map (λ i. f (Column i)) (range_with_len k n)
+over_columns f k zero = refl
+over_columns f k (suc n) = ap (λ l. f (Column k) ∷ l) (over_columns f (k + 1) n)
+
+columns-fit : (kinds : List Kind) (k n : ℕ) → k + n ≤ length kinds → AllByRecursion (IsTerm kinds) (map Column (range_with_len k n))
+columns-fit kinds k zero h = tt
+columns-fit kinds k (suc n) h = (omega arith, columns-fit kinds (k + 1) n (omega arith))
+
+module _ (columns : List NamedColumn) (kinds : AreKinds columns) where
+  items-fit : (items : List ItemShape) → AllByRecursion (λ (i : ItemShape). HasKind columns (kind_alone i.expr) i.expr) items
+      → AllByRecursion (IsTerm (kinds_of columns)) (map (λ (i : ItemShape). term_of columns (kind_alone i.expr) i.expr) items)
+  items-fit [] h = tt
+  items-fit (i ∷ items) h = (term-fits columns kinds i.expr (kind_alone i.expr) (alone i.expr) h.0, items-fit items h.1)
+
+  pub pick-fits : (pick : PickShape) → IsPick columns pick → AllByRecursion (IsTerm (kinds_of columns)) (picked_terms columns pick)
+  pick-fits shape.All h = columns-fit (kinds_of columns) 0 (length columns) (rw length-map (omega arith))
+  pick-fits (shape.Items items) h = items-fit items h.typed
+
+items-kinds : (columns : List NamedColumn) (items : List ItemShape)
+    → map (term_kind (kinds_of columns)) (map (λ (i : ItemShape). term_of columns (kind_alone i.expr) i.expr) items) ≡ kinds_of (map (item_column columns) items)
+items-kinds columns [] = refl
+items-kinds columns (i ∷ items) = λ k. term-kind columns (kind_alone i.expr) i.expr k ∷ items-kinds columns items k
+
+pick-kinds : (columns : List NamedColumn) (pick : PickShape) → map (term_kind (kinds_of columns)) (picked_terms columns pick) ≡ kinds_of (picked_columns columns pick)
+pick-kinds columns shape.All =
+    over_columns (term_kind (kinds_of columns)) 0 (length columns)
+    ∙ ap (λ (n : ℕ). map (λ i. get_or (kinds_of columns) i bit_kind) (range_with_len 0 n)) (sym (length-map columns (λ c. c.kind)))
+    ∙ each bit_kind (kinds_of columns)
+pick-kinds columns (shape.Items items) = items-kinds columns items
+
+items-values : (columns : List NamedColumn) (items : List ItemShape) (row : Row)
+    → map (term_value (kinds_of columns) row) (map (λ (i : ItemShape). term_of columns (kind_alone i.expr) i.expr) items)
+    ≡ map (λ (i : ItemShape). value_of columns (kind_alone i.expr) i.expr row) items
+items-values columns [] row = refl
+items-values columns (i ∷ items) row = λ k. term-value columns (kind_alone i.expr) i.expr row k ∷ items-values columns items row k
+
+pick-values : (columns : List NamedColumn) (pick : PickShape) (row : Row) → length row ≡ length columns
+    → map (term_value (kinds_of columns) row) (picked_terms columns pick) ≡ picked columns pick row
+pick-values columns shape.All row long =
+    over_columns (term_value (kinds_of columns) row) 0 (length columns)
+    ∙ ap (λ (n : ℕ). map (λ i. get_or row i 0) (range_with_len 0 n)) (sym long)
+    ∙ each 0 row
+pick-values columns (shape.Items items) row long = items-values columns items row
+
+-- ---- what is algebra.projected
+
+module _ (kinds kinds' : List Kind) (widen : Row → Row) where
+  flat-fit : (ts : List Term) → depth_of_all ts ≡ 0 → AllByRecursion (IsTerm kinds') ts → AllByRecursion (OperandFits kinds') (map operand_of ts)
+  flat-fit [] d fits = tt
+  flat-fit (t ∷ ts) d fits = ((flat-operand kinds' t (omega arith) fits.0).fits, flat-fit ts (omega arith) fits.1)
+
+  flat-kinds : (ts us : List Term) → AllZip (IsCarried kinds kinds' widen) ts us → depth_of_all us ≡ 0
+      → map (kind_of_operand kinds') (map operand_of us) ≡ map (term_kind kinds) ts
+  flat-kinds [] [] h d = refl
+  flat-kinds [] (u ∷ us) h d = absurd h
+  flat-kinds (t ∷ ts) [] h d = absurd h
+  flat-kinds (t ∷ ts) (u ∷ us) h d =
+      let one = (flat-operand kinds' u (omega arith) h.0.fits).kind ∙ h.0.kind in
+      let rest = flat-kinds ts us h.1 (omega arith) in
+      λ i. one i ∷ rest i
+
+  flat-values : (ts us : List Term) (row : Row) → length row ≡ length kinds → AllZip (IsCarried kinds kinds' widen) ts us → depth_of_all us ≡ 0
+      → algebra.projected (map operand_of us) (widen row) ≡ map (term_value kinds row) ts
+  flat-values [] [] row long h d = refl
+  flat-values [] (u ∷ us) row long h d = absurd h
+  flat-values (t ∷ ts) [] row long h d = absurd h
+  flat-values (t ∷ ts) (u ∷ us) row long h d =
+      let one = (flat-operand kinds' u (omega arith) h.0.fits).value (widen row) ∙ h.0.value row long in
+      let rest = flat-values ts us row long h.1 (omega arith) in
+      λ i. one i ∷ rest i
+
+-- ---- rows through a filter
+
+through : (w : Row → Row) (p q : Row → Bool) (f g : Row → Row) (P : Row → Type 0) → ((row : Row) → P row → (p (w row) ≡ q row) × (f (w row) ≡ g row))
+    → (rows : List Row) → AllByRecursion P rows → map f (filter p (map w rows)) ≡ map g (filter q rows)
+through w p q f g P each [] h = refl
+through w p q f g P each (row ∷ rows) h =
+    let here = each row h.0 in
+    let rest = through w p q f g P each rows h.1 in
+    by_cases (q row) (λ e. rw (here.0, e) (λ i. here.1 i ∷ rest i)) (λ e. rw (here.0, e) rest)
+
+unfiltered : (rows : List Row) → rows ≡ filter (λ (row : Row). true) rows
+unfiltered [] = refl
+unfiltered (row ∷ rows) = ap (λ (l : List Row). row ∷ l) (unfiltered rows)
+
+-- ---- selects
+
+-- made of a result of the source whose rows are long
+pub record IsPicked (columns : List NamedColumn) (pick : PickShape) (condition : Option ExprShape) (source : Results) (out : List Row) (spill : Bool) : Type 0 where
+  pub rows : List Row
+  pub of_source : source rows spill
+  pub made : AreLong columns rows → out ≡ map (picked columns pick) (kept columns condition rows)
+
+abbrev pub pace_under : Option ExprShape → Pace → Pace
+pace_under None pace = pace
+pace_under (Some e) pace = unsteady
+
+module _ (columns : List NamedColumn) (areKinds : AreKinds columns) (old : List PlanNode) (at : Placed) (shape : Shape) (Means : Meaning)
+    (same : shape.kinds ≡ kinds_of columns) where
+  abbrev given : Shape
+  given = record shape { kinds = kinds_of columns }
+
+  open_levels : (pick : PickShape) (conditions : List Term) → IsPick columns pick
+      → AllByRecursion (IsTerm (kinds_of columns)) conditions → AllByRecursion IsNoLiteral conditions
+      → Stands old at shape Means
+      → IsLevelled old given Means (picked_terms columns pick) conditions (levelled (length columns) at (picked_terms columns pick) conditions)
+      (LevelledFit (length columns) at (picked_terms columns pick) conditions)
+  open_levels pick conditions picks fits nl s =
+      levels-stand (depth_of_all (picked_terms columns pick ++ conditions)) (length columns) old at given Means (picked_terms columns pick) conditions
+      (sym (length-map columns (λ c. c.kind))) (omega arith) (pick-fits columns areKinds pick picks) fits nl
+      (subst (λ (k : List Kind). Stands old at (record shape { kinds = k }) Means) same s)
+
+  long-kinds : (row : Row) → length row ≡ length columns → length row ≡ length (kinds_of columns)
+  long-kinds row e = e ∙ sym (length-map columns (λ c. c.kind))
+
+  -- the last node, behind a filter
+  finish : (pick : PickShape) (condition : Option ExprShape) (pace : Pace) (from : Placed) (kinds : List Kind) (widen : Row → Row) (p : Row → Bool) (items : List Term)
+      → Stands old from (record shape { kinds = kinds; pace = pace }) (λ inputs. IsChanged (IsChanged (Means inputs) (map widen)) (filter p))
+      → AllZip (IsCarried (kinds_of columns) kinds widen) (picked_terms columns pick) items → depth_of_all items ≡ 0
+      → ((row : Row) → length row ≡ length columns → p (widen row) ≡ keeps columns condition row)
+      → ProjectFits from items
+      × Stands old (projected from items) (record shape { kinds = kinds_of (picked_columns columns pick); pace = pace })
+      (λ inputs. IsPicked columns pick condition (Means inputs))
+  finish pick condition pace from kinds widen p items s zipped flat kept_same =
+      let fits = zip-fits (kinds_of columns) kinds widen (picked_terms columns pick) items zipped in
+      let stood = project-stands old from (record shape { kinds = kinds; pace = pace }) (λ inputs. IsChanged (IsChanged (Means inputs) (map widen)) (filter p)) s (map operand_of items)
+      (flat-fit (kinds_of columns) kinds widen items flat fits) in
+      let e = flat-kinds (kinds_of columns) kinds widen (picked_terms columns pick) items zipped flat ∙ pick-kinds columns pick in
+      let moved = subst (λ (k : List Kind). Stands old (projected from items) (record shape { kinds = k; pace = pace })
+      (λ inputs. IsChanged (IsChanged (IsChanged (Means inputs) (map widen)) (filter p)) (map (algebra.projected (map operand_of items))))) e stood in (
+        project-fits old from (record shape { kinds = kinds; pace = pace }) (λ inputs. IsChanged (IsChanged (Means inputs) (map widen)) (filter p)) s (map operand_of items)
+            (flat-fit (kinds_of columns) kinds widen items flat fits),
+        weaker old (projected from items) (record shape { kinds = kinds_of (picked_columns columns pick); pace = pace })
+            (λ inputs. IsChanged (IsChanged (IsChanged (Means inputs) (map widen)) (filter p)) (map (algebra.projected (map operand_of items))))
+            (λ inputs. IsPicked columns pick condition (Means inputs)) moved
+            (λ inputs out spill r. record {
+              rows = r.of_source.of_source.rows;
+              of_source = r.of_source.of_source.of_source;
+              made = λ long.
+                  r.changed
+                  ∙ ap (map (algebra.projected (map operand_of items))) (r.of_source.changed ∙ ap (filter p) r.of_source.of_source.changed)
+                  ∙ through widen p (keeps columns condition) (algebra.projected (map operand_of items)) (picked columns pick)
+                  (IsLongAs columns)
+                  (λ row one. (
+                    kept_same row one,
+                    flat-values (kinds_of columns) kinds widen (picked_terms columns pick) items row (long-kinds row one) zipped flat
+                        ∙ pick-values columns pick row one,
+                  ))
+                  r.of_source.of_source.rows long;
+            }),
+      )
+
+  over_none : (pick : PickShape) (from : Placed) (items conditions : List Term) (Fit : Type 0)
+      → IsLevelled old given Means (picked_terms columns pick) [] (record { at = from; items = items; conditions = conditions }) Fit
+      → SelectFits from conditions × ProjectFits (selected from conditions) items
+      × Stands old (projected (selected from conditions) items) (record shape { kinds = kinds_of (picked_columns columns pick) })
+      (λ inputs. IsPicked columns pick None (Means inputs))
+  over_none pick from items [] Fit l =
+      let done = finish pick None shape.pace from l.kinds l.widen (λ row. true) items
+      (weaker old from (record shape { kinds = l.kinds }) (λ inputs. IsChanged (Means inputs) (map l.widen))
+      (λ inputs. IsChanged (IsChanged (Means inputs) (map l.widen)) (filter (λ row. true))) l.stands
+      (λ inputs out spill r. record { rows = out; of_source = r; changed = unfiltered out }))
+      l.of_items l.flat_items (λ row long. refl) in
+      (tt, done.0, done.1)
+  over_none pick from items (t ∷ ts) Fit l = absurd l.of_conditions
+
+  over_some : (pick : PickShape) (e : ExprShape) (from : Placed) (items conditions : List Term) (Fit : Type 0)
+      → IsCast (kinds_of columns) (term_of columns (Unsigned 1) e) (condition_of (term_of columns (Unsigned 1) e))
+      → IsLevelled old given Means (picked_terms columns pick) (conditions_of columns (Some e)) (record { at = from; items = items; conditions = conditions }) Fit
+      → SelectFits from conditions × ProjectFits (selected from conditions) items
+      × Stands old (projected (selected from conditions) items) (record shape { kinds = kinds_of (picked_columns columns pick); pace = unsteady })
+      (λ inputs. IsPicked columns pick (Some e) (Means inputs))
+  over_some pick e from items [] Fit is l = absurd l.of_conditions
+  over_some pick e from items (t ∷ ts) Fit is l =
+      let carried = l.of_conditions.0 in
+      let bit = flat-column l.kinds t (let d = l.flat_conditions in omega arith) carried.fits l.columns.0 (carried.kind ∙ is.kind) in
+      let column = column_under (operand_of t) in
+      let done = finish pick (Some e) unsteady (selected from (t ∷ ts)) l.kinds l.widen (λ row. nat_eq (slice_index row column) 1) items
+      (select-stands old from (record shape { kinds = l.kinds }) (λ inputs. IsChanged (Means inputs) (map l.widen)) l.stands column bit.is)
+      l.of_items l.flat_items
+      (λ row long. ap (λ (n : ℕ). nat_eq n 1)
+      (bit.value (l.widen row) ∙ carried.value row (long-kinds row long) ∙ is.value row ∙ term-value columns (Unsigned 1) e row)) in
+      (select-fits old from (record shape { kinds = l.kinds }) (λ inputs. IsChanged (Means inputs) (map l.widen)) l.stands column bit.is, done.0, done.1)
+
+  -- a select over a node
+  pub rows-stand : (pick : PickShape) (condition : Option ExprShape) → IsRows columns pick condition
+      → Stands old at shape Means
+      → RowsFit columns pick condition at
+      × Stands old (rows_over columns pick condition at) (record shape { kinds = kinds_of (picked_columns columns pick); pace = pace_under condition shape.pace })
+      (λ inputs. IsPicked columns pick condition (Means inputs))
+  rows-stand pick None is s =
+      let opened = open_levels pick [] is.picks tt tt s in
+      let done = over_none pick _ _ _ _ opened in
+      (record { of_levels = opened.fit; of_select = done.0; of_project = done.1 }, done.2)
+  rows-stand pick (Some e) is s =
+      let fits = term-fits columns areKinds e (Unsigned 1) (lit≤ tt, lit≤ tt) is.filters.typed in
+      let cast = condition (kinds_of columns) (term_of columns (Unsigned 1) e) fits (term-kind columns (Unsigned 1) e ∙ is.filters.bit) in
+      let opened = open_levels pick (conditions_of columns (Some e)) is.picks (cast.fits, tt) (cast.no, tt) s in
+      let done = over_some pick e _ _ _ _ cast opened in
+      (record { of_levels = opened.fit; of_select = done.0; of_project = done.1 }, done.2)

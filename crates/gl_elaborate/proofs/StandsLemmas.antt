@@ -1,0 +1,240 @@
+-- Levels over a node of a plan: their nodes fit, and what they make of a result of the node.
+use Rattle.std.proofs.Common.{◌≡◌, ℕ, zero, suc, ◌+◌, ◌<◌, ◌≤◌, Bool, true, List, [], ◌∷◌, ◌++◌, length, Some, slice_get, refl, sym, ap, subst, ◌∙◌, arith, map, All, length-append}
+use Rattle.std.specs.List.{AllByRecursion, AllZip}
+use Rattle.std.proofs.lemmas.List.{length-map, map-id}
+use Rattle.std.proofs.lemmas.List.Elements.{All-cons, All-nil, All-from_recursion}
+use Rattle.gl_bits.specs.declared.kind.Kind.{Kind}
+use Rattle.gl_algebra.specs.declared.node.Operand.{Operand}
+use Rattle.gl_algebra.specs.declared.node.ColOp.{ColOp}
+use Rattle.gl_algebra.specs.declared.node.PlanAgg.{PlanAgg}
+use Rattle.gl_algebra.specs.declared.node.PlanNode.{PlanNode}
+use Rattle.gl_algebra.specs.declared.node.PlanNode.TheVariants as node
+use Rattle.gl_algebra.specs.Columns.{bit_kind, kind_of_operand, kind_of_agg, OperandFits, OpFits, AggFits}
+use Rattle.gl_algebra.specs.Fits.{Fits}
+use Rattle.gl_algebra.specs.Shapes.{Shape, unsteady, once, shape_from, shape_of}
+use Rattle.gl_bits.specs.Results.{Row, Results, IsChanged}
+use Rattle.gl_bits.proofs.AllLists.{all_append, all_front, all_back, map_map}
+use Rattle.gl_algebra.specs.Added.{Placed, added}
+use Rattle.gl_algebra.specs.Results.{Inputs, Meaning, IsPlanResult, meaning_from, computed, selected, projected, totalled}
+use Rattle.gl_algebra.proofs.ResultLemmas.{moved}
+use Rattle.gl_terms.specs.Terms.{Term, IsTerm, depth_of_all}
+use Rattle.gl_terms.specs.Levels.{innermost_of_all, level_of, reduced}
+use Rattle.gl_elaborate.specs.Plans.{Levelled, levels}
+use Rattle.gl_elaborate.specs.Fitting.{LevelsFit}
+use Rattle.gl_elaborate.proofs.PlacedLemmas.{IsOver, over-then, is_added}
+use Rattle.gl_terms.proofs.LevelLemmas.{Has, IsCarried, wider, all-carried, level-has, level-fits, length-computed}
+use Rattle.gl_terms.proofs.RoomLemmas.{innermost-both}
+use Rattle.gl_terms.proofs.DepthLemmas.{depth-reduced_all, depth-both, IsNoLiteral, all-no-literal}
+
+-- a node that stands over a plan with this shape, whose results are among these
+pub record Stands (old : List PlanNode) (at : Placed) (shape : Shape) (Means : Meaning) : Type 0 where
+  pub over : IsOver old at
+  pub is : shape_of at.nodes at.root ≡ shape
+  pub means : (inputs : Inputs) (out : List Row) (spill : Bool) → IsPlanResult at.nodes at.root inputs out spill → Means inputs out spill
+
+-- other results that are at least these
+pub weaker : (old : List PlanNode) (at : Placed) (shape : Shape) (M N : Meaning) → Stands old at shape M
+    → ((inputs : Inputs) (out : List Row) (spill : Bool) → M inputs out spill → N inputs out spill) → Stands old at shape N
+weaker old at shape M N s f = record {
+  over = s.over;
+  is = s.is;
+  means = λ inputs out spill r. f inputs out spill (s.means inputs out spill r);
+}
+
+module _ (old : List PlanNode) (at : Placed) (shape : Shape) (Means : Meaning) (s : Stands old at shape Means) where
+  -- one more node over it, that changes its results
+  one-more : (n : PlanNode) (change : Shape → List Row → List Row)
+      → Fits at.nodes (length at.nodes) n
+      → ((x : ℕ → Shape) → shape_from x n ≡ shape_from (λ _. x at.root) n)
+      → ((x : ℕ → Shape) (m : ℕ → Meaning) (inputs : Inputs) (out : List Row) (spill : Bool) → meaning_from x m n inputs out spill
+      → IsChanged (m at.root inputs) (change (x at.root)) out spill)
+      → Stands old (added at.nodes n) (shape_from (λ _. shape) n) (λ inputs. IsChanged (Means inputs) (change shape))
+  one-more n change fits local means =
+      let new = is_added at.nodes n s.over.plan fits in
+      record {
+        over = over-then old at (added at.nodes n) s.over new.over;
+        is = new.shape ∙ local (shape_of at.nodes) ∙ ap (λ (x : Shape). shape_from (λ _. x) n) s.is;
+        means = λ inputs out spill r.
+            let made = means (shape_of at.nodes) (IsPlanResult at.nodes) inputs out spill
+            (moved (IsPlanResult (added at.nodes n).nodes (added at.nodes n).root) (meaning_from (shape_of at.nodes) (IsPlanResult at.nodes) n)
+            new.means inputs out spill r) in
+            record {
+              rows = made.rows;
+              of_source = s.means inputs made.rows spill made.of_source;
+              changed = made.changed ∙ ap (λ (x : Shape). change x made.rows) s.is;
+            };
+      }
+
+  before : All (λ child. child < length at.nodes) (at.root ∷ [])
+  before = All-cons (λ child. child < length at.nodes) at.root [] s.over.within (All-nil (λ child. child < length at.nodes))
+
+  pub compute-fits : (ops : List ColOp) → AllByRecursion (OpFits shape.kinds) ops → Fits at.nodes (length at.nodes) (node.Compute at.root ops)
+  compute-fits ops fits = record {
+    before = before;
+    suits = subst (λ (x : Shape). All (OpFits x.kinds) ops) (sym s.is) (All-from_recursion (OpFits shape.kinds) ops fits);
+  }
+
+  pub select-fits : (column : ℕ) → slice_get shape.kinds column ≡ Some bit_kind → Fits at.nodes (length at.nodes) (node.Select at.root column)
+  select-fits column fits = record {
+    before = before;
+    suits = subst (λ (x : Shape). slice_get x.kinds column ≡ Some bit_kind) (sym s.is) fits;
+  }
+
+  pub project-fits : (items : List Operand) → AllByRecursion (OperandFits shape.kinds) items → Fits at.nodes (length at.nodes) (node.Project at.root items)
+  project-fits items fits = record {
+    before = before;
+    suits = subst (λ (x : Shape). All (OperandFits x.kinds) items) (sym s.is) (All-from_recursion (OperandFits shape.kinds) items fits);
+  }
+
+  pub aggregate-fits : (aggs : List PlanAgg) → AllByRecursion (AggFits shape.kinds) aggs → Fits at.nodes (length at.nodes) (node.Aggregate at.root aggs)
+  aggregate-fits aggs fits = record {
+    before = before;
+    suits = subst (λ (x : Shape). All (AggFits x.kinds) aggs) (sym s.is) (All-from_recursion (AggFits shape.kinds) aggs fits);
+  }
+
+  pub aggregate-stands : (aggs : List PlanAgg) → AllByRecursion (AggFits shape.kinds) aggs
+      → Stands old (added at.nodes (node.Aggregate at.root aggs))
+      (record shape { kinds = map (kind_of_agg shape.kinds) aggs; closing = true; pace = once })
+      (λ inputs. IsChanged (Means inputs) (totalled shape.kinds aggs))
+  aggregate-stands aggs fits =
+      one-more (node.Aggregate at.root aggs) (λ x. totalled x.kinds aggs) (aggregate-fits aggs fits)
+      (λ x. refl) (λ x m inputs out spill r. r)
+
+  pub compute-stands : (ops : List ColOp) → AllByRecursion (OpFits shape.kinds) ops
+      → Stands old (added at.nodes (node.Compute at.root ops)) (record shape { kinds = wider shape.kinds ops })
+      (λ inputs. IsChanged (Means inputs) (map (computed shape.kinds ops)))
+  compute-stands ops fits =
+      one-more (node.Compute at.root ops) (λ x. map (computed x.kinds ops))
+      (compute-fits ops fits)
+      (λ x. refl) (λ x m inputs out spill r. r)
+
+  pub select-stands : (column : ℕ) → slice_get shape.kinds column ≡ Some bit_kind
+      → Stands old (added at.nodes (node.Select at.root column)) (record shape { pace = unsteady })
+      (λ inputs. IsChanged (Means inputs) (selected column))
+  select-stands column fits =
+      one-more (node.Select at.root column) (λ x. selected column)
+      (select-fits column fits)
+      (λ x. refl) (λ x m inputs out spill r. r)
+
+  pub project-stands : (items : List Operand) → AllByRecursion (OperandFits shape.kinds) items
+      → Stands old (added at.nodes (node.Project at.root items)) (record shape { kinds = map (kind_of_operand shape.kinds) items })
+      (λ inputs. IsChanged (Means inputs) (map (projected items)))
+  project-stands items fits =
+      one-more (node.Project at.root items) (λ x. map (projected items))
+      (project-fits items fits)
+      (λ x. refl) (λ x m inputs out spill r. r)
+
+-- ---- changes behind each other
+
+changed-twice : (M : Results) (f g : Row → Row) (out : List Row) (spill : Bool)
+    → IsChanged (IsChanged M (map f)) (map g) out spill → IsChanged M (map (λ row. g (f row))) out spill
+changed-twice M f g out spill r = record {
+  rows = r.of_source.rows;
+  of_source = r.of_source.of_source;
+  changed = r.changed ∙ ap (map g) r.of_source.changed ∙ map_map g f r.of_source.rows;
+}
+
+-- ---- terms behind each other
+
+carried-then : (k k' k'' : List Kind) (w w' : Row → Row) (x y z : Term) → ((row : Row) → length row ≡ length k → length (w row) ≡ length k')
+    → IsCarried k k' w x y → IsCarried k' k'' w' y z → IsCarried k k'' (λ row. w' (w row)) x z
+carried-then k k' k'' w w' x y z wide a b = record {
+  fits = b.fits;
+  kind = b.kind ∙ a.kind;
+  value = λ row same. b.value (w row) (wide row same) ∙ a.value row same;
+}
+
+zip-then : (k k' k'' : List Kind) (w w' : Row → Row) (xs ys zs : List Term) → ((row : Row) → length row ≡ length k → length (w row) ≡ length k')
+    → AllZip (IsCarried k k' w) xs ys → AllZip (IsCarried k' k'' w') ys zs → AllZip (IsCarried k k'' (λ row. w' (w row))) xs zs
+zip-then k k' k'' w w' [] [] [] wide a b = tt
+zip-then k k' k'' w w' [] [] (z ∷ zs) wide a b = absurd b
+zip-then k k' k'' w w' [] (y ∷ ys) zs wide a b = absurd a
+zip-then k k' k'' w w' (x ∷ xs) [] zs wide a b = absurd a
+zip-then k k' k'' w w' (x ∷ xs) (y ∷ ys) [] wide a b = absurd b
+zip-then k k' k'' w w' (x ∷ xs) (y ∷ ys) (z ∷ zs) wide a b =
+    (carried-then k k' k'' w w' x y z wide a.0 b.0, zip-then k k' k'' w w' xs ys zs wide a.1 b.1)
+
+zip-self : (k : List Kind) (xs : List Term) → AllByRecursion (IsTerm k) xs → AllZip (IsCarried k k (λ row. row)) xs xs
+zip-self k [] h = tt
+zip-self k (x ∷ xs) h = (record { fits = h.0; kind = refl; value = λ row same. refl }, zip-self k xs h.1)
+
+pub zip-fits : (k k' : List Kind) (w : Row → Row) (xs ys : List Term) → AllZip (IsCarried k k' w) xs ys → AllByRecursion (IsTerm k') ys
+zip-fits k k' w [] [] h = tt
+zip-fits k k' w [] (y ∷ ys) h = absurd h
+zip-fits k k' w (x ∷ xs) [] h = absurd h
+zip-fits k k' w (x ∷ xs) (y ∷ ys) h = (h.0.fits, zip-fits k k' w xs ys h.1)
+
+-- ---- levels
+
+pub record IsLevelled (old : List PlanNode) (shape : Shape) (Means : Meaning) (items conditions : List Term) (over : Levelled) (Fit : Type 0) : Type 0 where
+  pub fit : Fit
+  pub kinds : List Kind
+  pub widen : Row → Row
+  pub stands : Stands old over.at (record shape { kinds = kinds }) (λ inputs. IsChanged (Means inputs) (map widen))
+  pub wide : (row : Row) → length row ≡ length shape.kinds → length (widen row) ≡ length kinds
+  pub of_items : AllZip (IsCarried shape.kinds kinds widen) items over.items
+  pub of_conditions : AllZip (IsCarried shape.kinds kinds widen) conditions over.conditions
+  pub flat_items : depth_of_all over.items ≡ 0
+  pub flat_conditions : depth_of_all over.conditions ≡ 0
+  pub columns : AllByRecursion IsNoLiteral over.conditions
+
+pub levels-stand : (depth base : ℕ) (old : List PlanNode) (at : Placed) (shape : Shape) (Means : Meaning) (items conditions : List Term)
+    → base ≡ length shape.kinds → depth_of_all (items ++ conditions) ≤ depth
+    → AllByRecursion (IsTerm shape.kinds) items → AllByRecursion (IsTerm shape.kinds) conditions → AllByRecursion IsNoLiteral conditions
+    → Stands old at shape Means → IsLevelled old shape Means items conditions (levels depth base at items conditions) (LevelsFit depth base at items conditions)
+levels-stand zero base old at shape Means items conditions same deep fits fits' columns s =
+    let both = depth-both items conditions in
+    record {
+      fit = tt;
+      kinds = shape.kinds;
+      widen = λ row. row;
+      stands = weaker old at shape Means (λ inputs. IsChanged (Means inputs) (map (λ row. row))) s
+          (λ inputs out spill r. record { rows = out; of_source = r; changed = sym (map-id out) });
+      wide = λ row e. e;
+      of_items = zip-self shape.kinds items fits;
+      of_conditions = zip-self shape.kinds conditions fits';
+      flat_items = omega arith;
+      flat_conditions = omega arith;
+      columns = columns;
+    }
+levels-stand (suc depth) base old at shape Means items conditions same deep fits fits' columns s =
+    let level = level_of (items ++ conditions) in
+    let next = added at.nodes (node.Compute at.root level) in
+    let kinds' = wider shape.kinds level in
+    let w = computed shape.kinds level in
+    let all = all_append (IsTerm shape.kinds) items conditions fits fits' in
+    let has = subst (AllByRecursion (Has level)) (innermost-both items conditions) (level-has (items ++ conditions)) in
+    let base' : base + length level ≡ length kinds' = rw (length-append, length-map) (omega arith) in
+    let made : AllZip (IsCarried shape.kinds kinds' w) items (map (reduced base level) items) =
+    subst (λ (b : ℕ). AllZip (IsCarried shape.kinds kinds' w) items (map (reduced b level) items)) (sym same)
+    (all-carried shape.kinds level items fits (all_front (Has level) (innermost_of_all items) (innermost_of_all conditions) has)) in
+    let made' : AllZip (IsCarried shape.kinds kinds' w) conditions (map (reduced base level) conditions) =
+    subst (λ (b : ℕ). AllZip (IsCarried shape.kinds kinds' w) conditions (map (reduced b level) conditions)) (sym same)
+    (all-carried shape.kinds level conditions fits' (all_back (Has level) (innermost_of_all items) (innermost_of_all conditions) has)) in
+    let a = depth-reduced_all base level items in
+    let b = depth-reduced_all base level conditions in
+    let before = depth-both items conditions in
+    let after = depth-both (map (reduced base level) items) (map (reduced base level) conditions) in
+    let less : depth_of_all (map (reduced base level) items ++ map (reduced base level) conditions) ≤ depth = omega arith in
+    let rest = levels-stand depth (base + length level) old next (record shape { kinds = kinds' })
+    (λ inputs. IsChanged (Means inputs) (map w)) (map (reduced base level) items) (map (reduced base level) conditions)
+    base' less (zip-fits shape.kinds kinds' w items (map (reduced base level) items) made)
+    (zip-fits shape.kinds kinds' w conditions (map (reduced base level) conditions) made')
+    (all-no-literal base level conditions columns)
+    (compute-stands old at shape Means s level (level-fits shape.kinds (items ++ conditions) all)) in
+    record {
+      fit = (compute-fits old at shape Means s level (level-fits shape.kinds (items ++ conditions) all), rest.fit);
+      kinds = rest.kinds;
+      widen = λ row. rest.widen (w row);
+      stands = weaker old _ (record shape { kinds = rest.kinds }) (λ inputs. IsChanged (IsChanged (Means inputs) (map w)) (map rest.widen))
+          (λ inputs. IsChanged (Means inputs) (map (λ row. rest.widen (w row)))) rest.stands
+          (λ inputs out spill r. changed-twice (Means inputs) w rest.widen out spill r);
+      wide = λ row e. rest.wide (w row) (length-computed shape.kinds level row e);
+      of_items = zip-then shape.kinds kinds' rest.kinds w rest.widen items (map (reduced base level) items) _
+          (λ row e. length-computed shape.kinds level row e) made rest.of_items;
+      of_conditions = zip-then shape.kinds kinds' rest.kinds w rest.widen conditions (map (reduced base level) conditions) _
+          (λ row e. length-computed shape.kinds level row e) made' rest.of_conditions;
+      flat_items = rest.flat_items;
+      flat_conditions = rest.flat_conditions;
+      columns = rest.columns;
+    }

@@ -1,0 +1,82 @@
+-- The plan of a statement.
+use Rattle.std.proofs.Common.{◌≡◌, ℕ, suc, ◌+◌, true, List, [], ◌∷◌, Some, slice_get, refl, sym, ap, subst, ◌∙◌, arith}
+use Rattle.std.specs.Prelude.{bytes_eq}
+use Rattle.std.proofs.Math.Numerals.{one-add}
+use Rattle.gl_schema.specs.declared.schema.Stream.{Stream}
+use Rattle.gl_schema.specs.declared.schema.Schema.{Schema}
+use Rattle.gl_schema.specs.Schemas.{IsSchema, has_stream}
+use Rattle.gl_query.specs.Shapes.{query_shape}
+use Rattle.gl_query.specs.Columns.{source_columns}
+use Rattle.gl_query.specs.Results.{env_of, numbered, rows_of, streams_of}
+use Rattle.gl_algebra.specs.Fits.{IsPlan}
+use Rattle.gl_bits.proofs.Bools.{by_cases}
+use Rattle.gl_schema.specs.Beats as beats
+use Rattle.gl_query.proofs.Real.{schema_is}
+use Rattle.gl_algebra.specs.Results.{Inputs}
+use Rattle.gl_elaborate.specs.Laws.{AreLongRows, PlansAreRight, query_inputs}
+use Rattle.gl_elaborate.specs.Plans.{stream_node, stream_number}
+use Rattle.gl_elaborate.proofs.LongLemmas.{AreLong}
+use Rattle.gl_elaborate.proofs.ReadLemmas.{IsReader, Sees}
+use Rattle.gl_elaborate.proofs.QueryLemmas.{right}
+use Rattle.gl_elaborate.proofs.FigureLemmas.{figures-right}
+
+pub schema-reader : (schema : Schema) → IsSchema schema → IsReader (stream_node schema.streams) schema.streams
+schema-reader schema is = record {
+  scope = schema_is schema.streams is.streams;
+  leaf = λ name has. refl;
+  steady = λ name e. absurd (cc);
+}
+
+numbered-streams : (k : ℕ) (streams : List Stream) (inputs : beats.Inputs) → streams_of (numbered k streams inputs) ≡ streams
+numbered-streams k [] inputs = refl
+numbered-streams k (s ∷ streams) inputs = ap (λ (l : List Stream). s ∷ l) (numbered-streams (k + 1) streams inputs)
+
+numbered-rows : (k : ℕ) (streams : List Stream) (inputs : beats.Inputs) (name : List ℕ) → has_stream streams name ≡ true
+    → inputs.rows (k + stream_number streams name) ≡ rows_of (numbered k streams inputs) name
+unfolding has_stream
+numbered-rows k [] inputs name has = absurd (cc)
+numbered-rows k (s ∷ streams) inputs name has =
+    by_cases (bytes_eq name s.name) (λ e. rw e (ap inputs.rows (let z : k + 0 ≡ k = omega arith in z)))
+    (λ e.
+    let rest = numbered-rows (k + 1) streams inputs name (rw e at has) in
+    rw (e, one-add)
+    (ap inputs.rows (let z : k + suc (stream_number streams name) ≡ k + 1 + stream_number streams name = omega arith in z) ∙ rest))
+
+numbered-long : (k : ℕ) (streams : List Stream) (inputs : beats.Inputs) (name : List ℕ)
+    → ((i : ℕ) (s : Stream) → slice_get streams i ≡ Some s → AreLong s.columns (inputs.rows (k + i)))
+    → AreLong (source_columns streams name) (rows_of (numbered k streams inputs) name)
+numbered-long k [] inputs name h = tt
+numbered-long k (s ∷ streams) inputs name h =
+    by_cases (bytes_eq name s.name)
+    (λ e. rw e (subst (λ (i : ℕ). AreLong s.columns (inputs.rows i)) (let z : k + 0 ≡ k = omega arith in z) (h 0 s refl)))
+    (λ e. rw e (numbered-long (k + 1) streams inputs name
+    (λ i t is. subst (λ (j : ℕ). AreLong t.columns (inputs.rows j)) (let z : k + suc i ≡ k + 1 + i = omega arith in z) (h (suc i) t is))))
+
+schema-sees : (schema : Schema) (inputs : Inputs) → AreLongRows schema inputs.streams
+    → Sees (stream_node schema.streams) schema.streams (env_of schema (query_inputs inputs)) inputs
+schema-sees schema inputs rows = record {
+  streams = numbered-streams 0 schema.streams (query_inputs inputs);
+  are_long = λ name. subst (λ (s : List Stream). AreLong (source_columns s name) (rows_of (env_of schema (query_inputs inputs)) name))
+      (sym (numbered-streams 0 schema.streams (query_inputs inputs)))
+      (numbered-long 0 schema.streams (query_inputs inputs) name
+      (λ i s is. subst (λ (j : ℕ). AreLong s.columns (inputs.streams j)) (let z : i ≡ 0 + i = omega arith in z) (rows i s is)));
+  reads = λ name has.
+      ap inputs.streams (let z : stream_number schema.streams name ≡ 0 + stream_number schema.streams name = omega arith in z)
+      ∙ numbered-rows 0 schema.streams (query_inputs inputs) name has;
+}
+
+pub empty : IsPlan []
+empty = record { fits = λ number node is. absurd (cc); distinct = λ i j node is js. absurd (cc) }
+
+pub plans-right : PlansAreRight
+plans-right schema statement checked =
+    let reader = schema-reader schema checked.of_schema in
+    let done = right (query_shape statement.query) (stream_node schema.streams) schema.streams [] reader checked.accepted empty in
+    record {
+      fit = done.0;
+      plan = done.1.over.plan;
+      within = done.1.over.within;
+      shape = done.1.is;
+      figures = (figures-right (query_shape statement.query) (stream_node schema.streams) schema.streams [] reader checked.accepted empty).is;
+      results = λ inputs out spill rows r. done.1.means inputs out spill r (env_of schema (query_inputs inputs)) (schema-sees schema inputs rows);
+    }

@@ -1,0 +1,123 @@
+-- The nodes that a plan of a query is made of fit, each where it is added.
+use Rattle.std.specs.Prelude.{◌≡◌, ℕ, zero, suc, ◌+◌, ◌<◌, ◌≤◌, List, [], ◌∷◌, ◌++◌, map, length, Option, Some, None}
+use Rattle.gl_bits.specs.declared.kind.Kind.TheVariants.{Unsigned}
+use Rattle.gl_schema.specs.declared.schema.Column.{Column as NamedColumn}
+use Rattle.gl_query.specs.Shapes.{ExprShape, PickShape, AggItemShape, QueryShape}
+use Rattle.gl_query.specs.Shapes as shape
+use Rattle.gl_query.specs.Values.{column_number}
+use Rattle.gl_query.specs.Columns.{agg_kind, columns_of, variable}
+use Rattle.gl_query.specs.Accepted.{IsAgg, IsRows}
+use Rattle.gl_bits.specs.Kinds.{IsKind}
+use Rattle.std.specs.List.{AllByRecursion}
+use Rattle.gl_schema.specs.declared.schema.Stream.{Stream}
+use Rattle.gl_schema.specs.Schemas.{kinds_of}
+use Rattle.gl_algebra.specs.declared.node.PlanNode.{PlanNode}
+use Rattle.gl_algebra.specs.declared.node.PlanNode.TheVariants as node
+use Rattle.gl_algebra.specs.Fits.{Fits}
+use Rattle.gl_algebra.specs.Added.{Placed, added}
+use Rattle.gl_terms.specs.Terms.{Term, depth_of_all, ops_in_all, term_of, IsTerm}
+use Rattle.gl_terms.specs.Levels.{level_of, reduced, operand_of}
+use Rattle.gl_elaborate.specs.Plans.{levelled, selected, column_under, picked_terms, conditions_of, arguments_of_all, aggs_of, placed}
+
+-- a node fits behind these
+abbrev pub FitsNext : List PlanNode → PlanNode → Type 0
+FitsNext nodes n = Fits nodes (length nodes) n
+
+abbrev pub LevelsFit : ℕ → ℕ → Placed → List Term → List Term → Type 0
+LevelsFit zero base at items conditions = Unit {0}
+LevelsFit (suc depth) base at items conditions =
+    let level = level_of (items ++ conditions) in
+    FitsNext at.nodes (node.Compute at.root level)
+    × LevelsFit depth (base + length level) (added at.nodes (node.Compute at.root level)) (map (reduced base level) items) (map (reduced base level) conditions)
+
+abbrev pub LevelledFit : ℕ → Placed → List Term → List Term → Type 0
+LevelledFit base at items conditions = LevelsFit (depth_of_all (items ++ conditions)) base at items conditions
+
+abbrev pub SelectFits : Placed → List Term → Type 0
+SelectFits at [] = Unit {0}
+SelectFits at (t ∷ ts) = FitsNext at.nodes (node.Select at.root (column_under (operand_of t)))
+
+abbrev pub ProjectFits : Placed → List Term → Type 0
+ProjectFits at items = FitsNext at.nodes (node.Project at.root (map operand_of items))
+
+-- the nodes of a select
+pub record RowsFit (columns : List NamedColumn) (pick : PickShape) (filter : Option ExprShape) (at : Placed) : Type 0 where
+  pub of_levels : LevelledFit (length columns) at (picked_terms columns pick) (conditions_of columns filter)
+  pub of_select :
+      let over = levelled (length columns) at (picked_terms columns pick) (conditions_of columns filter) in SelectFits over.at over.conditions
+  pub of_project :
+      let over = levelled (length columns) at (picked_terms columns pick) (conditions_of columns filter) in
+      ProjectFits (selected over.at over.conditions) over.items
+
+-- one level done: the same levels come of what is left, whose nodes fit and whose columns have room
+pub record IsStep (base : ℕ) (at : Placed) (items conditions : List Term) (base' : ℕ) (at' : Placed) (items' conditions' : List Term) : Type 0 where
+  pub same : levelled base' at' items' conditions' ≡ levelled base at items conditions
+  pub fit : LevelledFit base' at' items' conditions'
+  pub room : base' + ops_in_all (items' ++ conditions') < 65536
+  pub less : depth_of_all (items' ++ conditions') < depth_of_all (items ++ conditions)
+
+-- the nodes of a total
+pub record TotalsFit (columns : List NamedColumn) (items : List AggItemShape) (at : Placed) : Type 0 where
+  pub of_levels : LevelledFit (length columns) at (arguments_of_all columns items) []
+  pub of_aggregate :
+      let over = levelled (length columns) at (arguments_of_all columns items) [] in
+      FitsNext over.at.nodes (node.Aggregate over.at.root (aggs_of columns items over.items))
+
+-- the nodes of a query
+abbrev pub PlacedFit : (List ℕ → PlanNode) → List Stream → QueryShape → List PlanNode → Type 0
+PlacedFit read sources (shape.Read name) nodes = FitsNext nodes (read name)
+PlacedFit read sources (shape.Rows pick filter source) nodes =
+    PlacedFit read sources source nodes × RowsFit (columns_of sources source) pick filter (placed read sources source nodes)
+PlacedFit read sources (shape.Total aggs source) nodes =
+    PlacedFit read sources source nodes × TotalsFit (columns_of sources source) aggs (placed read sources source nodes)
+PlacedFit read sources (shape.Each var source size advance body) nodes =
+    let columns = columns_of sources source in
+    let from = placed read sources source nodes in
+    let inside = placed (λ name. node.Body (kinds_of columns)) (variable var columns) body from.nodes in
+    PlacedFit read sources source nodes × PlacedFit (λ name. node.Body (kinds_of columns)) (variable var columns) body from.nodes
+    × FitsNext inside.nodes (node.Window from.root inside.root size advance)
+PlacedFit read sources (shape.PerGroup var source key groups body) nodes =
+    let columns = columns_of sources source in
+    let from = placed read sources source nodes in
+    let inside = placed (λ name. node.Body (kinds_of columns)) (variable var columns) body from.nodes in
+    PlacedFit read sources source nodes × PlacedFit (λ name. node.Body (kinds_of columns)) (variable var columns) body from.nodes
+    × FitsNext inside.nodes (node.Group from.root inside.root (column_number columns key) groups)
+PlacedFit read sources (shape.Union l r) nodes =
+    let left = placed read sources l nodes in
+    let right = placed read sources r left.nodes in
+    PlacedFit read sources l nodes × PlacedFit read sources r left.nodes × FitsNext right.nodes (node.Union left.root right.root)
+PlacedFit read sources (shape.Concat l r) nodes =
+    let left = placed read sources l nodes in
+    let right = placed read sources r left.nodes in
+    PlacedFit read sources l nodes × PlacedFit read sources r left.nodes × FitsNext right.nodes (node.Beside left.root right.root)
+
+-- a filter's term is one
+abbrev pub FilterTerm : List NamedColumn → Option ExprShape → Type 0
+FilterTerm columns None = Unit {0}
+FilterTerm columns (Some e) = IsTerm (kinds_of columns) (term_of columns (Unsigned 1) e)
+
+-- what code that places a select needs: its expressions are terms, and its columns have numbers of 16 bits
+pub record CanPlaceRows (columns : List NamedColumn) (pick : PickShape) (filter : Option ExprShape) : Type 0 where
+  pub rows : IsRows columns pick filter
+  pub terms : AllByRecursion (IsTerm (kinds_of columns)) (picked_terms columns pick)
+  pub filter_term : FilterTerm columns filter
+  pub room : length columns + ops_in_all (picked_terms columns pick ++ conditions_of columns filter) < 65536
+
+pub record CanPlaceTotal (columns : List NamedColumn) (items : List AggItemShape) : Type 0 where
+  pub typed : AllByRecursion (λ (i : AggItemShape). IsAgg columns i.agg) items
+  pub kinds : AllByRecursion (λ (i : AggItemShape). IsKind (agg_kind columns i.agg)) items
+  pub terms : AllByRecursion (IsTerm (kinds_of columns)) (arguments_of_all columns items)
+  pub room : length columns + ops_in_all (arguments_of_all columns items) < 65536
+
+-- what code that places a query needs
+abbrev pub CanPlace : List Stream → QueryShape → Type 0
+CanPlace sources (shape.Read name) = length sources ≤ 8
+CanPlace sources (shape.Rows pick filter source) = CanPlace sources source × CanPlaceRows (columns_of sources source) pick filter
+CanPlace sources (shape.Total aggs source) = CanPlace sources source × CanPlaceTotal (columns_of sources source) aggs
+CanPlace sources (shape.Each var source size advance body) =
+    CanPlace sources source × CanPlace (variable var (columns_of sources source)) body × (size ≤ 65536) × (advance ≤ 65536)
+CanPlace sources (shape.PerGroup var source key groups body) =
+    CanPlace sources source × CanPlace (variable var (columns_of sources source)) body
+    × (column_number (columns_of sources source) key ≤ 255) × (groups ≤ 256)
+CanPlace sources (shape.Union l r) = CanPlace sources l × CanPlace sources r
+CanPlace sources (shape.Concat l r) = CanPlace sources l × CanPlace sources r

@@ -1,0 +1,46 @@
+-- Laws of elaboration.
+use Rattle.std.specs.Prelude.{ℕ, ◌≡◌, ◌<◌, Bool, List, [], length, Some, slice_get}
+use Rattle.std.specs.List.{AllByRecursion}
+use Rattle.gl_bits.specs.Results.{Row}
+use Rattle.gl_schema.specs.declared.schema.Stream.{Stream}
+use Rattle.gl_schema.specs.declared.schema.Schema.{Schema}
+use Rattle.gl_schema.specs.Beats as beats
+use Rattle.gl_query.specs.declared.tree.Statement.{Statement}
+use Rattle.gl_query.specs.Shapes.{query_shape}
+use Rattle.gl_query.specs.Results.{IsResult}
+use Rattle.gl_query.specs.Checked.{IsChecked}
+use Rattle.gl_query.specs.Laws.{IsLongAs}
+use Rattle.gl_algebra.specs.Fits.{IsPlan}
+use Rattle.gl_algebra.specs.Shapes.{shape_of}
+use Rattle.gl_algebra.specs.FigureTable.{figures_of}
+use Rattle.gl_algebra.specs.Results.{Inputs, IsPlanResult}
+use Rattle.gl_elaborate.specs.Fitting.{PlacedFit}
+use Rattle.gl_elaborate.specs.Plans.{plan_of, stream_node}
+use Rattle.gl_elaborate.specs.Right.{shape_for}
+use Rattle.gl_elaborate.specs.Figures.{query_figures}
+
+-- each stream's rows are as long as its columns are many
+abbrev pub AreLongRows : Schema → (ℕ → List Row) → Type 0
+AreLongRows schema rows = (number : ℕ) (s : Stream) → slice_get schema.streams number ≡ Some s
+    → AllByRecursion (IsLongAs s.columns) (rows number)
+
+-- what the leaves of a plan give, as what comes in to a query
+abbrev pub query_inputs : Inputs → beats.Inputs
+query_inputs inputs = record { rows = inputs.streams }
+
+-- the plan of a statement over a schema: each node fits where it is added, and the root has the query's shape, its figures, and
+-- no result that is not one of the statement
+pub record IsRightPlan (schema : Schema) (statement : Statement) : Type 0 where
+  pub fit : PlacedFit (stream_node schema.streams) schema.streams (query_shape statement.query) []
+  pub plan : IsPlan (plan_of schema statement).nodes
+  pub within : (plan_of schema statement).root < length (plan_of schema statement).nodes
+  pub shape : shape_of (plan_of schema statement).nodes (plan_of schema statement).root
+      ≡ shape_for (stream_node schema.streams) schema.streams (query_shape statement.query)
+  pub figures : figures_of (plan_of schema statement).nodes (plan_of schema statement).root
+      ≡ query_figures schema.streams (query_shape statement.query)
+  pub results : (inputs : Inputs) (out : List Row) (spill : Bool) → AreLongRows schema inputs.streams
+      → IsPlanResult (plan_of schema statement).nodes (plan_of schema statement).root inputs out spill
+      → IsResult schema statement (query_inputs inputs) out spill
+
+abbrev pub PlansAreRight : Type 0
+PlansAreRight = (schema : Schema) (statement : Statement) → IsChecked schema statement → IsRightPlan schema statement

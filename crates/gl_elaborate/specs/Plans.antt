@@ -1,0 +1,175 @@
+-- The plan of a query: its source first, then its body, then its own nodes, each added to a plan.
+use Rattle.std.specs.Prelude.{ℕ, zero, suc, ◌+◌, List, [], ◌∷◌, ◌++◌, map, length, Option, Some, None, bytes_eq}
+use Rattle.std.specs.List.{position_or_len, range_with_len}
+use Rattle.gl_bits.specs.Words.{Word}
+use Rattle.gl_bits.specs.Kinds.{width_of}
+use Rattle.gl_bits.specs.declared.kind.Kind.{Kind}
+use Rattle.gl_bits.specs.declared.kind.Kind.TheVariants.{Unsigned}
+use Rattle.gl_schema.specs.declared.schema.Column.{Column as NamedColumn}
+use Rattle.gl_schema.specs.declared.schema.Stream.{Stream}
+use Rattle.gl_schema.specs.declared.schema.Schema.{Schema}
+use Rattle.gl_schema.specs.Schemas.{kinds_of}
+use Rattle.gl_query.specs.declared.tree.Statement.{Statement}
+use Rattle.gl_query.specs.Shapes.{ExprShape, AggShape, ItemShape, AggItemShape, PickShape, QueryShape, query_shape}
+use Rattle.gl_query.specs.Shapes as shape
+use Rattle.gl_query.specs.Values.{column_number, kind_alone, kind_of}
+use Rattle.gl_query.specs.Columns.{columns_of, source_columns, variable}
+use Rattle.gl_algebra.specs.declared.node.Operand.{Operand}
+use Rattle.gl_algebra.specs.declared.node.Operand.TheVariants as operand
+use Rattle.gl_algebra.specs.declared.node.PlanAgg.{PlanAgg}
+use Rattle.gl_algebra.specs.declared.node.PlanAgg.TheVariants as agg
+use Rattle.gl_algebra.specs.declared.node.PlanNode.{PlanNode}
+use Rattle.gl_algebra.specs.declared.node.PlanNode.TheVariants as node
+use Rattle.gl_algebra.specs.Added.{Placed, added, placed_at}
+use Rattle.gl_terms.specs.Terms.{Term, Column, Literal, Not, Cast, Binary, term_of, depth_of_all}
+use Rattle.gl_terms.specs.Levels.{level_of, reduced, operand_of}
+
+-- what the levels give over a node: the last of their nodes, and terms that are left of the items and of the conditions
+pub record Levelled : Type 0 where
+  pub at : Placed
+  pub items : List Term
+  pub conditions : List Term
+
+-- so many levels over a node with `base` columns
+abbrev pub levels : ℕ → ℕ → Placed → List Term → List Term → Levelled
+levels zero base at items conditions = record { at = at; items = items; conditions = conditions }
+levels (suc depth) base at items conditions =
+    let level = level_of (items ++ conditions) in
+    levels depth (base + length level) (added at.nodes (node.Compute at.root level))
+    (map (reduced base level) items) (map (reduced base level) conditions)
+
+-- as many as the terms are deep
+abbrev pub levelled : ℕ → Placed → List Term → List Term → Levelled
+levelled base at items conditions = levels (depth_of_all (items ++ conditions)) base at items conditions
+
+-- ---- selects
+
+-- a condition that is a literal is cast to one bit, so that it becomes a column
+abbrev pub condition_of : Term → Term
+condition_of (Column number) = Column number
+condition_of (Literal word kind) = Cast (Literal word kind) (Unsigned 1)
+condition_of (Not t) = Not t
+condition_of (Cast t kind) = Cast t kind
+condition_of (Binary op l r) = Binary op l r
+
+abbrev pub conditions_of : List NamedColumn → Option ExprShape → List Term
+conditions_of columns None = []
+conditions_of columns (Some e) = condition_of (term_of columns (Unsigned 1) e) ∷ []
+
+-- every column, or the items
+abbrev pub picked_terms : List NamedColumn → PickShape → List Term
+picked_terms columns shape.All = map Column (range_with_len 0 (length columns))
+picked_terms columns (shape.Items items) = map (λ (i : ItemShape). term_of columns (kind_alone i.expr) i.expr) items
+
+abbrev pub column_under : Operand → ℕ
+column_under (operand.Column column) = column
+column_under (operand.Literal word kind) = 0
+
+-- the rows for which the conditions, at most one, are 1
+abbrev pub selected : Placed → List Term → Placed
+selected at [] = at
+selected at (t ∷ ts) = added at.nodes (node.Select at.root (column_under (operand_of t)))
+
+abbrev pub projected : Placed → List Term → Placed
+projected at items = added at.nodes (node.Project at.root (map operand_of items))
+
+abbrev pub rows_over : List NamedColumn → PickShape → Option ExprShape → Placed → Placed
+rows_over columns pick filter at =
+    let over = levelled (length columns) at (picked_terms columns pick) (conditions_of columns filter) in
+    projected (selected over.at over.conditions) over.items
+
+-- ---- totals
+
+-- the terms of an aggregate's argument, at most one
+abbrev pub arguments_of : List NamedColumn → AggShape → List Term
+arguments_of columns shape.Count = []
+arguments_of columns (shape.Sum e) = term_of columns (kind_alone e) e ∷ []
+arguments_of columns (shape.Min e) = term_of columns (kind_alone e) e ∷ []
+arguments_of columns (shape.Max e) = term_of columns (kind_alone e) e ∷ []
+arguments_of columns (shape.Avg e) = term_of columns (kind_alone e) e ∷ []
+arguments_of columns (shape.Wsum e weights) = term_of columns (kind_alone e) e ∷ []
+
+abbrev pub arguments_of_all : List NamedColumn → List AggItemShape → List Term
+arguments_of_all columns [] = []
+arguments_of_all columns (i ∷ items) = arguments_of columns i.agg ++ arguments_of_all columns items
+
+-- the first of them as an operand
+abbrev pub first_of : List Term → Operand
+first_of [] = operand.Column 0
+first_of (t ∷ ts) = operand_of t
+
+abbrev pub rest_of : List Term → List Term
+rest_of [] = []
+rest_of (t ∷ ts) = ts
+
+abbrev pub weights_of : Kind → List ℕ → List Word
+weights_of kind weights = map (λ n. record { bits = n; width = width_of kind }) weights
+
+-- an aggregate over the first of the terms that are left of the arguments
+abbrev pub agg_over : List NamedColumn → AggShape → List Term → PlanAgg
+agg_over columns shape.Count terms = agg.Count
+agg_over columns (shape.Sum e) terms = agg.Sum (first_of terms)
+agg_over columns (shape.Min e) terms = agg.Min (first_of terms)
+agg_over columns (shape.Max e) terms = agg.Max (first_of terms)
+agg_over columns (shape.Avg e) terms = agg.Avg (first_of terms)
+agg_over columns (shape.Wsum e weights) terms = agg.Wsum (first_of terms) (weights_of (kind_of columns (kind_alone e) e) weights)
+
+-- the terms of the arguments behind it
+abbrev pub behind : AggShape → List Term → List Term
+behind shape.Count terms = terms
+behind (shape.Sum e) terms = rest_of terms
+behind (shape.Min e) terms = rest_of terms
+behind (shape.Max e) terms = rest_of terms
+behind (shape.Avg e) terms = rest_of terms
+behind (shape.Wsum e weights) terms = rest_of terms
+
+abbrev pub aggs_of : List NamedColumn → List AggItemShape → List Term → List PlanAgg
+aggs_of columns [] terms = []
+aggs_of columns (i ∷ items) terms = agg_over columns i.agg terms ∷ aggs_of columns items (behind i.agg terms)
+
+abbrev pub totals_over : List NamedColumn → List AggItemShape → Placed → Placed
+totals_over columns aggs at =
+    let over = levelled (length columns) at (arguments_of_all columns aggs) [] in
+    added over.at.nodes (node.Aggregate over.at.root (aggs_of columns aggs over.items))
+
+-- ---- queries
+
+-- the plan of a query behind a plan's nodes. `read` is the node of a source by its name
+abbrev pub placed : (List ℕ → PlanNode) → List Stream → QueryShape → List PlanNode → Placed
+placed read sources (shape.Read name) nodes = added nodes (read name)
+placed read sources (shape.Rows pick filter source) nodes =
+    rows_over (columns_of sources source) pick filter (placed read sources source nodes)
+placed read sources (shape.Total aggs source) nodes = totals_over (columns_of sources source) aggs (placed read sources source nodes)
+placed read sources (shape.Each var source size advance body) nodes =
+    let columns = columns_of sources source in
+    let from = placed read sources source nodes in
+    let inside = placed (λ name. node.Body (kinds_of columns)) (variable var columns) body from.nodes in
+    added inside.nodes (node.Window from.root inside.root size advance)
+placed read sources (shape.PerGroup var source key groups body) nodes =
+    let columns = columns_of sources source in
+    let from = placed read sources source nodes in
+    let inside = placed (λ name. node.Body (kinds_of columns)) (variable var columns) body from.nodes in
+    added inside.nodes (node.Group from.root inside.root (column_number columns key) groups)
+placed read sources (shape.Union l r) nodes =
+    let left = placed read sources l nodes in
+    let right = placed read sources r left.nodes in
+    added right.nodes (node.Union left.root right.root)
+placed read sources (shape.Concat l r) nodes =
+    let left = placed read sources l nodes in
+    let right = placed read sources r left.nodes in
+    added right.nodes (node.Beside left.root right.root)
+
+-- the stream of a schema by its name
+abbrev pub stream_number : List Stream → List ℕ → ℕ
+stream_number streams name = position_or_len (λ s. bytes_eq name s.name) streams
+
+abbrev pub stream_node : List Stream → List ℕ → PlanNode
+stream_node streams name = node.Stream (stream_number streams name) (kinds_of (source_columns streams name))
+
+-- the plan of a statement
+abbrev pub plan_of : Schema → Statement → Placed
+plan_of schema statement = placed (stream_node schema.streams) schema.streams (query_shape statement.query) []
+
+-- the parts of what the levels give, as code has them
+abbrev pub levelled_at : List PlanNode → ℕ → List Term → List Term → Levelled
+levelled_at nodes root items conditions = record { at = placed_at nodes root; items = items; conditions = conditions }

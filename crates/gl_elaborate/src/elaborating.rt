@@ -1,0 +1,179 @@
+//! Plans of queries.
+
+ghost use Rattle.std.specs.Prelude.{◌≡◌, ◌<◌, ◌≤◌, length, IfOk};
+ghost use Rattle.gl_query.specs.Checked.{IsChecked};
+ghost use Rattle.gl_query.specs.Columns.{columns_of};
+ghost use Rattle.gl_query.specs.Shapes.{query_shape};
+ghost use Rattle.gl_query.specs.Sources.{scope_of};
+ghost use Rattle.gl_algebra.specs.Added.{added, placed_at};
+ghost use Rattle.gl_algebra.specs.declared.node.PlanNode.TheVariants as node;
+ghost use Rattle.gl_elaborate.specs.Fitting.{CanPlace, FitsNext, PlacedFit};
+ghost use Rattle.gl_elaborate.specs.Plans.{placed, plan_of};
+ghost use Rattle.gl_elaborate.specs.Sources.{read_of};
+
+use crate::levels::put;
+use crate::rows::rows_over;
+use crate::sources::source_node;
+use crate::totals::totals_over;
+use gl_algebra::{Plan, PlanId, PlanNode};
+use gl_bits::Memory;
+use gl_query::columns::{
+    agg_columns, group_columns, joined_columns, picked_columns, source_columns,
+};
+use gl_query::kinds::column_number;
+use gl_query::{Query, Sources};
+use gl_query_check::Checked;
+use gl_schema::Columns;
+use std::alloc::Global;
+
+// Adds the windows of a source.
+fn put_window(
+    plan: &mut Plan,
+    source: PlanId,
+    body: PlanId,
+    size: u128,
+    advance: u128,
+) -> Result<PlanId, Memory>
+    requires most_size { size ≤ 65536 }
+    requires most_advance { advance ≤ 65536 }
+    requires fits { FitsNext plan.old (node.Window source body size advance) }
+    ensures { IfOk result (λ id.
+        placed_at plan.new id ≡ added plan.old (node.Window source body size advance)) }
+{
+    let size = size as u32;
+    let advance = advance as u32;
+    put(
+        plan,
+        PlanNode::Window {
+            source,
+            body,
+            size,
+            advance,
+        },
+    )
+}
+
+// Adds the groups of a source.
+fn put_group(
+    plan: &mut Plan,
+    source: PlanId,
+    body: PlanId,
+    key: usize,
+    groups: u128,
+) -> Result<PlanId, Memory>
+    requires most_key { key ≤ 255 }
+    requires most_groups { groups ≤ 256 }
+    requires fits { FitsNext plan.old (node.Group source body key groups) }
+    ensures { IfOk result (λ id.
+        placed_at plan.new id ≡ added plan.old (node.Group source body key groups)) }
+{
+    let key = key as u8;
+    let groups = groups as u16;
+    put(
+        plan,
+        PlanNode::Group {
+            source,
+            body,
+            key,
+            groups,
+        },
+    )
+}
+
+/// Adds the nodes of a query, and answers its columns too.
+pub fn query_into(
+    alloc: Global,
+    sources: Sources<'_>,
+    query: &Query,
+    plan: &mut Plan,
+) -> Result<(PlanId, Columns), Memory>
+    requires can { CanPlace (scope_of sources).sources (query_shape query.now) }
+    requires fit { PlacedFit (read_of sources) (scope_of sources).sources
+        (query_shape query.now) plan.old }
+    ensures root { IfOk result (λ r.
+        placed_at plan.new r.0
+        ≡ placed (read_of sources.entry) (scope_of sources.entry).sources
+        (query_shape query.now) plan.old) }
+    ensures columns { IfOk result (λ r.
+        r.1 ≡ columns_of (scope_of sources.entry).sources (query_shape query.now)) }
+{
+    match query {
+        Query::Read(name) => {
+            let columns = source_columns(alloc, sources, name.text.as_slice())?;
+            let node = source_node(alloc, sources, name.text.as_slice(), columns.as_slice())?;
+            let root = put(plan, node)?;
+            Ok((root, columns))
+        }
+        Query::Rows {
+            pick,
+            filter,
+            source,
+        } => {
+            let (at, columns) = query_into(alloc, sources, source, plan)?;
+            let root = rows_over(alloc, plan, columns.as_slice(), pick, filter, at)?;
+            Ok((root, picked_columns(alloc, columns, pick)?))
+        }
+        Query::Total { aggs, source } => {
+            let (at, columns) = query_into(alloc, sources, source, plan)?;
+            let root = totals_over(alloc, plan, columns.as_slice(), aggs.as_slice(), at)?;
+            let own = agg_columns(alloc, columns.as_slice(), aggs.as_slice())?;
+            Ok((root, own))
+        }
+        Query::Each {
+            var,
+            source,
+            size,
+            advance,
+            body,
+            ..
+        } => {
+            let (from, columns) = query_into(alloc, sources, source, plan)?;
+            let inside = Sources::Variable(var.text.as_slice(), columns.as_slice());
+            let (into, own) = query_into(alloc, inside, body, plan)?;
+            let root = put_window(plan, from, into, size.value, advance.value)?;
+            Ok((root, own))
+        }
+        Query::PerGroup {
+            var,
+            source,
+            key,
+            groups,
+            body,
+            ..
+        } => {
+            let (from, columns) = query_into(alloc, sources, source, plan)?;
+            let inside = Sources::Variable(var.text.as_slice(), columns.as_slice());
+            let (into, own) = query_into(alloc, inside, body, plan)?;
+            let number = column_number(columns.as_slice(), key.text.as_slice());
+            let root = put_group(plan, from, into, number, groups.value)?;
+            let all = group_columns(alloc, columns.as_slice(), key.text.as_slice(), own)?;
+            Ok((root, all))
+        }
+        Query::Union { left, right, .. } => {
+            let (left, columns) = query_into(alloc, sources, left, plan)?;
+            let (right, _) = query_into(alloc, sources, right, plan)?;
+            let root = put(plan, PlanNode::Union { left, right })?;
+            Ok((root, columns))
+        }
+        Query::Concat { left, right, .. } => {
+            let (left, columns) = query_into(alloc, sources, left, plan)?;
+            let (right, more) = query_into(alloc, sources, right, plan)?;
+            let root = put(plan, PlanNode::Beside { left, right })?;
+            Ok((root, joined_columns(columns, more)?))
+        }
+    }
+}
+
+/// The plan of a checked statement, exactly `plan_of`, and its root. Only want of memory may come in their
+/// place.
+pub fn elaborate(alloc: Global, checked: &Checked) -> Result<(Plan, PlanId), Memory>
+    requires { IsChecked checked.now.schema checked.now.statement }
+    ensures plan { IfOk result (λ r.
+        placed_at r.0 r.1 ≡ plan_of checked.now.schema checked.now.statement) }
+    ensures within { IfOk result (λ r. r.1 < length r.0) }
+{
+    let mut plan = Plan::new(alloc);
+    let sources = Sources::Schema(checked.schema.streams.as_slice());
+    let (root, _columns) = query_into(alloc, sources, &checked.statement.query, &mut plan)?;
+    Ok((plan, root))
+}

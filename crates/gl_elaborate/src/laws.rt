@@ -1,0 +1,10 @@
+//! Laws of elaboration. The contract of each function is the law; it does nothing.
+
+ghost use Rattle.gl_elaborate.specs.Laws.{PlansAreRight};
+
+/// The plan of a checked statement is a plan whose nodes fit where they are added; its root has the query's
+/// columns, closing, pace, leaves and figures; and each of the root's results, with its spill, is one of the
+/// statement.
+pub fn plans_are_right()
+    ensures { PlansAreRight }
+{}

@@ -1,0 +1,189 @@
+//! The nodes of selects.
+
+ghost use Rattle.std.specs.Prelude.{◌≡◌, ◌+◌, ◌<◌, ◌++◌, length, map, option_map, IfOk, OnOk};
+ghost use Rattle.std.specs.List.{AllByRecursion, range_with_len};
+ghost use Rattle.gl_schema.specs.Schemas.{kinds_of};
+ghost use Rattle.gl_query.specs.Shapes.{expr_shape, item_shape, pick_shape, ItemShape};
+ghost use Rattle.gl_query.specs.Shapes as shape;
+ghost use Rattle.gl_query.specs.Values.{HasKind, kind_alone};
+ghost use Rattle.gl_query.specs.Accepted.{IsFilter, IsPick};
+ghost use Rattle.gl_algebra.specs.Added.{placed_at};
+ghost use Rattle.gl_terms.specs.Terms.{term_of, IsTerm, Column as TermColumn};
+ghost use Rattle.gl_terms.specs.Levels.{operand_of};
+ghost use Rattle.gl_terms.specs.Trees.{term};
+ghost use Rattle.gl_elaborate.specs.Plans.{column_under, condition_of, conditions_of, picked_terms, projected, rows_over, selected};
+ghost use Rattle.gl_elaborate.specs.Fitting.{CanPlaceRows, FilterTerm, ProjectFits, RowsFit, SelectFits};
+
+use crate::levels::{levelled, put};
+use gl_algebra::{Operand, Operands, Plan, PlanId, PlanNode};
+use gl_bits::{Kind, Listed, Memory};
+use gl_query::kinds::kind_alone;
+use gl_query::{Expr, Item, Pick};
+use gl_schema::Column;
+use gl_terms::{Tree, operand_of, tree_of};
+use std::alloc::Global;
+
+// Adds the trees of items.
+fn push_items(
+    alloc: Global,
+    columns: &[Column],
+    items: &[Item],
+    trees: &mut Vec<Tree>,
+) -> Result<(), Memory>
+    requires typed { AllByRecursion
+        (λ (i : ItemShape). HasKind columns.now (kind_alone i.expr) i.expr)
+        (map item_shape items.now) }
+    requires fits { AllByRecursion (IsTerm (kinds_of columns.now))
+        (picked_terms columns.now (shape.Items (map item_shape items.now))) }
+    requires most { length columns.now < 65536 }
+    ensures { OnOk result
+        (map term trees.new.items ≡ map term trees.old.items
+        ++ picked_terms columns.now (shape.Items (map item_shape items.now))) }
+{
+    let Some((first, rest)) = items.split_first() else {
+        return Ok(());
+    };
+    trees.push(tree_of(alloc, columns, kind_alone(&first.expr), &first.expr)?)?;
+    push_items(alloc, columns, rest, trees)
+}
+
+// The trees of columns.
+fn column_trees(alloc: Global, columns: usize) -> Result<Vec<Tree>, Memory>
+    requires { columns < 65536 }
+    ensures { IfOk result (λ trees.
+        map term trees.items ≡ map TermColumn (range_with_len 0 columns)) }
+{
+    let mut trees = Vec::new(alloc);
+    for number in 0..columns {
+        trees.push(Tree::Column(number as u16))?;
+    }
+    Ok(trees)
+}
+
+// The trees of what a select picks.
+fn picked_trees(alloc: Global, columns: &[Column], pick: &Pick) -> Result<Vec<Tree>, Memory>
+    requires typed { IsPick columns.now (pick_shape pick.now) }
+    requires fits { AllByRecursion (IsTerm (kinds_of columns.now))
+        (picked_terms columns.now (pick_shape pick.now)) }
+    requires most { length columns.now < 65536 }
+    ensures { IfOk result (λ trees.
+        map term trees.items ≡ picked_terms columns.now (pick_shape pick.now)) }
+{
+    match pick {
+        Pick::All => column_trees(alloc, columns.len()),
+        Pick::Items(items) => {
+            let mut trees = Vec::new(alloc);
+            push_items(alloc, columns, items.as_slice(), &mut trees)?;
+            Ok(trees)
+        }
+    }
+}
+
+// A condition, which is cast to one bit where it is a literal.
+fn condition_tree(alloc: Global, tree: Tree) -> Result<Tree, Memory>
+    ensures { IfOk result (λ t. term t ≡ condition_of (term tree)) }
+{
+    match tree {
+        Tree::Literal(word, kind) => Ok(Tree::Cast(
+            Box::new(alloc, Tree::Literal(word, kind))?,
+            Kind::Unsigned(1),
+        )),
+        other => Ok(other),
+    }
+}
+
+// The trees of a filter, one at most.
+fn condition_trees(
+    alloc: Global,
+    columns: &[Column],
+    filter: &Option<Expr>,
+) -> Result<Vec<Tree>, Memory>
+    requires typed { IsFilter columns.now (option_map expr_shape filter.now) }
+    requires fits { FilterTerm columns.now (option_map expr_shape filter.now) }
+    requires most { length columns.now < 65536 }
+    ensures { IfOk result (λ trees.
+        map term trees.items ≡ conditions_of columns.now (option_map expr_shape filter.now)) }
+{
+    let mut trees = Vec::new(alloc);
+    if let Some(expr) = filter {
+        let tree = tree_of(alloc, columns, Kind::Unsigned(1), expr)?;
+        trees.push(condition_tree(alloc, tree)?)?;
+    }
+    Ok(trees)
+}
+
+// The operands of trees of depth 0.
+fn operands_of(alloc: Global, trees: &[Tree]) -> Result<Operands, Memory>
+    ensures { IfOk result (λ operands. operands ≡ map operand_of (map term trees.now)) }
+{
+    let _holds = Operand::Column(0);
+    let mut operands = Listed::new(alloc);
+    for tree in trees {
+        operands.push(operand_of(tree))?;
+    }
+    Ok(operands)
+}
+
+// The number of a column.
+fn column_under(tree: &Tree) -> u16
+    ensures { result ≡ column_under (operand_of (term tree.now)) }
+{
+    match operand_of(tree) {
+        Operand::Column(number) => number,
+        Operand::Literal(..) => 0,
+    }
+}
+
+// Selects the rows for which the conditions, at most one, are 1.
+fn select(plan: &mut Plan, at: PlanId, conditions: &[Tree]) -> Result<PlanId, Memory>
+    requires { SelectFits (placed_at plan.old at) (map term conditions.now) }
+    ensures { IfOk result (λ id.
+        placed_at plan.new id ≡ selected (placed_at plan.old at) (map term conditions.now)) }
+{
+    match conditions.first() {
+        Some(condition) => put(
+            plan,
+            PlanNode::Select {
+                child: at,
+                column: column_under(condition),
+            },
+        ),
+        None => Ok(at),
+    }
+}
+
+// Picks of each row the trees' values.
+fn project(alloc: Global, plan: &mut Plan, at: PlanId, items: &[Tree]) -> Result<PlanId, Memory>
+    requires { ProjectFits (placed_at plan.old at) (map term items.now) }
+    ensures { IfOk result (λ id.
+        placed_at plan.new id ≡ projected (placed_at plan.old at) (map term items.now)) }
+{
+    let items = operands_of(alloc, items)?;
+    put(plan, PlanNode::Project { child: at, items })
+}
+
+/// Adds the nodes of a select over a node.
+pub fn rows_over(
+    alloc: Global,
+    plan: &mut Plan,
+    columns: &[Column],
+    pick: &Pick,
+    filter: &Option<Expr>,
+    at: PlanId,
+) -> Result<PlanId, Memory>
+    requires can { CanPlaceRows columns.now
+        (pick_shape pick.now) (option_map expr_shape filter.now) }
+    requires fit { RowsFit columns.now (pick_shape pick.now) (option_map expr_shape filter.now)
+        (placed_at plan.old at) }
+    ensures { IfOk result (λ id.
+        placed_at plan.new id
+        ≡ rows_over columns.now (pick_shape pick.now) (option_map expr_shape filter.now)
+        (placed_at plan.old at)) }
+{
+    let mut items = picked_trees(alloc, columns, pick)?;
+    let mut conditions = condition_trees(alloc, columns, filter)?;
+    let base = columns.len() as u16;
+    let over = levelled(alloc, plan, at, base, &mut items, &mut conditions)?;
+    let kept = select(plan, over, &conditions)?;
+    project(alloc, plan, kept, &items)
+}

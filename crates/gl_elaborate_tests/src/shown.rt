@@ -1,0 +1,156 @@
+//! A plan as text, for tests: a line for each node, with its words and its figures.
+
+use gl_algebra::{ColOp, Figures, Operand, Plan, PlanAgg, PlanNode};
+use gl_schema::Schema;
+use std::alloc::Global;
+use std::test::Fail;
+
+// Adds the bytes of a name.
+fn push_name(out: &mut String, name: &[u8]) -> Result<(), Fail> {
+    for byte in name {
+        out.push(char::from(*byte))?;
+    }
+    Ok(())
+}
+
+fn push_operand(out: &mut String, operand: &Operand) -> Result<(), Fail> {
+    match operand {
+        Operand::Column(column) => write!(out, " c{}", *column)?,
+        Operand::Literal(word, _) => write!(out, " #{}", word.bits())?,
+    }
+    Ok(())
+}
+
+fn push_op(out: &mut String, op: &ColOp) -> Result<(), Fail> {
+    match op {
+        ColOp::Not(x) => {
+            out.push_str(" not")?;
+            push_operand(out, x)
+        }
+        ColOp::Cast(x, kind) => {
+            write!(out, " {kind:?}")?;
+            push_operand(out, x)
+        }
+        ColOp::Binary(op, x, y) => {
+            write!(out, " {op:?}")?;
+            push_operand(out, x)?;
+            push_operand(out, y)
+        }
+    }
+}
+
+fn push_agg(out: &mut String, agg: &PlanAgg) -> Result<(), Fail> {
+    match agg {
+        PlanAgg::Count => Ok(out.push_str(" count")?),
+        PlanAgg::Sum(x) => {
+            out.push_str(" sum")?;
+            push_operand(out, x)
+        }
+        PlanAgg::Min(x) => {
+            out.push_str(" min")?;
+            push_operand(out, x)
+        }
+        PlanAgg::Max(x) => {
+            out.push_str(" max")?;
+            push_operand(out, x)
+        }
+        PlanAgg::Avg(x) => {
+            out.push_str(" avg")?;
+            push_operand(out, x)
+        }
+        PlanAgg::Wsum(x, weights) => {
+            out.push_str(" wsum")?;
+            push_operand(out, x)?;
+            for weight in weights.as_slice() {
+                write!(out, " {}", weight.bits())?;
+            }
+            Ok(())
+        }
+    }
+}
+
+fn push_node(out: &mut String, schema: &Schema, node: &PlanNode) -> Result<(), Fail> {
+    match node {
+        PlanNode::Stream(number, _) => {
+            out.push_str("input ")?;
+            match schema.streams.as_slice().get(*number as usize) {
+                Some(stream) => push_name(out, stream.name.as_slice())?,
+                None => {}
+            }
+        }
+        PlanNode::Body(_) => out.push_str("input body")?,
+        PlanNode::Compute { child, ops } => {
+            write!(out, "compute p{}", child.number())?;
+            for op in ops.as_slice() {
+                push_op(out, op)?;
+            }
+        }
+        PlanNode::Select { child, column } => {
+            write!(out, "select p{} c{}", child.number(), *column)?
+        }
+        PlanNode::Project { child, items } => {
+            write!(out, "project p{}", child.number())?;
+            for item in items.as_slice() {
+                push_operand(out, item)?;
+            }
+        }
+        PlanNode::Aggregate { child, aggs } => {
+            write!(out, "aggregate p{}", child.number())?;
+            for agg in aggs.as_slice() {
+                push_agg(out, agg)?;
+            }
+        }
+        PlanNode::Union { left, right } => {
+            write!(out, "union p{} p{}", left.number(), right.number())?
+        }
+        PlanNode::Beside { left, right } => {
+            write!(out, "beside p{} p{}", left.number(), right.number())?
+        }
+        PlanNode::Window {
+            source,
+            body,
+            size,
+            advance,
+        } => {
+            write!(out, "window p{} p{}", source.number(), body.number())?;
+            write!(out, " {} {}", *size, *advance)?;
+        }
+        PlanNode::Group {
+            source,
+            body,
+            key,
+            groups,
+        } => {
+            write!(out, "group p{} p{}", source.number(), body.number())?;
+            write!(out, " c{} {}", *key, *groups)?;
+        }
+    }
+    Ok(())
+}
+
+fn push_figures(out: &mut String, f: &Figures) -> Result<(), Fail> {
+    write!(out, " : {} {} {}", f.a, f.lt, f.le)?;
+    write!(out, " {} {}", f.nt, f.ne)?;
+    write!(out, " {} {}", f.gt, f.ge)?;
+    Ok(())
+}
+
+/// The lines of a plan's nodes, each with the figures at its place.
+pub fn shown(
+    alloc: Global,
+    schema: &Schema,
+    plan: &Plan,
+    figures: &[Figures],
+) -> Result<String, Fail> {
+    let mut out = String::new(alloc);
+    for number in 0..plan.len() {
+        write!(out, "p{number} ")?;
+        push_node(&mut out, schema, plan.node(plan.id(number)))?;
+        match figures.get(number) {
+            Some(own) => push_figures(&mut out, own)?,
+            None => {}
+        }
+        out.push_str("\n")?;
+    }
+    Ok(out)
+}

@@ -1,0 +1,4 @@
+pub mod Terms
+pub mod Levels
+pub mod Trees
+pub mod Depths

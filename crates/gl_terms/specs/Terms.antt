@@ -1,0 +1,85 @@
+-- Expressions over numbered columns: names are looked up, and each literal has the kind that its place gives.
+use Rattle.std.specs.Prelude.{ℕ, ◌+◌, max, List, [], ◌∷◌, ◌≡◌, ◌<◌, length, slice_index}
+use Rattle.gl_bits.specs.Words.{Word, IsWord, not_of}
+use Rattle.gl_bits.specs.Kinds.{width_of, IsKind}
+use Rattle.gl_bits.specs.Operators.{sort_of, result_kind, operate}
+use Rattle.gl_bits.specs.declared.kind.Kind.{Kind}
+use Rattle.gl_bits.specs.declared.kind.Kind.TheVariants.{Unsigned}
+use Rattle.gl_bits.specs.declared.op.Op.{Op}
+use Rattle.gl_schema.specs.declared.schema.Column.{Column as NamedColumn}
+use Rattle.gl_schema.specs.Schemas.{text_word}
+use Rattle.gl_query.specs.Shapes.{ExprShape}
+use Rattle.gl_query.specs.Shapes as shape
+use Rattle.gl_query.specs.Values.{bytes_in, column_number, kind_alone, left_place, right_place}
+use Rattle.gl_algebra.specs.Columns.{bit_kind, kind_of_column, CastFits, SortFits}
+use Rattle.gl_algebra.specs.Values.{value_as}
+
+pub data Term : Type 0 where
+  Column : (number : ℕ) → Term
+  Literal : (word : Word) (kind : Kind) → Term
+  Not : (arg : Term) → Term
+  Cast : (arg : Term) (kind : Kind) → Term
+  Binary : (op : Op) (left right : Term) → Term
+
+-- a literal of a kind
+abbrev pub literal : Kind → ℕ → Term
+literal kind bits = Literal (record { bits = bits; width = width_of kind }) kind
+
+-- the term of an expression, in a place that gives what is loose this kind
+abbrev pub term_of : List NamedColumn → Kind → ExprShape → Term
+term_of columns place (shape.Column name) = Column (column_number columns name)
+term_of columns place (shape.Number n) = literal place n
+term_of columns place (shape.Letters text) = literal place (text_word (bytes_in place) text)
+term_of columns place (shape.Not e) = Not (term_of columns (Unsigned 1) e)
+term_of columns place (shape.Cast kind e) = Cast (term_of columns (kind_alone e) e) kind
+term_of columns place (shape.Binary op l r) =
+    Binary op (term_of columns (left_place columns op place l r) l) (term_of columns (right_place columns op place l r) r)
+
+-- its kind over columns of these kinds
+abbrev pub term_kind : List Kind → Term → Kind
+term_kind kinds (Column number) = kind_of_column kinds number
+term_kind kinds (Literal word kind) = kind
+term_kind kinds (Not t) = bit_kind
+term_kind kinds (Cast t kind) = kind
+term_kind kinds (Binary op l r) = result_kind (sort_of op) (term_kind kinds l)
+
+-- its value over a row
+abbrev pub term_value : List Kind → List ℕ → Term → ℕ
+term_value kinds row (Column number) = slice_index row number
+term_value kinds row (Literal word kind) = word.bits
+term_value kinds row (Not t) = not_of 1 (term_value kinds row t)
+term_value kinds row (Cast t kind) = value_as (term_kind kinds t) kind (term_value kinds row t)
+term_value kinds row (Binary op l r) = operate op (term_kind kinds l) (term_value kinds row l) (term_value kinds row r)
+
+-- its columns are there, its literals are words of their kinds, its operators fit their operands
+abbrev pub IsTerm : List Kind → Term → Type 0
+IsTerm kinds (Column number) = number < length kinds
+IsTerm kinds (Literal word kind) = IsWord word × IsKind kind × (word.width ≡ width_of kind)
+IsTerm kinds (Not t) = IsTerm kinds t × (term_kind kinds t ≡ bit_kind)
+IsTerm kinds (Cast t kind) = IsTerm kinds t × IsKind kind × CastFits (term_kind kinds t) kind
+IsTerm kinds (Binary op l r) =
+    IsTerm kinds l × IsTerm kinds r × (term_kind kinds l ≡ term_kind kinds r) × SortFits (sort_of op) (term_kind kinds l)
+
+-- a column or literal has depth 0, every operation one more than its deepest operand
+abbrev pub depth_of : Term → ℕ
+depth_of (Column number) = 0
+depth_of (Literal word kind) = 0
+depth_of (Not t) = 1 + depth_of t
+depth_of (Cast t kind) = 1 + depth_of t
+depth_of (Binary op l r) = 1 + max (depth_of l) (depth_of r)
+
+abbrev pub depth_of_all : List Term → ℕ
+depth_of_all [] = 0
+depth_of_all (t ∷ ts) = max (depth_of t) (depth_of_all ts)
+
+-- the operations in a term
+abbrev pub ops_in : Term → ℕ
+ops_in (Column number) = 0
+ops_in (Literal word kind) = 0
+ops_in (Not t) = 1 + ops_in t
+ops_in (Cast t kind) = 1 + ops_in t
+ops_in (Binary op l r) = 1 + ops_in l + ops_in r
+
+abbrev pub ops_in_all : List Term → ℕ
+ops_in_all [] = 0
+ops_in_all (t ∷ ts) = ops_in t + ops_in_all ts
