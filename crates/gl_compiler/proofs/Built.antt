@@ -10,28 +10,13 @@ use Rattle.gl_schema.specs.declared.schema.Schema.{Schema}
 use Rattle.gl_schema.specs.Names.{is_name}
 use Rattle.gl_schema.specs.Schemas.{has_column}
 use Rattle.gl_query.specs.declared.tree.Statement.{Statement}
-use Rattle.gl_query.specs.Shapes.{ExprShape, ItemShape, PickShape, QueryShape, item_shape, query_shape}
+use Rattle.gl_query.specs.Shapes.{ExprShape, ItemShape, QueryShape, item_shape, query_shape}
 use Rattle.gl_query.specs.Shapes as shape
 use Rattle.gl_compiler.specs.declared.select.Select.{Select}
 use Rattle.gl_compiler.specs.Selecting.{own, IsBuilt, IsSelectOf, IsRead, is_column, is_own, names_of, differ, can_pick, can_read, is_query, is_built}
+use Rattle.gl_bits.proofs.Bools.{and_left, and_right, and_both, not_true}
 
 -- ---- tests
-
-pub and_left : (a b : Bool) → (a && b) ≡ true → a ≡ true
-and_left true b h = refl
-and_left false b h = absurd cc
-
-pub and_right : (a b : Bool) → (a && b) ≡ true → b ≡ true
-and_right true b h = h
-and_right false b h = absurd cc
-
-pub and_both : (a b : Bool) → a ≡ true → b ≡ true → (a && b) ≡ true
-and_both true b h k = k
-and_both false b h k = absurd cc
-
-not_true : (a : Bool) → not a ≡ true → a ≡ false
-not_true true h = absurd cc
-not_true false h = refl
 
 -- ---- items
 

@@ -1,21 +1,18 @@
 -- What the input ports of a module carry: that which the schema's ports of their names carry.
-use Rattle.std.proofs.Common.{◌≡◌, ℕ, zero, suc, ◌+◌, ◌^◌, ◌<◌, ◌⊎◌, inl, inr, Bool, true, false, List, [], ◌∷◌, ◌++◌, drop, map, Option, Some, None, refl, sym, ap, ◌∙◌, subst, arith, append_assoc, add-one, cond}
-use Rattle.std.specs.Prelude.{slice_get, slice_index, unwrap_or, is_some, bytes_eq, find, if◌then◌else◌, IfSome, ◌==◌}
-use Rattle.std.specs.Option.{option_map, option_map_or}
+use Rattle.std.proofs.Common.{◌≡◌, ℕ, zero, suc, ◌+◌, ◌^◌, ◌<◌, ◌⊎◌, inl, inr, Bool, true, false, List, [], ◌∷◌, ◌++◌, drop, Option, Some, refl, sym, ap, ◌∙◌, subst, append_assoc, add-one}
+use Rattle.std.specs.Prelude.{slice_index, unwrap_or, is_some, bytes_eq, find, if◌then◌else◌}
+use Rattle.std.specs.Option.{option_map}
 use Rattle.std.specs.List.{AllByRecursion, AllZip}
-use Rattle.std.proofs.lemmas.Nat.{pow_pos}
 use Rattle.gl_bits.proofs.Bools.{bytes_same}
 use Rattle.gl_bits.specs.Kinds.{width_of}
 use Rattle.gl_bits.specs.Words.{bit}
 use Rattle.gl_schema.specs.declared.schema.Column.{Column}
 use Rattle.gl_schema.specs.declared.schema.Stream.{Stream}
 use Rattle.gl_schema.specs.declared.schema.Schema.{Schema}
-use Rattle.gl_schema.specs.Schemas.{IsRowOf}
-use Rattle.gl_schema.specs.Beats.{Beat, AreBeats, AreRowsOf, IsBeat, beat_at, rows_at, ends_at}
-use Rattle.gl_schema.specs.Ports.{rst, eos, in_valid, in_column, Pin, pin, column_pins, stream_pins, streams_pins, pins, PortValues, IsStimulus}
+use Rattle.gl_schema.specs.Ports.{rst, eos, in_valid, in_column, Pin, pin, column_pins, stream_pins, streams_pins}
 use Rattle.gl_compiler.specs.declared.pins.Pin.{Pin as Carried}
 use Rattle.gl_compiler.specs.declared.pins.Pin.TheVariants as is
-use Rattle.gl_compiler.specs.Carried.{first_known, column_pin, stream_pin, pin_named, row_among, carried, at_reset, with_beat}
+use Rattle.gl_compiler.specs.Carried.{first_known, column_pin, stream_pin, pin_named, row_among, carried}
 use Rattle.gl_schema.specs.Profile.{ProfilePort, input, column_inputs, streams_inputs, input_ports}
 use Rattle.gl_compiler.specs.Profile.{input_width}
 

@@ -1,18 +1,18 @@
 -- Where declarations stand, by their names, and which of them are ports.
-use Rattle.std.proofs.Common.{◌≡◌, ℕ, zero, suc, ◌+◌, ◌<◌, ◌≤◌, Bool, true, false, List, [], ◌∷◌, ◌++◌, length, take, map, Option, Some, None, refl, sym, ap, ◌∙◌, subst, arith, append_assoc, length-append}
-use Rattle.std.specs.Prelude.{slice_get, bytes_eq, find, if◌then◌else◌, option_and_then}
+use Rattle.std.proofs.Common.{◌≡◌, ℕ, zero, suc, ◌+◌, true, false, List, [], ◌∷◌, ◌++◌, length, take, map, Option, Some, None, refl, sym, ap, ◌∙◌, subst, arith, append_assoc}
+use Rattle.std.specs.Prelude.{slice_get, bytes_eq, option_and_then}
 use Rattle.std.specs.Option.{option_map}
 use Rattle.std.specs.List.{AllByRecursion}
 use Rattle.std.proofs.lemmas.Cmp.{nat_list_eq_equiv}
 use Rattle.std.proofs.lemmas.List.{append-nil}
 use Rattle.gl_bits.proofs.AllLists.{all_append, length_map}
-use Rattle.gl_verilog.specs.Module.{Module, Declaration, Kind, Input, OutputWire, OutputRegister, Wire, Register, Memory, number_of, Expr, Statement}
-use Rattle.gl_verilog.specs.Resolve.{Resolved, resolve, resolve_items, resolve_expr, resolve_statement, module_from, declare, declare_port, three, both, with_assignment, with_block, clocked, address_bits_of, decimal_number}
+use Rattle.gl_verilog.specs.Module.{Module, Declaration, Kind, Wire, Register, Memory, number_of}
+use Rattle.gl_verilog.specs.Resolve.{Resolved, resolve_items, resolve_expr, resolve_statement, module_from, declare, declare_port, three, with_assignment, with_block, clocked, address_bits_of, decimal_number}
 use Rattle.gl_verilog.specs.Runnable.{is_input}
 use Rattle.gl_verilog.specs.Text.{HasModule}
 use Rattle.gl_verilog.specs.Valid.{AreDistinct, Differs}
-use Rattle.gl_verilog.specs.Written.{WrittenItem, WrittenModule, Range, Wires, Registers, MemoryOf, Assign, Always}
-use Rattle.gl_verilog.proofs.Fits.{all_at, in_range}
+use Rattle.gl_verilog.specs.Written.{WrittenItem, Range, Wires, Registers, MemoryOf, Assign, Always}
+use Rattle.gl_verilog.proofs.Fits.{all_at}
 use Rattle.gl_compiler.specs.Profile.{ports_of}
 
 -- ---- names

@@ -9,11 +9,11 @@ use Rattle.gl_schema.specs.declared.schema.Column.{Column}
 use Rattle.gl_schema.specs.declared.schema.Stream.{Stream}
 use Rattle.gl_schema.specs.declared.schema.Schema.{Schema}
 use Rattle.gl_schema.specs.Beats.{Beat, AreBeats, rows_at}
-use Rattle.gl_schema.specs.Ports.{rst, eos, in_valid, Pin, pin, pins, column_pins, stream_pins, streams_pins, IsStimulus}
+use Rattle.gl_schema.specs.Ports.{eos, Pin, pin, pins, column_pins, stream_pins, streams_pins}
 use Rattle.gl_net.specs.declared.node.Direction.TheVariants.{In}
 use Rattle.gl_net.specs.PortValues.{PortShape}
 use Rattle.gl_wiring.specs.EmittedPorts.{input, column_inputs, stream_inputs, streams_inputs}
-use Rattle.gl_verilog.specs.Module.{Module, Declaration, Input, Nets, Memories, number_of}
+use Rattle.gl_verilog.specs.Module.{Module, Declaration, Input, Nets, Memories}
 use Rattle.gl_verilog.specs.Run.{Fit, input_number, input_values}
 use Rattle.gl_verilog.specs.Runnable.{SameInputs}
 use Rattle.gl_verilog.specs.Valid.{AreDistinct}

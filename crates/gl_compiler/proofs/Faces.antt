@@ -1,5 +1,5 @@
 -- The ports of a module with the ports of an emitted netlist.
-use Rattle.std.proofs.Common.{◌≡◌, ℕ, zero, suc, Bool, true, false, not, List, [], ◌∷◌, ◌++◌, length, map, take, Option, Some, None, refl, sym, ap, subst, ◌∙◌, arith, codes}
+use Rattle.std.proofs.Common.{◌≡◌, ℕ, zero, suc, Bool, true, false, not, List, [], ◌∷◌, ◌++◌, length, map, take, Some, refl, sym, ap, subst, ◌∙◌, arith, codes}
 use Rattle.std.specs.Prelude.{IsTrue, bytes_eq, find, filter, slice_get, slice_index, ◌==◌}
 use Rattle.std.specs.List.{AllByRecursion, IsDistinct, list_any}
 use Rattle.std.proofs.lemmas.List.{append-nil}
@@ -123,7 +123,7 @@ width_at [] p c h = absurd cc
 width_at (x ∷ cs) zero c h = let same : x ≡ c = cc in ap (λ (y : Column). kinds.width_of y.kind) same
 width_at (x ∷ cs) (suc p) c h = width_at cs p c h
 
-kind_there : (cs : List Column) (n : List ℕ) (c : Column) → slice_get cs (column_number cs n) ≡ Some c → column_kind cs n ≡ c.kind
+pub kind_there : (cs : List Column) (n : List ℕ) (c : Column) → slice_get cs (column_number cs n) ≡ Some c → column_kind cs n ≡ c.kind
 kind_there cs n c h = rw h refl
 
 pub widths_by_name : (cs : List Column) (ns : List (List ℕ)) → AllByRecursion (λ n. IsTrue (has_column cs n)) ns → map (slice_index (column_widths cs)) (map (column_number cs) ns) ≡ map kinds.width_of (map (column_kind cs) ns)

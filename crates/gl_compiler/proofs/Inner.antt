@@ -7,6 +7,7 @@ use Rattle.gl_verilog.specs.Module.{Module, Declaration, Input, Wire, Register, 
 use Rattle.gl_verilog.specs.Written.{WrittenItem, Wires, Registers, MemoryOf, Assign, Always, WrittenModule, Range}
 use Rattle.gl_verilog.specs.Resolve.{Resolved, declare, declare_port, decimal_number, address_bits_of, three, with_assignment, with_block, clocked, resolve_expr, resolve_statement, resolve_items, module_from}
 use Rattle.gl_verilog.specs.Text.{HasModule}
+use Rattle.gl_bits.proofs.AllLists.{length_map}
 
 -- what no input is
 abbrev pub IsInner : Declaration → Type 0
@@ -85,15 +86,11 @@ pub record HasPortsFirst (m : Module) : Type 0 where
   pub count : m.ports ≡ length front
   pub behind : Behind front m.declarations
 
-map_length : {A B : Type 0} (f : A → B) (xs : List A) → length (map f xs) ≡ length xs
-map_length f [] = refl
-map_length f (x ∷ xs) = ap suc (map_length f xs)
-
 resolved_first : (w : WrittenModule) (o : Option Resolved) (m : Module) → option_map (module_from w) o ≡ Some m → ((r : Resolved) → o ≡ Some r → Behind (map declare_port w.ports) r.declarations) → HasPortsFirst m
 resolved_first w None m e h = absurd cc
 resolved_first w (Some r) m e h =
     let same : module_from w r ≡ m = cc in
-    subst HasPortsFirst same (record { front = map declare_port w.ports; count = sym (map_length declare_port w.ports); behind = h r refl })
+    subst HasPortsFirst same (record { front = map declare_port w.ports; count = sym (length_map declare_port w.ports); behind = h r refl })
 
 ports_first : (text : List ℕ) (m : Module) → HasModule text m → HasPortsFirst m
 ports_first text m has = resolved_first has.written (resolve_items (map declare_port has.written.ports) has.written.items) m has.resolved (λ r e. items_behind (map declare_port has.written.ports) has.written.items r e)

@@ -16,11 +16,11 @@ use Rattle.gl_verilog.proofs.Fits.{width_at-found}
 use Rattle.gl_bits.proofs.AllLists.{all_weaker}
 use Rattle.gl_sim.proofs.Settling.{IsInputPort, inputs_of-ports}
 use Rattle.gl_compiler.specs.declared.pins.Pin.{Pin as Carried}
-use Rattle.gl_compiler.specs.Carried.{pin_named, pin_at, name_at, carried, at_reset, with_beat}
+use Rattle.gl_compiler.specs.Carried.{pin_named, pin_at, at_reset, with_beat}
 use Rattle.gl_schema.specs.Profile.{input_ports}
 use Rattle.gl_schema.proofs.Pinned.{pins_fit}
 use Rattle.gl_compiler.specs.Profile.{FitsSchema, input_width, ports_of}
-use Rattle.gl_compiler.proofs.Carries.{Fact, OfBoth, IsNarrow, found, pins_with, zip_all}
+use Rattle.gl_compiler.proofs.Carries.{Fact, OfBoth, IsNarrow, found, zip_all}
 use Rattle.gl_compiler.proofs.Declared as declared
 
 kind_is_input : (k : Kind) → is_input k ≡ true → k ≡ Input

@@ -1,16 +1,16 @@
 -- One cycle made by a simulator, at a run over beats.
-use Rattle.std.proofs.Common.{◌≡◌, ℕ, zero, suc, ◌+◌, ◌^◌, ◌<◌, Bool, List, [], ◌∷◌, map, length, Option, Some, None, refl, sym, ap, ◌∙◌, subst, arith, add-one}
-use Rattle.std.specs.Prelude.{slice_index, if◌then◌else◌, unwrap_or}
+use Rattle.std.proofs.Common.{◌≡◌, ℕ, suc, ◌+◌, ◌^◌, ◌<◌, Bool, List, map, length, Option, refl, sym, ap, ◌∙◌, subst, arith, add-one}
+use Rattle.std.specs.Prelude.{slice_index, unwrap_or}
 use Rattle.std.specs.Option.{option_map}
 use Rattle.std.specs.List.{AllZip}
 use Rattle.gl_bits.proofs.AllLists.{length_map}
 use Rattle.gl_bits.specs.declared.kind.Kind.{Kind}
 use Rattle.gl_bits.specs.Kinds.{width_of}
-use Rattle.gl_bits.specs.Words.{Word, widths_of, bits_of}
+use Rattle.gl_bits.specs.Words.{Word, widths_of}
 use Rattle.gl_schema.specs.declared.schema.Schema.{Schema}
 use Rattle.gl_schema.specs.Beats.{Beat, beat_at}
 use Rattle.gl_schema.specs.Ports.{IsStimulus, out_valid, out_eos, fault_group}
-use Rattle.gl_schema.specs.Seen.{Shown, shown, is_high, row_shown, cycle_lines}
+use Rattle.gl_schema.specs.Seen.{Shown, shown, is_high, cycle_lines}
 use Rattle.gl_verilog.specs.Module.{Module, Nets, Memories, number_of}
 use Rattle.gl_verilog.specs.declared.module.Module.{Module as Rust}
 use Rattle.gl_verilog.specs.View.{module_of}
@@ -23,7 +23,7 @@ use Rattle.gl_compiler.specs.declared.looking.Looked.{Looked}
 use Rattle.gl_compiler.specs.declared.pins.Pin.{Pin}
 use Rattle.gl_compiler.specs.Benches.{columns_from}
 use Rattle.gl_compiler.specs.Carried.{pin_at, at_reset, with_beat}
-use Rattle.gl_compiler.specs.Cycles.{CanFollow, IsFollowed, IsMade, looked_at, port_by}
+use Rattle.gl_compiler.specs.Cycles.{CanFollow, IsFollowed, IsMade, looked_at}
 use Rattle.gl_compiler.specs.Profile.{ports_of, result_names, result_widths}
 use Rattle.gl_compiler.proofs.Inputs.{carried_at, inputs_fit, run_has_inputs}
 use Rattle.gl_compiler.proofs.Outputs.{columns_read, columns_widths, columns_fit, shown_same}

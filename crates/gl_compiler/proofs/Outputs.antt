@@ -1,26 +1,23 @@
 -- What the output ports of a module show: read by their numbers, found by their names.
-use Rattle.std.proofs.Common.{◌≡◌, ℕ, zero, suc, ◌+◌, ◌^◌, ◌<◌, ◌≤◌, Bool, true, false, not, ◌&&◌, List, [], ◌∷◌, map, take, length, Option, Some, None, refl, sym, ap, ◌∙◌, subst, arith, add-one, cond}
-use Rattle.std.specs.Prelude.{slice_get, slice_index, bytes_eq, find, codes, filter, unwrap_or, if◌then◌else◌, IfSome, IsSomeAnd, ◌==◌}
+use Rattle.std.proofs.Common.{◌≡◌, ℕ, zero, suc, ◌+◌, ◌^◌, ◌<◌, ◌≤◌, Bool, true, false, not, ◌&&◌, List, [], ◌∷◌, map, take, length, Option, Some, None, refl, sym, ap, ◌∙◌, subst, arith, add-one}
+use Rattle.std.specs.Prelude.{slice_get, bytes_eq, find, codes, filter, unwrap_or, if◌then◌else◌, IfSome}
 use Rattle.std.specs.Option.{option_map}
 use Rattle.std.specs.List.{AllByRecursion, AllZip}
-use Rattle.std.proofs.lemmas.Slice.Eq.{bytes_eq-Decides}
 use Rattle.gl_schema.specs.declared.schema.Schema.{Schema}
 use Rattle.gl_schema.specs.Ports.{out_valid, out_eos, fault_group, fault_queue}
-use Rattle.gl_schema.specs.Seen.{Shown, shown, value_at, is_high, row_shown}
+use Rattle.gl_schema.specs.Seen.{shown}
 use Rattle.gl_verilog.specs.Module.{Module, Declaration, Kind, Input, OutputWire, OutputRegister, Wire, Register, Memory, Nets, Memories, number_of}
 use Rattle.gl_verilog.specs.Run.{Fit, port_of}
 use Rattle.gl_verilog.specs.Runnable.{SameNets}
 use Rattle.gl_verilog.specs.Text.{HasModule}
-use Rattle.gl_verilog.specs.Valid.{AreDistinct}
 use Rattle.gl_verilog.specs.Widths.{IsNet, IsReadable, is_clock, width_at}
-use Rattle.gl_verilog.proofs.Fits.{Found, found_in, in_range, width_at-found}
+use Rattle.gl_verilog.proofs.Fits.{in_range, width_at-found}
 use Rattle.gl_compiler.specs.declared.pins.Shows.{Shows}
 use Rattle.gl_compiler.specs.Benches.{columns_from, AreShows}
 use Rattle.gl_compiler.specs.Profile.{FitsSchema, HasLine, IsLine, is_output, shows_column, ports_of, port_named, result_names, result_widths}
 use Rattle.gl_compiler.proofs.Declared.{number_at, distinct_take, get_take}
-
-same_bytes : (a b : List ℕ) → bytes_eq a b ≡ true → a ≡ b
-same_bytes a b e = (bytes_eq-Decides a b).0 e
+use Rattle.gl_bits.proofs.AllLists.{map_map}
+use Rattle.gl_bits.proofs.Bools.{bytes_same}
 
 -- ---- lines
 
@@ -54,7 +51,7 @@ output_is_net Register e = absurd cc
 output_is_net (Memory bits) e = absurd cc
 
 line_readable : (name : List ℕ) (d : Declaration) → bytes_eq name (codes "clk") ≡ false → IsLine d → bytes_eq d.name name ≡ true → IsReadable d
-line_readable name d other line e = (output_is_net d.kind line.output, subst (λ (n : List ℕ). bytes_eq n (codes "clk") ≡ false) (sym (same_bytes d.name name e)) other)
+line_readable name d other line e = (output_is_net d.kind line.output, subst (λ (n : List ℕ). bytes_eq n (codes "clk") ≡ false) (sym (bytes_same d.name name e)) other)
 
 some_same : (v v' : Nets) (o : Option ℕ) → IfSome o (λ k. v k ≡ v' k) → option_map v o ≡ option_map v' o
 some_same v v' None h = refl
@@ -123,10 +120,6 @@ columns_each Q from (d ∷ ds) h =
     pick true e later = let none : from + 0 ≡ from = omega arith in (subst Q none (h 0 d refl e), later)
     pick false e later = later
 
-map_map : {A B C : Type 0} (f : B → C) (g : A → B) (xs : List A) → map f (map g xs) ≡ map (λ x. f (g x)) xs
-map_map f g [] = refl
-map_map f g (x ∷ xs) = ap (λ ys. f (g x) ∷ ys) (map_map f g xs)
-
 -- the values of the columns are those at their names
 pub columns_read : (text : List ℕ) (m : Module) (v : Nets) → HasModule text m → map v (columns_from 0 (ports_of m)) ≡ map (λ name. unwrap_or (option_map v (number_of (ports_of m) name)) 0) (result_names m)
 columns_read text m v has =
@@ -159,7 +152,7 @@ clock_no_column d e = pick (is_clock d) refl
 
     pick : (b : Bool) → is_clock d ≡ b → b ≡ false
     pick true c =
-        let name : d.name ≡ codes "clk" = same_bytes d.name (codes "clk") c in
+        let name : d.name ≡ codes "clk" = bytes_same d.name (codes "clk") c in
         absurd (no_column d.kind d.name name e)
     pick false c = refl
 

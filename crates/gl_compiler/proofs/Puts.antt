@@ -1,9 +1,9 @@
 -- The lines of a cycle, put one after the other.
-use Rattle.std.proofs.Common.{◌≡◌, ℕ, List, [], ◌∷◌, Bool, Result, Ok, Err, sym, subst, refl, append_assoc}
+use Rattle.std.proofs.Common.{◌≡◌, ℕ, List, [], ◌∷◌, Bool, Result, Err, sym, append_assoc}
 use Rattle.std.specs.Prelude.{not, ◌&&◌, ◌++◌, decimal, codes}
 use Rattle.gl_bits.specs.declared.kind.Kind.{Kind}
 use Rattle.gl_outside.specs.States.{SinkState, Took, Wrote}
-use Rattle.gl_outside.proofs.Takes.{took_none, wrote_then, wrote_same, broke_more}
+use Rattle.gl_outside.proofs.Takes.{wrote_then, wrote_same, broke_more}
 use Rattle.gl_schema.specs.Seen.{overflow_line, end_line, cycle_lines}
 use Rattle.gl_compiler.specs.declared.looking.Looked.{Looked}
 use Rattle.gl_compiler.specs.Cycles.{looked_at, overflow_if, row_if, end_if}
@@ -38,6 +38,3 @@ overflow_is n = sym (append_assoc (decimal n) (codes ",overflow") (10 ∷ []))
 pub end_is : (n : ℕ) → decimal n ++ codes ",end\n" ≡ end_line n
 unfolding end_line
 end_is n = sym (append_assoc (decimal n) (codes ",end") (10 ∷ []))
-
-pub nothing_put : (a : SinkState) → Took a a []
-nothing_put a = took_none a

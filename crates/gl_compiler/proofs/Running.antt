@@ -1,6 +1,5 @@
 -- Cycle by cycle: what was written so far, and where the end is.
 use Rattle.std.proofs.Common.{◌≡◌, ℕ, zero, suc, ◌+◌, ◌-◌, ◌<◌, ◌≤◌, inl, inr, Bool, true, false, ◌||◌, List, [], ◌∷◌, ◌++◌, Option, refl, sym, ap, ◌∙◌, subst, arith, append_assoc, add-one}
-use Rattle.std.specs.Prelude.{IsTrue, IsFalse}
 use Rattle.std.specs.List.{list_any}
 use Rattle.std.proofs.lemmas.List.{append-nil}
 use Rattle.std.proofs.lemmas.Bool.{cases_lt, cases_eq}
@@ -17,7 +16,7 @@ use Rattle.gl_verilog.specs.Run.{port_of}
 use Rattle.gl_sim.specs.Simulation.{Simulation}
 use Rattle.gl_compiler.specs.declared.looking.Looked.{Looked}
 use Rattle.gl_compiler.specs.Cycles.{IsFollowed, IsMade, looked_at}
-use Rattle.gl_compiler.specs.Prints.{IsEnd, AreLinesOf, Writes, WritesFront, EndsWithin}
+use Rattle.gl_compiler.specs.Prints.{Writes, WritesFront, EndsWithin}
 use Rattle.gl_compiler.specs.Profile.{result_names}
 
 -- ---- the cycles before one

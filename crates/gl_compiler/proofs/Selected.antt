@@ -8,14 +8,14 @@ use Rattle.gl_schema.specs.declared.schema.Stream.{Stream}
 use Rattle.gl_schema.specs.declared.schema.Schema.{Schema}
 use Rattle.gl_schema.specs.Schemas.{column_names, has_column, has_stream, kinds_of}
 use Rattle.gl_query.specs.declared.tree.Statement.{Statement}
-use Rattle.gl_query.specs.Shapes.{ItemShape, QueryShape, query_shape}
+use Rattle.gl_query.specs.Shapes.{ItemShape, QueryShape}
 use Rattle.gl_query.specs.Shapes as shape
 use Rattle.gl_query.specs.Values.{HasKind, kind_alone, column_number, column_kind}
 use Rattle.gl_query.specs.Columns.{columns_of, item_column, source_columns}
 use Rattle.gl_query.specs.Accepted.{schema_scope, IsAccepted, IsAcceptedOver, AreResultColumns}
 use Rattle.gl_bits.specs.Results.{Row}
 use Rattle.gl_schema.specs.Beats.{Inputs}
-use Rattle.gl_query.specs.Results.{Env, Source, numbered, env_of, rows_of, streams_of, kept, IsResult, IsResultIn}
+use Rattle.gl_query.specs.Results.{numbered, env_of, rows_of, streams_of, kept, IsResult, IsResultIn}
 use Rattle.gl_query.specs.Results as result
 use Rattle.gl_wiring.specs.Select.{picked, picks}
 use Rattle.gl_compiler.specs.Selecting.{own, IsBuilt}

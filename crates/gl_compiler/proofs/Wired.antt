@@ -13,8 +13,9 @@ use Rattle.gl_query.specs.declared.tree.Statement.{Statement}
 use Rattle.gl_query.specs.Values.{column_number, column_kind}
 use Rattle.gl_compiler.specs.declared.select.Select.{Select}
 use Rattle.gl_compiler.specs.Selecting.{IsSelectOf, CanWire}
-use Rattle.gl_compiler.proofs.Faces.{column_there}
+use Rattle.gl_compiler.proofs.Faces.{column_there, kind_there}
 use Rattle.gl_compiler.proofs.Built.{next_at}
+use Rattle.gl_bits.proofs.AllLists.{length_map, get_below}
 
 stream_at : (ss : List Stream) (k : ℕ) (s : Stream) → AllByRecursion IsStream ss → slice_get ss k ≡ Some s → IsStream s
 stream_at [] k s all h = absurd cc
@@ -25,11 +26,6 @@ column_at : (cs : List Column) (k : ℕ) (c : Column) → AllByRecursion IsColum
 column_at [] k c all h = absurd cc
 column_at (x ∷ cs) zero c all h = let same : x ≡ c = cc in subst IsColumn same all.0
 column_at (x ∷ cs) (suc k) c all h = column_at cs k c all.1 h
-
-within : {A : Type 0} (xs : List A) (k : ℕ) (x : A) → slice_get xs k ≡ Some x → k < length xs
-within [] k x h = absurd cc
-within (y ∷ xs) zero x h = omega arith
-within (y ∷ xs) (suc k) x h = let lt = within xs k x h in omega arith
 
 number_name : (cs : List Column) (n : List ℕ) (c : Column) → slice_get cs (column_number cs n) ≡ Some c → n ≡ c.name
 number_name [] n c h = absurd cc
@@ -46,27 +42,20 @@ names_named : (cs : List Column) (names : List (List ℕ)) → AllByRecursion Is
 names_named cs [] all h = tt
 names_named cs (n ∷ names) all h = (known_named cs n all h.0, names_named cs names all h.1)
 
-kind_is : (cs : List Column) (n : List ℕ) (c : Column) → slice_get cs (column_number cs n) ≡ Some c → column_kind cs n ≡ c.kind
-kind_is cs n c h = rw h refl
-
 pub kinds_known : (cs : List Column) (names : List (List ℕ)) → AllByRecursion IsColumn cs → AllByRecursion (λ n. IsTrue (has_column cs n)) names → AllByRecursion IsKind (map (column_kind cs) names)
 kinds_known cs [] all h = tt
 kinds_known cs (n ∷ names) all h =
     let c = column_there cs n h.0 in
-    (subst IsKind (sym (kind_is cs n c.0 c.1)) (column_at cs (column_number cs n) c.0 all c.1).kind, kinds_known cs names all h.1)
+    (subst IsKind (sym (kind_there cs n c.0 c.1)) (column_at cs (column_number cs n) c.0 all c.1).kind, kinds_known cs names all h.1)
 
 places_known : (cs : List Column) (names : List (List ℕ)) → AllByRecursion (λ n. IsTrue (has_column cs n)) names → AllByRecursion (λ p. p < length cs) (map (column_number cs) names)
 places_known cs [] h = tt
-places_known cs (n ∷ names) h = let c = column_there cs n h.0 in (within cs (column_number cs n) c.0 c.1, places_known cs names h.1)
+places_known cs (n ∷ names) h = let c = column_there cs n h.0 in (get_below cs (column_number cs n) c.0 c.1, places_known cs names h.1)
 
 all_from : (P : ℕ → Type 0) (xs : List ℕ) → AllByRecursion P xs → All P xs
 all_from P [] h k d lt = absurd (omega arith)
 all_from P (x ∷ xs) h zero d lt = h.0
 all_from P (x ∷ xs) h (suc k) d lt = all_from P xs h.1 k d (omega arith)
-
-map_length : {A B : Type 0} (f : A → B) (xs : List A) → length (map f xs) ≡ length xs
-map_length f [] = refl
-map_length f (x ∷ xs) = ap suc (map_length f xs)
 
 pub stream_is : (schema : Schema) (statement : Statement) (select : Select) → IsSchema schema → (is : IsSelectOf schema statement select) → IsStream is.built.stream
 stream_is schema statement select s is = stream_at schema.streams select.stream is.built.stream s.streams is.number
@@ -77,16 +66,16 @@ can_wire schema statement select s is =
     let cs = b.stream.columns in
     let stream = stream_is schema statement select s is in
     record {
-      within = within schema.streams select.stream b.stream is.number;
+      get_below = get_below schema.streams select.stream b.stream is.number;
       there = rw is.number (subst (All (λ p. p < length cs)) (sym is.places) (all_from (λ p. p < length cs) (map (column_number cs) b.names) (places_known cs b.names b.known)));
-      lengths = ap length is.places ∙ map_length (column_number cs) b.names ∙ ap length (sym is.names);
+      lengths = ap length is.places ∙ length_map (column_number cs) b.names ∙ ap length (sym is.names);
       into = subst IsName (sym is.into) b.into;
       names = subst (AllByRecursion IsName) (sym is.names) (names_named cs b.names stream.columns b.known);
       distinct = subst (λ (x : List (List ℕ)). IsDistinct bytes_eq x) (sym is.names) b.distinct;
     }
 
 pub kinds_most : (schema : Schema) (statement : Statement) (select : Select) → IsSelectOf schema statement select → length select.kinds ≤ 32
-kinds_most schema statement select is = omega (arith, ap length is.kinds, map_length (column_kind is.built.stream.columns) is.built.names, is.built.most)
+kinds_most schema statement select is = omega (arith, ap length is.kinds, length_map (column_kind is.built.stream.columns) is.built.names, is.built.most)
 
 pub kinds_are : (schema : Schema) (statement : Statement) (select : Select) → IsSchema schema → IsSelectOf schema statement select → AllByRecursion IsKind select.kinds
 kinds_are schema statement select s is = subst (AllByRecursion IsKind) (sym is.kinds) (kinds_known is.built.stream.columns is.built.names (stream_is schema statement select s is).columns is.built.known)

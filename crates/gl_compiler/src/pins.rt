@@ -1,6 +1,6 @@
 //! Which port of a module is what: the inputs of the streams, and what shows the result.
 
-ghost use Rattle.std.specs.Prelude.{◌≡◌, ◌++◌, ◌∷◌, [], ◌<◌, ℕ, true, map, take, option_map, IfOk, OnOk, slice_index, unwrap_or};
+ghost use Rattle.std.specs.Prelude.{◌≡◌, ◌∷◌, [], ◌<◌, map, option_map, IfOk, slice_index};
 ghost use Rattle.gl_bits.specs.Words.{bits_of};
 ghost use Rattle.gl_tuples.specs.Gaps.{plain_beat};
 ghost use Rattle.gl_verilog.specs.View.{declaration_of, module_of, kind_of};

@@ -9,7 +9,7 @@ ghost use Rattle.gl_query.specs.declared.tree.Item.{Item};
 ghost use Rattle.gl_compiler.specs.Selecting.{IsPicked, IsFrom, IsRead, is_built, is_own, is_read, names_of, differ, can_pick, can_read, stream_number};
 
 use gl_bits::{Kind, Listed, Memory};
-use gl_query::{Expr, Item, Name, Pick, Query, Statement};
+use gl_query::{Expr, Item, Pick, Query, Statement};
 use gl_schema::{Column, NameText, Schema, Stream, is_name};
 use gl_wiring::ResultNames;
 use std::alloc::Global;

@@ -1,5 +1,5 @@
 -- Rows that are as long as columns are many: in parts of a list, and in results.
-use Rattle.std.proofs.Common.{◌≡◌, ℕ, zero, suc, ◌*◌, Bool, List, [], ◌∷◌, length, sym, subst, map, filter, take, drop, nat_lt, nat_eq}
+use Rattle.std.proofs.Common.{◌≡◌, ℕ, ◌*◌, Bool, List, [], ◌∷◌, length, sym, subst, map, take, drop, nat_lt, nat_eq}
 use Rattle.std.specs.List.{AllByRecursion, filter_map, range_with_len}
 use Rattle.gl_bits.specs.Lists.{Group, groups, keys_of, rows_with, slice_at, slices}
 use Rattle.gl_bits.specs.Results.{Row}
@@ -12,25 +12,12 @@ use Rattle.gl_query.specs.Accepted.{IsAcceptedOver}
 use Rattle.gl_query.specs.Results.{Env, IsResultIn, streams_of}
 use Rattle.gl_query.specs.Laws.{HoldsIn, IsLongAs}
 use Rattle.gl_query.proofs.Lengths.{long}
+use Rattle.gl_query.proofs.Holding.{all_filter, all_take, all_drop}
 
 abbrev pub AreLong : List Column → List Row → Type 0
 AreLong columns rows = AllByRecursion (IsLongAs columns) rows
 
 -- ---- parts of a list
-
-all-filter : {A : Type 0} (P : A → Type 0) (p : A → Bool) (xs : List A) → AllByRecursion P xs → AllByRecursion P (filter p xs)
-all-filter P p [] h = tt
-all-filter P p (x ∷ xs) h = by_cases (p x) (λ e. rw e (h.0, all-filter P p xs h.1)) (λ e. rw e (all-filter P p xs h.1))
-
-all-take : {A : Type 0} (P : A → Type 0) (n : ℕ) (xs : List A) → AllByRecursion P xs → AllByRecursion P (take n xs)
-all-take P zero xs h = tt
-all-take P (suc n) [] h = tt
-all-take P (suc n) (x ∷ xs) h = (h.0, all-take P n xs h.1)
-
-all-drop : {A : Type 0} (P : A → Type 0) (n : ℕ) (xs : List A) → AllByRecursion P xs → AllByRecursion P (drop n xs)
-all-drop P zero xs h = h
-all-drop P (suc n) [] h = tt
-all-drop P (suc n) (x ∷ xs) h = all-drop P n xs h.1
 
 module _ (P : Row → Type 0) where
   slices_at : (size advance : ℕ) (rows : List Row) (places : List ℕ) → AllByRecursion P rows
@@ -38,7 +25,7 @@ module _ (P : Row → Type 0) where
   slices_at size advance rows [] h = tt
   slices_at size advance rows (j ∷ places) h =
       by_cases (nat_lt (j * advance) (length rows))
-      (λ e. rw e (all-take P size (drop (j * advance) rows) (all-drop P (j * advance) rows h), slices_at size advance rows places h))
+      (λ e. rw e (all_take P size (drop (j * advance) rows) (all_drop P (j * advance) rows h), slices_at size advance rows places h))
       (λ e. rw e (slices_at size advance rows places h))
 
   pub in-slices : (size advance : ℕ) (rows : List Row) → AllByRecursion P rows → AllByRecursion (AllByRecursion P) (slices size advance rows)
@@ -48,7 +35,7 @@ module _ (P : Row → Type 0) where
   groups_of : (key_of : Row → ℕ) (rows : List Row) (keys : List ℕ) → AllByRecursion P rows
       → AllByRecursion (λ (g : Group Row). AllByRecursion P g.rows) (map (λ key. record { key = key; rows = rows_with key_of rows key }) keys)
   groups_of key_of rows [] h = tt
-  groups_of key_of rows (key ∷ keys) h = (all-filter P (λ x. nat_eq (key_of x) key) rows h, groups_of key_of rows keys h)
+  groups_of key_of rows (key ∷ keys) h = (all_filter P (λ x. nat_eq (key_of x) key) rows h, groups_of key_of rows keys h)
 
   pub in-groups : (count : ℕ) (key_of : Row → ℕ) (rows : List Row) → AllByRecursion P rows
       → AllByRecursion (λ (g : Group Row). AllByRecursion P g.rows) (groups count key_of rows)

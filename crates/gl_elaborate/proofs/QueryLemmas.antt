@@ -8,7 +8,7 @@ use Rattle.gl_bits.specs.Results.{Row, Results, AreBeside, AreJoined, IsOfBoth, 
 use Rattle.gl_bits.specs.declared.kind.Kind.{Kind}
 use Rattle.gl_schema.specs.declared.schema.Stream.{Stream}
 use Rattle.gl_schema.specs.Schemas.{kinds_of}
-use Rattle.gl_query.specs.Shapes.{ExprShape, AggItemShape, PickShape, QueryShape}
+use Rattle.gl_query.specs.Shapes.{ExprShape, AggItemShape, QueryShape}
 use Rattle.gl_query.specs.Shapes as shape
 use Rattle.gl_query.specs.Values.{column_number}
 use Rattle.gl_query.specs.Columns.{columns_of, source_columns, variable, is_closing, pace_of, unfiltered, picked_columns}

@@ -30,11 +30,12 @@ use Rattle.gl_terms.specs.Levels.{operand_of}
 use Rattle.gl_elaborate.specs.Plans.{projected, levelled, condition_of, conditions_of, picked_terms, column_under, selected, rows_over}
 use Rattle.gl_elaborate.specs.Fitting.{LevelledFit, SelectFits, ProjectFits, RowsFit}
 use Rattle.gl_terms.proofs.TermLemmas.{term-kind, term-value}
-use Rattle.gl_terms.proofs.AcceptedLemmas.{alone, term-fits}
+use Rattle.gl_terms.proofs.AcceptedLemmas.{term-fits}
 use Rattle.gl_terms.proofs.LevelLemmas.{IsLeaf, IsCarried}
 use Rattle.gl_terms.proofs.DepthLemmas.{IsNoLiteral}
 use Rattle.gl_elaborate.proofs.LongLemmas.{AreLong}
 use Rattle.gl_elaborate.proofs.StandsLemmas.{Stands, weaker, select-stands, project-stands, select-fits, project-fits, IsLevelled, levels-stand, zip-fits}
+use Rattle.gl_query.proofs.Real.{alone_kind}
 
 -- ---- terms of depth 0
 
@@ -112,7 +113,7 @@ module _ (columns : List NamedColumn) (kinds : AreKinds columns) where
   items-fit : (items : List ItemShape) → AllByRecursion (λ (i : ItemShape). HasKind columns (kind_alone i.expr) i.expr) items
       → AllByRecursion (IsTerm (kinds_of columns)) (map (λ (i : ItemShape). term_of columns (kind_alone i.expr) i.expr) items)
   items-fit [] h = tt
-  items-fit (i ∷ items) h = (term-fits columns kinds i.expr (kind_alone i.expr) (alone i.expr) h.0, items-fit items h.1)
+  items-fit (i ∷ items) h = (term-fits columns kinds i.expr (kind_alone i.expr) (alone_kind i.expr) h.0, items-fit items h.1)
 
   pub pick-fits : (pick : PickShape) → IsPick columns pick → AllByRecursion (IsTerm (kinds_of columns)) (picked_terms columns pick)
   pick-fits shape.All h = columns-fit (kinds_of columns) 0 (length columns) (rw length-map (omega arith))

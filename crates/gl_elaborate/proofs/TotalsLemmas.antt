@@ -36,11 +36,12 @@ use Rattle.gl_terms.specs.Levels.{operand_of}
 use Rattle.gl_elaborate.specs.Plans.{levelled, arguments_of, arguments_of_all, weights_of, agg_over, behind, aggs_of, totals_over}
 use Rattle.gl_elaborate.specs.Fitting.{TotalsFit}
 use Rattle.gl_terms.proofs.TermLemmas.{term-kind, term-value}
-use Rattle.gl_terms.proofs.AcceptedLemmas.{term-fits, kind-fits, alone, unsigned}
+use Rattle.gl_terms.proofs.AcceptedLemmas.{term-fits, kind-fits, unsigned}
 use Rattle.gl_terms.proofs.LevelLemmas.{IsCarried}
 use Rattle.gl_elaborate.proofs.StandsLemmas.{Stands, weaker, aggregate-fits, aggregate-stands, levels-stand}
 use Rattle.gl_elaborate.proofs.LongLemmas.{AreLong}
 use Rattle.gl_elaborate.proofs.RowsLemmas.{flat-operand}
+use Rattle.gl_query.proofs.Real.{alone_kind}
 
 -- an operand stands for an expression over rows that are as long as the columns are many
 record IsArgument (columns : List NamedColumn) (kinds : List Kind) (widen : Row → Row) (e : ExprShape) (x : Operand) : Type 0 where
@@ -160,7 +161,7 @@ module _ (columns : List NamedColumn) (areKinds : AreKinds columns) (kinds : Lis
   aggregate (shape.Wsum e weights) (t ∷ terms) rest h zipped flat =
       let is = argument e t zipped.0 (omega arith) in
       let kind = kind_of columns (kind_alone e) e in
-      let areWeights = weights-fit kind weights (kind-fits columns areKinds e (kind_alone e) (kind_alone e) h.summed.typed (alone e)) h.fit in (
+      let areWeights = weights-fit kind weights (kind-fits columns areKinds e (kind_alone e) (kind_alone e) h.summed.typed (alone_kind e)) h.fit in (
         record {
           fits = (
             is.fits,
@@ -192,11 +193,11 @@ module _ (columns : List NamedColumn) (areKinds : AreKinds columns) (kinds : Lis
 module _ (columns : List NamedColumn) (areKinds : AreKinds columns) where
   argument-fits : (a : AggShape) → IsAgg columns a → AllByRecursion (IsTerm (kinds_of columns)) (arguments_of columns a)
   argument-fits shape.Count h = tt
-  argument-fits (shape.Sum e) h = (term-fits columns areKinds e (kind_alone e) (alone e) h.typed, tt)
-  argument-fits (shape.Min e) h = (term-fits columns areKinds e (kind_alone e) (alone e) h, tt)
-  argument-fits (shape.Max e) h = (term-fits columns areKinds e (kind_alone e) (alone e) h, tt)
-  argument-fits (shape.Avg e) h = (term-fits columns areKinds e (kind_alone e) (alone e) h.typed, tt)
-  argument-fits (shape.Wsum e weights) h = (term-fits columns areKinds e (kind_alone e) (alone e) h.summed.typed, tt)
+  argument-fits (shape.Sum e) h = (term-fits columns areKinds e (kind_alone e) (alone_kind e) h.typed, tt)
+  argument-fits (shape.Min e) h = (term-fits columns areKinds e (kind_alone e) (alone_kind e) h, tt)
+  argument-fits (shape.Max e) h = (term-fits columns areKinds e (kind_alone e) (alone_kind e) h, tt)
+  argument-fits (shape.Avg e) h = (term-fits columns areKinds e (kind_alone e) (alone_kind e) h.typed, tt)
+  argument-fits (shape.Wsum e weights) h = (term-fits columns areKinds e (kind_alone e) (alone_kind e) h.summed.typed, tt)
 
   pub arguments-fit : (items : List AggItemShape) → AllByRecursion (λ (i : AggItemShape). IsAgg columns i.agg) items
       → AllByRecursion (IsTerm (kinds_of columns)) (arguments_of_all columns items)

@@ -8,7 +8,7 @@ ghost use Rattle.gl_query.specs.Shapes as shape;
 ghost use Rattle.gl_query.specs.Values.{HasKind, kind_alone};
 ghost use Rattle.gl_query.specs.Accepted.{IsFilter, IsPick};
 ghost use Rattle.gl_algebra.specs.Added.{placed_at};
-ghost use Rattle.gl_terms.specs.Terms.{term_of, IsTerm, Column as TermColumn};
+ghost use Rattle.gl_terms.specs.Terms.{IsTerm, Column as TermColumn};
 ghost use Rattle.gl_terms.specs.Levels.{operand_of};
 ghost use Rattle.gl_terms.specs.Trees.{term};
 ghost use Rattle.gl_elaborate.specs.Plans.{column_under, condition_of, conditions_of, picked_terms, projected, rows_over, selected};

@@ -1,9 +1,7 @@
-//! Tests of plans, their figures, netlists and operators between ports: worked rows. They stand
-//! apart from the crates that they test, since a crate with tests is proved twice.
+//! Tests of plans, their figures and netlists: worked rows. They stand apart from the crates that
+//! they test, since a crate with tests is proved twice.
 #![tactic(auto)]
 
-#[cfg(test)]
-mod blocks;
 #[cfg(test)]
 mod figures;
 #[cfg(test)]

@@ -22,7 +22,7 @@ paced_alike env None xs ys e p = tt
 paced_alike env (Some Once) xs ys e p = e ∙ p
 paced_alike env (Some (Step name)) xs ys e p = e ∙ p
 
-one_pace : (env : Env) (pace : Option Pace) (xs ys : List Row) → IsSome pace → IsPaced env pace xs → IsPaced env pace ys → length xs ≡ length ys
+pub one_pace : (env : Env) (pace : Option Pace) (xs ys : List Row) → IsSome pace → IsPaced env pace xs → IsPaced env pace ys → length xs ≡ length ys
 one_pace env None xs ys some p q = cc
 one_pace env (Some Once) xs ys some p q = p ∙ sym q
 one_pace env (Some (Step name)) xs ys some p q = p ∙ sym q

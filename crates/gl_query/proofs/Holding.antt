@@ -29,21 +29,21 @@ pub record IsKept (P : List Column → Row → Type 0) : Type 0 where
 
 -- ---- parts of a list
 
-all_filter : {A : Type 0} (P : A → Type 0) (p : A → Bool) (xs : List A) → AllByRecursion P xs → AllByRecursion P (filter p xs)
+pub all_filter : {A : Type 0} (P : A → Type 0) (p : A → Bool) (xs : List A) → AllByRecursion P xs → AllByRecursion P (filter p xs)
 all_filter P p [] h = tt
 all_filter P p (x ∷ xs) h = by_cases (p x) (λ e. rw e (h.0, all_filter P p xs h.1)) (λ e. rw e (all_filter P p xs h.1))
 
-all_take : {A : Type 0} (P : A → Type 0) (n : ℕ) (xs : List A) → AllByRecursion P xs → AllByRecursion P (take n xs)
+pub all_take : {A : Type 0} (P : A → Type 0) (n : ℕ) (xs : List A) → AllByRecursion P xs → AllByRecursion P (take n xs)
 all_take P zero xs h = tt
 all_take P (suc n) [] h = tt
 all_take P (suc n) (x ∷ xs) h = (h.0, all_take P n xs h.1)
 
-all_drop : {A : Type 0} (P : A → Type 0) (n : ℕ) (xs : List A) → AllByRecursion P xs → AllByRecursion P (drop n xs)
+pub all_drop : {A : Type 0} (P : A → Type 0) (n : ℕ) (xs : List A) → AllByRecursion P xs → AllByRecursion P (drop n xs)
 all_drop P zero xs h = h
 all_drop P (suc n) [] h = tt
 all_drop P (suc n) (x ∷ xs) h = all_drop P n xs h.1
 
-all_slices_at : (P : Row → Type 0) (size advance : ℕ) (rows : List Row) (places : List ℕ) → AllByRecursion P rows
+pub all_slices_at : (P : Row → Type 0) (size advance : ℕ) (rows : List Row) (places : List ℕ) → AllByRecursion P rows
     → AllByRecursion (AllByRecursion P) (filter_map (slice_at size advance rows) places)
 all_slices_at P size advance rows [] h = tt
 all_slices_at P size advance rows (j ∷ places) h =
@@ -51,7 +51,7 @@ all_slices_at P size advance rows (j ∷ places) h =
     (λ e. rw e (all_take P size (drop (j * advance) rows) (all_drop P (j * advance) rows h), all_slices_at P size advance rows places h))
     (λ e. rw e (all_slices_at P size advance rows places h))
 
-all_slices : (P : Row → Type 0) (size advance : ℕ) (rows : List Row) → AllByRecursion P rows → AllByRecursion (AllByRecursion P) (slices size advance rows)
+pub all_slices : (P : Row → Type 0) (size advance : ℕ) (rows : List Row) → AllByRecursion P rows → AllByRecursion (AllByRecursion P) (slices size advance rows)
 unfolding slices
 all_slices P size advance rows h = all_slices_at P size advance rows (range_with_len 0 (length rows)) h
 

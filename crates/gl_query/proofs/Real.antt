@@ -50,13 +50,13 @@ CastsAreKinds (shape.Not e) = CastsAreKinds e
 CastsAreKinds (shape.Cast kind e) = IsKind kind × CastsAreKinds e
 CastsAreKinds (shape.Binary op l r) = CastsAreKinds l × CastsAreKinds r
 
-cast_kind : (from to : Kind) → CanCast from to → IsKind to
+pub cast_kind : (from to : Kind) → CanCast from to → IsKind to
 cast_kind (Unsigned v) (Unsigned w) h = h
 cast_kind (Unsigned v) (Text n) h = absurd h
 cast_kind (Text m) (Unsigned w) h = absurd h
 cast_kind (Text m) (Text n) h = h
 
-casts_are : (e : ExprShape) (columns : List Column) (place : Kind) → HasKind columns place e → CastsAreKinds e
+pub casts_are : (e : ExprShape) (columns : List Column) (place : Kind) → HasKind columns place e → CastsAreKinds e
 casts_are (shape.Column name) columns place h = tt
 casts_are (shape.Number n) columns place h = tt
 casts_are (shape.Letters text) columns place h = tt
@@ -69,30 +69,30 @@ casts_are (shape.Binary op l r) columns place h =
 bit_kind : IsKind (Unsigned 1)
 bit_kind = (lit≤ tt, lit≤ tt)
 
-alone_kind : (e : ExprShape) → IsKind (kind_alone e)
+pub alone_kind : (e : ExprShape) → IsKind (kind_alone e)
 alone_kind e = by_cases (begins_with_text e) (λ b. rw b (lit≤ tt, lit≤ tt)) (λ b. rw b (lit≤ tt, lit≤ tt))
 
-loose_is : (sort : Sort) (whole : Kind) (e : ExprShape) → IsKind whole → IsKind (loose_kind sort whole e)
+pub loose_is : (sort : Sort) (whole : Kind) (e : ExprShape) → IsKind whole → IsKind (loose_kind sort whole e)
 loose_is Arithmetic whole e h = h
 loose_is Comparison whole e h = alone_kind e
 loose_is Logic whole e h = bit_kind
 
-place_is : (b : Bool) (sort : Sort) (whole : Kind) (e : ExprShape) (other : Kind) → IsKind whole → IsKind other → IsKind (if b then loose_kind sort whole e else other)
+pub place_is : (b : Bool) (sort : Sort) (whole : Kind) (e : ExprShape) (other : Kind) → IsKind whole → IsKind other → IsKind (if b then loose_kind sort whole e else other)
 place_is true sort whole e other h k = loose_is sort whole e h
 place_is false sort whole e other h k = k
 
-result_is : (sort : Sort) (k : Kind) → IsKind k → IsKind (result_kind sort k)
+pub result_is : (sort : Sort) (k : Kind) → IsKind k → IsKind (result_kind sort k)
 result_is Arithmetic k h = h
 result_is Comparison k h = bit_kind
 result_is Logic k h = bit_kind
 
 -- the kind of the column at a place
-kind_at : (columns : List Column) (place : ℕ) → AreKinds columns → IsKind (unwrap_or (option_map (λ c. c.kind) (slice_get columns place)) (Unsigned 1))
+pub kind_at : (columns : List Column) (place : ℕ) → AreKinds columns → IsKind (unwrap_or (option_map (λ c. c.kind) (slice_get columns place)) (Unsigned 1))
 kind_at [] place h = bit_kind
 kind_at (c ∷ cs) zero h = h.0
 kind_at (c ∷ cs) (suc place) h = kind_at cs place h.1
 
-kind_is : (e : ExprShape) (columns : List Column) (place : Kind) → AreKinds columns → IsKind place → CastsAreKinds e → IsKind (kind_of columns place e)
+pub kind_is : (e : ExprShape) (columns : List Column) (place : Kind) → AreKinds columns → IsKind place → CastsAreKinds e → IsKind (kind_of columns place e)
 kind_is (shape.Column name) columns place h p c = kind_at columns (column_number columns name) h
 kind_is (shape.Number n) columns place h p c = p
 kind_is (shape.Letters text) columns place h p c = p

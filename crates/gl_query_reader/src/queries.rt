@@ -10,7 +10,6 @@ use crate::state::{
     BodyHead, Control, Frame, Head, ItemControl, QueryControl, SourceControl, State,
 };
 use crate::written::{WrittenItems, WrittenQuery};
-use gl_query::Name;
 use gl_query_tokens::sorts::open_in;
 use gl_query_tokens::{Plain, Token};
 use std::alloc::{AllocError, Global};

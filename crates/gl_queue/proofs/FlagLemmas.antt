@@ -6,10 +6,7 @@ use Rattle.gl_bits.specs.Results.{Row}
 use Rattle.gl_wire.specs.Pace.{WithEnds}
 use Rattle.gl_wire.specs.Wire.{Carried, pending, stream}
 use Rattle.gl_queue.proofs.HeldLemmas.{flag_off, flag_on, flag_kept}
-
-pub none_unless : (o : Option Row) → ((r : Row) → o ≡ Some r → ⊥) → o ≡ None
-none_unless None h = refl
-none_unless (Some r) h = absurd (h r refl)
+use Rattle.gl_wire.proofs.SideLemmas.{none_unless}
 
 -- a wire that brings a row with each end alone
 module _ (s : Carried) (once : WithEnds s) where

@@ -14,9 +14,9 @@ use Rattle.gl_wire.specs.Pace.{WithEnds}
 use Rattle.gl_bits.specs.Results.{AreBeside}
 use Rattle.gl_queue.specs.Joining.{IsJoiner, JoinerServes}
 use Rattle.gl_wire.specs.Sides.{IsOpen, IsIdle, ItsEnd, Side}
-use Rattle.gl_wire.proofs.SideLemmas.{fits_side}
+use Rattle.gl_wire.proofs.SideLemmas.{fits_side, none_unless}
 use Rattle.gl_queue.proofs.HeldLemmas.{flag_off}
-use Rattle.gl_queue.proofs.FlagLemmas.{Flag, flag_next, flag_start, none_unless, once_none, once_some, once_stream}
+use Rattle.gl_queue.proofs.FlagLemmas.{Flag, flag_next, flag_start, once_none, once_some, once_stream}
 
 -- a row that waits stays
 kept_a : {a b o : Carried} (m : IsJoiner a b o) (c : ℕ) → 1 ≤ c → a.tuple c ≡ None → m.row_a (suc c) ≡ m.row_a c

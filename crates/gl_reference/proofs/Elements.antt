@@ -12,7 +12,7 @@ use Rattle.gl_query.specs.Values.{HasKind, kind_alone}
 use Rattle.gl_query.specs.Accepted.{AreItems, IsAgg}
 use Rattle.gl_reference.specs.Fits.{AreAggs, AreRows, HasKindAlone, HasWord, IsRow}
 use Rattle.gl_reference.proofs.Fitting.{all_place}
-use Rattle.gl_reference.proofs.Words.{alone_kind}
+use Rattle.gl_query.proofs.Real.{alone_kind}
 
 pub row_at : (columns : List Column) (rows : List Row) (i : ℕ) (row : Row) → i < length rows → row ≡ get_or rows i row → AreRows columns rows → IsRow columns row
 row_at columns rows i row lt is h = record { kinds = h.kinds; fits = all_place (IsRowOf columns) rows i row lt is h.fit }

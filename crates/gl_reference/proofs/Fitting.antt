@@ -1,9 +1,9 @@
 -- What the parts of an accepted query see over sources whose rows fit, and that their results fit.
-use Rattle.std.proofs.Common.{◌≡◌, ℕ, zero, suc, ◌+◌, ◌*◌, ◌<◌, Bool, List, [], ◌∷◌, length, refl, sym, ap, subst, ◌∙◌, map, filter, take, drop, nat_lt, nat_eq, get_or, arith}
-use Rattle.std.specs.Prelude.{bytes_eq, slice_index, Option, Some, None, IsSome}
-use Rattle.std.specs.List.{AllByRecursion, filter_map, range_with_len}
+use Rattle.std.proofs.Common.{◌≡◌, ℕ, zero, suc, ◌+◌, ◌<◌, Bool, List, [], ◌∷◌, length, refl, sym, ap, subst, ◌∙◌, map, take, drop, nat_eq, get_or, arith}
+use Rattle.std.specs.Prelude.{bytes_eq, slice_index, Option}
+use Rattle.std.specs.List.{AllByRecursion}
 use Rattle.gl_bits.specs.Lists.{Group as GroupOf}
-use Rattle.gl_bits.specs.Lists.{groups, keys_of, rows_with, slice_at, slices}
+use Rattle.gl_bits.specs.Lists.{groups, keys_of, rows_with}
 use Rattle.gl_bits.specs.Tables.{keyed_groups}
 use Rattle.gl_bits.specs.Results.{Row}
 use Rattle.gl_bits.specs.declared.lists.Group.{Group}
@@ -17,15 +17,16 @@ use Rattle.gl_schema.specs.Beats.{Inputs}
 use Rattle.gl_schema.specs.Schemas.{IsRowOf}
 use Rattle.gl_query.specs.declared.tree.Statement.{Statement}
 use Rattle.gl_query.specs.Shapes.{QueryShape, query_shape}
-use Rattle.gl_query.specs.Columns.{Pace, Once, Step, pace_of}
+use Rattle.gl_query.specs.Columns.{Pace, pace_of}
 use Rattle.gl_query.specs.Accepted.{IsAcceptedOver, KeepPace, Scope, body_scope, schema_scope}
 use Rattle.gl_query.specs.Results.{Env, IsResultIn, columns_in, env_of, numbered, only, streams_of}
 use Rattle.gl_query.specs.Laws.{HoldsIn, scope_of}
-use Rattle.gl_query.proofs.Existing.{IsPaced, paced}
+use Rattle.gl_query.proofs.Existing.{IsPaced, paced, one_pace}
 use Rattle.gl_query.proofs.Fitting.{fitting}
 use Rattle.gl_query.proofs.Real.{IsScope, body_is, real, schema_is}
 use Rattle.gl_reference.specs.Fits.{AreRows, AreSources, IsBody, IsFit}
 use Rattle.gl_reference.specs.Sources.{given_inputs}
+use Rattle.gl_query.proofs.Holding.{all_filter}
 
 -- ---- sources
 
@@ -58,26 +59,10 @@ all_place P [] i x lt is h = absurd (omega arith)
 all_place P (y ∷ xs) zero x lt is h = subst P (sym is) h.0
 all_place P (y ∷ xs) (suc i) x lt is h = all_place P xs i x (omega arith) is h.1
 
-all_filter : {A : Type 0} (P : A → Type 0) (p : A → Bool) (xs : List A) → AllByRecursion P xs → AllByRecursion P (filter p xs)
-all_filter P p [] h = tt
-all_filter P p (x ∷ xs) h = by_cases (p x) (λ e. rw e (h.0, all_filter P p xs h.1)) (λ e. rw e (all_filter P p xs h.1))
-
 all_slice : {A : Type 0} (P : A → Type 0) (n m : ℕ) (xs : List A) → AllByRecursion P xs → AllByRecursion P (take n (drop m xs))
 all_slice P n m xs h =
     let rest = all_back P (take m xs) (drop m xs) (rw (take-append-drop m xs) h) in
     all_front P (take n (drop m xs)) (drop n (drop m xs)) (rw (take-append-drop n (drop m xs)) rest)
-
-all_slices_at : (P : Row → Type 0) (size advance : ℕ) (rows : List Row) (places : List ℕ) → AllByRecursion P rows
-    → AllByRecursion (AllByRecursion P) (filter_map (slice_at size advance rows) places)
-all_slices_at P size advance rows [] h = tt
-all_slices_at P size advance rows (j ∷ places) h =
-    by_cases (nat_lt (j * advance) (length rows))
-    (λ e. rw e (all_slice P size (j * advance) rows h, all_slices_at P size advance rows places h))
-    (λ e. rw e (all_slices_at P size advance rows places h))
-
-pub all_slices : (P : Row → Type 0) (size advance : ℕ) (rows : List Row) → AllByRecursion P rows → AllByRecursion (AllByRecursion P) (slices size advance rows)
-unfolding slices
-all_slices P size advance rows h = all_slices_at P size advance rows (range_with_len 0 (length rows)) h
 
 all_groups_at : (P : Row → Type 0) (key_of : Row → ℕ) (rows : List Row) (keys : List ℕ) → AllByRecursion P rows
     → AllByRecursion (λ (g : Group). AllByRecursion P g.rows) (map (λ (g : GroupOf Row). record { key = g.key; rows = g.rows }) (map (λ (key : ℕ). record { key = key; rows = rows_with key_of rows key }) keys))
@@ -92,11 +77,6 @@ all_groups P n column rows h =
     all_groups_at P key_of rows (take n (keys_of key_of rows)) h
 
 -- ---- pace
-
-one_pace : (env : Env) (pace : Option Pace) (xs ys : List Row) → IsSome pace → IsPaced env pace xs → IsPaced env pace ys → length xs ≡ length ys
-one_pace env None xs ys some p q = cc
-one_pace env (Some Once) xs ys some p q = p ∙ sym q
-one_pace env (Some (Step name)) xs ys some p q = p ∙ sym q
 
 -- sides that keep pace have results of one length
 pub one_length : (env : Env) (l r : QueryShape) (xs ys : List Row) (p q : Bool) → KeepPace l r → IsResultIn l env xs p → IsResultIn r env ys q → length xs ≡ length ys

@@ -18,7 +18,8 @@ use Rattle.gl_query.specs.Laws.{scope_of}
 use Rattle.gl_reference.specs.declared.rows.Fault.{Fault}
 use Rattle.gl_reference.specs.declared.rows.Fault.TheVariants.{Memory}
 use Rattle.gl_reference.specs.Fits.{AreSources, IsBody, IsOrMemory}
-use Rattle.gl_reference.proofs.Fitting.{all_groups, all_slices, body_fits, rows_fit}
+use Rattle.gl_reference.proofs.Fitting.{all_groups, body_fits, rows_fit}
+use Rattle.gl_query.proofs.Holding.{all_slices}
 
 pub passes : {T : Type 0} {Q : Fault → Type 0} (r : Result T Fault) → IsErrAnd r Q → ((fault : Fault) → Q fault → fault ≡ Memory) → IsOrMemory r
 passes r is f = let p = err_from_is_err_and r is in rw (p.1) (f p.0 p.2)

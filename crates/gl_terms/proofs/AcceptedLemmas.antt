@@ -7,7 +7,7 @@ use Rattle.std.proofs.lemmas.Nat.{pow-add}
 use Rattle.std.proofs.Math.Nat.{mul-le-mul_right}
 use Rattle.std.proofs.lemmas.Option.{slice_get_within}
 use Rattle.gl_bits.specs.Kinds.{IsKind}
-use Rattle.gl_bits.specs.Operators.{result_kind, sort_of}
+use Rattle.gl_bits.specs.Operators.{sort_of}
 use Rattle.gl_bits.specs.declared.kind.Kind.{Kind}
 use Rattle.gl_bits.specs.declared.kind.Kind.TheVariants.{Unsigned, Text}
 use Rattle.gl_bits.specs.declared.op.Sort.{Sort}
@@ -18,13 +18,14 @@ use Rattle.gl_schema.specs.declared.schema.Column.{Column as NamedColumn}
 use Rattle.gl_schema.specs.Schemas.{kinds_of, has_column, text_word, padded}
 use Rattle.gl_query.specs.Shapes.{ExprShape}
 use Rattle.gl_query.specs.Shapes as shape
-use Rattle.gl_query.specs.Values.{CanApply, CanCast, HasKind, IsLettersOf, IsNumberOf, begins_with_text, bytes_in, column_kind, column_number, is_loose, kind_alone, kind_of, left_place, loose_kind, operand_place, right_place}
+use Rattle.gl_query.specs.Values.{CanApply, CanCast, HasKind, IsLettersOf, IsNumberOf, bytes_in, column_number, is_loose, kind_alone, kind_of, left_place, operand_place, right_place}
 use Rattle.gl_query.specs.Values as query
 use Rattle.gl_query.specs.Laws.{AreKinds}
 use Rattle.gl_algebra.specs.Columns.{CastFits, SortFits, IsUnsigned}
 use Rattle.gl_algebra.proofs.ListLemmas.{first_passes}
 use Rattle.gl_terms.specs.Terms.{literal, term_of, IsTerm}
 use Rattle.gl_terms.proofs.TermLemmas.{term-kind}
+use Rattle.gl_query.proofs.Real.{alone_kind, loose_is, result_is}
 
 -- ---- literals
 
@@ -74,21 +75,8 @@ kind_default [] n h = (lit≤ tt, lit≤ tt)
 kind_default (c ∷ cs) zero h = h.0
 kind_default (c ∷ cs) (suc n) h = kind_default cs n h.1
 
-pub alone : (e : ExprShape) → IsKind (kind_alone e)
-alone e = by_cases (begins_with_text e) (λ p. rw p (lit≤ tt, lit≤ tt)) (λ p. rw p (lit≤ tt, lit≤ tt))
-
-loose-fits : (sort : Sort) (whole : Kind) (e : ExprShape) → IsKind whole → IsKind (loose_kind sort whole e)
-loose-fits Arithmetic whole e h = h
-loose-fits Comparison whole e h = alone e
-loose-fits Logic whole e h = (lit≤ tt, lit≤ tt)
-
 place-fits : (sort : Sort) (whole : Kind) (e other : ExprShape) (other_kind : Kind) → IsKind whole → IsKind other_kind → IsKind (operand_place sort whole e other other_kind)
-place-fits sort whole e other other_kind h k = by_cases (is_loose other) (λ p. rw p (loose-fits sort whole e h)) (λ p. rw p k)
-
-result-fits : (sort : Sort) (kind : Kind) → IsKind kind → IsKind (result_kind sort kind)
-result-fits Arithmetic kind h = h
-result-fits Comparison kind h = (lit≤ tt, lit≤ tt)
-result-fits Logic kind h = (lit≤ tt, lit≤ tt)
+place-fits sort whole e other other_kind h k = by_cases (is_loose other) (λ p. rw p (loose_is sort whole e h)) (λ p. rw p k)
 
 can-cast : (from to : Kind) → CanCast from to → IsKind to × CastFits from to
 can-cast (Unsigned v) (Unsigned w) h = (h, tt)
@@ -114,7 +102,7 @@ module _ (columns : List NamedColumn) (kinds : AreKinds columns) where
   kind-fits (shape.Not e) typed place h k = (lit≤ tt, lit≤ tt)
   kind-fits (shape.Cast kind e) typed place h k = (can-cast (kind_of columns (kind_alone e) e) kind h.1).0
   kind-fits (shape.Binary o l r) typed place h k =
-      result-fits (sort_of o) (kind_of columns (left_place columns o place l r) l)
+      result_is (sort_of o) (kind_of columns (left_place columns o place l r) l)
       (kind-fits l (left_place columns o typed l r) (left_place columns o place l r) h.0
       (place-fits (sort_of o) place l r (kind_of columns place r) k (kind-fits r (right_place columns o typed l r) place h.1 k)))
 
@@ -133,7 +121,7 @@ module _ (columns : List NamedColumn) (kinds : AreKinds columns) where
       (term-fits e (Unsigned 1) (lit≤ tt, lit≤ tt) h.0, term-kind columns (Unsigned 1) e ∙ h.1)
   term-fits (shape.Cast kind e) place k h =
       let can = can-cast (kind_of columns (kind_alone e) e) kind h.1 in
-      (term-fits e (kind_alone e) (alone e) h.0, can.0, subst (λ (from : Kind). CastFits from kind) (sym (term-kind columns (kind_alone e) e)) can.1)
+      (term-fits e (kind_alone e) (alone_kind e) h.0, can.0, subst (λ (from : Kind). CastFits from kind) (sym (term-kind columns (kind_alone e) e)) can.1)
   term-fits (shape.Binary o l r) place k h =
       let left = left_place columns o place l r in
       let right = right_place columns o place l r in

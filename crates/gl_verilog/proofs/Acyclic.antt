@@ -10,32 +10,9 @@ use Rattle.gl_verilog.specs.Widths.{IsDriven, KeepsWidth, width_of}
 use Rattle.gl_verilog.specs.Order.{EachRead, IsUndriven, IsOrdered, CanBeOrdered}
 use Rattle.gl_verilog.specs.Valid.{drivers_of, mentions, depends, IsChain, HasNoCycle, HasNoLoop, HasDriver, IsValid}
 use Rattle.gl_verilog.specs.Runnable.{IsRunnable}
+use Rattle.gl_bits.proofs.Bools.{or_left, or_right, or_cases, and_both, and_left, and_right}
 
 -- ---- tests
-
-or_left : (a b : Bool) → a ≡ true → (a || b) ≡ true
-or_left true b e = refl
-or_left false b e = absurd cc
-
-or_right : (a b : Bool) → b ≡ true → (a || b) ≡ true
-or_right true b e = refl
-or_right false b e = e
-
-or_cases : (a b : Bool) → (a || b) ≡ true → (a ≡ true) ⊎ (b ≡ true)
-or_cases true b e = inl refl
-or_cases false b e = inr e
-
-and_both : (a b : Bool) → a ≡ true → b ≡ true → (a && b) ≡ true
-and_both true b e f = f
-and_both false b e f = absurd cc
-
-and_left : (a b : Bool) → (a && b) ≡ true → a ≡ true
-and_left true b e = refl
-and_left false b e = absurd cc
-
-and_right : (a b : Bool) → (a && b) ≡ true → b ≡ true
-and_right true b e = e
-and_right false b e = absurd cc
 
 -- ---- members
 
@@ -49,7 +26,7 @@ IsIn x (t ∷ ts) = (x ≡ t) ⊎ IsIn x ts
 abbrev pub without : ℕ → (ℕ → ℕ → Bool) → ℕ → ℕ → Bool
 without t related x y = related x y || (related x t && related t y)
 
-chain-join : (related : ℕ → ℕ → Bool) (x : ℕ) (us : List ℕ) (t : ℕ) (vs : List ℕ) (y : ℕ) → IsChain related x us t → IsChain related t vs y → IsChain related x (us ++ t ∷ vs) y
+pub chain-join : (related : ℕ → ℕ → Bool) (x : ℕ) (us : List ℕ) (t : ℕ) (vs : List ℕ) (y : ℕ) → IsChain related x us t → IsChain related t vs y → IsChain related x (us ++ t ∷ vs) y
 chain-join related x [] t vs y p q = (p, q)
 chain-join related x (u ∷ us) t vs y p q = (p.0, chain-join related u us t vs y p.1 q)
 
@@ -161,7 +138,7 @@ sorted rank [] = []
 sorted rank (a ∷ as') = place rank a (sorted rank as')
 
 -- what each of two lists has, a choice of them has
-chosen : {A : Type 0} (P : A → Type 0) (b : Bool) (x y : A) → (b ≡ true → P x) → (b ≡ false → P y) → P (cond b x y)
+pub chosen : {A : Type 0} (P : A → Type 0) (b : Bool) (x y : A) → (b ≡ true → P x) → (b ≡ false → P y) → P (cond b x y)
 chosen P true x y f g = f refl
 chosen P false x y f g = g refl
 
@@ -202,7 +179,7 @@ sorted-rises : (rank : ℕ → ℕ) (as' : List Assignment) → Rises rank (sort
 sorted-rises rank [] = tt
 sorted-rises rank (a ∷ as') = place-rises rank a (sorted rank as') (sorted-rises rank as')
 
-one_if : (b : Bool) → b ≡ true → let n : ℕ = cond b 1 0 in n ≡ 1
+pub one_if : (b : Bool) → b ≡ true → let n : ℕ = cond b 1 0 in n ≡ 1
 one_if true e = refl
 one_if false e = absurd cc
 
@@ -218,12 +195,12 @@ sorted-drivers rank (a ∷ as') n = place-drivers rank a (sorted rank as') n ∙
 
 -- ---- in an order
 
-undriven-zero : (bs : List Assignment) (n : ℕ) → drivers_of bs n ≡ 0 → IsUndriven bs n
+pub undriven-zero : (bs : List Assignment) (n : ℕ) → drivers_of bs n ≡ 0 → IsUndriven bs n
 undriven-zero [] n e = tt
 undriven-zero (b ∷ bs) n e = ((λ q. (let g = one_if (eqb b.target n) (eq-eqb b.target n q) in absurd (omega (arith, e, g)))), undriven-zero bs n (omega (arith, e)))
 
 -- what holds of each net that an expression mentions
-each_read : (P : ℕ → Type 0) (e : Expr) → ((n : ℕ) → mentions e n ≡ true → P n) → EachRead P e
+pub each_read : (P : ℕ → Type 0) (e : Expr) → ((n : ℕ) → mentions e n ≡ true → P n) → EachRead P e
 each_read P (Net k) h = h k (eq-eqb k k refl)
 each_read P (Literal value width) h = tt
 each_read P (Invert width arg) h = each_read P arg h
@@ -329,7 +306,7 @@ undriven-step : (b : Assignment) (bs : List Assignment) (n : ℕ) (t : Bool) →
 undriven-step b bs n true e h k = absurd (h (eqb-true b.target n e))
 undriven-step b bs n false e h k = rw e (omega (arith, k))
 
-undriven-none : (bs : List Assignment) (n : ℕ) → IsUndriven bs n → drivers_of bs n ≡ 0
+pub undriven-none : (bs : List Assignment) (n : ℕ) → IsUndriven bs n → drivers_of bs n ≡ 0
 undriven-none [] n h = refl
 undriven-none (b ∷ bs) n h = undriven-step b bs n (eqb b.target n) refl h.0 (undriven-none bs n h.1)
 

@@ -9,6 +9,7 @@ use Rattle.gl_verilog.specs.Module.{Declaration, Kind, Memory, BinaryOp, Add, Su
 use Rattle.gl_verilog.specs.Run.{Fit}
 use Rattle.gl_verilog.specs.Widths.{HasSize, IsReadable, IsMemory, words_in, width_at, width_after, width_of, KeepsWidths}
 use Rattle.gl_verilog.specs.Evaluate.{CanEvaluate, IsStore, nets_of, memories_of}
+use Rattle.gl_bits.proofs.Bools.{bit_fits}
 
 -- what is there, with its fact
 pub record Found {T : Type 0} (o : Option T) (P : T → Type 0) : Type 0 where
@@ -34,10 +35,6 @@ pub width_at-found : (ds : List Declaration) (n : ℕ) (d : Declaration) → sli
 width_at-found ds n d e = rw e refl
 
 -- ---- what the operators give
-
-bit_fits : (b : Bool) → bit b < 2 ^ 1
-bit_fits true = omega arith
-bit_fits false = omega arith
 
 pub not_fits : (w x : ℕ) → not_of w x < 2 ^ w
 unfolding not_of

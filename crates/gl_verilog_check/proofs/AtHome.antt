@@ -3,7 +3,7 @@ use Rattle.std.proofs.Common.{◌≡◌, ◌≢◌, ℕ, zero, suc, ◌+◌, ◌
 use Rattle.std.specs.Prelude.{slice_get, nat_eq, option_and_then, option_map}
 use Rattle.std.specs.Option.{option_map_or}
 use Rattle.std.proofs.lemmas.Bool.{eqb-true, ltb-true, ltb-false}
-use Rattle.gl_bits.proofs.AllLists.{get_mapped, length_map}
+use Rattle.gl_bits.proofs.AllLists.{get_mapped, length_map, get_past}
 use Rattle.gl_bits.proofs.Bools.{and_left, and_right, not_both, else_false}
 use Rattle.gl_verilog.specs.Module.{Kind, Input, OutputWire, OutputRegister, Wire, Register, Memory, Declaration, Statement, Nothing, Put, Write, Both, If}
 use Rattle.gl_verilog.specs.View.{statement_of}
@@ -94,11 +94,6 @@ get_there : {A : Type 0} (xs : List A) (i : ℕ) (x d : A) → i < length xs →
 get_there [] i x d lt f = absurd (omega (arith, lt))
 get_there (y ∷ xs) zero x d lt f = ap (λ z. Some z) (sym f)
 get_there (y ∷ xs) (suc i) x d lt f = get_there xs i x d (omega (arith, lt)) f
-
-get_past : {A : Type 0} (xs : List A) (i : ℕ) → length xs ≤ i → slice_get xs i ≡ None
-get_past [] i le = refl
-get_past (y ∷ xs) zero le = absurd (omega (arith, le))
-get_past (y ∷ xs) (suc i) le = get_past xs i (omega (arith, le))
 
 pub home_there : (homes : List ℕ) (blocks : List block.Statement) (n home d : ℕ) (s e : block.Statement) → true ≡ ltb n (length homes) → home ≡ get_or homes n d → true ≡ ltb home (length blocks) → s ≡ get_or blocks home e → home_of homes (map statement_of blocks) n ≡ statement_of s ∷ []
 home_there homes blocks n home d s e lt is lt' is' =

@@ -1,9 +1,9 @@
 -- An expression that keeps its widths has its width, and what keeps its widths passes the tests.
-use Rattle.std.proofs.Common.{◌≡◌, ℕ, ◌+◌, ◌-◌, ◌^◌, ◌<◌, ◌≤◌, Bool, true, false, not, ◌&&◌, List, [], ◌∷◌, Option, Some, None, refl, sym, ap, ◌∙◌}
+use Rattle.std.proofs.Common.{◌≡◌, ℕ, ◌+◌, ◌-◌, ◌^◌, ◌<◌, ◌≤◌, Bool, true, false, not, ◌&&◌, List, [], ◌∷◌, Option, Some, None, refl, sym, ◌∙◌}
 use Rattle.std.specs.Prelude.{slice_get, option_and_then, nat_eq, nat_le, nat_lt, IsSomeAnd, IsTrue}
 use Rattle.std.specs.Option.{option_map_or, is_some}
 use Rattle.std.specs.List.{AllByRecursion}
-use Rattle.std.proofs.lemmas.Bool.{eq-eqb, eqb-true, le-leb, lt-ltb}
+use Rattle.std.proofs.lemmas.Bool.{eq-eqb, le-leb, lt-ltb}
 use Rattle.gl_bits.proofs.Bools.{and_both, and_left, and_right, not_false}
 use Rattle.gl_bits.proofs.Options.{some_there}
 use Rattle.gl_bits.specs.Words.{IsWidth}
@@ -12,6 +12,7 @@ use Rattle.gl_verilog.specs.Run.{IsRegister}
 use Rattle.gl_verilog.specs.Widths.{IsNet, IsDriven, IsMemory, IsReadable, HasSize, is_clock, width_of, width_after, KeepsWidths, KeepsWidth, KeepsWidthsIn}
 use Rattle.gl_verilog_check.specs.Kept.{is_memory, is_width, only, net_width, part_width, has_address, word_width, invert_width, choose_width, join_width, both_width, kept, is_driven, is_register, takes, assigned_width, put_width, takes_word, write_width, memory_fits, has_size, is_one, test_kept, statement_kept, all_kept, blocks_kept, all_sized}
 use Rattle.gl_verilog_check.proofs.Keeping.{kept-keeps, assignment_keeps, put_keeps, write_keeps, size_of, kind_driven}
+use Rattle.gl_verilog_check.proofs.Drives.{one_is}
 
 -- ---- tests
 
@@ -137,10 +138,6 @@ write_is ds m address value h =
     and_then_is (λ a. option_and_then (λ w. option_and_then (takes_word a w) (slice_get ds m)) (kept ds value)) (kept ds address) a (keeps-kept ds address h.1)
     ∙ and_then_is (λ w. option_and_then (takes_word a w) (slice_get ds m)) (kept ds value) w (keeps-kept ds value h.2)
     ∙ takes_word_there a w (slice_get ds m) h.0
-
-one_is : (o : Option ℕ) → is_one o ≡ true → o ≡ Some 1
-one_is None e = absurd cc
-one_is (Some w) e = ap Some (eqb-true w 1 e)
 
 is_one_of : (o : Option ℕ) (w : ℕ) → o ≡ Some w → w ≡ 1 → is_one o ≡ true
 is_one_of o w e f = rw (e, f) refl

@@ -18,7 +18,8 @@ use Rattle.gl_verilog_check.specs.Kept.{is_one, module_with}
 use Rattle.gl_verilog_check.specs.Passes.{AreOnce}
 use Rattle.gl_verilog_check.specs.Tests.{are_new, one_of, assigns_once, blocks_once, is_assigned, all_assigned}
 use Rattle.gl_verilog_check.proofs.Names.{new_distinct}
-use Rattle.gl_verilog_check.proofs.Ranks.{no_loop, driven_once, undriven-none}
+use Rattle.gl_verilog_check.proofs.Ranks.{no_loop, driven_once}
+use Rattle.gl_verilog.proofs.Acyclic.{one_if, undriven-zero, undriven-none}
 
 -- ---- registers
 
@@ -67,7 +68,7 @@ is-blocks : (r : ℕ) (bs : List Statement) → AllByRecursion (AssignsOnce r) b
 is-blocks r [] h = refl
 is-blocks r (b ∷ bs) h = rw (is-once r b h.0, is-blocks r bs h.1) refl
 
-one_is : (o : Option ℕ) → is_one o ≡ true → o ≡ Some 1
+pub one_is : (o : Option ℕ) → is_one o ≡ true → o ≡ Some 1
 one_is None e = absurd cc
 one_is (Some w) e = ap Some (eqb-true w 1 e)
 
@@ -159,18 +160,10 @@ most_once (a ∷ rest) n o = by (eqb a.target n) refl (most_once rest n o.2)
     by true e ih = (let z = undriven-none rest n (subst (IsUndriven rest) (eqb-true a.target n e) o.1) in rw e (omega (arith, z)))
     by false e ih = rw e (omega (arith, ih))
 
-one_if : (b : Bool) → b ≡ true → let n : ℕ = cond b 1 0 in n ≡ 1
-one_if true e = refl
-one_if false e = absurd cc
-
-none_drives : (bs : List Assignment) (n : ℕ) → drivers_of bs n ≡ 0 → IsUndriven bs n
-none_drives [] n e = tt
-none_drives (b ∷ bs) n e = ((λ q. (let g = one_if (eqb b.target n) (eq-eqb b.target n q) in absurd (omega (arith, e, g)))), none_drives bs n (omega (arith, e)))
-
 once_each : (as' : List Assignment) → ((n : ℕ) → drivers_of as' n ≤ 1) → AreOnce as'
 once_each [] h = tt
 once_each (a ∷ rest) h = (
-  none_drives rest a.target (let most = h a.target in let g = one_if (eqb a.target a.target) (eq-eqb a.target a.target refl) in omega (arith, most, g)),
+  undriven-zero rest a.target (let most = h a.target in let g = one_if (eqb a.target a.target) (eq-eqb a.target a.target refl) in omega (arith, most, g)),
   once_each rest (λ n. let most = h n in omega (arith, most)),
 )
 

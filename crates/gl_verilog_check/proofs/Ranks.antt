@@ -6,6 +6,7 @@ use Rattle.gl_bits.proofs.Bools.{or_cases, and_left, and_right}
 use Rattle.gl_verilog.specs.Module.{Assignment, Expr, Net, Literal, Invert, Binary, Choose, Join, Select, Read}
 use Rattle.gl_verilog.specs.Order.{EachRead, IsUndriven, IsOrdered}
 use Rattle.gl_verilog.specs.Valid.{mentions, depends, IsChain, HasNoLoop, drivers_of}
+use Rattle.gl_verilog.proofs.Acyclic.{undriven-none}
 
 -- what holds of each net that is read holds of one that is mentioned
 mentioned : (P : ℕ → Type 0) (e : Expr) (n : ℕ) → EachRead P e → mentions e n ≡ true → P n
@@ -89,14 +90,6 @@ pub no_loop : (as' : List Assignment) → IsOrdered as' → HasNoLoop as'
 no_loop as' o n us c = let lt = along as' n us n o c (begins as' n us n c) in absurd (omega (arith, lt))
 
 -- ---- drivers
-
-pub undriven-none : (bs : List Assignment) (n : ℕ) → IsUndriven bs n → drivers_of bs n ≡ 0
-undriven-none [] n h = refl
-undriven-none (b ∷ bs) n h = by (eqb b.target n) refl (undriven-none bs n h.1)
-  where
-    by : (t : Bool) → eqb b.target n ≡ t → drivers_of bs n ≡ 0 → drivers_of (b ∷ bs) n ≡ 0
-    by true e k = absurd (h.0 (eqb-true b.target n e))
-    by false e k = rw e (omega (arith, k))
 
 -- a net that assignments in an order drive has one that does
 pub driven_once : (as' : List Assignment) (n : ℕ) → IsOrdered as' → (IsUndriven as' n → ⊥) → drivers_of as' n ≡ 1

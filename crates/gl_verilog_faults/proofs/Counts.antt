@@ -11,11 +11,13 @@ use Rattle.gl_verilog.specs.Widths.{IsDriven, IsMemory, width_of, KeepsWidth, Ke
 use Rattle.gl_verilog.specs.Valid.{AreDistinct, drivers_of, assigns, AssignsOnce, blocks_of, writes_in, writes_of}
 use Rattle.gl_verilog.specs.Resolve.{Resolved, with_assignment, with_block, clocked, decimal_number, declare, address_bits_of, resolve_expr, resolve_statement, resolve_items, is_memory_kind}
 use Rattle.gl_verilog_faults.specs.Demands.{memory_declared}
-use Rattle.gl_verilog_faults.proofs.Names.{seen_number, same_text, Extends}
-use Rattle.gl_verilog_faults.proofs.Expressions.{some_same, at_some}
+use Rattle.gl_verilog_faults.proofs.Names.{seen_number, Extends}
+use Rattle.gl_verilog_faults.proofs.Expressions.{at_some}
 use Rattle.gl_verilog_faults.proofs.Operators.{both_some, three_some, kind_memory}
 use Rattle.gl_verilog_faults.proofs.Declarations.{number_at}
-use Rattle.gl_verilog_faults.proofs.Items.{added, extends_by, memory-is, then_some}
+use Rattle.gl_verilog_faults.proofs.Items.{added, extends_by, memory-is}
+use Rattle.gl_bits.proofs.Bools.{bytes_same}
+use Rattle.gl_bits.proofs.Options.{some_same, then_some}
 
 -- whether a register of this name is assigned in a statement
 abbrev pub hits : List ℕ → WrittenStatement → Bool
@@ -103,7 +105,7 @@ module _ (all : List Declaration) (distinct : AreDistinct all) (n : ℕ) (d : De
   pub same_test : (m : ℕ) (t : Declaration) (name : List ℕ) → slice_get all m ≡ Some t → bytes_eq t.name name ≡ true → nat_eq m n ≡ bytes_eq d.name name
   same_test m t name e h = same_when (nat_eq m n) (bytes_eq d.name name)
       (λ f. let same : m ≡ n = eqb-true m n f in let s : slice_get all n ≡ Some t = subst (λ (k : ℕ). slice_get all k ≡ Some t) same e in let td : t ≡ d = some_same t d (sym s ∙ at) in subst (λ (c : Declaration). bytes_eq c.name name ≡ true) td h)
-      (λ f. let td : d.name ≡ t.name = same_text d.name name f ∙ sym (same_text t.name name h) in
+      (λ f. let td : d.name ≡ t.name = bytes_same d.name name f ∙ sym (bytes_same t.name name h) in
       let a : number_of all t.name ≡ Some m = number_at all m t distinct e in
       let b : number_of all t.name ≡ Some n = subst (λ (k : List ℕ). number_of all k ≡ Some n) td (number_at all n d distinct at) in
       eq-eqb m n (some_same m n (sym a ∙ b)))

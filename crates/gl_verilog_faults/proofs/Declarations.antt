@@ -13,20 +13,9 @@ use Rattle.gl_verilog.specs.Valid.{Differs, AreDistinct}
 use Rattle.gl_verilog.specs.Resolve.{declare, port_kind, declare_port, address_bits_to, address_bits_of}
 use Rattle.gl_verilog_faults.specs.Demands.{AreMet, is_declared, of_names, of_ports}
 use Rattle.gl_verilog_faults.proofs.Expressions.{AreSmall}
+use Rattle.gl_bits.proofs.AllLists.{all_append, all_front, all_back}
 
 -- ---- lists
-
-pub all_join : {A : Type 0} (P : A → Type 0) (a b : List A) → AllByRecursion P a → AllByRecursion P b → AllByRecursion P (a ++ b)
-all_join P [] b h k = k
-all_join P (x ∷ a) b h k = (h.0, all_join P a b h.1 k)
-
-pub all_front : {A : Type 0} (P : A → Type 0) (a b : List A) → AllByRecursion P (a ++ b) → AllByRecursion P a
-all_front P [] b h = tt
-all_front P (x ∷ a) b h = (h.0, all_front P a b h.1)
-
-pub all_back : {A : Type 0} (P : A → Type 0) (a b : List A) → AllByRecursion P (a ++ b) → AllByRecursion P b
-all_back P [] b h = h
-all_back P (x ∷ a) b h = all_back P a b h.1
 
 pub all_at : {A : Type 0} (P : A → Type 0) (a : List A) (n : ℕ) (x : A) → AllByRecursion P a → slice_get a n ≡ Some x → P x
 all_at P [] n x h e = absurd cc
@@ -106,7 +95,7 @@ pub sound_new : (ds news : List Declaration) → IsSound ds → AllByRecursion H
 sound_new ds [] s b h = rw (append-nil ds) s
 sound_new ds (d ∷ news) s b h =
     let fresh : is_declared ds d.name ≡ false = not-true (is_declared ds d.name) h.0 in
-    let one : IsSound (ds ++ d ∷ []) = (distinct_push ds d s.0 fresh, all_join HasSize ds (d ∷ []) s.1 ((record { some' = b.0.0; most = leb-true d.width 128 h.1 }, b.0.1), tt)) in
+    let one : IsSound (ds ++ d ∷ []) = (distinct_push ds d s.0 fresh, all_append HasSize ds (d ∷ []) s.1 ((record { some' = b.0.0; most = leb-true d.width 128 h.1 }, b.0.1), tt)) in
     subst IsSound (one_more ds d news) (sound_new (ds ++ d ∷ []) news one b.1 h.2)
 
 pub new_sound : (ds news : List Declaration) → IsSound (ds ++ news) → AreNew ds news

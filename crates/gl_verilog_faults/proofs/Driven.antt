@@ -14,9 +14,10 @@ use Rattle.gl_verilog_faults.proofs.Names.{seen_number, Extends}
 use Rattle.gl_verilog_faults.proofs.Expressions.{at_some}
 use Rattle.gl_verilog_faults.proofs.Operators.{both_some, three_some, kind_memory}
 use Rattle.gl_verilog_faults.proofs.Statements.{Free}
-use Rattle.gl_verilog_faults.proofs.Items.{added, extends_by, memory-is, then_some, FreeItems, KeptItems, kept_at}
+use Rattle.gl_verilog_faults.proofs.Items.{added, extends_by, memory-is, FreeItems, KeptItems, kept_at}
 use Rattle.gl_verilog_faults.proofs.Counts.{hits, fills, Once, assigned_in, hit_in, filled_in, OnceIn, same, same_items, assigned_kind, written_kind, driven_kind, blocks_kind, writes_kind}
 use Rattle.gl_verilog_faults.proofs.Drivers.{same_among, not_among, one_among, true_count, touched}
+use Rattle.gl_bits.proofs.Options.{then_some}
 
 -- ---- kinds exclude one another
 

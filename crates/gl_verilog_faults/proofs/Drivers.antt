@@ -7,10 +7,10 @@ use Rattle.std.proofs.lemmas.Bool.{false_from_ne_true, or_cases, or_left, or_rig
 use Rattle.std.proofs.lemmas.List.Folds.{list_any-append}
 use Rattle.gl_verilog.specs.Written.{WrittenExpr, WrittenStatement, Update, UpdateWord, IfThen, IfElse, Block, Listed, Ended, WrittenItem, Wires, Registers, MemoryOf, Assign, Always}
 use Rattle.gl_verilog_faults.specs.Demands.{is_among, targets_in, targets_of}
-use Rattle.gl_verilog_faults.proofs.Names.{same_text}
 use Rattle.gl_verilog_faults.proofs.Statements.{Free}
 use Rattle.gl_verilog_faults.proofs.Items.{FreeItems}
 use Rattle.gl_verilog_faults.proofs.Counts.{hits, fills, Once, assigned_in, hit_in, filled_in, OnceIn}
+use Rattle.gl_bits.proofs.Bools.{bytes_same}
 
 -- ---- lists of names
 
@@ -25,7 +25,7 @@ not_among q a b h k = among_join q a b ∙ or_from (is_among q a) (is_among q b)
 
 -- the same name, so in the same lists
 pub same_among : (q t : List ℕ) (names : List (List ℕ)) → bytes_eq q t ≡ true → is_among t names ≡ is_among q names
-same_among q t names e = ap (λ (x : List ℕ). is_among x names) (sym (same_text q t e))
+same_among q t names e = ap (λ (x : List ℕ). is_among x names) (sym (bytes_same q t e))
 
 pub one_among : (q t : List ℕ) → is_among q (t ∷ []) ≡ true → bytes_eq q t ≡ true
 one_among q t h = elim (or_cases (bytes_eq q t) false h) [ inl p ↦ p | inr p ↦ absurd cc ]

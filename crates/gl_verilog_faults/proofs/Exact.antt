@@ -1,7 +1,7 @@
 -- A text has at most one of a module, a Syntax, a TooDeep and a judged fault, and of each at most one; it has one wherever it can be told
 -- which tokens begin a module.
 use Rattle.std.proofs.Common.{◌≡◌, ℕ, suc, ◌+◌, ◌<◌, ◌≤◌, ◌⊎◌, inl, inr, Bool, true, false, List, [], ◌∷◌, ◌++◌, length, map, get_or, take, Option, Some, None, refl, sym, ap, subst, ◌∙◌, arith, append_assoc}
-use Rattle.std.specs.Prelude.{slice_get, option_map, option_and_then, if◌then◌else◌}
+use Rattle.std.specs.Prelude.{slice_get, option_map, option_and_then}
 use Rattle.std.specs.List.{AllByRecursion}
 use Rattle.std.proofs.lemmas.Bool.{both_ways, cases_order}
 use Rattle.std.proofs.lemmas.List.{append-nil}
@@ -15,20 +15,17 @@ use Rattle.gl_verilog.specs.Text.{HasModule}
 use Rattle.gl_verilog.specs.Valid.{IsValid}
 use Rattle.gl_verilog_faults.specs.Demands.{Rule, Loop, Demand, ask, AreMet, IsFirst, IsLooped, assign_tokens, items_token, demands_of}
 use Rattle.gl_verilog_faults.specs.Counts.{Role, Counts, none_counted, after, is_past, keeps_limits}
-use Rattle.gl_verilog_faults.specs.Marks.{State, Header, marks, behind, role_at, next}
+use Rattle.gl_verilog_faults.specs.Marks.{Header, marks, behind}
 use Rattle.gl_verilog_faults.specs.Faults.{CanBegin, KeepsFront, Stops, IsSyntaxFault, IsDepthFault, IsBroken, IsJudgedFault}
 use Rattle.gl_verilog_faults.proofs.Law.{demands_valid, valid_demands, judged, IsJudged, IsFree}
 use Rattle.gl_verilog_faults.proofs.Limiting.{within, within_keeps}
-use Rattle.gl_verilog_faults.proofs.Marking.{module_marks}
+use Rattle.gl_verilog_faults.proofs.Marking.{module_marks, marks_join}
 use Rattle.gl_verilog_faults.proofs.Loops.{first_loop}
+use Rattle.gl_bits.proofs.Options.{some_same}
+use Rattle.gl_bits.proofs.AllLists.{heads, tails}
+use Rattle.gl_verilog_faults.proofs.LimitingExpressions.{past_so}
 
 -- ---- lists
-
-head_same : {A : Type 0} (x y : A) (a b : List A) → x ∷ a ≡ y ∷ b → x ≡ y
-head_same x y a b e = cc
-
-tail_same : {A : Type 0} (x y : A) (a b : List A) → x ∷ a ≡ y ∷ b → a ≡ b
-tail_same x y a b e = cc
 
 -- of two fronts of a list one begins the other
 pub record Begun {A : Type 0} (a b c d : List A) : Type 0 where
@@ -39,9 +36,9 @@ pub record Begun {A : Type 0} (a b c d : List A) : Type 0 where
 cut : {A : Type 0} (a b c d : List A) → a ++ b ≡ c ++ d → Begun a b c d ⊎ Begun c d a b
 cut [] b c d e = inl (record { more = c; longer = refl; rest = e })
 cut (x ∷ a) b [] d e = inr (record { more = x ∷ a; longer = refl; rest = sym e })
-cut (x ∷ a) b (y ∷ c) d e = elim (cut a b c d (tail_same x y (a ++ b) (c ++ d) e)) [
-  | inl r ↦ inl (record { more = r.more; longer = (let h : x ≡ y = head_same x y (a ++ b) (c ++ d) e in rw (r.longer, h) refl); rest = r.rest })
-  | inr r ↦ inr (record { more = r.more; longer = (let h : x ≡ y = head_same x y (a ++ b) (c ++ d) e in rw (r.longer, h) refl); rest = r.rest })
+cut (x ∷ a) b (y ∷ c) d e = elim (cut a b c d (tails x y (a ++ b) (c ++ d) e)) [
+  | inl r ↦ inl (record { more = r.more; longer = (let h : x ≡ y = heads x y (a ++ b) (c ++ d) e in rw (r.longer, h) refl); rest = r.rest })
+  | inr r ↦ inr (record { more = r.more; longer = (let h : x ≡ y = heads x y (a ++ b) (c ++ d) e in rw (r.longer, h) refl); rest = r.rest })
 ]
 
 -- ---- fronts
@@ -49,17 +46,9 @@ cut (x ∷ a) b (y ∷ c) d e = elim (cut a b c d (tail_same x y (a ++ b) (c ++ 
 begins_front : (a b : List Token) → CanBegin (a ++ b) → CanBegin a
 begins_front a b h = (h.0, b ++ h.1, h.2, h.3 ∙ append_assoc a b h.1)
 
-keeps_cons : (c : Bool) (k : Bool) → (if c then false else k) ≡ true → (c ≡ false) × (k ≡ true)
-keeps_cons true k h = absurd cc
-keeps_cons false k h = (refl, h)
-
 keeps_front : (n : Counts) (a b : List Role) → keeps_limits n (a ++ b) ≡ true → keeps_limits n a ≡ true
 keeps_front n [] b h = refl
-keeps_front n (r ∷ a) b h = let p = keeps_cons (is_past (after n r)) (keeps_limits (after n r) (a ++ b)) h in rw p.0 (keeps_front (after n r) a b p.1)
-
-marks_join : (s : State) (a b : List Token) → marks s (a ++ b) ≡ marks s a ++ marks (behind s a) b
-marks_join s [] b = refl
-marks_join s (t ∷ a) b = ap (λ (x : List Role). role_at s t ∷ x) (marks_join (next s t) a b)
+keeps_front n (r ∷ a) b h = let p = past_so (is_past (after n r)) (keeps_limits (after n r) (a ++ b)) h in rw p.0 (keeps_front (after n r) a b p.1)
 
 pub keeps_tokens : (a b : List Token) → KeepsFront (a ++ b) → KeepsFront a
 keeps_tokens a b h = keeps_front none_counted (marks Header a) (marks (behind Header a) b) (rw (marks_join Header a b) at h)
@@ -87,7 +76,7 @@ stops_longer read [] [] tail s e f h = f refl
 stops_longer read [] (x ∷ more) tail s e f h = absurd cc
 stops_longer read (t ∷ left) [] tail s e f h = f refl
 stops_longer read (t ∷ left) (x ∷ more) tail s e f h =
-    let same : t ≡ x = head_same t x left (more ++ tail) e in
+    let same : t ≡ x = heads t x left (more ++ tail) e in
     s (begins_front (read ++ t ∷ []) more (subst CanBegin (sym (append_assoc read (t ∷ []) more)) (rw same h)))
 
 pub syntax_spelled : (text : List ℕ) (at : ℕ) (w : WrittenModule) → IsSyntaxFault text at → IsWritten w → tokens_of text ≡ spell w → ⊥
@@ -126,7 +115,7 @@ syntax_one text p q a b =
 depth_reads : (text : List ℕ) (p q : ℕ) (a : IsDepthFault text p) (b : IsDepthFault text q) (more : List Token) → b.read ≡ a.read ++ more → a.deep ∷ a.left ≡ more ++ b.deep ∷ b.left → a.read ≡ b.read
 depth_reads text p q a b [] e f = sym (e ∙ append-nil a.read)
 depth_reads text p q a b (x ∷ more) e f =
-    let same : a.deep ≡ x = head_same a.deep x a.left (more ++ b.deep ∷ b.left) f in
+    let same : a.deep ≡ x = heads a.deep x a.left (more ++ b.deep ∷ b.left) f in
     let e' : b.read ≡ (a.read ++ a.deep ∷ []) ++ more = rw same (e ∙ sym (append_assoc a.read (x ∷ []) more)) in
     absurd (both_ways (keeps_limits none_counted (marks Header (a.read ++ a.deep ∷ []))) a.past (keeps_tokens (a.read ++ a.deep ∷ []) more (subst KeepsFront e' b.limits)))
 
@@ -171,22 +160,18 @@ first_demand (d ∷ ds) = by_met d ds d.met refl (first_demand ds)
     by_met d ds true e (inl h) = inl (e, h)
     by_met d ds true e (inr h) = inr (d ∷ h.0, h.1, h.2, h.3, ap (λ (x : List Demand). d ∷ x) h.4, (e, h.5))
 
--- as many targets as assignments
-option_same : {A : Type 0} (x y : A) → Some x ≡ Some y → x ≡ y
-option_same x y e = cc
-
 three_parts : {A B C D : Type 0} (f : A → B → C → D) (o : Option A) (p : Option B) (q : Option C) (y : D) → three f o p q ≡ Some y → (a : A) × (b : B) × (c : C) × (q ≡ Some c) × (y ≡ f a b c)
 three_parts f None p q y e = absurd cc
 three_parts f (Some a) None q y e = absurd cc
 three_parts f (Some a) (Some b) None y e = absurd cc
-three_parts f (Some a) (Some b) (Some c) y e = (a, b, c, refl, sym (option_same (f a b c) y e))
+three_parts f (Some a) (Some b) (Some c) y e = (a, b, c, refl, sym (some_same (f a b c) y e))
 
 then_parts : {A B : Type 0} (f : A → Option B) (o : Option A) (y : B) → option_and_then f o ≡ Some y → (x : A) × (f x ≡ Some y)
 then_parts f None y e = absurd cc
 then_parts f (Some x) y e = (x, e)
 
 tokens_count : (items : List WrittenItem) (ds : List Declaration) (k : ℕ) (r : Resolved) → resolve_items ds items ≡ Some r → length (assign_tokens k items) ≡ length r.assignments
-tokens_count [] ds k r e = let q : record { declarations = ds; assignments = []; blocks = [] } ≡ r = option_same (record { declarations = ds; assignments = []; blocks = [] }) r e in ap (λ (x : Resolved). length x.assignments) q
+tokens_count [] ds k r e = let q : record { declarations = ds; assignments = []; blocks = [] } ≡ r = some_same (record { declarations = ds; assignments = []; blocks = [] }) r e in ap (λ (x : Resolved). length x.assignments) q
 tokens_count (Wires range names ∷ is) ds k r e = tokens_count is _ (k + length (spell_item (Wires range names))) r e
 tokens_count (Registers range names ∷ is) ds k r e = tokens_count is _ (k + length (spell_item (Registers range names))) r e
 tokens_count (MemoryOf range name last ∷ is) ds k r e = let m = then_parts (λ (j : ℕ). resolve_items (ds ++ declare (Memory j) range name ∷ []) is) (address_bits_of (decimal_number last + 1)) r e in tokens_count is _ (k + length (spell_item (MemoryOf range name last))) r m.1
@@ -202,7 +187,7 @@ module_tokens w m e = by_items (resolve_items (map declare_port w.ports) w.items
   where
     by_items : (o : Option Resolved) → resolve_items (map declare_port w.ports) w.items ≡ o → option_map (module_from w) o ≡ Some m → length (assign_tokens (items_token w.ports) w.items) ≡ length m.assignments
     by_items None q e = absurd cc
-    by_items (Some r) q e = tokens_count w.items (map declare_port w.ports) (items_token w.ports) r q ∙ ap (λ (x : Module). length x.assignments) (option_same (module_from w r) m e)
+    by_items (Some r) q e = tokens_count w.items (map declare_port w.ports) (items_token w.ports) r q ∙ ap (λ (x : Module). length x.assignments) (some_same (module_from w r) m e)
 
 within_list : (front : List Assignment) (x : Assignment) (back : List Assignment) → length front < length (front ++ x ∷ back)
 within_list [] x back = omega arith
@@ -217,7 +202,7 @@ valid_or_broken w g = elim (first_demand (demands_of w)) [
   where
     met_case : (h : AreMet (demands_of w)) (j : (m : Module) × (resolve w ≡ Some m) × IsJudged m) → ((m : Module) × (resolve w ≡ Some m) × IsValid m) ⊎ ((rule : Rule) × (token : ℕ) × IsBroken w rule token)
     met_case h j = elim (first_loop j.0.assignments j.0.assignments) [
-      | inl f ↦ inl (demands_valid w g h (λ m e. let i : j.0 ≡ m = option_same j.0 m (sym j.1 ∙ e) in subst (λ (x : Module). IsFree x.assignments) i f))
+      | inl f ↦ inl (demands_valid w g h (λ m e. let i : j.0 ≡ m = some_same j.0 m (sym j.1 ∙ e) in subst (λ (x : Module). IsFree x.assignments) i f))
       | inr l ↦ (let n : length l.front < length (assign_tokens (items_token w.ports) w.items) = (let a : length l.front < length (l.front ++ l.looped' ∷ l.back) = within_list l.front l.looped' l.back in let b : length (assign_tokens (items_token w.ports) w.items) ≡ length j.0.assignments = module_tokens w j.0 j.1 in let c : length j.0.assignments ≡ length (l.front ++ l.looped' ∷ l.back) = ap length l.parts in omega arith) in
           inr (
             Loop,

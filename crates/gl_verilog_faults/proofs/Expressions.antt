@@ -9,8 +9,11 @@ use Rattle.gl_verilog.specs.Module.{Declaration, Expr, Net, Literal, Binary, Cho
 use Rattle.gl_verilog.specs.Widths.{IsReadable, IsMemory, is_clock, width_at, width_after, width_of, KeepsWidths}
 use Rattle.gl_verilog.specs.Resolve.{number_read, decimal_number, prefixed, infixed, joined, resolve_expr, is_so, is_memory}
 use Rattle.gl_verilog_faults.specs.Demands.{AreMet, BadMemory, ask, is_declared, address_of, is_clock_name, gives_bit, takes_bits, bits_in, of_select, takes_prefix, of_expr}
-use Rattle.gl_verilog_faults.proofs.Names.{met_join, met_front, met_back, Seen, seen_declared, seen_number, is_declared_by, so_by, bits_by, same_text, Extends}
-use Rattle.gl_verilog_faults.proofs.Operators.{map_some, both_some, three_some, net_kind, kind_net, memory_kind, kind_memory, op_of, width_taken, infixed-is, after-is, taken-is, taken-met, bit_small, loose}
+use Rattle.gl_verilog_faults.proofs.Names.{met_join, met_front, met_back, Seen, seen_declared, seen_number, is_declared_by, so_by, bits_by, Extends}
+use Rattle.gl_verilog_faults.proofs.Operators.{both_some, three_some, net_kind, kind_net, memory_kind, kind_memory, op_of, width_taken, infixed-is, after-is, taken-is, taken-met, bit_small, loose}
+use Rattle.gl_bits.proofs.Bools.{bytes_same}
+use Rattle.gl_bits.proofs.Options.{map_some}
+use Rattle.gl_verilog.proofs.Fits.{width_at-found}
 
 -- ---- what a name means
 
@@ -31,7 +34,7 @@ pub record Asked (ds all : List Declaration) (k : ℕ) (e : WrittenExpr) (x : Ex
   pub small : bits_in ds e ≤ 128
 
 not_clock : (name : List ℕ) (ds : List Declaration) (n : ℕ) (d : Declaration) → Seen ds name n d → is_clock_name name ≡ false → is_clock d ≡ false
-not_clock name ds n d s c = subst (λ (t : List ℕ). bytes_eq t (codes "clk") ≡ false) (sym (same_text d.name name s.named)) c
+not_clock name ds n d s c = subst (λ (t : List ℕ). bytes_eq t (codes "clk") ≡ false) (sym (bytes_same d.name name s.named)) c
 
 read_by : (ds : List Declaration) (name : List ℕ) (n : ℕ) (d : Declaration) → Seen ds name n d → is_clock_name name ≡ false → number_read ds name ≡ Some n
 read_by ds name n d s c = rw c s.number
@@ -48,17 +51,11 @@ read_when ds name n false c e = let s = seen_number ds name n e in (s.0, record 
 read_back : (ds : List Declaration) (name : List ℕ) (n : ℕ) → number_read ds name ≡ Some n → (d : Declaration) × ReadAs ds name n d
 read_back ds name n e = read_when ds name n (is_clock_name name) refl e
 
-pub some_same : {A : Type 0} (a b : A) → Some a ≡ Some b → a ≡ b
-some_same a b e = cc
-
 pub some_at : (o : Option Declaration) (d : Declaration) (P : Declaration → Type 0) → o ≡ Some d → P d → IsSomeAnd o P
 some_at o d P e h = rw e h
 
 pub at_some : (o : Option Declaration) (d : Declaration) (P : Declaration → Type 0) → o ≡ Some d → IsSomeAnd o P → P d
 at_some o d P e h = rw e at h
-
-width-at : (ds : List Declaration) (n : ℕ) (d : Declaration) → slice_get ds n ≡ Some d → width_at ds n ≡ d.width
-width-at ds n d e = rw e refl
 
 module _ (ds all : List Declaration) (ext : Extends ds all) (small : AreSmall ds) where
   meant_name : (name : List ℕ) (k : ℕ) → AreMet (of_expr ds k (Named name)) → (x : Expr) × Meant ds all (Named name) x
@@ -69,8 +66,8 @@ module _ (ds all : List Declaration) (ext : Extends ds all) (small : AreSmall ds
         Net s.0,
         record {
           resolved = ap (option_map Net) (read_by ds name s.0 s.1 s.2 c);
-          here = width-at ds s.0 s.1 s.2.at ∙ sym (bits_by ds name s.0 s.1 s.2);
-          wide = width-at all s.0 s.1 (ext s.0 s.1 s.2.at) ∙ sym (bits_by ds name s.0 s.1 s.2);
+          here = width_at-found ds s.0 s.1 s.2.at ∙ sym (bits_by ds name s.0 s.1 s.2);
+          wide = width_at-found all s.0 s.1 (ext s.0 s.1 s.2.at) ∙ sym (bits_by ds name s.0 s.1 s.2);
           kept = some_at (slice_get all s.0) s.1 IsReadable (ext s.0 s.1 s.2.at) (net_kind s.1.kind m, not_clock name ds s.0 s.1 s.2 c);
           small = rw (bits_by ds name s.0 s.1 s.2) (small s.0 s.1 s.2.at);
         },
@@ -121,8 +118,8 @@ module _ (ds all : List Declaration) (ext : Extends ds all) (small : AreSmall ds
         Read s.0 x,
         record {
           resolved = rw (read_by ds name s.0 s.1 s.2 c, a.resolved) refl;
-          here = width-at ds s.0 s.1 s.2.at ∙ sym (bits_by ds name s.0 s.1 s.2);
-          wide = width-at all s.0 s.1 (ext s.0 s.1 s.2.at) ∙ sym (bits_by ds name s.0 s.1 s.2);
+          here = width_at-found ds s.0 s.1 s.2.at ∙ sym (bits_by ds name s.0 s.1 s.2);
+          wide = width_at-found all s.0 s.1 (ext s.0 s.1 s.2.at) ∙ sym (bits_by ds name s.0 s.1 s.2);
           kept = (some_at (slice_get all s.0) s.1 (λ d. IsMemory d.kind (width_of all x)) (ext s.0 s.1 s.2.at) (memory_kind s.1.kind (width_of all x) m (eqb-true (address_of s.1) (bits_in ds address) v ∙ sym a.wide)), a.kept);
           small = rw (bits_by ds name s.0 s.1 s.2) (small s.0 s.1 s.2.at);
         },
@@ -221,8 +218,8 @@ module _ (ds all : List Declaration) (ext : Extends ds all) (small : AreSmall ds
       let m : is_so is_memory ds name ≡ is_memory r.0 = so_by is_memory ds name n r.0 s in
       record {
         met = (u.0, (u.1, (rw m (kind_net r.0.kind p.0), tt)));
-        here = width-at ds n r.0 s.at ∙ sym (bits_by ds name n r.0 s);
-        wide = width-at all n r.0 (ext n r.0 s.at) ∙ sym (bits_by ds name n r.0 s);
+        here = width_at-found ds n r.0 s.at ∙ sym (bits_by ds name n r.0 s);
+        wide = width_at-found all n r.0 (ext n r.0 s.at) ∙ sym (bits_by ds name n r.0 s);
         small = rw (bits_by ds name n r.0 s) (small n r.0 s.at);
       }
 
@@ -257,8 +254,8 @@ module _ (ds all : List Declaration) (ext : Extends ds all) (small : AreSmall ds
       let v : is_so (λ d. nat_eq (address_of d) (bits_in ds address)) ds name ≡ eqb (address_of r.0) (bits_in ds address) = so_by (λ d. nat_eq (address_of d) (bits_in ds address)) ds name n r.0 s in
       record {
         met = (u.0, (u.1, (rw (so_by is_memory ds name n r.0 s) q.0, met_join (of_expr ds (k + 2) address) _ a.met (rw v (eq-eqb (address_of r.0) (bits_in ds address) (q.1 ∙ a.wide)), tt))));
-        here = width-at ds n r.0 s.at ∙ sym (bits_by ds name n r.0 s);
-        wide = width-at all n r.0 (ext n r.0 s.at) ∙ sym (bits_by ds name n r.0 s);
+        here = width_at-found ds n r.0 s.at ∙ sym (bits_by ds name n r.0 s);
+        wide = width_at-found all n r.0 (ext n r.0 s.at) ∙ sym (bits_by ds name n r.0 s);
         small = rw (bits_by ds name n r.0 s) (small n r.0 s.at);
       }
 

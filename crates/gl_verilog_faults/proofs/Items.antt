@@ -10,10 +10,11 @@ use Rattle.gl_verilog.specs.Widths.{IsDriven, width_of, KeepsWidth, KeepsWidthsI
 use Rattle.gl_verilog.specs.Resolve.{Resolved, with_assignment, with_block, clocked, decimal_number, declare, address_bits_of, resolve_expr, resolve_statement, resolve_items, is_so, is_memory}
 use Rattle.gl_verilog_faults.specs.Demands.{AreMet, bits_named, bits_in, is_wire, is_wire_kind, is_clock_name, is_among, of_expr, of_statement, of_names, of_items, memory_declared, has_bits, targets_in}
 use Rattle.gl_verilog_faults.proofs.Names.{met_join, met_front, met_back, Seen, seen_declared, seen_number, is_declared_by, so_by, bits_by, Extends, extends_more}
-use Rattle.gl_verilog_faults.proofs.Expressions.{meant, asked, some_same, some_at, at_some}
+use Rattle.gl_verilog_faults.proofs.Expressions.{meant, asked, some_at, at_some}
 use Rattle.gl_verilog_faults.proofs.Operators.{three_some}
 use Rattle.gl_verilog_faults.proofs.Statements.{grouped, Free, meant_in, asked_in}
 use Rattle.gl_verilog_faults.proofs.Declarations.{small_of, IsSound, HasBits, sound_new, new_sound, sound_front, names_new, new_names, bits_names, bits_memory, address_most, NoMemory}
+use Rattle.gl_bits.proofs.Options.{some_same, then_some}
 
 -- what items declare
 abbrev pub added : List WrittenItem → List Declaration
@@ -75,10 +76,6 @@ bits_there (Some j) h = (j, refl)
 
 pub memory-is : (range : Range) (name last : List ℕ) (j : ℕ) → address_bits_of (decimal_number last + 1) ≡ Some j → memory_declared range name last ≡ declare (Memory j) range name
 memory-is range name last j e = rw e refl
-
-pub then_some : {A B : Type 0} (f : A → Option B) (o : Option A) (y : B) → option_and_then f o ≡ Some y → (x : A) × (o ≡ Some x) × (f x ≡ Some y)
-then_some f None y e = absurd cc
-then_some f (Some x) y e = (x, refl, e)
 
 -- ---- all items
 

@@ -1,5 +1,5 @@
 -- All demands of a written module are met and no net depends on itself, exactly where it means a valid module.
-use Rattle.std.proofs.Common.{◌≡◌, ℕ, suc, ◌+◌, ◌-◌, ◌≤◌, inl, inr, true, List, [], ◌∷◌, ◌++◌, length, map, Some, None, eqb, refl, sym, ap, subst, ◌∙◌, arith}
+use Rattle.std.proofs.Common.{◌≡◌, ℕ, ◌+◌, ◌-◌, ◌≤◌, inl, inr, true, List, [], ◌∷◌, ◌++◌, length, map, Some, None, eqb, refl, sym, ap, subst, ◌∙◌, arith}
 use Rattle.std.specs.Prelude.{◌&&◌, nat_eq, slice_get, option_map}
 use Rattle.std.specs.List.{AllByRecursion}
 use Rattle.std.proofs.lemmas.Bool.{or_cases, and_parts, eqb-true}
@@ -7,16 +7,18 @@ use Rattle.gl_verilog.specs.Written.{Direction, In, InWire, Out, OutWire, OutReg
 use Rattle.gl_verilog.specs.Module.{Module, Declaration, Assignment, Kind, Input, OutputWire, OutputRegister, Wire, Register, Memory}
 use Rattle.gl_verilog.specs.Run.{IsRegister}
 use Rattle.gl_verilog.specs.Widths.{IsDriven, HasSize, KeepsWidth, KeepsWidthsIn}
-use Rattle.gl_verilog.specs.Valid.{AreDistinct, AssignsOnce, drivers_of, blocks_of, writes_of, HasDriver, depends, mentions, IsChain, HasNoLoop, IsValid}
+use Rattle.gl_verilog.specs.Valid.{AreDistinct, AssignsOnce, drivers_of, blocks_of, writes_of, HasDriver, depends, mentions, HasNoLoop, IsValid}
 use Rattle.gl_verilog.specs.Resolve.{Resolved, declare, port_kind, declare_port, resolve_items, module_from, resolve, is_memory_kind}
 use Rattle.gl_verilog_faults.specs.Demands.{AreMet, is_among, targets_of, name_token, undriven_names, undriven_port, undriven_ports, undriven_items, of_ports, of_items, items_token, demands_of, IsLooped}
 use Rattle.gl_verilog_faults.proofs.Names.{met_join, met_front, met_back}
-use Rattle.gl_verilog_faults.proofs.Operators.{map_some}
-use Rattle.gl_verilog_faults.proofs.Declarations.{all_join, all_front, all_back, all_at, IsSound, sound_new, new_sound, sound_front, ports_new, new_ports, bits_ports}
+use Rattle.gl_verilog_faults.proofs.Declarations.{all_at, IsSound, sound_new, new_sound, sound_front, ports_new, new_ports, bits_ports}
 use Rattle.gl_verilog_faults.proofs.Items.{added, FreeItems, meant_items, KeptItems, asked_items, declared_as}
 use Rattle.gl_verilog_faults.proofs.Counts.{assigned_in, hit_in, filled_in, SameItems, same_items}
 use Rattle.gl_verilog_faults.proofs.Drivers.{bound_items, counted, assigned_target, hit_targets, fill_targets}
 use Rattle.gl_verilog_faults.proofs.Driven.{RoomFor, register_memory, driven_register, driven_memory, assigned_in_kind, hit_in_kind, filled_in_kind, free_items}
+use Rattle.gl_bits.proofs.AllLists.{all_append, all_front, all_back, all_by_place}
+use Rattle.gl_bits.proofs.Options.{map_some}
+use Rattle.gl_verilog_faults.proofs.Loops.{first_step}
 
 -- ---- what must be driven
 
@@ -83,8 +85,8 @@ registers_need driven k range (n ∷ ns) h = (declared_needs driven Register ran
 
 needs_items : (driven : List (List ℕ)) (k : ℕ) (items : List WrittenItem) → AreMet (undriven_items driven k items) → AllByRecursion (NeedsMet driven) (added items)
 needs_items driven k [] h = tt
-needs_items driven k (Wires range names ∷ is) h = all_join (NeedsMet driven) (map (declare Wire range) names) (added is) (needs_wires driven (k + 1 + length (spell_range range)) range names (met_front (undriven_names driven (k + 1 + length (spell_range range)) names) _ h)) (needs_items driven (k + length (spell_item (Wires range names))) is (met_back (undriven_names driven (k + 1 + length (spell_range range)) names) _ h))
-needs_items driven k (Registers range names ∷ is) h = all_join (NeedsMet driven) (map (declare Register range) names) (added is) (needs_registers driven (k + 1 + length (spell_range range)) range names (met_front (undriven_names driven (k + 1 + length (spell_range range)) names) _ h)) (needs_items driven (k + length (spell_item (Registers range names))) is (met_back (undriven_names driven (k + 1 + length (spell_range range)) names) _ h))
+needs_items driven k (Wires range names ∷ is) h = all_append (NeedsMet driven) (map (declare Wire range) names) (added is) (needs_wires driven (k + 1 + length (spell_range range)) range names (met_front (undriven_names driven (k + 1 + length (spell_range range)) names) _ h)) (needs_items driven (k + length (spell_item (Wires range names))) is (met_back (undriven_names driven (k + 1 + length (spell_range range)) names) _ h))
+needs_items driven k (Registers range names ∷ is) h = all_append (NeedsMet driven) (map (declare Register range) names) (added is) (needs_registers driven (k + 1 + length (spell_range range)) range names (met_front (undriven_names driven (k + 1 + length (spell_range range)) names) _ h)) (needs_items driven (k + length (spell_item (Registers range names))) is (met_back (undriven_names driven (k + 1 + length (spell_range range)) names) _ h))
 needs_items driven k (MemoryOf range name last ∷ is) h = (needs_declared driven _ range name h.0, needs_items driven (k + length (spell_item (MemoryOf range name last))) is h.1)
 needs_items driven k (Assign target value ∷ is) h = needs_items driven (k + length (spell_item (Assign target value))) is h
 needs_items driven k (Always clock body ∷ is) h = needs_items driven (k + length (spell_item (Always clock body))) is h
@@ -214,13 +216,9 @@ target_free P (a ∷ as') t n h e = elim (or_cases (nat_eq a.target t && mention
   | inr p ↦ target_free P as' t n h.1 p
 ]
 
-begins : (as' : List Assignment) (n : ℕ) (by_way : List ℕ) (y : ℕ) → IsChain (depends as') n by_way y → (z : ℕ) × (depends as' n z ≡ true)
-begins as' n [] y h = (y, h)
-begins as' n (u ∷ us) y h = (u, h.0)
-
 pub free_no_loop : (as' : List Assignment) → IsFree as' → HasNoLoop as'
 free_no_loop as' h n by_way c =
-    let b = begins as' n by_way n c in
+    let b = first_step as' n by_way n c in
     target_free (λ (t : ℕ). IsLooped as' t → ⊥) as' n b.0 h b.1 (by_way, c)
 
 each_free : (as' : List Assignment) (part : List Assignment) → HasNoLoop as' → AllByRecursion (λ a. IsLooped as' a.target → ⊥) part
@@ -259,17 +257,13 @@ judged w written h =
     let fresh = ports_new [] 3 w.ports (met_front (of_ports [] 3 w.ports) _ two) in
     let sound : IsSound (map declare_port w.ports) = sound_new [] (map declare_port w.ports) (tt, tt) (bits_ports w.ports) fresh in
     let x = meant_items w.items (map declare_port w.ports) (map declare_port w.ports ++ added w.items) [] (items_token w.ports) refl sound written.items (met_back (of_ports [] 3 w.ports) _ two) in
-    let needs = all_join (NeedsMet (targets_of w.items)) (map declare_port w.ports) (added w.items) (needs_ports (targets_of w.items) 3 w.ports named) (needs_items (targets_of w.items) (items_token w.ports) w.items last) in (
+    let needs = all_append (NeedsMet (targets_of w.items)) (map declare_port w.ports) (added w.items) (needs_ports (targets_of w.items) 3 w.ports named) (needs_items (targets_of w.items) (items_token w.ports) w.items last) in (
       module_from w x.1.0,
       ap (option_map (module_from w)) x.1.1.resolved,
       judged_all w x.1.0 (map declare_port w.ports ++ added w.items) x.1.1.declared x.0.0 x.0.1 x.1.1.assignments x.1.1.blocks
           (λ n d at. has_driver (module_from w x.1.0) n d.kind (given w (map declare_port w.ports ++ added w.items) (map declare_port w.ports) x.1.0 refl x.0 x.1.1.resolved (record { assignments = x.1.1.assignments; blocks = x.1.1.blocks }) n d at x.1.1.free
           (all_at (NeedsMet (targets_of w.items)) (map declare_port w.ports ++ added w.items) n d needs at))),
     )
-
-all_from : {A : Type 0} (P : A → Type 0) (xs : List A) → ((n : ℕ) (x : A) → slice_get xs n ≡ Some x → P x) → AllByRecursion P xs
-all_from P [] f = tt
-all_from P (x ∷ xs) f = (f 0 x refl, all_from P xs (λ n y e. f (suc n) y e))
 
 met_all : (w : WrittenModule) (r : Resolved) → resolve_items (map declare_port w.ports) w.items ≡ Some r → IsJudged (module_from w r) → AreMet (demands_of w)
 met_all w r q j =
@@ -278,7 +272,7 @@ met_all w r q j =
     let k : KeptItems r.declarations r = record { assignments = j.assignments; blocks = j.blocks } in
     let s' : IsSound (map declare_port w.ports) = sound_front (map declare_port w.ports) (added w.items) (subst IsSound e s) in
     let free : FreeItems [] w.items = free_items r.declarations j.names w.items (map declare_port w.ports) [] r e q k (λ n d at. room_given w r.declarations (map declare_port w.ports) r e s q k n d at (driver_has (module_from w r) n d.kind (j.driven n d at))) in
-    let needs : AllByRecursion (NeedsMet (targets_of w.items)) r.declarations = all_from (NeedsMet (targets_of w.items)) r.declarations (λ n d at. needs_given w r.declarations (map declare_port w.ports) r e s q k n d at (driver_has (module_from w r) n d.kind (j.driven n d at))) in
+    let needs : AllByRecursion (NeedsMet (targets_of w.items)) r.declarations = all_by_place (NeedsMet (targets_of w.items)) r.declarations (λ n d at. needs_given w r.declarations (map declare_port w.ports) r e s q k n d at (driver_has (module_from w r) n d.kind (j.driven n d at))) in
     let needs' = subst (AllByRecursion (NeedsMet (targets_of w.items))) e needs in
     met_join (of_ports [] 3 w.ports ++ of_items (map declare_port w.ports) [] (items_token w.ports) w.items ++ undriven_ports (targets_of w.items) 3 w.ports) _
     (met_join (of_ports [] 3 w.ports ++ of_items (map declare_port w.ports) [] (items_token w.ports) w.items) _

@@ -27,7 +27,7 @@ fine_when b o i h =
 not_past : (b o i : ℕ) → Fine b o i → is_past (counts b o i) ≡ false
 not_past b o i f = or_from (nat_lt 64 b) (nat_lt 1024 o || nat_lt 1024 i) (le-ltb 64 b f.brackets) (or_from (nat_lt 1024 o) (nat_lt 1024 i) (le-ltb 1024 o f.operators) (le-ltb 1024 i f.ifs))
 
-past_so : (c : Bool) (k : Bool) → (if c then false else k) ≡ true → (c ≡ false) × (k ≡ true)
+pub past_so : (c : Bool) (k : Bool) → (if c then false else k) ≡ true → (c ≡ false) × (k ≡ true)
 past_so true k h = absurd cc
 past_so false k h = (refl, h)
 

@@ -6,6 +6,7 @@ use Rattle.std.proofs.lemmas.Bool.{or_cases, or_left, or_right, and_parts, and_f
 use Rattle.gl_verilog.specs.Module.{Assignment}
 use Rattle.gl_verilog.specs.Valid.{depends, mentions, IsChain}
 use Rattle.gl_verilog_faults.specs.Demands.{IsLooped}
+use Rattle.gl_verilog.proofs.Acyclic.{chain-join}
 
 abbrev pub IsIn : ℕ → List ℕ → Type 0
 IsIn x [] = ⊥
@@ -22,10 +23,6 @@ joined_in : (us vs ks : List ℕ) (k : ℕ) → AreIn us ks → AreIn vs ks → 
 joined_in [] vs ks k h g = (inl refl, more_in k ks vs g)
 joined_in (u ∷ us) vs ks k h g = (inr h.0, joined_in us vs ks k h.1 g)
 
-chain_join : (r : ℕ → ℕ → Bool) (x : ℕ) (us : List ℕ) (t : ℕ) (vs : List ℕ) (y : ℕ) → IsChain r x us t → IsChain r t vs y → IsChain r x (us ++ t ∷ vs) y
-chain_join r x [] t vs y p q = (p, q)
-chain_join r x (u ∷ us) t vs y p q = (p.0, chain_join r u us t vs y p.1 q)
-
 -- by way of these numbers alone
 abbrev pub reach : (ℕ → ℕ → Bool) → List ℕ → ℕ → ℕ → Bool
 reach r [] x y = r x y
@@ -39,7 +36,7 @@ way r [] x y h = ([], tt, h)
 way r (k ∷ ks) x y h = elim (or_cases (reach r ks x y) (reach r ks x k && reach r ks k y) h) [
   | inl p ↦ (let w = way r ks x y p in (w.0, more_in k ks w.0 w.1, w.2))
   | inr p ↦ (let q = and_parts (reach r ks x k) (reach r ks k y) p in let a = way r ks x k q.0 in let b = way r ks k y q.1 in
-      (a.0 ++ k ∷ b.0, joined_in a.0 b.0 ks k a.1 b.1, chain_join r x a.0 k b.0 y a.2 b.2))
+      (a.0 ++ k ∷ b.0, joined_in a.0 b.0 ks k a.1 b.1, chain-join r x a.0 k b.0 y a.2 b.2))
 ]
 
 abbrev Complete : (ℕ → ℕ → Bool) → List ℕ → Type 0
@@ -81,7 +78,7 @@ is_target (a ∷ as') t n h = elim (or_cases (nat_eq a.target t && mentions a.va
   | inr p ↦ inr (is_target as' t n p)
 ]
 
-first_step : (as' : List Assignment) (n : ℕ) (us : List ℕ) (y : ℕ) → IsChain (depends as') n us y → (z : ℕ) × (depends as' n z ≡ true)
+pub first_step : (as' : List Assignment) (n : ℕ) (us : List ℕ) (y : ℕ) → IsChain (depends as') n us y → (z : ℕ) × (depends as' n z ≡ true)
 first_step as' n [] y h = (y, h)
 first_step as' n (u ∷ us) y h = (u, h.0)
 

@@ -233,7 +233,7 @@ pub module_marks : (m : WrittenModule) → marks Header (spell m) ≡ roles_of m
 module_marks m = ap (λ (x : List Role). Plain ∷ Plain ∷ Plain ∷ x) (ports_marks m.ports (Mark CloseParen ∷ Mark Semicolon ∷ (spell_items m.items ++ Reserved EndModuleWord ∷ []))
     ∙ ap (λ (x : List Role). of_ports m.ports ++ Plain ∷ Plain ∷ x) (items_marks m.items (Reserved EndModuleWord ∷ [])))
 
-marks_join : (s : State) (a b : List Token) → marks s (a ++ b) ≡ marks s a ++ marks (behind s a) b
+pub marks_join : (s : State) (a b : List Token) → marks s (a ++ b) ≡ marks s a ++ marks (behind s a) b
 marks_join s [] b = refl
 marks_join s (t ∷ a) b = ap (λ (x : List Role). role_at s t ∷ x) (marks_join (next s t) a b)
 

@@ -2,7 +2,6 @@
 use Rattle.std.proofs.Common.{◌≡◌, ℕ, zero, suc, ◌+◌, ◌⊎◌, inl, inr, Bool, true, false, List, [], ◌∷◌, ◌++◌, Some, None, refl, sym, ap, ◌∙◌, subst, arith}
 use Rattle.std.specs.Prelude.{slice_get}
 use Rattle.std.specs.Str.{bytes_eq}
-use Rattle.std.proofs.lemmas.Slice.Eq.{bytes_eq-Decides}
 use Rattle.gl_verilog.specs.Module.{Declaration, number_of}
 use Rattle.gl_verilog.specs.Resolve.{declared_in, is_so}
 use Rattle.gl_verilog_faults.specs.Demands.{Demand, AreMet, is_declared, bits_named}
@@ -59,9 +58,6 @@ so_by test ds name n d s = rw s.declared refl
 
 pub bits_by : (ds : List Declaration) (name : List ℕ) (n : ℕ) (d : Declaration) → Seen ds name n d → bits_named ds name ≡ d.width
 bits_by ds name n d s = rw s.declared refl
-
-pub same_text : (xs ys : List ℕ) → bytes_eq xs ys ≡ true → xs ≡ ys
-same_text xs ys e = (bytes_eq-Decides xs ys).0 e
 
 -- ---- declarations behind others
 

@@ -1,18 +1,15 @@
 -- What options, kinds and operators of resolved expressions say, apart from names.
 use Rattle.std.proofs.Common.{◌≡◌, ℕ, ◌-◌, ◌≤◌, Bool, true, false, List, Option, Some, None, eqb, refl, sym, arith}
-use Rattle.std.specs.Prelude.{◌||◌, not, option_map, if◌then◌else◌}
+use Rattle.std.specs.Prelude.{◌||◌, not, if◌then◌else◌}
 use Rattle.std.proofs.lemmas.Bool.{eq-eqb, eqb-true}
 use Rattle.gl_verilog.specs.Written.{InfixOp, Times, Added, Subtracted, Below, AtMost, Above, AtLeast, Equal, NotEqual, BitAnd, BitXor, BitOr, LogicalAnd, LogicalOr, looseness}
 use Rattle.gl_verilog.specs.Module.{Declaration, Kind, Input, OutputWire, OutputRegister, Wire, Register, Memory, BinaryOp, Add, Sub, Mul, And, Xor, Or, Eq, Ne, Lt, Le, Gt, Ge, Expr, Binary}
 use Rattle.gl_verilog.specs.Widths.{IsNet, IsMemory, width_after, width_of}
 use Rattle.gl_verilog.specs.Resolve.{both, three, infixed, is_memory_kind}
 use Rattle.gl_verilog_faults.specs.Demands.{address_kind, gives_bit, takes_bits}
+use Rattle.gl_bits.proofs.Options.{map_some}
 
 -- ---- options
-
-pub map_some : {A B : Type 0} (f : A → B) (o : Option A) (y : B) → option_map f o ≡ Some y → (x : A) × (o ≡ Some x) × (y ≡ f x)
-map_some f None y e = absurd cc
-map_some f (Some x) y e = (x, refl, (let g : f x ≡ y = cc in sym g))
 
 pub both_some : {A B C : Type 0} (f : A → B → C) (o : Option A) (p : Option B) (y : C) → both f o p ≡ Some y → (a : A) × (b : B) × (o ≡ Some a) × (p ≡ Some b) × (y ≡ f a b)
 both_some f None p y e = absurd cc

@@ -1,10 +1,11 @@
 -- The text of what is open while tokens are read, and what makes it the beginning of a module.
-use Rattle.std.proofs.Common.{◌≡◌, ℕ, ◌+◌, ◌-◌, ◌<◌, ◌≤◌, Bool, true, false, cond, leb, List, [], ◌∷◌, ◌++◌, Some, refl, sym, ap, subst, ◌∙◌, append_assoc, arith}
+use Rattle.std.proofs.Common.{◌≡◌, ℕ, ◌+◌, ◌-◌, ◌<◌, ◌≤◌, Bool, true, false, cond, leb, List, [], ◌∷◌, ◌++◌, Some, refl, sym, ap, ◌∙◌, append_assoc, arith}
 use Rattle.std.proofs.lemmas.Bool.{leb-true, leb-false}
 use Rattle.std.proofs.lemmas.List.{append-nil}
 use Rattle.gl_verilog.specs.Tokens.{Token, Reserved, Name, Mark, AssignWord, AlwaysWord, PosedgeWord, BeginWord, IfWord, ElseWord, OpenParen, CloseParen, OpenBracket, CloseBracket, OpenBrace, Comma, Colon, Question, At, Equals, LessEquals}
 use Rattle.gl_verilog.specs.Written.{InfixOp, Times, Added, Subtracted, Below, AtMost, Above, AtLeast, Equal, NotEqual, BitAnd, BitXor, BitOr, LogicalAnd, LogicalOr, WrittenExpr, Prefix, Infix, Conditional, looseness, level, IsGrouped, IsExpr, prefix_token, infix_token, spell_expr, WrittenStatement, IfThen, IfElse, ends_open, InBlock, IsStatementAt, IsStatement, spell_statement, listed}
 use Rattle.gl_verilog_grammar.specs.Machine.{Frame, InParens, InBraces, InIndex, PrefixOf, InfixOf, TestOf, ColonOf, AssignTo, UpdateTo, AddressFor, UpdateWordTo, IfTest, ThenOf, ElseOf, InBegin, BodyOf, Open, reduce, parts_of, at_else, at_end}
+use Rattle.gl_bits.proofs.Options.{some_fact}
 
 -- ---- texts
 
@@ -230,13 +231,10 @@ then-else b c s = simp append_assoc
 else-else : (b c y s : List Token) → b ++ ((Reserved IfWord ∷ Mark OpenParen ∷ (c ++ Mark CloseParen ∷ (y ++ Reserved ElseWord ∷ s))) ++ Reserved ElseWord ∷ []) ≡ (b ++ (Reserved IfWord ∷ Mark OpenParen ∷ (c ++ Mark CloseParen ∷ (y ++ Reserved ElseWord ∷ [])))) ++ (s ++ Reserved ElseWord ∷ [])
 else-else b c y s = simp append_assoc
 
-at : {A : Type 0} (P : A → Type 0) (x y : A) → Some x ≡ Some y → P x → P y
-at P x y e h = let q : x ≡ y = cc in subst P q h
-
 pub elses : (fs : List Frame) (s : WrittenStatement) (gs : List Frame) → OnStatement fs → IsStatement s → ends_open s ≡ false → at_else fs s ≡ Some gs → Continued fs s gs
 unfolding at_else
 elses (ThenOf c ∷ fs) s gs on d o e =
-    at (Continued (ThenOf c ∷ fs) s) (ElseOf c s ∷ fs) gs e (record { text = then-else (text_of fs) (spell_expr c) (spell_statement s); stands = (on.0, d, o, on.1) })
+    some_fact (Continued (ThenOf c ∷ fs) s) (ElseOf c s ∷ fs) gs e (record { text = then-else (text_of fs) (spell_expr c) (spell_statement s); stands = (on.0, d, o, on.1) })
 elses (ElseOf c y ∷ fs) s gs on d o e =
     let h = elses fs (IfElse c y s) gs on.3 (on.0, on.2, on.1, d) o e in
     record { text = h.text ∙ else-else (text_of fs) (spell_expr c) (spell_statement y) (spell_statement s); stands = h.stands }

@@ -5,6 +5,7 @@ use Rattle.gl_verilog.specs.Tokens.{Token, Name, Number, Sized, Mark, OpenParen,
 use Rattle.gl_verilog.specs.Written.{PrefixOp, BitNot, LogicalNot, InfixOp, Times, Added, Subtracted, Below, AtMost, Above, AtLeast, Equal, NotEqual, BitAnd, BitXor, BitOr, LogicalAnd, LogicalOr, WrittenExpr, Named, Constant, BitOf, PartOf, WordOf, Braces, Parts, Parens, Prefix, Infix, Conditional, looseness, level, IsGrouped, prefix_token, infix_token, spell_expr}
 use Rattle.gl_verilog_grammar.specs.Machine.{State, Frame, InParens, InBraces, InIndex, PrefixOf, InfixOf, TestOf, ColonOf, AssignTo, UpdateTo, AddressFor, UpdateWordTo, IfTest, ThenOf, ElseOf, InBegin, BodyOf, AtIndex, AtPlace, WantLow, AtPart, step, reduce, parts_of, Open}
 use Rattle.gl_verilog_grammar.proofs.Steps.{steps, steps-one, steps-same, wanting, having}
+use Rattle.gl_verilog_grammar.proofs.OpenTexts.{loose-range}
 
 -- what is still open at an expression's end, and its last operand
 abbrev pub waits : WrittenExpr → List Frame → List Frame
@@ -250,22 +251,6 @@ unfolding reduce
 reduce-test c fs e = refl
 
 -- ---- whole expressions
-
-loose-range : (op : InfixOp) → (2 ≤ looseness op) × (looseness op ≤ 10)
-loose-range Times = (omega arith, omega arith)
-loose-range Added = (omega arith, omega arith)
-loose-range Subtracted = (omega arith, omega arith)
-loose-range Below = (omega arith, omega arith)
-loose-range AtMost = (omega arith, omega arith)
-loose-range Above = (omega arith, omega arith)
-loose-range AtLeast = (omega arith, omega arith)
-loose-range Equal = (omega arith, omega arith)
-loose-range NotEqual = (omega arith, omega arith)
-loose-range BitAnd = (omega arith, omega arith)
-loose-range BitXor = (omega arith, omega arith)
-loose-range BitOr = (omega arith, omega arith)
-loose-range LogicalAnd = (omega arith, omega arith)
-loose-range LogicalOr = (omega arith, omega arith)
 
 parts_of-append : (done : List WrittenExpr) (a b : WrittenExpr) → parts_of (done ++ a ∷ []) b ≡ parts_of done (Parts a b)
 parts_of-append [] a b = refl

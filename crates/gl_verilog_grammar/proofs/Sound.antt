@@ -5,7 +5,7 @@ use Rattle.gl_verilog.specs.Written.{InfixOp, Times, Added, Subtracted, Below, A
 use Rattle.gl_verilog_grammar.specs.Machine.{State, Frame, InParens, InBraces, InIndex, TestOf, AssignTo, UpdateTo, AddressFor, UpdateWordTo, IfTest, Stage, WantModule, WantTitle, WantPorts, WantPort, Declaring, WantHigh, WantColon, WantZero, WantClose, WantName, AfterPort, AfterPorts, AfterName, WantMore, WantFirst, WantMemoryColon, WantLast, WantMemoryClose, WantMemoryEnd, WantItem, WantAssigned, WantEquals, WantAt, WantEdge, WantPosedge, WantClock, WantEdgeEnd, WantStatement, AfterTarget, WantArrow, WantTest, HaveStatement, WantOperand, HaveOperand, AtIndex, AtPlace, WantLow, AtPart, Complete, reduce, Open, at_infix, at_question, indexed, want_operand, have_operand, at_index, at_place, step, step_at, at_close, IsColon, IsComma, IsBrace, IsParen, IsBracket, IsSemicolon}
 use Rattle.gl_verilog_grammar.proofs.OpenTexts.{with_commas, text_of, room, loose-range, room-some, room-wide, Reduced, reduces, parts-more, commas-more, joins}
 use Rattle.gl_verilog_grammar.proofs.Told.{opening, base, owner_text, told_at, AreGood, OnOperand, fine_at, Means, moved, means, retold}
-use Rattle.gl_verilog_grammar.proofs.SoundStatements.{at_want_module, at_want_title, at_want_ports, at_want_port, at_declaring, at_want_high, at_want_colon, at_want_close, at_want_zero, at_want_name, at_after_port, at_after_ports, base-more, good-more, at_after_name, at_want_more, memory-goes, at_want_last, at_want_memory_end, at_want_item, at_want_assigned, at_want_equals, at_want_at, at_want_edge, at_want_posedge, at_want_clock, at_want_edge_end, open-more, open-next, at_want_statement, at_after_target, at_want_arrow, at_want_test, at_have_statement}
+use Rattle.gl_verilog_grammar.proofs.SoundStatements.{at_want_module, at_want_title, at_want_ports, at_want_port, at_declaring, at_want_high, at_want_colon, at_want_close, at_want_zero, at_want_name, at_after_port, at_after_ports, base-more, good-more, at_after_name, at_want_more, memory-goes, at_want_last, at_want_memory_end, at_want_item, at_want_assigned, at_want_equals, at_want_at, at_want_edge, at_want_posedge, at_want_clock, at_want_edge_end, open-more, open-next, at_want_statement, at_after_target, at_want_arrow, at_want_test, at_have_statement, item-goes}
 
 -- ---- expressions
 
@@ -195,9 +195,6 @@ at_at_part t n h l s s' f e = absurd cc
 
 -- ---- one token, and all of them
 
-owner-next : (a ts : List Token) (t : Token) → a ++ (ts ++ t ∷ []) ≡ (a ++ ts) ++ t ∷ []
-owner-next a ts t = sym (append_assoc a ts (t ∷ []))
-
 at_stage : (stage : Stage) (t : Token) (s s' : State) → fine_at stage s → step_at stage s t ≡ Some s' → Means s' (told_at stage s ++ t ∷ [])
 at_stage WantModule t s s' f e = at_want_module t s s' f e
 at_stage WantTitle t s s' f e = at_want_title t s s' f e
@@ -205,9 +202,9 @@ at_stage WantPorts t s s' f e = at_want_ports t s s' f e
 at_stage WantPort t s s' f e = at_want_port t s s' f e
 at_stage (Declaring o) t s s' f e = at_declaring t o s s' f e
 at_stage (WantHigh o) t s s' f e = at_want_high t o s s' f e
-at_stage (WantColon o h) t s s' f e = at_want_colon t (WantZero o h) s s' (told_at (WantColon o h) s) f (owner-next (owner_text o s) (Mark OpenBracket ∷ Number h ∷ []) (Mark Colon)) e
-at_stage (WantZero o h) t s s' f e = at_want_zero t (WantClose o h) s s' (told_at (WantZero o h) s) f (owner-next (owner_text o s) (Mark OpenBracket ∷ Number h ∷ Mark Colon ∷ []) (Number zero_digit)) e
-at_stage (WantClose o h) t s s' f e = at_want_close t (WantName o (Some h)) s s' (told_at (WantClose o h) s) f (owner-next (owner_text o s) (Mark OpenBracket ∷ Number h ∷ Mark Colon ∷ Number zero_digit ∷ []) (Mark CloseBracket)) e
+at_stage (WantColon o h) t s s' f e = at_want_colon t (WantZero o h) s s' (told_at (WantColon o h) s) f (item-goes (owner_text o s) (Mark OpenBracket ∷ Number h ∷ []) (Mark Colon)) e
+at_stage (WantZero o h) t s s' f e = at_want_zero t (WantClose o h) s s' (told_at (WantZero o h) s) f (item-goes (owner_text o s) (Mark OpenBracket ∷ Number h ∷ Mark Colon ∷ []) (Number zero_digit)) e
+at_stage (WantClose o h) t s s' f e = at_want_close t (WantName o (Some h)) s s' (told_at (WantClose o h) s) f (item-goes (owner_text o s) (Mark OpenBracket ∷ Number h ∷ Mark Colon ∷ Number zero_digit ∷ []) (Mark CloseBracket)) e
 at_stage (WantName o range) t s s' f e = at_want_name t o range s s' f e
 at_stage AfterPort t s s' f e = at_after_port t s s' f e
 at_stage AfterPorts t s s' f e = at_after_ports t s s' f e

@@ -191,7 +191,7 @@ at_want_memory_end t range n last s s' f e = absurd cc
 
 -- ---- items
 
-item-goes : (b ts : List Token) (t : Token) → b ++ (ts ++ t ∷ []) ≡ (b ++ ts) ++ t ∷ []
+pub item-goes : (b ts : List Token) (t : Token) → b ++ (ts ++ t ∷ []) ≡ (b ++ ts) ++ t ∷ []
 item-goes b ts t = sym (append_assoc b ts (t ∷ []))
 
 pub at_want_item : (t : Token) (s s' : State) → fine_at WantItem s → step_at WantItem s t ≡ Some s' → Means s' (told_at WantItem s ++ t ∷ [])

@@ -11,6 +11,7 @@ use Rattle.gl_verilog_grammar.proofs.Told.{told_at, fine_at, Means, means}
 use Rattle.gl_verilog_grammar.proofs.Sound.{stepped, base-ends}
 use Rattle.gl_verilog_grammar.proofs.Completes.{Finishes, finishes}
 use Rattle.gl_verilog_faults.proofs.Total.{CanTell, CanTellAll, IsSpelt, HasVerdict, total}
+use Rattle.gl_bits.proofs.Options.{not_some}
 
 kept_parts : (o : Option State) (next : State → Option State) (y : State) → kept o next ≡ Some y → (x : State) × (o ≡ Some x) × (next x ≡ Some y)
 kept_parts None next y e = absurd cc
@@ -58,12 +59,9 @@ begins_when read s e =
     let w = spelt_at f.1.stage f.1 (read ++ f.0) f.3 n.told n.fine in
     (w.0, f.0, w.1, w.2)
 
-pub read_spelt : (w : WrittenModule) → IsWritten w → steps start (spell w) ≡ Some (between w.name w.ports w.items Complete)
-read_spelt w g = read_again w g
-
 pub reads_when : (read : List Token) → CanBegin read → (s : State) × (steps start read ≡ Some s)
 reads_when read b =
-    let e : steps start (read ++ b.1) ≡ Some (between b.0.name b.0.ports b.0.items Complete) = subst (λ (x : List Token). steps start x ≡ Some (between b.0.name b.0.ports b.0.items Complete)) b.3 (read_spelt b.0 b.2) in
+    let e : steps start (read ++ b.1) ≡ Some (between b.0.name b.0.ports b.0.items Complete) = subst (λ (x : List Token). steps start x ≡ Some (between b.0.name b.0.ports b.0.items Complete)) b.3 (read_again b.0 b.2) in
     let p = split read b.1 start (between b.0.name b.0.ports b.0.items Complete) e in
     (p.0, p.1)
 
@@ -80,22 +78,19 @@ complete_so : (stage : Stage) (s : State) (w : WrittenModule) → complete stage
 complete_so Complete s w e = refl
 complete_so stage s w e = absurd cc
 
-none_some : {A : Type 0} (x : A) → None ≡ Some x → ⊥
-none_some x e = cc
-
 state_same : (x y : State) → Some x ≡ Some y → x ≡ y
 state_same x y e = cc
 
 all_by : (ts : List Token) (s : State) → steps start ts ≡ Some s → (o : Option WrittenModule) → finish s ≡ o → IsSpelt ts ⊎ (IsSpelt ts → ⊥)
 all_by ts s e (Some w) f = inl (let m = means_all ts start s [] starts e in spelt_at s.stage s ts (complete_so s.stage s w f) m.told m.fine)
 all_by ts s e None f = inr (λ w.
-    let r : steps start ts ≡ Some (between w.0.name w.0.ports w.0.items Complete) = subst (λ (x : List Token). steps start x ≡ Some (between w.0.name w.0.ports w.0.items Complete)) w.2 (read_spelt w.0 w.1) in
+    let r : steps start ts ≡ Some (between w.0.name w.0.ports w.0.items Complete) = subst (λ (x : List Token). steps start x ≡ Some (between w.0.name w.0.ports w.0.items Complete)) w.2 (read_again w.0 w.1) in
     let same : s ≡ between w.0.name w.0.ports w.0.items Complete = state_same s (between w.0.name w.0.ports w.0.items Complete) (sym e ∙ r) in
-    none_some _ (sym f ∙ ap finish same))
+    not_some _ (sym f ∙ ap finish same))
 
 tell_all_by : (ts : List Token) (o : Option State) → steps start ts ≡ o → IsSpelt ts ⊎ (IsSpelt ts → ⊥)
 tell_all_by ts (Some s) e = all_by ts s e (finish s) refl
-tell_all_by ts None e = inr (λ w. none_some (between w.0.name w.0.ports w.0.items Complete) (sym e ∙ subst (λ (x : List Token). steps start x ≡ Some (between w.0.name w.0.ports w.0.items Complete)) w.2 (read_spelt w.0 w.1)))
+tell_all_by ts None e = inr (λ w. not_some (between w.0.name w.0.ports w.0.items Complete) (sym e ∙ subst (λ (x : List Token). steps start x ≡ Some (between w.0.name w.0.ports w.0.items Complete)) w.2 (read_again w.0 w.1)))
 
 pub tell_all : CanTellAll
 tell_all ts = tell_all_by ts (steps start ts) refl
@@ -120,9 +115,9 @@ spelt_stage ts s w e f =
 
 pub spelt_when : (ts : List Token) (s : State) → steps start ts ≡ Some s → finish s ≡ None → IsSpelt ts → ⊥
 spelt_when ts s e f w =
-    let r : steps start ts ≡ Some (between w.0.name w.0.ports w.0.items Complete) = subst (λ (x : List Token). steps start x ≡ Some (between w.0.name w.0.ports w.0.items Complete)) w.2 (read_spelt w.0 w.1) in
+    let r : steps start ts ≡ Some (between w.0.name w.0.ports w.0.items Complete) = subst (λ (x : List Token). steps start x ≡ Some (between w.0.name w.0.ports w.0.items Complete)) w.2 (read_again w.0 w.1) in
     let same : s ≡ between w.0.name w.0.ports w.0.items Complete = state_same s (between w.0.name w.0.ports w.0.items Complete) (sym e ∙ r) in
-    none_some w.0 (sym f ∙ ap finish same)
+    not_some w.0 (sym f ∙ ap finish same)
 
 join_by : (a b : List Token) (s x : State) → steps s a ≡ Some x → steps s (a ++ b) ≡ steps x b
 join_by [] b s x e = ap (λ (y : State). steps y b) (nil_same s x e)
@@ -134,4 +129,4 @@ steps_push read t s s' e f = join_by read (t ∷ []) start s e ∙ steps_cons s 
 pub push_none : (read : List Token) (t : Token) (s : State) → steps start read ≡ Some s → step s t ≡ None → (x : State) → steps start (read ++ t ∷ []) ≡ Some x → ⊥
 push_none read t s e f x h =
     let p = steps_parts s t [] x (sym (join_by read (t ∷ []) start s e) ∙ h) in
-    none_some p.0 (sym f ∙ p.1)
+    not_some p.0 (sym f ∙ p.1)

@@ -6,8 +6,8 @@ use crate::sorting::first_in_loop;
 use gl_bits::Listed;
 use gl_verilog::{Assignment, Declaration, Expr, Kind, Module, Statement};
 use gl_verilog_written::{
-    Direction, InfixOp, PrefixOp, VerilogFault, Word, WrittenExpr, WrittenItem, WrittenModule,
-    WrittenPort, WrittenStatement, digit_of, small_number,
+    Direction, VerilogFault, Word, WrittenExpr, WrittenItem, WrittenModule, WrittenPort,
+    WrittenStatement,
 };
 use std::alloc::Global;
 use std::collections::BTreeMap;

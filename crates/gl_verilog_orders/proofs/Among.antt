@@ -5,11 +5,7 @@ use Rattle.std.specs.List.{list_any}
 use Rattle.std.proofs.lemmas.Bool.{eqb-true}
 use Rattle.gl_verilog.specs.Module.{Assignment, Expr, Statement}
 use Rattle.gl_verilog_orders.specs.Events.{Event, Evaluates, Executes, Puts, Writes, evaluations, executions, is_evaluation, woken}
-
--- what each of two has, a choice of them has
-pub chosen : {A : Type 0} (P : A → Type 0) (b : Bool) (x y : A) → (b ≡ true → P x) → (b ≡ false → P y) → P (cond b x y)
-chosen P true x y f g = f refl
-chosen P false x y f g = g refl
+use Rattle.gl_verilog.proofs.Acyclic.{chosen}
 
 abbrev pub IsAmong : Event → List Event → Type 0
 IsAmong e [] = ⊥

@@ -1,10 +1,10 @@
 -- The invariant of every schedule: what differs from its expression is active.
-use Rattle.std.proofs.Common.{◌≡◌, ◌≢◌, ℕ, zero, suc, ◌+◌, ◌≤◌, ◌⊎◌, inl, inr, Bool, true, false, List, [], ◌∷◌, Option, Some, None, nat_eq, eqb, refl, sym, ap, ◌∙◌, subst, arith}
+use Rattle.std.proofs.Common.{◌≡◌, ◌≢◌, ℕ, zero, suc, ◌+◌, ◌≤◌, ◌⊎◌, inl, inr, true, false, List, [], ◌∷◌, Option, Some, None, nat_eq, eqb, refl, sym, ap, ◌∙◌, subst, arith}
 use Rattle.std.specs.Prelude.{◌||◌, slice_get}
 use Rattle.std.specs.Option.{option_map_or}
 use Rattle.std.proofs.lemmas.Bool.{eq-eqb}
 use Rattle.std.proofs.lemmas.Bool.Decides.{eqb_tells}
-use Rattle.gl_bits.proofs.Bools.{or_left, or_right}
+use Rattle.gl_bits.proofs.Bools.{or_left, or_right, true_or_false}
 use Rattle.gl_bits.specs.Words.{not_of, cut_of}
 use Rattle.gl_verilog.specs.Module.{Module, Declaration, Kind, Input, OutputWire, OutputRegister, Wire, Register, Memory, Assignment, Expr, Net, Literal, Invert, Binary, Choose, Join, Select, Read, Nets, Memories, value_of}
 use Rattle.gl_verilog.specs.Order.{with_net}
@@ -17,10 +17,6 @@ use Rattle.gl_verilog_orders.specs.Events.{Evaluates, State, reads_memory, evalu
 use Rattle.gl_verilog_orders.proofs.Among.{IsAmong, woken_keeps, woken_adds, evaluations_has}
 
 -- ---- tests
-
-pub test_of : (b : Bool) → (b ≡ true) ⊎ (b ≡ false)
-test_of true = inl refl
-test_of false = inr refl
 
 -- an option's two cases
 pub mapped : {A B : Type 0} (P : B → Type 0) (f : A → B) (o : Option A) (d : B) → (o ≡ None → P d) → ((a : A) → o ≡ Some a → P (f a)) → P (option_map_or f o d)
@@ -145,7 +141,7 @@ aware_net m s n x h d = net_takes-cases (IsAware m) m s n x
       | inl q ↦ inl (ap s.nets q ∙ same ∙ d j a e q)
       | inr k ↦ k
     ])
-    (λ other j a e. elim (test_of (mentions a.value n)) [
+    (λ other j a e. elim (true_or_false (mentions a.value n)) [
       | inl reads ↦ inr (woken_adds j s.active (evaluations (λ e. mentions e n) 0 m.assignments)
           (subst (λ i. IsAmong (Evaluates i) (evaluations (λ e. mentions e n) 0 m.assignments)) (let z : 0 + j ≡ j = omega arith in z) (evaluations_has (λ e. mentions e n) 0 m.assignments j a e reads)))
       | inr not' ↦
@@ -169,7 +165,7 @@ with_word-other w k at x j i ne = elim (eqb_tells k j) [ inl same ↦ absurd (ne
 pub aware_word : (m : Module) (s : State) (k at x : ℕ) → IsAware m s → IsAware m (word_takes m s k at x)
 aware_word m s k at x h = word_takes-cases (IsAware m) m s k at x
     (λ same. h)
-    (λ other j a e. elim (test_of (reads_memory a.value k)) [
+    (λ other j a e. elim (true_or_false (reads_memory a.value k)) [
       | inl reads ↦ inr (woken_adds j s.active (evaluations (λ e. reads_memory e k) 0 m.assignments)
           (subst (λ i. IsAmong (Evaluates i) (evaluations (λ e. reads_memory e k) 0 m.assignments)) (let z : 0 + j ≡ j = omega arith in z) (evaluations_has (λ e. reads_memory e k) 0 m.assignments j a e reads)))
       | inr not' ↦ elim (h j a e) [

@@ -14,10 +14,11 @@ use Rattle.gl_verilog.proofs.Settles.{with_net-same, with_net-other}
 use Rattle.gl_verilog.proofs.Runs.{register_undriven}
 use Rattle.gl_verilog_orders.specs.Events.{Event, Evaluates, State, IsAtRest, evaluations, net_takes, at_edge, inputs_take, IsCycle, IsStart, IsSettledRest, StandsBefore}
 use Rattle.gl_verilog_orders.specs.Laws.{IsTwoPhase, CyclesAreTwoPhase}
-use Rattle.gl_verilog_orders.proofs.Among.{chosen, IsAmong, IsEvaluation, evaluations_has, evaluations_only, executions_only}
+use Rattle.gl_verilog_orders.proofs.Among.{IsAmong, IsEvaluation, evaluations_has, evaluations_only, executions_only}
 use Rattle.gl_verilog_orders.proofs.Aware.{not_target, net_takes-cases, aware_net}
 use Rattle.gl_verilog_orders.proofs.Good.{IsFine, IsGood, good_net, good_steps, settled_at_rest}
 use Rattle.gl_verilog_orders.proofs.Phases.{IsSettling, settling_schedule, evaluations_woken, begins_behind, behind_steps, stepped_at_rest}
+use Rattle.gl_verilog.proofs.Acyclic.{chosen}
 
 -- ---- before a cycle
 

@@ -11,9 +11,8 @@ use Rattle.gl_verilog.specs.Runnable.{is_input, inputs_from, inputs_of, FitInput
 use Rattle.gl_verilog.proofs.Fits.{found_in, width_at-found}
 use Rattle.gl_verilog_orders.specs.Events.{State, evaluations, at_edge, inputs_take, IsStart, StandsBefore, IsEventRun}
 use Rattle.gl_verilog_orders.specs.Laws.{Rests, IsTwoPhase, EventRunsAreRuns, EventRunsOf, HasEventRunsOf, HasEventRuns, RunsAreSeen}
-use Rattle.gl_verilog.proofs.Acyclic.{runnable}
+use Rattle.gl_verilog.proofs.Acyclic.{runnable, chosen}
 use Rattle.gl_verilog.proofs.Runs.{runs_agree}
-use Rattle.gl_verilog_orders.proofs.Among.{chosen}
 use Rattle.gl_verilog_orders.proofs.Rests.{rests}
 use Rattle.gl_verilog_orders.proofs.Cycle.{IsPort, ports, cycles_are_two_phase}
 

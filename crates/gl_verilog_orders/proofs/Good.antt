@@ -11,8 +11,9 @@ use Rattle.gl_verilog.proofs.Fits.{found_in, all_at, value_fits}
 use Rattle.gl_verilog.proofs.Stores.{same_item}
 use Rattle.gl_verilog.proofs.Runs.{register_undriven}
 use Rattle.gl_verilog_orders.specs.Events.{Event, Evaluates, Executes, Puts, Writes, State, reads_memory, evaluations, woken, net_takes, with_word, updates_of, happened, with_active, Step, happens, releases, Schedule, no_steps, a_step}
-use Rattle.gl_verilog_orders.proofs.Among.{chosen, IsAmong, among_cases, among_here, among_rest, among_more, woken_only, evaluations_only}
+use Rattle.gl_verilog_orders.proofs.Among.{IsAmong, among_cases, among_here, among_rest, among_more, woken_only, evaluations_only}
 use Rattle.gl_verilog_orders.proofs.Aware.{mapped, target_of, same_driver, not_target, net_takes-cases, word_takes-cases, Holds, IsAware, aware_net, aware_word}
+use Rattle.gl_verilog.proofs.Acyclic.{chosen}
 
 -- the number fits the declaration's width
 abbrev pub FitsAt : List Declaration → ℕ → ℕ → Type 0

@@ -8,10 +8,9 @@ use Rattle.std.proofs.Math.Nat.{pow-zero, pow-succ', pow-le-pow_right, mul-le-mu
 use Rattle.gl_bits.proofs.Bools.{and_both, or_left, or_right}
 use Rattle.gl_verilog.specs.Module.{Module, Assignment, Expr, Statement, Nothing, Put, Write, Both, If, Nets, Memories, value_of}
 use Rattle.gl_verilog.specs.Valid.{IsValid, mentions, depends}
-use Rattle.gl_verilog.proofs.Acyclic.{IsIn, IsRanked, ranked, targets_of}
+use Rattle.gl_verilog.proofs.Acyclic.{IsIn, IsRanked, ranked, targets_of, chosen}
 use Rattle.gl_verilog_orders.specs.Events.{Event, Evaluates, Executes, Puts, Writes, State, IsAtRest, reads_memory, evaluations, is_evaluation, woken, net_takes, word_takes, updates_of, happened, with_active, Step, happens, releases, Schedule, no_steps, a_step}
 use Rattle.gl_verilog_orders.specs.Laws.{Rests, ComesToRest, Ends}
-use Rattle.gl_verilog_orders.proofs.Among.{chosen}
 use Rattle.gl_verilog_orders.proofs.Aware.{mapped, net_takes-cases, word_takes-cases}
 
 -- ---- weights

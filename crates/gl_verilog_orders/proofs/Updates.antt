@@ -8,7 +8,8 @@ use Rattle.gl_bits.proofs.Bools.{neither_left, neither_right, or_left, or_right}
 use Rattle.gl_verilog.specs.Module.{Statement, Nothing, Put, Write, Both, If, Nets, Memories, value_of, later_or, assigned, written, assigned_by, written_by}
 use Rattle.gl_verilog.specs.Valid.{assigns, AssignsOnce, blocks_of, writes_in, writes_of}
 use Rattle.gl_verilog_orders.specs.Events.{Event, Executes, Puts, Writes, updates_of}
-use Rattle.gl_verilog_orders.proofs.Among.{chosen, IsAmong, among_left, among_right, among_cases}
+use Rattle.gl_verilog_orders.proofs.Among.{IsAmong, among_left, among_right, among_cases}
+use Rattle.gl_verilog.proofs.Acyclic.{chosen}
 
 both_chosen : {A B : Type 0} (P : A → B → Type 0) (b : Bool) (x y : A) (x' y' : B) → P x x' → P y y' → P (cond b x y) (cond b x' y')
 both_chosen P true x y x' y' p q = p

@@ -18,8 +18,10 @@ use Rattle.gl_verilog.proofs.Fits.{is_width, found_in, all_at, width_at-found}
 use Rattle.gl_verilog_resolver.specs.Fitting.{listed, few_meant, op_meant, width_meant, width_in, prefix_width, prefix_meant, infix_meant, join_meant, literal_meant, select_meant, expr_meant, statement_meant, declared_next, port_next, passed}
 use Rattle.gl_verilog_resolver.specs.Steps.{with_declarations, with_memory, with_assignment, with_block, with_ports, step, all_resolved}
 use Rattle.gl_verilog_resolver.proofs.Bytes.{byte-fits, long-fits}
-use Rattle.gl_verilog_resolver.proofs.Options.{map_some, then_some, both_some, three_some}
+use Rattle.gl_verilog_resolver.proofs.Options.{both_some, three_some}
 use Rattle.gl_verilog_resolver.proofs.Meanings.{infixed_is, prefixed_is, declare_is, behind, behind_end, behind_assignment, behind_block}
+use Rattle.gl_bits.proofs.AllLists.{all_front, all_back}
+use Rattle.gl_bits.proofs.Options.{map_some, then_some}
 
 -- ---- widths
 
@@ -192,14 +194,6 @@ statement_fits (written.Listed first rest) ds all s h sizes k =
 statement_fits written.Ended ds all s h sizes k = h
 
 -- ---- declarations
-
-all_front : {A : Type 0} (P : A → Type 0) (xs ys : List A) → AllByRecursion P (xs ++ ys) → AllByRecursion P xs
-all_front P [] ys h = tt
-all_front P (x ∷ xs) ys h = (h.0, all_front P xs ys h.1)
-
-all_back : {A : Type 0} (P : A → Type 0) (xs ys : List A) → AllByRecursion P (xs ++ ys) → AllByRecursion P ys
-all_back P [] ys h = h
-all_back P (x ∷ xs) ys h = all_back P xs ys h.1
 
 declared_fits : (kind : spec.Kind) (range : Range) (ds : List Declaration) (name : List ℕ) → HasSize (resolve.declare kind range name) → declared_next kind range ds name ≡ Some (ds ++ resolve.declare kind range name ∷ [])
 declared_fits kind range ds name size =

@@ -12,7 +12,8 @@ use Rattle.gl_verilog.specs.Resolve.{Resolved, decimal_number, number_read, reso
 use Rattle.gl_verilog_resolver.specs.Fitting.{few_meant, byte, long, op_meant, width_meant, width_in, prefix_width, prefix_meant, infix_meant, join_meant, literal_meant, select_meant, expr_meant, statement_meant, declaration_with, declared_next, port_next, passed}
 use Rattle.gl_verilog_resolver.specs.Steps.{with_declarations, with_memory, with_assignment, with_block, with_ports, step, all_resolved}
 use Rattle.gl_verilog_resolver.proofs.Bytes.{byte-some, long-some}
-use Rattle.gl_verilog_resolver.proofs.Options.{map_some, then_some, both_some, both_then_some, three_some}
+use Rattle.gl_verilog_resolver.proofs.Options.{both_some, both_then_some, three_some}
+use Rattle.gl_bits.proofs.Options.{map_some, then_some}
 
 -- ---- expressions
 

@@ -1,16 +1,8 @@
 -- What was there where something came of it.
-use Rattle.std.proofs.Common.{◌≡◌, Option, Some, None, refl, sym}
-use Rattle.std.specs.Prelude.{option_map, option_and_then}
+use Rattle.std.proofs.Common.{◌≡◌, Option, Some, None, refl}
 use Rattle.gl_verilog.specs.Resolve.{both, three}
 use Rattle.gl_verilog_resolver.specs.Fitting.{both_then}
-
-pub map_some : {A B : Type 0} (f : A → B) (o : Option A) (y : B) → option_map f o ≡ Some y → (x : A) × (o ≡ Some x) × (y ≡ f x)
-map_some f None y e = absurd cc
-map_some f (Some x) y e = (x, refl, (let g : f x ≡ y = cc in sym g))
-
-pub then_some : {A B : Type 0} (f : A → Option B) (o : Option A) (y : B) → option_and_then f o ≡ Some y → (x : A) × (o ≡ Some x) × (f x ≡ Some y)
-then_some f None y e = absurd cc
-then_some f (Some x) y e = (x, refl, e)
+use Rattle.gl_bits.proofs.Options.{map_some, then_some}
 
 pub both_some : {A B C : Type 0} (f : A → B → C) (o : Option A) (p : Option B) (y : C) → both f o p ≡ Some y → (a : A) × (b : B) × (o ≡ Some a) × (p ≡ Some b) × (y ≡ f a b)
 both_some f None p y e = absurd cc

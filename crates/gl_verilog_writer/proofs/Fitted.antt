@@ -2,8 +2,6 @@
 use Rattle.std.proofs.Common.{◌≡◌, ℕ, ◌+◌, ◌-◌, ◌<◌, ◌≤◌, ◌^◌, length, Option, Some, None, refl, sym, ap, subst, ◌∙◌, arith, pow_mono, lt_of_lt_of_le}
 use Rattle.std.specs.Prelude.{slice_get, option_map, IsSomeAnd}
 use Rattle.gl_bits.specs.Words.{IsWidth}
-use Rattle.gl_net.specs.declared.node.BinaryOp.{BinaryOp}
-use Rattle.gl_net.specs.declared.node.BinaryOp.TheVariants.{Add, Sub, Mul, And, Xor, Or, Eq, Ne, Lt, Le}
 use Rattle.gl_net.specs.declared.node.Node.{Node}
 use Rattle.gl_net.specs.declared.node.Node.TheVariants.{Input, Constant, Not, Binary, Choose, Join, Cut, Register, Memory, MemoryRead}
 use Rattle.gl_net.specs.declared.node.Bus.{Bus}
@@ -11,10 +9,10 @@ use Rattle.gl_net.specs.declared.node.Bit.{Bit}
 use Rattle.gl_net.specs.declared.node.Store.{Store}
 use Rattle.gl_net.specs.declared.node.Port.{Port}
 use Rattle.gl_net.specs.declared.node.Direction.{Direction}
-use Rattle.gl_net.specs.Net.{Net, Shape, Value, Words, shape_of, shape_in, binary_width, IsBus, IsBit, IsStore}
+use Rattle.gl_net.specs.Net.{Net, Shape, Value, Words, shape_of, shape_in, IsBus, IsBit, IsStore}
 use Rattle.gl_net.specs.PortValues.{bits_of}
 use Rattle.gl_net.specs.WellFormed.{NodeFits}
-use Rattle.gl_net.proofs.Growth.{shape_there}
+use Rattle.gl_net.proofs.Growth.{shape_there, binary_is_width}
 use Rattle.gl_verilog.specs.Module as verilog
 use Rattle.gl_verilog.specs.Module.{Declaration}
 use Rattle.gl_verilog.specs.Widths.{IsNet, IsMemory, IsReadable, KeepsWidths, width_at}
@@ -25,24 +23,12 @@ use Rattle.gl_verilog_writer.proofs.Digits.{IsPlain, net-plain}
 use Rattle.gl_verilog_writer.proofs.Model.{Named, at_node, kind_for, declarations_in}
 use Rattle.gl_verilog_writer.proofs.Named.{net_no_clock, node_there, node_found, few}
 
-binary-fits : (o : BinaryOp) (w : ℕ) → IsWidth w → IsWidth (binary_width o w)
-binary-fits Add w h = h
-binary-fits Sub w h = h
-binary-fits Mul w h = h
-binary-fits And w h = h
-binary-fits Xor w h = h
-binary-fits Or w h = h
-binary-fits Eq w h = record { some' = omega arith; most = omega arith }
-binary-fits Ne w h = record { some' = omega arith; most = omega arith }
-binary-fits Lt w h = record { some' = omega arith; most = omega arith }
-binary-fits Le w h = record { some' = omega arith; most = omega arith }
-
 -- every node has 1 to 128 bits
 pub width-fits : (net : Net) (n : ℕ) (x : Node) → NodeFits net n x → IsWidth (node_width x)
 width-fits net n (Input place w) h = h.0
 width-fits net n (Constant word) h = h.width
 width-fits net n (Not x) h = h.bus.width
-width-fits net n (Binary o x y) h = binary-fits o x.width h.0.bus.width
+width-fits net n (Binary o x y) h = binary_is_width o x.width h.0.bus.width
 width-fits net n (Choose test x y) h = h.1.bus.width
 width-fits net n (Join x y) h =
     let a = h.0.bus.width.some' in

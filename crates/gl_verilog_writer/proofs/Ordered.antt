@@ -1,33 +1,18 @@
 -- Where targets rise along a list of assignments, operands are driven before they are read.
-use Rattle.std.proofs.Common.{◌≡◌, ℕ, suc, ◌+◌, ◌<◌, true, ◌||◌, List, [], ◌∷◌, ◌++◌, Option, Some, None, IfSome, refl, ap, subst, arith, eq-eqb}
+use Rattle.std.proofs.Common.{◌≡◌, ℕ, suc, ◌+◌, ◌<◌, true, List, [], ◌∷◌, ◌++◌, Option, Some, None, IfSome, refl, ap, subst, arith}
 use Rattle.std.specs.Prelude.{slice_get}
 use Rattle.std.specs.List.{AllByRecursion}
 use Rattle.gl_bits.proofs.AllLists.{all_append}
-use Rattle.gl_bits.proofs.Bools.{or_left, or_right}
-use Rattle.gl_verilog.specs.Module.{Expr, Net, Literal, Invert, Binary, Choose, Join, Select, Read, Assignment}
+use Rattle.gl_verilog.specs.Module.{Assignment}
 use Rattle.gl_verilog.specs.Valid.{mentions}
-use Rattle.gl_verilog.specs.Order.{EachRead, IsUndriven, IsOrdered}
+use Rattle.gl_verilog.specs.Order.{IsUndriven, IsOrdered}
 use Rattle.gl_verilog_writer.specs.Design.{with_option, numbered}
 use Rattle.gl_verilog_writer.proofs.Lists.{numbered-all}
+use Rattle.gl_verilog.proofs.Acyclic.{each_read}
 
 -- what an assignment mentions comes before its target
 abbrev pub Descends : (ℕ → ℕ) → Assignment → Type 0
 Descends r a = (n : ℕ) → mentions a.value n ≡ true → r n < r a.target
-
--- what holds of each net that an expression mentions
-each_read : (P : ℕ → Type 0) (e : Expr) → ((n : ℕ) → mentions e n ≡ true → P n) → EachRead P e
-each_read P (Net k) h = h k (eq-eqb k k refl)
-each_read P (Literal value width) h = tt
-each_read P (Invert width arg) h = each_read P arg h
-each_read P (Binary op width l r) h = (each_read P l (λ n e. h n (or_left (mentions l n) (mentions r n) e)), each_read P r (λ n e. h n (or_right (mentions l n) (mentions r n) e)))
-each_read P (Choose c x y) h = (
-  each_read P c (λ n e. h n (or_left (mentions c n) (mentions x n || mentions y n) e)),
-  each_read P x (λ n e. h n (or_right (mentions c n) (mentions x n || mentions y n) (or_left (mentions x n) (mentions y n) e))),
-  each_read P y (λ n e. h n (or_right (mentions c n) (mentions x n || mentions y n) (or_right (mentions x n) (mentions y n) e))),
-)
-each_read P (Join low_width x y) h = (each_read P x (λ n e. h n (or_left (mentions x n) (mentions y n) e)), each_read P y (λ n e. h n (or_right (mentions x n) (mentions y n) e)))
-each_read P (Select high low k) h = h k (eq-eqb k k refl)
-each_read P (Read memory address) h = each_read P address h
 
 -- ---- a list whose targets rise
 

@@ -11,7 +11,7 @@ use Rattle.gl_wire.specs.Serves.{Caused, EndCaused, Fits}
 use Rattle.gl_wire.specs.Sides.{IsOpen, IsIdle, Side}
 use Rattle.gl_wire.proofs.RowsLemmas.{rows-split, rows-quiet, rows_fewer}
 
-none_unless : (o : Option Row) → ((r : Row) → o ≡ Some r → ⊥) → o ≡ None
+pub none_unless : (o : Option Row) → ((r : Row) → o ≡ Some r → ⊥) → o ≡ None
 none_unless None h = refl
 none_unless (Some r) h = absurd (h r refl)
 

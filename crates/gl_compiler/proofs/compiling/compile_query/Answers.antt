@@ -1,9 +1,4 @@
-use Rattle.std.proofs.Common.{◌≡◌, sym, subst}
-use Rattle.gl_query.specs.declared.tree.Statement.{Statement as Stated}
-use Rattle.gl_compiler.specs.declared.compiling.CompileFault.{CompileFault}
-use Rattle.gl_compiler.specs.Queries.{IsQuery, IsQueryRefused, IfRefused, TellsCauses, fault_of_query}
-use Rattle.gl_query_judge.specs.Judged.{IsAcceptedText}
-use Rattle.gl_compiler.proofs.Refusing.{refusal, refused_goes, statement_cause, tells_none, tells_of}
+use Rattle.gl_compiler.proofs.Refusing.{refusal, refused_goes, tells_of}
 use Rattle.gl_compiler.proofs.compiling.compile_query.Goals as goal
 
 pub returns-in-Err-clause-cause : goal.returns-in-Err-clause-cause

@@ -1,6 +1,5 @@
-use Rattle.std.proofs.Common.{◌≡◌, ◌∙◌, ◌<◌, ◌^◌, ℕ, List, suc, map, length, ap, sym, subst, refl, option_map}
-use Rattle.std.specs.Prelude.{slice_index}
-use Rattle.std.specs.List.{AllByRecursion, AllZip}
+use Rattle.std.proofs.Common.{◌∙◌, ◌<◌, suc, length, ap, sym, subst, option_map}
+use Rattle.std.specs.List.{AllByRecursion}
 use Rattle.gl_bits.specs.Words.{bits_of, widths_of}
 use Rattle.gl_tuples.specs.Gaps.{plain_beat, plain_beats}
 use Rattle.gl_schema.specs.Ports.{out_valid, out_eos, fault_group}
@@ -9,9 +8,8 @@ use Rattle.gl_verilog.specs.declared.module.Module.{Module}
 use Rattle.gl_verilog.specs.Evaluate.{nets_of}
 use Rattle.gl_verilog.specs.Run.{port_of}
 use Rattle.gl_verilog.specs.View.{module_of}
-use Rattle.gl_compiler.specs.Benches.{AreShows, columns_from}
-use Rattle.gl_compiler.specs.Profile.{ports_of}
-use Rattle.gl_compiler.proofs.Making.{beat_values, values_fit, columns_count, cycle_made, IsLook}
+use Rattle.gl_compiler.specs.Benches.{AreShows}
+use Rattle.gl_compiler.proofs.Making.{beat_values, values_fit, columns_count, cycle_made}
 use Rattle.gl_compiler.proofs.Outputs.{columns_inside}
 use Rattle.gl_compiler.proofs.executing.advance.Goals as goal
 

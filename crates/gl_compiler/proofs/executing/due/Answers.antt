@@ -1,4 +1,4 @@
-use Rattle.std.proofs.Common.{◌≡◌, ◌∙◌, sym}
+use Rattle.std.proofs.Common.{◌∙◌, sym}
 use Rattle.gl_compiler.proofs.Due.{taken_here, taken_later}
 use Rattle.gl_compiler.proofs.executing.due.Goals as goal
 

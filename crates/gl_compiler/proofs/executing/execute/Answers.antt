@@ -1,4 +1,3 @@
-use Rattle.std.proofs.Common.{◌≡◌, ℕ, List}
 use Rattle.gl_tuples.specs.Gaps.{plain_beats}
 use Rattle.gl_compiler.proofs.Each.{can_follow, ran_each}
 use Rattle.gl_compiler.proofs.executing.execute.Goals as goal

@@ -1,4 +1,4 @@
-use Rattle.std.proofs.Common.{◌≡◌, ◌∙◌, ◌<◌, ◌≤◌, ◌+◌, ℕ, Bool, true, false, arith, sym, subst, refl}
+use Rattle.std.proofs.Common.{◌≡◌, ◌∙◌, ◌<◌, ◌≤◌, ◌+◌, true, false, arith, sym, subst, refl}
 use Rattle.gl_bits.specs.Words.{bits_of}
 use Rattle.gl_schema.specs.Beats.{last_cycle}
 use Rattle.gl_tuples.specs.Gaps.{plain_beats}

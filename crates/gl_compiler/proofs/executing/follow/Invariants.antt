@@ -1,4 +1,4 @@
-use Rattle.std.proofs.Common.{◌≡◌, ◌≤◌, ℕ, map}
+use Rattle.std.proofs.Common.{◌≡◌, ℕ, map}
 use Rattle.gl_bits.specs.Kinds.{width_of}
 use Rattle.gl_bits.specs.Words.{widths_of}
 use Rattle.gl_tuples.specs.Gaps.{plain_beats}

@@ -1,4 +1,4 @@
-use Rattle.std.proofs.Common.{◌≡◌, ◌∙◌, ◌≤◌, ℕ, List, length, map, arith, ap, sym, subst, refl}
+use Rattle.std.proofs.Common.{◌≡◌, ◌∙◌, List, length, ap, sym, subst, refl}
 use Rattle.gl_schema.specs.Beats.{last_cycle}
 use Rattle.gl_tuples.specs.Gaps.{plain_beats}
 use Rattle.gl_tuples.specs.declared.beats.Beat.{Beat}

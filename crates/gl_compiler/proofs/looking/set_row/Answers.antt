@@ -1,4 +1,4 @@
-use Rattle.std.proofs.Common.{◌≡◌, ◌∙◌, ◌<◌, ℕ, length, ap, sym, arith}
+use Rattle.std.proofs.Common.{◌≡◌, ◌∙◌, ◌<◌, length, sym, arith}
 use Rattle.std.specs.Prelude.{slice_index}
 use Rattle.gl_bits.specs.Words.{widths_of}
 use Rattle.gl_compiler.proofs.Rows.{row_more, widths_length}

@@ -1,5 +1,0 @@
-pub mod SelectLemmas
-pub mod CountLemmas
-pub mod BesideLemmas
-pub mod BesideNet
-pub mod ChainLemmas
