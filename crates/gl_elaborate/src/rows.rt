@@ -84,10 +84,10 @@ fn condition_tree(alloc: Global, tree: Tree) -> Result<Tree, Memory>
     ensures { IfOk result (λ t. term t ≡ condition_of (term tree)) }
 {
     match tree {
-        Tree::Literal(word, kind) => Ok(Tree::Cast(
-            Box::new(alloc, Tree::Literal(word, kind))?,
-            Kind::Unsigned(1),
-        )),
+        Tree::Literal(word, kind) => {
+            let literal = Box::new(alloc, Tree::Literal(word, kind))?;
+            Ok(Tree::Cast(literal, Kind::Unsigned(1)))
+        }
         other => Ok(other),
     }
 }
