@@ -13,7 +13,7 @@ use Rattle.gl_wire.specs.Apart.{carries}
 use Rattle.gl_queue.specs.SpacerPhases.{most_entries, Wide}
 use Rattle.gl_wire.proofs.RowsLemmas.{rows-split, rows-quiet}
 use Rattle.gl_queue.proofs.HeldLemmas.{rows-push}
-use Rattle.gl_queue.proofs.TagLemmas.{tag, cycles, cycles-push, First, first, none_tuple, none_end, rows_at, rows_at-cycles}
+use Rattle.gl_queue.proofs.TagLemmas.{tag, cycles, cycles-push, First, first, rows_at, rows_at-cycles}
 use Rattle.gl_queue.proofs.SpacerLemmas.{Spaces, Leaves, leaving_tag, leaves_tag, work, work_next, leaves_or_not, front, front_more, Flow, flow, first_at, kept_rows}
 
 tag_rows : (s : Carried) (c : ℕ) → s.ends c ≡ false → length (option_to_list (tag s c)) ≤ length (option_to_list (s.tuple c))
