@@ -4,8 +4,9 @@ ghost use Rattle.std.specs.Prelude.{◌≡◌, ◌≤◌, ◌^◌, IfOk};
 ghost use Rattle.gl_net.specs.Net.{IsBit};
 ghost use Rattle.gl_wire.specs.Wire.{AreBuses, IsWire, widths};
 ghost use Rattle.gl_queue.specs.MergeLines.{AreChosenOf, IsEndOf, IsMergedOf};
+ghost use Rattle.gl_queue.specs.Queues.{IsQueueOf};
 
-use crate::queue::put_queue;
+use crate::queue::{Queue, put_queue};
 use crate::ring::word;
 use gl_bits::Memory;
 use gl_net::{Bit, Bus, Buses, NetBuilder};
@@ -64,6 +65,24 @@ pub fn put_end(
     Ok(end)
 }
 
+// A queue of so many places for the rows of a wire.
+fn put_rows(
+    alloc: Global,
+    net: &mut NetBuilder,
+    wire: &Wire,
+    depth: u64,
+    hold: Bit,
+) -> Result<Queue, Memory>
+    requires wire { IsWire net.old wire.now }
+    requires some_places { 1 ≤ depth }
+    requires most { depth ≤ 2 ^ 32 }
+    requires hold { IsBit net.old hold }
+    ensures { IfOk result (IsQueueOf net.old net.new depth wire.now.valid hold wire.now.columns) }
+{
+    let queue = put_queue(alloc, net, depth, wire.valid, hold, wire.columns.as_slice())?;
+    Ok(queue)
+}
+
 /// A wire that carries the rows of both, and a line that is 1 where either queue is passed.
 #[derive(Drop)]
 pub struct Merged {
@@ -93,23 +112,9 @@ pub fn put_merged(
 {
     let never = net.constant(word(0, 1))?;
     let hold = never.bit();
-    let first = put_queue(
-        alloc,
-        net,
-        left_depth,
-        left.valid,
-        hold,
-        left.columns.as_slice(),
-    )?;
+    let first = put_rows(alloc, net, left, left_depth, hold)?;
     let right_hold = first.some;
-    let second = put_queue(
-        alloc,
-        net,
-        right_depth,
-        right.valid,
-        right_hold,
-        right.columns.as_slice(),
-    )?;
+    let second = put_rows(alloc, net, right, right_depth, right_hold)?;
     let valid = either(net, first.some, second.some)?;
     let columns = choose_all(
         alloc,

@@ -76,7 +76,15 @@ pub fn finished(net: NetBuilder) -> Result<Netlist, Memory>
 
 /// Figures of a stream whose tuples come so many cycles behind their beats, in so many cycles more, and so many with the end at most.
 pub fn figures(first: u16, more: u16, most: u16) -> Figures
-    ensures value { result ≡ record { a = first; lt = first + more; le = first + more; nt = 1; ne = max most 1; gt = more + 1; ge = more + 1 } }
+    ensures value { result ≡ record {
+      a = first;
+      lt = first + more;
+      le = first + more;
+      nt = 1;
+      ne = max most 1;
+      gt = more + 1;
+      ge = more + 1;
+    } }
     ensures sound { IsSound result }
 {
     let a = first as u32;

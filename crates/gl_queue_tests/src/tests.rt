@@ -2,7 +2,9 @@
 
 use crate::bench::{Bench, Shown, begin, figures, finished, put_source};
 use gl_bits::Memory;
+use gl_net::Netlist;
 use gl_queue::{Joiner, Spacer, UnionOf, address_bits, put_queue};
+use gl_wire::Wire;
 use std::alloc::Global;
 use std::test::Fail;
 
@@ -203,7 +205,31 @@ fn spacers_of_some_gaps(rt: HostRuntime) -> Result<(), Fail> {
     Ok(())
 }
 
-// What a joiner of two streams with these figures shows on the columns of each side, with a '/' between.
+// What is shown on the first half of a wire's columns, a '/', and what on the second.
+fn halves_show(
+    alloc: Global,
+    netlist: &Netlist,
+    wire: &Wire,
+    left: &str,
+    right: &str,
+) -> Result<Vec<u8>, Memory> {
+    let (low, high) = wire.columns.as_slice().split_at(wire.columns.len() / 2);
+    let mut shown = Shown {
+        valid: wire.valid,
+        eos: wire.eos,
+        columns: low,
+        passed: None,
+    };
+    let mut letters = shown.letters(alloc, netlist, left.as_bytes(), right.as_bytes())?;
+    shown.columns = high;
+    let others = shown.letters(alloc, netlist, left.as_bytes(), right.as_bytes())?;
+    if letters.push(b'/').is_err() || letters.extend_from_slice(&others).is_err() {
+        return Err(Memory);
+    }
+    Ok(letters)
+}
+
+// What a joiner of two streams with these figures shows on the columns of each side.
 fn joiner_shows(
     alloc: Global,
     sides: ((u16, u16, u16), (u16, u16, u16)),
@@ -225,26 +251,7 @@ fn joiner_shows(
     };
     let out = joiner.emit(alloc, &mut net, one, other)?;
     let netlist = finished(net)?;
-    let columns = out.wire.columns.as_slice();
-    let (low, high) = columns.split_at(columns.len() / 2);
-    let below = Shown {
-        valid: out.wire.valid,
-        eos: out.wire.eos,
-        columns: low,
-        passed: out.faults.passed,
-    };
-    let above = Shown {
-        valid: out.wire.valid,
-        eos: out.wire.eos,
-        columns: high,
-        passed: out.faults.passed,
-    };
-    let mut both = below.letters(alloc, &netlist, left.as_bytes(), right.as_bytes())?;
-    let second = above.letters(alloc, &netlist, left.as_bytes(), right.as_bytes())?;
-    if both.push(b'/').is_err() || both.extend_from_slice(&second).is_err() {
-        return Err(Memory);
-    }
-    Ok(both)
+    halves_show(alloc, &netlist, &out.wire, left, right)
 }
 
 #[test]

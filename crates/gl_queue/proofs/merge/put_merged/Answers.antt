@@ -3,33 +3,29 @@ use Rattle.gl_net.specs.declared.node.Bus.{Bus}
 use Rattle.gl_net.specs.Net.{Keeps}
 use Rattle.gl_net.proofs.Determined.{keeps_then}
 use Rattle.gl_wire.specs.Wire.{AreBuses, widths}
-use Rattle.gl_wire.proofs.ColumnLemmas.{buses_kept}
+use Rattle.gl_wire.proofs.ColumnLemmas.{buses_kept, wire_kept}
 use Rattle.gl_algebra.specs.Cost.{ring}
-use Rattle.gl_queue.specs.Queues.{IsQueueOf}
 use Rattle.gl_queue.specs.MergeLines.{AreChosenOf}
 use Rattle.gl_queue.proofs.MergeLinesLemmas.{merging_is, never_is, two_stores}
 use Rattle.gl_queue.proofs.merge.put_merged.Goals as goal
 
-pub put_queue-requires-clause-columns : goal.put_queue-requires-clause-columns
-put_queue-requires-clause-columns c = subst (AreBuses c.constant.new.self) (sym c.as_slice.ensures) (buses_kept _ _ _ c.in_ok-never.ensures.keeps c.requires.left.columns)
+pub put_rows-requires-clause-wire : goal.put_rows-requires-clause-wire
+put_rows-requires-clause-wire c = wire_kept _ _ _ c.in_ok-never.ensures.keeps c.requires.left
 
-pub put_queue-requires-2-clause-columns : goal.put_queue-requires-2-clause-columns
-put_queue-requires-2-clause-columns c =
-    subst (AreBuses c.put_queue.new.net) (sym c.as_slice-2.ensures)
-    (buses_kept _ _ _ c.in_ok-first.ensures.keeps (buses_kept _ _ _ c.in_ok-never.ensures.keeps c.requires.right.columns))
+pub put_rows-requires-2-clause-wire : goal.put_rows-requires-2-clause-wire
+put_rows-requires-2-clause-wire c = wire_kept _ _ _ c.in_ok-first.ensures.keeps (wire_kept _ _ _ c.in_ok-never.ensures.keeps c.requires.right)
 
 pub choose_all-requires-clause-yes : goal.choose_all-requires-clause-yes
 choose_all-requires-clause-yes c =
-    subst (AreBuses c.either.new.net) (sym c.as_slice-3.ensures)
+    subst (AreBuses c.either.new.net) (sym c.as_slice.ensures)
     (buses_kept _ _ _ c.in_ok-valid.ensures.keeps (buses_kept _ _ _ c.in_ok-second.ensures.keeps c.in_ok-first.ensures.buses))
 
 pub choose_all-requires-clause-no : goal.choose_all-requires-clause-no
-choose_all-requires-clause-no c = subst (AreBuses c.either.new.net) (sym c.as_slice-4.ensures) (buses_kept _ _ _ c.in_ok-valid.ensures.keeps c.in_ok-second.ensures.buses)
+choose_all-requires-clause-no c = subst (AreBuses c.either.new.net) (sym c.as_slice-2.ensures) (buses_kept _ _ _ c.in_ok-valid.ensures.keeps c.in_ok-second.ensures.buses)
 
 pub choose_all-requires-clause-widths : goal.choose_all-requires-clause-widths
 choose_all-requires-clause-widths c =
-    ap widths c.as_slice-3.ensures ∙ c.in_ok-first.ensures.same_widths ∙ ap widths c.as_slice.ensures ∙ c.requires.widths
-    ∙ sym (ap widths c.as_slice-4.ensures ∙ c.in_ok-second.ensures.same_widths ∙ ap widths c.as_slice-2.ensures)
+    ap widths c.as_slice.ensures ∙ c.in_ok-first.ensures.same_widths ∙ c.requires.widths ∙ sym (ap widths c.as_slice-2.ensures ∙ c.in_ok-second.ensures.same_widths)
 
 pub returns : goal.returns
 returns c =
@@ -42,22 +38,20 @@ returns c =
     let hold = c.bit-hold.result in
     let outs = c.in_ok-columns.columns in
     let never = c.in_ok-never.ensures in
-    let first : IsQueueOf c.constant.new.self c.put_queue.new.net n a.valid hold a.columns q =
-    subst (λ (bs : List Bus). IsQueueOf c.constant.new.self c.put_queue.new.net n a.valid hold bs q) c.as_slice.ensures c.in_ok-first.ensures in
-    let second : IsQueueOf c.put_queue.new.net c.put_queue-2.new.net m b.valid q.some b.columns p =
-    subst (λ (bs : List Bus). IsQueueOf c.put_queue.new.net c.put_queue-2.new.net m b.valid q.some bs p) c.as_slice-2.ensures c.in_ok-second.ensures in
+    let first = c.in_ok-first.ensures in
+    let second = c.in_ok-second.ensures in
     let valid = c.in_ok-valid.ensures in
     let chosen : AreChosenOf c.either.new.net c.choose_all.new.net q.some q.columns p.columns outs =
-    subst (λ (bs : List Bus). AreChosenOf c.either.new.net c.choose_all.new.net q.some bs p.columns outs) c.as_slice-3.ensures
-    (subst (λ (bs : List Bus). AreChosenOf c.either.new.net c.choose_all.new.net q.some c.as_slice-3.result.now bs outs) c.as_slice-4.ensures c.in_ok-columns.ensures) in
+    subst (λ (bs : List Bus). AreChosenOf c.either.new.net c.choose_all.new.net q.some bs p.columns outs) c.as_slice.ensures
+    (subst (λ (bs : List Bus). AreChosenOf c.either.new.net c.choose_all.new.net q.some c.as_slice.result.now bs outs) c.as_slice-2.ensures c.in_ok-columns.ensures) in
     let eos = c.in_ok-eos.ensures in
     let passed = c.in_ok-passed.ensures in
     let behind_valid : Keeps c.either.new.net c.either-2.new.net = keeps_then _ c.choose_all.new.net _ chosen.keeps (keeps_then _ c.put_end.new.net _ eos.keeps passed.keeps) in
-    let behind_first : Keeps c.put_queue.new.net c.either-2.new.net = keeps_then _ c.put_queue-2.new.net _ second.keeps (keeps_then _ c.either.new.net _ valid.keeps behind_valid) in
+    let behind_first : Keeps c.put_rows.new.net c.either-2.new.net = keeps_then _ c.put_rows-2.new.net _ second.keeps (keeps_then _ c.either.new.net _ valid.keeps behind_valid) in
     let wide = ap length first.same_widths in
     let stores = two_stores (ring n) (ring m) (widths a.columns) (widths b.columns) c.requires.widths in
     record {
-      keeps = keeps_then c.args.net.now c.constant.new.self _ never.keeps (keeps_then _ c.put_queue.new.net _ first.keeps behind_first);
+      keeps = keeps_then c.args.net.now c.constant.new.self _ never.keeps (keeps_then _ c.put_rows.new.net _ first.keeps behind_first);
       cost = record {
         nodes = omega (arith, never.size, first.cost.nodes, second.cost.nodes, valid.cost.nodes, chosen.cost.nodes, eos.cost.nodes, passed.cost.nodes, ap length c.requires.widths, wide);
         registers = omega (arith, never.register_bits, first.cost.registers, second.cost.registers, valid.cost.registers, chosen.cost.registers, eos.cost.registers, passed.cost.registers);
