@@ -6,4 +6,6 @@ pub mod Writable
 pub mod Decimals
 pub mod Readable
 pub mod ReadBack
+pub mod ReadBackQueries
+pub mod ReadBackStatement
 pub mod RoundTrip

@@ -10,6 +10,7 @@ pub mod SoundTerms
 pub mod SoundExpressions
 pub mod Sound
 pub mod Begins
+pub mod BeginsAll
 pub mod Meets
 pub mod Exact
 pub mod Verdicts
