@@ -34,20 +34,20 @@ two us front back xs ys a b c = ap (λ (ts : List Token). ts ++ ys) b ∙ ap (λ
 
 -- ---- expressions
 
-record ReadExpr (us : List Token) (e : ExprShape) : Type 0 where
-  tree : written.Expr
-  spelled : spell tree ≡ us
-  level_is : level tree ≡ level (expr_of e)
-  grammar : IsExpr tree
-  alike : expr_alike (expr_meaning tree) ≡ e
+pub record ReadExpr (us : List Token) (e : ExprShape) : Type 0 where
+  pub tree : written.Expr
+  pub spelled : spell tree ≡ us
+  pub level_is : level tree ≡ level (expr_of e)
+  pub grammar : IsExpr tree
+  pub alike : expr_alike (expr_meaning tree) ≡ e
 
 -- an operand, as loose as its place allows
-record Operand (P : ℕ → Type 0) (us : List Token) (e : ExprShape) : Type 0 where
-  tree : written.Expr
-  spelled : spell tree ≡ us
-  fits : P (level tree)
-  grammar : IsExpr tree
-  alike : expr_alike (expr_meaning tree) ≡ e
+pub record Operand (P : ℕ → Type 0) (us : List Token) (e : ExprShape) : Type 0 where
+  pub tree : written.Expr
+  pub spelled : spell tree ≡ us
+  pub fits : P (level tree)
+  pub grammar : IsExpr tree
+  pub alike : expr_alike (expr_meaning tree) ≡ e
 
 operand : (P : ℕ → Type 0) (b : Bool) (e : ExprShape) → (b ≡ true → P (level (expr_of e))) → P 0 → ((us : List Token) → map placeless us ≡ spell (expr_of e) → ReadExpr us e)
     → (us : List Token) → map placeless us ≡ spell (fitted b (expr_of e)) → Operand P us e
@@ -135,11 +135,11 @@ read_expr (shape.Binary o l r) c us h =
 
 -- ---- aggregates
 
-record ReadNumbers (us : List Token) (n : ℕ) (ns : List ℕ) : Type 0 where
-  first' : Num
-  rest : List Num
-  spelled : spell_numbers (first' ∷ rest) ≡ us
-  alike : map (λ (m : Num). m.value) (first' ∷ rest) ≡ n ∷ ns
+pub record ReadNumbers (us : List Token) (n : ℕ) (ns : List ℕ) : Type 0 where
+  pub first' : Num
+  pub rest : List Num
+  pub spelled : spell_numbers (first' ∷ rest) ≡ us
+  pub alike : map (λ (m : Num). m.value) (first' ∷ rest) ≡ n ∷ ns
 
 read_numbers : (n : ℕ) (ns : List ℕ) (us : List Token) → map placeless us ≡ spell_numbers (map num_of (n ∷ ns)) → ReadNumbers us n ns
 read_numbers n [] us h =
@@ -157,19 +157,19 @@ read_numbers n (m ∷ ns) us h =
       alike = ap (λ (xs : List ℕ). n ∷ xs) r.alike;
     }
 
-record ReadAgg (us : List Token) (a : AggShape) : Type 0 where
-  tree : written.Agg
-  spelled : spell_agg tree ≡ us
-  grammar : IsAgg tree
-  alike : agg_alike (agg_meaning tree) ≡ a
+pub record ReadAgg (us : List Token) (a : AggShape) : Type 0 where
+  pub tree : written.Agg
+  pub spelled : spell_agg tree ≡ us
+  pub grammar : IsAgg tree
+  pub alike : agg_alike (agg_meaning tree) ≡ a
 
-record ReadFold (us : List Token) (f : Fold) (e : ExprShape) : Type 0 where
-  at : ℕ
-  open' : ℕ
-  arg : written.Expr
-  spelled : spell_agg (written.Fold' f at open' arg) ≡ us
-  grammar : IsExpr arg
-  alike : expr_alike (expr_meaning arg) ≡ e
+pub record ReadFold (us : List Token) (f : Fold) (e : ExprShape) : Type 0 where
+  pub at : ℕ
+  pub open' : ℕ
+  pub arg : written.Expr
+  pub spelled : spell_agg (written.Fold' f at open' arg) ≡ us
+  pub grammar : IsExpr arg
+  pub alike : expr_alike (expr_meaning arg) ≡ e
 
 read_fold : (f : Fold) (e : ExprShape) → CanBeExpr e → (us : List Token) → map placeless us ≡ spell_agg (written.Fold' f 0 0 (expr_of e)) → ReadFold us f e
 read_fold f e c us h =
@@ -229,21 +229,21 @@ read_agg (shape.Wsum e (n ∷ ns)) c us h =
 -- ---- items
 
 -- an item whose part in the result is this one
-record ReadOne {A : Type 0} (g : List written.Item → List A) (b : Bool) (us : List Token) (i : A) : Type 0 where
-  tree : written.Item
-  spelled : spell_item tree ≡ us
-  grammar : IsItem tree
-  total : is_total tree ≡ b
-  alike : g (tree ∷ []) ≡ i ∷ []
+pub record ReadOne {A : Type 0} (g : List written.Item → List A) (b : Bool) (us : List Token) (i : A) : Type 0 where
+  pub tree : written.Item
+  pub spelled : spell_item tree ≡ us
+  pub grammar : IsItem tree
+  pub total : is_total tree ≡ b
+  pub alike : g (tree ∷ []) ≡ i ∷ []
 
-record ReadList {A : Type 0} (g : List written.Item → List A) (b : Bool) (us : List Token) (i : A) (is : List A) : Type 0 where
-  first' : written.Item
-  rest : List written.Item
-  spelled : spell_items (first' ∷ rest) ≡ us
-  grammar : AreItems (first' ∷ rest)
-  total : is_total first' ≡ b
-  others : first_other b rest ≡ None
-  alike : g (first' ∷ rest) ≡ i ∷ is
+pub record ReadList {A : Type 0} (g : List written.Item → List A) (b : Bool) (us : List Token) (i : A) (is : List A) : Type 0 where
+  pub first' : written.Item
+  pub rest : List written.Item
+  pub spelled : spell_items (first' ∷ rest) ≡ us
+  pub grammar : AreItems (first' ∷ rest)
+  pub total : is_total first' ≡ b
+  pub others : first_other b rest ≡ None
+  pub alike : g (first' ∷ rest) ≡ i ∷ is
 
 same_refl : (b : Bool) → same b b ≡ true
 same_refl true = refl

@@ -26,12 +26,12 @@ use Rattle.gl_query_printer.proofs.ReadBack.{cons, two, read_expr, read_list, pl
 
 -- ---- selects
 
-record ReadPick (us : List Token) (p : PickShape) : Type 0 where
-  tree : written.Pick
-  spelled : spell_pick tree ≡ us
-  grammar : IsPick tree
-  mixed : mixed_pick tree None ≡ None
-  alike : (f : Option meant.ExprTree) (s : meant.QueryTree) → query_alike (by_pick tree f s) ≡ shape.Rows p (option_map expr_alike f) (query_alike s)
+pub record ReadPick (us : List Token) (p : PickShape) : Type 0 where
+  pub tree : written.Pick
+  pub spelled : spell_pick tree ≡ us
+  pub grammar : IsPick tree
+  pub mixed : mixed_pick tree None ≡ None
+  pub alike : (f : Option meant.ExprTree) (s : meant.QueryTree) → query_alike (by_pick tree f s) ≡ shape.Rows p (option_map expr_alike f) (query_alike s)
 
 items_pick : (i : written.Item) (is : List written.Item) → AreItems (i ∷ is) → IsPick (written.Items (i ∷ is))
 items_pick i is g = g
@@ -58,12 +58,12 @@ read_pick (shape.Items (i ∷ is)) c us h =
       alike = λ f s. plain_pick r.first' r.rest f s i is r.total r.alike;
     }
 
-record ReadAggs (us : List Token) (aggs : List AggItemShape) : Type 0 where
-  tree : written.Pick
-  spelled : spell_pick tree ≡ us
-  grammar : IsPick tree
-  mixed : mixed_pick tree None ≡ None
-  alike : (s : meant.QueryTree) → query_alike (by_pick tree None s) ≡ shape.Total aggs (query_alike s)
+pub record ReadAggs (us : List Token) (aggs : List AggItemShape) : Type 0 where
+  pub tree : written.Pick
+  pub spelled : spell_pick tree ≡ us
+  pub grammar : IsPick tree
+  pub mixed : mixed_pick tree None ≡ None
+  pub alike : (s : meant.QueryTree) → query_alike (by_pick tree None s) ≡ shape.Total aggs (query_alike s)
 
 total_pick : (i : written.Item) (is : List written.Item) (s : meant.QueryTree) (x : AggItemShape) (xs : List AggItemShape) → is_total i ≡ true → totals (i ∷ is) ≡ x ∷ xs
     → query_alike (by_items (is_total i) (i ∷ is) None s) ≡ shape.Total (x ∷ xs) (query_alike s)
@@ -81,11 +81,11 @@ read_aggs (i ∷ is) s c us h =
       alike = λ s. total_pick r.first' r.rest s i is r.total r.alike;
     }
 
-record ReadFilter (us : List Token) (f : Option ExprShape) : Type 0 where
-  tree : Option written.Expr
-  spelled : spell_filter tree ≡ us
-  grammar : IsFilter tree
-  alike : option_map expr_alike (option_map expr_meaning tree) ≡ f
+pub record ReadFilter (us : List Token) (f : Option ExprShape) : Type 0 where
+  pub tree : Option written.Expr
+  pub spelled : spell_filter tree ≡ us
+  pub grammar : IsFilter tree
+  pub alike : option_map expr_alike (option_map expr_meaning tree) ≡ f
 
 read_filter : (f : Option ExprShape) → CanBeFilter f → (us : List Token) → map placeless us ≡ spell_filter (option_map expr_of f) → ReadFilter us f
 read_filter None c us h = record { tree = None; spelled = sym (nothing us h); grammar = tt; alike = refl }
@@ -96,11 +96,11 @@ read_filter (Some e) c us h =
 
 -- ---- queries
 
-record ReadWindow (us : List Token) (size advance : ℕ) : Type 0 where
-  window : Window
-  spelled : spell_window window ≡ us
-  size_is : window.size.value ≡ size
-  advance_is : window.advance.value ≡ advance
+pub record ReadWindow (us : List Token) (size advance : ℕ) : Type 0 where
+  pub window : Window
+  pub spelled : spell_window window ≡ us
+  pub size_is : window.size.value ≡ size
+  pub advance_is : window.advance.value ≡ advance
 
 read_window : (size advance : ℕ) (us : List Token) → map placeless us ≡ spell_window (window_of size advance) → ReadWindow us size advance
 read_window size advance us h =
@@ -121,11 +121,11 @@ read_window size advance us h =
       advance_is = refl;
     }
 
-record ReadGrouping (us : List Token) (key : List ℕ) (groups : ℕ) : Type 0 where
-  grouping : Grouping
-  spelled : spell_grouping grouping ≡ us
-  key_is : grouping.key.text ≡ key
-  groups_is : grouping.groups.value ≡ groups
+pub record ReadGrouping (us : List Token) (key : List ℕ) (groups : ℕ) : Type 0 where
+  pub grouping : Grouping
+  pub spelled : spell_grouping grouping ≡ us
+  pub key_is : grouping.key.text ≡ key
+  pub groups_is : grouping.groups.value ≡ groups
 
 read_grouping : (key : List ℕ) (groups : ℕ) (us : List Token) → map placeless us ≡ spell_grouping (grouping_of key groups) → ReadGrouping us key groups
 read_grouping key groups us h =
@@ -140,28 +140,28 @@ read_grouping key groups us h =
       groups_is = refl;
     }
 
-record ReadQuery (us : List Token) (q : QueryShape) : Type 0 where
-  tree : written.Query
-  spelled : spell_query tree ≡ us
-  grammar : IsNoStream q → IsQuery tree
-  bare : is_stream (query_of q) ≡ true → IsSource tree
-  term : IsNoStream q → is_term (query_of q) ≡ true → IsTerm tree
-  mixed : mixed_in tree ≡ None
-  alike : query_alike (query_meaning tree) ≡ q
+pub record ReadQuery (us : List Token) (q : QueryShape) : Type 0 where
+  pub tree : written.Query
+  pub spelled : spell_query tree ≡ us
+  pub grammar : IsNoStream q → IsQuery tree
+  pub bare : is_stream (query_of q) ≡ true → IsSource tree
+  pub term : IsNoStream q → is_term (query_of q) ≡ true → IsTerm tree
+  pub mixed : mixed_in tree ≡ None
+  pub alike : query_alike (query_meaning tree) ≡ q
 
-record ReadSource (us : List Token) (q : QueryShape) : Type 0 where
-  tree : written.Query
-  spelled : spell_query tree ≡ us
-  grammar : IsSource tree
-  mixed : mixed_in tree ≡ None
-  alike : query_alike (query_meaning tree) ≡ q
+pub record ReadSource (us : List Token) (q : QueryShape) : Type 0 where
+  pub tree : written.Query
+  pub spelled : spell_query tree ≡ us
+  pub grammar : IsSource tree
+  pub mixed : mixed_in tree ≡ None
+  pub alike : query_alike (query_meaning tree) ≡ q
 
-record ReadTerm (us : List Token) (q : QueryShape) : Type 0 where
-  tree : written.Query
-  spelled : spell_query tree ≡ us
-  grammar : IsTerm tree
-  mixed : mixed_in tree ≡ None
-  alike : query_alike (query_meaning tree) ≡ q
+pub record ReadTerm (us : List Token) (q : QueryShape) : Type 0 where
+  pub tree : written.Query
+  pub spelled : spell_query tree ≡ us
+  pub grammar : IsTerm tree
+  pub mixed : mixed_in tree ≡ None
+  pub alike : query_alike (query_meaning tree) ≡ q
 
 -- how a query is read
 abbrev Reads : QueryShape → Type 0
@@ -176,13 +176,13 @@ no_stream (shape.PerGroup var source key groups body) h = tt
 no_stream (shape.Union l r) h = tt
 no_stream (shape.Concat l r) h = tt
 
-record InBrackets' (us : List Token) (q : QueryShape) : Type 0 where
-  at : ℕ
-  inner : written.Query
-  spelled : spell_query (written.InBrackets at inner) ≡ us
-  grammar : IsNoStream q → IsQuery inner
-  mixed : mixed_in inner ≡ None
-  alike : query_alike (query_meaning inner) ≡ q
+pub record InBrackets' (us : List Token) (q : QueryShape) : Type 0 where
+  pub at : ℕ
+  pub inner : written.Query
+  pub spelled : spell_query (written.InBrackets at inner) ≡ us
+  pub grammar : IsNoStream q → IsQuery inner
+  pub mixed : mixed_in inner ≡ None
+  pub alike : query_alike (query_meaning inner) ≡ q
 
 in_brackets : (q : QueryShape) → Reads q → (us : List Token) → map placeless us ≡ token.Open 0 ∷ (spell_query (query_of q) ++ token.Plain plain.Close ∷ []) → InBrackets' us q
 in_brackets q r us h =
@@ -226,14 +226,14 @@ alike_join : (j : Join) (l r : written.Query) (at : ℕ) (x y : QueryShape) → 
 alike_join Union l r at x y e f = ap (λ (z : QueryShape). shape.Union z (query_alike (query_meaning r))) e ∙ ap (shape.Union x) f
 alike_join Concat l r at x y e f = ap (λ (z : QueryShape). shape.Concat z (query_alike (query_meaning r))) e ∙ ap (shape.Concat x) f
 
-record ReadJoin (us : List Token) (j : Join) (l r : QueryShape) : Type 0 where
-  at : ℕ
-  left : written.Query
-  right : written.Query
-  spelled : spell_query (written.Join' j at left right) ≡ us
-  grammar : IsQuery (written.Join' j at left right)
-  mixed : mixed_in (written.Join' j at left right) ≡ None
-  alike : query_alike (query_meaning (written.Join' j at left right)) ≡ joined j l r
+pub record ReadJoin (us : List Token) (j : Join) (l r : QueryShape) : Type 0 where
+  pub at : ℕ
+  pub left : written.Query
+  pub right : written.Query
+  pub spelled : spell_query (written.Join' j at left right) ≡ us
+  pub grammar : IsQuery (written.Join' j at left right)
+  pub mixed : mixed_in (written.Join' j at left right) ≡ None
+  pub alike : query_alike (query_meaning (written.Join' j at left right)) ≡ joined j l r
 
 read_join : (j : Join) (l r : QueryShape) → IsNoStream l → IsNoStream r → Reads l → Reads r → (us : List Token) → map placeless us ≡ spell_query (query_of l) ++ token.Join j 0 ∷ spell_query (term_of (query_of r)) → ReadJoin us j l r
 read_join j l r n m rl rr us h =
@@ -265,16 +265,16 @@ alike_groups : (var k key : List ℕ) (a n : ℕ) (x y source body : QueryShape)
 alike_groups var k key a n x y source body e f g h = rw (e, f, g, h) refl
 
 -- the part of an EACH in front of its window or its key
-record ReadHead (us : List Token) (var : List ℕ) (source : QueryShape) (more : List Token) : Type 0 where
-  at : ℕ
-  name_at : ℕ
-  tree : written.Query
-  rest : List Token
-  whole : us ≡ token.Each at ∷ token.Name (record { text = var; at = name_at }) ∷ token.Plain plain.In ∷ (spell_query tree ++ rest)
-  rest_is : map placeless rest ≡ more
-  grammar : IsSource tree
-  mixed : mixed_in tree ≡ None
-  alike : query_alike (query_meaning tree) ≡ source
+pub record ReadHead (us : List Token) (var : List ℕ) (source : QueryShape) (more : List Token) : Type 0 where
+  pub at : ℕ
+  pub name_at : ℕ
+  pub tree : written.Query
+  pub rest : List Token
+  pub whole : us ≡ token.Each at ∷ token.Name (record { text = var; at = name_at }) ∷ token.Plain plain.In ∷ (spell_query tree ++ rest)
+  pub rest_is : map placeless rest ≡ more
+  pub grammar : IsSource tree
+  pub mixed : mixed_in tree ≡ None
+  pub alike : query_alike (query_meaning tree) ≡ source
 
 read_head : (var : List ℕ) (source : QueryShape) (more : List Token) → Reads source → (us : List Token) → map placeless us ≡ token.Each 0 ∷ token.Name (name_of var) ∷ token.Plain plain.In ∷ (spell_query (source_of (query_of source)) ++ more) → ReadHead us var source more
 read_head var source more r us h =
@@ -297,13 +297,13 @@ read_head var source more r us h =
     }
 
 -- the body in its brackets
-record ReadBody (us : List Token) (body : QueryShape) : Type 0 where
-  at : ℕ
-  tree : written.Query
-  spelled : token.Open at ∷ (spell_query tree ++ token.Plain plain.Close ∷ []) ≡ us
-  grammar : IsQuery tree
-  mixed : mixed_in tree ≡ None
-  alike : query_alike (query_meaning tree) ≡ body
+pub record ReadBody (us : List Token) (body : QueryShape) : Type 0 where
+  pub at : ℕ
+  pub tree : written.Query
+  pub spelled : token.Open at ∷ (spell_query tree ++ token.Plain plain.Close ∷ []) ≡ us
+  pub grammar : IsQuery tree
+  pub mixed : mixed_in tree ≡ None
+  pub alike : query_alike (query_meaning tree) ≡ body
 
 read_body : (body : QueryShape) → IsNoStream body → Reads body → (us : List Token) → map placeless us ≡ token.Open 0 ∷ (spell_query (query_of body) ++ token.Plain plain.Close ∷ []) → ReadBody us body
 read_body body n r us h = let x = in_brackets body r us h in record { at = x.at; tree = x.inner; spelled = x.spelled; grammar = x.grammar n; mixed = x.mixed; alike = x.alike }
