@@ -66,7 +66,7 @@ can_wire schema statement select s is =
     let cs = b.stream.columns in
     let stream = stream_is schema statement select s is in
     record {
-      get_below = get_below schema.streams select.stream b.stream is.number;
+      within = get_below schema.streams select.stream b.stream is.number;
       there = rw is.number (subst (All (λ p. p < length cs)) (sym is.places) (all_from (λ p. p < length cs) (map (column_number cs) b.names) (places_known cs b.names b.known)));
       lengths = ap length is.places ∙ length_map (column_number cs) b.names ∙ ap length (sym is.names);
       into = subst IsName (sym is.into) b.into;

@@ -79,7 +79,7 @@ fn put_word<K: Sink>(out: &mut K, cycle: u64, word: &[u8]) -> Result<(), WriteFa
 }
 
 // Writes the line that says that a further group came, if it is due.
-#[tactic(auto, using(crate::proofs::Puts::nothing_put), unfolding(gl_schema::specs::Seen::overflow_line))]
+#[tactic(auto, using(gl_outside::proofs::Takes::took_none), unfolding(gl_schema::specs::Seen::overflow_line))]
 fn put_overflow<K: Sink>(out: &mut K, cycle: u64, due: bool) -> Result<(), WriteFault>
     ensures { Wrote (K.state out.old) (K.state out.new) (overflow_if due cycle) result }
 {
@@ -90,7 +90,7 @@ fn put_overflow<K: Sink>(out: &mut K, cycle: u64, due: bool) -> Result<(), Write
 }
 
 // Writes the line of the end, if it is due.
-#[tactic(auto, using(crate::proofs::Puts::nothing_put), unfolding(gl_schema::specs::Seen::end_line))]
+#[tactic(auto, using(gl_outside::proofs::Takes::took_none), unfolding(gl_schema::specs::Seen::end_line))]
 fn put_end<K: Sink>(out: &mut K, cycle: u64, due: bool) -> Result<(), WriteFault>
     ensures { Wrote (K.state out.old) (K.state out.new) (end_if due cycle) result }
 {
@@ -101,7 +101,7 @@ fn put_end<K: Sink>(out: &mut K, cycle: u64, due: bool) -> Result<(), WriteFault
 }
 
 // Writes the line of a row, if one is due.
-#[tactic(auto, using(crate::proofs::Puts::nothing_put))]
+#[tactic(auto, using(gl_outside::proofs::Takes::took_none))]
 fn put_row<K: Sink>(
     out: &mut K,
     cycle: u64,
