@@ -1,0 +1,151 @@
+//! The whole program over memory, from bytes to bytes: `stdin` has its rows, `stdout` what each comes to.
+//!
+//! A line `schema TEXT` or `tuples TEXT` sets a text, `without schema` and `without tuples` take it
+//! away, and `fail F P N` has the fetch, the put and the note of these numbers fail (0 for none). A line
+//! `query TEXT` runs `run S Q T`: the query is printed, and then the status, what was written and what
+//! was noted, parted by `|`. Every other line is a remark.
+#![tactic(auto)]
+
+ghost use Rattle.std.specs.Prelude.{◌≡◌, IfOk, ◌∷◌, [], codes};
+
+use gl_outside::{Memory, MemoryShelf, MemorySink, Words};
+use gl_top::run;
+use std::alloc::Global;
+use std::io;
+
+// Bytes that a sink takes at most.
+const ROOM: usize = 1_000;
+
+// The texts of the schema and of the tuple file, and the numbers of the calls that fail.
+#[derive(Drop)]
+struct Row {
+    schema: Option<String>,
+    tuples: Option<String>,
+    failing: Failing,
+}
+
+// The numbers of the fetch, of the put and of the note that fail, 0 for none.
+#[derive(Clone, Copy)]
+struct Failing {
+    fetch: u64,
+    put: u64,
+    note: u64,
+}
+
+// The words `run S Q T`.
+fn run_words(alloc: Global) -> Result<Words, Memory>
+    ensures { IfOk result (λ words. words ≡ codes "run" ∷ codes "S" ∷ codes "Q" ∷ codes "T" ∷ []) }
+{
+    let mut words = Words::new(alloc);
+    words.push("run")?;
+    words.push("S")?;
+    words.push("Q")?;
+    words.push("T")?;
+    Ok(words)
+}
+
+// Holds a text, if it is there.
+fn hold(shelf: &mut MemoryShelf, name: &str, text: &Option<String>) -> Result<(), Memory>
+    ensures { shelf.new.held.names ≡ shelf.old.held.names }
+{
+    match text {
+        Some(text) => shelf.hold(name, text.as_bytes()),
+        None => Ok(()),
+    }
+}
+
+// A shelf with the texts that are there.
+fn shelf_with(alloc: Global, row: &Row, query: &str) -> Result<MemoryShelf, Memory>
+    ensures { let names = codes "run" ∷ codes "S" ∷ codes "Q" ∷ codes "T" ∷ [] in
+        IfOk result (λ shelf. shelf.held.names ≡ names) }
+{
+    let mut shelf = MemoryShelf::new(alloc, run_words(alloc)?);
+    hold(&mut shelf, "S", &row.schema)?;
+    shelf.hold("Q", query.as_bytes())?;
+    hold(&mut shelf, "T", &row.tuples)?;
+    shelf.fail(row.failing.fetch)?;
+    Ok(shelf)
+}
+
+// A sink one of whose calls may fail.
+fn sink_with(alloc: Global, failing: u64) -> Result<MemorySink, Memory> {
+    let mut sink = MemorySink::new(alloc, ROOM)?;
+    sink.fail(failing)?;
+    Ok(sink)
+}
+
+// What a query comes to: its status, and the two sinks.
+#[derive(Drop)]
+struct Told {
+    code: u8,
+    out: MemorySink,
+    notes: MemorySink,
+}
+
+fn told_of(alloc: Global, row: &Row, query: &str) -> Result<Told, Memory> {
+    let words = run_words(alloc)?;
+    let mut shelf = shelf_with(alloc, row, query)?;
+    let mut out = sink_with(alloc, row.failing.put)?;
+    let mut notes = sink_with(alloc, row.failing.note)?;
+    let mut text = Vec::new(alloc);
+    let status = run(alloc, &words, &mut shelf, &mut out, &mut notes, &mut text);
+    let code = status.code();
+    Ok(Told { code, out, notes })
+}
+
+// The number in the place of a word; 0 where there is none.
+fn number_at(text: &str, place: usize) -> u64 {
+    match text.split_whitespace().nth(place) {
+        Some(word) => word.parse::<u64>().unwrap_or(0),
+        None => 0,
+    }
+}
+
+fn failing_of(text: &str) -> Failing {
+    Failing {
+        fetch: number_at(text, 0),
+        put: number_at(text, 1),
+        note: number_at(text, 2),
+    }
+}
+
+// Takes a text away.
+fn without(row: &mut Row, name: &str) {
+    if name == "schema" {
+        row.schema = None;
+    } else {
+        row.tuples = None;
+    }
+}
+
+fn print_told(rt: &HostRuntime, row: &Row, query: &str) -> io::Result<()> {
+    let Ok(told) = told_of(rt.alloc(), row, query) else {
+        return println!(rt; "out of memory");
+    };
+    let code = told.code;
+    let written = str::from_utf8(told.out.bytes()).unwrap_or("?");
+    let noted = str::from_utf8(told.notes.bytes()).unwrap_or("?");
+    println!(rt; "{query}")?;
+    println!(rt; "{code}|{written}|{noted}")
+}
+
+fn main(rt: HostRuntime) -> io::Result<()> {
+    let mut row = Row {
+        schema: None,
+        tuples: None,
+        failing: failing_of(""),
+    };
+    for line in rt.lines(rt.alloc()) {
+        let line = line?;
+        let (command, text) = line.split_once(' ').unwrap_or((line.as_str(), ""));
+        match command {
+            "schema" => row.schema = Some(text.to_string(rt.alloc())?),
+            "tuples" => row.tuples = Some(text.to_string(rt.alloc())?),
+            "without" => without(&mut row, text),
+            "fail" => row.failing = failing_of(text),
+            "query" => print_told(&rt, &row, text)?,
+            _ => (),
+        }
+    }
+    Ok(())
+}
