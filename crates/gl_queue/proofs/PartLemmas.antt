@@ -70,19 +70,18 @@ passed_is run bits depth push some pop meets full comes line head tail met fille
   is = λ t. lined (suc t) ∙ rw (coming (suc t), filled (suc t), met t) refl;
 }
 
-pub places_are : (run : Run) (bits : ℕ) (push hold some pop last empties stays next : Bit) (head tail : Bus) → IsPointer run bits pop head → IsPointer run bits push tail
+pub places_are : (run : Run) (bits : ℕ) (push hold some pop last next : Bit) (head tail : Bus) → IsPointer run bits pop head → IsPointer run bits push tail
     → ((t : ℕ) → line_at run pop t ≡ line_at run some t && not (line_at run hold t))
     → ((t : ℕ) → line_at run last (suc t) ≡ nat_eq ((run.at (suc t) head.node + 1) % 2 ^ bits) (run.at (suc t) tail.node))
-    → ((t : ℕ) → line_at run empties t ≡ line_at run pop t && line_at run last t) → ((t : ℕ) → line_at run stays t ≡ line_at run some t && not (line_at run empties t))
-    → ((t : ℕ) → line_at run next t ≡ line_at run push t || line_at run stays t) → run.at 1 some.node ≡ 0
+    → ((t : ℕ) → line_at run next t ≡ line_at run push t || (line_at run some t && not (line_at run pop t && line_at run last t))) → run.at 1 some.node ≡ 0
     → ((t : ℕ) → run.at (suc (suc t)) some.node ≡ run.at (suc t) next.node) → ArePlaces run bits push hold some pop head tail
 unfolding line_at
-places_are run bits push hold some pop last empties stays next head tail at_head at_tail popped lasts empty stay nexts first later = record {
+places_are run bits push hold some pop last next head tail at_head at_tail popped lasts nexts first later = record {
   pops = popped;
   at_head = at_head;
   at_tail = at_tail;
   some_first = rw first refl;
-  some_next = λ t. ap (λ n. nat_eq n 1) (later t) ∙ nexts (suc t) ∙ ap (λ b. line_at run push (suc t) || b) (stay (suc t) ∙ ap (λ b. line_at run some (suc t) && not b) (empty (suc t) ∙ ap (λ b. line_at run pop (suc t) && b) (lasts t)));
+  some_next = λ t. ap (λ n. nat_eq n 1) (later t) ∙ nexts (suc t) ∙ ap (λ b. line_at run push (suc t) || (line_at run some (suc t) && not (line_at run pop (suc t) && b))) (lasts t);
 }
 
 pub meeting_is : (run : Run) (bits number : ℕ) (head tail many end : Bus) (line : Bit) → ((t : ℕ) → run.at t many.node ≡ number)

@@ -1,5 +1,5 @@
 -- What each part of a ring adds to a netlist.
-use Rattle.std.specs.Prelude.{◌≡◌, ℕ, suc, ◌+◌, ◌*◌, ◌%◌, ◌^◌, List, length, nat_eq}
+use Rattle.std.specs.Prelude.{◌≡◌, ℕ, suc, ◌+◌, ◌*◌, ◌%◌, ◌^◌, List, length, not, ◌&&◌, ◌||◌, nat_eq}
 use Rattle.std.specs.List.{sum}
 use Rattle.gl_net.specs.declared.node.Bus.{Bus}
 use Rattle.gl_net.specs.declared.node.Bit.{Bit}
@@ -40,6 +40,14 @@ pub record IsMeeting (old new : Net) (bits number : ℕ) (head tail : Bus) (meet
   pub bit : IsBit new meets
   pub line : (run : Run) → IsRun new run → (t : ℕ)
       → line_at run meets (suc t) ≡ nat_eq ((run.at (suc t) head.node + number) % 2 ^ bits) (run.at (suc t) tail.node)
+
+-- the line of what a flag is next
+pub record IsFlagOf (old new : Net) (push some pop last next : Bit) : Type 0 where
+  pub keeps : Keeps old new
+  pub cost : Costs old new (nodes_alone 3)
+  pub bit : IsBit new next
+  pub line : (run : Run) → IsRun new run → (t : ℕ)
+      → line_at run next t ≡ line_at run push t || (line_at run some t && not (line_at run pop t && line_at run last t))
 
 -- the flag and the places
 pub record ArePlacesOf (old new : Net) (bits : ℕ) (push hold : Bit) (p : Places) : Type 0 where

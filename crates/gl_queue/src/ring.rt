@@ -3,7 +3,7 @@
 ghost use Rattle.std.specs.Prelude.{◌≡◌, ◌<◌, ◌^◌, ◌%◌, IfOk};
 ghost use Rattle.gl_net.specs.Net.{IsBit, IsBus, IsAddressWidth};
 ghost use Rattle.gl_wire.specs.Wire.{AreBuses};
-ghost use Rattle.gl_queue.specs.Parts.{ArePlacesOf, AreStored, IsMeeting, IsPassedOf, IsPlace, IsStored};
+ghost use Rattle.gl_queue.specs.Parts.{ArePlacesOf, AreStored, IsFlagOf, IsMeeting, IsPassedOf, IsPlace, IsStored};
 
 use gl_bits::{Memory, Word};
 use gl_net::{BinaryOp, Bit, Bus, Buses, NetBuilder};
@@ -120,6 +120,26 @@ pub struct Places {
     pub tail: Bus,
 }
 
+/// A line that is 1 where a push comes, or an entry is there and the last one does not leave.
+pub fn put_flag(
+    net: &mut NetBuilder,
+    push: Bit,
+    some: Bit,
+    pop: Bit,
+    last: Bit,
+) -> Result<Bit, Memory>
+    requires push { IsBit net.old push }
+    requires some { IsBit net.old some }
+    requires pop { IsBit net.old pop }
+    requires last { IsBit net.old last }
+    ensures { IfOk result (IsFlagOf net.old net.new push some pop last) }
+{
+    let empties = both(net, pop, last)?;
+    let stays = but_not(net, some, empties)?;
+    let next = either(net, push, stays)?;
+    Ok(next)
+}
+
 /// The flag that an entry is there, and where the oldest is and the next will be.
 pub fn put_places(net: &mut NetBuilder, bits: u8, push: Bit, hold: Bit) -> Result<Places, Memory>
     requires bits { IsAddressWidth bits }
@@ -133,9 +153,7 @@ pub fn put_places(net: &mut NetBuilder, bits: u8, push: Bit, hold: Bit) -> Resul
     let head = put_place(net, bits, pop)?;
     let tail = put_place(net, bits, push)?;
     let last = put_meeting(net, bits, 1, head, tail)?;
-    let empties = both(net, pop, last)?;
-    let stays = but_not(net, some, empties)?;
-    let next = either(net, push, stays)?;
+    let next = put_flag(net, push, some, pop, last)?;
     net.drive(flag, next.bus())?;
     Ok(Places {
         some,
