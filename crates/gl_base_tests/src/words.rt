@@ -5,6 +5,7 @@ use gl_bits::listed::Listed;
 use gl_bits::lists::{Table, copy_of_row, groups_of, slice_of, slices_of, some_further};
 use gl_bits::totals::{average, count, greatest, least, sum, weigh};
 use gl_bits::word::Word;
+use gl_schema::{is_name, kind_named};
 use std::alloc::Global;
 use std::test::Fail;
 
@@ -119,4 +120,12 @@ fn groups_of_worked_rows(rt: HostRuntime) -> Result<(), Fail> {
     assert_eq!(rt; first.len(), 1);
     assert!(rt; some_further(alloc, 1, 0, rows.as_slice())?);
     Ok(())
+}
+
+#[test]
+fn single_words(rt: HostRuntime) {
+    assert_eq!(rt; kind_named(b"text8"), Some(Kind::Text(8)));
+    assert_eq!(rt; kind_named(b"text10"), None);
+    assert!(rt; is_name(b"a1_b"));
+    assert!(rt; !is_name(b"wsum"));
 }

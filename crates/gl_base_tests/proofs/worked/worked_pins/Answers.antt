@@ -1,6 +1,6 @@
 use Rattle.std.proofs.Common.{refl}
 use Rattle.gl_schema.specs.Ports.{rst, eos, in_valid, in_column}
-use Rattle.gl_base_tests.proofs.schemas.worked_pins.Goals as goal
+use Rattle.gl_base_tests.proofs.worked.worked_pins.Goals as goal
 
 pub returns-clause-reset : goal.returns-clause-reset
 unfolding rst eos in_valid in_column

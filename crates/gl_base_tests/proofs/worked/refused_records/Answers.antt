@@ -7,7 +7,7 @@ use Rattle.gl_tuples.specs.Values.{is_utf8, are_digits, is_number, number_in, nu
 use Rattle.gl_tuples.specs.Entries.{are_utf8, text_checked, cycle_of, row_of, stream_named, entry_of}
 use Rattle.gl_tuples.specs.Filing.{next_filing, beats_of}
 use Rattle.gl_tuples.proofs.FileReadings.{not_both}
-use Rattle.gl_base_tests.proofs.tuples.refused_records.Goals as goal
+use Rattle.gl_base_tests.proofs.worked.refused_records.Goals as goal
 
 pub returns-clause-too_wide : goal.returns-clause-too_wide
 unfolding beats_of next_filing text_checked are_utf8 is_utf8 utf8_valid_len is_text chars encode cycle_of number_of is_number are_digits number_in entry_of stream_named row_of word_of

@@ -1,0 +1,116 @@
+//! What the text of a row comes to, printed.
+
+ghost use Rattle.std.specs.Prelude.{◌≡◌, [], ◌∷◌, IfOk};
+ghost use Rattle.gl_bits.specs.Words.{widths_of};
+
+use gl_bits::{Kind, Memory, Row, Word};
+use gl_schema::{Schema, SchemaFault, read_schema};
+use gl_tuples::{Beat, Beats, TupleFault, line_into, read_tuples};
+use std::alloc::Global;
+use std::io;
+
+/// The schema of the tuple files.
+const SCHEMA: &[u8] = b"stream trades (symbol text4, price u32, volume u32); stream other (v u64);";
+
+/// Prints the streams of a schema's text, or its fault.
+pub fn print_schema(rt: &HostRuntime, text: &[u8]) -> io::Result<()> {
+    match read_schema(rt.alloc(), text) {
+        Ok(schema) => print_streams(rt, &schema),
+        Err(fault) => println!(rt; "{fault}"),
+    }
+}
+
+fn print_streams(rt: &HostRuntime, schema: &Schema) -> io::Result<()> {
+    print!(rt; "read")?;
+    for stream in schema.streams.as_slice() {
+        let name = str::from_utf8(stream.name.as_slice()).unwrap_or("?");
+        print!(rt; "|{name}")?;
+        for column in stream.columns.as_slice() {
+            let name = str::from_utf8(column.name.as_slice()).unwrap_or("?");
+            let kind = column.kind;
+            print!(rt; " {name} {kind:?}")?;
+        }
+    }
+    println!(rt)
+}
+
+// The beats of a tuple file, or its fault; nothing where memory is short.
+fn beats_of(alloc: Global, text: &[u8]) -> Result<Beats, TupleFault> {
+    match read_schema(alloc, SCHEMA) {
+        Ok(schema) => read_tuples(alloc, &schema, text),
+        Err(_) => Err(TupleFault::Memory),
+    }
+}
+
+/// Prints each beat of a tuple file, or its fault: the cycle, `#` and its record, and for each
+/// stream `-` or the numbers of its row with their widths.
+pub fn print_tuples(rt: &HostRuntime, text: &[u8]) -> io::Result<()> {
+    match beats_of(rt.alloc(), text) {
+        Ok(beats) => {
+            for beat in beats.as_slice() {
+                print_beat(rt, beat)?;
+            }
+            println!(rt)
+        }
+        Err(fault) => println!(rt; "{fault}"),
+    }
+}
+
+fn print_beat(rt: &HostRuntime, beat: &Beat) -> io::Result<()> {
+    let cycle = beat.cycle;
+    let number = beat.number;
+    print!(rt; "{cycle}#{number}")?;
+    for row in beat.rows.as_slice() {
+        match row {
+            Some(row) => print_row(rt, row)?,
+            None => print!(rt; "-")?,
+        }
+    }
+    print!(rt; "{}", if beat.end { " end" } else { " " })
+}
+
+fn print_row(rt: &HostRuntime, row: &Row) -> io::Result<()> {
+    for at in 0..row.len() {
+        if let Some(word) = row.get(at) {
+            let bits = word.bits();
+            let width = word.width();
+            print!(rt; ":{bits}/{width}")?;
+        }
+    }
+    Ok(())
+}
+
+/// Prints whether a tuple file keeps a gap.
+pub fn print_gap(rt: &HostRuntime, gap: u32, text: &[u8]) -> io::Result<()> {
+    let kept = match beats_of(rt.alloc(), text) {
+        Ok(beats) => beats.keep(gap),
+        Err(fault) => Err(fault),
+    };
+    match kept {
+        Ok(()) => println!(rt; "kept"),
+        Err(fault) => println!(rt; "{fault}"),
+    }
+}
+
+// A row of a text of four bytes and a number of 32 bits; none where one does not fit.
+fn two_words(alloc: Global, text: u128, number: u128) -> Result<Option<Row>, Memory>
+    ensures { IfOk result (λ row. IfSome row (λ row. widths_of row ≡ 32 ∷ 32 ∷ [])) }
+{
+    let (Some(text), Some(number)) = (Word::new(text, 32), Word::new(number, 32)) else {
+        return Ok(None);
+    };
+    let mut row = Row::new(alloc);
+    row.push(text)?;
+    row.push(number)?;
+    Ok(Some(row))
+}
+
+/// Prints the line of a result in cycle 12, of a text of four bytes and a number of 32 bits.
+pub fn print_line(rt: &HostRuntime, text: u128, number: u128) -> io::Result<()> {
+    let Ok(Some(row)) = two_words(rt.alloc(), text, number) else {
+        return println!(rt; "no row");
+    };
+    let mut line = [0u8; 1024];
+    let len = line_into(12, &row, &[Kind::Text(4), Kind::Unsigned(32)], &mut line);
+    print!(rt; "{}", str::from_utf8(&line[..len]).unwrap_or("?"))
+}
