@@ -1,0 +1,132 @@
+-- What putting a child asks for follows from what putting its node asks for.
+use Rattle.std.proofs.Common.{◌≡◌, ℕ, ◌+◌, ◌<◌, List, [], ◌∷◌, ◌++◌, length, Some, slice_get, All, subst, arith}
+use Rattle.std.proofs.lemmas.List.Elements.{All-head, All-tail}
+use Rattle.std.proofs.lemmas.Option.{slice_get_within}
+use Rattle.gl_algebra.specs.declared.figures.Figures.{Figures}
+use Rattle.gl_algebra.specs.declared.node.PlanNode.{PlanNode}
+use Rattle.gl_algebra.specs.declared.node.PlanNode.TheVariants.{Window, Group}
+use Rattle.gl_algebra.specs.Fits.{IsPlan}
+use Rattle.gl_algebra.specs.Nodewise.{named_by}
+use Rattle.gl_algebra.specs.Shapes.{shape_of, shape_from}
+use Rattle.gl_algebra.specs.Weights.{copies_of, copies_from}
+use Rattle.gl_algebra.proofs.FigureLemmas.{one_copy}
+use Rattle.gl_algebra.proofs.TableLemmas.{nodes_follow_tables}
+use Rattle.gl_net.specs.Net.{Net, Keeps}
+use Rattle.gl_wire.specs.declared.emitted.Emitted.{Emitted}
+use Rattle.gl_wire.specs.declared.wire.Wire.{Wire}
+use Rattle.gl_wire.proofs.ColumnLemmas.{wire_kept}
+use Rattle.gl_wire.proofs.FaultLemmas.{lines_kept}
+use Rattle.gl_plan_wiring.specs.Leaves.{HaveLeaves}
+use Rattle.gl_plan_wiring.specs.Put.{CanPut, HasColumns, IsPut}
+
+pub leaves_kept : (old new : Net) (leaves : List Wire) (nodes : List PlanNode) → Keeps old new → HaveLeaves old leaves nodes → HaveLeaves new leaves nodes
+leaves_kept old new leaves [] g h = tt
+leaves_kept old new leaves (node ∷ nodes) g h = (
+  record { wire = h.0.wire; there = h.0.there; is = wire_kept old new h.0.wire g h.0.is; same_widths = h.0.same_widths },
+  leaves_kept old new leaves nodes g h.1,
+)
+
+left_leaves : (net : Net) (leaves : List Wire) (xs ys : List PlanNode) → HaveLeaves net leaves (xs ++ ys) → HaveLeaves net leaves xs
+left_leaves net leaves [] ys h = tt
+left_leaves net leaves (x ∷ xs) ys h = (h.0, left_leaves net leaves xs ys h.1)
+
+right_leaves : (net : Net) (leaves : List Wire) (xs ys : List PlanNode) → HaveLeaves net leaves (xs ++ ys) → HaveLeaves net leaves ys
+right_leaves net leaves [] ys h = h
+right_leaves net leaves (x ∷ xs) ys h = right_leaves net leaves xs ys h.1
+
+pub record CanPutChild (nodes : List PlanNode) (figures : List Figures) (id child : ℕ) (net : Net) (leaves : List Wire) : Type 0 where
+  pub before : child < id
+  pub can : CanPut nodes figures child net leaves
+
+module _ (nodes : List PlanNode) (id : ℕ) (node : PlanNode) (plan : IsPlan nodes) (at : slice_get nodes id ≡ Some node) where
+  first_before : (child : ℕ) (rest : List ℕ) → named_by node ≡ child ∷ rest → child < id
+  first_before child rest named = All-head (λ c. c < id) child rest (subst (All (λ c. c < id)) named (plan.fits id node at).before)
+
+  second_before : (left right : ℕ) → named_by node ≡ left ∷ right ∷ [] → right < id
+  second_before left right named =
+      All-head (λ c. c < id) right [] (All-tail (λ c. c < id) left (right ∷ []) (subst (All (λ c. c < id)) named (plan.fits id node at).before))
+
+  -- the nodes that a node names are there
+  pub first_within : (child : ℕ) (rest : List ℕ) → named_by node ≡ child ∷ rest → child < length nodes
+  first_within child rest named = let before = first_before child rest named in omega (arith, before, slice_get_within nodes id node at)
+
+  pub second_within : (left right : ℕ) → named_by node ≡ left ∷ right ∷ [] → right < length nodes
+  second_within left right named = let before = second_before left right named in omega (arith, before, slice_get_within nodes id node at)
+
+module _ (nodes : List PlanNode) (figures : List Figures) (id : ℕ) (node : PlanNode) (net : Net) (leaves : List Wire)
+    (plan : IsPlan nodes) (at : slice_get nodes id ≡ Some node) (can : CanPut nodes figures id net leaves) where
+  of_node : HaveLeaves net leaves (shape_from (shape_of nodes) node).leaves
+  of_node = subst (λ s. HaveLeaves net leaves s.leaves) (nodes_follow_tables nodes id node plan at).shape can.leaved
+
+  -- the node's copies are those of its children alone
+  pub no_copies : copies_from (copies_of nodes) node ≡ 0
+  no_copies = subst (λ c. c ≡ 0) (nodes_follow_tables nodes id node plan at).copies can.flat
+
+  -- the one child, whose leaves are the node's
+  pub can_child : (child : ℕ) → named_by node ≡ child ∷ [] → copies_from (copies_of nodes) node ≡ copies_of nodes child + 0
+      → (shape_from (shape_of nodes) node).leaves ≡ (shape_of nodes child).leaves → CanPutChild nodes figures id child net leaves
+  can_child child named copies same =
+      let before = first_before nodes id node plan at child [] named in
+      record {
+        before = before;
+        can = record {
+          within = omega (arith, before, can.within);
+          flat = omega (arith, no_copies, copies);
+          figured = can.figured;
+          leaved = subst (HaveLeaves net leaves) same of_node;
+        };
+      }
+
+  -- the left of two, and the right one, once the left one is put
+  pub can_left : (left right : ℕ) → named_by node ≡ left ∷ right ∷ [] → copies_from (copies_of nodes) node ≡ copies_of nodes left + copies_of nodes right + 0
+      → (shape_from (shape_of nodes) node).leaves ≡ (shape_of nodes left).leaves ++ (shape_of nodes right).leaves
+      → CanPutChild nodes figures id left net leaves
+  can_left left right named copies same =
+      let before = first_before nodes id node plan at left (right ∷ []) named in
+      record {
+        before = before;
+        can = record {
+          within = omega (arith, before, can.within);
+          flat = omega (arith, no_copies, copies);
+          figured = can.figured;
+          leaved = left_leaves net leaves _ (shape_of nodes right).leaves (subst (HaveLeaves net leaves) same of_node);
+        };
+      }
+
+  pub can_right : (new : Net) (left right : ℕ) → named_by node ≡ left ∷ right ∷ []
+      → copies_from (copies_of nodes) node ≡ copies_of nodes left + copies_of nodes right + 0
+      → (shape_from (shape_of nodes) node).leaves ≡ (shape_of nodes left).leaves ++ (shape_of nodes right).leaves
+      → Keeps net new → CanPutChild nodes figures id right new leaves
+  can_right new left right named copies same keeps =
+      let before = second_before nodes id node plan at left right named in
+      record {
+        before = before;
+        can = record {
+          within = omega (arith, before, can.within);
+          flat = omega (arith, no_copies, copies);
+          figured = can.figured;
+          leaved = leaves_kept net new leaves _ keeps (right_leaves net leaves (shape_of nodes left).leaves _ (subst (HaveLeaves net leaves) same of_node));
+        };
+      }
+
+-- over a window or a group there are copies
+pub no_window : (nodes : List PlanNode) (figures : List Figures) (id source body size advance : ℕ) (net : Net) (leaves : List Wire) → IsPlan nodes
+    → slice_get nodes id ≡ Some (Window source body size advance) → CanPut nodes figures id net leaves → ⊥
+no_window nodes figures id source body size advance net leaves plan at can =
+    let none = no_copies nodes figures id (Window source body size advance) net leaves plan at can in
+    let suits = (plan.fits id (Window source body size advance) at).suits in
+    omega (arith, none, one_copy size advance suits.1.least suits.2.least)
+
+pub no_group : (nodes : List PlanNode) (figures : List Figures) (id source body key groups : ℕ) (net : Net) (leaves : List Wire) → IsPlan nodes
+    → slice_get nodes id ≡ Some (Group source body key groups) → CanPut nodes figures id net leaves → ⊥
+no_group nodes figures id source body key groups net leaves plan at can =
+    let none = no_copies nodes figures id (Group source body key groups) net leaves plan at can in
+    let least = (plan.fits id (Group source body key groups) at).suits.2.least in
+    omega (arith, none, least)
+
+-- what is put has its node's columns
+pub put_columns : (nodes : List PlanNode) (id : ℕ) (old new : Net) (leaves : List Wire) (e : Emitted) → IsPut nodes id old new leaves e → HasColumns nodes id new e
+put_columns nodes id old new leaves e h = record { wire = h.gives.wire; same_widths = h.gives.same_widths; lines = h.gives.lines }
+
+pub columns_kept : (nodes : List PlanNode) (id : ℕ) (old new : Net) (e : Emitted) → Keeps old new → HasColumns nodes id old e → HasColumns nodes id new e
+columns_kept nodes id old new e g h = record { wire = wire_kept old new e.wire g h.wire; same_widths = h.same_widths; lines = lines_kept old new e.faults g h.lines }
