@@ -6,4 +6,4 @@ pub mod GateLemmas
 pub mod MadeLemmas
 pub mod OperatorNet
 pub mod RowLemmas
-pub mod RegisterLemmas
+pub mod CountLemmas

@@ -1,4 +1,4 @@
 pub mod Costs
 pub mod Gates
 pub mod Made
-pub mod Laws
+pub mod Counted

@@ -1,8 +1,11 @@
 //! Laws of the operators of rows.
 
-ghost use Rattle.gl_rows.specs.Laws.{RowsHoldLittle};
+ghost use Rattle.gl_rows.specs.Counted.{ComputesAreCounted, KindsAreNarrow, ProjectsAreCounted, SelectsAreCounted};
 
-/// What a stage behind columns holds is within its row's weight: at most 64 bits for each node.
-pub fn rows_hold_little()
-    ensures { RowsHoldLittle }
+/// What the operators cost at most is within what a plan counts for them in nodes, registers and memories.
+pub fn rows_are_counted()
+    ensures computes { ComputesAreCounted }
+    ensures selects { SelectsAreCounted }
+    ensures projects { ProjectsAreCounted }
+    ensures narrow { KindsAreNarrow }
 {}

@@ -5,4 +5,4 @@ pub mod Folds
 pub mod Totals
 pub mod Averages
 pub mod Weighing
-pub mod Laws
+pub mod Counted

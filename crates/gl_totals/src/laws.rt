@@ -1,8 +1,8 @@
 //! Laws of totals.
 
-ghost use Rattle.gl_totals.specs.Laws.{TotalsHoldLittle};
+ghost use Rattle.gl_totals.specs.Counted.{AggregatesAreCounted};
 
-/// What totals hold is within their row's weight: at most 64 bits for each node.
-pub fn totals_hold_little()
-    ensures { TotalsHoldLittle }
+/// What aggregates cost at most is within what a plan counts for them in nodes, registers and memories.
+pub fn aggregates_are_counted()
+    ensures { AggregatesAreCounted }
 {}

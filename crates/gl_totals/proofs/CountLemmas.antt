@@ -1,7 +1,8 @@
--- What aggregates hold is within their weight.
-use Rattle.std.proofs.Common.{ℕ, suc, ◌+◌, ◌*◌, ◌≤◌, List, [], ◌∷◌, arith}
+-- The costs of aggregates against what a plan counts.
+use Rattle.std.proofs.Common.{◌≡◌, ℕ, suc, ◌+◌, ◌*◌, ◌≤◌, List, [], ◌∷◌, length, map, ◌∙◌, arith}
 use Rattle.std.specs.Prelude.{All, sum_by}
 use Rattle.std.proofs.Math.Nat.{mul-le-mul_left, mul-le-mul_right}
+use Rattle.std.proofs.lemmas.List.{length-map}
 use Rattle.std.proofs.lemmas.List.Sums.{sum_by-cons}
 use Rattle.gl_bits.specs.Kinds.{IsKind, width_of}
 use Rattle.gl_bits.specs.declared.kind.Kind.{Kind}
@@ -12,7 +13,8 @@ use Rattle.gl_algebra.specs.Columns.{AggFits, OperandFits, kind_of_agg, kind_of_
 use Rattle.gl_algebra.specs.FigureTable.{delay_of_aggs}
 use Rattle.gl_algebra.specs.Weights.{weight_of_agg}
 use Rattle.gl_totals.specs.Costs.{state_of_agg}
-use Rattle.gl_totals.specs.Laws.{TotalsHoldLittle}
+use Rattle.gl_totals.specs.Totals.{total_widths}
+use Rattle.gl_totals.specs.Counted.{AggregatesAreCounted}
 use Rattle.gl_totals.proofs.KindLemmas.{operand_width}
 use Rattle.gl_totals.proofs.TotalsBehind.{line_within}
 
@@ -44,6 +46,12 @@ module _ (kinds : List Kind) (all : All IsKind kinds) (m : ℕ) where
         sum_by-cons (λ a. m + weight_of_agg kinds a) agg aggs,
       )
 
-pub totals_hold_little : TotalsHoldLittle
-totals_hold_little kinds aggs all fit =
-    omega (arith, aggs_small kinds all (delay_of_aggs kinds aggs) aggs fit, line_within kinds aggs (weight_of_agg kinds))
+pub aggregates_are_counted : AggregatesAreCounted
+aggregates_are_counted shapes figures child aggs all fit =
+    let kinds = (shapes child).kinds in
+    let many : length (total_widths kinds aggs) ≡ length aggs = length-map (map (kind_of_agg kinds) aggs) width_of ∙ length-map aggs (kind_of_agg kinds) in
+    record {
+      nodes = omega (arith, many);
+      registers = omega (arith, many, aggs_small kinds all (delay_of_aggs kinds aggs) aggs fit, line_within kinds aggs (weight_of_agg kinds));
+      memories = omega arith;
+    }
