@@ -1,5 +1,5 @@
 -- A netlist with two columns at its ports, and a block behind them, can be finished.
-use Rattle.std.proofs.Common.{◌≡◌, ◌≢◌, ℕ, ◌<◌, List, [], ◌∷◌, ◌++◌, length, Some, None, refl, sym, ap, ◌∙◌, arith, rules}
+use Rattle.std.proofs.Common.{◌≡◌, ◌≢◌, ℕ, ◌<◌, List, [], ◌∷◌, ◌++◌, length, Some, refl, sym, ap, ◌∙◌, arith, rules}
 use Rattle.std.specs.Prelude.{codes, slice_index_or}
 use Rattle.std.proofs.lemmas.List.{length-map}
 use Rattle.std.proofs.lemmas.Option.{slice_get-get_or}
@@ -10,7 +10,7 @@ use Rattle.gl_net.specs.Finished.{IsFinished, IsName, clock_name}
 use Rattle.gl_net.specs.Net.{Net, Shape, Value, IsBit, IsBus, Keeps, open_at, shape_in}
 use Rattle.gl_net.proofs.Names.{differ, each_known, own_known}
 use Rattle.gl_wire.specs.declared.emitted.Emitted.{Emitted}
-use Rattle.gl_rows_tests.specs.Circuits.{IsSourceOf, input_at}
+use Rattle.gl_rows_tests.specs.Circuits.{IsSourceOf}
 
 pub five_ports : (z a b c d e : List Port) (p q r s t : Port) → e ≡ d ++ t ∷ [] → d ≡ c ++ s ∷ [] → c ≡ b ++ r ∷ [] → b ≡ a ++ q ∷ [] → a ≡ z ++ p ∷ [] → z ≡ []
     → e ≡ p ∷ q ∷ r ∷ s ∷ t ∷ []

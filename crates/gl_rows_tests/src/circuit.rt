@@ -6,12 +6,18 @@ ghost use Rattle.gl_bits.specs.Words.{IsWidth};
 ghost use Rattle.gl_net.specs.Net.{open_at};
 ghost use Rattle.gl_rows_tests.specs.Circuits.{IsSourceOf};
 
-use crate::interpreter::Circuit;
 use gl_bits::{Kind, Memory};
 use gl_divide::divide;
-use gl_net::{Buses, NetBuilder};
+use gl_net::{Buses, NetBuilder, Netlist};
 use gl_wire::{Emitted, Faults, Operator, Wire};
 use std::alloc::Global;
+
+/// A netlist, and the wire that is looked at.
+#[derive(Drop)]
+pub struct Circuit {
+    pub netlist: Netlist,
+    pub wire: Wire,
+}
 
 // Two columns at the ports of an empty netlist.
 fn put_source(alloc: Global, net: &mut NetBuilder, first: u8, second: u8) -> Result<Emitted, Memory>

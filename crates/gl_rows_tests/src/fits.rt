@@ -1,6 +1,6 @@
 //! Whether operands, operations and aggregates fit columns, for tables of tests.
 
-ghost use Rattle.std.specs.Prelude.{◌≡◌, All, IsTrue};
+ghost use Rattle.std.specs.Prelude.{All, IsTrue};
 ghost use Rattle.gl_algebra.specs.Columns.{AggFits, CastFits, IsUnsigned, OpFits, OperandFits, SortFits, WeightFits};
 ghost use Rattle.gl_bits.specs.Kinds.{IsKind};
 

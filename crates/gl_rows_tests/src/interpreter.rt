@@ -1,15 +1,9 @@
 //! A plain interpreter of netlists of gates and registers.
 
-use gl_net::{BinaryOp, Netlist, Node};
+use crate::circuit::Circuit;
+use gl_net::{BinaryOp, Node};
 use gl_wire::Wire;
 use std::alloc::{AllocError, Global};
-
-/// A netlist, and the wire that is looked at.
-#[derive(Drop)]
-pub struct Circuit {
-    pub netlist: Netlist,
-    pub wire: Wire,
-}
 
 /// What comes in one cycle: a row or not, its two columns, and the end or not.
 #[derive(Clone, Copy)]
@@ -19,41 +13,15 @@ pub struct Beat {
     pub row: [u128; 2],
 }
 
-/// A row.
-pub const fn row(a: u128, b: u128) -> Beat {
-    Beat {
-        valid: true,
-        end: false,
-        row: [a, b],
-    }
-}
+// The cycles that are shown behind the last beat: more than any block takes.
+const MORE: usize = 140;
 
-/// A row and the end.
-pub const fn last(a: u128, b: u128) -> Beat {
-    Beat {
-        valid: true,
-        end: true,
-        row: [a, b],
-    }
-}
-
-/// The end alone; what the columns carry is no row.
-pub const fn end() -> Beat {
-    Beat {
-        valid: false,
-        end: true,
-        row: [1, 1],
-    }
-}
-
-/// Nothing; what the columns carry is no row.
-pub const fn idle() -> Beat {
-    Beat {
-        valid: false,
-        end: false,
-        row: [1, 1],
-    }
-}
+// Nothing; what the columns carry is no row.
+const IDLE: Beat = Beat {
+    valid: false,
+    end: false,
+    row: [1, 1],
+};
 
 // The greatest number of a width.
 fn greatest(width: u8) -> u128 {
@@ -161,7 +129,7 @@ fn anything(alloc: Global, nodes: &[Node]) -> Result<Vec<u128>, AllocError> {
     Ok(states)
 }
 
-// What a wire carries in a cycle, as `CYCLE:ROW` and `CYCLE:end`.
+// Adds what a wire carries in a cycle, as `CYCLE:ROW` and `CYCLE:end`.
 fn write_cycle(
     alloc: Global,
     text: &mut String,
@@ -170,36 +138,30 @@ fn write_cycle(
     cycle: usize,
 ) -> Result<(), AllocError> {
     if value_at(values, wire.valid.node) == 1 {
-        text.push_str(format!(in alloc; "{cycle}")?.as_str())?;
+        text.push_str(format!(in alloc; " {cycle}")?.as_str())?;
         let mut mark = ":";
         for bus in wire.columns.as_slice() {
             let value = value_at(values, bus.node);
             text.push_str(format!(in alloc; "{mark}{value}")?.as_str())?;
             mark = ",";
         }
-        text.push_str(" ")?;
     }
     if value_at(values, wire.eos.node) == 1 {
-        text.push_str(format!(in alloc; "{cycle}:end ")?.as_str())?;
+        text.push_str(format!(in alloc; " {cycle}:end")?.as_str())?;
     }
     Ok(())
 }
 
-/// What a circuit carries, from cycle 1 on, for these beats and so many idle cycles behind them. The registers hold anything at first, and
-/// in the reset cycle the wires carry a row and an end, which do not count.
-pub fn shown(
-    alloc: Global,
-    circuit: &Circuit,
-    beats: &[Beat],
-    more: usize,
-) -> Result<String, AllocError> {
+/// What a circuit's wire carries, from cycle 1 on, for these beats and idle cycles behind them. The registers hold anything at first, and in
+/// the reset cycle the wires carry a row and an end, which do not count.
+pub fn shown(alloc: Global, circuit: &Circuit, beats: &[Beat]) -> Result<String, AllocError> {
     let nodes = circuit.netlist.nodes();
     let mut text = String::new(alloc);
     let states = anything(alloc, nodes)?;
     let values = settled(alloc, nodes, &states, &[1, 1, 1, 1, 1])?;
     let mut states = clocked(alloc, nodes, &values, true)?;
-    for cycle in 1..beats.len().saturating_add(more) {
-        let beat = beats.get(cycle - 1).copied().unwrap_or(idle());
+    for cycle in 1..beats.len().saturating_add(MORE) {
+        let beat = beats.get(cycle - 1).copied().unwrap_or(IDLE);
         let inputs = [
             0,
             beat.valid as u128,
