@@ -1,5 +1,5 @@
 -- Digit by digit the quotient.
-use Rattle.std.proofs.Common.{◌≡◌, ◌≢◌, ℕ, zero, suc, ◌+◌, ◌-◌, ◌*◌, ◌/◌, ◌^◌, ◌<◌, ◌≤◌, inl, inr, Bool, true, false, refl, sym, ap, ◌∙◌, subst, arith}
+use Rattle.std.proofs.Common.{◌≡◌, ◌≢◌, ℕ, zero, suc, ◌+◌, ◌-◌, ◌*◌, ◌/◌, ◌^◌, ◌<◌, inl, inr, Bool, true, false, refl, sym, ap, ◌∙◌, subst, arith}
 use Rattle.std.proofs.Math.Nat.{two-pow-succ, zero-mul}
 use Rattle.std.proofs.lemmas.Bool.{cases_lt}
 use Rattle.std.proofs.lemmas.Nat.{div-mul-add, mul-add-lt, pow-add}
@@ -7,7 +7,7 @@ use Rattle.gl_bits.proofs.Bools.{bit_fits}
 use Rattle.gl_bits.specs.Words.{bit}
 use Rattle.gl_divide.specs.Division.{Division, digits_on, fits_next, highest, next_digit, one_digit, undivided, with_bit}
 use Rattle.gl_divide.proofs.BitLemmas.{highest_none, highest_some, with_bit_none, with_bit_some}
-use Rattle.gl_divide.proofs.RestLemmas.{IsLeft, is_left}
+use Rattle.gl_divide.proofs.RestLemmas.{IsWhole, is_whole}
 
 -- after i digits, with k to come: the top's digits that are gone and those that are not, and the quotient of the former
 pub record IsUnderWay (k i top bottom : ℕ) (d : Division) : Type 0 where
@@ -71,21 +71,21 @@ module _ (n k i digits ahead quotient : ℕ) (e : n ≡ suc (k + i)) (digits_are
   rest_some rest is lt f =
       with_bit_some n (k + i) digits (rest * 2 ^ i + quotient) f e (behind rest is) (behind_fits rest lt) ∙ omega (arith, place_higher rest)
 
-module _ (n m k i top bottom : ℕ) (d : Division) (e : n ≡ suc (k + i)) (some : 1 ≤ m) (fits_bottom : bottom < 2 ^ m) (u : IsUnderWay (k + 1) i top bottom d) where
-  left_is : IsLeft m d.rest d.bottom (next_digit n d)
-  left_is = let w : m ≡ suc (m - 1) = omega arith in is_left m (m - 1) d.rest d.bottom (next_digit n d) w (omega (arith, u.same_bottom)) u.rest_fits
+module _ (n k i top bottom : ℕ) (d : Division) (e : n ≡ suc (k + i)) (u : IsUnderWay (k + 1) i top bottom d) where
+  left_is : IsWhole d.rest d.bottom (next_digit n d)
+  left_is = is_whole d.rest d.bottom (next_digit n d) u.rest_fits
 
   more_with : (rest : ℕ) (next : Bool) → next_digit n d ≡ next → top ≡ (2 * u.gone + bit next) * 2 ^ k + rest → rest < 2 ^ k
-      → with_bit n d.digits (fits_next n m d) ≡ rest * 2 ^ (i + 1) + (2 * u.quotient + bit (fits_next n m d)) → IsUnderWay k (i + 1) top bottom (one_digit n m d)
+      → with_bit n d.digits (fits_next n d) ≡ rest * 2 ^ (i + 1) + (2 * u.quotient + bit (fits_next n d)) → IsUnderWay k (i + 1) top bottom (one_digit n d)
   more_with rest next same top_is fits digits =
       let one : i + 1 ≡ suc i = omega arith in
       let twice : 2 ^ (i + 1) ≡ 2 ^ i + 2 ^ i = ap (λ (x : ℕ). 2 ^ x) one ∙ two-pow-succ i in
-      let small : bit (fits_next n m d) < 2 ^ 1 = bit_fits (fits_next n m d) in
-      let parts : (2 * u.quotient + bit (fits_next n m d)) * d.bottom ≡ 2 * (u.quotient * d.bottom) + bit (fits_next n m d) * d.bottom = omega arith in
+      let small : bit (fits_next n d) < 2 ^ 1 = bit_fits (fits_next n d) in
+      let parts : (2 * u.quotient + bit (fits_next n d)) * d.bottom ≡ 2 * (u.quotient * d.bottom) + bit (fits_next n d) * d.bottom = omega arith in
       record {
         gone = 2 * u.gone + bit next;
         ahead = rest;
-        quotient = 2 * u.quotient + bit (fits_next n m d);
+        quotient = 2 * u.quotient + bit (fits_next n d);
         top_is = top_is;
         ahead_fits = fits;
         digits_are = digits;
@@ -101,39 +101,39 @@ module _ (n m k i top bottom : ℕ) (d : Division) (e : n ≡ suc (k + i)) (some
   split : u.gone * 2 ^ (k + 1) ≡ 2 * (u.gone * 2 ^ k)
   split = let parts : u.gone * (2 ^ k + 2 ^ k) ≡ 2 * (u.gone * 2 ^ k) = omega arith in ap (λ (x : ℕ). u.gone * x) twice_ahead ∙ parts
 
-  pub under_way_more : IsUnderWay k (i + 1) top bottom (one_digit n m d)
+  pub under_way_more : IsUnderWay k (i + 1) top bottom (one_digit n d)
   under_way_more = elim (cases_lt u.ahead (2 ^ k)) [
     | inl lt ↦
         let none : (2 * u.gone + 0) * 2 ^ k ≡ 2 * (u.gone * 2 ^ k) = omega arith in
         more_with u.ahead false (digit_none n k i d.digits u.ahead u.quotient e u.digits_are u.quotient_fits lt) (omega (arith, u.top_is, split, none)) lt
-        (rest_none n k i d.digits u.ahead u.quotient e u.digits_are u.quotient_fits lt (fits_next n m d))
+        (rest_none n k i d.digits u.ahead u.quotient e u.digits_are u.quotient_fits lt (fits_next n d))
     | inr le ↦
         let rest = u.ahead - 2 ^ k in
         let is : u.ahead ≡ 2 ^ k + rest = omega arith in
         let fits : rest < 2 ^ k = omega (arith, u.ahead_fits, twice_ahead) in
         let one : (2 * u.gone + 1) * 2 ^ k ≡ 2 * (u.gone * 2 ^ k) + 2 ^ k = omega arith in
         more_with rest true (digit_some n k i d.digits u.ahead u.quotient e u.digits_are u.quotient_fits rest is fits) (omega (arith, u.top_is, split, one)) fits
-        (rest_some n k i d.digits u.ahead u.quotient e u.digits_are u.quotient_fits rest is fits (fits_next n m d))
+        (rest_some n k i d.digits u.ahead u.quotient e u.digits_are u.quotient_fits rest is fits (fits_next n d))
   ]
 
 -- after i digits
-under_way : (n m top bottom : ℕ) → 1 ≤ m → top < 2 ^ n → bottom < 2 ^ m → bottom ≢ 0 → (i k : ℕ) → n ≡ k + i → IsUnderWay k i top bottom (digits_on n m i (undivided top bottom))
-under_way n m top bottom width top_fits bottom_fits some zero k e =
+pub under_way : (n top bottom : ℕ) → top < 2 ^ n → bottom ≢ 0 → (i k : ℕ) → n ≡ k + i → IsUnderWay k i top bottom (digits_on n i (undivided top bottom))
+under_way n top bottom top_fits some zero k e =
     let same : n ≡ k = omega arith in
     subst (λ (x : ℕ). IsUnderWay x 0 top bottom (undivided top bottom)) same (under_way_none n top bottom top_fits some)
-under_way n m top bottom width top_fits bottom_fits some (suc i) k e =
+under_way n top bottom top_fits some (suc i) k e =
     let more : n ≡ k + 1 + i = omega arith in
     let last : n ≡ suc (k + i) = omega arith in
     let one : i + 1 ≡ suc i = omega arith in
-    subst (λ (x : ℕ). IsUnderWay k x top bottom (one_digit n m (digits_on n m i (undivided top bottom)))) one
-    (under_way_more n m k i top bottom (digits_on n m i (undivided top bottom)) last width bottom_fits (under_way n m top bottom width top_fits bottom_fits some i (k + 1) more))
+    subst (λ (x : ℕ). IsUnderWay k x top bottom (one_digit n (digits_on n i (undivided top bottom)))) one
+    (under_way_more n k i top bottom (digits_on n i (undivided top bottom)) last (under_way n top bottom top_fits some i (k + 1) more))
 
 -- after all
-pub divided : (n m top bottom : ℕ) → 1 ≤ m → top < 2 ^ n → bottom < 2 ^ m → bottom ≢ 0 → (digits_on n m n (undivided top bottom)).digits ≡ top / bottom
-divided n m top bottom width top_fits bottom_fits some =
-    let u = under_way n m top bottom width top_fits bottom_fits some n 0 (omega arith) in
+pub divided : (n top bottom : ℕ) → top < 2 ^ n → bottom ≢ 0 → (digits_on n n (undivided top bottom)).digits ≡ top / bottom
+divided n top bottom top_fits some =
+    let u = under_way n top bottom top_fits some n 0 (omega arith) in
     let none : u.ahead ≡ 0 = omega (arith, u.ahead_fits) in
-    let all : top ≡ u.quotient * bottom + (digits_on n m n (undivided top bottom)).rest = omega (arith, u.top_is, u.gone_is, ap (λ (b : ℕ). u.quotient * b) u.same_bottom) in
+    let all : top ≡ u.quotient * bottom + (digits_on n n (undivided top bottom)).rest = omega (arith, u.top_is, u.gone_is, ap (λ (b : ℕ). u.quotient * b) u.same_bottom) in
     let low : u.ahead * 2 ^ n ≡ 0 = ap (λ (x : ℕ). x * 2 ^ n) none ∙ zero-mul (2 ^ n) in
-    let digits : (digits_on n m n (undivided top bottom)).digits ≡ u.quotient = omega (arith, u.digits_are, low) in
-    digits ∙ sym (ap (λ (x : ℕ). x / bottom) all ∙ div-mul-add u.quotient bottom (digits_on n m n (undivided top bottom)).rest (omega (arith, u.rest_fits, u.same_bottom)))
+    let digits : (digits_on n n (undivided top bottom)).digits ≡ u.quotient = omega (arith, u.digits_are, low) in
+    digits ∙ sym (ap (λ (x : ℕ). x / bottom) all ∙ div-mul-add u.quotient bottom (digits_on n n (undivided top bottom)).rest (omega (arith, u.rest_fits, u.same_bottom)))

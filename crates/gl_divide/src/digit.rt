@@ -1,10 +1,10 @@
 //! One digit of a quotient.
 
-ghost use Rattle.std.specs.Prelude.{◌≡◌, IfOk};
+ghost use Rattle.std.specs.Prelude.{◌≡◌, ◌<◌, IfOk};
 ghost use Rattle.gl_net.specs.Net.{IsBus, IsBit};
-ghost use Rattle.gl_divide.specs.Divider.{IsAtMost, IsDigit, IsHighest, IsShifted};
+ghost use Rattle.gl_divide.specs.Divider.{IsAtMost, IsDigit, IsHighest, IsShifted, IsTurned};
 
-use gl_bits::Memory;
+use gl_bits::{Memory, Word};
 use gl_net::{BinaryOp, Bit, Bus, NetBuilder};
 use gl_wire::either;
 
@@ -51,8 +51,45 @@ pub struct Digit {
     pub left: Bus,
 }
 
-/// The digit of the quotient for one more digit of the top, behind what was left.
-pub fn put_digit(net: &mut NetBuilder, rest: Bus, bottom: Bus, next: Bit) -> Result<Digit, Memory>
+// The word 0.
+fn zero_word() -> Word
+    ensures bits { result.bits ≡ 0 }
+    ensures width { result.width ≡ 1 }
+{
+    Word::new(0, 1).unwrap()
+}
+
+// The line that is 0 where the line is 1.
+fn turned(net: &mut NetBuilder, line: Bit) -> Result<Bit, Memory>
+    requires { IsBit net.old line }
+    ensures { IfOk result (IsTurned net.old net.new line) }
+{
+    let out = net.not(line.bus())?;
+    Ok(out.bit())
+}
+
+// The digit, by one difference of one more bit.
+fn put_short(net: &mut NetBuilder, rest: Bus, bottom: Bus, next: Bit) -> Result<Digit, Memory>
+    requires rest { IsBus net.old rest }
+    requires bottom { IsBus net.old bottom }
+    requires widths { rest.width ≡ bottom.width }
+    requires short { bottom.width < 128 }
+    requires next { IsBit net.old next }
+    ensures { IfOk result (IsDigit net.old net.new rest bottom next) }
+{
+    let zero = net.constant(zero_word())?;
+    let wide = net.join(zero, bottom)?;
+    let more = net.join(rest, next.bus())?;
+    let less = net.binary(BinaryOp::Sub, more, wide)?;
+    let under = highest(net, less)?;
+    let fits = turned(net, under)?;
+    let kept = net.choose(under, more, less)?;
+    let left = net.cut(kept, rest.width - 1, 0)?;
+    Ok(Digit { fits, left })
+}
+
+// The digit, where no word has one more bit.
+fn put_long(net: &mut NetBuilder, rest: Bus, bottom: Bus, next: Bit) -> Result<Digit, Memory>
     requires rest { IsBus net.old rest }
     requires bottom { IsBus net.old bottom }
     requires widths { rest.width ≡ bottom.width }
@@ -66,4 +103,18 @@ pub fn put_digit(net: &mut NetBuilder, rest: Bus, bottom: Bus, next: Bit) -> Res
     let less = net.binary(BinaryOp::Sub, more, bottom)?;
     let left = net.choose(fits, less, more)?;
     Ok(Digit { fits, left })
+}
+
+/// The digit of the quotient for one more digit of the top, behind what was left.
+pub fn put_digit(net: &mut NetBuilder, rest: Bus, bottom: Bus, next: Bit) -> Result<Digit, Memory>
+    requires rest { IsBus net.old rest }
+    requires bottom { IsBus net.old bottom }
+    requires widths { rest.width ≡ bottom.width }
+    requires next { IsBit net.old next }
+    ensures { IfOk result (IsDigit net.old net.new rest bottom next) }
+{
+    if bottom.width < 128 {
+        return put_short(net, rest, bottom, next);
+    }
+    put_long(net, rest, bottom, next)
 }

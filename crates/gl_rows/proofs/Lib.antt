@@ -6,3 +6,4 @@ pub mod GateLemmas
 pub mod MadeLemmas
 pub mod OperatorNet
 pub mod RowLemmas
+pub mod CountLemmas

@@ -1,3 +1,4 @@
 pub mod Costs
 pub mod Gates
 pub mod Made
+pub mod Counted

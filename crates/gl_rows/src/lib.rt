@@ -5,6 +5,7 @@
 pub mod cast;
 pub mod compute;
 pub mod figures;
+pub mod laws;
 pub mod operand;
 pub mod operation;
 pub mod project;

@@ -16,7 +16,7 @@ use Rattle.gl_net.proofs.Values.{bus_fits}
 use Rattle.gl_wire.specs.Gates.{same_at}
 use Rattle.gl_wire.specs.Wire.{line_at}
 use Rattle.gl_totals.specs.Open.{values_at}
-use Rattle.gl_totals.proofs.FoldNet.{choose_line}
+use Rattle.gl_divide.proofs.DigitNet.{choose_line}
 use Rattle.gl_totals.proofs.ValueLemmas.{values_through}
 use Rattle.gl_bits.specs.Words.{choose_of}
 

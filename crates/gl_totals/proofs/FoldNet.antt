@@ -1,9 +1,9 @@
 -- What the gates of a fold give.
 use Rattle.std.proofs.Common.{◌≡◌, ◌≢◌, ℕ, suc, ◌^◌, ◌<◌, ◌≤◌, Some, None, Bool, true, false, refl, sym, ap, ◌∙◌, arith}
-use Rattle.std.specs.Prelude.{if◌then◌else◌, nat_eq}
+use Rattle.std.specs.Prelude.{if◌then◌else◌, nat_eq, not, ◌&&◌}
 use Rattle.std.proofs.Math.Nat.{pow-le-pow_right}
 use Rattle.std.proofs.lemmas.Bool.{eqb-true, eqb-false}
-use Rattle.gl_bits.specs.Words.{bit, choose_of}
+use Rattle.gl_bits.specs.Words.{bit}
 use Rattle.gl_bits.specs.declared.kind.Kind.{Kind}
 use Rattle.gl_net.specs.declared.node.Bit.{Bit}
 use Rattle.gl_net.specs.Net.{Net, Run, Shape, Grows, Keeps, open_at, shape_in}
@@ -20,19 +20,24 @@ use Rattle.gl_totals.specs.declared.fold.Step.TheVariants.{Add, Keep, Shift, Set
 pub small_fits : (n width : ℕ) → n < 2 → 1 ≤ width → n < 2 ^ width
 small_fits n width lt some = let wider : 2 ^ 1 ≤ 2 ^ width = pow-le-pow_right {n = 2} (omega arith) some in omega (arith, wider)
 
--- a choice by a line
-pub choose_line : (run : Run) (line : Bit) (t x y : ℕ) → choose_of (run.at (suc t) line.node) x y ≡ (if line_at run line (suc t) then x else y)
-unfolding choose_of line_at
-choose_line run line t x y = refl
+-- a bit, as a line
+pub bit_line : (run : Run) (line : Bit) (t : ℕ) (b : Bool) → run.at (suc t) line.node ≡ bit b → line_at run line (suc t) ≡ b
+unfolding line_at
+bit_line run line t b e = ap (λ (n : ℕ). nat_eq n 1) e ∙ bit_is b
 
--- a choice by a bit
-pub choose_bit : (test : ℕ) (b : Bool) (x y : ℕ) → test ≡ bit b → choose_of test x y ≡ (if b then x else y)
-unfolding choose_of
-choose_bit test b x y e = ap (λ (n : ℕ). if nat_eq n 1 then x else y) e ∙ ap (λ (v : Bool). if v then x else y) (bit_is b)
-
-pub better_is : (extreme : Extreme) (kind : Kind) (state x : ℕ) → (if is_better extreme kind state x then x else state) ≡ better extreme kind state x
+better_is : (extreme : Extreme) (kind : Kind) (state x : ℕ) → (if is_better extreme kind state x then x else state) ≡ better extreme kind state x
 better_is Least kind state x = refl
 better_is Greatest kind state x = refl
+
+not_choice : (v : Bool) (x y : ℕ) → (if not v then y else x) ≡ (if v then x else y)
+not_choice true x y = refl
+not_choice false x y = refl
+
+-- the state is kept where it counts and the value is no better
+pub kept_is : (some' : Bool) (extreme : Extreme) (kind : Kind) (state x : ℕ)
+    → (if some' && not (is_better extreme kind state x) then state else x) ≡ (if some' then better extreme kind state x else x)
+kept_is true extreme kind state x = not_choice (is_better extreme kind state x) x state ∙ better_is extreme kind state x
+kept_is false extreme kind state x = refl
 
 -- what a step takes stays in the netlist
 pub step_kept : (old new : Net) (width : ℕ) (step : Step) → ((n : ℕ) (s : Shape) → shape_in old.nodes n ≡ Some s → shape_in new.nodes n ≡ Some s)

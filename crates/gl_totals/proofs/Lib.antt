@@ -13,3 +13,4 @@ pub mod AggNet
 pub mod AggListNet
 pub mod KindLemmas
 pub mod TotalsBehind
+pub mod CountLemmas

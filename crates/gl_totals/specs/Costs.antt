@@ -26,7 +26,7 @@ cost_of_extreme width = record { nodes = 14; registers = width + 1; memories = 0
 abbrev pub cost_of_average : ℕ → Cost
 cost_of_average width =
     let wide = width + 32 in
-    record { nodes = 29 + 14 * wide; registers = wide + 32 + (cost_of_stages wide wide 32).registers; memories = 0 }
+    record { nodes = 29 + 15 * wide; registers = wide + 32 + (cost_of_stages wide wide 32).registers; memories = 0 }
 
 -- a fold of values, one of places, a product, and three nodes a weight
 abbrev pub cost_of_weighted : ℕ → ℕ → Cost

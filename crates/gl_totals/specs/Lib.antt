@@ -5,3 +5,4 @@ pub mod Folds
 pub mod Totals
 pub mod Averages
 pub mod Weighing
+pub mod Counted

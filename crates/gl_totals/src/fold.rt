@@ -10,6 +10,7 @@ use gl_bits::{Kind, Memory, Op, Word};
 use gl_divide::digit::shifted;
 use gl_net::{BinaryOp, Bit, Bus, NetBuilder};
 use gl_rows::operation::put_operator;
+use gl_wire::but_not;
 
 /// An end of the order.
 #[derive(Clone, Copy, PartialEq, Eq, Debug)]
@@ -91,8 +92,8 @@ fn put_kept(net: &mut NetBuilder, state: Bus, best: Best) -> Result<Bus, Memory>
     ensures { IfOk result (IsNext net.old net.new state (Keep best)) }
 {
     let better = put_better(net, state, best)?;
-    let kept = net.choose(better.bit(), best.value, state)?;
-    let out = net.choose(best.some, kept, best.value)?;
+    let keep = but_not(net, best.some, better.bit())?;
+    let out = net.choose(keep, state, best.value)?;
     Ok(out)
 }
 

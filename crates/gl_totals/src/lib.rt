@@ -6,6 +6,7 @@ pub mod average;
 pub mod delay;
 pub mod extreme;
 pub mod fold;
+pub mod laws;
 pub mod sum;
 pub mod total;
 pub mod totals;

@@ -14,5 +14,5 @@ loop-digit-preserved c =
 pub returns : goal.returns
 returns c =
     let all : c.loop-digit._digit ≡ c.args.top.width = omega (arith, c.loop-digit-test.false, c.loop-digit.auto._digit-end) in
-    divider_is c.args.net.now c.loop-digit.net c.args.top c.args.bottom c.args.go c.loop-digit.stage c.requires.top c.requires.bottom
+    divider_is c.args.net.now c.loop-digit.net c.args.top c.args.bottom c.args.go c.loop-digit.stage c.requires.top
     (subst (λ (n : ℕ). IsBehindDigits c.args.net.now c.loop-digit.net n c.args.top c.args.bottom c.args.go c.loop-digit.stage) all c.loop-digit.invariant)

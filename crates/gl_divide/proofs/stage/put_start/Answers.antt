@@ -33,7 +33,7 @@ returns c =
         go = go.bit;
       };
       line = λ run r. line_behind_one run c.args.go c.in_ok-go.go (go.line run r);
-      division = λ run r t.
+      division = λ run r t some.
           let at_bottom = go.keeps.runs run r in
           let at_digits = bottom.keeps.runs run at_bottom in
           let at : suc t + 1 ≡ suc (suc t) = omega arith in

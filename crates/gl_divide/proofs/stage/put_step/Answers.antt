@@ -48,13 +48,13 @@ returns c =
         go = go.bit;
       };
       line = λ run r. go.line run r;
-      division = λ run r t.
+      division = λ run r t less.
           let at_bottom = go.keeps.runs run r in
           let at_rest = bottom.keeps.runs run at_bottom in
           let at_digits = rest.keeps.runs run at_rest in
           let at_shift = digits.keeps.runs run at_digits in
           let at_digit = shift.keeps.runs run at_shift in
-          step_division run c.args.stage stage c.in_ok-next.next c.in_ok-digit.digit.fits c.in_ok-digit.digit.left c.in_ok-digits.digits c.requires.same_rest t
-          (next.line run (digit.keeps.runs run at_digit) t) (digit.line run at_digit t) (digit.value run at_digit t) (shift.value run at_shift t)
+          step_division run c.args.stage stage c.in_ok-next.next c.in_ok-digit.digit.fits c.in_ok-digit.digit.left c.in_ok-digits.digits t
+          (next.line run (digit.keeps.runs run at_digit) t) (digit.line run at_digit t less) (digit.value run at_digit t less) (shift.value run at_shift t)
           (digits.value run at_digits t) (rest.value run at_rest t) (bottom.value run at_bottom t);
     }

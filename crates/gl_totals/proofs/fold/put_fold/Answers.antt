@@ -5,7 +5,8 @@ use Rattle.gl_net.proofs.Determined.{keeps_then}
 use Rattle.gl_wire.specs.Wire.{line_at}
 use Rattle.gl_wire.proofs.ColumnLemmas.{bus_kept}
 use Rattle.gl_totals.specs.Folds.{next_of}
-use Rattle.gl_totals.proofs.FoldNet.{choose_line, driven_keeps}
+use Rattle.gl_divide.proofs.DigitNet.{choose_line}
+use Rattle.gl_totals.proofs.FoldNet.{driven_keeps}
 use Rattle.gl_totals.proofs.fold.put_fold.Goals as goal
 
 pub returns : goal.returns

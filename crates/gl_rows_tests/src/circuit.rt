@@ -1,0 +1,95 @@
+//! Circuits of one block behind two columns at ports.
+
+ghost use Rattle.std.specs.Prelude.{◌≡◌, ◌∷◌, [], IfOk, None, ℕ};
+ghost use Rattle.gl_bits.specs.Kinds.{IsKind, width_of};
+ghost use Rattle.gl_bits.specs.Words.{IsWidth};
+ghost use Rattle.gl_net.specs.Net.{open_at};
+ghost use Rattle.gl_rows_tests.specs.Circuits.{IsSourceOf};
+
+use gl_bits::{Kind, Memory};
+use gl_divide::divide;
+use gl_net::{Buses, NetBuilder, Netlist};
+use gl_wire::{Emitted, Faults, Operator, Wire};
+use std::alloc::Global;
+
+/// A netlist, and the wire that is looked at.
+#[derive(Drop)]
+pub struct Circuit {
+    pub netlist: Netlist,
+    pub wire: Wire,
+}
+
+// Two columns at the ports of an empty netlist.
+fn put_source(alloc: Global, net: &mut NetBuilder, first: u8, second: u8) -> Result<Emitted, Memory>
+    requires ports { net.old.ports ≡ [] }
+    requires undriven { (n : ℕ) → open_at net.old n ≡ None }
+    requires first { IsWidth first }
+    requires second { IsWidth second }
+    ensures { IfOk result (IsSourceOf net.new first second) }
+{
+    let _rst = net.input(b"rst", 1)?;
+    let valid = net.input(b"valid", 1)?;
+    let eos = net.input(b"eos", 1)?;
+    let a = net.input(b"a", first)?;
+    let b = net.input(b"b", second)?;
+    let mut columns = Buses::new(alloc);
+    columns.push(a)?;
+    columns.push(b)?;
+    Ok(Emitted {
+        wire: Wire {
+            valid: valid.bit(),
+            eos: eos.bit(),
+            columns,
+        },
+        faults: Faults {
+            passed: None,
+            further: None,
+        },
+    })
+}
+
+/// An operator behind columns of these two kinds.
+pub fn circuit_of<O: Operator>(
+    alloc: Global,
+    first: Kind,
+    second: Kind,
+    operator: &O,
+) -> Result<Circuit, Memory>
+    requires first { IsKind first }
+    requires second { IsKind second }
+    requires takes { O.takes operator.now (width_of first ∷ width_of second ∷ []) }
+{
+    let mut net = NetBuilder::new(alloc);
+    let source = put_source(alloc, &mut net, first.width(), second.width())?;
+    let out = operator.emit(alloc, &mut net, source)?;
+    net.module(b"tested")?;
+    Ok(Circuit {
+        netlist: net.finish(),
+        wire: out.wire,
+    })
+}
+
+/// The first column by the second, of these widths; `ready` is the valid line, and the end line is the stream's own.
+pub fn divider_of(alloc: Global, first: u8, second: u8) -> Result<Circuit, Memory>
+    requires first { IsWidth first }
+    requires second { IsWidth second }
+{
+    let mut net = NetBuilder::new(alloc);
+    let source = put_source(alloc, &mut net, first, second)?;
+    let (top, bottom) = (
+        source.wire.columns.as_slice()[0],
+        source.wire.columns.as_slice()[1],
+    );
+    let quotient = divide(&mut net, top, bottom, source.wire.valid)?;
+    net.module(b"tested")?;
+    let mut columns = Buses::new(alloc);
+    columns.push(quotient.value)?;
+    Ok(Circuit {
+        netlist: net.finish(),
+        wire: Wire {
+            valid: quotient.ready,
+            eos: source.wire.eos,
+            columns,
+        },
+    })
+}

@@ -1,0 +1,148 @@
+//! Whether operands, operations and aggregates fit columns, for tables of tests.
+
+ghost use Rattle.std.specs.Prelude.{All, IsTrue};
+ghost use Rattle.gl_algebra.specs.Columns.{AggFits, CastFits, IsUnsigned, OpFits, OperandFits, SortFits, WeightFits};
+ghost use Rattle.gl_bits.specs.Kinds.{IsKind};
+
+use gl_algebra::columns::kind_of_operand;
+use gl_algebra::{ColOp, Operand, PlanAgg};
+use gl_bits::{Kind, Sort, Word};
+
+/// Whether a kind has a width that there is.
+pub fn is_kind(kind: Kind) -> bool
+    ensures { IsTrue result → IsKind kind }
+{
+    match kind {
+        Kind::Unsigned(width) => 1 <= width && width <= 64,
+        Kind::Text(bytes) => 1 <= bytes && bytes <= 8,
+    }
+}
+
+// Whether it is one of numbers.
+fn is_unsigned(kind: Kind) -> bool
+    ensures { IsTrue result → IsUnsigned kind }
+{
+    match kind {
+        Kind::Unsigned(_) => true,
+        Kind::Text(_) => false,
+    }
+}
+
+/// Whether an operand fits.
+pub fn operand_fits(kinds: &[Kind], operand: &Operand) -> bool
+    ensures { IsTrue result → OperandFits kinds.now operand.now }
+{
+    match operand {
+        Operand::Column(column) => (*column as usize) < kinds.len(),
+        Operand::Literal(word, kind) => is_kind(*kind) && word.width() == kind.width(),
+    }
+}
+
+// Whether a cast goes from numbers to numbers, or from texts to texts.
+fn cast_fits(from: Kind, to: Kind) -> bool
+    ensures { IsTrue result → CastFits from to }
+{
+    match (from, to) {
+        (Kind::Unsigned(_), Kind::Unsigned(_)) => true,
+        (Kind::Text(_), Kind::Text(_)) => true,
+        _ => false,
+    }
+}
+
+// Whether operands of a kind are taken.
+fn sort_fits(sort: Sort, kind: Kind) -> bool
+    ensures { IsTrue result → SortFits sort kind }
+{
+    match sort {
+        Sort::Arithmetic => is_unsigned(kind),
+        Sort::Comparison => true,
+        Sort::Logic => kind == Kind::Unsigned(1),
+    }
+}
+
+// Whether an operation fits.
+fn op_fits(kinds: &[Kind], op: &ColOp) -> bool
+    ensures { IsTrue result → OpFits kinds.now op.now }
+{
+    match op {
+        ColOp::Not(operand) => {
+            operand_fits(kinds, operand) && kind_of_operand(kinds, operand) == Kind::Unsigned(1)
+        }
+        ColOp::Cast(operand, kind) => {
+            operand_fits(kinds, operand)
+                && is_kind(*kind)
+                && cast_fits(kind_of_operand(kinds, operand), *kind)
+        }
+        ColOp::Binary(op, left, right) => {
+            operand_fits(kinds, left)
+                && operand_fits(kinds, right)
+                && kind_of_operand(kinds, left) == kind_of_operand(kinds, right)
+                && sort_fits(op.sort(), kind_of_operand(kinds, left))
+        }
+    }
+}
+
+/// Whether all of them fit.
+pub fn operands_fit(kinds: &[Kind], operands: &[Operand]) -> bool
+    ensures { IsTrue result → All (OperandFits kinds.now) operands.now }
+{
+    match operands.split_first() {
+        None => true,
+        Some((operand, others)) => operand_fits(kinds, operand) && operands_fit(kinds, others),
+    }
+}
+
+/// Whether all of them fit.
+pub fn ops_fit(kinds: &[Kind], ops: &[ColOp]) -> bool
+    ensures { IsTrue result → All (OpFits kinds.now) ops.now }
+{
+    match ops.split_first() {
+        None => true,
+        Some((op, others)) => op_fits(kinds, op) && ops_fit(kinds, others),
+    }
+}
+
+// Whether words are weights of a kind.
+fn weights_fit(kind: Kind, weights: &[Word]) -> bool
+    requires { IsKind kind }
+    ensures { IsTrue result → All (WeightFits kind) weights.now }
+{
+    match weights.split_first() {
+        None => true,
+        Some((weight, others)) => weight.width() == kind.width() && weights_fit(kind, others),
+    }
+}
+
+// Whether an aggregate fits.
+fn agg_fits(kinds: &[Kind], agg: &PlanAgg) -> bool
+    ensures { IsTrue result → AggFits kinds.now agg.now }
+{
+    match agg {
+        PlanAgg::Count => true,
+        PlanAgg::Sum(operand) => {
+            operand_fits(kinds, operand) && is_unsigned(kind_of_operand(kinds, operand))
+        }
+        PlanAgg::Min(operand) => operand_fits(kinds, operand),
+        PlanAgg::Max(operand) => operand_fits(kinds, operand),
+        PlanAgg::Avg(operand) => {
+            operand_fits(kinds, operand) && is_unsigned(kind_of_operand(kinds, operand))
+        }
+        PlanAgg::Wsum(operand, weights) => {
+            operand_fits(kinds, operand)
+                && is_unsigned(kind_of_operand(kinds, operand))
+                && weights.len() <= 64
+                && is_kind(kind_of_operand(kinds, operand))
+                && weights_fit(kind_of_operand(kinds, operand), weights.as_slice())
+        }
+    }
+}
+
+/// Whether all of them fit.
+pub fn aggs_fit(kinds: &[Kind], aggs: &[PlanAgg]) -> bool
+    ensures { IsTrue result → All (AggFits kinds.now) aggs.now }
+{
+    match aggs.split_first() {
+        None => true,
+        Some((agg, others)) => agg_fits(kinds, agg) && aggs_fit(kinds, others),
+    }
+}

@@ -1,0 +1,272 @@
+//! What stands in a row: two kinds, a block, and beats.
+//!
+//! A kind is `u1` to `u64`, `text1` to `text8`; for the divider the widths go to `u128`. A block is `compute OP..`, `select COLUMN`,
+//! `project OPERAND..`, `totals AGGREGATE..` or `divide`. An operand is the column `a` or `b`, or a literal `KIND#NUMBER`; an operation
+//! `add:a,b`, `cast:a,u16`, `not:a`; an aggregate `count`, `sum:a`, `wsum:a,1,2,4`. A beat is a row `200,100`, a row with the end
+//! `200,100!`, the end alone `!`, or nothing `-`; it may stand behind how often it comes, `70*1,2`.
+
+use crate::circuit::{Circuit, circuit_of, divider_of};
+use crate::fits::{aggs_fit, is_kind, operands_fit, ops_fit};
+use crate::interpreter::Beat;
+use gl_algebra::columns::kind_of_operand;
+use gl_algebra::{ColOp, Operand, PlanAgg};
+use gl_bits::{Kind, Listed, Memory, Op, Word};
+use gl_rows::{ComputeRow, ProjectRow, SelectRow};
+use gl_totals::Totals;
+use std::alloc::Global;
+
+// A kind.
+fn kind_of(text: &str) -> Option<Kind> {
+    if let Some(bytes) = text.strip_prefix("text") {
+        return Some(Kind::Text(bytes.parse::<u8>().ok()?));
+    }
+    let bits = text.strip_prefix("u")?;
+    Some(Kind::Unsigned(bits.parse::<u8>().ok()?))
+}
+
+/// Two kinds.
+pub fn kinds_of(text: &str) -> Option<[Kind; 2]> {
+    let (first, second) = text.trim().split_once(' ')?;
+    Some([kind_of(first)?, kind_of(second)?])
+}
+
+// An operand.
+fn operand_of(text: &str) -> Option<Operand> {
+    match text {
+        "a" => Some(Operand::Column(0)),
+        "b" => Some(Operand::Column(1)),
+        _ => {
+            let (kind, number) = text.split_once('#')?;
+            let kind = kind_of(kind)?;
+            if !is_kind(kind) {
+                return None;
+            }
+            let word = Word::new(number.parse::<u128>().ok()?, kind.width())?;
+            Some(Operand::Literal(word, kind))
+        }
+    }
+}
+
+// An operator.
+fn operator_of(text: &str) -> Option<Op> {
+    match text {
+        "add" => Some(Op::Add),
+        "sub" => Some(Op::Sub),
+        "mul" => Some(Op::Mul),
+        "eq" => Some(Op::Eq),
+        "ne" => Some(Op::Ne),
+        "lt" => Some(Op::Lt),
+        "le" => Some(Op::Le),
+        "gt" => Some(Op::Gt),
+        "ge" => Some(Op::Ge),
+        "and" => Some(Op::And),
+        "or" => Some(Op::Or),
+        _ => None,
+    }
+}
+
+// An operation.
+fn op_of(text: &str) -> Option<ColOp> {
+    let (name, args) = text.split_once(':')?;
+    if name == "not" {
+        return Some(ColOp::Not(operand_of(args)?));
+    }
+    let (first, second) = args.split_once(',')?;
+    if name == "cast" {
+        return Some(ColOp::Cast(operand_of(first)?, kind_of(second)?));
+    }
+    Some(ColOp::Binary(operator_of(name)?, operand_of(first)?, operand_of(second)?))
+}
+
+// The numbers in a text, whatever stands between them.
+fn numbers_of(alloc: Global, text: &str) -> Result<Vec<u128>, Memory> {
+    let mut numbers = Vec::new(alloc);
+    let mut open: Option<u128> = None;
+    for byte in text.bytes() {
+        if byte.is_ascii_digit() {
+            let digit = byte.wrapping_sub(b'0') as u128;
+            open = Some(open.unwrap_or(0).wrapping_mul(10).wrapping_add(digit));
+        } else if let Some(number) = open {
+            numbers.push(number)?;
+            open = None;
+        }
+    }
+    if let Some(number) = open {
+        numbers.push(number)?;
+    }
+    Ok(numbers)
+}
+
+// The words of a kind that a text names.
+fn words_of(alloc: Global, kind: Kind, text: &str) -> Result<Option<Vec<Word>>, Memory> {
+    if !is_kind(kind) {
+        return Ok(None);
+    }
+    let mut words = Vec::new(alloc);
+    for number in numbers_of(alloc, text)? {
+        let Some(word) = Word::new(number, kind.width()) else {
+            return Ok(None);
+        };
+        words.push(word)?;
+    }
+    Ok(Some(words))
+}
+
+// An aggregate, of columns of these kinds.
+fn agg_of(alloc: Global, kinds: &[Kind], text: &str) -> Result<Option<PlanAgg>, Memory> {
+    if text == "count" {
+        return Ok(Some(PlanAgg::Count));
+    }
+    let (name, args) = text.split_once(':').unwrap_or((text, ""));
+    let (first, others) = args.split_once(',').unwrap_or((args, ""));
+    let Some(operand) = operand_of(first) else {
+        return Ok(None);
+    };
+    match name {
+        "sum" => Ok(Some(PlanAgg::Sum(operand))),
+        "min" => Ok(Some(PlanAgg::Min(operand))),
+        "max" => Ok(Some(PlanAgg::Max(operand))),
+        "avg" => Ok(Some(PlanAgg::Avg(operand))),
+        "wsum" => {
+            let kind = kind_of_operand(kinds, &operand);
+            let Some(words) = words_of(alloc, kind, others)? else {
+                return Ok(None);
+            };
+            Ok(Some(PlanAgg::Wsum(operand, Listed::from_vec(words))))
+        }
+        _ => Ok(None),
+    }
+}
+
+// Columns with one more for each operation.
+fn computed(alloc: Global, kinds: [Kind; 2], text: &str) -> Result<Option<Circuit>, Memory> {
+    let mut ops = Vec::new(alloc);
+    for word in text.split_whitespace() {
+        let Some(op) = op_of(word) else {
+            return Ok(None);
+        };
+        ops.push(op)?;
+    }
+    let [first, second] = kinds;
+    if !is_kind(first) || !is_kind(second) || !ops_fit(&kinds, ops.as_slice()) {
+        return Ok(None);
+    }
+    let compute = ComputeRow {
+        kinds: &kinds,
+        ops: ops.as_slice(),
+    };
+    let circuit = circuit_of(alloc, first, second, &compute)?;
+    Ok(Some(circuit))
+}
+
+// The rows whose column is 1.
+fn kept(alloc: Global, kinds: [Kind; 2], text: &str) -> Result<Option<Circuit>, Memory> {
+    let [first, second] = kinds;
+    if !is_kind(first) || !is_kind(second) {
+        return Ok(None);
+    }
+    if text == "a" && first.width() == 1 {
+        let circuit = circuit_of(alloc, first, second, &SelectRow { column: 0 })?;
+        return Ok(Some(circuit));
+    }
+    if text == "b" && second.width() == 1 {
+        let circuit = circuit_of(alloc, first, second, &SelectRow { column: 1 })?;
+        return Ok(Some(circuit));
+    }
+    Ok(None)
+}
+
+// Of each row these values.
+fn picked(alloc: Global, kinds: [Kind; 2], text: &str) -> Result<Option<Circuit>, Memory> {
+    let mut items = Vec::new(alloc);
+    for word in text.split_whitespace() {
+        let Some(operand) = operand_of(word) else {
+            return Ok(None);
+        };
+        items.push(operand)?;
+    }
+    let [first, second] = kinds;
+    if !is_kind(first) || !is_kind(second) || !operands_fit(&kinds, items.as_slice()) {
+        return Ok(None);
+    }
+    let project = ProjectRow {
+        kinds: &kinds,
+        items: items.as_slice(),
+    };
+    let circuit = circuit_of(alloc, first, second, &project)?;
+    Ok(Some(circuit))
+}
+
+// Aggregates.
+fn totalled(alloc: Global, kinds: [Kind; 2], text: &str) -> Result<Option<Circuit>, Memory> {
+    let mut aggs = Vec::new(alloc);
+    for word in text.split_whitespace() {
+        let Some(agg) = agg_of(alloc, &kinds, word)? else {
+            return Ok(None);
+        };
+        aggs.push(agg)?;
+    }
+    let [first, second] = kinds;
+    if !is_kind(first) || !is_kind(second) || !aggs_fit(&kinds, aggs.as_slice()) {
+        return Ok(None);
+    }
+    let totals = Totals {
+        kinds: &kinds,
+        aggs: aggs.as_slice(),
+    };
+    let circuit = circuit_of(alloc, first, second, &totals)?;
+    Ok(Some(circuit))
+}
+
+// The first column by the second.
+fn divided(alloc: Global, kinds: [Kind; 2]) -> Result<Option<Circuit>, Memory> {
+    let [Kind::Unsigned(first), Kind::Unsigned(second)] = kinds else {
+        return Ok(None);
+    };
+    if first == 0 || first > 128 || second == 0 || second > 128 {
+        return Ok(None);
+    }
+    let circuit = divider_of(alloc, first, second)?;
+    Ok(Some(circuit))
+}
+
+/// A block behind columns of these kinds; None where it is none, or does not fit them.
+pub fn block_of(alloc: Global, kinds: [Kind; 2], text: &str) -> Result<Option<Circuit>, Memory> {
+    let text = text.trim();
+    let (name, items) = text.split_once(' ').unwrap_or((text, ""));
+    match name {
+        "compute" => computed(alloc, kinds, items),
+        "select" => kept(alloc, kinds, items),
+        "project" => picked(alloc, kinds, items),
+        "totals" => totalled(alloc, kinds, items),
+        "divide" => divided(alloc, kinds),
+        _ => Ok(None),
+    }
+}
+
+// A beat.
+fn beat_of(alloc: Global, text: &str) -> Result<Beat, Memory> {
+    let numbers = numbers_of(alloc, text)?;
+    let row = [
+        numbers.get(0).copied().unwrap_or(1),
+        numbers.get(1).copied().unwrap_or(1),
+    ];
+    Ok(Beat {
+        valid: numbers.len() > 0,
+        end: text.ends_with('!'),
+        row,
+    })
+}
+
+/// Beats.
+pub fn beats_of(alloc: Global, text: &str) -> Result<Vec<Beat>, Memory> {
+    let mut beats = Vec::new(alloc);
+    for word in text.split_whitespace() {
+        let (often, beat) = word.split_once('*').unwrap_or(("1", word));
+        let beat = beat_of(alloc, beat)?;
+        for _copy in 0..often.parse::<u16>().unwrap_or(1) {
+            beats.push(beat)?;
+        }
+    }
+    Ok(beats)
+}
