@@ -1,10 +1,10 @@
 //! What the text of a row comes to, printed.
 
-ghost use Rattle.std.specs.Prelude.{◌≡◌, [], ◌∷◌, IfOk};
+ghost use Rattle.std.specs.Prelude.{◌≡◌, [], ◌∷◌, IfOk, IfSome};
 ghost use Rattle.gl_bits.specs.Words.{widths_of};
 
 use gl_bits::{Kind, Memory, Row, Word};
-use gl_schema::{Schema, SchemaFault, read_schema};
+use gl_schema::{Schema, read_schema};
 use gl_tuples::{Beat, Beats, TupleFault, line_into, read_tuples};
 use std::alloc::Global;
 use std::io;
