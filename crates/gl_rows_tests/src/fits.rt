@@ -1,4 +1,4 @@
-//! Whether operands, operations and aggregates fit columns, for tables of tests.
+//! Whether operands, operations and aggregates fit columns.
 
 ghost use Rattle.std.specs.Prelude.{All, IsTrue};
 ghost use Rattle.gl_algebra.specs.Columns.{AggFits, CastFits, IsUnsigned, OpFits, OperandFits, SortFits, WeightFits};

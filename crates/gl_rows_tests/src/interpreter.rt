@@ -129,8 +129,18 @@ fn anything(alloc: Global, nodes: &[Node]) -> Result<Vec<u128>, AllocError> {
     Ok(states)
 }
 
+// Adds a number behind a mark.
+fn add_number(
+    alloc: Global,
+    text: &mut String,
+    mark: &str,
+    number: u128,
+) -> Result<(), AllocError> {
+    text.push_str(format!(in alloc; "{mark}{number}")?.as_str())
+}
+
 // Adds what a wire carries in a cycle, as `CYCLE:ROW` and `CYCLE:end`.
-fn write_cycle(
+fn add_cycle(
     alloc: Global,
     text: &mut String,
     wire: &Wire,
@@ -138,39 +148,48 @@ fn write_cycle(
     cycle: usize,
 ) -> Result<(), AllocError> {
     if value_at(values, wire.valid.node) == 1 {
-        text.push_str(format!(in alloc; " {cycle}")?.as_str())?;
+        add_number(alloc, text, " ", cycle as u128)?;
         let mut mark = ":";
         for bus in wire.columns.as_slice() {
-            let value = value_at(values, bus.node);
-            text.push_str(format!(in alloc; "{mark}{value}")?.as_str())?;
+            add_number(alloc, text, mark, value_at(values, bus.node))?;
             mark = ",";
         }
     }
     if value_at(values, wire.eos.node) == 1 {
-        text.push_str(format!(in alloc; " {cycle}:end")?.as_str())?;
+        add_number(alloc, text, " ", cycle as u128)?;
+        text.push_str(":end")?;
     }
     Ok(())
 }
 
-/// What a circuit's wire carries, from cycle 1 on, for these beats and idle cycles behind them. The registers hold anything at first, and in
-/// the reset cycle the wires carry a row and an end, which do not count.
+// What the registers hold behind the reset cycle. They hold anything before, and in that cycle the inputs carry a row and an end.
+fn reset(alloc: Global, nodes: &[Node]) -> Result<Vec<u128>, AllocError> {
+    let states = anything(alloc, nodes)?;
+    let values = settled(alloc, nodes, &states, &[1, 1, 1, 1, 1])?;
+    clocked(alloc, nodes, &values, true)
+}
+
+// What the inputs carry for the beat of a cycle.
+fn inputs_of(beats: &[Beat], cycle: usize) -> [u128; 5] {
+    let beat = beats.get(cycle).copied().unwrap_or(IDLE);
+    let [a, b] = beat.row;
+    [0, beat.valid as u128, beat.end as u128, a, b]
+}
+
+/// What a circuit's wire carries, from cycle 1 on, for these beats and idle cycles behind them.
 pub fn shown(alloc: Global, circuit: &Circuit, beats: &[Beat]) -> Result<String, AllocError> {
     let nodes = circuit.netlist.nodes();
     let mut text = String::new(alloc);
-    let states = anything(alloc, nodes)?;
-    let values = settled(alloc, nodes, &states, &[1, 1, 1, 1, 1])?;
-    let mut states = clocked(alloc, nodes, &values, true)?;
-    for cycle in 1..beats.len().saturating_add(MORE) {
-        let beat = beats.get(cycle - 1).copied().unwrap_or(IDLE);
-        let inputs = [
-            0,
-            beat.valid as u128,
-            beat.end as u128,
-            beat.row[0],
-            beat.row[1],
-        ];
-        let values = settled(alloc, nodes, &states, &inputs)?;
-        write_cycle(alloc, &mut text, &circuit.wire, &values, cycle)?;
+    let mut states = reset(alloc, nodes)?;
+    for cycle in 0..beats.len().saturating_add(MORE) {
+        let values = settled(alloc, nodes, &states, &inputs_of(beats, cycle))?;
+        add_cycle(
+            alloc,
+            &mut text,
+            &circuit.wire,
+            &values,
+            cycle.saturating_add(1),
+        )?;
         states = clocked(alloc, nodes, &values, false)?;
     }
     Ok(text)

@@ -32,10 +32,7 @@ fn row_of(alloc: Global, line: &str) -> Result<Option<Row>, Memory> {
     let Some((block, beats)) = rest.split_once('|') else {
         return Ok(None);
     };
-    let Some(kinds) = kinds_of(kinds) else {
-        return Ok(None);
-    };
-    let Some(circuit) = block_of(alloc, kinds, block)? else {
+    let Some(circuit) = block_of(alloc, kinds_of(kinds), block)? else {
         return Ok(None);
     };
     let beats = beats_of(alloc, beats)?;

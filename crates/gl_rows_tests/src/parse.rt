@@ -15,34 +15,47 @@ use gl_rows::{ComputeRow, ProjectRow, SelectRow};
 use gl_totals::Totals;
 use std::alloc::Global;
 
-// A kind.
-fn kind_of(text: &str) -> Option<Kind> {
-    if let Some(bytes) = text.strip_prefix("text") {
-        return Some(Kind::Text(bytes.parse::<u8>().ok()?));
+// No column, which fits nothing.
+const NONE: Operand = Operand::Column(u16::MAX);
+
+// A number of at most 8 bits; 0 where there is none.
+fn small_of(text: &str) -> u8 {
+    text.parse::<u8>().unwrap_or(0)
+}
+
+// A kind; one without bits, which is none, where the text names none.
+fn kind_of(text: &str) -> Kind {
+    match text.strip_prefix("text") {
+        Some(bytes) => Kind::Text(small_of(bytes)),
+        None => Kind::Unsigned(small_of(text.strip_prefix("u").unwrap_or(""))),
     }
-    let bits = text.strip_prefix("u")?;
-    Some(Kind::Unsigned(bits.parse::<u8>().ok()?))
 }
 
 /// Two kinds.
-pub fn kinds_of(text: &str) -> Option<[Kind; 2]> {
-    let (first, second) = text.trim().split_once(' ')?;
-    Some([kind_of(first)?, kind_of(second)?])
+pub fn kinds_of(text: &str) -> [Kind; 2] {
+    let (first, second) = text.trim().split_once(' ').unwrap_or((text, ""));
+    [kind_of(first), kind_of(second)]
+}
+
+// A literal; no column where it does not fit its kind.
+fn literal_of(kind: Kind, number: u128) -> Operand {
+    if !is_kind(kind) {
+        return NONE;
+    }
+    match Word::new(number, kind.width()) {
+        Some(word) => Operand::Literal(word, kind),
+        None => NONE,
+    }
 }
 
 // An operand.
-fn operand_of(text: &str) -> Option<Operand> {
+fn operand_of(text: &str) -> Operand {
     match text {
-        "a" => Some(Operand::Column(0)),
-        "b" => Some(Operand::Column(1)),
+        "a" => Operand::Column(0),
+        "b" => Operand::Column(1),
         _ => {
-            let (kind, number) = text.split_once('#')?;
-            let kind = kind_of(kind)?;
-            if !is_kind(kind) {
-                return None;
-            }
-            let word = Word::new(number.parse::<u128>().ok()?, kind.width())?;
-            Some(Operand::Literal(word, kind))
+            let (kind, number) = text.split_once('#').unwrap_or(("", ""));
+            literal_of(kind_of(kind), number.parse::<u128>().unwrap_or(0))
         }
     }
 }
@@ -65,17 +78,17 @@ fn operator_of(text: &str) -> Option<Op> {
     }
 }
 
-// An operation.
-fn op_of(text: &str) -> Option<ColOp> {
-    let (name, args) = text.split_once(':')?;
-    if name == "not" {
-        return Some(ColOp::Not(operand_of(args)?));
+// An operation; one of no column where the text names none.
+fn op_of(text: &str) -> ColOp {
+    let (name, args) = text.split_once(':').unwrap_or((text, ""));
+    let (first, second) = args.split_once(',').unwrap_or((args, ""));
+    let operand = operand_of(first);
+    match operator_of(name) {
+        Some(op) => ColOp::Binary(op, operand, operand_of(second)),
+        None if name == "not" => ColOp::Not(operand),
+        None if name == "cast" => ColOp::Cast(operand, kind_of(second)),
+        None => ColOp::Not(NONE),
     }
-    let (first, second) = args.split_once(',')?;
-    if name == "cast" {
-        return Some(ColOp::Cast(operand_of(first)?, kind_of(second)?));
-    }
-    Some(ColOp::Binary(operator_of(name)?, operand_of(first)?, operand_of(second)?))
 }
 
 // The numbers in a text, whatever stands between them.
@@ -97,7 +110,7 @@ fn numbers_of(alloc: Global, text: &str) -> Result<Vec<u128>, Memory> {
     Ok(numbers)
 }
 
-// The words of a kind that a text names.
+// The words of a kind that a text names; None where one does not fit.
 fn words_of(alloc: Global, kind: Kind, text: &str) -> Result<Option<Vec<Word>>, Memory> {
     if !is_kind(kind) {
         return Ok(None);
@@ -112,28 +125,31 @@ fn words_of(alloc: Global, kind: Kind, text: &str) -> Result<Option<Vec<Word>>, 
     Ok(Some(words))
 }
 
+// A sum of an operand's values by weights of its kind; None where one does not fit.
+fn weighted_of(
+    alloc: Global,
+    kinds: &[Kind],
+    operand: Operand,
+    text: &str,
+) -> Result<Option<PlanAgg>, Memory> {
+    match words_of(alloc, kind_of_operand(kinds, &operand), text)? {
+        Some(words) => Ok(Some(PlanAgg::Wsum(operand, Listed::from_vec(words)))),
+        None => Ok(None),
+    }
+}
+
 // An aggregate, of columns of these kinds.
 fn agg_of(alloc: Global, kinds: &[Kind], text: &str) -> Result<Option<PlanAgg>, Memory> {
-    if text == "count" {
-        return Ok(Some(PlanAgg::Count));
-    }
     let (name, args) = text.split_once(':').unwrap_or((text, ""));
     let (first, others) = args.split_once(',').unwrap_or((args, ""));
-    let Some(operand) = operand_of(first) else {
-        return Ok(None);
-    };
+    let operand = operand_of(first);
     match name {
+        "count" => Ok(Some(PlanAgg::Count)),
         "sum" => Ok(Some(PlanAgg::Sum(operand))),
         "min" => Ok(Some(PlanAgg::Min(operand))),
         "max" => Ok(Some(PlanAgg::Max(operand))),
         "avg" => Ok(Some(PlanAgg::Avg(operand))),
-        "wsum" => {
-            let kind = kind_of_operand(kinds, &operand);
-            let Some(words) = words_of(alloc, kind, others)? else {
-                return Ok(None);
-            };
-            Ok(Some(PlanAgg::Wsum(operand, Listed::from_vec(words))))
-        }
+        "wsum" => weighted_of(alloc, kinds, operand, others),
         _ => Ok(None),
     }
 }
@@ -142,10 +158,7 @@ fn agg_of(alloc: Global, kinds: &[Kind], text: &str) -> Result<Option<PlanAgg>, 
 fn computed(alloc: Global, kinds: [Kind; 2], text: &str) -> Result<Option<Circuit>, Memory> {
     let mut ops = Vec::new(alloc);
     for word in text.split_whitespace() {
-        let Some(op) = op_of(word) else {
-            return Ok(None);
-        };
-        ops.push(op)?;
+        ops.push(op_of(word))?;
     }
     let [first, second] = kinds;
     if !is_kind(first) || !is_kind(second) || !ops_fit(&kinds, ops.as_slice()) {
@@ -180,10 +193,7 @@ fn kept(alloc: Global, kinds: [Kind; 2], text: &str) -> Result<Option<Circuit>, 
 fn picked(alloc: Global, kinds: [Kind; 2], text: &str) -> Result<Option<Circuit>, Memory> {
     let mut items = Vec::new(alloc);
     for word in text.split_whitespace() {
-        let Some(operand) = operand_of(word) else {
-            return Ok(None);
-        };
-        items.push(operand)?;
+        items.push(operand_of(word))?;
     }
     let [first, second] = kinds;
     if !is_kind(first) || !is_kind(second) || !operands_fit(&kinds, items.as_slice()) {
