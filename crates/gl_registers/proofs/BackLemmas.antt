@@ -6,7 +6,7 @@ use Rattle.gl_bits.specs.Words.{choose_of}
 use Rattle.gl_bits.specs.Results.{Row}
 use Rattle.gl_net.specs.declared.node.Bus.{Bus}
 use Rattle.gl_net.specs.declared.node.Bit.{Bit}
-use Rattle.gl_net.specs.Net.{Net, Run, IsRun, IsBus, IsBit, Keeps}
+use Rattle.gl_net.specs.Net.{Net, Run, IsRun, IsBus, Keeps}
 use Rattle.gl_net.proofs.Growth.{same_keeps}
 use Rattle.gl_net.proofs.Determined.{keeps_then}
 use Rattle.gl_wire.specs.declared.wire.Wire.{Wire}
@@ -149,4 +149,3 @@ joins_copies old mid new ws close columns m w h p = record {
   };
   delayed = λ run r. joined_by run m.valid close m.columns ws (length ws) w (h.tuple run (p.keeps.runs run r)) (p.delayed run r);
 }
-

@@ -6,13 +6,12 @@ use Rattle.std.proofs.lemmas.List.{map-append}
 use Rattle.gl_bits.specs.Words.{Word}
 use Rattle.gl_net.specs.declared.node.Bus.{Bus}
 use Rattle.gl_net.specs.Net.{Net, Run, IsRun, IsBus, Grows, Keeps, Value, open_at}
+use Rattle.gl_bits.proofs.AllLists.{get_below, get_front, get_last}
+use Rattle.gl_net.proofs.Growth.{same_grows}
 use Rattle.gl_net.proofs.Lists.{get_push_cases}
 use Rattle.gl_wire.specs.Costs.{Costs, nodes_alone}
-use Rattle.gl_registers.proofs.ListLemmas.{nat_dec, get_push_old, get_push_new, sum-push}
+use Rattle.gl_registers.proofs.ListLemmas.{nat_dec, sum-push}
 use Rattle.gl_registers.specs.Registers.{word_widths, NoneOf, OpensOne, AreOpen, Opens, DrivesAll}
-
-pub grows_same : (net : Net) → Grows net net
-grows_same net = record { runs = λ run r. r; shapes = λ n s h. h }
 
 pub grows_then : (a b c : Net) → Grows a b → Grows b c → Grows a c
 grows_then a b c g h = record { runs = λ run r. g.runs run (h.runs run r); shapes = λ n s e. h.shapes n s (g.shapes n s e) }
@@ -25,11 +24,6 @@ pub place_in : {A : Type 0} (xs : List A) (k : ℕ) → k < length xs → (x : A
 place_in [] k l = absurd (omega (arith, l))
 place_in (x ∷ xs) zero l = (x, refl)
 place_in (x ∷ xs) (suc k) l = place_in xs k (omega (arith, l))
-
-pub place_below : {A : Type 0} (xs : List A) (k : ℕ) (x : A) → slice_get xs k ≡ Some x → k < length xs
-place_below [] k x h = absurd (cc)
-place_below (y ∷ xs) zero x h = omega arith
-place_below (y ∷ xs) (suc k) x h = let l = place_below xs k x h in omega (arith, l)
 
 pub get_take : {A : Type 0} (xs : List A) (n k : ℕ) (x : A) → slice_get (take n xs) k ≡ Some x → (slice_get xs k ≡ Some x) × (k < n)
 get_take [] zero k x h = absurd (cc)
@@ -57,7 +51,7 @@ widths_more ws w = ap sum (map-append (λ (v : Word). v.width) ws (w ∷ [])) �
 
 pub opens_none : (net : Net) → Opens net net [] []
 opens_none net = record {
-  grows = grows_same net;
+  grows = same_grows net;
   ports = refl;
   name = refl;
   count = refl;
@@ -76,10 +70,10 @@ module _ (old mid new : Net) (ws : List Word) (bs : List Bus) (w : Word) (x : Bu
   earlier k b h e = let u = o.still.undriven k b h in let f = one.fresh in let q = ap (open_at mid) e in absurd (cc)
 
   none_before : (n : ℕ) → NoneOf n (bs ++ x ∷ []) → NoneOf n bs
-  none_before n h k b e = h k b (get_push_old bs x k b e)
+  none_before n h k b e = h k b (get_front bs (x ∷ []) k b e)
 
   none_last : (n : ℕ) → NoneOf n (bs ++ x ∷ []) → n ≢ x.node
-  none_last n h = h (length bs) x (get_push_new bs x)
+  none_last n h = h (length bs) x (get_last bs x)
 
   undriven : (k : ℕ) (b : Bus) → slice_get (bs ++ x ∷ []) k ≡ Some b → open_at new b.node ≡ Some (Value b.width)
   undriven k b h = elim (get_push_cases bs x k b h) [
@@ -117,10 +111,10 @@ module _ (old mid new : Net) (ws : List Word) (bs : List Bus) (w : Word) (x : Bu
   both k b v h i = elim (get_push_cases bs x k b h) [
     | inl p ↦ elim (get_push_cases ws w k v i) [
       | inl q ↦ inl (p, q)
-      | inr q ↦ (let l = place_below bs k b p in absurd (omega (arith, l, q.0, o.count)))
+      | inr q ↦ (let l = get_below bs k b p in absurd (omega (arith, l, q.0, o.count)))
     ]
     | inr p ↦ elim (get_push_cases ws w k v i) [
-      | inl q ↦ (let l = place_below ws k v q in absurd (omega (arith, l, p.0, o.count)))
+      | inl q ↦ (let l = get_below ws k v q in absurd (omega (arith, l, p.0, o.count)))
       | inr q ↦ inr (p.1, q.1)
     ]
   ]
@@ -154,7 +148,7 @@ module _ (old mid new : Net) (ws : List Word) (bs : List Bus) (w : Word) (x : Bu
 
 pub drives_none : (net : Net) (nexts : List Bus) → DrivesAll net net [] nexts
 drives_none net nexts = record {
-  grows = grows_same net;
+  grows = same_grows net;
   ports = refl;
   name = refl;
   others = λ n h. refl;
@@ -177,7 +171,7 @@ drives_more old mid new bs nexts x y d one at none = record {
   grows = grows_then old mid new d.grows one.grows;
   ports = one.ports ∙ d.ports;
   name = one.name ∙ d.name;
-  others = λ n h. one.others n (h (length bs) x (get_push_new bs x)) ∙ d.others n (λ k b e. h k b (get_push_old bs x k b e));
+  others = λ n h. one.others n (h (length bs) x (get_last bs x)) ∙ d.others n (λ k b e. h k b (get_front bs (x ∷ []) k b e));
   driven = λ k b h. elim (get_push_cases bs x k b h) [
     | inl e ↦ one.others b.node (λ q. none k b e (sym q)) ∙ d.driven k b e
     | inr e ↦ subst (λ (z : Bus). open_at new z.node ≡ None) e.1 one.driven

@@ -1,5 +1,5 @@
 -- Registers that drive themselves, by what they hold in each cycle, from the reset cycle on.
-use Rattle.std.specs.Prelude.{◌≡◌, ℕ, suc, ◌≤◌, Bool, false, not, ◌&&◌, ◌||◌}
+use Rattle.std.specs.Prelude.{◌≡◌, ℕ, suc, ◌≤◌, false, not, ◌&&◌, ◌||◌}
 use Rattle.gl_bits.specs.Words.{choose_of}
 use Rattle.gl_net.specs.declared.node.Bus.{Bus}
 use Rattle.gl_net.specs.declared.node.Bit.{Bit}

@@ -52,7 +52,8 @@ fn merge_all(
 ) -> Result<Merged, Memory>
     requires wires { AreWires net.old wires.now (widths columns.now) }
     requires columns { AreBuses net.old columns.now }
-    ensures { IfOk result (Merges net.old net.new wires.now (length wires.now) (widths columns.now)) }
+    ensures { IfOk result (λ m.
+        Merges net.old net.new wires.now (length wires.now) (widths columns.now) m) }
 {
     let mut valid = never(net)?;
     let mut row = same_buses(alloc, columns)?;

@@ -80,7 +80,8 @@ fn copy_each(
     requires ends { AreBits net.old ends.now }
     requires count { length ends.now ≡ length valids.now }
     requires row { AreBuses net.old row.now }
-    ensures { IfOk result (AddsWires net.old net.new (length valids.now) valids.now ends.now row.now) }
+    ensures { IfOk result (λ ws.
+        AddsWires net.old net.new (length valids.now) valids.now ends.now row.now ws) }
 {
     let mut all = Wires::new(alloc);
     for (i, valid) in valids.iter().enumerate() {
@@ -117,7 +118,8 @@ pub fn copy_wires(
     requires ends { AreBits net.old ends.now }
     requires count { length ends.now ≡ length valids.now }
     requires row { AreBuses net.old row.now }
-    ensures { IfOk result (AddsWires net.old net.new (length valids.now) valids.now ends.now row.now) }
+    ensures { IfOk result (λ ws.
+        AddsWires net.old net.new (length valids.now) valids.now ends.now row.now ws) }
 {
     let wires = copy_each(
         alloc,
