@@ -173,7 +173,7 @@ module _ (f s : Figures) (sound_f : IsSound f) (sound_s : IsSound s) (closing : 
       let lifted = lift_spills s (λ u. m) count (who_ends size advance count (stride_of s) a) lines ins outs sound_s closing rot.schedules (λ k l. served k l (rot.schedules.spaced k l)) in
       whole_lines f s h count (window_gap s) (rest_gap count s) (λ n. n) (λ n. max n 1 - 1 + count) (λ (v : ℕ × List Row). v.1) (slices size advance) (window_table count f s copies_some sound_s)
       sound_f sound_s (windows_sound count f s copies_some sound_f sound_s) copies_some beats spaced a fits timed (who_ends size advance count (stride_of s) a) ins outs rot
-      lifted.lifted.near lifted.lifted.few b close back close_first (closes_late timed) m lines lifted
+      m lines lifted b close back close_first (closes_late timed)
 
   -- over what the source's wire gives, and the copies' over their own
   pub windows_serving : (means : ℕ → Results) (before : Lines) (beats : Beats) → Spaced h beats → Serving f means before beats a → CarriesApart (window_gap s) a
