@@ -1,0 +1,17 @@
+pub mod MachineLemmas
+pub mod TurnLemmas
+pub mod PartLemmas
+pub mod FrontNet
+pub mod SliceLemmas
+pub mod VisitLemmas
+pub mod Setting
+pub mod CopyLemmas
+pub mod FlowLemmas
+pub mod FlushLemmas
+pub mod PhaseLemmas
+pub mod SourceLemmas
+pub mod ScheduleLemmas
+pub mod WindowLemmas
+pub mod CostLemmas
+pub mod JoinLemmas
+pub mod RotationNet

@@ -1,0 +1,14 @@
+//! The law of windows, and what a rotation costs.
+
+ghost use Rattle.gl_windows.specs.Costs.{RotationsAreCounted};
+ghost use Rattle.gl_windows.specs.Laws.{RotationsServe};
+
+/// A front, copies that serve a body, and a back serve what the body makes of each window, joined.
+pub fn rotations_serve()
+    ensures { RotationsServe }
+{}
+
+/// What a rotation costs is within what a plan counts for it.
+pub fn costs_are_counted()
+    ensures { RotationsAreCounted }
+{}

@@ -1,0 +1,156 @@
+//! The parts of a front of windows, each with its registers.
+
+ghost use Rattle.std.specs.Prelude.{◌≡◌, ◌≤◌, IfOk, length};
+ghost use Rattle.gl_net.specs.Net.{IsBit};
+ghost use Rattle.gl_registers.specs.Lines.{AreBits};
+ghost use Rattle.gl_windows.specs.Parts.{AddsFlush, AddsOpening, AddsTail, AddsTrigger, TakesOf};
+
+use gl_bits::Memory;
+use gl_net::{Bit, Bus, NetBuilder};
+use gl_registers::{Bits, LineOp, count_down, latch, pairwise, when_equal, with_all};
+use gl_wire::{both, but_not, either};
+use std::alloc::Global;
+
+/// When a copy opens.
+#[derive(Clone, Copy, PartialEq, Eq, Debug)]
+pub struct Opening {
+    /// The tuples before the next window opens.
+    pub until: Bus,
+    /// 1 with the tuple that opens one.
+    pub opens: Bit,
+}
+
+/// The flush after an end.
+#[derive(Clone, Copy, PartialEq, Eq, Debug)]
+pub struct Flush {
+    /// 1 where an end was the last that came.
+    pub flush: Bit,
+    /// 1 where it is, and no tuple comes.
+    pub idle: Bit,
+    /// The cycles before the next open copy takes its end.
+    pub wait: Bus,
+    /// 1 where one has its turn.
+    pub due: Bit,
+}
+
+/// When the oldest copy ends, if it is open.
+#[derive(Clone, Copy, PartialEq, Eq, Debug)]
+pub struct Trigger {
+    /// The tuples before the one that completes the oldest window.
+    pub left: Bus,
+    /// 1 where it ends.
+    pub trigger: Bit,
+}
+
+/// Whether a copy that ends takes the row that came last.
+#[derive(Clone, Copy, PartialEq, Eq, Debug)]
+pub struct Tail {
+    /// 1 where a tuple came with the last end.
+    pub held: Bit,
+    /// 1 where the copy that ends takes it.
+    pub tail: Bit,
+}
+
+/// Counts the tuples to the next opening.
+pub fn count_openings(
+    net: &mut NetBuilder,
+    valid: Bit,
+    eos: Bit,
+    advance: u32,
+) -> Result<Opening, Memory>
+    requires valid { IsBit net.old valid }
+    requires eos { IsBit net.old eos }
+    requires advance { 1 ≤ advance }
+    ensures { IfOk result (AddsOpening net.old net.new valid eos advance) }
+{
+    let again = u128::from(advance - 1);
+    let until = count_down(net, eos, valid, 32, 0, 0, again)?;
+    let opens = when_equal(net, valid, until, 0)?;
+    Ok(Opening { until, opens })
+}
+
+/// Counts the cycles between the ends of a flush.
+pub fn count_flush(net: &mut NetBuilder, valid: Bit, eos: Bit, stride: u32) -> Result<Flush, Memory>
+    requires valid { IsBit net.old valid }
+    requires eos { IsBit net.old eos }
+    requires stride { 1 ≤ stride }
+    ensures { IfOk result (AddsFlush net.old net.new valid eos stride) }
+{
+    let last = u128::from(stride - 1);
+    let flush = latch(net, eos, valid)?;
+    let idle = but_not(net, flush, valid)?;
+    let wait = count_down(net, eos, idle, 32, 0, last, last)?;
+    let due = when_equal(net, idle, wait, 0)?;
+    Ok(Flush {
+        flush,
+        idle,
+        wait,
+        due,
+    })
+}
+
+/// Counts the tuples to the one that completes the oldest window.
+pub fn count_left(
+    net: &mut NetBuilder,
+    valid: Bit,
+    eos: Bit,
+    due: Bit,
+    size: u32,
+    advance: u32,
+) -> Result<Trigger, Memory>
+    requires valid { IsBit net.old valid }
+    requires eos { IsBit net.old eos }
+    requires due { IsBit net.old due }
+    requires size { 1 ≤ size }
+    requires advance { 1 ≤ advance }
+    ensures { IfOk result (AddsTrigger net.old net.new valid eos due size advance) }
+{
+    let rows = u128::from(size - 1);
+    let again = u128::from(advance - 1);
+    let left = count_down(net, eos, valid, 32, rows, rows, again)?;
+    let last = when_equal(net, valid, left, 0)?;
+    let may = either(net, last, due)?;
+    let trigger = either(net, eos, may)?;
+    Ok(Trigger { left, trigger })
+}
+
+/// Keeps whether a tuple came with the end.
+pub fn keep_tail(net: &mut NetBuilder, valid: Bit, eos: Bit, idle: Bit) -> Result<Tail, Memory>
+    requires valid { IsBit net.old valid }
+    requires eos { IsBit net.old eos }
+    requires idle { IsBit net.old idle }
+    ensures { IfOk result (AddsTail net.old net.new valid eos idle) }
+{
+    let with_end = both(net, eos, valid)?;
+    let held = latch(net, with_end, eos)?;
+    let resting = both(net, idle, held)?;
+    let later = but_not(net, resting, eos)?;
+    let tail = either(net, with_end, later)?;
+    Ok(Tail { held, tail })
+}
+
+/// For each copy whether it takes the row: each open one a tuple without the end, and the one that ends what came with the end.
+#[tactic(auto, using(gl_registers::proofs::LineLemmas::bits_kept))]
+pub fn take_rows(
+    alloc: Global,
+    net: &mut NetBuilder,
+    valid: Bit,
+    eos: Bit,
+    tail: Bit,
+    mids: &Bits,
+    ends: &Bits,
+) -> Result<Bits, Memory>
+    requires valid { IsBit net.old valid }
+    requires eos { IsBit net.old eos }
+    requires tail { IsBit net.old tail }
+    requires mids { AreBits net.old mids.now }
+    requires ends { AreBits net.old ends.now }
+    requires count { length ends.now ≡ length mids.now }
+    ensures { IfOk result (TakesOf net.old net.new valid eos tail mids.now ends.now) }
+{
+    let alone = but_not(net, valid, eos)?;
+    let each = with_all(alloc, net, LineOp::Both, mids, alone)?;
+    let last = with_all(alloc, net, LineOp::Both, ends, tail)?;
+    let takes = pairwise(alloc, net, LineOp::Either, &each, &last)?;
+    Ok(takes)
+}

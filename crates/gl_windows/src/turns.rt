@@ -1,0 +1,124 @@
+//! Copies that open one after another and end one after another.
+
+ghost use Rattle.std.specs.Prelude.{◌≡◌, ◌∷◌, ◌++◌, ◌≤◌, [], IfOk, length, replicate};
+ghost use Rattle.gl_net.specs.Net.{IsBit, IsBus};
+ghost use Rattle.gl_registers.specs.Lines.{AreBits};
+ghost use Rattle.gl_windows.specs.Turns.{AddsRotation, Turns};
+
+use gl_bits::{Memory, Word};
+use gl_net::{Bit, Bus, NetBuilder};
+use gl_registers::{
+    Bits, LineOp, any, buses_with, decode, drive_all, lines_of, next_pointer, open_all, pairwise,
+    word,
+};
+use std::alloc::Global;
+
+/// What follows from the flags of this cycle.
+#[derive(Drop)]
+pub struct Turn {
+    /// The copies that are open, with what this cycle opens.
+    pub mids: Bits,
+    /// The copy that ends.
+    pub ends: Bits,
+    /// The copies that stay open.
+    pub kept: Bits,
+    /// The oldest copy of the next cycle.
+    pub next: Bus,
+}
+
+/// Copies that open and end.
+#[derive(Drop)]
+pub struct OpenCopies {
+    /// The copies that are open at the beginning of the cycle.
+    pub flags: Bits,
+    /// The oldest copy.
+    pub oldest: Bus,
+    /// The copies that are open, with what this cycle opens.
+    pub mids: Bits,
+    /// The copy that ends.
+    pub ends: Bits,
+}
+
+/// Opens the copy at the pointer `opened` where `opens` is 1, and ends the oldest one, if it is open, where `trigger` is 1.
+#[tactic(auto, using(gl_registers::proofs::LineLemmas::bits_kept))]
+pub fn take_turn(
+    alloc: Global,
+    net: &mut NetBuilder,
+    opens: Bit,
+    opened: Bus,
+    trigger: Bit,
+    flags: &Bits,
+    oldest: Bus,
+    count: u32,
+) -> Result<Turn, Memory>
+    requires opens { IsBit net.old opens }
+    requires opened { IsBus net.old opened }
+    requires opened_width { opened.width ≡ 32 }
+    requires trigger { IsBit net.old trigger }
+    requires flags { AreBits net.old flags.now }
+    requires flags_count { length flags.now ≡ count }
+    requires oldest { IsBus net.old oldest }
+    requires oldest_width { oldest.width ≡ 32 }
+    requires some_copy { 1 ≤ count }
+    ensures { IfOk result (Turns net.old net.new count opens opened trigger flags.now oldest) }
+{
+    let news = decode(alloc, net, opens, opened, count)?;
+    let mids = pairwise(alloc, net, LineOp::Either, flags, &news)?;
+    let chosen = decode(alloc, net, trigger, oldest, count)?;
+    let ends = pairwise(alloc, net, LineOp::Both, &chosen, &mids)?;
+    let closes = any(net, &ends)?;
+    let kept = pairwise(alloc, net, LineOp::ButNot, &mids, &ends)?;
+    let next = next_pointer(net, oldest, closes, u128::from(count - 1))?;
+    Ok(Turn {
+        mids,
+        ends,
+        kept,
+        next,
+    })
+}
+
+// Reset words: a bit for each copy, and the pointer.
+fn resets(alloc: Global, zero: Word, first: Word, count: usize) -> Result<Vec<Word>, Memory>
+    ensures { IfOk result (λ v. v.items ≡ replicate count zero ++ first ∷ []) }
+{
+    let Ok(mut all) = vec![in alloc; zero; count] else {
+        return Err(Memory);
+    };
+    match all.push(first) {
+        Ok(()) => Ok(all),
+        Err(_) => Err(Memory),
+    }
+}
+
+/// The copies, in registers that reset clears.
+pub fn rotate(
+    alloc: Global,
+    net: &mut NetBuilder,
+    opens: Bit,
+    opened: Bus,
+    trigger: Bit,
+    count: u32,
+) -> Result<OpenCopies, Memory>
+    requires opens { IsBit net.old opens }
+    requires opened { IsBus net.old opened }
+    requires opened_width { opened.width ≡ 32 }
+    requires trigger { IsBit net.old trigger }
+    requires some_copy { 1 ≤ count }
+    ensures { IfOk result (AddsRotation net.old net.new count opens opened trigger) }
+{
+    let copies = count as usize;
+    let resets = resets(alloc, word(0, 1), word(0, 32), copies)?;
+    let registers = open_all(alloc, net, resets.as_slice())?;
+    let (first, last) = registers.as_slice().split_at(copies);
+    let oldest = last[0];
+    let flags = Bits::from_vec(lines_of(alloc, first)?);
+    let turn = take_turn(alloc, net, opens, opened, trigger, &flags, oldest, count)?;
+    let nexts = buses_with(alloc, turn.kept.as_slice(), turn.next)?;
+    drive_all(net, registers.as_slice(), nexts.as_slice())?;
+    Ok(OpenCopies {
+        flags,
+        oldest,
+        mids: turn.mids,
+        ends: turn.ends,
+    })
+}
