@@ -10,7 +10,8 @@ use Rattle.gl_schema.specs.Beats.{Beat, AreInOrder, row_in, input_of, last_cycle
 use Rattle.gl_schema.specs.Ports.{PortValues}
 use Rattle.gl_schema.specs.Seen.{shown, seen, rows_of}
 use Rattle.gl_schema.specs.Right.{Meaning, IsRight}
-use Rattle.gl_wiring.specs.Delay.{row_at, ShowsLater}
+use Rattle.gl_wiring.specs.Bringing.{row_at}
+use Rattle.gl_wiring.specs.Delay.{ShowsLater}
 
 -- ---- the beats of a cycle
 

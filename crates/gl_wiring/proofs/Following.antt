@@ -12,7 +12,8 @@ use Rattle.gl_schema.specs.declared.schema.Schema.{Schema}
 use Rattle.gl_schema.specs.Beats.{Beat, row_in, beat_at, rows_at, ends_at}
 use Rattle.gl_schema.specs.Ports.{PortValues, Pin, pin, column_pins, stream_pins, streams_pins, IsStimulus, eos, in_valid, in_column, out_valid}
 use Rattle.gl_schema.specs.Seen.{value_at, row_shown, shown}
-use Rattle.gl_wiring.specs.Delay.{row_at, ShowsLater}
+use Rattle.gl_wiring.specs.Bringing.{row_at}
+use Rattle.gl_wiring.specs.Delay.{ShowsLater}
 use Rattle.gl_wiring.specs.Select.{picked, HasPort, ColumnsFollow, FollowsStream}
 
 -- the pin's value is that of the port, where the module has it
