@@ -1,13 +1,15 @@
 -- What putting a child asks for follows from what putting its node asks for.
-use Rattle.std.proofs.Common.{◌≡◌, ℕ, zero, ◌+◌, ◌<◌, List, [], ◌∷◌, ◌++◌, Some, slice_get, All, subst, arith}
+use Rattle.std.proofs.Common.{◌≡◌, ℕ, ◌+◌, ◌<◌, List, [], ◌∷◌, ◌++◌, length, Some, slice_get, All, subst, arith}
 use Rattle.std.proofs.lemmas.List.Elements.{All-head, All-tail}
 use Rattle.std.proofs.lemmas.Option.{slice_get_within}
 use Rattle.gl_algebra.specs.declared.figures.Figures.{Figures}
 use Rattle.gl_algebra.specs.declared.node.PlanNode.{PlanNode}
+use Rattle.gl_algebra.specs.declared.node.PlanNode.TheVariants.{Window, Group}
 use Rattle.gl_algebra.specs.Fits.{IsPlan}
 use Rattle.gl_algebra.specs.Nodewise.{named_by}
 use Rattle.gl_algebra.specs.Shapes.{shape_of, shape_from}
 use Rattle.gl_algebra.specs.Weights.{copies_of, copies_from}
+use Rattle.gl_algebra.proofs.FigureLemmas.{one_copy}
 use Rattle.gl_algebra.proofs.TableLemmas.{nodes_follow_tables}
 use Rattle.gl_net.specs.Net.{Net, Keeps}
 use Rattle.gl_wire.specs.declared.emitted.Emitted.{Emitted}
@@ -106,6 +108,21 @@ module _ (nodes : List PlanNode) (figures : List Figures) (id : ℕ) (node : Pla
           leaved = leaves_kept net new leaves _ keeps (right_leaves net leaves (shape_of nodes left).leaves _ (subst (HaveLeaves net leaves) same of_node));
         };
       }
+
+-- over a window or a group there are copies
+pub no_window : (nodes : List PlanNode) (figures : List Figures) (id source body size advance : ℕ) (net : Net) (leaves : List Wire) → IsPlan nodes
+    → slice_get nodes id ≡ Some (Window source body size advance) → CanPut nodes figures id net leaves → ⊥
+no_window nodes figures id source body size advance net leaves plan at can =
+    let none = no_copies nodes figures id (Window source body size advance) net leaves plan at can in
+    let suits = (plan.fits id (Window source body size advance) at).suits in
+    omega (arith, none, one_copy size advance suits.1.least suits.2.least)
+
+pub no_group : (nodes : List PlanNode) (figures : List Figures) (id source body key groups : ℕ) (net : Net) (leaves : List Wire) → IsPlan nodes
+    → slice_get nodes id ≡ Some (Group source body key groups) → CanPut nodes figures id net leaves → ⊥
+no_group nodes figures id source body key groups net leaves plan at can =
+    let none = no_copies nodes figures id (Group source body key groups) net leaves plan at can in
+    let least = (plan.fits id (Group source body key groups) at).suits.2.least in
+    omega (arith, none, least)
 
 -- what is put has its node's columns
 pub put_columns : (nodes : List PlanNode) (id : ℕ) (old new : Net) (leaves : List Wire) (e : Emitted) → IsPut nodes id old new leaves e → HasColumns nodes id new e

@@ -1,10 +1,9 @@
 -- What blocks cost at most is within what a plan counts for their nodes.
-use Rattle.std.proofs.Common.{◌≡◌, ℕ, zero, suc, ◌+◌, ◌*◌, ◌≤◌, List, [], ◌∷◌, length, map, All, sym, subst, arith}
-use Rattle.std.specs.Prelude.{max, sum_by}
+use Rattle.std.proofs.Common.{◌≡◌, ℕ, ◌+◌, ◌*◌, ◌≤◌, List, length, All, arith}
 use Rattle.std.specs.List.{sum}
 use Rattle.std.proofs.lemmas.List.{length-map}
-use Rattle.std.proofs.lemmas.List.Elements.{All-head, All-tail, All-map}
-use Rattle.std.proofs.Math.Nat.{mul-le-mul_left, mul-le-mul_right}
+use Rattle.std.proofs.lemmas.List.Elements.{All-map}
+use Rattle.std.proofs.lemmas.List.Sums.{sum_by-le}
 use Rattle.gl_bits.specs.Kinds.{IsKind, width_of}
 use Rattle.gl_bits.specs.declared.kind.Kind.{Kind}
 use Rattle.gl_bits.specs.declared.kind.Kind.TheVariants.{Unsigned, Text}
@@ -34,11 +33,10 @@ cost_behind nodes id weight lean store old mid new children most s h b c = recor
 }
 
 -- what was put in two steps
-pub both_costs : Cost → Cost → Cost
+abbrev pub both_costs : Cost → Cost → Cost
 both_costs p q = record { nodes = p.nodes + q.nodes; registers = p.registers + q.registers; memories = p.memories + q.memories }
 
 pub costs_then : (old mid new : Net) (p q : Cost) → CostsAtMost old mid p → CostsAtMost mid new q → CostsAtMost old new (both_costs p q)
-unfolding both_costs
 costs_then old mid new p q h i = record {
   nodes = omega (arith, h.nodes, i.nodes);
   registers = omega (arith, h.registers, i.registers);
@@ -52,12 +50,12 @@ width_within (Unsigned w) h = h.1
 width_within (Text n) h = omega (arith, h.1)
 
 pub narrow_kinds : (kinds : List Kind) → All IsKind kinds → All (λ w. w ≤ 64) (widths_of kinds)
-narrow_kinds kinds h = All-map (λ w. w ≤ 64) width_of kinds (All-weaken IsKind (λ k. width_of k ≤ 64) kinds width_within h)
+narrow_kinds kinds h = All-map (λ w. w ≤ 64) width_of kinds (λ i d lt. width_within _ (h i d lt))
 
 pub bits_within : (kinds : List Kind) → All IsKind kinds → sum (widths_of kinds) ≤ 64 * length kinds
-bits_within [] h = omega arith
-bits_within (kind ∷ kinds) h =
-    omega (arith, width_within kind (All-head IsKind kind kinds h), bits_within kinds (All-tail IsKind kind kinds h))
+bits_within kinds h =
+    let n : length (widths_of kinds) ≡ length kinds = length-map kinds width_of in
+    omega (arith, sum_by-le (λ (w : ℕ). w) 64 (widths_of kinds) (narrow_kinds kinds h), n)
 
 -- ---- operators of rows
 
@@ -75,3 +73,10 @@ pub items_counted : (kinds : List Kind) → IsCounted (cost_of_items (widths_of 
 items_counted kinds =
     let n : length (widths_of kinds) ≡ length kinds = length-map kinds width_of in
     record { nodes = omega (arith, n); registers = omega arith; memories = omega arith }
+
+-- with no operation before the stage
+pub selected_counted : (kinds : List Kind) → All IsKind kinds
+    → IsCounted (cost_of_rows (widths_of kinds) 0) (4 * (length kinds + 2)) (4 * (length kinds + 2)) 0
+selected_counted kinds h =
+    let c = rows_counted kinds 0 h in
+    record { nodes = omega (arith, c.nodes); registers = omega (arith, c.registers); memories = c.memories }
