@@ -2,6 +2,7 @@
 use Rattle.std.specs.Prelude.{◌≡◌, ℕ, ◌≤◌, List, []}
 use Rattle.gl_algebra.specs.Cost.{most_memory, most_registers}
 use Rattle.gl_algebra.specs.FigureTable.{figures_of}
+use Rattle.gl_algebra.specs.Fits.{IsPlan}
 use Rattle.gl_algebra.specs.Results.{IsPlanResult}
 use Rattle.gl_algebra.specs.Shapes.{kinds_of}
 use Rattle.gl_algebra.specs.Weights.{weight_with_output}
@@ -37,6 +38,7 @@ ServesIn nodes id leaves e run =
 
 -- the circuit of the root between the wires of the streams and an output
 pub record IsPlanNet (schema : Schema) (nodes : List PlanNode) (root : ℕ) (names : List (List ℕ)) (net : Net) : Type 0 where
+  pub plan : IsPlan nodes
   pub leaves : List Wire
   pub e : Emitted
   pub wires : AreStreamWires net schema.streams leaves

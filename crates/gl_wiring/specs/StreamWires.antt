@@ -5,6 +5,7 @@ use Rattle.gl_algebra.specs.declared.node.PlanNode.{PlanNode}
 use Rattle.gl_algebra.specs.declared.node.PlanNode.TheVariants as node
 use Rattle.gl_net.specs.Net.{Net, IsBit, IsPort}
 use Rattle.gl_net.specs.declared.node.Bit.{Bit}
+use Rattle.gl_net.specs.declared.node.Bus.{Bus}
 use Rattle.gl_net.specs.declared.node.Direction.TheVariants.{In}
 use Rattle.gl_schema.specs.Ports.{eos, in_valid}
 use Rattle.gl_schema.specs.Schemas.{kinds_of}
@@ -24,9 +25,12 @@ pub record IsStreamWire (net : Net) (s : Stream) (w : Wire) : Type 0 where
   pub columns : AreInputs net s.name s.columns w.columns
   pub same_widths : widths w.columns ≡ column_widths s.columns
 
--- the wire of a stream's ports and of this end
+-- the wire of these ports, and of those of a stream
+abbrev pub wire_at : Bus → List Bus → Bit → Wire
+wire_at valid columns end = record { valid = record { node = valid.node }; eos = end; columns = columns }
+
 abbrev pub wire_from : Bit → Source → Wire
-wire_from end source = record { valid = record { node = source.valid.node }; eos = end; columns = source.columns }
+wire_from end source = wire_at source.valid source.columns end
 
 -- one for each stream, in order
 abbrev pub AreStreamWires : Net → List Stream → List Wire → Type 0

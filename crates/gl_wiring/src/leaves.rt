@@ -7,11 +7,11 @@ ghost use Rattle.gl_schema.specs.Schemas.{IsSchema, IsStream};
 ghost use Rattle.gl_wiring.specs.Emitted.{AreSources, CostsNothing, Extends, Puts};
 ghost use Rattle.gl_wiring.specs.EmittedPorts.{streams_inputs};
 ghost use Rattle.gl_wiring.specs.Output.{input_ports};
-ghost use Rattle.gl_wiring.specs.StreamWires.{AreStreamWires, wire_from};
+ghost use Rattle.gl_wiring.specs.StreamWires.{AreStreamWires, wire_at, wire_from};
 
 use crate::parts::{Source, put_input, put_stream};
 use gl_bits::Memory;
-use gl_net::{Bit, Buses, NetBuilder};
+use gl_net::{Bit, Bus, Buses, NetBuilder};
 use gl_schema::{Schema, Stream};
 use gl_wire::Wire;
 use std::alloc::Global;
@@ -36,15 +36,13 @@ fn put_sources(
     Ok(sources)
 }
 
-// The wire of a stream's ports, which has this end.
-fn wire_of(alloc: Global, source: &Source, end: Bit) -> Result<Wire, Memory>
-    ensures { IfOk result (λ w. w ≡ wire_from end source.now) }
+// The wire of these ports.
+fn wire_of(alloc: Global, valid: Bus, columns: &[Bus], end: Bit) -> Result<Wire, Memory>
+    ensures { IfOk result (λ w. w ≡ wire_at valid columns.now end) }
 {
-    match Vec::from_slice(alloc, source.columns.as_slice()) {
+    match Vec::from_slice(alloc, columns) {
         Ok(columns) => Ok(Wire {
-            valid: Bit {
-                node: source.valid.node,
-            },
+            valid: Bit { node: valid.node },
             eos: end,
             columns: Buses::from_vec(columns),
         }),
@@ -58,7 +56,7 @@ fn wires_of(alloc: Global, sources: &[Source], end: Bit) -> Result<Vec<Wire>, Me
 {
     let mut wires = Vec::new(alloc);
     for source in sources {
-        let wire = wire_of(alloc, source, end)?;
+        let wire = wire_of(alloc, source.valid, source.columns.as_slice(), end)?;
         wires.push(wire)?;
     }
     Ok(wires)
@@ -78,7 +76,8 @@ pub(crate) fn put_leaves(
     ensures wires { IfOk result (λ all. AreStreamWires net.new schema.now.streams all.items) }
 {
     put_input(net, b"rst", 1)?;
-    let sources = put_sources(alloc, net, schema.streams.as_slice())?;
+    let streams = schema.streams.as_slice();
+    let sources = put_sources(alloc, net, streams)?;
     let end = put_input(net, b"eos", 1)?;
     let wires = wires_of(alloc, &sources, end.bit())?;
     Ok(wires)

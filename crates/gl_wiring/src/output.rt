@@ -33,14 +33,27 @@ fn put_sticky(net: &mut NetBuilder, line: Bit) -> Result<Bit, Memory>
     ensures { IfOk result (IsFault net.old net.new group_cost (λ run. line_at run line)) }
 {
     let register = net.register(1, Some(low()))?;
-    let next = either(net, register.bit(), line)?;
+    let kept = register.bit();
+    let next = either(net, kept, line)?;
     net.drive(register, next.bus())?;
-    Ok(register.bit())
+    Ok(kept)
+}
+
+// The same behind a line one cycle later.
+fn put_late(net: &mut NetBuilder, line: Bit) -> Result<Bit, Memory>
+    requires { IsBit net.old line }
+    ensures { IfOk result (IsFault net.old net.new queue_cost (λ run. later_line (line_at run line))) }
+{
+    let later = later_bit(net, line)?;
+    let fault = put_sticky(net, later)?;
+    Ok(fault)
 }
 
 // A line that is 0.
 fn put_low(net: &mut NetBuilder) -> Result<Bit, Memory>
-    ensures { IfOk result (IsFault net.old net.new group_cost (λ run t. false)) }
+    ensures group { IfOk result (IsFault net.old net.new group_cost (λ run t. false)) }
+    ensures queue { IfOk result (IsFault net.old net.new queue_cost
+        (λ run. later_line (λ t. false))) }
 {
     let bus = net.constant(low())?;
     Ok(bus.bit())
@@ -71,8 +84,7 @@ fn put_queue(net: &mut NetBuilder, line: Option<Bit>) -> Result<Bit, Memory>
 {
     match line {
         Some(line) => {
-            let later = later_bit(net, line)?;
-            let fault = put_sticky(net, later)?;
+            let fault = put_late(net, line)?;
             Ok(fault)
         }
         None => {
@@ -122,7 +134,8 @@ fn put_ports(
     ensures shows { OnOk result (Shows net.new names.now wire.now group queue) }
 {
     put_output(net, b"out__valid", wire.valid.bus())?;
-    put_columns(alloc, net, wire.columns.as_slice(), names)?;
+    let columns = wire.columns.as_slice();
+    put_columns(alloc, net, columns, names)?;
     put_output(net, b"out__eos", wire.eos.bus())?;
     put_output(net, b"fault__group", group.bus())?;
     put_output(net, b"fault__queue", queue.bus())?;

@@ -30,8 +30,9 @@ fn put_plan(
     ensures extends { OnOk result (Extends net.old net.new) }
     ensures plan { OnOk result (IsPlanNet schema.now plan.now root names.now.columns net.new) }
 {
+    let _ = plan.len();
     let leaves = put_leaves(alloc, net, schema)?;
-    let e = put_node(alloc, net, plan, figures, root, leaves.as_slice())?;
+    let e = put_node(alloc, net, plan, figures, root, &leaves)?;
     put_result(alloc, net, &e, names.columns.as_slice())?;
     Ok(())
 }
