@@ -12,11 +12,12 @@ use Rattle.gl_schema.specs.declared.schema.Schema.{Schema}
 use Rattle.gl_schema.specs.Beats.{Beat, row_in, beat_at, rows_at, ends_at}
 use Rattle.gl_schema.specs.Ports.{PortValues, Pin, pin, column_pins, stream_pins, streams_pins, IsStimulus, eos, in_valid, in_column, out_valid}
 use Rattle.gl_schema.specs.Seen.{value_at, row_shown, shown}
-use Rattle.gl_wiring.specs.Delay.{row_at, ShowsLater}
+use Rattle.gl_wiring.specs.Bringing.{row_at}
+use Rattle.gl_wiring.specs.Delay.{ShowsLater}
 use Rattle.gl_wiring.specs.Select.{picked, HasPort, ColumnsFollow, FollowsStream}
 
 -- the pin's value is that of the port, where the module has it
-abbrev Carries : PortValues → ℕ → Pin → Type 0
+abbrev pub Carries : PortValues → ℕ → Pin → Type 0
 Carries port t p = IfSome (port t p.name) (λ v. v ≡ p.value)
 
 -- a port that the module has carries its pin's value
@@ -27,7 +28,7 @@ carried port t name v has h =
     rw e g
 
 -- the pins of stream k
-stream_at : (P : Pin → Type 0) (ss : List Stream) (rows : List (Option (List ℕ))) (k : ℕ) (s : Stream) → slice_get ss k ≡ Some s → AllByRecursion P (streams_pins ss rows) → AllByRecursion P (stream_pins s (unwrap_or (slice_get rows k) None))
+pub stream_at : (P : Pin → Type 0) (ss : List Stream) (rows : List (Option (List ℕ))) (k : ℕ) (s : Stream) → slice_get ss k ≡ Some s → AllByRecursion P (streams_pins ss rows) → AllByRecursion P (stream_pins s (unwrap_or (slice_get rows k) None))
 stream_at P [] rows k s there h = absurd cc
 stream_at P (s ∷ ss) [] zero r there h = subst (λ x. AllByRecursion P (stream_pins x None)) (some_same s r there) (all_front P (stream_pins s None) (streams_pins ss []) h)
 stream_at P (s ∷ ss) [] (suc k) r there h = stream_at P ss [] k r there (all_back P (stream_pins s None) (streams_pins ss []) h)
@@ -46,7 +47,7 @@ row_by : (k : ℕ) (o : Option Beat) → unwrap_or (slice_get (option_map_or (λ
 row_by k None = refl
 row_by k (Some b) = refl
 
-row_of-beat : (k : ℕ) (beats : List Beat) (n : ℕ) → unwrap_or (slice_get (rows_at beats n) k) None ≡ row_at k beats n
+pub row_of-beat : (k : ℕ) (beats : List Beat) (n : ℕ) → unwrap_or (slice_get (rows_at beats n) k) None ≡ row_at k beats n
 row_of-beat k beats n = row_by k (beat_at beats n)
 
 bit_high : (b : Bool) → (bit b == 1) ≡ b

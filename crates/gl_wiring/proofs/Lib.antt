@@ -1,4 +1,5 @@
 pub mod PortNames
+pub mod BeatLemmas
 pub mod Delayed
 pub mod Following
 pub mod Inputs
@@ -7,3 +8,11 @@ pub mod VerilogNames
 pub mod Finishing
 pub mod Shapes
 pub mod Rightness
+pub mod StreamLemmas
+pub mod BringLemmas
+pub mod RootLemmas
+pub mod FileLemmas
+pub mod TopLemmas
+pub mod ShownLemmas
+pub mod OutputLemmas
+pub mod PlanLemmas

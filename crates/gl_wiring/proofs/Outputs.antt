@@ -85,7 +85,7 @@ input_is net run t name n apart p = rw (input_value net run t name n apart p) re
 pub has_input : (net : Net) (run : Run) (name : List ℕ) (n : ℕ) → AreApart net → IsPort net In name n → HasPort (input_values net run) name
 has_input net run name n apart p = λ t. (run.at t n, input_value net run t name n apart p)
 
-port_at : (net : Net) (run : Run) (t : ℕ) (d : Direction) (name : List ℕ) (n : ℕ) → AreApart net → IsPort net d name n → value_at (port_values net run) t name ≡ run.at t n
+pub port_at : (net : Net) (run : Run) (t : ℕ) (d : Direction) (name : List ℕ) (n : ℕ) → AreApart net → IsPort net d name n → value_at (port_values net run) t name ≡ run.at t n
 port_at net run t d name n apart p = rw (port_value net run t d name n apart p) refl
 
 -- an output port that is delayed follows its source's port

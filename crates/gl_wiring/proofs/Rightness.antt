@@ -23,7 +23,7 @@ reset_later : (schema : Schema) (beats : List Beat) (net : Net) (run : Run) (n t
 reset_later schema beats net run n t apart port stimulus =
     sym (input_is net run (suc t) rst n apart port) ∙ carried (input_values net run) (suc t) rst 0 (has_input net run rst n apart port) (stimulus.carries (suc t)).0
 
-is_reset : (schema : Schema) (beats : List Beat) (net : Net) (run : Run) → AreApart net → HasReset net → IsTrace net run → IsStimulus schema beats (input_values net run) → IsReset run
+pub is_reset : (schema : Schema) (beats : List Beat) (net : Net) (run : Run) → AreApart net → HasReset net → IsTrace net run → IsStimulus schema beats (input_values net run) → IsReset run
 unfolding rst
 is_reset schema beats net run apart reset trace stimulus = record {
   first = trace.line reset.node reset.port 0 ∙ ap (λ (v : ℕ). nat_eq v 1) (reset_first schema beats net run reset.node apart reset.port stimulus);

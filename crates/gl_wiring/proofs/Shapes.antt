@@ -182,7 +182,7 @@ all_ports n0 n1 n2 n3 n4 ss ws ps ns none x y z u =
 abbrev pub names_in : List PortShape → List (List ℕ)
 names_in shapes = map (λ (s : PortShape). s.name) shapes
 
-shape_names : (net : Net) (ports : List Port) → names_in (map (port_shape net) ports) ≡ map (λ (p : Port). p.name) ports
+pub shape_names : (net : Net) (ports : List Port) → names_in (map (port_shape net) ports) ≡ map (λ (p : Port). p.name) ports
 shape_names net [] = refl
 shape_names net (p ∷ ps) = ap (λ (x : List (List ℕ)). p.name ∷ x) (shape_names net ps)
 
@@ -193,7 +193,7 @@ column_names s (c ∷ cs) = ap (λ (x : List (List ℕ)). in_column s c.name ∷
 stream_names : (s : Stream) → names_in (stream_inputs s) ≡ stream_ports s
 stream_names s = ap (λ (x : List (List ℕ)). in_valid s.name ∷ x) (column_names s.name s.columns)
 
-streams_names : (ss : List Stream) → names_in (streams_inputs ss) ≡ streams_ports ss
+pub streams_names : (ss : List Stream) → names_in (streams_inputs ss) ≡ streams_ports ss
 streams_names [] = refl
 streams_names (s ∷ ss) = map-append (λ (x : PortShape). x.name) (stream_inputs s) (streams_inputs ss) ∙ ap (λ (x : List (List ℕ)). x ++ names_in (streams_inputs ss)) (stream_names s) ∙ ap (λ (x : List (List ℕ)). stream_ports s ++ x) (streams_names ss)
 

@@ -1,12 +1,9 @@
 -- What is seen of a module that shows what comes on one stream one cycle later.
-use Rattle.std.specs.Prelude.{◌≡◌, ℕ, suc, false, List, Option, None, option_map, option_and_then, IsFalse}
-use Rattle.gl_schema.specs.Beats.{Beat, row_in, beat_at, ends_at}
+use Rattle.std.specs.Prelude.{◌≡◌, ℕ, suc, false, List, None, option_map, IsFalse}
+use Rattle.gl_schema.specs.Beats.{Beat, ends_at}
 use Rattle.gl_schema.specs.Ports.{PortValues}
 use Rattle.gl_schema.specs.Seen.{shown}
-
--- the row of a stream that comes in a cycle
-abbrev pub row_at : ℕ → List Beat → ℕ → Option (List ℕ)
-row_at k beats n = option_and_then (row_in k) (beat_at beats n)
+use Rattle.gl_wiring.specs.Bringing.{row_at}
 
 -- each file cycle shows what the one before brought on stream k, each row picked, and its end
 pub record ShowsLater (k : ℕ) (pick : List ℕ → List ℕ) (beats : List Beat) (outs : List (List ℕ)) (port : PortValues) : Type 0 where

@@ -1,5 +1,6 @@
 -- What a part of an emitted netlist adds: ports under these names, and nodes that follow others.
 use Rattle.std.specs.Prelude.{◌≡◌, ℕ, suc, List, [], ◌∷◌, ◌++◌, Some, map, slice_get}
+use Rattle.std.specs.List.{AllZip}
 use Rattle.gl_schema.specs.declared.schema.Column.{Column}
 use Rattle.gl_schema.specs.declared.schema.Stream.{Stream}
 use Rattle.gl_schema.specs.declared.schema.Schema.{Schema}
@@ -11,7 +12,7 @@ use Rattle.gl_net.specs.declared.node.Node.{Node}
 use Rattle.gl_net.specs.declared.node.Port.{Port}
 use Rattle.gl_net.specs.declared.node.Direction.{Direction}
 use Rattle.gl_net.specs.declared.node.Direction.TheVariants.{In, Out}
-use Rattle.gl_net.specs.Net.{Net, Run, IsRun, IsBus, IsPort, Value, shape_in, open_at}
+use Rattle.gl_net.specs.Net.{Net, Run, IsRun, IsBus, IsPort, Value, shape_in, open_at, size_of, register_bits_of, memory_bits_of}
 use Rattle.gl_net.specs.PortValues.{PortShape}
 
 -- the names of the ports, in their order
@@ -49,6 +50,12 @@ pub record Extends (old new : Net) : Type 0 where
   pub undriven : (n : ℕ) → open_at new n ≡ open_at old n
   pub ports : (direction : Direction) (name : List ℕ) (n : ℕ) → IsPort old direction name n → IsPort new direction name n
   pub module_name : new.name ≡ old.name
+
+-- nothing but input nodes is added, and no bit of a register or a memory
+pub record CostsNothing (old new : Net) : Type 0 where
+  pub nodes : size_of new ≡ size_of old
+  pub registers : register_bits_of new ≡ register_bits_of old
+  pub memories : memory_bits_of new ≡ memory_bits_of old
 
 -- a bus for each column, which is the input port of the column
 abbrev pub AreInputs : Net → List ℕ → List Column → List Bus → Type 0
@@ -92,6 +99,18 @@ outputs source places names = column_outputs (bus_widths source.columns) places 
 
 abbrev pub results : Source → List ℕ → List (List ℕ) → List PortShape
 results source places names = result_outputs (bus_widths source.columns) places names
+
+-- the ports of a stream are this source
+pub record IsSourceOf (net : Net) (s : Stream) (source : Source) : Type 0 where
+  pub port : IsPort net In (in_valid s.name) source.valid.node
+  pub bus : IsBus net source.valid
+  pub bit : source.valid.width ≡ 1
+  pub inputs : AreInputs net s.name s.columns source.columns
+  pub widths : bus_widths source.columns ≡ column_widths s.columns
+
+-- one for each stream, in order
+abbrev pub AreSources : Net → List Stream → List Source → Type 0
+AreSources net streams sources = AllZip (IsSourceOf net) streams sources
 
 -- the ports of stream k are this source
 pub record IsSource (net : Net) (streams : List Stream) (k : ℕ) (source : Source) : Type 0 where

@@ -3,3 +3,9 @@ pub mod Delay
 pub mod Select
 pub mod Emitted
 pub mod EmittedPorts
+pub mod Bringing
+pub mod StreamWires
+pub mod Root
+pub mod Output
+pub mod Wired
+pub mod PlanNet

@@ -4,9 +4,13 @@
 //! are stands in `gl_net`, what is right for a query in `gl_schema`; no text is written here.
 #![tactic(auto)]
 
+mod leaves;
 pub mod names;
+mod output;
 pub mod parts;
+pub mod plan;
 pub mod select;
 
 pub use names::{ResultNames, in_column_name, in_valid_name};
+pub use plan::wire_plan;
 pub use select::wire_select;

@@ -9,7 +9,7 @@ ghost use Rattle.gl_net.specs.Net.{Run, IsRun, IsBus, IsPort};
 ghost use Rattle.gl_net.specs.declared.node.Direction.TheVariants.{In, Out};
 ghost use Rattle.gl_net.specs.Builds.{Follows};
 ghost use Rattle.gl_wiring.specs.EmittedPorts.{input, output, column_widths, stream_columns, stream_inputs, streams_inputs};
-ghost use Rattle.gl_wiring.specs.Emitted.{bus_widths, Puts, Extends, HasInputs, IsDelayed, IsDelayedBit, IsZero};
+ghost use Rattle.gl_wiring.specs.Emitted.{bus_widths, Puts, Extends, CostsNothing, HasInputs, IsDelayed, IsDelayedBit, IsZero};
 
 use crate::names::{in_column_name, in_valid_name};
 use gl_bits::{Memory, Word};
@@ -29,6 +29,7 @@ pub(crate) fn put_input(net: &mut NetBuilder, name: &[u8], width: u8) -> Result<
     requires { IsWidth width }
     ensures extends { OnOk result (Extends net.old net.new) }
     ensures ports { OnOk result (Puts net.old net.new (input name.now width ∷ [])) }
+    ensures cost { OnOk result (CostsNothing net.old net.new) }
     ensures port { IfOk result (λ b. IsPort net.new In name.now b.node) }
     ensures bus { IfOk result (λ b. IsBus net.new b) }
     ensures width { IfOk result (λ b. b.width ≡ width) }
@@ -42,6 +43,7 @@ pub(crate) fn put_output(net: &mut NetBuilder, name: &[u8], value: Bus) -> Resul
     requires { IsBus net.old value }
     ensures extends { OnOk result (Extends net.old net.new) }
     ensures ports { OnOk result (Puts net.old net.new (output name.now value.width ∷ [])) }
+    ensures cost { OnOk result (CostsNothing net.old net.new) }
     ensures port { OnOk result (IsPort net.new Out name.now value.node) }
 {
     net.output(name, value)?;
@@ -120,6 +122,7 @@ fn put_columns(alloc: Global, net: &mut NetBuilder, stream: &Stream) -> Result<B
     requires { AllByRecursion IsColumn stream.now.columns }
     ensures extends { OnOk result (Extends net.old net.new) }
     ensures ports { OnOk result (Puts net.old net.new (stream_columns stream.now)) }
+    ensures cost { OnOk result (CostsNothing net.old net.new) }
     ensures inputs { IfOk result (HasInputs net.new stream.now) }
     ensures widths { IfOk result (λ bs. bus_widths bs ≡ column_widths stream.now.columns) }
 {
@@ -141,6 +144,7 @@ pub(crate) fn put_stream(
     requires { IsStream stream.now }
     ensures extends { OnOk result (Extends net.old net.new) }
     ensures ports { OnOk result (Puts net.old net.new (stream_inputs stream.now)) }
+    ensures cost { OnOk result (CostsNothing net.old net.new) }
     ensures port { IfOk result (λ s. IsPort net.new In (in_valid stream.now.name) s.valid.node) }
     ensures bus { IfOk result (λ s. IsBus net.new s.valid) }
     ensures bit { IfOk result (λ s. s.valid.width ≡ 1) }

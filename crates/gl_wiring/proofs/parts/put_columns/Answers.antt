@@ -9,6 +9,7 @@ use Rattle.gl_schema.specs.Ports.{in_column}
 use Rattle.gl_wiring.specs.Emitted.{Puts}
 use Rattle.gl_wiring.proofs.Inputs.{inputs_stay, inputs_push, extends_then}
 use Rattle.gl_wiring.proofs.Shapes.{puts_nothing, columns_next, widths_push}
+use Rattle.gl_wiring.proofs.OutputLemmas.{nothing_more, nothing_then}
 use Rattle.gl_wiring.proofs.parts.put_columns.Goals as goal
 
 pub loop-column-preserved : goal.loop-column-preserved
@@ -35,6 +36,7 @@ loop-column-preserved c =
     record {
       extends = extends_then c.args.net.now mid net inv.extends e.extends;
       ports = columns_next c.args.net.now mid net s cs i column (taken_next cs i column lt is) inv.ports ports;
+      cost = nothing_then c.args.net.now mid net inv.cost e.cost;
       inputs = rw (taken_next cs i column lt is, c.in_ok-push.ensures.ok) pushed;
       widths = rw (taken_next cs i column lt is, c.in_ok-push.ensures.ok) (widths_push (take i cs) buses column bus inv.widths wide);
     }
@@ -43,6 +45,7 @@ pub loop-column-init : goal.loop-column-init
 loop-column-init c = record {
   extends = search rules;
   ports = puts_nothing c.args.net.now;
+  cost = nothing_more c.args.net.now;
   inputs = search rules;
   widths = search rules;
 }

@@ -1,0 +1,179 @@
+-- The output of a circuit: its lines, its ports and what they cost.
+use Rattle.std.proofs.Common.{◌≡◌, ℕ, zero, suc, ◌+◌, ◌<◌, Bool, false, ◌||◌, List, [], ◌∷◌, ◌++◌, length, take, refl, sym, ap, subst, ◌∙◌, arith}
+use Rattle.std.specs.Prelude.{nat_eq, slice_get}
+use Rattle.gl_bits.proofs.AllLists.{zip_append}
+use Rattle.gl_net.specs.Net.{Net, Run, IsPort, Keeps}
+use Rattle.gl_net.specs.PortValues.{PortShape}
+use Rattle.gl_net.specs.declared.node.Bit.{Bit}
+use Rattle.gl_net.specs.declared.node.Bus.{Bus}
+use Rattle.gl_net.specs.declared.node.Direction.TheVariants.{Out}
+use Rattle.gl_net.proofs.Determined.{keeps_then}
+use Rattle.gl_schema.specs.Ports.{out_valid, out_column, out_eos, fault_group, fault_queue}
+use Rattle.gl_wire.specs.Faults.{line_of}
+use Rattle.gl_wire.specs.Stages.{IsLaterLine, IsPad}
+use Rattle.gl_wire.specs.Wire.{line_at, widths}
+use Rattle.gl_wire.specs.declared.emitted.Emitted.{Emitted}
+use Rattle.gl_wire.specs.declared.wire.Wire.{Wire}
+use Rattle.gl_wire.specs.Costs.{CostsAtMost}
+use Rattle.gl_wire.proofs.ColumnLemmas.{bus_kept, widths-push}
+use Rattle.gl_wire.proofs.StageLemmas.{line_first}
+use Rattle.gl_wiring.specs.Emitted.{CostsNothing, Extends, Puts}
+use Rattle.gl_wiring.specs.EmittedPorts.{output}
+use Rattle.gl_wiring.specs.Output.{AreShown, IsFault, IsOutput, Shows, group_cost, named_outputs, output_cost, output_ports, queue_cost}
+use Rattle.gl_wiring.specs.Root.{IsSticky, later_line}
+use Rattle.gl_wiring.proofs.Shapes.{puts_none, puts_then}
+
+-- ---- blocks and ports
+
+pub keeps_extends : (old new : Net) → Keeps old new → Extends old new
+keeps_extends old new g = record {
+  runs = g.runs;
+  buses = λ b h. bus_kept old new b g h;
+  undriven = g.undriven;
+  ports = λ d name n h. record { place = h.place; there = ap (λ ports. slice_get ports h.place) g.ports ∙ h.there };
+  module_name = g.name;
+}
+
+pub keeps_puts : (old new : Net) → Keeps old new → Puts old new []
+keeps_puts old new g = puts_none old new g.shapes g.ports
+
+pub nothing_then : (a b c : Net) → CostsNothing a b → CostsNothing b c → CostsNothing a c
+nothing_then a b c x y = record { nodes = y.nodes ∙ x.nodes; registers = y.registers ∙ x.registers; memories = y.memories ∙ x.memories }
+
+pub nothing_more : (net : Net) → CostsNothing net net
+nothing_more net = record { nodes = refl; registers = refl; memories = refl }
+
+-- ---- lines that never fall
+
+-- a register that is 0 after reset and then takes itself or a line
+pub sticky_is : (run : Run) (line next sticky : Bit) → run.at 1 sticky.node ≡ 0
+    → ((t : ℕ) → run.at (suc (suc t)) sticky.node ≡ run.at (suc t) next.node)
+    → ((t : ℕ) → line_at run next t ≡ (line_at run sticky t || line_at run line t))
+    → IsSticky (line_at run line) (line_at run sticky)
+unfolding line_at
+sticky_is run line next sticky start later either = record { first = refl; next = by }
+  where
+    by : (t : ℕ) → line_at run sticky (suc t) ≡ (line_at run sticky t || line_at run line t)
+    by zero = rw start refl
+    by (suc t) = ap (λ v. nat_eq v 1) (later t) ∙ either (suc t)
+
+line_low : (run : Run) (low : Bit) → ((t : ℕ) → run.at t low.node ≡ 0) → (t : ℕ) → line_at run low t ≡ false
+unfolding line_at
+line_low run low h zero = refl
+line_low run low h (suc t) = rw (h (suc t)) refl
+
+pub low_is : (run : Run) (low : Bit) → ((t : ℕ) → run.at t low.node ≡ 0) → IsSticky (λ t. false) (line_at run low)
+low_is run low h = record { first = line_low run low h 0; next = λ t. rw (line_low run low h (suc t), line_low run low h t) refl }
+
+-- the same behind a line that is the same
+sticky_same : (p q sticky : ℕ → Bool) → ((t : ℕ) → p t ≡ q t) → IsSticky p sticky → IsSticky q sticky
+sticky_same p q sticky e s = record { first = s.first; next = λ t. s.next t ∙ ap (λ (b : Bool). sticky t || b) (e t) }
+
+later_is : (run : Run) (line later : Bit) → ((t : ℕ) → line_at run later (suc t) ≡ line_at run line t)
+    → (t : ℕ) → line_at run later t ≡ later_line (line_at run line) t
+later_is run line later h zero = line_first run later
+later_is run line later h (suc t) = h t
+
+pub queue_is : (old mid new : Net) (line later fault : Bit) → IsLaterLine old mid line later
+    → IsFault mid new group_cost (λ run. line_at run later) fault
+    → IsFault old new queue_cost (λ run. later_line (line_at run line)) fault
+queue_is old mid new line later fault l f = record {
+  keeps = keeps_then old mid new l.keeps f.keeps;
+  cost = record {
+    nodes = omega (arith, l.cost.nodes, f.cost.nodes);
+    registers = omega (arith, l.cost.registers, f.cost.registers);
+    memories = omega (arith, l.cost.memories, f.cost.memories);
+  };
+  bit = f.bit;
+  sticky = λ run r. sticky_same (line_at run later) (later_line (line_at run line)) (line_at run fault)
+      (later_is run line later (l.line run (f.keeps.runs run r))) (f.sticky run r);
+}
+
+no_later : (t : ℕ) → false ≡ later_line (λ c. false) t
+no_later zero = refl
+no_later (suc t) = refl
+
+pub low_later : (run : Run) (low : Bit) → ((t : ℕ) → run.at t low.node ≡ 0) → IsSticky (later_line (λ t. false)) (line_at run low)
+low_later run low h = sticky_same (λ t. false) (later_line (λ t. false)) (line_at run low) no_later (low_is run low h)
+
+-- ---- ports
+
+named_push : (ws : List ℕ) (ns : List (List ℕ)) (w : ℕ) (n : List ℕ) → length ns ≡ length ws
+    → named_outputs (ws ++ w ∷ []) (ns ++ n ∷ []) ≡ named_outputs ws ns ++ output (out_column n) w ∷ []
+named_push [] [] w n e = refl
+named_push [] (m ∷ ns) w n e = absurd (omega arith)
+named_push (v ∷ ws) [] w n e = absurd (omega arith)
+named_push (v ∷ ws) (m ∷ ns) w n e = ap (λ (x : List PortShape). output (out_column m) v ∷ x) (named_push ws ns w n (omega arith))
+
+taken_alike : {A B : Type 0} (i : ℕ) (xs : List A) (ys : List B) → length xs ≡ length ys → length (take i xs) ≡ length (take i ys)
+taken_alike zero xs ys e = refl
+taken_alike (suc i) [] [] e = refl
+taken_alike (suc i) [] (y ∷ ys) e = absurd (omega arith)
+taken_alike (suc i) (x ∷ xs) [] e = absurd (omega arith)
+taken_alike (suc i) (x ∷ xs) (y ∷ ys) e = ap suc (taken_alike i xs ys (omega arith))
+
+widths_long : (bs : List Bus) → length (widths bs) ≡ length bs
+widths_long [] = refl
+widths_long (b ∷ bs) = ap suc (widths_long bs)
+
+-- one column more
+pub named_next : (a b c : Net) (bs : List Bus) (ns : List (List ℕ)) (i : ℕ) (bus : Bus) (n : List ℕ) → length ns ≡ length bs
+    → take (i + 1) bs ≡ take i bs ++ bus ∷ [] → take (i + 1) ns ≡ take i ns ++ n ∷ []
+    → Puts a b (named_outputs (widths (take i bs)) (take i ns)) → Puts b c (output (out_column n) bus.width ∷ [])
+    → Puts a c (named_outputs (widths (take (i + 1) bs)) (take (i + 1) ns))
+named_next a b c bs ns i bus n same more_buses more_names x y =
+    let last = output (out_column n) bus.width ∷ [] in
+    let long : length (take i ns) ≡ length (widths (take i bs)) = taken_alike i ns bs same ∙ sym (widths_long (take i bs)) in
+    let is : named_outputs (widths (take (i + 1) bs)) (take (i + 1) ns) ≡ named_outputs (widths (take i bs)) (take i ns) ++ last =
+    ap (λ (t : List Bus). named_outputs (widths t) (take (i + 1) ns)) more_buses
+    ∙ ap (λ (t : List ℕ). named_outputs t (take (i + 1) ns)) (widths-push (take i bs) bus)
+    ∙ ap (named_outputs (widths (take i bs) ++ bus.width ∷ [])) more_names
+    ∙ named_push (widths (take i bs)) (take i ns) bus.width n long in
+    subst (λ (shapes : List PortShape). Puts a c shapes) (sym is) (puts_then a b c (named_outputs (widths (take i bs)) (take i ns)) last x y)
+
+pub shown_stay : (old new : Net) (ns : List (List ℕ)) (bs : List Bus) → Extends old new → AreShown old ns bs → AreShown new ns bs
+shown_stay old new [] [] x h = tt
+shown_stay old new [] (b ∷ bs) x h = absurd h
+shown_stay old new (n ∷ ns) [] x h = absurd h
+shown_stay old new (n ∷ ns) (b ∷ bs) x h = (x.ports Out (out_column n) b.node h.0, shown_stay old new ns bs x h.1)
+
+pub shown_push : (old new : Net) (ns : List (List ℕ)) (bs : List Bus) (n : List ℕ) (b : Bus) → Extends old new → AreShown old ns bs
+    → IsPort new Out (out_column n) b.node → AreShown new (ns ++ n ∷ []) (bs ++ b ∷ [])
+shown_push old new ns bs n b x h p =
+    zip_append (λ (name : List ℕ) (c : Bus). IsPort new Out (out_column name) c.node) ns (n ∷ []) bs (b ∷ []) (shown_stay old new ns bs x h) (p, tt)
+
+-- the ports of a result, one after the other
+pub output_puts : (n0 n1 n2 n3 n4 n5 : Net) (ws : List ℕ) (ns : List (List ℕ)) → Puts n0 n1 (output out_valid 1 ∷ [])
+    → Puts n1 n2 (named_outputs ws ns) → Puts n2 n3 (output out_eos 1 ∷ []) → Puts n3 n4 (output fault_group 1 ∷ [])
+    → Puts n4 n5 (output fault_queue 1 ∷ []) → Puts n0 n5 (output_ports ws ns)
+output_puts n0 n1 n2 n3 n4 n5 ws ns x y z u v =
+    let eos_and_group = puts_then n2 n3 n4 (output out_eos 1 ∷ []) (output fault_group 1 ∷ []) z u in
+    let tail : List PortShape = output out_eos 1 ∷ output fault_group 1 ∷ output fault_queue 1 ∷ [] in
+    let put : Puts n2 n5 tail = puts_then n2 n4 n5 (output out_eos 1 ∷ output fault_group 1 ∷ []) (output fault_queue 1 ∷ []) eos_and_group v in
+    puts_then n0 n1 n5 (output out_valid 1 ∷ []) (named_outputs ws ns ++ tail) x (puts_then n1 n2 n5 (named_outputs ws ns) tail y put)
+
+-- ---- the whole
+
+module _ (old stage grouped queued new : Net) (names : List (List ℕ)) (e : Emitted) (w : Wire) (group queue : Bit) (pad : IsPad old stage 1 e.wire w)
+    (g : IsFault stage grouped group_cost (λ run. line_of run e.faults.further) group)
+    (q : IsFault grouped queued queue_cost (λ run. later_line (line_of run e.faults.passed)) queue) where
+  pub behind_wire : Keeps old queued
+  behind_wire = keeps_then old stage queued pad.keeps (keeps_then stage grouped queued g.keeps q.keeps)
+
+  pub output_costs : CostsNothing queued new → CostsAtMost old new (output_cost (widths e.wire.columns))
+  output_costs n = record {
+    nodes = omega (arith, pad.cost.nodes, g.cost.nodes, q.cost.nodes, n.nodes);
+    registers = omega (arith, pad.cost.registers, g.cost.registers, q.cost.registers, n.registers);
+    memories = omega (arith, pad.cost.memories, g.cost.memories, q.cost.memories, n.memories);
+  }
+
+  pub output_is : Extends queued new → Shows new names w group queue → IsOutput new names e
+  output_is x shows = record {
+    wire = w;
+    group = group;
+    queue = queue;
+    shows = shows;
+    delayed = λ run r. pad.delayed run (g.keeps.runs run (q.keeps.runs run (x.runs run r)));
+    group_line = λ run r. g.sticky run (q.keeps.runs run (x.runs run r));
+    queue_line = λ run r. q.sticky run (x.runs run r);
+  }

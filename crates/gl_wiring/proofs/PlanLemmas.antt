@@ -1,0 +1,135 @@
+-- The netlist of a plan: the names of its ports, what it costs, and that its runs are right.
+use Rattle.std.proofs.Common.{◌≡◌, ℕ, suc, ◌+◌, ◌*◌, ◌<◌, ◌≤◌, List, [], ◌∷◌, ◌++◌, length, map, Some, None, refl, sym, ap, subst, ◌∙◌, append_assoc, arith}
+use Rattle.std.specs.Prelude.{slice_get}
+use Rattle.std.specs.List.{sum}
+use Rattle.std.proofs.lemmas.List.{map-append}
+use Rattle.gl_algebra.specs.Cost.{most_memory, most_registers}
+use Rattle.gl_algebra.specs.FigureTable.{figures_of, gap_of, latency_of}
+use Rattle.gl_algebra.specs.Fits.{IsPlan}
+use Rattle.gl_algebra.specs.Results.{IsPlanResult}
+use Rattle.gl_algebra.specs.Shapes.{kinds_of}
+use Rattle.gl_algebra.specs.Weights.{weight_with_output}
+use Rattle.gl_algebra.specs.declared.node.PlanNode.{PlanNode}
+use Rattle.gl_algebra.proofs.KindLemmas.{columns_have_kinds}
+use Rattle.gl_bits.proofs.AllLists.{length_map}
+use Rattle.gl_bits.proofs.Options.{some_same}
+use Rattle.gl_bits.specs.Kinds.{width_of}
+use Rattle.gl_net.specs.Net.{Net, Run, IsRun, IsTrace, memory_bits_of, register_bits_of, size_of}
+use Rattle.gl_net.specs.PortValues.{PortShape, input_values, port_shapes, port_values}
+use Rattle.gl_plan_wiring.specs.Leaves.{widths_of}
+use Rattle.gl_plan_wiring.specs.Put.{counted}
+use Rattle.gl_plan_wiring.proofs.CostLemmas.{bits_within}
+use Rattle.gl_schema.specs.Beats.{Beat, AreBeats, KeepsGap, inputs_of, last_cycle}
+use Rattle.gl_schema.specs.Ports.{IsStimulus, rst, eos, out_valid, out_column, out_eos, fault_group, fault_queue}
+use Rattle.gl_schema.specs.Right.{IsRight}
+use Rattle.gl_schema.specs.declared.schema.Schema.{Schema}
+use Rattle.gl_wire.specs.Costs.{CostsAtMost}
+use Rattle.gl_wire.specs.Wire.{carried, line_at}
+use Rattle.gl_wire.specs.declared.wire.Wire.{Wire}
+use Rattle.gl_wire.proofs.StageLemmas.{line_first, tuple_by}
+use Rattle.gl_wiring.specs.Bringing.{Brings}
+use Rattle.gl_wiring.specs.Emitted.{CostsNothing, names_of}
+use Rattle.gl_wiring.specs.EmittedPorts.{input, output, streams_inputs}
+use Rattle.gl_wiring.specs.Output.{input_ports, named_outputs, output_cost, output_ports, plan_ports}
+use Rattle.gl_wiring.specs.PlanNet.{IsEmpty, IsPlanNet}
+use Rattle.gl_wiring.specs.PortNames.{port_names, result_ports, streams_ports}
+use Rattle.gl_wiring.specs.Root.{ShowsRight}
+use Rattle.gl_wiring.specs.StreamWires.{IsStreamWire}
+use Rattle.gl_wiring.specs.Wired.{KeepsGroup, OverBeats, plan_inputs, plan_means}
+use Rattle.gl_wiring.proofs.BringLemmas.{brings, no_input}
+use Rattle.gl_wiring.proofs.Outputs.{AreApart}
+use Rattle.gl_wiring.proofs.Rightness.{is_reset}
+use Rattle.gl_wiring.proofs.Shapes.{names_in, shape_names, streams_names}
+use Rattle.gl_wiring.proofs.ShownLemmas.{shown_group, shown_right}
+use Rattle.gl_wiring.proofs.StreamLemmas.{no_stream, wire_at}
+use Rattle.gl_wiring.proofs.TopLemmas.{plan_right}
+
+-- ---- names
+
+outputs_named : (ws : List ℕ) (ns : List (List ℕ)) → length ns ≡ length ws → names_in (named_outputs ws ns) ≡ map out_column ns
+outputs_named [] [] e = refl
+outputs_named [] (n ∷ ns) e = absurd (omega arith)
+outputs_named (w ∷ ws) [] e = absurd (omega arith)
+outputs_named (w ∷ ws) (n ∷ ns) e = ap (λ (x : List (List ℕ)). out_column n ∷ x) (outputs_named ws ns (omega arith))
+
+result_named : (ws : List ℕ) (ns : List (List ℕ)) → length ns ≡ length ws → names_in (output_ports ws ns) ≡ result_ports ns
+result_named ws ns e =
+    let tail = output out_eos 1 ∷ output fault_group 1 ∷ output fault_queue 1 ∷ [] in
+    ap (λ (x : List (List ℕ)). out_valid ∷ x) (map-append (λ (s : PortShape). s.name) (named_outputs ws ns) tail
+    ∙ ap (λ (x : List (List ℕ)). x ++ out_eos ∷ fault_group ∷ fault_queue ∷ []) (outputs_named ws ns e))
+
+plan_named : (s : Schema) (ws : List ℕ) (ns : List (List ℕ)) → length ns ≡ length ws
+    → names_in (input_ports s ++ output_ports ws ns) ≡ port_names s ns
+plan_named s ws ns e =
+    let result = output_ports ws ns in
+    let streams = streams_inputs s.streams in
+    ap (λ (x : List PortShape). names_in (input rst 1 ∷ x)) (append_assoc streams (input eos 1 ∷ []) result)
+    ∙ ap (λ (x : List (List ℕ)). rst ∷ x) (map-append (λ (p : PortShape). p.name) streams (input eos 1 ∷ result)
+    ∙ ap (λ (x : List (List ℕ)). x ++ eos ∷ names_in result) (streams_names s.streams)
+    ∙ ap (λ (x : List (List ℕ)). streams_ports s.streams ++ eos ∷ x) (result_named ws ns e))
+
+-- the names of the ports of a plan's netlist
+pub plan_names : (net : Net) (s : Schema) (nodes : List PlanNode) (root : ℕ) (ns : List (List ℕ)) → length ns ≡ length (kinds_of nodes root)
+    → port_shapes net ≡ plan_ports s (kinds_of nodes root) ns → names_of net ≡ port_names s ns
+unfolding port_shapes
+plan_names net s nodes root ns e h =
+    sym (shape_names net net.ports) ∙ ap names_in h
+    ∙ plan_named s (widths_of (kinds_of nodes root)) ns (e ∙ sym (length_map width_of (kinds_of nodes root)))
+
+-- ---- costs
+
+pub record IsWithin (nodes : List PlanNode) (root : ℕ) (net : Net) : Type 0 where
+  pub size : size_of net ≤ weight_with_output nodes root
+  pub registers : register_bits_of net ≤ most_registers nodes root
+  pub memories : memory_bits_of net ≤ most_memory nodes root
+
+-- the circuit of the root and an output are within what the plan counts with its output
+pub costs_within : (nodes : List PlanNode) (root : ℕ) (n0 n1 n2 n3 : Net) (columns : List ℕ) → IsPlan nodes → root < length nodes
+    → IsEmpty n0 → CostsNothing n0 n1 → CostsAtMost n1 n2 (counted nodes root) → CostsAtMost n2 n3 (output_cost columns)
+    → columns ≡ widths_of (kinds_of nodes root) → IsWithin nodes root n3
+costs_within nodes root n0 n1 n2 n3 columns plan within empty none put out same =
+    let kinds = kinds_of nodes root in
+    let long : length columns ≡ length kinds = ap length same ∙ length_map width_of kinds in
+    let bits : sum (widths_of kinds) ≤ 64 * length kinds = bits_within kinds (columns_have_kinds nodes root plan within) in
+    let wide : sum columns ≡ sum (widths_of kinds) = ap sum same in
+    record {
+      size = omega (arith, empty.size, none.nodes, put.nodes, out.nodes, long);
+      registers = omega (arith, empty.registers, none.registers, put.registers, out.registers, bits, wide);
+      memories = omega (arith, empty.memories, none.memories, put.memories, out.memories);
+    }
+
+-- ---- right runs
+
+module _ (schema : Schema) (nodes : List PlanNode) (root : ℕ) (names : List (List ℕ)) (net : Net) (is : IsPlanNet schema nodes root names net)
+    (within : root < length nodes) (apart : AreApart net) where
+  module _ (run : Run) (beats : List Beat) (trace : IsTrace net run) (are : AreBeats schema beats) (keeps : KeepsGap (gap_of nodes root) beats)
+      (stimulus : IsStimulus schema beats (input_values net run)) where
+    runs : IsRun net run
+    runs = record { trace = trace; reset = is_reset schema beats net run apart is.reset trace stimulus }
+
+    leaf_brings : (k : ℕ) (w : Wire) → slice_get is.leaves k ≡ Some w → Brings k beats (carried run w)
+    leaf_brings k w e =
+        let r = wire_at net schema.streams is.leaves k w is.wires e in
+        let same : r.wire ≡ w = some_same r.wire w (sym r.at ∙ e) in
+        subst (λ (x : Wire). Brings k beats (carried run x)) same
+        (brings schema k r.stream r.there beats are net run apart r.wire r.is stimulus)
+
+    shows : ShowsRight (figures_of nodes root) (IsPlanResult nodes root (plan_inputs (inputs_of beats))) (suc (last_cycle beats))
+        (carried run is.output.wire) (line_at run is.output.group) (line_at run is.output.queue)
+    shows = plan_right run is.leaves beats are.order leaf_brings
+        (λ k e. no_input schema beats k are.each (no_stream net schema.streams is.leaves k is.wires e))
+        nodes root is.e (carried run is.output.wire) (line_at run is.output.group) (line_at run is.output.queue) is.plan within
+        (is.serves run runs) keeps (is.output.delayed run runs) (is.output.group_line run runs) (is.output.queue_line run runs)
+
+    first : (carried run is.output.wire).tuple 0 ≡ None
+    first = tuple_by run is.output.wire.valid is.output.wire.columns 0 ∙ rw (line_first run is.output.wire.valid) refl
+
+  pub plan_runs_right : OverBeats schema (gap_of nodes root) (λ all port. IsRight (plan_means nodes root) (latency_of nodes root) all (map out_column names) port) net
+  plan_runs_right run beats trace are keeps stimulus =
+      shown_right net run names is.output.wire is.output.group is.output.queue apart is.output.shows nodes root beats
+      (first run beats trace are keeps stimulus) (shows run beats trace are keeps stimulus)
+
+  pub plan_group_kept : OverBeats schema (gap_of nodes root) (λ all port. KeepsGroup (map out_column names) port) net
+  plan_group_kept run beats trace are keeps stimulus =
+      shown_group net run names is.output.wire is.output.group is.output.queue apart is.output.shows nodes root beats
+      (first run beats trace are keeps stimulus) (shows run beats trace are keeps stimulus)

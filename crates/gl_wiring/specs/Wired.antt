@@ -1,0 +1,72 @@
+-- The netlist of a plan: every run of it over beats that keep the gap is right for the plan.
+use Rattle.std.specs.Prelude.{◌≡◌, ℕ, suc, ◌<◌, ◌≤◌, List, ◌++◌, length, map, Some, IsTrue, codes, bytes_eq}
+use Rattle.std.specs.List.{AllByRecursion, IsDistinct}
+use Rattle.gl_algebra.specs.Cost.{most_memory, most_registers}
+use Rattle.gl_algebra.specs.FigureTable.{gap_of, latency_of}
+use Rattle.gl_algebra.specs.Results.{Inputs, IsPlanResult}
+use Rattle.gl_algebra.specs.Shapes.{kinds_of, shape_of}
+use Rattle.gl_algebra.specs.Small.{AreFigures}
+use Rattle.gl_algebra.specs.Weights.{weight_with_output}
+use Rattle.gl_algebra.specs.declared.figures.Figures.{Figures}
+use Rattle.gl_algebra.specs.declared.node.PlanNode.{PlanNode}
+use Rattle.gl_net.specs.Net.{Net, Run, IsTrace, memory_bits_of, register_bits_of, size_of}
+use Rattle.gl_net.specs.PortValues.{input_values, port_shapes, port_values}
+use Rattle.gl_plan_wiring.specs.Put.{IsFlat}
+use Rattle.gl_schema.specs.Beats as beats
+use Rattle.gl_schema.specs.Beats.{Beat, AreBeats, KeepsGap}
+use Rattle.gl_schema.specs.Names.{IsName}
+use Rattle.gl_schema.specs.Ports.{IsStimulus, PortValues, out_column}
+use Rattle.gl_schema.specs.Right.{Meaning, IsRight}
+use Rattle.gl_schema.specs.Schemas.{IsSchema}
+use Rattle.gl_schema.specs.Seen.{shown}
+use Rattle.gl_schema.specs.declared.schema.Schema.{Schema}
+use Rattle.gl_wiring.specs.Output.{plan_ports}
+use Rattle.gl_wiring.specs.StreamWires.{AreStreamLeaves}
+use Rattle.gl_wiring.specs.declared.names.ResultNames.{ResultNames}
+
+-- what comes in to a query as what the leaves of its plan give; no leaf of a whole plan is a body's input
+abbrev pub plan_inputs : beats.Inputs → Inputs
+plan_inputs inputs = record { streams = inputs.rows; body = inputs.rows 0 }
+
+-- what a plan means: the results of its root
+abbrev pub plan_means : List PlanNode → ℕ → Meaning
+plan_means nodes root inputs rows spill = IsPlanResult nodes root (plan_inputs inputs) rows spill
+
+-- the group line never falls, and from the end on it keeps its value
+pub record KeepsGroup (outs : List (List ℕ)) (port : PortValues) : Type 0 where
+  pub lasts : (n : ℕ) → IsTrue (shown port outs n).group → IsTrue (shown port outs (suc n)).group
+  pub stays : (e n : ℕ) → IsTrue (shown port outs e).end → e ≤ n → (shown port outs n).group ≡ (shown port outs e).group
+
+-- this holds of each run of the netlist that has beats of the schema on its input ports which keep the gap
+abbrev pub OverBeats : Schema → ℕ → (List Beat → PortValues → Type 0) → Net → Type 0
+OverBeats schema gap P net =
+    (run : Run) (all : List Beat) → IsTrace net run → AreBeats schema all → KeepsGap gap all → IsStimulus schema all (input_values net run)
+    → P all (port_values net run)
+
+-- names of a result and its columns: as many as this, no two the same
+pub record AreResultNames (many : ℕ) (names : ResultNames) : Type 0 where
+  pub many' : length names.columns ≡ many
+  pub into : IsName names.into
+  pub columns : AllByRecursion IsName names.columns
+  pub distinct : IsDistinct bytes_eq names.columns
+
+-- a plan that can be wired: no window and no group stands under the root, and its leaves are streams of the schema
+pub record CanWire (schema : Schema) (nodes : List PlanNode) (root : ℕ) (figures : List Figures) (names : ResultNames) : Type 0 where
+  pub schema' : IsSchema schema
+  pub within : root < length nodes
+  pub flat : IsFlat nodes root
+  pub leaves : AreStreamLeaves schema.streams (shape_of nodes root).leaves
+  pub figured : AreFigures nodes figures
+  pub named : AreResultNames (length (kinds_of nodes root)) names
+
+-- its netlist: the ports of the schema and of the result, at most what the plan counts with its output, and over beats that keep the
+-- gap a right run, within the latency, whose group line never falls
+pub record IsWired (schema : Schema) (nodes : List PlanNode) (root : ℕ) (names : ResultNames) (net : Net) : Type 0 where
+  pub name : net.name ≡ Some (codes "q__" ++ names.into)
+  pub ports : port_shapes net ≡ plan_ports schema (kinds_of nodes root) names.columns
+  pub size : size_of net ≤ weight_with_output nodes root
+  pub registers : register_bits_of net ≤ most_registers nodes root
+  pub memories : memory_bits_of net ≤ most_memory nodes root
+  pub right : OverBeats schema (gap_of nodes root) (λ all port.
+      IsRight (plan_means nodes root) (latency_of nodes root) all (map out_column names.columns) port) net
+  pub group : OverBeats schema (gap_of nodes root) (λ all port. KeepsGroup (map out_column names.columns) port) net

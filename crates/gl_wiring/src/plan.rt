@@ -1,0 +1,60 @@
+//! The netlist of a plan.
+
+ghost use Rattle.std.specs.Prelude.{IfOk, OnOk};
+ghost use Rattle.gl_wiring.specs.Emitted.{Extends};
+ghost use Rattle.gl_wiring.specs.PlanNet.{IsEmpty, IsPlanNet};
+ghost use Rattle.gl_wiring.specs.Wired.{CanWire, IsWired};
+
+use crate::leaves::put_leaves;
+use crate::names::{ResultNames, module_name};
+use crate::output::put_result;
+use gl_algebra::{Figures, Plan, PlanId};
+use gl_bits::Memory;
+use gl_net::{NetBuilder, Netlist};
+use gl_plan_wiring::put_node;
+use gl_schema::Schema;
+use std::alloc::Global;
+
+// The nodes and ports of a plan, in a builder that has none.
+fn put_plan(
+    alloc: Global,
+    net: &mut NetBuilder,
+    schema: &Schema,
+    plan: &Plan,
+    root: PlanId,
+    figures: &[Figures],
+    names: &ResultNames,
+) -> Result<(), Memory>
+    requires can { CanWire schema.now plan.now root figures.now names.now }
+    requires empty { IsEmpty net.old }
+    ensures extends { OnOk result (Extends net.old net.new) }
+    ensures plan { OnOk result (IsPlanNet schema.now plan.now root names.now.columns net.new) }
+{
+    let _ = plan.len();
+    let leaves = put_leaves(alloc, net, schema)?;
+    let e = put_node(alloc, net, plan, figures, root, &leaves)?;
+    put_result(alloc, net, &e, names.columns.as_slice())?;
+    Ok(())
+}
+
+/// The netlist of a plan: the ports of an emitted module for this schema and this result, and the circuit of the root between them.
+///
+/// The figures are those of all nodes, as `gl_figures` writes them; `names` has a name for each of the root's columns. Every run over
+/// beats that keep the root's gap is right for the plan within its latency. Want of memory is the one other answer.
+pub fn wire_plan(
+    alloc: Global,
+    schema: &Schema,
+    plan: &Plan,
+    root: PlanId,
+    figures: &[Figures],
+    names: &ResultNames,
+) -> Result<Netlist, Memory>
+    requires { CanWire schema.now plan.now root figures.now names.now }
+    ensures { IfOk result (IsWired schema.now plan.now root names.now) }
+{
+    let mut net = NetBuilder::new(alloc);
+    let name = module_name(alloc, names.into.as_slice())?;
+    net.module(&name)?;
+    put_plan(alloc, &mut net, schema, plan, root, figures, names)?;
+    Ok(net.finish())
+}
