@@ -1,0 +1,151 @@
+-- What beats put on the input ports is what the wires of leaves bring.
+use Rattle.std.proofs.Common.{◌≡◌, ℕ, zero, suc, Bool, true, false, List, [], ◌∷◌, Option, Some, None, refl, sym, ap, subst, ◌∙◌}
+use Rattle.std.specs.Prelude.{map, option_and_then, unwrap_or, IfSome, is_some, nat_eq, slice_get, find}
+use Rattle.std.specs.List.{AllByRecursion, cons_option}
+use Rattle.std.specs.Option.{option_map_or}
+use Rattle.gl_bits.proofs.AllLists.{all_front, all_back}
+use Rattle.gl_bits.proofs.Options.{some_same}
+use Rattle.gl_bits.specs.Words.{bit}
+use Rattle.gl_schema.specs.declared.schema.Column.{Column}
+use Rattle.gl_schema.specs.declared.schema.Schema.{Schema}
+use Rattle.gl_schema.specs.declared.schema.Stream.{Stream}
+use Rattle.gl_schema.specs.Beats.{Beat, AreBeats, AreRowsOf, IsBeat, beat_at, ends_at, input_of, row_in, rows_at}
+use Rattle.gl_schema.specs.Ports.{PortValues, Pin, pin, column_pins, stream_pins, streams_pins, IsStimulus, eos, in_valid, in_column}
+use Rattle.gl_schema.specs.Schemas.{IsRowOf}
+use Rattle.gl_net.specs.declared.node.Bit.{Bit}
+use Rattle.gl_net.specs.declared.node.Bus.{Bus}
+use Rattle.gl_net.specs.declared.node.Direction.TheVariants.{In}
+use Rattle.gl_net.specs.Net.{Net, Run, IsPort}
+use Rattle.gl_net.specs.PortValues.{input_values}
+use Rattle.gl_wire.specs.Wire as wire
+use Rattle.gl_wire.specs.Wire.{carried, line_at, tuple_at, wire_of}
+use Rattle.gl_wire.proofs.StageLemmas.{line_first, tuple_by}
+use Rattle.gl_wiring.specs.Emitted.{AreInputs}
+use Rattle.gl_wiring.proofs.Following as ports
+use Rattle.gl_wiring.proofs.Outputs.{AreApart, has_input, input_is}
+use Rattle.gl_plan_netlist.specs.declared.inputs.StreamPorts.{StreamPorts}
+use Rattle.gl_plan_netlist.specs.Inputs.{ArePortsOf, Brings, row_at}
+
+-- the pin's value is that of the port, where the module has it
+abbrev Carries : PortValues → ℕ → Pin → Type 0
+Carries port t p = IfSome (port t p.name) (λ v. v ≡ p.value)
+
+-- the pins of stream k
+stream_at : (P : Pin → Type 0) (ss : List Stream) (rows : List (Option (List ℕ))) (k : ℕ) (s : Stream) → slice_get ss k ≡ Some s
+    → AllByRecursion P (streams_pins ss rows) → AllByRecursion P (stream_pins s (unwrap_or (slice_get rows k) None))
+stream_at P [] rows k s there h = absurd cc
+stream_at P (s ∷ ss) [] zero r there h =
+    subst (λ x. AllByRecursion P (stream_pins x None)) (some_same s r there) (all_front P (stream_pins s None) (streams_pins ss []) h)
+stream_at P (s ∷ ss) [] (suc k) r there h = stream_at P ss [] k r there (all_back P (stream_pins s None) (streams_pins ss []) h)
+stream_at P (s ∷ ss) (row ∷ rows) zero r there h =
+    subst (λ x. AllByRecursion P (stream_pins x row)) (some_same s r there) (all_front P (stream_pins s row) (streams_pins ss rows) h)
+stream_at P (s ∷ ss) (row ∷ rows) (suc k) r there h = stream_at P ss rows k r there (all_back P (stream_pins s row) (streams_pins ss rows) h)
+
+row_by : (k : ℕ) (o : Option Beat) → unwrap_or (slice_get (option_map_or (λ (b : Beat). b.rows) o []) k) None ≡ option_and_then (row_in k) o
+row_by k None = refl
+row_by k (Some b) = refl
+
+is_one : (b : Bool) → nat_eq (bit b) 1 ≡ b
+is_one true = refl
+is_one false = refl
+
+-- the columns carry the row that is on their pins
+columns_carry : (net : Net) (run : Run) (t : ℕ) (s : List ℕ) (cs : List Column) (bs : List Bus) (row : List ℕ) → AreApart net → AreInputs net s cs bs
+    → IsRowOf cs row → AllByRecursion (Carries (input_values net run) t) (column_pins s cs row) → map (λ (b : Bus). run.at t b.node) bs ≡ row
+columns_carry net run t s [] [] [] apart h is pins = refl
+columns_carry net run t s [] [] (n ∷ ns) apart h is pins = absurd is
+columns_carry net run t s [] (b ∷ bs) row apart h is pins = absurd h
+columns_carry net run t s (c ∷ cs) [] row apart h is pins = absurd h
+columns_carry net run t s (c ∷ cs) (b ∷ bs) [] apart h is pins = absurd is
+columns_carry net run t s (c ∷ cs) (b ∷ bs) (n ∷ ns) apart h is pins =
+    let name = in_column s c.name in
+    let here : run.at t b.node ≡ n =
+    sym (input_is net run t name b.node apart h.0.0)
+    ∙ ports.carried (input_values net run) t name n (has_input net run name b.node apart h.0.0) pins.0 in
+    rw (here, columns_carry net run t s cs bs ns apart h.1 is.1 pins.1) refl
+
+-- what holds of all holds of what is found
+found : {A : Type 0} (P : A → Type 0) (test : A → Bool) (xs : List A) (x : A) → AllByRecursion P xs → find test xs ≡ Some x → P x
+found P test [] x all h = absurd cc
+found {A} P test (y ∷ ys) x all h = by (found P test ys x all.1) (test y) refl
+  where
+    by : (find test ys ≡ Some x → P x) → (b : Bool) → test y ≡ b → P x
+    by rest true e = let same : y ≡ x = some_same y x (rw e at h) in subst P same all.0
+    by rest false e = rest (rw e at h)
+
+-- the row of stream k in a beat is a row of it
+row_of : (ss : List Stream) (rows : List (Option (List ℕ))) (k : ℕ) (s : Stream) (row : List ℕ) → AreRowsOf ss rows → slice_get ss k ≡ Some s
+    → unwrap_or (slice_get rows k) None ≡ Some row → IsRowOf s.columns row
+row_of [] rows k s row are there at = absurd cc
+row_of (x ∷ ss) [] k s row are there at = absurd are
+row_of (x ∷ ss) (r ∷ rows) zero s row are there at =
+    subst (λ (y : Stream). IsRowOf y.columns row) (some_same x s there) (rw at at are.0)
+row_of (x ∷ ss) (r ∷ rows) (suc k) s row are there at = row_of ss rows k s row are.1 there at
+
+no_row : (ss : List Stream) (rows : List (Option (List ℕ))) (k : ℕ) → AreRowsOf ss rows → slice_get ss k ≡ None → unwrap_or (slice_get rows k) None ≡ None
+no_row [] [] k are none = refl
+no_row [] (r ∷ rows) k are none = absurd are
+no_row (x ∷ ss) [] k are none = absurd are
+no_row (x ∷ ss) (r ∷ rows) zero are none = absurd cc
+no_row (x ∷ ss) (r ∷ rows) (suc k) are none = no_row ss rows k are.1 none
+
+-- a stream that the schema lacks brings nothing
+pub no_input : (schema : Schema) (beats : List Beat) (k : ℕ) → AllByRecursion (IsBeat schema) beats → slice_get schema.streams k ≡ None → input_of k beats ≡ []
+no_input schema [] k all none = refl
+no_input schema (b ∷ beats) k all none =
+    let here : row_in k b ≡ None = no_row schema.streams b.rows k all.0.rows none in
+    ap (λ (o : Option (List ℕ)). cons_option o (input_of k beats)) here ∙ no_input schema beats k all.1 none
+
+-- the wire of a stream's ports brings the stream
+module _ (schema : Schema) (k : ℕ) (s : Stream) (there : slice_get schema.streams k ≡ Some s) (beats : List Beat) (are : AreBeats schema beats)
+    (net : Net) (run : Run) (apart : AreApart net) (p : StreamPorts) (ports_of : ArePortsOf net s p) (end : Bit) (end_port : IsPort net In eos end.node)
+    (stimulus : IsStimulus schema beats (input_values net run)) where
+  stream_pins_of : (n : ℕ) → AllByRecursion (Carries (input_values net run) (suc n)) (stream_pins s (row_at k beats n))
+  stream_pins_of n =
+      let all = (stimulus.carries (suc n)).1 in
+      let P : Pin → Type 0 = Carries (input_values net run) (suc n) in
+      let streams = all_front P (streams_pins schema.streams (rows_at beats n)) (pin eos (bit (ends_at beats n)) ∷ []) all in
+      subst (λ row. AllByRecursion P (stream_pins s row)) (row_by k (beat_at beats n)) (stream_at P schema.streams (rows_at beats n) k s there streams)
+
+  valid_line : (n : ℕ) → line_at run p.valid (suc n) ≡ is_some (row_at k beats n)
+  unfolding line_at
+  valid_line n =
+      let name = in_valid s.name in
+      let here : run.at (suc n) p.valid.node ≡ bit (is_some (row_at k beats n)) =
+      sym (input_is net run (suc n) name p.valid.node apart ports_of.port)
+      ∙ ports.carried (input_values net run) (suc n) name _ (has_input net run name p.valid.node apart ports_of.port) (stream_pins_of n).0 in
+      ap (λ (v : ℕ). nat_eq v 1) here ∙ is_one (is_some (row_at k beats n))
+
+  end_line : (n : ℕ) → line_at run end (suc n) ≡ ends_at beats n
+  unfolding line_at
+  end_line n =
+      let P : Pin → Type 0 = Carries (input_values net run) (suc n) in
+      let all = (stimulus.carries (suc n)).1 in
+      let own = (all_back P (streams_pins schema.streams (rows_at beats n)) (pin eos (bit (ends_at beats n)) ∷ []) all).0 in
+      let here : run.at (suc n) end.node ≡ bit (ends_at beats n) =
+      sym (input_is net run (suc n) eos end.node apart end_port)
+      ∙ ports.carried (input_values net run) (suc n) eos _ (has_input net run eos end.node apart end_port) own in
+      ap (λ (v : ℕ). nat_eq v 1) here ∙ is_one (ends_at beats n)
+
+  is_row : (n : ℕ) (row : List ℕ) → row_at k beats n ≡ Some row → IsRowOf s.columns row
+  is_row n row h = by (beat_at beats n) refl
+    where
+      by : (o : Option Beat) → beat_at beats n ≡ o → IsRowOf s.columns row
+      by None e = absurd (let z : None ≡ Some row = rw e at h in cc)
+      by (Some b) e = row_of schema.streams b.rows k s row (found (IsBeat schema) _ beats b are.each e).rows there (rw e at h)
+
+  tuple_is : (n : ℕ) (o : Option (List ℕ)) → row_at k beats n ≡ o → tuple_at run p.valid p.columns (suc n) ≡ o
+  unfolding wire.row_at
+  tuple_is n None h = tuple_by run p.valid p.columns (suc n) ∙ rw (valid_line n, h) refl
+  tuple_is n (Some row) h =
+      let pins = (subst (λ (r : Option (List ℕ)). AllByRecursion (Carries (input_values net run) (suc n)) (stream_pins s r)) h (stream_pins_of n)).1 in
+      let columns = columns_carry net run (suc n) s.name s.columns p.columns row apart ports_of.inputs (is_row n row h) pins in
+      tuple_by run p.valid p.columns (suc n) ∙ rw (valid_line n, h, columns) refl
+
+  pub brings : Brings k beats (carried run (wire_of p.valid end p.columns))
+  brings = record {
+    first = tuple_by run p.valid p.columns 0 ∙ rw (line_first run p.valid) refl;
+    no_end = line_first run end;
+    tuples = λ n. tuple_is n (row_at k beats n) refl;
+    ends = end_line;
+  }

@@ -1,0 +1,143 @@
+-- The leaves of a plan over the beats of a file.
+use Rattle.std.proofs.Common.{◌≡◌, ℕ, zero, suc, ◌+◌, ◌-◌, ◌<◌, ◌≤◌, Bool, true, false, List, [], ◌∷◌, ◌++◌, length, Option, Some, None, inl, inr, refl, sym, ap, ◌∙◌, arith}
+use Rattle.std.specs.Prelude.{option_map, option_to_list}
+use Rattle.std.proofs.lemmas.Bool.{ne_eqb, cases_eq, cases_lt}
+use Rattle.gl_algebra.specs.declared.figures.Figures.{Figures}
+use Rattle.gl_algebra.specs.FigureTable.{input_figures}
+use Rattle.gl_bits.specs.Results.{Row}
+use Rattle.gl_wire.specs.Beats.{Spaced, gap, last, most}
+use Rattle.gl_wire.specs.Serves.{Fits, Caused}
+use Rattle.gl_wire.specs.Wire.{Carried, stream, rows}
+use Rattle.gl_schema.specs.Beats.{Beat, AreInOrder, KeepsGap, input_of, last_cycle, beat_at, ends_at}
+use Rattle.gl_plan_netlist.specs.Inputs.{Brings, beats_in}
+use Rattle.gl_plan_netlist.specs.Outputs.{OneStream}
+use Rattle.gl_plan_netlist.proofs.RootLemmas.{first_stream}
+use Rattle.gl_plan_netlist.proofs.BeatLemmas.{after_none, all_rows, before_none, ends_last, ends_only, rows_from}
+
+-- what a beat's flag says
+flag_of : (beats : List Beat) (n : ℕ) (e : Bool) → option_map (λ (b : Beat). b.end) (beat_at beats n) ≡ Some e → (b : Beat) × (beat_at beats n ≡ Some b) × (b.end ≡ e)
+flag_of beats n e h = by (beat_at beats n) refl
+  where
+    by : (o : Option Beat) → beat_at beats n ≡ o → (b : Beat) × (beat_at beats n ≡ Some b) × (b.end ≡ e)
+    by None p = absurd (let z : None ≡ Some e = rw p at h in cc)
+    by (Some b) p = (b, p, (let z : Some b.end ≡ Some e = rw p at h in cc))
+
+flag_end : (beats : List Beat) (n : ℕ) → ends_at beats n ≡ true → option_map (λ (b : Beat). b.end) (beat_at beats n) ≡ Some true
+flag_end beats n h = by (beat_at beats n) refl
+  where
+    by : (o : Option Beat) → beat_at beats n ≡ o → option_map (λ (b : Beat). b.end) (beat_at beats n) ≡ Some true
+    by None p = absurd (let z : false ≡ true = rw p at h in cc)
+    by (Some b) p = (let z : b.end ≡ true = rw p at h in rw (p, z) refl)
+
+end_flag : (beats : List Beat) (n : ℕ) → option_map (λ (b : Beat). b.end) (beat_at beats n) ≡ Some true → ends_at beats n ≡ true
+end_flag beats n h = let x = flag_of beats n true h in rw x.1 x.2
+
+-- beats are the gap apart
+far : (gap : ℕ) (beats : List Beat) (n m : ℕ) (b d : Beat) → AreInOrder beats → KeepsGap gap beats → beat_at beats n ≡ Some b → beat_at beats m ≡ Some d → n < m → n + gap ≤ m
+far gap [] n m b d h k p q l = absurd (cc)
+far gap (x ∷ []) n m b d h k p q l = elim (cases_eq x.cycle n) [
+  | inl e ↦ absurd (let z = rw (ne_eqb x.cycle m (λ w. omega arith)) at q in cc)
+  | inr e ↦ absurd (let z = rw (ne_eqb x.cycle n e) at p in cc)
+]
+far gap (x ∷ y ∷ bs) n m b d h k p q l = elim (cases_eq x.cycle n) [
+  | inl e ↦ elim (cases_lt m y.cycle) [
+    | inl f ↦ absurd (let z = rw (ne_eqb x.cycle m (λ w. omega arith), before_none y bs m h.2 f) at q in cc)
+    | inr f ↦ (let g = k.0 in omega arith)
+  ]
+  | inr e ↦ elim (cases_eq x.cycle m) [
+    | inl f ↦ absurd (let z = rw (ne_eqb x.cycle n e, before_none y bs n h.2 (let g = h.1 in omega arith)) at p in cc)
+    | inr f ↦ far gap (y ∷ bs) n m b d h.2 k.1 (rw (ne_eqb x.cycle n e) at p) (rw (ne_eqb x.cycle m f) at q) l
+  ]
+]
+
+module _ (beats : List Beat) (order : AreInOrder beats) where
+  pub file_one : OneStream (beats_in beats) (suc (last_cycle beats))
+  file_one = record { is = flag_end beats (last_cycle beats) (ends_last beats order); only = only; until = until }
+    where
+      only : (t : ℕ) → beats_in beats t ≡ Some true → t ≡ suc (last_cycle beats)
+      only zero h = absurd (cc)
+      only (suc n) h = ap suc (ends_only beats n order (end_flag beats n h))
+
+      until : (t : ℕ) (e : Bool) → beats_in beats t ≡ Some e → t ≤ suc (last_cycle beats)
+      until zero e h = omega arith
+      until (suc n) e h = elim (cases_lt (last_cycle beats) n) [
+        | inl l ↦ absurd (let x = flag_of beats n e h in let z = after_none beats n order l in cc)
+        | inr l ↦ omega arith
+      ]
+
+  pub file_spaced : (f : Figures) (n : ℕ) → f.gt ≤ n → KeepsGap n beats → Spaced f (beats_in beats)
+  file_spaced f n l keeps = record { first = refl; apart = apart }
+    where
+      apart : (t u : ℕ) (e d : Bool) → beats_in beats t ≡ Some e → beats_in beats u ≡ Some d → t < u → t + gap f e ≤ u
+      apart zero u e d h k m = absurd (cc)
+      apart (suc t) zero e d h k m = absurd (omega arith)
+      apart (suc t) (suc u) true d h k m = absurd (let a = file_one.only (suc t) h in let b = file_one.until (suc u) d k in omega arith)
+      apart (suc t) (suc u) false d h k m =
+          let x = flag_of beats t false h in let y = flag_of beats u d k in
+          let g = far n beats t u x.0 y.0 order keeps x.1 y.1 (omega arith) in omega arith
+
+  module _ (k : ℕ) (s : Carried) (b : Brings k beats s) where
+    pub file_fits : Fits input_figures (beats_in beats) s
+    file_fits = record {
+      tuples = tuples;
+      ends = λ c h. let x = ends c h in record { beat = c; is = x; low = omega arith; high = omega arith };
+      few = few;
+      end = λ t h. record {
+        at = t;
+        here = record { is = its_end t h; low = omega arith; high = omega arith };
+        only = λ c h'. let l = h'.low in let m = h'.high in omega arith;
+        after = λ c l m. absurd (omega arith);
+      };
+    }
+      where
+        ends : (c : ℕ) → s.ends c ≡ true → beats_in beats c ≡ Some true
+        ends zero h = absurd (let z = b.no_end in cc)
+        ends (suc c) h = flag_end beats c (sym (b.ends c) ∙ h)
+
+        its_end : (c : ℕ) → beats_in beats c ≡ Some true → s.ends c ≡ true
+        its_end zero h = absurd (cc)
+        its_end (suc c) h = b.ends c ∙ end_flag beats c h
+
+        within : (c : ℕ) (e : Bool) → c ≤ c + last input_figures e
+        within c true = omega arith
+        within c false = omega arith
+
+        tuples : (c : ℕ) (r : Row) → s.tuple c ≡ Some r → Caused input_figures (beats_in beats) c
+        tuples zero r h = absurd (let z = b.first in cc)
+        tuples (suc c) r h = by (beat_at beats c) refl
+          where
+            by : (o : Option Beat) → beat_at beats c ≡ o → Caused input_figures (beats_in beats) (suc c)
+            by None p = absurd (let z : None ≡ Some r = rw p at (sym (b.tuples c) ∙ h) in cc)
+            by (Some x) p = record { beat = suc c; end = x.end; is = rw p refl; low = omega arith; high = within (suc c) x.end }
+
+        one : (o : Option Row) → length (option_to_list o ++ []) ≤ 1
+        one None = omega arith
+        one (Some r) = omega arith
+
+        few : (t : ℕ) (e : Bool) → beats_in beats t ≡ Some e → length (rows s (t + 0) (suc (last input_figures e) - 0)) ≤ most input_figures e
+        few t true h = one (s.tuple (t + 0))
+        few t false h = one (s.tuple (t + 0))
+
+    later_rows : (n at : ℕ) → rows s (suc at) n ≡ rows_from k beats at n
+    unfolding rows_from
+    later_rows zero at = refl
+    later_rows (suc n) at = let e : suc (suc at) ≡ suc (at + 1) = omega arith in rw (b.tuples at, e, later_rows n (at + 1)) refl
+
+    whole : (bs : List Beat) → AreInOrder bs → rows_from k bs 0 (suc (last_cycle bs)) ≡ input_of k bs
+    whole [] h = absurd h
+    whole (x ∷ bs) h = all_rows k (suc (last_cycle (x ∷ bs))) 0 x bs h (omega arith) (omega arith)
+
+    -- at the last beat the stream is the stream's input
+    pub file_stream : stream s (suc (last_cycle beats)) ≡ input_of k beats
+    file_stream =
+        first_stream s (suc (last_cycle beats)) quiet
+        ∙ ap (λ (o : Option Row). option_to_list o ++ rows s 1 (suc (last_cycle beats))) b.first
+        ∙ later_rows (suc (last_cycle beats)) 0 ∙ whole beats order
+      where
+        quiet : (c : ℕ) → c < suc (last_cycle beats) → s.ends c ≡ false
+        quiet zero l = b.no_end
+        quiet (suc c) l = by (ends_at beats c) refl
+          where
+            by : (e : Bool) → ends_at beats c ≡ e → s.ends (suc c) ≡ false
+            by true p = absurd (let z = ends_only beats c order p in omega arith)
+            by false p = b.ends c ∙ p

@@ -1,0 +1,13 @@
+pub mod AddLemmas
+pub mod BeatLemmas
+pub mod CarryLemmas
+pub mod FileLemmas
+pub mod FinishLemmas
+pub mod LeavesLemmas
+pub mod NameLemmas
+pub mod PartLemmas
+pub mod PlanLemmas
+pub mod RootLemmas
+pub mod ShownLemmas
+pub mod StickyLemmas
+pub mod TopLemmas

@@ -1,0 +1,145 @@
+-- From the root's wire to what the output shows.
+use Rattle.std.proofs.Common.{◌≡◌, ℕ, zero, suc, ◌+◌, ◌-◌, ◌<◌, ◌≤◌, List, ◌++◌, Option, Some, None, Bool, true, false, ◌||◌, refl, sym, ap, ◌∙◌, subst, arith, inl, inr}
+use Rattle.std.specs.Prelude.{option_to_list}
+use Rattle.std.proofs.lemmas.List.{append-nil}
+use Rattle.std.proofs.lemmas.Bool.{cases_lt, false_from_ne_true, or_cases}
+use Rattle.gl_algebra.specs.declared.figures.Figures.{Figures}
+use Rattle.gl_algebra.specs.FigureTable.{IsSound}
+use Rattle.gl_bits.specs.Results.{Row, Results}
+use Rattle.gl_wire.specs.Beats.{Beats, Ends, Spaced}
+use Rattle.gl_wire.specs.Serves.{OneEnd, Caused}
+use Rattle.gl_wire.specs.Shapes.{IsDelayed}
+use Rattle.gl_wire.specs.Spills.{Lines}
+use Rattle.gl_wire.specs.Wire.{Carried, pending, stream, rows}
+use Rattle.gl_wire.proofs.RowsLemmas.{rows-split, pending-rows}
+use Rattle.gl_wire.specs.Serving.{Serving}
+use Rattle.gl_plan_netlist.specs.Outputs.{IsSticky, OneStream, ShowsRight}
+
+-- two bits that are 1 together are equal
+alike_bits : (p q : Bool) → (p ≡ true → q ≡ true) → (q ≡ true → p ≡ true) → p ≡ q
+alike_bits true q h i = sym (h refl)
+alike_bits false true h i = i refl
+alike_bits false false h i = refl
+
+no_tuple : (o : Option Row) → ((r : Row) → o ≡ Some r → ⊥) → o ≡ None
+no_tuple None h = refl
+no_tuple (Some r) h = absurd (h r refl)
+
+module _ (line sticky : ℕ → Bool) (s : IsSticky line sticky) where
+  -- once it is 1 it stays so
+  sticky_lasts : (c : ℕ) → sticky c ≡ true → sticky (suc c) ≡ true
+  sticky_lasts c h = s.next c ∙ ap (λ (b : Bool). b || line c) h
+
+  sticky_later : (n c : ℕ) → sticky c ≡ true → sticky (n + c) ≡ true
+  sticky_later zero c h = let e : zero + c ≡ c = omega arith in rw e h
+  sticky_later (suc n) c h = let e : suc n + c ≡ suc (n + c) = omega arith in rw e (sticky_lasts (n + c) (sticky_later n c h))
+
+  or_true : (b : Bool) → (b || true) ≡ true
+  or_true true = refl
+  or_true false = refl
+
+  -- it is 1 behind every cycle in which the line was
+  sticky_after : (c d : ℕ) → c < d → line c ≡ true → sticky d ≡ true
+  sticky_after c d l h =
+      let here : sticky (suc c) ≡ true = s.next c ∙ ap (λ (b : Bool). sticky c || b) h ∙ or_true (sticky c) in
+      let e : (d - suc c) + suc c ≡ d = omega arith in subst (λ (i : ℕ). sticky i ≡ true) e (sticky_later (d - suc c) (suc c) here)
+
+  -- and only there
+  sticky_from : (d : ℕ) → sticky d ≡ true → (c : ℕ) × (c < d) × (line c ≡ true)
+  sticky_from zero h = absurd (let f = s.first in cc)
+  sticky_from (suc d) h = elim (or_cases (sticky d) (line d) (sym (s.next d) ∙ h)) [
+    | inl p ↦ (let x = sticky_from d p in (x.0, omega (arith, x.1), x.2))
+    | inr p ↦ (d, omega arith, p)
+  ]
+
+  sticky_none : ((c : ℕ) → line c ≡ false) → (d : ℕ) → sticky d ≡ false
+  sticky_none h d = false_from_ne_true (sticky d) (λ p. let x = sticky_from d p in let z = h x.0 in let y = x.2 in cc)
+
+module _ (b o : Carried) (d : IsDelayed 1 b o) where
+  rows_later : (n c : ℕ) → rows o (c + 1) n ≡ rows b c n
+  rows_later zero c = refl
+  rows_later (suc n) c = let e : suc (c + 1) ≡ suc c + 1 = omega arith in rw (d.tuples c, e, rows_later n (suc c)) refl
+
+  -- all rows up to a cycle
+  all_rows : (e : ℕ) → rows o 0 (suc (suc e)) ≡ rows b 0 (suc e)
+  all_rows e = let z : 0 < 1 = omega arith in let i : suc 0 ≡ 0 + 1 = omega arith in rw (d.before 0 z, i) (rows_later (suc e) 0)
+
+-- where no end came before, the stream is all rows
+pub first_stream : (b : Carried) (e : ℕ) → ((c : ℕ) → c < e → b.ends c ≡ false) → stream b e ≡ rows b 0 (suc e)
+first_stream b e quiet =
+    let n : zero + e ≡ e = omega arith in
+    let m : suc e ≡ e + 1 = omega arith in
+    let p : pending b e ≡ rows b 0 e = rw n at (pending-rows b e zero (λ k l h. quiet k (omega arith))) in
+    ap (λ (l : List Row). l ++ option_to_list (b.tuple e)) p
+    ∙ ap (λ (l : List Row). rows b 0 e ++ l) (sym (append-nil (option_to_list (b.tuple e))))
+    ∙ ap (λ (i : ℕ). rows b 0 e ++ rows b i 1) (sym n) ∙ sym (rows-split b e 1 0) ∙ ap (rows b 0) (sym m)
+
+pub root_shows : (f : Figures) (means : ℕ → Results) (lines : Lines) (beats : Beats) (b o : Carried) (group queue : ℕ → Bool) (last : ℕ) → IsSound f → Spaced f beats → OneStream beats last
+    → Serving f means lines beats b → IsDelayed 1 b o → IsSticky lines.further group → IsSticky lines.passed queue → ShowsRight f (means last) last o group queue
+root_shows f means lines beats b o group queue last sound spaced one s d g q = record {
+  ended = end.at;
+  soonest = omega (arith, end.here.low);
+  in_time = end.here.high;
+  ends = ap o.ends (next end.at) ∙ d.ends end.at ∙ end.here.is;
+  once = once;
+  none_later = none_later;
+  no_overflow = sticky_none lines.passed queue q s.low;
+  meets = subst (λ (xs : List Row). means last xs (group (suc end.at))) (sym (all_rows b o d end.at ∙ sym (first_stream b end.at quiet)))
+      (subst (means last (stream b end.at)) (alike_bits (s.spill last) (group (suc end.at)) told so) (s.right last end.at one.is end.here));
+  lasts = sticky_lasts lines.further group g;
+  stays = λ c l. alike_bits (group c) (group (suc end.at)) (λ h. let x = sticky_from lines.further group g c h in sticky_after lines.further group g x.0 (suc end.at) (before_end x.0 x.2) x.2)
+      (λ h. let x = sticky_from lines.further group g (suc end.at) h in sticky_after lines.further group g x.0 c (let y = x.1 in omega arith) x.2);
+}
+  where
+    end : OneEnd f b last
+    end = s.fits.end last one.is
+
+    next : (c : ℕ) → suc c ≡ c + 1
+    next c = omega arith
+
+    all_end : Ends beats
+    all_end = record { ends = λ t e h. (last, one.until t e h, one.is) }
+
+    -- the only end of the root's wire
+    only_end : (c : ℕ) → b.ends c ≡ true → c ≡ end.at
+    only_end c h = let i = s.fits.ends c h in let t = one.only i.beat i.is in end.only c (record { is = h; low = (let l = i.low in omega arith); high = (let l = i.high in omega arith) })
+
+    quiet : (c : ℕ) → c < end.at → b.ends c ≡ false
+    quiet c l = false_from_ne_true (b.ends c) (λ h. let e = only_end c h in omega arith)
+
+    once : (c : ℕ) → o.ends c ≡ true → c ≡ suc end.at
+    once zero h = absurd (let z : 0 < 1 = omega arith in let n = d.no_end 0 z in cc)
+    once (suc c) h = ap suc (only_end c (sym (d.ends c) ∙ ap o.ends (sym (next c)) ∙ h))
+
+    none_at : (c : ℕ) → end.at < c → (r : Row) → b.tuple c ≡ Some r → ⊥
+    none_at c l r h = by (s.fits.tuples c r h)
+      where
+        by : Caused f beats c → ⊥
+        by i = of i.end refl
+          where
+            of : (e : Bool) → i.end ≡ e → ⊥
+            of true p =
+                let t = one.only i.beat (i.is ∙ ap Some p) in
+                let m : c ≤ i.beat + f.le = rw p at i.high in
+                let z = end.after c l (omega (arith, m, t)) in cc
+            of false p =
+                let m : c ≤ i.beat + f.lt = rw p at i.high in
+                let before = one.until i.beat i.end i.is in
+                let low = end.here.low in
+                elim (cases_lt i.beat last) [
+                  | inl k ↦ (let apart = rw p at (spaced.apart i.beat last i.end true i.is one.is k) in omega (arith, apart, m, low, sound.tuples_gap, sound.tuples_last))
+                  | inr k ↦ (let same : i.beat ≡ last = omega arith in let z = ap beats same in let w = i.is in let v = one.is in cc)
+                ]
+
+    none_later : (c : ℕ) → suc end.at < c → o.tuple c ≡ None
+    none_later zero l = absurd (omega arith)
+    none_later (suc c) l = ap o.tuple (next c) ∙ d.tuples c ∙ no_tuple (b.tuple c) (none_at c (omega arith))
+
+    before_end : (c : ℕ) → lines.further c ≡ true → c < suc end.at
+    before_end c h = let x = s.late all_end c h in let y = x.1 in let e = only_end x.0 x.2 in omega arith
+
+    told : s.spill last ≡ true → group (suc end.at) ≡ true
+    told h = let x = s.told all_end last one.is h in sticky_after lines.further group g x.0 (suc end.at) (before_end x.0 x.1) x.1
+
+    so : group (suc end.at) ≡ true → s.spill last ≡ true
+    so h = let x = sticky_from lines.further group g (suc end.at) h in let t = s.so all_end x.0 x.2 in ap s.spill (sym (one.only t.0 t.1)) ∙ t.2
