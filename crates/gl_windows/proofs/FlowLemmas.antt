@@ -7,7 +7,7 @@ use Rattle.gl_bits.specs.Lists.{part}
 use Rattle.gl_bits.specs.Results.{Row}
 use Rattle.gl_wire.specs.Wire.{Carried, pending, stream}
 use Rattle.gl_copies.specs.Lift.{Visits}
-use Rattle.gl_windows.specs.Front.{Front, opening, one_opened, one_nearer, closing, closed_by, counted, next, mid, closes, who_ends}
+use Rattle.gl_windows.specs.Front.{Front, opening, one_opened, one_nearer, closing, closed_by, counted, next, who_ends}
 use Rattle.gl_windows.specs.Firsts.{firsts}
 use Rattle.gl_windows.proofs.Setting.{Setting}
 use Rattle.gl_windows.proofs.SliceLemmas.{mul_below, firsts-grown}

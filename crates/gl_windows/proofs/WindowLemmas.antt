@@ -4,6 +4,9 @@ use Rattle.std.proofs.Common.{◌≡◌, ℕ, zero, suc, ◌+◌, ◌-◌, ◌*�
 use Rattle.gl_bits.specs.Lists.{slices}
 use Rattle.gl_bits.specs.Results.{Row, Results, AreJoined, IsOfParts}
 use Rattle.gl_algebra.specs.declared.figures.Figures.{Figures}
+use Rattle.std.proofs.lemmas.Grind.{div_ceil_times}
+use Rattle.gl_algebra.proofs.FigureLemmas.{one_copy}
+use Rattle.gl_algebra.specs.Fits.{copies_of_window}
 use Rattle.gl_algebra.proofs.SoundLemmas.{windows_sound}
 use Rattle.gl_algebra.specs.FigureTable.{IsSound, stride_of, window_gap, windows_over, last_of}
 use Rattle.gl_wire.specs.Apart.{Carries, CarriesApart, a_tuple, an_end}
@@ -22,7 +25,7 @@ use Rattle.gl_copies.proofs.TimeLemmas.{timed_by}
 use Rattle.gl_copies.proofs.WholeServes.{whole_lines}
 use Rattle.gl_registers.specs.Timers.{IsClose}
 use Rattle.gl_windows.specs.Front.{IsFront, who_ends}
-use Rattle.gl_windows.specs.Laws.{RotationsServe}
+use Rattle.gl_windows.specs.Laws.{RotationsServe, WindowsRotate}
 use Rattle.gl_windows.specs.Rotations.{OfBody}
 use Rattle.gl_windows.proofs.Setting.{Setting}
 use Rattle.gl_windows.proofs.PhaseLemmas.{many_windows, empty_copies, from_by, from_begins, from_parted}
@@ -199,3 +202,17 @@ pub rotations_serve : RotationsServe
 rotations_serve r f a b ins outs close lines is sound_f front closes back nodes body beats spaced fits near served =
     windows_served f r.body sound_f is.sound is.closing r.size r.advance r.copies is.rows is.step is.some' is.cover a ins outs front (OfBody nodes body) lines b close back closes
     beats spaced fits near served
+
+pub windows_rotate : WindowsRotate
+windows_rotate size advance f body rows step sound closing small =
+    let some = one_copy size advance rows step in
+    let turns = all_turns (copies_of_window size advance) (stride_of body) some in
+    record {
+      rows = rows;
+      step = step;
+      some' = some;
+      cover = (div_ceil_times size advance step).0;
+      sound = sound;
+      closing = closing;
+      timed = omega (arith, small.le, turns, sound.tuples_last, sound.end_last);
+    }

@@ -1,7 +1,7 @@
 //! The law of windows, and what a rotation costs.
 
 ghost use Rattle.gl_windows.specs.Costs.{RotationsAreCounted};
-ghost use Rattle.gl_windows.specs.Laws.{RotationsServe};
+ghost use Rattle.gl_windows.specs.Laws.{RotationsServe, WindowsRotate};
 
 /// A front, copies that serve a body, and a back serve what the body makes of each window, joined.
 pub fn rotations_serve()
@@ -11,4 +11,9 @@ pub fn rotations_serve()
 /// What a rotation costs is within what a plan counts for it.
 pub fn costs_are_counted()
     ensures { RotationsAreCounted }
+{}
+
+/// A window of a plan has a rotation over as many copies as it counts.
+pub fn windows_rotate()
+    ensures { WindowsRotate }
 {}
