@@ -22,12 +22,8 @@ use Rattle.gl_wiring.specs.Bringing.{Brings, row_at}
 use Rattle.gl_wiring.specs.Emitted.{AreInputs}
 use Rattle.gl_wiring.specs.StreamWires.{IsStreamWire}
 use Rattle.gl_wiring.proofs.Following as ports
-use Rattle.gl_wiring.proofs.Following.{Carries, row_of-beat, stream_at}
+use Rattle.gl_wiring.proofs.Following.{Carries, bit_high, row_of-beat, stream_at}
 use Rattle.gl_wiring.proofs.Outputs.{AreApart, has_input, input_is}
-
-is_one : (b : Bool) → nat_eq (bit b) 1 ≡ b
-is_one true = refl
-is_one false = refl
 
 -- the columns carry the row that is on their pins
 columns_carry : (net : Net) (run : Run) (t : ℕ) (s : List ℕ) (cs : List Column) (bs : List Bus) (row : List ℕ) → AreApart net
@@ -99,7 +95,7 @@ module _ (schema : Schema) (k : ℕ) (s : Stream) (there : slice_get schema.stre
       let here : run.at (suc n) w.valid.node ≡ bit (is_some (row_at k beats n)) =
       sym (input_is net run (suc n) name w.valid.node apart h.valid_port)
       ∙ ports.carried (input_values net run) (suc n) name _ (has_input net run name w.valid.node apart h.valid_port) (stream_pins_of n).0 in
-      ap (λ (v : ℕ). nat_eq v 1) here ∙ is_one (is_some (row_at k beats n))
+      ap (λ (v : ℕ). nat_eq v 1) here ∙ bit_high (is_some (row_at k beats n))
 
   end_line : (n : ℕ) → line_at run w.eos (suc n) ≡ ends_at beats n
   unfolding line_at
@@ -110,7 +106,7 @@ module _ (schema : Schema) (k : ℕ) (s : Stream) (there : slice_get schema.stre
       let here : run.at (suc n) w.eos.node ≡ bit (ends_at beats n) =
       sym (input_is net run (suc n) eos w.eos.node apart h.end_port)
       ∙ ports.carried (input_values net run) (suc n) eos _ (has_input net run eos w.eos.node apart h.end_port) own in
-      ap (λ (v : ℕ). nat_eq v 1) here ∙ is_one (ends_at beats n)
+      ap (λ (v : ℕ). nat_eq v 1) here ∙ bit_high (ends_at beats n)
 
   is_row : (n : ℕ) (row : List ℕ) → row_at k beats n ≡ Some row → IsRowOf s.columns row
   is_row n row e = by (beat_at beats n) refl

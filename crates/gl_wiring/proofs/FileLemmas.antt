@@ -9,7 +9,7 @@ use Rattle.gl_wire.specs.Beats.{Spaced, gap, last, most}
 use Rattle.gl_wire.specs.Serves.{Fits, Caused}
 use Rattle.gl_wire.specs.Wire.{Carried, stream, rows}
 use Rattle.gl_schema.specs.Beats.{Beat, AreInOrder, KeepsGap, input_of, last_cycle, beat_at, ends_at}
-use Rattle.gl_wiring.specs.Bringing.{Brings, beats_in, row_at}
+use Rattle.gl_wiring.specs.Bringing.{Brings, beats_in}
 use Rattle.gl_wiring.specs.Root.{OneStream}
 use Rattle.gl_wiring.proofs.RootLemmas.{first_stream}
 use Rattle.gl_wiring.proofs.BeatLemmas.{after_none, before_none, ends_last, ends_only, file_rows, rows_from}

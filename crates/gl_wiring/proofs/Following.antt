@@ -50,7 +50,7 @@ row_by k (Some b) = refl
 pub row_of-beat : (k : ℕ) (beats : List Beat) (n : ℕ) → unwrap_or (slice_get (rows_at beats n) k) None ≡ row_at k beats n
 row_of-beat k beats n = row_by k (beat_at beats n)
 
-bit_high : (b : Bool) → (bit b == 1) ≡ b
+pub bit_high : (b : Bool) → (bit b == 1) ≡ b
 bit_high true = refl
 bit_high false = refl
 

@@ -1,5 +1,5 @@
 -- The output of a circuit: its lines, its ports and what they cost.
-use Rattle.std.proofs.Common.{◌≡◌, ℕ, zero, suc, ◌+◌, ◌<◌, Bool, false, ◌||◌, List, [], ◌∷◌, ◌++◌, length, take, refl, sym, ap, subst, ◌∙◌, arith}
+use Rattle.std.proofs.Common.{◌≡◌, ℕ, zero, suc, ◌+◌, Bool, false, ◌||◌, List, [], ◌∷◌, ◌++◌, length, take, refl, sym, ap, subst, ◌∙◌, arith}
 use Rattle.std.specs.Prelude.{nat_eq, slice_get}
 use Rattle.gl_bits.proofs.AllLists.{zip_append}
 use Rattle.gl_net.specs.Net.{Net, Run, IsPort, Keeps}
@@ -8,6 +8,7 @@ use Rattle.gl_net.specs.declared.node.Bit.{Bit}
 use Rattle.gl_net.specs.declared.node.Bus.{Bus}
 use Rattle.gl_net.specs.declared.node.Direction.TheVariants.{Out}
 use Rattle.gl_net.proofs.Determined.{keeps_then}
+use Rattle.gl_queue.proofs.MergeLinesLemmas.{never_is}
 use Rattle.gl_schema.specs.Ports.{out_valid, out_column, out_eos, fault_group, fault_queue}
 use Rattle.gl_wire.specs.Faults.{line_of}
 use Rattle.gl_wire.specs.Stages.{IsLaterLine, IsPad}
@@ -21,7 +22,7 @@ use Rattle.gl_wiring.specs.Emitted.{CostsNothing, Extends, Puts}
 use Rattle.gl_wiring.specs.EmittedPorts.{output}
 use Rattle.gl_wiring.specs.Output.{AreShown, IsFault, IsOutput, Shows, group_cost, named_outputs, output_cost, output_ports, queue_cost}
 use Rattle.gl_wiring.specs.Root.{IsSticky, later_line}
-use Rattle.gl_wiring.proofs.Shapes.{puts_none, puts_then}
+use Rattle.gl_wiring.proofs.Shapes.{puts_none, puts_then, same_taken}
 
 -- ---- blocks and ports
 
@@ -57,13 +58,8 @@ sticky_is run line next sticky start later either = record { first = refl; next 
     by zero = rw start refl
     by (suc t) = ap (λ v. nat_eq v 1) (later t) ∙ either (suc t)
 
-line_low : (run : Run) (low : Bit) → ((t : ℕ) → run.at t low.node ≡ 0) → (t : ℕ) → line_at run low t ≡ false
-unfolding line_at
-line_low run low h zero = refl
-line_low run low h (suc t) = rw (h (suc t)) refl
-
 pub low_is : (run : Run) (low : Bit) → ((t : ℕ) → run.at t low.node ≡ 0) → IsSticky (λ t. false) (line_at run low)
-low_is run low h = record { first = line_low run low h 0; next = λ t. rw (line_low run low h (suc t), line_low run low h t) refl }
+low_is run low h = record { first = never_is run low h 0; next = λ t. rw (never_is run low h (suc t), never_is run low h t) refl }
 
 -- the same behind a line that is the same
 sticky_same : (p q sticky : ℕ → Bool) → ((t : ℕ) → p t ≡ q t) → IsSticky p sticky → IsSticky q sticky
@@ -105,13 +101,6 @@ named_push [] (m ∷ ns) w n e = absurd (omega arith)
 named_push (v ∷ ws) [] w n e = absurd (omega arith)
 named_push (v ∷ ws) (m ∷ ns) w n e = ap (λ (x : List PortShape). output (out_column m) v ∷ x) (named_push ws ns w n (omega arith))
 
-taken_alike : {A B : Type 0} (i : ℕ) (xs : List A) (ys : List B) → length xs ≡ length ys → length (take i xs) ≡ length (take i ys)
-taken_alike zero xs ys e = refl
-taken_alike (suc i) [] [] e = refl
-taken_alike (suc i) [] (y ∷ ys) e = absurd (omega arith)
-taken_alike (suc i) (x ∷ xs) [] e = absurd (omega arith)
-taken_alike (suc i) (x ∷ xs) (y ∷ ys) e = ap suc (taken_alike i xs ys (omega arith))
-
 widths_long : (bs : List Bus) → length (widths bs) ≡ length bs
 widths_long [] = refl
 widths_long (b ∷ bs) = ap suc (widths_long bs)
@@ -123,7 +112,7 @@ pub named_next : (a b c : Net) (bs : List Bus) (ns : List (List ℕ)) (i : ℕ) 
     → Puts a c (named_outputs (widths (take (i + 1) bs)) (take (i + 1) ns))
 named_next a b c bs ns i bus n same more_buses more_names x y =
     let last = output (out_column n) bus.width ∷ [] in
-    let long : length (take i ns) ≡ length (widths (take i bs)) = taken_alike i ns bs same ∙ sym (widths_long (take i bs)) in
+    let long : length (take i ns) ≡ length (widths (take i bs)) = same_taken i ns bs same ∙ sym (widths_long (take i bs)) in
     let is : named_outputs (widths (take (i + 1) bs)) (take (i + 1) ns) ≡ named_outputs (widths (take i bs)) (take i ns) ++ last =
     ap (λ (t : List Bus). named_outputs (widths t) (take (i + 1) ns)) more_buses
     ∙ ap (λ (t : List ℕ). named_outputs t (take (i + 1) ns)) (widths-push (take i bs) bus)

@@ -15,7 +15,7 @@ use Rattle.gl_bits.proofs.AllLists.{length_map}
 use Rattle.gl_bits.proofs.Options.{some_same}
 use Rattle.gl_bits.specs.Kinds.{width_of}
 use Rattle.gl_net.specs.Net.{Net, Run, IsRun, IsTrace, memory_bits_of, register_bits_of, size_of}
-use Rattle.gl_net.specs.PortValues.{PortShape, input_values, port_shapes, port_values}
+use Rattle.gl_net.specs.PortValues.{PortShape, input_values, port_shapes}
 use Rattle.gl_plan_wiring.specs.Leaves.{widths_of}
 use Rattle.gl_plan_wiring.specs.Put.{counted}
 use Rattle.gl_plan_wiring.proofs.CostLemmas.{bits_within}
@@ -34,7 +34,6 @@ use Rattle.gl_wiring.specs.Output.{input_ports, named_outputs, output_cost, outp
 use Rattle.gl_wiring.specs.PlanNet.{IsEmpty, IsPlanNet}
 use Rattle.gl_wiring.specs.PortNames.{port_names, result_ports, streams_ports}
 use Rattle.gl_wiring.specs.Root.{ShowsRight}
-use Rattle.gl_wiring.specs.StreamWires.{IsStreamWire}
 use Rattle.gl_wiring.specs.Wired.{KeepsGroup, OverBeats, plan_inputs, plan_means}
 use Rattle.gl_wiring.proofs.BringLemmas.{brings, no_input}
 use Rattle.gl_wiring.proofs.Outputs.{AreApart}
@@ -58,7 +57,8 @@ result_named ws ns e =
     ap (λ (x : List (List ℕ)). out_valid ∷ x) (map-append (λ (s : PortShape). s.name) (named_outputs ws ns) tail
     ∙ ap (λ (x : List (List ℕ)). x ++ out_eos ∷ fault_group ∷ fault_queue ∷ []) (outputs_named ws ns e))
 
-plan_named : (s : Schema) (ws : List ℕ) (ns : List (List ℕ)) → length ns ≡ length ws
+-- the names of the ports of a plan's netlist
+pub plan_named : (s : Schema) (ws : List ℕ) (ns : List (List ℕ)) → length ns ≡ length ws
     → names_in (input_ports s ++ output_ports ws ns) ≡ port_names s ns
 plan_named s ws ns e =
     let result = output_ports ws ns in
@@ -68,7 +68,6 @@ plan_named s ws ns e =
     ∙ ap (λ (x : List (List ℕ)). x ++ eos ∷ names_in result) (streams_names s.streams)
     ∙ ap (λ (x : List (List ℕ)). streams_ports s.streams ++ eos ∷ x) (result_named ws ns e))
 
--- the names of the ports of a plan's netlist
 pub plan_names : (net : Net) (s : Schema) (nodes : List PlanNode) (root : ℕ) (ns : List (List ℕ)) → length ns ≡ length (kinds_of nodes root)
     → port_shapes net ≡ plan_ports s (kinds_of nodes root) ns → names_of net ≡ port_names s ns
 unfolding port_shapes

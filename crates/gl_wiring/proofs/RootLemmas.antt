@@ -1,5 +1,5 @@
 -- From the root's wire to what the output shows.
-use Rattle.std.proofs.Common.{◌≡◌, ℕ, zero, suc, ◌+◌, ◌-◌, ◌<◌, ◌≤◌, List, ◌++◌, Option, Some, None, Bool, true, false, ◌||◌, refl, sym, ap, ◌∙◌, subst, arith, inl, inr}
+use Rattle.std.proofs.Common.{◌≡◌, ℕ, zero, suc, ◌+◌, ◌-◌, ◌<◌, ◌≤◌, List, ◌++◌, Some, None, Bool, true, false, ◌||◌, refl, sym, ap, ◌∙◌, subst, arith, inl, inr}
 use Rattle.std.specs.Prelude.{option_to_list}
 use Rattle.std.proofs.lemmas.List.{append-nil}
 use Rattle.std.proofs.lemmas.Bool.{cases_lt, false_from_ne_true, or_cases}
@@ -13,6 +13,7 @@ use Rattle.gl_wire.specs.Spills.{Lines}
 use Rattle.gl_wire.specs.Wire.{Carried, pending, stream, rows}
 use Rattle.gl_wire.proofs.RowsLemmas.{rows-split, pending-rows}
 use Rattle.gl_wire.specs.Serving.{Serving}
+use Rattle.gl_wire.proofs.SideLemmas.{none_unless}
 use Rattle.gl_wiring.specs.Root.{IsSticky, OneStream, ShowsRight, later_line}
 
 -- two bits that are 1 together are equal
@@ -20,10 +21,6 @@ alike_bits : (p q : Bool) → (p ≡ true → q ≡ true) → (q ≡ true → p 
 alike_bits true q h i = sym (h refl)
 alike_bits false true h i = i refl
 alike_bits false false h i = refl
-
-no_tuple : (o : Option Row) → ((r : Row) → o ≡ Some r → ⊥) → o ≡ None
-no_tuple None h = refl
-no_tuple (Some r) h = absurd (h r refl)
 
 -- a line that is never 1 is not so a cycle later
 low_later : (line : ℕ → Bool) → ((c : ℕ) → line c ≡ false) → (c : ℕ) → later_line line c ≡ false
@@ -146,7 +143,7 @@ root_shows f means lines beats b o group queue last sound spaced one s d g q = r
 
     none_later : (c : ℕ) → suc end.at < c → o.tuple c ≡ None
     none_later zero l = absurd (omega arith)
-    none_later (suc c) l = ap o.tuple (next c) ∙ d.tuples c ∙ no_tuple (b.tuple c) (none_at c (omega arith))
+    none_later (suc c) l = ap o.tuple (next c) ∙ d.tuples c ∙ none_unless (b.tuple c) (none_at c (omega arith))
 
     before_end : (c : ℕ) → lines.further c ≡ true → c < suc end.at
     before_end c h = let x = s.late all_end c h in let y = x.1 in let e = only_end x.0 x.2 in omega arith

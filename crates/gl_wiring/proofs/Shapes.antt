@@ -143,7 +143,7 @@ source_widths net ss k source is = is.widths ∙ ap (λ (o : Option Stream). col
 
 -- ---- outputs
 
-same_taken : {A B : Type 0} (i : ℕ) (xs : List A) (ys : List B) → length xs ≡ length ys → length (take i xs) ≡ length (take i ys)
+pub same_taken : {A B : Type 0} (i : ℕ) (xs : List A) (ys : List B) → length xs ≡ length ys → length (take i xs) ≡ length (take i ys)
 same_taken zero xs ys e = refl
 same_taken (suc i) [] [] e = refl
 same_taken (suc i) [] (y ∷ ys) e = absurd (omega arith)

@@ -1,13 +1,12 @@
 -- The wires of streams while a netlist grows, and as wires of the leaves of a plan.
 use Rattle.std.proofs.Common.{◌≡◌, ℕ, zero, suc, List, [], ◌∷◌, ◌++◌, Some, None, refl, sym, ap, subst, ◌∙◌, arith}
-use Rattle.std.specs.List.{AllZip}
 use Rattle.std.specs.Prelude.{map, slice_get}
 use Rattle.gl_bits.proofs.AllLists.{zip_append}
 use Rattle.gl_bits.proofs.Options.{some_same}
 use Rattle.gl_bits.specs.Kinds.{width_of}
 use Rattle.gl_algebra.specs.declared.node.PlanNode.{PlanNode}
 use Rattle.gl_net.specs.Finished.{HasReset}
-use Rattle.gl_net.specs.Net.{Net, IsBit, IsBus, IsPort, Value, reset_name}
+use Rattle.gl_net.specs.Net.{Net, IsBit, IsBus, IsPort, reset_name}
 use Rattle.gl_net.specs.declared.node.Bit.{Bit}
 use Rattle.gl_net.specs.declared.node.Bus.{Bus}
 use Rattle.gl_net.specs.declared.node.Direction.TheVariants.{In}
@@ -16,8 +15,9 @@ use Rattle.gl_schema.specs.Ports.{eos, in_valid}
 use Rattle.gl_schema.specs.Schemas.{kinds_of}
 use Rattle.gl_schema.specs.declared.schema.Column.{Column}
 use Rattle.gl_schema.specs.declared.schema.Stream.{Stream}
-use Rattle.gl_wire.specs.Wire.{AreBuses, IsWire}
+use Rattle.gl_wire.specs.Wire.{IsWire}
 use Rattle.gl_wire.specs.declared.wire.Wire.{Wire}
+use Rattle.gl_wire.proofs.GateLemmas.{bit_of}
 use Rattle.gl_wiring.specs.Emitted.{AreInputs, AreSources, Extends, IsSourceOf}
 use Rattle.gl_wiring.specs.EmittedPorts.{column_widths}
 use Rattle.gl_wiring.specs.StreamWires.{AreStreamLeaves, AreStreamWires, IsStreamLeaf, IsStreamWire, wire_from}
@@ -25,10 +25,6 @@ use Rattle.gl_wiring.specs.declared.parts.Source.{Source}
 use Rattle.gl_wiring.proofs.Inputs.{inputs_stay}
 
 -- ---- in a netlist that grows
-
--- a bus of one bit, as a line
-pub bit_of_bus : (net : Net) (b : Bus) (bit : Bit) → IsBus net b → b.width ≡ 1 → bit.node ≡ b.node → IsBit net bit
-bit_of_bus net b bit h one same = record { there = rw same (h.there ∙ ap (λ w. Some (Value w)) one) }
 
 pub bit_stays : (old new : Net) (b : Bit) → Extends old new → IsBit old b → IsBit new b
 bit_stays old new b x h =
@@ -62,7 +58,7 @@ wires_made net [] (p ∷ ps) end is port h = absurd h
 wires_made net (s ∷ ss) [] end is port h = absurd h
 wires_made net (s ∷ ss) (p ∷ ps) end is port h = (
   record {
-    valid = bit_of_bus net p.valid (record { node = p.valid.node }) h.0.bus h.0.bit refl;
+    valid = bit_of net p.valid (record { node = p.valid.node }) h.0.bus h.0.bit refl;
     valid_port = h.0.port;
     end = is;
     end_port = port;

@@ -1,5 +1,5 @@
 -- The output of a plan's circuit: a stage behind its wire, two lines that never fall behind its lines, and ports that show them.
-use Rattle.std.specs.Prelude.{◌≡◌, ℕ, ◌+◌, Bool, List, [], ◌∷◌, ◌++◌, length}
+use Rattle.std.specs.Prelude.{ℕ, ◌+◌, Bool, List, [], ◌∷◌, ◌++◌, length}
 use Rattle.std.specs.List.{AllZip, sum}
 use Rattle.gl_bits.specs.declared.kind.Kind.{Kind}
 use Rattle.gl_net.specs.Net.{Net, Run, IsBit, IsPort, IsRun, Keeps}

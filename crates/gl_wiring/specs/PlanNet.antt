@@ -6,7 +6,6 @@ use Rattle.gl_algebra.specs.Fits.{IsPlan}
 use Rattle.gl_algebra.specs.Results.{IsPlanResult}
 use Rattle.gl_algebra.specs.Shapes.{kinds_of}
 use Rattle.gl_algebra.specs.Weights.{weight_with_output}
-use Rattle.gl_algebra.specs.declared.figures.Figures.{Figures}
 use Rattle.gl_algebra.specs.declared.node.PlanNode.{PlanNode}
 use Rattle.gl_net.specs.Finished.{HasReset}
 use Rattle.gl_net.specs.Net.{Net, Run, IsRun, memory_bits_of, register_bits_of, size_of}

@@ -42,7 +42,8 @@ fn put_sticky(net: &mut NetBuilder, line: Bit) -> Result<Bit, Memory>
 // The same behind a line one cycle later.
 fn put_late(net: &mut NetBuilder, line: Bit) -> Result<Bit, Memory>
     requires { IsBit net.old line }
-    ensures { IfOk result (IsFault net.old net.new queue_cost (λ run. later_line (line_at run line))) }
+    ensures { IfOk result (IsFault net.old net.new queue_cost
+        (λ run. later_line (line_at run line))) }
 {
     let later = later_bit(net, line)?;
     let fault = put_sticky(net, later)?;
@@ -104,7 +105,8 @@ fn put_columns(
     requires lengths { length names.now ≡ length columns.now }
     requires columns { AreBuses net.old columns.now }
     ensures extends { OnOk result (Extends net.old net.new) }
-    ensures ports { OnOk result (Puts net.old net.new (named_outputs (widths columns.now) names.now)) }
+    ensures ports { OnOk result (Puts net.old net.new
+        (named_outputs (widths columns.now) names.now)) }
     ensures cost { OnOk result (CostsNothing net.old net.new) }
     ensures shown { OnOk result (AreShown net.new names.now columns.now) }
 {
@@ -129,7 +131,8 @@ fn put_ports(
     requires group { IsBit net.old group }
     requires queue { IsBit net.old queue }
     ensures extends { OnOk result (Extends net.old net.new) }
-    ensures ports { OnOk result (Puts net.old net.new (output_ports (widths wire.now.columns) names.now)) }
+    ensures ports { OnOk result (Puts net.old net.new
+        (output_ports (widths wire.now.columns) names.now)) }
     ensures cost { OnOk result (CostsNothing net.old net.new) }
     ensures shows { OnOk result (Shows net.new names.now wire.now group queue) }
 {

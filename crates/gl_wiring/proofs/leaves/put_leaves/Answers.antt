@@ -3,11 +3,12 @@ use Rattle.gl_net.specs.Net.{IsBit, IsPort}
 use Rattle.gl_net.specs.declared.node.Direction.TheVariants.{In}
 use Rattle.gl_schema.specs.Ports.{rst, eos}
 use Rattle.gl_schema.specs.declared.schema.Stream.{Stream}
+use Rattle.gl_wire.proofs.GateLemmas.{bit_of}
 use Rattle.gl_wiring.specs.Emitted.{AreSources, Puts}
 use Rattle.gl_wiring.specs.EmittedPorts.{input, streams_inputs}
 use Rattle.gl_wiring.specs.StreamWires.{AreStreamWires, wire_from}
 use Rattle.gl_wiring.proofs.Shapes.{puts_then}
-use Rattle.gl_wiring.proofs.StreamLemmas.{bit_of_bus, sources_stay, wires_made}
+use Rattle.gl_wiring.proofs.StreamLemmas.{sources_stay, wires_made}
 use Rattle.gl_wiring.proofs.leaves.put_leaves.Goals as goal
 
 pub returns-clause-ports : goal.returns-clause-ports
@@ -32,7 +33,7 @@ returns-clause-wires c =
     let end = c.in_ok-end.end in
     let bit = c.bit.result in
     let sources : AreSources n2 ss ps = subst (λ (x : List Stream). AreSources n2 x ps) c.as_slice-streams.ensures c.in_ok-sources.ensures.sources in
-    let is : IsBit n3 bit = bit_of_bus n3 end bit c.in_ok-end.ensures.bus c.in_ok-end.ensures.width c.bit.ensures in
+    let is : IsBit n3 bit = bit_of n3 end bit c.in_ok-end.ensures.bus c.in_ok-end.ensures.width c.bit.ensures in
     let port : IsPort n3 In eos bit.node = subst (IsPort n3 In eos) (sym c.bit.ensures) c.in_ok-end.ensures.port in
     subst (AreStreamWires n3 ss) (sym (c.in_ok-wires.ensures ∙ ap (map (wire_from bit)) c.deref.ensures.value))
     (wires_made n3 ss ps bit is port (sources_stay n2 n3 ss ps c.in_ok-end.ensures.extends sources))

@@ -1,8 +1,7 @@
-use Rattle.std.proofs.Common.{ℕ, List, [], ◌++◌, ap, sym, subst, ◌∙◌}
+use Rattle.std.proofs.Common.{ℕ, List, [], sym, subst}
 use Rattle.gl_algebra.specs.Shapes.{kinds_of, shape_of}
-use Rattle.gl_plan_wiring.specs.Leaves.{HaveLeaves, widths_of}
+use Rattle.gl_plan_wiring.specs.Leaves.{widths_of}
 use Rattle.gl_wire.specs.Wire.{widths}
-use Rattle.gl_wire.specs.declared.wire.Wire.{Wire}
 use Rattle.gl_wiring.specs.Emitted.{Extends, Puts}
 use Rattle.gl_wiring.specs.Output.{IsOutput, input_ports, output_ports, plan_ports}
 use Rattle.gl_wiring.specs.StreamWires.{AreStreamWires}
