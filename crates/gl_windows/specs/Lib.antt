@@ -6,3 +6,4 @@ pub mod Firsts
 pub mod Costs
 pub mod Rotations
 pub mod Laws
+pub mod Worked

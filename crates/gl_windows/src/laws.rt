@@ -2,6 +2,7 @@
 
 ghost use Rattle.gl_windows.specs.Costs.{RotationsAreCounted};
 ghost use Rattle.gl_windows.specs.Laws.{RotationsServe, WindowsRotate};
+ghost use Rattle.gl_windows.specs.Worked.{WorkedWindows};
 
 /// A front, copies that serve a body, and a back serve what the body makes of each window, joined.
 pub fn rotations_serve()
@@ -16,4 +17,9 @@ pub fn costs_are_counted()
 /// A window of a plan has a rotation over as many copies as it counts.
 pub fn windows_rotate()
     ensures { WindowsRotate }
+{}
+
+/// Worked streams: the definition of a front gives the visits that were worked out by hand.
+pub fn worked_windows()
+    ensures { WorkedWindows }
 {}
