@@ -3,6 +3,8 @@
 #![tactic(auto)]
 
 #[cfg(test)]
+mod explained;
+#[cfg(test)]
 mod plans;
 #[cfg(test)]
 mod shown;

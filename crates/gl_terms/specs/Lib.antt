@@ -2,3 +2,4 @@ pub mod Terms
 pub mod Levels
 pub mod Trees
 pub mod Depths
+pub mod Forests
