@@ -5,5 +5,3 @@ pub mod DepthLemmas
 pub mod PartLemmas
 pub mod PlaceLemmas
 pub mod RoomLemmas
-pub mod LeftLemmas
-pub mod AdvanceLemmas

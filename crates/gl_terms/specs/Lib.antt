@@ -2,4 +2,3 @@ pub mod Terms
 pub mod Levels
 pub mod Trees
 pub mod Depths
-pub mod Forests

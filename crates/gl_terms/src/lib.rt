@@ -6,7 +6,6 @@
 //! crate above.
 #![tactic(auto)]
 
-pub mod forest;
 pub mod laws;
 pub mod levels;
 pub mod terms;
