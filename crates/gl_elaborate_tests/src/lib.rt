@@ -3,8 +3,6 @@
 #![tactic(auto)]
 
 #[cfg(test)]
-mod explained;
-#[cfg(test)]
 mod plans;
 #[cfg(test)]
 mod shown;

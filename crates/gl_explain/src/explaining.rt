@@ -1,15 +1,12 @@
-//! A query's text, explained.
+//! A checked statement, explained.
 
 ghost use Rattle.std.specs.Prelude.{◌≡◌, ◌<◌, length, IfErr, IfOk, OnErr, OnOk};
-ghost use Rattle.gl_schema.specs.Schemas.{IsSchema};
 ghost use Rattle.gl_query.specs.Checked.{IsChecked};
 ghost use Rattle.gl_algebra.specs.Added.{placed_at};
 ghost use Rattle.gl_algebra.specs.Small.{AreFigures};
 ghost use Rattle.gl_elaborate.specs.Plans.{plan_of};
 ghost use Rattle.gl_explain.specs.declared.explaining.ExplainFault.TheVariants as explain;
-ghost use Rattle.gl_query.specs.Trees.{statement_tree};
-ghost use Rattle.gl_query_reader.specs.Grammar.{HasStatement};
-ghost use Rattle.gl_explain.specs.Explained.{AreAllSmall, Explains, IsExplained, IsUnexplained, IsWithinLimits, PassesOr, refusal_of};
+ghost use Rattle.gl_explain.specs.Explained.{AreAllSmall, IsExplained, IsWithinLimits, PassesOr};
 ghost use Rattle.gl_explain.specs.Lines.{plan_text};
 
 use crate::lines::{put, put_lines, put_root};
@@ -18,21 +15,15 @@ use gl_algebra::{Figures, Plan, PlanId};
 use gl_bits::Memory as NoMemory;
 use gl_elaborate::elaborate;
 use gl_figures::{Limit, figures, weigh};
-use gl_query::QueryFault;
-use gl_query_check::{Checked, check};
+use gl_query_check::Checked;
 use gl_query_printer::print_statement;
-use gl_query_reader::read_query;
-use gl_schema::Schema;
 use std::alloc::Global;
 use thiserror::Error;
 
-/// Why a query is not explained.
+/// Why a statement is not explained.
 #[derive(Debug, Drop, Error)]
 pub enum ExplainFault {
-    /// The text has no statement, or the statement is not accepted over the schema.
-    #[error("the query is refused")]
-    Query(QueryFault),
-    /// The statement's plan passes a limit.
+    /// Its plan passes a limit.
     #[error("the plan passes a limit")]
     Limit(Limit),
     /// Want of memory.
@@ -45,16 +36,6 @@ impl From<NoMemory> for ExplainFault {
 
     fn from(_: NoMemory) -> ExplainFault {
         ExplainFault::Memory
-    }
-}
-
-// A fault of a query's text; want of memory is its own.
-fn refused(fault: QueryFault) -> ExplainFault
-    ensures { result ≡ refusal_of fault }
-{
-    match fault {
-        QueryFault::Memory => ExplainFault::Memory,
-        other => ExplainFault::Query(other),
     }
 }
 
@@ -138,61 +119,18 @@ fn explained(alloc: Global, checked: &Checked) -> Result<Vec<u8>, ExplainFault>
     Ok(text_of(alloc, checked, &plan, root, &own)?)
 }
 
-/// Appends the canonical text of a checked statement, a line for each node of its plan, and the root.
+/// Appends what is explained of a checked statement: its canonical text, a line for each node of its plan,
+/// and the root.
 ///
-/// A limit comes exactly where the plan passes it. On a fault nothing is appended.
-pub fn explain_checked(
-    alloc: Global,
-    checked: &Checked,
-    into: &mut Vec<u8>,
-) -> Result<(), ExplainFault>
+/// A limit comes exactly where the plan passes it, and then, as on want of memory, nothing is appended.
+pub fn explain(alloc: Global, checked: &Checked, into: &mut Vec<u8>) -> Result<(), ExplainFault>
     requires { IsChecked checked.now.schema checked.now.statement }
     ensures explained { OnOk result
-        (IsExplained checked.now.schema into.old.items into.new.items checked.now.statement
-        (plan_of checked.now.schema checked.now.statement)) }
+        (IsExplained checked.now.schema checked.now.statement into.old.items into.new.items) }
     ensures fault { IfErr result (PassesOr (plan_of checked.now.schema checked.now.statement)) }
     ensures unchanged { OnErr result (into.new.items ≡ into.old.items) }
 {
     let text = explained(alloc, checked)?;
     put(into, &text)?;
     Ok(())
-}
-
-// The checked statement of a query's text.
-fn checked_of(alloc: Global, schema: &Schema, query: &[u8]) -> Result<Checked, ExplainFault>
-    requires { IsSchema schema.now }
-    ensures schema { IfOk result (λ c. c.schema ≡ schema.now) }
-    ensures has { IfOk result (λ c. HasStatement query.now (statement_tree c.statement)) }
-    ensures checked { IfOk result (λ c. IsChecked c.schema c.statement) }
-    ensures fault { IfErr result (IsUnexplained schema.now query.now) }
-{
-    let statement = match read_query(alloc, query) {
-        Ok(statement) => statement,
-        Err(fault) => return Err(refused(fault)),
-    };
-    match check(alloc, schema, statement) {
-        Ok(checked) => Ok(checked),
-        Err(fault) => Err(refused(fault)),
-    }
-}
-
-/// Appends what is explained of a query's text over a schema: the canonical text of its statement, a line
-/// for each node of the plan, and the root.
-///
-/// A fault of the query comes exactly where the text has no statement or the statement is not accepted, and
-/// then a limit exactly where the plan passes it. On a fault nothing is appended.
-pub fn explain(
-    alloc: Global,
-    schema: &Schema,
-    query: &[u8],
-    into: &mut Vec<u8>,
-) -> Result<(), ExplainFault>
-    requires { IsSchema schema.now }
-    ensures explained { OnOk result
-        (Explains schema.now query.now into.old.items into.new.items) }
-    ensures fault { IfErr result (IsUnexplained schema.now query.now) }
-    ensures unchanged { OnErr result (into.new.items ≡ into.old.items) }
-{
-    let checked = checked_of(alloc, schema, query)?;
-    explain_checked(alloc, &checked, into)
 }

@@ -5,6 +5,8 @@
 #![tactic(auto)]
 
 pub mod explaining;
+pub mod laws;
 mod lines;
 
-pub use explaining::{ExplainFault, explain, explain_checked};
+pub use explaining::{ExplainFault, explain};
+pub use laws::plans_pass_one_limit;
