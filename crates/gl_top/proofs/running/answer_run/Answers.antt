@@ -2,7 +2,7 @@ use Rattle.std.proofs.Common.{inl}
 use Rattle.gl_outside.proofs.Takes.{took_none}
 use Rattle.gl_top.specs.Causes.{change}
 use Rattle.gl_top.specs.Verdicts.{Ended}
-use Rattle.gl_top.proofs.running.answer.Goals as goal
+use Rattle.gl_top.proofs.running.answer_run.Goals as goal
 
 pub returns-in-Ok : goal.returns-in-Ok
 returns-in-Ok g c = c.finish.ensures (change _ _) c.in-Ok.ensures.ready c.in-Ok.ensures.leaves
