@@ -1,5 +1,5 @@
 -- What is read and judged where the words ask to explain.
-use Rattle.std.proofs.Common.{◌≡◌, ◌≢◌, ◌⊎◌, inl, inr, ℕ, ◌≤◌, List, [], ◌++◌, length, Result, Ok, Err, IfErr, IfOk, refl, sym, ap, subst, ◌∙◌}
+use Rattle.std.proofs.Common.{◌≡◌, ◌≢◌, ◌⊎◌, inl, inr, ℕ, ◌≤◌, List, [], ◌++◌, length, refl, sym, ap, subst, ◌∙◌}
 use Rattle.gl_outside.specs.States.{ShelfState, IsCalm}
 use Rattle.gl_outside.specs.Told.{Told, Untold, Lacks, Holds, IfTold}
 use Rattle.gl_schema.specs.declared.schema.Schema.{Schema}
@@ -10,7 +10,6 @@ use Rattle.gl_query.specs.Shapes.{query_shape}
 use Rattle.gl_query.specs.Trees.{StatementTree, statement_tree}
 use Rattle.gl_query.specs.Alike.{query_alike}
 use Rattle.gl_query.proofs.Alike.{query_same}
-use Rattle.gl_query_check.specs.declared.checking.Checked.{Checked}
 use Rattle.gl_query_judge.specs.Judged.{IsAcceptedText, IsQueryFault, IsFaultOrMemory}
 use Rattle.gl_query_judge.proofs.Judged.{one_meaning}
 use Rattle.gl_figures.specs.declared.Limit.{Limit}
@@ -25,7 +24,7 @@ use Rattle.gl_top.specs.declared.notes.Refusal.{Refusal}
 use Rattle.gl_top.specs.declared.notes.Refusal.TheVariants as refusal
 use Rattle.gl_top.specs.Forms.{IsExplain, name_of}
 use Rattle.gl_top.specs.Passing.{HasText, SchemaPasses, ExplainPasses}
-use Rattle.gl_top.specs.Causes.{Change, change, HasCause, IsJudged, IsOverLimit, Leaves, PassesALimit, judged_refusal, explain_refusal}
+use Rattle.gl_top.specs.Causes.{Change, HasCause, IsOverLimit, PassesALimit, judged_refusal, explain_refusal}
 use Rattle.gl_top.specs.Verdicts.{IsPlanned}
 use Rattle.gl_top.proofs.Texts.{has_text}
 
@@ -57,22 +56,11 @@ pub judged_cause : (words : List (List ℕ)) (c : Change) (v : List ℕ) (s : Sc
 judged_cause words c v s f calm before h (inl is) = rw (judged_as f is.real) (bad_query words c v s f calm before h is)
 judged_cause words c v s f calm before h (inr e) = rw e calm
 
--- what judging a text that was read leaves
-pub judged_leaves : {T : Type 0} (words : List (List ℕ)) (a b : ShelfState) (v : List ℕ) (s : Schema) (r : Result T Refusal) → IsCalm a b → SchemaPasses a.told words s
-    → HasText a.told words part.Query (λ text. v ≡ text) → IfErr r (IsJudged s v) → Leaves words a b r
-judged_leaves words a b v s (Ok x) calm before h f = calm
-judged_leaves words a b v s (Err refused) calm before h f = rw f.is (judged_cause words (change a b) v s f.fault calm before h f.found)
-
 pub explain_passes : (told : List ℕ → Told) (words : List (List ℕ)) (v : List ℕ) (s t : Schema) (statement : Statement) → IsExplain words → t ≡ s → SchemaPasses told words s
     → HasText told words part.Query (λ text. v ≡ text) → IsAcceptedText s v statement → ExplainPasses told words t statement
 explain_passes told words v s t statement is e before h accepted =
     subst (λ (x : Schema). ExplainPasses told words x statement) (sym e)
     (record { explain = is; before = before; text = has_text told words part.Query (λ text. IsAcceptedText s text statement) v h accepted })
-
-pub judged_passes : (told : List ℕ → Told) (words : List (List ℕ)) (v : List ℕ) (s : Schema) (r : Result Checked Refusal) → IsExplain words → SchemaPasses told words s
-    → HasText told words part.Query (λ text. v ≡ text) → IfOk r (λ c. c.schema ≡ s) → IfOk r (λ c. IsAcceptedText s v c.statement) → IfOk r (λ c. ExplainPasses told words c.schema c.statement)
-judged_passes told words v s (Ok x) is before h e accepted = explain_passes told words v s x.schema x.statement is e before h accepted
-judged_passes told words v s (Err refused) is before h e accepted = tt
 
 -- ---- the plan
 

@@ -15,7 +15,7 @@ use Rattle.gl_tuples.specs.declared.fault.TupleFault.{TupleFault}
 use Rattle.gl_tuples.specs.declared.fault.TupleFault.TheVariants as tuples
 use Rattle.gl_compiler.specs.declared.compiling.CompileFault.{CompileFault}
 use Rattle.gl_compiler.specs.declared.compiling.CompileFault.TheVariants as compile
-use Rattle.gl_query_judge.specs.Judged.{IsAcceptedText, IsFaultOrMemory, IsQueryFault}
+use Rattle.gl_query_judge.specs.Judged.{IsAcceptedText, IsQueryFault}
 use Rattle.gl_figures.specs.declared.Limit.{Limit}
 use Rattle.gl_elaborate.specs.Plans.{plan_of}
 use Rattle.gl_explain.specs.Explained.{PassesLimit}
@@ -136,12 +136,6 @@ query_refusal compile.NotBuilt = refusal.NotBuilt
 abbrev pub judged_refusal : QueryFault → Refusal
 judged_refusal query.Memory = refusal.Memory
 judged_refusal fault = refusal.Query fault
-
--- a fault of the text of a query as a refusal, or want of memory
-pub record IsJudged (schema : Schema) (text : List ℕ) (refused : Refusal) : Type 0 where
-  pub fault : QueryFault
-  pub is : refused ≡ judged_refusal fault
-  pub found : IsFaultOrMemory schema text fault
 
 abbrev pub explain_refusal : ExplainFault → Refusal
 explain_refusal explain.Memory = refusal.Memory

@@ -223,7 +223,7 @@ fn judge_texts<S: Shelf>(alloc: Global, shelf: &mut S, words: &Words) -> Result<
 }
 
 /// Judges words that do not ask to explain, and the texts that they name.
-#[tactic(auto, using(gl_outside::proofs::Counting::calm_none))]
+#[tactic(auto, using(gl_outside::proofs::Counting::calm_none, crate::proofs::Texts::formless))]
 pub(crate) fn judge<S: Shelf>(alloc: Global, shelf: &mut S, words: &Words) -> Result<Job, Refusal>
     requires other { IsExplain words.now → ⊥ }
     requires names { (S.state shelf.old).names ≡ words.now }

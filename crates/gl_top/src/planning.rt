@@ -1,15 +1,13 @@
 //! Judging the texts of `explain S Q`, and the text of the plan.
 
 ghost use Rattle.std.specs.Prelude.{◌≡◌, [], IfErr, IfOk};
-ghost use Rattle.gl_schema.specs.Schemas.{IsSchema};
 ghost use Rattle.gl_query.specs.Checked.{IsChecked};
-ghost use Rattle.gl_query_judge.specs.Judged.{IsAcceptedText};
 ghost use Rattle.gl_elaborate.specs.Plans.{plan_of};
 ghost use Rattle.gl_explain.specs.Explained.{IsExplained, PassesOr};
 ghost use Rattle.gl_outside.specs.States.{Stays};
 ghost use Rattle.gl_top.specs.Forms.{IsExplain};
 ghost use Rattle.gl_top.specs.Causes as causes;
-ghost use Rattle.gl_top.specs.Causes.{IsJudged, Leaves};
+ghost use Rattle.gl_top.specs.Causes.{Leaves};
 ghost use Rattle.gl_top.specs.Passing.{ExplainPasses, SchemaPasses};
 ghost use Rattle.gl_top.specs.Verdicts.{IsPlanned};
 
@@ -42,20 +40,6 @@ fn explain_refusal(fault: ExplainFault) -> Refusal
     }
 }
 
-// Judges the text of the query.
-fn judged(alloc: Global, schema: &Schema, text: &[u8]) -> Result<Checked, Refusal>
-    requires { IsSchema schema.now }
-    ensures schema { IfOk result (λ c. c.schema ≡ schema.now) }
-    ensures accepted { IfOk result (λ c. IsAcceptedText schema.now text.now c.statement) }
-    ensures checked { IfOk result (λ c. IsChecked c.schema c.statement) }
-    ensures fault { IfErr result (IsJudged schema.now text.now) }
-{
-    match judge_query(alloc, schema, text) {
-        Ok(checked) => Ok(checked),
-        Err(fault) => Err(judged_refusal(fault)),
-    }
-}
-
 // Reads and judges the query.
 fn judge_statement<S: Shelf>(
     alloc: Global,
@@ -72,7 +56,10 @@ fn judge_statement<S: Shelf>(
     ensures leaves { Leaves words.now (S.state shelf.old) (S.state shelf.new) result }
 {
     let text = text_of(alloc, shelf, words, Part::Query)?;
-    judged(alloc, schema, &text)
+    match judge_query(alloc, schema, &text) {
+        Ok(checked) => Ok(checked),
+        Err(fault) => Err(judged_refusal(fault)),
+    }
 }
 
 // What is explained of a checked statement.
