@@ -1,6 +1,6 @@
 -- What a text that was read says of its part.
-use Rattle.std.proofs.Common.{◌≡◌, ℕ, zero, suc, ◌<◌, ◌≤◌, List, [], ◌∷◌, length, Option, Some, None, Ok, Err, refl, sym, subst, arith, lit<}
-use Rattle.std.specs.Prelude.{slice_get, unwrap_or, Contains}
+use Rattle.std.proofs.Common.{◌≡◌, ◌≢◌, ◌⊎◌, inl, inr, ℕ, zero, suc, ◌<◌, ◌≤◌, List, [], ◌∷◌, length, Option, Some, None, Ok, Err, refl, sym, subst, arith}
+use Rattle.std.specs.Prelude.{slice_get, unwrap_or, Contains, IsTrue, codes}
 use Rattle.std.proofs.lemmas.Bool.{eqb-true}
 use Rattle.gl_bits.proofs.Bools.{and_left}
 use Rattle.gl_outside.proofs.Places.{found_is}
@@ -29,11 +29,50 @@ use Rattle.gl_query_judge.specs.Judged.{IsQueryFault}
 use Rattle.gl_compiler.specs.Queries.{IsQuery, IsUnbuilt, IsQueryRefused, gap_of}
 use Rattle.gl_top.specs.declared.form.Part.{Part}
 use Rattle.gl_top.specs.declared.form.Part.TheVariants as part
-use Rattle.gl_top.specs.Forms.{IsForm, is_form, word_at, place_of, name_of}
+use Rattle.gl_top.specs.Forms.{IsForm, IsRun, IsExplain, IsNamed, begins, word_at, place_of, name_of}
 use Rattle.gl_top.specs.Passing.{HasText, SchemaPasses, QueryPasses, kept_beats}
 use Rattle.gl_top.specs.Causes.{IsNext, IsBadSchema, AreBadTuples, Change, change, HasCause, read_refusal, schema_refusal, query_refusal, tuples_refusal}
 
--- the words are of the form where a text is judged
+-- ---- the words
+
+many_words : (words : List (List ℕ)) (many : ℕ) (command : List ℕ) → IsTrue (begins words many command) → length words ≡ many
+unfolding begins
+many_words words many command h = eqb-true (length words) many (and_left _ _ (and_left _ _ (and_left _ _ h)))
+
+four_words : (words : List (List ℕ)) → IsRun words → length words ≡ 4
+four_words words run = many_words words 4 (codes "run") (and_left _ _ run)
+
+three_words : (words : List (List ℕ)) → IsExplain words → length words ≡ 3
+three_words words explain = many_words words 3 (codes "explain") explain
+
+-- words have one command
+pub one_command : (words : List (List ℕ)) {A : Type 0} → IsRun words → IsExplain words → A
+one_command words run explain = let f = four_words words run in let t = three_words words explain in absurd (omega arith)
+
+-- words of a form name a schema and a query, and those of `run` name a tuple file too
+pub names_schema : (words : List (List ℕ)) → IsForm words → IsNamed words part.Schema
+names_schema words (inl run) = let f = four_words words run in omega arith
+names_schema words (inr explain) = let t = three_words words explain in omega arith
+
+pub names_query : (words : List (List ℕ)) → IsForm words → IsNamed words part.Query
+names_query words (inl run) = let f = four_words words run in omega arith
+names_query words (inr explain) = let t = three_words words explain in omega arith
+
+pub names_tuples : (words : List (List ℕ)) → IsRun words → IsNamed words part.Tuples
+names_tuples words run = let f = four_words words run in omega arith
+
+-- the text of a part that is judged has a name
+pub next_named : (told : List ℕ → Told) (words : List (List ℕ)) (p : Part) → IsNext told words p → IsNamed words p
+next_named told words part.Schema next = names_schema words next
+next_named told words part.Query next = names_query words next.1.form
+next_named told words part.Tuples next = names_tuples words next.2.run
+
+-- words that ask for neither
+pub formless : (words : List (List ℕ)) → (IsRun words → ⊥) → (IsExplain words → ⊥) → IsForm words → ⊥
+formless words no_run no_explain (inl run) = no_run run
+formless words no_run no_explain (inr explain) = no_explain explain
+
+-- the words are of a form where a text is judged
 pub next_form : (told : List ℕ → Told) (words : List (List ℕ)) (p : Part) → IsNext told words p → IsForm words
 next_form told words part.Schema next = next
 next_form told words part.Query next = next.1.form
@@ -49,18 +88,9 @@ is_listed : (words : List (List ℕ)) (k : ℕ) → k < length words → Contain
 unfolding word_at
 is_listed words k lt = found_is words k (unwrap_or (slice_get words k) []) (some_at words k lt)
 
-place_below : (p : Part) → place_of p < 4
-place_below part.Schema = lit< tt
-place_below part.Query = lit< tt
-place_below part.Tuples = lit< tt
-
-four_words : (words : List (List ℕ)) → IsForm words → length words ≡ 4
-unfolding is_form
-four_words words form = eqb-true (length words) 4 (and_left _ _ (and_left _ _ (and_left _ _ (and_left _ _ form))))
-
-pub named : (words : List (List ℕ)) (p : Part) → IsForm words → Contains words (name_of words p)
+pub named : (words : List (List ℕ)) (p : Part) → IsNamed words p → Contains words (name_of words p)
 unfolding name_of
-named words p form = let four = four_words words form in is_listed words (place_of p) (subst (λ n. place_of p < n) (sym four) (place_below p))
+named words p is = is_listed words (place_of p) is
 
 -- what was read is the text that is told
 pub read_is : (t : Told) (v : List ℕ) → IfTold t (λ text. v ≡ text) → length v ≤ 67108864 → IfTold t (λ text. (length text ≤ 67108864) × (v ≡ text))
@@ -103,21 +133,21 @@ pub schema_passes : (told : List ℕ → Told) (words : List (List ℕ)) (v : Li
 schema_passes told words v s form h is = record { form = form; fine = is.schema'; text = has_text told words part.Schema (λ text. IsSchemaText text s) v h is }
 
 -- of a query that is refused
-not_built : (words : List (List ℕ)) (c : Change) (v : List ℕ) (s : Schema) → IsCalm c.old c.new → SchemaPasses c.old.told words s → HasText c.old.told words part.Query (λ text. v ≡ text) → IsUnbuilt s v → HasCause words c (query_refusal compile.NotBuilt)
-not_built words c v s calm before h is = (record { schema = s; before = before; text = has_text c.old.told words part.Query (IsUnbuilt s) v h is }, calm)
+not_built : (words : List (List ℕ)) (c : Change) (v : List ℕ) (s : Schema) → IsRun words → IsCalm c.old c.new → SchemaPasses c.old.told words s → HasText c.old.told words part.Query (λ text. v ≡ text) → IsUnbuilt s v → HasCause words c (query_refusal compile.NotBuilt)
+not_built words c v s run calm before h is = (record { run = run; schema = s; before = before; text = has_text c.old.told words part.Query (IsUnbuilt s) v h is }, calm)
 
 bad_query : (words : List (List ℕ)) (c : Change) (v : List ℕ) (s : Schema) (f : QueryFault) → IsCalm c.old c.new → SchemaPasses c.old.told words s → HasText c.old.told words part.Query (λ text. v ≡ text) → IsQueryFault s v f → HasCause words c (query_refusal (compile.Query f))
 bad_query words c v s f calm before h is = (record { schema = s; before = before; text = has_text c.old.told words part.Query (λ text. IsQueryFault s text f) v h is }, calm)
 
-pub query_cause : (words : List (List ℕ)) (c : Change) (v : List ℕ) (s : Schema) (fault : CompileFault) → IsCalm c.old c.new → SchemaPasses c.old.told words s → HasText c.old.told words part.Query (λ text. v ≡ text) → IsQueryRefused s v fault → HasCause words c (query_refusal fault)
-query_cause words c v s compile.Memory calm before h is = calm
-query_cause words c v s (compile.Schema f) calm before h is = absurd is
-query_cause words c v s (compile.Query f) calm before h is = bad_query words c v s f calm before h is
-query_cause words c v s compile.NotBuilt calm before h is = not_built words c v s calm before h is
+pub query_cause : (words : List (List ℕ)) (c : Change) (v : List ℕ) (s : Schema) (fault : CompileFault) → IsRun words → IsCalm c.old c.new → SchemaPasses c.old.told words s → HasText c.old.told words part.Query (λ text. v ≡ text) → IsQueryRefused s v fault → HasCause words c (query_refusal fault)
+query_cause words c v s compile.Memory run calm before h is = calm
+query_cause words c v s (compile.Schema f) run calm before h is = absurd is
+query_cause words c v s (compile.Query f) run calm before h is = bad_query words c v s f calm before h is
+query_cause words c v s compile.NotBuilt run calm before h is = not_built words c v s run calm before h is
 
-pub query_passes : (told : List ℕ → Told) (words : List (List ℕ)) (v : List ℕ) (s t : Schema) (statement : Statement) → t ≡ s → SchemaPasses told words s → HasText told words part.Query (λ text. v ≡ text) → IsQuery s v statement → QueryPasses told words t statement
-query_passes told words v s t statement e before h built =
-    subst (λ (x : Schema). QueryPasses told words x statement) (sym e) (record { before = before; text = has_text told words part.Query (λ text. IsQuery s text statement) v h built })
+pub query_passes : (told : List ℕ → Told) (words : List (List ℕ)) (v : List ℕ) (s t : Schema) (statement : Statement) → IsRun words → t ≡ s → SchemaPasses told words s → HasText told words part.Query (λ text. v ≡ text) → IsQuery s v statement → QueryPasses told words t statement
+query_passes told words v s t statement run e before h built =
+    subst (λ (x : Schema). QueryPasses told words x statement) (sym e) (record { run = run; before = before; text = has_text told words part.Query (λ text. IsQuery s text statement) v h built })
 
 -- of a tuple file that is refused
 are_bad : (words : List (List ℕ)) (c : Change) (v : List ℕ) (s : Schema) (statement : Statement) (fault : TupleFault) → QueryPasses c.old.told words s statement → HasText c.old.told words part.Tuples (λ text. v ≡ text)

@@ -9,21 +9,27 @@ use Rattle.gl_schema.specs.declared.fault.SchemaFault as faults
 use Rattle.gl_schema.specs.declared.fault.SchemaFault.TheVariants as schema
 use Rattle.gl_schema.specs.SchemaFaults.{schema_of}
 use Rattle.gl_query.specs.declared.fault.QueryFault.{QueryFault}
+use Rattle.gl_query.specs.declared.fault.QueryFault.TheVariants as query
 use Rattle.gl_query.specs.declared.tree.Statement.{Statement}
 use Rattle.gl_tuples.specs.declared.fault.TupleFault.{TupleFault}
 use Rattle.gl_tuples.specs.declared.fault.TupleFault.TheVariants as tuples
 use Rattle.gl_compiler.specs.declared.compiling.CompileFault.{CompileFault}
 use Rattle.gl_compiler.specs.declared.compiling.CompileFault.TheVariants as compile
-use Rattle.gl_query_judge.specs.Judged.{IsQueryFault}
+use Rattle.gl_query_judge.specs.Judged.{IsAcceptedText, IsQueryFault}
+use Rattle.gl_figures.specs.declared.Limit.{Limit}
+use Rattle.gl_elaborate.specs.Plans.{plan_of}
+use Rattle.gl_explain.specs.Explained.{PassesLimit}
+use Rattle.gl_explain.specs.declared.explaining.ExplainFault.{ExplainFault}
+use Rattle.gl_explain.specs.declared.explaining.ExplainFault.TheVariants as explain
 use Rattle.gl_compiler.specs.Queries.{IsUnbuilt, gap_of}
 use Rattle.gl_top.specs.declared.form.Part.{Part}
 use Rattle.gl_top.specs.declared.form.Part.TheVariants as part
 use Rattle.gl_top.specs.declared.notes.Refusal.{Refusal}
 use Rattle.gl_top.specs.declared.notes.Refusal.TheVariants as refusal
-use Rattle.gl_top.specs.Forms.{IsForm, name_of}
+use Rattle.gl_top.specs.Forms.{IsForm, IsRun, IsExplain, name_of}
 use Rattle.gl_top.specs.Passing.{HasText, SchemaPasses, QueryPasses, kept_beats}
 
--- the words are of the form, and every text before this one passes
+-- the words are of a form, and every text before this one passes
 abbrev pub IsNext : (List ℕ → Told) → List (List ℕ) → Part → Type 0
 IsNext told words part.Schema = IsForm words
 IsNext told words part.Query = (schema : Schema) × SchemaPasses told words schema
@@ -50,11 +56,25 @@ pub record IsBadQuery (told : List ℕ → Told) (words : List (List ℕ)) (faul
   pub before : SchemaPasses told words schema
   pub text : HasText told words part.Query (λ text. IsQueryFault schema text fault)
 
--- it has a statement that is accepted over the schema, and not built
+-- the words ask to run it, it has a statement that is accepted over the schema, and not built
 pub record IsNotBuilt (told : List ℕ → Told) (words : List (List ℕ)) : Type 0 where
+  pub run : IsRun words
   pub schema : Schema
   pub before : SchemaPasses told words schema
   pub text : HasText told words part.Query (IsUnbuilt schema)
+
+-- a text has a statement that is accepted over the schema, and whose plan passes a limit
+pub record IsOverLimit (schema : Schema) (limit : Limit) (text : List ℕ) : Type 0 where
+  pub statement : Statement
+  pub is : IsAcceptedText schema text statement
+  pub passes : PassesLimit (plan_of schema statement) limit
+
+-- the words ask to explain it, and it has such a statement
+pub record PassesALimit (told : List ℕ → Told) (words : List (List ℕ)) (limit : Limit) : Type 0 where
+  pub explain : IsExplain words
+  pub schema : Schema
+  pub before : SchemaPasses told words schema
+  pub text : HasText told words part.Query (IsOverLimit schema limit)
 
 -- it is no tuple file of the schema, or its beats do not keep the gap, and this is the first fault
 pub record AreBadTuples (told : List ℕ → Told) (words : List (List ℕ)) (fault : TupleFault) : Type 0 where
@@ -72,6 +92,7 @@ IsRefused told words (refusal.TooLong part) = IsTooLong told words part
 IsRefused told words (refusal.Schema fault) = IsBadSchema told words fault
 IsRefused told words (refusal.Query fault) = IsBadQuery told words fault
 IsRefused told words refusal.NotBuilt = IsNotBuilt told words
+IsRefused told words (refusal.Limit limit) = PassesALimit told words limit
 IsRefused told words (refusal.Tuples fault) = AreBadTuples told words fault
 IsRefused told words refusal.Memory = ⊥
 
@@ -111,6 +132,14 @@ query_refusal compile.Memory = refusal.Memory
 query_refusal (compile.Query fault) = refusal.Query fault
 query_refusal (compile.Schema fault) = refusal.NotBuilt
 query_refusal compile.NotBuilt = refusal.NotBuilt
+
+abbrev pub judged_refusal : QueryFault → Refusal
+judged_refusal query.Memory = refusal.Memory
+judged_refusal fault = refusal.Query fault
+
+abbrev pub explain_refusal : ExplainFault → Refusal
+explain_refusal explain.Memory = refusal.Memory
+explain_refusal (explain.Limit limit) = refusal.Limit limit
 
 abbrev pub tuples_refusal : TupleFault → Refusal
 tuples_refusal tuples.Memory = refusal.Memory

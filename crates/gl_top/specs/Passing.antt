@@ -13,28 +13,36 @@ use Rattle.gl_tuples.specs.declared.fault.TupleFault.{TupleFault}
 use Rattle.gl_tuples.specs.Entries.{◌>>=◌}
 use Rattle.gl_tuples.specs.Filing.{beats_of, records_of}
 use Rattle.gl_tuples.specs.Gaps.{AreFileBeats, plain_beats, first_close, close_answer}
+use Rattle.gl_query_judge.specs.Judged.{IsAcceptedText}
 use Rattle.gl_compiler.specs.declared.compiling.Compiled.{Compiled}
 use Rattle.gl_compiler.specs.Queries.{IsQuery, latency_of, gap_of}
 use Rattle.gl_compiler.specs.Meets.{Meets, result_columns}
 use Rattle.gl_top.specs.declared.form.Part.{Part}
 use Rattle.gl_top.specs.declared.form.Part.TheVariants as part
 use Rattle.gl_top.specs.declared.judging.Job.{Job}
-use Rattle.gl_top.specs.Forms.{IsForm, name_of}
+use Rattle.gl_top.specs.Forms.{IsForm, IsRun, IsExplain, name_of}
 
 -- the shelf has the text, it has at most 64 MiB, and the fact holds of it
 abbrev pub HasText : (List ℕ → Told) → List (List ℕ) → Part → (List ℕ → Type 0) → Type 0
 HasText told words part P = IfTold (told (name_of words part)) (λ text. (length text ≤ 67108864) × P text)
 
--- the words are of the form, and the first text is that of this schema
+-- the words are of a form, and the first text is that of this schema
 pub record SchemaPasses (told : List ℕ → Told) (words : List (List ℕ)) (schema : Schema) : Type 0 where
   pub form : IsForm words
   pub fine : IsSchema schema
   pub text : HasText told words part.Schema (λ text. IsSchemaText text schema)
 
--- the second is that of this statement, which is built over the schema
+-- the words ask to run it, and the second is that of this statement, which is built over the schema
 pub record QueryPasses (told : List ℕ → Told) (words : List (List ℕ)) (schema : Schema) (statement : Statement) : Type 0 where
+  pub run : IsRun words
   pub before : SchemaPasses told words schema
   pub text : HasText told words part.Query (λ text. IsQuery schema text statement)
+
+-- the words ask to explain it, and the second is that of this statement, which is accepted over the schema
+pub record ExplainPasses (told : List ℕ → Told) (words : List (List ℕ)) (schema : Schema) (statement : Statement) : Type 0 where
+  pub explain : IsExplain words
+  pub before : SchemaPasses told words schema
+  pub text : HasText told words part.Query (λ text. IsAcceptedText schema text statement)
 
 -- the beats of a text, where they keep the gap; else the first fault
 unfoldable pub kept_beats : Schema → ℕ → List ℕ → Result (List Beat) TupleFault

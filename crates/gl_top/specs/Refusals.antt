@@ -6,10 +6,12 @@ use Rattle.gl_query.specs.declared.fault.QueryFault.{QueryFault}
 use Rattle.gl_query.specs.declared.fault.QueryFault.TheVariants as query
 use Rattle.gl_tuples.specs.declared.fault.TupleFault.{TupleFault}
 use Rattle.gl_tuples.specs.declared.fault.TupleFault.TheVariants as tuples
+use Rattle.gl_figures.specs.declared.Limit as limits
+use Rattle.gl_figures.specs.declared.Limit.TheVariants as limit
 use Rattle.gl_outside.specs.States.{SinkState, Took, Broke}
 use Rattle.gl_top.specs.declared.form.Part.TheVariants as part
 use Rattle.gl_top.specs.declared.notes.Refusal.{Refusal}
-use Rattle.gl_top.specs.declared.notes.Refusal.TheVariants.{Usage, Missing, ReadFault, TooLong, Schema, Query, NotBuilt, Tuples, Memory}
+use Rattle.gl_top.specs.declared.notes.Refusal.TheVariants.{Usage, Missing, ReadFault, TooLong, Schema, Query, NotBuilt, Limit, Tuples, Memory}
 use Rattle.gl_top.specs.declared.status.Status.{Status}
 use Rattle.gl_top.specs.declared.status.Status.TheVariants as status
 use Rattle.gl_top.specs.Forms.{name_of}
@@ -23,6 +25,7 @@ status_of (TooLong part) = status.Limit
 status_of (Schema fault) = status.Schema
 status_of (Query fault) = status.Query
 status_of NotBuilt = status.NotBuilt
+status_of (Limit passed) = status.Limit
 status_of (Tuples fault) = status.Tuples
 status_of Memory = status.Memory
 
@@ -121,6 +124,11 @@ memory_line = codes "out of memory\n"
 unfoldable pub write_line : List ℕ
 write_line = codes "write fault\n"
 
+-- the line of a limit that a plan passes
+unfoldable pub limit_line : limits.Limit → List ℕ
+limit_line (limit.Latency node) = codes "limit: Latency\n"
+limit_line (limit.Nodes weight) = line (codes "limit: Nodes ") (decimal weight)
+
 -- the line of each refusal
 abbrev pub note_of : List (List ℕ) → Refusal → List ℕ
 note_of words Usage = usage_line
@@ -130,6 +138,7 @@ note_of words (TooLong part) = line (codes "limit: Text ") (name_of words part)
 note_of words (Schema fault) = kind_line (codes "schema: ") (schema_kind fault) (codes " at ") (schema_place fault)
 note_of words (Query fault) = kind_line (codes "query: ") (query_kind fault) (codes " at ") (query_place fault)
 note_of words NotBuilt = line (codes "not built: ") (name_of words part.Query)
+note_of words (Limit passed) = limit_line passed
 note_of words (Tuples fault) = kind_line (codes "tuples: ") (tuples_kind fault) (codes " at record ") (tuples_record fault)
 note_of words Memory = memory_line
 

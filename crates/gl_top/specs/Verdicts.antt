@@ -2,7 +2,7 @@
 use Rattle.std.specs.Prelude.{◌≡◌, ◌≢◌, ℕ, ◌⊎◌, List, []}
 use Rattle.gl_outside.specs.Counts.{Rose}
 use Rattle.gl_outside.specs.Told.{Told, Untold}
-use Rattle.gl_outside.specs.States.{SinkState, IsCalm, Took}
+use Rattle.gl_outside.specs.States.{SinkState, IsCalm, Took, Broke}
 use Rattle.gl_schema.specs.declared.schema.Schema.{Schema}
 use Rattle.gl_schema.specs.Schemas.{kinds_of}
 use Rattle.gl_query.specs.declared.tree.Statement.{Statement}
@@ -23,9 +23,13 @@ use Rattle.gl_top.specs.declared.notes.Refusal.TheVariants as refusal
 use Rattle.gl_schema.specs.declared.fault.SchemaFault.{SchemaFault}
 use Rattle.gl_query.specs.declared.fault.QueryFault.{QueryFault}
 use Rattle.gl_tuples.specs.declared.fault.TupleFault.{TupleFault}
-use Rattle.gl_top.specs.Forms.{IsForm, name_of}
-use Rattle.gl_top.specs.Passing.{TuplesPass}
-use Rattle.gl_top.specs.Causes.{Change, HasCause, IsTooLong, IsBadSchema, IsBadQuery, IsNotBuilt, AreBadTuples}
+use Rattle.gl_figures.specs.declared.Limit.{Limit}
+use Rattle.gl_elaborate.specs.Plans.{plan_of}
+use Rattle.gl_explain.specs.Explained.{IsWithinLimits}
+use Rattle.gl_explain.specs.Lines.{plan_text}
+use Rattle.gl_top.specs.Forms.{IsForm, IsNamed, name_of}
+use Rattle.gl_top.specs.Passing.{TuplesPass, ExplainPasses}
+use Rattle.gl_top.specs.Causes.{Change, HasCause, IsTooLong, IsBadSchema, IsBadQuery, IsNotBuilt, PassesALimit, AreBadTuples}
 use Rattle.gl_top.specs.Refusals.{Puts, Notes, status_of, note_of, write_line}
 
 -- the lines of the run of this text over these beats were written, or a front of them
@@ -67,6 +71,33 @@ pub record IsBroken (words : List (List ℕ)) (c : Change) (out notes : Puts) (t
   pub cause : Rose out.old.faults out.new.faults
   pub noted : Notes WriteFault write_line notes status
 
+-- the texts pass, the plan of their statement is within the limits, and its text is this
+pub record IsPlanned (told : List ℕ → Told) (words : List (List ℕ)) (bytes : List ℕ) : Type 0 where
+  pub schema : Schema
+  pub statement : Statement
+  pub passes : ExplainPasses told words schema statement
+  pub within : IsWithinLimits (plan_of schema statement)
+  pub is : bytes ≡ plan_text schema statement (plan_of schema statement)
+
+-- the text of the plan was written and nothing was noted; no text was missing, and nothing failed
+pub record IsExplained (words : List (List ℕ)) (c : Change) (out notes : Puts) (text : List ℕ) (status : Status) : Type 0 where
+  pub bytes : List ℕ
+  pub planned : IsPlanned c.old.told words bytes
+  pub wrote : Took out.old out.new bytes
+  pub silent : Took notes.old notes.new []
+  pub calm : IsCalm c.old c.new
+  pub done : status ≡ Done
+  pub none : text ≡ []
+
+-- the output failed behind a front of that text, and that was noted
+pub record IsBrokenOff (words : List (List ℕ)) (c : Change) (out notes : Puts) (text : List ℕ) (status : Status) : Type 0 where
+  pub bytes : List ℕ
+  pub planned : IsPlanned c.old.told words bytes
+  pub wrote : Broke out.old out.new bytes
+  pub calm : IsCalm c.old c.new
+  pub noted : Notes WriteFault write_line notes status
+  pub none : text ≡ []
+
 -- no text was emitted, or one that meets the statement
 abbrev pub IsNoneOrEmitted : (List ℕ → Told) → List (List ℕ) → List ℕ → Type 0
 IsNoneOrEmitted told words text = (text ≡ []) ⊎ ((schema : Schema) × (statement : Statement) × (beats : List Beat) × IsEmitted told words schema statement beats text)
@@ -83,11 +114,13 @@ pub record IsEnded (words : List (List ℕ)) (c : Change) (out notes : Puts) (te
 pub data IsAnswer (words : List (List ℕ)) (c : Change) (out notes : Puts) (text : List ℕ) (status : Status) : Type 0 where
   Ran : (done : IsDone words c out notes text status) → IsAnswer words c out notes text status
   Broke' : (broken : IsBroken words c out notes text status) → IsAnswer words c out notes text status
+  Explained : (done : IsExplained words c out notes text status) → IsAnswer words c out notes text status
+  BrokeOff : (broken : IsBrokenOff words c out notes text status) → IsAnswer words c out notes text status
   Ended : (ended : IsEnded words c out notes text status) → IsAnswer words c out notes text status
 
--- the shelf tells the three texts
+-- the shelf tells the texts that the words name
 abbrev pub IsTelling : (List ℕ → Told) → List (List ℕ) → Type 0
-IsTelling told words = (part : Part) → told (name_of words part) ≢ Untold
+IsTelling told words = (part : Part) → IsNamed words part → told (name_of words part) ≢ Untold
 
 -- this status, or one that it yields to: the shelf failed, the sink of the notes failed, or memory ran out
 pub data Yields (own : Status) (c : Change) (notes : Puts) (status : Status) : Type 0 where
@@ -116,7 +149,7 @@ Says words c out notes status.WriteFault = Rose out.old.faults out.new.faults �
 Says words c out notes status.Schema = (fault : SchemaFault) × IsBadSchema c.old.told words fault
 Says words c out notes status.Query = (fault : QueryFault) × IsBadQuery c.old.told words fault
 Says words c out notes status.Tuples = (fault : TupleFault) × AreBadTuples c.old.told words fault
-Says words c out notes status.Limit = (part : Part) × IsTooLong c.old.told words part
+Says words c out notes status.Limit = ((part : Part) × IsTooLong c.old.told words part) ⊎ ((limit : Limit) × PassesALimit c.old.told words limit)
 Says words c out notes status.NotBuilt = IsNotBuilt c.old.told words
 Says words c out notes status.Memory = Unit {0}
 Says words c out notes status.Verilog = ⊥

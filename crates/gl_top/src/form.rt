@@ -5,14 +5,14 @@ ghost use Rattle.gl_top.specs.Forms as forms;
 
 use gl_outside::Words;
 
-/// One of the three texts that the words `run S Q T` name, in this order.
+/// One of the texts that the words name behind the command, in this order.
 #[derive(Clone, Copy, PartialEq, Eq, Debug)]
 pub enum Part {
     /// The schema.
     Schema,
     /// The query.
     Query,
-    /// The tuple file.
+    /// The tuple file, in `run` alone.
     Tuples,
 }
 
@@ -65,14 +65,27 @@ fn is_named(words: &Words, part: Part) -> bool
     is_text_name(name_of(words, part).as_bytes())
 }
 
-/// Whether the words are `run S Q T`, and no name begins with `-`.
-#[tactic(auto, unfolding(crate::specs::Forms::is_form))]
-pub(crate) fn is_form(words: &Words) -> bool
-    ensures { result ≡ forms.is_form words.now }
+// Whether there are so many words, of which the first is this command, and the next two may name texts.
+#[tactic(auto, unfolding(crate::specs::Forms::begins))]
+fn begins(words: &Words, many: usize, command: &str) -> bool
+    ensures { result ≡ forms.begins words.now many command.now }
 {
-    words.len() == 4
-        && word_at(words, 0) == "run"
+    words.len() == many
+        && word_at(words, 0) == command
         && is_named(words, Part::Schema)
         && is_named(words, Part::Query)
-        && is_named(words, Part::Tuples)
+}
+
+/// Whether the words are `run S Q T`, and no name begins with `-`.
+pub(crate) fn is_run(words: &Words) -> bool
+    ensures { result ≡ forms.is_run words.now }
+{
+    begins(words, 4, "run") && is_named(words, Part::Tuples)
+}
+
+/// Whether the words are `explain S Q`, and no name begins with `-`.
+pub(crate) fn is_explain(words: &Words) -> bool
+    ensures { result ≡ forms.is_explain words.now }
+{
+    begins(words, 3, "explain")
 }

@@ -5,13 +5,13 @@ ghost use Rattle.gl_schema.specs.Schemas.{IsSchema};
 ghost use Rattle.gl_schema.specs.Beats.{KeepsGap};
 ghost use Rattle.gl_tuples.specs.Entries.{Gives};
 ghost use Rattle.gl_tuples.specs.Gaps.{AreFileBeats, plain_beats};
-ghost use Rattle.gl_top.specs.Forms.{IsForm};
+ghost use Rattle.gl_top.specs.Forms.{IsExplain, IsForm, IsRun};
 ghost use Rattle.gl_top.specs.Causes as causes;
 ghost use Rattle.gl_top.specs.Causes.{IsNext, Leaves};
 ghost use Rattle.gl_outside.specs.States.{Stays};
 ghost use Rattle.gl_top.specs.Passing.{HasText, SchemaPasses, QueryPasses, TuplesPass, IsCompiled, IsReady, kept_beats};
 
-use crate::form::{Part, is_form, name_of};
+use crate::form::{Part, is_run, name_of};
 use crate::notes::Refusal;
 use gl_compiler::{CompileFault, Compiled, compile_query};
 use gl_outside::{ReadFault, Shelf, Words, read_all};
@@ -68,8 +68,8 @@ fn tuples_refusal(fault: TupleFault) -> Refusal
     }
 }
 
-// Reads the text of a part.
-fn text_of<S: Shelf>(
+/// Reads the text of a part.
+pub(crate) fn text_of<S: Shelf>(
     alloc: Global,
     shelf: &mut S,
     words: &Words,
@@ -88,8 +88,12 @@ fn text_of<S: Shelf>(
     }
 }
 
-// Reads and judges the schema.
-fn judge_schema<S: Shelf>(alloc: Global, shelf: &mut S, words: &Words) -> Result<Schema, Refusal>
+/// Reads and judges the schema.
+pub(crate) fn judge_schema<S: Shelf>(
+    alloc: Global,
+    shelf: &mut S,
+    words: &Words,
+) -> Result<Schema, Refusal>
     requires form { IsForm words.now }
     requires names { (S.state shelf.old).names ≡ words.now }
     ensures stays { Stays (S.state shelf.old) (S.state shelf.new) }
@@ -111,6 +115,7 @@ fn judge_query<S: Shelf>(
     words: &Words,
     schema: Schema,
 ) -> Result<Compiled, Refusal>
+    requires run { IsRun words.now }
     requires passes { SchemaPasses (S.state shelf.old).told words.now schema }
     requires names { (S.state shelf.old).names ≡ words.now }
     ensures stays { Stays (S.state shelf.old) (S.state shelf.new) }
@@ -192,6 +197,7 @@ fn judge_rest<S: Shelf>(
     words: &Words,
     schema: Schema,
 ) -> Result<Job, Refusal>
+    requires run { IsRun words.now }
     requires passes { SchemaPasses (S.state shelf.old).told words.now schema }
     requires names { (S.state shelf.old).names ≡ words.now }
     ensures ready { IfOk result (λ job. IsReady (S.state shelf.old).told words.now job) }
@@ -205,7 +211,7 @@ fn judge_rest<S: Shelf>(
 
 // Judges the three texts.
 fn judge_texts<S: Shelf>(alloc: Global, shelf: &mut S, words: &Words) -> Result<Job, Refusal>
-    requires form { IsForm words.now }
+    requires run { IsRun words.now }
     requires names { (S.state shelf.old).names ≡ words.now }
     ensures ready { IfOk result (λ job. IsReady (S.state shelf.old).told words.now job) }
     ensures leaves { Leaves words.now (S.state shelf.old) (S.state shelf.new) result }
@@ -216,14 +222,15 @@ fn judge_texts<S: Shelf>(alloc: Global, shelf: &mut S, words: &Words) -> Result<
     }
 }
 
-/// Judges the words and the texts that they name.
-#[tactic(auto, using(gl_outside::proofs::Counting::calm_none))]
+/// Judges words that do not ask to explain, and the texts that they name.
+#[tactic(auto, using(gl_outside::proofs::Counting::calm_none, crate::proofs::Texts::formless))]
 pub(crate) fn judge<S: Shelf>(alloc: Global, shelf: &mut S, words: &Words) -> Result<Job, Refusal>
-    requires { (S.state shelf.old).names ≡ words.now }
+    requires other { IsExplain words.now → ⊥ }
+    requires names { (S.state shelf.old).names ≡ words.now }
     ensures ready { IfOk result (λ job. IsReady (S.state shelf.old).told words.now job) }
     ensures leaves { Leaves words.now (S.state shelf.old) (S.state shelf.new) result }
 {
-    if !is_form(words) {
+    if !is_run(words) {
         return Err(Refusal::Usage);
     }
     judge_texts(alloc, shelf, words)

@@ -6,6 +6,7 @@
 mod form;
 pub mod judging;
 pub mod notes;
+mod planning;
 pub mod running;
 pub mod status;
 

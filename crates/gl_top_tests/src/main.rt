@@ -2,8 +2,9 @@
 //!
 //! A line `schema TEXT` or `tuples TEXT` sets a text, `without schema` and `without tuples` take it
 //! away, and `fail F P N` has the fetch, the put and the note of these numbers fail (0 for none). A line
-//! `query TEXT` runs `run S Q T`: the query is printed, and then the status, what was written and what
-//! was noted, parted by `|`. Every other line is a remark.
+//! `query TEXT` runs `run S Q T`, and a line `explain TEXT` runs `explain S Q`: the query is printed, and
+//! then the status, what was written and what was noted, parted by `|`. A line `root TEXT` runs `explain S Q`
+//! too, and prints the line of the root's node alone. Every other line is a remark.
 #![tactic(auto)]
 
 ghost use Rattle.std.specs.Prelude.{◌≡◌, IfOk, ◌∷◌, [], codes};
@@ -14,7 +15,7 @@ use std::alloc::Global;
 use std::io;
 
 // Bytes that a sink takes at most.
-const ROOM: usize = 1_000;
+const ROOM: usize = 100_000;
 
 // The texts of the schema and of the tuple file, and the numbers of the calls that fail.
 #[derive(Drop)]
@@ -44,6 +45,17 @@ fn run_words(alloc: Global) -> Result<Words, Memory>
     Ok(words)
 }
 
+// The words `explain S Q`.
+fn explain_words(alloc: Global) -> Result<Words, Memory>
+    ensures { IfOk result (λ words. words ≡ codes "explain" ∷ codes "S" ∷ codes "Q" ∷ []) }
+{
+    let mut words = Words::new(alloc);
+    words.push("explain")?;
+    words.push("S")?;
+    words.push("Q")?;
+    Ok(words)
+}
+
 // Holds a text, if it is there.
 fn hold(shelf: &mut MemoryShelf, name: &str, text: &Option<String>) -> Result<(), Memory>
     ensures { shelf.new.held.names ≡ shelf.old.held.names }
@@ -54,12 +66,11 @@ fn hold(shelf: &mut MemoryShelf, name: &str, text: &Option<String>) -> Result<()
     }
 }
 
-// A shelf with the texts that are there.
-fn shelf_with(alloc: Global, row: &Row, query: &str) -> Result<MemoryShelf, Memory>
-    ensures { let names = codes "run" ∷ codes "S" ∷ codes "Q" ∷ codes "T" ∷ [] in
-        IfOk result (λ shelf. shelf.held.names ≡ names) }
+// A shelf of these names with the texts that are there.
+fn shelf_with(alloc: Global, names: Words, row: &Row, query: &str) -> Result<MemoryShelf, Memory>
+    ensures { IfOk result (λ shelf. shelf.held.names ≡ names) }
 {
-    let mut shelf = MemoryShelf::new(alloc, run_words(alloc)?);
+    let mut shelf = MemoryShelf::new(alloc, names);
     hold(&mut shelf, "S", &row.schema)?;
     shelf.hold("Q", query.as_bytes())?;
     hold(&mut shelf, "T", &row.tuples)?;
@@ -82,15 +93,30 @@ struct Told {
     notes: MemorySink,
 }
 
-fn told_of(alloc: Global, row: &Row, query: &str) -> Result<Told, Memory> {
-    let words = run_words(alloc)?;
-    let mut shelf = shelf_with(alloc, row, query)?;
+// What the words come to.
+fn told_by(alloc: Global, words: &Words, shelf: &mut MemoryShelf, row: &Row) -> Result<Told, Memory>
+    requires { shelf.old.held.names ≡ words.now }
+{
     let mut out = sink_with(alloc, row.failing.put)?;
     let mut notes = sink_with(alloc, row.failing.note)?;
     let mut text = Vec::new(alloc);
-    let status = run(alloc, &words, &mut shelf, &mut out, &mut notes, &mut text);
+    let status = run(alloc, words, shelf, &mut out, &mut notes, &mut text);
     let code = status.code();
     Ok(Told { code, out, notes })
+}
+
+// What `run S Q T` comes to.
+fn told_of(alloc: Global, row: &Row, query: &str) -> Result<Told, Memory> {
+    let words = run_words(alloc)?;
+    let mut shelf = shelf_with(alloc, run_words(alloc)?, row, query)?;
+    told_by(alloc, &words, &mut shelf, row)
+}
+
+// What `explain S Q` comes to.
+fn explained_of(alloc: Global, row: &Row, query: &str) -> Result<Told, Memory> {
+    let words = explain_words(alloc)?;
+    let mut shelf = shelf_with(alloc, explain_words(alloc)?, row, query)?;
+    told_by(alloc, &words, &mut shelf, row)
 }
 
 // The number in the place of a word; 0 where there is none.
@@ -118,13 +144,24 @@ fn without(row: &mut Row, name: &str) {
     }
 }
 
-fn print_told(rt: &HostRuntime, row: &Row, query: &str) -> io::Result<()> {
-    let Ok(told) = told_of(rt.alloc(), row, query) else {
+// The last line but one of a text, whose lines all end with a line feed.
+fn last_but_one(text: &str) -> &str {
+    text.rsplitn(4, '\n').nth(2).unwrap_or("")
+}
+
+fn print_told(
+    rt: &HostRuntime,
+    query: &str,
+    told: Result<Told, Memory>,
+    root: bool,
+) -> io::Result<()> {
+    let Ok(told) = told else {
         return println!(rt; "out of memory");
     };
     let code = told.code;
     let written = str::from_utf8(told.out.bytes()).unwrap_or("?");
     let noted = str::from_utf8(told.notes.bytes()).unwrap_or("?");
+    let written = if root { last_but_one(written) } else { written };
     println!(rt; "{query}")?;
     println!(rt; "{code}|{written}|{noted}")
 }
@@ -143,7 +180,9 @@ fn main(rt: HostRuntime) -> io::Result<()> {
             "tuples" => row.tuples = Some(text.to_string(rt.alloc())?),
             "without" => without(&mut row, text),
             "fail" => row.failing = failing_of(text),
-            "query" => print_told(&rt, &row, text)?,
+            "query" => print_told(&rt, text, told_of(rt.alloc(), &row, text), false)?,
+            "explain" => print_told(&rt, text, explained_of(rt.alloc(), &row, text), false)?,
+            "root" => print_told(&rt, text, explained_of(rt.alloc(), &row, text), true)?,
             _ => (),
         }
     }

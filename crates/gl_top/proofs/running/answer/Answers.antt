@@ -1,17 +1,6 @@
-use Rattle.std.proofs.Common.{inl}
-use Rattle.gl_outside.proofs.Takes.{took_none}
-use Rattle.gl_top.specs.Causes.{change}
-use Rattle.gl_top.specs.Verdicts.{Ended}
+use Rattle.std.proofs.Common.{sym}
+use Rattle.gl_top.proofs.Answering.{answer_text}
 use Rattle.gl_top.proofs.running.answer.Goals as goal
 
-pub returns-in-Ok : goal.returns-in-Ok
-returns-in-Ok g c = c.finish.ensures (change _ _) c.in-Ok.ensures.ready c.in-Ok.ensures.leaves
-
-pub returns-in-Err : goal.returns-in-Err
-returns-in-Err g c = Ended (record {
-  refusal = c.in-Err.refusal;
-  cause = c.in-Err.ensures.leaves;
-  untouched = took_none _;
-  noted = c.tell.ensures;
-  left = inl c.requires.empty;
-})
+pub returns-then-is_explain : goal.returns-then-is_explain
+returns-then-is_explain g c = answer_text _ _ _ _ _ _ _ (sym c.requires.empty) c.answer_plan.ensures

@@ -1,0 +1,108 @@
+-- A plan as text: a line for each node, with its words and its figures, and a line for the root.
+use Rattle.std.specs.Prelude.{ℕ, ◌≡◌, ◌+◌, List, [], ◌∷◌, ◌++◌, codes, decimal, length, slice_get, Option, Some, None}
+use Rattle.gl_schema.specs.declared.schema.Stream.{Stream}
+use Rattle.gl_schema.specs.declared.schema.Schema.{Schema}
+use Rattle.gl_query.specs.declared.tree.Statement.{Statement}
+use Rattle.gl_query.specs.Shapes.{statement_shape}
+use Rattle.gl_query_printer.specs.Printing.{canonical_text}
+use Rattle.gl_algebra.specs.declared.figures.Figures.{Figures}
+use Rattle.gl_algebra.specs.declared.node.Operand.{Operand}
+use Rattle.gl_algebra.specs.declared.node.Operand.TheVariants.{Column, Literal}
+use Rattle.gl_algebra.specs.declared.node.PlanAgg.{PlanAgg}
+use Rattle.gl_algebra.specs.declared.node.PlanAgg.TheVariants as agg
+use Rattle.gl_algebra.specs.declared.node.PlanNode.{PlanNode}
+use Rattle.gl_algebra.specs.declared.node.PlanNode.TheVariants as node
+use Rattle.gl_algebra.specs.Added.{Placed}
+use Rattle.gl_algebra.specs.FigureTable.{figures_of}
+
+-- a number behind a word or a sign
+unfoldable pub numbered : List ℕ → ℕ → List ℕ
+numbered front number = front ++ decimal number
+
+-- a node is `p` and its number, a column `c` and its number
+abbrev pub node_text : ℕ → List ℕ
+node_text number = numbered (codes " p") number
+
+abbrev pub column_text : ℕ → List ℕ
+column_text number = numbered (codes " c") number
+
+-- an operand is a column, or `#` and the number of a literal
+abbrev pub operand_text : Operand → List ℕ
+operand_text (Column number) = column_text number
+operand_text (Literal word kind) = numbered (codes " #") word.bits
+
+abbrev pub operands_text : List Operand → List ℕ
+operands_text [] = []
+operands_text (x ∷ xs) = operand_text x ++ operands_text xs
+
+-- an aggregate is its name
+unfoldable pub agg_text : PlanAgg → List ℕ
+agg_text agg.Count = codes " count"
+agg_text (agg.Sum x) = codes " sum"
+agg_text (agg.Min x) = codes " min"
+agg_text (agg.Max x) = codes " max"
+agg_text (agg.Avg x) = codes " avg"
+agg_text (agg.Wsum x weights) = codes " wsum"
+
+abbrev pub aggs_text : List PlanAgg → List ℕ
+aggs_text [] = []
+aggs_text (a ∷ as') = agg_text a ++ aggs_text as'
+
+-- the name of a stream by its number
+abbrev pub name_of : Option Stream → List ℕ
+name_of None = []
+name_of (Some s) = s.name
+
+unfoldable pub stream_text : Schema → ℕ → List ℕ
+stream_text schema number = codes "input " ++ name_of (slice_get schema.streams number)
+
+-- the words of a node
+unfoldable pub words_of : Schema → PlanNode → List ℕ
+words_of schema (node.Stream number kinds) = stream_text schema number
+words_of schema (node.Body kinds) = codes "input body"
+words_of schema (node.Compute child ops) = codes "compute" ++ node_text child ++ numbered (codes " ") (length ops)
+words_of schema (node.Select child column) = codes "select" ++ node_text child ++ column_text column
+words_of schema (node.Project child items) = codes "project" ++ node_text child ++ operands_text items
+words_of schema (node.Aggregate child aggs) = codes "aggregate" ++ node_text child ++ aggs_text aggs
+words_of schema (node.Union left right) = codes "union" ++ node_text left ++ node_text right
+words_of schema (node.Beside left right) = codes "beside" ++ node_text left ++ node_text right
+words_of schema (node.Window source body size advance) =
+    codes "window" ++ node_text source ++ node_text body ++ numbered (codes " ") size ++ numbered (codes " ") advance
+words_of schema (node.Group source body key groups) =
+    codes "group" ++ node_text source ++ node_text body ++ column_text key ++ numbered (codes " ") groups
+
+-- the seven figures
+unfoldable pub figures_text : Figures → List ℕ
+figures_text f =
+    numbered (codes " ") f.a ++ numbered (codes " ") f.lt ++ numbered (codes " ") f.le ++ numbered (codes " ") f.nt
+    ++ numbered (codes " ") f.ne ++ numbered (codes " ") f.gt ++ numbered (codes " ") f.ge
+
+-- the line of a node: its number, its words and its figures
+unfoldable pub line_of : Schema → ℕ → PlanNode → Figures → List ℕ
+line_of schema number n f =
+    numbered (codes "p") number ++ codes " " ++ words_of schema n ++ codes " :" ++ figures_text f ++ codes "\n"
+
+-- the line of the node of a number of a plan stands behind what stood
+pub record HasLine (schema : Schema) (nodes : List PlanNode) (number : ℕ) (old new : List ℕ) : Type 0 where
+  pub node : PlanNode
+  pub at : slice_get nodes number ≡ Some node
+  pub is : new ≡ old ++ line_of schema number node (figures_of nodes number)
+
+-- the lines of nodes from a number on, with the figures that a plan has at these numbers
+abbrev pub lines_from : Schema → List PlanNode → ℕ → List PlanNode → List ℕ
+lines_from schema plan number [] = []
+lines_from schema plan number (n ∷ nodes) =
+    line_of schema number n (figures_of plan number) ++ lines_from schema plan (number + 1) nodes
+
+-- the lines of a plan's nodes
+abbrev pub lines_of : Schema → List PlanNode → List ℕ
+lines_of schema nodes = lines_from schema nodes 0 nodes
+
+-- the last line
+unfoldable pub root_text : ℕ → List ℕ
+root_text root = codes "root" ++ node_text root ++ codes "\n"
+
+-- a statement and its plan: the canonical text, the lines of the nodes, and the root
+abbrev pub plan_text : Schema → Statement → Placed → List ℕ
+plan_text schema statement at =
+    canonical_text (statement_shape statement) ++ codes "\n" ++ lines_of schema at.nodes ++ root_text at.root
