@@ -119,10 +119,11 @@ fn explained(alloc: Global, checked: &Checked) -> Result<Vec<u8>, ExplainFault>
     Ok(text_of(alloc, checked, &plan, root, &own)?)
 }
 
-/// Appends what is explained of a checked statement: its canonical text, a line for each node of its plan,
-/// and the root.
+/// Appends what is explained of a checked statement: its canonical text, a line for each node of
+/// its plan, and the root.
 ///
-/// A limit comes exactly where the plan passes it, and then, as on want of memory, nothing is appended.
+/// A limit comes exactly where the plan passes it, and then, as on want of memory, nothing is
+/// appended.
 pub fn explain(alloc: Global, checked: &Checked, into: &mut Vec<u8>) -> Result<(), ExplainFault>
     requires { IsChecked checked.now.schema checked.now.statement }
     ensures explained { OnOk result

@@ -65,7 +65,7 @@ fn is_named(words: &Words, part: Part) -> bool
     is_text_name(name_of(words, part).as_bytes())
 }
 
-// Whether there are so many words, of which the first is this command, and the next two may name texts.
+// Whether there are so many words, the first is this command, and the next two may name texts.
 #[tactic(auto, unfolding(crate::specs::Forms::begins))]
 fn begins(words: &Words, many: usize, command: &str) -> bool
     ensures { result ≡ forms.begins words.now many command.now }

@@ -15,8 +15,8 @@ ghost use Rattle.gl_top.specs.Forms.{IsExplain, IsForm};
 ghost use Rattle.gl_top.specs.Causes.{Change, change, IsRefused};
 ghost use Rattle.gl_top.specs.Passing.{ExplainPasses, IsCompiled, IsReady, TuplesPass};
 ghost use Rattle.gl_top.specs.Refusals.{puts, status_of};
-ghost use Rattle.gl_top.specs.Verdicts.{IsAnswer, IsFaultless, IsPlanned, IsTelling, RanLines, Says};
-ghost use Rattle.gl_top.specs.Verdicts.{TellsFault, Yields};
+ghost use Rattle.gl_top.specs.Verdicts.{IsAnswer, IsFaultless, IsPlanned, IsTelling, RanLines};
+ghost use Rattle.gl_top.specs.Verdicts.{Says, TellsFault, Yields};
 
 use crate::form::is_explain;
 use crate::judging::{Job, judge};
@@ -96,7 +96,8 @@ fn finish<K: Sink, N: Sink>(
     }
 }
 
-// Judges words that do not ask to explain, and the texts, runs what was compiled, and notes how that failed.
+// Judges words that do not ask to explain, and the texts, runs what was compiled, and notes how
+// that failed.
 fn answer_run<S: Shelf, K: Sink, N: Sink>(
     alloc: Global,
     words: &Words,
@@ -183,8 +184,8 @@ fn answer<S: Shelf, K: Sink, N: Sink>(
 
 /// Does what the words say: `run S Q T` compiles the query of the text Q over the schema of the
 /// text S, and writes to `out` what the Verilog text does over the tuple file T. Leaves that text
-/// in `text`. `explain S Q` writes the canonical text of the query and its plan, and leaves no text.
-/// Where it ends before its work is done, it writes one line to `notes`.
+/// in `text`. `explain S Q` writes the canonical text of the query and its plan, and leaves no
+/// text. Where it ends before its work is done, it writes one line to `notes`.
 ///
 /// The texts are fetched in the order S, Q, T, and each is judged before the next is fetched. With
 /// every status but `Done` and `WriteFault` nothing is written to `out`.

@@ -1,10 +1,12 @@
-//! The whole program over memory, from bytes to bytes: `stdin` has its rows, `stdout` what each comes to.
+//! The whole program over memory, from bytes to bytes: `stdin` has its rows, `stdout` what each
+//! comes to.
 //!
 //! A line `schema TEXT` or `tuples TEXT` sets a text, `without schema` and `without tuples` take it
-//! away, and `fail F P N` has the fetch, the put and the note of these numbers fail (0 for none). A line
-//! `query TEXT` runs `run S Q T`, and a line `explain TEXT` runs `explain S Q`: the query is printed, and
-//! then the status, what was written and what was noted, parted by `|`. A line `root TEXT` runs `explain S Q`
-//! too, and prints the line of the root's node alone. Every other line is a remark.
+//! away, and `fail F P N` has the fetch, the put and the note of these numbers fail (0 for none). A
+//! line `query TEXT` runs `run S Q T`, and a line `explain TEXT` runs `explain S Q`: the query is
+//! printed, and then the status, what was written and what was noted, parted by `|`. A line
+//! `root TEXT` runs `explain S Q` too, and prints the line of the root's node alone. Every other
+//! line is a remark.
 #![tactic(auto)]
 
 ghost use Rattle.std.specs.Prelude.{◌≡◌, IfOk, ◌∷◌, [], codes};
