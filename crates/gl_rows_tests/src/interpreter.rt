@@ -116,19 +116,6 @@ fn clocked(
     Ok(states)
 }
 
-// Any contents of the registers.
-fn anything(alloc: Global, nodes: &[Node]) -> Result<Vec<u128>, AllocError> {
-    let mut states = Vec::new(alloc);
-    for node in nodes {
-        let state = match node {
-            Node::Register(width, _, _) => greatest(*width),
-            _ => 0,
-        };
-        states.push(state)?;
-    }
-    Ok(states)
-}
-
 // Adds a number behind a mark.
 fn add_number(
     alloc: Global,
@@ -162,10 +149,9 @@ fn add_cycle(
     Ok(())
 }
 
-// What the registers hold behind the reset cycle. They hold anything before, and in that cycle the inputs carry a row and an end.
+// What the registers hold behind the reset cycle, in which the inputs carry a row and an end.
 fn reset(alloc: Global, nodes: &[Node]) -> Result<Vec<u128>, AllocError> {
-    let states = anything(alloc, nodes)?;
-    let values = settled(alloc, nodes, &states, &[1, 1, 1, 1, 1])?;
+    let values = settled(alloc, nodes, &[], &[1, 1, 1, 1, 1])?;
     clocked(alloc, nodes, &values, true)
 }
 

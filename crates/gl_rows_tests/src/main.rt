@@ -10,22 +10,14 @@ mod fits;
 mod interpreter;
 mod parse;
 
-use crate::circuit::Circuit;
-use crate::interpreter::{Beat, shown};
+use crate::interpreter::shown;
 use crate::parse::{beats_of, block_of, kinds_of};
 use gl_bits::Memory;
 use std::alloc::Global;
 use std::io;
 
-// A circuit, and what comes to it.
-#[derive(Drop)]
-struct Row {
-    circuit: Circuit,
-    beats: Vec<Beat>,
-}
-
-// The row of a line; None where it is a remark.
-fn row_of(alloc: Global, line: &str) -> Result<Option<Row>, Memory> {
+// What the row of a line comes to; None where it is a remark.
+fn told_of(alloc: Global, line: &str) -> Result<Option<String>, Memory> {
     let Some((kinds, rest)) = line.split_once('|') else {
         return Ok(None);
     };
@@ -36,15 +28,7 @@ fn row_of(alloc: Global, line: &str) -> Result<Option<Row>, Memory> {
         return Ok(None);
     };
     let beats = beats_of(alloc, beats)?;
-    Ok(Some(Row { circuit, beats }))
-}
-
-// What the row of a line comes to; None where it is a remark.
-fn told_of(alloc: Global, line: &str) -> Result<Option<String>, Memory> {
-    let Some(row) = row_of(alloc, line)? else {
-        return Ok(None);
-    };
-    let text = shown(alloc, &row.circuit, row.beats.as_slice())?;
+    let text = shown(alloc, &circuit, beats.as_slice())?;
     Ok(Some(text))
 }
 

@@ -1,9 +1,9 @@
 //! What stands in a row: two kinds, a block, and beats.
 //!
-//! A kind is `u1` to `u64`, `text1` to `text8`; for the divider the widths go to `u128`. A block is `compute OP..`, `select COLUMN`,
-//! `project OPERAND..`, `totals AGGREGATE..` or `divide`. An operand is the column `a` or `b`, or a literal `KIND#NUMBER`; an operation
-//! `add:a,b`, `cast:a,u16`, `not:a`; an aggregate `count`, `sum:a`, `wsum:a,1,2,4`. A beat is a row `200,100`, a row with the end
-//! `200,100!`, the end alone `!`, or nothing `-`; it may stand behind how often it comes, `70*1,2`.
+//! A kind is `u1` to `u64`, `text1` to `text8`; for the divider the widths go to `u128`. A block is `compute OP..`, `select` (by the first
+//! column), `project OPERAND..`, `totals AGGREGATE..` or `divide`. An operand is the column `a` or `b`, or a literal `KIND#NUMBER`; an
+//! operation `add:a,b`, `cast:a,u16`, `not:a`; an aggregate `count`, `sum:a`, `wsum:a,1,2,4`. A beat is a row `200,100`, a row with the
+//! end `200,100!`, the end alone `!`, or nothing `-`.
 
 use crate::circuit::{Circuit, circuit_of, divider_of};
 use crate::fits::{aggs_fit, is_kind, operands_fit, ops_fit};
@@ -110,47 +110,36 @@ fn numbers_of(alloc: Global, text: &str) -> Result<Vec<u128>, Memory> {
     Ok(numbers)
 }
 
-// The words of a kind that a text names; None where one does not fit.
-fn words_of(alloc: Global, kind: Kind, text: &str) -> Result<Option<Vec<Word>>, Memory> {
-    if !is_kind(kind) {
-        return Ok(None);
-    }
+// Those of the numbers in a text that are words of a kind.
+fn words_of(alloc: Global, kind: Kind, text: &str) -> Result<Vec<Word>, Memory> {
     let mut words = Vec::new(alloc);
+    if !is_kind(kind) {
+        return Ok(words);
+    }
     for number in numbers_of(alloc, text)? {
-        let Some(word) = Word::new(number, kind.width()) else {
-            return Ok(None);
-        };
-        words.push(word)?;
+        if let Some(word) = Word::new(number, kind.width()) {
+            words.push(word)?;
+        }
     }
-    Ok(Some(words))
+    Ok(words)
 }
 
-// A sum of an operand's values by weights of its kind; None where one does not fit.
-fn weighted_of(
-    alloc: Global,
-    kinds: &[Kind],
-    operand: Operand,
-    text: &str,
-) -> Result<Option<PlanAgg>, Memory> {
-    match words_of(alloc, kind_of_operand(kinds, &operand), text)? {
-        Some(words) => Ok(Some(PlanAgg::Wsum(operand, Listed::from_vec(words)))),
-        None => Ok(None),
-    }
-}
-
-// An aggregate, of columns of these kinds.
-fn agg_of(alloc: Global, kinds: &[Kind], text: &str) -> Result<Option<PlanAgg>, Memory> {
+// An aggregate, of columns of these kinds; one of no column where the text names none.
+fn agg_of(alloc: Global, kinds: &[Kind], text: &str) -> Result<PlanAgg, Memory> {
     let (name, args) = text.split_once(':').unwrap_or((text, ""));
     let (first, others) = args.split_once(',').unwrap_or((args, ""));
     let operand = operand_of(first);
     match name {
-        "count" => Ok(Some(PlanAgg::Count)),
-        "sum" => Ok(Some(PlanAgg::Sum(operand))),
-        "min" => Ok(Some(PlanAgg::Min(operand))),
-        "max" => Ok(Some(PlanAgg::Max(operand))),
-        "avg" => Ok(Some(PlanAgg::Avg(operand))),
-        "wsum" => weighted_of(alloc, kinds, operand, others),
-        _ => Ok(None),
+        "count" => Ok(PlanAgg::Count),
+        "sum" => Ok(PlanAgg::Sum(operand)),
+        "min" => Ok(PlanAgg::Min(operand)),
+        "max" => Ok(PlanAgg::Max(operand)),
+        "avg" => Ok(PlanAgg::Avg(operand)),
+        "wsum" => {
+            let words = words_of(alloc, kind_of_operand(kinds, &operand), others)?;
+            Ok(PlanAgg::Wsum(operand, Listed::from_vec(words)))
+        }
+        _ => Ok(PlanAgg::Sum(NONE)),
     }
 }
 
@@ -172,21 +161,14 @@ fn computed(alloc: Global, kinds: [Kind; 2], text: &str) -> Result<Option<Circui
     Ok(Some(circuit))
 }
 
-// The rows whose column is 1.
-fn kept(alloc: Global, kinds: [Kind; 2], text: &str) -> Result<Option<Circuit>, Memory> {
+// The rows whose first column is 1.
+fn kept(alloc: Global, kinds: [Kind; 2]) -> Result<Option<Circuit>, Memory> {
     let [first, second] = kinds;
-    if !is_kind(first) || !is_kind(second) {
+    if !is_kind(first) || !is_kind(second) || first.width() != 1 {
         return Ok(None);
     }
-    if text == "a" && first.width() == 1 {
-        let circuit = circuit_of(alloc, first, second, &SelectRow { column: 0 })?;
-        return Ok(Some(circuit));
-    }
-    if text == "b" && second.width() == 1 {
-        let circuit = circuit_of(alloc, first, second, &SelectRow { column: 1 })?;
-        return Ok(Some(circuit));
-    }
-    Ok(None)
+    let circuit = circuit_of(alloc, first, second, &SelectRow { column: 0 })?;
+    Ok(Some(circuit))
 }
 
 // Of each row these values.
@@ -211,9 +193,7 @@ fn picked(alloc: Global, kinds: [Kind; 2], text: &str) -> Result<Option<Circuit>
 fn totalled(alloc: Global, kinds: [Kind; 2], text: &str) -> Result<Option<Circuit>, Memory> {
     let mut aggs = Vec::new(alloc);
     for word in text.split_whitespace() {
-        let Some(agg) = agg_of(alloc, &kinds, word)? else {
-            return Ok(None);
-        };
+        let agg = agg_of(alloc, &kinds, word)?;
         aggs.push(agg)?;
     }
     let [first, second] = kinds;
@@ -246,7 +226,7 @@ pub fn block_of(alloc: Global, kinds: [Kind; 2], text: &str) -> Result<Option<Ci
     let (name, items) = text.split_once(' ').unwrap_or((text, ""));
     match name {
         "compute" => computed(alloc, kinds, items),
-        "select" => kept(alloc, kinds, items),
+        "select" => kept(alloc, kinds),
         "project" => picked(alloc, kinds, items),
         "totals" => totalled(alloc, kinds, items),
         "divide" => divided(alloc, kinds),
@@ -272,11 +252,8 @@ fn beat_of(alloc: Global, text: &str) -> Result<Beat, Memory> {
 pub fn beats_of(alloc: Global, text: &str) -> Result<Vec<Beat>, Memory> {
     let mut beats = Vec::new(alloc);
     for word in text.split_whitespace() {
-        let (often, beat) = word.split_once('*').unwrap_or(("1", word));
-        let beat = beat_of(alloc, beat)?;
-        for _copy in 0..often.parse::<u16>().unwrap_or(1) {
-            beats.push(beat)?;
-        }
+        let beat = beat_of(alloc, word)?;
+        beats.push(beat)?;
     }
     Ok(beats)
 }
