@@ -4,21 +4,18 @@ use Rattle.std.specs.Prelude.{IsTrue, bytes_eq, find, filter, slice_get, slice_i
 use Rattle.std.specs.List.{AllByRecursion, IsDistinct, list_any}
 use Rattle.std.proofs.lemmas.List.{append-nil}
 use Rattle.std.proofs.lemmas.Slice.Eq.{bytes_eq-Decides}
-use Rattle.gl_bits.specs.Kinds as kinds
 use Rattle.gl_schema.specs.declared.schema.Column.{Column}
 use Rattle.gl_schema.specs.declared.schema.Stream.{Stream}
 use Rattle.gl_schema.specs.Names.{IsName}
-use Rattle.gl_schema.specs.Schemas.{has_column}
 use Rattle.gl_schema.specs.Ports.{rst, eos, out_valid, out_column, out_eos, fault_group, fault_queue}
-use Rattle.gl_query.specs.Values.{column_number, column_kind}
 use Rattle.gl_net.specs.declared.node.Port.{Port}
 use Rattle.gl_net.specs.Net as net
 use Rattle.gl_net.specs.PortValues.{PortShape, port_shape, port_shapes}
 use Rattle.gl_verilog.specs.Module.{Module, Declaration}
 use Rattle.gl_verilog_writer.specs.Meaning.{declaration_of, clock, kind_of}
-use Rattle.gl_wiring.specs.EmittedPorts.{input, output, column_widths, column_inputs, stream_inputs, streams_inputs, column_outputs, result_outputs}
+use Rattle.gl_wiring.specs.EmittedPorts.{input, output, column_inputs, stream_inputs, streams_inputs}
+use Rattle.gl_wiring.specs.Output.{named_outputs, output_ports}
 use Rattle.gl_wiring.proofs.PortNames.{no_valid, out_valid-column, tail_apart}
-use Rattle.gl_compiler.proofs.Built.{next_at}
 use Rattle.gl_compiler.specs.Profile.{shows_column, ports_of}
 use Rattle.gl_bits.proofs.Bools.{bytes_other}
 
@@ -78,61 +75,33 @@ column_seen : (n : List ℕ) (w : ℕ) → IsName n → shows_column (decl (outp
 column_seen n w h =
     rw (begins_out n, bytes_other (out_column n) out_valid (λ e. no_valid n h (out_valid-column n (sym e))), bytes_other (out_column n) out_eos (tail_apart n h).0) refl
 
-outputs_seen : (ws ps : List ℕ) (ns : List (List ℕ)) → AllByRecursion IsName ns → Seen (column_outputs ws ps ns)
-outputs_seen ws [] ns h = tt
-outputs_seen ws (p ∷ ps) [] h = tt
-outputs_seen ws (p ∷ ps) (n ∷ ns) h = (column_seen n (slice_index ws p) h.0, outputs_seen ws ps ns h.1)
+outputs_seen : (ws : List ℕ) (ns : List (List ℕ)) → AllByRecursion IsName ns → Seen (named_outputs ws ns)
+outputs_seen [] ns h = tt
+outputs_seen (w ∷ ws) [] h = tt
+outputs_seen (w ∷ ws) (n ∷ ns) h = (column_seen n w h.0, outputs_seen ws ns h.1)
 
 -- the ports that show columns are the outputs of the columns
-pub columns_shown : (ss : List Stream) (ws ps : List ℕ) (ns : List (List ℕ)) → AllByRecursion IsName ns → filter shows_column (clock ∷ map decl (input rst 1 ∷ (streams_inputs ss ++ input eos 1 ∷ result_outputs ws ps ns))) ≡ map decl (column_outputs ws ps ns)
-columns_shown ss ws ps ns h =
+pub columns_shown : (ss : List Stream) (ws : List ℕ) (ns : List (List ℕ)) → AllByRecursion IsName ns → filter shows_column (clock ∷ map decl (input rst 1 ∷ (streams_inputs ss ++ input eos 1 ∷ output_ports ws ns))) ≡ map decl (named_outputs ws ns)
+columns_shown ss ws ns h =
     let tail = output out_eos 1 ∷ output fault_group 1 ∷ output fault_queue 1 ∷ [] in
-    let cols = column_outputs ws ps ns in
+    let cols = named_outputs ws ns in
     let none : filter shows_column (map decl (tail ++ [])) ≡ [] = filter_hidden tail [] tail_hidden in
-    filter_hidden (streams_inputs ss) (input eos 1 ∷ result_outputs ws ps ns) (streams_hidden ss)
+    filter_hidden (streams_inputs ss) (input eos 1 ∷ output_ports ws ns) (streams_hidden ss)
     ∙ filter_hidden (output out_valid 1 ∷ []) (cols ++ tail) (valid_hidden, tt)
-    ∙ filter_seen cols tail (outputs_seen ws ps ns h)
+    ∙ filter_seen cols tail (outputs_seen ws ns h)
     ∙ ap (λ (x : List Declaration). map decl cols ++ x) none ∙ append-nil (map decl cols)
 
-pub shown_names : (ws ps : List ℕ) (ns : List (List ℕ)) → length ps ≡ length ns → map (λ (d : Declaration). d.name) (map decl (column_outputs ws ps ns)) ≡ map out_column ns
-shown_names ws [] [] e = refl
-shown_names ws [] (n ∷ ns) e = absurd (omega arith)
-shown_names ws (p ∷ ps) [] e = absurd (omega arith)
-shown_names ws (p ∷ ps) (n ∷ ns) e = ap (λ (x : List (List ℕ)). out_column n ∷ x) (shown_names ws ps ns (omega arith))
+pub shown_names : (ws : List ℕ) (ns : List (List ℕ)) → length ws ≡ length ns → map (λ (d : Declaration). d.name) (map decl (named_outputs ws ns)) ≡ map out_column ns
+shown_names [] [] e = refl
+shown_names [] (n ∷ ns) e = absurd (omega arith)
+shown_names (w ∷ ws) [] e = absurd (omega arith)
+shown_names (w ∷ ws) (n ∷ ns) e = ap (λ (x : List (List ℕ)). out_column n ∷ x) (shown_names ws ns (omega arith))
 
-pub shown_widths : (ws ps : List ℕ) (ns : List (List ℕ)) → length ps ≡ length ns → map (λ (d : Declaration). d.width) (map decl (column_outputs ws ps ns)) ≡ map (slice_index ws) ps
-shown_widths ws [] [] e = refl
-shown_widths ws [] (n ∷ ns) e = absurd (omega arith)
-shown_widths ws (p ∷ ps) [] e = absurd (omega arith)
-shown_widths ws (p ∷ ps) (n ∷ ns) e = ap (λ (x : List ℕ). slice_index ws p ∷ x) (shown_widths ws ps ns (omega arith))
-
--- ---- the columns by name
-
--- the column of a name that there is
-pub column_there : (cs : List Column) (n : List ℕ) → has_column cs n ≡ true → (c : Column) × (slice_get cs (column_number cs n) ≡ Some c)
-unfolding has_column
-column_there [] n h = absurd cc
-column_there (c ∷ cs) n h = by (bytes_eq n c.name) refl (column_there cs n)
-  where
-    by : (b : Bool) → bytes_eq n c.name ≡ b → (list_any (λ (x : Column). bytes_eq n x.name) cs ≡ true → (x : Column) × (slice_get cs (column_number cs n) ≡ Some x)) → (x : Column) × (slice_get (c ∷ cs) (column_number (c ∷ cs) n) ≡ Some x)
-    by true e rest = (c, rw e refl)
-    by false e rest = let r = rest (rw e at h) in (r.0, rw e (next_at c cs (column_number cs n) ∙ r.1))
-
-width_at : (cs : List Column) (p : ℕ) (c : Column) → slice_get cs p ≡ Some c → slice_index (column_widths cs) p ≡ kinds.width_of c.kind
-width_at [] p c h = absurd cc
-width_at (x ∷ cs) zero c h = let same : x ≡ c = cc in ap (λ (y : Column). kinds.width_of y.kind) same
-width_at (x ∷ cs) (suc p) c h = width_at cs p c h
-
-pub kind_there : (cs : List Column) (n : List ℕ) (c : Column) → slice_get cs (column_number cs n) ≡ Some c → column_kind cs n ≡ c.kind
-kind_there cs n c h = rw h refl
-
-pub widths_by_name : (cs : List Column) (ns : List (List ℕ)) → AllByRecursion (λ n. IsTrue (has_column cs n)) ns → map (slice_index (column_widths cs)) (map (column_number cs) ns) ≡ map kinds.width_of (map (column_kind cs) ns)
-widths_by_name cs [] h = refl
-widths_by_name cs (n ∷ ns) h =
-    let c = column_there cs n h.0 in
-    let first : slice_index (column_widths cs) (column_number cs n) ≡ kinds.width_of (column_kind cs n) = width_at cs (column_number cs n) c.0 c.1 ∙ ap kinds.width_of (sym (kind_there cs n c.0 c.1)) in
-    ap (λ (x : ℕ). x ∷ map (slice_index (column_widths cs)) (map (column_number cs) ns)) first
-    ∙ ap (λ (x : List ℕ). kinds.width_of (column_kind cs n) ∷ x) (widths_by_name cs ns h.1)
+pub shown_widths : (ws : List ℕ) (ns : List (List ℕ)) → length ws ≡ length ns → map (λ (d : Declaration). d.width) (map decl (named_outputs ws ns)) ≡ ws
+shown_widths [] [] e = refl
+shown_widths [] (n ∷ ns) e = absurd (omega arith)
+shown_widths (w ∷ ws) [] e = absurd (omega arith)
+shown_widths (w ∷ ws) (n ∷ ns) e = ap (λ (x : List ℕ). w ∷ x) (shown_widths ws ns (omega arith))
 
 -- ---- a port by its name
 

@@ -15,7 +15,8 @@ use Rattle.gl_net.specs.PortValues.{PortShape}
 use Rattle.gl_verilog.specs.Module.{Module, Declaration, Input}
 use Rattle.gl_verilog.specs.Widths.{is_clock}
 use Rattle.gl_verilog_writer.specs.Meaning.{clock, kind_of}
-use Rattle.gl_wiring.specs.EmittedPorts.{input, output, column_inputs, stream_inputs, streams_inputs, column_outputs, result_outputs}
+use Rattle.gl_wiring.specs.EmittedPorts.{input, output, column_inputs, stream_inputs, streams_inputs}
+use Rattle.gl_wiring.specs.Output.{named_outputs, output_ports}
 use Rattle.gl_schema.specs.Profile as profile
 use Rattle.gl_schema.specs.Profile.{ProfilePort, clk, input_ports}
 use Rattle.gl_compiler.specs.Profile.{input_width, ports_of, port_named, HasClock, HasLine, IsLine}
@@ -37,16 +38,16 @@ line_is name = record { output = refl; bit = refl }
 abbrev pub inputs : Schema → List PortShape
 inputs schema = input rst 1 ∷ (streams_inputs schema.streams ++ input eos 1 ∷ [])
 
-pub parts : (schema : Schema) (ws ps : List ℕ) (ns : List (List ℕ)) → input rst 1 ∷ (streams_inputs schema.streams ++ input eos 1 ∷ result_outputs ws ps ns) ≡ inputs schema ++ result_outputs ws ps ns
-parts schema ws ps ns = ap (λ (x : List PortShape). input rst 1 ∷ x) (sym (append_assoc (streams_inputs schema.streams) (input eos 1 ∷ []) (result_outputs ws ps ns)))
+pub parts : (schema : Schema) (ws : List ℕ) (ns : List (List ℕ)) → input rst 1 ∷ (streams_inputs schema.streams ++ input eos 1 ∷ output_ports ws ns) ≡ inputs schema ++ output_ports ws ns
+parts schema ws ns = ap (λ (x : List PortShape). input rst 1 ∷ x) (sym (append_assoc (streams_inputs schema.streams) (input eos 1 ∷ []) (output_ports ws ns)))
 
-valid_stands : (schema : Schema) (ws ps : List ℕ) (ns : List (List ℕ)) → Stands (output out_valid 1) (inputs schema ++ result_outputs ws ps ns)
-valid_stands schema ws ps ns = stands_behind (output out_valid 1) (inputs schema) (result_outputs ws ps ns) (record { place = 0; there = refl })
+valid_stands : (schema : Schema) (ws : List ℕ) (ns : List (List ℕ)) → Stands (output out_valid 1) (inputs schema ++ output_ports ws ns)
+valid_stands schema ws ns = stands_behind (output out_valid 1) (inputs schema) (output_ports ws ns) (record { place = 0; there = refl })
 
-tail_stands : (s : PortShape) (schema : Schema) (ws ps : List ℕ) (ns : List (List ℕ)) → Stands s (output out_eos 1 ∷ output fault_group 1 ∷ output fault_queue 1 ∷ []) → Stands s (inputs schema ++ result_outputs ws ps ns)
-tail_stands s schema ws ps ns h =
+tail_stands : (s : PortShape) (schema : Schema) (ws : List ℕ) (ns : List (List ℕ)) → Stands s (output out_eos 1 ∷ output fault_group 1 ∷ output fault_queue 1 ∷ []) → Stands s (inputs schema ++ output_ports ws ns)
+tail_stands s schema ws ns h =
     let tail = output out_eos 1 ∷ output fault_group 1 ∷ output fault_queue 1 ∷ [] in
-    stands_behind s (inputs schema) (result_outputs ws ps ns) (stands_next s (output out_valid 1) (column_outputs ws ps ns ++ tail) (stands_behind s (column_outputs ws ps ns) tail h))
+    stands_behind s (inputs schema) (output_ports ws ns) (stands_next s (output out_valid 1) (named_outputs ws ns ++ tail) (stands_behind s (named_outputs ws ns) tail h))
 
 -- ---- inputs
 
@@ -62,10 +63,10 @@ distinct_front (x ∷ xs) ys h = (All-front (λ n. bytes_eq x n ≡ false) xs ys
 abbrev IsOut : PortShape → Type 0
 IsOut s = s.direction ≡ Out
 
-outputs_out : (ws ps : List ℕ) (ns : List (List ℕ)) → AllByRecursion IsOut (column_outputs ws ps ns ++ output out_eos 1 ∷ output fault_group 1 ∷ output fault_queue 1 ∷ [])
-outputs_out ws [] ns = (refl, (refl, (refl, tt)))
-outputs_out ws (p ∷ ps) [] = (refl, (refl, (refl, tt)))
-outputs_out ws (p ∷ ps) (n ∷ ns) = (refl, outputs_out ws ps ns)
+outputs_out : (ws : List ℕ) (ns : List (List ℕ)) → AllByRecursion IsOut (named_outputs ws ns ++ output out_eos 1 ∷ output fault_group 1 ∷ output fault_queue 1 ∷ [])
+outputs_out [] ns = (refl, (refl, (refl, tt)))
+outputs_out (w ∷ ws) [] = (refl, (refl, (refl, tt)))
+outputs_out (w ∷ ws) (n ∷ ns) = (refl, outputs_out ws ns)
 
 out_differs : (s : PortShape) → IsOut s → kind_of s.direction ≡ Input → ⊥
 out_differs s o e = let z = ap kind_of (sym o) ∙ e in absurd cc
@@ -111,17 +112,17 @@ declared_at [] i d h = absurd cc
 declared_at (s ∷ shapes) zero d h = (s, refl, cc)
 declared_at (s ∷ shapes) (suc i) d h = declared_at shapes i d h
 
-input_fits : (schema : Schema) (ws ps : List ℕ) (ns : List (List ℕ)) (n : ℕ) (d : Declaration) → IsDistinct bytes_eq (map (λ (x : PortShape). x.name) (inputs schema ++ result_outputs ws ps ns)) → slice_get (clock ∷ map decl (inputs schema ++ result_outputs ws ps ns)) n ≡ Some d → d.kind ≡ Input → is_clock d ≡ false → input_width schema d.name ≡ Some d.width
-input_fits schema ws ps ns zero d distinct h is other =
+input_fits : (schema : Schema) (ws : List ℕ) (ns : List (List ℕ)) (n : ℕ) (d : Declaration) → IsDistinct bytes_eq (map (λ (x : PortShape). x.name) (inputs schema ++ output_ports ws ns)) → slice_get (clock ∷ map decl (inputs schema ++ output_ports ws ns)) n ≡ Some d → d.kind ≡ Input → is_clock d ≡ false → input_width schema d.name ≡ Some d.width
+input_fits schema ws ns zero d distinct h is other =
     let same : clock ≡ d = cc in
     let z : true ≡ false = ap is_clock same ∙ other in
     absurd (let y : true ≡ false = z in cc)
-input_fits schema ws ps ns (suc i) d distinct h is other =
-    let s = declared_at (inputs schema ++ result_outputs ws ps ns) i d h in
+input_fits schema ws ns (suc i) d distinct h is other =
+    let s = declared_at (inputs schema ++ output_ports ws ns) i d h in
     let kind : kind_of s.0.direction ≡ Input = ap (λ (x : Declaration). x.kind) s.2 ∙ is in
-    let front = in_front (inputs schema) (result_outputs ws ps ns) i s.0 (refl, outputs_out ws ps ns) s.1 kind in
-    let names = subst (λ (x : List (List ℕ)). IsDistinct bytes_eq x) (map-append (λ (x : PortShape). x.name) (inputs schema) (result_outputs ws ps ns)) distinct in
-    let w = asked_width schema i s.0 (distinct_front (map (λ (x : PortShape). x.name) (inputs schema)) (map (λ (x : PortShape). x.name) (result_outputs ws ps ns)) names) front in
+    let front = in_front (inputs schema) (output_ports ws ns) i s.0 (refl, outputs_out ws ns) s.1 kind in
+    let names = subst (λ (x : List (List ℕ)). IsDistinct bytes_eq x) (map-append (λ (x : PortShape). x.name) (inputs schema) (output_ports ws ns)) distinct in
+    let w = asked_width schema i s.0 (distinct_front (map (λ (x : PortShape). x.name) (inputs schema)) (map (λ (x : PortShape). x.name) (output_ports ws ns)) names) front in
     subst (λ (x : Declaration). input_width schema x.name ≡ Some x.width) s.2 w
 
 -- ---- widths
@@ -145,15 +146,15 @@ pub record FitPorts (m : Module) (schema : Schema) : Type 0 where
   pub group : IfSome (port_named m fault_group) IsLine
   pub queue : IfSome (port_named m fault_queue) IsLine
 
-pub ports_fit : (m : Module) (schema : Schema) (ws ps : List ℕ) (ns : List (List ℕ)) → ports_of m ≡ clock ∷ map decl (inputs schema ++ result_outputs ws ps ns) → IsDistinct bytes_eq (map (λ (x : PortShape). x.name) (inputs schema ++ result_outputs ws ps ns)) → FitPorts m schema
+pub ports_fit : (m : Module) (schema : Schema) (ws : List ℕ) (ns : List (List ℕ)) → ports_of m ≡ clock ∷ map decl (inputs schema ++ output_ports ws ns) → IsDistinct bytes_eq (map (λ (x : PortShape). x.name) (inputs schema ++ output_ports ws ns)) → FitPorts m schema
 unfolding clk out_valid out_eos fault_group fault_queue
-ports_fit m schema ws ps ns e distinct =
-    let shapes = inputs schema ++ result_outputs ws ps ns in
+ports_fit m schema ws ns e distinct =
+    let shapes = inputs schema ++ output_ports ws ns in
     record {
       clock' = record { port = clock; there = ap (find (λ (d : Declaration). bytes_eq d.name clk)) e; input = refl; bit = refl };
-      inputs = λ n d at is other. input_fits schema ws ps ns n d distinct (ap (λ (x : List Declaration). slice_get x n) (sym e) ∙ at) is other;
-      valid = record { port = decl (output out_valid 1); there = port_there m shapes out_valid e distinct refl (valid_stands schema ws ps ns); line = line_is out_valid };
-      end = record { port = decl (output out_eos 1); there = port_there m shapes out_eos e distinct refl (tail_stands (output out_eos 1) schema ws ps ns (record { place = 0; there = refl })); line = line_is out_eos };
-      group = rw (port_there m shapes fault_group e distinct refl (tail_stands (output fault_group 1) schema ws ps ns (record { place = 1; there = refl }))) (line_is fault_group);
-      queue = rw (port_there m shapes fault_queue e distinct refl (tail_stands (output fault_queue 1) schema ws ps ns (record { place = 2; there = refl }))) (line_is fault_queue);
+      inputs = λ n d at is other. input_fits schema ws ns n d distinct (ap (λ (x : List Declaration). slice_get x n) (sym e) ∙ at) is other;
+      valid = record { port = decl (output out_valid 1); there = port_there m shapes out_valid e distinct refl (valid_stands schema ws ns); line = line_is out_valid };
+      end = record { port = decl (output out_eos 1); there = port_there m shapes out_eos e distinct refl (tail_stands (output out_eos 1) schema ws ns (record { place = 0; there = refl })); line = line_is out_eos };
+      group = rw (port_there m shapes fault_group e distinct refl (tail_stands (output fault_group 1) schema ws ns (record { place = 1; there = refl }))) (line_is fault_group);
+      queue = rw (port_there m shapes fault_queue e distinct refl (tail_stands (output fault_queue 1) schema ws ns (record { place = 2; there = refl }))) (line_is fault_queue);
     }

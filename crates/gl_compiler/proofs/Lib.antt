@@ -1,9 +1,11 @@
-pub mod Built
-pub mod Selected
+pub mod ResultNames
+pub mod Planning
+pub mod PlanLeaves
+pub mod KnownOf
+pub mod PlanResults
 pub mod Inner
 pub mod Showing
 pub mod Faces
-pub mod Wired
 pub mod Fits
 pub mod Existing
 pub mod Meeting
@@ -21,3 +23,4 @@ pub mod Running
 pub mod Each
 pub mod Shaped
 pub mod Refusing
+pub mod Made

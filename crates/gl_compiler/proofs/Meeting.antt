@@ -1,20 +1,23 @@
--- The text of a select's netlist meets its statement.
+-- The text of a plan's netlist meets its statement.
 use Rattle.std.proofs.Common.{◌≡◌, ℕ, zero, suc, ◌≤◌, false, List, [], ◌∷◌, ◌++◌, length, map, Option, Some, None, refl, sym, ap, subst, ◌∙◌, arith, codes}
-use Rattle.std.specs.Prelude.{bytes_eq, filter, slice_index}
-use Rattle.std.specs.Option.{option_map_or}
+use Rattle.std.specs.Prelude.{bytes_eq, filter}
 use Rattle.std.specs.List.{AllByRecursion, IsDistinct}
 use Rattle.gl_bits.proofs.AllLists.{length_map}
-use Rattle.gl_bits.specs.Kinds.{width_of}
+use Rattle.gl_bits.specs.declared.kind.Kind.{Kind}
+use Rattle.gl_bits.specs.Kinds.{IsKind, width_of}
 use Rattle.gl_schema.specs.declared.schema.Column.{Column}
 use Rattle.gl_schema.specs.declared.schema.Stream.{Stream}
 use Rattle.gl_schema.specs.declared.schema.Schema.{Schema}
-use Rattle.gl_schema.specs.Schemas.{IsSchema, column_names}
+use Rattle.gl_schema.specs.Names.{IsName}
+use Rattle.gl_schema.specs.Schemas.{IsSchema, column_names, kinds_of}
 use Rattle.gl_schema.specs.Beats.{Beat, rows_at}
 use Rattle.gl_schema.specs.Ports.{Pin, pin, pins, column_pins, stream_pins, streams_pins, rst, eos, in_valid, in_column, out_column}
 use Rattle.gl_schema.specs.Right.{IsRight}
 use Rattle.gl_query.specs.declared.tree.Statement.{Statement}
-use Rattle.gl_query.specs.Values.{column_kind}
+use Rattle.gl_query.specs.Accepted.{AreResultColumns}
+use Rattle.gl_query.specs.Checked.{IsChecked}
 use Rattle.gl_query.specs.Results.{IsResult}
+use Rattle.gl_algebra.specs.Shapes.{Shape, kinds_of as kinds_of_node}
 use Rattle.gl_net.specs.Net.{Net}
 use Rattle.gl_net.specs.PortValues as circuit
 use Rattle.gl_net.specs.PortValues.{port_values, PortShape, port_shapes}
@@ -22,21 +25,22 @@ use Rattle.gl_verilog.specs.Module.{Declaration}
 use Rattle.gl_verilog.specs.Run.{port_of, input_values}
 use Rattle.gl_verilog_orders.proofs.EventRuns.{event_runs_are_runs, has_event_runs}
 use Rattle.gl_verilog_writer.specs.Meaning.{IsTextOf, clock}
-use Rattle.gl_wiring.specs.EmittedPorts.{column_widths, column_outputs, columns_at, result_outputs, emitted_ports}
-use Rattle.gl_wiring.specs.Select.{picks, IsRightSelect}
 use Rattle.gl_wiring.proofs.PortNames.{port_names-distinct}
-use Rattle.gl_wiring.proofs.Shapes.{emitted_names}
-use Rattle.gl_compiler.specs.declared.select.Select.{Select}
-use Rattle.gl_compiler.specs.Selecting.{IsSelectOf, CanWire}
+use Rattle.gl_wiring.proofs.PlanLemmas.{plan_named}
+use Rattle.gl_elaborate.specs.Laws.{IsRightPlan as IsRightFor}
+use Rattle.gl_elaborate.specs.Plans.{plan_of}
+use Rattle.gl_plan_wiring.specs.Leaves.{widths_of}
+use Rattle.gl_wiring.specs.Output.{named_outputs, output_ports, plan_ports}
+use Rattle.gl_wiring.specs.Wired.{OverBeats, plan_means}
 use Rattle.gl_compiler.specs.Profile.{FitsSchema, ports_of, result_ports, result_names, result_widths, shows_column}
 use Rattle.gl_compiler.specs.Meets.{Meets, result_columns}
-use Rattle.gl_compiler.proofs.Selected.{picks_result, result_names-are, result_kinds-are, built_accepted}
+use Rattle.gl_compiler.specs.Queries.{gap_of, latency_of}
+use Rattle.gl_compiler.proofs.PlanResults.{plan_result}
 use Rattle.gl_compiler.proofs.Inner.{inputs_first}
 use Rattle.gl_compiler.proofs.Showing.{NoClock, shown_same, right_same, stimulus_same}
-use Rattle.gl_compiler.proofs.Faces.{decl, ports_are, columns_shown, shown_names, shown_widths, widths_by_name}
+use Rattle.gl_compiler.proofs.Faces.{decl, ports_are, columns_shown, shown_names, shown_widths}
 use Rattle.gl_compiler.proofs.Existing.{runs_over}
 use Rattle.gl_compiler.proofs.Fits.{inputs, parts, ports_fit, kinds_narrow}
-use Rattle.gl_compiler.proofs.Wired.{can_wire, stream_is, kinds_known}
 
 -- ---- no port of the query's side has the clock's name
 
@@ -81,82 +85,82 @@ outs_other (n ∷ ns) = (refl, outs_other ns)
 
 -- ---- the text
 
-module _ (schema : Schema) (statement : Statement) (select : Select) (net : Net) (text : List ℕ) (s : IsSchema schema) (is : IsSelectOf schema statement select) (e : port_shapes net ≡ emitted_ports schema select.stream select.columns.items select.names.columns) (t : IsTextOf net text) where
-  wired : CanWire schema select
-  wired = can_wire schema statement select s is
+module _ (schema : Schema) (statement : Statement) (net : Net) (text : List ℕ) (s : IsSchema schema) (is : IsChecked schema statement) (plan : IsRightFor schema statement) (named : AllByRecursion IsName (column_names (result_columns schema statement))) (columns : AreResultColumns (result_columns schema statement)) (real : AllByRecursion IsKind (kinds_of (result_columns schema statement))) (t : IsTextOf net text) where
+  abbrev names : List (List ℕ)
+  names = column_names (result_columns schema statement)
+
+  abbrev widths : List ℕ
+  widths = widths_of (kinds_of_node (plan_of schema statement).nodes (plan_of schema statement).root)
+
+  kinds_are : kinds_of_node (plan_of schema statement).nodes (plan_of schema statement).root ≡ kinds_of (result_columns schema statement)
+  kinds_are = ap (λ (x : Shape). x.kinds) plan.shape
+
+  widths_are : widths ≡ map width_of (kinds_of (result_columns schema statement))
+  widths_are = ap widths_of kinds_are
+
+  as_many : length widths ≡ length names
+  as_many = ap length widths_are ∙ length_map width_of (kinds_of (result_columns schema statement)) ∙ length_map (λ (c : Column). c.kind) (result_columns schema statement) ∙ sym (length_map (λ (c : Column). c.name) (result_columns schema statement))
 
   abbrev shapes : List PortShape
-  shapes = inputs schema ++ result_outputs (column_widths (columns_at schema.streams select.stream)) select.columns.items select.names.columns
+  shapes = inputs schema ++ output_ports widths names
 
-  design_ports : ports_of t.design ≡ clock ∷ map decl shapes
-  design_ports = ports_are net t.design shapes t.declared (e ∙ parts schema (column_widths (columns_at schema.streams select.stream)) select.columns.items select.names.columns)
+  module _ (e : port_shapes net ≡ plan_ports schema (kinds_of_node (plan_of schema statement).nodes (plan_of schema statement).root) names) where
+    design_ports : ports_of t.design ≡ clock ∷ map decl shapes
+    design_ports = ports_are net t.design shapes t.declared e
 
-  shown_ports : result_ports t.design ≡ map decl (column_outputs (column_widths (columns_at schema.streams select.stream)) select.columns.items select.names.columns)
-  shown_ports =
-      ap (filter shows_column) (ports_are net t.design (emitted_ports schema select.stream select.columns.items select.names.columns) t.declared e)
-      ∙ columns_shown schema.streams (column_widths (columns_at schema.streams select.stream)) select.columns.items select.names.columns wired.names
+    shown_ports : result_ports t.design ≡ map decl (named_outputs widths names)
+    shown_ports =
+        ap (filter shows_column) (design_ports ∙ ap (λ (x : List PortShape). clock ∷ map decl x) (sym (parts schema widths names)))
+        ∙ columns_shown schema.streams widths names named
 
-  pub outs_are : result_names t.design ≡ map out_column select.names.columns
-  outs_are = ap (map (λ (d : Declaration). d.name)) shown_ports ∙ shown_names (column_widths (columns_at schema.streams select.stream)) select.columns.items select.names.columns wired.lengths
+    names_shown : result_names t.design ≡ map out_column names
+    names_shown = ap (map (λ (d : Declaration). d.name)) shown_ports ∙ shown_names widths names as_many
 
-  names_are : result_names t.design ≡ map out_column (column_names (result_columns schema statement))
-  names_are = outs_are ∙ ap (map out_column) (is.names ∙ sym (result_names-are schema statement is.built))
+    widths_shown : result_widths t.design ≡ map width_of (kinds_of (result_columns schema statement))
+    widths_shown = ap (map (λ (d : Declaration). d.width)) shown_ports ∙ shown_widths widths names as_many ∙ widths_are
 
-  widths_of_columns : column_widths (columns_at schema.streams select.stream) ≡ column_widths is.built.stream.columns
-  widths_of_columns = ap (λ (o : Option Stream). column_widths (option_map_or (λ (x : Stream). x.columns) o [])) is.number
+    distinct : IsDistinct bytes_eq (map (λ (x : PortShape). x.name) shapes)
+    distinct = subst (λ (x : List (List ℕ)). IsDistinct bytes_eq x) (sym (plan_named schema widths names (sym as_many))) (port_names-distinct schema names s named columns.distinct)
 
-  widths_are : result_widths t.design ≡ map width_of (map (column_kind is.built.stream.columns) is.built.names)
-  widths_are =
-      ap (map (λ (d : Declaration). d.width)) shown_ports
-      ∙ shown_widths (column_widths (columns_at schema.streams select.stream)) select.columns.items select.names.columns wired.lengths
-      ∙ ap (λ (x : List ℕ). map (slice_index x) select.columns.items) widths_of_columns
-      ∙ ap (map (slice_index (column_widths is.built.stream.columns))) is.places
-      ∙ widths_by_name is.built.stream.columns is.built.names is.built.known
+    count_is : length (result_ports t.design) ≡ length (result_columns schema statement)
+    count_is = sym (length_map (λ (d : Declaration). d.name) (result_ports t.design)) ∙ ap length names_shown ∙ length_map out_column names ∙ length_map (λ (c : Column). c.name) (result_columns schema statement)
 
-  distinct : IsDistinct bytes_eq (map (λ (x : PortShape). x.name) shapes)
-  distinct =
-      subst (λ (x : List PortShape). IsDistinct bytes_eq (map (λ (y : PortShape). y.name) x)) (parts schema (column_widths (columns_at schema.streams select.stream)) select.columns.items select.names.columns)
-      (subst (λ (x : List (List ℕ)). IsDistinct bytes_eq x) (sym (emitted_names schema select.stream select.columns.items select.names.columns wired.lengths)) (port_names-distinct schema select.names.columns s wired.names wired.distinct))
+    fits : FitsSchema t.design schema
+    fits =
+        let f = ports_fit t.design schema widths names design_ports distinct in
+        record {
+          clock = f.clock';
+          inputs = λ n d at kind other. f.inputs n d (inputs_first text t.design t.has n d at kind) kind other;
+          valid = f.valid;
+          end = f.end;
+          group = f.group;
+          queue = f.queue;
+          many = omega (arith, count_is, columns.most);
+          narrow = subst (AllByRecursion (λ w. w ≤ 64)) (sym widths_shown) (kinds_narrow (kinds_of (result_columns schema statement)) real);
+        }
 
-  count_is : length (result_ports t.design) ≡ length is.built.names
-  count_is = sym (length_map (λ (d : Declaration). d.name) (result_ports t.design)) ∙ ap length outs_are ∙ length_map out_column select.names.columns ∙ ap length is.names
-
-  fits : FitsSchema t.design schema
-  fits =
-      let f = ports_fit t.design schema (column_widths (columns_at schema.streams select.stream)) select.columns.items select.names.columns design_ports distinct in
-      record {
-        clock = f.clock';
-        inputs = λ n d at kind other. f.inputs n d (inputs_first text t.design t.has n d at kind) kind other;
-        valid = f.valid;
-        end = f.end;
-        group = f.group;
-        queue = f.queue;
-        many = omega (arith, count_is, is.built.most);
-        narrow = subst (AllByRecursion (λ w. w ≤ 64)) (sym widths_are) (kinds_narrow (map (column_kind is.built.stream.columns) is.built.names) (kinds_known is.built.stream.columns is.built.names (stream_is schema statement select s is).columns is.built.known));
-      }
-
-  -- a text of the select's netlist meets the statement
-  pub text_meets : IsRightSelect schema select.stream select.columns.items (map out_column select.names.columns) net → Meets schema statement 1 1 text
-  text_meets right = record {
-    accepted = built_accepted schema statement is.built;
-    design = t.design;
-    has = t.has;
-    fits = fits;
-    names = names_are;
-    widths = widths_are ∙ ap (map width_of) (sym (result_kinds-are schema statement is.built));
-    runs = λ beats start words are fit.
-        runs_over t.design schema beats (result_outputs (column_widths (columns_at schema.streams select.stream)) select.columns.items select.names.columns) design_ports t.has.valid.names are
-        start words (has_event_runs t.design t.has.valid) (pins_other schema beats) fit;
-    right = λ beats value word are gap run stimulus.
-        let r = t.runs value word (event_runs_are_runs t.design t.has.valid value word run) in
-        let outs = map out_column select.names.columns in
-        let port = port_of t.design value in
-        let there = port_values net r.run in
-        let stimulus' = stimulus_same schema beats (input_values t.design value) (circuit.input_values net r.run) r.inputs (pins_other schema beats) stimulus in
-        let of_net = right r.run beats r.trace are stimulus' in
-        let of_text : IsRight (IsResult schema statement) 1 beats outs port =
-        right_same (picks select.stream select.columns.items) (IsResult schema statement) 1 beats outs there port
-        (picks_result schema statement is.built select.stream select.columns.items is.first is.places)
-        (λ n. sym (shown_same port there outs r.ports (outs_other select.names.columns) n)) of_net in
-        subst (λ (x : List (List ℕ)). IsRight (IsResult schema statement) 1 beats x port) (sym outs_are) of_text;
-  }
+    -- a text of the plan's netlist meets the statement
+    pub text_meets : OverBeats schema (gap_of schema statement) (λ all port. IsRight (plan_means (plan_of schema statement).nodes (plan_of schema statement).root) (latency_of schema statement) all (map out_column names) port) net → Meets schema statement (latency_of schema statement) (gap_of schema statement) text
+    text_meets right = record {
+      accepted = is.accepted;
+      design = t.design;
+      has = t.has;
+      fits = fits;
+      names = names_shown;
+      widths = widths_shown;
+      runs = λ beats start words are fit.
+          runs_over t.design schema beats (output_ports widths names) design_ports t.has.valid.names are
+          start words (has_event_runs t.design t.has.valid) (pins_other schema beats) fit;
+      right = λ beats value word are gap run stimulus.
+          let r = t.runs value word (event_runs_are_runs t.design t.has.valid value word run) in
+          let outs = map out_column names in
+          let port = port_of t.design value in
+          let there = port_values net r.run in
+          let stimulus' = stimulus_same schema beats (input_values t.design value) (circuit.input_values net r.run) r.inputs (pins_other schema beats) stimulus in
+          let of_net = right r.run beats r.trace are gap stimulus' in
+          let of_text : IsRight (IsResult schema statement) (latency_of schema statement) beats outs port =
+          right_same (plan_means (plan_of schema statement).nodes (plan_of schema statement).root) (IsResult schema statement) (latency_of schema statement) beats outs there port
+          (plan_result schema statement beats are plan)
+          (λ n. sym (shown_same port there outs r.ports (outs_other names) n)) of_net in
+          subst (λ (x : List (List ℕ)). IsRight (IsResult schema statement) (latency_of schema statement) beats x port) (sym names_shown) of_text;
+    }

@@ -34,8 +34,8 @@ seen_same port port' outs same zero = ap (λ (s : Shown). s ∷ []) (same 0)
 seen_same port port' outs same (suc n) =
     ap (λ (all : List Shown). all ++ shown port outs (suc n) ∷ []) (seen_same port port' outs same n) ∙ ap (λ (s : Shown). seen port' outs n ++ s ∷ []) (same (suc n))
 
--- what is right of one is right of the other, for a meaning that is not narrower
-pub right_same : (means means' : Meaning) (latency : ℕ) (beats : List Beat) (outs : List (List ℕ)) (port port' : PortValues) → ((inputs : Inputs) (rows : List (List ℕ)) (spill : Bool) → means inputs rows spill → means' inputs rows spill) → ((n : ℕ) → shown port outs n ≡ shown port' outs n) → IsRight means latency beats outs port → IsRight means' latency beats outs port'
+-- what is right of one is right of the other, for a meaning that is not narrower over these beats
+pub right_same : (means means' : Meaning) (latency : ℕ) (beats : List Beat) (outs : List (List ℕ)) (port port' : PortValues) → ((rows : List (List ℕ)) (spill : Bool) → means (inputs_of beats) rows spill → means' (inputs_of beats) rows spill) → ((n : ℕ) → shown port outs n ≡ shown port' outs n) → IsRight means latency beats outs port → IsRight means' latency beats outs port'
 right_same means means' latency beats outs port port' wider same r = record {
   ended = r.ended;
   soonest = r.soonest;
@@ -45,7 +45,7 @@ right_same means means' latency beats outs port port' wider same r = record {
   none_later = λ n lt. ap (λ (s : Shown). s.row) (sym (same n)) ∙ r.none_later n lt;
   no_overflow = λ n. subst (λ (s : Shown). IsFalse s.queue) (same n) (r.no_overflow n);
   meets =
-      wider (inputs_of beats) (rows_of (seen port' outs r.ended)) (shown port' outs r.ended).group
+      wider (rows_of (seen port' outs r.ended)) (shown port' outs r.ended).group
       (subst (λ (all : List Shown). means (inputs_of beats) (rows_of all) (shown port' outs r.ended).group) (seen_same port port' outs same r.ended)
       (subst (λ (s : Shown). means (inputs_of beats) (rows_of (seen port outs r.ended)) s.group) (same r.ended) r.meets));
 }

@@ -1,16 +1,34 @@
 -- What compiling gives, and when it is refused.
-use Rattle.std.specs.Prelude.{◌≡◌, ℕ, List}
+use Rattle.std.specs.Prelude.{◌≡◌, ℕ, ◌≤◌, ◌^◌, List}
 use Rattle.gl_schema.specs.declared.schema.Schema.{Schema}
 use Rattle.gl_schema.specs.Schemas.{kinds_of}
 use Rattle.gl_schema.specs.SchemaText.{IsSchemaText}
 use Rattle.gl_schema.specs.SchemaFaults.{Fails, schema_of}
 use Rattle.gl_query.specs.declared.tree.Statement.{Statement}
+use Rattle.gl_algebra.specs.Added.{placed_at}
+use Rattle.gl_algebra.specs.Cost.{most_memory, most_registers}
+use Rattle.gl_algebra.specs.Small.{AreFigures}
+use Rattle.gl_cost.specs.declared.counting.Cost.{Cost}
+use Rattle.gl_elaborate.specs.Plans.{plan_of}
+use Rattle.gl_planner.specs.Planned.{IsWithinLimits, PassesLimit}
+use Rattle.gl_plan_wiring.specs.Put.{IsFlat}
+use Rattle.gl_verilog.specs.Cost.{memory_bits, register_bits}
+use Rattle.gl_verilog.specs.Module.{Module}
+use Rattle.gl_verilog.specs.Text.{HasModule}
 use Rattle.gl_compiler.specs.declared.compiling.Compiled.{Compiled}
 use Rattle.gl_compiler.specs.declared.compiling.CompileFault.{CompileFault}
 use Rattle.gl_compiler.specs.declared.compiling.CompileFault.TheVariants as fault
-use Rattle.gl_compiler.specs.Selecting.{IsBuilt}
 use Rattle.gl_compiler.specs.Meets.{Meets, result_columns}
-use Rattle.gl_compiler.specs.Queries.{IsQuery, IsQueryRefused}
+use Rattle.gl_compiler.specs.Queries.{IsBuilt, IsQuery, IsQueryRefused, copies_of, gap_of, latency_of}
+
+-- the bits of registers and of memories that the text's module declares, which are no more than the statement's plan counts
+pub record HasCost (schema : Schema) (statement : Statement) (text : List ℕ) (cost : Cost) : Type 0 where
+  pub design : Module
+  pub has : HasModule text design
+  pub registers : cost.registers ≡ register_bits design
+  pub memories : cost.memories ≡ memory_bits design
+  pub few_registers : cost.registers ≤ most_registers (plan_of schema statement).nodes (plan_of schema statement).root
+  pub few_memories : cost.memories ≤ most_memory (plan_of schema statement).nodes (plan_of schema statement).root
 
 -- what was compiled of a statement over a schema: every run of the text is right, within the figures that are printed
 pub record IsCompiled (schema : Schema) (statement : Statement) (c : Compiled) : Type 0 where
@@ -18,9 +36,13 @@ pub record IsCompiled (schema : Schema) (statement : Statement) (c : Compiled) :
   pub statement' : c.statement ≡ statement
   pub built : IsBuilt schema statement
   pub kinds : c.kinds ≡ kinds_of (result_columns schema statement)
-  pub latency : c.printed.latency ≡ 1
-  pub gap : c.printed.gap ≡ 1
-  pub copies : c.printed.copies ≡ 0
+  pub latency : c.printed.latency ≡ latency_of schema statement
+  pub gap : c.printed.gap ≡ gap_of schema statement
+  pub copies : c.printed.copies ≡ copies_of schema statement
+  pub short : c.printed.latency ≤ 2 ^ 32
+  pub plan : placed_at c.plan c.root ≡ plan_of schema statement
+  pub figures : AreFigures c.plan c.figures.items
+  pub cost : HasCost schema statement c.text.items c.cost
   pub meets : Meets schema statement c.printed.latency c.printed.gap c.text.items
 
 -- of the texts of a schema and of a query
@@ -29,11 +51,17 @@ pub record IsCompiledText (text query : List ℕ) (c : Compiled) : Type 0 where
   pub query' : IsQuery c.schema query c.statement
   pub compiled : IsCompiled c.schema c.statement c
 
--- why a statement is not compiled: it is no select that is built
+-- the plan is within the limits, and a window or a group stands in it
+pub record HasCopies (schema : Schema) (statement : Statement) : Type 0 where
+  pub within : IsWithinLimits (plan_of schema statement)
+  pub unbuilt : IsFlat (plan_of schema statement).nodes (plan_of schema statement).root → ⊥
+
+-- why a checked statement is not compiled
 abbrev pub IsRefused : Schema → Statement → CompileFault → Type 0
 IsRefused schema statement (fault.Schema f) = ⊥
 IsRefused schema statement (fault.Query f) = ⊥
-IsRefused schema statement fault.NotBuilt = IsBuilt schema statement → ⊥
+IsRefused schema statement (fault.Limit l) = PassesLimit (plan_of schema statement) l
+IsRefused schema statement fault.NotBuilt = HasCopies schema statement
 IsRefused schema statement fault.Memory = Unit {0}
 
 -- the text has a schema over which this is so
@@ -46,5 +74,6 @@ pub record OfSchema (text : List ℕ) (P : Schema → Type 0) : Type 0 where
 abbrev pub IsTextRefused : List ℕ → List ℕ → CompileFault → Type 0
 IsTextRefused text query (fault.Schema f) = Fails f (schema_of text)
 IsTextRefused text query (fault.Query f) = OfSchema text (λ schema. IsQueryRefused schema query (fault.Query f))
+IsTextRefused text query (fault.Limit l) = OfSchema text (λ schema. IsQueryRefused schema query (fault.Limit l))
 IsTextRefused text query fault.NotBuilt = OfSchema text (λ schema. IsQueryRefused schema query fault.NotBuilt)
 IsTextRefused text query fault.Memory = Unit {0}

@@ -1,4 +1,3 @@
-pub mod Selecting
 pub mod Carried
 pub mod Benches
 pub mod Cycles

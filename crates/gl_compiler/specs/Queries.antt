@@ -1,32 +1,54 @@
--- Which queries are compiled so far, and the figures that are printed for them.
+-- Which queries are compiled, the limits that their plans pass, and the figures that are printed for them.
 use Rattle.std.specs.Prelude.{◌≡◌, ◌⊎◌, ℕ, List, Result, Err}
 use Rattle.gl_schema.specs.declared.schema.Schema.{Schema}
 use Rattle.gl_query.specs.declared.tree.Statement.{Statement}
 use Rattle.gl_query.specs.declared.fault.QueryFault.{QueryFault}
 use Rattle.gl_query.specs.declared.fault.QueryFault.TheVariants as fault
+use Rattle.gl_query.specs.Accepted.{IsAccepted}
 use Rattle.gl_query.specs.Trees.{statement_tree}
 use Rattle.gl_query_reader.specs.Grammar.{HasStatement}
 use Rattle.gl_query_judge.specs.Judged.{IsAcceptedText, IsQueryFault}
+use Rattle.gl_algebra.specs.FigureTable as table
+use Rattle.gl_algebra.specs.Weights as weights
+use Rattle.gl_figures.specs.declared.Limit.{Limit}
+use Rattle.gl_elaborate.specs.Plans.{plan_of}
+use Rattle.gl_planner.specs.declared.planning.PlanFault.{PlanFault}
+use Rattle.gl_planner.specs.declared.planning.PlanFault.TheVariants as plan
+use Rattle.gl_planner.specs.Planned.{IsWithinLimits, PassesLimit}
+use Rattle.gl_plan_wiring.specs.Put.{IsFlat}
 use Rattle.gl_compiler.specs.declared.compiling.Compiled.{Compiled}
 use Rattle.gl_compiler.specs.declared.compiling.CompileFault.{CompileFault}
 use Rattle.gl_compiler.specs.declared.compiling.CompileFault.TheVariants as compile
-use Rattle.gl_compiler.specs.Selecting.{IsBuilt}
 
--- the text has this statement, which is of the form that is compiled, over this schema
+-- the statement is accepted, its plan is within the limits, and no window and no group stands in it
+pub record IsBuilt (schema : Schema) (statement : Statement) : Type 0 where
+  pub accepted : IsAccepted schema statement
+  pub within : IsWithinLimits (plan_of schema statement)
+  pub flat : IsFlat (plan_of schema statement).nodes (plan_of schema statement).root
+
+-- the text has this statement, which is compiled over this schema
 pub record IsQuery (schema : Schema) (text : List ℕ) (statement : Statement) : Type 0 where
   pub has : HasStatement text (statement_tree statement)
   pub built : IsBuilt schema statement
 
--- the text has a statement that is accepted, but not of the form that is compiled
+-- the text has a statement that is accepted and within the limits, but a window or a group stands in its plan
 pub record IsUnbuilt (schema : Schema) (text : List ℕ) : Type 0 where
   pub statement : Statement
   pub is : IsAcceptedText schema text statement
-  pub unbuilt : IsBuilt schema statement → ⊥
+  pub within : IsWithinLimits (plan_of schema statement)
+  pub unbuilt : IsFlat (plan_of schema statement).nodes (plan_of schema statement).root → ⊥
+
+-- the text has a statement that is accepted, and its plan passes this limit
+pub record IsOverLimit (schema : Schema) (text : List ℕ) (limit : Limit) : Type 0 where
+  pub statement : Statement
+  pub is : IsAcceptedText schema text statement
+  pub passes : PassesLimit (plan_of schema statement) limit
 
 -- why a query was refused; want of memory is free
 abbrev pub IsQueryRefused : Schema → List ℕ → CompileFault → Type 0
 IsQueryRefused schema text (compile.Schema f) = ⊥
 IsQueryRefused schema text (compile.Query f) = IsQueryFault schema text f
+IsQueryRefused schema text (compile.Limit l) = IsOverLimit schema text l
 IsQueryRefused schema text compile.NotBuilt = IsUnbuilt schema text
 IsQueryRefused schema text compile.Memory = Unit {0}
 
@@ -41,16 +63,21 @@ TellsCauses schema text r = (f : CompileFault) → IfRefused f (IsQueryRefused s
 
 -- the cycles from the last beat to the end of the result, and from one beat to the next
 abbrev pub latency_of : Schema → Statement → ℕ
-latency_of schema statement = 1
+latency_of schema statement = table.latency_of (plan_of schema statement).nodes (plan_of schema statement).root
 
 abbrev pub gap_of : Schema → Statement → ℕ
-gap_of schema statement = 1
+gap_of schema statement = table.gap_of (plan_of schema statement).nodes (plan_of schema statement).root
 
--- the copies of a body; no query that is compiled so far has one
+-- the copies of bodies
 abbrev pub copies_of : Schema → Statement → ℕ
-copies_of schema statement = 0
+copies_of schema statement = weights.copies_of (plan_of schema statement).nodes (plan_of schema statement).root
 
 -- the fault of a query's text, as the compiler answers it
 abbrev pub fault_of_query : QueryFault → CompileFault
 fault_of_query fault.Memory = compile.Memory
 fault_of_query f = compile.Query f
+
+-- the fault of a plan
+abbrev pub fault_of_plan : PlanFault → CompileFault
+fault_of_plan (plan.Limit l) = compile.Limit l
+fault_of_plan plan.Memory = compile.Memory

@@ -1,24 +1,35 @@
 //! Compiling a query.
 
-ghost use Rattle.std.specs.Prelude.{◌≡◌, ◌≤◌, IfOk, IfErr, MatchResult, length};
+ghost use Rattle.std.specs.Prelude.{◌≡◌, ◌≤◌, ◌^◌, IfOk, IfErr, MatchResult, length};
 ghost use Rattle.std.specs.List.{AllByRecursion};
 ghost use Rattle.gl_bits.specs.Kinds.{IsKind};
+ghost use Rattle.gl_schema.specs.Schemas.{IsSchema, column_names, kinds_of};
 ghost use Rattle.gl_query.specs.declared.tree.Statement.{Statement as Stated};
-ghost use Rattle.gl_schema.specs.Schemas.{IsSchema, kinds_of};
-ghost use Rattle.gl_compiler.specs.Selecting.{IsSelectOf};
+ghost use Rattle.gl_query.specs.Checked.{IsChecked};
+ghost use Rattle.gl_query.specs.Names.{StatementHasNames};
+ghost use Rattle.gl_query.specs.Shapes.{statement_shape};
+ghost use Rattle.gl_algebra.specs.Added.{placed_at};
+ghost use Rattle.gl_algebra.specs.Small.{AreFigures};
+ghost use Rattle.gl_elaborate.specs.Plans.{plan_of};
+ghost use Rattle.gl_planner.specs.Planned.{IsPlanned};
+ghost use Rattle.gl_plan_wiring.specs.Put.{IsFlat};
 ghost use Rattle.gl_compiler.specs.Meets.{Meets, result_columns};
-ghost use Rattle.gl_compiler.specs.Queries.{IsQuery, IsQueryRefused, IfRefused, TellsCauses, fault_of_query, latency_of, gap_of, copies_of};
-ghost use Rattle.gl_compiler.specs.Compiles.{IsCompiled, IsCompiledText, IsRefused, IsTextRefused};
+ghost use Rattle.gl_compiler.specs.Queries.{IsQuery, IsQueryRefused, IfRefused, TellsCauses, fault_of_query, fault_of_plan, latency_of, gap_of, copies_of};
+ghost use Rattle.gl_compiler.specs.Compiles.{HasCost, IsCompiled, IsCompiledText, IsRefused, IsTextRefused};
 
-use crate::select::{Select, select_of};
+use crate::naming::{kinds, names, result_columns};
+use gl_algebra::{Figures, Plan, PlanId};
 use gl_bits::{Kind, Listed, Memory};
-use gl_figures::Printed;
+use gl_cost::{Cost, cost_of};
+use gl_figures::{Limit, Printed};
+use gl_planner::{PlanFault, Planned, plan_statement};
+use gl_query::columns::copy_of_name;
 use gl_query::{QueryFault, Statement};
 use gl_query_check::Checked;
 use gl_query_judge::judge_query;
-use gl_schema::{Schema, SchemaFault, read_schema};
+use gl_schema::{Column, Schema, SchemaFault, read_schema};
 use gl_verilog_writer::write_module;
-use gl_wiring::wire_select;
+use gl_wiring::{ResultNames, wire_plan};
 use std::alloc::Global;
 use thiserror::Error;
 
@@ -31,7 +42,10 @@ pub enum CompileFault {
     /// The query's text has no statement, or one that is not accepted.
     #[error("the query is refused")]
     Query(QueryFault),
-    /// The query is of a form that is not compiled yet.
+    /// The query's plan passes a limit.
+    #[error("the query passes a limit")]
+    Limit(Limit),
+    /// The query has a window or a group, which is not compiled yet.
     #[error("the query is not compiled yet")]
     NotBuilt,
     /// Want of memory.
@@ -39,14 +53,25 @@ pub enum CompileFault {
     Memory,
 }
 
-/// A compiled query: the text of its module, its figures, and what it was made of.
+/// The text of a module, and what it costs.
+#[derive(Drop)]
+struct Emission {
+    text: Vec<u8>,
+    cost: Cost,
+}
+
+/// A compiled query: the text of its module, its figures and its cost, and what it was made of.
 #[derive(Drop)]
 pub struct Compiled {
     text: Vec<u8>,
     printed: Printed,
+    cost: Cost,
     schema: Schema,
     statement: Statement,
     kinds: Listed<Kind>,
+    plan: Plan,
+    root: PlanId,
+    figures: Vec<Figures>,
 }
 
 impl Compiled {
@@ -62,6 +87,34 @@ impl Compiled {
         ensures { result ≡ self.now.printed }
     {
         self.printed
+    }
+
+    /// The bits of registers and of memories that the text declares.
+    pub fn cost(&self) -> Cost
+        ensures { result ≡ self.now.cost }
+    {
+        self.cost
+    }
+
+    /// The nodes of the statement's plan.
+    pub fn plan(&self) -> &Plan
+        ensures { result.now ≡ self.now.plan }
+    {
+        &self.plan
+    }
+
+    /// The node of the whole statement.
+    pub fn root(&self) -> PlanId
+        ensures { result ≡ self.now.root }
+    {
+        self.root
+    }
+
+    /// The figures of each node, in cycles and tuples.
+    pub fn figures(&self) -> &[Figures]
+        ensures { result.now ≡ self.now.figures.items }
+    {
+        &self.figures
     }
 
     /// The schema.
@@ -86,66 +139,122 @@ impl Compiled {
     }
 }
 
-// The text of a select's module.
-fn text_of(
-    alloc: Global,
-    schema: &Schema,
-    statement: &Statement,
-    select: &Select,
-) -> Result<Vec<u8>, Memory>
-    requires schema { IsSchema schema.now }
-    requires select { IsSelectOf schema.now statement.now select.now }
-    ensures { IfOk result (λ text. Meets schema.now statement.now 1 1 text.items) }
+// The names of a statement's result, whose columns these are.
+fn names_of(alloc: Global, statement: &Statement, columns: &[Column]) -> Result<ResultNames, Memory>
+    ensures into { IfOk result (λ names. names.into ≡ statement.now.name.text) }
+    ensures columns { IfOk result (λ names. names.columns ≡ column_names columns.now) }
 {
-    let net = wire_select(alloc, schema, select.stream, &select.columns, &select.names)?;
-    let mut text = Vec::new(alloc);
-    write_module(&net, &mut text)?;
-    Ok(text)
+    Ok(ResultNames {
+        into: copy_of_name(alloc, statement.name.text.as_slice())?,
+        columns: names(alloc, columns)?,
+    })
 }
 
-/// Compiles a statement over a schema.
-///
-/// Every run of the text is right for the statement, one cycle later and for tuples in each cycle.
-/// `NotBuilt` comes exactly where the statement is no select of columns of one stream of the
-/// schema under their own names, at most 32 and none twice.
-pub fn compile_statement(
+// The text of the module of a plan.
+fn text_of(
     alloc: Global,
-    schema: Schema,
-    statement: Statement,
-) -> Result<Compiled, CompileFault>
-    requires { IsSchema schema }
-    ensures compiled { MatchResult result (IsCompiled schema statement)
-        (IsRefused schema statement) }
-    ensures schema { IfOk result (λ c. c.schema ≡ schema) }
-    ensures many { IfOk result (λ c. length c.kinds ≤ 32) }
-    ensures kinds { IfOk result (λ c. AllByRecursion IsKind c.kinds) }
+    checked: &Checked,
+    planned: &Planned,
+    columns: &[Column],
+) -> Result<Emission, Memory>
+    requires checked { IsChecked checked.now.schema checked.now.statement }
+    requires names { StatementHasNames (statement_shape checked.now.statement) }
+    requires planned { IsPlanned checked.now.schema checked.now.statement planned.now }
+    requires flat { IsFlat planned.now.plan planned.now.root }
+    requires columns { columns.now
+        ≡ result_columns checked.now.schema checked.now.statement }
+    ensures meets { let s = checked.now.schema in let q = checked.now.statement in
+        IfOk result (λ made. Meets s q (latency_of s q) (gap_of s q) made.text.items) }
+    ensures cost { IfOk result (λ made. HasCost checked.now.schema checked.now.statement
+        made.text.items made.cost) }
 {
-    let select = match select_of(alloc, &schema, &statement) {
-        Ok(Some(select)) => select,
-        Ok(None) => return Err(CompileFault::NotBuilt),
-        Err(_) => return Err(CompileFault::Memory),
+    let names = names_of(alloc, &checked.statement, columns)?;
+    let net = wire_plan(
+        alloc,
+        &checked.schema,
+        &planned.plan,
+        planned.root,
+        &planned.figures,
+        &names,
+    )?;
+    let mut text = Vec::new(alloc);
+    write_module(&net, &mut text)?;
+    Ok(Emission {
+        text,
+        cost: cost_of(&net),
+    })
+}
+
+// The fault of a plan.
+fn plan_fault(fault: PlanFault) -> CompileFault
+    ensures { result ≡ fault_of_plan fault }
+{
+    match fault {
+        PlanFault::Limit(limit) => CompileFault::Limit(limit),
+        PlanFault::Memory => CompileFault::Memory,
+    }
+}
+
+// What a statement is compiled to: the text of its module, and the kinds of its columns.
+fn built(
+    alloc: Global,
+    checked: &Checked,
+    planned: &Planned,
+) -> Result<(Emission, Listed<Kind>), Memory>
+    requires checked { IsChecked checked.now.schema checked.now.statement }
+    requires names { StatementHasNames (statement_shape checked.now.statement) }
+    requires planned { IsPlanned checked.now.schema checked.now.statement planned.now }
+    requires flat { IsFlat planned.now.plan planned.now.root }
+    ensures meets { let s = checked.now.schema in let q = checked.now.statement in
+        IfOk result (λ made. Meets s q (latency_of s q) (gap_of s q) made.0.text.items) }
+    ensures cost { IfOk result (λ made. HasCost checked.now.schema checked.now.statement
+        made.0.text.items made.0.cost) }
+    ensures kinds { IfOk result (λ made.
+        made.1 ≡ kinds_of (result_columns checked.now.schema checked.now.statement)) }
+{
+    let columns = result_columns(alloc, &checked.schema, &checked.statement)?;
+    let text = text_of(alloc, checked, planned, columns.as_slice())?;
+    let kinds = kinds(alloc, columns.as_slice())?;
+    Ok((text, kinds))
+}
+
+// Compiles a checked statement whose names are names.
+fn compile_checked(alloc: Global, checked: Checked) -> Result<Compiled, CompileFault>
+    requires checked { IsChecked checked.schema checked.statement }
+    requires names { StatementHasNames (statement_shape checked.statement) }
+    ensures { MatchResult result (IsCompiled checked.schema checked.statement)
+        (IsRefused checked.schema checked.statement) }
+{
+    let planned = match plan_statement(alloc, &checked) {
+        Ok(planned) => planned,
+        Err(fault) => return Err(plan_fault(fault)),
     };
-    let Ok(text) = text_of(alloc, &schema, &statement, &select) else {
+    let printed = planned.printed;
+    if printed.copies != 0 {
+        return Err(CompileFault::NotBuilt);
+    }
+    let Ok((made, kinds)) = built(alloc, &checked, &planned) else {
         return Err(CompileFault::Memory);
     };
+    let Checked { schema, statement } = checked;
     Ok(Compiled {
-        text,
-        printed: Printed {
-            latency: 1,
-            gap: 1,
-            copies: 0,
-        },
+        text: made.text,
+        printed,
+        cost: made.cost,
         schema,
         statement,
-        kinds: select.kinds,
+        kinds,
+        plan: planned.plan,
+        root: planned.root,
+        figures: planned.figures,
     })
 }
 
 /// Compiles the text of a query over a schema.
 ///
 /// `Query` is the first fault of the text, by reading and then by the rules of acceptance, and comes
-/// exactly where it has one; `NotBuilt` comes exactly where its statement is accepted and not of the
-/// form that is compiled.
+/// exactly where it has one; `Limit` comes exactly where its statement is accepted and its plan passes
+/// this limit, and `NotBuilt` exactly where the plan is within the limits and has a window or a group.
 pub fn compile_query(alloc: Global, schema: Schema, query: &[u8]) -> Result<Compiled, CompileFault>
     requires { IsSchema schema }
     ensures schema { IfOk result (λ c. c.schema ≡ schema) }
@@ -156,6 +265,10 @@ pub fn compile_query(alloc: Global, schema: Schema, query: &[u8]) -> Result<Comp
     ensures latency { IfOk result (λ c. c.printed.latency ≡ latency_of schema c.statement) }
     ensures gap { IfOk result (λ c. c.printed.gap ≡ gap_of schema c.statement) }
     ensures copies { IfOk result (λ c. c.printed.copies ≡ copies_of schema c.statement) }
+    ensures short { IfOk result (λ c. c.printed.latency ≤ 2 ^ 32) }
+    ensures plan { IfOk result (λ c. placed_at c.plan c.root ≡ plan_of schema c.statement) }
+    ensures figures { IfOk result (λ c. AreFigures c.plan c.figures.items) }
+    ensures cost { IfOk result (λ c. HasCost schema c.statement c.text.items c.cost) }
     ensures meets { IfOk result (λ c. Meets schema c.statement c.printed.latency c.printed.gap
         c.text.items) }
     ensures cause { IfErr result (IsQueryRefused schema query.now) }
@@ -163,23 +276,14 @@ pub fn compile_query(alloc: Global, schema: Schema, query: &[u8]) -> Result<Comp
         → IsQuery schema query.now statement → ⊥)) }
     ensures told { TellsCauses schema query.now result }
 {
-    let statement = match judge_query(alloc, &schema, query) {
-        Ok(checked) => statement_of(checked),
+    let checked = match judge_query(alloc, &schema, query) {
+        Ok(checked) => checked,
         Err(fault) => return Err(query_fault(fault)),
     };
-    match compile_statement(alloc, schema, statement) {
+    match compile_checked(alloc, checked) {
         Ok(compiled) => Ok(compiled),
         Err(fault) => Err(fault),
     }
-}
-
-// The statement of what was checked.
-fn statement_of(checked: Checked) -> Statement
-    ensures { result ≡ checked.statement }
-{
-    let Checked { statement, schema } = checked;
-    drop(schema);
-    statement
 }
 
 // The fault of a query's text.

@@ -11,9 +11,9 @@ pub mod executing;
 pub mod laws;
 mod lines;
 pub mod looking;
+mod naming;
 pub mod pins;
-pub mod select;
 
-pub use compiling::{CompileFault, Compiled, compile, compile_query, compile_statement};
+pub use compiling::{CompileFault, Compiled, compile, compile_query};
 pub use executing::{Outcome, execute, execute_module};
 pub use laws::outputs_bind_nothing;

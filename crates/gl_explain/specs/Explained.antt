@@ -1,60 +1,12 @@
--- What is explained of a statement, and the limit that its plan passes.
-use Rattle.std.specs.Prelude.{ℕ, ◌≡◌, ◌<◌, ◌≤◌, List, ◌++◌, length}
+-- What is explained of a statement.
+use Rattle.std.specs.Prelude.{ℕ, ◌≡◌, List}
 use Rattle.gl_schema.specs.declared.schema.Schema.{Schema}
 use Rattle.gl_query.specs.declared.tree.Statement.{Statement}
-use Rattle.gl_algebra.specs.declared.node.PlanNode.{PlanNode}
-use Rattle.gl_algebra.specs.Added.{Placed}
-use Rattle.gl_algebra.specs.FigureTable.{AreSmall, figures_of}
-use Rattle.gl_algebra.specs.Weights.{weight_with_output}
-use Rattle.gl_figures.specs.declared.Limit.{Limit}
-use Rattle.gl_figures.specs.declared.Limit.TheVariants.{Latency, Nodes}
-use Rattle.gl_figures.specs.Answered.{AreSmallBefore, most_weight}
-use Rattle.gl_figures.specs.Known.{capped}
 use Rattle.gl_elaborate.specs.Plans.{plan_of}
-use Rattle.gl_explain.specs.declared.explaining.ExplainFault.{ExplainFault}
-use Rattle.gl_explain.specs.declared.explaining.ExplainFault.TheVariants as explain
+use Rattle.gl_planner.specs.Planned.{IsWithinLimits}
 use Rattle.gl_explain.specs.Lines.{plan_text}
 
--- each figure of a plan is below 2^32
-abbrev pub AreAllSmall : List PlanNode → Type 0
-AreAllSmall nodes = AreSmallBefore nodes (length nodes)
-
--- and its weight with the output is at most 262,144
-pub record IsWithinLimits (at : Placed) : Type 0 where
-  pub small : AreAllSmall at.nodes
-  pub light : weight_with_output at.nodes at.root ≤ most_weight
-
--- this node is the first that has a figure of 2^32 or more
-pub record IsLateAt (nodes : List PlanNode) (node : ℕ) : Type 0 where
-  pub within : node < length nodes
-  pub before : AreSmallBefore nodes node
-  pub large : AreSmall (figures_of nodes node) → ⊥
-
--- the figures are below 2^32, and the weight with the output is more than 262,144; this is it, or 2^62 where it is more
-pub record IsTooHeavy (at : Placed) (weight : ℕ) : Type 0 where
-  pub small : AreAllSmall at.nodes
-  pub heavy : most_weight < weight_with_output at.nodes at.root
-  pub is : weight ≡ capped (weight_with_output at.nodes at.root)
-
--- the limit that a plan passes: latency comes before weight
-abbrev pub PassesLimit : Placed → Limit → Type 0
-PassesLimit at (Latency node) = IsLateAt at.nodes node
-PassesLimit at (Nodes weight) = IsTooHeavy at weight
-
--- what is appended for a statement whose plan is within the limits
-pub record IsExplained (schema : Schema) (statement : Statement) (old new : List ℕ) : Type 0 where
+-- its plan is within the limits, and these are the bytes of both
+pub record IsExplained (schema : Schema) (statement : Statement) (bytes : List ℕ) : Type 0 where
   pub within : IsWithinLimits (plan_of schema statement)
-  pub is : new ≡ old ++ plan_text schema statement (plan_of schema statement)
-
--- why nothing is appended; want of memory is free
-abbrev pub PassesOr : Placed → ExplainFault → Type 0
-PassesOr at (explain.Limit limit) = PassesLimit at limit
-PassesOr at explain.Memory = Unit {0}
-
--- a plan that passes a limit passes no other, and is not within the limits
-pub record HasOneLimit (at : Placed) (limit : Limit) : Type 0 where
-  pub only : (other : Limit) → PassesLimit at other → other ≡ limit
-  pub over : IsWithinLimits at → ⊥
-
-abbrev pub PlansPassOneLimit : Type 0
-PlansPassOneLimit = (at : Placed) (limit : Limit) → PassesLimit at limit → HasOneLimit at limit
+  pub is : bytes ≡ plan_text schema statement (plan_of schema statement)

@@ -1,12 +1,10 @@
-//! A statement and its plan as text: the canonical text of the statement, a line for each node with
-//! its words and its figures, and the root.
+//! A statement and its plan as text: the canonical text of the statement, a line for each node with its
+//! words and its figures, and the root.
 //!
 //! It works for every accepted statement, whether its circuit can be built or not.
 #![tactic(auto)]
 
 pub mod explaining;
-pub mod laws;
 mod lines;
 
-pub use explaining::{ExplainFault, explain};
-pub use laws::plans_pass_one_limit;
+pub use explaining::explain;

@@ -1,24 +1,23 @@
 -- What each status says.
-use Rattle.std.proofs.Common.{◌≡◌, ◌≢◌, ◌⊎◌, ℕ, List, [], refl, sym, subst, ◌∙◌, inl, inr}
+use Rattle.std.proofs.Common.{◌≡◌, ◌≢◌, ◌⊎◌, ℕ, List, [], Option, Some, refl, sym, subst, ◌∙◌, inl, inr}
 use Rattle.gl_outside.specs.Counts.{Rose}
 use Rattle.gl_schema.specs.declared.schema.Schema.{Schema}
 use Rattle.gl_query.specs.declared.tree.Statement.{Statement}
 use Rattle.gl_query.specs.declared.fault.QueryFault.{QueryFault}
-use Rattle.gl_tuples.specs.declared.beats.Beat.{Beat}
 use Rattle.gl_top.specs.declared.notes.Refusal.{Refusal}
 use Rattle.gl_top.specs.declared.notes.Refusal.TheVariants as refusal
 use Rattle.gl_top.specs.declared.status.Status.{Status}
 use Rattle.gl_top.specs.declared.status.Status.TheVariants as status
-use Rattle.gl_top.specs.Forms.{IsForm}
+use Rattle.gl_outside.specs.Told.{Told}
+use Rattle.gl_forms.specs.declared.command.Command.{Command}
+use Rattle.gl_forms.specs.declared.command.Command.TheVariants.{Compile, Figures, Explain, Run}
+use Rattle.gl_forms.specs.Forms.{IsForm, command_of}
 use Rattle.gl_outside.specs.States.{Took}
 use Rattle.gl_top.specs.Refusals.{Puts, Notes, status_of, note_of, write_line}
-use Rattle.gl_elaborate.specs.Plans.{plan_of}
-use Rattle.gl_explain.specs.Explained.{IsWithinLimits}
-use Rattle.gl_top.specs.Passing.{TuplesPass, ExplainPasses}
 use Rattle.gl_top.specs.Causes.{Change, HasCause, IsBadQuery, IsRefused}
-use Rattle.gl_top.specs.Verdicts.{IsAnswer, Ran, Broke', Explained, BrokeOff, Ended, IsTelling, Yields, Same, ToRead, ToWrite, ToMemory, IsFaultless, Says, TellsFault}
+use Rattle.gl_top.specs.Verdicts.{AllPass, Three, IsAnswer, Ran, Broke', Shown, Cut, Ended, IsShownOf, Shows, IsTelling, Yields, Same, ToRead, ToWrite, ToMemory, IsFaultless, Says, TellsFault}
 use Rattle.gl_top.proofs.Texts.{next_form}
-use Rattle.gl_top.proofs.Deciding.{Stops, one_bad_query, stops, stops_once, passes_goes, planned_goes}
+use Rattle.gl_top.proofs.Deciding.{Stops, one_bad_query, stops, stops_once, passes_goes, two_go}
 
 noted_write : (own answered : Status) (line : List ℕ) (notes : Puts) → own ≡ status.WriteFault → Notes own line notes answered → answered ≡ status.WriteFault
 noted_write own answered line notes e (inl n) = n.0 ∙ e
@@ -37,8 +36,8 @@ of_refusal words c out notes (refusal.ReadFault p) h = (p, h)
 of_refusal words c out notes (refusal.TooLong p) h = inl (p, h.0)
 of_refusal words c out notes (refusal.Schema f) h = (f, h.0)
 of_refusal words c out notes (refusal.Query f) h = (f, h.0)
-of_refusal words c out notes refusal.NotBuilt h = h.0
 of_refusal words c out notes (refusal.Limit l) h = inr (l, h.0)
+of_refusal words c out notes refusal.NotBuilt h = h.0
 of_refusal words c out notes (refusal.Tuples f) h = (f, h.0)
 of_refusal words c out notes refusal.Memory h = tt
 
@@ -49,8 +48,8 @@ says_noted words c out notes own answered line h (inr n) = subst (Says words c o
 pub when_says : (words : List (List ℕ)) (c : Change) (out notes : Puts) (text : List ℕ) (answered : Status) → IsAnswer words c out notes text answered → Says words c out notes answered
 when_says words c out notes text answered (Ran d) = subst (Says words c out notes) (sym d.done) (d.calm, d.whole, d.silent)
 when_says words c out notes text answered (Broke' b) = says_noted words c out notes status.WriteFault answered write_line (inl b.cause) b.noted
-when_says words c out notes text answered (Explained d) = subst (Says words c out notes) (sym d.done) (d.calm, d.wrote.calm, d.silent)
-when_says words c out notes text answered (BrokeOff b) = says_noted words c out notes status.WriteFault answered write_line (inl b.wrote.cause) b.noted
+when_says words c out notes text answered (Shown d) = subst (Says words c out notes) (sym d.done) (d.calm, d.wrote.calm, d.silent)
+when_says words c out notes text answered (Cut b) = says_noted words c out notes status.WriteFault answered write_line (inl b.wrote.cause) b.noted
 when_says words c out notes text answered (Ended d) = says_noted words c out notes (status_of d.refusal) answered (note_of words d.refusal) (of_refusal words c out notes d.refusal d.cause) d.noted
 
 -- with the status of a refused query its one fault is noted
@@ -64,25 +63,32 @@ told_by words c notes answered fault tells bad e (refusal.Missing p) h n = other
 told_by words c notes answered fault tells bad e (refusal.ReadFault p) h n = other_status (refusal.ReadFault p) answered notes (note_of words (refusal.ReadFault p)) (λ f. absurd cc) e n
 told_by words c notes answered fault tells bad e (refusal.TooLong p) h n = other_status (refusal.TooLong p) answered notes (note_of words (refusal.TooLong p)) (λ f. absurd cc) e n
 told_by words c notes answered fault tells bad e (refusal.Schema g) h n = other_status (refusal.Schema g) answered notes (note_of words (refusal.Schema g)) (λ f. absurd cc) e n
-told_by words c notes answered fault tells bad e refusal.NotBuilt h n = other_status refusal.NotBuilt answered notes (note_of words refusal.NotBuilt) (λ f. absurd cc) e n
 told_by words c notes answered fault tells bad e (refusal.Limit l) h n = other_status (refusal.Limit l) answered notes (note_of words (refusal.Limit l)) (λ f. absurd cc) e n
+told_by words c notes answered fault tells bad e refusal.NotBuilt h n = other_status refusal.NotBuilt answered notes (note_of words refusal.NotBuilt) (λ f. absurd cc) e n
 told_by words c notes answered fault tells bad e (refusal.Tuples g) h n = other_status (refusal.Tuples g) answered notes (note_of words (refusal.Tuples g)) (λ f. absurd cc) e n
 told_by words c notes answered fault tells bad e refusal.Memory h n = other_status refusal.Memory answered notes (note_of words refusal.Memory) (λ f. absurd cc) e n
 
 pub when_told : (words : List (List ℕ)) (c : Change) (out notes : Puts) (text : List ℕ) (answered : Status) → IsAnswer words c out notes text answered → TellsFault words c notes answered
 when_told words c out notes text answered (Ran d) fault tells bad e = absurd (let f : status.Query ≡ status.Done = sym e ∙ d.done in cc)
 when_told words c out notes text answered (Broke' b) fault tells bad e = absurd (let f : status.Query ≡ status.WriteFault = sym e ∙ noted_write status.WriteFault answered write_line notes refl b.noted in cc)
-when_told words c out notes text answered (Explained d) fault tells bad e = absurd (let f : status.Query ≡ status.Done = sym e ∙ d.done in cc)
-when_told words c out notes text answered (BrokeOff b) fault tells bad e = absurd (let f : status.Query ≡ status.WriteFault = sym e ∙ noted_write status.WriteFault answered write_line notes refl b.noted in cc)
+when_told words c out notes text answered (Shown d) fault tells bad e = absurd (let f : status.Query ≡ status.Done = sym e ∙ d.done in cc)
+when_told words c out notes text answered (Cut b) fault tells bad e = absurd (let f : status.Query ≡ status.WriteFault = sym e ∙ noted_write status.WriteFault answered write_line notes refl b.noted in cc)
 when_told words c out notes text answered (Ended d) fault tells bad e = told_by words c notes answered fault tells bad e d.refusal d.cause d.noted
 
--- nothing is written but by a run, or by what is explained
+-- nothing is written but by a run
 pub when_untouched : (words : List (List ℕ)) (c : Change) (out notes : Puts) (text : List ℕ) (answered : Status) → IsAnswer words c out notes text answered → answered ≢ status.Done → answered ≢ status.WriteFault → Took out.old out.new []
 when_untouched words c out notes text answered (Ran d) nd nw = absurd (nd d.done)
 when_untouched words c out notes text answered (Broke' b) nd nw = absurd (nw (noted_write status.WriteFault answered write_line notes refl b.noted))
-when_untouched words c out notes text answered (Explained d) nd nw = absurd (nd d.done)
-when_untouched words c out notes text answered (BrokeOff b) nd nw = absurd (nw (noted_write status.WriteFault answered write_line notes refl b.noted))
+when_untouched words c out notes text answered (Shown d) nd nw = absurd (nd d.done)
+when_untouched words c out notes text answered (Cut b) nd nw = absurd (nw (noted_write status.WriteFault answered write_line notes refl b.noted))
 when_untouched words c out notes text answered (Ended d) nd nw = d.untouched
+
+-- a command that shows something does not run
+runs_none : (c : Command) (schema : Schema) (statement : Statement) (bytes text : List ℕ) → Shows c schema statement bytes text → (o : Option Command) → o ≡ Some c → o ≢ Some Run
+runs_none Compile schema statement bytes text h o e r = let f : ◌≡◌ {A = Option Command} (Some Compile) (Some Run) = sym e ∙ r in cc
+runs_none Figures schema statement bytes text h o e r = let f : ◌≡◌ {A = Option Command} (Some Figures) (Some Run) = sym e ∙ r in cc
+runs_none Explain schema statement bytes text h o e r = let f : ◌≡◌ {A = Option Command} (Some Explain) (Some Run) = sym e ∙ r in cc
+runs_none Run schema statement bytes text h o e r = h
 
 -- what is answered, where a refusal was noted or not
 yields : (r : Refusal) (own answered : Status) (c : Change) (notes : Puts) (line : List ℕ) → status_of r ≡ own → Notes (status_of r) line notes answered → Yields own c notes answered
@@ -99,55 +105,44 @@ by_cause words c notes answered own tells st (refusal.Missing p) h n = yields (r
 by_cause words c notes answered own tells st (refusal.TooLong p) h n = yields (refusal.TooLong p) own answered c notes (note_of words (refusal.TooLong p)) (stops_once c.old.told words (status_of (refusal.TooLong p)) own tells (stops c.old.told words (refusal.TooLong p) h.0) st) n
 by_cause words c notes answered own tells st (refusal.Schema f) h n = yields (refusal.Schema f) own answered c notes (note_of words (refusal.Schema f)) (stops_once c.old.told words (status_of (refusal.Schema f)) own tells (stops c.old.told words (refusal.Schema f) h.0) st) n
 by_cause words c notes answered own tells st (refusal.Query f) h n = yields (refusal.Query f) own answered c notes (note_of words (refusal.Query f)) (stops_once c.old.told words (status_of (refusal.Query f)) own tells (stops c.old.told words (refusal.Query f) h.0) st) n
-by_cause words c notes answered own tells st refusal.NotBuilt h n = yields refusal.NotBuilt own answered c notes (note_of words refusal.NotBuilt) (stops_once c.old.told words (status_of refusal.NotBuilt) own tells (stops c.old.told words refusal.NotBuilt h.0) st) n
 by_cause words c notes answered own tells st (refusal.Limit l) h n = yields (refusal.Limit l) own answered c notes (note_of words (refusal.Limit l)) (stops_once c.old.told words (status_of (refusal.Limit l)) own tells (stops c.old.told words (refusal.Limit l) h.0) st) n
+by_cause words c notes answered own tells st refusal.NotBuilt h n = yields refusal.NotBuilt own answered c notes (note_of words refusal.NotBuilt) (stops_once c.old.told words (status_of refusal.NotBuilt) own tells (stops c.old.told words refusal.NotBuilt h.0) st) n
 by_cause words c notes answered own tells st (refusal.Tuples f) h n = yields (refusal.Tuples f) own answered c notes (note_of words (refusal.Tuples f)) (stops_once c.old.told words (status_of (refusal.Tuples f)) own tells (stops c.old.told words (refusal.Tuples f) h.0) st) n
 
+-- what is shown was not refused
+shown_goes : (told : List ℕ → Told) (words : List (List ℕ)) (bytes text : List ℕ) (a : Status) → IsTelling told words → IsShownOf told words bytes text → Stops told words a → ⊥
+shown_goes told words bytes text a tells d h = two_go told words d.schema d.statement a tells d.passes (runs_none d.command d.schema d.statement bytes text d.shows (command_of words) d.is) h
+
 pub when_refused : (words : List (List ℕ)) (c : Change) (out notes : Puts) (text : List ℕ) (answered : Status) → IsAnswer words c out notes text answered → (r : Refusal) → IsTelling c.old.told words → IsRefused c.old.told words r → Yields (status_of r) c notes answered
-when_refused words c out notes text answered (Ran d) r tells h = absurd (passes_goes c.old.told words d.schema d.statement d.beats (status_of r) tells d.emitted.passes (stops c.old.told words r h))
-when_refused words c out notes text answered (Broke' b) r tells h = absurd (passes_goes c.old.told words b.schema b.statement b.beats (status_of r) tells b.emitted.passes (stops c.old.told words r h))
-when_refused words c out notes text answered (Explained d) r tells h =
-    absurd (planned_goes c.old.told words d.planned.schema d.planned.statement (status_of r) tells d.planned.passes d.planned.within (stops c.old.told words r h))
-when_refused words c out notes text answered (BrokeOff b) r tells h =
-    absurd (planned_goes c.old.told words b.planned.schema b.planned.statement (status_of r) tells b.planned.passes b.planned.within (stops c.old.told words r h))
+when_refused words c out notes text answered (Ran d) r tells h = absurd (passes_goes c.old.told words (status_of r) tells (Three d.schema d.statement d.beats d.emitted.passes) (stops c.old.told words r h))
+when_refused words c out notes text answered (Broke' b) r tells h = absurd (passes_goes c.old.told words (status_of r) tells (Three b.schema b.statement b.beats b.emitted.passes) (stops c.old.told words r h))
+when_refused words c out notes text answered (Shown d) r tells h = absurd (shown_goes c.old.told words d.bytes text (status_of r) tells d.shown (stops c.old.told words r h))
+when_refused words c out notes text answered (Cut b) r tells h = absurd (shown_goes c.old.told words b.bytes text (status_of r) tells b.shown (stops c.old.told words r h))
 when_refused words c out notes text answered (Ended d) r tells h = by_cause words c notes answered (status_of r) tells (stops c.old.told words r h) d.refusal d.cause d.noted
 
 calm_noted : (s : Refusal) (line : List ℕ) (notes : Puts) (answered : Status) {A : Type 0} → (Rose notes.old.faults notes.new.faults → ⊥) → (answered ≡ status_of s → A) → Notes (status_of s) line notes answered → A
 calm_noted s line notes answered calm f (inl n) = f n.0
 calm_noted s line notes answered calm f (inr n) = absurd (calm n.1.cause)
 
--- nothing is refused
-abbrev NoneStops : List (List ℕ) → Change → Type 0
-NoneStops words c = (a : Status) → Stops c.old.told words a → ⊥
-
-by_calm : (words : List (List ℕ)) (c : Change) (out notes : Puts) (answered : Status) → NoneStops words c → IsFaultless c out notes
+by_calm : (words : List (List ℕ)) (c : Change) (out notes : Puts) (answered : Status) → IsTelling c.old.told words → AllPass c.old.told words → IsFaultless c out notes
     → (s : Refusal) → HasCause words c s → Notes (status_of s) (note_of words s) notes answered → (answered ≡ status.Done) ⊎ (answered ≡ status.Memory)
-by_calm words c out notes answered none calm refusal.Memory h n = calm_noted refusal.Memory (note_of words refusal.Memory) notes answered calm.notes' (λ e. inr e) n
-by_calm words c out notes answered none calm (refusal.ReadFault q) h n = absurd (calm.shelf h.1.faults)
-by_calm words c out notes answered none calm refusal.Usage h n = absurd (none _ (stops c.old.told words refusal.Usage h.0))
-by_calm words c out notes answered none calm (refusal.Missing p) h n = absurd (none _ (stops c.old.told words (refusal.Missing p) h.0))
-by_calm words c out notes answered none calm (refusal.TooLong p) h n = absurd (none _ (stops c.old.told words (refusal.TooLong p) h.0))
-by_calm words c out notes answered none calm (refusal.Schema f) h n = absurd (none _ (stops c.old.told words (refusal.Schema f) h.0))
-by_calm words c out notes answered none calm (refusal.Query f) h n = absurd (none _ (stops c.old.told words (refusal.Query f) h.0))
-by_calm words c out notes answered none calm refusal.NotBuilt h n = absurd (none _ (stops c.old.told words refusal.NotBuilt h.0))
-by_calm words c out notes answered none calm (refusal.Limit l) h n = absurd (none _ (stops c.old.told words (refusal.Limit l) h.0))
-by_calm words c out notes answered none calm (refusal.Tuples f) h n = absurd (none _ (stops c.old.told words (refusal.Tuples f) h.0))
+by_calm words c out notes answered tells pass calm refusal.Memory h n = calm_noted refusal.Memory (note_of words refusal.Memory) notes answered calm.notes' (λ e. inr e) n
+by_calm words c out notes answered tells pass calm (refusal.ReadFault q) h n = absurd (calm.shelf h.1.faults)
+by_calm words c out notes answered tells pass calm refusal.Usage h n = absurd (passes_goes c.old.told words (status_of refusal.Usage) tells pass (stops c.old.told words refusal.Usage h.0))
+by_calm words c out notes answered tells pass calm (refusal.Missing p) h n = absurd (passes_goes c.old.told words (status_of (refusal.Missing p)) tells pass (stops c.old.told words (refusal.Missing p) h.0))
+by_calm words c out notes answered tells pass calm (refusal.TooLong p) h n = absurd (passes_goes c.old.told words (status_of (refusal.TooLong p)) tells pass (stops c.old.told words (refusal.TooLong p) h.0))
+by_calm words c out notes answered tells pass calm (refusal.Schema f) h n = absurd (passes_goes c.old.told words (status_of (refusal.Schema f)) tells pass (stops c.old.told words (refusal.Schema f) h.0))
+by_calm words c out notes answered tells pass calm (refusal.Query f) h n = absurd (passes_goes c.old.told words (status_of (refusal.Query f)) tells pass (stops c.old.told words (refusal.Query f) h.0))
+by_calm words c out notes answered tells pass calm (refusal.Limit l) h n = absurd (passes_goes c.old.told words (status_of (refusal.Limit l)) tells pass (stops c.old.told words (refusal.Limit l) h.0))
+by_calm words c out notes answered tells pass calm refusal.NotBuilt h n = absurd (passes_goes c.old.told words (status_of refusal.NotBuilt) tells pass (stops c.old.told words refusal.NotBuilt h.0))
+by_calm words c out notes answered tells pass calm (refusal.Tuples f) h n = absurd (passes_goes c.old.told words (status_of (refusal.Tuples f)) tells pass (stops c.old.told words (refusal.Tuples f) h.0))
 
-calm_done : (words : List (List ℕ)) (c : Change) (out notes : Puts) (text : List ℕ) (answered : Status) → IsAnswer words c out notes text answered → NoneStops words c → IsFaultless c out notes
-    → (answered ≡ status.Done) ⊎ (answered ≡ status.Memory)
-calm_done words c out notes text answered (Ran d) none calm = inl d.done
-calm_done words c out notes text answered (Broke' b) none calm = absurd (calm.out' b.cause)
-calm_done words c out notes text answered (Explained d) none calm = inl d.done
-calm_done words c out notes text answered (BrokeOff b) none calm = absurd (calm.out' b.wrote.cause)
-calm_done words c out notes text answered (Ended d) none calm = by_calm words c out notes answered none calm d.refusal d.cause d.noted
-
-pub when_calm : (words : List (List ℕ)) (c : Change) (out notes : Puts) (text : List ℕ) (answered : Status) → IsAnswer words c out notes text answered → (schema : Schema) (statement : Statement) (beats : List Beat) → IsTelling c.old.told words → TuplesPass c.old.told words schema statement beats → IsFaultless c out notes → (answered ≡ status.Done) ⊎ (answered ≡ status.Memory)
-when_calm words c out notes text answered a schema statement beats tells p calm =
-    calm_done words c out notes text answered a (λ own. passes_goes c.old.told words schema statement beats own tells p) calm
-
-pub when_planned : (words : List (List ℕ)) (c : Change) (out notes : Puts) (text : List ℕ) (answered : Status) → IsAnswer words c out notes text answered → (schema : Schema) (statement : Statement) → IsTelling c.old.told words → ExplainPasses c.old.told words schema statement → IsWithinLimits (plan_of schema statement) → IsFaultless c out notes → (answered ≡ status.Done) ⊎ (answered ≡ status.Memory)
-when_planned words c out notes text answered a schema statement tells p within calm =
-    calm_done words c out notes text answered a (λ own. planned_goes c.old.told words schema statement own tells p within) calm
+pub when_calm : (words : List (List ℕ)) (c : Change) (out notes : Puts) (text : List ℕ) (answered : Status) → IsAnswer words c out notes text answered → IsTelling c.old.told words → AllPass c.old.told words → IsFaultless c out notes → (answered ≡ status.Done) ⊎ (answered ≡ status.Memory)
+when_calm words c out notes text answered (Ran d) tells p calm = inl d.done
+when_calm words c out notes text answered (Shown d) tells p calm = inl d.done
+when_calm words c out notes text answered (Cut b) tells p calm = absurd (calm.out' b.wrote.cause)
+when_calm words c out notes text answered (Broke' b) tells p calm = absurd (calm.out' b.cause)
+when_calm words c out notes text answered (Ended d) tells p calm = by_calm words c out notes answered tells p calm d.refusal d.cause d.noted
 
 -- words of no form
 by_form : (words : List (List ℕ)) (c : Change) (notes : Puts) (answered : Status) → (IsForm words → ⊥) → (s : Refusal) → HasCause words c s → Notes (status_of s) (note_of words s) notes answered → Yields status.Usage c notes answered
@@ -157,8 +152,8 @@ by_form words c notes answered none (refusal.ReadFault p) h n = absurd (none (ne
 by_form words c notes answered none (refusal.TooLong p) h n = absurd (none (next_form c.old.told words p h.0.next))
 by_form words c notes answered none (refusal.Schema f) h n = absurd (none h.0.form)
 by_form words c notes answered none (refusal.Query f) h n = absurd (none h.0.before.form)
-by_form words c notes answered none refusal.NotBuilt h n = absurd (none h.0.before.form)
 by_form words c notes answered none (refusal.Limit l) h n = absurd (none h.0.before.form)
+by_form words c notes answered none refusal.NotBuilt h n = absurd (none h.0.before.form)
 by_form words c notes answered none (refusal.Tuples f) h n = absurd (none h.0.before.before.form)
 by_form words c notes answered none refusal.Memory h (inl n) = ToMemory n.0
 by_form words c notes answered none refusal.Memory h (inr n) = ToWrite n.0 n.1.cause
@@ -166,6 +161,6 @@ by_form words c notes answered none refusal.Memory h (inr n) = ToWrite n.0 n.1.c
 pub when_formless : (words : List (List ℕ)) (c : Change) (out notes : Puts) (text : List ℕ) (answered : Status) → IsAnswer words c out notes text answered → (IsForm words → ⊥) → Yields status.Usage c notes answered
 when_formless words c out notes text answered (Ran d) none = absurd (none d.emitted.passes.before.before.form)
 when_formless words c out notes text answered (Broke' b) none = absurd (none b.emitted.passes.before.before.form)
-when_formless words c out notes text answered (Explained d) none = absurd (none d.planned.passes.before.form)
-when_formless words c out notes text answered (BrokeOff b) none = absurd (none b.planned.passes.before.form)
+when_formless words c out notes text answered (Shown d) none = absurd (none d.shown.passes.before.form)
+when_formless words c out notes text answered (Cut b) none = absurd (none b.shown.passes.before.form)
 when_formless words c out notes text answered (Ended d) none = by_form words c notes answered none d.refusal d.cause d.noted

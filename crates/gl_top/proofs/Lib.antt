@@ -1,8 +1,8 @@
 pub mod Texts
-pub mod Plans
 pub mod Changes
 pub mod Runs
 pub mod Deciding
 pub mod Answering
 pub mod Concluding
 pub mod Noting
+pub mod Explaining

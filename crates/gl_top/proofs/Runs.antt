@@ -1,5 +1,5 @@
 -- A text that meets its statement can be run over beats that keep the gap.
-use Rattle.std.proofs.Common.{◌≡◌, ℕ, ◌≤◌, ◌^◌, List, map, sym, ap, subst, ◌∙◌, lit≤}
+use Rattle.std.proofs.Common.{◌≡◌, ℕ, ◌≤◌, ◌^◌, List, map, sym, ap, subst, ◌∙◌}
 use Rattle.gl_bits.specs.declared.kind.Kind.{Kind}
 use Rattle.gl_bits.specs.Kinds.{width_of}
 use Rattle.gl_schema.specs.declared.schema.Schema.{Schema}
@@ -7,7 +7,6 @@ use Rattle.gl_schema.specs.Schemas.{kinds_of}
 use Rattle.gl_schema.specs.Beats.{Beat, AreBeats, KeepsGap}
 use Rattle.gl_query.specs.declared.tree.Statement.{Statement}
 use Rattle.gl_sim.specs.declared.start.Start.{Start}
-use Rattle.gl_sim.specs.declared.start.Start.TheVariants.{Zero}
 use Rattle.gl_figures.specs.declared.Printed.{Printed}
 use Rattle.gl_tuples.specs.declared.beats.Beat as files
 use Rattle.gl_tuples.specs.Gaps.{AreFileBeats, plain_beats}
@@ -32,20 +31,21 @@ can_run schema statement latency gap text kinds beats start m e short are keeps 
 }
 
 -- and so can that of a compiled query
-pub can_run_all : (c : Compiled) (beats : List files.Beat) (text : List ℕ) (schema : Schema) (kinds : List Kind) (printed : Printed) → IsCompiled c → AreFileBeats c.schema beats → KeepsGap (gap_of c.schema c.statement) (plain_beats beats)
-    → text ≡ c.text.items → schema ≡ c.schema → kinds ≡ c.kinds → printed ≡ c.printed → CanRun text schema kinds (plain_beats beats) printed.latency Zero
-can_run_all c beats text schema kinds printed is fine gap a b d e =
-    let p : printed.latency ≡ 1 = ap (λ (x : Printed). x.latency) e ∙ is.latency in
-    let run : CanRun c.text.items c.schema c.kinds (plain_beats beats) 1 Zero = can_run c.schema c.statement 1 1 c.text.items c.kinds (plain_beats beats) Zero is.meets is.columns (lit≤ tt) fine.beats' gap in
-    subst (λ (x : List ℕ). CanRun x schema kinds (plain_beats beats) printed.latency Zero) (sym a) (
-    subst (λ (x : Schema). CanRun c.text.items x kinds (plain_beats beats) printed.latency Zero) (sym b) (
-    subst (λ (x : List Kind). CanRun c.text.items c.schema x (plain_beats beats) printed.latency Zero) (sym d) (
-    subst (λ (x : ℕ). CanRun c.text.items c.schema c.kinds (plain_beats beats) x Zero) (sym p) run)))
+pub can_run_all : (c : Compiled) (beats : List files.Beat) (text : List ℕ) (schema : Schema) (kinds : List Kind) (printed : Printed) (start : Start) → IsCompiled c → AreFileBeats c.schema beats → KeepsGap (gap_of c.schema c.statement) (plain_beats beats)
+    → text ≡ c.text.items → schema ≡ c.schema → kinds ≡ c.kinds → printed ≡ c.printed → CanRun text schema kinds (plain_beats beats) printed.latency start
+can_run_all c beats text schema kinds printed start is fine gap a b d e =
+    let p : printed.latency ≡ c.printed.latency = ap (λ (x : Printed). x.latency) e in
+    let meets : Meets c.schema c.statement c.printed.latency (gap_of c.schema c.statement) c.text.items = subst (λ (n : ℕ). Meets c.schema c.statement n (gap_of c.schema c.statement) c.text.items) (sym is.latency) is.meets in
+    let run : CanRun c.text.items c.schema c.kinds (plain_beats beats) c.printed.latency start = can_run c.schema c.statement c.printed.latency (gap_of c.schema c.statement) c.text.items c.kinds (plain_beats beats) start meets is.columns is.short fine.beats' gap in
+    subst (λ (x : List ℕ). CanRun x schema kinds (plain_beats beats) printed.latency start) (sym a) (
+    subst (λ (x : Schema). CanRun c.text.items x kinds (plain_beats beats) printed.latency start) (sym b) (
+    subst (λ (x : List Kind). CanRun c.text.items c.schema x (plain_beats beats) printed.latency start) (sym d) (
+    subst (λ (x : ℕ). CanRun c.text.items c.schema c.kinds (plain_beats beats) x start) (sym p) run)))
 
 -- how the run of a compiled query ended
-pub ran_lines : (c : Compiled) (beats : List files.Beat) (text : List ℕ) (schema : Schema) (kinds : List Kind) (old new : SinkState) (r : Outcome) → IsCompiled c → text ≡ c.text.items → schema ≡ c.schema → kinds ≡ c.kinds
-    → Ran (OfEachRun text schema (plain_beats beats) Zero) kinds (plain_beats beats) old new r → RanLines c.schema c.statement beats c.text.items old new r
-ran_lines c beats text schema kinds old new r is a b d h =
-    subst (λ (x : List ℕ). Ran (OfEachRun x c.schema (plain_beats beats) Zero) (kinds_of (result_columns c.schema c.statement)) (plain_beats beats) old new r) a (
-    subst (λ (x : Schema). Ran (OfEachRun text x (plain_beats beats) Zero) (kinds_of (result_columns c.schema c.statement)) (plain_beats beats) old new r) b (
-    subst (λ (x : List Kind). Ran (OfEachRun text schema (plain_beats beats) Zero) x (plain_beats beats) old new r) (d ∙ is.columns) h))
+pub ran_lines : (c : Compiled) (beats : List files.Beat) (text : List ℕ) (schema : Schema) (kinds : List Kind) (start : Start) (old new : SinkState) (r : Outcome) → IsCompiled c → text ≡ c.text.items → schema ≡ c.schema → kinds ≡ c.kinds
+    → Ran (OfEachRun text schema (plain_beats beats) start) kinds (plain_beats beats) old new r → RanLines c.schema c.statement beats start c.text.items old new r
+ran_lines c beats text schema kinds start old new r is a b d h =
+    subst (λ (x : List ℕ). Ran (OfEachRun x c.schema (plain_beats beats) start) (kinds_of (result_columns c.schema c.statement)) (plain_beats beats) old new r) a (
+    subst (λ (x : Schema). Ran (OfEachRun text x (plain_beats beats) start) (kinds_of (result_columns c.schema c.statement)) (plain_beats beats) old new r) b (
+    subst (λ (x : List Kind). Ran (OfEachRun text schema (plain_beats beats) start) x (plain_beats beats) old new r) (d ∙ is.columns) h))

@@ -1,9 +1,10 @@
 -- What a text that was read says of its part.
-use Rattle.std.proofs.Common.{◌≡◌, ◌≢◌, ◌⊎◌, inl, inr, ℕ, zero, suc, ◌<◌, ◌≤◌, List, [], ◌∷◌, length, Option, Some, None, Ok, Err, refl, sym, subst, arith}
-use Rattle.std.specs.Prelude.{slice_get, unwrap_or, Contains, IsTrue, codes}
+use Rattle.std.proofs.Common.{◌≡◌, ◌≢◌, ℕ, zero, suc, Bool, true, false, ◌<◌, ◌≤◌, List, [], ◌∷◌, length, Option, Some, None, Ok, Err, refl, sym, ap, subst, ◌∙◌, arith}
+use Rattle.std.specs.Prelude.{IsTrue, is_some, slice_get, unwrap_or, Contains, if◌then◌else◌}
 use Rattle.std.proofs.lemmas.Bool.{eqb-true}
 use Rattle.gl_bits.proofs.Bools.{and_left}
-use Rattle.gl_outside.proofs.Places.{found_is}
+use Rattle.gl_forms.proofs.Named as forms
+use Rattle.gl_forms.proofs.Named.{query_named, schema_named, tuples_named}
 use Rattle.gl_outside.specs.States.{ShelfState, IsCalm, Missed, Faulted, ReadLeaves}
 use Rattle.gl_outside.specs.Told.{Told, Untold, Lacks, Holds, IsLacking, IfTold}
 use Rattle.gl_outside.specs.Reads.{Refuses}
@@ -26,71 +27,31 @@ use Rattle.gl_tuples.specs.Gaps.{first_close, close_answer}
 use Rattle.gl_compiler.specs.declared.compiling.CompileFault.{CompileFault}
 use Rattle.gl_compiler.specs.declared.compiling.CompileFault.TheVariants as compile
 use Rattle.gl_query_judge.specs.Judged.{IsQueryFault}
-use Rattle.gl_compiler.specs.Queries.{IsQuery, IsUnbuilt, IsQueryRefused, gap_of}
-use Rattle.gl_top.specs.declared.form.Part.{Part}
-use Rattle.gl_top.specs.declared.form.Part.TheVariants as part
-use Rattle.gl_top.specs.Forms.{IsForm, IsRun, IsExplain, IsNamed, begins, word_at, place_of, name_of}
-use Rattle.gl_top.specs.Passing.{HasText, SchemaPasses, QueryPasses, kept_beats}
+use Rattle.gl_figures.specs.declared.Limit.{Limit}
+use Rattle.gl_compiler.specs.Queries.{IsOverLimit, IsQuery, IsUnbuilt, IsQueryRefused, gap_of}
+use Rattle.gl_forms.specs.declared.command.Part.{Part}
+use Rattle.gl_forms.specs.declared.command.Part.TheVariants as part
+use Rattle.gl_forms.specs.declared.command.Command.{Command}
+use Rattle.gl_forms.specs.declared.command.Command.TheVariants.{Compile, Figures, Explain, Run}
+use Rattle.gl_forms.specs.Forms.{IsCommand, IsForm, command_of, name_of}
+use Rattle.gl_top.specs.Passing.{HasText, IsQueryFor, SchemaPasses, QueryPasses, kept_beats}
 use Rattle.gl_top.specs.Causes.{IsNext, IsBadSchema, AreBadTuples, Change, change, HasCause, read_refusal, schema_refusal, query_refusal, tuples_refusal}
 
--- ---- the words
-
-many_words : (words : List (List ℕ)) (many : ℕ) (command : List ℕ) → IsTrue (begins words many command) → length words ≡ many
-unfolding begins
-many_words words many command h = eqb-true (length words) many (and_left _ _ (and_left _ _ (and_left _ _ h)))
-
-four_words : (words : List (List ℕ)) → IsRun words → length words ≡ 4
-four_words words run = many_words words 4 (codes "run") (and_left _ _ run)
-
-three_words : (words : List (List ℕ)) → IsExplain words → length words ≡ 3
-three_words words explain = many_words words 3 (codes "explain") explain
-
--- words have one command
-pub one_command : (words : List (List ℕ)) {A : Type 0} → IsRun words → IsExplain words → A
-one_command words run explain = let f = four_words words run in let t = three_words words explain in absurd (omega arith)
-
--- words of a form name a schema and a query, and those of `run` name a tuple file too
-pub names_schema : (words : List (List ℕ)) → IsForm words → IsNamed words part.Schema
-names_schema words (inl run) = let f = four_words words run in omega arith
-names_schema words (inr explain) = let t = three_words words explain in omega arith
-
-pub names_query : (words : List (List ℕ)) → IsForm words → IsNamed words part.Query
-names_query words (inl run) = let f = four_words words run in omega arith
-names_query words (inr explain) = let t = three_words words explain in omega arith
-
-pub names_tuples : (words : List (List ℕ)) → IsRun words → IsNamed words part.Tuples
-names_tuples words run = let f = four_words words run in omega arith
-
--- the text of a part that is judged has a name
-pub next_named : (told : List ℕ → Told) (words : List (List ℕ)) (p : Part) → IsNext told words p → IsNamed words p
-next_named told words part.Schema next = names_schema words next
-next_named told words part.Query next = names_query words next.1.form
-next_named told words part.Tuples next = names_tuples words next.2.run
-
--- words that ask for neither
-pub formless : (words : List (List ℕ)) → (IsRun words → ⊥) → (IsExplain words → ⊥) → IsForm words → ⊥
-formless words no_run no_explain (inl run) = no_run run
-formless words no_run no_explain (inr explain) = no_explain explain
-
--- the words are of a form where a text is judged
+-- the words are of the form where a text is judged
 pub next_form : (told : List ℕ → Told) (words : List (List ℕ)) (p : Part) → IsNext told words p → IsForm words
 next_form told words part.Schema next = next
 next_form told words part.Query next = next.1.form
-next_form told words part.Tuples next = next.2.before.form
+next_form told words part.Tuples next = next.3.before.form
 
--- the name of a text is one of the words
-some_at : (xs : List (List ℕ)) (k : ℕ) → k < length xs → slice_get xs k ≡ Some (unwrap_or (slice_get xs k) [])
-some_at [] k lt = absurd (omega arith)
-some_at (x ∷ xs) zero lt = refl
-some_at (x ∷ xs) (suc k) lt = some_at xs k (omega arith)
+-- words of no form
+pub no_form : (words : List (List ℕ)) → command_of words ≡ None → IsForm words → ⊥
+no_form words none form = absurd (let z : false ≡ true = sym (ap (λ (o : Option Command). is_some o) none) ∙ form in cc)
 
-is_listed : (words : List (List ℕ)) (k : ℕ) → k < length words → Contains words (word_at words k)
-unfolding word_at
-is_listed words k lt = found_is words k (unwrap_or (slice_get words k) []) (some_at words k lt)
-
-pub named : (words : List (List ℕ)) (p : Part) → IsNamed words p → Contains words (name_of words p)
-unfolding name_of
-named words p is = is_listed words (place_of p) is
+-- where a text is judged its name is one of the words
+pub named : (told : List ℕ → Told) (words : List (List ℕ)) (p : Part) → IsNext told words p → Contains words (name_of words p)
+named told words part.Schema next = forms.named words part.Schema (schema_named words next)
+named told words part.Query next = forms.named words part.Query (query_named words next.1.form)
+named told words part.Tuples next = forms.named words part.Tuples (tuples_named words next.0)
 
 -- what was read is the text that is told
 pub read_is : (t : Told) (v : List ℕ) → IfTold t (λ text. v ≡ text) → length v ≤ 67108864 → IfTold t (λ text. (length text ≤ 67108864) × (v ≡ text))
@@ -133,40 +94,53 @@ pub schema_passes : (told : List ℕ → Told) (words : List (List ℕ)) (v : Li
 schema_passes told words v s form h is = record { form = form; fine = is.schema'; text = has_text told words part.Schema (λ text. IsSchemaText text s) v h is }
 
 -- of a query that is refused
-not_built : (words : List (List ℕ)) (c : Change) (v : List ℕ) (s : Schema) → IsRun words → IsCalm c.old c.new → SchemaPasses c.old.told words s → HasText c.old.told words part.Query (λ text. v ≡ text) → IsUnbuilt s v → HasCause words c (query_refusal compile.NotBuilt)
-not_built words c v s run calm before h is = (record { run = run; schema = s; before = before; text = has_text c.old.told words part.Query (IsUnbuilt s) v h is }, calm)
+not_built : (words : List (List ℕ)) (c : Change) (v : List ℕ) (s : Schema) → command_of words ≢ Some Explain → IsCalm c.old c.new → SchemaPasses c.old.told words s → HasText c.old.told words part.Query (λ text. v ≡ text) → IsUnbuilt s v → HasCause words c (query_refusal compile.NotBuilt)
+not_built words c v s builds calm before h is = (record { builds = builds; schema = s; before = before; text = has_text c.old.told words part.Query (IsUnbuilt s) v h is }, calm)
 
 bad_query : (words : List (List ℕ)) (c : Change) (v : List ℕ) (s : Schema) (f : QueryFault) → IsCalm c.old c.new → SchemaPasses c.old.told words s → HasText c.old.told words part.Query (λ text. v ≡ text) → IsQueryFault s v f → HasCause words c (query_refusal (compile.Query f))
 bad_query words c v s f calm before h is = (record { schema = s; before = before; text = has_text c.old.told words part.Query (λ text. IsQueryFault s text f) v h is }, calm)
 
-pub query_cause : (words : List (List ℕ)) (c : Change) (v : List ℕ) (s : Schema) (fault : CompileFault) → IsRun words → IsCalm c.old c.new → SchemaPasses c.old.told words s → HasText c.old.told words part.Query (λ text. v ≡ text) → IsQueryRefused s v fault → HasCause words c (query_refusal fault)
-query_cause words c v s compile.Memory run calm before h is = calm
-query_cause words c v s (compile.Schema f) run calm before h is = absurd is
-query_cause words c v s (compile.Query f) run calm before h is = bad_query words c v s f calm before h is
-query_cause words c v s compile.NotBuilt run calm before h is = not_built words c v s run calm before h is
+over_limit : (words : List (List ℕ)) (c : Change) (v : List ℕ) (s : Schema) (l : Limit) → IsCalm c.old c.new → SchemaPasses c.old.told words s → HasText c.old.told words part.Query (λ text. v ≡ text) → IsOverLimit s v l → HasCause words c (query_refusal (compile.Limit l))
+over_limit words c v s l calm before h is = (record { schema = s; before = before; text = has_text c.old.told words part.Query (λ text. IsOverLimit s text l) v h is }, calm)
 
-pub query_passes : (told : List ℕ → Told) (words : List (List ℕ)) (v : List ℕ) (s t : Schema) (statement : Statement) → IsRun words → t ≡ s → SchemaPasses told words s → HasText told words part.Query (λ text. v ≡ text) → IsQuery s v statement → QueryPasses told words t statement
-query_passes told words v s t statement run e before h built =
-    subst (λ (x : Schema). QueryPasses told words x statement) (sym e) (record { run = run; before = before; text = has_text told words part.Query (λ text. IsQuery s text statement) v h built })
+pub query_cause : (words : List (List ℕ)) (c : Change) (v : List ℕ) (s : Schema) (fault : CompileFault) → command_of words ≢ Some Explain → IsCalm c.old c.new → SchemaPasses c.old.told words s → HasText c.old.told words part.Query (λ text. v ≡ text) → IsQueryRefused s v fault → HasCause words c (query_refusal fault)
+query_cause words c v s compile.Memory builds calm before h is = calm
+query_cause words c v s (compile.Schema f) builds calm before h is = absurd is
+query_cause words c v s (compile.Query f) builds calm before h is = bad_query words c v s f calm before h is
+query_cause words c v s (compile.Limit l) builds calm before h is = over_limit words c v s l calm before h is
+query_cause words c v s compile.NotBuilt builds calm before h is = not_built words c v s builds calm before h is
+
+-- what is built serves every command but the one that explains
+query_for : (o : Option Command) (s : Schema) (v : List ℕ) (statement : Statement) → IsTrue (is_some o) → o ≢ Some Explain → IsQuery s v statement → IsQueryFor o s v statement
+query_for None s v statement some builds q = absurd cc
+query_for (Some Compile) s v statement some builds q = q
+query_for (Some Figures) s v statement some builds q = q
+query_for (Some Explain) s v statement some builds q = absurd (builds refl)
+query_for (Some Run) s v statement some builds q = q
+
+pub query_passes : (told : List ℕ → Told) (words : List (List ℕ)) (v : List ℕ) (s t : Schema) (statement : Statement) → t ≡ s → command_of words ≢ Some Explain → SchemaPasses told words s → HasText told words part.Query (λ text. v ≡ text) → IsQuery s v statement → QueryPasses told words t statement
+query_passes told words v s t statement e builds before h built =
+    subst (λ (x : Schema). QueryPasses told words x statement) (sym e)
+    (record { before = before; text = has_text told words part.Query (λ text. IsQueryFor (command_of words) s text statement) v h (query_for (command_of words) s v statement before.form builds built) })
 
 -- of a tuple file that is refused
-are_bad : (words : List (List ℕ)) (c : Change) (v : List ℕ) (s : Schema) (statement : Statement) (fault : TupleFault) → QueryPasses c.old.told words s statement → HasText c.old.told words part.Tuples (λ text. v ≡ text)
+are_bad : (words : List (List ℕ)) (c : Change) (v : List ℕ) (s : Schema) (statement : Statement) (fault : TupleFault) → IsCommand words Run → QueryPasses c.old.told words s statement → HasText c.old.told words part.Tuples (λ text. v ≡ text)
     → kept_beats s (gap_of s statement) v ≡ Err fault → AreBadTuples c.old.told words fault
-are_bad words c v s statement fault before h f = record { schema = s; statement = statement; before = before; text = has_text c.old.told words part.Tuples (λ text. kept_beats s (gap_of s statement) text ≡ Err fault) v h f }
+are_bad words c v s statement fault runs before h f = record { runs = runs; schema = s; statement = statement; before = before; text = has_text c.old.told words part.Tuples (λ text. kept_beats s (gap_of s statement) text ≡ Err fault) v h f }
 
-pub tuples_cause : (words : List (List ℕ)) (c : Change) (v : List ℕ) (s : Schema) (statement : Statement) (fault : TupleFault) → IsCalm c.old c.new → QueryPasses c.old.told words s statement → HasText c.old.told words part.Tuples (λ text. v ≡ text)
+pub tuples_cause : (words : List (List ℕ)) (c : Change) (v : List ℕ) (s : Schema) (statement : Statement) (fault : TupleFault) → IsCommand words Run → IsCalm c.old c.new → QueryPasses c.old.told words s statement → HasText c.old.told words part.Tuples (λ text. v ≡ text)
     → Fails fault (kept_beats s (gap_of s statement) v) → HasCause words c (tuples_refusal fault)
-tuples_cause words c v s st tuples.Memory calm before h f = calm
-tuples_cause words c v s st (tuples.NotUtf8 n) calm before h f = (are_bad words c v s st (tuples.NotUtf8 n) before h f, calm)
-tuples_cause words c v s st (tuples.BadCycle n) calm before h f = (are_bad words c v s st (tuples.BadCycle n) before h f, calm)
-tuples_cause words c v s st (tuples.CycleFalls n) calm before h f = (are_bad words c v s st (tuples.CycleFalls n) before h f, calm)
-tuples_cause words c v s st (tuples.CycleTooLarge n) calm before h f = (are_bad words c v s st (tuples.CycleTooLarge n) before h f, calm)
-tuples_cause words c v s st (tuples.UnknownStream n) calm before h f = (are_bad words c v s st (tuples.UnknownStream n) before h f, calm)
-tuples_cause words c v s st (tuples.FieldCount n) calm before h f = (are_bad words c v s st (tuples.FieldCount n) before h f, calm)
-tuples_cause words c v s st (tuples.BadValue n) calm before h f = (are_bad words c v s st (tuples.BadValue n) before h f, calm)
-tuples_cause words c v s st (tuples.StreamTwice n) calm before h f = (are_bad words c v s st (tuples.StreamTwice n) before h f, calm)
-tuples_cause words c v s st (tuples.AfterEnd n) calm before h f = (are_bad words c v s st (tuples.AfterEnd n) before h f, calm)
-tuples_cause words c v s st (tuples.TooClose n) calm before h f = (are_bad words c v s st (tuples.TooClose n) before h f, calm)
+tuples_cause words c v s st tuples.Memory runs calm before h f = calm
+tuples_cause words c v s st (tuples.NotUtf8 n) runs calm before h f = (are_bad words c v s st (tuples.NotUtf8 n) runs before h f, calm)
+tuples_cause words c v s st (tuples.BadCycle n) runs calm before h f = (are_bad words c v s st (tuples.BadCycle n) runs before h f, calm)
+tuples_cause words c v s st (tuples.CycleFalls n) runs calm before h f = (are_bad words c v s st (tuples.CycleFalls n) runs before h f, calm)
+tuples_cause words c v s st (tuples.CycleTooLarge n) runs calm before h f = (are_bad words c v s st (tuples.CycleTooLarge n) runs before h f, calm)
+tuples_cause words c v s st (tuples.UnknownStream n) runs calm before h f = (are_bad words c v s st (tuples.UnknownStream n) runs before h f, calm)
+tuples_cause words c v s st (tuples.FieldCount n) runs calm before h f = (are_bad words c v s st (tuples.FieldCount n) runs before h f, calm)
+tuples_cause words c v s st (tuples.BadValue n) runs calm before h f = (are_bad words c v s st (tuples.BadValue n) runs before h f, calm)
+tuples_cause words c v s st (tuples.StreamTwice n) runs calm before h f = (are_bad words c v s st (tuples.StreamTwice n) runs before h f, calm)
+tuples_cause words c v s st (tuples.AfterEnd n) runs calm before h f = (are_bad words c v s st (tuples.AfterEnd n) runs before h f, calm)
+tuples_cause words c v s st (tuples.TooClose n) runs calm before h f = (are_bad words c v s st (tuples.TooClose n) runs before h f, calm)
 
 -- beats that keep the gap
 pub kept_ok : (s : Schema) (gap : ℕ) (v : List ℕ) (beats : List Beat) → beats_of s (records_of v) ≡ Ok beats → Ok tt ≡ close_answer (first_close gap beats) → kept_beats s gap v ≡ Ok beats

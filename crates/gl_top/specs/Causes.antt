@@ -1,5 +1,5 @@
 -- Why the program ends before anything is written.
-use Rattle.std.specs.Prelude.{◌≡◌, ℕ, ◌<◌, List, length, Result, Ok, Err}
+use Rattle.std.specs.Prelude.{◌≡◌, ◌≢◌, ℕ, ◌<◌, List, length, Some, Result, Ok, Err}
 use Rattle.gl_outside.specs.States.{ShelfState, IsCalm, Missed, Faulted}
 use Rattle.gl_outside.specs.Told.{Told, IsLacking, IfTold}
 use Rattle.gl_outside.specs.declared.reading.ReadFault as reads
@@ -13,27 +13,26 @@ use Rattle.gl_query.specs.declared.fault.QueryFault.TheVariants as query
 use Rattle.gl_query.specs.declared.tree.Statement.{Statement}
 use Rattle.gl_tuples.specs.declared.fault.TupleFault.{TupleFault}
 use Rattle.gl_tuples.specs.declared.fault.TupleFault.TheVariants as tuples
+use Rattle.gl_planner.specs.declared.planning.PlanFault.{PlanFault}
+use Rattle.gl_planner.specs.declared.planning.PlanFault.TheVariants as plan
 use Rattle.gl_compiler.specs.declared.compiling.CompileFault.{CompileFault}
 use Rattle.gl_compiler.specs.declared.compiling.CompileFault.TheVariants as compile
-use Rattle.gl_query_judge.specs.Judged.{IsAcceptedText, IsQueryFault}
+use Rattle.gl_query_judge.specs.Judged.{IsQueryFault}
 use Rattle.gl_figures.specs.declared.Limit.{Limit}
-use Rattle.gl_elaborate.specs.Plans.{plan_of}
-use Rattle.gl_explain.specs.Explained.{PassesLimit}
-use Rattle.gl_explain.specs.declared.explaining.ExplainFault.{ExplainFault}
-use Rattle.gl_explain.specs.declared.explaining.ExplainFault.TheVariants as explain
-use Rattle.gl_compiler.specs.Queries.{IsUnbuilt, gap_of}
-use Rattle.gl_top.specs.declared.form.Part.{Part}
-use Rattle.gl_top.specs.declared.form.Part.TheVariants as part
+use Rattle.gl_compiler.specs.Queries.{IsOverLimit, IsUnbuilt, gap_of}
+use Rattle.gl_forms.specs.declared.command.Part.{Part}
+use Rattle.gl_forms.specs.declared.command.Part.TheVariants as part
 use Rattle.gl_top.specs.declared.notes.Refusal.{Refusal}
 use Rattle.gl_top.specs.declared.notes.Refusal.TheVariants as refusal
-use Rattle.gl_top.specs.Forms.{IsForm, IsRun, IsExplain, name_of}
+use Rattle.gl_forms.specs.declared.command.Command.TheVariants.{Explain, Run}
+use Rattle.gl_forms.specs.Forms.{IsCommand, IsForm, command_of, name_of}
 use Rattle.gl_top.specs.Passing.{HasText, SchemaPasses, QueryPasses, kept_beats}
 
--- the words are of a form, and every text before this one passes
+-- the words are of the form, and every text before this one passes
 abbrev pub IsNext : (List ℕ → Told) → List (List ℕ) → Part → Type 0
 IsNext told words part.Schema = IsForm words
 IsNext told words part.Query = (schema : Schema) × SchemaPasses told words schema
-IsNext told words part.Tuples = (schema : Schema) × (statement : Statement) × QueryPasses told words schema statement
+IsNext told words part.Tuples = IsCommand words Run × (schema : Schema) × (statement : Statement) × QueryPasses told words schema statement
 
 -- the text of a part is the first that does not pass: no text has its name
 pub record IsMissing (told : List ℕ → Told) (words : List (List ℕ)) (part : Part) : Type 0 where
@@ -56,28 +55,22 @@ pub record IsBadQuery (told : List ℕ → Told) (words : List (List ℕ)) (faul
   pub before : SchemaPasses told words schema
   pub text : HasText told words part.Query (λ text. IsQueryFault schema text fault)
 
--- the words ask to run it, it has a statement that is accepted over the schema, and not built
+-- it has a statement that is accepted over the schema, and its plan passes this limit
+pub record IsOver (told : List ℕ → Told) (words : List (List ℕ)) (limit : Limit) : Type 0 where
+  pub schema : Schema
+  pub before : SchemaPasses told words schema
+  pub text : HasText told words part.Query (λ text. IsOverLimit schema text limit)
+
+-- it has a statement that is accepted over the schema and within the limits, and the command asks for one that is compiled
 pub record IsNotBuilt (told : List ℕ → Told) (words : List (List ℕ)) : Type 0 where
-  pub run : IsRun words
+  pub builds : command_of words ≢ Some Explain
   pub schema : Schema
   pub before : SchemaPasses told words schema
   pub text : HasText told words part.Query (IsUnbuilt schema)
 
--- a text has a statement that is accepted over the schema, and whose plan passes a limit
-pub record IsOverLimit (schema : Schema) (limit : Limit) (text : List ℕ) : Type 0 where
-  pub statement : Statement
-  pub is : IsAcceptedText schema text statement
-  pub passes : PassesLimit (plan_of schema statement) limit
-
--- the words ask to explain it, and it has such a statement
-pub record PassesALimit (told : List ℕ → Told) (words : List (List ℕ)) (limit : Limit) : Type 0 where
-  pub explain : IsExplain words
-  pub schema : Schema
-  pub before : SchemaPasses told words schema
-  pub text : HasText told words part.Query (IsOverLimit schema limit)
-
 -- it is no tuple file of the schema, or its beats do not keep the gap, and this is the first fault
 pub record AreBadTuples (told : List ℕ → Told) (words : List (List ℕ)) (fault : TupleFault) : Type 0 where
+  pub runs : IsCommand words Run
   pub schema : Schema
   pub statement : Statement
   pub before : QueryPasses told words schema statement
@@ -91,8 +84,8 @@ IsRefused told words (refusal.ReadFault part) = ⊥
 IsRefused told words (refusal.TooLong part) = IsTooLong told words part
 IsRefused told words (refusal.Schema fault) = IsBadSchema told words fault
 IsRefused told words (refusal.Query fault) = IsBadQuery told words fault
+IsRefused told words (refusal.Limit limit) = IsOver told words limit
 IsRefused told words refusal.NotBuilt = IsNotBuilt told words
-IsRefused told words (refusal.Limit limit) = PassesALimit told words limit
 IsRefused told words (refusal.Tuples fault) = AreBadTuples told words fault
 IsRefused told words refusal.Memory = ⊥
 
@@ -131,15 +124,16 @@ abbrev pub query_refusal : CompileFault → Refusal
 query_refusal compile.Memory = refusal.Memory
 query_refusal (compile.Query fault) = refusal.Query fault
 query_refusal (compile.Schema fault) = refusal.NotBuilt
+query_refusal (compile.Limit limit) = refusal.Limit limit
 query_refusal compile.NotBuilt = refusal.NotBuilt
 
-abbrev pub judged_refusal : QueryFault → Refusal
-judged_refusal query.Memory = refusal.Memory
-judged_refusal fault = refusal.Query fault
+abbrev pub fault_refusal : QueryFault → Refusal
+fault_refusal query.Memory = refusal.Memory
+fault_refusal fault = refusal.Query fault
 
-abbrev pub explain_refusal : ExplainFault → Refusal
-explain_refusal explain.Memory = refusal.Memory
-explain_refusal (explain.Limit limit) = refusal.Limit limit
+abbrev pub plan_refusal : PlanFault → Refusal
+plan_refusal (plan.Limit limit) = refusal.Limit limit
+plan_refusal plan.Memory = refusal.Memory
 
 abbrev pub tuples_refusal : TupleFault → Refusal
 tuples_refusal tuples.Memory = refusal.Memory

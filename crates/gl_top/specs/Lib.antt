@@ -1,6 +1,7 @@
 pub mod Statuses
-pub mod Forms
 pub mod Refusals
 pub mod Passing
 pub mod Causes
+pub mod Explaining
+pub mod Figuring
 pub mod Verdicts

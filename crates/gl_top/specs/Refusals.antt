@@ -6,15 +6,15 @@ use Rattle.gl_query.specs.declared.fault.QueryFault.{QueryFault}
 use Rattle.gl_query.specs.declared.fault.QueryFault.TheVariants as query
 use Rattle.gl_tuples.specs.declared.fault.TupleFault.{TupleFault}
 use Rattle.gl_tuples.specs.declared.fault.TupleFault.TheVariants as tuples
-use Rattle.gl_figures.specs.declared.Limit as limits
-use Rattle.gl_figures.specs.declared.Limit.TheVariants as limit
 use Rattle.gl_outside.specs.States.{SinkState, Took, Broke}
-use Rattle.gl_top.specs.declared.form.Part.TheVariants as part
+use Rattle.gl_forms.specs.declared.command.Part.TheVariants as part
 use Rattle.gl_top.specs.declared.notes.Refusal.{Refusal}
-use Rattle.gl_top.specs.declared.notes.Refusal.TheVariants.{Usage, Missing, ReadFault, TooLong, Schema, Query, NotBuilt, Limit, Tuples, Memory}
+use Rattle.gl_top.specs.declared.notes.Refusal.TheVariants.{Usage, Missing, ReadFault, TooLong, Schema, Query, Limit, NotBuilt, Tuples, Memory}
+use Rattle.gl_figures.specs.declared.Limit as figures
+use Rattle.gl_figures.specs.declared.Limit.TheVariants as limit
 use Rattle.gl_top.specs.declared.status.Status.{Status}
 use Rattle.gl_top.specs.declared.status.Status.TheVariants as status
-use Rattle.gl_top.specs.Forms.{name_of}
+use Rattle.gl_forms.specs.Forms.{name_of}
 
 -- each refusal has one status
 abbrev pub status_of : Refusal → Status
@@ -24,8 +24,8 @@ status_of (ReadFault part) = status.ReadFault
 status_of (TooLong part) = status.Limit
 status_of (Schema fault) = status.Schema
 status_of (Query fault) = status.Query
-status_of NotBuilt = status.NotBuilt
 status_of (Limit passed) = status.Limit
+status_of NotBuilt = status.NotBuilt
 status_of (Tuples fault) = status.Tuples
 status_of Memory = status.Memory
 
@@ -124,8 +124,8 @@ memory_line = codes "out of memory\n"
 unfoldable pub write_line : List ℕ
 write_line = codes "write fault\n"
 
--- the line of a limit that a plan passes
-unfoldable pub limit_line : limits.Limit → List ℕ
+-- what is told of a limit that a plan passes
+abbrev pub limit_line : figures.Limit → List ℕ
 limit_line (limit.Latency node) = codes "limit: Latency\n"
 limit_line (limit.Nodes weight) = line (codes "limit: Nodes ") (decimal weight)
 
@@ -137,8 +137,8 @@ note_of words (ReadFault part) = line (codes "read fault: ") (name_of words part
 note_of words (TooLong part) = line (codes "limit: Text ") (name_of words part)
 note_of words (Schema fault) = kind_line (codes "schema: ") (schema_kind fault) (codes " at ") (schema_place fault)
 note_of words (Query fault) = kind_line (codes "query: ") (query_kind fault) (codes " at ") (query_place fault)
-note_of words NotBuilt = line (codes "not built: ") (name_of words part.Query)
 note_of words (Limit passed) = limit_line passed
+note_of words NotBuilt = line (codes "not built: ") (name_of words part.Query)
 note_of words (Tuples fault) = kind_line (codes "tuples: ") (tuples_kind fault) (codes " at record ") (tuples_record fault)
 note_of words Memory = memory_line
 

@@ -1,12 +1,15 @@
 -- How the program ends: what was written, what was noted, and why.
-use Rattle.std.specs.Prelude.{◌≡◌, ◌≢◌, ℕ, ◌⊎◌, List, []}
+use Rattle.std.specs.Prelude.{◌≡◌, ◌≢◌, ℕ, ◌⊎◌, List, [], Some}
+use Rattle.gl_figures.specs.declared.Limit.{Limit}
+use Rattle.gl_elaborate.specs.Plans.{plan_of}
+use Rattle.gl_explain.specs.Lines.{plan_text}
 use Rattle.gl_outside.specs.Counts.{Rose}
 use Rattle.gl_outside.specs.Told.{Told, Untold}
-use Rattle.gl_outside.specs.States.{SinkState, IsCalm, Took, Broke}
+use Rattle.gl_outside.specs.States.{SinkState, Broke, IsCalm, Took}
 use Rattle.gl_schema.specs.declared.schema.Schema.{Schema}
 use Rattle.gl_schema.specs.Schemas.{kinds_of}
 use Rattle.gl_query.specs.declared.tree.Statement.{Statement}
-use Rattle.gl_sim.specs.declared.start.Start.TheVariants.{Zero}
+use Rattle.gl_sim.specs.declared.start.Start.{Start}
 use Rattle.gl_tuples.specs.declared.beats.Beat.{Beat}
 use Rattle.gl_tuples.specs.Gaps.{plain_beats}
 use Rattle.gl_compiler.specs.Queries.{latency_of, gap_of}
@@ -14,7 +17,7 @@ use Rattle.gl_compiler.specs.Meets.{Meets, result_columns}
 use Rattle.gl_compiler.specs.declared.executing.Outcome.{Outcome}
 use Rattle.gl_compiler.specs.Prints.{OfEachRun, Writes, WritesFront}
 use Rattle.gl_compiler.specs.Prints as prints
-use Rattle.gl_top.specs.declared.form.Part.{Part}
+use Rattle.gl_forms.specs.declared.command.Part.{Part}
 use Rattle.gl_top.specs.declared.notes.Refusal.{Refusal}
 use Rattle.gl_top.specs.declared.status.Status.{Status}
 use Rattle.gl_top.specs.declared.status.Status.TheVariants.{Done, WriteFault, ReadFault, Memory}
@@ -23,25 +26,24 @@ use Rattle.gl_top.specs.declared.notes.Refusal.TheVariants as refusal
 use Rattle.gl_schema.specs.declared.fault.SchemaFault.{SchemaFault}
 use Rattle.gl_query.specs.declared.fault.QueryFault.{QueryFault}
 use Rattle.gl_tuples.specs.declared.fault.TupleFault.{TupleFault}
-use Rattle.gl_figures.specs.declared.Limit.{Limit}
-use Rattle.gl_elaborate.specs.Plans.{plan_of}
-use Rattle.gl_explain.specs.Explained.{IsWithinLimits}
-use Rattle.gl_explain.specs.Lines.{plan_text}
-use Rattle.gl_top.specs.Forms.{IsForm, IsNamed, name_of}
-use Rattle.gl_top.specs.Passing.{TuplesPass, ExplainPasses}
-use Rattle.gl_top.specs.Causes.{Change, HasCause, IsTooLong, IsBadSchema, IsBadQuery, IsNotBuilt, PassesALimit, AreBadTuples}
+use Rattle.gl_forms.specs.declared.command.Command.{Command}
+use Rattle.gl_forms.specs.declared.command.Command.TheVariants.{Compile, Figures, Explain, Run}
+use Rattle.gl_forms.specs.Forms.{IsCommand, IsForm, IsNamed, command_of, name_of, start_of}
+use Rattle.gl_top.specs.Figuring.{IsFigured}
+use Rattle.gl_top.specs.Passing.{QueryPasses, TuplesPass}
+use Rattle.gl_top.specs.Causes.{Change, HasCause, IsTooLong, IsBadSchema, IsBadQuery, IsOver, IsNotBuilt, AreBadTuples}
 use Rattle.gl_top.specs.Refusals.{Puts, Notes, status_of, note_of, write_line}
 
--- the lines of the run of this text over these beats were written, or a front of them
-abbrev pub WritesLines : Schema → Statement → List Beat → List ℕ → Puts → Type 0
-WritesLines schema statement beats text out = OfEachRun text schema (plain_beats beats) Zero (λ outs port. Writes (kinds_of (result_columns schema statement)) (plain_beats beats) outs port out.old.taken out.new.taken)
+-- the lines of the run of this text over these beats from this start were written, or a front of them
+abbrev pub WritesLines : Schema → Statement → List Beat → Start → List ℕ → Puts → Type 0
+WritesLines schema statement beats start text out = OfEachRun text schema (plain_beats beats) start (λ outs port. Writes (kinds_of (result_columns schema statement)) (plain_beats beats) outs port out.old.taken out.new.taken)
 
-abbrev pub WritesLinesFront : Schema → Statement → List Beat → List ℕ → Puts → Type 0
-WritesLinesFront schema statement beats text out = OfEachRun text schema (plain_beats beats) Zero (λ outs port. WritesFront (kinds_of (result_columns schema statement)) (plain_beats beats) outs port out.old.taken out.new.taken)
+abbrev pub WritesLinesFront : Schema → Statement → List Beat → Start → List ℕ → Puts → Type 0
+WritesLinesFront schema statement beats start text out = OfEachRun text schema (plain_beats beats) start (λ outs port. WritesFront (kinds_of (result_columns schema statement)) (plain_beats beats) outs port out.old.taken out.new.taken)
 
 -- how the run of the text over these beats ended
-abbrev pub RanLines : Schema → Statement → List Beat → List ℕ → SinkState → SinkState → Outcome → Type 0
-RanLines schema statement beats text old new outcome = prints.Ran (OfEachRun text schema (plain_beats beats) Zero) (kinds_of (result_columns schema statement)) (plain_beats beats) old new outcome
+abbrev pub RanLines : Schema → Statement → List Beat → Start → List ℕ → SinkState → SinkState → Outcome → Type 0
+RanLines schema statement beats start text old new outcome = prints.Ran (OfEachRun text schema (plain_beats beats) start) (kinds_of (result_columns schema statement)) (plain_beats beats) old new outcome
 
 -- the texts pass, and the text that was emitted for them meets the statement
 pub record IsEmitted (told : List ℕ → Told) (words : List (List ℕ)) (schema : Schema) (statement : Statement) (beats : List Beat) (text : List ℕ) : Type 0 where
@@ -54,7 +56,7 @@ pub record IsDone (words : List (List ℕ)) (c : Change) (out notes : Puts) (tex
   pub statement : Statement
   pub beats : List Beat
   pub emitted : IsEmitted c.old.told words schema statement beats text
-  pub wrote : WritesLines schema statement beats text out
+  pub wrote : WritesLines schema statement beats (start_of words) text out
   pub silent : Took notes.old notes.new []
   pub calm : IsCalm c.old c.new
   pub whole : out.new.faults ≡ out.old.faults
@@ -66,37 +68,44 @@ pub record IsBroken (words : List (List ℕ)) (c : Change) (out notes : Puts) (t
   pub statement : Statement
   pub beats : List Beat
   pub emitted : IsEmitted c.old.told words schema statement beats text
-  pub wrote : WritesLinesFront schema statement beats text out
+  pub wrote : WritesLinesFront schema statement beats (start_of words) text out
   pub calm : IsCalm c.old c.new
   pub cause : Rose out.old.faults out.new.faults
   pub noted : Notes WriteFault write_line notes status
 
--- the texts pass, the plan of their statement is within the limits, and its text is this
-pub record IsPlanned (told : List ℕ → Told) (words : List (List ℕ)) (bytes : List ℕ) : Type 0 where
+-- what a command other than `run` writes of a statement, and the text that it leaves: the Verilog text, which meets the statement; the
+-- figures that are printed for it and what it costs; or the statement and its plan
+abbrev pub Shows : Command → Schema → Statement → List ℕ → List ℕ → Type 0
+Shows Compile schema statement bytes text = (bytes ≡ text) × Meets schema statement (latency_of schema statement) (gap_of schema statement) text
+Shows Figures schema statement bytes text = IsFigured schema statement bytes text × Meets schema statement (latency_of schema statement) (gap_of schema statement) text
+Shows Explain schema statement bytes text = (bytes ≡ plan_text schema statement (plan_of schema statement)) × (text ≡ [])
+Shows Run schema statement bytes text = ⊥
+
+-- the texts that such a command names pass, and this is what it shows of them
+pub record IsShownOf (told : List ℕ → Told) (words : List (List ℕ)) (bytes text : List ℕ) : Type 0 where
+  pub command : Command
+  pub is : IsCommand words command
   pub schema : Schema
   pub statement : Statement
-  pub passes : ExplainPasses told words schema statement
-  pub within : IsWithinLimits (plan_of schema statement)
-  pub is : bytes ≡ plan_text schema statement (plan_of schema statement)
+  pub passes : QueryPasses told words schema statement
+  pub shows : Shows command schema statement bytes text
 
--- the text of the plan was written and nothing was noted; no text was missing, and nothing failed
-pub record IsExplained (words : List (List ℕ)) (c : Change) (out notes : Puts) (text : List ℕ) (status : Status) : Type 0 where
+-- it was written whole and nothing was noted; no text was missing, and nothing failed
+pub record IsShown (words : List (List ℕ)) (c : Change) (out notes : Puts) (text : List ℕ) (status : Status) : Type 0 where
   pub bytes : List ℕ
-  pub planned : IsPlanned c.old.told words bytes
+  pub shown : IsShownOf c.old.told words bytes text
   pub wrote : Took out.old out.new bytes
   pub silent : Took notes.old notes.new []
   pub calm : IsCalm c.old c.new
   pub done : status ≡ Done
-  pub none : text ≡ []
 
--- the output failed behind a front of that text, and that was noted
-pub record IsBrokenOff (words : List (List ℕ)) (c : Change) (out notes : Puts) (text : List ℕ) (status : Status) : Type 0 where
+-- the output failed behind a front of it, and that was noted
+pub record IsCut (words : List (List ℕ)) (c : Change) (out notes : Puts) (text : List ℕ) (status : Status) : Type 0 where
   pub bytes : List ℕ
-  pub planned : IsPlanned c.old.told words bytes
+  pub shown : IsShownOf c.old.told words bytes text
   pub wrote : Broke out.old out.new bytes
   pub calm : IsCalm c.old c.new
   pub noted : Notes WriteFault write_line notes status
-  pub none : text ≡ []
 
 -- no text was emitted, or one that meets the statement
 abbrev pub IsNoneOrEmitted : (List ℕ → Told) → List (List ℕ) → List ℕ → Type 0
@@ -114,9 +123,14 @@ pub record IsEnded (words : List (List ℕ)) (c : Change) (out notes : Puts) (te
 pub data IsAnswer (words : List (List ℕ)) (c : Change) (out notes : Puts) (text : List ℕ) (status : Status) : Type 0 where
   Ran : (done : IsDone words c out notes text status) → IsAnswer words c out notes text status
   Broke' : (broken : IsBroken words c out notes text status) → IsAnswer words c out notes text status
-  Explained : (done : IsExplained words c out notes text status) → IsAnswer words c out notes text status
-  BrokeOff : (broken : IsBrokenOff words c out notes text status) → IsAnswer words c out notes text status
+  Shown : (shown : IsShown words c out notes text status) → IsAnswer words c out notes text status
+  Cut : (cut : IsCut words c out notes text status) → IsAnswer words c out notes text status
   Ended : (ended : IsEnded words c out notes text status) → IsAnswer words c out notes text status
+
+-- the texts that a command asks for pass: to run, the tuple file too
+pub data AllPass (told : List ℕ → Told) (words : List (List ℕ)) : Type 0 where
+  Two : (schema : Schema) (statement : Statement) (passes : QueryPasses told words schema statement) (others : command_of words ≢ Some Run) → AllPass told words
+  Three : (schema : Schema) (statement : Statement) (beats : List Beat) (pass : TuplesPass told words schema statement beats) → AllPass told words
 
 -- the shelf tells the texts that the words name
 abbrev pub IsTelling : (List ℕ → Told) → List (List ℕ) → Type 0
@@ -149,7 +163,7 @@ Says words c out notes status.WriteFault = Rose out.old.faults out.new.faults �
 Says words c out notes status.Schema = (fault : SchemaFault) × IsBadSchema c.old.told words fault
 Says words c out notes status.Query = (fault : QueryFault) × IsBadQuery c.old.told words fault
 Says words c out notes status.Tuples = (fault : TupleFault) × AreBadTuples c.old.told words fault
-Says words c out notes status.Limit = ((part : Part) × IsTooLong c.old.told words part) ⊎ ((limit : Limit) × PassesALimit c.old.told words limit)
+Says words c out notes status.Limit = ((part : Part) × IsTooLong c.old.told words part) ⊎ ((limit : Limit) × IsOver c.old.told words limit)
 Says words c out notes status.NotBuilt = IsNotBuilt c.old.told words
 Says words c out notes status.Memory = Unit {0}
 Says words c out notes status.Verilog = ⊥

@@ -1,20 +1,27 @@
 //! Judging the texts: each is read and judged before the next is read.
 
-ghost use Rattle.std.specs.Prelude.{◌≡◌, IfOk};
+ghost use Rattle.std.specs.Prelude.{◌≡◌, ◌≢◌, [], IfErr, IfOk, Some};
 ghost use Rattle.gl_schema.specs.Schemas.{IsSchema};
 ghost use Rattle.gl_schema.specs.Beats.{KeepsGap};
 ghost use Rattle.gl_tuples.specs.Entries.{Gives};
 ghost use Rattle.gl_tuples.specs.Gaps.{AreFileBeats, plain_beats};
-ghost use Rattle.gl_top.specs.Forms.{IsExplain, IsForm, IsRun};
+ghost use Rattle.gl_forms.specs.declared.command.Command.TheVariants.{Explain, Run};
+ghost use Rattle.gl_top.specs.Explaining.{IsExplained, IsExplainRefused};
+ghost use Rattle.gl_forms.specs.Forms.{IsCommand, IsForm, command_of};
 ghost use Rattle.gl_top.specs.Causes as causes;
 ghost use Rattle.gl_top.specs.Causes.{IsNext, Leaves};
 ghost use Rattle.gl_outside.specs.States.{Stays};
 ghost use Rattle.gl_top.specs.Passing.{HasText, SchemaPasses, QueryPasses, TuplesPass, IsCompiled, IsReady, kept_beats};
+ghost use Rattle.gl_top.specs.Verdicts.{IsShownOf};
 
-use crate::form::{Part, is_run, name_of};
 use crate::notes::Refusal;
 use gl_compiler::{CompileFault, Compiled, compile_query};
+use gl_explain::explain;
+use gl_forms::{Part, name_of};
 use gl_outside::{ReadFault, Shelf, Words, read_all};
+use gl_planner::PlanFault;
+use gl_query::QueryFault;
+use gl_query_judge::judge_query as judge_text;
 use gl_schema::{Schema, SchemaFault, read_schema};
 use gl_tuples::{Beats, TupleFault, read_tuples};
 use std::alloc::Global;
@@ -55,6 +62,7 @@ fn query_refusal(fault: CompileFault) -> Refusal
     match fault {
         CompileFault::Memory => Refusal::Memory,
         CompileFault::Query(fault) => Refusal::Query(fault),
+        CompileFault::Limit(limit) => Refusal::Limit(limit),
         CompileFault::Schema(_) | CompileFault::NotBuilt => Refusal::NotBuilt,
     }
 }
@@ -68,8 +76,8 @@ fn tuples_refusal(fault: TupleFault) -> Refusal
     }
 }
 
-/// Reads the text of a part.
-pub(crate) fn text_of<S: Shelf>(
+// Reads the text of a part.
+fn text_of<S: Shelf>(
     alloc: Global,
     shelf: &mut S,
     words: &Words,
@@ -88,12 +96,8 @@ pub(crate) fn text_of<S: Shelf>(
     }
 }
 
-/// Reads and judges the schema.
-pub(crate) fn judge_schema<S: Shelf>(
-    alloc: Global,
-    shelf: &mut S,
-    words: &Words,
-) -> Result<Schema, Refusal>
+// Reads and judges the schema.
+fn judge_schema<S: Shelf>(alloc: Global, shelf: &mut S, words: &Words) -> Result<Schema, Refusal>
     requires form { IsForm words.now }
     requires names { (S.state shelf.old).names ≡ words.now }
     ensures stays { Stays (S.state shelf.old) (S.state shelf.new) }
@@ -115,7 +119,7 @@ fn judge_query<S: Shelf>(
     words: &Words,
     schema: Schema,
 ) -> Result<Compiled, Refusal>
-    requires run { IsRun words.now }
+    requires builds { command_of words.now ≢ Some Explain }
     requires passes { SchemaPasses (S.state shelf.old).told words.now schema }
     requires names { (S.state shelf.old).names ≡ words.now }
     ensures stays { Stays (S.state shelf.old) (S.state shelf.new) }
@@ -155,6 +159,7 @@ fn judge_tuples<S: Shelf>(
     words: &Words,
     compiled: &Compiled,
 ) -> Result<Beats, Refusal>
+    requires runs { IsCommand words.now Run }
     requires passes { let told = (S.state shelf.old).told in
         QueryPasses told words.now compiled.now.schema compiled.now.statement }
     requires compiled { IsCompiled compiled.now }
@@ -177,6 +182,7 @@ fn judge_file<S: Shelf>(
     words: &Words,
     compiled: Compiled,
 ) -> Result<Job, Refusal>
+    requires runs { IsCommand words.now Run }
     requires passes { let told = (S.state shelf.old).told in
         QueryPasses told words.now compiled.schema compiled.statement }
     requires compiled { IsCompiled compiled }
@@ -197,7 +203,7 @@ fn judge_rest<S: Shelf>(
     words: &Words,
     schema: Schema,
 ) -> Result<Job, Refusal>
-    requires run { IsRun words.now }
+    requires runs { IsCommand words.now Run }
     requires passes { SchemaPasses (S.state shelf.old).told words.now schema }
     requires names { (S.state shelf.old).names ≡ words.now }
     ensures ready { IfOk result (λ job. IsReady (S.state shelf.old).told words.now job) }
@@ -209,9 +215,13 @@ fn judge_rest<S: Shelf>(
     }
 }
 
-// Judges the three texts.
-fn judge_texts<S: Shelf>(alloc: Global, shelf: &mut S, words: &Words) -> Result<Job, Refusal>
-    requires run { IsRun words.now }
+/// Judges the three texts of `run S Q T`.
+pub(crate) fn judge_run<S: Shelf>(
+    alloc: Global,
+    shelf: &mut S,
+    words: &Words,
+) -> Result<Job, Refusal>
+    requires runs { IsCommand words.now Run }
     requires names { (S.state shelf.old).names ≡ words.now }
     ensures ready { IfOk result (λ job. IsReady (S.state shelf.old).told words.now job) }
     ensures leaves { Leaves words.now (S.state shelf.old) (S.state shelf.new) result }
@@ -222,16 +232,95 @@ fn judge_texts<S: Shelf>(alloc: Global, shelf: &mut S, words: &Words) -> Result<
     }
 }
 
-/// Judges words that do not ask to explain, and the texts that they name.
-#[tactic(auto, using(gl_outside::proofs::Counting::calm_none, crate::proofs::Texts::formless))]
-pub(crate) fn judge<S: Shelf>(alloc: Global, shelf: &mut S, words: &Words) -> Result<Job, Refusal>
-    requires other { IsExplain words.now → ⊥ }
+/// Judges the two texts of a command that compiles.
+pub(crate) fn judge_compile<S: Shelf>(
+    alloc: Global,
+    shelf: &mut S,
+    words: &Words,
+) -> Result<Compiled, Refusal>
+    requires form { IsForm words.now }
+    requires builds { command_of words.now ≢ Some Explain }
     requires names { (S.state shelf.old).names ≡ words.now }
-    ensures ready { IfOk result (λ job. IsReady (S.state shelf.old).told words.now job) }
+    ensures passes { let told = (S.state shelf.old).told in
+        IfOk result (λ c. QueryPasses told words.now c.schema c.statement) }
+    ensures compiled { IfOk result IsCompiled }
     ensures leaves { Leaves words.now (S.state shelf.old) (S.state shelf.new) result }
 {
-    if !is_run(words) {
-        return Err(Refusal::Usage);
+    match judge_schema(alloc, shelf, words) {
+        Ok(schema) => judge_query(alloc, shelf, words, schema),
+        Err(refusal) => Err(refusal),
     }
-    judge_texts(alloc, shelf, words)
+}
+
+fn fault_refusal(fault: QueryFault) -> Refusal
+    ensures { result ≡ causes.fault_refusal fault }
+{
+    match fault {
+        QueryFault::Memory => Refusal::Memory,
+        fault => Refusal::Query(fault),
+    }
+}
+
+fn plan_refusal(fault: PlanFault) -> Refusal
+    ensures { result ≡ causes.plan_refusal fault }
+{
+    match fault {
+        PlanFault::Limit(limit) => Refusal::Limit(limit),
+        PlanFault::Memory => Refusal::Memory,
+    }
+}
+
+// The statement of a text and its plan, as text.
+fn explained(alloc: Global, schema: &Schema, query: &[u8]) -> Result<Vec<u8>, Refusal>
+    requires { IsSchema schema.now }
+    ensures explained { IfOk result (λ v. IsExplained schema.now query.now v.items) }
+    ensures refused { IfErr result (IsExplainRefused schema.now query.now) }
+{
+    let checked = match judge_text(alloc, schema, query) {
+        Ok(checked) => checked,
+        Err(fault) => return Err(fault_refusal(fault)),
+    };
+    match explain(alloc, &checked) {
+        Ok(text) => Ok(text),
+        Err(fault) => Err(plan_refusal(fault)),
+    }
+}
+
+// Reads the query and explains it.
+fn explain_query<S: Shelf>(
+    alloc: Global,
+    shelf: &mut S,
+    words: &Words,
+    schema: &Schema,
+) -> Result<Vec<u8>, Refusal>
+    requires explains { IsCommand words.now Explain }
+    requires passes { SchemaPasses (S.state shelf.old).told words.now schema.now }
+    requires names { (S.state shelf.old).names ≡ words.now }
+    ensures shown { let told = (S.state shelf.old).told in
+        IfOk result (λ v. IsShownOf told words.now v.items []) }
+    ensures leaves { Leaves words.now (S.state shelf.old) (S.state shelf.new) result }
+{
+    let text = text_of(alloc, shelf, words, Part::Query)?;
+    match explained(alloc, schema, &text) {
+        Ok(shown) => Ok(shown),
+        Err(refusal) => Err(refusal),
+    }
+}
+
+/// Judges the two texts of `explain S Q`, and answers what is explained.
+pub(crate) fn judge_explain<S: Shelf>(
+    alloc: Global,
+    shelf: &mut S,
+    words: &Words,
+) -> Result<Vec<u8>, Refusal>
+    requires explains { IsCommand words.now Explain }
+    requires names { (S.state shelf.old).names ≡ words.now }
+    ensures shown { let told = (S.state shelf.old).told in
+        IfOk result (λ v. IsShownOf told words.now v.items []) }
+    ensures leaves { Leaves words.now (S.state shelf.old) (S.state shelf.new) result }
+{
+    match judge_schema(alloc, shelf, words) {
+        Ok(schema) => explain_query(alloc, shelf, words, &schema),
+        Err(refusal) => Err(refusal),
+    }
 }

@@ -2,14 +2,14 @@
 
 ghost use Rattle.std.specs.Prelude.{◌≡◌, decimal};
 ghost use Rattle.gl_outside.specs.States.{Wrote};
-ghost use Rattle.gl_top.specs.Forms as forms;
+ghost use Rattle.gl_forms.specs.Forms as forms;
 ghost use Rattle.gl_top.specs.Refusals as told;
 ghost use Rattle.gl_top.specs.Refusals.{line, kind_line, limit_line, note_of};
 ghost use Rattle.gl_top.specs.Refusals.{usage_line, memory_line, write_line, puts, Notes};
 
-use crate::form::{Part, name_of};
 use crate::status::Status;
-use gl_figures::Limit as Passed;
+use gl_figures::Limit;
+use gl_forms::{Part, name_of};
 use gl_outside::{Sink, Words, WriteFault, write_all_of};
 use gl_query::QueryFault;
 use gl_schema::SchemaFault;
@@ -31,10 +31,10 @@ pub enum Refusal {
     Schema(SchemaFault),
     /// The query is refused.
     Query(QueryFault),
+    /// The query's plan passes a limit.
+    Limit(Limit),
     /// The query is not compiled yet.
     NotBuilt,
-    /// The query's plan passes a limit.
-    Limit(Passed),
     /// The tuple file is refused.
     Tuples(TupleFault),
     /// Want of memory.
@@ -230,13 +230,12 @@ fn put_write_fault<N: Sink>(notes: &mut N) -> Result<(), WriteFault>
 }
 
 // Writes the line of a limit that a plan passes.
-#[tactic(auto, unfolding(crate::specs::Refusals::limit_line))]
-fn put_limit<N: Sink>(notes: &mut N, limit: &Passed) -> Result<(), WriteFault>
-    ensures { Wrote (N.state notes.old) (N.state notes.new) (limit_line limit.now) result }
+fn put_limit<N: Sink>(notes: &mut N, limit: Limit) -> Result<(), WriteFault>
+    ensures { Wrote (N.state notes.old) (N.state notes.new) (limit_line limit) result }
 {
     match limit {
-        Passed::Latency { .. } => write_all_of(notes, b"limit: Latency\n"),
-        Passed::Nodes { weight } => put_number(notes, b"limit: Nodes ", *weight),
+        Limit::Latency { .. } => write_all_of(notes, b"limit: Latency\n"),
+        Limit::Nodes { weight } => put_number(notes, b"limit: Nodes ", weight),
     }
 }
 
@@ -263,8 +262,8 @@ fn put_note<N: Sink>(notes: &mut N, words: &Words, refusal: &Refusal) -> Result<
             b" at ",
             query_place(fault),
         ),
+        Refusal::Limit(limit) => put_limit(notes, *limit),
         Refusal::NotBuilt => put_name(notes, b"not built: ", words, Part::Query),
-        Refusal::Limit(limit) => put_limit(notes, limit),
         Refusal::Tuples(fault) => put_kind(
             notes,
             b"tuples: ",
@@ -286,8 +285,8 @@ fn status_of(refusal: &Refusal) -> Status
         Refusal::TooLong(_) => Status::Limit,
         Refusal::Schema(_) => Status::Schema,
         Refusal::Query(_) => Status::Query,
-        Refusal::NotBuilt => Status::NotBuilt,
         Refusal::Limit(_) => Status::Limit,
+        Refusal::NotBuilt => Status::NotBuilt,
         Refusal::Tuples(_) => Status::Tuples,
         Refusal::Memory => Status::Memory,
     }

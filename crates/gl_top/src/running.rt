@@ -1,41 +1,36 @@
 //! From words to a status.
 
-ghost use Rattle.std.specs.Prelude.{◌≡◌, ◌≢◌, ◌⊎◌, [], List};
+ghost use Rattle.std.specs.Prelude.{◌≡◌, ◌≢◌, ◌⊎◌, [], ℕ, List};
 ghost use Rattle.gl_outside.specs.States.{IsCalm, Took};
 ghost use Rattle.gl_schema.specs.Beats.{KeepsGap};
-ghost use Rattle.gl_schema.specs.declared.schema.Schema.{Schema};
-ghost use Rattle.gl_query.specs.declared.tree.Statement.{Statement};
-ghost use Rattle.gl_tuples.specs.declared.beats.Beat.{Beat};
 ghost use Rattle.gl_tuples.specs.Gaps.{AreFileBeats, plain_beats};
 ghost use Rattle.gl_compiler.specs.Queries.{gap_of};
 ghost use Rattle.gl_top.specs.declared.notes.Refusal.{Refusal as Refused};
-ghost use Rattle.gl_elaborate.specs.Plans.{plan_of};
-ghost use Rattle.gl_explain.specs.Explained.{IsWithinLimits};
-ghost use Rattle.gl_top.specs.Forms.{IsExplain, IsForm};
+ghost use Rattle.gl_forms.specs.declared.command.Command.TheVariants.{Compile, Explain, Figures, Run};
+ghost use Rattle.gl_forms.specs.Forms as forms;
+ghost use Rattle.gl_forms.specs.Forms.{IsCommand, IsForm};
 ghost use Rattle.gl_top.specs.Causes.{Change, change, IsRefused};
-ghost use Rattle.gl_top.specs.Passing.{ExplainPasses, IsCompiled, IsReady, TuplesPass};
+ghost use Rattle.gl_top.specs.Passing.{IsCompiled, IsReady, QueryPasses};
 ghost use Rattle.gl_top.specs.Refusals.{puts, status_of};
-ghost use Rattle.gl_top.specs.Verdicts.{IsAnswer, IsFaultless, IsPlanned, IsTelling, RanLines};
-ghost use Rattle.gl_top.specs.Verdicts.{Says, TellsFault, Yields};
+ghost use Rattle.gl_top.specs.Verdicts.{AllPass, IsAnswer, IsShownOf, IsTelling, IsFaultless, RanLines, Says, TellsFault, Yields};
 
-use crate::form::is_explain;
-use crate::judging::{Job, judge};
+use crate::figuring::figures_text;
+use crate::judging::{Job, judge_compile, judge_explain, judge_run};
 use crate::notes::{Refusal, tell, tell_write_fault};
-use crate::planning::judge_plan;
 use crate::status::Status;
-use gl_compiler::{Outcome, execute};
+use gl_compiler::{Compiled, Outcome, execute};
+use gl_forms::{Command, command_of, start_of};
 use gl_outside::{Shelf, Sink, Words, write_all_of};
-use gl_sim::Start;
 use std::alloc::Global;
 
 // Runs the compiled text over the beats, and writes the lines of the run.
-fn write_lines<K: Sink>(alloc: Global, job: &Job, out: &mut K) -> Outcome
+fn write_lines<K: Sink>(alloc: Global, words: &Words, job: &Job, out: &mut K) -> Outcome
     requires compiled { IsCompiled job.now.compiled }
     requires fine { AreFileBeats job.now.compiled.schema job.now.beats }
     requires gap { let c = job.now.compiled in
         KeepsGap (gap_of c.schema c.statement) (plain_beats job.now.beats) }
     ensures { let c = job.now.compiled in RanLines c.schema c.statement job.now.beats
-        c.text.items (K.state out.old) (K.state out.new) result }
+        (forms.start_of words.now) c.text.items (K.state out.old) (K.state out.new) result }
 {
     execute(
         alloc,
@@ -44,7 +39,7 @@ fn write_lines<K: Sink>(alloc: Global, job: &Job, out: &mut K) -> Outcome
         job.compiled.kinds(),
         &job.beats,
         job.compiled.printed().latency,
-        Start::Zero,
+        start_of(words),
         out,
     )
 }
@@ -65,7 +60,7 @@ fn finish_run<K: Sink, N: Sink>(
         → IsAnswer words.now c (puts (K.state out.old) (K.state out.new))
         (puts (N.state notes.old) (N.state notes.new)) job.now.compiled.text.items result }
 {
-    match write_lines(alloc, job, out) {
+    match write_lines(alloc, words, job, out) {
         Outcome::Done => Status::Done,
         Outcome::WriteFault => tell_write_fault(notes),
         Outcome::Memory => tell(notes, words, &Refusal::Memory),
@@ -96,8 +91,7 @@ fn finish<K: Sink, N: Sink>(
     }
 }
 
-// Judges words that do not ask to explain, and the texts, runs what was compiled, and notes how
-// that failed.
+// Judges the texts of `run S Q T`, and runs what was compiled.
 fn answer_run<S: Shelf, K: Sink, N: Sink>(
     alloc: Global,
     words: &Words,
@@ -106,7 +100,7 @@ fn answer_run<S: Shelf, K: Sink, N: Sink>(
     notes: &mut N,
     text: &mut Vec<u8>,
 ) -> Status
-    requires other { IsExplain words.now → ⊥ }
+    requires runs { IsCommand words.now Run }
     requires names { (S.state shelf.old).names ≡ words.now }
     requires empty { text.old.items ≡ [] }
     ensures { let seen = change (S.state shelf.old) (S.state shelf.new) in
@@ -114,52 +108,138 @@ fn answer_run<S: Shelf, K: Sink, N: Sink>(
         let noted = puts (N.state notes.old) (N.state notes.new) in
         IsAnswer words.now seen made noted text.new.items result }
 {
-    match judge(alloc, shelf, words) {
+    match judge_run(alloc, shelf, words) {
         Ok(job) => finish(alloc, words, &job, out, notes, text),
         Err(refusal) => tell(notes, words, &refusal),
     }
 }
 
-// Writes the text of a plan, and notes how that failed.
-fn finish_plan<K: Sink, N: Sink>(
-    words: &Words,
-    planned: &[u8],
-    out: &mut K,
-    notes: &mut N,
-) -> Status
-    ensures { (c : Change) → IsPlanned c.old.told words.now planned.now → IsCalm c.old c.new
-        → IsAnswer words.now c (puts (K.state out.old) (K.state out.new))
-        (puts (N.state notes.old) (N.state notes.new)) [] result }
+// Writes what a command shows.
+fn show<K: Sink, N: Sink>(bytes: &[u8], out: &mut K, notes: &mut N) -> Status
+    ensures { (words : List (List ℕ)) (c : Change) (text : List ℕ)
+        → IsShownOf c.old.told words bytes.now text → IsCalm c.old c.new
+        → IsAnswer words c (puts (K.state out.old) (K.state out.new))
+        (puts (N.state notes.old) (N.state notes.new)) text result }
 {
-    let _ = words;
-    match write_all_of(out, planned) {
+    match write_all_of(out, bytes) {
         Ok(()) => Status::Done,
         Err(_) => tell_write_fault(notes),
     }
 }
 
-// Judges the texts of `explain S Q`, explains the query, and notes how that failed.
-fn answer_plan<S: Shelf, K: Sink, N: Sink>(
+// Judges the texts of `explain S Q`, and writes what is explained.
+fn answer_explain<S: Shelf, K: Sink, N: Sink>(
     alloc: Global,
     words: &Words,
     shelf: &mut S,
     out: &mut K,
     notes: &mut N,
 ) -> Status
-    requires explain { IsExplain words.now }
+    requires explains { IsCommand words.now Explain }
     requires names { (S.state shelf.old).names ≡ words.now }
     ensures { let seen = change (S.state shelf.old) (S.state shelf.new) in
         let made = puts (K.state out.old) (K.state out.new) in
         let noted = puts (N.state notes.old) (N.state notes.new) in
         IsAnswer words.now seen made noted [] result }
 {
-    match judge_plan(alloc, shelf, words) {
-        Ok(planned) => finish_plan(words, &planned, out, notes),
-        Err(refused) => tell(notes, words, &refused),
+    match judge_explain(alloc, shelf, words) {
+        Ok(bytes) => show(&bytes, out, notes),
+        Err(refusal) => tell(notes, words, &refusal),
     }
 }
 
-// Does what the words say.
+// Keeps the compiled text, and writes what is shown of it.
+fn show_text<K: Sink, N: Sink>(
+    words: &Words,
+    compiled: &Compiled,
+    bytes: &[u8],
+    out: &mut K,
+    notes: &mut N,
+    text: &mut Vec<u8>,
+) -> Status
+    requires empty { text.old.items ≡ [] }
+    ensures { (c : Change)
+        → IsShownOf c.old.told words.now bytes.now compiled.now.text.items
+        → IsCalm c.old c.new
+        → IsAnswer words.now c (puts (K.state out.old) (K.state out.new))
+        (puts (N.state notes.old) (N.state notes.new)) text.new.items result }
+{
+    match text.extend_from_slice(compiled.text()) {
+        Ok(()) => show(bytes, out, notes),
+        Err(_) => tell(notes, words, &Refusal::Memory),
+    }
+}
+
+// Judges the texts of `compile S Q`, and writes the Verilog text.
+fn answer_compile<S: Shelf, K: Sink, N: Sink>(
+    alloc: Global,
+    words: &Words,
+    shelf: &mut S,
+    out: &mut K,
+    notes: &mut N,
+    text: &mut Vec<u8>,
+) -> Status
+    requires compiles { IsCommand words.now Compile }
+    requires names { (S.state shelf.old).names ≡ words.now }
+    requires empty { text.old.items ≡ [] }
+    ensures { let seen = change (S.state shelf.old) (S.state shelf.new) in
+        let made = puts (K.state out.old) (K.state out.new) in
+        let noted = puts (N.state notes.old) (N.state notes.new) in
+        IsAnswer words.now seen made noted text.new.items result }
+{
+    match judge_compile(alloc, shelf, words) {
+        Ok(compiled) => show_text(words, &compiled, compiled.text(), out, notes, text),
+        Err(refusal) => tell(notes, words, &refusal),
+    }
+}
+
+// Writes the figures of a compiled query.
+fn show_figures<K: Sink, N: Sink>(
+    alloc: Global,
+    words: &Words,
+    compiled: &Compiled,
+    out: &mut K,
+    notes: &mut N,
+    text: &mut Vec<u8>,
+) -> Status
+    requires figures { IsCommand words.now Figures }
+    requires compiled { IsCompiled compiled.now }
+    requires empty { text.old.items ≡ [] }
+    ensures { let c = compiled.now in (seen : Change)
+        → QueryPasses seen.old.told words.now c.schema c.statement → IsCalm seen.old seen.new
+        → IsAnswer words.now seen (puts (K.state out.old) (K.state out.new))
+        (puts (N.state notes.old) (N.state notes.new)) text.new.items result }
+{
+    match figures_text(alloc, compiled) {
+        Ok(bytes) => show_text(words, compiled, &bytes, out, notes, text),
+        Err(_) => tell(notes, words, &Refusal::Memory),
+    }
+}
+
+// Judges the texts of `figures S Q`, and writes the figures.
+fn answer_figures<S: Shelf, K: Sink, N: Sink>(
+    alloc: Global,
+    words: &Words,
+    shelf: &mut S,
+    out: &mut K,
+    notes: &mut N,
+    text: &mut Vec<u8>,
+) -> Status
+    requires figures { IsCommand words.now Figures }
+    requires names { (S.state shelf.old).names ≡ words.now }
+    requires empty { text.old.items ≡ [] }
+    ensures { let seen = change (S.state shelf.old) (S.state shelf.new) in
+        let made = puts (K.state out.old) (K.state out.new) in
+        let noted = puts (N.state notes.old) (N.state notes.new) in
+        IsAnswer words.now seen made noted text.new.items result }
+{
+    match judge_compile(alloc, shelf, words) {
+        Ok(compiled) => show_figures(alloc, words, &compiled, out, notes, text),
+        Err(refusal) => tell(notes, words, &refusal),
+    }
+}
+
+// Does what the words say, and notes how that failed.
 fn answer<S: Shelf, K: Sink, N: Sink>(
     alloc: Global,
     words: &Words,
@@ -175,17 +255,20 @@ fn answer<S: Shelf, K: Sink, N: Sink>(
         let noted = puts (N.state notes.old) (N.state notes.new) in
         IsAnswer words.now seen made noted text.new.items result }
 {
-    if is_explain(words) {
-        answer_plan(alloc, words, shelf, out, notes)
-    } else {
-        answer_run(alloc, words, shelf, out, notes, text)
+    match command_of(words) {
+        Some(Command::Compile) => answer_compile(alloc, words, shelf, out, notes, text),
+        Some(Command::Figures) => answer_figures(alloc, words, shelf, out, notes, text),
+        Some(Command::Explain) => answer_explain(alloc, words, shelf, out, notes),
+        Some(Command::Run) => answer_run(alloc, words, shelf, out, notes, text),
+        None => tell(notes, words, &Refusal::Usage),
     }
 }
 
-/// Does what the words say: `run S Q T` compiles the query of the text Q over the schema of the
-/// text S, and writes to `out` what the Verilog text does over the tuple file T. Leaves that text
-/// in `text`. `explain S Q` writes the canonical text of the query and its plan, and leaves no
-/// text. Where it ends before its work is done, it writes one line to `notes`.
+/// Does what the words say. `compile S Q` compiles the query of the text Q over the schema of the
+/// text S, and writes the Verilog text to `out`; `figures S Q` writes its latency, gap and copies, and
+/// the bits of its registers and memories; `run S Q T` writes what that text does over the tuple file
+/// T, from registers and words of 0 or as `--start N` says. These leave it in `text`. `explain S Q` writes the query in its canonical form and its plan.
+/// Where it ends before its work is done, it writes one line to `notes`.
 ///
 /// The texts are fetched in the order S, Q, T, and each is judged before the next is fetched. With
 /// every status but `Done` and `WriteFault` nothing is written to `out`.
@@ -216,7 +299,7 @@ pub fn run<S: Shelf, K: Sink, N: Sink>(
         let noted = puts (N.state notes.old) (N.state notes.new) in
         TellsFault words.now seen noted result }
 
-    // Nothing is written but by a run, or by what is explained.
+    // Nothing is written but by what was asked for.
     ensures untouched { result ≢ Status.Done → result ≢ Status.WriteFault
         → Took (K.state out.old) (K.state out.new) [] }
 
@@ -234,17 +317,8 @@ pub fn run<S: Shelf, K: Sink, N: Sink>(
     ensures complete { let seen = change (S.state shelf.old) (S.state shelf.new) in
         let made = puts (K.state out.old) (K.state out.new) in
         let noted = puts (N.state notes.old) (N.state notes.new) in
-        (schema : Schema) (statement : Statement) (beats : List Beat)
-        → IsTelling seen.old.told words.now
-        → TuplesPass seen.old.told words.now schema statement beats → IsFaultless seen made noted
-        → (result ≡ Status.Done) ⊎ (result ≡ Status.Memory) }
-    ensures explained { let seen = change (S.state shelf.old) (S.state shelf.new) in
-        let made = puts (K.state out.old) (K.state out.new) in
-        let noted = puts (N.state notes.old) (N.state notes.new) in
-        (schema : Schema) (statement : Statement) → IsTelling seen.old.told words.now
-        → ExplainPasses seen.old.told words.now schema statement
-        → IsWithinLimits (plan_of schema statement) → IsFaultless seen made noted
-        → (result ≡ Status.Done) ⊎ (result ≡ Status.Memory) }
+        IsTelling seen.old.told words.now → AllPass seen.old.told words.now
+        → IsFaultless seen made noted → (result ≡ Status.Done) ⊎ (result ≡ Status.Memory) }
 {
     answer(alloc, words, shelf, out, notes, text)
 }

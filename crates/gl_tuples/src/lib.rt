@@ -11,7 +11,7 @@ mod filing;
 pub mod line;
 pub mod reading;
 mod record;
-mod value;
+pub mod value;
 
 pub use beats::{Beat, Beats, StreamRows};
 pub use fault::TupleFault;

@@ -24,23 +24,10 @@ inputs_push net s [] (d ∷ bs) c b h p q = absurd h
 inputs_push net s (d ∷ cs) [] c b h p q = absurd h
 inputs_push net s (d ∷ cs) (e ∷ bs) c b h p q = (h.0, inputs_push net s cs bs c b h.1 p q)
 
--- an element in front of those that are left
-pub drop_next : {A : Type 0} (xs : List A) (i : ℕ) (x : A) → i < length xs → x ≡ get_or xs i x → drop i xs ≡ x ∷ drop (i + 1) xs
-drop_next {A} xs i x lt e =
-    let one : suc i ≡ i + 1 = omega arith in
-    drop-cons xs i x lt ∙ ap (λ (y : A). y ∷ drop (suc i) xs) (sym e) ∙ ap (λ (j : ℕ). x ∷ drop j xs) one
-
 pub all_at : {A : Type 0} (P : A → Type 0) (xs : List A) (i : ℕ) (d : A) → AllByRecursion P xs → i < length xs → P (get_or xs i d)
 all_at P [] i d h lt = absurd (omega arith)
 all_at P (x ∷ xs) zero d h lt = h.0
 all_at P (x ∷ xs) (suc i) d h lt = all_at P xs i d h.1 (omega arith)
-
--- the columns and the streams of a schema, one by one
-pub stream_is : (ss : List Stream) (i : ℕ) (s : Stream) → AllByRecursion IsStream ss → i < length ss → s ≡ get_or ss i s → IsStream s
-stream_is ss i s all lt e = subst IsStream (sym e) (all_at IsStream ss i s all lt)
-
-pub column_is : (cs : List Column) (i : ℕ) (c : Column) → AllByRecursion IsColumn cs → i < length cs → c ≡ get_or cs i c → IsColumn c
-column_is cs i c all lt e = subst IsColumn (sym e) (all_at IsColumn cs i c all lt)
 
 -- what has been added stays behind what is added next
 pub extends_then : (a b c : Net) → Extends a b → Extends b c → Extends a c

@@ -1,13 +1,12 @@
 pub mod PortNames
 pub mod BeatLemmas
-pub mod Delayed
 pub mod Following
 pub mod Inputs
 pub mod Outputs
 pub mod VerilogNames
 pub mod Finishing
 pub mod Shapes
-pub mod Rightness
+pub mod Resetting
 pub mod StreamLemmas
 pub mod BringLemmas
 pub mod RootLemmas

@@ -140,29 +140,3 @@ output_puts n0 n1 n2 n3 n4 n5 ws ns x y z u v =
     let tail : List PortShape = output out_eos 1 ∷ output fault_group 1 ∷ output fault_queue 1 ∷ [] in
     let put : Puts n2 n5 tail = puts_then n2 n4 n5 (output out_eos 1 ∷ output fault_group 1 ∷ []) (output fault_queue 1 ∷ []) eos_and_group v in
     puts_then n0 n1 n5 (output out_valid 1 ∷ []) (named_outputs ws ns ++ tail) x (puts_then n1 n2 n5 (named_outputs ws ns) tail y put)
-
--- ---- the whole
-
-module _ (old stage grouped queued new : Net) (names : List (List ℕ)) (e : Emitted) (w : Wire) (group queue : Bit) (pad : IsPad old stage 1 e.wire w)
-    (g : IsFault stage grouped group_cost (λ run. line_of run e.faults.further) group)
-    (q : IsFault grouped queued queue_cost (λ run. later_line (line_of run e.faults.passed)) queue) where
-  pub behind_wire : Keeps old queued
-  behind_wire = keeps_then old stage queued pad.keeps (keeps_then stage grouped queued g.keeps q.keeps)
-
-  pub output_costs : CostsNothing queued new → CostsAtMost old new (output_cost (widths e.wire.columns))
-  output_costs n = record {
-    nodes = omega (arith, pad.cost.nodes, g.cost.nodes, q.cost.nodes, n.nodes);
-    registers = omega (arith, pad.cost.registers, g.cost.registers, q.cost.registers, n.registers);
-    memories = omega (arith, pad.cost.memories, g.cost.memories, q.cost.memories, n.memories);
-  }
-
-  pub output_is : Extends queued new → Shows new names w group queue → IsOutput new names e
-  output_is x shows = record {
-    wire = w;
-    group = group;
-    queue = queue;
-    shows = shows;
-    delayed = λ run r. pad.delayed run (g.keeps.runs run (q.keeps.runs run (x.runs run r)));
-    group_line = λ run r. g.sticky run (q.keeps.runs run (x.runs run r));
-    queue_line = λ run r. q.sticky run (x.runs run r);
-  }

@@ -37,7 +37,7 @@ use Rattle.gl_wiring.specs.Root.{ShowsRight}
 use Rattle.gl_wiring.specs.Wired.{KeepsGroup, OverBeats, plan_inputs, plan_means}
 use Rattle.gl_wiring.proofs.BringLemmas.{brings, no_input}
 use Rattle.gl_wiring.proofs.Outputs.{AreApart}
-use Rattle.gl_wiring.proofs.Rightness.{is_reset}
+use Rattle.gl_wiring.proofs.Resetting.{is_reset}
 use Rattle.gl_wiring.proofs.Shapes.{names_in, shape_names, streams_names}
 use Rattle.gl_wiring.proofs.ShownLemmas.{shown_group, shown_right}
 use Rattle.gl_wiring.proofs.StreamLemmas.{no_stream, wire_at}

@@ -17,9 +17,8 @@ use Rattle.gl_net.specs.Net.{Net, Shape, Value, shape_in, IsPort}
 use Rattle.gl_net.specs.PortValues.{PortShape, port_shape, port_shapes, bits_of}
 use Rattle.gl_wiring.specs.declared.parts.Source.{Source}
 use Rattle.gl_wiring.specs.PortNames.{column_ports, stream_ports, streams_ports, port_names}
-use Rattle.gl_wiring.specs.EmittedPorts.{input, output, column_widths, column_inputs, stream_inputs, streams_inputs, column_outputs, result_outputs, columns_at, emitted_ports}
-use Rattle.gl_wiring.specs.Emitted.{names_of, bus_widths, IsPortOf, ArePorts, HasPorts, Puts, IsSource}
-use Rattle.gl_wiring.proofs.Inputs.{drop_next}
+use Rattle.gl_wiring.specs.EmittedPorts.{input, output, column_widths, column_inputs, stream_inputs, streams_inputs}
+use Rattle.gl_wiring.specs.Emitted.{names_of, bus_widths, IsPortOf, ArePorts, HasPorts, Puts}
 
 -- ---- ports one by one
 
@@ -118,13 +117,6 @@ streams_next a b c ss i s lt e x y =
     (sym (ap streams_inputs (taken_next ss i s lt e) ∙ streams_join (take i ss) (s ∷ []) ∙ ap (λ (t : List PortShape). streams_inputs (take i ss) ++ t) (append-nil (stream_inputs s))))
     (puts_then a b c (streams_inputs (take i ss)) (stream_inputs s) x y)
 
--- the streams before a place, the one there, and those behind it
-pub streams_split : (n0 n1 n2 n3 : Net) (ss a b : List Stream) (k : ℕ) (s : Stream) → k < length ss → s ≡ get_or ss k s → a ≡ take k ss → b ≡ drop (k + 1) ss → Puts n0 n1 (streams_inputs a) → Puts n1 n2 (stream_inputs s) → Puts n2 n3 (streams_inputs b) → Puts n0 n3 (streams_inputs ss)
-streams_split n0 n1 n2 n3 ss a b k s lt e ea eb x y z =
-    let whole : ss ≡ a ++ s ∷ b = sym (take-append-drop k ss) ∙ ap (λ (t : List Stream). take k ss ++ t) (drop_next ss k s lt e) ∙ ap (λ (t : List Stream). t ++ s ∷ drop (k + 1) ss) (sym ea) ∙ ap (λ (t : List Stream). a ++ s ∷ t) (sym eb) in
-    let parts : streams_inputs ss ≡ (streams_inputs a ++ stream_inputs s) ++ streams_inputs b = ap streams_inputs whole ∙ streams_join a (s ∷ b) ∙ sym (append_assoc (streams_inputs a) (stream_inputs s) (streams_inputs b)) in
-    subst (λ (shapes : List PortShape). Puts n0 n3 shapes) (sym parts) (puts_then n0 n2 n3 (streams_inputs a ++ stream_inputs s) (streams_inputs b) (puts_then n0 n1 n2 (streams_inputs a) (stream_inputs s) x y) z)
-
 -- ---- widths
 
 pub widths_push : (cs : List Column) (bs : List Bus) (c : Column) (b : Bus) → bus_widths bs ≡ column_widths cs → b.width ≡ width_of c.kind → bus_widths (bs ++ b ∷ []) ≡ column_widths (cs ++ c ∷ [])
@@ -132,14 +124,6 @@ widths_push cs bs c b e w =
     map-append (λ (x : Bus). x.width) bs (b ∷ [])
     ∙ ap (λ (x : List ℕ). x ++ b.width ∷ []) e ∙ ap (λ (x : ℕ). column_widths cs ++ x ∷ []) w
     ∙ sym (map-append (λ (x : Column). width_of x.kind) cs (c ∷ []))
-
-pub width_there : (bs : List Bus) (p : ℕ) (b : Bus) → slice_get bs p ≡ Some b → b.width ≡ slice_index (bus_widths bs) p
-width_there [] p b at = absurd cc
-width_there (x ∷ bs) zero b at = let same : x ≡ b = cc in ap (λ (y : Bus). y.width) (sym same)
-width_there (x ∷ bs) (suc p) b at = width_there bs p b at
-
-pub source_widths : (net : Net) (ss : List Stream) (k : ℕ) (source : Source) → IsSource net ss k source → bus_widths source.columns ≡ column_widths (columns_at ss k)
-source_widths net ss k source is = is.widths ∙ ap (λ (o : Option Stream). column_widths (option_map_or (λ (s : Stream). s.columns) o [])) (sym is.there)
 
 -- ---- outputs
 
@@ -149,33 +133,6 @@ same_taken (suc i) [] [] e = refl
 same_taken (suc i) [] (y ∷ ys) e = absurd (omega arith)
 same_taken (suc i) (x ∷ xs) [] e = absurd (omega arith)
 same_taken (suc i) (x ∷ xs) (y ∷ ys) e = ap suc (same_taken i xs ys (omega arith))
-
-outputs_push : (ws ps : List ℕ) (ns : List (List ℕ)) (p : ℕ) (n : List ℕ) → length ps ≡ length ns → column_outputs ws (ps ++ p ∷ []) (ns ++ n ∷ []) ≡ column_outputs ws ps ns ++ output (out_column n) (slice_index ws p) ∷ []
-outputs_push ws [] [] p n e = refl
-outputs_push ws [] (m ∷ ns) p n e = absurd (omega arith)
-outputs_push ws (q ∷ ps) [] p n e = absurd (omega arith)
-outputs_push ws (q ∷ ps) (m ∷ ns) p n e = ap (λ (x : List PortShape). output (out_column m) (slice_index ws q) ∷ x) (outputs_push ws ps ns p n (omega arith))
-
--- one output more
-pub outputs_next : (a b c : Net) (ws ps : List ℕ) (ns : List (List ℕ)) (i p : ℕ) (n : List ℕ) → length ps ≡ length ns → take (i + 1) ps ≡ take i ps ++ p ∷ [] → take (i + 1) ns ≡ take i ns ++ n ∷ [] → Puts a b (column_outputs ws (take i ps) (take i ns)) → Puts b c (output (out_column n) (slice_index ws p) ∷ []) → Puts a c (column_outputs ws (take (i + 1) ps) (take (i + 1) ns))
-outputs_next a b c ws ps ns i p n same more_places more_names x y =
-    let last = output (out_column n) (slice_index ws p) ∷ [] in
-    let is : column_outputs ws (take (i + 1) ps) (take (i + 1) ns) ≡ column_outputs ws (take i ps) (take i ns) ++ last =
-    ap (λ (t : List ℕ). column_outputs ws t (take (i + 1) ns)) more_places ∙ ap (column_outputs ws (take i ps ++ p ∷ [])) more_names ∙ outputs_push ws (take i ps) (take i ns) p n (same_taken i ps ns same) in
-    subst (λ (shapes : List PortShape). Puts a c shapes) (sym is) (puts_then a b c (column_outputs ws (take i ps) (take i ns)) last x y)
-
--- the ports of a result, one after the other
-pub result_puts : (n0 n1 n2 n3 n4 n5 : Net) (ws ps : List ℕ) (ns : List (List ℕ)) → Puts n0 n1 (output out_valid 1 ∷ []) → Puts n1 n2 (column_outputs ws ps ns) → Puts n2 n3 (output out_eos 1 ∷ []) → Puts n3 n4 (output fault_group 1 ∷ []) → Puts n4 n5 (output fault_queue 1 ∷ []) → Puts n0 n5 (result_outputs ws ps ns)
-result_puts n0 n1 n2 n3 n4 n5 ws ps ns x y z u v =
-    let tail : Puts n2 n5 (output out_eos 1 ∷ output fault_group 1 ∷ output fault_queue 1 ∷ []) = puts_then n2 n4 n5 (output out_eos 1 ∷ output fault_group 1 ∷ []) (output fault_queue 1 ∷ []) (puts_then n2 n3 n4 (output out_eos 1 ∷ []) (output fault_group 1 ∷ []) z u) v in
-    puts_then n0 n1 n5 (output out_valid 1 ∷ []) (column_outputs ws ps ns ++ output out_eos 1 ∷ output fault_group 1 ∷ output fault_queue 1 ∷ []) x (puts_then n1 n2 n5 (column_outputs ws ps ns) (output out_eos 1 ∷ output fault_group 1 ∷ output fault_queue 1 ∷ []) y tail)
-
--- all ports, one after the other
-pub all_ports : (n0 n1 n2 n3 n4 : Net) (ss : List Stream) (ws ps : List ℕ) (ns : List (List ℕ)) → n0.ports ≡ [] → Puts n0 n1 (input rst 1 ∷ []) → Puts n1 n2 (streams_inputs ss) → Puts n2 n3 (input eos 1 ∷ []) → Puts n3 n4 (result_outputs ws ps ns) → port_shapes n4 ≡ input rst 1 ∷ (streams_inputs ss ++ input eos 1 ∷ result_outputs ws ps ns)
-all_ports n0 n1 n2 n3 n4 ss ws ps ns none x y z u =
-    let tail : Puts n2 n4 (input eos 1 ∷ result_outputs ws ps ns) = puts_then n2 n3 n4 (input eos 1 ∷ []) (result_outputs ws ps ns) z u in
-    let rest : Puts n1 n4 (streams_inputs ss ++ input eos 1 ∷ result_outputs ws ps ns) = puts_then n1 n2 n4 (streams_inputs ss) (input eos 1 ∷ result_outputs ws ps ns) y tail in
-    all_put n0 n4 (input rst 1 ∷ (streams_inputs ss ++ input eos 1 ∷ result_outputs ws ps ns)) none (puts_then n0 n1 n4 (input rst 1 ∷ []) (streams_inputs ss ++ input eos 1 ∷ result_outputs ws ps ns) x rest)
 
 -- ---- names
 
@@ -196,24 +153,3 @@ stream_names s = ap (λ (x : List (List ℕ)). in_valid s.name ∷ x) (column_na
 pub streams_names : (ss : List Stream) → names_in (streams_inputs ss) ≡ streams_ports ss
 streams_names [] = refl
 streams_names (s ∷ ss) = map-append (λ (x : PortShape). x.name) (stream_inputs s) (streams_inputs ss) ∙ ap (λ (x : List (List ℕ)). x ++ names_in (streams_inputs ss)) (stream_names s) ∙ ap (λ (x : List (List ℕ)). stream_ports s ++ x) (streams_names ss)
-
-output_names : (ws ps : List ℕ) (ns : List (List ℕ)) → length ps ≡ length ns → names_in (column_outputs ws ps ns) ≡ map out_column ns
-output_names ws [] [] e = refl
-output_names ws [] (n ∷ ns) e = absurd (omega arith)
-output_names ws (p ∷ ps) [] e = absurd (omega arith)
-output_names ws (p ∷ ps) (n ∷ ns) e = ap (λ (x : List (List ℕ)). out_column n ∷ x) (output_names ws ps ns (omega arith))
-
--- the names of the ports of an emitted module
-pub emitted_names : (s : Schema) (k : ℕ) (ps : List ℕ) (ns : List (List ℕ)) → length ps ≡ length ns → names_in (emitted_ports s k ps ns) ≡ port_names s ns
-emitted_names s k ps ns e =
-    let ws = column_widths (columns_at s.streams k) in
-    let tail = output out_eos 1 ∷ output fault_group 1 ∷ output fault_queue 1 ∷ [] in
-    let result = result_outputs ws ps ns in
-    let outs : names_in result ≡ out_valid ∷ (map out_column ns ++ out_eos ∷ fault_group ∷ fault_queue ∷ []) =
-    ap (λ (x : List (List ℕ)). out_valid ∷ x) (map-append (λ (x : PortShape). x.name) (column_outputs ws ps ns) tail ∙ ap (λ (x : List (List ℕ)). x ++ out_eos ∷ fault_group ∷ fault_queue ∷ []) (output_names ws ps ns e)) in
-    let ins = map-append (λ (x : PortShape). x.name) (streams_inputs s.streams) (input eos 1 ∷ result) ∙ ap (λ (x : List (List ℕ)). x ++ eos ∷ names_in result) (streams_names s.streams) ∙ ap (λ (x : List (List ℕ)). streams_ports s.streams ++ eos ∷ x) outs in
-    ap (λ (x : List (List ℕ)). rst ∷ x) ins
-
-pub names_are : (net : Net) (s : Schema) (k : ℕ) (ps : List ℕ) (ns : List (List ℕ)) → length ps ≡ length ns → port_shapes net ≡ emitted_ports s k ps ns → names_of net ≡ port_names s ns
-unfolding port_shapes
-names_are net s k ps ns e h = sym (shape_names net net.ports) ∙ ap names_in h ∙ emitted_names s k ps ns e

@@ -34,27 +34,3 @@ stream_inputs s = input (in_valid s.name) 1 ∷ stream_columns s
 abbrev pub streams_inputs : List Stream → List PortShape
 streams_inputs [] = []
 streams_inputs (s ∷ ss) = stream_inputs s ++ streams_inputs ss
-
--- an output under each name, with the bits at each place
-abbrev pub column_outputs : List ℕ → List ℕ → List (List ℕ) → List PortShape
-column_outputs widths [] names = []
-column_outputs widths (p ∷ places) [] = []
-column_outputs widths (p ∷ places) (n ∷ names) = output (out_column n) (slice_index widths p) ∷ column_outputs widths places names
-
--- the outputs of a result: whether a row leaves, its columns, the end, and the two fault lines
-abbrev pub result_outputs : List ℕ → List ℕ → List (List ℕ) → List PortShape
-result_outputs widths places names =
-    output out_valid 1 ∷ (column_outputs widths places names ++ output out_eos 1 ∷ output fault_group 1 ∷ output fault_queue 1 ∷ [])
-
--- the columns of stream k
-abbrev pub columns_at : List Stream → ℕ → List Column
-columns_at streams k = option_map_or (λ (s : Stream). s.columns) (slice_get streams k) []
-
--- all ports, where the result has the columns at these places of stream k
-abbrev pub emitted_ports : Schema → ℕ → List ℕ → List (List ℕ) → List PortShape
-emitted_ports schema k places names =
-    input rst 1 ∷ (streams_inputs schema.streams ++ input eos 1 ∷ result_outputs (column_widths (columns_at schema.streams k)) places names)
-
--- all ports of the netlist are these
-abbrev pub IsEmitted : Schema → ℕ → List ℕ → List (List ℕ) → Net → Type 0
-IsEmitted schema k places names net = port_shapes net ≡ emitted_ports schema k places names

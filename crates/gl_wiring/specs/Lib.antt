@@ -1,6 +1,4 @@
 pub mod PortNames
-pub mod Delay
-pub mod Select
 pub mod Emitted
 pub mod EmittedPorts
 pub mod Bringing

@@ -9,8 +9,6 @@ pub mod names;
 mod output;
 pub mod parts;
 pub mod plan;
-pub mod select;
 
 pub use names::{ResultNames, in_column_name, in_valid_name};
 pub use plan::wire_plan;
-pub use select::wire_select;

@@ -5,14 +5,13 @@ ghost use Rattle.std.specs.List.{AllByRecursion};
 ghost use Rattle.gl_bits.specs.Words.{IsWidth};
 ghost use Rattle.gl_schema.specs.Schemas.{IsColumn, IsStream};
 ghost use Rattle.gl_schema.specs.Ports.{in_valid};
-ghost use Rattle.gl_net.specs.Net.{Run, IsRun, IsBus, IsPort};
+ghost use Rattle.gl_net.specs.Net.{IsBus, IsPort};
 ghost use Rattle.gl_net.specs.declared.node.Direction.TheVariants.{In, Out};
-ghost use Rattle.gl_net.specs.Builds.{Follows};
-ghost use Rattle.gl_wiring.specs.EmittedPorts.{input, output, column_widths, stream_columns, stream_inputs, streams_inputs};
-ghost use Rattle.gl_wiring.specs.Emitted.{bus_widths, Puts, Extends, CostsNothing, HasInputs, IsDelayed, IsDelayedBit, IsZero};
+ghost use Rattle.gl_wiring.specs.EmittedPorts.{input, output, column_widths, stream_columns, stream_inputs};
+ghost use Rattle.gl_wiring.specs.Emitted.{bus_widths, Puts, Extends, CostsNothing, HasInputs};
 
 use crate::names::{in_column_name, in_valid_name};
-use gl_bits::{Memory, Word};
+use gl_bits::Memory;
 use gl_net::{Bus, Buses, NetBuilder};
 use gl_schema::Stream;
 use std::alloc::Global;
@@ -47,73 +46,6 @@ pub(crate) fn put_output(net: &mut NetBuilder, name: &[u8], value: Bus) -> Resul
     ensures port { OnOk result (IsPort net.new Out name.now value.node) }
 {
     net.output(name, value)?;
-    Ok(())
-}
-
-/// A register that has in each cycle what the bus had in the one before.
-fn later(net: &mut NetBuilder, source: Bus) -> Result<Bus, Memory>
-    requires { IsBus net.old source }
-    ensures width { IfOk result (λ b. b.width ≡ source.width) }
-    ensures extends { OnOk result (Extends net.old net.new) }
-    ensures ports { OnOk result (Puts net.old net.new []) }
-    ensures bus { IfOk result (λ b. IsBus net.new b) }
-    ensures later { IfOk result (λ b. Follows net.new b source) }
-{
-    let register = net.register(source.width, None)?;
-    net.drive(register, source)?;
-    Ok(register)
-}
-
-/// The same for one bit, which reset clears.
-fn later_bit(net: &mut NetBuilder, source: Bus) -> Result<Bus, Memory>
-    requires bus { IsBus net.old source }
-    requires bit { source.width ≡ 1 }
-    ensures width { IfOk result (λ b. b.width ≡ 1) }
-    ensures extends { OnOk result (Extends net.old net.new) }
-    ensures ports { OnOk result (Puts net.old net.new []) }
-    ensures bus { IfOk result (λ b. IsBus net.new b) }
-    ensures first { IfOk result (λ b. (run : Run) → IsRun net.new run → run.at 1 b.node ≡ 0) }
-    ensures later { IfOk result (λ b. Follows net.new b source) }
-{
-    let clear = Word::new(0, 1).unwrap();
-    let register = net.register(1, Some(clear))?;
-    net.drive(register, source)?;
-    Ok(register)
-}
-
-/// An output port that shows a bus one cycle later.
-pub(crate) fn put_later(net: &mut NetBuilder, name: &[u8], source: Bus) -> Result<(), Memory>
-    requires { IsBus net.old source }
-    ensures extends { OnOk result (Extends net.old net.new) }
-    ensures ports { OnOk result (Puts net.old net.new (output name.now source.width ∷ [])) }
-    ensures delayed { OnOk result (IsDelayed net.new name.now source.node) }
-{
-    let bus = later(net, source)?;
-    put_output(net, name, bus)?;
-    Ok(())
-}
-
-/// An output port that shows a bit one cycle later, and 0 right after reset.
-pub(crate) fn put_later_bit(net: &mut NetBuilder, name: &[u8], source: Bus) -> Result<(), Memory>
-    requires bus { IsBus net.old source }
-    requires bit { source.width ≡ 1 }
-    ensures extends { OnOk result (Extends net.old net.new) }
-    ensures ports { OnOk result (Puts net.old net.new (output name.now 1 ∷ [])) }
-    ensures delayed { OnOk result (IsDelayedBit net.new name.now source.node) }
-{
-    let bus = later_bit(net, source)?;
-    put_output(net, name, bus)?;
-    Ok(())
-}
-
-/// An output port that is 0.
-pub(crate) fn put_zero(net: &mut NetBuilder, name: &[u8]) -> Result<(), Memory>
-    ensures extends { OnOk result (Extends net.old net.new) }
-    ensures ports { OnOk result (Puts net.old net.new (output name.now 1 ∷ [])) }
-    ensures zero { OnOk result (IsZero net.new name.now) }
-{
-    let zero = net.constant(Word::new(0, 1).unwrap())?;
-    put_output(net, name, zero)?;
     Ok(())
 }
 
@@ -155,20 +87,4 @@ pub(crate) fn put_stream(
     let valid = put_input(net, &name, 1)?;
     let columns = put_columns(alloc, net, stream)?;
     Ok(Source { valid, columns })
-}
-
-/// The input ports of streams, one after the other.
-pub(crate) fn put_streams(
-    alloc: Global,
-    net: &mut NetBuilder,
-    streams: &[Stream],
-) -> Result<(), Memory>
-    requires { AllByRecursion IsStream streams.now }
-    ensures extends { OnOk result (Extends net.old net.new) }
-    ensures ports { OnOk result (Puts net.old net.new (streams_inputs streams.now)) }
-{
-    for stream in streams {
-        put_stream(alloc, net, stream)?;
-    }
-    Ok(())
 }

@@ -1,9 +1,12 @@
-use Rattle.std.proofs.Common.{◌≡◌, sym, subst, ◌∙◌}
-use Rattle.gl_query.specs.declared.tree.Statement.{Statement as Stated}
+use Rattle.std.proofs.Common.{◌≡◌, sym, subst}
+use Rattle.gl_schema.specs.declared.schema.Schema.{Schema}
+use Rattle.gl_query.specs.Names.{StatementHasNames}
+use Rattle.gl_query.specs.Trees.{statement_tree}
+use Rattle.gl_query.proofs.Alike.{statement_same}
+use Rattle.gl_query_reader.proofs.Regular.{regular}
 use Rattle.gl_compiler.specs.Compiles.{IsRefused}
-use Rattle.gl_compiler.specs.Queries.{IsQuery}
-use Rattle.gl_compiler.specs.Selecting.{IsBuilt}
-use Rattle.gl_compiler.proofs.Refusing.{refusal, refused_goes, statement_cause, tells_none, tells_of}
+use Rattle.gl_compiler.proofs.Made.{made}
+use Rattle.gl_compiler.proofs.Refusing.{refusal, refused_goes, statement_cause, tells_of}
 use Rattle.gl_compiler.proofs.compiling.compile_query.Goals as goal
 
 -- the text is refused
@@ -21,31 +24,76 @@ returns-in-Err-clause-told c =
 
 -- its statement is compiled
 
-pub returns-in-Ok-compile_statement-clause-told : goal.returns-in-Ok-compile_statement-clause-told
-returns-in-Ok-compile_statement-clause-told c =
-    let schema = c.args.schema in
-    let text = c.args.query.now in
-    let made = c.in-Ok-compile_statement.ensures.compiled in
-    let same : c.in-Ok-compile_statement.compiled.statement ≡ c.in-Ok.checked.statement = made.statement' ∙ c.statement_of-statement.ensures in
-    let built : IsBuilt schema c.in-Ok.checked.statement = subst (IsBuilt schema) c.statement_of-statement.ensures made.built in
-    tells_none schema text c.in-Ok-compile_statement.compiled c.requires (subst (IsQuery schema text) (sym same) (record { has = c.in-Ok.ensures.accepted.has; built = built }))
+pub compile_checked-requires-clause-names : goal.compile_checked-requires-clause-names
+compile_checked-requires-clause-names c =
+    subst StatementHasNames (statement_same c.in-Ok.checked.statement) (regular c.args.query.now (statement_tree c.in-Ok.checked.statement) c.in-Ok.ensures.accepted.has).names
+
+pub returns-in-Ok-compile_checked-clause-schema : goal.returns-in-Ok-compile_checked-clause-schema
+returns-in-Ok-compile_checked-clause-schema c =
+    (made c.args.schema c.in-Ok.checked.schema c.args.query.now c.in-Ok.checked.statement c.in-Ok-compile_checked.compiled c.requires c.in-Ok.ensures.schema c.in-Ok.ensures.accepted c.in-Ok-compile_checked.ensures).schema'
+
+pub returns-in-Ok-compile_checked-clause-built : goal.returns-in-Ok-compile_checked-clause-built
+returns-in-Ok-compile_checked-clause-built c =
+    (made c.args.schema c.in-Ok.checked.schema c.args.query.now c.in-Ok.checked.statement c.in-Ok-compile_checked.compiled c.requires c.in-Ok.ensures.schema c.in-Ok.ensures.accepted c.in-Ok-compile_checked.ensures).built
+
+pub returns-in-Ok-compile_checked-clause-many : goal.returns-in-Ok-compile_checked-clause-many
+returns-in-Ok-compile_checked-clause-many c =
+    (made c.args.schema c.in-Ok.checked.schema c.args.query.now c.in-Ok.checked.statement c.in-Ok-compile_checked.compiled c.requires c.in-Ok.ensures.schema c.in-Ok.ensures.accepted c.in-Ok-compile_checked.ensures).many
+
+pub returns-in-Ok-compile_checked-clause-kinds : goal.returns-in-Ok-compile_checked-clause-kinds
+returns-in-Ok-compile_checked-clause-kinds c =
+    (made c.args.schema c.in-Ok.checked.schema c.args.query.now c.in-Ok.checked.statement c.in-Ok-compile_checked.compiled c.requires c.in-Ok.ensures.schema c.in-Ok.ensures.accepted c.in-Ok-compile_checked.ensures).kinds'
+
+pub returns-in-Ok-compile_checked-clause-columns : goal.returns-in-Ok-compile_checked-clause-columns
+returns-in-Ok-compile_checked-clause-columns c =
+    (made c.args.schema c.in-Ok.checked.schema c.args.query.now c.in-Ok.checked.statement c.in-Ok-compile_checked.compiled c.requires c.in-Ok.ensures.schema c.in-Ok.ensures.accepted c.in-Ok-compile_checked.ensures).columns
+
+pub returns-in-Ok-compile_checked-clause-latency : goal.returns-in-Ok-compile_checked-clause-latency
+returns-in-Ok-compile_checked-clause-latency c =
+    (made c.args.schema c.in-Ok.checked.schema c.args.query.now c.in-Ok.checked.statement c.in-Ok-compile_checked.compiled c.requires c.in-Ok.ensures.schema c.in-Ok.ensures.accepted c.in-Ok-compile_checked.ensures).latency
+
+pub returns-in-Ok-compile_checked-clause-gap : goal.returns-in-Ok-compile_checked-clause-gap
+returns-in-Ok-compile_checked-clause-gap c =
+    (made c.args.schema c.in-Ok.checked.schema c.args.query.now c.in-Ok.checked.statement c.in-Ok-compile_checked.compiled c.requires c.in-Ok.ensures.schema c.in-Ok.ensures.accepted c.in-Ok-compile_checked.ensures).gap
+
+pub returns-in-Ok-compile_checked-clause-copies : goal.returns-in-Ok-compile_checked-clause-copies
+returns-in-Ok-compile_checked-clause-copies c =
+    (made c.args.schema c.in-Ok.checked.schema c.args.query.now c.in-Ok.checked.statement c.in-Ok-compile_checked.compiled c.requires c.in-Ok.ensures.schema c.in-Ok.ensures.accepted c.in-Ok-compile_checked.ensures).copies
+
+pub returns-in-Ok-compile_checked-clause-short : goal.returns-in-Ok-compile_checked-clause-short
+returns-in-Ok-compile_checked-clause-short c =
+    (made c.args.schema c.in-Ok.checked.schema c.args.query.now c.in-Ok.checked.statement c.in-Ok-compile_checked.compiled c.requires c.in-Ok.ensures.schema c.in-Ok.ensures.accepted c.in-Ok-compile_checked.ensures).short
+
+pub returns-in-Ok-compile_checked-clause-plan : goal.returns-in-Ok-compile_checked-clause-plan
+returns-in-Ok-compile_checked-clause-plan c =
+    (made c.args.schema c.in-Ok.checked.schema c.args.query.now c.in-Ok.checked.statement c.in-Ok-compile_checked.compiled c.requires c.in-Ok.ensures.schema c.in-Ok.ensures.accepted c.in-Ok-compile_checked.ensures).plan
+
+pub returns-in-Ok-compile_checked-clause-figures : goal.returns-in-Ok-compile_checked-clause-figures
+returns-in-Ok-compile_checked-clause-figures c =
+    (made c.args.schema c.in-Ok.checked.schema c.args.query.now c.in-Ok.checked.statement c.in-Ok-compile_checked.compiled c.requires c.in-Ok.ensures.schema c.in-Ok.ensures.accepted c.in-Ok-compile_checked.ensures).figures
+
+pub returns-in-Ok-compile_checked-clause-cost : goal.returns-in-Ok-compile_checked-clause-cost
+returns-in-Ok-compile_checked-clause-cost c =
+    (made c.args.schema c.in-Ok.checked.schema c.args.query.now c.in-Ok.checked.statement c.in-Ok-compile_checked.compiled c.requires c.in-Ok.ensures.schema c.in-Ok.ensures.accepted c.in-Ok-compile_checked.ensures).cost
+
+pub returns-in-Ok-compile_checked-clause-meets : goal.returns-in-Ok-compile_checked-clause-meets
+returns-in-Ok-compile_checked-clause-meets c =
+    (made c.args.schema c.in-Ok.checked.schema c.args.query.now c.in-Ok.checked.statement c.in-Ok-compile_checked.compiled c.requires c.in-Ok.ensures.schema c.in-Ok.ensures.accepted c.in-Ok-compile_checked.ensures).meets
+
+pub returns-in-Ok-compile_checked-clause-told : goal.returns-in-Ok-compile_checked-clause-told
+returns-in-Ok-compile_checked-clause-told c =
+    (made c.args.schema c.in-Ok.checked.schema c.args.query.now c.in-Ok.checked.statement c.in-Ok-compile_checked.compiled c.requires c.in-Ok.ensures.schema c.in-Ok.ensures.accepted c.in-Ok-compile_checked.ensures).told
 
 -- it is not
 
-pub returns-in-Err-compile_statement-clause-refused :
-    goal.returns-in-Err-compile_statement-clause-refused
-returns-in-Err-compile_statement-clause-refused c =
-    let schema = c.args.schema in
-    let text = c.args.query.now in
-    let fault = c.in-Err-compile_statement.fault in
-    let refused : IsRefused schema c.in-Ok.checked.statement fault = subst (λ (s : Stated). IsRefused schema s fault) c.statement_of-statement.ensures c.in-Err-compile_statement.ensures.compiled in
-    refused_goes schema text fault c.requires (statement_cause schema text c.in-Ok.checked.statement fault c.in-Ok.ensures.accepted refused)
+pub returns-clause-refused : goal.returns-clause-refused
+returns-clause-refused c =
+    let fault = c.in-Err-compile_checked.fault in
+    let refused = subst (λ (s : Schema). IsRefused s c.in-Ok.checked.statement fault) c.in-Ok.ensures.schema c.in-Err-compile_checked.ensures in
+    refused_goes c.args.schema c.args.query.now fault c.requires (statement_cause c.args.schema c.args.query.now c.in-Ok.checked.statement fault c.in-Ok.ensures.accepted refused)
 
-pub returns-in-Err-compile_statement-clause-told :
-    goal.returns-in-Err-compile_statement-clause-told
-returns-in-Err-compile_statement-clause-told c =
-    let schema = c.args.schema in
-    let text = c.args.query.now in
-    let fault = c.in-Err-compile_statement.fault in
-    let refused : IsRefused schema c.in-Ok.checked.statement fault = subst (λ (s : Stated). IsRefused schema s fault) c.statement_of-statement.ensures c.in-Err-compile_statement.ensures.compiled in
-    tells_of schema text fault c.requires (statement_cause schema text c.in-Ok.checked.statement fault c.in-Ok.ensures.accepted refused)
+pub returns-clause-told : goal.returns-clause-told
+returns-clause-told c =
+    let fault = c.in-Err-compile_checked.fault in
+    let refused = subst (λ (s : Schema). IsRefused s c.in-Ok.checked.statement fault) c.in-Ok.ensures.schema c.in-Err-compile_checked.ensures in
+    tells_of c.args.schema c.args.query.now fault c.requires (statement_cause c.args.schema c.args.query.now c.in-Ok.checked.statement fault c.in-Ok.ensures.accepted refused)

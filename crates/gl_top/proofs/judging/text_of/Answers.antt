@@ -1,11 +1,11 @@
 use Rattle.std.proofs.Common.{List, ℕ, sym, subst}
 use Rattle.std.specs.Prelude.{Contains}
-use Rattle.gl_top.proofs.Texts.{named, next_named, read_cause}
+use Rattle.gl_top.proofs.Texts.{named, read_cause}
 use Rattle.gl_top.proofs.judging.text_of.Goals as goal
 
 pub read_all-requires : goal.read_all-requires
 read_all-requires g c =
-    let there : Contains c.args.words.now c.name_of.result.now = subst (λ (n : List ℕ). Contains c.args.words.now n) (sym c.name_of.ensures) (named c.args.words.now c.args.part (next_named (g.S.Shelf.state c.args.shelf.now).told c.args.words.now c.args.part c.requires.next)) in
+    let there : Contains c.args.words.now c.name_of.result.now = subst (λ (n : List ℕ). Contains c.args.words.now n) (sym c.name_of.ensures) (named (g.S.Shelf.state c.args.shelf.now).told c.args.words.now c.args.part c.requires.next) in
     subst (λ (names : List (List ℕ)). Contains names c.name_of.result.now) (sym c.requires.names) there
 
 pub returns-in-Err-clause-leaves : goal.returns-in-Err-clause-leaves

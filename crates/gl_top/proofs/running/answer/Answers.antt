@@ -1,6 +1,16 @@
-use Rattle.std.proofs.Common.{sym}
-use Rattle.gl_top.proofs.Answering.{answer_text}
+use Rattle.std.proofs.Common.{inl, sym, ◌∙◌}
+use Rattle.gl_outside.proofs.Counting.{calm_none}
+use Rattle.gl_outside.proofs.Takes.{took_none}
+use Rattle.gl_top.specs.declared.notes.Refusal.TheVariants as refusal
+use Rattle.gl_top.specs.Verdicts.{Ended}
+use Rattle.gl_top.proofs.Texts.{no_form}
 use Rattle.gl_top.proofs.running.answer.Goals as goal
 
-pub returns-then-is_explain : goal.returns-then-is_explain
-returns-then-is_explain g c = answer_text _ _ _ _ _ _ _ (sym c.requires.empty) c.answer_plan.ensures
+pub returns-in-None : goal.returns-in-None
+returns-in-None g c = Ended (record {
+  refusal = refusal.Usage;
+  cause = (no_form c.args.words.now (sym c.command_of.ensures ∙ c.in-None.is), calm_none _);
+  untouched = took_none _;
+  noted = c.tell.ensures;
+  left = inl c.requires.empty;
+})

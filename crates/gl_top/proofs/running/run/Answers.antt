@@ -1,4 +1,4 @@
-use Rattle.gl_top.proofs.Concluding.{when_says, when_told, when_formless, when_untouched, when_refused, when_calm, when_planned}
+use Rattle.gl_top.proofs.Concluding.{when_says, when_told, when_formless, when_untouched, when_refused, when_calm}
 use Rattle.gl_top.proofs.running.run.Goals as goal
 
 pub returns-clause-says : goal.returns-clause-says
@@ -18,6 +18,3 @@ returns-clause-exact g c = when_refused _ _ _ _ _ _ c.answer.ensures
 
 pub returns-clause-complete : goal.returns-clause-complete
 returns-clause-complete g c = when_calm _ _ _ _ _ _ c.answer.ensures
-
-pub returns-clause-explained : goal.returns-clause-explained
-returns-clause-explained g c = when_planned _ _ _ _ _ _ c.answer.ensures

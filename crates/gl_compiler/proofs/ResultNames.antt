@@ -1,0 +1,74 @@
+-- The names of a result's columns are names.
+use Rattle.std.proofs.Common.{◌≡◌, ℕ, Bool, true, false, List, [], ◌∷◌, ◌++◌, map, Option, None, Some, refl}
+use Rattle.std.specs.Prelude.{bytes_eq, find, option_map, unwrap_or, if◌then◌else◌}
+use Rattle.std.specs.List.{AllByRecursion}
+use Rattle.gl_schema.specs.declared.schema.Column.{Column}
+use Rattle.gl_schema.specs.declared.schema.Stream.{Stream}
+use Rattle.gl_schema.specs.declared.schema.Schema.{Schema}
+use Rattle.gl_schema.specs.Names.{IsName}
+use Rattle.gl_schema.specs.Schemas.{IsColumn, IsSchema, IsStream, column_names}
+use Rattle.gl_query.specs.Columns.{agg_column, columns_of, item_column, picked_columns, source_columns, variable}
+use Rattle.gl_query.specs.Names.{HasNames, QueryHasNames}
+use Rattle.gl_query.specs.Parts.{InAggItem, InItem, InPick}
+use Rattle.gl_query.specs.Shapes.{AggItemShape, ItemShape, PickShape, QueryShape}
+use Rattle.gl_query.specs.Shapes as shape
+
+abbrev AreNamed : List Column → Type 0
+AreNamed columns = AllByRecursion (λ (c : Column). IsName c.name) columns
+
+abbrev SourcesAreNamed : List Stream → Type 0
+SourcesAreNamed sources = AllByRecursion (λ (s : Stream). AreNamed s.columns) sources
+
+columns_are : (cs : List Column) → AllByRecursion IsColumn cs → AreNamed cs
+columns_are [] h = tt
+columns_are (c ∷ cs) h = (h.0.name, columns_are cs h.1)
+
+streams_are : (ss : List Stream) → AllByRecursion IsStream ss → SourcesAreNamed ss
+streams_are [] h = tt
+streams_are (s ∷ ss) h = (columns_are s.columns h.0.columns, streams_are ss h.1)
+
+source_named : (ss : List Stream) (name : List ℕ) → SourcesAreNamed ss → AreNamed (source_columns ss name)
+source_named [] name h = tt
+source_named (s ∷ ss) name h = by (bytes_eq name s.name) h.0 (source_named ss name h.1)
+  where
+    by : (b : Bool) → AreNamed s.columns → AreNamed (source_columns ss name)
+        → AreNamed (unwrap_or (option_map (λ (x : Stream). x.columns) (if b then Some s else find (λ (x : Stream). bytes_eq name x.name) ss)) [])
+    by true here later = here
+    by false here later = later
+
+items_named : (columns : List Column) (items : List ItemShape) → AllByRecursion (InItem HasNames IsName) items → AreNamed (map (item_column columns) items)
+items_named columns [] h = tt
+items_named columns (i ∷ items) h = (h.0.1, items_named columns items h.1)
+
+aggs_named : (columns : List Column) (items : List AggItemShape) → AllByRecursion (InAggItem HasNames IsName) items → AreNamed (map (agg_column columns) items)
+aggs_named columns [] h = tt
+aggs_named columns (i ∷ items) h = (h.0.1, aggs_named columns items h.1)
+
+picked_named : (columns : List Column) (pick : PickShape) → AreNamed columns → InPick HasNames IsName pick → AreNamed (picked_columns columns pick)
+picked_named columns shape.All h p = h
+picked_named columns (shape.Items items) h p = items_named columns items p
+
+join_named : (xs ys : List Column) → AreNamed xs → AreNamed ys → AreNamed (xs ++ ys)
+join_named [] ys h k = k
+join_named (x ∷ xs) ys h k = (h.0, join_named xs ys h.1 k)
+
+query_named : (q : QueryShape) (sources : List Stream) → SourcesAreNamed sources → QueryHasNames q → AreNamed (columns_of sources q)
+query_named (shape.Read name) sources h q = source_named sources name h
+query_named (shape.Rows pick filter source) sources h q =
+    picked_named (columns_of sources source) pick (query_named source sources h q.0) q.1
+query_named (shape.Total aggs source) sources h q = aggs_named (columns_of sources source) aggs q.1
+query_named (shape.Each var source size advance body) sources h q =
+    query_named body (variable var (columns_of sources source)) (query_named source sources h q.0, tt) q.1
+query_named (shape.PerGroup var source key groups body) sources h q =
+    (q.3, query_named body (variable var (columns_of sources source)) (query_named source sources h q.0, tt) q.1)
+query_named (shape.Union l r) sources h q = query_named l sources h q.0
+query_named (shape.Concat l r) sources h q =
+    join_named (columns_of sources l) (columns_of sources r) (query_named l sources h q.0) (query_named r sources h q.1)
+
+names_of : (cs : List Column) → AreNamed cs → AllByRecursion IsName (column_names cs)
+names_of [] h = tt
+names_of (c ∷ cs) h = (h.0, names_of cs h.1)
+
+-- over a schema the columns of a query whose names are names have names
+pub columns_named : (schema : Schema) (q : QueryShape) → IsSchema schema → QueryHasNames q → AllByRecursion IsName (column_names (columns_of schema.streams q))
+columns_named schema q s h = names_of (columns_of schema.streams q) (query_named q schema.streams (streams_are schema.streams s.streams) h)

@@ -1,0 +1,4 @@
+pub mod Words
+mod Counts
+pub mod Named
+mod Rows

@@ -1,0 +1,33 @@
+-- Worked command lines compute.
+use Rattle.std.proofs.Common.{refl}
+use Rattle.gl_tuples.specs.Values.{number_of, is_number, are_digits, number_in}
+use Rattle.gl_forms.specs.Forms.{command_of, is_command, names_of, values_of, start_of}
+use Rattle.gl_forms.specs.Worked.{WorkedForms}
+
+pub worked_forms : WorkedForms
+unfolding command_of is_command names_of values_of start_of number_of is_number are_digits number_in
+worked_forms = record {
+  compile = (refl, refl);
+  figures = (refl, refl);
+  explain = (refl, refl);
+  plain = ((refl, refl), refl);
+  first = ((refl, refl), refl);
+  within = ((refl, refl), refl);
+  last = ((refl, refl), refl);
+  joined_zero = ((refl, refl), refl);
+  zero_apart = ((refl, refl), refl);
+  greatest = ((refl, refl), refl);
+  too_great = refl;
+  without_value = refl;
+  no_number = refl;
+  empty_value = refl;
+  two_values = refl;
+  no_option = refl;
+  a_name_too_few = refl;
+  a_name_too_many = refl;
+  start_of_no_run = refl;
+  dashed_help = refl;
+  help = refl;
+  no_command = refl;
+  no_word = refl;
+}

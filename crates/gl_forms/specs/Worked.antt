@@ -1,0 +1,57 @@
+-- Worked command lines.
+use Rattle.std.specs.Prelude.{◌≡◌, ℕ, List, [], ◌∷◌, codes, Some, None}
+use Rattle.gl_sim.specs.declared.start.Start.{Start}
+use Rattle.gl_sim.specs.declared.start.Start.TheVariants.{Zero, Drawn}
+use Rattle.gl_forms.specs.declared.command.Command.{Command}
+use Rattle.gl_forms.specs.declared.command.Command.TheVariants.{Compile, Figures, Explain, Run}
+use Rattle.gl_forms.specs.Forms.{command_of, names_of, start_of}
+
+abbrev pub s : List ℕ
+s = codes "S"
+
+abbrev pub q : List ℕ
+q = codes "Q"
+
+abbrev pub t : List ℕ
+t = codes "T"
+
+abbrev pub run : List (List ℕ) → List (List ℕ)
+run words = codes "run" ∷ words
+
+-- the words are this command with these names
+abbrev pub Names : List (List ℕ) → Command → List (List ℕ) → Type 0
+Names words c names = (command_of words ≡ Some c) × (names_of words ≡ names)
+
+-- the words run the texts S, Q and T from this start
+abbrev pub RunsFrom : List (List ℕ) → Start → Type 0
+RunsFrom words start = Names words Run (s ∷ q ∷ t ∷ []) × (start_of words ≡ start)
+
+-- the words are of no form
+abbrev pub IsFormless : List (List ℕ) → Type 0
+IsFormless words = command_of words ≡ None
+
+pub record WorkedForms : Type 0 where
+  pub compile : Names (codes "compile" ∷ s ∷ q ∷ []) Compile (s ∷ q ∷ [])
+  pub figures : Names (codes "figures" ∷ s ∷ q ∷ []) Figures (s ∷ q ∷ [])
+  pub explain : Names (codes "explain" ∷ s ∷ q ∷ []) Explain (s ∷ q ∷ [])
+  pub plain : RunsFrom (run (s ∷ q ∷ t ∷ [])) Zero
+  -- the option stands anywhere behind the command, and its value is a word of its own or stands behind `=`
+  pub first : RunsFrom (run (codes "--start" ∷ codes "5" ∷ s ∷ q ∷ t ∷ [])) (Drawn 5)
+  pub within : RunsFrom (run (s ∷ codes "--start=5" ∷ q ∷ t ∷ [])) (Drawn 5)
+  pub last : RunsFrom (run (s ∷ q ∷ t ∷ codes "--start" ∷ codes "5" ∷ [])) (Drawn 5)
+  pub joined_zero : RunsFrom (run (codes "--start=0" ∷ s ∷ q ∷ t ∷ [])) Zero
+  pub zero_apart : RunsFrom (run (s ∷ q ∷ t ∷ codes "--start" ∷ codes "0" ∷ [])) Zero
+  pub greatest : RunsFrom (run (s ∷ q ∷ t ∷ codes "--start=18446744073709551615" ∷ [])) (Drawn 18446744073709551615)
+  pub too_great : IsFormless (run (s ∷ q ∷ t ∷ codes "--start=18446744073709551616" ∷ []))
+  pub without_value : IsFormless (run (s ∷ q ∷ t ∷ codes "--start" ∷ []))
+  pub no_number : IsFormless (run (s ∷ q ∷ t ∷ codes "--start" ∷ codes "x" ∷ []))
+  pub empty_value : IsFormless (run (s ∷ q ∷ t ∷ codes "--start=" ∷ []))
+  pub two_values : IsFormless (run (s ∷ q ∷ t ∷ codes "--start" ∷ codes "5" ∷ codes "--start" ∷ codes "6" ∷ []))
+  pub no_option : IsFormless (run (s ∷ q ∷ t ∷ codes "--" ∷ []))
+  pub a_name_too_few : IsFormless (run (s ∷ q ∷ []))
+  pub a_name_too_many : IsFormless (run (s ∷ q ∷ t ∷ codes "U" ∷ []))
+  pub start_of_no_run : IsFormless (codes "compile" ∷ s ∷ q ∷ codes "--start" ∷ codes "5" ∷ [])
+  pub dashed_help : IsFormless (codes "--help" ∷ [])
+  pub help : IsFormless (codes "help" ∷ [])
+  pub no_command : IsFormless (s ∷ q ∷ t ∷ [])
+  pub no_word : IsFormless []

@@ -1,0 +1,65 @@
+//! Commands, and the texts that they name.
+
+ghost use Rattle.std.specs.Prelude.{◌≡◌};
+ghost use Rattle.gl_forms.specs.Forms as forms;
+
+/// What the first word asks for.
+#[derive(Clone, Copy, PartialEq, Eq, Debug)]
+pub enum Command {
+    /// `compile S Q`: the Verilog text of a query.
+    Compile,
+    /// `figures S Q`: latency, gap, copies, and bits of registers and memories.
+    Figures,
+    /// `explain S Q`: the query and its plan.
+    Explain,
+    /// `run S Q T [--start N]`: what the Verilog text does over a tuple file.
+    Run,
+}
+
+impl Command {
+    /// Its word.
+    pub fn word(self) -> &'static str
+        ensures { result.now ≡ forms.word_of self }
+    {
+        match self {
+            Command::Compile => "compile",
+            Command::Figures => "figures",
+            Command::Explain => "explain",
+            Command::Run => "run",
+        }
+    }
+
+    /// How many texts it names.
+    pub fn texts(self) -> usize
+        ensures { result ≡ forms.texts_of self }
+    {
+        match self {
+            Command::Compile | Command::Figures | Command::Explain => 2,
+            Command::Run => 3,
+        }
+    }
+}
+
+/// One of the texts that the words name behind the command, in this order.
+#[derive(Clone, Copy, PartialEq, Eq, Debug)]
+pub enum Part {
+    /// The schema.
+    Schema,
+    /// The query.
+    Query,
+    /// The tuple file.
+    Tuples,
+}
+
+impl Part {
+    /// The place of its name among the names.
+    pub fn place(self) -> usize
+        ensures { result ≡ forms.place_of self }
+    {
+        match self {
+            Part::Schema => 0,
+            Part::Query => 1,
+            Part::Tuples => 2,
+        }
+    }
+}

@@ -1,0 +1,13 @@
+//! The forms of command lines: which command the words are, which texts they name, and what a run
+//! starts from.
+//!
+//! Here belongs what the words alone say. What the texts say, and what a command does, stands above
+//! (`gl_top`).
+#![tactic(auto)]
+
+pub mod command;
+pub mod laws;
+pub mod reading;
+
+pub use command::{Command, Part};
+pub use reading::{command_of, name_of, start_of};

@@ -1,0 +1,248 @@
+//! What the words of a command line say.
+
+ghost use Rattle.std.specs.Prelude.{◌≡◌, ◌==◌, length, slice_get, is_some, option_map};
+ghost use Rattle.gl_tuples.specs.Values.{number_of};
+ghost use Rattle.gl_forms.specs.Forms as forms;
+ghost use Rattle.gl_forms.specs.Steps as steps;
+
+use crate::command::{Command, Part};
+use gl_outside::Words;
+use gl_sim::start::Start;
+use gl_tuples::value::number_of;
+
+// ---- one word
+
+// Whether the word begins with `-`.
+fn is_dashed(word: &[u8]) -> bool
+    ensures { result ≡ forms.is_dashed word.now }
+{
+    match word {
+        [] => false,
+        [first, ..] => *first == b'-',
+    }
+}
+
+// Whether the next word is the value of this one; `valued` says whether this one is a value.
+fn is_start(valued: bool, word: &[u8]) -> bool
+    ensures { result ≡ steps.is_start valued word.now }
+{
+    !valued && word == b"--start".as_slice()
+}
+
+// Whether the word names a text.
+fn is_name(valued: bool, word: &[u8]) -> bool
+    ensures { result ≡ steps.is_name valued word.now }
+{
+    !valued && !is_dashed(word)
+}
+
+// What stands behind `--start=`.
+fn behind_front(word: &[u8]) -> Option<&[u8]>
+    ensures { steps.bytes_of result ≡ steps.behind_front word.now }
+{
+    if word.starts_with(b"--start=".as_slice()) {
+        Some(&word[8..])
+    } else {
+        None
+    }
+}
+
+// The value that the word gives, if it is one or an option; None within where there is no such option.
+fn value_in(valued: bool, word: &[u8]) -> Option<Option<&[u8]>>
+    ensures { option_map steps.bytes_of result ≡ steps.value_in valued word.now }
+{
+    if valued {
+        return Some(Some(word));
+    }
+    if word == b"--start".as_slice() {
+        return None;
+    }
+    if let Some(value) = behind_front(word) {
+        return Some(Some(value));
+    }
+    if is_dashed(word) {
+        return Some(None);
+    }
+    None
+}
+
+// ---- names
+
+// The name at a place among the names.
+#[tactic(auto, unfolding(crate::specs::Forms::names_of))]
+fn name_at(words: &Words, index: usize) -> Option<&str>
+    ensures { option_map (λ w. w.now) result ≡ slice_get (forms.names_of words.now) index }
+{
+    let mut left = index;
+    let mut valued = false;
+    for at in 1..words.len() {
+        let Some(word) = words.get(at) else {
+            return None;
+        };
+        let named = is_name(valued, word.as_bytes());
+        valued = is_start(valued, word.as_bytes());
+        if named {
+            if left == 0 {
+                return Some(word);
+            }
+            left -= 1;
+        }
+    }
+    None
+}
+
+// Whether there is a name at a place among the names.
+fn has_name(words: &Words, index: usize) -> bool
+    ensures { result ≡ is_some (slice_get (forms.names_of words.now) index) }
+{
+    match name_at(words, index) {
+        Some(_) => true,
+        None => false,
+    }
+}
+
+// Whether there are so many names.
+#[tactic(auto, using(crate::proofs::Counts::counted))]
+fn has_names(words: &Words, count: usize) -> bool
+    ensures { result ≡ (length (forms.names_of words.now) == count) }
+{
+    !has_name(words, count) && (count == 0 || has_name(words, count - 1))
+}
+
+/// The name of a text; no byte where the words name none.
+#[tactic(auto, unfolding(crate::specs::Forms::name_of))]
+pub fn name_of(words: &Words, part: Part) -> &str
+    ensures { result.now ≡ forms.name_of words.now part }
+{
+    match name_at(words, part.place()) {
+        Some(name) => name,
+        None => "",
+    }
+}
+
+// ---- the start
+
+// The value at a place among the values.
+#[tactic(auto, unfolding(crate::specs::Forms::values_of))]
+fn value_at(words: &Words, index: usize) -> Option<Option<&[u8]>>
+    ensures { option_map steps.bytes_of result ≡ slice_get (forms.values_of words.now) index }
+{
+    let mut left = index;
+    let mut valued = false;
+    for at in 1..words.len() {
+        let Some(word) = words.get(at) else {
+            return None;
+        };
+        let found = value_in(valued, word.as_bytes());
+        valued = is_start(valued, word.as_bytes());
+        if let Some(value) = found {
+            if left == 0 {
+                return Some(value);
+            }
+            left -= 1;
+        }
+    }
+    if valued && left == 0 {
+        Some(None)
+    } else {
+        None
+    }
+}
+
+// The start of a number.
+fn start_from(number: u64) -> Start
+    ensures { result ≡ forms.start_from number }
+{
+    if number == 0 {
+        Start::Zero
+    } else {
+        Start::Drawn(number)
+    }
+}
+
+// The start that a value says.
+fn start_at(value: &[u8]) -> Option<Start>
+    ensures { result ≡ forms.start_at (number_of value.now) }
+{
+    match u64::try_from(number_of(value)?) {
+        Ok(number) => Some(start_from(number)),
+        Err(_) => None,
+    }
+}
+
+// The start that the values say.
+fn start_in(words: &Words) -> Option<Start>
+    ensures { result ≡ forms.start_in (forms.values_of words.now) }
+{
+    match value_at(words, 0) {
+        None => Some(Start::Zero),
+        Some(None) => None,
+        Some(Some(value)) => {
+            if value_at(words, 1).is_some() {
+                None
+            } else {
+                start_at(value)
+            }
+        }
+    }
+}
+
+/// What a run starts from.
+#[tactic(auto, unfolding(crate::specs::Forms::start_of))]
+pub fn start_of(words: &Words) -> Start
+    ensures { result ≡ forms.start_of words.now }
+{
+    start_in(words).unwrap_or(Start::Zero)
+}
+
+// ---- the command
+
+// The first word.
+fn first_word(words: &Words) -> &str
+    ensures { result.now ≡ forms.first_word words.now }
+{
+    match words.get(0) {
+        Some(word) => word,
+        None => "",
+    }
+}
+
+// Whether the command takes the values.
+fn takes(words: &Words, command: Command) -> bool
+    ensures { result ≡ forms.takes command (forms.values_of words.now) }
+{
+    match command {
+        Command::Run => start_in(words).is_some(),
+        Command::Compile | Command::Figures | Command::Explain => value_at(words, 0).is_none(),
+    }
+}
+
+// Whether the words are this command, names of its texts and what it takes.
+#[tactic(auto, unfolding(crate::specs::Forms::is_command))]
+fn is_command(words: &Words, command: Command) -> bool
+    ensures { result ≡ forms.is_command words.now command }
+{
+    first_word(words) == command.word()
+        && has_names(words, command.texts())
+        && takes(words, command)
+}
+
+/// The command that the words are, if they are of a form.
+#[tactic(auto, unfolding(crate::specs::Forms::command_of))]
+pub fn command_of(words: &Words) -> Option<Command>
+    ensures { result ≡ forms.command_of words.now }
+{
+    if is_command(words, Command::Compile) {
+        return Some(Command::Compile);
+    }
+    if is_command(words, Command::Figures) {
+        return Some(Command::Figures);
+    }
+    if is_command(words, Command::Explain) {
+        return Some(Command::Explain);
+    }
+    if is_command(words, Command::Run) {
+        return Some(Command::Run);
+    }
+    None
+}

@@ -1,0 +1,23 @@
+use Rattle.std.proofs.Common.{refl}
+use Rattle.gl_outside.proofs.Takes.{took_none}
+use Rattle.gl_top.specs.Verdicts.{Cut, Shown}
+use Rattle.gl_top.proofs.running.show.Goals as goal
+
+pub returns-in-Ok : goal.returns-in-Ok
+returns-in-Ok g c = λ words ch text shown calm. Shown (record {
+  bytes = c.args.bytes.now;
+  shown = shown;
+  wrote = c.in-Ok.ensures;
+  silent = took_none _;
+  calm = calm;
+  done = refl;
+})
+
+pub returns-in-Err : goal.returns-in-Err
+returns-in-Err g c = λ words ch text shown calm. Cut (record {
+  bytes = c.args.bytes.now;
+  shown = shown;
+  wrote = c.in-Err.ensures;
+  calm = calm;
+  noted = c.tell_write_fault.ensures;
+})

@@ -1,0 +1,40 @@
+use Rattle.std.proofs.Common.{inl, ◌∙◌}
+use Rattle.gl_outside.proofs.Takes.{took_none}
+use Rattle.gl_forms.specs.declared.command.Command.TheVariants.{Figures}
+use Rattle.gl_top.specs.declared.notes.Refusal.TheVariants as refusal
+use Rattle.gl_top.specs.Verdicts.{Ended}
+use Rattle.gl_top.proofs.running.show_figures.Goals as goal
+
+pub returns-in-Ok : goal.returns-in-Ok
+returns-in-Ok g c = λ seen passes calm.
+    let is = c.requires.compiled in
+    c.show_text.ensures seen
+    (record {
+      command = Figures;
+      is = c.requires.figures;
+      schema = c.args.compiled.now.schema;
+      statement = c.args.compiled.now.statement;
+      passes = passes;
+      shows = (
+        record {
+          printed = c.args.compiled.now.printed;
+          cost = c.args.compiled.now.cost;
+          latency = is.latency;
+          gap = is.gap;
+          copies = is.copies;
+          has = is.cost;
+          shown = c.deref.ensures.value ∙ c.in-Ok.ensures;
+        },
+        is.meets,
+      );
+    })
+    calm
+
+pub returns-in-Err : goal.returns-in-Err
+returns-in-Err g c = λ seen passes calm. Ended (record {
+  refusal = refusal.Memory;
+  cause = calm;
+  untouched = took_none _;
+  noted = c.tell.ensures;
+  left = inl c.requires.empty;
+})
