@@ -1,12 +1,13 @@
 //! The whole program over memory, from bytes to bytes: `stdin` has its rows, `stdout` what each
 //! comes to.
 //!
-//! A line `schema TEXT` or `tuples TEXT` sets a text, `without schema` and `without tuples` take it
-//! away, and `fail F P N` has the fetch, the put and the note of these numbers fail (0 for none). A
-//! line `query TEXT` runs `run S Q T`, and a line `explain TEXT` runs `explain S Q`: the query is
-//! printed, and then the status, what was written and what was noted, parted by `|`. A line
-//! `root TEXT` runs `explain S Q` too, and prints the line of the root's node alone. Every other
-//! line is a remark.
+//! A line `schema TEXT` or `tuples TEXT` sets a text (a space in `tuples` parts two records),
+//! `without schema` and `without tuples` take it away, and `fail F P N` has the fetch, the put and
+//! the note of these numbers fail (0 for none). A line `query TEXT` runs `run S Q T`, and a line
+//! `explain TEXT` runs `explain S Q`: the query is printed, and then the status, what was written
+//! and what was noted, parted by `|`. A line `root TEXT` runs `explain S Q` too, and prints the
+//! line of the root's node alone. Lines `compile TEXT`, `figures TEXT` and `start TEXT` run
+//! `compile S Q`, `figures S Q` and `run --start 12345 S Q T`. Every other line is a remark.
 #![tactic(auto)]
 
 ghost use Rattle.std.specs.Prelude.{◌≡◌, IfOk, ◌∷◌, [], codes};
@@ -55,6 +56,43 @@ fn explain_words(alloc: Global) -> Result<Words, Memory>
     words.push("explain")?;
     words.push("S")?;
     words.push("Q")?;
+    Ok(words)
+}
+
+// The words `compile S Q`.
+fn compile_words(alloc: Global) -> Result<Words, Memory>
+    ensures { IfOk result (λ words. words ≡ codes "compile" ∷ codes "S" ∷ codes "Q" ∷ []) }
+{
+    let mut words = Words::new(alloc);
+    words.push("compile")?;
+    words.push("S")?;
+    words.push("Q")?;
+    Ok(words)
+}
+
+// The words `figures S Q`.
+fn figures_words(alloc: Global) -> Result<Words, Memory>
+    ensures { IfOk result (λ words. words ≡ codes "figures" ∷ codes "S" ∷ codes "Q" ∷ []) }
+{
+    let mut words = Words::new(alloc);
+    words.push("figures")?;
+    words.push("S")?;
+    words.push("Q")?;
+    Ok(words)
+}
+
+// The words `run --start 12345 S Q T`.
+fn start_words(alloc: Global) -> Result<Words, Memory>
+    ensures { IfOk result (λ words. words ≡ codes "run" ∷ codes "--start" ∷ codes "12345"
+        ∷ codes "S" ∷ codes "Q" ∷ codes "T" ∷ []) }
+{
+    let mut words = Words::new(alloc);
+    words.push("run")?;
+    words.push("--start")?;
+    words.push("12345")?;
+    words.push("S")?;
+    words.push("Q")?;
+    words.push("T")?;
     Ok(words)
 }
 
@@ -121,6 +159,27 @@ fn explained_of(alloc: Global, row: &Row, query: &str) -> Result<Told, Memory> {
     told_by(alloc, &words, &mut shelf, row)
 }
 
+// What `compile S Q` comes to.
+fn compiled_of(alloc: Global, row: &Row, query: &str) -> Result<Told, Memory> {
+    let words = compile_words(alloc)?;
+    let mut shelf = shelf_with(alloc, compile_words(alloc)?, row, query)?;
+    told_by(alloc, &words, &mut shelf, row)
+}
+
+// What `figures S Q` comes to.
+fn figures_of(alloc: Global, row: &Row, query: &str) -> Result<Told, Memory> {
+    let words = figures_words(alloc)?;
+    let mut shelf = shelf_with(alloc, figures_words(alloc)?, row, query)?;
+    told_by(alloc, &words, &mut shelf, row)
+}
+
+// What `run --start 12345 S Q T` comes to.
+fn started_of(alloc: Global, row: &Row, query: &str) -> Result<Told, Memory> {
+    let words = start_words(alloc)?;
+    let mut shelf = shelf_with(alloc, start_words(alloc)?, row, query)?;
+    told_by(alloc, &words, &mut shelf, row)
+}
+
 // The number in the place of a word; 0 where there is none.
 fn number_at(text: &str, place: usize) -> u64 {
     match text.split_whitespace().nth(place) {
@@ -179,11 +238,14 @@ fn main(rt: HostRuntime) -> io::Result<()> {
         let (command, text) = line.split_once(' ').unwrap_or((line.as_str(), ""));
         match command {
             "schema" => row.schema = Some(text.to_string(rt.alloc())?),
-            "tuples" => row.tuples = Some(text.to_string(rt.alloc())?),
+            "tuples" => row.tuples = Some(text.replace(rt.alloc(), ' ', "\n")?),
             "without" => without(&mut row, text),
             "fail" => row.failing = failing_of(text),
             "query" => print_told(&rt, text, told_of(rt.alloc(), &row, text), false)?,
             "explain" => print_told(&rt, text, explained_of(rt.alloc(), &row, text), false)?,
+            "compile" => print_told(&rt, text, compiled_of(rt.alloc(), &row, text), false)?,
+            "figures" => print_told(&rt, text, figures_of(rt.alloc(), &row, text), false)?,
+            "start" => print_told(&rt, text, started_of(rt.alloc(), &row, text), false)?,
             "root" => print_told(&rt, text, explained_of(rt.alloc(), &row, text), true)?,
             _ => (),
         }
