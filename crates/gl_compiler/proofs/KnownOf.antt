@@ -1,9 +1,7 @@
 -- What is known of a checked statement whose names are names, and of its plan.
-use Rattle.std.proofs.Common.{◌≡◌, ℕ, List, [], ◌∷◌, length, sym, ap, subst, ◌∙◌}
-use Rattle.std.specs.Prelude.{map}
+use Rattle.std.proofs.Common.{◌≡◌, List, [], ◌∷◌, length, sym, ap, subst, ◌∙◌}
 use Rattle.std.specs.List.{AllByRecursion}
 use Rattle.gl_bits.proofs.AllLists.{length_map}
-use Rattle.gl_bits.specs.declared.kind.Kind.{Kind}
 use Rattle.gl_bits.specs.Kinds.{IsKind}
 use Rattle.gl_schema.specs.declared.schema.Column.{Column}
 use Rattle.gl_schema.specs.declared.schema.Schema.{Schema}
@@ -16,14 +14,11 @@ use Rattle.gl_query.specs.Laws.{AreKinds}
 use Rattle.gl_query.specs.Names.{StatementHasNames}
 use Rattle.gl_query.specs.Shapes.{query_shape, statement_shape}
 use Rattle.gl_query.proofs.Real.{real_columns}
-use Rattle.gl_algebra.specs.Added.{Placed, placed_at}
 use Rattle.gl_algebra.specs.Shapes.{Shape, shape_of}
 use Rattle.gl_algebra.specs.Shapes as shapes
 use Rattle.gl_elaborate.specs.Laws.{IsRightPlan}
 use Rattle.gl_elaborate.specs.Plans.{plan_of}
 use Rattle.gl_elaborate.proofs.StatementLemmas.{plans-right}
-use Rattle.gl_planner.specs.declared.planning.Planned.{Planned}
-use Rattle.gl_planner.specs.Planned.{IsPlanned}
 use Rattle.gl_wiring.specs.StreamWires.{AreStreamLeaves}
 use Rattle.gl_compiler.specs.Meets.{result_columns}
 use Rattle.gl_compiler.proofs.PlanLeaves.{leaves_are_streams}

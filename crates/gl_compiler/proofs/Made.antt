@@ -1,5 +1,5 @@
 -- What is compiled of the text of a query.
-use Rattle.std.proofs.Common.{◌≡◌, ℕ, ◌≤◌, ◌^◌, List, length, Ok, sym, ap, subst, ◌∙◌, arith}
+use Rattle.std.proofs.Common.{◌≡◌, ℕ, ◌≤◌, ◌^◌, List, length, Ok, sym, ap, subst, arith}
 use Rattle.std.specs.List.{AllByRecursion}
 use Rattle.gl_bits.proofs.AllLists.{length_map}
 use Rattle.gl_bits.specs.Kinds.{IsKind}
@@ -7,7 +7,6 @@ use Rattle.gl_schema.specs.declared.schema.Column.{Column}
 use Rattle.gl_schema.specs.declared.schema.Schema.{Schema}
 use Rattle.gl_schema.specs.Schemas.{IsSchema, kinds_of}
 use Rattle.gl_query.specs.declared.tree.Statement.{Statement}
-use Rattle.gl_query.specs.Checked.{IsChecked}
 use Rattle.gl_query.specs.Shapes.{query_shape}
 use Rattle.gl_query.proofs.Real.{real_columns}
 use Rattle.gl_query_judge.specs.Judged.{IsAcceptedText}

@@ -3,7 +3,6 @@ use Rattle.std.proofs.Common.{◌≡◌, ℕ, zero, suc, ◌≤◌, false, List,
 use Rattle.std.specs.Prelude.{bytes_eq, filter}
 use Rattle.std.specs.List.{AllByRecursion, IsDistinct}
 use Rattle.gl_bits.proofs.AllLists.{length_map}
-use Rattle.gl_bits.specs.declared.kind.Kind.{Kind}
 use Rattle.gl_bits.specs.Kinds.{IsKind, width_of}
 use Rattle.gl_schema.specs.declared.schema.Column.{Column}
 use Rattle.gl_schema.specs.declared.schema.Stream.{Stream}

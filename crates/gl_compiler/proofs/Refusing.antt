@@ -1,5 +1,5 @@
 -- Why a query is refused: each text has one cause at most, and none where it has a statement that is built.
-use Rattle.std.proofs.Common.{◌≡◌, ◌≢◌, ◌⊎◌, ℕ, List, Result, Ok, Err, refl, sym, subst, inl, inr}
+use Rattle.std.proofs.Common.{◌≡◌, ◌≢◌, ◌⊎◌, ℕ, List, Result, Ok, Err, refl, subst, inl, inr}
 use Rattle.gl_schema.specs.declared.schema.Schema.{Schema}
 use Rattle.gl_schema.specs.Schemas.{IsSchema}
 use Rattle.gl_query.specs.declared.tree.Statement.{Statement}

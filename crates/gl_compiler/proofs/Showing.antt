@@ -3,7 +3,7 @@ use Rattle.std.proofs.Common.{◌≡◌, ℕ, zero, suc, Bool, false, List, [], 
 use Rattle.std.specs.Prelude.{IsTrue, IsFalse, IfSome, bytes_eq, codes}
 use Rattle.std.specs.List.{AllByRecursion}
 use Rattle.gl_schema.specs.declared.schema.Schema.{Schema}
-use Rattle.gl_schema.specs.Beats.{Beat, Inputs, inputs_of}
+use Rattle.gl_schema.specs.Beats.{Beat, inputs_of}
 use Rattle.gl_schema.specs.Ports.{PortValues, Pin, pins, IsStimulus, out_valid, out_eos, fault_group, fault_queue}
 use Rattle.gl_schema.specs.Seen.{Shown, shown, seen, rows_of, value_at, row_shown}
 use Rattle.gl_schema.specs.Right.{Meaning, IsRight}

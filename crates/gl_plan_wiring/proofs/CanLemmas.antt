@@ -1,23 +1,24 @@
 -- What putting a child asks for follows from what putting its node asks for.
-use Rattle.std.proofs.Common.{◌≡◌, ℕ, ◌+◌, ◌<◌, List, [], ◌∷◌, ◌++◌, length, Some, slice_get, All, subst, arith}
+use Rattle.std.proofs.Common.{◌≡◌, ℕ, ◌<◌, List, [], ◌∷◌, ◌++◌, length, Some, true, false, ◌||◌, slice_get, All, sym, ◌∙◌, subst, arith}
 use Rattle.std.proofs.lemmas.List.Elements.{All-head, All-tail}
 use Rattle.std.proofs.lemmas.Option.{slice_get_within}
+use Rattle.gl_bits.proofs.Bools.{neither_left, neither_right}
 use Rattle.gl_algebra.specs.declared.figures.Figures.{Figures}
 use Rattle.gl_algebra.specs.declared.node.PlanNode.{PlanNode}
-use Rattle.gl_algebra.specs.declared.node.PlanNode.TheVariants.{Window, Group}
+use Rattle.gl_algebra.specs.declared.node.PlanNode.TheVariants.{Group}
 use Rattle.gl_algebra.specs.Fits.{IsPlan}
 use Rattle.gl_algebra.specs.Nodewise.{named_by}
 use Rattle.gl_algebra.specs.Shapes.{shape_of, shape_from}
-use Rattle.gl_algebra.specs.Weights.{copies_of, copies_from}
-use Rattle.gl_algebra.proofs.FigureLemmas.{one_copy}
 use Rattle.gl_algebra.proofs.TableLemmas.{nodes_follow_tables}
 use Rattle.gl_net.specs.Net.{Net, Keeps}
 use Rattle.gl_wire.specs.declared.emitted.Emitted.{Emitted}
 use Rattle.gl_wire.specs.declared.wire.Wire.{Wire}
 use Rattle.gl_wire.proofs.ColumnLemmas.{wire_kept}
 use Rattle.gl_wire.proofs.FaultLemmas.{lines_kept}
+use Rattle.gl_plan_wiring.specs.Groups.{HasNoGroup, has_group, has_group_from}
 use Rattle.gl_plan_wiring.specs.Leaves.{HaveLeaves}
 use Rattle.gl_plan_wiring.specs.Put.{CanPut, HasColumns, IsPut}
+use Rattle.gl_plan_wiring.proofs.GroupLemmas.{groups_follow}
 
 pub leaves_kept : (old new : Net) (leaves : List Wire) (nodes : List PlanNode) → Keeps old new → HaveLeaves old leaves nodes → HaveLeaves new leaves nodes
 leaves_kept old new leaves [] g h = tt
@@ -42,7 +43,7 @@ module _ (nodes : List PlanNode) (id : ℕ) (node : PlanNode) (plan : IsPlan nod
   first_before : (child : ℕ) (rest : List ℕ) → named_by node ≡ child ∷ rest → child < id
   first_before child rest named = All-head (λ c. c < id) child rest (subst (All (λ c. c < id)) named (plan.fits id node at).before)
 
-  second_before : (left right : ℕ) → named_by node ≡ left ∷ right ∷ [] → right < id
+  pub second_before : (left right : ℕ) → named_by node ≡ left ∷ right ∷ [] → right < id
   second_before left right named =
       All-head (λ c. c < id) right [] (All-tail (λ c. c < id) left (right ∷ []) (subst (All (λ c. c < id)) named (plan.fits id node at).before))
 
@@ -58,71 +59,83 @@ module _ (nodes : List PlanNode) (figures : List Figures) (id : ℕ) (node : Pla
   of_node : HaveLeaves net leaves (shape_from (shape_of nodes) node).leaves
   of_node = subst (λ s. HaveLeaves net leaves s.leaves) (nodes_follow_tables nodes id node plan at).shape can.leaved
 
-  -- the node's copies are those of its children alone
-  pub no_copies : copies_from (copies_of nodes) node ≡ 0
-  no_copies = subst (λ c. c ≡ 0) (nodes_follow_tables nodes id node plan at).copies can.flat
+  -- no group stands under the nodes that it names
+  no_groups : has_group_from (has_group nodes) node ≡ false
+  no_groups = sym (groups_follow nodes id node plan at) ∙ can.groupless
+
+  can_first : (child : ℕ) (rest : List ℕ) → named_by node ≡ child ∷ rest → HasNoGroup nodes child → HaveLeaves net leaves (shape_of nodes child).leaves
+      → CanPutChild nodes figures id child net leaves
+  can_first child rest named groupless has =
+      let before = first_before nodes id node plan at child rest named in
+      record {
+        before = before;
+        can = record {
+          within = omega (arith, before, can.within);
+          groupless = groupless;
+          figured = can.figured;
+          leaved = has;
+        };
+      }
 
   -- the one child, whose leaves are the node's
-  pub can_child : (child : ℕ) → named_by node ≡ child ∷ [] → copies_from (copies_of nodes) node ≡ copies_of nodes child + 0
+  pub can_child : (child : ℕ) → named_by node ≡ child ∷ [] → has_group_from (has_group nodes) node ≡ has_group nodes child
       → (shape_from (shape_of nodes) node).leaves ≡ (shape_of nodes child).leaves → CanPutChild nodes figures id child net leaves
-  can_child child named copies same =
-      let before = first_before nodes id node plan at child [] named in
-      record {
-        before = before;
-        can = record {
-          within = omega (arith, before, can.within);
-          flat = omega (arith, no_copies, copies);
-          figured = can.figured;
-          leaved = subst (HaveLeaves net leaves) same of_node;
-        };
-      }
+  can_child child named groups same = can_first child [] named (sym groups ∙ no_groups) (subst (HaveLeaves net leaves) same of_node)
+
+  -- the source of a body
+  pub can_source : (source body : ℕ) → named_by node ≡ source ∷ body ∷ []
+      → has_group_from (has_group nodes) node ≡ (has_group nodes source || has_group nodes body)
+      → (shape_from (shape_of nodes) node).leaves ≡ (shape_of nodes source).leaves → CanPutChild nodes figures id source net leaves
+  can_source source body named groups same =
+      can_first source (body ∷ []) named (neither_left (has_group nodes source) (has_group nodes body) (sym groups ∙ no_groups))
+      (subst (HaveLeaves net leaves) same of_node)
 
   -- the left of two, and the right one, once the left one is put
-  pub can_left : (left right : ℕ) → named_by node ≡ left ∷ right ∷ [] → copies_from (copies_of nodes) node ≡ copies_of nodes left + copies_of nodes right + 0
+  pub can_left : (left right : ℕ) → named_by node ≡ left ∷ right ∷ []
+      → has_group_from (has_group nodes) node ≡ (has_group nodes left || has_group nodes right)
       → (shape_from (shape_of nodes) node).leaves ≡ (shape_of nodes left).leaves ++ (shape_of nodes right).leaves
       → CanPutChild nodes figures id left net leaves
-  can_left left right named copies same =
-      let before = first_before nodes id node plan at left (right ∷ []) named in
-      record {
-        before = before;
-        can = record {
-          within = omega (arith, before, can.within);
-          flat = omega (arith, no_copies, copies);
-          figured = can.figured;
-          leaved = left_leaves net leaves _ (shape_of nodes right).leaves (subst (HaveLeaves net leaves) same of_node);
-        };
-      }
+  can_left left right named groups same =
+      can_first left (right ∷ []) named (neither_left (has_group nodes left) (has_group nodes right) (sym groups ∙ no_groups))
+      (left_leaves net leaves _ (shape_of nodes right).leaves (subst (HaveLeaves net leaves) same of_node))
 
   pub can_right : (new : Net) (left right : ℕ) → named_by node ≡ left ∷ right ∷ []
-      → copies_from (copies_of nodes) node ≡ copies_of nodes left + copies_of nodes right + 0
+      → has_group_from (has_group nodes) node ≡ (has_group nodes left || has_group nodes right)
       → (shape_from (shape_of nodes) node).leaves ≡ (shape_of nodes left).leaves ++ (shape_of nodes right).leaves
       → Keeps net new → CanPutChild nodes figures id right new leaves
-  can_right new left right named copies same keeps =
+  can_right new left right named groups same keeps =
       let before = second_before nodes id node plan at left right named in
       record {
         before = before;
         can = record {
           within = omega (arith, before, can.within);
-          flat = omega (arith, no_copies, copies);
+          groupless = neither_right (has_group nodes left) (has_group nodes right) (sym groups ∙ no_groups);
           figured = can.figured;
           leaved = leaves_kept net new leaves _ keeps (right_leaves net leaves (shape_of nodes left).leaves _ (subst (HaveLeaves net leaves) same of_node));
         };
       }
 
--- over a window or a group there are copies
-pub no_window : (nodes : List PlanNode) (figures : List Figures) (id source body size advance : ℕ) (net : Net) (leaves : List Wire) → IsPlan nodes
-    → slice_get nodes id ≡ Some (Window source body size advance) → CanPut nodes figures id net leaves → ⊥
-no_window nodes figures id source body size advance net leaves plan at can =
-    let none = no_copies nodes figures id (Window source body size advance) net leaves plan at can in
-    let suits = (plan.fits id (Window source body size advance) at).suits in
-    omega (arith, none, one_copy size advance suits.1.least suits.2.least)
+  -- a body, of which another wire is the input
+  pub can_body : (source body : ℕ) (wire : Wire) (new : Net) → named_by node ≡ source ∷ body ∷ []
+      → has_group_from (has_group nodes) node ≡ (has_group nodes source || has_group nodes body)
+      → HaveLeaves new (wire ∷ []) (shape_of nodes body).leaves → CanPutChild nodes figures id body new (wire ∷ [])
+  can_body source body wire new named groups has =
+      let before = second_before nodes id node plan at source body named in
+      record {
+        before = before;
+        can = record {
+          within = omega (arith, before, can.within);
+          groupless = neither_right (has_group nodes source) (has_group nodes body) (sym groups ∙ no_groups);
+          figured = can.figured;
+          leaved = has;
+        };
+      }
 
+-- a node under which no group stands is none
 pub no_group : (nodes : List PlanNode) (figures : List Figures) (id source body key groups : ℕ) (net : Net) (leaves : List Wire) → IsPlan nodes
     → slice_get nodes id ≡ Some (Group source body key groups) → CanPut nodes figures id net leaves → ⊥
 no_group nodes figures id source body key groups net leaves plan at can =
-    let none = no_copies nodes figures id (Group source body key groups) net leaves plan at can in
-    let least = (plan.fits id (Group source body key groups) at).suits.2.least in
-    omega (arith, none, least)
+    let none : true ≡ false = no_groups nodes figures id (Group source body key groups) net leaves plan at can in cc
 
 -- what is put has its node's columns
 pub put_columns : (nodes : List PlanNode) (id : ℕ) (old new : Net) (leaves : List Wire) (e : Emitted) → IsPut nodes id old new leaves e → HasColumns nodes id new e

@@ -1,8 +1,13 @@
 pub mod CanLemmas
+pub mod CopyLemmas
 pub mod CostLemmas
 pub mod GivesLemmas
+pub mod GroupLemmas
 pub mod LeafLemmas
 pub mod PairLemmas
 pub mod RowLemmas
 pub mod SideLemmas
+pub mod SpacedLemmas
 pub mod TotalCosts
+pub mod WindowCosts
+pub mod WindowLemmas

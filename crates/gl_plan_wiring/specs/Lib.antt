@@ -1,2 +1,4 @@
+pub mod Groups
 pub mod Leaves
 pub mod Put
+pub mod Windows

@@ -2,7 +2,7 @@
 
 ghost use Rattle.std.specs.Prelude.{◌≡◌, ◌<◌, List, Some, slice_get, IfOk, length};
 ghost use Rattle.gl_algebra.specs.declared.node.PlanNode.TheVariants.{Compute, Select, Project, Aggregate, Union, Beside};
-ghost use Rattle.gl_algebra.specs.FigureTable.{figures_of};
+ghost use Rattle.gl_algebra.specs.FigureTable.{AreSmall, figures_of};
 ghost use Rattle.gl_algebra.specs.Small.{AreFigures};
 ghost use Rattle.gl_net.specs.Net.{Net};
 ghost use Rattle.gl_wire.specs.declared.wire.Wire.{Wire as WireOf};
@@ -41,14 +41,23 @@ pub(crate) fn leaf_of(alloc: Global, leaves: &[Wire], place: usize) -> Result<Em
     }
 }
 
+// The same figures, each of which fits its 32 bits.
+fn sized(figures: Figures) -> Figures
+    ensures value { result ≡ figures }
+    ensures small { AreSmall result }
+{
+    figures
+}
+
 // The figures of a node.
-fn figures_at(plan: &Plan, figures: &[Figures], id: PlanId) -> Figures
+pub(crate) fn figures_at(plan: &Plan, figures: &[Figures], id: PlanId) -> Figures
     requires within { id < length plan.now }
     requires figures { AreFigures plan.now figures.now }
-    ensures { result ≡ figures_of plan.now id }
+    ensures value { result ≡ figures_of plan.now id }
+    ensures small { AreSmall result }
 {
     let _ = plan;
-    figures[id.number()]
+    sized(figures[id.number()])
 }
 
 /// The rows of the child with one more column for each operation.

@@ -4,5 +4,6 @@
 
 mod arms;
 pub mod put;
+pub mod windows;
 
 pub use put::put_node;

@@ -3,21 +3,25 @@
 ghost use Rattle.std.specs.Prelude.{◌≡◌, ◌<◌, IfOk, Some, length, slice_get};
 ghost use Rattle.gl_plan_wiring.specs.Leaves.{};
 ghost use Rattle.gl_plan_wiring.specs.Put.{CanPut, IsPut};
+ghost use Rattle.gl_plan_wiring.specs.Windows.{AreBodies, CanCopy, IsWindow};
 
 use crate::arms::{
     aggregate_node, beside_node, compute_node, leaf_of, project_node, select_node, union_node,
 };
+use crate::windows::{Copies, WindowOf};
 use gl_algebra::{Figures, Plan, PlanId, PlanNode};
 use gl_bits::Memory;
 use gl_net::NetBuilder;
 use gl_wire::{Emitted, Wire};
 use std::alloc::Global;
+use std::slice::from_ref;
 
 /// Adds the circuit of a node behind those of its children, once for each use of a node, and gives its wire and its lines.
 ///
 /// The figures are those of all nodes, as `gl_figures` writes them. The leaves are the wires of the streams, by the streams' numbers;
-/// a body's input is the wire at place 0. The node is flat: no window and no group stands under it. Want of memory is the one other
-/// answer; what the builder then holds is not said.
+/// a body's input is the wire at place 0. No group stands under the node. Want of memory is the one other answer; what the builder
+/// then holds is not said.
+#[cycle(put)]
 #[tactic(auto, using(crate::proofs::CanLemmas::put_columns))]
 pub fn put_node(
     alloc: Global,
@@ -65,7 +69,73 @@ pub fn put_node(
             let second = put_node(alloc, net, plan, figures, *right, leaves)?;
             beside_node(alloc, net, plan, figures, id, *left, *right, first, second)
         }
-        PlanNode::Window { .. } => unreachable!(),
+        PlanNode::Window {
+            source,
+            body,
+            size,
+            advance,
+        } => {
+            let window = WindowOf {
+                id,
+                source: *source,
+                body: *body,
+                size: *size,
+                advance: *advance,
+            };
+            put_window(alloc, net, plan, figures, window, leaves)
+        }
         PlanNode::Group { .. } => unreachable!(),
     }
+}
+
+// Adds the circuit of a window: its source, the front, the body behind each of the front's wires, and the back.
+#[cycle(put)]
+#[tactic(auto, using(crate::proofs::CanLemmas::put_columns))]
+fn put_window(
+    alloc: Global,
+    net: &mut NetBuilder,
+    plan: &Plan,
+    figures: &[Figures],
+    window: WindowOf,
+    leaves: &[Wire],
+) -> Result<Emitted, Memory>
+    requires node { IsWindow plan.now window }
+    requires can { CanPut plan.now figures.now window.id net.old leaves.now }
+    ensures { IfOk result (λ e. IsPut plan.now window.id net.old net.new leaves.now e) }
+{
+    let _ = plan.len();
+    let below = put_node(alloc, net, plan, figures, window.source, leaves)?;
+    let front = window.front(alloc, net, plan, figures, below)?;
+    let copies = put_copies(
+        alloc,
+        net,
+        plan,
+        figures,
+        window.body,
+        front.wires.as_slice(),
+    )?;
+    window.back(alloc, net, plan, figures, &front, copies.as_slice())
+}
+
+// Adds a body's circuit behind each of these wires.
+#[cycle(put)]
+#[tactic(auto)]
+fn put_copies(
+    alloc: Global,
+    net: &mut NetBuilder,
+    plan: &Plan,
+    figures: &[Figures],
+    body: PlanId,
+    wires: &[Wire],
+) -> Result<Copies, Memory>
+    requires { CanCopy plan.now figures.now body net.old wires.now }
+    ensures { IfOk result (λ copies.
+        AreBodies plan.now body net.old net.new wires.now (length wires.now) copies) }
+{
+    let mut copies = Copies::new(alloc);
+    for wire in wires {
+        let copy = put_node(alloc, net, plan, figures, body, from_ref(wire))?;
+        copies.push(copy)?;
+    }
+    Ok(copies)
 }

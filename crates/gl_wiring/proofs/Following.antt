@@ -1,17 +1,15 @@
 -- What the pins of a stimulus put on the ports of a netlist.
-use Rattle.std.proofs.Common.{◌≡◌, ℕ, zero, suc, Bool, true, false, List, [], ◌∷◌, Option, Some, None, refl, ap, subst, ◌∙◌}
-use Rattle.std.specs.Prelude.{map, option_map, option_and_then, unwrap_or, IfSome, is_some, slice_get, slice_index, ◌==◌}
+use Rattle.std.proofs.Common.{◌≡◌, ℕ, zero, suc, Bool, true, false, List, [], ◌∷◌, Option, Some, None, refl, subst}
+use Rattle.std.specs.Prelude.{option_and_then, unwrap_or, IfSome, slice_get, ◌==◌}
 use Rattle.std.specs.List.{AllByRecursion}
 use Rattle.std.specs.Option.{option_map_or}
 use Rattle.gl_bits.proofs.Options.{some_same}
 use Rattle.gl_bits.proofs.AllLists.{all_front, all_back}
 use Rattle.gl_bits.specs.Words.{bit}
-use Rattle.gl_schema.specs.declared.schema.Column.{Column}
 use Rattle.gl_schema.specs.declared.schema.Stream.{Stream}
-use Rattle.gl_schema.specs.declared.schema.Schema.{Schema}
-use Rattle.gl_schema.specs.Beats.{Beat, row_in, beat_at, rows_at, ends_at}
-use Rattle.gl_schema.specs.Ports.{PortValues, Pin, pin, column_pins, stream_pins, streams_pins, IsStimulus, eos, in_valid, in_column, out_valid}
-use Rattle.gl_schema.specs.Seen.{value_at, row_shown, shown}
+use Rattle.gl_schema.specs.Beats.{Beat, row_in, beat_at, rows_at}
+use Rattle.gl_schema.specs.Ports.{PortValues, Pin, pin, stream_pins, streams_pins}
+use Rattle.gl_schema.specs.Seen.{value_at}
 use Rattle.gl_wiring.specs.Bringing.{row_at}
 use Rattle.gl_wiring.specs.Emitted.{HasPort}
 

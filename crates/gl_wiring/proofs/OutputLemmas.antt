@@ -10,17 +10,13 @@ use Rattle.gl_net.specs.declared.node.Direction.TheVariants.{Out}
 use Rattle.gl_net.proofs.Determined.{keeps_then}
 use Rattle.gl_queue.proofs.MergeLinesLemmas.{never_is}
 use Rattle.gl_schema.specs.Ports.{out_valid, out_column, out_eos, fault_group, fault_queue}
-use Rattle.gl_wire.specs.Faults.{line_of}
-use Rattle.gl_wire.specs.Stages.{IsLaterLine, IsPad}
+use Rattle.gl_wire.specs.Stages.{IsLaterLine}
 use Rattle.gl_wire.specs.Wire.{line_at, widths}
-use Rattle.gl_wire.specs.declared.emitted.Emitted.{Emitted}
-use Rattle.gl_wire.specs.declared.wire.Wire.{Wire}
-use Rattle.gl_wire.specs.Costs.{CostsAtMost}
 use Rattle.gl_wire.proofs.ColumnLemmas.{bus_kept, widths-push}
 use Rattle.gl_wire.proofs.StageLemmas.{line_first}
 use Rattle.gl_wiring.specs.Emitted.{CostsNothing, Extends, Puts}
 use Rattle.gl_wiring.specs.EmittedPorts.{output}
-use Rattle.gl_wiring.specs.Output.{AreShown, IsFault, IsOutput, Shows, group_cost, named_outputs, output_cost, output_ports, queue_cost}
+use Rattle.gl_wiring.specs.Output.{AreShown, IsFault, group_cost, named_outputs, output_ports, queue_cost}
 use Rattle.gl_wiring.specs.Root.{IsSticky, later_line}
 use Rattle.gl_wiring.proofs.Shapes.{puts_none, puts_then, same_taken}
 

@@ -1,21 +1,14 @@
 -- What the ports of a netlist carry.
-use Rattle.std.proofs.Common.{◌≡◌, ℕ, zero, suc, ◌<◌, Bool, true, false, List, [], ◌∷◌, ◌++◌, length, Some, refl, sym, ap, subst, ◌∙◌, arith, get_or}
-use Rattle.std.specs.Prelude.{map, slice_get, find, option_map, bytes_eq, All, IfSome}
+use Rattle.std.proofs.Common.{◌≡◌, ℕ, zero, suc, Bool, true, false, List, [], ◌∷◌, Some, refl, ap, arith}
+use Rattle.std.specs.Prelude.{slice_get, find, option_map, bytes_eq}
 use Rattle.std.proofs.lemmas.Slice.Eq.{bytes_eq-Decides}
-use Rattle.gl_schema.specs.declared.schema.Stream.{Stream}
-use Rattle.gl_schema.specs.declared.schema.Column.{Column}
-use Rattle.gl_schema.specs.Ports.{in_column, out_column, out_valid, out_eos, in_valid, eos, fault_group, fault_queue}
 use Rattle.gl_schema.specs.Seen.{value_at}
-use Rattle.gl_net.specs.declared.node.Bus.{Bus}
 use Rattle.gl_net.specs.declared.node.Port.{Port}
 use Rattle.gl_net.specs.declared.node.Direction.{Direction}
-use Rattle.gl_net.specs.declared.node.Direction.TheVariants.{In, Out}
-use Rattle.gl_net.specs.Net.{Net, Run, IsRun, IsPort, IsBus, Value, reset_name}
-use Rattle.gl_net.specs.Finished.{HasReset}
-use Rattle.gl_wiring.specs.declared.parts.Source.{Source}
+use Rattle.gl_net.specs.declared.node.Direction.TheVariants.{In}
+use Rattle.gl_net.specs.Net.{Net, Run, IsPort}
 use Rattle.gl_net.specs.PortValues.{port_values, input_values}
-use Rattle.gl_wiring.specs.Emitted.{Extends, HasPort}
-use Rattle.gl_wiring.proofs.Inputs.{inputs_stay}
+use Rattle.gl_wiring.specs.Emitted.{HasPort}
 
 -- ---- the values of the ports
 

@@ -1,24 +1,21 @@
 -- The ports of a netlist, with their directions and bits, while it grows.
-use Rattle.std.proofs.Common.{◌≡◌, ℕ, zero, suc, ◌+◌, ◌<◌, List, [], ◌∷◌, ◌++◌, length, take, drop, get_or, take-append-drop, Option, Some, refl, sym, ap, subst, ◌∙◌, append_assoc, arith}
-use Rattle.std.specs.Prelude.{map, slice_get, slice_index}
-use Rattle.std.specs.Option.{option_map_or}
+use Rattle.std.proofs.Common.{◌≡◌, ℕ, zero, suc, ◌+◌, ◌<◌, List, [], ◌∷◌, ◌++◌, length, take, get_or, Some, refl, sym, ap, subst, ◌∙◌, append_assoc, arith}
+use Rattle.std.specs.Prelude.{map, slice_get}
 use Rattle.std.proofs.lemmas.List.{append-nil, map-append}
 use Rattle.gl_bits.proofs.AllLists.{taken_next}
 use Rattle.gl_bits.specs.Kinds.{width_of}
 use Rattle.gl_schema.specs.declared.schema.Column.{Column}
 use Rattle.gl_schema.specs.declared.schema.Stream.{Stream}
-use Rattle.gl_schema.specs.declared.schema.Schema.{Schema}
-use Rattle.gl_schema.specs.Ports.{rst, eos, in_valid, in_column, out_valid, out_column, out_eos, fault_group, fault_queue}
+use Rattle.gl_schema.specs.Ports.{in_valid, in_column}
 use Rattle.gl_net.specs.declared.node.Bus.{Bus}
 use Rattle.gl_net.specs.declared.node.Node.{Node}
 use Rattle.gl_net.specs.declared.node.Port.{Port}
 use Rattle.gl_net.specs.declared.node.Direction.{Direction}
 use Rattle.gl_net.specs.Net.{Net, Shape, Value, shape_in, IsPort}
 use Rattle.gl_net.specs.PortValues.{PortShape, port_shape, port_shapes, bits_of}
-use Rattle.gl_wiring.specs.declared.parts.Source.{Source}
-use Rattle.gl_wiring.specs.PortNames.{column_ports, stream_ports, streams_ports, port_names}
-use Rattle.gl_wiring.specs.EmittedPorts.{input, output, column_widths, column_inputs, stream_inputs, streams_inputs}
-use Rattle.gl_wiring.specs.Emitted.{names_of, bus_widths, IsPortOf, ArePorts, HasPorts, Puts}
+use Rattle.gl_wiring.specs.PortNames.{column_ports, stream_ports, streams_ports}
+use Rattle.gl_wiring.specs.EmittedPorts.{input, column_widths, column_inputs, stream_inputs, streams_inputs}
+use Rattle.gl_wiring.specs.Emitted.{bus_widths, IsPortOf, ArePorts, HasPorts, Puts}
 
 -- ---- ports one by one
 

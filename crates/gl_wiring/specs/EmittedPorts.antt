@@ -1,14 +1,11 @@
 -- The ports of an emitted module, the clock aside, in their order, with their directions and bits.
-use Rattle.std.specs.Prelude.{◌≡◌, ℕ, List, [], ◌∷◌, ◌++◌, map, slice_get, slice_index}
-use Rattle.std.specs.Option.{option_map_or}
+use Rattle.std.specs.Prelude.{ℕ, List, [], ◌∷◌, ◌++◌, map}
 use Rattle.gl_bits.specs.Kinds.{width_of}
 use Rattle.gl_schema.specs.declared.schema.Column.{Column}
 use Rattle.gl_schema.specs.declared.schema.Stream.{Stream}
-use Rattle.gl_schema.specs.declared.schema.Schema.{Schema}
-use Rattle.gl_schema.specs.Ports.{rst, eos, in_valid, in_column, out_valid, out_column, out_eos, fault_group, fault_queue}
+use Rattle.gl_schema.specs.Ports.{in_valid, in_column}
 use Rattle.gl_net.specs.declared.node.Direction.TheVariants.{In, Out}
-use Rattle.gl_net.specs.Net.{Net}
-use Rattle.gl_net.specs.PortValues.{PortShape, port_shapes}
+use Rattle.gl_net.specs.PortValues.{PortShape}
 
 abbrev pub input : List ℕ → ℕ → PortShape
 input name width = record { direction = In; name = name; width = width }

@@ -1,6 +1,4 @@
-use Rattle.std.proofs.Common.{◌≡◌, refl, sym, subst}
-use Rattle.gl_compiler.specs.Meets.{Meets}
-use Rattle.gl_compiler.proofs.Planning.{copies_are, gap_is, has_copies, is_built, latency_is, no_copies, plan_refused, short}
+use Rattle.gl_compiler.proofs.Planning.{plan_refused}
 use Rattle.gl_compiler.proofs.compiling.compile_checked.Goals as goal
 
 pub returns-in-Err : goal.returns-in-Err

@@ -15,15 +15,15 @@ figures_at-requires-2-clause-within c =
 
 pub emit-requires-clause-sound_left : goal.emit-requires-clause-sound_left
 emit-requires-clause-sound_left c =
-    rw c.figures_at.ensures (figures_are_sound c.args.plan.now c.args.left c.len.ensures.plan
+    rw c.figures_at.ensures.value (figures_are_sound c.args.plan.now c.args.left c.len.ensures.plan
     (first_within c.args.plan.now c.args.id (Beside c.args.left c.args.right) c.len.ensures.plan c.requires.node c.args.left (c.args.right ∷ []) refl))
 
 pub emit-requires-clause-sound_right : goal.emit-requires-clause-sound_right
 emit-requires-clause-sound_right c =
-    rw c.figures_at-2.ensures (figures_are_sound c.args.plan.now c.args.right c.len.ensures.plan
+    rw c.figures_at-2.ensures.value (figures_are_sound c.args.plan.now c.args.right c.len.ensures.plan
     (second_within c.args.plan.now c.args.id (Beside c.args.left c.args.right) c.len.ensures.plan c.requires.node c.args.left c.args.right refl))
 
 pub returns : goal.returns
 returns c = λ old mid leaves h i.
     beside_put c.args.plan.now c.args.id old mid c.args.net.now c.emit.new.net leaves c.args.first c.args.second c.in_ok-e.e c.len.ensures.plan
-    c.args.left c.args.right c.requires.node h i (rw (c.figures_at.ensures, c.figures_at-2.ensures) at c.in_ok-e.ensures)
+    c.args.left c.args.right c.requires.node h i (rw (c.figures_at.ensures.value, c.figures_at-2.ensures.value) at c.in_ok-e.ensures)

@@ -1,4 +1,4 @@
-use Rattle.std.proofs.Common.{inl, refl}
+use Rattle.std.proofs.Common.{inl}
 use Rattle.gl_outside.proofs.Takes.{took_none}
 use Rattle.gl_forms.specs.declared.command.Command.TheVariants.{Compile}
 use Rattle.gl_top.specs.Causes.{change}

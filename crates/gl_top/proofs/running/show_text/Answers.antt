@@ -1,6 +1,6 @@
-use Rattle.std.proofs.Common.{inl, subst, sym, List, ℕ, ◌∙◌}
+use Rattle.std.proofs.Common.{inl, ◌∙◌}
 use Rattle.gl_outside.proofs.Takes.{took_none}
-use Rattle.gl_top.specs.Verdicts.{Ended, IsShownOf}
+use Rattle.gl_top.specs.Verdicts.{Ended}
 use Rattle.gl_top.specs.declared.notes.Refusal.TheVariants as refusal
 use Rattle.gl_top.proofs.running.show_text.Goals as goal
 
