@@ -1,1 +1,2 @@
 pub mod LexSteps
+pub mod Places

@@ -9,7 +9,7 @@ ghost use Rattle.gl_verilog_tokens.specs.Lexed.{class_is, follow_is};
 use gl_verilog_written::{Keyword, Sign, Token, digit_of};
 
 /// What a byte is between tokens.
-#[derive(Clone, Copy, Debug, PartialEq, Eq)]
+#[derive(Clone, Copy)]
 pub enum Class {
     Letter,
     Digit,
@@ -21,7 +21,7 @@ pub enum Class {
 }
 
 /// What two bytes make: a token, a comment, or nothing new.
-#[derive(Clone, Copy, Debug)]
+#[derive(Clone, Copy)]
 pub enum Follow<'a> {
     Pair(Token<'a>),
     Line,

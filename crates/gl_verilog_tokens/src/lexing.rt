@@ -4,6 +4,7 @@ ghost use Rattle.std.specs.Prelude.{◌≡◌, ◌≤◌, ◌<◌, ◌+◌, ◌+
 ghost use Rattle.gl_verilog.specs.Tokens as tokens;
 ghost use Rattle.gl_verilog_written.specs.View.{tokens_in, name_of};
 ghost use Rattle.gl_verilog_tokens.specs.Lexed.{piece, mode_of, IsInside};
+ghost use Rattle.gl_verilog_tokens.specs.Placed.{places_in, ArePlaces, IsNext, opened};
 
 use crate::classes::{
     Class, Follow, class_of, follow_of, goes_on, is_digit_of, radix_of, sign_token,
@@ -13,7 +14,7 @@ use gl_verilog_written::{Lexeme, Token, Word};
 use std::alloc::{AllocError, Global};
 
 /// Where the reader stands. A place in it is that of a token's first byte.
-#[derive(Clone, Copy, Debug)]
+#[derive(Clone, Copy)]
 pub enum Standing<'a> {
     /// Between tokens.
     Between,
@@ -22,10 +23,14 @@ pub enum Standing<'a> {
     /// In a number.
     InNumber(usize),
     /// Behind a number's quote.
-    AtQuote(Word<'a>),
+    AtQuote {
+        size: Word<'a>,
+        quote: usize,
+    },
     /// Behind a number's quote and a base letter, which stands at `from`.
     AtBase {
         size: Word<'a>,
+        quote: usize,
         base: u8,
         radix: u8,
         from: usize,
@@ -37,7 +42,10 @@ pub enum Standing<'a> {
         from: usize,
     },
     /// Behind a byte that may begin a sign of two bytes, or a comment.
-    Half(u8),
+    Half {
+        first: u8,
+        from: usize,
+    },
     /// In a comment of one line.
     InLine,
     /// In a comment that ends with `*/`.
@@ -47,7 +55,7 @@ pub enum Standing<'a> {
 }
 
 // A byte between tokens.
-#[tactic(auto, using(crate::proofs::LexSteps::steps))]
+#[tactic(auto, using(crate::proofs::LexSteps::steps, crate::proofs::Places::fronts))]
 fn begin<'a>(
     text: &'a [u8],
     at: usize,
@@ -60,12 +68,14 @@ fn begin<'a>(
     ensures mode { IfOk result (λ s. mode_of text.now (at + 1) s ≡ (tokens.fresh b).mode) }
     ensures tokens { OnOk result (tokens_in out.new.items ≡ tokens_in out.old.items
         ++ (tokens.fresh b).tokens) }
+    ensures places { IfOk result (λ s. IsNext at (places_in out.old.items)
+        (places_in out.new.items ++ opened s)) }
 {
     match class_of(b) {
         Class::Letter => Ok(Standing::InWord(at)),
         Class::Digit => Ok(Standing::InNumber(at)),
         Class::Blank | Class::LineEnd => Ok(Standing::Between),
-        Class::Opens => Ok(Standing::Half(b)),
+        Class::Opens => Ok(Standing::Half { first: b, from: at }),
         Class::Quote => {
             put(out, Token::Never, at)?;
             Ok(Standing::Between)
@@ -78,7 +88,7 @@ fn begin<'a>(
 }
 
 // A byte behind a word's.
-#[tactic(auto, using(crate::proofs::LexSteps::steps))]
+#[tactic(auto, using(crate::proofs::LexSteps::steps, crate::proofs::Places::fronts))]
 fn in_word<'a>(
     text: &'a [u8],
     from: usize,
@@ -94,6 +104,8 @@ fn in_word<'a>(
         ≡ (tokens.in_word (tokens.class_of b) (piece text.now from at) b).mode) }
     ensures tokens { OnOk result (tokens_in out.new.items ≡ tokens_in out.old.items
         ++ (tokens.in_word (tokens.class_of b) (piece text.now from at) b).tokens) }
+    ensures places { IfOk result (λ s. IsNext at (places_in out.old.items ++ from ∷ [])
+        (places_in out.new.items ++ opened s)) }
 {
     match class_of(b) {
         Class::Letter | Class::Digit => Ok(Standing::InWord(from)),
@@ -105,7 +117,7 @@ fn in_word<'a>(
 }
 
 // A byte behind a number's.
-#[tactic(auto, using(crate::proofs::LexSteps::steps))]
+#[tactic(auto, using(crate::proofs::LexSteps::steps, crate::proofs::Places::fronts))]
 fn in_number<'a>(
     text: &'a [u8],
     from: usize,
@@ -121,10 +133,15 @@ fn in_number<'a>(
         ≡ (tokens.in_number (tokens.class_of b) (piece text.now from at) b).mode) }
     ensures tokens { OnOk result (tokens_in out.new.items ≡ tokens_in out.old.items
         ++ (tokens.in_number (tokens.class_of b) (piece text.now from at) b).tokens) }
+    ensures places { IfOk result (λ s. IsNext at (places_in out.old.items ++ from ∷ [])
+        (places_in out.new.items ++ opened s)) }
 {
     match class_of(b) {
         Class::Digit => Ok(Standing::InNumber(from)),
-        Class::Quote => Ok(Standing::AtQuote(word_at(text, from, at))),
+        Class::Quote => Ok(Standing::AtQuote {
+            size: word_at(text, from, at),
+            quote: at,
+        }),
         _ => {
             put(out, number_token(word_at(text, from, at)), from)?;
             begin(text, at, b, out)
@@ -133,10 +150,11 @@ fn in_number<'a>(
 }
 
 // A byte behind a number's quote.
-#[tactic(auto, using(crate::proofs::LexSteps::steps))]
+#[tactic(auto, using(crate::proofs::LexSteps::steps, crate::proofs::Places::fronts))]
 fn at_quote<'a>(
     text: &'a [u8],
     size: Word<'a>,
+    quote: usize,
     at: usize,
     b: u8,
     out: &mut Vec<Lexeme<'a>>,
@@ -148,26 +166,30 @@ fn at_quote<'a>(
         ≡ (tokens.at_quote (tokens.radix_of b) (name_of size.entry) b).mode) }
     ensures tokens { OnOk result (tokens_in out.new.items ≡ tokens_in out.old.items
         ++ (tokens.at_quote (tokens.radix_of b) (name_of size.entry) b).tokens) }
+    ensures places { IfOk result (λ s. IsNext at (places_in out.old.items ++ size.entry.at
+        ∷ quote ∷ []) (places_in out.new.items ++ opened s)) }
 {
     match radix_of(b) {
         Some(radix) => Ok(Standing::AtBase {
             size,
+            quote,
             base: b,
             radix,
             from: at,
         }),
         None => {
-            put_quoted(size, out)?;
+            put_quoted(size, quote, out)?;
             begin(text, at, b, out)
         }
     }
 }
 
 // A byte behind a base letter, which stands at `from`.
-#[tactic(auto, using(crate::proofs::LexSteps::steps))]
+#[tactic(auto, using(crate::proofs::LexSteps::steps, crate::proofs::Places::fronts))]
 fn at_base<'a>(
     text: &'a [u8],
     size: Word<'a>,
+    quote: usize,
     base: u8,
     radix: u8,
     from: usize,
@@ -184,6 +206,8 @@ fn at_base<'a>(
         ≡ (tokens.at_base (tokens.is_digit_of radix b) (name_of size.entry) base radix b).mode) }
     ensures tokens { OnOk result (tokens_in out.new.items ≡ tokens_in out.old.items
         ++ (tokens.at_base (tokens.is_digit_of radix b) (name_of size.entry) base radix b).tokens) }
+    ensures places { IfOk result (λ s. IsNext at (places_in out.old.items ++ size.entry.at
+        ∷ quote ∷ from ∷ []) (places_in out.new.items ++ opened s)) }
 {
     if is_digit_of(radix, b) {
         return Ok(Standing::InDigits {
@@ -192,12 +216,12 @@ fn at_base<'a>(
             from: at,
         });
     }
-    put_quoted(size, out)?;
+    put_quoted(size, quote, out)?;
     in_word(text, from, at, b, out)
 }
 
 // A byte behind a literal's digits.
-#[tactic(auto, using(crate::proofs::LexSteps::steps))]
+#[tactic(auto, using(crate::proofs::LexSteps::steps, crate::proofs::Places::fronts))]
 fn in_digits<'a>(
     text: &'a [u8],
     size: Word<'a>,
@@ -217,6 +241,8 @@ fn in_digits<'a>(
     ensures tokens { OnOk result (tokens_in out.new.items ≡ tokens_in out.old.items
         ++ (tokens.in_digits (tokens.goes_on radix b) (name_of size.entry) radix
         (piece text.now from at) b).tokens) }
+    ensures places { IfOk result (λ s. IsNext at (places_in out.old.items ++ size.entry.at ∷ [])
+        (places_in out.new.items ++ opened s)) }
 {
     if goes_on(radix, b) {
         return Ok(Standing::InDigits { size, radix, from });
@@ -230,10 +256,11 @@ fn in_digits<'a>(
 }
 
 // A byte behind one that may begin a sign of two bytes, or a comment.
-#[tactic(auto, using(crate::proofs::LexSteps::steps))]
+#[tactic(auto, using(crate::proofs::LexSteps::steps, crate::proofs::Places::fronts))]
 fn after_half<'a>(
     text: &'a [u8],
     first: u8,
+    from: usize,
     at: usize,
     b: u8,
     out: &mut Vec<Lexeme<'a>>,
@@ -245,8 +272,9 @@ fn after_half<'a>(
         ≡ (tokens.after_half (tokens.follow_of first b) first b).mode) }
     ensures tokens { OnOk result (tokens_in out.new.items ≡ tokens_in out.old.items
         ++ (tokens.after_half (tokens.follow_of first b) first b).tokens) }
+    ensures places { IfOk result (λ s. IsNext at (places_in out.old.items ++ from ∷ [])
+        (places_in out.new.items ++ opened s)) }
 {
-    let from = at.saturating_sub(1);
     match follow_of(first, b) {
         Follow::Pair(token) => {
             put(out, token, from)?;
@@ -262,7 +290,7 @@ fn after_half<'a>(
 }
 
 // One byte.
-#[tactic(auto, using(crate::proofs::LexSteps::steps))]
+#[tactic(auto, using(crate::proofs::LexSteps::steps, crate::proofs::Places::fronts))]
 fn advance<'a>(
     text: &'a [u8],
     standing: Standing<'a>,
@@ -278,20 +306,23 @@ fn advance<'a>(
         ≡ (tokens.move (mode_of text.now at standing.entry) b).mode) }
     ensures tokens { OnOk result (tokens_in out.new.items ≡ tokens_in out.old.items
         ++ (tokens.move (mode_of text.now at standing.entry) b).tokens) }
+    ensures places { IfOk result (λ s. IsNext at (places_in out.old.items ++ opened standing.entry)
+        (places_in out.new.items ++ opened s)) }
 {
     match standing {
         Standing::Between => begin(text, at, b, out),
         Standing::InWord(from) => in_word(text, from, at, b, out),
         Standing::InNumber(from) => in_number(text, from, at, b, out),
-        Standing::AtQuote(size) => at_quote(text, size, at, b, out),
+        Standing::AtQuote { size, quote } => at_quote(text, size, quote, at, b, out),
         Standing::AtBase {
             size,
+            quote,
             base,
             radix,
             from,
-        } => at_base(text, size, base, radix, from, at, b, out),
+        } => at_base(text, size, quote, base, radix, from, at, b, out),
         Standing::InDigits { size, radix, from } => in_digits(text, size, radix, from, at, b, out),
-        Standing::Half(first) => after_half(text, first, at, b, out),
+        Standing::Half { first, from } => after_half(text, first, from, at, b, out),
         Standing::InLine => Ok(if b == b'\n' {
             Standing::Between
         } else {
@@ -311,24 +342,31 @@ fn advance<'a>(
 }
 
 // The end of the text ends its last token.
-#[tactic(auto, using(crate::proofs::LexSteps::steps))]
+#[tactic(auto, using(crate::proofs::LexSteps::steps, crate::proofs::Places::fronts))]
 fn end<'a>(
     text: &'a [u8],
     standing: Standing<'a>,
     out: &mut Vec<Lexeme<'a>>,
 ) -> Result<(), AllocError>
     requires inside { IsInside text.now (length text.now) standing }
-    ensures { OnOk result (tokens_in out.new.items ≡ tokens_in out.old.items
+    ensures tokens { OnOk result (tokens_in out.new.items ≡ tokens_in out.old.items
         ++ tokens.last_of (mode_of text.now (length text.now) standing.entry)) }
+    ensures places { OnOk result (places_in out.new.items
+        ≡ places_in out.old.items ++ opened standing.entry) }
 {
     let at = text.len();
     match standing {
         Standing::Between | Standing::InLine => Ok(()),
         Standing::InWord(from) => put(out, word_token(word_at(text, from, at)), from),
         Standing::InNumber(from) => put(out, number_token(word_at(text, from, at)), from),
-        Standing::AtQuote(size) => put_quoted(size, out),
-        Standing::AtBase { size, from, .. } => {
-            put_quoted(size, out)?;
+        Standing::AtQuote { size, quote } => put_quoted(size, quote, out),
+        Standing::AtBase {
+            size,
+            quote,
+            from,
+            ..
+        } => {
+            put_quoted(size, quote, out)?;
             put(out, word_token(word_at(text, from, at)), from)
         }
         Standing::InDigits { size, radix, from } => {
@@ -338,15 +376,16 @@ fn end<'a>(
                 size.at,
             )
         }
-        Standing::Half(first) => put(out, sign_token(first), at.saturating_sub(1)),
+        Standing::Half { first, from } => put(out, sign_token(first), from),
         Standing::InBlock(from) | Standing::AtStar(from) => put(out, Token::Never, from),
     }
 }
 
-/// The tokens of a text.
+/// The tokens of a text, in order, each with the place of its first byte.
 #[tactic(auto, using(crate::proofs::LexSteps::passes))]
 pub fn lexemes<'a>(alloc: Global, text: &'a [u8]) -> Result<Vec<Lexeme<'a>>, AllocError>
-    ensures { IfOk result (λ v. tokens_in v.items ≡ tokens.tokens_of text.now) }
+    ensures tokens { IfOk result (λ v. tokens_in v.items ≡ tokens.tokens_of text.now) }
+    ensures places { IfOk result (λ v. ArePlaces text.now (places_in v.items)) }
 {
     let mut out = Vec::new(alloc);
     let mut standing = Standing::Between;

@@ -4,6 +4,7 @@ ghost use Rattle.std.specs.Prelude.{◌≡◌, ◌≤◌, ◌++◌, ◌∷◌, [
 ghost use Rattle.gl_verilog.specs.Tokens as tokens;
 ghost use Rattle.gl_verilog_written.specs.View.{token_of, tokens_in, name_of};
 ghost use Rattle.gl_verilog_tokens.specs.Lexed.{piece};
+ghost use Rattle.gl_verilog_tokens.specs.Placed.{places_in};
 
 use crate::classes::reserved;
 use gl_verilog_written::{Lexeme, Token, Word, small_number};
@@ -12,7 +13,8 @@ use std::alloc::AllocError;
 pub(crate) fn word_at<'a>(text: &'a [u8], from: usize, to: usize) -> Word<'a>
     requires order { from ≤ to }
     requires within { to ≤ length text.now }
-    ensures { name_of result ≡ piece text.now from to }
+    ensures bytes { name_of result ≡ piece text.now from to }
+    ensures at { result.at ≡ from }
 {
     Word {
         bytes: &text[from..to],
@@ -64,8 +66,9 @@ pub(crate) fn put<'a>(
     token: Token<'a>,
     at: usize,
 ) -> Result<(), AllocError>
-    ensures { OnOk result (tokens_in out.new.items ≡ tokens_in out.old.items ++ token_of token.entry
-        ∷ []) }
+    ensures tokens { OnOk result (tokens_in out.new.items
+        ≡ tokens_in out.old.items ++ token_of token.entry ∷ []) }
+    ensures places { OnOk result (places_in out.new.items ≡ places_in out.old.items ++ at ∷ []) }
 {
     out.push(Lexeme { token, at })?;
     Ok(())
@@ -73,10 +76,16 @@ pub(crate) fn put<'a>(
 
 // A number and a quote that is part of no token.
 #[tactic(auto, using(crate::proofs::LexSteps::steps))]
-pub(crate) fn put_quoted<'a>(size: Word<'a>, out: &mut Vec<Lexeme<'a>>) -> Result<(), AllocError>
-    ensures { OnOk result (tokens_in out.new.items ≡ tokens_in out.old.items
+pub(crate) fn put_quoted<'a>(
+    size: Word<'a>,
+    quote: usize,
+    out: &mut Vec<Lexeme<'a>>,
+) -> Result<(), AllocError>
+    ensures tokens { OnOk result (tokens_in out.new.items ≡ tokens_in out.old.items
         ++ tokens.number_token (name_of size.entry) ∷ tokens.Never ∷ []) }
+    ensures places { OnOk result (places_in out.new.items
+        ≡ places_in out.old.items ++ size.entry.at ∷ quote ∷ []) }
 {
     put(out, number_token(size), size.at)?;
-    put(out, Token::Never, size.at.saturating_add(size.bytes.len()))
+    put(out, Token::Never, quote)
 }

@@ -1,0 +1,13 @@
+pub mod Demanded
+pub mod Sets
+pub mod OfExpressions
+pub mod OfStatements
+pub mod OfDeclarations
+pub mod OfItems
+pub mod Whole
+pub mod Powers
+pub mod Steps
+pub mod Parts
+pub mod Chained
+pub mod Wholly
+pub mod Found

@@ -1,0 +1,207 @@
+//! Statements of clocked blocks.
+
+ghost use Rattle.std.specs.Prelude.{◌≡◌, Ok};
+ghost use Rattle.gl_verilog.specs.Module as spec;
+ghost use Rattle.gl_verilog.specs.Written as written;
+ghost use Rattle.gl_verilog.specs.View.{kind_of, statement_of as meant_of, expr_of as value_of};
+ghost use Rattle.gl_verilog_faults.specs.Demands.{is_clocked_kind};
+ghost use Rattle.gl_verilog_elaborator.specs.Judged as judged;
+ghost use Rattle.gl_verilog_elaborator.specs.View.{Gives, declarations_of, typed_of, drivers_of, stated_of};
+ghost use Rattle.gl_verilog_written.specs.View.{name_of, expr_of};
+
+use crate::drivers::{Drivers, drive, has};
+use crate::expressions::{Typed, address_bits, is_memory};
+use crate::scope::{Scope, further, named};
+use crate::stop::{Rule, Stop};
+use crate::trees::expr_typed;
+use gl_verilog::{Expr, Kind, Statement};
+use gl_verilog_written::{Word, WrittenExpr};
+use std::alloc::Global;
+
+/// What a statement means, and the number of the token behind it.
+#[derive(Drop)]
+pub struct Stated {
+    pub statement: Statement,
+    pub end: usize,
+}
+
+// Whether a block can drive it.
+fn is_clocked(kind: Kind) -> bool
+    ensures { result ≡ is_clocked_kind (kind_of kind) }
+{
+    matches!(
+        kind,
+        Kind::OutputRegister | Kind::Register | Kind::Memory { .. }
+    )
+}
+
+// A register, whose name is the token k, takes a value.
+fn put<'a>(
+    scope: &Scope,
+    drivers: &mut Drivers<'a>,
+    k: usize,
+    target: Word<'a>,
+    value: Typed,
+) -> Result<Stated, Stop>
+    ensures { Gives (stated_of drivers.new) (judged.judged_put (declarations_of scope.now)
+        (drivers_of drivers.old) k (name_of target.entry) (typed_of value)) result }
+{
+    let known = named(scope, k, target)?;
+    if !is_clocked(known.kind) {
+        return Err(Stop::Broken {
+            rule: Rule::BadTarget,
+            token: k,
+        });
+    }
+    if is_memory(known.kind) {
+        return Err(Stop::Broken {
+            rule: Rule::BadMemory,
+            token: k,
+        });
+    }
+    if has(&drivers.done, target.bytes) || has(&drivers.beside, target.bytes) {
+        return Err(Stop::Broken {
+            rule: Rule::TwiceDriven,
+            token: k,
+        });
+    }
+    if known.width != value.width {
+        return Err(Stop::Broken {
+            rule: Rule::WidthsDiffer,
+            token: k,
+        });
+    }
+    drive(drivers, target)?;
+    let end = further(value.end, 1)?;
+    Ok(Stated {
+        statement: Statement::Put {
+            register: known.number,
+            value: value.expr,
+        },
+        end,
+    })
+}
+
+// A word of a memory, whose name is the token k, takes a value.
+fn write<'a>(
+    scope: &Scope,
+    drivers: &mut Drivers<'a>,
+    k: usize,
+    target: Word<'a>,
+    address: Typed,
+    value: Typed,
+) -> Result<Stated, Stop>
+    ensures { Gives (stated_of drivers.new) (judged.judged_write (declarations_of scope.now)
+        (drivers_of drivers.old) k (name_of target.entry) (typed_of address) (typed_of value))
+        result }
+{
+    let known = named(scope, k, target)?;
+    if !is_clocked(known.kind) {
+        return Err(Stop::Broken {
+            rule: Rule::BadTarget,
+            token: k,
+        });
+    }
+    if !is_memory(known.kind) || address_bits(known.kind) != address.width {
+        return Err(Stop::Broken {
+            rule: Rule::BadMemory,
+            token: k,
+        });
+    }
+    if has(&drivers.all, target.bytes) {
+        return Err(Stop::Broken {
+            rule: Rule::TwiceDriven,
+            token: k,
+        });
+    }
+    if known.width != value.width {
+        return Err(Stop::Broken {
+            rule: Rule::WidthsDiffer,
+            token: k,
+        });
+    }
+    drive(drivers, target)?;
+    let end = further(value.end, 1)?;
+    Ok(Stated {
+        statement: Statement::Write {
+            memory: known.number,
+            address: address.expr,
+            value: value.expr,
+        },
+        end,
+    })
+}
+
+/// The condition of an `if`, which is the token k.
+pub(crate) fn test_typed(
+    alloc: Global,
+    scope: &Scope,
+    k: usize,
+    test: &WrittenExpr,
+) -> Result<Typed, Stop>
+    ensures { Gives typed_of (judged.judged_test (declarations_of scope.now) k (expr_of test.now))
+        result }
+{
+    let first = further(k, 2)?;
+    let typed = expr_typed(alloc, scope, first, test)?;
+    if typed.width != 1 {
+        return Err(Stop::Broken {
+            rule: Rule::WidthsDiffer,
+            token: k,
+        });
+    }
+    Ok(typed)
+}
+
+/// One of two statements.
+pub(crate) fn choice(
+    alloc: Global,
+    test: Expr,
+    yes: Statement,
+    no: Statement,
+) -> Result<Statement, Stop>
+    ensures { Gives meant_of (Ok (spec.If (value_of test) (meant_of yes) (meant_of no))) result }
+{
+    let yes = Box::new(alloc, yes)?;
+    let no = Box::new(alloc, no)?;
+    Ok(Statement::If { test, yes, no })
+}
+
+/// A register takes a value.
+pub(crate) fn update<'a>(
+    alloc: Global,
+    scope: &Scope,
+    drivers: &mut Drivers<'a>,
+    k: usize,
+    target: Word<'a>,
+    value: &WrittenExpr<'a>,
+) -> Result<Stated, Stop>
+    ensures { Gives (stated_of drivers.new) (judged.judged_in (declarations_of scope.now)
+        (drivers_of drivers.old) k (written.Update (name_of target.entry) (expr_of value.now)))
+        result }
+{
+    let first = further(k, 2)?;
+    let value = expr_typed(alloc, scope, first, value)?;
+    put(scope, drivers, k, target, value)
+}
+
+/// A word of a memory takes a value.
+pub(crate) fn update_word<'a>(
+    alloc: Global,
+    scope: &Scope,
+    drivers: &mut Drivers<'a>,
+    k: usize,
+    target: Word<'a>,
+    address: &WrittenExpr<'a>,
+    value: &WrittenExpr<'a>,
+) -> Result<Stated, Stop>
+    ensures { Gives (stated_of drivers.new) (judged.judged_in (declarations_of scope.now)
+        (drivers_of drivers.old) k (written.UpdateWord (name_of target.entry)
+        (expr_of address.now) (expr_of value.now))) result }
+{
+    let first = further(k, 2)?;
+    let address = expr_typed(alloc, scope, first, address)?;
+    let second = further(address.end, 2)?;
+    let value = expr_typed(alloc, scope, second, value)?;
+    write(scope, drivers, k, target, address, value)
+}
