@@ -5,3 +5,5 @@ pub mod TimeLemmas
 pub mod WholeTime
 pub mod WholeFits
 pub mod WholeServes
+pub mod NumberLemmas
+pub mod VisitLemmas

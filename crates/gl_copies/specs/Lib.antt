@@ -2,3 +2,4 @@ pub mod Lift
 pub mod Timed
 pub mod Rotates
 pub mod Laws
+pub mod Bodies

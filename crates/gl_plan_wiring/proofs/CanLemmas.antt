@@ -1,11 +1,9 @@
 -- What putting a child asks for follows from what putting its node asks for.
-use Rattle.std.proofs.Common.{◌≡◌, ℕ, ◌<◌, List, [], ◌∷◌, ◌++◌, length, Some, true, false, ◌||◌, slice_get, All, sym, ◌∙◌, subst, arith}
+use Rattle.std.proofs.Common.{◌≡◌, ℕ, ◌<◌, List, [], ◌∷◌, ◌++◌, length, Some, slice_get, All, subst, arith}
 use Rattle.std.proofs.lemmas.List.Elements.{All-head, All-tail}
 use Rattle.std.proofs.lemmas.Option.{slice_get_within}
-use Rattle.gl_bits.proofs.Bools.{neither_left, neither_right}
 use Rattle.gl_algebra.specs.declared.figures.Figures.{Figures}
 use Rattle.gl_algebra.specs.declared.node.PlanNode.{PlanNode}
-use Rattle.gl_algebra.specs.declared.node.PlanNode.TheVariants.{Group}
 use Rattle.gl_algebra.specs.Fits.{IsPlan}
 use Rattle.gl_algebra.specs.Nodewise.{named_by}
 use Rattle.gl_algebra.specs.Shapes.{shape_of, shape_from}
@@ -15,10 +13,8 @@ use Rattle.gl_wire.specs.declared.emitted.Emitted.{Emitted}
 use Rattle.gl_wire.specs.declared.wire.Wire.{Wire}
 use Rattle.gl_wire.proofs.ColumnLemmas.{wire_kept}
 use Rattle.gl_wire.proofs.FaultLemmas.{lines_kept}
-use Rattle.gl_plan_wiring.specs.Groups.{HasNoGroup, has_group, has_group_from}
 use Rattle.gl_plan_wiring.specs.Leaves.{HaveLeaves}
 use Rattle.gl_plan_wiring.specs.Put.{CanPut, HasColumns, IsPut}
-use Rattle.gl_plan_wiring.proofs.GroupLemmas.{groups_follow}
 
 pub leaves_kept : (old new : Net) (leaves : List Wire) (nodes : List PlanNode) → Keeps old new → HaveLeaves old leaves nodes → HaveLeaves new leaves nodes
 leaves_kept old new leaves [] g h = tt
@@ -59,83 +55,41 @@ module _ (nodes : List PlanNode) (figures : List Figures) (id : ℕ) (node : Pla
   of_node : HaveLeaves net leaves (shape_from (shape_of nodes) node).leaves
   of_node = subst (λ s. HaveLeaves net leaves s.leaves) (nodes_follow_tables nodes id node plan at).shape can.leaved
 
-  -- no group stands under the nodes that it names
-  no_groups : has_group_from (has_group nodes) node ≡ false
-  no_groups = sym (groups_follow nodes id node plan at) ∙ can.groupless
-
-  can_first : (child : ℕ) (rest : List ℕ) → named_by node ≡ child ∷ rest → HasNoGroup nodes child → HaveLeaves net leaves (shape_of nodes child).leaves
+  can_first : (child : ℕ) (rest : List ℕ) → named_by node ≡ child ∷ rest → HaveLeaves net leaves (shape_of nodes child).leaves
       → CanPutChild nodes figures id child net leaves
-  can_first child rest named groupless has =
+  can_first child rest named has =
       let before = first_before nodes id node plan at child rest named in
-      record {
-        before = before;
-        can = record {
-          within = omega (arith, before, can.within);
-          groupless = groupless;
-          figured = can.figured;
-          leaved = has;
-        };
-      }
+      record { before = before; can = record { within = omega (arith, before, can.within); figured = can.figured; leaved = has } }
 
-  -- the one child, whose leaves are the node's
-  pub can_child : (child : ℕ) → named_by node ≡ child ∷ [] → has_group_from (has_group nodes) node ≡ has_group nodes child
+  -- its first or only child, whose leaves are the node's; of two that is the source of a body
+  pub can_child : (child : ℕ) (rest : List ℕ) → named_by node ≡ child ∷ rest
       → (shape_from (shape_of nodes) node).leaves ≡ (shape_of nodes child).leaves → CanPutChild nodes figures id child net leaves
-  can_child child named groups same = can_first child [] named (sym groups ∙ no_groups) (subst (HaveLeaves net leaves) same of_node)
-
-  -- the source of a body
-  pub can_source : (source body : ℕ) → named_by node ≡ source ∷ body ∷ []
-      → has_group_from (has_group nodes) node ≡ (has_group nodes source || has_group nodes body)
-      → (shape_from (shape_of nodes) node).leaves ≡ (shape_of nodes source).leaves → CanPutChild nodes figures id source net leaves
-  can_source source body named groups same =
-      can_first source (body ∷ []) named (neither_left (has_group nodes source) (has_group nodes body) (sym groups ∙ no_groups))
-      (subst (HaveLeaves net leaves) same of_node)
+  can_child child rest named same = can_first child rest named (subst (HaveLeaves net leaves) same of_node)
 
   -- the left of two, and the right one, once the left one is put
   pub can_left : (left right : ℕ) → named_by node ≡ left ∷ right ∷ []
-      → has_group_from (has_group nodes) node ≡ (has_group nodes left || has_group nodes right)
       → (shape_from (shape_of nodes) node).leaves ≡ (shape_of nodes left).leaves ++ (shape_of nodes right).leaves
       → CanPutChild nodes figures id left net leaves
-  can_left left right named groups same =
-      can_first left (right ∷ []) named (neither_left (has_group nodes left) (has_group nodes right) (sym groups ∙ no_groups))
-      (left_leaves net leaves _ (shape_of nodes right).leaves (subst (HaveLeaves net leaves) same of_node))
+  can_left left right named same =
+      can_first left (right ∷ []) named (left_leaves net leaves _ (shape_of nodes right).leaves (subst (HaveLeaves net leaves) same of_node))
+
+  can_second : (first second : ℕ) (new : Net) (wires : List Wire) → named_by node ≡ first ∷ second ∷ []
+      → HaveLeaves new wires (shape_of nodes second).leaves → CanPutChild nodes figures id second new wires
+  can_second first second new wires named has =
+      let before = second_before nodes id node plan at first second named in
+      record { before = before; can = record { within = omega (arith, before, can.within); figured = can.figured; leaved = has } }
 
   pub can_right : (new : Net) (left right : ℕ) → named_by node ≡ left ∷ right ∷ []
-      → has_group_from (has_group nodes) node ≡ (has_group nodes left || has_group nodes right)
       → (shape_from (shape_of nodes) node).leaves ≡ (shape_of nodes left).leaves ++ (shape_of nodes right).leaves
       → Keeps net new → CanPutChild nodes figures id right new leaves
-  can_right new left right named groups same keeps =
-      let before = second_before nodes id node plan at left right named in
-      record {
-        before = before;
-        can = record {
-          within = omega (arith, before, can.within);
-          groupless = neither_right (has_group nodes left) (has_group nodes right) (sym groups ∙ no_groups);
-          figured = can.figured;
-          leaved = leaves_kept net new leaves _ keeps (right_leaves net leaves (shape_of nodes left).leaves _ (subst (HaveLeaves net leaves) same of_node));
-        };
-      }
+  can_right new left right named same keeps =
+      can_second left right new leaves named
+      (leaves_kept net new leaves _ keeps (right_leaves net leaves (shape_of nodes left).leaves _ (subst (HaveLeaves net leaves) same of_node)))
 
   -- a body, of which another wire is the input
   pub can_body : (source body : ℕ) (wire : Wire) (new : Net) → named_by node ≡ source ∷ body ∷ []
-      → has_group_from (has_group nodes) node ≡ (has_group nodes source || has_group nodes body)
       → HaveLeaves new (wire ∷ []) (shape_of nodes body).leaves → CanPutChild nodes figures id body new (wire ∷ [])
-  can_body source body wire new named groups has =
-      let before = second_before nodes id node plan at source body named in
-      record {
-        before = before;
-        can = record {
-          within = omega (arith, before, can.within);
-          groupless = neither_right (has_group nodes source) (has_group nodes body) (sym groups ∙ no_groups);
-          figured = can.figured;
-          leaved = has;
-        };
-      }
-
--- a node under which no group stands is none
-pub no_group : (nodes : List PlanNode) (figures : List Figures) (id source body key groups : ℕ) (net : Net) (leaves : List Wire) → IsPlan nodes
-    → slice_get nodes id ≡ Some (Group source body key groups) → CanPut nodes figures id net leaves → ⊥
-no_group nodes figures id source body key groups net leaves plan at can =
-    let none : true ≡ false = no_groups nodes figures id (Group source body key groups) net leaves plan at can in cc
+  can_body source body wire new named has = can_second source body new (wire ∷ []) named has
 
 -- what is put has its node's columns
 pub put_columns : (nodes : List PlanNode) (id : ℕ) (old new : Net) (leaves : List Wire) (e : Emitted) → IsPut nodes id old new leaves e → HasColumns nodes id new e

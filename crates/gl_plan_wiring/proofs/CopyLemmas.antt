@@ -6,26 +6,25 @@ use Rattle.std.proofs.Math.Nat.{add-mul}
 use Rattle.gl_bits.specs.declared.kind.Kind.{Kind}
 use Rattle.gl_algebra.specs.declared.figures.Figures.{Figures}
 use Rattle.gl_algebra.specs.declared.node.PlanNode.{PlanNode}
-use Rattle.gl_algebra.specs.declared.node.PlanNode.TheVariants.{Body, Window}
+use Rattle.gl_algebra.specs.declared.node.PlanNode.TheVariants.{Body}
 use Rattle.gl_algebra.specs.FigureTable.{input_figures}
-use Rattle.gl_algebra.specs.Fits.{IsPlan}
+use Rattle.gl_algebra.specs.Fits.{IsBodyFor, IsPlan}
+use Rattle.gl_algebra.specs.Nodewise.{named_by}
 use Rattle.gl_algebra.specs.Shapes.{kinds_of, shape_of}
 use Rattle.gl_algebra.proofs.ListLemmas.{earlier, last, place_in_append}
 use Rattle.gl_net.specs.Net.{Net, Run, Keeps}
 use Rattle.gl_net.proofs.Determined.{keeps_then}
 use Rattle.gl_net.proofs.Growth.{same_keeps}
-use Rattle.gl_windows.specs.declared.rotation.Fronted.{Fronted}
-use Rattle.gl_windows.specs.Rotations.{AreCopies, columns_of}
+use Rattle.gl_registers.specs.Joins.{AreCopies, columns_of}
 use Rattle.gl_wire.specs.declared.emitted.Emitted.{Emitted}
 use Rattle.gl_wire.specs.declared.wire.Wire.{Wire}
 use Rattle.gl_wire.specs.Beats.{beats_of}
 use Rattle.gl_wire.specs.Serves.{Fits}
 use Rattle.gl_wire.specs.Wire.{IsWire, carried, widths}
 use Rattle.gl_wire.proofs.ClosingLemmas.{own_fits}
-use Rattle.gl_plan_wiring.specs.declared.windows.WindowOf.{WindowOf}
 use Rattle.gl_plan_wiring.specs.Leaves.{HaveLeaves, LeavesFit, widths_of}
 use Rattle.gl_plan_wiring.specs.Put.{CanPut, HasColumns, IsPut, counted}
-use Rattle.gl_plan_wiring.specs.Windows.{AreBodies, CanCopy, IsFrontOf, IsWindow}
+use Rattle.gl_plan_wiring.specs.Copies.{AreBodies, CanCopy}
 use Rattle.gl_plan_wiring.proofs.CanLemmas.{can_body, leaves_kept}
 use Rattle.gl_plan_wiring.proofs.GivesLemmas.{gives_kept}
 
@@ -52,15 +51,17 @@ item_at [] k l = absurd (omega arith)
 item_at (x ∷ xs) zero l = (x, refl)
 item_at (x ∷ xs) (suc k) l = item_at xs k (omega arith)
 
--- behind a front a body can be put
-pub can_copies : (nodes : List PlanNode) (figures : List Figures) (w : WindowOf) (old mid net : Net) (leaves : List Wire) (front : Fronted) → IsPlan nodes → IsWindow nodes w
-    → CanPut nodes figures w.id old leaves → IsFrontOf nodes w mid net leaves front → CanCopy nodes figures w.body net front.wires
-can_copies nodes figures w old mid net leaves front plan at can h = record {
+-- behind wires with the columns of its source a body can be put
+pub can_copies : (nodes : List PlanNode) (figures : List Figures) (id source body : ℕ) (node : PlanNode) (old net : Net) (leaves wires : List Wire)
+    → IsPlan nodes → slice_get nodes id ≡ Some node → named_by node ≡ source ∷ body ∷ [] → IsBodyFor (shape_of nodes source) (shape_of nodes body)
+    → CanPut nodes figures id old leaves
+    → ((k : ℕ) (wire : Wire) → slice_get wires k ≡ Some wire → IsWire net wire × (widths wire.columns ≡ widths_of (kinds_of nodes source)))
+    → CanCopy nodes figures body net wires
+can_copies nodes figures id source body node old net leaves wires plan at named for can has = record {
   each = λ k wire at_wire.
-      let x = h.fronts.wires k wire at_wire in
-      (can_body nodes figures w.id (Window w.source w.body w.size w.advance) old leaves plan at can w.source w.body wire net refl refl
-      (body_leaves net wire (kinds_of nodes w.source) x.0 (x.1 ∙ h.gives.same_widths) (shape_of nodes w.body).leaves
-      ((plan.fits w.id (Window w.source w.body w.size w.advance) at).suits.0.leaves))).can;
+      let x = has k wire at_wire in
+      (can_body nodes figures id node old leaves plan at can source body wire net named
+      (body_leaves net wire (kinds_of nodes source) x.0 x.1 (shape_of nodes body).leaves for.leaves)).can;
 }
 
 -- also once others are put
@@ -70,7 +71,6 @@ can_copy nodes figures body old new wires k w keeps h at =
     let x = h.each k w at in
     record {
       within = x.within;
-      groupless = x.groupless;
       figured = x.figured;
       leaved = leaves_kept old new (w ∷ []) (shape_of nodes body).leaves keeps x.leaved;
     }

@@ -1,8 +1,10 @@
 pub mod CanLemmas
+pub mod BodyLemmas
 pub mod CopyLemmas
+pub mod GroupCosts
+pub mod GroupLemmas
 pub mod CostLemmas
 pub mod GivesLemmas
-pub mod GroupLemmas
 pub mod LeafLemmas
 pub mod PairLemmas
 pub mod RowLemmas

@@ -27,7 +27,7 @@ use Rattle.gl_wire.proofs.DelayLemmas.{spaced_closer}
 use Rattle.gl_wire.proofs.ServingLemmas.{serving_as, serving_lines, serving_then}
 use Rattle.gl_plan_wiring.specs.Leaves.{leaf, widths_of}
 use Rattle.gl_plan_wiring.specs.Put.{GivesAs}
-use Rattle.gl_plan_wiring.specs.Windows.{IsSpacedFor, LeavesRoom, cost_of_spaced, paceless}
+use Rattle.gl_plan_wiring.specs.Copies.{IsSpacedFor, LeavesRoom, cost_of_spaced, paceless}
 
 -- where one is needed, a spacer stands
 module _ (old new : Net) (gap : ℕ) (f : Figures) (a b : Emitted) (needed : needs_spacer gap f ≡ true) (narrow : AreNarrow (widths a.wire.columns))

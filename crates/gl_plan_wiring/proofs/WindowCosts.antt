@@ -13,13 +13,15 @@ use Rattle.gl_algebra.specs.Shapes.{kinds_of}
 use Rattle.gl_algebra.specs.Weights.{weight_of, weight_of_copies}
 use Rattle.gl_algebra.proofs.TableLemmas.{nodes_follow_tables}
 use Rattle.gl_net.specs.Net.{Net}
-use Rattle.gl_windows.specs.Costs.{IsCounted, cost_of_back, cost_of_front, cost_of_rotation, counted_for}
+use Rattle.gl_windows.specs.Costs.{IsCounted, cost_of_front, cost_of_rotation, counted_for}
+use Rattle.gl_registers.specs.Joins.{cost_of_back}
 use Rattle.gl_windows.proofs.CostLemmas.{rotations_are_counted}
 use Rattle.gl_wire.specs.Costs.{Cost, CostsAtMost}
 use Rattle.gl_plan_wiring.specs.declared.windows.WindowOf.{WindowOf}
 use Rattle.gl_plan_wiring.specs.Leaves.{widths_of}
 use Rattle.gl_plan_wiring.specs.Put.{counted}
-use Rattle.gl_plan_wiring.specs.Windows.{IsWindow, cost_of_spaced, cost_to_front, times}
+use Rattle.gl_plan_wiring.specs.Windows.{IsWindow, cost_to_front}
+use Rattle.gl_plan_wiring.specs.Copies.{cost_of_spaced, times}
 use Rattle.gl_plan_wiring.proofs.CostLemmas.{costs_then, narrow_kinds}
 
 -- nodes, bits of registers, and bits of memories

@@ -1,3 +1,4 @@
+pub mod Copies
 pub mod Groups
 pub mod Leaves
 pub mod Put

@@ -7,7 +7,7 @@ use Rattle.gl_algebra.specs.FigureTable.{figures_of}
 use Rattle.gl_algebra.specs.Results.{Meaning, IsPlanResult}
 use Rattle.gl_algebra.specs.Shapes.{Shape, kinds_of, shape_of}
 use Rattle.gl_algebra.specs.Small.{AreFigures}
-use Rattle.gl_algebra.specs.Weights.{copies_of, weight_of}
+use Rattle.gl_algebra.specs.Weights.{weight_of}
 use Rattle.gl_net.specs.Net.{Net, Run, IsRun, Keeps}
 use Rattle.gl_wire.specs.declared.emitted.Emitted.{Emitted}
 use Rattle.gl_wire.specs.declared.wire.Wire.{Wire}
@@ -17,21 +17,15 @@ use Rattle.gl_wire.specs.Faults.{AreLines, lines_of}
 use Rattle.gl_wire.specs.Pace.{KeepsPace}
 use Rattle.gl_wire.specs.Serving.{Serving, inputs_at}
 use Rattle.gl_wire.specs.Wire.{IsWire, carried, widths}
-use Rattle.gl_plan_wiring.specs.Groups.{HasNoGroup}
 use Rattle.gl_plan_wiring.specs.Leaves.{HaveLeaves, LeavesFit, leaf, widths_of}
-
--- no window and no group stands under a node: its circuit has no copy of a body
-abbrev pub IsFlat : List PlanNode → ℕ → Type 0
-IsFlat nodes id = copies_of nodes id ≡ 0
 
 -- what a plan counts for the circuit of a node: nodes, bits of registers, bits of memories
 abbrev pub counted : List PlanNode → ℕ → Cost
 counted nodes id = record { nodes = weight_of nodes id; registers = 64 * lean_of nodes id; memories = store_of nodes id }
 
--- a node can be put: no group stands under it, the figures are those of all nodes, and each of its leaves has a wire
+-- a node can be put: the figures are those of all nodes, and each of its leaves has a wire
 pub record CanPut (nodes : List PlanNode) (figures : List Figures) (id : ℕ) (net : Net) (leaves : List Wire) : Type 0 where
   pub within : id < length nodes
-  pub groupless : HasNoGroup nodes id
   pub figured : AreFigures nodes figures
   pub leaved : HaveLeaves net leaves (shape_of nodes id).leaves
 

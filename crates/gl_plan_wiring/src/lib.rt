@@ -3,6 +3,7 @@
 #![tactic(auto)]
 
 mod arms;
+pub mod groups;
 pub mod put;
 pub mod windows;
 

@@ -1,13 +1,15 @@
 //! The circuit of a node.
 
-ghost use Rattle.std.specs.Prelude.{◌≡◌, ◌<◌, IfOk, Some, length, slice_get};
-ghost use Rattle.gl_plan_wiring.specs.Leaves.{};
+ghost use Rattle.std.specs.Prelude.{IfOk, length};
 ghost use Rattle.gl_plan_wiring.specs.Put.{CanPut, IsPut};
-ghost use Rattle.gl_plan_wiring.specs.Windows.{AreBodies, CanCopy, IsWindow};
+ghost use Rattle.gl_plan_wiring.specs.Groups.{IsGroupNode};
+ghost use Rattle.gl_plan_wiring.specs.Windows.{IsWindow};
+ghost use Rattle.gl_plan_wiring.specs.Copies.{AreBodies, CanCopy};
 
 use crate::arms::{
     aggregate_node, beside_node, compute_node, leaf_of, project_node, select_node, union_node,
 };
+use crate::groups::GroupOf;
 use crate::windows::{Copies, WindowOf};
 use gl_algebra::{Figures, Plan, PlanId, PlanNode};
 use gl_bits::Memory;
@@ -19,8 +21,7 @@ use std::slice::from_ref;
 /// Adds the circuit of a node behind those of its children, once for each use of a node, and gives its wire and its lines.
 ///
 /// The figures are those of all nodes, as `gl_figures` writes them. The leaves are the wires of the streams, by the streams' numbers;
-/// a body's input is the wire at place 0. No group stands under the node. Want of memory is the one other answer; what the builder
-/// then holds is not said.
+/// a body's input is the wire at place 0. Want of memory is the one other answer; what the builder then holds is not said.
 #[cycle(put)]
 #[tactic(auto, using(crate::proofs::CanLemmas::put_columns))]
 pub fn put_node(
@@ -84,7 +85,21 @@ pub fn put_node(
             };
             put_window(alloc, net, plan, figures, window, leaves)
         }
-        PlanNode::Group { .. } => unreachable!(),
+        PlanNode::Group {
+            source,
+            body,
+            key,
+            groups,
+        } => {
+            let group = GroupOf {
+                id,
+                source: *source,
+                body: *body,
+                key: *key,
+                groups: *groups,
+            };
+            put_group(alloc, net, plan, figures, group, leaves)
+        }
     }
 }
 
@@ -115,6 +130,35 @@ fn put_window(
         front.wires.as_slice(),
     )?;
     window.back(alloc, net, plan, figures, &front, copies.as_slice())
+}
+
+// Adds the circuit of a group in the same way.
+#[cycle(put)]
+#[tactic(auto, using(crate::proofs::CanLemmas::put_columns))]
+fn put_group(
+    alloc: Global,
+    net: &mut NetBuilder,
+    plan: &Plan,
+    figures: &[Figures],
+    group: GroupOf,
+    leaves: &[Wire],
+) -> Result<Emitted, Memory>
+    requires node { IsGroupNode plan.now group }
+    requires can { CanPut plan.now figures.now group.id net.old leaves.now }
+    ensures { IfOk result (λ e. IsPut plan.now group.id net.old net.new leaves.now e) }
+{
+    let _ = plan.len();
+    let below = put_node(alloc, net, plan, figures, group.source, leaves)?;
+    let front = group.front(alloc, net, plan, figures, below)?;
+    let copies = put_copies(
+        alloc,
+        net,
+        plan,
+        figures,
+        group.body,
+        front.wires.as_slice(),
+    )?;
+    group.back(alloc, net, plan, figures, &front, copies.as_slice())
 }
 
 // Adds a body's circuit behind each of these wires.

@@ -6,12 +6,14 @@ ghost use Rattle.gl_algebra.specs.Fits.{copies_of_window};
 ghost use Rattle.gl_algebra.specs.Small.{AreFigures};
 ghost use Rattle.gl_net.specs.Net.{Net};
 ghost use Rattle.gl_queue.specs.Counted.{AreNarrow};
-ghost use Rattle.gl_windows.specs.Rotations.{AreCopies, Fronts, IsRotation};
+ghost use Rattle.gl_windows.specs.Rotations.{Fronts, IsRotation};
+ghost use Rattle.gl_registers.specs.Joins.{AreCopies};
 ghost use Rattle.gl_wire.specs.declared.wire.Wire.{Wire as WireOf};
 ghost use Rattle.gl_wire.specs.Faults.{AreLines};
 ghost use Rattle.gl_wire.specs.Wire.{IsWire, widths};
 ghost use Rattle.gl_plan_wiring.specs.Put.{HasColumns, IsPut};
-ghost use Rattle.gl_plan_wiring.specs.Windows.{AreBehind, IsFrontOf, IsSpacedFor, IsWindow, rotation_of};
+ghost use Rattle.gl_plan_wiring.specs.Windows.{AreBehind, IsFrontOf, IsWindow, rotation_of};
+ghost use Rattle.gl_plan_wiring.specs.Copies.{IsSpacedFor};
 
 use crate::arms::figures_at;
 use gl_algebra::{Figures, Plan, PlanId, table};
@@ -47,8 +49,8 @@ fn needs_spacer(gap: u32, source: &Figures) -> bool
     1 < gap && source.a < source.le
 }
 
-// The rows of a source, behind a spacer where they may come closer than the gap.
-fn put_apart(
+/// The rows of a source, behind a spacer where they may come closer than the gap.
+pub(crate) fn put_apart(
     alloc: Global,
     net: &mut NetBuilder,
     source: Figures,

@@ -6,3 +6,4 @@ pub mod LineLemmas
 pub mod RowLemmas
 pub mod TimerLemmas
 pub mod BackLemmas
+pub mod JoinLemmas

@@ -6,3 +6,4 @@ pub mod Lines
 pub mod Rows
 pub mod Timers
 pub mod Backs
+pub mod Joins

@@ -5,6 +5,7 @@
 
 pub mod back;
 pub mod counters;
+pub mod joins;
 pub mod lines;
 pub mod numbers;
 pub mod registers;
@@ -13,6 +14,7 @@ pub mod timers;
 
 pub use back::{choose_row, join_copies};
 pub use counters::{count_down, hold, latch, next_count, next_pointer, pointer};
+pub use joins::{join_all, join_lines};
 pub use lines::{Bits, LineOp, any, buses_with, decode, gate, lines_of, pairwise, with_all};
 pub use numbers::{always, never, number_at, number_or, when_equal, word};
 pub use registers::{drive_all, open_all};

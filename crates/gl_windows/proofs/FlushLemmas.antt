@@ -12,7 +12,7 @@ use Rattle.gl_windows.specs.Front.{Front, opening, closing, closed_by, counted, 
 use Rattle.gl_windows.specs.Firsts.{firsts}
 use Rattle.gl_windows.proofs.Setting.{Setting}
 use Rattle.gl_windows.proofs.SliceLemmas.{mod_apart, firsts-grown}
-use Rattle.gl_windows.proofs.VisitLemmas.{visits_none}
+use Rattle.gl_copies.proofs.VisitLemmas.{visits_none}
 use Rattle.gl_windows.proofs.CopyLemmas.{Step, Copies, within, copies_next, ended_stream, of_visit, did, did_none, did_one}
 use Rattle.gl_windows.proofs.FlowLemmas.{Flow, Mid, flow_mid}
 

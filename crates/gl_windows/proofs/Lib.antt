@@ -3,7 +3,6 @@ pub mod TurnLemmas
 pub mod PartLemmas
 pub mod FrontNet
 pub mod SliceLemmas
-pub mod VisitLemmas
 pub mod Setting
 pub mod CopyLemmas
 pub mod FlowLemmas
@@ -13,5 +12,4 @@ pub mod SourceLemmas
 pub mod ScheduleLemmas
 pub mod WindowLemmas
 pub mod CostLemmas
-pub mod JoinLemmas
 pub mod RotationNet

@@ -20,9 +20,9 @@ use Rattle.gl_registers.specs.Timers.{IsClose, IsCloseLine}
 use Rattle.gl_registers.proofs.LineLemmas.{bit_kept}
 use Rattle.gl_windows.specs.declared.rotation.Fronted.{Fronted}
 use Rattle.gl_windows.specs.declared.rotation.Rotation.{Rotation}
-use Rattle.gl_windows.specs.Costs.{cost_of_back}
 use Rattle.gl_windows.specs.Front.{IsFront}
-use Rattle.gl_windows.specs.Rotations.{AreFronts, Fronts, IsBacked, IsFronted, IsRotation, JoinsAll, columns_of, gives_of, told_of}
+use Rattle.gl_windows.specs.Rotations.{AreFronts, Fronts, IsBacked, IsFronted, IsRotation}
+use Rattle.gl_registers.specs.Joins.{columns_of, cost_of_back, gives_of, JoinsAll, told_of}
 use Rattle.gl_windows.proofs.WindowLemmas.{rotations_serve}
 
 -- wires of a front and a line of ends behind it

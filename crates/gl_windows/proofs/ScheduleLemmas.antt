@@ -8,10 +8,11 @@ use Rattle.gl_wire.specs.Wire.{Carried}
 use Rattle.gl_copies.specs.Lift.{Visits, Schedules}
 use Rattle.gl_windows.specs.Front.{Front, closing, taken, mid, closes, oldest, who_ends}
 use Rattle.gl_windows.proofs.Setting.{Setting}
-use Rattle.gl_windows.proofs.SliceLemmas.{mod_apart, mul_below}
+use Rattle.gl_windows.proofs.SliceLemmas.{mod_apart}
+use Rattle.gl_copies.proofs.NumberLemmas.{mul_below}
 use Rattle.gl_algebra.specs.declared.figures.Figures.{Figures}
 use Rattle.gl_wire.specs.Beats.{beats_of, gap}
-use Rattle.gl_windows.proofs.VisitLemmas.{BeatOf, its_end, its_tuple, beat_of}
+use Rattle.gl_copies.proofs.VisitLemmas.{BeatOf, its_end, its_tuple, beat_of}
 use Rattle.gl_windows.proofs.CopyLemmas.{within}
 use Rattle.gl_windows.proofs.SourceLemmas.{Turn, Source, comes, in_turn, source}
 

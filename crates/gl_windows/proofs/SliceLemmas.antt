@@ -29,10 +29,6 @@ mod_hits count base k l =
       | inr m ↦ (base / count * count + k, omega (arith, is, m), omega (arith, is, l), mod-mul-add (base / count) count k l)
     ]
 
--- of two products the lesser has the lesser factor
-pub mul_below : (d q n : ℕ) → d * n < q * n → d < q
-mul_below d q n h = elim (cases_lt d q) [ inl l ↦ l | inr l ↦ absurd (let z : q * n ≤ d * n = mul-le-mul_right n l in omega (arith, z, h)) ]
-
 -- a part that is full stays as the list grows
 pub part-grown : {A : Type 0} (size from : ℕ) (xs ys : List A) → from + size ≤ length xs → part size from (xs ++ ys) ≡ part size from xs
 part-grown size from xs ys h =

@@ -25,6 +25,7 @@ use Rattle.gl_registers.specs.Registers.{word_widths, Opens, MayDrive, DrivesAll
 use Rattle.gl_registers.proofs.CounterLemmas.{pointer_by}
 use Rattle.gl_registers.proofs.RegisterLemmas.{widths_more, place_in, get_take, closed_up, length_taken}
 use Rattle.gl_registers.proofs.LineLemmas.{bits_kept, line_of-get}
+use Rattle.gl_registers.proofs.ListLemmas.{from_map}
 
 pairs_by : (op : LineOp) (a b : Net) (n count : ℕ) (xs ys bs : List Bit) → AddsLines a b n 1 bs (pairs op xs ys) → n ≡ count → AddsLines a b count 1 bs (pairs op xs ys)
 pairs_by op a b n count xs ys bs h e = subst (λ (m : ℕ). AddsLines a b m 1 bs (pairs op xs ys)) e h
@@ -83,11 +84,6 @@ take_get xs zero k x h l = absurd (omega (arith, l))
 take_get [] (suc n) k x h l = absurd (cc)
 take_get (y ∷ xs) (suc n) zero x h l = h
 take_get (y ∷ xs) (suc n) (suc k) x h l = take_get xs n k x h (omega (arith, l))
-
-pub from_map : {A B : Type 0} (f : A → B) (xs : List A) (k : ℕ) (y : B) → slice_get (map f xs) k ≡ Some y → (x : A) × (slice_get xs k ≡ Some x) × (f x ≡ y)
-from_map f [] k y h = absurd (cc)
-from_map f (x ∷ xs) zero y h = (x, refl, cc)
-from_map f (x ∷ xs) (suc k) y h = from_map f xs k y h
 
 line_of-first : (run : Run) (bs : List Bit) (k : ℕ) → line_of run bs k 0 ≡ false
 unfolding line_of line_at

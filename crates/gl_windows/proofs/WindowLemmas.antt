@@ -26,7 +26,8 @@ use Rattle.gl_copies.proofs.WholeServes.{whole_lines}
 use Rattle.gl_registers.specs.Timers.{IsClose}
 use Rattle.gl_windows.specs.Front.{IsFront, who_ends}
 use Rattle.gl_windows.specs.Laws.{RotationsServe, WindowsRotate}
-use Rattle.gl_windows.specs.Rotations.{OfBody}
+use Rattle.gl_copies.specs.Bodies.{OfBody}
+use Rattle.gl_copies.proofs.NumberLemmas.{all_turns}
 use Rattle.gl_windows.proofs.Setting.{Setting}
 use Rattle.gl_windows.proofs.PhaseLemmas.{many_windows, empty_copies, from_by, from_begins, from_parted}
 use Rattle.gl_windows.proofs.SourceLemmas.{Source, comes, in_turn, source, few_windows}
@@ -35,12 +36,6 @@ use Rattle.gl_windows.proofs.ScheduleLemmas.{schedules, visit_source, tuple_sour
 -- the gap after an end that a front of windows wants
 abbrev pub rest_gap : ℕ → Figures → ℕ
 rest_gap count s = (count - 1) * stride_of s + s.ge + 1
-
-all_turns : (count n : ℕ) → 1 ≤ count → (count - 1) * n + n ≡ count * n
-all_turns count n some =
-    let e : suc (count - 1) ≡ count = omega (arith, some) in
-    let d : (count - 1) * n + n ≡ suc (count - 1) * n = omega arith in
-    d ∙ ap (λ z. z * n) e
 
 flush_fits : (count : ℕ) (s : Figures) → 1 ≤ count → IsSound s → count * stride_of s + 1 ≤ rest_gap count s
 flush_fits count s some sound = omega (arith, all_turns count (stride_of s) some, sound.end_gap)

@@ -3,20 +3,13 @@ use Rattle.std.specs.Prelude.{◌≡◌, ℕ, ◌+◌, ◌*◌, ◌≤◌, List,
 use Rattle.std.specs.List.{All, sum}
 use Rattle.gl_algebra.specs.Weights.{weight_of_copies}
 use Rattle.gl_wire.specs.Costs.{Cost}
+use Rattle.gl_registers.specs.Joins.{cost_of_back}
 
 -- a front of so many copies over a source of these columns, and the line of ends, which comes so many cycles behind a timer
 abbrev pub cost_of_front : ℕ → ℕ → List ℕ → Cost
 cost_of_front copies delay source = record {
   nodes = copies * 16 + length source * 2 + delay + 90;
   registers = copies * 3 + sum source + delay + 195;
-  memories = 0;
-}
-
--- a back of so many copies, which give these columns, and the lines of all copies
-abbrev pub cost_of_back : ℕ → List ℕ → Cost
-cost_of_back copies own = record {
-  nodes = copies * 2 + copies * (length own + 1) + length own + 3;
-  registers = sum own + 2;
   memories = 0;
 }
 

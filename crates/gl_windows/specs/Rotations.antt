@@ -1,34 +1,31 @@
 -- A rotation of windows over copies of a body, in a netlist: the front before the copies, the back behind them, and what both serve.
-use Rattle.std.specs.Prelude.{◌≡◌, ℕ, ◌+◌, ◌*◌, ◌^◌, ◌<◌, ◌≤◌, List, [], ◌∷◌, length, map, Option, Some, None, slice_get}
+use Rattle.std.specs.Prelude.{◌≡◌, ℕ, ◌+◌, ◌*◌, ◌^◌, ◌<◌, ◌≤◌, List, length, Some, slice_get}
 use Rattle.std.specs.List.{sum}
 use Rattle.gl_algebra.specs.declared.figures.Figures.{Figures}
 use Rattle.gl_algebra.specs.declared.node.PlanNode.{PlanNode}
 use Rattle.gl_algebra.specs.FigureTable.{IsSound, stride_of, window_gap, windows_over}
-use Rattle.gl_algebra.specs.Results.{Inputs, IsPlanResult}
 use Rattle.gl_bits.specs.Lists.{slices}
-use Rattle.gl_bits.specs.Results.{Row, Results, AreJoined}
-use Rattle.gl_net.specs.declared.node.Bit.{Bit}
+use Rattle.gl_bits.specs.Results.{AreJoined}
 use Rattle.gl_net.specs.Net.{Net, Run, IsRun, IsBit, Keeps}
 use Rattle.gl_wire.specs.declared.emitted.Emitted.{Emitted}
-use Rattle.gl_wire.specs.declared.emitted.Faults.{Faults}
 use Rattle.gl_wire.specs.declared.wire.Wire.{Wire}
 use Rattle.gl_wire.specs.Apart.{CarriesApart}
 use Rattle.gl_wire.specs.Beats.{Beats, Spaced, beats_of}
-use Rattle.gl_wire.specs.Costs.{Costs, CostsAtMost, nodes_alone}
+use Rattle.gl_wire.specs.Costs.{Costs, CostsAtMost}
 use Rattle.gl_wire.specs.Faults.{AreLines, lines_of}
 use Rattle.gl_wire.specs.Serves.{Fits}
 use Rattle.gl_wire.specs.Serving.{Serving}
-use Rattle.gl_wire.specs.Shapes.{IsDelayed}
-use Rattle.gl_wire.specs.Spills.{Lines, SameLines, ServedWithLines, both_lines, no_lines}
+use Rattle.gl_wire.specs.Spills.{Lines, SameLines, ServedWithLines, both_lines}
 use Rattle.gl_wire.specs.Wire.{Carried, IsWire, carried, line_at, stream, widths}
-use Rattle.gl_copies.specs.Lift.{tuple_of_any}
 use Rattle.gl_copies.specs.Rotates.{flush_of, lines_of_all}
 use Rattle.gl_registers.specs.Held.{with_registers}
 use Rattle.gl_registers.specs.Lines.{carried_of}
 use Rattle.gl_registers.specs.Timers.{IsClose}
 use Rattle.gl_windows.specs.declared.rotation.Fronted.{Fronted}
 use Rattle.gl_windows.specs.declared.rotation.Rotation.{Rotation}
-use Rattle.gl_windows.specs.Costs.{cost_of_back, cost_of_front}
+use Rattle.gl_windows.specs.Costs.{cost_of_front}
+use Rattle.gl_registers.specs.Joins.{columns_of, cost_of_back, gives_of, told_of}
+use Rattle.gl_copies.specs.Bodies.{OfBody}
 use Rattle.gl_windows.specs.Front.{IsFront}
 
 -- numbers of a rotation: there are copies for all windows that can be open at once, the body waits for the end, and a flush can be timed
@@ -71,62 +68,6 @@ pub record IsFronted (old new : Net) (r : Rotation) (source : Emitted) (f : Fron
   pub cost : Costs old new (cost_of_front r.copies r.body.a (widths source.wire.columns))
   pub same : f.source ≡ source
   pub fronts : Fronts new r f
-
--- the wires of copies, and what they give
-abbrev pub wires_of : List Emitted → List Wire
-wires_of copies = map (λ e. e.wire) copies
-
-abbrev pub gives_of : Run → List Emitted → ℕ → Carried
-gives_of run copies = carried_of run (wires_of copies)
-
--- the lines of a copy
-abbrev pub told_by : Run → Option Emitted → Lines
-told_by run None = no_lines
-told_by run (Some e) = lines_of run e.faults
-
-abbrev pub told_of : Run → List Emitted → ℕ → Lines
-told_of run copies k = told_by run (slice_get copies k)
-
--- the columns of copies, those of the first one
-abbrev pub columns_of : List Emitted → List ℕ
-columns_of [] = []
-columns_of (e ∷ es) = widths e.wire.columns
-
--- the lines of copies are in the netlist
-pub record HaveLines (net : Net) (copies : List Emitted) : Type 0 where
-  pub each : (k : ℕ) (e : Emitted) → slice_get copies k ≡ Some e → AreLines net e.faults
-
--- copies with the same columns are in the netlist
-pub record AreCopies (net : Net) (copies : List Emitted) : Type 0 where
-  pub each : (k : ℕ) (e : Emitted) → slice_get copies k ≡ Some e → IsWire net e.wire
-  pub same_widths : (k : ℕ) (e : Emitted) → slice_get copies k ≡ Some e → widths e.wire.columns ≡ columns_of copies
-  pub lines : HaveLines net copies
-
--- the lines of a source and of the first n copies together
-pub record JoinsLines (old new : Net) (source : Faults) (copies : List Emitted) (n : ℕ) (faults : Faults) : Type 0 where
-  pub keeps : Keeps old new
-  pub cost : CostsAtMost old new (nodes_alone (n * 2))
-  pub are : AreLines new faults
-  pub told : (run : Run) → IsRun new run → SameLines (lines_of run faults) (both_lines (lines_of run source) (lines_of_all (told_of run copies) n))
-
--- a wire behind copies, and all their lines
-pub record JoinsAll (old new : Net) (source : Faults) (close : Bit) (copies : List Emitted) (e : Emitted) : Type 0 where
-  pub keeps : Keeps old new
-  pub cost : CostsAtMost old new (cost_of_back (length copies) (columns_of copies))
-  pub wire : IsWire new e.wire
-  pub same_widths : widths e.wire.columns ≡ columns_of copies
-  pub lines : AreLines new e.faults
-  pub told : (run : Run) → IsRun new run
-      → SameLines (lines_of run e.faults) (both_lines (lines_of run source) (lines_of_all (told_of run copies) (length copies)))
-  pub delayed : (run : Run) → IsRun new run
-      → IsDelayed 1 (record { tuple = tuple_of_any (gives_of run copies) (length copies); ends = line_at run close }) (carried run e.wire)
-
--- what a body of a plan makes of rows that are given to it alone
-abbrev pub alone : List Row → Inputs
-alone rows = record { streams = λ number. []; body = rows }
-
-abbrev pub OfBody : List PlanNode → ℕ → List Row → Results
-OfBody nodes body rows = IsPlanResult nodes body (alone rows)
 
 -- wherever each copy gives a body's results over the beats of its own wire, the whole gives those of all windows, joined, over all beats
 -- that are spaced by the whole's figures, of a source that fits its own and carries far enough apart

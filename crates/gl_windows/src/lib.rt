@@ -4,7 +4,6 @@
 #![tactic(auto)]
 
 pub mod front;
-pub mod joins;
 pub mod laws;
 pub mod parts;
 pub mod rotation;

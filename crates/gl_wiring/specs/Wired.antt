@@ -11,7 +11,6 @@ use Rattle.gl_algebra.specs.declared.figures.Figures.{Figures}
 use Rattle.gl_algebra.specs.declared.node.PlanNode.{PlanNode}
 use Rattle.gl_net.specs.Net.{Net, Run, IsTrace, memory_bits_of, register_bits_of, size_of}
 use Rattle.gl_net.specs.PortValues.{input_values, port_shapes, port_values}
-use Rattle.gl_plan_wiring.specs.Put.{IsFlat}
 use Rattle.gl_schema.specs.Beats as beats
 use Rattle.gl_schema.specs.Beats.{Beat, AreBeats, KeepsGap}
 use Rattle.gl_schema.specs.Names.{IsName}
@@ -50,11 +49,10 @@ pub record AreResultNames (many : ℕ) (names : ResultNames) : Type 0 where
   pub columns : AllByRecursion IsName names.columns
   pub distinct : IsDistinct bytes_eq names.columns
 
--- a plan that can be wired: no window and no group stands under the root, and its leaves are streams of the schema
+-- a plan that can be wired: its leaves are streams of the schema
 pub record CanWire (schema : Schema) (nodes : List PlanNode) (root : ℕ) (figures : List Figures) (names : ResultNames) : Type 0 where
   pub schema' : IsSchema schema
   pub within : root < length nodes
-  pub flat : IsFlat nodes root
   pub leaves : AreStreamLeaves schema.streams (shape_of nodes root).leaves
   pub figured : AreFigures nodes figures
   pub named : AreResultNames (length (kinds_of nodes root)) names

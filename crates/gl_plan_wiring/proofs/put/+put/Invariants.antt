@@ -1,5 +1,5 @@
 use Rattle.std.proofs.Common.{◌+◌, ◌*◌}
-use Rattle.gl_plan_wiring.specs.Windows.{AreBodies}
+use Rattle.gl_plan_wiring.specs.Copies.{AreBodies}
 use Rattle.gl_plan_wiring.proofs.put.+put.Given as goal
 
 abbrev pub decreases-put_node : goal.decreases-put_node
@@ -7,6 +7,9 @@ decreases-put_node l = 3 * l.id + 2
 
 abbrev pub decreases-put_window : goal.decreases-put_window
 decreases-put_window l = 3 * l.window.id + 1
+
+abbrev pub decreases-put_group : goal.decreases-put_group
+decreases-put_group l = 3 * l.group.id + 1
 
 abbrev pub decreases-put_copies : goal.decreases-put_copies
 decreases-put_copies l = 3 * l.body + 3

@@ -1,7 +1,6 @@
 use Rattle.std.proofs.Common.{ℕ, List, [], sym, subst}
 use Rattle.gl_algebra.specs.Shapes.{kinds_of, shape_of}
 use Rattle.gl_plan_wiring.specs.Leaves.{widths_of}
-use Rattle.gl_plan_wiring.proofs.GroupLemmas.{flat_has_no_group}
 use Rattle.gl_wire.specs.Wire.{widths}
 use Rattle.gl_wiring.specs.Emitted.{Extends, Puts}
 use Rattle.gl_wiring.specs.Output.{IsOutput, input_ports, output_ports, plan_ports}
@@ -21,7 +20,6 @@ put_node-requires c =
     let wires : AreStreamWires net ss c.deref.result.now = subst (AreStreamWires net ss) (sym c.deref.ensures.value) c.in_ok-leaves.ensures.wires in
     record {
       within = can.within;
-      groupless = flat_has_no_group c.args.plan.now c.args.root c.len.ensures.plan can.within can.flat;
       figured = can.figured;
       leaved = leaves_have net ss c.deref.result.now (shape_of c.args.plan.now c.args.root).leaves wires can.leaves;
     }

@@ -1,0 +1,11 @@
+-- What a body of a plan makes of rows that are given to it alone.
+use Rattle.std.specs.Prelude.{ℕ, List, []}
+use Rattle.gl_algebra.specs.declared.node.PlanNode.{PlanNode}
+use Rattle.gl_algebra.specs.Results.{Inputs, IsPlanResult}
+use Rattle.gl_bits.specs.Results.{Row, Results}
+
+abbrev pub alone : List Row → Inputs
+alone rows = record { streams = λ number. []; body = rows }
+
+abbrev pub OfBody : List PlanNode → ℕ → List Row → Results
+OfBody nodes body rows = IsPlanResult nodes body (alone rows)

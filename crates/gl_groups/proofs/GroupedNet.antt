@@ -1,0 +1,116 @@
+-- A front and a back in a netlist, from their parts, and what they serve.
+use Rattle.std.proofs.Common.{◌≡◌, ℕ, ◌+◌, ◌<◌, ◌≤◌, List, [], ◌∷◌, length, Some, refl, sym, ap, ◌∙◌, subst, arith}
+use Rattle.std.specs.Prelude.{slice_get}
+use Rattle.gl_algebra.specs.FigureTable.{stride_of}
+use Rattle.gl_net.specs.declared.node.Bit.{Bit}
+use Rattle.gl_net.specs.declared.node.Bus.{Bus}
+use Rattle.gl_net.specs.Net.{Net, Run, Keeps}
+use Rattle.gl_net.proofs.Determined.{keeps_then}
+use Rattle.gl_wire.specs.declared.emitted.Emitted.{Emitted}
+use Rattle.gl_wire.specs.Costs.{CostsAtMost}
+use Rattle.gl_wire.specs.Faults.{AreLines, lines_of}
+use Rattle.gl_wire.specs.Shapes.{IsDelayed}
+use Rattle.gl_wire.specs.Spills.{SameLines, both_lines}
+use Rattle.gl_wire.specs.Wire.{IsWire, carried, line_at}
+use Rattle.gl_wire.proofs.ColumnLemmas.{bus_kept, wire_kept}
+use Rattle.gl_wire.proofs.FaultLemmas.{lines_kept}
+use Rattle.gl_copies.specs.Lift.{tuple_of_any}
+use Rattle.gl_copies.specs.Rotates.{lines_of_all}
+use Rattle.gl_registers.specs.Lines.{carried_of}
+use Rattle.gl_registers.specs.Timers.{IsClose, IsCloseLine}
+use Rattle.gl_registers.proofs.LineLemmas.{bit_kept}
+use Rattle.gl_groups.specs.declared.front.Front.{Front}
+use Rattle.gl_groups.specs.declared.grouping.Fronted.{Fronted}
+use Rattle.gl_groups.specs.declared.grouping.Grouping.{Grouping}
+use Rattle.gl_groups.specs.Chain.{held_of}
+use Rattle.gl_groups.specs.Costs.{cost_of_back}
+use Rattle.gl_groups.specs.Fronts.{AddsFront, IsFront}
+use Rattle.gl_groups.specs.Grouped.{Fronts, IsBacked, IsFronted, columns_with_key, key_width}
+use Rattle.gl_groups.specs.Groupings.{IsGrouping, close_cycles, close_delay, line_of_further, with_keys}
+use Rattle.gl_groups.specs.Joins.{AreKeyBuses, JoinsAll, width_of_keys}
+use Rattle.gl_registers.specs.Joins.{columns_of, gives_of, told_of}
+use Rattle.gl_groups.proofs.GroupLemmas.{groupings_serve}
+
+-- wires and keys of a front, and a line of ends behind it
+pub is_fronted : (old mid new : Net) (r : Grouping) (source : Emitted) (g : Front) (close : Bit) (stride cycles : ℕ) → stride ≡ stride_of r.body → cycles ≡ close_cycles r
+    → IsWire old source.wire → AreLines old source.faults → r.key < length source.wire.columns → AddsFront old mid r.key r.slots stride source.wire g → IsCloseLine mid new cycles 0 source.wire.eos close
+    → IsFronted old new r source (record { source = source; wires = g.wires; keys = g.keys; further = g.further; close = close })
+is_fronted old mid new r source g close stride cycles is_stride is_cycles wire lines key f c = record {
+  keeps = keeps_then old mid new f.keeps c.keeps;
+  cost = record {
+    nodes = omega (arith, f.cost.nodes, c.cost.nodes);
+    registers = omega (arith, f.cost.registers, c.cost.registers);
+    memories = omega (arith, f.cost.memories, c.cost.memories);
+  };
+  same = refl;
+  fronts = record {
+    source = wire_kept old new source.wire (keeps_then old mid new f.keeps c.keeps) wire;
+    lines = lines_kept old new source.faults (keeps_then old mid new f.keeps c.keeps) lines;
+    key = key;
+    as_many = f.as_many;
+    wires = λ k w h. let x = f.wires k w h in (wire_kept mid new w c.keeps x.0, x.1);
+    keys_count = f.keys_count;
+    keys = λ k b h. let x = f.keys k b h in (bus_kept mid new b c.keeps x.0, x.1);
+    further = bit_kept mid new g.further c.keeps f.further;
+    close = c.bit;
+    front = λ run z. (law run (f.law run (c.keeps.runs run z))).front;
+    shown = λ run z. (law run (f.law run (c.keeps.runs run z))).shown;
+    told = λ run z. (law run (f.law run (c.keeps.runs run z))).told;
+    closes = λ run z.
+        ap_close run (subst (λ (n : ℕ). IsClose n (n + 1 + 0) (line_at run source.wire.eos) (line_at run close)) is_cycles (c.close run z));
+  };
+}
+  where
+    law : (run : Run) → IsFront run r.key r.slots stride source.wire g → IsFront run r.key r.slots (stride_of r.body) source.wire g
+    law run h = subst (λ (n : ℕ). IsFront run r.key r.slots n source.wire g) is_stride h
+
+    ap_close : (run : Run) → IsClose (close_cycles r) (close_cycles r + 1 + 0) (line_at run source.wire.eos) (line_at run close) → IsClose (close_cycles r) (close_delay r) (line_at run source.wire.eos) (line_at run close)
+    ap_close run h = let e : close_cycles r + 1 + 0 ≡ close_delay r = omega arith in subst (λ (n : ℕ). IsClose (close_cycles r) n (line_at run source.wire.eos) (line_at run close)) e h
+
+-- a front stays one in a netlist that grows
+pub fronts_kept : (old new : Net) (r : Grouping) (f : Fronted) → Keeps old new → Fronts old r f → Fronts new r f
+fronts_kept old new r f keeps h = record {
+  source = wire_kept old new f.source.wire keeps h.source;
+  lines = lines_kept old new f.source.faults keeps h.lines;
+  key = h.key;
+  as_many = h.as_many;
+  wires = λ k w e. let x = h.wires k w e in (wire_kept old new w keeps x.0, x.1);
+  keys_count = h.keys_count;
+  keys = λ k b e. let x = h.keys k b e in (bus_kept old new b keeps x.0, x.1);
+  further = bit_kept old new f.further keeps h.further;
+  close = bit_kept old new f.close keeps h.close;
+  front = λ run z. h.front run (keeps.runs run z);
+  shown = λ run z. h.shown run (keeps.runs run z);
+  told = λ run z. h.told run (keeps.runs run z);
+  closes = λ run z. h.closes run (keeps.runs run z);
+}
+
+-- the keys of a front have the key column's width
+width_first : (keys : List Bus) (n : ℕ) → 1 ≤ length keys → ((k : ℕ) (b : Bus) → slice_get keys k ≡ Some b → b.width ≡ n) → width_of_keys keys ≡ n
+width_first [] n l h = absurd (omega (arith, l))
+width_first (b ∷ bs) n l h = h 0 b refl
+
+pub width_is : (net : Net) (r : Grouping) (f : Fronted) → IsGrouping r → Fronts net r f → width_of_keys f.keys ≡ key_width r f.source
+width_is net r f is h = width_first f.keys (key_width r f.source) (let m = h.keys_count in let s = is.some' in omega (arith, m, s)) (λ k b e. (h.keys k b e).1)
+
+pub keys_are : (net : Net) (r : Grouping) (f : Fronted) → IsGrouping r → Fronts net r f → AreKeyBuses net f.keys
+keys_are net r f is h = record { each = λ k b e. (h.keys k b e).0; same_width = λ k b e. (h.keys k b e).1 ∙ sym (width_is net r f is h) }
+
+-- a back behind copies of a front
+pub is_backed : (old new : Net) (r : Grouping) (f : Fronted) (copies : List Emitted) (e : Emitted) → IsGrouping r → Fronts old r f → length copies ≡ r.slots
+    → JoinsAll old new f.source.faults f.further f.close f.keys copies e → IsBacked old new r f copies e
+is_backed old new r f copies e is h many j = record {
+  keeps = j.keeps;
+  cost = subst (λ (n : ℕ). CostsAtMost old new (cost_of_back n (columns_with_key r f copies))) many
+      (subst (λ (n : ℕ). CostsAtMost old new (cost_of_back (length copies) (n ∷ columns_of copies))) (width_is old r f is h) j.cost);
+  wire = j.wire;
+  same_widths = j.same_widths ∙ ap (λ n. n ∷ columns_of copies) (width_is old r f is h);
+  lines = j.lines;
+  told = λ run z.
+      subst (λ (n : ℕ). SameLines (lines_of run e.faults) (both_lines (lines_of run f.source.faults) (both_lines (lines_of_all (told_of run copies) n) (line_of_further (line_at run f.further))))) many (j.told run z);
+  serves = λ run z source sound.
+      let run_old = j.keeps.runs run z in
+      groupings_serve r source (carried run f.source.wire) (carried run e.wire) (held_of run f.keys) (carried_of run f.wires) (gives_of run copies) (line_at run f.close) (line_at run f.further) (told_of run copies)
+      is sound (h.front run run_old) (h.shown run run_old) (h.told run run_old) (h.closes run run_old)
+      (subst (λ (n : ℕ). IsDelayed 1 (record { tuple = tuple_of_any (with_keys (held_of run f.keys) (gives_of run copies)) n; ends = line_at run f.close }) (carried run e.wire)) many (j.delayed run z));
+}

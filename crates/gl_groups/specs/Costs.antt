@@ -1,0 +1,51 @@
+-- What groups cost: their front with the line of ends, and their back.
+use Rattle.std.specs.Prelude.{◌≡◌, ℕ, ◌+◌, ◌*◌, ◌≤◌, List, length, slice_index}
+use Rattle.std.specs.List.{All, sum}
+use Rattle.gl_algebra.specs.Weights.{weight_of_copies}
+use Rattle.gl_wire.specs.Costs.{Cost}
+
+-- a front of so many slots over a source of these columns, with the key in one of them, and the line of ends behind a timer
+abbrev pub cost_of_front : ℕ → ℕ → List ℕ → Cost
+cost_of_front slots key source = record {
+  nodes = slots * 19 + length source * 2 + 61;
+  registers = slots * (slice_index source key + 3) + sum source + 100;
+  memories = 0;
+}
+
+-- a back of so many copies, which give these columns, the key among them, and all lines
+abbrev pub cost_of_back : ℕ → List ℕ → Cost
+cost_of_back copies own = record {
+  nodes = copies * 2 + copies * (length own + 1) + length own + 5;
+  registers = sum own + 2;
+  memories = 0;
+}
+
+-- both
+abbrev pub cost_of_grouping : ℕ → ℕ → List ℕ → List ℕ → Cost
+cost_of_grouping slots key source own =
+    let front = cost_of_front slots key source in
+    let back = cost_of_back slots own in
+    record {
+      nodes = front.nodes + back.nodes;
+      registers = front.registers + back.registers;
+      memories = front.memories + back.memories;
+    }
+
+abbrev pub AreNarrow : List ℕ → Type 0
+AreNarrow columns = All (λ w. w ≤ 64) columns
+
+-- a node for each of the weight, 64 bits of registers for each of it, and no memory
+pub record IsCounted (cost : Cost) (weight : ℕ) : Type 0 where
+  pub nodes : cost.nodes ≤ weight
+  pub registers : cost.registers ≤ 64 * weight
+  pub memories : cost.memories ≡ 0
+
+-- what a plan counts for what stands before and behind the copies of a body, bodies and spacer aside
+abbrev pub counted_for : ℕ → List ℕ → List ℕ → ℕ
+counted_for slots source own = weight_of_copies slots 0 (length source + 2) (length own + 2)
+
+-- the cost of groups is within it, where no column has more than 64 bits
+abbrev pub GroupingsAreCounted : Type 0
+GroupingsAreCounted =
+    (slots key : ℕ) (source own : List ℕ) → AreNarrow source → AreNarrow own
+    → IsCounted (cost_of_grouping slots key source own) (counted_for slots source own)

@@ -1,0 +1,71 @@
+-- A front of groups in a netlist: its wires, its keys and its own line.
+use Rattle.std.specs.Prelude.{◌≡◌, ℕ, suc, ◌+◌, ◌-◌, ◌*◌, ◌<◌, List, length, Some, slice_get, slice_index, if◌then◌else◌, nat_eq, ◌&&◌, ◌||◌}
+use Rattle.std.specs.List.{sum}
+use Rattle.gl_bits.specs.Results.{Row}
+use Rattle.gl_net.specs.declared.node.Bus.{Bus}
+use Rattle.gl_net.specs.declared.node.Bit.{Bit}
+use Rattle.gl_net.specs.Net.{Net, Run, IsRun, IsBit, IsBus, Keeps}
+use Rattle.gl_wire.specs.declared.wire.Wire.{Wire}
+use Rattle.gl_wire.specs.Costs.{Costs}
+use Rattle.gl_wire.specs.Wire.{AreBuses, IsWire, carried, line_at, row_at, widths}
+use Rattle.gl_registers.specs.Held.{counted_down, held_at, with_registers}
+use Rattle.gl_registers.specs.Lines.{AreBits, carried_of, line_of}
+use Rattle.gl_groups.specs.declared.front.Ending.{Ending}
+use Rattle.gl_groups.specs.declared.front.Front.{Front}
+use Rattle.gl_groups.specs.declared.front.Lookup.{Lookup}
+use Rattle.gl_groups.specs.Chain.{held_of}
+use Rattle.gl_groups.specs.Groupings.{AreKeys}
+use Rattle.gl_groups.specs.Slots.{AreSlots, further_line}
+
+-- the column of a row
+abbrev pub column_of : ℕ → Row → ℕ
+column_of key row = slice_index row key
+
+-- the row that came last, and the key that is looked for: that of the row that comes, or else of that one
+pub record IsLookup (run : Run) (source : Wire) (key : ℕ) (r : Lookup) : Type 0 where
+  pub row : (t : ℕ)
+      → row_at run (suc (suc t)) r.row ≡ (if line_at run source.valid (suc t) then row_at run (suc t) source.columns else row_at run (suc t) r.row)
+  pub value : (t : ℕ)
+      → held_at 0 run r.value (suc t)
+      ≡ column_of key (if line_at run source.valid (suc t) then row_at run (suc t) source.columns else row_at run (suc t) r.row)
+
+pub record AddsLookup (old new : Net) (source : Wire) (key : ℕ) (r : Lookup) : Type 0 where
+  pub keeps : Keeps old new
+  pub row_buses : AreBuses new r.row
+  pub row_widths : widths r.row ≡ widths source.columns
+  pub value_bus : IsBus new r.value
+  pub value_width : r.value.width ≡ slice_index (widths source.columns) key
+  pub cost : Costs old new (with_registers (length (widths source.columns) * 2 + 1) (sum (widths source.columns)))
+  pub law : (run : Run) → IsRun new run → IsLookup run source key r
+
+-- the slots that end: with an end the first one, in a flush the one whose turn it is, if it is used
+pub record IsEnding (run : Run) (eos due : Bit) (count : ℕ) (has : List Bit) (r : Ending) : Type 0 where
+  pub next : (t : ℕ)
+      → held_at count run r.rest (suc t) ≡ counted_down (count - 1) 0 (line_at run eos t) (line_at run due t) (held_at count run r.rest t)
+  pub end : (k t : ℕ) → k < count
+      → line_of run r.ends k t
+      ≡ (((line_at run eos t || line_at run due t) && nat_eq (if line_at run eos t then count else held_at count run r.rest t) (count - k)) && line_of run has k t)
+
+pub record AddsEnding (old new : Net) (eos due : Bit) (count : ℕ) (has : List Bit) (r : Ending) : Type 0 where
+  pub keeps : Keeps old new
+  pub bits : AreBits new r.ends
+  pub ends_count : length r.ends ≡ count
+  pub cost : Costs old new (with_registers (count * 4 + 13) 32)
+  pub law : (run : Run) → IsRun new run → IsEnding run eos due count has r
+
+-- wires behind the machine of slots, the keys of the slots, and the line of further keys
+pub record IsFront (run : Run) (key count stride : ℕ) (source : Wire) (r : Front) : Type 0 where
+  pub front : AreSlots count (column_of key) stride (carried run source) (carried_of run r.wires)
+  pub shown : AreKeys count (column_of key) stride (carried run source) (held_of run r.keys)
+  pub told : (c : ℕ) → line_at run r.further c ≡ further_line count (column_of key) stride (carried run source) c
+
+pub record AddsFront (old new : Net) (key count stride : ℕ) (source : Wire) (r : Front) : Type 0 where
+  pub keeps : Keeps old new
+  pub cost : Costs old new (with_registers (count * 19 + length (widths source.columns) * 2 + 41)
+      (count * (slice_index (widths source.columns) key + 3) + sum (widths source.columns) + 67))
+  pub as_many : length r.wires ≡ count
+  pub wires : (k : ℕ) (w : Wire) → slice_get r.wires k ≡ Some w → IsWire new w × (widths w.columns ≡ widths source.columns)
+  pub keys_count : length r.keys ≡ count
+  pub keys : (k : ℕ) (b : Bus) → slice_get r.keys k ≡ Some b → IsBus new b × (b.width ≡ slice_index (widths source.columns) key)
+  pub further : IsBit new r.further
+  pub law : (run : Run) → IsRun new run → IsFront run key count stride source r

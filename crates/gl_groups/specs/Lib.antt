@@ -1,0 +1,12 @@
+pub mod Slots
+pub mod Seeking
+pub mod Chain
+pub mod Parts
+pub mod Values
+pub mod Groupings
+pub mod Fronts
+pub mod Costs
+pub mod Joins
+pub mod Grouped
+pub mod Laws
+pub mod Worked

@@ -1,0 +1,120 @@
+//! The front of groups: which slot takes a tuple, and which takes an end.
+
+ghost use Rattle.std.specs.Prelude.{◌≡◌, ◌<◌, ◌≤◌, IfOk, length};
+ghost use Rattle.gl_net.specs.Net.{IsBit};
+ghost use Rattle.gl_registers.specs.Lines.{AreBits};
+ghost use Rattle.gl_wire.specs.Wire.{IsWire};
+ghost use Rattle.gl_groups.specs.Fronts.{AddsEnding, AddsFront, AddsLookup};
+
+use crate::parts::{count_flush, count_turns, keep_tail, take_rows, turn_lines};
+use crate::slots::put_slots;
+use gl_bits::Memory;
+use gl_net::{Bit, Bus, Buses, NetBuilder};
+use gl_registers::{Bits, LineOp, Wires, copy_wires, hold_all, pairwise};
+use gl_wire::{Wire, later_bit};
+use std::alloc::Global;
+
+/// The row that came last, and the key that is looked for.
+#[derive(Drop)]
+pub struct Lookup {
+    /// The columns of the row that came last, before this cycle.
+    pub row: Buses,
+    /// The key of the row that comes, or else of that one.
+    pub value: Bus,
+}
+
+/// The slots that end.
+#[derive(Drop)]
+pub struct Ending {
+    /// The slots from the one whose turn is next on.
+    pub rest: Bus,
+    /// For each slot whether it ends.
+    pub ends: Bits,
+}
+
+/// What a front gives.
+#[derive(Drop)]
+pub struct Front {
+    /// For each slot the wire of its input.
+    pub wires: Wires,
+    /// For each slot its key.
+    pub keys: Buses,
+    /// 1 one cycle after a row of a further key.
+    pub further: Bit,
+}
+
+/// Keeps the row that came last, and chooses the key that is looked for.
+pub fn look_up(
+    alloc: Global,
+    net: &mut NetBuilder,
+    wire: &Wire,
+    key: usize,
+) -> Result<Lookup, Memory>
+    requires wire { IsWire net.old wire.now }
+    requires key { key < length wire.now.columns }
+    ensures { IfOk result (AddsLookup net.old net.new wire.now key) }
+{
+    let row = hold_all(alloc, net, wire.valid, &wire.columns)?;
+    let here = wire.columns.as_slice()[key];
+    let last = row.as_slice()[key];
+    let value = net.choose(wire.valid, here, last)?;
+    Ok(Lookup { row, value })
+}
+
+/// Ends the slot whose turn it is, if it is used.
+pub fn end_slots(
+    alloc: Global,
+    net: &mut NetBuilder,
+    eos: Bit,
+    due: Bit,
+    has: &Bits,
+    count: u32,
+) -> Result<Ending, Memory>
+    requires eos { IsBit net.old eos }
+    requires due { IsBit net.old due }
+    requires has { AreBits net.old has.now }
+    requires has_count { length has.now ≡ count }
+    requires some_slot { 1 ≤ count }
+    ensures { IfOk result (AddsEnding net.old net.new eos due count has.now) }
+{
+    let turns = count_turns(net, eos, due, count)?;
+    let lines = turn_lines(alloc, net, turns.trigger, turns.at, count)?;
+    let ends = pairwise(alloc, net, LineOp::Both, &lines, has)?;
+    Ok(Ending {
+        rest: turns.rest,
+        ends,
+    })
+}
+
+/// The wires of so many slots, by the key in a column, whose ends are `stride` cycles apart in a flush.
+#[tactic(auto, using(gl_registers::proofs::LineLemmas::bits_kept, gl_wire::proofs::ColumnLemmas::buses_kept))]
+pub fn put_front(
+    alloc: Global,
+    net: &mut NetBuilder,
+    wire: &Wire,
+    key: usize,
+    count: u32,
+    stride: u32,
+) -> Result<Front, Memory>
+    requires wire { IsWire net.old wire.now }
+    requires key { key < length wire.now.columns }
+    requires count { 1 ≤ count }
+    requires stride { 1 ≤ stride }
+    ensures { IfOk result (AddsFront net.old net.new key count stride wire.now) }
+{
+    let v = wire.valid;
+    let e = wire.eos;
+    let flush = count_flush(net, v, e, stride)?;
+    let tail = keep_tail(net, v, e, flush.idle)?;
+    let look = look_up(alloc, net, wire, key)?;
+    let slots = put_slots(alloc, net, flush.free, v, look.value, count)?;
+    let ending = end_slots(alloc, net, e, flush.due, &slots.has, count)?;
+    let takes = take_rows(alloc, net, v, e, tail.tail, &slots.matches, &ending.ends)?;
+    let wires = copy_wires(alloc, net, &takes, &ending.ends, &look.row)?;
+    let further = later_bit(net, slots.passes)?;
+    Ok(Front {
+        wires,
+        keys: slots.keys,
+        further,
+    })
+}

@@ -1,0 +1,25 @@
+//! The laws of groups.
+
+ghost use Rattle.gl_groups.specs.Costs.{GroupingsAreCounted};
+ghost use Rattle.gl_groups.specs.Laws.{GroupingsServe, GroupsGroup};
+ghost use Rattle.gl_groups.specs.Worked.{WorkedGroups};
+
+/// A front, copies that serve a body, and a back serve what the body makes of each group, joined.
+pub fn groupings_serve()
+    ensures { GroupingsServe }
+{}
+
+/// The groups of a plan have numbers that a circuit can have.
+pub fn groups_group()
+    ensures { GroupsGroup }
+{}
+
+/// Worked streams: the definition of a front gives the visits that were worked out by hand.
+pub fn worked_groups()
+    ensures { WorkedGroups }
+{}
+
+/// What groups cost is within what a plan counts for them.
+pub fn costs_are_counted()
+    ensures { GroupingsAreCounted }
+{}
