@@ -9,13 +9,13 @@ use Rattle.gl_bits.proofs.AllLists.{get_mapped}
 use Rattle.gl_sim.proofs.Settling.{drop_here, slice_get-at}
 use Rattle.gl_compiler.specs.Cycles.{AreFrom, AreDue}
 
-other_beat : (b : Beat) (bs : List Beat) (k : ℕ) → (b.cycle ≡ k → ⊥) → beat_at (b ∷ bs) k ≡ beat_at bs k
+pub other_beat : (b : Beat) (bs : List Beat) (k : ℕ) → (b.cycle ≡ k → ⊥) → beat_at (b ∷ bs) k ≡ beat_at bs k
 other_beat b bs k other = (elim (eqb_tells b.cycle k) [ inl same ↦ absurd (other same.1) | inr no' ↦ rw no'.0 refl ])
 
-this_beat : (b : Beat) (bs : List Beat) (k : ℕ) → b.cycle ≡ k → beat_at (b ∷ bs) k ≡ Some b
+pub this_beat : (b : Beat) (bs : List Beat) (k : ℕ) → b.cycle ≡ k → beat_at (b ∷ bs) k ≡ Some b
 this_beat b bs k same = (elim (eqb_tells b.cycle k) [ inl yes' ↦ rw yes'.0 refl | inr no' ↦ absurd (no'.1 same) ])
 
-none_before : (bs : List Beat) (k n : ℕ) → AreFrom n bs → k < n → beat_at bs k ≡ None
+pub none_before : (bs : List Beat) (k n : ℕ) → AreFrom n bs → k < n → beat_at bs k ≡ None
 none_before [] k n h lt = refl
 none_before (b ∷ bs) k n h lt = other_beat b bs k (λ e. absurd (omega (arith, h.0, e))) ∙ none_before bs k (b.cycle + 1) h.1 (omega (arith, h.0))
 
@@ -62,7 +62,7 @@ order_from : (b : Beat) (bs : List Beat) → AreInOrder (b ∷ bs) → AreFrom (
 order_from b [] h = tt
 order_from b (c ∷ bs) h = (omega (arith, h.1), order_from c bs h.2)
 
-from_first : (bs : List Beat) → AreInOrder bs → AreFrom 0 bs
+pub from_first : (bs : List Beat) → AreInOrder bs → AreFrom 0 bs
 from_first [] h = tt
 from_first (b ∷ bs) h = (omega arith, order_from b bs h)
 

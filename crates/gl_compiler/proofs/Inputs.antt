@@ -80,17 +80,20 @@ inputs_fit text schema m beats t has fits are =
     rw (pin_is schema m n a.d a.there, width_at-found m.declarations n a.d a.there) small)
     (inputs_of m) (inputs_of-ports m))
 
--- and a run over the beats has them
-pub run_has_inputs : (text : List ℕ) (schema : Schema) (m : Module) (beats : List Beat) (value : ℕ → Nets) (t : ℕ) → HasModule text m → FitsSchema m schema → AreBeats schema beats → IsStimulus schema beats (input_values m value) → HasInputs m (value t) (map (carried_at beats t) (map (pin_at schema m.declarations) (inputs_of m)))
-run_has_inputs text schema m beats value t has fits are stimulus =
-    zip_maps (λ n x. value t n ≡ x) (pin_at schema m.declarations) (carried_at beats t) (inputs_of m)
-    (all_weaker (IsInputPort m.declarations) (λ n. value t n ≡ carried_at beats t (pin_at schema m.declarations n))
-    (λ n p.
+-- in a run over the beats a port carries its value
+pub port_carries : (text : List ℕ) (schema : Schema) (m : Module) (beats : List Beat) (value : ℕ → Nets) (t : ℕ) → HasModule text m → FitsSchema m schema → AreBeats schema beats → IsStimulus schema beats (input_values m value) → (n : ℕ) → IsInputPort m.declarations n → value t n ≡ carried_at beats t (pin_at schema m.declarations n)
+port_carries text schema m beats value t has fits are stimulus n p =
     let a = is_asked text schema m n has fits p in
     let carries : IfSome (input_values m value t a.d.name) (λ v. v ≡ carried_at beats t (pin_named schema a.d.name)) =
     found_at (λ w name x. IfSome (input_values m value t name) (λ v. v ≡ x)) schema beats t a.d.name a.d.width
     (zip_all (OfBoth IsNarrow) (λ (q : Pin). IfSome (input_values m value t q.name) (λ v. v ≡ q.value)) (input_ports schema) (pins schema beats t) (pins_fit schema beats t are) (stimulus.carries t)) a.width in
     let there : value t n ≡ carried_at beats t (pin_named schema a.d.name) =
     subst (λ (o : Option ℕ). IfSome (option_map (value t) o) (λ v. v ≡ carried_at beats t (pin_named schema a.d.name))) a.number carries in
-    there ∙ sym (ap (carried_at beats t) (pin_is schema m n a.d a.there)))
-    (inputs_of m) (inputs_of-ports m))
+    there ∙ sym (ap (carried_at beats t) (pin_is schema m n a.d a.there))
+
+-- and the inputs have theirs
+pub run_has_inputs : (text : List ℕ) (schema : Schema) (m : Module) (beats : List Beat) (value : ℕ → Nets) (t : ℕ) → HasModule text m → FitsSchema m schema → AreBeats schema beats → IsStimulus schema beats (input_values m value) → HasInputs m (value t) (map (carried_at beats t) (map (pin_at schema m.declarations) (inputs_of m)))
+run_has_inputs text schema m beats value t has fits are stimulus =
+    zip_maps (λ n x. value t n ≡ x) (pin_at schema m.declarations) (carried_at beats t) (inputs_of m)
+    (all_weaker (IsInputPort m.declarations) (λ n. value t n ≡ carried_at beats t (pin_at schema m.declarations n))
+    (port_carries text schema m beats value t has fits are stimulus) (inputs_of m) (inputs_of-ports m))

@@ -18,6 +18,8 @@ pub mod Outputs
 pub mod Rows
 pub mod Puts
 pub mod Due
+pub mod OverflowBeats
+pub mod OverflowRuns
 pub mod Making
 pub mod Running
 pub mod Each

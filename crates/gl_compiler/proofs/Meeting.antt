@@ -9,9 +9,10 @@ use Rattle.gl_schema.specs.declared.schema.Stream.{Stream}
 use Rattle.gl_schema.specs.declared.schema.Schema.{Schema}
 use Rattle.gl_schema.specs.Names.{IsName}
 use Rattle.gl_schema.specs.Schemas.{IsSchema, column_names, kinds_of}
-use Rattle.gl_schema.specs.Beats.{Beat, rows_at}
-use Rattle.gl_schema.specs.Ports.{Pin, pin, pins, column_pins, stream_pins, streams_pins, rst, eos, in_valid, in_column, out_column}
+use Rattle.gl_schema.specs.Beats.{Beat, AreBeats, rows_at}
+use Rattle.gl_schema.specs.Ports.{PortValues, Pin, pin, pins, column_pins, stream_pins, streams_pins, rst, eos, in_valid, in_column, out_column}
 use Rattle.gl_schema.specs.Right.{IsRight}
+use Rattle.gl_schema.specs.Seen.{shown}
 use Rattle.gl_query.specs.declared.tree.Statement.{Statement}
 use Rattle.gl_query.specs.Accepted.{AreResultColumns}
 use Rattle.gl_query.specs.Checked.{IsChecked}
@@ -20,8 +21,8 @@ use Rattle.gl_algebra.specs.Shapes.{Shape, kinds_of as kinds_of_node}
 use Rattle.gl_net.specs.Net.{Net}
 use Rattle.gl_net.specs.PortValues as circuit
 use Rattle.gl_net.specs.PortValues.{port_values, PortShape, port_shapes}
-use Rattle.gl_verilog.specs.Module.{Declaration}
-use Rattle.gl_verilog.specs.Run.{port_of, input_values}
+use Rattle.gl_verilog.specs.Module.{Declaration, Nets, Memories}
+use Rattle.gl_verilog.specs.Run.{Fit, port_of, input_values}
 use Rattle.gl_verilog_orders.proofs.EventRuns.{event_runs_are_runs, has_event_runs}
 use Rattle.gl_verilog_writer.specs.Meaning.{IsTextOf, clock}
 use Rattle.gl_wiring.proofs.PortNames.{port_names-distinct}
@@ -30,9 +31,9 @@ use Rattle.gl_elaborate.specs.Laws.{IsRightPlan as IsRightFor}
 use Rattle.gl_elaborate.specs.Plans.{plan_of}
 use Rattle.gl_plan_wiring.specs.Leaves.{widths_of}
 use Rattle.gl_wiring.specs.Output.{named_outputs, output_ports, plan_ports}
-use Rattle.gl_wiring.specs.Wired.{OverBeats, plan_means}
+use Rattle.gl_wiring.specs.Wired.{KeepsGroup, OverBeats, plan_means}
 use Rattle.gl_compiler.specs.Profile.{FitsSchema, ports_of, result_ports, result_names, result_widths, shows_column}
-use Rattle.gl_compiler.specs.Meets.{Meets, result_columns}
+use Rattle.gl_compiler.specs.Meets.{Meets, RunsOver, result_columns}
 use Rattle.gl_compiler.specs.Queries.{gap_of, latency_of}
 use Rattle.gl_compiler.proofs.PlanResults.{plan_result}
 use Rattle.gl_compiler.proofs.Inner.{inputs_first}
@@ -40,6 +41,7 @@ use Rattle.gl_compiler.proofs.Showing.{NoClock, shown_same, right_same, stimulus
 use Rattle.gl_compiler.proofs.Faces.{decl, ports_are, columns_shown, shown_names, shown_widths}
 use Rattle.gl_compiler.proofs.Existing.{runs_over}
 use Rattle.gl_compiler.proofs.Fits.{inputs, parts, ports_fit, kinds_narrow}
+use Rattle.gl_compiler.proofs.OverflowRuns.{OverRuns, keeps_same, tells_group}
 
 -- ---- no port of the query's side has the clock's name
 
@@ -138,28 +140,48 @@ module _ (schema : Schema) (statement : Statement) (net : Net) (text : List ℕ)
           narrow = subst (AllByRecursion (λ w. w ≤ 64)) (sym widths_shown) (kinds_narrow (kinds_of (result_columns schema statement)) real);
         }
 
+    text_runs : (beats : List Beat) (start : Nets) (words : Memories) → AreBeats schema beats → Fit t.design.declarations start words → RunsOver t.design schema beats start words
+    text_runs beats start words are fit =
+        runs_over t.design schema beats (output_ports widths names) design_ports t.has.valid.names are
+        start words (has_event_runs t.design t.has.valid) (pins_other schema beats) fit
+
+    -- what holds of the netlist's runs holds of the text's, if it goes from ports to ports that show the same
+    of_net : (P Q : List Beat → PortValues → Type 0) → ((beats : List Beat) (port port' : PortValues) → AreBeats schema beats → ((n : ℕ) → shown port (map out_column names) n ≡ shown port' (map out_column names) n) → P beats port → Q beats port')
+        → OverBeats schema (gap_of schema statement) P net → OverRuns t.design schema (gap_of schema statement) Q
+    of_net P Q goes holds = λ beats value word are gap run stimulus.
+        let r = t.runs value word (event_runs_are_runs t.design t.has.valid value word run) in
+        let port = port_of t.design value in
+        let there = port_values net r.run in
+        let stimulus' = stimulus_same schema beats (input_values t.design value) (circuit.input_values net r.run) r.inputs (pins_other schema beats) stimulus in
+        goes beats there port are (λ n. sym (shown_same port there (map out_column names) r.ports (outs_other names) n)) (holds r.run beats r.trace are gap stimulus')
+
+    text_right : OverBeats schema (gap_of schema statement) (λ all port. IsRight (plan_means (plan_of schema statement).nodes (plan_of schema statement).root) (latency_of schema statement) all (map out_column names) port) net
+        → OverRuns t.design schema (gap_of schema statement) (λ all port. IsRight (IsResult schema statement) (latency_of schema statement) all (result_names t.design) port)
+    text_right right =
+        subst (λ (outs : List (List ℕ)). OverRuns t.design schema (gap_of schema statement) (λ all port. IsRight (IsResult schema statement) (latency_of schema statement) all outs port)) (sym names_shown)
+        (of_net (λ all port. IsRight (plan_means (plan_of schema statement).nodes (plan_of schema statement).root) (latency_of schema statement) all (map out_column names) port)
+        (λ all port. IsRight (IsResult schema statement) (latency_of schema statement) all (map out_column names) port)
+        (λ beats port port' are same r.
+        right_same (plan_means (plan_of schema statement).nodes (plan_of schema statement).root) (IsResult schema statement) (latency_of schema statement) beats (map out_column names) port port'
+        (plan_result schema statement beats are plan) same r) right)
+
+    text_keeps : OverBeats schema (gap_of schema statement) (λ all port. KeepsGroup (map out_column names) port) net → OverRuns t.design schema (gap_of schema statement) (λ all port. KeepsGroup (result_names t.design) port)
+    text_keeps keeps =
+        subst (λ (outs : List (List ℕ)). OverRuns t.design schema (gap_of schema statement) (λ all port. KeepsGroup outs port)) (sym names_shown)
+        (of_net (λ all port. KeepsGroup (map out_column names) port) (λ all port. KeepsGroup (map out_column names) port)
+        (λ beats port port' are same k. keeps_same (map out_column names) port port' same k) keeps)
+
     -- a text of the plan's netlist meets the statement
-    pub text_meets : OverBeats schema (gap_of schema statement) (λ all port. IsRight (plan_means (plan_of schema statement).nodes (plan_of schema statement).root) (latency_of schema statement) all (map out_column names) port) net → Meets schema statement (latency_of schema statement) (gap_of schema statement) text
-    text_meets right = record {
+    pub text_meets : OverBeats schema (gap_of schema statement) (λ all port. IsRight (plan_means (plan_of schema statement).nodes (plan_of schema statement).root) (latency_of schema statement) all (map out_column names) port) net
+        → OverBeats schema (gap_of schema statement) (λ all port. KeepsGroup (map out_column names) port) net → Meets schema statement (latency_of schema statement) (gap_of schema statement) text
+    text_meets right keeps = record {
       accepted = is.accepted;
       design = t.design;
       has = t.has;
       fits = fits;
       names = names_shown;
       widths = widths_shown;
-      runs = λ beats start words are fit.
-          runs_over t.design schema beats (output_ports widths names) design_ports t.has.valid.names are
-          start words (has_event_runs t.design t.has.valid) (pins_other schema beats) fit;
-      right = λ beats value word are gap run stimulus.
-          let r = t.runs value word (event_runs_are_runs t.design t.has.valid value word run) in
-          let outs = map out_column names in
-          let port = port_of t.design value in
-          let there = port_values net r.run in
-          let stimulus' = stimulus_same schema beats (input_values t.design value) (circuit.input_values net r.run) r.inputs (pins_other schema beats) stimulus in
-          let of_net = right r.run beats r.trace are gap stimulus' in
-          let of_text : IsRight (IsResult schema statement) (latency_of schema statement) beats outs port =
-          right_same (plan_means (plan_of schema statement).nodes (plan_of schema statement).root) (IsResult schema statement) (latency_of schema statement) beats outs there port
-          (plan_result schema statement beats are plan)
-          (λ n. sym (shown_same port there outs r.ports (outs_other names) n)) of_net in
-          subst (λ (x : List (List ℕ)). IsRight (IsResult schema statement) (latency_of schema statement) beats x port) (sym names_shown) of_text;
+      runs = text_runs;
+      right = text_right right;
+      group = tells_group text schema t.design t.has fits (IsResult schema statement) (latency_of schema statement) (gap_of schema statement) text_runs (text_right right) (text_keeps keeps);
     }

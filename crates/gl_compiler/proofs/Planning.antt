@@ -1,5 +1,5 @@
 -- What the plan of a statement says of what is compiled.
-use Rattle.std.proofs.Common.{◌≡◌, ◌≢◌, ◌≤◌, ◌^◌, length, sym, ap, subst, ◌∙◌, arith}
+use Rattle.std.proofs.Common.{◌≡◌, ◌≤◌, ◌^◌, length, ap, ◌∙◌, arith}
 use Rattle.gl_schema.specs.declared.schema.Schema.{Schema}
 use Rattle.gl_query.specs.declared.tree.Statement.{Statement}
 use Rattle.gl_query.specs.Checked.{IsChecked}
@@ -12,8 +12,7 @@ use Rattle.gl_planner.specs.declared.planning.PlanFault.{PlanFault}
 use Rattle.gl_planner.specs.declared.planning.PlanFault.TheVariants as plan
 use Rattle.gl_planner.specs.declared.planning.Planned.{Planned}
 use Rattle.gl_planner.specs.Planned.{IsPlanned, PassesOr}
-use Rattle.gl_plan_wiring.specs.Put.{IsFlat}
-use Rattle.gl_compiler.specs.Compiles.{HasCopies, IsRefused}
+use Rattle.gl_compiler.specs.Compiles.{IsRefused}
 use Rattle.gl_compiler.specs.Queries.{IsBuilt, copies_of, fault_of_plan, gap_of, latency_of}
 
 -- why a plan is not made is why its statement is not compiled
@@ -22,23 +21,8 @@ plan_refused schema statement (plan.Limit l) h = h
 plan_refused schema statement plan.Memory h = tt
 
 module _ (schema : Schema) (statement : Statement) (p : Planned) (is : IsPlanned schema statement p) where
-  -- where copies are printed there are copies
-  pub has_copies : p.printed.copies ≢ 0 → HasCopies schema statement
-  has_copies some = record {
-    within = is.limits;
-    unbuilt = λ flat. some (is.printed'.copies ∙ subst (λ (x : Placed). IsFlat x.nodes x.root) (sym is.at) flat);
-  }
-
-  -- where none are printed the plan is flat
-  pub no_copies : p.printed.copies ≡ 0 → IsFlat p.plan p.root
-  no_copies e = sym is.printed'.copies ∙ e
-
-  pub is_built : IsChecked schema statement → p.printed.copies ≡ 0 → IsBuilt schema statement
-  is_built checked e = record {
-    accepted = checked.accepted;
-    within = is.limits;
-    flat = subst (λ (x : Placed). IsFlat x.nodes x.root) is.at (no_copies e);
-  }
+  pub is_built : IsChecked schema statement → IsBuilt schema statement
+  is_built checked = record { accepted = checked.accepted; within = is.limits }
 
   pub latency_is : p.printed.latency ≡ latency_of schema statement
   latency_is = is.printed'.latency ∙ ap (λ (x : Placed). table.latency_of x.nodes x.root) is.at

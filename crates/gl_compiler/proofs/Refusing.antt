@@ -14,12 +14,11 @@ use Rattle.gl_figures.specs.declared.Limit.{Limit}
 use Rattle.gl_elaborate.specs.Plans.{plan_of}
 use Rattle.gl_planner.specs.Planned.{IsWithinLimits, PassesLimit}
 use Rattle.gl_planner.proofs.LimitLemmas.{one_limit}
-use Rattle.gl_plan_wiring.specs.Put.{IsFlat}
 use Rattle.gl_compiler.specs.declared.compiling.Compiled.{Compiled}
 use Rattle.gl_compiler.specs.declared.compiling.CompileFault.{CompileFault}
 use Rattle.gl_compiler.specs.declared.compiling.CompileFault.TheVariants as compile
 use Rattle.gl_compiler.specs.Compiles.{IsRefused}
-use Rattle.gl_compiler.specs.Queries.{IsOverLimit, IsQuery, IsUnbuilt, IsQueryRefused, IfRefused, TellsCauses, fault_of_query}
+use Rattle.gl_compiler.specs.Queries.{IsOverLimit, IsQuery, IsQueryRefused, IfRefused, TellsCauses, fault_of_query}
 use Rattle.gl_compiler.proofs.Shaped.{plans_alike}
 
 -- a fault is answered as it is
@@ -54,11 +53,6 @@ query_accepted schema text s is = record { has = is.has; accepted = is.built.acc
 same_plan : (schema : Schema) (text : List ℕ) (s t : Statement) → HasStatement text (statement_tree s) → HasStatement text (statement_tree t) → plan_of schema s ≡ plan_of schema t
 same_plan schema text s t h k = plans_alike schema s t (one_meaning text (statement_tree s) (statement_tree t) h k)
 
--- one that has copies leaves none of its text that is built
-pub unbuilt_goes : (schema : Schema) (text : List ℕ) (s : Statement) → IsUnbuilt schema text → IsQuery schema text s → ⊥
-unbuilt_goes schema text s u is =
-    u.unbuilt (subst (λ (p : Placed). IsFlat p.nodes p.root) (same_plan schema text s u.statement is.has u.is.has) is.built.flat)
-
 -- no statement of a text whose plan passes a limit is within the limits
 pub within_goes : (schema : Schema) (text : List ℕ) (s : Statement) (l : Limit) → HasStatement text (statement_tree s) → IsWithinLimits (plan_of schema s) → IsOverLimit schema text l → ⊥
 within_goes schema text s l has within o =
@@ -66,9 +60,6 @@ within_goes schema text s l has within o =
 
 pub over_goes : (schema : Schema) (text : List ℕ) (s : Statement) (l : Limit) → IsOverLimit schema text l → IsQuery schema text s → ⊥
 over_goes schema text s l o is = within_goes schema text s l is.has is.built.within o
-
-pub unbuilt_within : (schema : Schema) (text : List ℕ) (l : Limit) → IsUnbuilt schema text → IsOverLimit schema text l → ⊥
-unbuilt_within schema text l u o = within_goes schema text u.statement l u.is.has u.within o
 
 same_limit : (schema : Schema) (text : List ℕ) (l m : Limit) → IsOverLimit schema text l → IsOverLimit schema text m → m ≡ l
 same_limit schema text l m o p =
@@ -79,7 +70,6 @@ pub refused_goes : (schema : Schema) (text : List ℕ) (f : CompileFault) → Is
 refused_goes schema text (compile.Schema f) fine h = absurd h
 refused_goes schema text (compile.Query f) fine h = λ s is. accepted_goes schema text f fine h s (query_accepted schema text s is)
 refused_goes schema text (compile.Limit l) fine h = λ s is. over_goes schema text s l h is
-refused_goes schema text compile.NotBuilt fine h = λ s is. unbuilt_goes schema text s h is
 refused_goes schema text compile.Memory fine h = tt
 
 -- why a statement that is accepted is not compiled
@@ -87,7 +77,6 @@ pub statement_cause : (schema : Schema) (text : List ℕ) (s : Statement) (f : C
 statement_cause schema text s (compile.Schema f) is h = h
 statement_cause schema text s (compile.Query f) is h = absurd h
 statement_cause schema text s (compile.Limit l) is h = record { statement = s; is = is; passes = h }
-statement_cause schema text s compile.NotBuilt is h = record { statement = s; is = is; within = h.within; unbuilt = h.unbuilt }
 statement_cause schema text s compile.Memory is h = tt
 
 -- ---- each cause is told
@@ -99,33 +88,22 @@ query_told : (schema : Schema) (text : List ℕ) (g : CompileFault) (f : QueryFa
 query_told schema text (compile.Schema g) f fine h is = absurd h
 query_told schema text (compile.Query g) f fine h is = inl (let e : g ≡ f = one_fault schema text g f h is in rw e refl)
 query_told schema text (compile.Limit l) f fine h is = absurd (accepted_goes schema text f fine is h.statement h.is)
-query_told schema text compile.NotBuilt f fine h is = absurd (accepted_goes schema text f fine is h.statement h.is)
 query_told schema text compile.Memory f fine h is = inr refl
-
-unbuilt_told : (schema : Schema) (text : List ℕ) (g : CompileFault) → IsSchema schema → IsQueryRefused schema text g → IsUnbuilt schema text → IsToldAs (Err g) compile.NotBuilt
-unbuilt_told schema text (compile.Schema g) fine h is = absurd h
-unbuilt_told schema text (compile.Query g) fine h is = absurd (accepted_goes schema text g fine h is.statement is.is)
-unbuilt_told schema text (compile.Limit l) fine h is = absurd (unbuilt_within schema text l is h)
-unbuilt_told schema text compile.NotBuilt fine h is = inl refl
-unbuilt_told schema text compile.Memory fine h is = inr refl
 
 limit_told : (schema : Schema) (text : List ℕ) (g : CompileFault) (l : Limit) → IsSchema schema → IsQueryRefused schema text g → IsOverLimit schema text l → IsToldAs (Err g) (compile.Limit l)
 limit_told schema text (compile.Schema g) l fine h is = absurd h
 limit_told schema text (compile.Query g) l fine h is = absurd (accepted_goes schema text g fine h is.statement is.is)
 limit_told schema text (compile.Limit m) l fine h is = inl (let e : m ≡ l = same_limit schema text l m is h in rw e refl)
-limit_told schema text compile.NotBuilt l fine h is = absurd (unbuilt_within schema text l h is)
 limit_told schema text compile.Memory l fine h is = inr refl
 
 pub tells_of : (schema : Schema) (text : List ℕ) (g : CompileFault) → IsSchema schema → IsQueryRefused schema text g → TellsCauses schema text (Err g)
 tells_of schema text g fine h (compile.Schema f) = λ is. absurd is
 tells_of schema text g fine h (compile.Query f) = query_told schema text g f fine h
 tells_of schema text g fine h (compile.Limit l) = limit_told schema text g l fine h
-tells_of schema text g fine h compile.NotBuilt = unbuilt_told schema text g fine h
 tells_of schema text g fine h compile.Memory = tt
 
 pub tells_none : (schema : Schema) (text : List ℕ) (c : Compiled) → IsSchema schema → IsQuery schema text c.statement → TellsCauses schema text (Ok c)
 tells_none schema text c fine built (compile.Schema f) = λ is. absurd is
 tells_none schema text c fine built (compile.Query f) = λ is. absurd (accepted_goes schema text f fine is c.statement (query_accepted schema text c.statement built))
 tells_none schema text c fine built (compile.Limit l) = λ is. absurd (over_goes schema text c.statement l is built)
-tells_none schema text c fine built compile.NotBuilt = λ is. absurd (unbuilt_goes schema text c.statement is built)
 tells_none schema text c fine built compile.Memory = tt

@@ -7,10 +7,8 @@ use Rattle.gl_query.specs.Shapes.{QueryShape, query_shape}
 use Rattle.gl_query.specs.Trees.{StatementTree, statement_tree}
 use Rattle.gl_query.specs.Alike.{query_alike}
 use Rattle.gl_query.proofs.Alike.{query_same}
-use Rattle.gl_algebra.specs.Added.{Placed}
 use Rattle.gl_elaborate.specs.Plans.{placed, stream_node, plan_of}
 use Rattle.gl_planner.specs.Planned.{IsWithinLimits}
-use Rattle.gl_plan_wiring.specs.Put.{IsFlat}
 use Rattle.gl_compiler.specs.Queries.{IsBuilt}
 
 -- statements of one tree have queries of one shape
@@ -27,5 +25,4 @@ pub built_alike : (schema : Schema) (s t : Statement) → statement_tree s ≡ s
 built_alike schema s t e b = record {
   accepted = subst (IsAcceptedOver (schema_scope schema)) (shapes_alike s t e) b.accepted;
   within = subst IsWithinLimits (plans_alike schema s t e) b.within;
-  flat = subst (λ (p : Placed). IsFlat p.nodes p.root) (plans_alike schema s t e) b.flat;
 }

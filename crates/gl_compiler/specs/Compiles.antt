@@ -10,8 +10,7 @@ use Rattle.gl_algebra.specs.Cost.{most_memory, most_registers}
 use Rattle.gl_algebra.specs.Small.{AreFigures}
 use Rattle.gl_cost.specs.declared.counting.Cost.{Cost}
 use Rattle.gl_elaborate.specs.Plans.{plan_of}
-use Rattle.gl_planner.specs.Planned.{IsWithinLimits, PassesLimit}
-use Rattle.gl_plan_wiring.specs.Put.{IsFlat}
+use Rattle.gl_planner.specs.Planned.{PassesLimit}
 use Rattle.gl_verilog.specs.Cost.{memory_bits, register_bits}
 use Rattle.gl_verilog.specs.Module.{Module}
 use Rattle.gl_verilog.specs.Text.{HasModule}
@@ -51,17 +50,11 @@ pub record IsCompiledText (text query : List ℕ) (c : Compiled) : Type 0 where
   pub query' : IsQuery c.schema query c.statement
   pub compiled : IsCompiled c.schema c.statement c
 
--- the plan is within the limits, and a window or a group stands in it
-pub record HasCopies (schema : Schema) (statement : Statement) : Type 0 where
-  pub within : IsWithinLimits (plan_of schema statement)
-  pub unbuilt : IsFlat (plan_of schema statement).nodes (plan_of schema statement).root → ⊥
-
 -- why a checked statement is not compiled
 abbrev pub IsRefused : Schema → Statement → CompileFault → Type 0
 IsRefused schema statement (fault.Schema f) = ⊥
 IsRefused schema statement (fault.Query f) = ⊥
 IsRefused schema statement (fault.Limit l) = PassesLimit (plan_of schema statement) l
-IsRefused schema statement fault.NotBuilt = HasCopies schema statement
 IsRefused schema statement fault.Memory = Unit {0}
 
 -- the text has a schema over which this is so
@@ -75,5 +68,4 @@ abbrev pub IsTextRefused : List ℕ → List ℕ → CompileFault → Type 0
 IsTextRefused text query (fault.Schema f) = Fails f (schema_of text)
 IsTextRefused text query (fault.Query f) = OfSchema text (λ schema. IsQueryRefused schema query (fault.Query f))
 IsTextRefused text query (fault.Limit l) = OfSchema text (λ schema. IsQueryRefused schema query (fault.Limit l))
-IsTextRefused text query fault.NotBuilt = OfSchema text (λ schema. IsQueryRefused schema query fault.NotBuilt)
 IsTextRefused text query fault.Memory = Unit {0}

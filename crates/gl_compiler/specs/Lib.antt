@@ -3,6 +3,7 @@ pub mod Benches
 pub mod Cycles
 pub mod Profile
 pub mod Prints
+pub mod Overflow
 pub mod Meets
 pub mod Compiles
 pub mod Queries

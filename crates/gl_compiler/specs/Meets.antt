@@ -1,5 +1,5 @@
 -- What a compiled text is: every run of its module in any order of events, over any beats that keep the gap and from any start, is right
--- for the statement.
+-- for the statement, and its overflow line says what has come by each cycle.
 use Rattle.std.specs.Prelude.{◌≡◌, ℕ, List, map}
 use Rattle.gl_bits.specs.Kinds.{width_of}
 use Rattle.gl_schema.specs.declared.schema.Column.{Column}
@@ -18,6 +18,7 @@ use Rattle.gl_verilog.specs.Run.{Fit, port_of, input_values}
 use Rattle.gl_verilog.specs.Runnable.{SameState}
 use Rattle.gl_verilog.specs.Text.{HasModule}
 use Rattle.gl_verilog_orders.specs.Events.{IsEventRun}
+use Rattle.gl_compiler.specs.Overflow.{TellsGroup}
 use Rattle.gl_compiler.specs.Profile.{FitsSchema, result_names, result_widths}
 
 -- the columns of a statement's result
@@ -34,7 +35,7 @@ pub record RunsOver (m : Module) (schema : Schema) (beats : List Beat) (start : 
 
 -- the text has a module with the ports of the schema and of the statement's result; there is a run of it from any start over any beats
 -- of the schema, and in each, whatever the order of its events, over beats that keep the gap, what is seen is right for the statement,
--- within the latency
+-- within the latency, and the overflow line never falls, and is 1 only where what has come has a result that spills
 pub record Meets (schema : Schema) (statement : Statement) (latency gap : ℕ) (text : List ℕ) : Type 0 where
   pub accepted : IsAccepted schema statement
   pub design : Module
@@ -44,3 +45,4 @@ pub record Meets (schema : Schema) (statement : Statement) (latency gap : ℕ) (
   pub widths : result_widths design ≡ map width_of (kinds_of (result_columns schema statement))
   pub runs : (beats : List Beat) (start : Nets) (words : Memories) → AreBeats schema beats → Fit design.declarations start words → RunsOver design schema beats start words
   pub right : (beats : List Beat) (value : ℕ → Nets) (word : ℕ → Memories) → AreBeats schema beats → KeepsGap gap beats → IsEventRun design value word → IsStimulus schema beats (input_values design value) → IsRight (IsResult schema statement) latency beats (result_names design) (port_of design value)
+  pub group : (beats : List Beat) (value : ℕ → Nets) (word : ℕ → Memories) → AreBeats schema beats → KeepsGap gap beats → IsEventRun design value word → IsStimulus schema beats (input_values design value) → TellsGroup (IsResult schema statement) beats (result_names design) (port_of design value)

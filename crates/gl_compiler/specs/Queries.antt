@@ -15,28 +15,19 @@ use Rattle.gl_elaborate.specs.Plans.{plan_of}
 use Rattle.gl_planner.specs.declared.planning.PlanFault.{PlanFault}
 use Rattle.gl_planner.specs.declared.planning.PlanFault.TheVariants as plan
 use Rattle.gl_planner.specs.Planned.{IsWithinLimits, PassesLimit}
-use Rattle.gl_plan_wiring.specs.Put.{IsFlat}
 use Rattle.gl_compiler.specs.declared.compiling.Compiled.{Compiled}
 use Rattle.gl_compiler.specs.declared.compiling.CompileFault.{CompileFault}
 use Rattle.gl_compiler.specs.declared.compiling.CompileFault.TheVariants as compile
 
--- the statement is accepted, its plan is within the limits, and no window and no group stands in it
+-- the statement is accepted, and its plan is within the limits
 pub record IsBuilt (schema : Schema) (statement : Statement) : Type 0 where
   pub accepted : IsAccepted schema statement
   pub within : IsWithinLimits (plan_of schema statement)
-  pub flat : IsFlat (plan_of schema statement).nodes (plan_of schema statement).root
 
 -- the text has this statement, which is compiled over this schema
 pub record IsQuery (schema : Schema) (text : List ℕ) (statement : Statement) : Type 0 where
   pub has : HasStatement text (statement_tree statement)
   pub built : IsBuilt schema statement
-
--- the text has a statement that is accepted and within the limits, but a window or a group stands in its plan
-pub record IsUnbuilt (schema : Schema) (text : List ℕ) : Type 0 where
-  pub statement : Statement
-  pub is : IsAcceptedText schema text statement
-  pub within : IsWithinLimits (plan_of schema statement)
-  pub unbuilt : IsFlat (plan_of schema statement).nodes (plan_of schema statement).root → ⊥
 
 -- the text has a statement that is accepted, and its plan passes this limit
 pub record IsOverLimit (schema : Schema) (text : List ℕ) (limit : Limit) : Type 0 where
@@ -49,7 +40,6 @@ abbrev pub IsQueryRefused : Schema → List ℕ → CompileFault → Type 0
 IsQueryRefused schema text (compile.Schema f) = ⊥
 IsQueryRefused schema text (compile.Query f) = IsQueryFault schema text f
 IsQueryRefused schema text (compile.Limit l) = IsOverLimit schema text l
-IsQueryRefused schema text compile.NotBuilt = IsUnbuilt schema text
 IsQueryRefused schema text compile.Memory = Unit {0}
 
 -- the fact holds where the query was refused, not for want of memory

@@ -12,7 +12,6 @@ ghost use Rattle.gl_algebra.specs.Added.{placed_at};
 ghost use Rattle.gl_algebra.specs.Small.{AreFigures};
 ghost use Rattle.gl_elaborate.specs.Plans.{plan_of};
 ghost use Rattle.gl_planner.specs.Planned.{IsPlanned};
-ghost use Rattle.gl_plan_wiring.specs.Put.{IsFlat};
 ghost use Rattle.gl_compiler.specs.Meets.{Meets, result_columns};
 ghost use Rattle.gl_compiler.specs.Queries.{IsQuery, IsQueryRefused, IfRefused, TellsCauses, fault_of_query, fault_of_plan, latency_of, gap_of, copies_of};
 ghost use Rattle.gl_compiler.specs.Compiles.{HasCost, IsCompiled, IsCompiledText, IsRefused, IsTextRefused};
@@ -45,9 +44,6 @@ pub enum CompileFault {
     /// The query's plan passes a limit.
     #[error("the query passes a limit")]
     Limit(Limit),
-    /// The query has a window or a group, which is not compiled yet.
-    #[error("the query is not compiled yet")]
-    NotBuilt,
     /// Want of memory.
     #[error("out of memory")]
     Memory,
@@ -160,7 +156,6 @@ fn text_of(
     requires checked { IsChecked checked.now.schema checked.now.statement }
     requires names { StatementHasNames (statement_shape checked.now.statement) }
     requires planned { IsPlanned checked.now.schema checked.now.statement planned.now }
-    requires flat { IsFlat planned.now.plan planned.now.root }
     requires columns { columns.now
         ≡ result_columns checked.now.schema checked.now.statement }
     ensures meets { let s = checked.now.schema in let q = checked.now.statement in
@@ -204,7 +199,6 @@ fn built(
     requires checked { IsChecked checked.now.schema checked.now.statement }
     requires names { StatementHasNames (statement_shape checked.now.statement) }
     requires planned { IsPlanned checked.now.schema checked.now.statement planned.now }
-    requires flat { IsFlat planned.now.plan planned.now.root }
     ensures meets { let s = checked.now.schema in let q = checked.now.statement in
         IfOk result (λ made. Meets s q (latency_of s q) (gap_of s q) made.0.text.items) }
     ensures cost { IfOk result (λ made. HasCost checked.now.schema checked.now.statement
@@ -229,17 +223,13 @@ fn compile_checked(alloc: Global, checked: Checked) -> Result<Compiled, CompileF
         Ok(planned) => planned,
         Err(fault) => return Err(plan_fault(fault)),
     };
-    let printed = planned.printed;
-    if printed.copies != 0 {
-        return Err(CompileFault::NotBuilt);
-    }
     let Ok((made, kinds)) = built(alloc, &checked, &planned) else {
         return Err(CompileFault::Memory);
     };
     let Checked { schema, statement } = checked;
     Ok(Compiled {
         text: made.text,
-        printed,
+        printed: planned.printed,
         cost: made.cost,
         schema,
         statement,
@@ -254,7 +244,7 @@ fn compile_checked(alloc: Global, checked: Checked) -> Result<Compiled, CompileF
 ///
 /// `Query` is the first fault of the text, by reading and then by the rules of acceptance, and comes
 /// exactly where it has one; `Limit` comes exactly where its statement is accepted and its plan passes
-/// this limit, and `NotBuilt` exactly where the plan is within the limits and has a window or a group.
+/// this limit.
 pub fn compile_query(alloc: Global, schema: Schema, query: &[u8]) -> Result<Compiled, CompileFault>
     requires { IsSchema schema }
     ensures schema { IfOk result (λ c. c.schema ≡ schema) }

@@ -1,6 +1,5 @@
 -- The memories of a netlist have addresses of at most 32 bits.
-use Rattle.std.proofs.Common.{◌≡◌, ℕ, Some}
-use Rattle.std.specs.Prelude.{slice_get}
+use Rattle.std.proofs.Common.{ℕ}
 use Rattle.gl_net.specs.declared.node.Node.{Node}
 use Rattle.gl_net.specs.declared.node.Node.TheVariants.{Input, Constant, Not, Binary, Choose, Join, Cut, Register, Memory, MemoryRead}
 use Rattle.gl_net.specs.Net.{Net}

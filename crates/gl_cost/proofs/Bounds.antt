@@ -1,5 +1,5 @@
 -- The bits of a memory whose addresses have at most 32 bits.
-use Rattle.std.proofs.Common.{◌≡◌, ℕ, ◌≤◌, ◌*◌, ◌^◌, ◌%◌, arith}
+use Rattle.std.proofs.Common.{ℕ, ◌≤◌, ◌*◌, ◌^◌, ◌%◌, arith}
 use Rattle.std.proofs.Math.Nat.{mod-le, mul-le-mul, pow-le-pow_right}
 
 pub memory_small : (bits modulus width : ℕ) → bits ≤ 32 → width ≤ 255 → (1 * 2 ^ bits % modulus) * width ≤ 1099511627776

@@ -1,6 +1,6 @@
 //! Counting bits.
 
-ghost use Rattle.std.specs.Prelude.{◌≡◌, ◌≤◌, ◌*◌, ◌^◌, length, sum_by};
+ghost use Rattle.std.specs.Prelude.{◌≡◌, ◌≤◌, ◌*◌, sum_by};
 ghost use Rattle.gl_net.specs.Net.{memory_bits as memory_bits_of_node, register_bits as register_bits_of_node};
 ghost use Rattle.gl_net.specs.Net.{memory_bits_of, register_bits_of};
 ghost use Rattle.gl_cost.specs.Small.{AreAddressed, IsAddressed};

@@ -1,6 +1,6 @@
 //! A checked statement, explained.
 
-ghost use Rattle.std.specs.Prelude.{◌≡◌, IfErr, IfOk, OnErr, OnOk};
+ghost use Rattle.std.specs.Prelude.{◌≡◌, IfErr, IfOk};
 ghost use Rattle.gl_query.specs.Checked.{IsChecked};
 ghost use Rattle.gl_algebra.specs.Added.{placed_at};
 ghost use Rattle.gl_algebra.specs.Small.{AreFigures};

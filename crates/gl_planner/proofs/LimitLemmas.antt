@@ -1,10 +1,10 @@
 -- A plan passes one limit, or none.
-use Rattle.std.proofs.Common.{◌≡◌, ℕ, ◌<◌, ◌≤◌, ◌⊎◌, inl, inr, refl, sym, ap, ◌∙◌, arith}
+use Rattle.std.proofs.Common.{◌≡◌, ℕ, ◌<◌, ◌≤◌, inl, inr, sym, ap, ◌∙◌, arith}
 use Rattle.std.proofs.lemmas.Bool.{cases_lt}
 use Rattle.gl_algebra.specs.Added.{Placed}
 use Rattle.gl_figures.specs.declared.Limit.{Limit}
 use Rattle.gl_figures.specs.declared.Limit.TheVariants.{Latency, Nodes}
-use Rattle.gl_planner.specs.Planned.{HasOneLimit, IsLateAt, IsTooHeavy, IsWithinLimits, PassesLimit}
+use Rattle.gl_planner.specs.Planned.{HasOneLimit, IsLateAt, IsWithinLimits, PassesLimit}
 
 no_other : (m n : ℕ) → (m < n → ⊥) → (n < m → ⊥) → m ≡ n
 no_other m n a b =

@@ -15,7 +15,7 @@ use Rattle.gl_algebra.specs.FigureTable as table
 use Rattle.gl_algebra.specs.Shapes as shapes
 use Rattle.gl_wiring.specs.Output.{plan_ports}
 use Rattle.gl_wiring.specs.StreamWires.{AreStreamLeaves}
-use Rattle.gl_wiring.specs.Wired.{OverBeats, plan_means}
+use Rattle.gl_wiring.specs.Wired.{KeepsGroup, OverBeats, plan_means}
 use Rattle.gl_verilog_writer.specs.Design.{module_text}
 use Rattle.gl_compiler.specs.Meets.{Meets, result_columns}
 use Rattle.gl_compiler.specs.Queries.{gap_of, latency_of}
@@ -33,7 +33,6 @@ wire_plan-requires c =
     record {
       schema' = c.requires.checked.of_schema;
       within = is.within;
-      flat = c.requires.flat;
       leaves = subst (λ (x : Placed). AreStreamLeaves schema.streams (shapes.shape_of x.nodes x.root).leaves) (sym is.at) k.leaves;
       figured = rw c.deref.ensures.value is.figures';
       named = record {
@@ -56,10 +55,12 @@ returns-clause-meets c =
     let e : module_text net ≡ c.write_module.new.into.items = sym (c.in_ok-write_module.ensures.text ∙ ap (λ (xs : List ℕ). xs ++ module_text net) c.new-text.ensures.items) in
     let ports = subst (λ (ns : List (List ℕ)). port_shapes net ≡ plan_ports schema (shapes.kinds_of c.args.planned.now.plan c.args.planned.now.root) ns) columns w.ports in
     let right = subst (λ (ns : List (List ℕ)). OverBeats schema (table.gap_of c.args.planned.now.plan c.args.planned.now.root) (λ all port. IsRight (plan_means c.args.planned.now.plan c.args.planned.now.root) (table.latency_of c.args.planned.now.plan c.args.planned.now.root) all (map out_column ns) port) net) columns w.right in
+    let group = subst (λ (ns : List (List ℕ)). OverBeats schema (table.gap_of c.args.planned.now.plan c.args.planned.now.root) (λ all port. KeepsGroup (map out_column ns) port) net) columns w.group in
     let ports' = subst (λ (x : Placed). port_shapes net ≡ plan_ports schema (shapes.kinds_of x.nodes x.root) (column_names (result_columns schema statement))) is.at ports in
     let right' = subst (λ (x : Placed). OverBeats schema (table.gap_of x.nodes x.root) (λ all port. IsRight (plan_means x.nodes x.root) (table.latency_of x.nodes x.root) all (map out_column (column_names (result_columns schema statement))) port) net) is.at right in
+    let group' = subst (λ (x : Placed). OverBeats schema (table.gap_of x.nodes x.root) (λ all port. KeepsGroup (map out_column (column_names (result_columns schema statement))) port) net) is.at group in
     subst (Meets schema statement (latency_of schema statement) (gap_of schema statement)) e
-    (text_meets schema statement net (module_text net) c.requires.checked.of_schema c.requires.checked k.right k.named k.columns k.real c.write_module.ensures.meaning ports' right')
+    (text_meets schema statement net (module_text net) c.requires.checked.of_schema c.requires.checked k.right k.named k.columns k.real c.write_module.ensures.meaning ports' right' group')
 
 pub returns-clause-cost : goal.returns-clause-cost
 returns-clause-cost c =

@@ -1,4 +1,4 @@
-use Rattle.std.proofs.Common.{◌≡◌, ◌≤◌, ◌*◌, ◌^◌, sum_by, take}
+use Rattle.std.proofs.Common.{◌≡◌, ◌≤◌, ◌*◌, sum_by, take}
 use Rattle.gl_net.specs.Net.{memory_bits as memory_bits_of_node}
 use Rattle.gl_cost.proofs.counting.all_memories.Given as goal
 

@@ -1,4 +1,4 @@
-use Rattle.std.proofs.Common.{◌≡◌, ap, sym, subst, ◌∙◌, sum_by, List}
+use Rattle.std.proofs.Common.{ap, sym, subst, ◌∙◌, sum_by, List}
 use Rattle.gl_net.specs.declared.node.Node.{Node}
 use Rattle.gl_net.specs.Net.{memory_bits, memory_bits_of, register_bits, register_bits_of}
 use Rattle.gl_cost.specs.Small.{AreAddressed}

@@ -1,4 +1,4 @@
-use Rattle.std.proofs.Common.{rules, ◌≡◌, ◌≤◌, arith, subst}
+use Rattle.std.proofs.Common.{rules, ◌≤◌, subst}
 use Rattle.gl_cost.specs.Small.{IsAddressed}
 use Rattle.gl_cost.proofs.Bounds.{memory_small}
 use Rattle.gl_cost.proofs.counting.memory_bits.Goals as goal
