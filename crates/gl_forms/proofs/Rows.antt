@@ -1,11 +1,11 @@
 -- Worked command lines compute.
 use Rattle.std.proofs.Common.{refl}
 use Rattle.gl_tuples.specs.Values.{number_of, is_number, are_digits, number_in}
-use Rattle.gl_forms.specs.Forms.{command_of, is_command, names_of, values_of, start_of}
+use Rattle.gl_forms.specs.Forms.{command_of, is_command, load_of, names_of, values_of, start_of}
 use Rattle.gl_forms.specs.Worked.{WorkedForms}
 
 pub worked_forms : WorkedForms
-unfolding command_of is_command names_of values_of start_of number_of is_number are_digits number_in
+unfolding command_of is_command load_of names_of values_of start_of number_of is_number are_digits number_in
 worked_forms = record {
   compile = (refl, refl);
   figures = (refl, refl);
@@ -26,6 +26,16 @@ worked_forms = record {
   a_name_too_few = refl;
   a_name_too_many = refl;
   start_of_no_run = refl;
+  load_some = (refl, refl);
+  load_one = (refl, refl);
+  load_most = (refl, refl);
+  load_zero = refl;
+  load_nothing = refl;
+  load_too_many = refl;
+  load_no_number = refl;
+  load_twice = refl;
+  load_start = refl;
+  load_dashed = refl;
   dashed_help = refl;
   help = refl;
   no_command = refl;

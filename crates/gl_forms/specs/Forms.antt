@@ -1,11 +1,12 @@
--- The forms of command lines: a command, names of texts, and options, which may stand anywhere behind the command.
-use Rattle.std.specs.Prelude.{◌≡◌, ◌<◌, ℕ, zero, suc, ◌^◌, Bool, true, false, ◌&&◌, ◌==◌, nat_lt, List, [], ◌∷◌, length, codes, bytes_eq, slice_get, unwrap_or, drop, Option, Some, None, is_some, IsTrue, if◌then◌else◌}
+-- The forms of command lines: a command, names, and options, which may stand anywhere behind the command. The names are those of texts,
+-- but for one command the number of tuples.
+use Rattle.std.specs.Prelude.{◌≡◌, ◌≢◌, ◌<◌, ℕ, zero, suc, ◌^◌, Bool, true, false, ◌&&◌, ◌==◌, nat_le, nat_lt, List, [], ◌∷◌, length, codes, bytes_eq, slice_get, unwrap_or, drop, Option, Some, None, is_some, IsTrue, if◌then◌else◌}
 use Rattle.std.specs.List.{starts_with}
 use Rattle.gl_sim.specs.declared.start.Start.{Start}
 use Rattle.gl_sim.specs.declared.start.Start.TheVariants.{Zero, Drawn}
 use Rattle.gl_tuples.specs.Values.{number_of}
 use Rattle.gl_forms.specs.declared.command.Command.{Command}
-use Rattle.gl_forms.specs.declared.command.Command.TheVariants.{Compile, Figures, Explain, Run}
+use Rattle.gl_forms.specs.declared.command.Command.TheVariants.{Compile, Figures, Explain, Run, Load}
 use Rattle.gl_forms.specs.declared.command.Part.{Part}
 use Rattle.gl_forms.specs.declared.command.Part.TheVariants.{Schema, Query, Tuples}
 
@@ -17,12 +18,12 @@ start_word = codes "--start"
 abbrev pub start_front : List ℕ
 start_front = codes "--start="
 
--- a word that begins with `-` names no text
+-- a word that begins with `-` is no name
 abbrev pub is_dashed : List ℕ → Bool
 is_dashed [] = false
 is_dashed (b ∷ bs) = b == 45
 
--- the words that name texts, in order; whether the first word is the value of an option is known from the one before it
+-- the words that are names, in order; whether the first word is the value of an option is known from the one before it
 abbrev pub names_in : Bool → List (List ℕ) → List (List ℕ)
 names_in valued [] = []
 names_in true (w ∷ ws) = names_in false ws
@@ -67,6 +68,21 @@ start_in (Some v ∷ v' ∷ vs) = None
 unfoldable pub start_of : List (List ℕ) → Start
 start_of words = unwrap_or (start_in (values_of words)) Zero
 
+-- ---- the tuples of a load
+
+-- 1 to 1,000,000
+abbrev pub load_at : Option ℕ → Option ℕ
+load_at None = None
+load_at (Some n) = if nat_le 1 n && nat_le n 1000000 then Some n else None
+
+-- as many as the digits of the first name spell
+abbrev pub load_in : List (List ℕ) → Option ℕ
+load_in [] = None
+load_in (name ∷ names) = load_at (number_of name)
+
+unfoldable pub load_of : List (List ℕ) → Option ℕ
+load_of words = load_in (names_of words)
+
 -- ---- commands
 
 abbrev pub word_of : Command → List ℕ
@@ -74,26 +90,33 @@ word_of Compile = codes "compile"
 word_of Figures = codes "figures"
 word_of Explain = codes "explain"
 word_of Run = codes "run"
+word_of Load = codes "load"
 
--- the texts that a command names: schema, query and, to run, the tuple file
-abbrev pub texts_of : Command → ℕ
-texts_of Compile = 2
-texts_of Figures = 2
-texts_of Explain = 2
-texts_of Run = 3
+-- the names behind a command: of the schema, the query and, to run, the tuple file; or the number of tuples
+abbrev pub many_names : Command → ℕ
+many_names Compile = 2
+many_names Figures = 2
+many_names Explain = 2
+many_names Run = 3
+many_names Load = 1
 
 -- the values that its option may have: a start, to run; else none
-abbrev pub takes : Command → List (Option (List ℕ)) → Bool
-takes Run values = is_some (start_in values)
-takes c [] = true
-takes c (v ∷ vs) = false
+abbrev pub takes_values : Command → List (Option (List ℕ)) → Bool
+takes_values Run values = is_some (start_in values)
+takes_values c [] = true
+takes_values c (v ∷ vs) = false
+
+-- and the names: of a load, a number; else any
+abbrev pub takes_names : Command → List (List ℕ) → Bool
+takes_names Load names = is_some (load_in names)
+takes_names c names = true
 
 abbrev pub first_word : List (List ℕ) → List ℕ
 first_word [] = []
 first_word (w ∷ ws) = w
 
 unfoldable pub is_command : List (List ℕ) → Command → Bool
-is_command words c = bytes_eq (first_word words) (word_of c) && (length (names_of words) == texts_of c) && takes c (values_of words)
+is_command words c = bytes_eq (first_word words) (word_of c) && (length (names_of words) == many_names c) && takes_names c (names_of words) && takes_values c (values_of words)
 
 -- the command of some words
 unfoldable pub command_of : List (List ℕ) → Option Command
@@ -102,6 +125,7 @@ command_of words =
     else if is_command words Figures then Some Figures
     else if is_command words Explain then Some Explain
     else if is_command words Run then Some Run
+    else if is_command words Load then Some Load
     else None
 
 abbrev pub IsCommand : List (List ℕ) → Command → Type 0
@@ -110,6 +134,16 @@ IsCommand words c = command_of words ≡ Some c
 -- the words are of a form
 abbrev pub IsForm : List (List ℕ) → Type 0
 IsForm words = IsTrue (is_some (command_of words))
+
+-- of one with texts: a load has none
+pub record HasTexts (words : List (List ℕ)) : Type 0 where
+  pub form : IsForm words
+  pub others : command_of words ≢ Some Load
+
+-- the words load so many tuples
+pub record IsLoadOf (words : List (List ℕ)) (n : ℕ) : Type 0 where
+  pub loads : IsCommand words Load
+  pub many : load_of words ≡ Some n
 
 -- ---- the texts
 
@@ -122,6 +156,7 @@ place_of Tuples = 2
 unfoldable pub name_of : List (List ℕ) → Part → List ℕ
 name_of words part = unwrap_or (slice_get (names_of words) (place_of part)) []
 
--- the words name this text
-abbrev pub IsNamed : List (List ℕ) → Part → Type 0
-IsNamed words part = place_of part < length (names_of words)
+-- the words name this text; the number of a load names none
+pub record IsNamed (words : List (List ℕ)) (part : Part) : Type 0 where
+  pub within : place_of part < length (names_of words)
+  pub others : command_of words ≢ Some Load

@@ -3,8 +3,8 @@ use Rattle.std.specs.Prelude.{◌≡◌, ℕ, List, [], ◌∷◌, codes, Some, 
 use Rattle.gl_sim.specs.declared.start.Start.{Start}
 use Rattle.gl_sim.specs.declared.start.Start.TheVariants.{Zero, Drawn}
 use Rattle.gl_forms.specs.declared.command.Command.{Command}
-use Rattle.gl_forms.specs.declared.command.Command.TheVariants.{Compile, Figures, Explain, Run}
-use Rattle.gl_forms.specs.Forms.{command_of, names_of, start_of}
+use Rattle.gl_forms.specs.declared.command.Command.TheVariants.{Compile, Figures, Explain, Run, Load}
+use Rattle.gl_forms.specs.Forms.{command_of, load_of, names_of, start_of}
 
 abbrev pub s : List ℕ
 s = codes "S"
@@ -14,6 +14,9 @@ q = codes "Q"
 
 abbrev pub t : List ℕ
 t = codes "T"
+
+abbrev pub load : List (List ℕ) → List (List ℕ)
+load words = codes "load" ∷ words
 
 abbrev pub run : List (List ℕ) → List (List ℕ)
 run words = codes "run" ∷ words
@@ -25,6 +28,10 @@ Names words c names = (command_of words ≡ Some c) × (names_of words ≡ names
 -- the words run the texts S, Q and T from this start
 abbrev pub RunsFrom : List (List ℕ) → Start → Type 0
 RunsFrom words start = Names words Run (s ∷ q ∷ t ∷ []) × (start_of words ≡ start)
+
+-- the words load so many tuples
+abbrev pub Loads : List (List ℕ) → ℕ → Type 0
+Loads words n = (command_of words ≡ Some Load) × (load_of words ≡ Some n)
 
 -- the words are of no form
 abbrev pub IsFormless : List (List ℕ) → Type 0
@@ -51,6 +58,16 @@ pub record WorkedForms : Type 0 where
   pub a_name_too_few : IsFormless (run (s ∷ q ∷ []))
   pub a_name_too_many : IsFormless (run (s ∷ q ∷ t ∷ codes "U" ∷ []))
   pub start_of_no_run : IsFormless (codes "compile" ∷ s ∷ q ∷ codes "--start" ∷ codes "5" ∷ [])
+  pub load_some : Loads (load (codes "1000" ∷ [])) 1000
+  pub load_one : Loads (load (codes "1" ∷ [])) 1
+  pub load_most : Loads (load (codes "1000000" ∷ [])) 1000000
+  pub load_zero : IsFormless (load (codes "0" ∷ []))
+  pub load_nothing : IsFormless (load [])
+  pub load_too_many : IsFormless (load (codes "1000001" ∷ []))
+  pub load_no_number : IsFormless (load (codes "5x" ∷ []))
+  pub load_twice : IsFormless (load (codes "1" ∷ codes "2" ∷ []))
+  pub load_start : IsFormless (load (codes "--start=1" ∷ codes "5" ∷ []))
+  pub load_dashed : IsFormless (load (codes "-5" ∷ []))
   pub dashed_help : IsFormless (codes "--help" ∷ [])
   pub help : IsFormless (codes "help" ∷ [])
   pub no_command : IsFormless (s ∷ q ∷ t ∷ [])

@@ -14,6 +14,8 @@ pub enum Command {
     Explain,
     /// `run S Q T [--start N]`: what the Verilog text does over a tuple file.
     Run,
+    /// `load N`: the Verilog text of a fixed query over N tuples, and what comes out.
+    Load,
 }
 
 impl Command {
@@ -26,16 +28,18 @@ impl Command {
             Command::Figures => "figures",
             Command::Explain => "explain",
             Command::Run => "run",
+            Command::Load => "load",
         }
     }
 
-    /// How many texts it names.
-    pub fn texts(self) -> usize
-        ensures { result ≡ forms.texts_of self }
+    /// How many names stand behind it.
+    pub fn names(self) -> usize
+        ensures { result ≡ forms.many_names self }
     {
         match self {
             Command::Compile | Command::Figures | Command::Explain => 2,
             Command::Run => 3,
+            Command::Load => 1,
         }
     }
 }

@@ -1,6 +1,6 @@
 //! What the words of a command line say.
 
-ghost use Rattle.std.specs.Prelude.{◌≡◌, ◌==◌, length, slice_get, is_some, option_map};
+ghost use Rattle.std.specs.Prelude.{◌≡◌, ◌≤◌, ◌==◌, length, slice_get, is_some, option_map, IfSome};
 ghost use Rattle.gl_tuples.specs.Values.{number_of};
 ghost use Rattle.gl_forms.specs.Forms as forms;
 ghost use Rattle.gl_forms.specs.Steps as steps;
@@ -29,7 +29,7 @@ fn is_start(valued: bool, word: &[u8]) -> bool
     !valued && word == b"--start".as_slice()
 }
 
-// Whether the word names a text.
+// Whether the word is a name.
 fn is_name(valued: bool, word: &[u8]) -> bool
     ensures { result ≡ steps.is_name valued word.now }
 {
@@ -195,6 +195,30 @@ pub fn start_of(words: &Words) -> Start
     start_in(words).unwrap_or(Start::Zero)
 }
 
+// ---- the tuples of a load
+
+// So many tuples, if a load may have them.
+fn load_at(name: &[u8]) -> Option<u32>
+    ensures value { result ≡ forms.load_at (number_of name.now) }
+    ensures some { IfSome result (λ count. 1 ≤ count) }
+{
+    let number = number_of(name)?;
+    if number == 0 || number > 1_000_000 {
+        None
+    } else {
+        Some(number as u32)
+    }
+}
+
+/// How many tuples a load has, if the first name says it.
+#[tactic(auto, unfolding(crate::specs::Forms::load_of))]
+pub fn load_of(words: &Words) -> Option<u32>
+    ensures value { result ≡ forms.load_of words.now }
+    ensures some { IfSome result (λ count. 1 ≤ count) }
+{
+    load_at(name_at(words, 0)?.as_bytes())
+}
+
 // ---- the command
 
 // The first word.
@@ -208,23 +232,37 @@ fn first_word(words: &Words) -> &str
 }
 
 // Whether the command takes the values.
-fn takes(words: &Words, command: Command) -> bool
-    ensures { result ≡ forms.takes command (forms.values_of words.now) }
+fn takes_values(words: &Words, command: Command) -> bool
+    ensures { result ≡ forms.takes_values command (forms.values_of words.now) }
 {
     match command {
         Command::Run => start_in(words).is_some(),
-        Command::Compile | Command::Figures | Command::Explain => value_at(words, 0).is_none(),
+        Command::Compile | Command::Figures | Command::Explain | Command::Load => {
+            value_at(words, 0).is_none()
+        }
     }
 }
 
-// Whether the words are this command, names of its texts and what it takes.
+// Whether the command takes the names.
+#[tactic(auto, unfolding(crate::specs::Forms::load_of))]
+fn takes_names(words: &Words, command: Command) -> bool
+    ensures { result ≡ forms.takes_names command (forms.names_of words.now) }
+{
+    match command {
+        Command::Load => load_of(words).is_some(),
+        Command::Compile | Command::Figures | Command::Explain | Command::Run => true,
+    }
+}
+
+// Whether the words are this command, as many names and what it takes.
 #[tactic(auto, unfolding(crate::specs::Forms::is_command))]
 fn is_command(words: &Words, command: Command) -> bool
     ensures { result ≡ forms.is_command words.now command }
 {
     first_word(words) == command.word()
-        && has_names(words, command.texts())
-        && takes(words, command)
+        && has_names(words, command.names())
+        && takes_names(words, command)
+        && takes_values(words, command)
 }
 
 /// The command that the words are, if they are of a form.
@@ -243,6 +281,9 @@ pub fn command_of(words: &Words) -> Option<Command>
     }
     if is_command(words, Command::Run) {
         return Some(Command::Run);
+    }
+    if is_command(words, Command::Load) {
+        return Some(Command::Load);
     }
     None
 }

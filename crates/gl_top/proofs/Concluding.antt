@@ -10,14 +10,15 @@ use Rattle.gl_top.specs.declared.status.Status.{Status}
 use Rattle.gl_top.specs.declared.status.Status.TheVariants as status
 use Rattle.gl_outside.specs.Told.{Told}
 use Rattle.gl_forms.specs.declared.command.Command.{Command}
-use Rattle.gl_forms.specs.declared.command.Command.TheVariants.{Compile, Figures, Explain, Run}
+use Rattle.gl_forms.specs.declared.command.Command.TheVariants.{Compile, Figures, Explain, Run, Load}
 use Rattle.gl_forms.specs.Forms.{IsForm, command_of}
+use Rattle.gl_forms.proofs.Named.{form_of}
 use Rattle.gl_outside.specs.States.{Took}
 use Rattle.gl_top.specs.Refusals.{Puts, Notes, status_of, note_of, write_line}
 use Rattle.gl_top.specs.Causes.{Change, HasCause, IsBadQuery, IsRefused}
-use Rattle.gl_top.specs.Verdicts.{AllPass, Three, IsAnswer, Ran, Broke', Shown, Cut, Ended, IsShownOf, Shows, IsTelling, Yields, Same, ToRead, ToWrite, ToMemory, IsFaultless, Says, TellsFault}
+use Rattle.gl_top.specs.Verdicts.{AllPass, Three, IsAnswer, Ran, Broke', Shown, Cut, Ended, IsGiven, OfLoad, OfTexts, Shows, IsTelling, Yields, Same, ToRead, ToWrite, ToMemory, IsFaultless, Says, TellsFault}
 use Rattle.gl_top.proofs.Texts.{next_form}
-use Rattle.gl_top.proofs.Deciding.{Stops, one_bad_query, stops, stops_once, passes_goes, two_go}
+use Rattle.gl_top.proofs.Deciding.{Stops, load_goes, one_bad_query, stops, stops_once, passes_goes, two_go}
 
 noted_write : (own answered : Status) (line : List ℕ) (notes : Puts) → own ≡ status.WriteFault → Notes own line notes answered → answered ≡ status.WriteFault
 noted_write own answered line notes e (inl n) = n.0 ∙ e
@@ -37,7 +38,6 @@ of_refusal words c out notes (refusal.TooLong p) h = inl (p, h.0)
 of_refusal words c out notes (refusal.Schema f) h = (f, h.0)
 of_refusal words c out notes (refusal.Query f) h = (f, h.0)
 of_refusal words c out notes (refusal.Limit l) h = inr (l, h.0)
-of_refusal words c out notes refusal.NotBuilt h = h.0
 of_refusal words c out notes (refusal.Tuples f) h = (f, h.0)
 of_refusal words c out notes refusal.Memory h = tt
 
@@ -64,7 +64,6 @@ told_by words c notes answered fault tells bad e (refusal.ReadFault p) h n = oth
 told_by words c notes answered fault tells bad e (refusal.TooLong p) h n = other_status (refusal.TooLong p) answered notes (note_of words (refusal.TooLong p)) (λ f. absurd cc) e n
 told_by words c notes answered fault tells bad e (refusal.Schema g) h n = other_status (refusal.Schema g) answered notes (note_of words (refusal.Schema g)) (λ f. absurd cc) e n
 told_by words c notes answered fault tells bad e (refusal.Limit l) h n = other_status (refusal.Limit l) answered notes (note_of words (refusal.Limit l)) (λ f. absurd cc) e n
-told_by words c notes answered fault tells bad e refusal.NotBuilt h n = other_status refusal.NotBuilt answered notes (note_of words refusal.NotBuilt) (λ f. absurd cc) e n
 told_by words c notes answered fault tells bad e (refusal.Tuples g) h n = other_status (refusal.Tuples g) answered notes (note_of words (refusal.Tuples g)) (λ f. absurd cc) e n
 told_by words c notes answered fault tells bad e refusal.Memory h n = other_status refusal.Memory answered notes (note_of words refusal.Memory) (λ f. absurd cc) e n
 
@@ -89,6 +88,7 @@ runs_none Compile schema statement bytes text h o e r = let f : ◌≡◌ {A = O
 runs_none Figures schema statement bytes text h o e r = let f : ◌≡◌ {A = Option Command} (Some Figures) (Some Run) = sym e ∙ r in cc
 runs_none Explain schema statement bytes text h o e r = let f : ◌≡◌ {A = Option Command} (Some Explain) (Some Run) = sym e ∙ r in cc
 runs_none Run schema statement bytes text h o e r = h
+runs_none Load schema statement bytes text h o e r = h
 
 -- what is answered, where a refusal was noted or not
 yields : (r : Refusal) (own answered : Status) (c : Change) (notes : Puts) (line : List ℕ) → status_of r ≡ own → Notes (status_of r) line notes answered → Yields own c notes answered
@@ -106,18 +106,18 @@ by_cause words c notes answered own tells st (refusal.TooLong p) h n = yields (r
 by_cause words c notes answered own tells st (refusal.Schema f) h n = yields (refusal.Schema f) own answered c notes (note_of words (refusal.Schema f)) (stops_once c.old.told words (status_of (refusal.Schema f)) own tells (stops c.old.told words (refusal.Schema f) h.0) st) n
 by_cause words c notes answered own tells st (refusal.Query f) h n = yields (refusal.Query f) own answered c notes (note_of words (refusal.Query f)) (stops_once c.old.told words (status_of (refusal.Query f)) own tells (stops c.old.told words (refusal.Query f) h.0) st) n
 by_cause words c notes answered own tells st (refusal.Limit l) h n = yields (refusal.Limit l) own answered c notes (note_of words (refusal.Limit l)) (stops_once c.old.told words (status_of (refusal.Limit l)) own tells (stops c.old.told words (refusal.Limit l) h.0) st) n
-by_cause words c notes answered own tells st refusal.NotBuilt h n = yields refusal.NotBuilt own answered c notes (note_of words refusal.NotBuilt) (stops_once c.old.told words (status_of refusal.NotBuilt) own tells (stops c.old.told words refusal.NotBuilt h.0) st) n
 by_cause words c notes answered own tells st (refusal.Tuples f) h n = yields (refusal.Tuples f) own answered c notes (note_of words (refusal.Tuples f)) (stops_once c.old.told words (status_of (refusal.Tuples f)) own tells (stops c.old.told words (refusal.Tuples f) h.0) st) n
 
 -- what is shown was not refused
-shown_goes : (told : List ℕ → Told) (words : List (List ℕ)) (bytes text : List ℕ) (a : Status) → IsTelling told words → IsShownOf told words bytes text → Stops told words a → ⊥
-shown_goes told words bytes text a tells d h = two_go told words d.schema d.statement a tells d.passes (runs_none d.command d.schema d.statement bytes text d.shows (command_of words) d.is) h
+shown_goes : (told : List ℕ → Told) (words : List (List ℕ)) (bytes text : List ℕ) (a : Status) → IsTelling told words → IsGiven told words bytes text → Stops told words a → ⊥
+shown_goes told words bytes text a tells (OfLoad d) h = load_goes told words d.count a d.is h
+shown_goes told words bytes text a tells (OfTexts d) h = two_go told words d.schema d.statement a tells d.passes (runs_none d.command d.schema d.statement bytes text d.shows (command_of words) d.is) h
 
 pub when_refused : (words : List (List ℕ)) (c : Change) (out notes : Puts) (text : List ℕ) (answered : Status) → IsAnswer words c out notes text answered → (r : Refusal) → IsTelling c.old.told words → IsRefused c.old.told words r → Yields (status_of r) c notes answered
 when_refused words c out notes text answered (Ran d) r tells h = absurd (passes_goes c.old.told words (status_of r) tells (Three d.schema d.statement d.beats d.emitted.passes) (stops c.old.told words r h))
 when_refused words c out notes text answered (Broke' b) r tells h = absurd (passes_goes c.old.told words (status_of r) tells (Three b.schema b.statement b.beats b.emitted.passes) (stops c.old.told words r h))
-when_refused words c out notes text answered (Shown d) r tells h = absurd (shown_goes c.old.told words d.bytes text (status_of r) tells d.shown (stops c.old.told words r h))
-when_refused words c out notes text answered (Cut b) r tells h = absurd (shown_goes c.old.told words b.bytes text (status_of r) tells b.shown (stops c.old.told words r h))
+when_refused words c out notes text answered (Shown d) r tells h = absurd (shown_goes c.old.told words d.bytes text (status_of r) tells d.given (stops c.old.told words r h))
+when_refused words c out notes text answered (Cut b) r tells h = absurd (shown_goes c.old.told words b.bytes text (status_of r) tells b.given (stops c.old.told words r h))
 when_refused words c out notes text answered (Ended d) r tells h = by_cause words c notes answered (status_of r) tells (stops c.old.told words r h) d.refusal d.cause d.noted
 
 calm_noted : (s : Refusal) (line : List ℕ) (notes : Puts) (answered : Status) {A : Type 0} → (Rose notes.old.faults notes.new.faults → ⊥) → (answered ≡ status_of s → A) → Notes (status_of s) line notes answered → A
@@ -134,7 +134,6 @@ by_calm words c out notes answered tells pass calm (refusal.TooLong p) h n = abs
 by_calm words c out notes answered tells pass calm (refusal.Schema f) h n = absurd (passes_goes c.old.told words (status_of (refusal.Schema f)) tells pass (stops c.old.told words (refusal.Schema f) h.0))
 by_calm words c out notes answered tells pass calm (refusal.Query f) h n = absurd (passes_goes c.old.told words (status_of (refusal.Query f)) tells pass (stops c.old.told words (refusal.Query f) h.0))
 by_calm words c out notes answered tells pass calm (refusal.Limit l) h n = absurd (passes_goes c.old.told words (status_of (refusal.Limit l)) tells pass (stops c.old.told words (refusal.Limit l) h.0))
-by_calm words c out notes answered tells pass calm refusal.NotBuilt h n = absurd (passes_goes c.old.told words (status_of refusal.NotBuilt) tells pass (stops c.old.told words refusal.NotBuilt h.0))
 by_calm words c out notes answered tells pass calm (refusal.Tuples f) h n = absurd (passes_goes c.old.told words (status_of (refusal.Tuples f)) tells pass (stops c.old.told words (refusal.Tuples f) h.0))
 
 pub when_calm : (words : List (List ℕ)) (c : Change) (out notes : Puts) (text : List ℕ) (answered : Status) → IsAnswer words c out notes text answered → IsTelling c.old.told words → AllPass c.old.told words → IsFaultless c out notes → (answered ≡ status.Done) ⊎ (answered ≡ status.Memory)
@@ -150,17 +149,20 @@ by_form words c notes answered none refusal.Usage h n = yields refusal.Usage sta
 by_form words c notes answered none (refusal.Missing p) h n = absurd (none (next_form c.old.told words p h.0.next))
 by_form words c notes answered none (refusal.ReadFault p) h n = absurd (none (next_form c.old.told words p h.0))
 by_form words c notes answered none (refusal.TooLong p) h n = absurd (none (next_form c.old.told words p h.0.next))
-by_form words c notes answered none (refusal.Schema f) h n = absurd (none h.0.form)
-by_form words c notes answered none (refusal.Query f) h n = absurd (none h.0.before.form)
-by_form words c notes answered none (refusal.Limit l) h n = absurd (none h.0.before.form)
-by_form words c notes answered none refusal.NotBuilt h n = absurd (none h.0.before.form)
-by_form words c notes answered none (refusal.Tuples f) h n = absurd (none h.0.before.before.form)
+by_form words c notes answered none (refusal.Schema f) h n = absurd (none h.0.form.form)
+by_form words c notes answered none (refusal.Query f) h n = absurd (none h.0.before.form.form)
+by_form words c notes answered none (refusal.Limit l) h n = absurd (none h.0.before.form.form)
+by_form words c notes answered none (refusal.Tuples f) h n = absurd (none h.0.before.before.form.form)
 by_form words c notes answered none refusal.Memory h (inl n) = ToMemory n.0
 by_form words c notes answered none refusal.Memory h (inr n) = ToWrite n.0 n.1.cause
 
+given_form : (told : List ℕ → Told) (words : List (List ℕ)) (bytes text : List ℕ) → IsGiven told words bytes text → IsForm words
+given_form told words bytes text (OfTexts d) = d.passes.before.form.form
+given_form told words bytes text (OfLoad d) = form_of words Load d.is.loads
+
 pub when_formless : (words : List (List ℕ)) (c : Change) (out notes : Puts) (text : List ℕ) (answered : Status) → IsAnswer words c out notes text answered → (IsForm words → ⊥) → Yields status.Usage c notes answered
-when_formless words c out notes text answered (Ran d) none = absurd (none d.emitted.passes.before.before.form)
-when_formless words c out notes text answered (Broke' b) none = absurd (none b.emitted.passes.before.before.form)
-when_formless words c out notes text answered (Shown d) none = absurd (none d.shown.passes.before.form)
-when_formless words c out notes text answered (Cut b) none = absurd (none b.shown.passes.before.form)
+when_formless words c out notes text answered (Ran d) none = absurd (none d.emitted.passes.before.before.form.form)
+when_formless words c out notes text answered (Broke' b) none = absurd (none b.emitted.passes.before.before.form.form)
+when_formless words c out notes text answered (Shown d) none = absurd (none (given_form c.old.told words d.bytes text d.given))
+when_formless words c out notes text answered (Cut b) none = absurd (none (given_form c.old.told words b.bytes text b.given))
 when_formless words c out notes text answered (Ended d) none = by_form words c notes answered none d.refusal d.cause d.noted

@@ -1,5 +1,5 @@
 -- Words and texts are refused in one way, or not at all, where the texts are told.
-use Rattle.std.proofs.Common.{◌≡◌, ◌≢◌, ℕ, ◌<◌, ◌≤◌, List, length, Option, None, Some, Result, Ok, Err, refl, sym, ap, subst, ◌∙◌, arith}
+use Rattle.std.proofs.Common.{◌≡◌, ◌≢◌, ℕ, ◌<◌, ◌≤◌, List, length, Some, Result, Ok, Err, refl, sym, ap, subst, ◌∙◌, arith}
 use Rattle.gl_outside.specs.Told.{Told, Untold, Lacks, Holds, IsLacking, IfTold}
 use Rattle.gl_schema.specs.declared.schema.Schema.{Schema}
 use Rattle.gl_schema.specs.declared.fault.SchemaFault.{SchemaFault}
@@ -10,7 +10,6 @@ use Rattle.gl_schema.proofs.Complete.{read_again}
 use Rattle.gl_query.specs.declared.tree.Statement.{Statement}
 use Rattle.gl_query.specs.declared.fault.QueryFault.{QueryFault}
 use Rattle.gl_query.specs.Trees.{statement_tree}
-use Rattle.gl_query_reader.specs.Grammar.{HasStatement}
 use Rattle.gl_query_judge.specs.Judged.{IsQueryFault}
 use Rattle.gl_query_judge.proofs.Judged.{accepted_goes, one_fault, one_meaning}
 use Rattle.gl_algebra.specs.Added.{Placed}
@@ -18,22 +17,21 @@ use Rattle.gl_algebra.specs.FigureTable as table
 use Rattle.gl_figures.specs.declared.Limit.{Limit}
 use Rattle.gl_tuples.specs.declared.beats.Beat.{Beat}
 use Rattle.gl_tuples.specs.declared.fault.TupleFault.{TupleFault}
-use Rattle.gl_compiler.specs.Queries.{IsOverLimit, IsQuery, IsUnbuilt, gap_of}
-use Rattle.gl_compiler.proofs.Refusing.{over_goes, query_accepted, unbuilt_goes, unbuilt_within, within_goes}
+use Rattle.gl_compiler.specs.Queries.{IsOverLimit, IsQuery, gap_of}
+use Rattle.gl_compiler.proofs.Refusing.{over_goes, query_accepted}
 use Rattle.gl_compiler.proofs.Shaped.{plans_alike}
-use Rattle.gl_forms.specs.declared.command.Command.{Command}
 use Rattle.gl_forms.specs.declared.command.Command.TheVariants as command
 use Rattle.gl_forms.specs.declared.command.Part.TheVariants as part
 use Rattle.gl_top.specs.declared.notes.Refusal.{Refusal}
 use Rattle.gl_top.specs.declared.notes.Refusal.TheVariants as refusal
 use Rattle.gl_top.specs.declared.status.Status.{Status}
 use Rattle.gl_top.specs.declared.status.Status.TheVariants as status
-use Rattle.gl_forms.specs.Forms.{IsCommand, IsForm, command_of, name_of}
-use Rattle.gl_top.specs.Passing.{IsQueryFor, SchemaPasses, QueryPasses, TuplesPass, kept_beats}
+use Rattle.gl_forms.specs.Forms.{HasTexts, IsCommand, IsForm, IsLoadOf, command_of, name_of}
+use Rattle.gl_top.specs.Passing.{SchemaPasses, QueryPasses, TuplesPass, kept_beats}
 use Rattle.gl_top.specs.Causes.{IsBadQuery, IsRefused}
 use Rattle.gl_top.specs.Refusals.{status_of}
-use Rattle.gl_top.specs.Verdicts.{AllPass, IsTelling, Three, Two}
-use Rattle.gl_forms.proofs.Named.{query_named, schema_named, tuples_named}
+use Rattle.gl_top.specs.Verdicts.{AllPass, IsTelling, Loads, Three, Two}
+use Rattle.gl_forms.proofs.Named.{form_of, query_named, schema_named, tuples_named}
 
 -- a text of at most 64 MiB with a property
 abbrev pub Fine : Told → (List ℕ → Type 0) → Type 0
@@ -90,10 +88,9 @@ IsSome text = (s : Schema) × IsSchemaText text s
 abbrev pub SchemaFails : List ℕ → Status → Type 0
 SchemaFails text answered = (IsSome text → ⊥) × (answered ≡ status.Schema)
 
-pub data QueryFails (o : Option Command) (s : Schema) (text : List ℕ) (answered : Status) : Type 0 where
-  OfFault : (fault : QueryFault) (found : IsQueryFault s text fault) (is : answered ≡ status.Query) → QueryFails o s text answered
-  OfLimit : (limit : Limit) (over : IsOverLimit s text limit) (is : answered ≡ status.Limit) → QueryFails o s text answered
-  OfForm : (unbuilt : IsUnbuilt s text) (builds : o ≢ Some command.Explain) (is : answered ≡ status.NotBuilt) → QueryFails o s text answered
+pub data QueryFails (s : Schema) (text : List ℕ) (answered : Status) : Type 0 where
+  OfFault : (fault : QueryFault) (found : IsQueryFault s text fault) (is : answered ≡ status.Query) → QueryFails s text answered
+  OfLimit : (limit : Limit) (over : IsOverLimit s text limit) (is : answered ≡ status.Limit) → QueryFails s text answered
 
 abbrev pub AreTuples : Schema → ℕ → List ℕ → Type 0
 AreTuples s gap text = (beats : List Beat) × (kept_beats s gap text ≡ Ok beats)
@@ -101,43 +98,21 @@ AreTuples s gap text = (beats : List Beat) × (kept_beats s gap text ≡ Ok beat
 abbrev pub TuplesFail : Schema → ℕ → List ℕ → Status → Type 0
 TuplesFail s gap text answered = (AreTuples s gap text → ⊥) × (answered ≡ status.Tuples)
 
-query_once : (o : Option Command) (s : Schema) (a b : Status) → IsSchema s → (text : List ℕ) → QueryFails o s text a → QueryFails o s text b → a ≡ b
-query_once o s a b fine text (OfFault f i e) (OfFault g j h) = e ∙ sym h
-query_once o s a b fine text (OfFault f i e) (OfLimit l p h) = absurd (accepted_goes s text f fine i p.statement p.is)
-query_once o s a b fine text (OfFault f i e) (OfForm u n h) = absurd (accepted_goes s text f fine i u.statement u.is)
-query_once o s a b fine text (OfLimit l p e) (OfFault f i h) = absurd (accepted_goes s text f fine i p.statement p.is)
-query_once o s a b fine text (OfLimit l p e) (OfLimit m q h) = e ∙ sym h
-query_once o s a b fine text (OfLimit l p e) (OfForm u n h) = absurd (unbuilt_within s text l u p)
-query_once o s a b fine text (OfForm u n e) (OfFault f i h) = absurd (accepted_goes s text f fine i u.statement u.is)
-query_once o s a b fine text (OfForm u n e) (OfLimit l p h) = absurd (unbuilt_within s text l u p)
-query_once o s a b fine text (OfForm u n e) (OfForm v m h) = e ∙ sym h
+query_once : (s : Schema) (a b : Status) → IsSchema s → (text : List ℕ) → QueryFails s text a → QueryFails s text b → a ≡ b
+query_once s a b fine text (OfFault f i e) (OfFault g j h) = e ∙ sym h
+query_once s a b fine text (OfFault f i e) (OfLimit l p h) = absurd (accepted_goes s text f fine i p.statement p.is)
+query_once s a b fine text (OfLimit l p e) (OfFault f i h) = absurd (accepted_goes s text f fine i p.statement p.is)
+query_once s a b fine text (OfLimit l p e) (OfLimit m q h) = e ∙ sym h
 
-built_out : (o : Option Command) (s : Schema) (st : Statement) (a : Status) → IsSchema s → (text : List ℕ) → IsQuery s text st → QueryFails o s text a → ⊥
-built_out o s st a fine text q (OfFault f i e) = accepted_goes s text f fine i st (query_accepted s text st q)
-built_out o s st a fine text q (OfLimit l p e) = over_goes s text st l p q
-built_out o s st a fine text q (OfForm u n e) = unbuilt_goes s text st u q
-
-query_out : (o : Option Command) (s : Schema) (st : Statement) (a : Status) → IsSchema s → (text : List ℕ) → IsQueryFor o s text st → QueryFails o s text a → ⊥
-query_out None s st a fine text q f = q
-query_out (Some command.Compile) s st a fine text q f = built_out (Some command.Compile) s st a fine text q f
-query_out (Some command.Run) s st a fine text q f = built_out (Some command.Run) s st a fine text q f
-query_out (Some command.Figures) s st a fine text q f = built_out (Some command.Figures) s st a fine text q f
-query_out (Some command.Explain) s st a fine text q (OfFault f i e) = accepted_goes s text f fine i st q.0
-query_out (Some command.Explain) s st a fine text q (OfLimit l p e) = within_goes s text st l q.0.has q.1 p
-query_out (Some command.Explain) s st a fine text q (OfForm u n e) = n refl
-
-query_has : (o : Option Command) (s : Schema) (st : Statement) (text : List ℕ) → IsQueryFor o s text st → HasStatement text (statement_tree st)
-query_has None s st text q = absurd q
-query_has (Some command.Compile) s st text q = q.has
-query_has (Some command.Run) s st text q = q.has
-query_has (Some command.Figures) s st text q = q.has
-query_has (Some command.Explain) s st text q = q.0.has
+query_out : (s : Schema) (st : Statement) (a : Status) → IsSchema s → (text : List ℕ) → IsQuery s text st → QueryFails s text a → ⊥
+query_out s st a fine text q (OfFault f i e) = accepted_goes s text f fine i st (query_accepted s text st q)
+query_out s st a fine text q (OfLimit l p e) = over_goes s text st l p q
 
 -- the first that is refused
 pub data Stops (told : List ℕ → Told) (words : List (List ℕ)) (answered : Status) : Type 0 where
   AtWords : (formless : IsForm words → ⊥) (is : answered ≡ status.Usage) → Stops told words answered
-  AtSchema : (form : IsForm words) (fails : Failing (told (name_of words part.Schema)) SchemaFails answered) → Stops told words answered
-  AtQuery : (s : Schema) (before : SchemaPasses told words s) (fails : Failing (told (name_of words part.Query)) (QueryFails (command_of words) s) answered) → Stops told words answered
+  AtSchema : (form : HasTexts words) (fails : Failing (told (name_of words part.Schema)) SchemaFails answered) → Stops told words answered
+  AtQuery : (s : Schema) (before : SchemaPasses told words s) (fails : Failing (told (name_of words part.Query)) (QueryFails s) answered) → Stops told words answered
   AtTuples : (runs : IsCommand words command.Run) (s : Schema) (st : Statement) (before : QueryPasses told words s st) (fails : Failing (told (name_of words part.Tuples)) (TuplesFail s (gap_of s st)) answered) → Stops told words answered
 
 no_schema : (fault : SchemaFault) (text : List ℕ) → schema_of text ≡ Err fault → SchemaFails text status.Schema
@@ -159,13 +134,10 @@ stops told words (refusal.Schema fault) h =
     AtSchema h.form (Bad (weaker (told (name_of words part.Schema)) (λ text. schema_of text ≡ Err fault) (λ text. SchemaFails text status.Schema) (no_schema fault) h.text))
 stops told words (refusal.Query fault) h =
     AtQuery h.schema h.before
-    (Bad (weaker (told (name_of words part.Query)) (λ text. IsQueryFault h.schema text fault) (λ text. QueryFails (command_of words) h.schema text status.Query) (λ text i. OfFault fault i refl) h.text))
+    (Bad (weaker (told (name_of words part.Query)) (λ text. IsQueryFault h.schema text fault) (λ text. QueryFails h.schema text status.Query) (λ text i. OfFault fault i refl) h.text))
 stops told words (refusal.Limit limit) h =
     AtQuery h.schema h.before
-    (Bad (weaker (told (name_of words part.Query)) (λ text. IsOverLimit h.schema text limit) (λ text. QueryFails (command_of words) h.schema text status.Limit) (λ text p. OfLimit limit p refl) h.text))
-stops told words refusal.NotBuilt h =
-    AtQuery h.schema h.before
-    (Bad (weaker (told (name_of words part.Query)) (IsUnbuilt h.schema) (λ text. QueryFails (command_of words) h.schema text status.NotBuilt) (λ text u. OfForm u h.builds refl) h.text))
+    (Bad (weaker (told (name_of words part.Query)) (λ text. IsOverLimit h.schema text limit) (λ text. QueryFails h.schema text status.Limit) (λ text p. OfLimit limit p refl) h.text))
 stops told words (refusal.Tuples fault) h =
     AtTuples h.runs h.schema h.statement h.before
     (Bad (weaker (told (name_of words part.Tuples)) (λ text. kept_beats h.schema (gap_of h.schema h.statement) text ≡ Err fault) (λ text. TuplesFail h.schema (gap_of h.schema h.statement) text status.Tuples)
@@ -188,14 +160,14 @@ one_bad_query told words f g tells a b =
     (subst (λ (x : Schema). Fine (told (name_of words part.Query)) (λ text. IsQueryFault x text g)) e b.text) (λ text h k. one_fault a.schema text f g h k)
 
 -- its statements have one gap
-same_gap : (o : Option Command) (s : Schema) (st st' : Statement) (text : List ℕ) → IsQueryFor o s text st → IsQueryFor o s text st' → gap_of s st ≡ gap_of s st'
-same_gap o s st st' text p q =
+same_gap : (s : Schema) (st st' : Statement) (text : List ℕ) → IsQuery s text st → IsQuery s text st' → gap_of s st ≡ gap_of s st'
+same_gap s st st' text p q =
     ap (λ (x : Placed). table.gap_of x.nodes x.root)
-    (plans_alike s st st' (one_meaning text (statement_tree st) (statement_tree st') (query_has o s st text p) (query_has o s st' text q)))
+    (plans_alike s st st' (one_meaning text (statement_tree st) (statement_tree st') p.has q.has))
 
 one_gap : (told : List ℕ → Told) (words : List (List ℕ)) (s : Schema) (st st' : Statement) → IsTelling told words → QueryPasses told words s st → QueryPasses told words s st' → gap_of s st ≡ gap_of s st'
 one_gap told words s st st' tells p q =
-    with_both (told (name_of words part.Query)) (λ text. IsQueryFor (command_of words) s text st) (λ text. IsQueryFor (command_of words) s text st') (tells part.Query (query_named words p.before.form)) p.text q.text (same_gap (command_of words) s st st')
+    with_both (told (name_of words part.Query)) (λ text. IsQuery s text st) (λ text. IsQuery s text st') (tells part.Query (query_named words p.before.form)) p.text q.text (same_gap s st st')
 
 -- ---- what passes does not stop
 
@@ -205,11 +177,11 @@ schema_goes told words s a tells p f =
     (weaker (told (name_of words part.Schema)) (λ text. IsSchemaText text s) IsSome (λ text h. (s, h)) p.text) f)
 
 query_goes : (told : List ℕ → Told) (words : List (List ℕ)) (s t : Schema) (st : Statement) (a : Status) {A : Type 0} → IsTelling told words → QueryPasses told words s st → SchemaPasses told words t
-    → Failing (told (name_of words part.Query)) (QueryFails (command_of words) t) a → A
+    → Failing (told (name_of words part.Query)) (QueryFails t) a → A
 query_goes told words s t st a tells p q f =
     let e : t ≡ s = one_schema told words t s tells q p.before in
-    absurd (not_both (told (name_of words part.Query)) (λ text. IsQueryFor (command_of words) s text st) (QueryFails (command_of words) s) a (tells part.Query (query_named words p.before.form)) (query_out (command_of words) s st a p.before.fine) p.text
-    (subst (λ (x : Schema). Failing (told (name_of words part.Query)) (QueryFails (command_of words) x) a) e f))
+    absurd (not_both (told (name_of words part.Query)) (λ text. IsQuery s text st) (QueryFails s) a (tells part.Query (query_named words p.before.form)) (query_out s st a p.before.fine) p.text
+    (subst (λ (x : Schema). Failing (told (name_of words part.Query)) (QueryFails x) a) e f))
 
 -- the gap of another statement of the texts
 other_gap : (told : List ℕ → Told) (words : List (List ℕ)) (s t : Schema) (st st' : Statement) → IsTelling told words → QueryPasses told words s st → QueryPasses told words t st'
@@ -228,38 +200,46 @@ tuples_go told words s st beats a tells p f =
 
 -- the query passes, and the words run nothing
 pub two_go : (told : List ℕ → Told) (words : List (List ℕ)) (s : Schema) (st : Statement) (a : Status) → IsTelling told words → QueryPasses told words s st → command_of words ≢ Some command.Run → Stops told words a → ⊥
-two_go told words s st a tells p other (AtWords n e) = n p.before.form
+two_go told words s st a tells p other (AtWords n e) = n p.before.form.form
 two_go told words s st a tells p other (AtSchema form f) = schema_goes told words s a tells p.before f
 two_go told words s st a tells p other (AtQuery t q f) = query_goes told words s t st a tells p q f
 two_go told words s st a tells p other (AtTuples runs t st' q f) = other runs
 
 pub three_go : (told : List ℕ → Told) (words : List (List ℕ)) (s : Schema) (st : Statement) (beats : List Beat) (a : Status) → IsTelling told words → TuplesPass told words s st beats → Stops told words a → ⊥
-three_go told words s st beats a tells p (AtWords n e) = n p.before.before.form
+three_go told words s st beats a tells p (AtWords n e) = n p.before.before.form.form
 three_go told words s st beats a tells p (AtSchema form f) = schema_goes told words s a tells p.before.before f
 three_go told words s st beats a tells p (AtQuery t q f) = query_goes told words s t st a tells p.before q f
 three_go told words s st beats a tells p (AtTuples runs t st' q f) = tuples_go told words s st beats a tells p (other_gap told words s t st st' tells p.before q a f)
 
+-- a load names no text that could
+pub load_goes : (told : List ℕ → Told) (words : List (List ℕ)) (count : ℕ) (a : Status) → IsLoadOf words count → Stops told words a → ⊥
+load_goes told words count a is (AtWords n e) = n (form_of words command.Load is.loads)
+load_goes told words count a is (AtSchema form f) = form.others is.loads
+load_goes told words count a is (AtQuery s p f) = p.form.others is.loads
+load_goes told words count a is (AtTuples runs s st p f) = p.before.form.others is.loads
+
 pub passes_goes : (told : List ℕ → Told) (words : List (List ℕ)) (a : Status) → IsTelling told words → AllPass told words → Stops told words a → ⊥
 passes_goes told words a tells (Two s st p other) h = two_go told words s st a tells p other h
 passes_goes told words a tells (Three s st beats p) h = three_go told words s st beats a tells p h
+passes_goes told words a tells (Loads count is) h = load_goes told words count a is h
 
 -- there is one way to be refused
 pub stops_once : (told : List ℕ → Told) (words : List (List ℕ)) (a b : Status) → IsTelling told words → Stops told words a → Stops told words b → a ≡ b
 stops_once told words a b tells (AtWords n e) (AtWords m h) = e ∙ sym h
-stops_once told words a b tells (AtWords n e) (AtSchema form f) = absurd (n form)
-stops_once told words a b tells (AtWords n e) (AtQuery s p f) = absurd (n p.form)
-stops_once told words a b tells (AtWords n e) (AtTuples r s st p f) = absurd (n p.before.form)
-stops_once told words a b tells (AtSchema form f) (AtWords m h) = absurd (m form)
+stops_once told words a b tells (AtWords n e) (AtSchema form f) = absurd (n form.form)
+stops_once told words a b tells (AtWords n e) (AtQuery s p f) = absurd (n p.form.form)
+stops_once told words a b tells (AtWords n e) (AtTuples r s st p f) = absurd (n p.before.form.form)
+stops_once told words a b tells (AtSchema form f) (AtWords m h) = absurd (m form.form)
 stops_once told words a b tells (AtSchema form f) (AtSchema form' g) = fails_once (told (name_of words part.Schema)) SchemaFails a b (tells part.Schema (schema_named words form)) (λ text h k. h.1 ∙ sym k.1) f g
 stops_once told words a b tells (AtSchema form f) (AtQuery s p g) = schema_goes told words s a tells p f
 stops_once told words a b tells (AtSchema form f) (AtTuples r s st p g) = schema_goes told words s a tells p.before f
-stops_once told words a b tells (AtQuery s p f) (AtWords m h) = absurd (m p.form)
+stops_once told words a b tells (AtQuery s p f) (AtWords m h) = absurd (m p.form.form)
 stops_once told words a b tells (AtQuery s p f) (AtSchema form g) = schema_goes told words s b tells p g
 stops_once told words a b tells (AtQuery s p f) (AtQuery t q g) =
-    fails_once (told (name_of words part.Query)) (QueryFails (command_of words) t) a b (tells part.Query (query_named words q.form)) (query_once (command_of words) t a b q.fine)
-    (subst (λ (x : Schema). Failing (told (name_of words part.Query)) (QueryFails (command_of words) x) a) (one_schema told words s t tells p q) f) g
+    fails_once (told (name_of words part.Query)) (QueryFails t) a b (tells part.Query (query_named words q.form)) (query_once t a b q.fine)
+    (subst (λ (x : Schema). Failing (told (name_of words part.Query)) (QueryFails x) a) (one_schema told words s t tells p q) f) g
 stops_once told words a b tells (AtQuery s p f) (AtTuples r t st q g) = query_goes told words t s st a tells q p f
-stops_once told words a b tells (AtTuples r s st p f) (AtWords m h) = absurd (m p.before.form)
+stops_once told words a b tells (AtTuples r s st p f) (AtWords m h) = absurd (m p.before.form.form)
 stops_once told words a b tells (AtTuples r s st p f) (AtSchema form g) = schema_goes told words s b tells p.before g
 stops_once told words a b tells (AtTuples r s st p f) (AtQuery t q g) = query_goes told words s t st b tells p q g
 stops_once told words a b tells (AtTuples r s st p f) (AtTuples r' t st' q g) =

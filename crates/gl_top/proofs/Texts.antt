@@ -1,6 +1,6 @@
 -- What a text that was read says of its part.
-use Rattle.std.proofs.Common.{◌≡◌, ◌≢◌, ℕ, true, false, ◌<◌, ◌≤◌, List, length, Option, Some, None, Ok, Err, refl, sym, ap, subst, ◌∙◌}
-use Rattle.std.specs.Prelude.{IsTrue, is_some, Contains}
+use Rattle.std.proofs.Common.{◌≡◌, ℕ, true, false, ◌<◌, ◌≤◌, List, length, Option, Some, None, Ok, Err, refl, sym, ap, subst, ◌∙◌}
+use Rattle.std.specs.Prelude.{is_some, Contains}
 use Rattle.gl_forms.proofs.Named as forms
 use Rattle.gl_forms.proofs.Named.{query_named, schema_named, tuples_named}
 use Rattle.gl_outside.specs.States.{ShelfState, IsCalm, Missed, Faulted, ReadLeaves}
@@ -26,20 +26,20 @@ use Rattle.gl_compiler.specs.declared.compiling.CompileFault.{CompileFault}
 use Rattle.gl_compiler.specs.declared.compiling.CompileFault.TheVariants as compile
 use Rattle.gl_query_judge.specs.Judged.{IsQueryFault}
 use Rattle.gl_figures.specs.declared.Limit.{Limit}
-use Rattle.gl_compiler.specs.Queries.{IsOverLimit, IsQuery, IsUnbuilt, IsQueryRefused, gap_of}
+use Rattle.gl_compiler.specs.Queries.{IsOverLimit, IsQuery, IsQueryRefused, gap_of}
 use Rattle.gl_forms.specs.declared.command.Part.{Part}
 use Rattle.gl_forms.specs.declared.command.Part.TheVariants as part
 use Rattle.gl_forms.specs.declared.command.Command.{Command}
-use Rattle.gl_forms.specs.declared.command.Command.TheVariants.{Compile, Figures, Explain, Run}
-use Rattle.gl_forms.specs.Forms.{IsCommand, IsForm, command_of, name_of}
-use Rattle.gl_top.specs.Passing.{HasText, IsQueryFor, SchemaPasses, QueryPasses, kept_beats}
+use Rattle.gl_forms.specs.declared.command.Command.TheVariants.{Run}
+use Rattle.gl_forms.specs.Forms.{HasTexts, IsCommand, IsForm, command_of, name_of}
+use Rattle.gl_top.specs.Passing.{HasText, SchemaPasses, QueryPasses, kept_beats}
 use Rattle.gl_top.specs.Causes.{IsNext, IsBadSchema, AreBadTuples, Change, change, HasCause, read_refusal, schema_refusal, query_refusal, tuples_refusal}
 
 -- the words are of the form where a text is judged
 pub next_form : (told : List ℕ → Told) (words : List (List ℕ)) (p : Part) → IsNext told words p → IsForm words
-next_form told words part.Schema next = next
-next_form told words part.Query next = next.1.form
-next_form told words part.Tuples next = next.3.before.form
+next_form told words part.Schema next = next.form
+next_form told words part.Query next = next.1.form.form
+next_form told words part.Tuples next = next.3.before.form.form
 
 -- words of no form
 pub no_form : (words : List (List ℕ)) → command_of words ≡ None → IsForm words → ⊥
@@ -76,10 +76,10 @@ read_cause words a b p name read.TooLong e next told left = (record { next = nex
 read_cause words a b p name read.Memory e next told left = left
 
 -- of a schema that is refused
-is_bad : (words : List (List ℕ)) (c : Change) (v : List ℕ) (fault : faults.SchemaFault) → IsForm words → HasText c.old.told words part.Schema (λ text. v ≡ text) → schema_of v ≡ Err fault → IsBadSchema c.old.told words fault
+is_bad : (words : List (List ℕ)) (c : Change) (v : List ℕ) (fault : faults.SchemaFault) → HasTexts words → HasText c.old.told words part.Schema (λ text. v ≡ text) → schema_of v ≡ Err fault → IsBadSchema c.old.told words fault
 is_bad words c v fault form h f = record { form = form; text = has_text c.old.told words part.Schema (λ text. schema_of text ≡ Err fault) v h f }
 
-pub schema_cause : (words : List (List ℕ)) (c : Change) (v : List ℕ) (fault : faults.SchemaFault) → IsCalm c.old c.new → IsForm words → HasText c.old.told words part.Schema (λ text. v ≡ text)
+pub schema_cause : (words : List (List ℕ)) (c : Change) (v : List ℕ) (fault : faults.SchemaFault) → IsCalm c.old c.new → HasTexts words → HasText c.old.told words part.Schema (λ text. v ≡ text)
     → schemas.Fails fault (schema_of v) → HasCause words c (schema_refusal fault)
 schema_cause words c v schema.Memory calm form h f = calm
 schema_cause words c v (schema.Syntax at) calm form h f = (is_bad words c v (schema.Syntax at) form h f, calm)
@@ -88,38 +88,26 @@ schema_cause words c v (schema.BadKind at) calm form h f = (is_bad words c v (sc
 schema_cause words c v (schema.Twice at) calm form h f = (is_bad words c v (schema.Twice at) form h f, calm)
 schema_cause words c v (schema.TooMany at) calm form h f = (is_bad words c v (schema.TooMany at) form h f, calm)
 
-pub schema_passes : (told : List ℕ → Told) (words : List (List ℕ)) (v : List ℕ) (s : Schema) → IsForm words → HasText told words part.Schema (λ text. v ≡ text) → IsSchemaText v s → SchemaPasses told words s
+pub schema_passes : (told : List ℕ → Told) (words : List (List ℕ)) (v : List ℕ) (s : Schema) → HasTexts words → HasText told words part.Schema (λ text. v ≡ text) → IsSchemaText v s → SchemaPasses told words s
 schema_passes told words v s form h is = record { form = form; fine = is.schema'; text = has_text told words part.Schema (λ text. IsSchemaText text s) v h is }
 
 -- of a query that is refused
-not_built : (words : List (List ℕ)) (c : Change) (v : List ℕ) (s : Schema) → command_of words ≢ Some Explain → IsCalm c.old c.new → SchemaPasses c.old.told words s → HasText c.old.told words part.Query (λ text. v ≡ text) → IsUnbuilt s v → HasCause words c (query_refusal compile.NotBuilt)
-not_built words c v s builds calm before h is = (record { builds = builds; schema = s; before = before; text = has_text c.old.told words part.Query (IsUnbuilt s) v h is }, calm)
-
 bad_query : (words : List (List ℕ)) (c : Change) (v : List ℕ) (s : Schema) (f : QueryFault) → IsCalm c.old c.new → SchemaPasses c.old.told words s → HasText c.old.told words part.Query (λ text. v ≡ text) → IsQueryFault s v f → HasCause words c (query_refusal (compile.Query f))
 bad_query words c v s f calm before h is = (record { schema = s; before = before; text = has_text c.old.told words part.Query (λ text. IsQueryFault s text f) v h is }, calm)
 
 over_limit : (words : List (List ℕ)) (c : Change) (v : List ℕ) (s : Schema) (l : Limit) → IsCalm c.old c.new → SchemaPasses c.old.told words s → HasText c.old.told words part.Query (λ text. v ≡ text) → IsOverLimit s v l → HasCause words c (query_refusal (compile.Limit l))
 over_limit words c v s l calm before h is = (record { schema = s; before = before; text = has_text c.old.told words part.Query (λ text. IsOverLimit s text l) v h is }, calm)
 
-pub query_cause : (words : List (List ℕ)) (c : Change) (v : List ℕ) (s : Schema) (fault : CompileFault) → command_of words ≢ Some Explain → IsCalm c.old c.new → SchemaPasses c.old.told words s → HasText c.old.told words part.Query (λ text. v ≡ text) → IsQueryRefused s v fault → HasCause words c (query_refusal fault)
-query_cause words c v s compile.Memory builds calm before h is = calm
-query_cause words c v s (compile.Schema f) builds calm before h is = absurd is
-query_cause words c v s (compile.Query f) builds calm before h is = bad_query words c v s f calm before h is
-query_cause words c v s (compile.Limit l) builds calm before h is = over_limit words c v s l calm before h is
-query_cause words c v s compile.NotBuilt builds calm before h is = not_built words c v s builds calm before h is
+pub query_cause : (words : List (List ℕ)) (c : Change) (v : List ℕ) (s : Schema) (fault : CompileFault) → IsCalm c.old c.new → SchemaPasses c.old.told words s → HasText c.old.told words part.Query (λ text. v ≡ text) → IsQueryRefused s v fault → HasCause words c (query_refusal fault)
+query_cause words c v s compile.Memory calm before h is = calm
+query_cause words c v s (compile.Schema f) calm before h is = absurd is
+query_cause words c v s (compile.Query f) calm before h is = bad_query words c v s f calm before h is
+query_cause words c v s (compile.Limit l) calm before h is = over_limit words c v s l calm before h is
 
--- what is built serves every command but the one that explains
-query_for : (o : Option Command) (s : Schema) (v : List ℕ) (statement : Statement) → IsTrue (is_some o) → o ≢ Some Explain → IsQuery s v statement → IsQueryFor o s v statement
-query_for None s v statement some builds q = absurd cc
-query_for (Some Compile) s v statement some builds q = q
-query_for (Some Figures) s v statement some builds q = q
-query_for (Some Explain) s v statement some builds q = absurd (builds refl)
-query_for (Some Run) s v statement some builds q = q
-
-pub query_passes : (told : List ℕ → Told) (words : List (List ℕ)) (v : List ℕ) (s t : Schema) (statement : Statement) → t ≡ s → command_of words ≢ Some Explain → SchemaPasses told words s → HasText told words part.Query (λ text. v ≡ text) → IsQuery s v statement → QueryPasses told words t statement
-query_passes told words v s t statement e builds before h built =
+pub query_passes : (told : List ℕ → Told) (words : List (List ℕ)) (v : List ℕ) (s t : Schema) (statement : Statement) → t ≡ s → SchemaPasses told words s → HasText told words part.Query (λ text. v ≡ text) → IsQuery s v statement → QueryPasses told words t statement
+query_passes told words v s t statement e before h built =
     subst (λ (x : Schema). QueryPasses told words x statement) (sym e)
-    (record { before = before; text = has_text told words part.Query (λ text. IsQueryFor (command_of words) s text statement) v h (query_for (command_of words) s v statement before.form builds built) })
+    (record { before = before; text = has_text told words part.Query (λ text. IsQuery s text statement) v h built })
 
 -- of a tuple file that is refused
 are_bad : (words : List (List ℕ)) (c : Change) (v : List ℕ) (s : Schema) (statement : Statement) (fault : TupleFault) → IsCommand words Run → QueryPasses c.old.told words s statement → HasText c.old.told words part.Tuples (λ text. v ≡ text)

@@ -1,5 +1,5 @@
 -- Why the program ends before anything is written.
-use Rattle.std.specs.Prelude.{◌≡◌, ◌≢◌, ℕ, ◌<◌, List, length, Some, Result, Ok, Err}
+use Rattle.std.specs.Prelude.{◌≡◌, ℕ, ◌<◌, List, length, Result, Ok, Err}
 use Rattle.gl_outside.specs.States.{ShelfState, IsCalm, Missed, Faulted}
 use Rattle.gl_outside.specs.Told.{Told, IsLacking, IfTold}
 use Rattle.gl_outside.specs.declared.reading.ReadFault as reads
@@ -19,18 +19,18 @@ use Rattle.gl_compiler.specs.declared.compiling.CompileFault.{CompileFault}
 use Rattle.gl_compiler.specs.declared.compiling.CompileFault.TheVariants as compile
 use Rattle.gl_query_judge.specs.Judged.{IsQueryFault}
 use Rattle.gl_figures.specs.declared.Limit.{Limit}
-use Rattle.gl_compiler.specs.Queries.{IsOverLimit, IsUnbuilt, gap_of}
+use Rattle.gl_compiler.specs.Queries.{IsOverLimit, gap_of}
 use Rattle.gl_forms.specs.declared.command.Part.{Part}
 use Rattle.gl_forms.specs.declared.command.Part.TheVariants as part
 use Rattle.gl_top.specs.declared.notes.Refusal.{Refusal}
 use Rattle.gl_top.specs.declared.notes.Refusal.TheVariants as refusal
-use Rattle.gl_forms.specs.declared.command.Command.TheVariants.{Explain, Run}
-use Rattle.gl_forms.specs.Forms.{IsCommand, IsForm, command_of, name_of}
+use Rattle.gl_forms.specs.declared.command.Command.TheVariants.{Run}
+use Rattle.gl_forms.specs.Forms.{HasTexts, IsCommand, IsForm, name_of}
 use Rattle.gl_top.specs.Passing.{HasText, SchemaPasses, QueryPasses, kept_beats}
 
--- the words are of the form, and every text before this one passes
+-- the words are of a form with texts, and every text before this one passes
 abbrev pub IsNext : (List ℕ → Told) → List (List ℕ) → Part → Type 0
-IsNext told words part.Schema = IsForm words
+IsNext told words part.Schema = HasTexts words
 IsNext told words part.Query = (schema : Schema) × SchemaPasses told words schema
 IsNext told words part.Tuples = IsCommand words Run × (schema : Schema) × (statement : Statement) × QueryPasses told words schema statement
 
@@ -46,7 +46,7 @@ pub record IsTooLong (told : List ℕ → Told) (words : List (List ℕ)) (part 
 
 -- it has no schema, and this is the first fault
 pub record IsBadSchema (told : List ℕ → Told) (words : List (List ℕ)) (fault : faults.SchemaFault) : Type 0 where
-  pub form : IsForm words
+  pub form : HasTexts words
   pub text : HasText told words part.Schema (λ text. schema_of text ≡ Err fault)
 
 -- it has no statement, or one that is not accepted over the schema, and this is the first fault
@@ -60,13 +60,6 @@ pub record IsOver (told : List ℕ → Told) (words : List (List ℕ)) (limit : 
   pub schema : Schema
   pub before : SchemaPasses told words schema
   pub text : HasText told words part.Query (λ text. IsOverLimit schema text limit)
-
--- it has a statement that is accepted over the schema and within the limits, and the command asks for one that is compiled
-pub record IsNotBuilt (told : List ℕ → Told) (words : List (List ℕ)) : Type 0 where
-  pub builds : command_of words ≢ Some Explain
-  pub schema : Schema
-  pub before : SchemaPasses told words schema
-  pub text : HasText told words part.Query (IsUnbuilt schema)
 
 -- it is no tuple file of the schema, or its beats do not keep the gap, and this is the first fault
 pub record AreBadTuples (told : List ℕ → Told) (words : List (List ℕ)) (fault : TupleFault) : Type 0 where
@@ -85,7 +78,6 @@ IsRefused told words (refusal.TooLong part) = IsTooLong told words part
 IsRefused told words (refusal.Schema fault) = IsBadSchema told words fault
 IsRefused told words (refusal.Query fault) = IsBadQuery told words fault
 IsRefused told words (refusal.Limit limit) = IsOver told words limit
-IsRefused told words refusal.NotBuilt = IsNotBuilt told words
 IsRefused told words (refusal.Tuples fault) = AreBadTuples told words fault
 IsRefused told words refusal.Memory = ⊥
 
@@ -123,9 +115,8 @@ schema_refusal fault = refusal.Schema fault
 abbrev pub query_refusal : CompileFault → Refusal
 query_refusal compile.Memory = refusal.Memory
 query_refusal (compile.Query fault) = refusal.Query fault
-query_refusal (compile.Schema fault) = refusal.NotBuilt
+query_refusal (compile.Schema fault) = refusal.Schema fault
 query_refusal (compile.Limit limit) = refusal.Limit limit
-query_refusal compile.NotBuilt = refusal.NotBuilt
 
 abbrev pub fault_refusal : QueryFault → Refusal
 fault_refusal query.Memory = refusal.Memory

@@ -1,5 +1,5 @@
 -- What the texts give that the words name, one after the other. What is said of a text holds where the shelf tells it.
-use Rattle.std.specs.Prelude.{◌≡◌, ℕ, ◌≤◌, ◌^◌, List, length, Option, Some, None, Result, Ok}
+use Rattle.std.specs.Prelude.{◌≡◌, ℕ, ◌≤◌, ◌^◌, List, length, Result, Ok}
 use Rattle.std.specs.List.{AllByRecursion}
 use Rattle.gl_bits.specs.Kinds.{IsKind}
 use Rattle.gl_outside.specs.Told.{Told, IfTold}
@@ -13,9 +13,6 @@ use Rattle.gl_tuples.specs.declared.fault.TupleFault.{TupleFault}
 use Rattle.gl_tuples.specs.Entries.{◌>>=◌}
 use Rattle.gl_tuples.specs.Filing.{beats_of, records_of}
 use Rattle.gl_tuples.specs.Gaps.{AreFileBeats, plain_beats, first_close, close_answer}
-use Rattle.gl_elaborate.specs.Plans.{plan_of}
-use Rattle.gl_planner.specs.Planned.{IsWithinLimits}
-use Rattle.gl_query_judge.specs.Judged.{IsAcceptedText}
 use Rattle.gl_compiler.specs.declared.compiling.Compiled.{Compiled}
 use Rattle.gl_compiler.specs.Compiles.{HasCost}
 use Rattle.gl_compiler.specs.Queries.{IsQuery, copies_of, latency_of, gap_of}
@@ -23,32 +20,23 @@ use Rattle.gl_compiler.specs.Meets.{Meets, result_columns}
 use Rattle.gl_forms.specs.declared.command.Part.{Part}
 use Rattle.gl_forms.specs.declared.command.Part.TheVariants as part
 use Rattle.gl_top.specs.declared.judging.Job.{Job}
-use Rattle.gl_forms.specs.declared.command.Command.{Command}
-use Rattle.gl_forms.specs.declared.command.Command.TheVariants.{Compile, Figures, Explain, Run}
-use Rattle.gl_forms.specs.Forms.{IsCommand, IsForm, command_of, name_of}
+use Rattle.gl_forms.specs.declared.command.Command.TheVariants.{Run}
+use Rattle.gl_forms.specs.Forms.{HasTexts, IsCommand, name_of}
 
 -- the shelf has the text, it has at most 64 MiB, and the fact holds of it
 abbrev pub HasText : (List ℕ → Told) → List (List ℕ) → Part → (List ℕ → Type 0) → Type 0
 HasText told words part P = IfTold (told (name_of words part)) (λ text. (length text ≤ 67108864) × P text)
 
--- the words are of the form, and the first text is that of this schema
+-- the words are of a form with texts, and the first text is that of this schema
 pub record SchemaPasses (told : List ℕ → Told) (words : List (List ℕ)) (schema : Schema) : Type 0 where
-  pub form : IsForm words
+  pub form : HasTexts words
   pub fine : IsSchema schema
   pub text : HasText told words part.Schema (λ text. IsSchemaText text schema)
 
--- what a command asks of the query: to explain it, that it is accepted and within the limits; else that it is compiled too
-abbrev pub IsQueryFor : Option Command → Schema → List ℕ → Statement → Type 0
-IsQueryFor None schema text statement = ⊥
-IsQueryFor (Some Compile) schema text statement = IsQuery schema text statement
-IsQueryFor (Some Figures) schema text statement = IsQuery schema text statement
-IsQueryFor (Some Explain) schema text statement = IsAcceptedText schema text statement × IsWithinLimits (plan_of schema statement)
-IsQueryFor (Some Run) schema text statement = IsQuery schema text statement
-
--- the second is that of this statement
+-- the second is that of this statement, which is accepted over the schema, and whose plan is within the limits
 pub record QueryPasses (told : List ℕ → Told) (words : List (List ℕ)) (schema : Schema) (statement : Statement) : Type 0 where
   pub before : SchemaPasses told words schema
-  pub text : HasText told words part.Query (λ text. IsQueryFor (command_of words) schema text statement)
+  pub text : HasText told words part.Query (λ text. IsQuery schema text statement)
 
 -- the beats of a text, where they keep the gap; else the first fault
 unfoldable pub kept_beats : Schema → ℕ → List ℕ → Result (List Beat) TupleFault

@@ -9,7 +9,7 @@ use Rattle.gl_tuples.specs.declared.fault.TupleFault.TheVariants as tuples
 use Rattle.gl_outside.specs.States.{SinkState, Took, Broke}
 use Rattle.gl_forms.specs.declared.command.Part.TheVariants as part
 use Rattle.gl_top.specs.declared.notes.Refusal.{Refusal}
-use Rattle.gl_top.specs.declared.notes.Refusal.TheVariants.{Usage, Missing, ReadFault, TooLong, Schema, Query, Limit, NotBuilt, Tuples, Memory}
+use Rattle.gl_top.specs.declared.notes.Refusal.TheVariants.{Usage, Missing, ReadFault, TooLong, Schema, Query, Limit, Tuples, Memory}
 use Rattle.gl_figures.specs.declared.Limit as figures
 use Rattle.gl_figures.specs.declared.Limit.TheVariants as limit
 use Rattle.gl_top.specs.declared.status.Status.{Status}
@@ -25,7 +25,6 @@ status_of (TooLong part) = status.Limit
 status_of (Schema fault) = status.Schema
 status_of (Query fault) = status.Query
 status_of (Limit passed) = status.Limit
-status_of NotBuilt = status.NotBuilt
 status_of (Tuples fault) = status.Tuples
 status_of Memory = status.Memory
 
@@ -138,7 +137,6 @@ note_of words (TooLong part) = line (codes "limit: Text ") (name_of words part)
 note_of words (Schema fault) = kind_line (codes "schema: ") (schema_kind fault) (codes " at ") (schema_place fault)
 note_of words (Query fault) = kind_line (codes "query: ") (query_kind fault) (codes " at ") (query_place fault)
 note_of words (Limit passed) = limit_line passed
-note_of words NotBuilt = line (codes "not built: ") (name_of words part.Query)
 note_of words (Tuples fault) = kind_line (codes "tuples: ") (tuples_kind fault) (codes " at record ") (tuples_record fault)
 note_of words Memory = memory_line
 

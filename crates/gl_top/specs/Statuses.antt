@@ -1,7 +1,7 @@
 -- The numbers of the statuses.
 use Rattle.std.specs.Prelude.{ℕ}
 use Rattle.gl_top.specs.declared.status.Status.{Status}
-use Rattle.gl_top.specs.declared.status.Status.TheVariants.{Done, Usage, Missing, ReadFault, WriteFault, Schema, Query, Tuples, Verilog, Limit, Memory, NoEnd, NotBuilt}
+use Rattle.gl_top.specs.declared.status.Status.TheVariants.{Done, Usage, Missing, ReadFault, WriteFault, Schema, Query, Tuples, Verilog, Limit, Memory, NoEnd}
 
 abbrev pub code_of : Status → ℕ
 code_of Done = 0
@@ -16,4 +16,3 @@ code_of Verilog = 8
 code_of Limit = 9
 code_of Memory = 10
 code_of NoEnd = 11
-code_of NotBuilt = 64

@@ -27,11 +27,12 @@ use Rattle.gl_schema.specs.declared.fault.SchemaFault.{SchemaFault}
 use Rattle.gl_query.specs.declared.fault.QueryFault.{QueryFault}
 use Rattle.gl_tuples.specs.declared.fault.TupleFault.{TupleFault}
 use Rattle.gl_forms.specs.declared.command.Command.{Command}
-use Rattle.gl_forms.specs.declared.command.Command.TheVariants.{Compile, Figures, Explain, Run}
-use Rattle.gl_forms.specs.Forms.{IsCommand, IsForm, IsNamed, command_of, name_of, start_of}
+use Rattle.gl_forms.specs.declared.command.Command.TheVariants.{Compile, Figures, Explain, Run, Load}
+use Rattle.gl_forms.specs.Forms.{IsCommand, IsForm, IsLoadOf, IsNamed, command_of, name_of, start_of}
+use Rattle.gl_load.specs.Loads.{IsLoad}
 use Rattle.gl_top.specs.Figuring.{IsFigured}
 use Rattle.gl_top.specs.Passing.{QueryPasses, TuplesPass}
-use Rattle.gl_top.specs.Causes.{Change, HasCause, IsTooLong, IsBadSchema, IsBadQuery, IsOver, IsNotBuilt, AreBadTuples}
+use Rattle.gl_top.specs.Causes.{Change, HasCause, IsTooLong, IsBadSchema, IsBadQuery, IsOver, AreBadTuples}
 use Rattle.gl_top.specs.Refusals.{Puts, Notes, status_of, note_of, write_line}
 
 -- the lines of the run of this text over these beats from this start were written, or a front of them
@@ -73,13 +74,14 @@ pub record IsBroken (words : List (List ℕ)) (c : Change) (out notes : Puts) (t
   pub cause : Rose out.old.faults out.new.faults
   pub noted : Notes WriteFault write_line notes status
 
--- what a command other than `run` writes of a statement, and the text that it leaves: the Verilog text, which meets the statement; the
+-- what a command other than `run` and `load` writes of a statement, and the text that it leaves: the Verilog text, which meets the statement; the
 -- figures that are printed for it and what it costs; or the statement and its plan
 abbrev pub Shows : Command → Schema → Statement → List ℕ → List ℕ → Type 0
 Shows Compile schema statement bytes text = (bytes ≡ text) × Meets schema statement (latency_of schema statement) (gap_of schema statement) text
 Shows Figures schema statement bytes text = IsFigured schema statement bytes text × Meets schema statement (latency_of schema statement) (gap_of schema statement) text
 Shows Explain schema statement bytes text = (bytes ≡ plan_text schema statement (plan_of schema statement)) × (text ≡ [])
 Shows Run schema statement bytes text = ⊥
+Shows Load schema statement bytes text = ⊥
 
 -- the texts that such a command names pass, and this is what it shows of them
 pub record IsShownOf (told : List ℕ → Told) (words : List (List ℕ)) (bytes text : List ℕ) : Type 0 where
@@ -90,10 +92,21 @@ pub record IsShownOf (told : List ℕ → Told) (words : List (List ℕ)) (bytes
   pub passes : QueryPasses told words schema statement
   pub shows : Shows command schema statement bytes text
 
+-- the words load so many tuples; the bytes tell of the run over them, and the text is the one that was run
+pub record IsLoaded (words : List (List ℕ)) (bytes text : List ℕ) : Type 0 where
+  pub count : ℕ
+  pub is : IsLoadOf words count
+  pub load : IsLoad count bytes text
+
+-- what is written, and the text that is left: what a command shows of the texts that it names, or what is told of a load
+pub data IsGiven (told : List ℕ → Told) (words : List (List ℕ)) (bytes text : List ℕ) : Type 0 where
+  OfTexts : (shown : IsShownOf told words bytes text) → IsGiven told words bytes text
+  OfLoad : (loaded : IsLoaded words bytes text) → IsGiven told words bytes text
+
 -- it was written whole and nothing was noted; no text was missing, and nothing failed
 pub record IsShown (words : List (List ℕ)) (c : Change) (out notes : Puts) (text : List ℕ) (status : Status) : Type 0 where
   pub bytes : List ℕ
-  pub shown : IsShownOf c.old.told words bytes text
+  pub given : IsGiven c.old.told words bytes text
   pub wrote : Took out.old out.new bytes
   pub silent : Took notes.old notes.new []
   pub calm : IsCalm c.old c.new
@@ -102,7 +115,7 @@ pub record IsShown (words : List (List ℕ)) (c : Change) (out notes : Puts) (te
 -- the output failed behind a front of it, and that was noted
 pub record IsCut (words : List (List ℕ)) (c : Change) (out notes : Puts) (text : List ℕ) (status : Status) : Type 0 where
   pub bytes : List ℕ
-  pub shown : IsShownOf c.old.told words bytes text
+  pub given : IsGiven c.old.told words bytes text
   pub wrote : Broke out.old out.new bytes
   pub calm : IsCalm c.old c.new
   pub noted : Notes WriteFault write_line notes status
@@ -127,10 +140,11 @@ pub data IsAnswer (words : List (List ℕ)) (c : Change) (out notes : Puts) (tex
   Cut : (cut : IsCut words c out notes text status) → IsAnswer words c out notes text status
   Ended : (ended : IsEnded words c out notes text status) → IsAnswer words c out notes text status
 
--- the texts that a command asks for pass: to run, the tuple file too
+-- the texts that a command asks for pass: to run, the tuple file too; a load asks for none
 pub data AllPass (told : List ℕ → Told) (words : List (List ℕ)) : Type 0 where
   Two : (schema : Schema) (statement : Statement) (passes : QueryPasses told words schema statement) (others : command_of words ≢ Some Run) → AllPass told words
   Three : (schema : Schema) (statement : Statement) (beats : List Beat) (pass : TuplesPass told words schema statement beats) → AllPass told words
+  Loads : (count : ℕ) (is : IsLoadOf words count) → AllPass told words
 
 -- the shelf tells the texts that the words name
 abbrev pub IsTelling : (List ℕ → Told) → List (List ℕ) → Type 0
@@ -164,7 +178,6 @@ Says words c out notes status.Schema = (fault : SchemaFault) × IsBadSchema c.ol
 Says words c out notes status.Query = (fault : QueryFault) × IsBadQuery c.old.told words fault
 Says words c out notes status.Tuples = (fault : TupleFault) × AreBadTuples c.old.told words fault
 Says words c out notes status.Limit = ((part : Part) × IsTooLong c.old.told words part) ⊎ ((limit : Limit) × IsOver c.old.told words limit)
-Says words c out notes status.NotBuilt = IsNotBuilt c.old.told words
 Says words c out notes status.Memory = Unit {0}
 Says words c out notes status.Verilog = ⊥
 Says words c out notes status.NoEnd = ⊥

@@ -1,13 +1,13 @@
 //! Judging the texts: each is read and judged before the next is read.
 
-ghost use Rattle.std.specs.Prelude.{◌≡◌, ◌≢◌, [], IfErr, IfOk, Some};
+ghost use Rattle.std.specs.Prelude.{◌≡◌, [], IfErr, IfOk};
 ghost use Rattle.gl_schema.specs.Schemas.{IsSchema};
 ghost use Rattle.gl_schema.specs.Beats.{KeepsGap};
 ghost use Rattle.gl_tuples.specs.Entries.{Gives};
 ghost use Rattle.gl_tuples.specs.Gaps.{AreFileBeats, plain_beats};
 ghost use Rattle.gl_forms.specs.declared.command.Command.TheVariants.{Explain, Run};
 ghost use Rattle.gl_top.specs.Explaining.{IsExplained, IsExplainRefused};
-ghost use Rattle.gl_forms.specs.Forms.{IsCommand, IsForm, command_of};
+ghost use Rattle.gl_forms.specs.Forms.{HasTexts, IsCommand};
 ghost use Rattle.gl_top.specs.Causes as causes;
 ghost use Rattle.gl_top.specs.Causes.{IsNext, Leaves};
 ghost use Rattle.gl_outside.specs.States.{Stays};
@@ -63,7 +63,7 @@ fn query_refusal(fault: CompileFault) -> Refusal
         CompileFault::Memory => Refusal::Memory,
         CompileFault::Query(fault) => Refusal::Query(fault),
         CompileFault::Limit(limit) => Refusal::Limit(limit),
-        CompileFault::Schema(_) | CompileFault::NotBuilt => Refusal::NotBuilt,
+        CompileFault::Schema(fault) => Refusal::Schema(fault),
     }
 }
 
@@ -98,7 +98,7 @@ fn text_of<S: Shelf>(
 
 // Reads and judges the schema.
 fn judge_schema<S: Shelf>(alloc: Global, shelf: &mut S, words: &Words) -> Result<Schema, Refusal>
-    requires form { IsForm words.now }
+    requires form { HasTexts words.now }
     requires names { (S.state shelf.old).names ≡ words.now }
     ensures stays { Stays (S.state shelf.old) (S.state shelf.new) }
     ensures passes { let told = (S.state shelf.old).told in
@@ -119,7 +119,6 @@ fn judge_query<S: Shelf>(
     words: &Words,
     schema: Schema,
 ) -> Result<Compiled, Refusal>
-    requires builds { command_of words.now ≢ Some Explain }
     requires passes { SchemaPasses (S.state shelf.old).told words.now schema }
     requires names { (S.state shelf.old).names ≡ words.now }
     ensures stays { Stays (S.state shelf.old) (S.state shelf.new) }
@@ -238,8 +237,7 @@ pub(crate) fn judge_compile<S: Shelf>(
     shelf: &mut S,
     words: &Words,
 ) -> Result<Compiled, Refusal>
-    requires form { IsForm words.now }
-    requires builds { command_of words.now ≢ Some Explain }
+    requires form { HasTexts words.now }
     requires names { (S.state shelf.old).names ≡ words.now }
     ensures passes { let told = (S.state shelf.old).told in
         IfOk result (λ c. QueryPasses told words.now c.schema c.statement) }

@@ -33,8 +33,6 @@ pub enum Refusal {
     Query(QueryFault),
     /// The query's plan passes a limit.
     Limit(Limit),
-    /// The query is not compiled yet.
-    NotBuilt,
     /// The tuple file is refused.
     Tuples(TupleFault),
     /// Want of memory.
@@ -263,7 +261,6 @@ fn put_note<N: Sink>(notes: &mut N, words: &Words, refusal: &Refusal) -> Result<
             query_place(fault),
         ),
         Refusal::Limit(limit) => put_limit(notes, *limit),
-        Refusal::NotBuilt => put_name(notes, b"not built: ", words, Part::Query),
         Refusal::Tuples(fault) => put_kind(
             notes,
             b"tuples: ",
@@ -286,7 +283,6 @@ fn status_of(refusal: &Refusal) -> Status
         Refusal::Schema(_) => Status::Schema,
         Refusal::Query(_) => Status::Query,
         Refusal::Limit(_) => Status::Limit,
-        Refusal::NotBuilt => Status::NotBuilt,
         Refusal::Tuples(_) => Status::Tuples,
         Refusal::Memory => Status::Memory,
     }

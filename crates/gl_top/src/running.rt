@@ -1,25 +1,26 @@
 //! From words to a status.
 
-ghost use Rattle.std.specs.Prelude.{◌≡◌, ◌≢◌, ◌⊎◌, [], ℕ, List};
+ghost use Rattle.std.specs.Prelude.{◌≡◌, ◌≢◌, ◌⊎◌, ◌≤◌, [], ℕ, List};
 ghost use Rattle.gl_outside.specs.States.{IsCalm, Took};
 ghost use Rattle.gl_schema.specs.Beats.{KeepsGap};
 ghost use Rattle.gl_tuples.specs.Gaps.{AreFileBeats, plain_beats};
 ghost use Rattle.gl_compiler.specs.Queries.{gap_of};
 ghost use Rattle.gl_top.specs.declared.notes.Refusal.{Refusal as Refused};
-ghost use Rattle.gl_forms.specs.declared.command.Command.TheVariants.{Compile, Explain, Figures, Run};
+ghost use Rattle.gl_forms.specs.declared.command.Command.TheVariants.{Compile, Explain, Figures, Load, Run};
 ghost use Rattle.gl_forms.specs.Forms as forms;
-ghost use Rattle.gl_forms.specs.Forms.{IsCommand, IsForm};
+ghost use Rattle.gl_forms.specs.Forms.{IsCommand, IsForm, IsLoadOf};
 ghost use Rattle.gl_top.specs.Causes.{Change, change, IsRefused};
 ghost use Rattle.gl_top.specs.Passing.{IsCompiled, IsReady, QueryPasses};
 ghost use Rattle.gl_top.specs.Refusals.{puts, status_of};
-ghost use Rattle.gl_top.specs.Verdicts.{AllPass, IsAnswer, IsShownOf, IsTelling, IsFaultless, RanLines, Says, TellsFault, Yields};
+ghost use Rattle.gl_top.specs.Verdicts.{AllPass, IsAnswer, IsGiven, IsTelling, IsFaultless, RanLines, Says, TellsFault, Yields};
 
 use crate::figuring::figures_text;
 use crate::judging::{Job, judge_compile, judge_explain, judge_run};
 use crate::notes::{Refusal, tell, tell_write_fault};
 use crate::status::Status;
 use gl_compiler::{Compiled, Outcome, execute};
-use gl_forms::{Command, command_of, start_of};
+use gl_forms::{Command, command_of, load_of, start_of};
+use gl_load::load;
 use gl_outside::{Shelf, Sink, Words, write_all_of};
 use std::alloc::Global;
 
@@ -117,7 +118,7 @@ fn answer_run<S: Shelf, K: Sink, N: Sink>(
 // Writes what a command shows.
 fn show<K: Sink, N: Sink>(bytes: &[u8], out: &mut K, notes: &mut N) -> Status
     ensures { (words : List (List ℕ)) (c : Change) (text : List ℕ)
-        → IsShownOf c.old.told words bytes.now text → IsCalm c.old c.new
+        → IsGiven c.old.told words bytes.now text → IsCalm c.old c.new
         → IsAnswer words c (puts (K.state out.old) (K.state out.new))
         (puts (N.state notes.old) (N.state notes.new)) text result }
 {
@@ -159,7 +160,7 @@ fn show_text<K: Sink, N: Sink>(
 ) -> Status
     requires empty { text.old.items ≡ [] }
     ensures { (c : Change)
-        → IsShownOf c.old.told words.now bytes.now compiled.now.text.items
+        → IsGiven c.old.told words.now bytes.now compiled.now.text.items
         → IsCalm c.old c.new
         → IsAnswer words.now c (puts (K.state out.old) (K.state out.new))
         (puts (N.state notes.old) (N.state notes.new)) text.new.items result }
@@ -239,6 +240,48 @@ fn answer_figures<S: Shelf, K: Sink, N: Sink>(
     }
 }
 
+// Loads so many tuples, keeps the text that was run, and writes what is told of it.
+fn load_many<K: Sink, N: Sink>(
+    alloc: Global,
+    words: &Words,
+    count: u32,
+    out: &mut K,
+    notes: &mut N,
+    text: &mut Vec<u8>,
+) -> Status
+    requires many { IsLoadOf words.now count }
+    requires some { 1 ≤ count }
+    requires empty { text.old.items ≡ [] }
+    ensures { (c : Change) → IsCalm c.old c.new
+        → IsAnswer words.now c (puts (K.state out.old) (K.state out.new))
+        (puts (N.state notes.old) (N.state notes.new)) text.new.items result }
+{
+    match load(alloc, count) {
+        Ok(loaded) => show_text(words, &loaded.compiled, &loaded.summary, out, notes, text),
+        Err(_) => tell(notes, words, &Refusal::Memory),
+    }
+}
+
+// Loads as many tuples as the words say.
+fn answer_load<K: Sink, N: Sink>(
+    alloc: Global,
+    words: &Words,
+    out: &mut K,
+    notes: &mut N,
+    text: &mut Vec<u8>,
+) -> Status
+    requires loads { IsCommand words.now Load }
+    requires empty { text.old.items ≡ [] }
+    ensures { (c : Change) → IsCalm c.old c.new
+        → IsAnswer words.now c (puts (K.state out.old) (K.state out.new))
+        (puts (N.state notes.old) (N.state notes.new)) text.new.items result }
+{
+    match load_of(words) {
+        Some(count) => load_many(alloc, words, count, out, notes, text),
+        None => unreachable!(),
+    }
+}
+
 // Does what the words say, and notes how that failed.
 fn answer<S: Shelf, K: Sink, N: Sink>(
     alloc: Global,
@@ -260,6 +303,7 @@ fn answer<S: Shelf, K: Sink, N: Sink>(
         Some(Command::Figures) => answer_figures(alloc, words, shelf, out, notes, text),
         Some(Command::Explain) => answer_explain(alloc, words, shelf, out, notes),
         Some(Command::Run) => answer_run(alloc, words, shelf, out, notes, text),
+        Some(Command::Load) => answer_load(alloc, words, out, notes, text),
         None => tell(notes, words, &Refusal::Usage),
     }
 }
@@ -267,7 +311,9 @@ fn answer<S: Shelf, K: Sink, N: Sink>(
 /// Does what the words say. `compile S Q` compiles the query of the text Q over the schema of the
 /// text S, and writes the Verilog text to `out`; `figures S Q` writes its latency, gap and copies, and
 /// the bits of its registers and memories; `run S Q T` writes what that text does over the tuple file
-/// T, from registers and words of 0 or as `--start N` says. These leave it in `text`. `explain S Q` writes the query in its canonical form and its plan.
+/// T, from registers and words of 0 or as `--start N` says. `load N` compiles a query of its own, runs
+/// its text over N tuples, and tells what came out. These leave the text in `text`. `explain S Q`
+/// writes the query in its canonical form and its plan.
 /// Where it ends before its work is done, it writes one line to `notes`.
 ///
 /// The texts are fetched in the order S, Q, T, and each is judged before the next is fetched. With

@@ -30,8 +30,6 @@ pub enum Status {
     Memory,
     /// The end of the result did not come.
     NoEnd,
-    /// The query is of a form that is not compiled yet.
-    NotBuilt,
 }
 
 impl Status {
@@ -52,7 +50,6 @@ impl Status {
             Status::Limit => 9,
             Status::Memory => 10,
             Status::NoEnd => 11,
-            Status::NotBuilt => 64,
         }
     }
 }

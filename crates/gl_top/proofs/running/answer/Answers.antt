@@ -2,6 +2,7 @@ use Rattle.std.proofs.Common.{inl, sym, ◌∙◌}
 use Rattle.gl_outside.proofs.Counting.{calm_none}
 use Rattle.gl_outside.proofs.Takes.{took_none}
 use Rattle.gl_top.specs.declared.notes.Refusal.TheVariants as refusal
+use Rattle.gl_top.specs.Causes.{change}
 use Rattle.gl_top.specs.Verdicts.{Ended}
 use Rattle.gl_top.proofs.Texts.{no_form}
 use Rattle.gl_top.proofs.running.answer.Goals as goal
@@ -14,3 +15,6 @@ returns-in-None g c = Ended (record {
   noted = c.tell.ensures;
   left = inl c.requires.empty;
 })
+
+pub returns-in-Some-Load : goal.returns-in-Some-Load
+returns-in-Some-Load g c = c.answer_load.ensures (change _ _) (calm_none _)

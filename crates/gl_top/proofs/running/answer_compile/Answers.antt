@@ -1,20 +1,21 @@
+use Rattle.gl_forms.proofs.Named.{has_texts}
 use Rattle.std.proofs.Common.{inl}
 use Rattle.gl_outside.proofs.Takes.{took_none}
 use Rattle.gl_forms.specs.declared.command.Command.TheVariants.{Compile}
 use Rattle.gl_top.specs.Causes.{change}
-use Rattle.gl_top.specs.Verdicts.{Ended}
+use Rattle.gl_top.specs.Verdicts.{Ended, OfTexts}
 use Rattle.gl_top.proofs.running.answer_compile.Goals as goal
 
 pub returns-in-Ok : goal.returns-in-Ok
 returns-in-Ok g c = c.show_text.ensures (change _ _)
-    (record {
+    (OfTexts (record {
       command = Compile;
       is = c.requires.compiles;
       schema = c.in-Ok.compiled.schema;
       statement = c.in-Ok.compiled.statement;
       passes = c.in-Ok.ensures.passes;
       shows = (c.text.ensures, c.in-Ok.ensures.compiled.meets);
-    })
+    }))
     c.in-Ok.ensures.leaves
 
 pub returns-in-Err : goal.returns-in-Err
@@ -25,3 +26,6 @@ returns-in-Err g c = Ended (record {
   noted = c.tell.ensures;
   left = inl c.requires.empty;
 })
+
+pub judge_compile-requires-clause-form : goal.judge_compile-requires-clause-form
+judge_compile-requires-clause-form g c = has_texts c.args.words.now Compile (λ e. absurd cc) c.requires.compiles

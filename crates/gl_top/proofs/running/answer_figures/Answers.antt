@@ -1,3 +1,5 @@
+use Rattle.gl_forms.proofs.Named.{has_texts}
+use Rattle.gl_forms.specs.declared.command.Command.TheVariants.{Figures}
 use Rattle.std.proofs.Common.{inl}
 use Rattle.gl_outside.proofs.Takes.{took_none}
 use Rattle.gl_top.specs.Causes.{change}
@@ -15,3 +17,6 @@ returns-in-Err g c = Ended (record {
   noted = c.tell.ensures;
   left = inl c.requires.empty;
 })
+
+pub judge_compile-requires-clause-form : goal.judge_compile-requires-clause-form
+judge_compile-requires-clause-form g c = has_texts c.args.words.now Figures (λ e. absurd cc) c.requires.figures

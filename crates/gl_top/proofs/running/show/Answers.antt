@@ -4,9 +4,9 @@ use Rattle.gl_top.specs.Verdicts.{Cut, Shown}
 use Rattle.gl_top.proofs.running.show.Goals as goal
 
 pub returns-in-Ok : goal.returns-in-Ok
-returns-in-Ok g c = λ words ch text shown calm. Shown (record {
+returns-in-Ok g c = λ words ch text given calm. Shown (record {
   bytes = c.args.bytes.now;
-  shown = shown;
+  given = given;
   wrote = c.in-Ok.ensures;
   silent = took_none _;
   calm = calm;
@@ -14,9 +14,9 @@ returns-in-Ok g c = λ words ch text shown calm. Shown (record {
 })
 
 pub returns-in-Err : goal.returns-in-Err
-returns-in-Err g c = λ words ch text shown calm. Cut (record {
+returns-in-Err g c = λ words ch text given calm. Cut (record {
   bytes = c.args.bytes.now;
-  shown = shown;
+  given = given;
   wrote = c.in-Err.ensures;
   calm = calm;
   noted = c.tell_write_fault.ensures;

@@ -2,14 +2,14 @@ use Rattle.std.proofs.Common.{inl, ◌∙◌}
 use Rattle.gl_outside.proofs.Takes.{took_none}
 use Rattle.gl_forms.specs.declared.command.Command.TheVariants.{Figures}
 use Rattle.gl_top.specs.declared.notes.Refusal.TheVariants as refusal
-use Rattle.gl_top.specs.Verdicts.{Ended}
+use Rattle.gl_top.specs.Verdicts.{Ended, OfTexts}
 use Rattle.gl_top.proofs.running.show_figures.Goals as goal
 
 pub returns-in-Ok : goal.returns-in-Ok
 returns-in-Ok g c = λ seen passes calm.
     let is = c.requires.compiled in
     c.show_text.ensures seen
-    (record {
+    (OfTexts (record {
       command = Figures;
       is = c.requires.figures;
       schema = c.args.compiled.now.schema;
@@ -27,7 +27,7 @@ returns-in-Ok g c = λ seen passes calm.
         },
         is.meets,
       );
-    })
+    }))
     calm
 
 pub returns-in-Err : goal.returns-in-Err

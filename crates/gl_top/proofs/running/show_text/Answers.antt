@@ -2,10 +2,16 @@ use Rattle.std.proofs.Common.{inl, ◌∙◌}
 use Rattle.gl_outside.proofs.Takes.{took_none}
 use Rattle.gl_top.specs.Verdicts.{Ended}
 use Rattle.gl_top.specs.declared.notes.Refusal.TheVariants as refusal
+use Rattle.gl_top.proofs.Answering.{answer_text, kept_text}
 use Rattle.gl_top.proofs.running.show_text.Goals as goal
 
+pub returns-in-Ok : goal.returns-in-Ok
+returns-in-Ok g c = λ ch given calm.
+    let kept = kept_text c.args.text.now.items c.extend_from_slice.new.self.items c.text.result.now c.args.compiled.now.text.items c.requires.empty c.text.ensures c.in-Ok.ensures.items in
+    answer_text _ _ _ _ _ _ _ kept (c.show.ensures c.args.words.now ch c.args.compiled.now.text.items given calm)
+
 pub returns-in-Err : goal.returns-in-Err
-returns-in-Err g c = λ ch shown calm. Ended (record {
+returns-in-Err g c = λ ch given calm. Ended (record {
   refusal = refusal.Memory;
   cause = calm;
   untouched = took_none _;

@@ -1,0 +1,7 @@
+mod Constants
+mod Planning
+mod Lines
+mod Beating
+pub mod Runs
+mod Running
+mod Compiling

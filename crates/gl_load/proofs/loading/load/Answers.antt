@@ -1,0 +1,19 @@
+use Rattle.std.proofs.Common.{List, sym, subst}
+use Rattle.gl_schema.specs.Beats.{Beat, AreBeats, KeepsGap}
+use Rattle.gl_load.specs.Query.{load_schema}
+use Rattle.gl_load.specs.Loads.{AreRunLines}
+use Rattle.gl_load.proofs.Beating.{are_beats, keep_gap}
+use Rattle.gl_load.proofs.Running.{loaded}
+use Rattle.gl_load.proofs.loading.load.Goals as goal
+
+pub run-requires-clause-beats : goal.run-requires-clause-beats
+run-requires-clause-beats c = subst (AreBeats load_schema) (sym c.in_ok-beats.ensures) (are_beats c.args.count c.requires.some)
+
+pub run-requires-clause-gap : goal.run-requires-clause-gap
+run-requires-clause-gap c = subst (KeepsGap 1) (sym c.in_ok-beats.ensures) (keep_gap c.args.count)
+
+pub returns : goal.returns
+returns c = loaded c.args.count c.in_ok-compiled.compiled c.bytes.result.now c.in_ok-lines.lines.bytes c.in_ok-summary.summary.items
+    c.in_ok-compiled.ensures
+    (subst (λ (beats : List Beat). AreRunLines c.in_ok-compiled.compiled beats c.in_ok-lines.lines.bytes) c.in_ok-beats.ensures c.in_ok-lines.ensures)
+    c.bytes.ensures c.in_ok-summary.ensures

@@ -1,0 +1,9 @@
+use Rattle.std.proofs.Common.{◌≡◌, map}
+use Rattle.std.specs.List.{range_with_len}
+use Rattle.gl_tuples.specs.Gaps.{plain_beats}
+use Rattle.gl_load.specs.Tuples.{load_beat}
+use Rattle.gl_load.proofs.tuples.load_beats.Given as goal
+
+-- the beats so far
+abbrev pub invariant-loop-index : goal.invariant-loop-index
+invariant-loop-index l = plain_beats l.beats.items ≡ map (load_beat l.count) (range_with_len 0 l.index)

@@ -1,0 +1,5 @@
+pub mod Query
+pub mod Tuples
+pub mod Tallies
+pub mod Steps
+pub mod Loads

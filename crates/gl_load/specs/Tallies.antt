@@ -1,0 +1,81 @@
+-- What is told of a run: how many lines of results it has, what they count, the last of them, and when the end came.
+use Rattle.std.specs.Prelude.{ℕ, ◌+◌, ◌^◌, List, [], ◌∷◌, ◌++◌, Option, Some, None, take, drop, codes, decimal, nat_lt, ◌==◌, if◌then◌else◌}
+use Rattle.std.specs.List.{fold, position}
+use Rattle.gl_tuples.specs.Values.{number_of}
+
+-- ---- lines and their fields
+
+-- a byte in front of the first line; in front of none it begins no line, since no line feed comes
+abbrev pub in_front : ℕ → List (List ℕ) → List (List ℕ)
+in_front b [] = []
+in_front b (line ∷ lines) = (b ∷ line) ∷ lines
+
+-- the lines of a text, without their line feeds
+abbrev pub lines_of : List ℕ → List (List ℕ)
+lines_of [] = []
+lines_of (b ∷ bs) = if b == 10 then [] ∷ lines_of bs else in_front b (lines_of bs)
+
+-- the place of the first comma
+abbrev pub comma_in : List ℕ → Option ℕ
+comma_in line = position (λ b. b == 44) line
+
+-- the bytes before a place, and those behind it; without a place all, and none
+abbrev pub before_place : List ℕ → Option ℕ → List ℕ
+before_place line None = line
+before_place line (Some k) = take k line
+
+abbrev pub behind_place : List ℕ → Option ℕ → List ℕ
+behind_place line None = []
+behind_place line (Some k) = drop (k + 1) line
+
+abbrev pub first_field : List ℕ → List ℕ
+first_field line = before_place line (comma_in line)
+
+abbrev pub behind_comma : List ℕ → List ℕ
+behind_comma line = behind_place line (comma_in line)
+
+-- ---- the tally
+
+-- lines of results, the sum of their counts, the last of them, and the first field of the last line of all
+pub record Tally : Type 0 where
+  pub results : ℕ
+  pub counted : ℕ
+  pub last : List ℕ
+  pub end : List ℕ
+
+abbrev pub no_lines : Tally
+no_lines = record { results = 0; counted = 0; last = []; end = [] }
+
+-- a number below 2^64
+abbrev pub small : Option ℕ → Option ℕ
+small None = None
+small (Some n) = if nat_lt n (2 ^ 64) then Some n else None
+
+-- a line of a result has its count, a number of 64 bits at most, behind its cycle; the line of the end has none
+unfoldable pub count_in : List ℕ → Option ℕ
+count_in line = small (number_of (first_field (behind_comma line)))
+
+abbrev pub with_count : Tally → List ℕ → Option ℕ → Tally
+with_count t line None = t
+with_count t line (Some n) = record t { results = t.results + 1; counted = t.counted + n; last = line }
+
+abbrev pub with_line : Tally → List ℕ → Tally
+with_line t line = with_count (record t { end = first_field line }) line (count_in line)
+
+unfoldable pub tally_of : List ℕ → Tally
+tally_of text = fold with_line no_lines (lines_of text)
+
+-- ---- the summary
+
+abbrev pub line : List ℕ → List ℕ → List ℕ
+line head rest = head ++ rest ++ codes "\n"
+
+-- of n tuples, whose run has these lines
+unfoldable pub summary_of : ℕ → List ℕ → List ℕ
+summary_of n text =
+    let t = tally_of text in
+    line (codes "tuples ") (decimal n)
+    ++ line (codes "results ") (decimal t.results)
+    ++ line (codes "counted ") (decimal t.counted)
+    ++ line (codes "last ") t.last
+    ++ line (codes "end ") t.end

@@ -1,0 +1,119 @@
+//! The load: compiled, run and told.
+
+ghost use Rattle.std.specs.Prelude.{◌≡◌, ◌≤◌, IfOk};
+ghost use Rattle.gl_schema.specs.Beats.{AreBeats, KeepsGap};
+ghost use Rattle.gl_tuples.specs.Gaps.{plain_beats};
+ghost use Rattle.gl_load.specs.Query as spec;
+ghost use Rattle.gl_load.specs.Query.{load_schema};
+ghost use Rattle.gl_load.specs.Loads.{AreRunLines, IsCompiledLoad, IsLoad};
+
+use crate::summary::summary_of;
+use crate::text_sink::TextSink;
+use crate::tuples::load_beats;
+use gl_bits::Memory;
+use gl_compiler::{CompileFault, Compiled, Outcome, compile_query, execute};
+use gl_schema::{Schema, SchemaFault, read_schema};
+use gl_sim::Start;
+use gl_tuples::Beats;
+use std::alloc::Global;
+
+/// What a load leaves: what is told of its run, and the compiled query whose text was run.
+#[derive(Drop)]
+pub struct Loaded {
+    /// The five lines.
+    pub summary: Vec<u8>,
+    /// The compiled query.
+    pub compiled: Compiled,
+}
+
+// The text of the schema.
+#[tactic(auto, unfolding(crate::specs::Query::schema_text))]
+fn schema_text() -> &'static [u8]
+    ensures { result.now ≡ spec.schema_text }
+{
+    b"stream trades (symbol text4, price u32, volume u32);"
+}
+
+// The text of the query.
+#[tactic(auto, unfolding(crate::specs::Query::query_text))]
+fn query_text() -> &'static [u8]
+    ensures { result.now ≡ spec.query_text }
+{
+    b"SELECT count() AS n, sum(volume) AS v, max(price) AS top FROM trades [SIZE 600 ADVANCE 60 TUPLES] WHERE symbol = 'UBSN' INTO load"
+}
+
+// The schema's text has a schema: nothing but want of memory keeps it from being read.
+fn unread(fault: SchemaFault) -> Memory
+    requires { fault ≡ SchemaFault.Memory }
+{
+    let _ = fault;
+    Memory
+}
+
+// The query is compiled: nothing but want of memory refuses it.
+fn uncompiled(fault: CompileFault) -> Memory
+    requires { fault ≡ CompileFault.Memory }
+{
+    let _ = fault;
+    Memory
+}
+
+// The schema of the load.
+fn read_load(alloc: Global) -> Result<Schema, Memory>
+    ensures { IfOk result (λ schema. schema ≡ load_schema) }
+{
+    match read_schema(alloc, schema_text()) {
+        Ok(schema) => Ok(schema),
+        Err(fault) => Err(unread(fault)),
+    }
+}
+
+// The query of the load, over its schema.
+fn compile_load(alloc: Global, schema: Schema) -> Result<Compiled, Memory>
+    requires { schema ≡ load_schema }
+    ensures { IfOk result IsCompiledLoad }
+{
+    match compile_query(alloc, schema, query_text()) {
+        Ok(compiled) => Ok(compiled),
+        Err(fault) => Err(uncompiled(fault)),
+    }
+}
+
+// What running the text over the beats writes.
+fn run(alloc: Global, compiled: &Compiled, beats: &Beats) -> Result<TextSink, Memory>
+    requires compiled { IsCompiledLoad compiled.now }
+    requires beats { AreBeats load_schema (plain_beats beats.now) }
+    requires gap { KeepsGap 1 (plain_beats beats.now) }
+    ensures { IfOk result (λ sink. AreRunLines compiled.now (plain_beats beats.now) sink.bytes) }
+{
+    let mut sink = TextSink::empty(alloc);
+    let outcome = execute(
+        alloc,
+        compiled.text(),
+        compiled.schema(),
+        compiled.kinds(),
+        beats,
+        compiled.printed().latency,
+        Start::Zero,
+        &mut sink,
+    );
+    match outcome {
+        Outcome::Done => Ok(sink),
+        // The sink fails for want of memory alone.
+        Outcome::WriteFault | Outcome::Memory => Err(Memory),
+    }
+}
+
+/// Compiles the query of the load, runs its text over so many tuples from registers and words of 0,
+/// and tells what came out.
+pub fn load(alloc: Global, count: u32) -> Result<Loaded, Memory>
+    requires some { 1 ≤ count }
+    ensures { IfOk result (λ l. IsLoad count l.summary.items l.compiled.text.items) }
+{
+    let schema = read_load(alloc)?;
+    let compiled = compile_load(alloc, schema)?;
+    let beats = load_beats(alloc, count)?;
+    let lines = run(alloc, &compiled, &beats)?;
+    let summary = summary_of(alloc, count, lines.bytes())?;
+    Ok(Loaded { summary, compiled })
+}

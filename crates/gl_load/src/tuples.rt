@@ -1,0 +1,74 @@
+//! The tuples of the load.
+
+ghost use Rattle.std.specs.Prelude.{◌≡◌, ◌<◌, ◌≤◌, ◌^◌, length, IfOk};
+ghost use Rattle.gl_bits.specs.Words.{bits_of};
+ghost use Rattle.gl_tuples.specs.Gaps.{plain_beat, plain_beats};
+ghost use Rattle.gl_load.specs.Tuples as spec;
+
+use gl_bits::{Listed, Memory, Row, Word};
+use gl_schema::text_number;
+use gl_tuples::{Beat, Beats};
+use std::alloc::Global;
+
+// One of the four symbols.
+fn symbol_at(place: u32) -> &'static [u8]
+    ensures value { result.now ≡ spec.symbol_at place }
+    ensures short { length result.now ≤ 4 }
+{
+    match place {
+        0 => b"UBSN",
+        1 => b"NESN",
+        2 => b"ROG",
+        _ => b"ABB",
+    }
+}
+
+// A number as a word of 32 bits.
+fn word_of(number: u64) -> Word
+    requires { number < 2 ^ 32 }
+    ensures { result.bits ≡ number }
+{
+    match Word::new(u128::from(number), 32) {
+        Some(word) => word,
+        None => unreachable!(),
+    }
+}
+
+// The row of a tuple.
+fn load_row(alloc: Global, index: u32) -> Result<Row, Memory>
+    ensures { IfOk result (λ row. bits_of row ≡ spec.load_row index) }
+{
+    let number = u64::from(index);
+    let mut row = Row::new(alloc);
+    row.push(word_of(text_number(symbol_at(index % 4), 4)))?;
+    row.push(word_of(100 + 7 * number % 1000))?;
+    row.push(word_of(1 + number % 100))?;
+    Ok(row)
+}
+
+// The beat of a tuple, one of so many.
+fn load_beat(alloc: Global, count: u32, index: u32) -> Result<Beat, Memory>
+    requires { index < count }
+    ensures { IfOk result (λ beat. plain_beat beat ≡ spec.load_beat count index) }
+{
+    let mut rows = Listed::new(alloc);
+    rows.push(Some(load_row(alloc, index)?))?;
+    Ok(Beat {
+        cycle: index,
+        number: u64::from(index) + 1,
+        rows,
+        tick: false,
+        end: index + 1 == count,
+    })
+}
+
+/// The beats of so many tuples.
+pub(crate) fn load_beats(alloc: Global, count: u32) -> Result<Beats, Memory>
+    ensures { IfOk result (λ beats. plain_beats beats ≡ spec.load_beats count) }
+{
+    let mut beats = Vec::new(alloc);
+    for index in 0..count {
+        beats.push(load_beat(alloc, count, index)?)?;
+    }
+    Ok(Beats::from_vec(beats))
+}

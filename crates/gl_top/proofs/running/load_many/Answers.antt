@@ -1,0 +1,26 @@
+use Rattle.std.proofs.Common.{List, ℕ, inl, sym, subst}
+use Rattle.gl_outside.proofs.Takes.{took_none}
+use Rattle.gl_load.specs.Loads.{IsLoad}
+use Rattle.gl_top.specs.declared.notes.Refusal.TheVariants as refusal
+use Rattle.gl_top.specs.Verdicts.{Ended, OfLoad}
+use Rattle.gl_top.proofs.running.load_many.Goals as goal
+
+pub returns-in-Ok : goal.returns-in-Ok
+returns-in-Ok g c = λ ch calm.
+    let told : List ℕ → Type 0 = λ bytes. IsLoad c.args.count bytes c.in-Ok.loaded.compiled.text.items in
+    c.show_text.ensures ch
+    (OfLoad (record {
+      count = c.args.count;
+      is = c.requires.many;
+      load = subst told (sym c.deref.ensures.value) c.in-Ok.ensures;
+    }))
+    calm
+
+pub returns-in-Err : goal.returns-in-Err
+returns-in-Err g c = λ ch calm. Ended (record {
+  refusal = refusal.Memory;
+  cause = calm;
+  untouched = took_none _;
+  noted = c.tell.ensures;
+  left = inl c.requires.empty;
+})
