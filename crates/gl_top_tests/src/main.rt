@@ -7,10 +7,11 @@
 //! `explain TEXT` runs `explain S Q`: the query is printed, and then the status, what was written
 //! and what was noted, parted by `|`. A line `root TEXT` runs `explain S Q` too, and prints the
 //! line of the root's node alone. Lines `compile TEXT`, `figures TEXT` and `start TEXT` run
-//! `compile S Q`, `figures S Q` and `run --start 12345 S Q T`. Every other line is a remark.
+//! `compile S Q`, `figures S Q` and `run --start 12345 S Q T`, and a line `load WORD WORD` runs
+//! `load` with these words, of which either may be missing. Every other line is a remark.
 #![tactic(auto)]
 
-ghost use Rattle.std.specs.Prelude.{◌≡◌, IfOk, ◌∷◌, [], codes};
+ghost use Rattle.std.specs.Prelude.{◌≡◌, ◌++◌, ◌==◌, IfOk, OnOk, ◌∷◌, [], codes, length, if◌then◌else◌};
 
 use gl_outside::{Memory, MemoryShelf, MemorySink, Words};
 use gl_top::run;
@@ -93,6 +94,30 @@ fn start_words(alloc: Global) -> Result<Words, Memory>
     words.push("S")?;
     words.push("Q")?;
     words.push("T")?;
+    Ok(words)
+}
+
+// Adds a word, if there is one.
+fn push_some(words: &mut Words, word: &str) -> Result<(), Memory>
+    ensures { OnOk result (words.new
+        ≡ words.old ++ (if length word.now == 0 then [] else word.now ∷ [])) }
+{
+    if word.is_empty() {
+        return Ok(());
+    }
+    words.push(word)
+}
+
+// The word `load` and up to two more.
+fn load_words(alloc: Global, first: &str, second: &str) -> Result<Words, Memory>
+    ensures { IfOk result (λ words. words
+        ≡ (codes "load" ∷ []) ++ (if length first.now == 0 then [] else first.now ∷ [])
+        ++ (if length second.now == 0 then [] else second.now ∷ [])) }
+{
+    let mut words = Words::new(alloc);
+    words.push("load")?;
+    push_some(&mut words, first)?;
+    push_some(&mut words, second)?;
     Ok(words)
 }
 
@@ -180,6 +205,14 @@ fn started_of(alloc: Global, row: &Row, query: &str) -> Result<Told, Memory> {
     told_by(alloc, &words, &mut shelf, row)
 }
 
+// What `load` comes to with these words.
+fn loaded_of(alloc: Global, row: &Row, text: &str) -> Result<Told, Memory> {
+    let (first, second) = text.split_once(' ').unwrap_or((text, ""));
+    let words = load_words(alloc, first, second)?;
+    let mut shelf = shelf_with(alloc, load_words(alloc, first, second)?, row, "")?;
+    told_by(alloc, &words, &mut shelf, row)
+}
+
 // The number in the place of a word; 0 where there is none.
 fn number_at(text: &str, place: usize) -> u64 {
     match text.split_whitespace().nth(place) {
@@ -246,6 +279,7 @@ fn main(rt: HostRuntime) -> io::Result<()> {
             "compile" => print_told(&rt, text, compiled_of(rt.alloc(), &row, text), false)?,
             "figures" => print_told(&rt, text, figures_of(rt.alloc(), &row, text), false)?,
             "start" => print_told(&rt, text, started_of(rt.alloc(), &row, text), false)?,
+            "load" => print_told(&rt, text, loaded_of(rt.alloc(), &row, text), false)?,
             "root" => print_told(&rt, text, explained_of(rt.alloc(), &row, text), true)?,
             _ => (),
         }
