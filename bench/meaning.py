@@ -1,0 +1,321 @@
+"""The query language once more, from docs/LANGUAGE.md alone: what a query means, and its text. It shares nothing with the crates.
+
+A query is a dict. Its 'sort' is
+    read            the rows of 'name'
+    UNION, CONCAT   of 'left' and 'right'
+    select          'items' [(name, expression)], None for *; or 'totals' [(name, aggregate, expression, weights)]; over 'source', with
+                    'window' (size, advance), 'filter' and 'group' (key, groups), each None where it is missing
+    each            'body' over 'source' by its 'window' or its 'group', as 'var'
+and each has its 'columns' [(name, kind)]. An expression is (sort, kind, part, ..): ('column', kind, name, name),
+('literal', kind, word, text), ('NOT', kind, e), ('CAST', kind, e), and (operator, kind, e, e).
+
+The right outcomes of a query are {spill: tree}, where a tree stands for a set of lists of rows: ('rows', row, ..) is one list,
+('merge', a, b) every interleaving, ('chain', a, b) what comes of a and then of b, ('either', a, b, ..) what comes of one of them.
+Lists are gone through only where an order that UNION leaves open comes to matter, and then at most MOST.
+"""
+import collections, functools
+
+MOST = 400          # lists of rows that are looked at where an order is open
+WORK = 20000        # rows of slices and groups that are looked at
+LEVELS = {'OR': 0, 'AND': 1, 'NOT': 2, '+': 4, '-': 4, '*': 5} | dict.fromkeys(['=', '<>', '<', '<=', '>', '>='], 3)
+SPENT = [0]
+NONE = ('rows',)
+
+
+class TooMany(Exception):
+    """More lists of rows, or more rows of parts, than are looked at."""
+
+
+# ---- kinds and words
+
+def width_of(kind):
+    return 8 * int(kind[4:]) if kind[0] == 't' else int(kind[1:])
+
+
+def word_of(text, kind):
+    return int.from_bytes(text.encode().ljust(int(kind[4:]), b'\0'), 'big')
+
+
+def shown(word, kind):
+    """A word as a file has it."""
+    return word.to_bytes(int(kind[4:]), 'big').rstrip(b'\0').decode() if kind[0] == 't' else str(word)
+
+
+# ---- trees of outcomes
+
+def merge(a, b):
+    return b if a == NONE else a if b == NONE else ('merge', a, b)
+
+
+def chain(a, b):
+    if a == NONE or b == NONE:
+        return b if a == NONE else a
+    return a + b[1:] if a[0] == b[0] == 'rows' else ('chain', a, b)
+
+
+def either(trees):
+    trees = list(dict.fromkeys(trees))
+    return trees[0] if len(trees) == 1 else ('either', *trees)
+
+
+def beside(a, b):
+    pairs = [(left, right) for left in lists(a) for right in lists(b)]
+    if len(pairs) > MOST:
+        raise TooMany
+    if any(len(left) != len(right) for left, right in pairs):
+        raise ValueError('CONCAT of unlike lengths')
+    return either([('rows', *(x + y for x, y in zip(left, right))) for left, right in pairs])
+
+
+def is_done(tree):
+    """Whether the empty list is among those of a tree."""
+    return len(tree) == 1 if tree[0] == 'rows' else (any if tree[0] == 'either' else all)(is_done(it) for it in tree[1:])
+
+
+@functools.lru_cache(100000)
+def steps(tree):
+    """The rows that may come first, each with the trees for what follows."""
+    sort, *parts = tree
+    out = collections.defaultdict(set)
+    if sort == 'rows' and parts:
+        out[parts[0]].add(('rows', *parts[1:]))
+    if sort == 'either':
+        for part in parts:
+            for row, rests in steps(part).items():
+                out[row] |= rests
+    if sort in ('merge', 'chain'):
+        a, b = parts
+        for row, rests in steps(a).items():
+            out[row] |= {(merge if sort == 'merge' else chain)(rest, b) for rest in rests}
+        if sort == 'merge' or is_done(a):
+            for row, rests in steps(b).items():
+                out[row] |= {merge(a, rest) if sort == 'merge' else rest for rest in rests}
+    return out
+
+
+def lists(tree):
+    """All lists of a tree, each once."""
+    if tree[0] == 'rows':
+        return [tree[1:]]
+    out, todo = [], [((), frozenset([tree]))]
+    while todo:
+        rows, trees = todo.pop()
+        if any(map(is_done, trees)):
+            out.append(rows)
+        if len(out) + len(todo) > MOST:
+            raise TooMany
+        follow = collections.defaultdict(set)
+        for it in trees:
+            for row, rests in steps(it).items():
+                follow[row] |= rests
+        todo += [(rows + (row,), frozenset(rests)) for row, rests in follow.items()]
+    return out
+
+
+def has(tree, rows):
+    """Whether these rows are a list of a tree."""
+    trees = {tree}
+    for row in rows:
+        trees = {rest for it in trees for rest in steps(it).get(row, ())}
+    return any(map(is_done, trees))
+
+
+def one_of(tree):
+    """One of the lists."""
+    return tree[1:] if tree[0] == 'rows' else sum(map(one_of, tree[1:2 if tree[0] == 'either' else 3]), ())
+
+
+def some(tree):
+    """Lists among which each multiset of rows is that is one of the tree's."""
+    if tree[0] == 'either':
+        return [rows for part in tree[1:] for rows in some(part)]
+    if tree[0] == 'rows':
+        return [tree[1:]]
+    out = [left + right for left in some(tree[1]) for right in some(tree[2])]
+    if len(out) > MOST:
+        raise TooMany
+    return out
+
+
+def changed(tree, change):
+    """Each row changed; None drops it."""
+    if tree[0] == 'rows':
+        return ('rows', *(it for it in map(change, tree[1:]) if it is not None))
+    parts = [changed(it, change) for it in tree[1:]]
+    return either(parts) if tree[0] == 'either' else {'merge': merge, 'chain': chain}[tree[0]](*parts)
+
+
+# ---- the meaning
+
+def value_of(expression, row):
+    sort, kind, *parts = expression
+    if sort == 'column':
+        return row[parts[0]]
+    if sort == 'literal':
+        return parts[0]
+    x = value_of(parts[0], row)
+    if sort == 'NOT':
+        return 1 - x
+    if sort == 'CAST':
+        had, wants = width_of(parts[0][1]), width_of(kind)
+        return x % 2 ** wants if kind[0] == 'u' else x << wants >> had
+    y, bound = value_of(parts[1], row), 2 ** width_of(parts[0][1])
+    return int({'+': (x + y) % bound, '-': (x - y) % bound, '*': x * y % bound, '=': x == y, '<>': x != y, '<': x < y, '<=': x <= y,
+                '>': x > y, '>=': x >= y, 'AND': x & y, 'OR': x | y}[sort])
+
+
+def total_of(item, rows):
+    name, sort, expression, weights = item
+    if sort == 'count':
+        return len(rows) % 2 ** 32
+    values, width = [value_of(expression, row) for row in rows], width_of(expression[1])
+    if sort in ('min', 'max'):
+        return (min if sort == 'min' else max)(values, default=0)
+    if sort == 'avg':
+        return sum(values) % 2 ** (width + 32) // len(values) % 2 ** width if values else 0
+    return sum(values) % 2 ** width if sort == 'sum' else sum(n * v for n, v in zip(weights, values)) % 2 ** width
+
+
+def both(left, right, join):
+    out = collections.defaultdict(list)
+    for spill, a in left.items():
+        for other, b in right.items():
+            out[spill or other].append(join(a, b))
+    return {spill: either(trees) for spill, trees in out.items()}
+
+
+def of_parts(found, cut, body, spills=lambda rows: False):
+    out = collections.defaultdict(list)
+    for before, tree in found.items():
+        for rows in lists(tree):
+            joined = {before or spills(rows): NONE}
+            for part in cut(rows):
+                SPENT[0] += 1 + len(part)
+                if SPENT[0] > WORK:
+                    raise TooMany
+                joined = both(joined, body(part), chain)
+            for spill, it in joined.items():
+                out[spill].append(it)
+    return {spill: either(trees) for spill, trees in out.items()}
+
+
+def windowed(found, window, body):
+    size, advance = window
+    return of_parts(found, lambda rows: [rows[at:at + size] for at in range(0, len(rows), advance)], body)
+
+
+def grouped(found, at, most, body):
+    def keys(rows):
+        return list(dict.fromkeys(row[at] for row in rows))
+
+    def keyed(part):
+        return {spill: changed(tree, lambda row: (part[0],) + row) for spill, tree in body(part[1]).items()}
+    return of_parts(found, lambda rows: [(key, tuple(row for row in rows if row[at] == key)) for key in keys(rows)[:most]], keyed,
+                    lambda rows: len(keys(rows)) > most)
+
+
+def selected(query, columns, found):
+    """A select without its window, over rows of these columns."""
+    names = [name for name, _ in columns]
+
+    def named(row):
+        return dict(zip(names, row))
+    if query['filter']:
+        found = {spill: changed(tree, lambda row: row if value_of(query['filter'], named(row)) else None) for spill, tree in found.items()}
+    if query['group']:
+        key, most = query['group']
+        return grouped(found, names.index(key), most, lambda rows: selected(query | {'filter': None, 'group': None}, columns, {False: ('rows', *rows)}))
+    if query['totals']:
+        open_ = lists if any(item[1] == 'wsum' for item in query['totals']) else some
+        return {spill: either([('rows', tuple(total_of(item, [named(row) for row in rows]) for item in query['totals'])) for rows in open_(tree)])
+                for spill, tree in found.items()}
+    if query['items']:
+        return {spill: changed(tree, lambda row: tuple(value_of(e, named(row)) for _, e in query['items'])) for spill, tree in found.items()}
+    return found
+
+
+def outcomes_of(query, sources):
+    """All right outcomes of a query over the rows of its sources, by name; TooMany where there are too many."""
+    SPENT[0] = 0
+    return results(query, sources)
+
+
+def results(query, sources):
+    sort = query['sort']
+    if sort == 'read':
+        return {False: ('rows', *sources[query['name']])}
+    if sort in ('UNION', 'CONCAT'):
+        return both(results(query['left'], sources), results(query['right'], sources), merge if sort == 'UNION' else beside)
+    columns, found = query['source']['columns'], results(query['source'], sources)
+    if sort == 'select':
+        return windowed(found, query['window'], lambda rows: selected(query, columns, {False: ('rows', *rows)})) if query['window'] else \
+            selected(query, columns, found)
+
+    def body(rows):
+        return results(query['body'], {query['var']: rows})
+    if query['window']:
+        return windowed(found, query['window'], body)
+    return grouped(found, [name for name, _ in columns].index(query['group'][0]), query['group'][1], body)
+
+
+# ---- the text
+
+def expression_text(expression, level=0):
+    sort, kind, *parts = expression
+    if sort in ('column', 'literal'):
+        return parts[-1]
+    if sort == 'CAST':
+        return f'CAST({expression_text(parts[0])} AS {kind})'
+    own = LEVELS[sort]
+    if sort == 'NOT':
+        text = f'NOT {expression_text(parts[0], 3)}'
+    else:
+        text = f'{expression_text(parts[0], 4 if own == 3 else own)} {sort} {expression_text(parts[1], own + 1)}'
+    return f'({text})' if own < level else text
+
+
+def item_text(item):
+    name, expression = item
+    return name if expression[2:] == (name, name) else f'{expression_text(expression)} AS {name}'
+
+
+def total_text(item):
+    name, sort, expression, weights = item
+    inside = expression_text(expression) if expression else ''
+    return f'{sort}({inside}, {weights}) AS {name}' if sort == 'wsum' else f'{sort}({inside}) AS {name}'
+
+
+def source_text(query):
+    return query['name'] if query['sort'] == 'read' else f'({query_text(query)})'
+
+
+def window_text(window):
+    return f' [SIZE {window[0]} ADVANCE {window[1]} TUPLES]' if window else ''
+
+
+def query_text(query):
+    sort = query['sort']
+    if sort in ('UNION', 'CONCAT'):
+        right = query['right']
+        return f"{query_text(query['left'])} {sort} " + (source_text(right) if right['sort'] in ('UNION', 'CONCAT') else query_text(right))
+    source, group = source_text(query['source']), query['group']
+    if sort == 'each':
+        parts = window_text(query['window']) if query['window'] else f' BY {group[0]} GROUPS {group[1]}'
+        return f"EACH {query['var']} IN {source}{parts} ({query_text(query['body'])})"
+    items = [total_text(it) for it in query['totals'] or []] or [item_text(it) for it in query['items'] or []] or ['*']
+    text = 'SELECT ' + ', '.join(([group[0]] if group else []) + items) + f' FROM {source}' + window_text(query['window'])
+    text += f" WHERE {expression_text(query['filter'])}" if query['filter'] else ''
+    return text + (f' GROUP BY {group[0]} GROUPS {group[1]}' if group else '')
+
+
+def forms_of(query):
+    """The names of what stands in a query."""
+    sort = query['sort']
+    if sort in ('UNION', 'CONCAT'):
+        return {sort} | forms_of(query['left']) | forms_of(query['right'])
+    if sort == 'read':
+        return set()
+    out = {name for name, found in (('WHERE', query['filter']), ('aggregates', query['totals']), ('windows', query['window']), ('groups', query['group'])) if found}
+    out |= {'nested'} if query['source']['sort'] != 'read' or sort == 'each' else set()
+    out |= {'plain'} if sort == 'select' and not query['totals'] else set()
+    return out | forms_of(query['source']) | (forms_of(query['body']) if query['body'] else set())
