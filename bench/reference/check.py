@@ -66,7 +66,9 @@ def answers(cases):
 def difference(right_ones, made, answer):
     number, case, beats, texts = made
     tree = answer and right_ones(case, beats).get(answer[1])
-    return None if tree and has(tree, answer[0]) else f'== case {number}: the reference evaluator answers {answer}\n' + '\n'.join(texts)
+    if tree and has(tree, answer[0]):
+        return None
+    return '\n'.join([f'== case {number}: the reference evaluator answers {answer}', *(text.strip('\n') for text in texts)])
 
 
 def differences(cases, right_ones, jobs, most):
