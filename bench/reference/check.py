@@ -1,7 +1,7 @@
 """Cases of bench/random-queries by the repository's reference evaluator, crates/gl_reference.
 
-main.rt beside this file reads cases and prints what the evaluator answers. It is built in a copy of the repository's tracked files, as a
-crate above gl_reference, by `rt try`: without proof. So a difference may be one of the build as well, and none says nothing of the proofs.
+main.txt beside this file, a program in Rattle, reads cases and prints what the evaluator answers. It is built in a copy of the repository's
+tracked files, as a crate above gl_reference, by `rt try`: without proof. So a difference may be one of the build as well, and none says nothing of the proofs.
 """
 import concurrent.futures, functools, os, re, shutil, subprocess, sys, tempfile
 
@@ -29,7 +29,7 @@ def copied(top):
     crate = f'{top}/crates/{NAME}'
     for name in 'specs', 'proofs':
         written(f'{crate}/{name}/Lib.antt', '')
-    with open(f'{TOP}/bench/reference/main.rt') as file:
+    with open(f'{TOP}/bench/reference/main.txt') as file:
         written(f'{crate}/src/main.rt', file.read())
     written(f'{top}/crates.txt', f'{NAME}: {USES}\n')
     return crate
