@@ -14,7 +14,7 @@ use Rattle.gl_compiler.specs.declared.pins.Pin.{Pin as Carried}
 use Rattle.gl_compiler.specs.declared.pins.Pin.TheVariants as is
 use Rattle.gl_compiler.specs.Carried.{first_known, column_pin, stream_pin, pin_named, row_among, carried}
 use Rattle.gl_schema.specs.Profile.{ProfilePort, input, column_inputs, streams_inputs, input_ports}
-use Rattle.gl_compiler.specs.Profile.{input_width}
+use Rattle.gl_verilog_fit.specs.Profile.{input_width}
 
 -- ---- the search for a name, and the values at the same places
 

@@ -13,7 +13,7 @@ use Rattle.gl_verilog.specs.Text.{HasModule}
 use Rattle.gl_verilog.specs.Valid.{AreDistinct, Differs}
 use Rattle.gl_verilog.specs.Written.{WrittenItem, Range, Wires, Registers, MemoryOf, Assign, Always}
 use Rattle.gl_verilog.proofs.Fits.{all_at}
-use Rattle.gl_compiler.specs.Profile.{ports_of}
+use Rattle.gl_verilog_fit.specs.Profile.{ports_of}
 
 -- ---- names
 

@@ -22,7 +22,7 @@ use Rattle.gl_compiler.specs.declared.executing.Outcome.{Outcome}
 use Rattle.gl_compiler.specs.declared.executing.Outcome.TheVariants.{Done, WriteFault, Memory}
 use Rattle.gl_compiler.specs.Cycles.{CanFollow, IsFollowed, WritesBy, OfTimely}
 use Rattle.gl_compiler.specs.Prints.{CanRun, EndsWithin, IsRunOver, OfEachRun, Ran, Writes, WritesFront}
-use Rattle.gl_compiler.specs.Profile.{FitsSchema, result_names, result_widths}
+use Rattle.gl_verilog_fit.specs.Profile.{FitsSchema, result_names, result_widths}
 
 -- what is known where the sink failed
 pub by_err : {E : Type 0} (P : E → Type 0) (kinds : List Kind) (beats : List Beat) (outs : List (List ℕ)) (port : PortValues) (a b : SinkState) (r : Result (Unit {0}) E) → IsErrAnd r P → WritesFront kinds beats outs port a.taken b.taken → WritesBy kinds beats outs port a b r

@@ -19,7 +19,7 @@ use Rattle.gl_compiler.specs.declared.pins.Pin.{Pin as Carried}
 use Rattle.gl_compiler.specs.Carried.{pin_named, pin_at, at_reset, with_beat}
 use Rattle.gl_schema.specs.Profile.{input_ports}
 use Rattle.gl_schema.proofs.Pinned.{pins_fit}
-use Rattle.gl_compiler.specs.Profile.{FitsSchema, input_width, ports_of}
+use Rattle.gl_verilog_fit.specs.Profile.{FitsSchema, input_width, ports_of}
 use Rattle.gl_compiler.proofs.Carries.{Fact, OfBoth, IsNarrow, found, zip_all}
 use Rattle.gl_compiler.proofs.Declared as declared
 

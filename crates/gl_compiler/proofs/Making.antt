@@ -24,7 +24,7 @@ use Rattle.gl_compiler.specs.declared.pins.Pin.{Pin}
 use Rattle.gl_compiler.specs.Benches.{columns_from}
 use Rattle.gl_compiler.specs.Carried.{pin_at, at_reset, with_beat}
 use Rattle.gl_compiler.specs.Cycles.{CanFollow, IsFollowed, IsMade, looked_at}
-use Rattle.gl_compiler.specs.Profile.{ports_of, result_names, result_widths}
+use Rattle.gl_verilog_fit.specs.Profile.{ports_of, result_names, result_widths}
 use Rattle.gl_compiler.proofs.Inputs.{carried_at, inputs_fit, run_has_inputs}
 use Rattle.gl_compiler.proofs.Outputs.{columns_read, columns_widths, columns_fit, shown_same}
 

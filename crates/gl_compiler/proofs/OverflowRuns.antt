@@ -20,7 +20,7 @@ use Rattle.gl_sim.proofs.Settling.{IsInputPort}
 use Rattle.gl_wiring.specs.Wired.{KeepsGroup}
 use Rattle.gl_compiler.specs.declared.pins.Pin.{Pin as Carried}
 use Rattle.gl_compiler.specs.Carried.{pin_at, with_beat}
-use Rattle.gl_compiler.specs.Profile.{FitsSchema, result_names}
+use Rattle.gl_verilog_fit.specs.Profile.{FitsSchema, result_names}
 use Rattle.gl_compiler.specs.Meets.{RunsOver}
 use Rattle.gl_compiler.specs.Overflow.{HasSpill, TellsGroup, beats_to}
 use Rattle.gl_compiler.proofs.Inputs.{carried_at, port_carries}

@@ -17,7 +17,7 @@ use Rattle.gl_sim.specs.Simulation.{Simulation}
 use Rattle.gl_compiler.specs.declared.looking.Looked.{Looked}
 use Rattle.gl_compiler.specs.Cycles.{IsFollowed, IsMade, looked_at}
 use Rattle.gl_compiler.specs.Prints.{Writes, WritesFront, EndsWithin}
-use Rattle.gl_compiler.specs.Profile.{result_names}
+use Rattle.gl_verilog_fit.specs.Profile.{result_names}
 
 -- ---- the cycles before one
 

@@ -12,7 +12,7 @@ use Rattle.gl_sim.specs.Simulation.{Simulation}
 use Rattle.gl_compiler.specs.declared.pins.Pin.{Pin}
 use Rattle.gl_compiler.specs.declared.pins.Shows.{Shows}
 use Rattle.gl_compiler.specs.Carried.{pin_at}
-use Rattle.gl_compiler.specs.Profile.{ports_of, shows_column, result_names}
+use Rattle.gl_verilog_fit.specs.Profile.{ports_of, shows_column, result_names}
 
 -- the numbers of the columns of the result, counted from n
 abbrev pub columns_from : ℕ → List Declaration → List ℕ

@@ -22,7 +22,7 @@ use Rattle.gl_compiler.specs.declared.pins.Shows.{Shows}
 use Rattle.gl_compiler.specs.Benches.{IsBench}
 use Rattle.gl_outside.specs.States.{SinkState}
 use Rattle.gl_compiler.specs.Prints.{IsRunOver, EndsWithin, Writes, WritesFront}
-use Rattle.gl_compiler.specs.Profile.{FitsSchema, result_names, result_widths}
+use Rattle.gl_verilog_fit.specs.Profile.{FitsSchema, result_names, result_widths}
 
 -- each beat is in cycle n or later, and later than the one before
 abbrev pub AreFrom : ℕ → List Beat → Type 0

@@ -1,10 +1,10 @@
 pub mod Carried
 pub mod Benches
 pub mod Cycles
-pub mod Profile
 pub mod Prints
 pub mod Overflow
 pub mod Meets
 pub mod Compiles
 pub mod Queries
 pub mod Outcomes
+pub mod Traces

@@ -16,7 +16,7 @@ use Rattle.gl_verilog.specs.Text.{HasModule}
 use Rattle.gl_verilog_orders.specs.Events.{IsEventRun}
 use Rattle.gl_sim.specs.declared.start.Start.{Start}
 use Rattle.gl_sim.specs.Starts.{StartsFrom}
-use Rattle.gl_compiler.specs.Profile.{FitsSchema, result_names, result_widths}
+use Rattle.gl_verilog_fit.specs.Profile.{FitsSchema, result_names, result_widths}
 
 -- a run of a module in some order of events from this start, with these beats on its inputs
 pub record IsRunOver (m : Module) (schema : Schema) (beats : List Beat) (start : Start) (value : ℕ → Nets) (word : ℕ → Memories) : Type 0 where

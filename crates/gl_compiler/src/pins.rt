@@ -6,7 +6,7 @@ ghost use Rattle.gl_tuples.specs.Gaps.{plain_beat};
 ghost use Rattle.gl_verilog.specs.View.{declaration_of, module_of, kind_of};
 ghost use Rattle.gl_verilog.specs.Module as spec;
 ghost use Rattle.gl_compiler.specs.Carried.{column_pin, stream_pin, pin_named, with_beat, row_among};
-ghost use Rattle.gl_compiler.specs.Profile as profile;
+ghost use Rattle.gl_verilog_fit.specs.Profile as profile;
 ghost use Rattle.gl_compiler.specs.Benches.{columns_from, AreShows};
 
 use gl_bits::{Memory, Row};

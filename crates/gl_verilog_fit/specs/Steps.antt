@@ -1,0 +1,41 @@
+-- The same, as it is looked for: a name is compared piece by piece, and no name is made.
+use Rattle.std.specs.Prelude.{ℕ, Bool, false, List, [], ◌∷◌, Option, None, Some, codes, bytes_eq, nat_eq, ◌==◌, unwrap_or, if◌then◌else◌}
+use Rattle.std.specs.Option.{option_map_or, option_or}
+use Rattle.gl_bits.specs.Kinds.{width_of}
+use Rattle.gl_schema.specs.declared.schema.Column.{Column}
+use Rattle.gl_schema.specs.declared.schema.Stream.{Stream}
+use Rattle.gl_schema.specs.declared.schema.Schema.{Schema}
+use Rattle.gl_schema.specs.Ports.{rst, eos}
+use Rattle.gl_schema.specs.Profile.{clk}
+
+-- what stands in a name behind this front
+abbrev pub behind : List ℕ → List ℕ → Option (List ℕ)
+behind [] name = Some name
+behind (x ∷ front) [] = None
+behind (x ∷ front) (y ∷ name) = if x == y then behind front name else None
+
+-- the name of a stream's valid line, and of a column
+abbrev pub is_valid_name : List ℕ → List ℕ → Bool
+is_valid_name stream name = option_map_or (λ rest. option_map_or (λ last. bytes_eq (codes "__valid") last) (behind stream rest) false) (behind (codes "in__") name) false
+
+abbrev pub is_column_name : List ℕ → List ℕ → List ℕ → Bool
+is_column_name stream column name = option_map_or (λ rest. option_map_or (λ more. option_map_or (λ last. bytes_eq column last) (behind (codes "__") more) false) (behind stream rest) false) (behind (codes "in__") name) false
+
+-- of the first port of a name, whether it has so many bits; None where none has the name
+abbrev pub among_columns : List ℕ → List Column → List ℕ → ℕ → Option Bool
+among_columns stream [] name width = None
+among_columns stream (c ∷ cs) name width = if is_column_name stream c.name name then Some (nat_eq (width_of c.kind) width) else among_columns stream cs name width
+
+abbrev pub among_stream : Stream → List ℕ → ℕ → Option Bool
+among_stream s name width = if is_valid_name s.name name then Some (nat_eq 1 width) else among_columns s.name s.columns name width
+
+abbrev pub among_streams : List Stream → List ℕ → ℕ → Option Bool
+among_streams [] name width = None
+among_streams (s ∷ ss) name width = option_or (among_stream s name width) (among_streams ss name width)
+
+abbrev pub is_end : List ℕ → ℕ → Bool
+is_end name width = if bytes_eq eos name then nat_eq 1 width else false
+
+abbrev pub is_asked : Schema → List ℕ → ℕ → Bool
+is_asked schema name width =
+    if bytes_eq clk name then nat_eq 1 width else if bytes_eq rst name then nat_eq 1 width else unwrap_or (among_streams schema.streams name width) (is_end name width)
