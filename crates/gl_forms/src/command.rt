@@ -14,6 +14,8 @@ pub enum Command {
     Explain,
     /// `run S Q T [--start N]`: what the Verilog text does over a tuple file.
     Run,
+    /// `sim S V T --extra N`: what a given Verilog text does over a tuple file.
+    Sim,
     /// `load N`: the Verilog text of a fixed query over N tuples, and what comes out.
     Load,
 }
@@ -28,6 +30,7 @@ impl Command {
             Command::Figures => "figures",
             Command::Explain => "explain",
             Command::Run => "run",
+            Command::Sim => "sim",
             Command::Load => "load",
         }
     }
@@ -38,19 +41,21 @@ impl Command {
     {
         match self {
             Command::Compile | Command::Figures | Command::Explain => 2,
-            Command::Run => 3,
+            Command::Run | Command::Sim => 3,
             Command::Load => 1,
         }
     }
 }
 
-/// One of the texts that the words name behind the command, in this order.
+/// One of the texts that the words name behind the command, the schema first and the tuple file last.
 #[derive(Clone, Copy, PartialEq, Eq, Debug)]
 pub enum Part {
     /// The schema.
     Schema,
     /// The query.
     Query,
+    /// The Verilog text.
+    Module,
     /// The tuple file.
     Tuples,
 }
@@ -62,7 +67,7 @@ impl Part {
     {
         match self {
             Part::Schema => 0,
-            Part::Query => 1,
+            Part::Query | Part::Module => 1,
             Part::Tuples => 2,
         }
     }

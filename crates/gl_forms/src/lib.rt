@@ -1,5 +1,5 @@
 //! The forms of command lines: which command the words are, which texts they name, what a run
-//! starts from, and how many tuples a load has.
+//! starts from, how long a simulation waits for its end, and how many tuples a load has.
 //!
 //! Here belongs what the words alone say. What the texts say, and what a command does, stands above
 //! (`gl_top`).
@@ -10,4 +10,4 @@ pub mod laws;
 pub mod reading;
 
 pub use command::{Command, Part};
-pub use reading::{command_of, load_of, name_of, start_of};
+pub use reading::{command_of, extra_of, load_of, name_of, start_of};

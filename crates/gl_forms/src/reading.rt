@@ -10,6 +10,30 @@ use gl_outside::Words;
 use gl_sim::start::Start;
 use gl_tuples::value::number_of;
 
+// ---- the option
+
+// The first word.
+fn first_word(words: &Words) -> &str
+    ensures { result.now ≡ forms.first_word words.now }
+{
+    match words.get(0) {
+        Some(word) => word,
+        None => "",
+    }
+}
+
+// The option that the words may have.
+#[tactic(auto, unfolding(crate::specs::Forms::option_word))]
+fn option_word(words: &Words) -> &'static [u8]
+    ensures { result.now ≡ forms.option_word words.now }
+{
+    if first_word(words) == "sim" {
+        b"--extra"
+    } else {
+        b"--start"
+    }
+}
+
 // ---- one word
 
 // Whether the word begins with `-`.
@@ -23,10 +47,10 @@ fn is_dashed(word: &[u8]) -> bool
 }
 
 // Whether the next word is the value of this one; `valued` says whether this one is a value.
-fn is_start(valued: bool, word: &[u8]) -> bool
-    ensures { result ≡ steps.is_start valued word.now }
+fn is_option(option: &[u8], valued: bool, word: &[u8]) -> bool
+    ensures { result ≡ steps.is_option option.now valued word.now }
 {
-    !valued && word == b"--start".as_slice()
+    !valued && word == option
 }
 
 // Whether the word is a name.
@@ -36,28 +60,35 @@ fn is_name(valued: bool, word: &[u8]) -> bool
     !valued && !is_dashed(word)
 }
 
-// What stands behind `--start=`.
-fn behind_front(word: &[u8]) -> Option<&[u8]>
-    ensures { steps.bytes_of result ≡ steps.behind_front word.now }
+// What stands behind a front.
+fn behind<'a>(front: &[u8], word: &'a [u8]) -> Option<&'a [u8]>
+    ensures { steps.bytes_of result ≡ steps.behind front.now word.now }
 {
-    if word.starts_with(b"--start=".as_slice()) {
-        Some(&word[8..])
+    if word.starts_with(front) {
+        Some(&word[front.len()..])
     } else {
         None
     }
 }
 
+// What stands behind the option and `=`.
+fn behind_front<'a>(option: &[u8], word: &'a [u8]) -> Option<&'a [u8]>
+    ensures { steps.bytes_of result ≡ steps.behind (forms.option_front option.now) word.now }
+{
+    behind(b"=", behind(option, word)?)
+}
+
 // The value that the word gives, if it is one or an option; None within where there is no such option.
-fn value_in(valued: bool, word: &[u8]) -> Option<Option<&[u8]>>
-    ensures { option_map steps.bytes_of result ≡ steps.value_in valued word.now }
+fn value_in<'a>(option: &[u8], valued: bool, word: &'a [u8]) -> Option<Option<&'a [u8]>>
+    ensures { option_map steps.bytes_of result ≡ steps.value_in option.now valued word.now }
 {
     if valued {
         return Some(Some(word));
     }
-    if word == b"--start".as_slice() {
+    if word == option {
         return None;
     }
-    if let Some(value) = behind_front(word) {
+    if let Some(value) = behind_front(option, word) {
         return Some(Some(value));
     }
     if is_dashed(word) {
@@ -73,6 +104,7 @@ fn value_in(valued: bool, word: &[u8]) -> Option<Option<&[u8]>>
 fn name_at(words: &Words, index: usize) -> Option<&str>
     ensures { option_map (λ w. w.now) result ≡ slice_get (forms.names_of words.now) index }
 {
+    let option = option_word(words);
     let mut left = index;
     let mut valued = false;
     for at in 1..words.len() {
@@ -80,7 +112,7 @@ fn name_at(words: &Words, index: usize) -> Option<&str>
             return None;
         };
         let named = is_name(valued, word.as_bytes());
-        valued = is_start(valued, word.as_bytes());
+        valued = is_option(option, valued, word.as_bytes());
         if named {
             if left == 0 {
                 return Some(word);
@@ -120,21 +152,22 @@ pub fn name_of(words: &Words, part: Part) -> &str
     }
 }
 
-// ---- the start
+// ---- values
 
 // The value at a place among the values.
 #[tactic(auto, unfolding(crate::specs::Forms::values_of))]
 fn value_at(words: &Words, index: usize) -> Option<Option<&[u8]>>
     ensures { option_map steps.bytes_of result ≡ slice_get (forms.values_of words.now) index }
 {
+    let option = option_word(words);
     let mut left = index;
     let mut valued = false;
     for at in 1..words.len() {
         let Some(word) = words.get(at) else {
             return None;
         };
-        let found = value_in(valued, word.as_bytes());
-        valued = is_start(valued, word.as_bytes());
+        let found = value_in(option, valued, word.as_bytes());
+        valued = is_option(option, valued, word.as_bytes());
         if let Some(value) = found {
             if left == 0 {
                 return Some(value);
@@ -148,6 +181,8 @@ fn value_at(words: &Words, index: usize) -> Option<Option<&[u8]>>
         None
     }
 }
+
+// ---- the start
 
 // The start of a number.
 fn start_from(number: u64) -> Start
@@ -195,6 +230,38 @@ pub fn start_of(words: &Words) -> Start
     start_in(words).unwrap_or(Start::Zero)
 }
 
+// ---- the cycles that are waited for the end
+
+// So many cycles, if so many may be waited.
+fn extra_at(value: &[u8]) -> Option<u32>
+    ensures { result ≡ forms.extra_at (number_of value.now) }
+{
+    let number = number_of(value)?;
+    if number > 1_000_000 {
+        None
+    } else {
+        Some(number as u32)
+    }
+}
+
+// The cycles that the values say.
+fn extra_in(words: &Words) -> Option<u32>
+    ensures { result ≡ forms.extra_in (forms.values_of words.now) }
+{
+    match value_at(words, 0) {
+        Some(Some(value)) if value_at(words, 1).is_none() => extra_at(value),
+        _ => None,
+    }
+}
+
+/// How many cycles are waited for the end behind the last beat's; 0 where the words say none.
+#[tactic(auto, unfolding(crate::specs::Forms::extra_of))]
+pub fn extra_of(words: &Words) -> u32
+    ensures { result ≡ forms.extra_of words.now }
+{
+    extra_in(words).unwrap_or(0)
+}
+
 // ---- the tuples of a load
 
 // So many tuples, if a load may have them.
@@ -221,22 +288,13 @@ pub fn load_of(words: &Words) -> Option<u32>
 
 // ---- the command
 
-// The first word.
-fn first_word(words: &Words) -> &str
-    ensures { result.now ≡ forms.first_word words.now }
-{
-    match words.get(0) {
-        Some(word) => word,
-        None => "",
-    }
-}
-
 // Whether the command takes the values.
 fn takes_values(words: &Words, command: Command) -> bool
     ensures { result ≡ forms.takes_values command (forms.values_of words.now) }
 {
     match command {
         Command::Run => start_in(words).is_some(),
+        Command::Sim => extra_in(words).is_some(),
         Command::Compile | Command::Figures | Command::Explain | Command::Load => {
             value_at(words, 0).is_none()
         }
@@ -250,7 +308,8 @@ fn takes_names(words: &Words, command: Command) -> bool
 {
     match command {
         Command::Load => load_of(words).is_some(),
-        Command::Compile | Command::Figures | Command::Explain | Command::Run => true,
+        Command::Compile | Command::Figures | Command::Explain | Command::Run | Command::Sim =>
+            true,
     }
 }
 
@@ -281,6 +340,9 @@ pub fn command_of(words: &Words) -> Option<Command>
     }
     if is_command(words, Command::Run) {
         return Some(Command::Run);
+    }
+    if is_command(words, Command::Sim) {
+        return Some(Command::Sim);
     }
     if is_command(words, Command::Load) {
         return Some(Command::Load);
