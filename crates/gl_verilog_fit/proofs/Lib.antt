@@ -1,1 +1,5 @@
 mod Asked
+mod Declared
+mod Judged
+mod Named
+mod Fits

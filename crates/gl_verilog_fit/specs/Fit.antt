@@ -1,5 +1,5 @@
 -- When the ports of a module are those of a schema and of a result, and the first that is not.
-use Rattle.std.specs.Prelude.{ℕ, ◌+◌, Bool, true, false, not, ◌&&◌, ◌||◌, List, [], ◌∷◌, find, Option, None, Some, Result, Ok, Err, option_map, unwrap_or, bytes_eq, nat_eq, nat_le, nat_lt, if◌then◌else◌}
+use Rattle.std.specs.Prelude.{ℕ, ◌+◌, Bool, false, not, ◌&&◌, ◌||◌, List, [], ◌∷◌, find, Option, None, Some, Result, Ok, Err, option_map, unwrap_or, bytes_eq, nat_eq, nat_le, nat_lt, if◌then◌else◌}
 use Rattle.gl_schema.specs.declared.schema.Schema.{Schema}
 use Rattle.gl_schema.specs.Ports.{out_valid, out_eos, fault_group, fault_queue}
 use Rattle.gl_schema.specs.Profile.{ProfilePort, clk, input, input_ports}

@@ -1,6 +1,7 @@
 //! The ports of a module, judged in their order.
 
-ghost use Rattle.std.specs.Prelude.{◌≡◌, ◌≤◌, map, length};
+ghost use Rattle.std.specs.Prelude.{◌≡◌, ◌+◌, ◌<◌, ◌^◌, map};
+ghost use Rattle.gl_verilog.specs.Run as run;
 ghost use Rattle.gl_verilog.specs.View.{declaration_of, kind_of, module_of};
 ghost use Rattle.gl_verilog_fit.specs.Fit as spec;
 ghost use Rattle.gl_verilog_fit.specs.Profile as profile;
@@ -34,7 +35,7 @@ pub enum Misfit {
 }
 
 fn is_input(kind: Kind) -> bool
-    ensures { result ≡ Rattle.gl_verilog.specs.Run.is_input (kind_of kind) }
+    ensures { result ≡ run.is_input (kind_of kind) }
 {
     matches!(kind, Kind::Input)
 }
@@ -83,6 +84,18 @@ fn is_bad(schema: &Schema, columns: usize, port: &Declaration) -> bool
     strange || crooked || wide
 }
 
+// The columns up to a port, it included.
+fn with_port(columns: usize, port: &Declaration) -> usize
+    requires { columns + 1 < 2 ^ 64 }
+    ensures { result ≡ spec.with_port columns (declaration_of port.now) }
+{
+    if shows_column(port) {
+        columns + 1
+    } else {
+        columns
+    }
+}
+
 // The first port that no module may have.
 fn first_bad(schema: &Schema, ports: &[Declaration]) -> Option<usize>
     ensures { result ≡ spec.first_bad schema.now 0 0 (map declaration_of ports.now) }
@@ -92,9 +105,7 @@ fn first_bad(schema: &Schema, ports: &[Declaration]) -> Option<usize>
         if is_bad(schema, columns, port) {
             return Some(number);
         }
-        if shows_column(port) {
-            columns += 1;
-        }
+        columns = with_port(columns, port);
     }
     None
 }
