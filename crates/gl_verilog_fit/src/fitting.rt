@@ -15,9 +15,13 @@ use gl_verilog::{Declaration, Kind, Module};
 pub struct Ports {
     /// The clock.
     pub clock: usize,
+    /// The reset, where there is such an input.
+    pub reset: Option<usize>,
+    /// The end of the input, where there is such an input.
+    pub input_end: Option<usize>,
     /// Whether a row leaves.
     pub valid: usize,
-    /// The end.
+    /// The end of the result.
     pub end: usize,
     /// That a further group came, where there is such a line.
     pub group: Option<usize>,
@@ -145,12 +149,10 @@ fn ports_of(design: &Module) -> &[Declaration]
 }
 
 // The ports, where none is bad and none is lacking.
-#[tactic(auto, unfolding(gl_schema::specs::Profile::clk, gl_schema::specs::Ports::out_valid, gl_schema::specs::Ports::out_eos, gl_schema::specs::Ports::fault_group, gl_schema::specs::Ports::fault_queue))]
+#[tactic(auto, unfolding(gl_schema::specs::Profile::clk, gl_schema::specs::Ports::rst, gl_schema::specs::Ports::eos, gl_schema::specs::Ports::out_valid, gl_schema::specs::Ports::out_eos, gl_schema::specs::Ports::fault_group, gl_schema::specs::Ports::fault_queue))]
 fn found_in(ports: &[Declaration]) -> Result<Ports, Misfit>
     ensures { result ≡ spec.found_in (map declaration_of ports.now) }
 {
-    let group = output_at(ports, b"fault__group");
-    let queue = output_at(ports, b"fault__queue");
     let Some(clock) = input_at(ports, b"clk") else {
         return Err(Misfit::Lacks);
     };
@@ -162,11 +164,20 @@ fn found_in(ports: &[Declaration]) -> Result<Ports, Misfit>
     };
     Ok(Ports {
         clock,
+        reset: input_at(ports, b"rst"),
+        input_end: input_at(ports, b"eos"),
         valid,
         end,
-        group,
-        queue,
+        group: output_at(ports, b"fault__group"),
+        queue: output_at(ports, b"fault__queue"),
     })
+}
+
+/// The number of the input port of a name; None where the module has no such input. Takes no memory.
+pub fn input_named(design: &Module, name: &[u8]) -> Option<usize>
+    ensures { result ≡ spec.input_at (profile.ports_of (module_of design.now)) name.now }
+{
+    input_at(ports_of(design), name)
 }
 
 /// The ports of a module, where they are those of a schema and of a result; else the first that no module may have, in their order, or,

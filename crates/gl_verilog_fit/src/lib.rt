@@ -6,4 +6,4 @@
 pub mod fitting;
 mod names;
 
-pub use fitting::{Misfit, Ports, find_ports};
+pub use fitting::{Misfit, Ports, find_ports, input_named};
