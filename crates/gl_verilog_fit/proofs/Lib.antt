@@ -3,3 +3,4 @@ mod Declared
 mod Judged
 mod Named
 mod Fits
+mod Placed
