@@ -1,1 +1,6 @@
 mod Asked
+mod Declared
+mod Judged
+mod Named
+mod Fits
+mod Placed

@@ -2,3 +2,4 @@ pub mod Profile
 pub mod Fit
 pub mod Steps
 pub mod Places
+pub mod Laws
