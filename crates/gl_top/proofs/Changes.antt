@@ -5,7 +5,7 @@ use Rattle.gl_outside.specs.Told.{Told}
 use Rattle.gl_outside.specs.States.{ShelfState, Stays, IsCalm}
 use Rattle.gl_outside.proofs.Counting.{calm_then, missed_then, faulted_then}
 use Rattle.gl_top.specs.declared.notes.Refusal.{Refusal}
-use Rattle.gl_top.specs.declared.notes.Refusal.TheVariants.{Usage, Missing, ReadFault, TooLong, Schema, Query, Limit, Tuples, Memory}
+use Rattle.gl_top.specs.declared.notes.Refusal.TheVariants.{Usage, Missing, ReadFault, TooLong, Schema, Query, Limit, Verilog, Tuples, Memory}
 use Rattle.gl_top.specs.Causes.{change, IsNext, IsRefused, HasCause, Leaves}
 
 -- the texts stay, and what is said of them
@@ -21,6 +21,7 @@ cause_later words a b c (TooLong p) k q h = (same_told (λ t. IsRefused t words 
 cause_later words a b c (Schema f) k q h = (same_told (λ t. IsRefused t words (Schema f)) a.told b.told k.texts h.0, calm_then a b c q h.1)
 cause_later words a b c (Query f) k q h = (same_told (λ t. IsRefused t words (Query f)) a.told b.told k.texts h.0, calm_then a b c q h.1)
 cause_later words a b c (Limit l) k q h = (same_told (λ t. IsRefused t words (Limit l)) a.told b.told k.texts h.0, calm_then a b c q h.1)
+cause_later words a b c (Verilog f) k q h = (same_told (λ t. IsRefused t words (Verilog f)) a.told b.told k.texts h.0, calm_then a b c q h.1)
 cause_later words a b c (Tuples f) k q h = (same_told (λ t. IsRefused t words (Tuples f)) a.told b.told k.texts h.0, calm_then a b c q h.1)
 cause_later words a b c Memory k q h = calm_then a b c q h
 

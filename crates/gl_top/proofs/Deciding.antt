@@ -1,5 +1,5 @@
 -- Words and texts are refused in one way, or not at all, where the texts are told.
-use Rattle.std.proofs.Common.{◌≡◌, ◌≢◌, ℕ, ◌<◌, ◌≤◌, List, length, Some, Result, Ok, Err, refl, sym, ap, subst, ◌∙◌, arith}
+use Rattle.std.proofs.Common.{◌≡◌, ◌≢◌, ◌⊎◌, ℕ, ◌<◌, ◌≤◌, List, length, Some, Result, Ok, Err, inl, inr, refl, sym, ap, subst, ◌∙◌, arith}
 use Rattle.gl_outside.specs.Told.{Told, Untold, Lacks, Holds, IsLacking, IfTold}
 use Rattle.gl_schema.specs.declared.schema.Schema.{Schema}
 use Rattle.gl_schema.specs.declared.fault.SchemaFault.{SchemaFault}
@@ -17,6 +17,10 @@ use Rattle.gl_algebra.specs.FigureTable as table
 use Rattle.gl_figures.specs.declared.Limit.{Limit}
 use Rattle.gl_tuples.specs.declared.beats.Beat.{Beat}
 use Rattle.gl_tuples.specs.declared.fault.TupleFault.{TupleFault}
+use Rattle.gl_tuples.specs.Filing.{beats_of, records_of}
+use Rattle.gl_verilog.specs.Module.{Module}
+use Rattle.gl_verilog.specs.Text.{HasModule}
+use Rattle.gl_verilog_written.specs.declared.fault.VerilogFault.{VerilogFault}
 use Rattle.gl_compiler.specs.Queries.{IsOverLimit, IsQuery, gap_of}
 use Rattle.gl_compiler.proofs.Refusing.{over_goes, query_accepted}
 use Rattle.gl_compiler.proofs.Shaped.{plans_alike}
@@ -26,12 +30,14 @@ use Rattle.gl_top.specs.declared.notes.Refusal.{Refusal}
 use Rattle.gl_top.specs.declared.notes.Refusal.TheVariants as refusal
 use Rattle.gl_top.specs.declared.status.Status.{Status}
 use Rattle.gl_top.specs.declared.status.Status.TheVariants as status
-use Rattle.gl_forms.specs.Forms.{HasTexts, IsCommand, IsForm, IsLoadOf, command_of, name_of}
-use Rattle.gl_top.specs.Passing.{SchemaPasses, QueryPasses, TuplesPass, kept_beats}
-use Rattle.gl_top.specs.Causes.{IsBadQuery, IsRefused}
+use Rattle.gl_forms.specs.Forms.{IsCommand, IsForm, IsLoadOf, IsNamed, command_of, name_of}
+use Rattle.gl_top.specs.Passing.{SchemaPasses, QueryPasses, TuplesPass, ModulePasses, FilePasses, kept_beats}
+use Rattle.gl_top.specs.Causes.{PassBeforeTuples, OfRun, OfSim, ToRun, ToSim, IsBadQuery, IsModuleFault, IsRefused}
 use Rattle.gl_top.specs.Refusals.{status_of}
-use Rattle.gl_top.specs.Verdicts.{AllPass, IsTelling, Loads, Three, Two}
-use Rattle.gl_forms.proofs.Named.{form_of, query_named, schema_named, tuples_named}
+use Rattle.gl_top.specs.Verdicts.{AllPass, IsTelling, Loads, OfFile, Three, Two}
+use Rattle.gl_forms.proofs.Named.{form_of, load_names_none, named_form, one_command, sim_names_no_query}
+use Rattle.gl_top.proofs.Modules.{module_goes}
+use Rattle.gl_top.proofs.Texts.{run_names_query, run_names_tuples, sim_names_module, sim_names_tuples}
 
 -- a text of at most 64 MiB with a property
 abbrev pub Fine : Told → (List ℕ → Type 0) → Type 0
@@ -92,11 +98,21 @@ pub data QueryFails (s : Schema) (text : List ℕ) (answered : Status) : Type 0 
   OfFault : (fault : QueryFault) (found : IsQueryFault s text fault) (is : answered ≡ status.Query) → QueryFails s text answered
   OfLimit : (limit : Limit) (over : IsOverLimit s text limit) (is : answered ≡ status.Limit) → QueryFails s text answered
 
-abbrev pub AreTuples : Schema → ℕ → List ℕ → Type 0
-AreTuples s gap text = (beats : List Beat) × (kept_beats s gap text ≡ Ok beats)
+abbrev pub ModuleFails : Schema → List ℕ → Status → Type 0
+ModuleFails s text answered = ((fault : VerilogFault) × IsModuleFault s text fault) × (answered ≡ status.Verilog)
 
-abbrev pub TuplesFail : Schema → ℕ → List ℕ → Status → Type 0
-TuplesFail s gap text answered = (AreTuples s gap text → ⊥) × (answered ≡ status.Tuples)
+-- the beats of a file, where they are to keep the gap of a query, and where they are not
+abbrev pub kept : Schema → Statement → List ℕ → Result (List Beat) TupleFault
+kept s st text = kept_beats s (gap_of s st) text
+
+abbrev pub filed : Schema → List ℕ → Result (List Beat) TupleFault
+filed s text = beats_of s (records_of text)
+
+abbrev pub AreTuples : (List ℕ → Result (List Beat) TupleFault) → List ℕ → Type 0
+AreTuples read text = (beats : List Beat) × (read text ≡ Ok beats)
+
+abbrev pub TuplesFail : (List ℕ → Result (List Beat) TupleFault) → List ℕ → Status → Type 0
+TuplesFail read text answered = (AreTuples read text → ⊥) × (answered ≡ status.Tuples)
 
 query_once : (s : Schema) (a b : Status) → IsSchema s → (text : List ℕ) → QueryFails s text a → QueryFails s text b → a ≡ b
 query_once s a b fine text (OfFault f i e) (OfFault g j h) = e ∙ sym h
@@ -108,40 +124,69 @@ query_out : (s : Schema) (st : Statement) (a : Status) → IsSchema s → (text 
 query_out s st a fine text q (OfFault f i e) = accepted_goes s text f fine i st (query_accepted s text st q)
 query_out s st a fine text q (OfLimit l p e) = over_goes s text st l p q
 
+-- what stops a command behind its schema
+pub data SecondStops (told : List ℕ → Told) (words : List (List ℕ)) (s : Schema) (answered : Status) : Type 0 where
+  AtQuery : (named : IsNamed words part.Query) (fails : Failing (told (name_of words part.Query)) (QueryFails s) answered) → SecondStops told words s answered
+  AtModule : (sims : IsCommand words command.Sim) (fails : Failing (told (name_of words part.Module)) (ModuleFails s) answered) → SecondStops told words s answered
+
+-- and behind the text that comes next
+pub data ThirdStops (told : List ℕ → Told) (words : List (List ℕ)) (s : Schema) (answered : Status) : Type 0 where
+  AtTuples : (runs : IsCommand words command.Run) (st : Statement) (before : QueryPasses told words s st) (fails : Failing (told (name_of words part.Tuples)) (TuplesFail (kept s st)) answered) → ThirdStops told words s answered
+  AtFile : (m : Module) (before : ModulePasses told words s m) (fails : Failing (told (name_of words part.Tuples)) (TuplesFail (filed s)) answered) → ThirdStops told words s answered
+
 -- the first that is refused
 pub data Stops (told : List ℕ → Told) (words : List (List ℕ)) (answered : Status) : Type 0 where
   AtWords : (formless : IsForm words → ⊥) (is : answered ≡ status.Usage) → Stops told words answered
-  AtSchema : (form : HasTexts words) (fails : Failing (told (name_of words part.Schema)) SchemaFails answered) → Stops told words answered
-  AtQuery : (s : Schema) (before : SchemaPasses told words s) (fails : Failing (told (name_of words part.Query)) (QueryFails s) answered) → Stops told words answered
-  AtTuples : (runs : IsCommand words command.Run) (s : Schema) (st : Statement) (before : QueryPasses told words s st) (fails : Failing (told (name_of words part.Tuples)) (TuplesFail s (gap_of s st)) answered) → Stops told words answered
+  AtSchema : (named : IsNamed words part.Schema) (fails : Failing (told (name_of words part.Schema)) SchemaFails answered) → Stops told words answered
+  AtSecond : (s : Schema) (before : SchemaPasses told words s) (stops' : SecondStops told words s answered) → Stops told words answered
+  AtThird : (s : Schema) (before : SchemaPasses told words s) (stops' : ThirdStops told words s answered) → Stops told words answered
+
+at_tuples : (told : List ℕ → Told) (words : List (List ℕ)) (s : Schema) (st : Statement) (a : Status) → IsCommand words command.Run → QueryPasses told words s st → Failing (told (name_of words part.Tuples)) (TuplesFail (kept s st)) a → Stops told words a
+at_tuples told words s st a runs before f = AtThird s before.before (AtTuples runs st before f)
+
+at_file : (told : List ℕ → Told) (words : List (List ℕ)) (s : Schema) (m : Module) (a : Status) → ModulePasses told words s m → Failing (told (name_of words part.Tuples)) (TuplesFail (filed s)) a → Stops told words a
+at_file told words s m a before f = AtThird s before.before (AtFile m before f)
 
 no_schema : (fault : SchemaFault) (text : List ℕ) → schema_of text ≡ Err fault → SchemaFails text status.Schema
 no_schema fault text e = (λ h. (let f : schema_of text ≡ Ok h.0 = read_again text h.0 h.1 in cc), refl)
 
-no_tuples : (s : Schema) (gap : ℕ) (fault : TupleFault) (text : List ℕ) → kept_beats s gap text ≡ Err fault → TuplesFail s gap text status.Tuples
-no_tuples s gap fault text e = (λ h. (let f : kept_beats s gap text ≡ Ok h.0 = h.1 in cc), refl)
+no_tuples : (read : List ℕ → Result (List Beat) TupleFault) (fault : TupleFault) (text : List ℕ) → read text ≡ Err fault → TuplesFail read text status.Tuples
+no_tuples read fault text e = (λ h. (let f : read text ≡ Ok h.0 = h.1 in cc), refl)
+
+bad_tuples : (t : Told) (read : List ℕ → Result (List Beat) TupleFault) (fault : TupleFault) → Fine t (λ text. read text ≡ Err fault) → Failing t (TuplesFail read) status.Tuples
+bad_tuples t read fault h = Bad (weaker t (λ text. read text ≡ Err fault) (λ text. TuplesFail read text status.Tuples) (no_tuples read fault) h)
+
+-- what stops a command at the tuple file, whatever else a file may fail at
+by_file : (told : List ℕ → Told) (words : List (List ℕ)) (a : Status) → PassBeforeTuples told words → ((F : List ℕ → Status → Type 0) → Failing (told (name_of words part.Tuples)) F a) → Stops told words a
+by_file told words a (OfRun runs s st passes) f = at_tuples told words s st a runs passes (f (TuplesFail (kept s st)))
+by_file told words a (OfSim s m passes) f = at_file told words s m a passes (f (TuplesFail (filed s)))
 
 pub stops : (told : List ℕ → Told) (words : List (List ℕ)) (r : Refusal) → IsRefused told words r → Stops told words (status_of r)
 stops told words refusal.Usage h = AtWords h refl
 stops told words (refusal.Missing part.Schema) h = AtSchema h.next (Lacking h.lacking refl)
-stops told words (refusal.Missing part.Query) h = AtQuery h.next.0 h.next.1 (Lacking h.lacking refl)
-stops told words (refusal.Missing part.Tuples) h = AtTuples h.next.0 h.next.1 h.next.2 h.next.3 (Lacking h.lacking refl)
+stops told words (refusal.Missing part.Query) h = AtSecond h.next.1 h.next.2 (AtQuery h.next.0 (Lacking h.lacking refl))
+stops told words (refusal.Missing part.Module) h = AtSecond h.next.1 h.next.2 (AtModule h.next.0 (Lacking h.lacking refl))
+stops told words (refusal.Missing part.Tuples) h = by_file told words status.Missing h.next (λ (F : List ℕ → Status → Type 0). Lacking h.lacking refl)
 stops told words (refusal.ReadFault p) h = absurd h
 stops told words (refusal.TooLong part.Schema) h = AtSchema h.next (Long h.long refl)
-stops told words (refusal.TooLong part.Query) h = AtQuery h.next.0 h.next.1 (Long h.long refl)
-stops told words (refusal.TooLong part.Tuples) h = AtTuples h.next.0 h.next.1 h.next.2 h.next.3 (Long h.long refl)
+stops told words (refusal.TooLong part.Query) h = AtSecond h.next.1 h.next.2 (AtQuery h.next.0 (Long h.long refl))
+stops told words (refusal.TooLong part.Module) h = AtSecond h.next.1 h.next.2 (AtModule h.next.0 (Long h.long refl))
+stops told words (refusal.TooLong part.Tuples) h = by_file told words status.Limit h.next (λ (F : List ℕ → Status → Type 0). Long h.long refl)
 stops told words (refusal.Schema fault) h =
-    AtSchema h.form (Bad (weaker (told (name_of words part.Schema)) (λ text. schema_of text ≡ Err fault) (λ text. SchemaFails text status.Schema) (no_schema fault) h.text))
+    AtSchema h.named (Bad (weaker (told (name_of words part.Schema)) (λ text. schema_of text ≡ Err fault) (λ text. SchemaFails text status.Schema) (no_schema fault) h.text))
 stops told words (refusal.Query fault) h =
-    AtQuery h.schema h.before
-    (Bad (weaker (told (name_of words part.Query)) (λ text. IsQueryFault h.schema text fault) (λ text. QueryFails h.schema text status.Query) (λ text i. OfFault fault i refl) h.text))
+    AtSecond h.schema h.before
+    (AtQuery h.named (Bad (weaker (told (name_of words part.Query)) (λ text. IsQueryFault h.schema text fault) (λ text. QueryFails h.schema text status.Query) (λ text i. OfFault fault i refl) h.text)))
 stops told words (refusal.Limit limit) h =
-    AtQuery h.schema h.before
-    (Bad (weaker (told (name_of words part.Query)) (λ text. IsOverLimit h.schema text limit) (λ text. QueryFails h.schema text status.Limit) (λ text p. OfLimit limit p refl) h.text))
-stops told words (refusal.Tuples fault) h =
-    AtTuples h.runs h.schema h.statement h.before
-    (Bad (weaker (told (name_of words part.Tuples)) (λ text. kept_beats h.schema (gap_of h.schema h.statement) text ≡ Err fault) (λ text. TuplesFail h.schema (gap_of h.schema h.statement) text status.Tuples)
-    (no_tuples h.schema (gap_of h.schema h.statement) fault) h.text))
+    AtSecond h.schema h.before
+    (AtQuery h.named (Bad (weaker (told (name_of words part.Query)) (λ text. IsOverLimit h.schema text limit) (λ text. QueryFails h.schema text status.Limit) (λ text p. OfLimit limit p refl) h.text)))
+stops told words (refusal.Verilog fault) h =
+    AtSecond h.schema h.before
+    (AtModule h.sims (Bad (weaker (told (name_of words part.Module)) (λ text. IsModuleFault h.schema text fault) (λ text. ModuleFails h.schema text status.Verilog) (λ text i. ((fault, i), refl)) h.text)))
+stops told words (refusal.Tuples fault) (ToRun runs s st before text) =
+    at_tuples told words s st status.Tuples runs before (bad_tuples (told (name_of words part.Tuples)) (kept s st) fault text)
+stops told words (refusal.Tuples fault) (ToSim s m before text) =
+    at_file told words s m status.Tuples before (bad_tuples (told (name_of words part.Tuples)) (filed s) fault text)
 stops told words refusal.Memory h = absurd h
 
 -- ---- one schema, one fault, one gap
@@ -150,13 +195,13 @@ same_schema : (s t : Schema) (text : List ℕ) → IsSchemaText text s → IsSch
 same_schema s t text a b = let e : ◌≡◌ {A = Result Schema SchemaFault} (Ok s) (Ok t) = sym (read_again text s a) ∙ read_again text t b in cc
 
 pub one_schema : (told : List ℕ → Told) (words : List (List ℕ)) (s t : Schema) → IsTelling told words → SchemaPasses told words s → SchemaPasses told words t → s ≡ t
-one_schema told words s t tells a b = with_both (told (name_of words part.Schema)) (λ text. IsSchemaText text s) (λ text. IsSchemaText text t) (tells part.Schema (schema_named words a.form)) a.text b.text (same_schema s t)
+one_schema told words s t tells a b = with_both (told (name_of words part.Schema)) (λ text. IsSchemaText text s) (λ text. IsSchemaText text t) (tells part.Schema a.named) a.text b.text (same_schema s t)
 
 -- a text has one fault over its schema
 pub one_bad_query : (told : List ℕ → Told) (words : List (List ℕ)) (f g : QueryFault) → IsTelling told words → IsBadQuery told words f → IsBadQuery told words g → f ≡ g
 one_bad_query told words f g tells a b =
     let e : b.schema ≡ a.schema = one_schema told words b.schema a.schema tells b.before a.before in
-    with_both (told (name_of words part.Query)) (λ text. IsQueryFault a.schema text f) (λ text. IsQueryFault a.schema text g) (tells part.Query (query_named words a.before.form)) a.text
+    with_both (told (name_of words part.Query)) (λ text. IsQueryFault a.schema text f) (λ text. IsQueryFault a.schema text g) (tells part.Query a.named) a.text
     (subst (λ (x : Schema). Fine (told (name_of words part.Query)) (λ text. IsQueryFault x text g)) e b.text) (λ text h k. one_fault a.schema text f g h k)
 
 -- its statements have one gap
@@ -167,80 +212,155 @@ same_gap s st st' text p q =
 
 one_gap : (told : List ℕ → Told) (words : List (List ℕ)) (s : Schema) (st st' : Statement) → IsTelling told words → QueryPasses told words s st → QueryPasses told words s st' → gap_of s st ≡ gap_of s st'
 one_gap told words s st st' tells p q =
-    with_both (told (name_of words part.Query)) (λ text. IsQuery s text st) (λ text. IsQuery s text st') (tells part.Query (query_named words p.before.form)) p.text q.text (same_gap s st st')
+    with_both (told (name_of words part.Query)) (λ text. IsQuery s text st) (λ text. IsQuery s text st') (tells part.Query p.named) p.text q.text (same_gap s st st')
 
 -- ---- what passes does not stop
 
 schema_goes : (told : List ℕ → Told) (words : List (List ℕ)) (s : Schema) (a : Status) {A : Type 0} → IsTelling told words → SchemaPasses told words s → Failing (told (name_of words part.Schema)) SchemaFails a → A
 schema_goes told words s a tells p f =
-    absurd (not_both (told (name_of words part.Schema)) IsSome SchemaFails a (tells part.Schema (schema_named words p.form)) (λ text is fails. fails.0 is)
+    absurd (not_both (told (name_of words part.Schema)) IsSome SchemaFails a (tells part.Schema p.named) (λ text is fails. fails.0 is)
     (weaker (told (name_of words part.Schema)) (λ text. IsSchemaText text s) IsSome (λ text h. (s, h)) p.text) f)
 
 query_goes : (told : List ℕ → Told) (words : List (List ℕ)) (s t : Schema) (st : Statement) (a : Status) {A : Type 0} → IsTelling told words → QueryPasses told words s st → SchemaPasses told words t
     → Failing (told (name_of words part.Query)) (QueryFails t) a → A
 query_goes told words s t st a tells p q f =
     let e : t ≡ s = one_schema told words t s tells q p.before in
-    absurd (not_both (told (name_of words part.Query)) (λ text. IsQuery s text st) (QueryFails s) a (tells part.Query (query_named words p.before.form)) (query_out s st a p.before.fine) p.text
+    absurd (not_both (told (name_of words part.Query)) (λ text. IsQuery s text st) (QueryFails s) a (tells part.Query p.named) (query_out s st a p.before.fine) p.text
     (subst (λ (x : Schema). Failing (told (name_of words part.Query)) (QueryFails x) a) e f))
+
+module_passed : (told : List ℕ → Told) (words : List (List ℕ)) (s t : Schema) (m : Module) (a : Status) {A : Type 0} → IsTelling told words → ModulePasses told words s m → SchemaPasses told words t
+    → Failing (told (name_of words part.Module)) (ModuleFails t) a → A
+module_passed told words s t m a tells p q f =
+    let e : t ≡ s = one_schema told words t s tells q p.before in
+    absurd (not_both (told (name_of words part.Module)) (λ text. HasModule text m) (ModuleFails s) a (tells part.Module (sim_names_module words p.sims))
+    (λ text has fails. module_goes s text m p.ports fails.0.0 has p.fits fails.0.1) p.text
+    (subst (λ (x : Schema). Failing (told (name_of words part.Module)) (ModuleFails x) a) e f))
+
+-- a text of `run` is none of `sim`
+runs_not_sims : (words : List (List ℕ)) {A : Type 0} → IsCommand words command.Run → IsCommand words command.Sim → A
+runs_not_sims words runs sims = absurd (let e : command.Run ≡ command.Sim = one_command words command.Run command.Sim runs sims in cc)
+
+-- what passed behind the schema does not stop there
+query_second : (told : List ℕ → Told) (words : List (List ℕ)) (s t : Schema) (st : Statement) (a : Status) {A : Type 0} → IsTelling told words → QueryPasses told words s st → SchemaPasses told words t → SecondStops told words t a → A
+query_second told words s t st a tells p q (AtQuery named f) = query_goes told words s t st a tells p q f
+query_second told words s t st a tells p q (AtModule sims f) = absurd (sim_names_no_query words sims p.named)
+
+module_second : (told : List ℕ → Told) (words : List (List ℕ)) (s t : Schema) (m : Module) (a : Status) {A : Type 0} → IsTelling told words → ModulePasses told words s m → SchemaPasses told words t → SecondStops told words t a → A
+module_second told words s t m a tells p q (AtQuery named f) = absurd (sim_names_no_query words p.sims named)
+module_second told words s t m a tells p q (AtModule sims f) = module_passed told words s t m a tells p q f
+
+third_second : (told : List ℕ → Told) (words : List (List ℕ)) (s t : Schema) (a b : Status) {A : Type 0} → IsTelling told words → ThirdStops told words s a → SchemaPasses told words t → SecondStops told words t b → A
+third_second told words s t a b tells (AtTuples runs st p f) q h = query_second told words s t st b tells p q h
+third_second told words s t a b tells (AtFile m p f) q h = module_second told words s t m b tells p q h
 
 -- the gap of another statement of the texts
 other_gap : (told : List ℕ → Told) (words : List (List ℕ)) (s t : Schema) (st st' : Statement) → IsTelling told words → QueryPasses told words s st → QueryPasses told words t st'
-    → (a : Status) → Failing (told (name_of words part.Tuples)) (TuplesFail t (gap_of t st')) a → Failing (told (name_of words part.Tuples)) (TuplesFail s (gap_of s st)) a
+    → (a : Status) → Failing (told (name_of words part.Tuples)) (TuplesFail (kept t st')) a → Failing (told (name_of words part.Tuples)) (TuplesFail (kept s st)) a
 other_gap told words s t st st' tells p q a f =
     let e : t ≡ s = one_schema told words t s tells q.before p.before in
     let q' : QueryPasses told words s st' = subst (λ (x : Schema). QueryPasses told words x st') e q in
-    subst (λ (gap : ℕ). Failing (told (name_of words part.Tuples)) (TuplesFail s gap) a) (one_gap told words s st' st tells q' p)
-    (subst (λ (x : Schema). Failing (told (name_of words part.Tuples)) (TuplesFail x (gap_of x st')) a) e f)
+    subst (λ (gap : ℕ). Failing (told (name_of words part.Tuples)) (TuplesFail (kept_beats s gap)) a) (one_gap told words s st' st tells q' p)
+    (subst (λ (x : Schema). Failing (told (name_of words part.Tuples)) (TuplesFail (kept x st')) a) e f)
 
-tuples_go : (told : List ℕ → Told) (words : List (List ℕ)) (s : Schema) (st : Statement) (beats : List Beat) (a : Status) → IsTelling told words → TuplesPass told words s st beats
-    → Failing (told (name_of words part.Tuples)) (TuplesFail s (gap_of s st)) a → ⊥
-tuples_go told words s st beats a tells p f =
-    not_both (told (name_of words part.Tuples)) (AreTuples s (gap_of s st)) (TuplesFail s (gap_of s st)) a (tells part.Tuples (tuples_named words p.runs)) (λ text is fails. fails.0 is)
-    (weaker (told (name_of words part.Tuples)) (λ text. kept_beats s (gap_of s st) text ≡ Ok beats) (AreTuples s (gap_of s st)) (λ text h. (beats, h)) p.text) f
+-- the same file over another schema of the texts
+other_file : (told : List ℕ → Told) (words : List (List ℕ)) (s t : Schema) → IsTelling told words → SchemaPasses told words s → SchemaPasses told words t
+    → (a : Status) → Failing (told (name_of words part.Tuples)) (TuplesFail (filed t)) a → Failing (told (name_of words part.Tuples)) (TuplesFail (filed s)) a
+other_file told words s t tells p q a f =
+    let e : t ≡ s = one_schema told words t s tells q p in
+    subst (λ (x : Schema). Failing (told (name_of words part.Tuples)) (TuplesFail (filed x)) a) e f
+
+-- beats that are there do not fail
+beats_go : (t : Told) (read : List ℕ → Result (List Beat) TupleFault) (beats : List Beat) (a : Status) → t ≢ Untold → Fine t (λ text. read text ≡ Ok beats) → Failing t (TuplesFail read) a → ⊥
+beats_go t read beats a told fine f =
+    not_both t (AreTuples read) (TuplesFail read) a told (λ text is fails. fails.0 is)
+    (weaker t (λ text. read text ≡ Ok beats) (AreTuples read) (λ text h. (beats, h)) fine) f
+
+tuples_third : (told : List ℕ → Told) (words : List (List ℕ)) (s t : Schema) (st : Statement) (beats : List Beat) (a : Status) → IsTelling told words → TuplesPass told words s st beats → ThirdStops told words t a → ⊥
+tuples_third told words s t st beats a tells p (AtTuples runs st' q f) =
+    beats_go (told (name_of words part.Tuples)) (kept s st) beats a (tells part.Tuples (run_names_tuples words runs)) p.text (other_gap told words s t st st' tells p.before q a f)
+tuples_third told words s t st beats a tells p (AtFile m q f) = runs_not_sims words p.runs q.sims
+
+file_third : (told : List ℕ → Told) (words : List (List ℕ)) (s t : Schema) (m : Module) (beats : List Beat) (a : Status) → IsTelling told words → FilePasses told words s m beats → ThirdStops told words t a → ⊥
+file_third told words s t m beats a tells p (AtTuples runs st q f) = runs_not_sims words runs p.before.sims
+file_third told words s t m beats a tells p (AtFile n q f) =
+    beats_go (told (name_of words part.Tuples)) (filed s) beats a (tells part.Tuples (sim_names_tuples words q.sims)) p.text (other_file told words s t tells p.before.before q.before a f)
 
 -- the query passes, and the words run nothing
+no_third : (told : List ℕ → Told) (words : List (List ℕ)) (t : Schema) (a : Status) → IsNamed words part.Query → command_of words ≢ Some command.Run → ThirdStops told words t a → ⊥
+no_third told words t a named other (AtTuples runs st q f) = other runs
+no_third told words t a named other (AtFile m q f) = sim_names_no_query words q.sims named
+
 pub two_go : (told : List ℕ → Told) (words : List (List ℕ)) (s : Schema) (st : Statement) (a : Status) → IsTelling told words → QueryPasses told words s st → command_of words ≢ Some command.Run → Stops told words a → ⊥
-two_go told words s st a tells p other (AtWords n e) = n p.before.form.form
-two_go told words s st a tells p other (AtSchema form f) = schema_goes told words s a tells p.before f
-two_go told words s st a tells p other (AtQuery t q f) = query_goes told words s t st a tells p q f
-two_go told words s st a tells p other (AtTuples runs t st' q f) = other runs
+two_go told words s st a tells p other (AtWords n e) = n (named_form words part.Query p.named)
+two_go told words s st a tells p other (AtSchema named f) = schema_goes told words s a tells p.before f
+two_go told words s st a tells p other (AtSecond t q h) = query_second told words s t st a tells p q h
+two_go told words s st a tells p other (AtThird t q h) = no_third told words t a p.named other h
 
 pub three_go : (told : List ℕ → Told) (words : List (List ℕ)) (s : Schema) (st : Statement) (beats : List Beat) (a : Status) → IsTelling told words → TuplesPass told words s st beats → Stops told words a → ⊥
-three_go told words s st beats a tells p (AtWords n e) = n p.before.before.form.form
-three_go told words s st beats a tells p (AtSchema form f) = schema_goes told words s a tells p.before.before f
-three_go told words s st beats a tells p (AtQuery t q f) = query_goes told words s t st a tells p.before q f
-three_go told words s st beats a tells p (AtTuples runs t st' q f) = tuples_go told words s st beats a tells p (other_gap told words s t st st' tells p.before q a f)
+three_go told words s st beats a tells p (AtWords n e) = n (form_of words command.Run p.runs)
+three_go told words s st beats a tells p (AtSchema named f) = schema_goes told words s a tells p.before.before f
+three_go told words s st beats a tells p (AtSecond t q h) = query_second told words s t st a tells p.before q h
+three_go told words s st beats a tells p (AtThird t q h) = tuples_third told words s t st beats a tells p h
+
+pub file_goes : (told : List ℕ → Told) (words : List (List ℕ)) (s : Schema) (m : Module) (beats : List Beat) (a : Status) → IsTelling told words → FilePasses told words s m beats → Stops told words a → ⊥
+file_goes told words s m beats a tells p (AtWords n e) = n (form_of words command.Sim p.before.sims)
+file_goes told words s m beats a tells p (AtSchema named f) = schema_goes told words s a tells p.before.before f
+file_goes told words s m beats a tells p (AtSecond t q h) = module_second told words s t m a tells p.before q h
+file_goes told words s m beats a tells p (AtThird t q h) = file_third told words s t m beats a tells p h
 
 -- a load names no text that could
 pub load_goes : (told : List ℕ → Told) (words : List (List ℕ)) (count : ℕ) (a : Status) → IsLoadOf words count → Stops told words a → ⊥
 load_goes told words count a is (AtWords n e) = n (form_of words command.Load is.loads)
-load_goes told words count a is (AtSchema form f) = form.others is.loads
-load_goes told words count a is (AtQuery s p f) = p.form.others is.loads
-load_goes told words count a is (AtTuples runs s st p f) = p.before.form.others is.loads
+load_goes told words count a is (AtSchema named f) = load_names_none words part.Schema is.loads named
+load_goes told words count a is (AtSecond s p h) = load_names_none words part.Schema is.loads p.named
+load_goes told words count a is (AtThird s p h) = load_names_none words part.Schema is.loads p.named
 
 pub passes_goes : (told : List ℕ → Told) (words : List (List ℕ)) (a : Status) → IsTelling told words → AllPass told words → Stops told words a → ⊥
 passes_goes told words a tells (Two s st p other) h = two_go told words s st a tells p other h
 passes_goes told words a tells (Three s st beats p) h = three_go told words s st beats a tells p h
+passes_goes told words a tells (OfFile s m beats p) h = file_goes told words s m beats a tells p h
 passes_goes told words a tells (Loads count is) h = load_goes told words count a is h
 
--- there is one way to be refused
+-- ---- there is one way to be refused
+
+-- words where something stops are of no form, or they name a schema
+formed : (told : List ℕ → Told) (words : List (List ℕ)) (a : Status) → Stops told words a → (a ≡ status.Usage) ⊎ IsForm words
+formed told words a (AtWords n e) = inl e
+formed told words a (AtSchema named f) = inr (named_form words part.Schema named)
+formed told words a (AtSecond s p h) = inr (named_form words part.Schema p.named)
+formed told words a (AtThird s p h) = inr (named_form words part.Schema p.named)
+
+words_once : (told : List ℕ → Told) (words : List (List ℕ)) (a b : Status) → (IsForm words → ⊥) → a ≡ status.Usage → Stops told words b → a ≡ b
+words_once told words a b n e h = elim (formed told words b h) [ inl f ↦ e ∙ sym f | inr form ↦ absurd (n form) ]
+
+second_once : (told : List ℕ → Told) (words : List (List ℕ)) (s : Schema) (a b : Status) → IsTelling told words → IsSchema s → SecondStops told words s a → SecondStops told words s b → a ≡ b
+second_once told words s a b tells fine (AtQuery named f) (AtQuery named' g) =
+    fails_once (told (name_of words part.Query)) (QueryFails s) a b (tells part.Query named) (query_once s a b fine) f g
+second_once told words s a b tells fine (AtQuery named f) (AtModule sims g) = absurd (sim_names_no_query words sims named)
+second_once told words s a b tells fine (AtModule sims f) (AtQuery named g) = absurd (sim_names_no_query words sims named)
+second_once told words s a b tells fine (AtModule sims f) (AtModule sims' g) =
+    fails_once (told (name_of words part.Module)) (ModuleFails s) a b (tells part.Module (sim_names_module words sims)) (λ text h k. h.1 ∙ sym k.1) f g
+
+third_once : (told : List ℕ → Told) (words : List (List ℕ)) (s t : Schema) (a b : Status) → IsTelling told words → ThirdStops told words s a → ThirdStops told words t b → a ≡ b
+third_once told words s t a b tells (AtTuples runs st p f) (AtTuples runs' st' q g) =
+    fails_once (told (name_of words part.Tuples)) (TuplesFail (kept s st)) a b (tells part.Tuples (run_names_tuples words runs)) (λ text h k. h.1 ∙ sym k.1) f (other_gap told words s t st st' tells p q b g)
+third_once told words s t a b tells (AtTuples runs st p f) (AtFile m q g) = runs_not_sims words runs q.sims
+third_once told words s t a b tells (AtFile m p f) (AtTuples runs st q g) = runs_not_sims words runs p.sims
+third_once told words s t a b tells (AtFile m p f) (AtFile n q g) =
+    fails_once (told (name_of words part.Tuples)) (TuplesFail (filed s)) a b (tells part.Tuples (sim_names_tuples words p.sims)) (λ text h k. h.1 ∙ sym k.1) f (other_file told words s t tells p.before q.before b g)
+
 pub stops_once : (told : List ℕ → Told) (words : List (List ℕ)) (a b : Status) → IsTelling told words → Stops told words a → Stops told words b → a ≡ b
-stops_once told words a b tells (AtWords n e) (AtWords m h) = e ∙ sym h
-stops_once told words a b tells (AtWords n e) (AtSchema form f) = absurd (n form.form)
-stops_once told words a b tells (AtWords n e) (AtQuery s p f) = absurd (n p.form.form)
-stops_once told words a b tells (AtWords n e) (AtTuples r s st p f) = absurd (n p.before.form.form)
-stops_once told words a b tells (AtSchema form f) (AtWords m h) = absurd (m form.form)
-stops_once told words a b tells (AtSchema form f) (AtSchema form' g) = fails_once (told (name_of words part.Schema)) SchemaFails a b (tells part.Schema (schema_named words form)) (λ text h k. h.1 ∙ sym k.1) f g
-stops_once told words a b tells (AtSchema form f) (AtQuery s p g) = schema_goes told words s a tells p f
-stops_once told words a b tells (AtSchema form f) (AtTuples r s st p g) = schema_goes told words s a tells p.before f
-stops_once told words a b tells (AtQuery s p f) (AtWords m h) = absurd (m p.form.form)
-stops_once told words a b tells (AtQuery s p f) (AtSchema form g) = schema_goes told words s b tells p g
-stops_once told words a b tells (AtQuery s p f) (AtQuery t q g) =
-    fails_once (told (name_of words part.Query)) (QueryFails t) a b (tells part.Query (query_named words q.form)) (query_once t a b q.fine)
-    (subst (λ (x : Schema). Failing (told (name_of words part.Query)) (QueryFails x) a) (one_schema told words s t tells p q) f) g
-stops_once told words a b tells (AtQuery s p f) (AtTuples r t st q g) = query_goes told words t s st a tells q p f
-stops_once told words a b tells (AtTuples r s st p f) (AtWords m h) = absurd (m p.before.form.form)
-stops_once told words a b tells (AtTuples r s st p f) (AtSchema form g) = schema_goes told words s b tells p.before g
-stops_once told words a b tells (AtTuples r s st p f) (AtQuery t q g) = query_goes told words s t st b tells p q g
-stops_once told words a b tells (AtTuples r s st p f) (AtTuples r' t st' q g) =
-    fails_once (told (name_of words part.Tuples)) (TuplesFail s (gap_of s st)) a b (tells part.Tuples (tuples_named words r)) (λ text h k. h.1 ∙ sym k.1) f (other_gap told words s t st st' tells p q b g)
+stops_once told words a b tells (AtWords n e) h = words_once told words a b n e h
+stops_once told words a b tells (AtSchema named f) (AtWords m h) = sym (words_once told words b a m h (AtSchema named f))
+stops_once told words a b tells (AtSchema named f) (AtSchema named' g) = fails_once (told (name_of words part.Schema)) SchemaFails a b (tells part.Schema named) (λ text h k. h.1 ∙ sym k.1) f g
+stops_once told words a b tells (AtSchema named f) (AtSecond s p g) = schema_goes told words s a tells p f
+stops_once told words a b tells (AtSchema named f) (AtThird s p g) = schema_goes told words s a tells p f
+stops_once told words a b tells (AtSecond s p f) (AtWords m h) = sym (words_once told words b a m h (AtSecond s p f))
+stops_once told words a b tells (AtSecond s p f) (AtSchema named g) = schema_goes told words s b tells p g
+stops_once told words a b tells (AtSecond s p f) (AtSecond t q g) =
+    second_once told words t a b tells q.fine (subst (λ (x : Schema). SecondStops told words x a) (one_schema told words s t tells p q) f) g
+stops_once told words a b tells (AtSecond s p f) (AtThird t q g) = third_second told words t s b a tells g p f
+stops_once told words a b tells (AtThird s p f) (AtWords m h) = sym (words_once told words b a m h (AtThird s p f))
+stops_once told words a b tells (AtThird s p f) (AtSchema named g) = schema_goes told words s b tells p g
+stops_once told words a b tells (AtThird s p f) (AtSecond t q g) = third_second told words s t a b tells f q g
+stops_once told words a b tells (AtThird s p f) (AtThird t q g) = third_once told words s t a b tells f g

@@ -1,4 +1,5 @@
 pub mod Texts
+pub mod Modules
 pub mod Changes
 pub mod Runs
 pub mod Deciding

@@ -1,8 +1,7 @@
 -- What a text that was read says of its part.
-use Rattle.std.proofs.Common.{◌≡◌, ℕ, true, false, ◌<◌, ◌≤◌, List, length, Option, Some, None, Ok, Err, refl, sym, ap, subst, ◌∙◌}
+use Rattle.std.proofs.Common.{◌≡◌, ◌⊎◌, ℕ, true, false, ◌<◌, ◌≤◌, List, length, Option, Some, None, Result, Ok, Err, inl, inr, refl, sym, ap, subst, ◌∙◌, arith}
 use Rattle.std.specs.Prelude.{is_some, Contains}
 use Rattle.gl_forms.proofs.Named as forms
-use Rattle.gl_forms.proofs.Named.{query_named, schema_named, tuples_named}
 use Rattle.gl_outside.specs.States.{ShelfState, IsCalm, Missed, Faulted, ReadLeaves}
 use Rattle.gl_outside.specs.Told.{Told, Untold, Lacks, Holds, IsLacking, IfTold}
 use Rattle.gl_outside.specs.Reads.{Refuses}
@@ -21,7 +20,9 @@ use Rattle.gl_tuples.specs.declared.fault.TupleFault.{TupleFault}
 use Rattle.gl_tuples.specs.declared.fault.TupleFault.TheVariants as tuples
 use Rattle.gl_tuples.specs.Entries.{Fails}
 use Rattle.gl_tuples.specs.Filing.{beats_of, records_of}
+use Rattle.gl_tuples.specs.FileBeats.{AreBeatsOf}
 use Rattle.gl_tuples.specs.Gaps.{first_close, close_answer}
+use Rattle.gl_verilog.specs.Module.{Module}
 use Rattle.gl_compiler.specs.declared.compiling.CompileFault.{CompileFault}
 use Rattle.gl_compiler.specs.declared.compiling.CompileFault.TheVariants as compile
 use Rattle.gl_query_judge.specs.Judged.{IsQueryFault}
@@ -30,26 +31,47 @@ use Rattle.gl_compiler.specs.Queries.{IsOverLimit, IsQuery, IsQueryRefused, gap_
 use Rattle.gl_forms.specs.declared.command.Part.{Part}
 use Rattle.gl_forms.specs.declared.command.Part.TheVariants as part
 use Rattle.gl_forms.specs.declared.command.Command.{Command}
-use Rattle.gl_forms.specs.declared.command.Command.TheVariants.{Run}
-use Rattle.gl_forms.specs.Forms.{HasTexts, IsCommand, IsForm, command_of, name_of}
-use Rattle.gl_top.specs.Passing.{HasText, SchemaPasses, QueryPasses, kept_beats}
-use Rattle.gl_top.specs.Causes.{IsNext, IsBadSchema, AreBadTuples, Change, change, HasCause, read_refusal, schema_refusal, query_refusal, tuples_refusal}
+use Rattle.gl_forms.specs.declared.command.Command.TheVariants.{Explain, Run, Sim}
+use Rattle.gl_forms.specs.Forms.{IsCommand, IsForm, IsNamed, command_of, name_of}
+use Rattle.gl_top.specs.declared.notes.Refusal.TheVariants as refusal
+use Rattle.gl_top.specs.Passing.{HasText, SchemaPasses, QueryPasses, ModulePasses, FilePasses, kept_beats}
+use Rattle.gl_top.specs.Causes.{PassBeforeTuples, OfRun, OfSim, IsNext, IsBadSchema, AreBadTuples, ToRun, ToSim, Change, change, HasCause, read_refusal, schema_refusal, query_refusal, tuples_refusal}
 
--- the words are of the form where a text is judged
+-- the texts of a command that its words name
+pub run_names_query : (words : List (List ℕ)) → IsCommand words Run → IsNamed words part.Query
+run_names_query words is = record { command = Run; is = is; names = (1, omega arith, refl) }
+
+pub run_names_tuples : (words : List (List ℕ)) → IsCommand words Run → IsNamed words part.Tuples
+run_names_tuples words is = record { command = Run; is = is; names = (2, omega arith, refl) }
+
+pub sim_names_module : (words : List (List ℕ)) → IsCommand words Sim → IsNamed words part.Module
+sim_names_module words is = record { command = Sim; is = is; names = (1, omega arith, refl) }
+
+pub sim_names_tuples : (words : List (List ℕ)) → IsCommand words Sim → IsNamed words part.Tuples
+sim_names_tuples words is = record { command = Sim; is = is; names = (2, omega arith, refl) }
+
+pub explain_names_query : (words : List (List ℕ)) → IsCommand words Explain → IsNamed words part.Query
+explain_names_query words is = record { command = Explain; is = is; names = (1, omega arith, refl) }
+
+-- where a text is judged the words name it
+next_named : (told : List ℕ → Told) (words : List (List ℕ)) (p : Part) → IsNext told words p → IsNamed words p
+next_named told words part.Schema next = next
+next_named told words part.Query next = next.0
+next_named told words part.Module next = sim_names_module words next.0
+next_named told words part.Tuples (OfRun runs s st passes) = run_names_tuples words runs
+next_named told words part.Tuples (OfSim s m passes) = sim_names_tuples words passes.sims
+
+-- so they are of a form
 pub next_form : (told : List ℕ → Told) (words : List (List ℕ)) (p : Part) → IsNext told words p → IsForm words
-next_form told words part.Schema next = next.form
-next_form told words part.Query next = next.1.form.form
-next_form told words part.Tuples next = next.3.before.form.form
+next_form told words p next = forms.named_form words p (next_named told words p next)
 
 -- words of no form
 pub no_form : (words : List (List ℕ)) → command_of words ≡ None → IsForm words → ⊥
 no_form words none form = absurd (let z : false ≡ true = sym (ap (λ (o : Option Command). is_some o) none) ∙ form in cc)
 
--- where a text is judged its name is one of the words
+-- and its name is one of them
 pub named : (told : List ℕ → Told) (words : List (List ℕ)) (p : Part) → IsNext told words p → Contains words (name_of words p)
-named told words part.Schema next = forms.named words part.Schema (schema_named words next)
-named told words part.Query next = forms.named words part.Query (query_named words next.1.form)
-named told words part.Tuples next = forms.named words part.Tuples (tuples_named words next.0)
+named told words p next = forms.named words p (next_named told words p next)
 
 -- what was read is the text that is told
 pub read_is : (t : Told) (v : List ℕ) → IfTold t (λ text. v ≡ text) → length v ≤ 67108864 → IfTold t (λ text. (length text ≤ 67108864) × (v ≡ text))
@@ -76,10 +98,10 @@ read_cause words a b p name read.TooLong e next told left = (record { next = nex
 read_cause words a b p name read.Memory e next told left = left
 
 -- of a schema that is refused
-is_bad : (words : List (List ℕ)) (c : Change) (v : List ℕ) (fault : faults.SchemaFault) → HasTexts words → HasText c.old.told words part.Schema (λ text. v ≡ text) → schema_of v ≡ Err fault → IsBadSchema c.old.told words fault
-is_bad words c v fault form h f = record { form = form; text = has_text c.old.told words part.Schema (λ text. schema_of text ≡ Err fault) v h f }
+is_bad : (words : List (List ℕ)) (c : Change) (v : List ℕ) (fault : faults.SchemaFault) → IsNamed words part.Schema → HasText c.old.told words part.Schema (λ text. v ≡ text) → schema_of v ≡ Err fault → IsBadSchema c.old.told words fault
+is_bad words c v fault named h f = record { named = named; text = has_text c.old.told words part.Schema (λ text. schema_of text ≡ Err fault) v h f }
 
-pub schema_cause : (words : List (List ℕ)) (c : Change) (v : List ℕ) (fault : faults.SchemaFault) → IsCalm c.old c.new → HasTexts words → HasText c.old.told words part.Schema (λ text. v ≡ text)
+pub schema_cause : (words : List (List ℕ)) (c : Change) (v : List ℕ) (fault : faults.SchemaFault) → IsCalm c.old c.new → IsNamed words part.Schema → HasText c.old.told words part.Schema (λ text. v ≡ text)
     → schemas.Fails fault (schema_of v) → HasCause words c (schema_refusal fault)
 schema_cause words c v schema.Memory calm form h f = calm
 schema_cause words c v (schema.Syntax at) calm form h f = (is_bad words c v (schema.Syntax at) form h f, calm)
@@ -88,45 +110,72 @@ schema_cause words c v (schema.BadKind at) calm form h f = (is_bad words c v (sc
 schema_cause words c v (schema.Twice at) calm form h f = (is_bad words c v (schema.Twice at) form h f, calm)
 schema_cause words c v (schema.TooMany at) calm form h f = (is_bad words c v (schema.TooMany at) form h f, calm)
 
-pub schema_passes : (told : List ℕ → Told) (words : List (List ℕ)) (v : List ℕ) (s : Schema) → HasTexts words → HasText told words part.Schema (λ text. v ≡ text) → IsSchemaText v s → SchemaPasses told words s
-schema_passes told words v s form h is = record { form = form; fine = is.schema'; text = has_text told words part.Schema (λ text. IsSchemaText text s) v h is }
+pub schema_passes : (told : List ℕ → Told) (words : List (List ℕ)) (v : List ℕ) (s : Schema) → IsNamed words part.Schema → HasText told words part.Schema (λ text. v ≡ text) → IsSchemaText v s → SchemaPasses told words s
+schema_passes told words v s named h is = record { named = named; fine = is.schema'; text = has_text told words part.Schema (λ text. IsSchemaText text s) v h is }
 
 -- of a query that is refused
-bad_query : (words : List (List ℕ)) (c : Change) (v : List ℕ) (s : Schema) (f : QueryFault) → IsCalm c.old c.new → SchemaPasses c.old.told words s → HasText c.old.told words part.Query (λ text. v ≡ text) → IsQueryFault s v f → HasCause words c (query_refusal (compile.Query f))
-bad_query words c v s f calm before h is = (record { schema = s; before = before; text = has_text c.old.told words part.Query (λ text. IsQueryFault s text f) v h is }, calm)
+bad_query : (words : List (List ℕ)) (c : Change) (v : List ℕ) (s : Schema) (f : QueryFault) → IsCalm c.old c.new → IsNamed words part.Query → SchemaPasses c.old.told words s → HasText c.old.told words part.Query (λ text. v ≡ text) → IsQueryFault s v f → HasCause words c (query_refusal (compile.Query f))
+bad_query words c v s f calm named before h is = (record { named = named; schema = s; before = before; text = has_text c.old.told words part.Query (λ text. IsQueryFault s text f) v h is }, calm)
 
-over_limit : (words : List (List ℕ)) (c : Change) (v : List ℕ) (s : Schema) (l : Limit) → IsCalm c.old c.new → SchemaPasses c.old.told words s → HasText c.old.told words part.Query (λ text. v ≡ text) → IsOverLimit s v l → HasCause words c (query_refusal (compile.Limit l))
-over_limit words c v s l calm before h is = (record { schema = s; before = before; text = has_text c.old.told words part.Query (λ text. IsOverLimit s text l) v h is }, calm)
+over_limit : (words : List (List ℕ)) (c : Change) (v : List ℕ) (s : Schema) (l : Limit) → IsCalm c.old c.new → IsNamed words part.Query → SchemaPasses c.old.told words s → HasText c.old.told words part.Query (λ text. v ≡ text) → IsOverLimit s v l → HasCause words c (query_refusal (compile.Limit l))
+over_limit words c v s l calm named before h is = (record { named = named; schema = s; before = before; text = has_text c.old.told words part.Query (λ text. IsOverLimit s text l) v h is }, calm)
 
-pub query_cause : (words : List (List ℕ)) (c : Change) (v : List ℕ) (s : Schema) (fault : CompileFault) → IsCalm c.old c.new → SchemaPasses c.old.told words s → HasText c.old.told words part.Query (λ text. v ≡ text) → IsQueryRefused s v fault → HasCause words c (query_refusal fault)
-query_cause words c v s compile.Memory calm before h is = calm
-query_cause words c v s (compile.Schema f) calm before h is = absurd is
-query_cause words c v s (compile.Query f) calm before h is = bad_query words c v s f calm before h is
-query_cause words c v s (compile.Limit l) calm before h is = over_limit words c v s l calm before h is
+pub query_cause : (words : List (List ℕ)) (c : Change) (v : List ℕ) (s : Schema) (fault : CompileFault) → IsCalm c.old c.new → IsNamed words part.Query → SchemaPasses c.old.told words s → HasText c.old.told words part.Query (λ text. v ≡ text) → IsQueryRefused s v fault → HasCause words c (query_refusal fault)
+query_cause words c v s compile.Memory calm named before h is = calm
+query_cause words c v s (compile.Schema f) calm named before h is = absurd is
+query_cause words c v s (compile.Query f) calm named before h is = bad_query words c v s f calm named before h is
+query_cause words c v s (compile.Limit l) calm named before h is = over_limit words c v s l calm named before h is
 
-pub query_passes : (told : List ℕ → Told) (words : List (List ℕ)) (v : List ℕ) (s t : Schema) (statement : Statement) → t ≡ s → SchemaPasses told words s → HasText told words part.Query (λ text. v ≡ text) → IsQuery s v statement → QueryPasses told words t statement
-query_passes told words v s t statement e before h built =
+pub query_passes : (told : List ℕ → Told) (words : List (List ℕ)) (v : List ℕ) (s t : Schema) (statement : Statement) → t ≡ s → IsNamed words part.Query → SchemaPasses told words s → HasText told words part.Query (λ text. v ≡ text) → IsQuery s v statement → QueryPasses told words t statement
+query_passes told words v s t statement e named before h built =
     subst (λ (x : Schema). QueryPasses told words x statement) (sym e)
-    (record { before = before; text = has_text told words part.Query (λ text. IsQuery s text statement) v h built })
+    (record { named = named; before = before; text = has_text told words part.Query (λ text. IsQuery s text statement) v h built })
 
 -- of a tuple file that is refused
 are_bad : (words : List (List ℕ)) (c : Change) (v : List ℕ) (s : Schema) (statement : Statement) (fault : TupleFault) → IsCommand words Run → QueryPasses c.old.told words s statement → HasText c.old.told words part.Tuples (λ text. v ≡ text)
     → kept_beats s (gap_of s statement) v ≡ Err fault → AreBadTuples c.old.told words fault
-are_bad words c v s statement fault runs before h f = record { runs = runs; schema = s; statement = statement; before = before; text = has_text c.old.told words part.Tuples (λ text. kept_beats s (gap_of s statement) text ≡ Err fault) v h f }
+are_bad words c v s statement fault runs before h f = ToRun runs s statement before (has_text c.old.told words part.Tuples (λ text. kept_beats s (gap_of s statement) text ≡ Err fault) v h f)
+
+-- a fault is told as it is, unless memory ran out
+tuples_told : (fault : TupleFault) (read : Result (List Beat) TupleFault) → Fails fault read → (tuples_refusal fault ≡ refusal.Memory) ⊎ ((tuples_refusal fault ≡ refusal.Tuples fault) × (read ≡ Err fault))
+tuples_told tuples.Memory read f = inl refl
+tuples_told (tuples.NotUtf8 n) read f = inr (refl, f)
+tuples_told (tuples.BadCycle n) read f = inr (refl, f)
+tuples_told (tuples.CycleFalls n) read f = inr (refl, f)
+tuples_told (tuples.CycleTooLarge n) read f = inr (refl, f)
+tuples_told (tuples.UnknownStream n) read f = inr (refl, f)
+tuples_told (tuples.FieldCount n) read f = inr (refl, f)
+tuples_told (tuples.BadValue n) read f = inr (refl, f)
+tuples_told (tuples.StreamTwice n) read f = inr (refl, f)
+tuples_told (tuples.AfterEnd n) read f = inr (refl, f)
+tuples_told (tuples.TooClose n) read f = inr (refl, f)
+
+bad_cause : (words : List (List ℕ)) (c : Change) (fault : TupleFault) (read : Result (List Beat) TupleFault) → IsCalm c.old c.new → (read ≡ Err fault → AreBadTuples c.old.told words fault) → Fails fault read → HasCause words c (tuples_refusal fault)
+bad_cause words c fault read calm bad f = elim (tuples_told fault read f) [
+  | inl e ↦ rw e calm
+  | inr h ↦ rw h.0 (bad h.1, calm)
+]
 
 pub tuples_cause : (words : List (List ℕ)) (c : Change) (v : List ℕ) (s : Schema) (statement : Statement) (fault : TupleFault) → IsCommand words Run → IsCalm c.old c.new → QueryPasses c.old.told words s statement → HasText c.old.told words part.Tuples (λ text. v ≡ text)
     → Fails fault (kept_beats s (gap_of s statement) v) → HasCause words c (tuples_refusal fault)
-tuples_cause words c v s st tuples.Memory runs calm before h f = calm
-tuples_cause words c v s st (tuples.NotUtf8 n) runs calm before h f = (are_bad words c v s st (tuples.NotUtf8 n) runs before h f, calm)
-tuples_cause words c v s st (tuples.BadCycle n) runs calm before h f = (are_bad words c v s st (tuples.BadCycle n) runs before h f, calm)
-tuples_cause words c v s st (tuples.CycleFalls n) runs calm before h f = (are_bad words c v s st (tuples.CycleFalls n) runs before h f, calm)
-tuples_cause words c v s st (tuples.CycleTooLarge n) runs calm before h f = (are_bad words c v s st (tuples.CycleTooLarge n) runs before h f, calm)
-tuples_cause words c v s st (tuples.UnknownStream n) runs calm before h f = (are_bad words c v s st (tuples.UnknownStream n) runs before h f, calm)
-tuples_cause words c v s st (tuples.FieldCount n) runs calm before h f = (are_bad words c v s st (tuples.FieldCount n) runs before h f, calm)
-tuples_cause words c v s st (tuples.BadValue n) runs calm before h f = (are_bad words c v s st (tuples.BadValue n) runs before h f, calm)
-tuples_cause words c v s st (tuples.StreamTwice n) runs calm before h f = (are_bad words c v s st (tuples.StreamTwice n) runs before h f, calm)
-tuples_cause words c v s st (tuples.AfterEnd n) runs calm before h f = (are_bad words c v s st (tuples.AfterEnd n) runs before h f, calm)
-tuples_cause words c v s st (tuples.TooClose n) runs calm before h f = (are_bad words c v s st (tuples.TooClose n) runs before h f, calm)
+tuples_cause words c v s st fault runs calm before h f = bad_cause words c fault (kept_beats s (gap_of s st) v) calm (are_bad words c v s st fault runs before h) f
+
+-- of one that is to be simulated
+are_bad_file : (words : List (List ℕ)) (c : Change) (v : List ℕ) (s : Schema) (m : Module) (fault : TupleFault) → ModulePasses c.old.told words s m → HasText c.old.told words part.Tuples (λ text. v ≡ text)
+    → beats_of s (records_of v) ≡ Err fault → AreBadTuples c.old.told words fault
+are_bad_file words c v s m fault before h f = ToSim s m before (has_text c.old.told words part.Tuples (λ text. beats_of s (records_of text) ≡ Err fault) v h f)
+
+pub file_cause : (words : List (List ℕ)) (c : Change) (v : List ℕ) (s : Schema) (m : Module) (fault : TupleFault) → IsCalm c.old c.new → ModulePasses c.old.told words s m → HasText c.old.told words part.Tuples (λ text. v ≡ text)
+    → Fails fault (beats_of s (records_of v)) → HasCause words c (tuples_refusal fault)
+file_cause words c v s m fault calm before h f = bad_cause words c fault (beats_of s (records_of v)) calm (are_bad_file words c v s m fault before h) f
+
+pub file_passes : (told : List ℕ → Told) (words : List (List ℕ)) (v : List ℕ) (s : Schema) (m : Module) (beats : List Beat) → ModulePasses told words s m → HasText told words part.Tuples (λ text. v ≡ text)
+    → AreBeatsOf s (records_of v) beats → beats_of s (records_of v) ≡ Ok beats → FilePasses told words s m beats
+file_passes told words v s m beats before h are read = record {
+  before = before;
+  fine = are.fine;
+  text = has_text told words part.Tuples (λ text. beats_of s (records_of text) ≡ Ok beats) v h read;
+}
 
 -- beats that keep the gap
 pub kept_ok : (s : Schema) (gap : ℕ) (v : List ℕ) (beats : List Beat) → beats_of s (records_of v) ≡ Ok beats → Ok tt ≡ close_answer (first_close gap beats) → kept_beats s gap v ≡ Ok beats

@@ -24,5 +24,6 @@ IsExplainRefused schema text (refusal.TooLong part) = ⊥
 IsExplainRefused schema text (refusal.Schema fault) = ⊥
 IsExplainRefused schema text (refusal.Query fault) = IsQueryFault schema text fault
 IsExplainRefused schema text (refusal.Limit limit) = IsOverLimit schema text limit
+IsExplainRefused schema text (refusal.Verilog fault) = ⊥
 IsExplainRefused schema text (refusal.Tuples fault) = ⊥
 IsExplainRefused schema text refusal.Memory = Unit {0}

@@ -4,12 +4,14 @@ use Rattle.gl_schema.specs.declared.fault.SchemaFault.{SchemaFault}
 use Rattle.gl_schema.specs.declared.fault.SchemaFault.TheVariants as schema
 use Rattle.gl_query.specs.declared.fault.QueryFault.{QueryFault}
 use Rattle.gl_query.specs.declared.fault.QueryFault.TheVariants as query
+use Rattle.gl_verilog_written.specs.declared.fault.VerilogFault.{VerilogFault}
+use Rattle.gl_verilog_written.specs.declared.fault.VerilogFault.TheVariants as verilog
 use Rattle.gl_tuples.specs.declared.fault.TupleFault.{TupleFault}
 use Rattle.gl_tuples.specs.declared.fault.TupleFault.TheVariants as tuples
 use Rattle.gl_outside.specs.States.{SinkState, Took, Broke}
 use Rattle.gl_forms.specs.declared.command.Part.TheVariants as part
 use Rattle.gl_top.specs.declared.notes.Refusal.{Refusal}
-use Rattle.gl_top.specs.declared.notes.Refusal.TheVariants.{Usage, Missing, ReadFault, TooLong, Schema, Query, Limit, Tuples, Memory}
+use Rattle.gl_top.specs.declared.notes.Refusal.TheVariants.{Usage, Missing, ReadFault, TooLong, Schema, Query, Limit, Verilog, Tuples, Memory}
 use Rattle.gl_figures.specs.declared.Limit as figures
 use Rattle.gl_figures.specs.declared.Limit.TheVariants as limit
 use Rattle.gl_top.specs.declared.status.Status.{Status}
@@ -25,6 +27,7 @@ status_of (TooLong part) = status.Limit
 status_of (Schema fault) = status.Schema
 status_of (Query fault) = status.Query
 status_of (Limit passed) = status.Limit
+status_of (Verilog fault) = status.Verilog
 status_of (Tuples fault) = status.Tuples
 status_of Memory = status.Memory
 
@@ -77,6 +80,38 @@ query_place (query.OutOfRange at) = at
 query_place (query.TooDeep at) = at
 query_place query.Memory = 0
 
+unfoldable pub verilog_kind : VerilogFault → List ℕ
+verilog_kind (verilog.Syntax at) = codes "Syntax"
+verilog_kind (verilog.Undeclared at) = codes "Undeclared"
+verilog_kind (verilog.TwiceDeclared at) = codes "TwiceDeclared"
+verilog_kind (verilog.TwiceDriven at) = codes "TwiceDriven"
+verilog_kind (verilog.NeverDriven at) = codes "NeverDriven"
+verilog_kind (verilog.WidthsDiffer at) = codes "WidthsDiffer"
+verilog_kind (verilog.Loop at) = codes "Loop"
+verilog_kind (verilog.BadMemory at) = codes "BadMemory"
+verilog_kind (verilog.ClockRead at) = codes "ClockRead"
+verilog_kind (verilog.TooWide at) = codes "TooWide"
+verilog_kind (verilog.BadPort at) = codes "BadPort"
+verilog_kind (verilog.BadTarget at) = codes "BadTarget"
+verilog_kind (verilog.TooDeep at) = codes "TooDeep"
+verilog_kind verilog.Memory = codes "Memory"
+
+abbrev pub verilog_place : VerilogFault → ℕ
+verilog_place (verilog.Syntax at) = at
+verilog_place (verilog.Undeclared at) = at
+verilog_place (verilog.TwiceDeclared at) = at
+verilog_place (verilog.TwiceDriven at) = at
+verilog_place (verilog.NeverDriven at) = at
+verilog_place (verilog.WidthsDiffer at) = at
+verilog_place (verilog.Loop at) = at
+verilog_place (verilog.BadMemory at) = at
+verilog_place (verilog.ClockRead at) = at
+verilog_place (verilog.TooWide at) = at
+verilog_place (verilog.BadPort at) = at
+verilog_place (verilog.BadTarget at) = at
+verilog_place (verilog.TooDeep at) = at
+verilog_place verilog.Memory = 0
+
 unfoldable pub tuples_kind : TupleFault → List ℕ
 tuples_kind (tuples.NotUtf8 number) = codes "NotUtf8"
 tuples_kind (tuples.BadCycle number) = codes "BadCycle"
@@ -111,7 +146,7 @@ line head rest = head ++ rest ++ codes "\n"
 abbrev pub kind_line : List ℕ → List ℕ → List ℕ → ℕ → List ℕ
 kind_line head kind middle number = head ++ kind ++ line middle (decimal number)
 
--- the line of all forms, those that are not there yet among them
+-- the line of all forms
 unfoldable pub usage_line : List ℕ
 usage_line =
     codes "usage: glacier compile S Q, figures S Q, explain S Q, run S Q T [--start N], sim S V T --extra N, load N\n"
@@ -123,10 +158,18 @@ memory_line = codes "out of memory\n"
 unfoldable pub write_line : List ℕ
 write_line = codes "write fault\n"
 
+-- the line of a simulation whose end did not come: the last cycle that was run
+unfoldable pub no_end_line : ℕ → List ℕ
+no_end_line cycle = line (codes "no end by cycle ") (decimal cycle)
+
 -- what is told of a limit that a plan passes
 abbrev pub limit_line : figures.Limit → List ℕ
 limit_line (limit.Latency node) = codes "limit: Latency\n"
 limit_line (limit.Nodes weight) = line (codes "limit: Nodes ") (decimal weight)
+
+-- what is told of a Verilog text that is refused
+abbrev pub verilog_line : VerilogFault → List ℕ
+verilog_line fault = kind_line (codes "verilog: ") (verilog_kind fault) (codes " at ") (verilog_place fault)
 
 -- the line of each refusal
 abbrev pub note_of : List (List ℕ) → Refusal → List ℕ
@@ -137,6 +180,7 @@ note_of words (TooLong part) = line (codes "limit: Text ") (name_of words part)
 note_of words (Schema fault) = kind_line (codes "schema: ") (schema_kind fault) (codes " at ") (schema_place fault)
 note_of words (Query fault) = kind_line (codes "query: ") (query_kind fault) (codes " at ") (query_place fault)
 note_of words (Limit passed) = limit_line passed
+note_of words (Verilog fault) = verilog_line fault
 note_of words (Tuples fault) = kind_line (codes "tuples: ") (tuples_kind fault) (codes " at record ") (tuples_record fault)
 note_of words Memory = memory_line
 

@@ -10,6 +10,7 @@ use Rattle.gl_schema.specs.declared.schema.Schema.{Schema}
 use Rattle.gl_schema.specs.Schemas.{kinds_of}
 use Rattle.gl_query.specs.declared.tree.Statement.{Statement}
 use Rattle.gl_sim.specs.declared.start.Start.{Start}
+use Rattle.gl_sim.specs.declared.start.Start.TheVariants.{Zero}
 use Rattle.gl_tuples.specs.declared.beats.Beat.{Beat}
 use Rattle.gl_tuples.specs.Gaps.{plain_beats}
 use Rattle.gl_compiler.specs.Queries.{latency_of, gap_of}
@@ -17,6 +18,11 @@ use Rattle.gl_compiler.specs.Meets.{Meets, result_columns}
 use Rattle.gl_compiler.specs.declared.executing.Outcome.{Outcome}
 use Rattle.gl_compiler.specs.Prints.{OfEachRun, Writes, WritesFront}
 use Rattle.gl_compiler.specs.Prints as prints
+use Rattle.gl_compiler.specs.declared.tracing.Ending.{Ending}
+use Rattle.gl_compiler.specs.declared.tracing.Ending.TheVariants as end
+use Rattle.gl_compiler.specs.Traces.{OfRunsOf, Traced, TracesOut, decimal_kinds}
+use Rattle.gl_verilog.specs.Module.{Module}
+use Rattle.gl_verilog_written.specs.declared.fault.VerilogFault.{VerilogFault}
 use Rattle.gl_forms.specs.declared.command.Part.{Part}
 use Rattle.gl_top.specs.declared.notes.Refusal.{Refusal}
 use Rattle.gl_top.specs.declared.status.Status.{Status}
@@ -27,13 +33,13 @@ use Rattle.gl_schema.specs.declared.fault.SchemaFault.{SchemaFault}
 use Rattle.gl_query.specs.declared.fault.QueryFault.{QueryFault}
 use Rattle.gl_tuples.specs.declared.fault.TupleFault.{TupleFault}
 use Rattle.gl_forms.specs.declared.command.Command.{Command}
-use Rattle.gl_forms.specs.declared.command.Command.TheVariants.{Compile, Figures, Explain, Run, Load}
-use Rattle.gl_forms.specs.Forms.{IsCommand, IsForm, IsLoadOf, IsNamed, command_of, name_of, start_of}
+use Rattle.gl_forms.specs.declared.command.Command.TheVariants.{Compile, Figures, Explain, Run, Sim, Load}
+use Rattle.gl_forms.specs.Forms.{IsCommand, IsForm, IsLoadOf, IsNamed, command_of, extra_of, name_of, start_of}
 use Rattle.gl_load.specs.Loads.{IsLoad}
 use Rattle.gl_top.specs.Figuring.{IsFigured}
-use Rattle.gl_top.specs.Passing.{QueryPasses, TuplesPass}
-use Rattle.gl_top.specs.Causes.{Change, HasCause, IsTooLong, IsBadSchema, IsBadQuery, IsOver, AreBadTuples}
-use Rattle.gl_top.specs.Refusals.{Puts, Notes, status_of, note_of, write_line}
+use Rattle.gl_top.specs.Passing.{QueryPasses, TuplesPass, FilePasses}
+use Rattle.gl_top.specs.Causes.{Change, HasCause, IsTooLong, IsBadSchema, IsBadQuery, IsOver, IsBadVerilog, AreBadTuples}
+use Rattle.gl_top.specs.Refusals.{Puts, Notes, status_of, note_of, no_end_line, write_line}
 
 -- the lines of the run of this text over these beats from this start were written, or a front of them
 abbrev pub WritesLines : Schema → Statement → List Beat → Start → List ℕ → Puts → Type 0
@@ -74,13 +80,33 @@ pub record IsBroken (words : List (List ℕ)) (c : Change) (out notes : Puts) (t
   pub cause : Rose out.old.faults out.new.faults
   pub noted : Notes WriteFault write_line notes status
 
--- what a command other than `run` and `load` writes of a statement, and the text that it leaves: the Verilog text, which meets the statement; the
+-- what is noted of a trace that ended so, and the status; want of memory is a refusal
+abbrev pub TellsEnding : Ending → Puts → Status → Type 0
+TellsEnding end.Done notes answered = (answered ≡ Done) × Took notes.old notes.new []
+TellsEnding (end.NoEnd cycle) notes answered = Notes status.NoEnd (no_end_line cycle) notes answered
+TellsEnding end.WriteFault notes answered = Notes WriteFault write_line notes answered
+TellsEnding end.Memory notes answered = ⊥
+
+-- a module was traced over the beats of a file, from all zero; no text was missing, and none is left
+pub record IsTraced (words : List (List ℕ)) (c : Change) (out notes : Puts) (text : List ℕ) (status : Status) : Type 0 where
+  pub schema : Schema
+  pub design : Module
+  pub beats : List Beat
+  pub passes : FilePasses c.old.told words schema design beats
+  pub ending : Ending
+  pub traced : Traced (OfRunsOf design schema (plain_beats beats) Zero) (decimal_kinds design) (plain_beats beats) (extra_of words) out.old out.new ending
+  pub tells : TellsEnding ending notes status
+  pub calm : IsCalm c.old c.new
+  pub left : text ≡ []
+
+-- what a command other than `run`, `sim` and `load` writes of a statement, and the text that it leaves: the Verilog text, which meets the statement; the
 -- figures that are printed for it and what it costs; or the statement and its plan
 abbrev pub Shows : Command → Schema → Statement → List ℕ → List ℕ → Type 0
 Shows Compile schema statement bytes text = (bytes ≡ text) × Meets schema statement (latency_of schema statement) (gap_of schema statement) text
 Shows Figures schema statement bytes text = IsFigured schema statement bytes text × Meets schema statement (latency_of schema statement) (gap_of schema statement) text
 Shows Explain schema statement bytes text = (bytes ≡ plan_text schema statement (plan_of schema statement)) × (text ≡ [])
 Shows Run schema statement bytes text = ⊥
+Shows Sim schema statement bytes text = ⊥
 Shows Load schema statement bytes text = ⊥
 
 -- the texts that such a command names pass, and this is what it shows of them
@@ -136,14 +162,16 @@ pub record IsEnded (words : List (List ℕ)) (c : Change) (out notes : Puts) (te
 pub data IsAnswer (words : List (List ℕ)) (c : Change) (out notes : Puts) (text : List ℕ) (status : Status) : Type 0 where
   Ran : (done : IsDone words c out notes text status) → IsAnswer words c out notes text status
   Broke' : (broken : IsBroken words c out notes text status) → IsAnswer words c out notes text status
+  Traced' : (traced : IsTraced words c out notes text status) → IsAnswer words c out notes text status
   Shown : (shown : IsShown words c out notes text status) → IsAnswer words c out notes text status
   Cut : (cut : IsCut words c out notes text status) → IsAnswer words c out notes text status
   Ended : (ended : IsEnded words c out notes text status) → IsAnswer words c out notes text status
 
--- the texts that a command asks for pass: to run, the tuple file too; a load asks for none
+-- the texts that a command asks for pass: to run and to simulate, the tuple file too; a load asks for none
 pub data AllPass (told : List ℕ → Told) (words : List (List ℕ)) : Type 0 where
   Two : (schema : Schema) (statement : Statement) (passes : QueryPasses told words schema statement) (others : command_of words ≢ Some Run) → AllPass told words
   Three : (schema : Schema) (statement : Statement) (beats : List Beat) (pass : TuplesPass told words schema statement beats) → AllPass told words
+  OfFile : (schema : Schema) (design : Module) (beats : List Beat) (pass : FilePasses told words schema design beats) → AllPass told words
   Loads : (count : ℕ) (is : IsLoadOf words count) → AllPass told words
 
 -- the shelf tells the texts that the words name
@@ -167,6 +195,25 @@ pub record IsFaultless (c : Change) (out notes : Puts) : Type 0 where
 abbrev pub TellsFault : List (List ℕ) → Change → Puts → Status → Type 0
 TellsFault words c notes answered = (fault : QueryFault) → IsTelling c.old.told words → IsBadQuery c.old.told words fault → answered ≡ status.Query → Took notes.old notes.new (note_of words (refusal.Query fault))
 
+-- in no run of the module of a simulation the end is seen in time; the lines of all its cycles were written, and the last of these was
+-- noted; no text was missing, and nothing failed
+pub record IsEndless (words : List (List ℕ)) (c : Change) (out notes : Puts) : Type 0 where
+  pub schema : Schema
+  pub design : Module
+  pub beats : List Beat
+  pub passes : FilePasses c.old.told words schema design beats
+  pub cycle : ℕ
+  pub traced : OfRunsOf design schema (plain_beats beats) Zero (λ outs port. TracesOut (decimal_kinds design) (plain_beats beats) (extra_of words) cycle outs port out.old.taken out.new.taken)
+  pub noted : Took notes.old notes.new (no_end_line cycle)
+  pub calm : IsCalm c.old c.new
+  pub whole : out.new.faults ≡ out.old.faults
+
+-- how the work ends where nothing is refused and nothing fails: whole, unless memory runs out or a simulation has no end in time
+pub data Completes (words : List (List ℕ)) (c : Change) (out notes : Puts) (answered : Status) : Type 0 where
+  Whole : (is : answered ≡ Done) → Completes words c out notes answered
+  NoMemory : (is : answered ≡ Memory) → Completes words c out notes answered
+  Endless : (is : answered ≡ status.NoEnd) (endless : IsEndless words c out notes) → Completes words c out notes answered
+
 -- what each status says
 abbrev pub Says : List (List ℕ) → Change → Puts → Puts → Status → Type 0
 Says words c out notes status.Done = IsCalm c.old c.new × (out.new.faults ≡ out.old.faults) × Took notes.old notes.new []
@@ -179,5 +226,5 @@ Says words c out notes status.Query = (fault : QueryFault) × IsBadQuery c.old.t
 Says words c out notes status.Tuples = (fault : TupleFault) × AreBadTuples c.old.told words fault
 Says words c out notes status.Limit = ((part : Part) × IsTooLong c.old.told words part) ⊎ ((limit : Limit) × IsOver c.old.told words limit)
 Says words c out notes status.Memory = Unit {0}
-Says words c out notes status.Verilog = ⊥
-Says words c out notes status.NoEnd = ⊥
+Says words c out notes status.Verilog = (fault : VerilogFault) × IsBadVerilog c.old.told words fault
+Says words c out notes status.NoEnd = IsEndless words c out notes

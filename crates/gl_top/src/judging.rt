@@ -7,7 +7,7 @@ ghost use Rattle.gl_tuples.specs.Entries.{Gives};
 ghost use Rattle.gl_tuples.specs.Gaps.{AreFileBeats, plain_beats};
 ghost use Rattle.gl_forms.specs.declared.command.Command.TheVariants.{Explain, Run};
 ghost use Rattle.gl_top.specs.Explaining.{IsExplained, IsExplainRefused};
-ghost use Rattle.gl_forms.specs.Forms.{HasTexts, IsCommand};
+ghost use Rattle.gl_forms.specs.Forms.{IsCommand, IsNamed};
 ghost use Rattle.gl_top.specs.Causes as causes;
 ghost use Rattle.gl_top.specs.Causes.{IsNext, Leaves};
 ghost use Rattle.gl_outside.specs.States.{Stays};
@@ -67,7 +67,8 @@ fn query_refusal(fault: CompileFault) -> Refusal
     }
 }
 
-fn tuples_refusal(fault: TupleFault) -> Refusal
+/// A fault of a tuple file as a refusal.
+pub(crate) fn tuples_refusal(fault: TupleFault) -> Refusal
     ensures { result ≡ causes.tuples_refusal fault }
 {
     match fault {
@@ -76,8 +77,8 @@ fn tuples_refusal(fault: TupleFault) -> Refusal
     }
 }
 
-// Reads the text of a part.
-fn text_of<S: Shelf>(
+/// Reads the text of a part.
+pub(crate) fn text_of<S: Shelf>(
     alloc: Global,
     shelf: &mut S,
     words: &Words,
@@ -96,9 +97,13 @@ fn text_of<S: Shelf>(
     }
 }
 
-// Reads and judges the schema.
-fn judge_schema<S: Shelf>(alloc: Global, shelf: &mut S, words: &Words) -> Result<Schema, Refusal>
-    requires form { HasTexts words.now }
+/// Reads and judges the schema.
+pub(crate) fn judge_schema<S: Shelf>(
+    alloc: Global,
+    shelf: &mut S,
+    words: &Words,
+) -> Result<Schema, Refusal>
+    requires named { IsNamed words.now Part.Schema }
     requires names { (S.state shelf.old).names ≡ words.now }
     ensures stays { Stays (S.state shelf.old) (S.state shelf.new) }
     ensures passes { let told = (S.state shelf.old).told in
@@ -119,6 +124,7 @@ fn judge_query<S: Shelf>(
     words: &Words,
     schema: Schema,
 ) -> Result<Compiled, Refusal>
+    requires named { IsNamed words.now Part.Query }
     requires passes { SchemaPasses (S.state shelf.old).told words.now schema }
     requires names { (S.state shelf.old).names ≡ words.now }
     ensures stays { Stays (S.state shelf.old) (S.state shelf.new) }
@@ -237,7 +243,7 @@ pub(crate) fn judge_compile<S: Shelf>(
     shelf: &mut S,
     words: &Words,
 ) -> Result<Compiled, Refusal>
-    requires form { HasTexts words.now }
+    requires named { IsNamed words.now Part.Query }
     requires names { (S.state shelf.old).names ≡ words.now }
     ensures passes { let told = (S.state shelf.old).told in
         IfOk result (λ c. QueryPasses told words.now c.schema c.statement) }

@@ -4,9 +4,13 @@ ghost use Rattle.std.specs.Prelude.{◌≡◌, decimal};
 ghost use Rattle.gl_outside.specs.States.{Wrote};
 ghost use Rattle.gl_forms.specs.Forms as forms;
 ghost use Rattle.gl_top.specs.Refusals as told;
-ghost use Rattle.gl_top.specs.Refusals.{line, kind_line, limit_line, note_of};
+ghost use Rattle.gl_top.specs.Refusals.{line, kind_line, limit_line, no_end_line, note_of, verilog_line};
 ghost use Rattle.gl_top.specs.Refusals.{usage_line, memory_line, write_line, puts, Notes};
 
+use crate::faults::{
+    query_kind, query_place, schema_kind, schema_place, tuples_kind, tuples_record, verilog_kind,
+    verilog_place,
+};
 use crate::status::Status;
 use gl_figures::Limit;
 use gl_forms::{Part, name_of};
@@ -14,6 +18,7 @@ use gl_outside::{Sink, Words, WriteFault, write_all_of};
 use gl_query::QueryFault;
 use gl_schema::SchemaFault;
 use gl_tuples::TupleFault;
+use gl_verilog_written::VerilogFault;
 use itoa::Buffer;
 
 /// Why the program ends before anything is written.
@@ -33,13 +38,15 @@ pub enum Refusal {
     Query(QueryFault),
     /// The query's plan passes a limit.
     Limit(Limit),
+    /// The Verilog text is refused.
+    Verilog(VerilogFault),
     /// The tuple file is refused.
     Tuples(TupleFault),
     /// Want of memory.
     Memory,
 }
 
-// The line of all forms, those that are not there yet among them.
+// The line of all forms.
 const USAGE: &[u8] =
     b"usage: glacier compile S Q, figures S Q, explain S Q, run S Q T [--start N], \
 sim S V T --extra N, load N\n";
@@ -93,116 +100,6 @@ fn put_kind<N: Sink>(
     put_number(notes, middle, number)
 }
 
-// The kind of a fault of a schema, and its place.
-#[tactic(auto, unfolding(crate::specs::Refusals::schema_kind))]
-fn schema_kind(fault: &SchemaFault) -> &'static [u8]
-    ensures { result.now ≡ told.schema_kind fault.now }
-{
-    match fault {
-        SchemaFault::Syntax { .. } => b"Syntax",
-        SchemaFault::BadName { .. } => b"BadName",
-        SchemaFault::BadKind { .. } => b"BadKind",
-        SchemaFault::Twice { .. } => b"Twice",
-        SchemaFault::TooMany { .. } => b"TooMany",
-        SchemaFault::Memory => b"Memory",
-    }
-}
-
-fn schema_place(fault: &SchemaFault) -> u64
-    ensures { result ≡ told.schema_place fault.now }
-{
-    match fault {
-        SchemaFault::Syntax { at }
-        | SchemaFault::BadName { at }
-        | SchemaFault::BadKind { at }
-        | SchemaFault::Twice { at }
-        | SchemaFault::TooMany { at } => *at,
-        SchemaFault::Memory => 0,
-    }
-}
-
-// The kind of a fault of a query, and its place.
-#[tactic(auto, unfolding(crate::specs::Refusals::query_kind))]
-fn query_kind(fault: &QueryFault) -> &'static [u8]
-    ensures { result.now ≡ told.query_kind fault.now }
-{
-    match fault {
-        QueryFault::Syntax { .. } => b"Syntax",
-        QueryFault::UnknownStream { .. } => b"UnknownStream",
-        QueryFault::UnknownColumn { .. } => b"UnknownColumn",
-        QueryFault::KindsDiffer { .. } => b"KindsDiffer",
-        QueryFault::LiteralTooWide { .. } => b"LiteralTooWide",
-        QueryFault::NotCondition { .. } => b"NotCondition",
-        QueryFault::MixedItems { .. } => b"MixedItems",
-        QueryFault::TwiceNamed { .. } => b"TwiceNamed",
-        QueryFault::ColumnsDiffer { .. } => b"ColumnsDiffer",
-        QueryFault::PaceDiffers { .. } => b"PaceDiffers",
-        QueryFault::NotClosing { .. } => b"NotClosing",
-        QueryFault::OutOfRange { .. } => b"OutOfRange",
-        QueryFault::TooDeep { .. } => b"TooDeep",
-        QueryFault::Memory => b"Memory",
-    }
-}
-
-fn query_place(fault: &QueryFault) -> u64
-    ensures { result ≡ told.query_place fault.now }
-{
-    match fault {
-        QueryFault::Syntax { at }
-        | QueryFault::UnknownStream { at }
-        | QueryFault::UnknownColumn { at }
-        | QueryFault::KindsDiffer { at }
-        | QueryFault::LiteralTooWide { at }
-        | QueryFault::NotCondition { at }
-        | QueryFault::MixedItems { at }
-        | QueryFault::TwiceNamed { at }
-        | QueryFault::ColumnsDiffer { at }
-        | QueryFault::PaceDiffers { at }
-        | QueryFault::NotClosing { at }
-        | QueryFault::OutOfRange { at }
-        | QueryFault::TooDeep { at } => *at,
-        QueryFault::Memory => 0,
-    }
-}
-
-// The kind of a fault of a tuple file, and its record.
-#[tactic(auto, unfolding(crate::specs::Refusals::tuples_kind))]
-fn tuples_kind(fault: &TupleFault) -> &'static [u8]
-    ensures { result.now ≡ told.tuples_kind fault.now }
-{
-    match fault {
-        TupleFault::NotUtf8 { .. } => b"NotUtf8",
-        TupleFault::BadCycle { .. } => b"BadCycle",
-        TupleFault::CycleFalls { .. } => b"CycleFalls",
-        TupleFault::CycleTooLarge { .. } => b"CycleTooLarge",
-        TupleFault::UnknownStream { .. } => b"UnknownStream",
-        TupleFault::FieldCount { .. } => b"FieldCount",
-        TupleFault::BadValue { .. } => b"BadValue",
-        TupleFault::StreamTwice { .. } => b"StreamTwice",
-        TupleFault::AfterEnd { .. } => b"AfterEnd",
-        TupleFault::TooClose { .. } => b"TooClose",
-        TupleFault::Memory => b"Memory",
-    }
-}
-
-fn tuples_record(fault: &TupleFault) -> u64
-    ensures { result ≡ told.tuples_record fault.now }
-{
-    match fault {
-        TupleFault::NotUtf8 { number }
-        | TupleFault::BadCycle { number }
-        | TupleFault::CycleFalls { number }
-        | TupleFault::CycleTooLarge { number }
-        | TupleFault::UnknownStream { number }
-        | TupleFault::FieldCount { number }
-        | TupleFault::BadValue { number }
-        | TupleFault::StreamTwice { number }
-        | TupleFault::AfterEnd { number }
-        | TupleFault::TooClose { number } => *number,
-        TupleFault::Memory => 0,
-    }
-}
-
 // Writes the usage line.
 #[tactic(auto, unfolding(crate::specs::Refusals::usage_line))]
 fn put_usage<N: Sink>(notes: &mut N) -> Result<(), WriteFault>
@@ -227,6 +124,14 @@ fn put_write_fault<N: Sink>(notes: &mut N) -> Result<(), WriteFault>
     write_all_of(notes, b"write fault\n")
 }
 
+// Writes the line of a simulation whose end did not come: the last cycle that was run.
+#[tactic(auto, unfolding(crate::specs::Refusals::no_end_line))]
+fn put_no_end<N: Sink>(notes: &mut N, cycle: u64) -> Result<(), WriteFault>
+    ensures { Wrote (N.state notes.old) (N.state notes.new) (no_end_line cycle) result }
+{
+    put_number(notes, b"no end by cycle ", cycle)
+}
+
 // Writes the line of a limit that a plan passes.
 fn put_limit<N: Sink>(notes: &mut N, limit: Limit) -> Result<(), WriteFault>
     ensures { Wrote (N.state notes.old) (N.state notes.new) (limit_line limit) result }
@@ -235,6 +140,20 @@ fn put_limit<N: Sink>(notes: &mut N, limit: Limit) -> Result<(), WriteFault>
         Limit::Latency { .. } => write_all_of(notes, b"limit: Latency\n"),
         Limit::Nodes { weight } => put_number(notes, b"limit: Nodes ", weight),
     }
+}
+
+// Writes the line of a Verilog text that is refused.
+fn put_verilog<N: Sink>(notes: &mut N, fault: &VerilogFault) -> Result<(), WriteFault>
+    ensures { let bytes = verilog_line fault.now in
+        Wrote (N.state notes.old) (N.state notes.new) bytes result }
+{
+    put_kind(
+        notes,
+        b"verilog: ",
+        verilog_kind(fault),
+        b" at ",
+        verilog_place(fault),
+    )
 }
 
 // Writes the line of a refusal.
@@ -261,6 +180,7 @@ fn put_note<N: Sink>(notes: &mut N, words: &Words, refusal: &Refusal) -> Result<
             query_place(fault),
         ),
         Refusal::Limit(limit) => put_limit(notes, *limit),
+        Refusal::Verilog(fault) => put_verilog(notes, fault),
         Refusal::Tuples(fault) => put_kind(
             notes,
             b"tuples: ",
@@ -283,6 +203,7 @@ fn status_of(refusal: &Refusal) -> Status
         Refusal::Schema(_) => Status::Schema,
         Refusal::Query(_) => Status::Query,
         Refusal::Limit(_) => Status::Limit,
+        Refusal::Verilog(_) => Status::Verilog,
         Refusal::Tuples(_) => Status::Tuples,
         Refusal::Memory => Status::Memory,
     }
@@ -307,6 +228,17 @@ pub(crate) fn tell_write_fault<N: Sink>(notes: &mut N) -> Status
 {
     match put_write_fault(notes) {
         Ok(()) => Status::WriteFault,
+        Err(_) => Status::WriteFault,
+    }
+}
+
+/// Writes the line of a simulation whose end did not come.
+pub(crate) fn tell_no_end<N: Sink>(notes: &mut N, cycle: u64) -> Status
+    ensures { let made = puts (N.state notes.old) (N.state notes.new) in
+        Notes Status.NoEnd (no_end_line cycle) made result }
+{
+    match put_no_end(notes, cycle) {
+        Ok(()) => Status::NoEnd,
         Err(_) => Status::WriteFault,
     }
 }

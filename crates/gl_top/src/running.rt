@@ -1,6 +1,6 @@
 //! From words to a status.
 
-ghost use Rattle.std.specs.Prelude.{◌≡◌, ◌≢◌, ◌⊎◌, ◌≤◌, [], ℕ, List};
+ghost use Rattle.std.specs.Prelude.{◌≡◌, ◌≢◌, ◌≤◌, [], ℕ, List};
 ghost use Rattle.gl_outside.specs.States.{IsCalm, Took};
 ghost use Rattle.gl_schema.specs.Beats.{KeepsGap};
 ghost use Rattle.gl_tuples.specs.Gaps.{AreFileBeats, plain_beats};
@@ -12,12 +12,14 @@ ghost use Rattle.gl_forms.specs.Forms.{IsCommand, IsForm, IsLoadOf};
 ghost use Rattle.gl_top.specs.Causes.{Change, change, IsRefused};
 ghost use Rattle.gl_top.specs.Passing.{IsCompiled, IsReady, QueryPasses};
 ghost use Rattle.gl_top.specs.Refusals.{puts, status_of};
-ghost use Rattle.gl_top.specs.Verdicts.{AllPass, IsAnswer, IsGiven, IsTelling, IsFaultless, RanLines, Says, TellsFault, Yields};
+ghost use Rattle.gl_top.specs.Verdicts.{AllPass, Completes, IsAnswer, IsGiven, IsTelling};
+ghost use Rattle.gl_top.specs.Verdicts.{IsFaultless, RanLines, Says, TellsFault, Yields};
 
 use crate::figuring::figures_text;
 use crate::judging::{Job, judge_compile, judge_explain, judge_run};
 use crate::notes::{Refusal, tell, tell_write_fault};
 use crate::status::Status;
+use crate::tracing::answer_sim;
 use gl_compiler::{Compiled, Outcome, execute};
 use gl_forms::{Command, command_of, load_of, start_of};
 use gl_load::load;
@@ -303,6 +305,7 @@ fn answer<S: Shelf, K: Sink, N: Sink>(
         Some(Command::Figures) => answer_figures(alloc, words, shelf, out, notes, text),
         Some(Command::Explain) => answer_explain(alloc, words, shelf, out, notes),
         Some(Command::Run) => answer_run(alloc, words, shelf, out, notes, text),
+        Some(Command::Sim) => answer_sim(alloc, words, shelf, out, notes),
         Some(Command::Load) => answer_load(alloc, words, out, notes, text),
         None => tell(notes, words, &Refusal::Usage),
     }
@@ -313,11 +316,13 @@ fn answer<S: Shelf, K: Sink, N: Sink>(
 /// the bits of its registers and memories; `run S Q T` writes what that text does over the tuple file
 /// T, from registers and words of 0 or as `--start N` says. `load N` compiles a query of its own, runs
 /// its text over N tuples, and tells what came out. These leave the text in `text`. `explain S Q`
-/// writes the query in its canonical form and its plan.
-/// Where it ends before its work is done, it writes one line to `notes`.
+/// writes the query in its canonical form and its plan. `sim S V T --extra N` writes what the Verilog
+/// text V does over T, from registers and words of 0, with all values in decimal, up to the end, for
+/// which it waits N cycles behind the last beat's; it leaves `text` empty.
+/// Where it ends before its work is done, and where no end came, it writes one line to `notes`.
 ///
-/// The texts are fetched in the order S, Q, T, and each is judged before the next is fetched. With
-/// every status but `Done` and `WriteFault` nothing is written to `out`.
+/// The texts are fetched in the order in which they are named, and each is judged before the next is
+/// fetched. With every status but `Done`, `WriteFault` and `NoEnd` nothing is written to `out`.
 pub fn run<S: Shelf, K: Sink, N: Sink>(
     alloc: Global,
     words: &Words,
@@ -347,7 +352,7 @@ pub fn run<S: Shelf, K: Sink, N: Sink>(
 
     // Nothing is written but by what was asked for.
     ensures untouched { result ≢ Status.Done → result ≢ Status.WriteFault
-        → Took (K.state out.old) (K.state out.new) [] }
+        → result ≢ Status.NoEnd → Took (K.state out.old) (K.state out.new) [] }
 
     // Words of no form, and texts that are refused, are told as such, unless something fails first.
     ensures formless { let seen = change (S.state shelf.old) (S.state shelf.new) in
@@ -359,12 +364,13 @@ pub fn run<S: Shelf, K: Sink, N: Sink>(
         → IsRefused seen.old.told words.now refusal
         → Yields (status_of refusal) seen noted result }
 
-    // Where the texts pass and no count of faults rises, the work is done, unless memory runs out.
+    // Where the texts pass and no count of faults rises, the work is done, unless memory runs out, or
+    // a simulation has no end in time.
     ensures complete { let seen = change (S.state shelf.old) (S.state shelf.new) in
         let made = puts (K.state out.old) (K.state out.new) in
         let noted = puts (N.state notes.old) (N.state notes.new) in
         IsTelling seen.old.told words.now → AllPass seen.old.told words.now
-        → IsFaultless seen made noted → (result ≡ Status.Done) ⊎ (result ≡ Status.Memory) }
+        → IsFaultless seen made noted → Completes words.now seen made noted result }
 {
     answer(alloc, words, shelf, out, notes, text)
 }

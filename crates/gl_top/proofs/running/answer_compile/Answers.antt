@@ -1,5 +1,4 @@
-use Rattle.gl_forms.proofs.Named.{has_texts}
-use Rattle.std.proofs.Common.{inl}
+use Rattle.std.proofs.Common.{inl, refl, arith}
 use Rattle.gl_outside.proofs.Takes.{took_none}
 use Rattle.gl_forms.specs.declared.command.Command.TheVariants.{Compile}
 use Rattle.gl_top.specs.Causes.{change}
@@ -27,5 +26,5 @@ returns-in-Err g c = Ended (record {
   left = inl c.requires.empty;
 })
 
-pub judge_compile-requires-clause-form : goal.judge_compile-requires-clause-form
-judge_compile-requires-clause-form g c = has_texts c.args.words.now Compile (λ e. absurd cc) c.requires.compiles
+pub judge_compile-requires-clause-named : goal.judge_compile-requires-clause-named
+judge_compile-requires-clause-named g c = record { command = Compile; is = c.requires.compiles; names = (1, omega arith, refl) }

@@ -1,6 +1,5 @@
-use Rattle.gl_forms.proofs.Named.{has_texts}
 use Rattle.gl_forms.specs.declared.command.Command.TheVariants.{Figures}
-use Rattle.std.proofs.Common.{inl}
+use Rattle.std.proofs.Common.{inl, refl, arith}
 use Rattle.gl_outside.proofs.Takes.{took_none}
 use Rattle.gl_top.specs.Causes.{change}
 use Rattle.gl_top.specs.Verdicts.{Ended}
@@ -18,5 +17,5 @@ returns-in-Err g c = Ended (record {
   left = inl c.requires.empty;
 })
 
-pub judge_compile-requires-clause-form : goal.judge_compile-requires-clause-form
-judge_compile-requires-clause-form g c = has_texts c.args.words.now Figures (λ e. absurd cc) c.requires.figures
+pub judge_compile-requires-clause-named : goal.judge_compile-requires-clause-named
+judge_compile-requires-clause-named g c = record { command = Figures; is = c.requires.figures; names = (1, omega arith, refl) }

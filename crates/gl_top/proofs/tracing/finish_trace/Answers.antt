@@ -1,0 +1,71 @@
+use Rattle.std.proofs.Common.{ℕ, [], inl, refl, sym, subst}
+use Rattle.gl_outside.specs.States.{SinkState, Took}
+use Rattle.gl_outside.proofs.Takes.{took_none}
+use Rattle.gl_sim.specs.declared.start.Start.TheVariants.{Zero}
+use Rattle.gl_tuples.specs.Gaps.{plain_beats}
+use Rattle.gl_verilog.specs.View.{module_of}
+use Rattle.gl_compiler.specs.declared.tracing.Ending.TheVariants as end
+use Rattle.gl_compiler.specs.Traces.{OfRunsOf, Traced, decimal_kinds}
+use Rattle.gl_top.specs.declared.notes.Refusal.TheVariants as refusal
+use Rattle.gl_top.specs.Verdicts.{Traced', Ended}
+use Rattle.gl_top.proofs.tracing.finish_trace.Goals as goal
+
+pub returns-in-Done : goal.returns-in-Done
+returns-in-Done g c = λ ch ready calm.
+    let s = c.args.simulation in
+    let m = module_of s.fitted.design in
+    let of_extra : ℕ → Type 0 = λ n. Traced (OfRunsOf m s.schema (plain_beats s.beats) Zero) (decimal_kinds m) (plain_beats s.beats) n (g.K.Sink.state c.args.out.now) (g.K.Sink.state c.trace.new.out) end.Done in
+    Traced' (record {
+      schema = s.schema;
+      design = m;
+      beats = s.beats;
+      passes = ready.passes;
+      ending = end.Done;
+      traced = subst of_extra c.extra_of-extra.ensures c.in-Done.ensures;
+      tells = (refl, took_none _);
+      calm = calm;
+      left = refl;
+    })
+
+pub returns-in-NoEnd : goal.returns-in-NoEnd
+returns-in-NoEnd g c = λ ch ready calm.
+    let s = c.args.simulation in
+    let m = module_of s.fitted.design in
+    let of_extra : ℕ → Type 0 = λ n. Traced (OfRunsOf m s.schema (plain_beats s.beats) Zero) (decimal_kinds m) (plain_beats s.beats) n (g.K.Sink.state c.args.out.now) (g.K.Sink.state c.trace.new.out) (end.NoEnd c.in-NoEnd.cycle) in
+    Traced' (record {
+      schema = s.schema;
+      design = m;
+      beats = s.beats;
+      passes = ready.passes;
+      ending = end.NoEnd c.in-NoEnd.cycle;
+      traced = subst of_extra c.extra_of-extra.ensures c.in-NoEnd.ensures;
+      tells = c.tell_no_end.ensures;
+      calm = calm;
+      left = refl;
+    })
+
+pub returns-in-WriteFault : goal.returns-in-WriteFault
+returns-in-WriteFault g c = λ ch ready calm.
+    let s = c.args.simulation in
+    let m = module_of s.fitted.design in
+    let of_extra : ℕ → Type 0 = λ n. Traced (OfRunsOf m s.schema (plain_beats s.beats) Zero) (decimal_kinds m) (plain_beats s.beats) n (g.K.Sink.state c.args.out.now) (g.K.Sink.state c.trace.new.out) end.WriteFault in
+    Traced' (record {
+      schema = s.schema;
+      design = m;
+      beats = s.beats;
+      passes = ready.passes;
+      ending = end.WriteFault;
+      traced = subst of_extra c.extra_of-extra.ensures c.in-WriteFault.ensures;
+      tells = c.tell_write_fault.ensures;
+      calm = calm;
+      left = refl;
+    })
+
+pub returns-in-Memory : goal.returns-in-Memory
+returns-in-Memory g c = λ ch ready calm. Ended (record {
+  refusal = refusal.Memory;
+  cause = calm;
+  untouched = let P : SinkState → Type 0 = λ s. Took (g.K.Sink.state c.args.out.now) s [] in subst P (sym c.in-Memory.ensures) (took_none _);
+  noted = c.tell.ensures;
+  left = inl refl;
+})

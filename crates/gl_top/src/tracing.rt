@@ -1,0 +1,78 @@
+//! Running the Verilog text of a simulation.
+
+ghost use Rattle.std.specs.Prelude.{◌≡◌, []};
+ghost use Rattle.gl_outside.specs.States.{IsCalm};
+ghost use Rattle.gl_forms.specs.declared.command.Command.TheVariants.{Sim};
+ghost use Rattle.gl_forms.specs.Forms.{IsCommand};
+ghost use Rattle.gl_top.specs.Causes.{Change, change};
+ghost use Rattle.gl_top.specs.Passing.{CanTrace, IsTraceable};
+ghost use Rattle.gl_top.specs.Refusals.{puts};
+ghost use Rattle.gl_top.specs.Verdicts.{IsAnswer};
+
+use crate::notes::{Refusal, tell, tell_no_end, tell_write_fault};
+use crate::simulating::{Fitted, Simulation, judge_sim};
+use crate::status::Status;
+use gl_compiler::{Ending, trace};
+use gl_forms::extra_of;
+use gl_outside::{Shelf, Sink, Words};
+use gl_sim::Start;
+use std::alloc::Global;
+
+// Runs the module over the beats from all zero, writes the lines of the run, and notes how that failed
+// or that no end came.
+fn finish_trace<K: Sink, N: Sink>(
+    alloc: Global,
+    words: &Words,
+    simulation: Simulation,
+    out: &mut K,
+    notes: &mut N,
+) -> Status
+    requires { CanTrace simulation }
+    ensures { (c : Change) → IsTraceable c.old.told words.now simulation → IsCalm c.old c.new
+        → IsAnswer words.now c (puts (K.state out.old) (K.state out.new))
+        (puts (N.state notes.old) (N.state notes.new)) [] result }
+{
+    let Simulation {
+        schema,
+        fitted,
+        beats,
+    } = simulation;
+    let Fitted { design, ports } = fitted;
+    let extra = extra_of(words);
+    match trace(
+        alloc,
+        design,
+        &ports,
+        &schema,
+        &beats,
+        Start::Zero,
+        extra,
+        out,
+    ) {
+        Ending::Done => Status::Done,
+        Ending::NoEnd { cycle } => tell_no_end(notes, cycle),
+        Ending::WriteFault => tell_write_fault(notes),
+        Ending::Memory => tell(notes, words, &Refusal::Memory),
+    }
+}
+
+/// Judges the texts of `sim S V T`, and runs the Verilog text.
+pub(crate) fn answer_sim<S: Shelf, K: Sink, N: Sink>(
+    alloc: Global,
+    words: &Words,
+    shelf: &mut S,
+    out: &mut K,
+    notes: &mut N,
+) -> Status
+    requires sims { IsCommand words.now Sim }
+    requires names { (S.state shelf.old).names ≡ words.now }
+    ensures { let seen = change (S.state shelf.old) (S.state shelf.new) in
+        let made = puts (K.state out.old) (K.state out.new) in
+        let noted = puts (N.state notes.old) (N.state notes.new) in
+        IsAnswer words.now seen made noted [] result }
+{
+    match judge_sim(alloc, shelf, words) {
+        Ok(simulation) => finish_trace(alloc, words, simulation, out, notes),
+        Err(refusal) => tell(notes, words, &refusal),
+    }
+}
