@@ -1,4 +1,4 @@
-//! From the text of a module to the module, or the text's first fault.
+//! From the text of a module to the module and where its ports stand, or the text's first fault.
 #![tactic(auto)]
 
 ghost use Rattle.std.specs.Prelude.{◌≡◌, ◌<◌, length, IfOk, IfErr, MatchResult};
