@@ -3,6 +3,7 @@
 ghost use Rattle.std.specs.Prelude.{◌≡◌, ◌≤◌, map, sum_by};
 ghost use Rattle.std.specs.List.{AllByRecursion};
 ghost use Rattle.gl_verilog.specs.Cost as spec;
+ghost use Rattle.gl_verilog.specs.Valid.{IsValid};
 ghost use Rattle.gl_verilog.specs.View.{declaration_of, kind_of, module_of};
 ghost use Rattle.gl_verilog.specs.Widths.{HasSize};
 
@@ -67,9 +68,9 @@ fn all_memories(declarations: &[Declaration]) -> u128
     total
 }
 
-/// The bits that a module declares. Takes no memory.
+/// The bits that a valid module declares. Takes no memory.
 pub fn cost_of(design: &Module) -> Cost
-    requires { AllByRecursion HasSize (module_of design.now).declarations }
+    requires { IsValid (module_of design.now) }
     ensures registers { result.registers ≡ spec.register_bits (module_of design.now) }
     ensures memories { result.memories ≡ spec.memory_bits (module_of design.now) }
 {
