@@ -1,6 +1,6 @@
 -- The ports of a module of a text are found exactly where they are those of a schema and of a result.
-use Rattle.std.proofs.Common.{◌≡◌, ℕ, Bool, true, false, List, Option, Some, None, Result, Ok, inl, inr, refl, sym, ap, ◌∙◌, subst, codes, eq-eqb}
-use Rattle.std.specs.Prelude.{◌||◌, find, slice_get, option_map, unwrap_or, bytes_eq, nat_eq, IfSome, if◌then◌else◌}
+use Rattle.std.proofs.Common.{◌≡◌, ℕ, Bool, true, false, List, Option, Some, None, Result, Ok, Err, inl, inr, refl, sym, ap, ◌∙◌, subst, codes, eq-eqb}
+use Rattle.std.specs.Prelude.{◌||◌, find, slice_get, option_map, unwrap_or, bytes_eq, nat_eq, IfSome, IsOk, if◌then◌else◌}
 use Rattle.std.proofs.lemmas.Bool.{eqb-true}
 use Rattle.gl_bits.proofs.Bools.{and_left, and_right, and_both, or_left, or_right, or_cases, by_cases, bytes_same, bytes_own}
 use Rattle.gl_bits.proofs.Options.{some_same}
@@ -276,6 +276,20 @@ finds text m schema has fit =
     let end = output_there m out_eos fit.end in
     let there = are_needed (input_at all clk) (output_at all out_valid) (output_at all out_eos) (input_at all rst) (input_at all eos) (output_at all fault_group) (output_at all fault_queue) clock.0 valid.0 end.0 clock.1 valid.1 end.1 in
     (there.0, ap (λ (o : Option ℕ). unless_bad o (found_in all)) none ∙ there.1)
+
+-- ---- the same, of the answer alone
+
+pub fits_ok : (text : List ℕ) (m : Module) (schema : Schema) → HasModule text m → IsOk (fit_of m schema) → FitsSchema m schema
+fits_ok text m schema has ok = pick (fit_of m schema) refl ok
+  where
+    pick : (r : Result Ports Misfit) → fit_of m schema ≡ r → IsOk r → FitsSchema m schema
+    pick (Ok ports) e ok = fits text m schema ports has e
+    pick (Err misfit) e ok = absurd cc
+
+pub finds_ok : (text : List ℕ) (m : Module) (schema : Schema) → HasModule text m → FitsSchema m schema → IsOk (fit_of m schema)
+finds_ok text m schema has fit =
+    let there = finds text m schema has fit in
+    subst IsOk (sym there.1) refl
 
 -- ---- their numbers
 

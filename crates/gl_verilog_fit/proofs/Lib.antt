@@ -1,6 +1,7 @@
 mod Asked
-mod Declared
+pub mod Declared
 mod Judged
-mod Named
-mod Fits
+pub mod Named
+pub mod Fits
+pub mod Inputs
 mod Placed

@@ -3,3 +3,4 @@ pub mod Fit
 pub mod Steps
 pub mod Places
 pub mod Laws
+pub mod Worked
