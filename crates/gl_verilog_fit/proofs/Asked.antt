@@ -1,5 +1,5 @@
 -- What is looked for piece by piece is the name.
-use Rattle.std.proofs.Common.{◌≡◌, ℕ, Bool, true, false, List, [], ◌∷◌, ◌++◌, Option, Some, None, refl, sym, ap, ◌∙◌, codes, bytes_eq}
+use Rattle.std.proofs.Common.{◌≡◌, ℕ, Bool, true, false, List, [], ◌∷◌, ◌++◌, Option, Some, None, refl, sym, ap, ◌∙◌, codes, bytes_eq, append_assoc}
 use Rattle.std.specs.Prelude.{find, option_map, unwrap_or, nat_eq, ◌==◌, ◌&&◌, if◌then◌else◌}
 use Rattle.std.specs.Option.{option_map_or, option_or}
 use Rattle.std.proofs.lemmas.List.Folds.{find-append}
@@ -33,7 +33,8 @@ unfolding in_column
 column_is stream column name =
     behind_is (codes "in__") (stream ++ codes "__" ++ column) name (λ rest. option_map_or (λ more. option_map_or (λ last. bytes_eq column last) (behind (codes "__") more) false) (behind stream rest) false)
     (λ rest. behind_is stream (codes "__" ++ column) rest (λ more. option_map_or (λ last. bytes_eq column last) (behind (codes "__") more) false)
-    (λ more. behind_is (codes "__") column more (λ last. bytes_eq column last) (λ last. refl)))
+    (λ more. behind_is (codes "__") column more (λ last. bytes_eq column last) (λ last. refl))
+    ∙ ap (λ (x : List ℕ). bytes_eq x rest) (sym (append_assoc stream (codes "__") column)))
 
 -- of the first port of a name among these
 abbrev first : List ProfilePort → List ℕ → ℕ → Option Bool

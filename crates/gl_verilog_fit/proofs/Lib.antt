@@ -1,1 +1,7 @@
 mod Asked
+pub mod Declared
+mod Judged
+pub mod Named
+pub mod Fits
+pub mod Inputs
+mod Placed

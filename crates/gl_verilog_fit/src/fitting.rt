@@ -1,6 +1,7 @@
 //! The ports of a module, judged in their order.
 
-ghost use Rattle.std.specs.Prelude.{◌≡◌, ◌≤◌, map, length};
+ghost use Rattle.std.specs.Prelude.{◌≡◌, ◌+◌, ◌<◌, ◌^◌, map};
+ghost use Rattle.gl_verilog.specs.Run as run;
 ghost use Rattle.gl_verilog.specs.View.{declaration_of, kind_of, module_of};
 ghost use Rattle.gl_verilog_fit.specs.Fit as spec;
 ghost use Rattle.gl_verilog_fit.specs.Profile as profile;
@@ -14,9 +15,13 @@ use gl_verilog::{Declaration, Kind, Module};
 pub struct Ports {
     /// The clock.
     pub clock: usize,
+    /// The reset, where there is such an input.
+    pub reset: Option<usize>,
+    /// The end of the input, where there is such an input.
+    pub input_end: Option<usize>,
     /// Whether a row leaves.
     pub valid: usize,
-    /// The end.
+    /// The end of the result.
     pub end: usize,
     /// That a further group came, where there is such a line.
     pub group: Option<usize>,
@@ -34,7 +39,7 @@ pub enum Misfit {
 }
 
 fn is_input(kind: Kind) -> bool
-    ensures { result ≡ Rattle.gl_verilog.specs.Run.is_input (kind_of kind) }
+    ensures { result ≡ run.is_input (kind_of kind) }
 {
     matches!(kind, Kind::Input)
 }
@@ -83,6 +88,18 @@ fn is_bad(schema: &Schema, columns: usize, port: &Declaration) -> bool
     strange || crooked || wide
 }
 
+// The columns up to a port, it included.
+fn with_port(columns: usize, port: &Declaration) -> usize
+    requires { columns + 1 < 2 ^ 64 }
+    ensures { result ≡ spec.with_port columns (declaration_of port.now) }
+{
+    if shows_column(port) {
+        columns + 1
+    } else {
+        columns
+    }
+}
+
 // The first port that no module may have.
 fn first_bad(schema: &Schema, ports: &[Declaration]) -> Option<usize>
     ensures { result ≡ spec.first_bad schema.now 0 0 (map declaration_of ports.now) }
@@ -92,9 +109,7 @@ fn first_bad(schema: &Schema, ports: &[Declaration]) -> Option<usize>
         if is_bad(schema, columns, port) {
             return Some(number);
         }
-        if shows_column(port) {
-            columns += 1;
-        }
+        columns = with_port(columns, port);
     }
     None
 }
@@ -134,12 +149,10 @@ fn ports_of(design: &Module) -> &[Declaration]
 }
 
 // The ports, where none is bad and none is lacking.
-#[tactic(auto, unfolding(gl_schema::specs::Profile::clk, gl_schema::specs::Ports::out_valid, gl_schema::specs::Ports::out_eos, gl_schema::specs::Ports::fault_group, gl_schema::specs::Ports::fault_queue))]
+#[tactic(auto, unfolding(gl_schema::specs::Profile::clk, gl_schema::specs::Ports::rst, gl_schema::specs::Ports::eos, gl_schema::specs::Ports::out_valid, gl_schema::specs::Ports::out_eos, gl_schema::specs::Ports::fault_group, gl_schema::specs::Ports::fault_queue))]
 fn found_in(ports: &[Declaration]) -> Result<Ports, Misfit>
     ensures { result ≡ spec.found_in (map declaration_of ports.now) }
 {
-    let group = output_at(ports, b"fault__group");
-    let queue = output_at(ports, b"fault__queue");
     let Some(clock) = input_at(ports, b"clk") else {
         return Err(Misfit::Lacks);
     };
@@ -151,11 +164,20 @@ fn found_in(ports: &[Declaration]) -> Result<Ports, Misfit>
     };
     Ok(Ports {
         clock,
+        reset: input_at(ports, b"rst"),
+        input_end: input_at(ports, b"eos"),
         valid,
         end,
-        group,
-        queue,
+        group: output_at(ports, b"fault__group"),
+        queue: output_at(ports, b"fault__queue"),
     })
+}
+
+/// The number of the input port of a name; None where the module has no such input. Takes no memory.
+pub fn input_named(design: &Module, name: &[u8]) -> Option<usize>
+    ensures { result ≡ spec.input_at (profile.ports_of (module_of design.now)) name.now }
+{
+    input_at(ports_of(design), name)
 }
 
 /// The ports of a module, where they are those of a schema and of a result; else the first that no module may have, in their order, or,

@@ -4,6 +4,9 @@
 #![tactic(auto)]
 
 pub mod fitting;
+pub mod laws;
 mod names;
+pub mod port_fault;
 
-pub use fitting::{Misfit, Ports, find_ports};
+pub use fitting::{Misfit, Ports, find_ports, input_named};
+pub use port_fault::fit;

@@ -1,6 +1,7 @@
 -- What is answered for the tokens of a text, at their places, is answered for the text.
 use Rattle.std.proofs.Common.{◌≡◌, ℕ, zero, suc, ◌≤◌, ◌⊎◌, inl, inr, List, [], ◌∷◌, length, Some, Result, Ok, Err, refl, sym, subst, ◌∙◌, arith}
-use Rattle.std.specs.Prelude.{slice_get, IfOk, IfErr, MatchResult}
+use Rattle.std.specs.Prelude.{slice_get, IfErr, MatchResult}
+use Rattle.std.specs.List.{AllZip}
 use Rattle.std.specs.Result.{IsErrAnd}
 use Rattle.std.proofs.lemmas.List.{take_all}
 use Rattle.gl_verilog.specs.Tokens.{Token, tokens_of, IsPlaceOf}
@@ -8,7 +9,6 @@ use Rattle.gl_verilog.specs.Module as spec
 use Rattle.gl_verilog.specs.Written.{WrittenModule}
 use Rattle.gl_verilog.specs.Text.{IsSpelling, HasModule}
 use Rattle.gl_verilog.specs.View as meant
-use Rattle.gl_verilog.specs.declared.module.Module.{Module}
 use Rattle.gl_verilog_faults.specs.Demands.{Rule, Undeclared, TwiceDeclared, TwiceDriven, NeverDriven, WidthsDiffer, Loop, BadMemory, ClockRead, TooWide, BadTarget}
 use Rattle.gl_verilog_faults.specs.Faults.{IsSyntaxFault, IsDepthFault, IsJudgedFault, Verdict, IsModule, IsSyntax, IsTooDeep, Breaks, IsVerdict}
 use Rattle.gl_verilog_written.specs.declared.token.Lexeme.{Lexeme}
@@ -18,7 +18,10 @@ use Rattle.gl_verilog_written.specs.View.{tokens_in}
 use Rattle.gl_verilog_tokens.specs.Placed.{places_in, ArePlaces}
 use Rattle.gl_verilog_grammar.specs.Answers.{place_in, IsSyntaxAt, IsDeepAt, IsFaultOf}
 use Rattle.gl_verilog_grammar.proofs.Verdicts.{one_only}
-use Rattle.gl_verilog_reader.specs.Reading.{fault_as, ByRules, IsFaultIn, Shows, IsJudged}
+use Rattle.gl_verilog_elaborator.specs.Meant.{IsMeant}
+use Rattle.gl_verilog_reader.specs.declared.source.Source.{Source}
+use Rattle.gl_verilog_reader.specs.Reading.{fault_as, ByRules, IsFaultIn, Shows}
+use Rattle.gl_verilog_reader.specs.Sources.{port_tokens, IsAt, IsLocated, IsSource}
 
 -- ---- places
 
@@ -148,24 +151,39 @@ only_memory text m (fault.BadTarget at) h k = absurd (let e : IsModule m ≡ Bre
 pub only_module : (text : List ℕ) (m n : spec.Module) → HasModule text m → HasModule text n → m ≡ n
 only_module text m n h k = (let e : IsModule m ≡ IsModule n = no_fault text m (IsModule n) h k in cc)
 
--- ---- the whole
+-- ---- a module with its places
 
-pub found_in : (text : List ℕ) (xs : List Lexeme) (w : WrittenModule) (r : Result Module VerilogFault) → tokens_in xs ≡ tokens_of text → IsSpelling (tokens_in xs) w → IsJudged (places_in xs) w r → IfOk r (λ m. HasModule text (meant.module_of m))
-found_in text xs w (Ok m) e s h = record { written = w; spelled = sym e ∙ s.spelled; grammar = s.grammar; limits = s.limits; resolved = h.resolved; valid = h.valid }
-found_in text xs w (Err f) e s h = tt
+at_places : (text places tokens ys : List ℕ) → ArePlaces text places → AllZip (IsAt places) tokens ys → AllZip (IsPlaceOf text) tokens ys
+at_places text places [] [] are h = tt
+at_places text places [] (y ∷ ys) are h = absurd h
+at_places text places (k ∷ ks) [] are h = absurd h
+at_places text places (k ∷ ks) (y ∷ ys) are h = (are k y h.0, at_places text places ks ys are h.1)
 
-pub fault_in : (text : List ℕ) (xs : List Lexeme) (w : WrittenModule) (r : Result Module VerilogFault) → tokens_in xs ≡ tokens_of text → ArePlaces text (places_in xs) → IsSpelling (tokens_in xs) w → IsJudged (places_in xs) w r → IfErr r (IsFaultIn text)
-fault_in text xs w (Ok m) e places s h = tt
-fault_in text xs w (Err f) e places s h = judged_fault text xs w f e places s h
+pub source_in : (text : List ℕ) (xs : List Lexeme) (w : WrittenModule) (s : Source) → tokens_in xs ≡ tokens_of text → ArePlaces text (places_in xs) → IsSpelling (tokens_in xs) w → IsMeant w (meant.module_of s.design) → IsLocated (places_in xs) w s → IsSource text s
+source_in text xs w s e places spelling means located = record {
+  written = w;
+  spelled = sym e ∙ spelling.spelled;
+  grammar = spelling.grammar;
+  limits = spelling.limits;
+  resolved = means.resolved;
+  valid = means.valid;
+  name = places 1 s.name_at located.name;
+  ports = at_places text (places_in xs) (port_tokens 3 w.ports) s.ports_at places located.ports;
+}
 
-pub only_in : (text : List ℕ) (r : Result Module VerilogFault) → IfOk r (λ m. HasModule text (meant.module_of m)) → IfErr r (IsFaultIn text) → (m : spec.Module) → HasModule text m → MatchResult r (λ d. meant.module_of d ≡ m) (λ e. e ≡ fault.Memory)
-only_in text (Ok d) found f m h = only_module text (meant.module_of d) m found h
-only_in text (Err e) found f m h = only_memory text m e h f
+pub module_in : (text : List ℕ) (s : Source) → IsSource text s → HasModule text (meant.module_of s.design)
+module_in text s is = record { written = is.written; spelled = is.spelled; grammar = is.grammar; limits = is.limits; resolved = is.resolved; valid = is.valid }
 
 -- ---- what a refusal by `?` says
 
-pub refused_fault : (text : List ℕ) (xs : List Lexeme) (end' : ℕ) (r : Result Module VerilogFault) (x : VerilogFault) → IsErrAnd r (λ y. y ≡ x) → tokens_in xs ≡ tokens_of text → ArePlaces text (places_in xs) → end' ≡ length text
-    → (k : ℕ) × IsFaultOf x (tokens_in xs) (place_in xs end' k) k → IfErr r (IsFaultIn text)
-refused_fault text xs end' (Ok m) x h e places size f = tt
-refused_fault text xs end' (Err y) x h e places size f =
-    (let same : y ≡ x = h in subst (IsFaultIn text) (sym same) (read_fault text xs f.0 x e places (subst (λ (n : ℕ). IsFaultOf x (tokens_in xs) (place_in xs n f.0) f.0) size f.1)))
+pub fault_read : (text : List ℕ) (xs : List Lexeme) (end' : ℕ) (x : VerilogFault) → tokens_in xs ≡ tokens_of text → ArePlaces text (places_in xs) → end' ≡ length text
+    → (k : ℕ) × IsFaultOf x (tokens_in xs) (place_in xs end' k) k → IsFaultIn text x
+fault_read text xs end' x e places size f = read_fault text xs f.0 x e places (subst (λ (n : ℕ). IsFaultOf x (tokens_in xs) (place_in xs n f.0) f.0) size f.1)
+
+pub refused : {A : Type 0} (text : List ℕ) (r : Result A VerilogFault) (x : VerilogFault) → IsErrAnd r (λ y. y ≡ x) → IsFaultIn text x → IfErr r (IsFaultIn text)
+refused text (Ok a) x h f = absurd h
+refused text (Err y) x h f = (let same : y ≡ x = h in subst (IsFaultIn text) (sym same) f)
+
+pub only_refused : {A : Type 0} (Q : spec.Module → A → Type 0) (text : List ℕ) (r : Result A VerilogFault) (x : VerilogFault) → IsErrAnd r (λ y. y ≡ x) → IsFaultIn text x → (m : spec.Module) → HasModule text m → MatchResult r (Q m) (λ e. e ≡ fault.Memory)
+only_refused Q text (Ok a) x h f m has = absurd h
+only_refused Q text (Err y) x h f m has = (let same : y ≡ x = h in same ∙ only_memory text m x has f)

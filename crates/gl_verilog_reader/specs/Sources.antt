@@ -1,5 +1,5 @@
 -- A module that was read, with the places of its name and of its ports in the text.
-use Rattle.std.specs.Prelude.{◌≡◌, ℕ, ◌+◌, List, [], ◌∷◌, length, Some}
+use Rattle.std.specs.Prelude.{◌≡◌, ℕ, ◌+◌, List, [], ◌∷◌, length, Some, slice_get}
 use Rattle.std.specs.List.{AllZip}
 use Rattle.gl_verilog.specs.Tokens.{tokens_of, IsPlaceOf}
 use Rattle.gl_verilog.specs.Written.{WrittenPort, WrittenModule, IsWritten, spell, spell_port}
@@ -14,6 +14,15 @@ use Rattle.gl_verilog_reader.specs.declared.source.Source.{Source}
 abbrev pub port_tokens : ℕ → List WrittenPort → List ℕ
 port_tokens k [] = []
 port_tokens k (p ∷ ps) = (k + name_token p) ∷ port_tokens (k + length (spell_port p) + 1) ps
+
+-- the token of this number stands at this place
+abbrev pub IsAt : List ℕ → ℕ → ℕ → Type 0
+IsAt places token at = slice_get places token ≡ Some at
+
+-- the name stands behind `module`, the ports behind the name and a bracket, as the places of tokens tell
+pub record IsLocated (places : List ℕ) (w : WrittenModule) (s : Source) : Type 0 where
+  pub name : IsAt places 1 s.name_at
+  pub ports : AllZip (IsAt places) (port_tokens 3 w.ports) s.ports_at
 
 -- the module of a text; its name and each port's name stand at these places. The name stands behind `module`, the ports behind the name and
 -- a bracket

@@ -1,17 +1,19 @@
 //! From the text of a module to the module, or the text's first fault.
 #![tactic(auto)]
 
-ghost use Rattle.std.specs.Prelude.{◌≡◌, slice_get, IfOk, IfErr, MatchResult};
+ghost use Rattle.std.specs.Prelude.{◌≡◌, ◌<◌, length, IfOk, IfErr, MatchResult};
 ghost use Rattle.gl_verilog.specs.Module as spec;
-ghost use Rattle.gl_verilog.specs.Text.{HasModule};
+ghost use Rattle.gl_verilog.specs.Text.{HasModule, IsSpelling};
 ghost use Rattle.gl_verilog.specs.Written as grammar;
-ghost use Rattle.gl_verilog.specs.Written.{IsWritten};
 ghost use Rattle.gl_verilog.specs.View as meant;
 ghost use Rattle.gl_verilog_elaborator.specs.View.{rule_of};
 ghost use Rattle.gl_verilog_faults.specs.Faults.{IsBroken};
 ghost use Rattle.gl_verilog_reader.specs.Reading.{fault_as, ByRules, Shows, IsFaultIn, IsJudged};
+ghost use Rattle.gl_verilog_reader.specs.Sources.{IsSource};
 ghost use Rattle.gl_verilog_tokens.specs.Placed.{places_in};
-ghost use Rattle.gl_verilog_written.specs.View.{module_of};
+ghost use Rattle.gl_verilog_written.specs.View.{module_of, tokens_in};
+
+pub mod source;
 
 use gl_verilog::Module;
 use gl_verilog_elaborator::{Rule, Stop, elaborate};
@@ -19,6 +21,8 @@ use gl_verilog_grammar::read_tokens;
 use gl_verilog_tokens::lexemes;
 pub use gl_verilog_written::VerilogFault;
 use gl_verilog_written::{Lexeme, WrittenModule};
+pub use source::Source;
+use source::{located, place_of};
 use std::alloc::Global;
 
 // The fault of a rule at a place.
@@ -39,29 +43,18 @@ fn fault_of(rule: Rule, at: u64) -> VerilogFault
     }
 }
 
-// The place of a token by its number.
-fn place_of(lexemes: &[Lexeme], token: usize) -> Option<u64>
-    ensures { result ≡ slice_get (places_in lexemes.now) token }
-{
-    let lexeme = lexemes.get(token)?;
-    Some(lexeme.at as u64)
-}
-
 // The fault of a rule that is broken, as a token shows.
 fn fault_at(lexemes: &[Lexeme], rule: Rule, token: usize) -> VerilogFault
+    requires { token < length lexemes.now }
     ensures { (w : grammar.WrittenModule) → IsBroken w (rule_of rule) token
         → ByRules (Shows (places_in lexemes.now) w) result }
 {
-    match place_of(lexemes, token) {
-        Some(at) => fault_of(rule, at),
-        // The token is one of the text's, so this does not come.
-        None => VerilogFault::Memory,
-    }
+    fault_of(rule, place_of(lexemes, token))
 }
 
 // The module that is meant, or the first rule that is broken, at its token's place.
 fn judge(alloc: Global, lexemes: &[Lexeme], written: &WrittenModule) -> Result<Module, VerilogFault>
-    requires { IsWritten (module_of written.now) }
+    requires { IsSpelling (tokens_in lexemes.now) (module_of written.now) }
     ensures { IsJudged (places_in lexemes.now) (module_of written.now) result }
 {
     match elaborate(alloc, written) {
@@ -69,6 +62,20 @@ fn judge(alloc: Global, lexemes: &[Lexeme], written: &WrittenModule) -> Result<M
         Err(Stop::Memory) => Err(VerilogFault::Memory),
         Err(Stop::Broken { rule, token }) => Err(fault_at(lexemes, rule, token)),
     }
+}
+
+/// The module of a text with the places of its name and its ports, where there is one; else the
+/// text's first fault, kind and place. Want of memory may come in place of either.
+pub fn read_source(alloc: Global, text: &[u8]) -> Result<Source, VerilogFault>
+    ensures found { IfOk result (IsSource text.now) }
+    ensures fault { IfErr result (IsFaultIn text.now) }
+    ensures only { (m : spec.Module) → HasModule text.now m
+        → MatchResult result (λ s. meant.module_of s.design ≡ m) (λ e. e ≡ VerilogFault.Memory) }
+{
+    let lexemes = lexemes(alloc, text)?;
+    let written = read_tokens(alloc, &lexemes, text.len())?;
+    let design = judge(alloc, &lexemes, &written)?;
+    Ok(located(alloc, &lexemes, &written, design)?)
 }
 
 /// The module of a text, where there is one; else the text's first fault, kind and place. Want of
@@ -79,7 +86,6 @@ pub fn read_module(alloc: Global, text: &[u8]) -> Result<Module, VerilogFault>
     ensures only { (m : spec.Module) → HasModule text.now m
         → MatchResult result (λ d. meant.module_of d ≡ m) (λ e. e ≡ VerilogFault.Memory) }
 {
-    let lexemes = lexemes(alloc, text)?;
-    let written = read_tokens(alloc, &lexemes, text.len())?;
-    judge(alloc, &lexemes, &written)
+    let source = read_source(alloc, text)?;
+    Ok(source.design)
 }

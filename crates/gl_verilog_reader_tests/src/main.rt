@@ -5,12 +5,12 @@
 //! the line, and then the fault and its place, or `read`. `fronts T` does so for each proper front of T,
 //! those with one answer together. `value H T` reads a module that assigns T to an output of the bits
 //! from H to 0, and prints what T means; `blocks T` prints what the blocks of a module mean; `design T`
-//! prints all of a module. In a text `\065` is the byte 65, and `` `9*T` `` stands for nine times T.
-//! Every other line is a remark.
+//! prints all of a module; `source T` prints where its name and the names of its ports stand. In a
+//! text `\065` is the byte 65, and `` `9*T` `` stands for nine times T. Every other line is a remark.
 #![tactic(auto)]
 
 use gl_verilog::Module;
-use gl_verilog_reader::read_module;
+use gl_verilog_reader::{read_module, read_source};
 use std::alloc::{AllocError, Global};
 use std::io;
 
@@ -151,6 +151,18 @@ fn print_design(rt: &HostRuntime, line: &str, text: &str) -> io::Result<()> {
     println!(rt; "{:?}", design.blocks.as_slice())
 }
 
+fn print_source(rt: &HostRuntime, line: &str, text: &str) -> io::Result<()> {
+    println!(rt; "{line}")?;
+    let bytes = bytes_of(rt.alloc(), text)?;
+    match read_source(rt.alloc(), &bytes) {
+        Ok(source) => {
+            let name_at = source.name_at;
+            println!(rt; "{name_at} {:?}", source.ports_at.as_slice())
+        }
+        Err(fault) => println!(rt; "{fault:?}"),
+    }
+}
+
 fn main(rt: HostRuntime) -> io::Result<()> {
     for line in rt.lines(rt.alloc()) {
         let line = line?;
@@ -167,6 +179,7 @@ fn main(rt: HostRuntime) -> io::Result<()> {
             "value" => print_value(&rt, &line, text)?,
             "blocks" => print_blocks(&rt, &line, text)?,
             "design" => print_design(&rt, &line, text)?,
+            "source" => print_source(&rt, &line, text)?,
             _ => (),
         }
     }
