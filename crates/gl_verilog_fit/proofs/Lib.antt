@@ -4,4 +4,4 @@ mod Judged
 pub mod Named
 pub mod Fits
 pub mod Inputs
-mod Placed
+pub mod Placed
