@@ -74,7 +74,7 @@ ending_no_query ending notes answered h e = elim (ending_status ending notes ans
 ]
 
 module _ (words : List (List ℕ)) (c : Change) (out notes : Puts) (schema : Schema) (design : Module) (beats : List Beat) (passes : FilePasses c.old.told words schema design beats) (calm : IsCalm c.old c.new) where
-  IsSo : Ending → Type 0
+  abbrev IsSo : Ending → Type 0
   IsSo ending = Traced (OfRunsOf design schema (plain_beats beats) Zero) (decimal_kinds design) (plain_beats beats) (extra_of words) out.old out.new ending
 
   endless : (cycle : ℕ) → IsSo (end.NoEnd cycle) → Took notes.old notes.new (no_end_line cycle) → IsEndless words c out notes
@@ -98,11 +98,11 @@ module _ (words : List (List ℕ)) (c : Change) (out notes : Puts) (schema : Sch
   trace_says answered end.Memory h t = absurd t
 
   trace_completes : (answered : Status) (ending : Ending) → IsFaultless c out notes → IsSo ending → TellsEnding ending notes answered → Completes words c out notes answered
-  trace_completes answered end.Done no h t = Whole t.0
-  trace_completes answered (end.NoEnd cycle) no h (inl n) = Endless n.0 (endless cycle h n.1)
-  trace_completes answered (end.NoEnd cycle) no h (inr n) = absurd (no.notes' n.1.cause)
-  trace_completes answered end.WriteFault no h t = absurd (no.out' h.0)
-  trace_completes answered end.Memory no h t = absurd t
+  trace_completes answered end.Done fine h t = Whole t.0
+  trace_completes answered (end.NoEnd cycle) fine h (inl n) = Endless n.0 (endless cycle h n.1)
+  trace_completes answered (end.NoEnd cycle) fine h (inr n) = absurd (fine.notes' n.1.cause)
+  trace_completes answered end.WriteFault fine h t = absurd (fine.out' h.0)
+  trace_completes answered end.Memory fine h t = absurd t
 
 -- ---- of each answer
 

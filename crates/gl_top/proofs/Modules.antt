@@ -1,5 +1,7 @@
 -- What a Verilog text that was read says.
 use Rattle.std.proofs.Common.{◌≡◌, ◌≢◌, ℕ, List, Result, Ok, Err, inl, inr, refl, sym, ap, subst, ◌∙◌}
+use Rattle.std.specs.Prelude.{IfErr}
+use Rattle.std.specs.Result.{IsErrAnd}
 use Rattle.gl_outside.specs.States.{IsCalm}
 use Rattle.gl_outside.specs.Told.{Told}
 use Rattle.gl_schema.specs.declared.schema.Schema.{Schema}
@@ -65,6 +67,11 @@ port_fault s text (verilog.TooDeep at) is = absurd is
 
 pub fit_fault : (s : Schema) (text : List ℕ) (source : Source) (f : VerilogFault) → IsSource text source → Err f ≡ fit_at source s → IsModuleFaultOrMemory s text f
 fit_fault s text source f is e = port_fault s text f (placed.told text source s f is (sym e))
+
+-- by a call whose fault is handed on
+pub handed : {A : Type 0} (P : VerilogFault → Type 0) (r : Result A VerilogFault) (f : VerilogFault) → IsErrAnd r (λ g. g ≡ f) → P f → IfErr r P
+handed P (Ok a) f h p = absurd h
+handed P (Err g) f h p = (let same : g ≡ f = h in subst P (sym same) p)
 
 -- ---- what it says of the words
 

@@ -114,10 +114,10 @@ pub schema_passes : (told : List ℕ → Told) (words : List (List ℕ)) (v : Li
 schema_passes told words v s named h is = record { named = named; fine = is.schema'; text = has_text told words part.Schema (λ text. IsSchemaText text s) v h is }
 
 -- of a query that is refused
-bad_query : (words : List (List ℕ)) (c : Change) (v : List ℕ) (s : Schema) (f : QueryFault) → IsCalm c.old c.new → IsNamed words part.Query → SchemaPasses c.old.told words s → HasText c.old.told words part.Query (λ text. v ≡ text) → IsQueryFault s v f → HasCause words c (query_refusal (compile.Query f))
+pub bad_query : (words : List (List ℕ)) (c : Change) (v : List ℕ) (s : Schema) (f : QueryFault) → IsCalm c.old c.new → IsNamed words part.Query → SchemaPasses c.old.told words s → HasText c.old.told words part.Query (λ text. v ≡ text) → IsQueryFault s v f → HasCause words c (query_refusal (compile.Query f))
 bad_query words c v s f calm named before h is = (record { named = named; schema = s; before = before; text = has_text c.old.told words part.Query (λ text. IsQueryFault s text f) v h is }, calm)
 
-over_limit : (words : List (List ℕ)) (c : Change) (v : List ℕ) (s : Schema) (l : Limit) → IsCalm c.old c.new → IsNamed words part.Query → SchemaPasses c.old.told words s → HasText c.old.told words part.Query (λ text. v ≡ text) → IsOverLimit s v l → HasCause words c (query_refusal (compile.Limit l))
+pub over_limit : (words : List (List ℕ)) (c : Change) (v : List ℕ) (s : Schema) (l : Limit) → IsCalm c.old c.new → IsNamed words part.Query → SchemaPasses c.old.told words s → HasText c.old.told words part.Query (λ text. v ≡ text) → IsOverLimit s v l → HasCause words c (query_refusal (compile.Limit l))
 over_limit words c v s l calm named before h is = (record { named = named; schema = s; before = before; text = has_text c.old.told words part.Query (λ text. IsOverLimit s text l) v h is }, calm)
 
 pub query_cause : (words : List (List ℕ)) (c : Change) (v : List ℕ) (s : Schema) (fault : CompileFault) → IsCalm c.old c.new → IsNamed words part.Query → SchemaPasses c.old.told words s → HasText c.old.told words part.Query (λ text. v ≡ text) → IsQueryRefused s v fault → HasCause words c (query_refusal fault)

@@ -1,14 +1,15 @@
 //! The whole program over memory, from bytes to bytes: `stdin` has its rows, `stdout` what each
 //! comes to.
 //!
-//! A line `schema TEXT` or `tuples TEXT` sets a text (a space in `tuples` parts two records),
-//! `without schema` and `without tuples` take it away, and `fail F P N` has the fetch, the put and
-//! the note of these numbers fail (0 for none). A line `query TEXT` runs `run S Q T`, and a line
-//! `explain TEXT` runs `explain S Q`: the query is printed, and then the status, what was written
-//! and what was noted, parted by `|`. A line `root TEXT` runs `explain S Q` too, and prints the
-//! line of the root's node alone. Lines `compile TEXT`, `figures TEXT` and `start TEXT` run
-//! `compile S Q`, `figures S Q` and `run --start 12345 S Q T`, and a line `load WORD WORD` runs
-//! `load` with these words, of which either may be missing. Every other line is a remark.
+//! A line `schema TEXT`, `verilog TEXT` or `tuples TEXT` sets a text (a space in `tuples` parts two
+//! records), `without schema`, `without verilog` and `without tuples` take it away, and `fail F P N`
+//! has the fetch, the put and the note of these numbers fail (0 for none). A line `query TEXT` runs
+//! `run S Q T`, and a line `explain TEXT` runs `explain S Q`: the query is printed, and then the
+//! status, what was written and what was noted, parted by `|`. A line `root TEXT` runs `explain S Q`
+//! too, and prints the line of the root's node alone. Lines `compile TEXT`, `figures TEXT`, `start
+//! TEXT` and `option WORD TEXT` run `compile S Q`, `figures S Q`, `run --start 12345 S Q T` and `run S
+//! Q T WORD`. A line `sim WORD WORD` runs `sim S V T`, and a line `load WORD WORD` runs `load`, with
+//! these words, of which either may be missing. Every other line is a remark.
 #![tactic(auto)]
 
 ghost use Rattle.std.specs.Prelude.{◌≡◌, ◌++◌, ◌==◌, IfOk, OnOk, ◌∷◌, [], codes, length, if◌then◌else◌};
@@ -21,10 +22,11 @@ use std::io;
 // Bytes that a sink takes at most.
 const ROOM: usize = 100_000;
 
-// The texts of the schema and of the tuple file, and the numbers of the calls that fail.
+// The texts of the schema, of the module and of the tuple file, and the numbers of the calls that fail.
 #[derive(Drop)]
 struct Row {
     schema: Option<String>,
+    verilog: Option<String>,
     tuples: Option<String>,
     failing: Failing,
 }
@@ -97,6 +99,20 @@ fn start_words(alloc: Global) -> Result<Words, Memory>
     Ok(words)
 }
 
+// The words `run S Q T` and an option.
+fn option_words(alloc: Global, option: &str) -> Result<Words, Memory>
+    ensures { IfOk result (λ words. words ≡ codes "run" ∷ codes "S" ∷ codes "Q" ∷ codes "T"
+        ∷ option.now ∷ []) }
+{
+    let mut words = Words::new(alloc);
+    words.push("run")?;
+    words.push("S")?;
+    words.push("Q")?;
+    words.push("T")?;
+    words.push(option)?;
+    Ok(words)
+}
+
 // Adds a word, if there is one.
 fn push_some(words: &mut Words, word: &str) -> Result<(), Memory>
     ensures { OnOk result (words.new
@@ -121,6 +137,23 @@ fn load_words(alloc: Global, first: &str, second: &str) -> Result<Words, Memory>
     Ok(words)
 }
 
+// The words `sim S V T` and up to two more.
+fn sim_words(alloc: Global, first: &str, second: &str) -> Result<Words, Memory>
+    ensures { IfOk result (λ words. words
+        ≡ (codes "sim" ∷ codes "S" ∷ codes "V" ∷ codes "T" ∷ [])
+        ++ (if length first.now == 0 then [] else first.now ∷ [])
+        ++ (if length second.now == 0 then [] else second.now ∷ [])) }
+{
+    let mut words = Words::new(alloc);
+    words.push("sim")?;
+    words.push("S")?;
+    words.push("V")?;
+    words.push("T")?;
+    push_some(&mut words, first)?;
+    push_some(&mut words, second)?;
+    Ok(words)
+}
+
 // Holds a text, if it is there.
 fn hold(shelf: &mut MemoryShelf, name: &str, text: &Option<String>) -> Result<(), Memory>
     ensures { shelf.new.held.names ≡ shelf.old.held.names }
@@ -137,6 +170,7 @@ fn shelf_with(alloc: Global, names: Words, row: &Row, query: &str) -> Result<Mem
 {
     let mut shelf = MemoryShelf::new(alloc, names);
     hold(&mut shelf, "S", &row.schema)?;
+    hold(&mut shelf, "V", &row.verilog)?;
     shelf.hold("Q", query.as_bytes())?;
     hold(&mut shelf, "T", &row.tuples)?;
     shelf.fail(row.failing.fetch)?;
@@ -205,6 +239,21 @@ fn started_of(alloc: Global, row: &Row, query: &str) -> Result<Told, Memory> {
     told_by(alloc, &words, &mut shelf, row)
 }
 
+// What `run S Q T` comes to with this option.
+fn optioned_of(alloc: Global, row: &Row, option: &str, query: &str) -> Result<Told, Memory> {
+    let words = option_words(alloc, option)?;
+    let mut shelf = shelf_with(alloc, option_words(alloc, option)?, row, query)?;
+    told_by(alloc, &words, &mut shelf, row)
+}
+
+// What `sim S V T` comes to with these words.
+fn simulated_of(alloc: Global, row: &Row, text: &str) -> Result<Told, Memory> {
+    let (first, second) = text.split_once(' ').unwrap_or((text, ""));
+    let words = sim_words(alloc, first, second)?;
+    let mut shelf = shelf_with(alloc, sim_words(alloc, first, second)?, row, "")?;
+    told_by(alloc, &words, &mut shelf, row)
+}
+
 // What `load` comes to with these words.
 fn loaded_of(alloc: Global, row: &Row, text: &str) -> Result<Told, Memory> {
     let (first, second) = text.split_once(' ').unwrap_or((text, ""));
@@ -231,10 +280,10 @@ fn failing_of(text: &str) -> Failing {
 
 // Takes a text away.
 fn without(row: &mut Row, name: &str) {
-    if name == "schema" {
-        row.schema = None;
-    } else {
-        row.tuples = None;
+    match name {
+        "schema" => row.schema = None,
+        "verilog" => row.verilog = None,
+        _ => row.tuples = None,
     }
 }
 
@@ -263,6 +312,7 @@ fn print_told(
 fn main(rt: HostRuntime) -> io::Result<()> {
     let mut row = Row {
         schema: None,
+        verilog: None,
         tuples: None,
         failing: failing_of(""),
     };
@@ -271,6 +321,7 @@ fn main(rt: HostRuntime) -> io::Result<()> {
         let (command, text) = line.split_once(' ').unwrap_or((line.as_str(), ""));
         match command {
             "schema" => row.schema = Some(text.to_string(rt.alloc())?),
+            "verilog" => row.verilog = Some(text.to_string(rt.alloc())?),
             "tuples" => row.tuples = Some(text.replace(rt.alloc(), ' ', "\n")?),
             "without" => without(&mut row, text),
             "fail" => row.failing = failing_of(text),
@@ -279,6 +330,12 @@ fn main(rt: HostRuntime) -> io::Result<()> {
             "compile" => print_told(&rt, text, compiled_of(rt.alloc(), &row, text), false)?,
             "figures" => print_told(&rt, text, figures_of(rt.alloc(), &row, text), false)?,
             "start" => print_told(&rt, text, started_of(rt.alloc(), &row, text), false)?,
+            "option" => {
+                let (option, query) = text.split_once(' ').unwrap_or((text, ""));
+                let told = optioned_of(rt.alloc(), &row, option, query);
+                print_told(&rt, text, told, false)?
+            }
+            "sim" => print_told(&rt, text, simulated_of(rt.alloc(), &row, text), false)?,
             "load" => print_told(&rt, text, loaded_of(rt.alloc(), &row, text), false)?,
             "root" => print_told(&rt, text, explained_of(rt.alloc(), &row, text), true)?,
             _ => (),

@@ -61,8 +61,8 @@ returns-in-WriteFault g c = λ ch ready calm.
       left = refl;
     })
 
-pub returns-in-Memory : goal.returns-in-Memory
-returns-in-Memory g c = λ ch ready calm. Ended (record {
+pub returns : goal.returns
+returns g c = λ ch ready calm. Ended (record {
   refusal = refusal.Memory;
   cause = calm;
   untouched = let P : SinkState → Type 0 = λ s. Took (g.K.Sink.state c.args.out.now) s [] in subst P (sym c.in-Memory.ensures) (took_none _);
