@@ -37,7 +37,7 @@ use Rattle.gl_top.specs.Refusals.{status_of}
 use Rattle.gl_top.specs.Verdicts.{AllPass, IsTelling, Loads, OfFile, Three, Two}
 use Rattle.gl_forms.proofs.Named.{form_of, load_names_none, named_form, one_command, sim_names_no_query}
 use Rattle.gl_top.proofs.Modules.{module_goes}
-use Rattle.gl_top.proofs.Texts.{run_names_query, run_names_tuples, sim_names_module, sim_names_tuples}
+use Rattle.gl_top.proofs.Texts.{run_names_tuples, sim_names_module, sim_names_tuples}
 
 -- a text of at most 64 MiB with a property
 abbrev pub Fine : Told → (List ℕ → Type 0) → Type 0

@@ -35,7 +35,7 @@ use Rattle.gl_forms.specs.declared.command.Command.TheVariants.{Explain, Run, Si
 use Rattle.gl_forms.specs.Forms.{IsCommand, IsForm, IsNamed, command_of, name_of}
 use Rattle.gl_top.specs.declared.notes.Refusal.TheVariants as refusal
 use Rattle.gl_top.specs.Passing.{HasText, SchemaPasses, QueryPasses, ModulePasses, FilePasses, kept_beats}
-use Rattle.gl_top.specs.Causes.{PassBeforeTuples, OfRun, OfSim, IsNext, IsBadSchema, AreBadTuples, ToRun, ToSim, Change, change, HasCause, read_refusal, schema_refusal, query_refusal, tuples_refusal}
+use Rattle.gl_top.specs.Causes.{OfRun, OfSim, IsNext, IsBadSchema, AreBadTuples, ToRun, ToSim, Change, change, HasCause, read_refusal, schema_refusal, query_refusal, tuples_refusal}
 
 -- the texts of a command that its words name
 pub run_names_query : (words : List (List ℕ)) → IsCommand words Run → IsNamed words part.Query

@@ -2,7 +2,6 @@
 
 ghost use Rattle.std.specs.Prelude.{◌≡◌, IfErr, IfOk};
 ghost use Rattle.gl_outside.specs.States.{Stays};
-ghost use Rattle.gl_schema.specs.Schemas.{IsSchema};
 ghost use Rattle.gl_verilog.specs.View.{module_of};
 ghost use Rattle.gl_forms.specs.declared.command.Command.TheVariants.{Sim};
 ghost use Rattle.gl_forms.specs.Forms.{IsCommand};
