@@ -1,5 +1,6 @@
 -- From the run that was followed to each run of the text's module.
 use Rattle.std.proofs.Common.{◌≡◌, ℕ, List, Result, Ok, Err, IsErrAnd, sym, subst, map}
+use Rattle.std.specs.Prelude.{IsOk}
 use Rattle.gl_bits.specs.declared.kind.Kind.{Kind}
 use Rattle.gl_bits.specs.Kinds.{width_of}
 use Rattle.gl_schema.specs.declared.schema.Schema.{Schema}
@@ -22,7 +23,9 @@ use Rattle.gl_compiler.specs.declared.executing.Outcome.{Outcome}
 use Rattle.gl_compiler.specs.declared.executing.Outcome.TheVariants.{Done, WriteFault, Memory}
 use Rattle.gl_compiler.specs.Cycles.{CanFollow, IsFollowed, WritesBy, OfTimely}
 use Rattle.gl_compiler.specs.Prints.{CanRun, EndsWithin, IsRunOver, OfEachRun, Ran, Writes, WritesFront}
-use Rattle.gl_verilog_fit.specs.Profile.{FitsSchema, result_names, result_widths}
+use Rattle.gl_verilog_fit.specs.Fit.{fit_of}
+use Rattle.gl_verilog_fit.specs.Profile.{result_names, result_widths}
+use Rattle.gl_verilog_fit.proofs.Fits.{fits_ok}
 
 -- what is known where the sink failed
 pub by_err : {E : Type 0} (P : E → Type 0) (kinds : List Kind) (beats : List Beat) (outs : List (List ℕ)) (port : PortValues) (a b : SinkState) (r : Result (Unit {0}) E) → IsErrAnd r P → WritesFront kinds beats outs port a.taken b.taken → WritesBy kinds beats outs port a b r
@@ -50,7 +53,7 @@ can_follow text schema kinds beats latency start d can has are =
     record {
       text = text;
       has = has;
-      fits = subst (λ (m : Module). FitsSchema m schema) mine can.fits;
+      fits = fits_ok text (module_of d) schema has (subst (λ (m : Module). IsOk (fit_of m schema)) mine can.fits);
       widths = subst (λ (m : Module). result_widths m ≡ map width_of kinds) mine can.widths;
       beats' = are;
     }

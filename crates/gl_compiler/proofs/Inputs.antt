@@ -21,7 +21,7 @@ use Rattle.gl_schema.specs.Profile.{input_ports}
 use Rattle.gl_schema.proofs.Pinned.{pins_fit}
 use Rattle.gl_verilog_fit.specs.Profile.{FitsSchema, input_width, ports_of}
 use Rattle.gl_compiler.proofs.Carries.{Fact, OfBoth, IsNarrow, found, zip_all}
-use Rattle.gl_compiler.proofs.Declared as declared
+use Rattle.gl_verilog_fit.proofs.Declared as declared
 
 kind_is_input : (k : Kind) → is_input k ≡ true → k ≡ Input
 kind_is_input Input e = refl

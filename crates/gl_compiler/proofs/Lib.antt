@@ -11,7 +11,6 @@ pub mod Existing
 pub mod Meeting
 pub mod Unbound
 pub mod Ready
-pub mod Declared
 pub mod Carries
 pub mod Inputs
 pub mod Outputs

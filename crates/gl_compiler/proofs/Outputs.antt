@@ -15,7 +15,7 @@ use Rattle.gl_verilog.proofs.Fits.{in_range, width_at-found}
 use Rattle.gl_compiler.specs.declared.pins.Shows.{Shows}
 use Rattle.gl_compiler.specs.Benches.{columns_from, AreShows}
 use Rattle.gl_verilog_fit.specs.Profile.{FitsSchema, HasLine, IsLine, is_output, shows_column, ports_of, port_named, result_names, result_widths}
-use Rattle.gl_compiler.proofs.Declared.{number_at, distinct_take, get_take}
+use Rattle.gl_verilog_fit.proofs.Declared.{number_at, distinct_take, get_take}
 use Rattle.gl_bits.proofs.AllLists.{map_map}
 use Rattle.gl_bits.proofs.Bools.{bytes_same}
 
