@@ -22,6 +22,7 @@ pub mod OverflowRuns
 pub mod Making
 pub mod Running
 pub mod Each
+pub mod Decimals
 pub mod Shaped
 pub mod Refusing
 pub mod Made

@@ -1,11 +1,12 @@
 -- Cycle by cycle: what was written so far, and where the end is.
-use Rattle.std.proofs.Common.{◌≡◌, ℕ, zero, suc, ◌+◌, ◌-◌, ◌<◌, ◌≤◌, inl, inr, Bool, true, false, ◌||◌, List, [], ◌∷◌, ◌++◌, Option, refl, sym, ap, ◌∙◌, subst, arith, append_assoc, add-one}
+use Rattle.std.proofs.Common.{◌≡◌, ℕ, zero, suc, ◌+◌, ◌-◌, ◌<◌, ◌≤◌, inl, inr, Bool, true, false, ◌||◌, List, [], ◌∷◌, ◌++◌, Option, Result, Ok, Err, refl, sym, ap, ◌∙◌, subst, arith, append_assoc, add-one}
+use Rattle.std.specs.Prelude.{◌⊎◌, is_err}
 use Rattle.std.specs.List.{list_any}
 use Rattle.std.proofs.lemmas.List.{append-nil}
 use Rattle.std.proofs.lemmas.Bool.{cases_lt, cases_eq}
 use Rattle.gl_bits.proofs.Bools.{or_join, or_none}
 use Rattle.gl_bits.specs.declared.kind.Kind.{Kind}
-use Rattle.gl_outside.specs.States.{Appends, AppendsFront}
+use Rattle.gl_outside.specs.States.{Appends, AppendsFront, Broke, SinkState, Took, Wrote}
 use Rattle.gl_outside.proofs.Takes.{appends_none, appends_then, front_then, front_more}
 use Rattle.gl_schema.specs.declared.schema.Schema.{Schema}
 use Rattle.gl_schema.specs.Beats.{Beat, last_cycle}
@@ -16,8 +17,18 @@ use Rattle.gl_verilog.specs.Run.{port_of}
 use Rattle.gl_sim.specs.Simulation.{Simulation}
 use Rattle.gl_compiler.specs.declared.looking.Looked.{Looked}
 use Rattle.gl_compiler.specs.Cycles.{IsFollowed, IsMade, looked_at}
-use Rattle.gl_compiler.specs.Prints.{Writes, WritesFront, EndsWithin}
+use Rattle.gl_compiler.specs.Traces.{IsLastRun, TracesFront, TracesToEnd, TracesOut}
 use Rattle.gl_verilog_fit.specs.Profile.{result_names}
+
+-- ---- whether all was written
+
+pub wrote_all : {E : Type 0} (a b : SinkState) (bytes : List ℕ) (r : Result (Unit {0}) E) → is_err r ≡ false → Wrote a b bytes r → Took a b bytes
+wrote_all a b bytes (Ok u) e w = w
+wrote_all a b bytes (Err x) e w = absurd cc
+
+pub wrote_front : {E : Type 0} (a b : SinkState) (bytes : List ℕ) (r : Result (Unit {0}) E) → is_err r ≡ true → Wrote a b bytes r → Broke a b bytes
+wrote_front a b bytes (Ok u) e w = absurd cc
+wrote_front a b bytes (Err x) e w = w
 
 -- ---- the cycles before one
 
@@ -68,34 +79,36 @@ lines_front kinds port outs n (suc j) =
 
 -- ---- the first end
 
-record IsFirst (f : ℕ → Bool) (from at : ℕ) : Type 0 where
+record IsFirst (f : ℕ → Bool) (from far : ℕ) : Type 0 where
   place : ℕ
   low : from ≤ place
-  high : place ≤ at
+  high : place ≤ far
   is : f place ≡ true
   first : (k : ℕ) → from ≤ k → k < place → f k ≡ false
 
-first_end : (f : ℕ → Bool) (j from : ℕ) → f (from + j) ≡ true → IsFirst f from (from + j)
-first_end f zero from e =
-    let same : from + 0 ≡ from = omega arith in
-    record { place = from; low = omega arith; high = omega arith; is = rw same at e; first = λ k le lt. absurd (omega arith) }
-first_end f (suc j) from e =
-    let same : from + suc j ≡ suc from + j = omega arith in
-    let later = first_end f j (suc from) (rw same at e) in
-    pick (f from) refl later same
+IsNone : (ℕ → Bool) → ℕ → ℕ → Type 0
+IsNone f from far = (k : ℕ) → from ≤ k → k ≤ far → f k ≡ false
+
+-- none before the last of these: it is the first, or there is none
+at_last : (f : ℕ → Bool) (from far : ℕ) → from ≤ far → ((k : ℕ) → from ≤ k → k < far → f k ≡ false) → IsFirst f from far ⊎ IsNone f from far
+unfolding IsNone
+at_last f from far le none = pick (f far) refl
   where
-    pick : (b : Bool) → f from ≡ b → IsFirst f (suc from) (suc from + j) → from + suc j ≡ suc from + j → IsFirst f from (from + suc j)
-    pick true q later same = record { place = from; low = omega arith; high = omega arith; is = q; first = λ k le lt. absurd (omega arith) }
-    pick false q later same = record {
-      place = later.place;
-      low = omega (arith, later.low);
-      high = omega (arith, later.high, same);
-      is = later.is;
-      first = λ k le lt. (elim (cases_eq k from) [
-        | inl e ↦ subst (λ (x : ℕ). f x ≡ false) (sym e) q
-        | inr e ↦ later.first k (omega (arith, e, le)) lt
-      ]);
-    }
+    pick : (b : Bool) → f far ≡ b → IsFirst f from far ⊎ IsNone f from far
+    pick true q = inl (record { place = far; low = le; high = omega arith; is = q; first = none })
+    pick false q = inr (λ k low high. (elim (cases_eq k far) [
+      | inl e ↦ subst (λ (x : ℕ). f x ≡ false) (sym e) q
+      | inr e ↦ none k low (omega (arith, e, high))
+    ]))
+
+-- the first end in so many cycles, or that there is none
+first_end : (f : ℕ → Bool) (from j : ℕ) → IsFirst f from (from + j) ⊎ IsNone f from (from + j)
+unfolding IsNone
+first_end f from zero = at_last f from (from + 0) (omega arith) (λ k le lt. absurd (omega (arith, le, lt)))
+first_end f from (suc j) = (elim (first_end f from j) [
+  | inl e ↦ inl (record { place = e.place; low = e.low; high = omega (arith, e.high); is = e.is; first = e.first })
+  | inr none ↦ at_last f from (from + suc j) (omega arith) (λ k le lt. none k le (omega (arith, lt)))
+])
 
 -- ---- on the way
 
@@ -141,53 +154,65 @@ under_way_more m s s' schema kinds beats told told' l row n old mid new value wo
     }
 
 -- the end
-pub under_way_done : (m : Module) (s s' : Simulation) (schema : Schema) (kinds : List Kind) (beats : List Beat) (told : Bool) (l : Looked) (row : List ℕ) (n : ℕ) (old mid new : Option (List ℕ)) (value : ℕ → Nets) (word : ℕ → Memories)
+pub under_way_done : (m : Module) (s s' : Simulation) (schema : Schema) (kinds : List Kind) (beats : List Beat) (told : Bool) (l : Looked) (row : List ℕ) (n extra : ℕ) (old mid new : Option (List ℕ)) (value : ℕ → Nets) (word : ℕ → Memories)
     → IsUnderWay m s schema kinds beats told n old mid value word → IsMade m s' schema beats l row n value word → Appends mid new (cycle_lines kinds told (looked_at l n row))
-    → l.end ≡ true → last_cycle beats ≤ n → Writes kinds beats (result_names m) (port_of m value) old new
-under_way_done m s s' schema kinds beats told l row n old mid new value word u made w ends le = record {
-  bytes = lines kinds (seen (port_of m value) (result_names m) n);
-  are = record {
-    ended = n;
+    → l.end ≡ true → last_cycle beats ≤ n → n ≤ last_cycle beats + extra → TracesToEnd kinds beats extra (result_names m) (port_of m value) old new
+under_way_done m s s' schema kinds beats told l row n extra old mid new value word u made w ends le soon = record {
+  last = n;
+  ends = record {
     is = record { soonest = le; ends = sym made.end' ∙ ends; first = u.none };
-    all = refl;
+    in_time = soon;
   };
   taken = rw (seen_is (port_of m value) (result_names m) n) (all_written m s s' schema kinds beats told l row n old mid new value word u made w);
 }
 
--- no run that ends in time comes so far
-pub under_way_past : (m : Module) (s : Simulation) (schema : Schema) (kinds : List Kind) (beats : List Beat) (told : Bool) (n latency : ℕ) (old new : Option (List ℕ)) (value : ℕ → Nets) (word : ℕ → Memories)
-    → IsUnderWay m s schema kinds beats told n old new value word → EndsWithin latency beats (result_names m) (port_of m value) → last_cycle beats + latency < n → ⊥
-under_way_past m s schema kinds beats told n latency old new value word u e lt =
-    let none : (shown (port_of m value) (result_names m) e.ended).end ≡ false = u.none e.ended e.soonest (omega (arith, e.in_time, lt)) in
-    let ends : (shown (port_of m value) (result_names m) e.ended).end ≡ true = e.ends in
-    cc
+-- no end came in any of the cycles
+pub under_way_out : (m : Module) (s : Simulation) (schema : Schema) (kinds : List Kind) (beats : List Beat) (told : Bool) (n extra far : ℕ) (old new : Option (List ℕ)) (value : ℕ → Nets) (word : ℕ → Memories)
+    → IsUnderWay m s schema kinds beats told n old new value word → far ≡ last_cycle beats + extra → n ≡ suc far → TracesOut kinds beats extra far (result_names m) (port_of m value) old new
+under_way_out m s schema kinds beats told n extra far old new value word u last next = record {
+  out = record { last = last; none = λ k le up. u.none k le (omega (arith, last, next, up)) };
+  taken = rw (seen_is (port_of m value) (result_names m) far) (subst (λ (k : ℕ). Appends old new (lines kinds (seen_below (port_of m value) (result_names m) k))) next u.written);
+}
+
+-- the last cycle that is run, where no end came before cycle n
+record IsLastFrom (beats : List Beat) (outs : List (List ℕ)) (port : PortValues) (extra n : ℕ) : Type 0 where
+  place : ℕ
+  is : IsLastRun beats outs port extra place
+  here : n ≤ place
+
+last_from : (beats : List Beat) (outs : List (List ℕ)) (port : PortValues) (extra n : ℕ) → ((k : ℕ) → last_cycle beats ≤ k → k < n → (shown port outs k).end ≡ false) → n ≤ last_cycle beats + extra → IsLastFrom beats outs port extra n
+unfolding IsNone
+last_from beats outs port extra n none soon = (elim (first_end (λ k. (shown port outs k).end) (last_cycle beats) extra) [
+  | inl e ↦ record {
+    place = e.place;
+    is = inl (record { is = record { soonest = e.low; ends = e.is; first = e.first }; in_time = e.high });
+    here = not_before n e.place (λ lt. (let no' : (shown port outs e.place).end ≡ false = none e.place e.low lt in let yes' : (shown port outs e.place).end ≡ true = e.is in cc));
+  }
+  | inr e ↦ record { place = last_cycle beats + extra; is = inr (record { last = refl; none = e }); here = soon }
+])
+  where
+    not_before : (a b : ℕ) → (b < a → ⊥) → a ≤ b
+    not_before a b h = (elim (cases_lt b a) [ inl lt ↦ absurd (h lt) | inr le ↦ le ])
 
 -- the sink failed
-pub under_way_cut : (m : Module) (s s' : Simulation) (schema : Schema) (kinds : List Kind) (beats : List Beat) (told : Bool) (l : Looked) (row : List ℕ) (n latency : ℕ) (old mid new : Option (List ℕ)) (value : ℕ → Nets) (word : ℕ → Memories)
+pub under_way_cut : (m : Module) (s s' : Simulation) (schema : Schema) (kinds : List Kind) (beats : List Beat) (told : Bool) (l : Looked) (row : List ℕ) (n extra : ℕ) (old mid new : Option (List ℕ)) (value : ℕ → Nets) (word : ℕ → Memories)
     → IsUnderWay m s schema kinds beats told n old mid value word → IsMade m s' schema beats l row n value word → AppendsFront mid new (cycle_lines kinds told (looked_at l n row))
-    → EndsWithin latency beats (result_names m) (port_of m value) → WritesFront kinds beats (result_names m) (port_of m value) old new
-under_way_cut m s s' schema kinds beats told l row n latency old mid new value word u made w e =
+    → n ≤ last_cycle beats + extra → TracesFront kinds beats extra (result_names m) (port_of m value) old new
+under_way_cut m s s' schema kinds beats told l row n extra old mid new value word u made w soon =
     let port : PortValues = port_of m value in
     let outs : List (List ℕ) = result_names m in
-    let f : ℕ → Bool = λ k. (shown port outs k).end in
-    let last : ℕ = last_cycle beats in
-    let far : last + (e.ended - last) ≡ e.ended = omega (arith, e.soonest) in
-    let first = first_end f (e.ended - last) last (subst (λ (k : ℕ). f k ≡ true) (sym far) e.ends) in
-    let here : n ≤ first.place = not_before n first.place (λ lt. (let none : f first.place ≡ false = u.none first.place first.low lt in let ends : f first.place ≡ true = first.is in cc)) in
-    let reach : suc n + (first.place - n) ≡ suc first.place = omega (arith, here) in
-    let front = lines_front kinds port outs (suc n) (first.place - n) in
+    let last = last_from beats outs port extra n u.none soon in
+    let reach : suc n + (last.place - n) ≡ suc last.place = omega (arith, last.here) in
+    let front = lines_front kinds port outs (suc n) (last.place - n) in
     let same : cycle_lines kinds told (looked_at l n row) ≡ cycle_lines kinds (has_group (seen_below port outs n)) (shown port outs n) =
     made.lines' kinds told ∙ ap (λ (b : Bool). cycle_lines kinds b (shown port outs n)) u.told' in
-    let all : lines kinds (seen port outs first.place) ≡ (lines kinds (seen_below port outs n) ++ cycle_lines kinds told (looked_at l n row)) ++ front.rest =
-    ap (lines kinds) (seen_is port outs first.place) ∙ ap (λ (k : ℕ). lines kinds (seen_below port outs k)) (sym reach) ∙ front.same
+    let all : lines kinds (seen port outs last.place) ≡ (lines kinds (seen_below port outs n) ++ cycle_lines kinds told (looked_at l n row)) ++ front.rest =
+    ap (lines kinds) (seen_is port outs last.place) ∙ ap (λ (k : ℕ). lines kinds (seen_below port outs k)) (sym reach) ∙ front.same
     ∙ ap (λ (bytes : List ℕ). bytes ++ front.rest) (lines_below kinds port outs n ∙ ap (λ (bytes : List ℕ). lines kinds (seen_below port outs n) ++ bytes) (sym same)) in
     record {
-      bytes = lines kinds (seen port outs first.place);
-      are = record { ended = first.place; is = record { soonest = first.low; ends = first.is; first = first.first }; all = refl };
+      last = last.place;
+      is = last.is;
       taken = subst (AppendsFront old new) (sym all)
           (front_more old new (lines kinds (seen_below port outs n) ++ cycle_lines kinds told (looked_at l n row)) front.rest
           (front_then old mid new (lines kinds (seen_below port outs n)) (cycle_lines kinds told (looked_at l n row)) u.written w));
     }
-  where
-    not_before : (a b : ℕ) → (b < a → ⊥) → a ≤ b
-    not_before a b h = (elim (cases_lt b a) [ inl lt ↦ absurd (h lt) | inr le ↦ le ])

@@ -1,5 +1,5 @@
 -- One cycle of a run over beats: the beat that is due, what was looked at, and where the simulator is after it.
-use Rattle.std.specs.Prelude.{◌≡◌, ℕ, ◌+◌, ◌≤◌, Bool, false, List, [], ◌∷◌, Some, None, Result, Ok, Err, map, length, drop, if◌then◌else◌}
+use Rattle.std.specs.Prelude.{◌≡◌, ℕ, ◌+◌, ◌≤◌, Bool, false, List, [], ◌∷◌, Some, None, map, length, drop, if◌then◌else◌}
 use Rattle.gl_bits.specs.declared.kind.Kind.{Kind}
 use Rattle.gl_bits.specs.Kinds.{width_of}
 use Rattle.gl_schema.specs.declared.schema.Schema.{Schema}
@@ -20,8 +20,11 @@ use Rattle.gl_compiler.specs.declared.looking.Looked.{Looked}
 use Rattle.gl_compiler.specs.declared.pins.Pin.{Pin}
 use Rattle.gl_compiler.specs.declared.pins.Shows.{Shows}
 use Rattle.gl_compiler.specs.Benches.{IsBench}
-use Rattle.gl_outside.specs.States.{SinkState}
-use Rattle.gl_compiler.specs.Prints.{IsRunOver, EndsWithin, Writes, WritesFront}
+use Rattle.gl_compiler.specs.declared.executing.Outcome.{Outcome}
+use Rattle.gl_compiler.specs.declared.executing.Outcome.TheVariants as outcome
+use Rattle.gl_compiler.specs.declared.tracing.Ending.{Ending}
+use Rattle.gl_compiler.specs.declared.tracing.Ending.TheVariants as ending
+use Rattle.gl_compiler.specs.Prints.{IsRunOver, EndsWithin}
 use Rattle.gl_verilog_fit.specs.Profile.{FitsSchema, result_names, result_widths}
 
 -- each beat is in cycle n or later, and later than the one before
@@ -85,13 +88,13 @@ pub record IsPrepared (d : Rust) (schema : Schema) (kinds : List Kind) (start : 
 abbrev pub OfTimely : ℕ → Module → Schema → List Beat → Start → (List (List ℕ) → PortValues → Type 0) → Type 0
 OfTimely latency m schema beats start P = (value : ℕ → Nets) (word : ℕ → Memories) → IsRunOver m schema beats start value word → EndsWithin latency beats (result_names m) (port_of m value) → P (result_names m) (port_of m value)
 
--- the lines of a run were written, or a front of them where the sink failed
-abbrev pub WritesBy : {E : Type 0} → List Kind → List Beat → List (List ℕ) → PortValues → SinkState → SinkState → Result (Unit {0}) E → Type 0
-WritesBy kinds beats outs port old new (Ok u) = Writes kinds beats outs port old.taken new.taken
-WritesBy kinds beats outs port old new (Err e) = WritesFront kinds beats outs port old.taken new.taken
+-- a fact of each run that the simulator is before cycle t of
+abbrev pub OfFollowed : Simulation → Schema → List Beat → ℕ → (List (List ℕ) → PortValues → Type 0) → Type 0
+OfFollowed s schema beats t P = (value : ℕ → Nets) (word : ℕ → Memories) → IsFollowed s schema beats value word t → P (result_names (module_of s.design)) (port_of (module_of s.design) value)
 
--- this is so of each run that the simulator is before cycle t of, if it ends in time
-abbrev pub Follows : {E : Type 0} → Simulation → Schema → List Kind → List Beat → ℕ → ℕ → SinkState → SinkState → Result (Unit {0}) E → Type 0
-Follows s schema kinds beats latency t old new result = (value : ℕ → Nets) (word : ℕ → Memories) → IsFollowed s schema beats value word t
-    → EndsWithin latency beats (result_names (module_of s.design)) (port_of (module_of s.design) value)
-    → WritesBy kinds beats (result_names (module_of s.design)) (port_of (module_of s.design) value) old new result
+-- how a run ended that ends in time: it does not wait in vain
+abbrev pub outcome_of : Ending → Outcome
+outcome_of ending.Done = outcome.Done
+outcome_of (ending.NoEnd cycle) = outcome.Done
+outcome_of ending.WriteFault = outcome.WriteFault
+outcome_of ending.Memory = outcome.Memory

@@ -6,5 +6,4 @@ pub mod Overflow
 pub mod Meets
 pub mod Compiles
 pub mod Queries
-pub mod Outcomes
 pub mod Traces

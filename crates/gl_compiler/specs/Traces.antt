@@ -1,6 +1,6 @@
 -- What tracing a module over beats writes: the lines of its run, all values in decimal, up to its end, or through the cycles that are
 -- waited for.
-use Rattle.std.specs.Prelude.{◌≡◌, ◌⊎◌, ℕ, ◌+◌, ◌<◌, ◌≤◌, List, Option, map, IsTrue, IsFalse}
+use Rattle.std.specs.Prelude.{◌≡◌, ◌⊎◌, ℕ, ◌+◌, ◌≤◌, List, Option, map, IsFalse}
 use Rattle.gl_bits.specs.declared.kind.Kind.{Kind}
 use Rattle.gl_bits.specs.declared.kind.Kind.TheVariants.{Unsigned}
 use Rattle.gl_schema.specs.Beats.{Beat, last_cycle}
@@ -16,7 +16,7 @@ use Rattle.gl_verilog.specs.Text.{HasModule}
 use Rattle.gl_compiler.specs.declared.tracing.Ending.{Ending}
 use Rattle.gl_compiler.specs.declared.tracing.Ending.TheVariants.{Done, NoEnd, WriteFault, Memory}
 use Rattle.gl_compiler.specs.Prints.{IsEnd, IsRunOver}
-use Rattle.gl_verilog_fit.specs.Profile.{result_widths}
+use Rattle.gl_verilog_fit.specs.Profile.{result_names, result_widths}
 
 -- the kinds by which a traced module's columns are printed: numbers of their ports' bits
 abbrev pub decimal_kinds : Module → List Kind

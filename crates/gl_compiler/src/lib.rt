@@ -8,12 +8,15 @@
 mod bench;
 pub mod compiling;
 pub mod executing;
+mod following;
 pub mod laws;
 mod lines;
 pub mod looking;
 mod naming;
 pub mod pins;
+pub mod tracing;
 
 pub use compiling::{CompileFault, Compiled, compile, compile_query};
 pub use executing::{Outcome, execute, execute_module};
 pub use laws::outputs_bind_nothing;
+pub use tracing::{Ending, trace};

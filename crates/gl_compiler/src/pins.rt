@@ -1,7 +1,8 @@
 //! Which port of a module is what: the inputs of the streams, and what shows the result.
 
-ghost use Rattle.std.specs.Prelude.{◌≡◌, ◌∷◌, [], ◌<◌, map, option_map, IfOk, slice_index};
+ghost use Rattle.std.specs.Prelude.{◌≡◌, ◌∷◌, [], ◌<◌, Some, map, option_map, IfOk, slice_index};
 ghost use Rattle.gl_bits.specs.Words.{bits_of};
+ghost use Rattle.gl_schema.specs.Ports.{out_valid, out_eos, fault_group};
 ghost use Rattle.gl_tuples.specs.Gaps.{plain_beat};
 ghost use Rattle.gl_verilog.specs.View.{declaration_of, module_of, kind_of};
 ghost use Rattle.gl_verilog.specs.Module as spec;
@@ -13,6 +14,7 @@ use gl_bits::{Memory, Row};
 use gl_schema::{Column, Schema, Stream};
 use gl_tuples::Beat;
 use gl_verilog::{Declaration, Kind, Module};
+use gl_verilog_fit::Ports;
 use gl_wiring::{in_column_name, in_valid_name};
 use std::alloc::Global;
 
@@ -148,9 +150,9 @@ fn is_output(kind: Kind) -> bool
     matches!(kind, Kind::OutputWire | Kind::OutputRegister)
 }
 
-// Whether a port shows a column of the result.
+/// Whether a port shows a column of the result.
 #[tactic(auto, unfolding(gl_schema::specs::Ports::out_valid, gl_schema::specs::Ports::out_eos))]
-fn shows_column(port: &Declaration) -> bool
+pub(crate) fn shows_column(port: &Declaration) -> bool
     ensures { result ≡ profile.shows_column (declaration_of port.now) }
 {
     is_output(port.kind)
@@ -172,8 +174,8 @@ fn columns_of(alloc: Global, ports: &[Declaration]) -> Result<Vec<usize>, Memory
     Ok(columns)
 }
 
-// The ports of a module.
-fn ports_of(design: &Module) -> &[Declaration]
+/// The ports of a module.
+pub(crate) fn ports_of(design: &Module) -> &[Declaration]
     ensures { map declaration_of result.now ≡ profile.ports_of (module_of design.now) }
 {
     let declarations = design.declarations.as_slice();
@@ -193,5 +195,23 @@ pub fn shows_of(alloc: Global, design: &Module) -> Result<Shows, Memory>
         end: number_of(ports, b"out__eos"),
         group: number_of(ports, b"fault__group"),
         columns: columns_of(alloc, ports)?,
+    })
+}
+
+/// The ports of a module that show a result, where the numbers of its lines are known.
+pub(crate) fn shows_at(alloc: Global, design: &Module, lines: &Ports) -> Result<Shows, Memory>
+    requires valid { spec.number_of (profile.ports_of (module_of design.now)) out_valid
+        ≡ Some lines.now.valid }
+    requires end { spec.number_of (profile.ports_of (module_of design.now)) out_eos
+        ≡ Some lines.now.end }
+    requires group { spec.number_of (profile.ports_of (module_of design.now)) fault_group
+        ≡ lines.now.group }
+    ensures { IfOk result (AreShows (module_of design.now)) }
+{
+    Ok(Shows {
+        valid: Some(lines.valid),
+        end: Some(lines.end),
+        group: lines.group,
+        columns: columns_of(alloc, ports_of(design))?,
     })
 }

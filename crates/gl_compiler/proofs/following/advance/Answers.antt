@@ -11,15 +11,15 @@ use Rattle.gl_verilog.specs.View.{module_of}
 use Rattle.gl_compiler.specs.Benches.{AreShows}
 use Rattle.gl_compiler.proofs.Making.{beat_values, values_fit, columns_count, cycle_made}
 use Rattle.gl_compiler.proofs.Outputs.{columns_inside}
-use Rattle.gl_compiler.proofs.executing.advance.Goals as goal
+use Rattle.gl_compiler.proofs.following.advance.Goals as goal
 
 pub step-requires : goal.step-requires
 step-requires c =
     let m = module_of c.args.sim.now.design in
     let course = c.args.course.now in
-    let beats = plain_beats course.beats.now in
-    values_fit m course.schema.now course.kinds.now beats (suc c.args.cycle) c.set_beat.new.values c.requires.can
-    (beat_values m course.schema.now beats c.args.cycle (option_map (λ b. plain_beat b.now) c.due-beat.result) c.deref.result.now course.bench.now.pins.items c.set_beat.new.values c.set_beat.ensures c.deref.ensures.value c.due-beat.ensures.beat c.requires.bench.pins')
+    let beats = plain_beats course.task.now.beats.now in
+    values_fit m course.task.now.schema.now course.task.now.kinds.now beats (suc c.args.cycle) c.set_beat.new.values c.requires.can
+    (beat_values m course.task.now.schema.now beats c.args.cycle (option_map (λ b. plain_beat b.now) c.due-beat.result) c.deref.result.now course.bench.now.pins.items c.set_beat.new.values c.set_beat.ensures c.deref.ensures.value c.due-beat.ensures.beat c.requires.bench.pins')
 
 pub set_row-requires-clause-inside : goal.set_row-requires-clause-inside
 set_row-requires-clause-inside c =
@@ -28,7 +28,7 @@ set_row-requires-clause-inside c =
 
 pub set_row-requires-clause-lengths : goal.set_row-requires-clause-lengths
 set_row-requires-clause-lengths c =
-    columns_count (module_of c.args.sim.now.design) c.args.course.now.kinds.now c.args.row.now c.deref-2.result.now (c.deref-2.ensures.value ∙ c.requires.bench.shows'.columns') c.requires.can.widths c.requires.widths
+    columns_count (module_of c.args.sim.now.design) c.args.course.now.task.now.kinds.now c.args.row.now c.deref-2.result.now (c.deref-2.ensures.value ∙ c.requires.bench.shows'.columns') c.requires.can.widths c.requires.widths
 
 pub look-requires : goal.look-requires
 look-requires c = subst (λ (d : Module). AreShows (module_of d) c.args.course.now.bench.now.shows) (sym c.step.ensures.design) c.requires.bench.shows'
@@ -37,11 +37,11 @@ pub returns-clause-made : goal.returns-clause-made
 returns-clause-made c = λ value word f.
     let m = module_of c.args.sim.now.design in
     let course = c.args.course.now in
-    let beats = plain_beats course.beats.now in
+    let beats = plain_beats course.task.now.beats.now in
     let s' = c.step.new.self in
-    cycle_made c.args.sim.now s' course.schema.now course.kinds.now beats c.args.cycle c.set_beat.new.values c.deref-2.result.now (widths_of c.args.row.now) (bits_of c.set_row.new.row) c.look.result value word
+    cycle_made c.args.sim.now s' course.task.now.schema.now course.task.now.kinds.now beats c.args.cycle c.set_beat.new.values c.deref-2.result.now (widths_of c.args.row.now) (bits_of c.set_row.new.row) c.look.result value word
     c.requires.can c.step.ensures.design
-    (beat_values m course.schema.now beats c.args.cycle (option_map (λ b. plain_beat b.now) c.due-beat.result) c.deref.result.now course.bench.now.pins.items c.set_beat.new.values c.set_beat.ensures c.deref.ensures.value c.due-beat.ensures.beat c.requires.bench.pins')
+    (beat_values m course.task.now.schema.now beats c.args.cycle (option_map (λ b. plain_beat b.now) c.due-beat.result) c.deref.result.now course.bench.now.pins.items c.set_beat.new.values c.set_beat.ensures c.deref.ensures.value c.due-beat.ensures.beat c.requires.bench.pins')
     c.step.ensures.follows c.requires.widths
     (record {
       group = c.look.ensures.group ∙ ap (λ (d : Module). is_high (port_of (module_of d) (λ t. nets_of s'.shown)) 0 fault_group) c.step.ensures.design;
