@@ -229,9 +229,9 @@ fn run<K: Sink>(prepared: Prepared, task: &Task, out: &mut K) -> Ending
     requires kinds { AllByRecursion IsKind task.now.kinds.now }
     requires widths { widths_of prepared.row ≡ map width_of task.now.kinds.now }
     requires short { task.now.extra ≤ 2 ^ 32 }
-    ensures { Traced (OfFollowed prepared.sim task.now.schema.now (plain_beats task.now.beats.now) 0)
-        task.now.kinds.now (plain_beats task.now.beats.now) task.now.extra
-        (K.state out.old) (K.state out.new) result }
+    ensures { Traced (OfFollowed prepared.sim task.now.schema.now
+        (plain_beats task.now.beats.now) 0) task.now.kinds.now
+        (plain_beats task.now.beats.now) task.now.extra (K.state out.old) (K.state out.new) result }
 {
     let Prepared {
         mut sim,

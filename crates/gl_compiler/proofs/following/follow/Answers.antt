@@ -1,4 +1,4 @@
-use Rattle.std.proofs.Common.{◌≡◌, ◌∙◌, ◌<◌, ◌≤◌, ◌+◌, suc, true, false, arith, sym, subst, refl}
+use Rattle.std.proofs.Common.{◌≡◌, ◌∙◌, ◌≤◌, ◌+◌, suc, true, false, arith, sym, subst, refl}
 use Rattle.gl_bits.specs.Words.{bits_of}
 use Rattle.gl_schema.specs.Beats.{last_cycle}
 use Rattle.gl_outside.specs.Counts.{Rose}
