@@ -1,5 +1,6 @@
 -- From the run that was followed to each run of the text's module.
 use Rattle.std.proofs.Common.{◌≡◌, ℕ, inl, inr, true, false, List, Option, refl, sym, subst, map}
+use Rattle.std.specs.Prelude.{IsOk}
 use Rattle.gl_bits.specs.declared.kind.Kind.{Kind}
 use Rattle.gl_bits.specs.Kinds.{width_of}
 use Rattle.gl_schema.specs.declared.schema.Schema.{Schema}
@@ -25,7 +26,9 @@ use Rattle.gl_compiler.specs.declared.tracing.Ending.TheVariants as ending
 use Rattle.gl_compiler.specs.Cycles.{CanFollow, IsFollowed, OfFollowed, OfTimely, outcome_of}
 use Rattle.gl_compiler.specs.Prints.{CanRun, EndsWithin, IsRunOver, OfEachRun, Ran, Writes, WritesFront}
 use Rattle.gl_compiler.specs.Traces.{OfRunsOf, RunsOut, Traced, TracesFront, TracesOut, TracesToEnd}
-use Rattle.gl_verilog_fit.specs.Profile.{FitsSchema, result_names, result_widths}
+use Rattle.gl_verilog_fit.specs.Fit.{fit_of}
+use Rattle.gl_verilog_fit.specs.Profile.{result_names, result_widths}
+use Rattle.gl_verilog_fit.proofs.Fits.{fits_ok}
 
 -- what holds of each run of one sort holds of each of the other, so the trace is one of these too
 pub traced_from : (OfOne OfOther : (List (List ℕ) → PortValues → Type 0) → Type 0) (kinds : List Kind) (beats : List Beat) (extra : ℕ) (old new : SinkState) (r : Ending) → ((P : List (List ℕ) → PortValues → Type 0) → OfOne P → OfOther P) → Traced OfOne kinds beats extra old new r → Traced OfOther kinds beats extra old new r
@@ -46,7 +49,7 @@ can_follow text schema kinds beats latency start d can has are =
     record {
       text = text;
       has = has;
-      fits = subst (λ (m : Module). FitsSchema m schema) mine can.fits;
+      fits = fits_ok text (module_of d) schema has (subst (λ (m : Module). IsOk (fit_of m schema)) mine can.fits);
       widths = subst (λ (m : Module). result_widths m ≡ map width_of kinds) mine can.widths;
       beats' = are;
     }

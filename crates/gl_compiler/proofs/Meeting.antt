@@ -33,6 +33,7 @@ use Rattle.gl_plan_wiring.specs.Leaves.{widths_of}
 use Rattle.gl_wiring.specs.Output.{named_outputs, output_ports, plan_ports}
 use Rattle.gl_wiring.specs.Wired.{KeepsGroup, OverBeats, plan_means}
 use Rattle.gl_verilog_fit.specs.Profile.{FitsSchema, ports_of, result_ports, result_names, result_widths, shows_column}
+use Rattle.gl_verilog_fit.proofs.Fits.{finds_ok}
 use Rattle.gl_compiler.specs.Meets.{Meets, RunsOver, result_columns}
 use Rattle.gl_compiler.specs.Queries.{gap_of, latency_of}
 use Rattle.gl_compiler.proofs.PlanResults.{plan_result}
@@ -178,7 +179,7 @@ module _ (schema : Schema) (statement : Statement) (net : Net) (text : List ℕ)
       accepted = is.accepted;
       design = t.design;
       has = t.has;
-      fits = fits;
+      fits = finds_ok text t.design schema t.has fits;
       names = names_shown;
       widths = widths_shown;
       runs = text_runs;

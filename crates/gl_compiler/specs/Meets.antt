@@ -1,6 +1,6 @@
 -- What a compiled text is: every run of its module in any order of events, over any beats that keep the gap and from any start, is right
 -- for the statement, and its overflow line says what has come by each cycle.
-use Rattle.std.specs.Prelude.{◌≡◌, ℕ, List, map}
+use Rattle.std.specs.Prelude.{◌≡◌, ℕ, List, map, IsOk}
 use Rattle.gl_bits.specs.Kinds.{width_of}
 use Rattle.gl_schema.specs.declared.schema.Column.{Column}
 use Rattle.gl_schema.specs.declared.schema.Schema.{Schema}
@@ -19,7 +19,8 @@ use Rattle.gl_verilog.specs.Runnable.{SameState}
 use Rattle.gl_verilog.specs.Text.{HasModule}
 use Rattle.gl_verilog_orders.specs.Events.{IsEventRun}
 use Rattle.gl_compiler.specs.Overflow.{TellsGroup}
-use Rattle.gl_verilog_fit.specs.Profile.{FitsSchema, result_names, result_widths}
+use Rattle.gl_verilog_fit.specs.Fit.{fit_of}
+use Rattle.gl_verilog_fit.specs.Profile.{result_names, result_widths}
 
 -- the columns of a statement's result
 abbrev pub result_columns : Schema → Statement → List Column
@@ -40,7 +41,7 @@ pub record Meets (schema : Schema) (statement : Statement) (latency gap : ℕ) (
   pub accepted : IsAccepted schema statement
   pub design : Module
   pub has : HasModule text design
-  pub fits : FitsSchema design schema
+  pub fits : IsOk (fit_of design schema)
   pub names : result_names design ≡ map out_column (column_names (result_columns schema statement))
   pub widths : result_widths design ≡ map width_of (kinds_of (result_columns schema statement))
   pub runs : (beats : List Beat) (start : Nets) (words : Memories) → AreBeats schema beats → Fit design.declarations start words → RunsOver design schema beats start words

@@ -1,5 +1,5 @@
 -- What running a text over beats writes: the lines of the run of that very text, up to its end.
-use Rattle.std.specs.Prelude.{◌≡◌, ℕ, ◌+◌, ◌<◌, ◌≤◌, ◌^◌, List, Option, map, IsTrue, IsFalse}
+use Rattle.std.specs.Prelude.{◌≡◌, ℕ, ◌+◌, ◌<◌, ◌≤◌, ◌^◌, List, Option, map, IsTrue, IsFalse, IsOk}
 use Rattle.gl_bits.specs.declared.kind.Kind.{Kind}
 use Rattle.gl_bits.specs.Kinds.{width_of}
 use Rattle.gl_schema.specs.declared.schema.Schema.{Schema}
@@ -16,7 +16,8 @@ use Rattle.gl_verilog.specs.Text.{HasModule}
 use Rattle.gl_verilog_orders.specs.Events.{IsEventRun}
 use Rattle.gl_sim.specs.declared.start.Start.{Start}
 use Rattle.gl_sim.specs.Starts.{StartsFrom}
-use Rattle.gl_verilog_fit.specs.Profile.{FitsSchema, result_names, result_widths}
+use Rattle.gl_verilog_fit.specs.Fit.{fit_of}
+use Rattle.gl_verilog_fit.specs.Profile.{result_names, result_widths}
 
 -- a run of a module in some order of events from this start, with these beats on its inputs
 pub record IsRunOver (m : Module) (schema : Schema) (beats : List Beat) (start : Start) (value : ℕ → Nets) (word : ℕ → Memories) : Type 0 where
@@ -59,7 +60,7 @@ pub record EndsWithin (latency : ℕ) (beats : List Beat) (outs : List (List ℕ
 pub record CanRun (text : List ℕ) (schema : Schema) (kinds : List Kind) (beats : List Beat) (latency : ℕ) (start : Start) : Type 0 where
   pub design : Module
   pub has : HasModule text design
-  pub fits : FitsSchema design schema
+  pub fits : IsOk (fit_of design schema)
   pub widths : result_widths design ≡ map width_of kinds
   pub short : latency ≤ 2 ^ 32
   pub ends : (value : ℕ → Nets) (word : ℕ → Memories) → IsRunOver design schema beats start value word → EndsWithin latency beats (result_names design) (port_of design value)

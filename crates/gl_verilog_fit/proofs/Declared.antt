@@ -1,9 +1,8 @@
 -- Where declarations stand, by their names, and which of them are ports.
-use Rattle.std.proofs.Common.{◌≡◌, ℕ, zero, suc, ◌+◌, true, false, List, [], ◌∷◌, ◌++◌, length, take, map, Option, Some, None, refl, sym, ap, ◌∙◌, subst, arith, append_assoc}
-use Rattle.std.specs.Prelude.{slice_get, bytes_eq, option_and_then}
+use Rattle.std.proofs.Common.{◌≡◌, ℕ, zero, suc, ◌+◌, true, false, List, [], ◌∷◌, ◌++◌, length, take, map, Option, Some, None, refl, sym, ap, ◌∙◌, subst, append_assoc}
+use Rattle.std.specs.Prelude.{slice_get, option_and_then}
 use Rattle.std.specs.Option.{option_map}
 use Rattle.std.specs.List.{AllByRecursion}
-use Rattle.std.proofs.lemmas.Cmp.{nat_list_eq_equiv}
 use Rattle.std.proofs.lemmas.List.{append-nil}
 use Rattle.gl_bits.proofs.AllLists.{all_append, length_map}
 use Rattle.gl_verilog.specs.Module.{Module, Declaration, Kind, Wire, Register, Memory, number_of}
@@ -13,26 +12,10 @@ use Rattle.gl_verilog.specs.Text.{HasModule}
 use Rattle.gl_verilog.specs.Valid.{AreDistinct, Differs}
 use Rattle.gl_verilog.specs.Written.{WrittenItem, Range, Wires, Registers, MemoryOf, Assign, Always}
 use Rattle.gl_verilog.proofs.Fits.{all_at}
+pub use Rattle.gl_verilog_faults.proofs.Declarations.{number_at}
 use Rattle.gl_verilog_fit.specs.Profile.{ports_of}
 
 -- ---- names
-
-differs_at : (x : Declaration) (ds : List Declaration) (n : ℕ) (d : Declaration) → Differs x ds → slice_get ds n ≡ Some d → bytes_eq x.name d.name ≡ false
-differs_at x [] n d h e = absurd cc
-differs_at x (y ∷ ds) zero d h e = let same : y ≡ d = cc in subst (λ (z : Declaration). bytes_eq x.name z.name ≡ false) same h.0
-differs_at x (y ∷ ds) (suc n) d h e = differs_at x ds n d h.1 e
-
--- the number of a declaration's own name is its place
-pub number_at : (ds : List Declaration) (n : ℕ) (d : Declaration) → AreDistinct ds → slice_get ds n ≡ Some d → number_of ds d.name ≡ Some n
-number_at [] n d h e = absurd cc
-number_at (x ∷ ds) zero d h e =
-    let same : x ≡ d = cc in
-    subst (λ (z : Declaration). number_of (x ∷ ds) z.name ≡ Some 0) same (rw (nat_list_eq_equiv.refl x.name) refl)
-number_at (x ∷ ds) (suc n) d h e =
-    let other : bytes_eq x.name d.name ≡ false = differs_at x ds n d h.0 e in
-    let later : number_of ds d.name ≡ Some n = number_at ds n d h.1 e in
-    let one : n + 1 ≡ suc n = omega arith in
-    rw (other, later, one) refl
 
 differs_take : (p : ℕ) (x : Declaration) (ds : List Declaration) → Differs x ds → Differs x (take p ds)
 differs_take zero x ds h = tt

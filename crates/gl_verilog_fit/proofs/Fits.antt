@@ -67,13 +67,13 @@ so_clock : (name : List ℕ) (b : Bool) → bytes_eq name clk ≡ b → bytes_eq
 unfolding clk
 so_clock name b e = e
 
-input_so : (k : Kind) → is_input k ≡ true → k ≡ Input
-input_so Input e = refl
-input_so OutputWire e = absurd cc
-input_so OutputRegister e = absurd cc
-input_so Wire e = absurd cc
-input_so Register e = absurd cc
-input_so (Memory bits) e = absurd cc
+pub kind_is_input : (k : Kind) → is_input k ≡ true → k ≡ Input
+kind_is_input Input e = refl
+kind_is_input OutputWire e = absurd cc
+kind_is_input OutputRegister e = absurd cc
+kind_is_input Wire e = absurd cc
+kind_is_input Register e = absurd cc
+kind_is_input (Memory bits) e = absurd cc
 
 -- ---- lines
 
@@ -194,7 +194,7 @@ has_clock schema m k distinct all e =
     record {
       port = p.d;
       there = first.1 ∙ ap (λ (x : Declaration). Some x) (sym same);
-      input = input_so p.d.kind p.way;
+      input = kind_is_input p.d.kind p.way;
       bit = clock_width schema p.d.name p.d.width (eq_flip p.d.name clk true p.named) asked;
     }
 
@@ -227,8 +227,8 @@ is_its_line m name n d distinct h at named =
     let same : first.0 ≡ d = same_named (ports_of m) name other.n n first.0 d distinct other.there at other.named named in
     subst IsLine same (subst (λ (o : Option Declaration). IfSome o IsLine) first.1 h)
 
-line_of : (m : Module) (name : List ℕ) → HasLine m name → IfSome (port_named m name) IsLine
-line_of m name h = subst (λ (o : Option Declaration). IfSome o IsLine) (sym h.there) h.line
+pub line_named : (m : Module) (name : List ℕ) → HasLine m name → IfSome (port_named m name) IsLine
+line_named m name h = subst (λ (o : Option Declaration). IfSome o IsLine) (sym h.there) h.line
 
 port_asked : (m : Module) (schema : Schema) (n : ℕ) (d : Declaration) → AreDistinct (ports_of m) → FitsSchema m schema → slice_get (ports_of m) n ≡ Some d → is_input d.kind ≡ true → is_asked schema d ≡ true
 port_asked m schema n d distinct fit at way = by_cases (is_clock d)
@@ -237,13 +237,13 @@ port_asked m schema n d distinct fit at way = by_cases (is_clock d)
     let own : bytes_eq clk d.name ≡ true = clock_so d true named in
     let same : fit.clock.port ≡ d = same_named (ports_of m) clk clock.n n fit.clock.port d distinct clock.there at clock.named (eq_flip clk d.name true own) in
     clock_asked schema d.name d.width own (ap (λ (x : Declaration). x.width) (sym same) ∙ fit.clock.bit))
-    (λ other. asked_width schema d.name d.width (clock_so d false other) (fit.inputs n d (get_take m.ports m.declarations n d at) (input_so d.kind way) other))
+    (λ other. asked_width schema d.name d.width (clock_so d false other) (fit.inputs n d (get_take m.ports m.declarations n d at) (kind_is_input d.kind way) other))
 
 port_line : (m : Module) (schema : Schema) (n : ℕ) (d : Declaration) → AreDistinct (ports_of m) → FitsSchema m schema → slice_get (ports_of m) n ≡ Some d → is_line_name d.name ≡ true → is_line d ≡ true
 port_line m schema n d distinct fit at line = so_line d
     (by_line (λ name. bytes_eq d.name name ≡ true → IsLine d) d.name
-    (is_its_line m out_valid n d distinct (line_of m out_valid fit.valid) at)
-    (is_its_line m out_eos n d distinct (line_of m out_eos fit.end) at)
+    (is_its_line m out_valid n d distinct (line_named m out_valid fit.valid) at)
+    (is_its_line m out_eos n d distinct (line_named m out_eos fit.end) at)
     (is_its_line m fault_group n d distinct fit.group at)
     (is_its_line m fault_queue n d distinct fit.queue at)
     line (bytes_own d.name))

@@ -1,6 +1,6 @@
 //! The inputs of a schema, by their names; no name is made.
 
-ghost use Rattle.std.specs.Prelude.{◌≡◌, nat_eq, bytes_eq, option_map};
+ghost use Rattle.std.specs.Prelude.{◌≡◌, nat_eq, option_map};
 ghost use Rattle.gl_bits.specs.Kinds as kinds;
 ghost use Rattle.gl_verilog_fit.specs.Steps as steps;
 ghost use Rattle.gl_verilog_fit.specs.Fit.{inputs, is_among};
