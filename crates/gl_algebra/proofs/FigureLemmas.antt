@@ -1,5 +1,5 @@
 -- The figures of the nodes of a plan.
-use Rattle.std.proofs.Common.{◌≡◌, ℕ, zero, suc, ◌*◌, ◌<◌, ◌≤◌, true, false, cond, ◌&&◌, IsTrue, List, Some, slice_get, All, refl, ap, subst, arith, lit<}
+use Rattle.std.proofs.Common.{◌≡◌, ℕ, zero, suc, ◌+◌, ◌*◌, ◌<◌, ◌≤◌, true, false, cond, ◌&&◌, IsTrue, List, slice_get, All, refl, ap, subst, arith, lit<}
 use Rattle.std.proofs.Math.Nat.{zero-mul}
 use Rattle.std.proofs.lemmas.Grind.{div_ceil_times}
 use Rattle.gl_algebra.specs.declared.figures.Figures.{Figures}
@@ -8,10 +8,10 @@ use Rattle.gl_algebra.specs.declared.node.PlanNode.TheVariants.{Stream, Body, Co
 use Rattle.gl_algebra.specs.Nodewise.{named_by}
 use Rattle.gl_algebra.specs.Shapes.{Shape, shape_from, shape_of, is_closing}
 use Rattle.gl_algebra.specs.Fits.{copies_of_window}
-use Rattle.gl_algebra.specs.FigureTable.{IsSound, input_figures, settled, delayed, wait_of, delay_of_aggs, window_gap, group_gap, needs_spacer, spacer_figures, spaced, is_fixed, in_step, at_end, joined, figures_from, figures_of}
+use Rattle.gl_algebra.specs.FigureTable.{IsSound, input_figures, settled, delayed, last_of, wait_of, delay_of_aggs, window_gap, group_gap, needs_spacer, spacer_figures, spaced, is_fixed, in_step, at_end, joined, figures_from, figures_of}
 use Rattle.gl_algebra.specs.Laws.{RowsKeepSound, FiguresAreSound, ClosingNodesWait}
 use Rattle.gl_bits.proofs.Bools.{and_parts}
-use Rattle.gl_algebra.proofs.NodewiseLemmas.{Agree, AreInOrder, SameSteps, agree, agree_self, nodewise-kept, nodewise-node}
+use Rattle.gl_algebra.proofs.NodewiseLemmas.{Agree, AreInOrder, SameSteps, agree, agree_self, nodewise-kept, nodewise-node, FollowsRow}
 use Rattle.gl_algebra.proofs.ShapeLemmas.{shape-kept, shape-node}
 use Rattle.gl_algebra.proofs.PlanLemmas.{in_order, by_nodes}
 use Rattle.gl_algebra.proofs.SoundLemmas.{settled_sound, delayed_sound, aggregate_sound, merged_sound, joined_sound, spaced_sound, windows_sound, groups_sound}
@@ -29,6 +29,18 @@ figures_local s t v w (Union left right) g h = rw (h.0, h.1.0)
 figures_local s t v w (Beside left right) g h = rw (h.0, h.1.0)
 figures_local s t v w (Window source body size advance) g h = rw (h.0, h.1.0)
 figures_local s t v w (Group source body key groups) g h = rw (h.0, h.1.0)
+
+-- where tuples come without the end, the last cycle is the last
+pub last_of-some : (n first last : ℕ) → 1 ≤ n → last_of n first last ≡ last
+last_of-some zero first last some = absurd (omega (arith, some))
+last_of-some (suc n) first last some = refl
+
+pub delayed_by_none : (f : Figures) → delayed 0 f ≡ f
+delayed_by_none f =
+    let a : f.a + 0 ≡ f.a = omega arith in
+    let t : f.lt + 0 ≡ f.lt = omega arith in
+    let e : f.le + 0 ≡ f.le = omega arith in
+    rw (a, t, e) refl
 
 -- a window of some size has a copy
 some_from_product : (n size advance : ℕ) → 1 ≤ size → size ≤ n * advance → 1 ≤ n
@@ -81,10 +93,7 @@ figures_steps nodes limit number node below is v w same =
     figures_local (shape_of nodes) (shape_of nodes) v w node
     (agree_self (shape_of nodes) (named_by node)) same
 
--- a node's figures are its row over those of all nodes
-pub figures-node : (nodes : List PlanNode) (limit : ℕ) → AreInOrder nodes limit → (number : ℕ) (node : PlanNode)
-    → number < limit → slice_get nodes number ≡ Some node
-    → figures_of nodes number ≡ figures_from (shape_of nodes) (figures_of nodes) node
+pub figures-node : FollowsRow figures_of (λ nodes. figures_from (shape_of nodes))
 unfolding figures_of
 figures-node nodes limit order number node below is =
     nodewise-node (figures_from (shape_of nodes)) input_figures nodes limit order (figures_steps nodes limit) number node below is

@@ -2,10 +2,9 @@
 use Rattle.std.proofs.Common.{ℕ, List, All, map, sym, subst, arith, lit<}
 use Rattle.std.proofs.lemmas.List.Elements.{All-append, All-cons, All-map, All-weaker}
 use Rattle.gl_bits.specs.Kinds.{IsKind}
-use Rattle.gl_bits.specs.Operators.{sort_of, result_kind}
+use Rattle.gl_bits.specs.Operators.{sort_of}
 use Rattle.gl_bits.specs.declared.kind.Kind.{Kind}
-use Rattle.gl_bits.specs.declared.op.Sort.{Sort}
-use Rattle.gl_bits.specs.declared.op.Sort.TheVariants.{Arithmetic, Comparison, Logic}
+use Rattle.gl_bits.proofs.KindLemmas.{bit_is_kind, result_is}
 use Rattle.gl_algebra.specs.declared.node.ColOp.{ColOp}
 use Rattle.gl_algebra.specs.declared.node.ColOp.TheVariants.{Not, Cast, Binary}
 use Rattle.gl_algebra.specs.declared.node.Operand.{Operand}
@@ -22,21 +21,13 @@ use Rattle.gl_algebra.specs.Shapes.{Shape, shape_of, shape_from, kinds_of}
 use Rattle.gl_algebra.proofs.PlanLemmas.{by_nodes}
 use Rattle.gl_algebra.proofs.TableLemmas.{nodes_follow_tables}
 
-bit_is : IsKind bit_kind
-bit_is = (omega arith, omega arith)
-
 module _ (kinds : List Kind) (are : All IsKind kinds) where
   operand_is : (operand : Operand) → OperandFits kinds operand → IsKind (kind_of_operand kinds operand)
   operand_is (Column column) fits = are column bit_kind fits
   operand_is (Literal word kind) fits = fits.1
 
-  result_is : (sort : Sort) (kind : Kind) → IsKind kind → IsKind (result_kind sort kind)
-  result_is Arithmetic kind is = is
-  result_is Comparison kind is = bit_is
-  result_is Logic kind is = bit_is
-
   op_is : (op : ColOp) → OpFits kinds op → IsKind (kind_of_op kinds op)
-  op_is (Not operand) fits = bit_is
+  op_is (Not operand) fits = bit_is_kind
   op_is (Cast operand kind) fits = fits.1
   op_is (Binary operator left right) fits = result_is (sort_of operator) (kind_of_operand kinds left) (operand_is left fits.0)
 

@@ -29,6 +29,11 @@ abbrev pub AreInOrder : List PlanNode → ℕ → Type 0
 AreInOrder nodes limit = (number : ℕ) (node : PlanNode) → number < limit → slice_get nodes number ≡ Some node
     → All (λ child. child < number) (named_by node)
 
+-- what a table has for a node is the node's row over what it has for all nodes
+abbrev pub FollowsRow {ℓ} : {A : Type ℓ} → (List PlanNode → ℕ → A) → (List PlanNode → (ℕ → A) → PlanNode → A) → Type ℓ
+FollowsRow table row = (nodes : List PlanNode) (limit : ℕ) → AreInOrder nodes limit → (number : ℕ) (node : PlanNode)
+    → number < limit → slice_get nodes number ≡ Some node → table nodes number ≡ row nodes (table nodes) node
+
 module _ {ℓ} {A : Type ℓ} (step step' : (ℕ → A) → PlanNode → A) (absent : A) (nodes nodes' : List PlanNode) (limit : ℕ)
     (order : AreInOrder nodes limit) (steps : SameSteps step step' nodes limit)
     (kept : (number : ℕ) → number < limit → slice_get nodes' number ≡ slice_get nodes number) where

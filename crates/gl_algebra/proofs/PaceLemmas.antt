@@ -16,7 +16,7 @@ use Rattle.gl_algebra.proofs.TableLemmas.{nodes_follow_tables}
 pub is_fixed-is : (f : Figures) → IsFixed f → is_fixed f ≡ true
 is_fixed-is f h = rw (eq-eqb f.a f.lt (sym h.tuples_last), eq-eqb f.lt f.le (h.tuples_last ∙ sym h.end_last)) refl
 
-delayed_fixed : (m : ℕ) (f : Figures) → IsFixed f → IsFixed (delayed m f)
+pub delayed_fixed : (m : ℕ) (f : Figures) → IsFixed f → IsFixed (delayed m f)
 delayed_fixed m f h = record {
   tuples_last = omega arith;
   end_last = omega arith;

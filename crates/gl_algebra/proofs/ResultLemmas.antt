@@ -1,5 +1,5 @@
 -- The meaning of a node is its row over the meanings of the nodes that it names, and later nodes change none.
-use Rattle.std.proofs.Common.{◌≡◌, ℕ, ◌<◌, Bool, false, List, map, Some, slice_get, slice_index, refl, subst, arith}
+use Rattle.std.proofs.Common.{◌≡◌, ℕ, ◌<◌, Bool, false, List, map, slice_get, slice_index, refl, subst, arith}
 use Rattle.gl_bits.specs.Lists.{slices, groups, has_further, IsInterleaving}
 use Rattle.gl_algebra.specs.declared.node.PlanNode.{PlanNode}
 use Rattle.gl_algebra.specs.declared.node.PlanNode.TheVariants.{Stream, Body, Compute, Select, Project, Aggregate, Union, Beside, Window, Group}
@@ -7,7 +7,7 @@ use Rattle.gl_algebra.specs.Nodewise.{named_by}
 use Rattle.gl_algebra.specs.Shapes.{Shape, shape_of}
 use Rattle.gl_bits.specs.Results.{Row, IsChanged, IsOfBoth, IsOfParts, IsOfGroup, AreBeside}
 use Rattle.gl_algebra.specs.Results.{Inputs, given, Meaning, NoMeaning, computed, selected, projected, totalled, meaning_from, IsPlanResult}
-use Rattle.gl_algebra.proofs.NodewiseLemmas.{Agree, AreInOrder, SameSteps, agree, agree_self, nodewise-kept, nodewise-node}
+use Rattle.gl_algebra.proofs.NodewiseLemmas.{Agree, AreInOrder, SameSteps, agree, agree_self, nodewise-kept, nodewise-node, FollowsRow}
 use Rattle.gl_algebra.proofs.ShapeLemmas.{shape-kept}
 
 -- a meaning follows from the shapes and meanings of the nodes that a node names
@@ -31,10 +31,7 @@ pub meaning_steps : (nodes : List PlanNode) (limit : ℕ) → SameSteps (meaning
 meaning_steps nodes limit number node below is v w same =
     meaning_local (shape_of nodes) (shape_of nodes) v w node (agree_self (shape_of nodes) (named_by node)) same
 
--- a node's meaning is its row over those of all nodes
-pub meaning-node : (nodes : List PlanNode) (limit : ℕ) → AreInOrder nodes limit → (number : ℕ) (node : PlanNode)
-    → number < limit → slice_get nodes number ≡ Some node
-    → IsPlanResult nodes number ≡ meaning_from (shape_of nodes) (IsPlanResult nodes) node
+pub meaning-node : FollowsRow IsPlanResult (λ nodes. meaning_from (shape_of nodes))
 unfolding IsPlanResult
 meaning-node nodes limit order number node below is =
     nodewise-node (meaning_from (shape_of nodes)) NoMeaning nodes limit order (meaning_steps nodes limit) number node below is

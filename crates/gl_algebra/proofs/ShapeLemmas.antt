@@ -6,7 +6,7 @@ use Rattle.gl_algebra.specs.Columns.{bit_kind, OpFits, OperandFits, AggFits}
 use Rattle.gl_algebra.specs.Nodewise.{named_by}
 use Rattle.gl_algebra.specs.Shapes.{Shape, no_shape, shape_from, shape_of}
 use Rattle.gl_algebra.specs.Fits.{Suits, Fits}
-use Rattle.gl_algebra.proofs.NodewiseLemmas.{Agree, AreInOrder, SameSteps, agree, nodewise-kept, nodewise-node}
+use Rattle.gl_algebra.proofs.NodewiseLemmas.{Agree, AreInOrder, SameSteps, agree, nodewise-kept, nodewise-node, FollowsRow}
 
 module _ (s t : ℕ → Shape) where
   -- a node's shape follows from those of the nodes that it names
@@ -55,9 +55,7 @@ module _ (nodes nodes' : List PlanNode) (limit : ℕ) (order : AreInOrder nodes 
         fits.suits;
   }
 
--- a node's shape is its row over the shapes of all nodes
-pub shape-node : (nodes : List PlanNode) (limit : ℕ) → AreInOrder nodes limit → (number : ℕ) (node : PlanNode)
-    → number < limit → slice_get nodes number ≡ Some node → shape_of nodes number ≡ shape_from (shape_of nodes) node
+pub shape-node : FollowsRow shape_of (λ nodes. shape_from)
 unfolding shape_of
 shape-node nodes limit order number node below is =
     nodewise-node shape_from no_shape nodes limit order (shape_steps nodes limit) number node below is

@@ -8,7 +8,7 @@ use Rattle.gl_algebra.specs.declared.node.PlanNode.TheVariants.{Stream, Body, Co
 use Rattle.gl_algebra.specs.FigureTable.{IsSound, figures_from, figures_of, spacer_figures}
 use Rattle.gl_algebra.specs.Fits.{Suits, IsPlan}
 use Rattle.gl_algebra.specs.Nodewise.{named_by, nodewise}
-use Rattle.gl_bits.specs.Results.{Row}
+use Rattle.gl_bits.specs.Results.{Row, AreSame}
 use Rattle.gl_algebra.specs.Results.{Inputs, meaning_from, IsPlanResult}
 use Rattle.gl_algebra.specs.Shapes.{Shape, kinds_of, Pace, unsteady, once, with_stream, with_body, shape_from, shape_of, is_closing}
 use Rattle.gl_algebra.specs.Cost.{lean_from, lean_of, store_from, store_of}
@@ -82,11 +82,6 @@ has_union_from unions (Group source body key groups) = unions source || unions b
 
 unfoldable pub has_union : List PlanNode → ℕ → Bool
 has_union nodes = nodewise has_union_from false nodes
-
--- one result is the other
-pub record AreSame (out out' : List Row) (spill spill' : Bool) : Type 0 where
-  pub rows : out ≡ out'
-  pub spills : spill ≡ spill'
 
 -- a node without a union has one result at most for inputs
 abbrev pub ResultsAreUnique : Type 0

@@ -1,8 +1,9 @@
--- Plain facts about lists: their lengths and places, and facts of all their elements.
-use Rattle.std.proofs.Common.{◌≡◌, ℕ, zero, suc, ◌+◌, ◌<◌, ◌≤◌, List, [], ◌∷◌, ◌++◌, length, take, get_or, None, Some, refl, sym, ap, ◌∙◌, arith}
+-- Plain facts about lists: their lengths and places, facts of all their elements, and words of texts.
+use Rattle.std.proofs.Common.{◌≡◌, ℕ, zero, suc, ◌+◌, ◌-◌, ◌<◌, ◌≤◌, List, [], ◌∷◌, ◌++◌, length, length-drop, take, drop, get_or, get_or-drop, None, Some, refl, sym, ap, ◌∙◌, arith}
 use Rattle.std.specs.Prelude.{map, slice_get}
 use Rattle.std.specs.List.{AllByRecursion, AllZip}
-use Rattle.gl_bits.proofs.Options.{not_some}
+use Rattle.std.proofs.lemmas.List.{take_more}
+use Rattle.gl_bits.proofs.Options.{not_some, some_same}
 
 -- ---- all elements
 
@@ -72,10 +73,22 @@ get_mapped f [] i x h = absurd (not_some x h)
 get_mapped f (y ∷ xs) zero x h = let same : y ≡ x = cc in ap (λ z. Some (f z)) same
 get_mapped f (y ∷ xs) (suc i) x h = get_mapped f xs i x h
 
+-- what stands in a list that was mapped is made of what stands at its place
+pub get_unmapped : {A B : Type 0} (f : A → B) (xs : List A) (i : ℕ) (y : B) → slice_get (map f xs) i ≡ Some y → (x : A) × (slice_get xs i ≡ Some x) × (f x ≡ y)
+get_unmapped f [] i y h = absurd (not_some y h)
+get_unmapped f (x ∷ xs) zero y h = (x, refl, some_same (f x) y h)
+get_unmapped f (x ∷ xs) (suc i) y h = get_unmapped f xs i y h
+
 pub get_below : {A : Type 0} (xs : List A) (i : ℕ) (x : A) → slice_get xs i ≡ Some x → i < length xs
 get_below [] i x h = absurd (not_some x h)
 get_below (y ∷ xs) zero x h = omega arith
 get_below (y ∷ xs) (suc i) x h = let below = get_below xs i x h in omega arith
+
+-- something stands at each place
+pub get_there : {A : Type 0} (xs : List A) (i : ℕ) → i < length xs → (x : A) × (slice_get xs i ≡ Some x)
+get_there [] i lt = absurd (omega arith)
+get_there (x ∷ xs) zero lt = (x, refl)
+get_there (x ∷ xs) (suc i) lt = get_there xs i (omega arith)
 
 -- the front of a list with one element more
 pub taken_next : {A : Type 0} (xs : List A) (i : ℕ) (x : A) → i < length xs → x ≡ get_or xs i x → take (i + 1) xs ≡ take i xs ++ x ∷ []
@@ -96,3 +109,16 @@ heads x y xs ys h = cc
 
 pub tails : {A : Type 0} (x y : A) (xs ys : List A) → x ∷ xs ≡ y ∷ ys → xs ≡ ys
 tails x y xs ys h = cc
+
+-- ---- words of a text
+
+-- a word that begins at a place grows by the byte behind it
+pub word_grows : (text : List ℕ) (from at : ℕ) → from ≤ at → at < length text → take (at + 1 - from) (drop from text) ≡ take (at - from) (drop from text) ++ get_or text at 0 ∷ []
+word_grows text from at le lt =
+    let n : at + 1 - from ≡ at - from + 1 = omega arith in
+    let short : at - from < length (drop from text) = omega (arith, length-drop from text) in
+    let place : from + (at - from) ≡ at = omega arith in
+    rw (n, take_more (drop from text) (at - from) 0 short) (ap (λ (x : ℕ). take (at - from) (drop from text) ++ x ∷ []) (get_or-drop from text (at - from) 0 ∙ ap (λ (k : ℕ). get_or text k 0) place))
+
+pub word_starts : (text : List ℕ) (at : ℕ) → at < length text → take (at + 1 - at) (drop at text) ≡ get_or text at 0 ∷ []
+word_starts text at lt = word_grows text at at (omega arith) lt ∙ ap (λ (k : ℕ). take k (drop at text) ++ get_or text at 0 ∷ []) (let z : at - at ≡ 0 = omega arith in z)

@@ -1,6 +1,7 @@
--- Plain facts about truth values, texts that are compared, and numbers of one bit.
-use Rattle.std.proofs.Common.{◌≡◌, ◌≢◌, ℕ, ◌^◌, ◌<◌, ◌⊎◌, inl, inr, Bool, true, false, not, List, refl, arith, eq-eqb, ne_eqb}
-use Rattle.std.specs.Prelude.{◌&&◌, ◌||◌, bytes_eq}
+-- Plain facts about truth values, numbers and texts that are compared, and numbers of one bit.
+use Rattle.std.proofs.Common.{◌≡◌, ◌≢◌, ℕ, ◌^◌, ◌<◌, ◌⊎◌, inl, inr, Bool, true, false, not, List, refl, sym, ◌∙◌, arith, eq-eqb, ne_eqb}
+use Rattle.std.specs.Prelude.{◌&&◌, ◌||◌, bytes_eq, nat_eq}
+use Rattle.std.proofs.lemmas.Bool.Decides.{eqb_tells}
 use Rattle.std.proofs.lemmas.Slice.Eq.{bytes_eq-Decides}
 use Rattle.gl_bits.specs.Words.{bit, choose_of}
 
@@ -87,6 +88,23 @@ pub by_cases : {X : Type 0} (a : Bool) → (a ≡ true → X) → (a ≡ false �
 by_cases true p q = p refl
 by_cases false p q = q refl
 
+-- two that are true together are one
+pub same_when : (a b : Bool) → (a ≡ true → b ≡ true) → (b ≡ true → a ≡ true) → a ≡ b
+same_when true b f g = let e : b ≡ true = f refl in sym e
+same_when false true f g = g refl
+same_when false false f g = refl
+
+-- ---- numbers that are compared
+
+pub same_test : (a b c d : ℕ) → (a ≡ b → c ≡ d) → (c ≡ d → a ≡ b) → nat_eq a b ≡ nat_eq c d
+same_test a b c d f g = elim (eqb_tells a b) [
+  | inl h ↦ (let e = eq-eqb c d (f h.1) in h.0 ∙ sym e)
+  | inr h ↦ (let e = ne_eqb c d (λ q. h.1 (g q)) in h.0 ∙ sym e)
+]
+
+pub eq_turned : (a b : ℕ) → nat_eq a b ≡ nat_eq b a
+eq_turned a b = same_test a b b a (λ e. sym e) (λ e. sym e)
+
 -- ---- texts
 
 pub bytes_same : (xs ys : List ℕ) → bytes_eq xs ys ≡ true → xs ≡ ys
@@ -103,6 +121,11 @@ bytes_other xs ys h = else_false (bytes_eq xs ys) (λ e. h (bytes_same xs ys e))
 pub bit_fits : (b : Bool) → bit b < 2 ^ 1
 bit_fits true = omega arith
 bit_fits false = omega arith
+
+-- a bit is 1 where it stands for true
+pub bit_is : (b : Bool) → nat_eq (bit b) 1 ≡ b
+bit_is true = refl
+bit_is false = refl
 
 -- ---- choices
 

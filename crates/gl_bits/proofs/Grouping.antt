@@ -1,12 +1,13 @@
 -- Groups: their keys, and that each row of the first keys is in exactly one.
-use Rattle.std.proofs.Common.{◌≡◌, ℕ, zero, suc, ◌+◌, ◌<◌, ◌≤◌, List, [], ◌∷◌, ◌++◌, Bool, true, false, cond, length, length-take, length-append, take, take_all, get_or, append-nil, refl, sym, ap, ◌∙◌, subst, arith, inl, inr, eqb-true, ne_eqb}
+use Rattle.std.proofs.Common.{◌≡◌, ℕ, zero, suc, ◌+◌, ◌<◌, ◌≤◌, List, [], ◌∷◌, ◌++◌, Bool, true, false, cond, length, length-take, length-append, take, take_all, get_or, append-nil, refl, sym, ap, ◌∙◌, subst, arith, inl, inr, eqb-true}
 use Rattle.std.specs.Prelude.{if◌then◌else◌, ◌&&◌, ◌⊎◌, nat_lt, slice_index, map, filter, not, ◌||◌, nat_eq, sum_by}
 use Rattle.std.specs.List.{list_any}
 use Rattle.std.proofs.lemmas.List.Sums.{sum_by-cons}
 use Rattle.std.proofs.lemmas.Bool.Decides.{eqb_tells, leb_tells}
 use Rattle.std.proofs.lemmas.List.{take-append-le}
+use Rattle.std.proofs.lemmas.List.Elements.{filter-append}
 use Rattle.gl_bits.proofs.AllLists.{map_map}
-use Rattle.gl_bits.proofs.Bools.{neither_left, neither_right}
+use Rattle.gl_bits.proofs.Bools.{neither_left, neither_right, eq_turned}
 use Rattle.gl_bits.specs.Lists.{distinct, keys_of, rows_with, groups, Group}
 use Rattle.gl_bits.specs.Tables.{keyed_groups, table_group, with_key}
 use Rattle.gl_bits.specs.Laws.{HaveFirstKeys}
@@ -107,30 +108,8 @@ have_first_keys {A = A} n key_of xs =
 
 -- ---- one row more
 
-any-append : (p : ℕ → Bool) (xs ys : List ℕ) → list_any p (xs ++ ys) ≡ (list_any p xs || list_any p ys)
-any-append p [] ys = refl
-any-append p (x ∷ xs) ys = split (p x) (any-append p xs ys)
-  where
-    split : (b : Bool) → list_any p (xs ++ ys) ≡ (list_any p xs || list_any p ys) → (b || list_any p (xs ++ ys)) ≡ ((b || list_any p xs) || list_any p ys)
-    split true later = refl
-    split false later = later
-
-eq_turned : (x y : ℕ) → nat_eq x y ≡ nat_eq y x
-eq_turned x y = elim (eqb_tells x y) [
-  | inl t ↦ rw (t.1) refl
-  | inr t ↦ t.0 ∙ sym (ne_eqb y x (λ e. t.1 (sym e)))
-]
-
-filter-append : (q : ℕ → Bool) (xs ys : List ℕ) → filter q (xs ++ ys) ≡ filter q xs ++ filter q ys
-filter-append q [] ys = refl
-filter-append q (x ∷ xs) ys = split (q x) (filter-append q xs ys)
-  where
-    split : (b : Bool) → filter q (xs ++ ys) ≡ filter q xs ++ filter q ys → cond b (x ∷ filter q (xs ++ ys)) (filter q (xs ++ ys)) ≡ cond b (x ∷ filter q xs) (filter q xs) ++ filter q ys
-    split true later = ap (λ l. x ∷ l) later
-    split false later = later
-
 -- to leave out another number does not change whether x is there
-any_other : (x y : ℕ) (zs : List ℕ) → nat_eq x y ≡ false → list_any (nat_eq x) (filter (λ z. not (nat_eq y z)) zs) ≡ list_any (nat_eq x) zs
+pub any_other : (x y : ℕ) (zs : List ℕ) → nat_eq x y ≡ false → list_any (nat_eq x) (filter (λ z. not (nat_eq y z)) zs) ≡ list_any (nat_eq x) zs
 any_other x y [] other = refl
 any_other x y (z ∷ zs) other = split (nat_eq y z) refl (any_other x y zs other)
   where

@@ -1,6 +1,8 @@
 pub mod Bools
 pub mod Options
 pub mod AllLists
+pub mod KindLemmas
+pub mod Unique
 pub mod Wrapping
 pub mod Slicing
 pub mod Grouping

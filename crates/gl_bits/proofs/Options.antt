@@ -1,6 +1,6 @@
--- Plain facts about what may be absent, and about results.
-use Rattle.std.proofs.Common.{◌≡◌, true, Option, Some, None, Result, Ok, Err, refl, sym, subst}
-use Rattle.std.specs.Prelude.{is_some, option_map, option_and_then, IfSome, OnErr}
+-- Plain facts about what may be absent.
+use Rattle.std.proofs.Common.{◌≡◌, true, Option, Some, None, refl, sym, subst}
+use Rattle.std.specs.Prelude.{is_some, option_map, option_and_then, IsSomeAnd}
 
 pub some_same : {A : Type 0} (x y : A) → Some x ≡ Some y → x ≡ y
 some_same x y h = cc
@@ -12,9 +12,9 @@ not_some x h = absurd cc
 pub some_fact : {A : Type 0} (P : A → Type 0) (x y : A) → Some x ≡ Some y → P x → P y
 some_fact P x y h p = subst P (some_same x y h) p
 
-pub if_some : {A : Type 0} (P : A → Type 0) (o : Option A) (x : A) → o ≡ Some x → IfSome o P → P x
-if_some P None x h p = absurd (not_some x h)
-if_some P (Some y) x h p = some_fact P y x h p
+pub some_and : {A : Type 0} (P : A → Type 0) (o : Option A) (x : A) → o ≡ Some x → P x → IsSomeAnd o P
+some_and P None x h p = absurd (not_some x h)
+some_and P (Some y) x h p = subst P (sym (some_same y x h)) p
 
 -- what is there
 pub some_there : {A : Type 0} (o : Option A) → is_some o ≡ true → (x : A) × (o ≡ Some x)
@@ -28,8 +28,3 @@ map_some f (Some x) y h = (x, refl, (let g : f x ≡ y = cc in sym g))
 pub then_some : {A B : Type 0} (f : A → Option B) (o : Option A) (y : B) → option_and_then f o ≡ Some y → (x : A) × (o ≡ Some x) × (f x ≡ Some y)
 then_some f None y h = absurd cc
 then_some f (Some x) y h = (x, refl, h)
-
--- a weaker fact of a refusal
-pub on_err : {T E : Type 0} {P Q : Type 0} (r : Result T E) → (P → Q) → OnErr r P → OnErr r Q
-on_err (Ok x) f p = tt
-on_err (Err e) f p = f p

@@ -1,7 +1,7 @@
 -- What the loops over values keep.
-use Rattle.std.proofs.Common.{◌≡◌, ℕ, zero, suc, ◌+◌, ◌*◌, ◌/◌, ◌%◌, ◌^◌, ◌<◌, ◌≤◌, List, [], ◌∷◌, length, take, get_or, refl, sym, ap, ◌∙◌, arith, take_all, ne_eqb, ◌⊎◌, inl, inr}
+use Rattle.std.proofs.Common.{◌≡◌, ℕ, zero, suc, ◌+◌, ◌/◌, ◌%◌, ◌^◌, ◌<◌, ◌≤◌, List, [], ◌∷◌, length, take, get_or, refl, sym, ap, ◌∙◌, arith, take_all, ne_eqb, ◌⊎◌, inl, inr}
 use Rattle.std.specs.Prelude.{sum, fold, map, ◌≢◌, ℤ, pos, ◌+ℤ◌}
-use Rattle.std.proofs.Math.Nat.{mod-add-mod, add-mod-mod, zero-mod}
+use Rattle.std.proofs.Math.Nat.{mod-add-mod, zero-mod}
 use Rattle.gl_bits.proofs.Wrapping.{wraps_within}
 use Rattle.gl_bits.specs.declared.kind.Kind.{Kind}
 use Rattle.gl_bits.specs.declared.kind.Kind.TheVariants.{Unsigned, Text}
@@ -55,20 +55,6 @@ average_some kind xs n e some =
 pub average_none : (kind : Kind) (xs : List ℕ) → count_of xs ≡ 0 → average_of kind xs ≡ 0
 unfolding average_of
 average_none kind xs e = rw e (zero-mod (2 ^ width_of kind))
-
--- one more value by its weight
-pub weigh_more : (total n x : ℕ) (ns xs : List ℕ) → ((total + n * x % 2 ^ 128) % 2 ^ 128 + weighted ns xs) % 2 ^ 128 ≡ (total + weighted (n ∷ ns) (x ∷ xs)) % 2 ^ 128
-weigh_more total n x ns xs =
-    mod-add-mod (total + n * x % 2 ^ 128) (2 ^ 128) (weighted ns xs)
-    ∙ ap (λ m. m % 2 ^ 128) turned
-    ∙ add-mod-mod (total + weighted ns xs) (n * x) (2 ^ 128)
-    ∙ ap (λ m. m % 2 ^ 128) back
-  where
-    turned : total + n * x % 2 ^ 128 + weighted ns xs ≡ total + weighted ns xs + n * x % 2 ^ 128
-    turned = omega arith
-
-    back : total + weighted ns xs + n * x ≡ total + (n * x + weighted ns xs)
-    back = omega arith
 
 weighted-none : (ns xs : List ℕ) → (length ns ≡ 0) ⊎ (length xs ≡ 0) → weighted ns xs ≡ 0
 weighted-none [] xs e = refl

@@ -1,9 +1,9 @@
 -- How the operations on 128 bits give those of a width.
-use Rattle.std.proofs.Common.{◌≡◌, ℕ, ◌+◌, ◌-◌, ◌*◌, ◌%◌, ◌^◌, ◌<◌, ◌≤◌, ap, ◌∙◌, subst, arith}
+use Rattle.std.proofs.Common.{◌≡◌, ℕ, ◌+◌, ◌-◌, ◌*◌, ◌/◌, ◌%◌, ◌^◌, ◌<◌, ◌≤◌, ap, ◌∙◌, subst, arith}
 use Rattle.std.proofs.Math.Pow.{mod-mod-pow}
-use Rattle.std.proofs.Math.Nat.{pow-le-pow_right, mod-eq_of_lt, add-mod_right}
+use Rattle.std.proofs.Math.Nat.{pow-le-pow_right, mod-eq_of_lt, add-mod_right, div-one}
 use Rattle.std.proofs.lemmas.Nat.{shl_whole, pow-add, mul-add-lt}
-use Rattle.gl_bits.specs.Words.{IsWord, sum_of, product_of, difference_of, join_of}
+use Rattle.gl_bits.specs.Words.{IsWord, sum_of, product_of, difference_of, join_of, cut_of}
 
 -- a number that wrapped in 128 bits wraps in fewer as the number itself
 pub wraps_within : (n w : ℕ) → w ≤ 128 → n % 2 ^ 128 % 2 ^ w ≡ n % 2 ^ w
@@ -37,6 +37,17 @@ difference_wraps w g x y is fits lt =
 pub fits_wider : (n v w : ℕ) → n < 2 ^ v → v ≤ w → n < 2 ^ w
 fits_wider n v w fits le =
     let wider : 2 ^ v ≤ 2 ^ w = pow-le-pow_right {n = 2} (omega arith) le in omega arith
+
+-- 1 has every width
+pub one_fits : (w : ℕ) → 1 ≤ w → 1 < 2 ^ w
+one_fits w some = pow-le-pow_right {n = 2} (omega arith) {i = 1} some
+
+-- the lowest bits
+pub cut_low : (w x : ℕ) → 1 ≤ w → cut_of (w - 1) 0 x ≡ x % 2 ^ w
+unfolding cut_of
+cut_low w x some =
+    let e : w - 1 + 1 - 0 ≡ w = omega (arith, some) in
+    ap (λ (n : ℕ). x / 2 ^ 0 % 2 ^ n) e ∙ ap (λ (n : ℕ). n % 2 ^ w) (div-one x)
 
 pub join_whole : (x y j k : ℕ) → x < 2 ^ j → j + k ≤ 128 → x * 2 ^ k % 2 ^ 128 + y ≡ join_of k x y
 unfolding join_of

@@ -11,6 +11,11 @@ Row = List ℕ
 abbrev pub Results : Type 1
 Results = List Row → Bool → Type 0
 
+-- two results are one
+pub record AreSame (out out' : List Row) (spill spill' : Bool) : Type 0 where
+  pub rows : out ≡ out'
+  pub spills : spill ≡ spill'
+
 -- rows that come in, none of which was left out
 pub record IsInput (given out : List Row) (spill : Bool) : Type 0 where
   pub rows : out ≡ given

@@ -1,15 +1,15 @@
 -- The values that the input ports of a module have in each cycle of a run over beats.
-use Rattle.std.proofs.Common.{◌≡◌, ℕ, zero, suc, ◌^◌, ◌<◌, Bool, true, false, List, [], ◌∷◌, map, Option, Some, None, refl, sym, ap, ◌∙◌, subst}
+use Rattle.std.proofs.Common.{◌≡◌, ℕ, zero, suc, ◌^◌, ◌<◌, Bool, true, false, List, [], ◌∷◌, map, Option, Some, None, sym, ap, ◌∙◌, subst}
 use Rattle.std.specs.Prelude.{slice_get, IfSome, if◌then◌else◌}
 use Rattle.std.specs.Option.{option_and_then, option_map, option_map_or}
 use Rattle.std.specs.List.{AllByRecursion, AllZip}
 use Rattle.gl_schema.specs.declared.schema.Schema.{Schema}
 use Rattle.gl_schema.specs.Beats.{Beat, AreBeats, beat_at, rows_at, ends_at}
 use Rattle.gl_schema.specs.Ports.{Pin, pins, IsStimulus}
-use Rattle.gl_verilog.specs.Module.{Module, Declaration, Kind, Input, OutputWire, OutputRegister, Wire, Register, Memory, Nets, number_of}
+use Rattle.gl_verilog.specs.Module.{Module, Declaration, Input, Nets, number_of}
 use Rattle.gl_verilog.specs.Run.{input_values, input_number, is_input_at}
 use Rattle.gl_verilog.specs.Run.{is_input as leads_in}
-use Rattle.gl_verilog.specs.Runnable.{is_input, inputs_of, FitInputs, HasInputs}
+use Rattle.gl_verilog.specs.Runnable.{inputs_of, FitInputs, HasInputs}
 use Rattle.gl_verilog.specs.Text.{HasModule}
 use Rattle.gl_verilog.specs.Widths.{width_at}
 use Rattle.gl_verilog.proofs.Fits.{width_at-found}
@@ -20,16 +20,9 @@ use Rattle.gl_compiler.specs.Carried.{pin_named, pin_at, at_reset, with_beat}
 use Rattle.gl_schema.specs.Profile.{input_ports}
 use Rattle.gl_schema.proofs.Pinned.{pins_fit}
 use Rattle.gl_verilog_fit.specs.Profile.{FitsSchema, input_width, ports_of}
+use Rattle.gl_verilog_fit.proofs.Fits.{kind_is_input}
 use Rattle.gl_compiler.proofs.Carries.{Fact, OfBoth, IsNarrow, found, zip_all}
 use Rattle.gl_verilog_fit.proofs.Declared as declared
-
-kind_is_input : (k : Kind) → is_input k ≡ true → k ≡ Input
-kind_is_input Input e = refl
-kind_is_input OutputWire e = absurd cc
-kind_is_input OutputRegister e = absurd cc
-kind_is_input Wire e = absurd cc
-kind_is_input Register e = absurd cc
-kind_is_input (Memory bits) e = absurd cc
 
 zip_maps : {A : Type 0} (R : ℕ → ℕ → Type 0) (f : ℕ → A) (g : A → ℕ) (ns : List ℕ) → AllByRecursion (λ n. R n (g (f n))) ns → AllZip R ns (map g (map f ns))
 zip_maps R f g [] h = tt

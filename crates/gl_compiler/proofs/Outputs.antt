@@ -14,7 +14,8 @@ use Rattle.gl_verilog.specs.Widths.{IsNet, IsReadable, is_clock, width_at}
 use Rattle.gl_verilog.proofs.Fits.{in_range, width_at-found}
 use Rattle.gl_compiler.specs.declared.pins.Shows.{Shows}
 use Rattle.gl_compiler.specs.Benches.{columns_from, AreShows}
-use Rattle.gl_verilog_fit.specs.Profile.{FitsSchema, HasLine, IsLine, is_output, shows_column, ports_of, port_named, result_names, result_widths}
+use Rattle.gl_verilog_fit.specs.Profile.{FitsSchema, IsLine, is_output, shows_column, ports_of, port_named, result_names, result_widths}
+use Rattle.gl_verilog_fit.proofs.Fits.{line_named}
 use Rattle.gl_verilog_fit.proofs.Declared.{number_at, distinct_take, get_take}
 use Rattle.gl_bits.proofs.AllLists.{map_map}
 use Rattle.gl_bits.proofs.Bools.{bytes_same}
@@ -64,9 +65,6 @@ line_same m v v' name other line same = some_same v v' (number_of (ports_of m) n
     each : (o : Option ℕ) → IfSome o (IsNamed (ports_of m) name IsLine) → IfSome o (λ k. v k ≡ v' k)
     each None h = tt
     each (Some k) h = same k h.d (get_take m.ports m.declarations k h.d h.there) (line_readable name h.d other h.is h.same)
-
-has_line : (m : Module) (name : List ℕ) → HasLine m name → IfSome (port_named m name) IsLine
-has_line m name h = subst (λ (o : Option Declaration). IfSome o IsLine) (sym h.there) h.line
 
 -- a number that is found is one of a declaration
 number_in : (ds : List Declaration) (name : List ℕ) → IfSome (number_of ds name) (λ k. k < length ds)
@@ -205,8 +203,8 @@ pub shown_same : (text : List ℕ) (schema : Schema) (m : Module) (v : Nets) (va
 unfolding shown
 shown_same text schema m v value n has fits same =
     let v' : Nets = value (suc n) in
-    let valid : option_map v (number_of (ports_of m) out_valid) ≡ option_map v' (number_of (ports_of m) out_valid) = line_same m v v' out_valid valid_is_no_clock (has_line m out_valid fits.valid) same in
-    let ends : option_map v (number_of (ports_of m) out_eos) ≡ option_map v' (number_of (ports_of m) out_eos) = line_same m v v' out_eos ends_is_no_clock (has_line m out_eos fits.end) same in
+    let valid : option_map v (number_of (ports_of m) out_valid) ≡ option_map v' (number_of (ports_of m) out_valid) = line_same m v v' out_valid valid_is_no_clock (line_named m out_valid fits.valid) same in
+    let ends : option_map v (number_of (ports_of m) out_eos) ≡ option_map v' (number_of (ports_of m) out_eos) = line_same m v v' out_eos ends_is_no_clock (line_named m out_eos fits.end) same in
     let group : option_map v (number_of (ports_of m) fault_group) ≡ option_map v' (number_of (ports_of m) fault_group) = line_same m v v' fault_group group_is_no_clock fits.group same in
     let queue : option_map v (number_of (ports_of m) fault_queue) ≡ option_map v' (number_of (ports_of m) fault_queue) = line_same m v v' fault_queue queue_is_no_clock fits.queue same in
     let columns : map (λ name. unwrap_or (option_map v (number_of (ports_of m) name)) 0) (result_names m) ≡ map (λ name. unwrap_or (option_map v' (number_of (ports_of m) name)) 0) (result_names m) =

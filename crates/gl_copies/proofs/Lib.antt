@@ -7,3 +7,4 @@ pub mod WholeFits
 pub mod WholeServes
 pub mod NumberLemmas
 pub mod VisitLemmas
+pub mod TurnLemmas

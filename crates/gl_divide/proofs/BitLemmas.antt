@@ -69,13 +69,6 @@ with_bit_more w x b some =
     ap (λ (n : ℕ). x / 2 ^ 0 % 2 ^ n * 2 + bit b) low ∙ ap (λ (n : ℕ). n % 2 ^ v * 2 + bit b) (div-one x)
     ∙ sym (ap (λ (n : ℕ). n % 2 ^ w) over ∙ add-mul-mod_self_right (r * 2 + bit b) q (2 ^ w) ∙ mod-eq_of_lt below)
 
--- the lowest bits
-pub cut_low : (w x : ℕ) → 1 ≤ w → cut_of (w - 1) 0 x ≡ x % 2 ^ w
-unfolding cut_of
-cut_low w x some =
-    let e : w - 1 + 1 - 0 ≡ w = omega (arith, some) in
-    ap (λ (n : ℕ). x / 2 ^ 0 % 2 ^ n) e ∙ ap (λ (n : ℕ). n % 2 ^ w) (div-one x)
-
 -- zero bits above a word
 pub none_above : (w x : ℕ) → join_of w 0 x ≡ x
 unfolding join_of

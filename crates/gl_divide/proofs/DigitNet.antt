@@ -1,12 +1,14 @@
 -- What the gates of one digit give.
-use Rattle.std.proofs.Common.{◌≡◌, ℕ, zero, suc, ◌+◌, ◌-◌, ◌*◌, ◌%◌, ◌^◌, ◌<◌, ◌≤◌, Some, Bool, true, false, refl, sym, ap, ◌∙◌, arith}
+use Rattle.std.proofs.Common.{◌≡◌, ℕ, zero, suc, ◌+◌, ◌-◌, ◌*◌, ◌%◌, ◌^◌, ◌<◌, ◌≤◌, Some, Bool, refl, sym, ap, ◌∙◌, arith}
 use Rattle.std.specs.Prelude.{nat_eq, nat_le, not, ◌||◌, if◌then◌else◌}
 use Rattle.gl_bits.specs.Words.{bit, choose_of, cut_of, difference_of, join_of, le_of, not_of}
+use Rattle.gl_bits.proofs.Bools.{bit_is}
 use Rattle.gl_net.specs.declared.node.Bus.{Bus}
 use Rattle.gl_net.specs.declared.node.Bit.{Bit}
-use Rattle.gl_net.specs.Net.{Net, Run, IsRun, IsBit, IsBus, Keeps, Value, shape_in}
+use Rattle.gl_net.specs.Net.{Net, Run, IsRun, IsBit, IsBus, Value, shape_in}
 use Rattle.gl_net.proofs.Values.{bit_fits}
 use Rattle.gl_wire.specs.Wire.{line_at}
+use Rattle.gl_wire.proofs.GateLemmas.{choose_line}
 use Rattle.gl_divide.specs.Division.{fits, highest, left, with_bit}
 use Rattle.gl_divide.proofs.BitLemmas.{with_bit_more, with_bit_one}
 use Rattle.gl_divide.proofs.RestLemmas.{IsLong, IsShort, is_short}
@@ -20,10 +22,6 @@ bit_value (suc (suc x)) lt = absurd (omega arith)
 pub line_value : (net : Net) (run : Run) (b : Bit) → IsBit net b → IsRun net run → (t : ℕ) → run.at (suc t) b.node ≡ bit (line_at run b (suc t))
 unfolding line_at
 line_value net run b is r t = bit_value (run.at (suc t) b.node) (bit_fits net b run is r (suc t))
-
-pub bit_is : (b : Bool) → nat_eq (bit b) 1 ≡ b
-bit_is true = refl
-bit_is false = refl
 
 module _ (run : Run) (out : Bit) where
   pub highest_line : (bus : Bus) → ((t : ℕ) → run.at t out.node ≡ cut_of (bus.width - 1) (bus.width - 1) (run.at t bus.node)) → (t : ℕ)
@@ -49,11 +47,6 @@ module _ (net : Net) (run : Run) (r : IsRun net run) (bus out : Bus) (low : Bit)
   shifted_more some value t =
       value (suc t) ∙ ap (λ (n : ℕ). join_of 1 (cut_of (bus.width - 2) 0 (run.at (suc t) bus.node)) n) (line_value net run low is r t)
       ∙ with_bit_more bus.width (run.at (suc t) bus.node) (line_at run low (suc t)) some
-
--- a choice by a line
-pub choose_line : (run : Run) (line : Bit) (t x y : ℕ) → choose_of (run.at (suc t) line.node) x y ≡ (if line_at run line (suc t) then x else y)
-unfolding choose_of line_at
-choose_line run line t x y = refl
 
 -- a line that is 0 where another is 1
 not_bits : (x : ℕ) → x < 2 → nat_eq (not_of 1 x) 1 ≡ not (nat_eq x 1)
@@ -90,7 +83,7 @@ module _ (run : Run) (rest bottom more less out : Bus) (next over enough fit : B
       → run.at (suc t) out.node ≡ choose_of (run.at (suc t) fit.node) (run.at (suc t) less.node) (run.at (suc t) more.node)
       → run.at (suc t) out.node ≡ left (run.at (suc t) rest.node) (run.at (suc t) bottom.node) (line_at run next (suc t))
   long_left is_less is_out =
-      is_out ∙ choose_line run fit t (run.at (suc t) less.node) (run.at (suc t) more.node)
+      is_out ∙ choose_line run fit (run.at (suc t) less.node) (run.at (suc t) more.node) t
       ∙ ap (λ (b : Bool). if b then run.at (suc t) less.node else run.at (suc t) more.node) long_line ∙ rw (is_less, is_more) is.kept
 
 module _ (run : Run) (w : ℕ) (rest bottom more less kept out : Bus) (next under fit : Bit) (t : ℕ) (lt : run.at (suc t) rest.node < run.at (suc t) bottom.node)
@@ -112,7 +105,7 @@ module _ (run : Run) (w : ℕ) (rest bottom more less kept out : Bus) (next unde
       → run.at (suc t) out.node ≡ run.at (suc t) kept.node % 2 ^ w
       → run.at (suc t) out.node ≡ left (run.at (suc t) rest.node) (run.at (suc t) bottom.node) (line_at run next (suc t))
   short_left is_kept is_out =
-      is_out ∙ ap (λ (n : ℕ). n % 2 ^ w) (is_kept ∙ choose_line run under t (run.at (suc t) more.node) (run.at (suc t) less.node)
+      is_out ∙ ap (λ (n : ℕ). n % 2 ^ w) (is_kept ∙ choose_line run under (run.at (suc t) more.node) (run.at (suc t) less.node) t
       ∙ ap (λ (b : Bool). if b then run.at (suc t) more.node else run.at (suc t) less.node) is_under
       ∙ ap (λ (n : ℕ). if highest (w + 1) (run.at (suc t) less.node) then n else run.at (suc t) less.node) is_more
       ∙ ap (λ (n : ℕ). if highest (w + 1) n then 2 * run.at (suc t) rest.node + bit (line_at run next (suc t)) else n) by_less) ∙ is.kept
@@ -123,6 +116,3 @@ bus_of net line b is node width = record {
   there = ap (shape_in net.nodes) node ∙ is.there ∙ sym (ap (λ (w : ℕ). Some (Value w)) width);
   width = record { some' = omega (arith, width); most = omega (arith, width) };
 }
-
-pub bit_kept : (old new : Net) (b : Bit) → Keeps old new → IsBit old b → IsBit new b
-bit_kept old new b keeps is = record { there = keeps.shapes b.node _ is.there }

@@ -67,10 +67,7 @@ pub record IsStage (net : Net) (top_width bottom_width : ℕ) (s : Stage) : Type
 abbrev pub division_at : Run → ℕ → Stage → Division
 division_at run t s = record { digits = run.at t s.digits.node; rest = run.at t s.rest.node; bottom = run.at t s.bottom.node }
 
--- what the registers of the first stage hold, and those of each further one
-abbrev pub cost_of_start : ℕ → ℕ → Cost
-cost_of_start top_width bottom_width = record { nodes = 4; registers = top_width + bottom_width + 1; memories = 0 }
-
+-- what a further stage costs
 abbrev pub cost_of_step : ℕ → ℕ → Cost
 cost_of_step top_width bottom_width = record { nodes = 15; registers = top_width + 2 * bottom_width + 1; memories = 0 }
 

@@ -12,12 +12,6 @@ use Rattle.gl_elaborate.specs.Fitting.{FitsNext, LevelsFit, LevelledFit, IsStep}
 
 -- ---- a step
 
-pub levelled-flat : (base : ℕ) (at : Placed) (items conditions : List Term) → depth_of_all items ≡ 0 → depth_of_all conditions ≡ 0
-    → levelled base at items conditions ≡ record { at = at; items = items; conditions = conditions }
-levelled-flat base at items conditions e f =
-    let none : depth_of_all (items ++ conditions) ≡ 0 = (let both = depth-both items conditions in omega arith) in
-    ap (λ (d : ℕ). levels d base at items conditions) none
-
 module _ (base : ℕ) (at : Placed) (items conditions : List Term) where
   abbrev level : List ColOp
   level = level_of (items ++ conditions)

@@ -1,25 +1,23 @@
 -- One slot in its registers, and one slot more.
-use Rattle.std.proofs.Common.{◌≡◌, ℕ, zero, suc, ◌+◌, ◌<◌, ◌≤◌, List, [], ◌∷◌, ◌++◌, length, Some, None, refl, sym, ap, ◌∙◌, subst, arith, inl, inr, ◌⊎◌, length-append}
+use Rattle.std.proofs.Common.{◌≡◌, ℕ, zero, suc, ◌+◌, ◌<◌, ◌≤◌, List, [], ◌∷◌, ◌++◌, length, Some, refl, sym, ap, ◌∙◌, subst, arith, inl, inr, ◌⊎◌, length-append}
 use Rattle.std.specs.Prelude.{slice_get, not, ◌&&◌, ◌||◌, if◌then◌else◌, nat_eq}
 use Rattle.std.proofs.lemmas.Bool.{cases_lt}
 use Rattle.gl_bits.specs.Words.{choose_of}
-use Rattle.gl_bits.proofs.AllLists.{get_front, get_last}
+use Rattle.gl_bits.proofs.AllLists.{get_last}
 use Rattle.gl_net.specs.declared.node.Bus.{Bus}
 use Rattle.gl_net.specs.declared.node.Bit.{Bit}
-use Rattle.gl_net.specs.Net.{Net, Run, IsBit, Grows, Keeps, open_at}
-use Rattle.gl_net.specs.Builds.{OthersStay}
+use Rattle.gl_net.specs.Net.{Net, Run, IsBit, Keeps}
 use Rattle.gl_net.proofs.Determined.{keeps_then}
 use Rattle.gl_net.proofs.Growth.{same_keeps}
 use Rattle.gl_net.proofs.Lists.{get_push_cases}
 use Rattle.gl_wire.specs.Gates.{same_at}
 use Rattle.gl_wire.specs.Wire.{AreBuses, line_at}
-use Rattle.gl_wire.proofs.ColumnLemmas.{AreBuses-none, AreBuses-push, buses_kept}
+use Rattle.gl_wire.proofs.ColumnLemmas.{AreBuses-none, AreBuses-push, buses_kept, bit_kept}
+use Rattle.gl_wire.proofs.GateLemmas.{choose_line}
 use Rattle.gl_registers.specs.Held.{held_at}
 use Rattle.gl_registers.specs.Lines.{AreBits, line_of}
-use Rattle.gl_registers.proofs.CounterLemmas.{choose_line, held_by}
-use Rattle.gl_registers.proofs.LineLemmas.{bit_kept, line_of-get}
-use Rattle.gl_registers.proofs.ListLemmas.{nat_dec}
-use Rattle.gl_registers.proofs.RegisterLemmas.{place_in}
+use Rattle.gl_registers.proofs.CounterLemmas.{held_by}
+use Rattle.gl_registers.proofs.LineLemmas.{line_of-get, line_of-old}
 use Rattle.gl_groups.specs.declared.slots.Found.{Found}
 use Rattle.gl_groups.specs.declared.slots.Slot.{Slot}
 use Rattle.gl_groups.specs.declared.slots.SlotLines.{SlotLines}
@@ -49,9 +47,6 @@ key_at run key next value takes_bit used free ask first drive is_next is_takes t
     ∙ ap (λ b. if b then held_at 0 run value t else held_at 0 run key t) (is_takes t)
 
 -- ---- lists that grow at the end
-
-line_old : (run : Run) (bs : List Bit) (b : Bit) (k t : ℕ) → k < length bs → line_of run (bs ++ b ∷ []) k t ≡ line_of run bs k t
-line_old run bs b k t l = let p = place_in bs k l in line_of-get run (bs ++ b ∷ []) k p.0 t (get_front bs (b ∷ []) k p.0 p.1) ∙ sym (line_of-get run bs k p.0 t p.1)
 
 line_new : (run : Run) (bs : List Bit) (b : Bit) (n t : ℕ) → length bs ≡ n → line_of run (bs ++ b ∷ []) n t ≡ line_at run b t
 line_new run bs b n t e = ap (λ i. line_of run (bs ++ b ∷ []) i t) (sym e) ∙ line_of-get run (bs ++ b ∷ []) (length bs) b t (get_last bs b)
@@ -141,7 +136,7 @@ module _ (run : Run) (free ask : Bit) (value : Bus) (n : ℕ) (r : SlotLines) (s
   before t = sought_at run free ask value r t
 
   used_old : (t k : ℕ) → k < n → (now t).used k ≡ (before t).used k
-  used_old t k l = line_old run r.used s.used k t (omega (arith, l, used_count))
+  used_old t k l = line_of-old run r.used s.used k t (omega (arith, l, used_count))
 
   key_old : (t k : ℕ) → k < n → (now t).key k ≡ (before t).key k
   key_old t k l = held_old run r.keys s.key k t (omega (arith, l, keys_count))
@@ -181,7 +176,7 @@ module _ (run : Run) (free ask : Bit) (value : Bus) (n : ℕ) (r : SlotLines) (s
   lines_more = record {
     used = λ k t l. elim (place k l) [
       | inl m ↦
-          line_old run r.used s.used k (suc t) (omega (arith, m, used_count)) ∙ law.used k t m
+          line_of-old run r.used s.used k (suc t) (omega (arith, m, used_count)) ∙ law.used k t m
           ∙ sym (has_same (now t) (before t) refl refl refl k (λ i j. used_old t i (omega (arith, j, m))) (λ i j. key_old t i (omega (arith, j, m))))
       | inr m ↦ (ap (λ i. line_of run (r.used ++ s.used ∷ []) i (suc t)) m ∙ line_new run r.used s.used n (suc t) used_count ∙ one.used t ∙ sym (ap (has (now t)) m ∙ has_at t))
     ];
@@ -198,13 +193,13 @@ module _ (run : Run) (free ask : Bit) (value : Bus) (n : ℕ) (r : SlotLines) (s
     ];
     has = λ k t l. elim (place k l) [
       | inl m ↦
-          line_old run r.has s.has k t (omega (arith, m, has_count)) ∙ law.has k t m
+          line_of-old run r.has s.has k t (omega (arith, m, has_count)) ∙ law.has k t m
           ∙ sym (has_same (now t) (before t) refl refl refl k (λ i j. used_old t i (omega (arith, j, m))) (λ i j. key_old t i (omega (arith, j, m))))
       | inr m ↦ (ap (λ i. line_of run (r.has ++ s.has ∷ []) i t) m ∙ line_new run r.has s.has n t has_count ∙ sym (ap (has (now t)) m ∙ has_at t))
     ];
     matches = λ k t l. elim (place k l) [
       | inl m ↦
-          line_old run r.matches s.matches k t (omega (arith, m, matches_count)) ∙ law.matches k t m
+          line_of-old run r.matches s.matches k t (omega (arith, m, matches_count)) ∙ law.matches k t m
           ∙ sym (matches_same (now t) (before t) refl refl refl k (λ i j. used_old t i (omega (arith, j, m))) (λ i j. key_old t i (omega (arith, j, m))))
       | inr m ↦ (ap (λ i. line_of run (r.matches ++ s.matches ∷ []) i t) m ∙ line_new run r.matches s.matches n t matches_count ∙ one.is.matches t ∙ sym (ap (matches (now t)) m ∙ matches_at t))
     ];
@@ -241,20 +236,6 @@ slots_more old mid new free ask value n r s h one = record {
     memories = omega (arith, h.cost.memories, one.cost.memories);
   };
   law = λ run r'. lines_more run free ask value n r s h.used_count h.keys_count h.has_count h.matches_count (h.law run (one.keeps.runs run r')) (one.law run r');
-}
-
--- a register that was opened, read by a block and driven: nothing else has changed
-pub one_closed : (a b c d : Net) (x : ℕ) → Grows a b → b.ports ≡ a.ports → b.name ≡ a.name → OthersStay a b x → open_at a x ≡ None → Keeps b c
-    → Grows c d → d.ports ≡ c.ports → d.name ≡ c.name → OthersStay c d x → open_at d x ≡ None → Keeps a d
-one_closed a b c d x grows ports name others fresh k grows' ports' name' others' driven = record {
-  runs = λ run r. grows.runs run (k.runs run (grows'.runs run r));
-  shapes = λ n s h. grows'.shapes n s (k.shapes n s (grows.shapes n s h));
-  undriven = λ n. elim (nat_dec n x) [
-    | inl e ↦ ap (open_at d) e ∙ driven ∙ sym (ap (open_at a) e ∙ fresh)
-    | inr ne ↦ others' n ne ∙ k.undriven n ∙ others n ne
-  ];
-  ports = ports' ∙ k.ports ∙ ports;
-  name = name' ∙ k.name ∙ name;
 }
 
 -- the lines of a slot, from those that they are made of

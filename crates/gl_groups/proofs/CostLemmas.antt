@@ -1,12 +1,9 @@
 -- What groups cost against what a plan counts.
 use Rattle.std.proofs.Common.{◌≡◌, ℕ, zero, suc, ◌+◌, ◌*◌, ◌≤◌, List, [], ◌∷◌, length, refl, arith}
 use Rattle.std.specs.Prelude.{slice_index}
-use Rattle.std.specs.List.{sum}
-use Rattle.std.proofs.lemmas.List.Sums.{sum_by-le}
-use Rattle.gl_groups.specs.Costs.{AreNarrow, GroupingsAreCounted}
-
-narrow : (columns : List ℕ) → AreNarrow columns → sum columns ≤ length columns * 64
-narrow columns h = sum_by-le (λ (w : ℕ). w) 64 columns h
+use Rattle.gl_wire.specs.Counted.{AreNarrow}
+use Rattle.gl_wire.proofs.CountLemmas.{narrow_sum}
+use Rattle.gl_groups.specs.Costs.{GroupingsAreCounted}
 
 narrow_at : (columns : List ℕ) (k : ℕ) → AreNarrow columns → slice_index columns k ≤ 64
 narrow_at [] k h = omega arith
@@ -23,7 +20,7 @@ groupings_are_counted slots key source own hs ho =
     let most : slots * (w + 3) ≤ slots * 67 = mul_more slots (w + 3) 67 (let n = narrow_at source key hs in omega (arith, n)) in
     record {
       nodes = omega (arith, each, lines);
-      registers = omega (arith, each, lines, most, narrow source hs, narrow own ho);
+      registers = omega (arith, each, lines, most, narrow_sum source hs, narrow_sum own ho);
       memories = refl;
     }
   where

@@ -7,7 +7,7 @@ use Rattle.gl_bits.specs.Lists.{rows_with}
 use Rattle.gl_bits.specs.Results.{Row}
 use Rattle.gl_bits.proofs.AllLists.{get_past}
 use Rattle.gl_wire.specs.Apart.{Carries, a_tuple, an_end}
-use Rattle.gl_wire.specs.Wire.{Carried, pending, stream}
+use Rattle.gl_wire.specs.Wire.{pending, stream}
 use Rattle.gl_copies.specs.Lift.{Visits}
 use Rattle.gl_groups.specs.Slots.{Slots, freed, keys_now, of_slot, slots_next, who_slots, rows_of_key}
 use Rattle.gl_groups.proofs.Setting.{Setting}
@@ -21,20 +21,7 @@ none_taken zero = refl
 none_taken (suc n) = refl
 
 module _ (front : Setting) where
-  abbrev count : ℕ
-  count = front.count
-
-  abbrev key : Row → ℕ
-  key = front.key
-
-  abbrev stride : ℕ
-  stride = front.stride
-
-  abbrev a : Carried
-  a = front.a
-
-  abbrev ins : ℕ → Carried
-  ins = front.ins
+  open front use {count, key, stride, a, ins}
 
   abbrev who : Visits
   who = who_slots count key stride a

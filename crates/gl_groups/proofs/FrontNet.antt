@@ -1,5 +1,5 @@
 -- The parts of the front together are the machine.
-use Rattle.std.proofs.Common.{◌≡◌, ℕ, zero, suc, ◌+◌, ◌-◌, ◌*◌, ◌<◌, ◌≤◌, List, [], ◌∷◌, length, Some, None, Bool, true, false, refl, sym, ap, ◌∙◌, arith}
+use Rattle.std.proofs.Common.{◌≡◌, ℕ, zero, suc, ◌+◌, ◌-◌, ◌*◌, ◌<◌, ◌≤◌, List, length, Some, None, Bool, true, false, refl, sym, ap, ◌∙◌, arith}
 use Rattle.std.specs.Prelude.{slice_index, nat_eq, not, ◌&&◌, ◌||◌, if◌then◌else◌}
 use Rattle.gl_bits.specs.Results.{Row}
 use Rattle.gl_net.specs.declared.node.Bit.{Bit}
@@ -12,6 +12,7 @@ use Rattle.gl_wire.proofs.ColumnLemmas.{bus_kept, wire_kept}
 use Rattle.gl_registers.specs.Held.{counted_down, held_at}
 use Rattle.gl_registers.specs.Lines.{carried_of, line_of}
 use Rattle.gl_registers.specs.Rows.{AddsWires}
+use Rattle.gl_registers.proofs.LineLemmas.{line_of-first}
 use Rattle.gl_groups.specs.declared.front.Ending.{Ending}
 use Rattle.gl_groups.specs.declared.front.Lookup.{Lookup}
 use Rattle.gl_groups.specs.declared.parts.Flush.{Flush}
@@ -25,13 +26,6 @@ use Rattle.gl_groups.specs.Seeking.{asked, has, matches, takes}
 use Rattle.gl_groups.specs.Slots.{AreSlots, Slots, further_line, no_slots, slots_at}
 use Rattle.gl_groups.specs.Values.{Cycle, Mirrors, Steps, Values, due_of, end_of, sought_of, tail_of, valid_of}
 use Rattle.gl_groups.proofs.MachineLemmas.{end_is, further_is, mirrors_next, taken_is}
-
--- no line is 1 in the reset cycle
-line_of-first : (run : Run) (bs : List Bit) (k : ℕ) → line_of run bs k 0 ≡ false
-unfolding line_of line_at
-line_of-first run [] k = refl
-line_of-first run (b ∷ bs) zero = refl
-line_of-first run (b ∷ bs) (suc k) = line_of-first run bs k
 
 module _ (run : Run) (w : Wire) (key count stride : ℕ) (f : Flush) (h : Tail) (look : Lookup) (r : SlotLines) (g : Ending) (takers : List Bit) (ins : List Wire) (further : Bit)
     (is_f : IsFlush run w.valid w.eos stride f) (is_h : IsTail run w.valid w.eos f.idle h) (is_look : IsLookup run w key look) (is_r : AreSlotLines run f.free w.valid look.value count r)

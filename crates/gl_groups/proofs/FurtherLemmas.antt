@@ -8,21 +8,14 @@ use Rattle.gl_bits.specs.Lists.{keys_of, has_further}
 use Rattle.gl_bits.specs.Results.{Row}
 use Rattle.gl_bits.proofs.Bools.{or_none}
 use Rattle.gl_wire.specs.Apart.{Carries, a_tuple}
-use Rattle.gl_wire.specs.Wire.{Carried, pending, stream}
+use Rattle.gl_wire.specs.Wire.{pending, stream}
 use Rattle.gl_groups.specs.Slots.{keys_at, is_further, further_line}
 use Rattle.gl_groups.proofs.Setting.{Setting}
 use Rattle.gl_groups.proofs.KeyLemmas.{further-push, further-none}
 use Rattle.gl_groups.proofs.PhaseLemmas.{keys_are}
 
 module _ (front : Setting) where
-  abbrev count : ℕ
-  count = front.count
-
-  abbrev key : Row → ℕ
-  key = front.key
-
-  abbrev a : Carried
-  a = front.a
+  open front use {count, key, a}
 
   -- the keys with what comes in a cycle
   abbrev kept : ℕ → List ℕ

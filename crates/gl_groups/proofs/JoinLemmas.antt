@@ -2,7 +2,7 @@
 use Rattle.std.proofs.Common.{◌≡◌, ℕ, zero, suc, ◌+◌, ◌*◌, ◌<◌, List, [], ◌∷◌, ◌++◌, length, Some, None, Bool, true, false, refl, sym, ap, ◌∙◌, subst, arith, inl, inr, length-append}
 use Rattle.std.specs.Prelude.{slice_get, if◌then◌else◌}
 use Rattle.std.proofs.lemmas.Bool.{cases_lt}
-use Rattle.gl_bits.proofs.AllLists.{get_below, get_front, get_last, get_mapped}
+use Rattle.gl_bits.proofs.AllLists.{get_below, get_front, get_last, get_mapped, get_there}
 use Rattle.gl_net.specs.declared.node.Bit.{Bit}
 use Rattle.gl_net.specs.declared.node.Bus.{Bus}
 use Rattle.gl_net.specs.Net.{Net, Run, IsBus, Keeps}
@@ -13,7 +13,7 @@ use Rattle.gl_wire.specs.declared.wire.Wire.{Wire}
 use Rattle.gl_wire.specs.Faults.{AreBoth, line_of}
 use Rattle.gl_wire.specs.Spills.{Lines}
 use Rattle.gl_wire.specs.Wire.{AreBuses, Carried, IsWire, carried, line_at, row_at, tuple_at, widths}
-use Rattle.gl_wire.proofs.ColumnLemmas.{bus_kept, buses_kept, wire_kept}
+use Rattle.gl_wire.proofs.ColumnLemmas.{bus_kept, buses_kept}
 use Rattle.gl_wire.proofs.FaultLemmas.{lines_kept}
 use Rattle.gl_wire.proofs.StageLemmas.{delayed_same}
 use Rattle.gl_copies.specs.Lift.{first_of, tuple_of_any}
@@ -21,9 +21,8 @@ use Rattle.gl_copies.specs.Rotates.{lines_of_all}
 use Rattle.gl_registers.specs.Backs.{AreWires, JoinsCopies}
 use Rattle.gl_registers.specs.Held.{held_at}
 use Rattle.gl_registers.specs.Lines.{carried_of}
-use Rattle.gl_registers.proofs.RegisterLemmas.{place_in}
 use Rattle.gl_registers.proofs.RowLemmas.{carried_of-get}
-use Rattle.gl_registers.proofs.JoinLemmas.{or_more}
+use Rattle.gl_registers.proofs.JoinLemmas.{or_more, copies_kept, columns_at}
 use Rattle.gl_groups.specs.Chain.{held_of}
 use Rattle.gl_groups.specs.Groupings.{in_front, with_keys}
 use Rattle.gl_groups.specs.Joins.{AreKeyBuses, AreKeyed, JoinsAll, JoinsFaults, keyed_wire, width_of_keys}
@@ -90,8 +89,8 @@ any_same f g (suc n) c h = ap (λ o. first_of o ((f n).tuple c)) (any_same f g n
 module _ (copies : List Emitted) (keys : List Bus) (ws : List Wire) (same_count : length keys ≡ length copies) (keyed : AreKeyed copies keys (length copies) ws) where
   copy_tuple : (run : Run) (c k : ℕ) → k < length copies → (carried_of run ws k).tuple c ≡ (with_keys (held_of run keys) (gives_of run copies) k).tuple c
   copy_tuple run c k l =
-      let e = place_in copies k l in
-      let b = place_in keys k (omega (arith, l, same_count)) in
+      let e = get_there copies k l in
+      let b = get_there keys k (omega (arith, l, same_count)) in
       let has = keyed.each k e.0 b.0 l e.1 b.1 in
       ap (λ (x : Carried). x.tuple c) (carried_of-get run ws k (keyed_wire b.0 e.0.wire) has) ∙ keyed_tuple run e.0.wire b.0 c
       ∙ ap (λ n. in_front n ((carried run e.0.wire).tuple c)) (sym (held_of-get run keys k b.0 c b.1))
@@ -101,14 +100,6 @@ module _ (copies : List Emitted) (keys : List Bus) (ws : List Wire) (same_count 
   joined_tuple run c =
       ap (λ n. tuple_of_any (carried_of run ws) n c) keyed.count
       ∙ any_same (carried_of run ws) (with_keys (held_of run keys) (gives_of run copies)) (length copies) c (λ k l. copy_tuple run c k l)
-
--- copies and keys stay in a netlist that grows
-copies_kept : (old new : Net) (copies : List Emitted) → Keeps old new → AreCopies old copies → AreCopies new copies
-copies_kept old new copies keeps h = record {
-  each = λ k e at. wire_kept old new e.wire keeps (h.each k e at);
-  same_widths = h.same_widths;
-  lines = record { each = λ k e at. lines_kept old new e.faults keeps (h.lines.each k e at) };
-}
 
 first_then : (net : Net) (b : Bus) (bs : List Bus) → IsBus net b → AreBuses net bs → AreBuses net (b ∷ bs)
 first_then net b bs is h = record { each = by }
@@ -125,8 +116,8 @@ module _ (net : Net) (copies : List Emitted) (keys : List Bus) (ws : List Wire) 
   place : (k : ℕ) (w : Wire) → slice_get ws k ≡ Some w → (e : Emitted) × (b : Bus) × (slice_get copies k ≡ Some e) × (slice_get keys k ≡ Some b) × (keyed_wire b e.wire ≡ w)
   place k w h =
       let l : k < length copies = (let m = get_below ws k w h in omega (arith, m, keyed.count)) in
-      let e = place_in copies k l in
-      let b = place_in keys k (omega (arith, l, same_count)) in
+      let e = get_there copies k l in
+      let b = get_there keys k (omega (arith, l, same_count)) in
       let has = keyed.each k e.0 b.0 l e.1 b.1 in
       (e.0, b.0, e.1, b.1, cc)
 
@@ -138,14 +129,11 @@ module _ (net : Net) (copies : List Emitted) (keys : List Bus) (ws : List Wire) 
         ap (λ (x : Wire). widths x.columns) (sym p.4) ∙ ap (λ n. n ∷ widths p.0.wire.columns) (are_keys.same_width k p.1 p.3) ∙ ap (λ ns. width_of_keys keys ∷ ns) (are.same_widths k p.0 p.2);
   }
 
-columns_at : (copies : List Emitted) (e : Emitted) → slice_get copies 0 ≡ Some e → columns_of copies ≡ widths e.wire.columns
-columns_at [] e h = absurd (cc)
-columns_at (x ∷ xs) e h = let q : x ≡ e = cc in ap (λ (y : Emitted). widths y.wire.columns) q
-
 width_at : (keys : List Bus) (b : Bus) → slice_get keys 0 ≡ Some b → width_of_keys keys ≡ b.width
 width_at [] b h = absurd (cc)
 width_at (x ∷ xs) b h = let q : x ≡ b = cc in ap (λ (y : Bus). y.width) q
 
+-- keys stay in a netlist that grows
 keys_kept : (old new : Net) (keys : List Bus) → Keeps old new → AreKeyBuses old keys → AreKeyBuses new keys
 keys_kept old new keys keeps h = record { each = λ k b at. bus_kept old new b keeps (h.each k b at); same_width = h.same_width }
 

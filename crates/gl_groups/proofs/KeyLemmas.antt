@@ -1,33 +1,17 @@
 -- The keys of a stream so far, and the rows of each, with one row more.
-use Rattle.std.proofs.Common.{◌≡◌, ℕ, zero, suc, ◌<◌, ◌≤◌, List, [], ◌∷◌, ◌++◌, length, take, map, filter, Option, Some, None, Bool, true, false, not, ◌&&◌, ◌||◌, cond, refl, sym, ap, ◌∙◌, subst, arith, inl, inr, length-take, take_all, append-nil, eqb-true, ne_eqb}
+use Rattle.std.proofs.Common.{◌≡◌, ℕ, zero, suc, ◌<◌, ◌≤◌, List, [], ◌∷◌, ◌++◌, length, take, map, filter, Option, Some, None, Bool, true, false, not, ◌&&◌, ◌||◌, cond, refl, sym, ap, ◌∙◌, arith, inl, inr, length-take, take_all, append-nil}
 use Rattle.std.specs.Prelude.{slice_get, nat_eq, nat_lt, if◌then◌else◌, option_to_list, ◌⊎◌}
 use Rattle.std.specs.List.{list_any}
 use Rattle.std.proofs.lemmas.List.{map-append}
+use Rattle.std.proofs.lemmas.List.Elements.{filter-append}
+use Rattle.std.proofs.lemmas.List.Folds.{list_any-append}
 use Rattle.std.proofs.lemmas.Bool.{cases_lt, cases_Bool, lt-ltb, le-ltb, or_parts, or_left, or_right, or_from, eq-eqb}
-use Rattle.std.proofs.lemmas.Bool.Decides.{eqb_tells}
 use Rattle.gl_bits.specs.Lists.{distinct, keys_of, rows_with, has_further}
 use Rattle.gl_bits.specs.Tables.{with_key}
-use Rattle.gl_bits.proofs.Bools.{or_none}
-use Rattle.gl_bits.proofs.Grouping.{first_keys_room, first_keys_full}
+use Rattle.gl_bits.proofs.Bools.{or_none, eq_turned}
+use Rattle.gl_bits.proofs.Grouping.{first_keys_room, first_keys_full, any_other}
 use Rattle.gl_bits.specs.Results.{Row}
 use Rattle.gl_groups.specs.Slots.{same_key, of_slot, rows_of_key}
-
-eq_turned : (x y : ℕ) → nat_eq x y ≡ nat_eq y x
-eq_turned x y = elim (eqb_tells x y) [
-  | inl t ↦ rw (t.1) refl
-  | inr t ↦ t.0 ∙ sym (ne_eqb y x (λ e. t.1 (sym e)))
-]
-
-any_other : (x y : ℕ) (zs : List ℕ) → nat_eq x y ≡ false → list_any (nat_eq x) (filter (λ z. not (nat_eq y z)) zs) ≡ list_any (nat_eq x) zs
-any_other x y [] other = refl
-any_other x y (z ∷ zs) other = split (nat_eq y z) refl (any_other x y zs other)
-  where
-    split : (b : Bool) → nat_eq y z ≡ b → list_any (nat_eq x) (filter (λ z. not (nat_eq y z)) zs) ≡ list_any (nat_eq x) zs → list_any (nat_eq x) (cond (not b) (z ∷ filter (λ z. not (nat_eq y z)) zs) (filter (λ z. not (nat_eq y z)) zs)) ≡ (nat_eq x z || list_any (nat_eq x) zs)
-    split true e later =
-        let same : y ≡ z = eqb-true y z e in
-        let none : nat_eq x z ≡ false = subst (λ n. nat_eq x n ≡ false) same other in
-        rw none later
-    split false e later = ap (λ b. nat_eq x z || b) later
 
 pub any_distinct : (x : ℕ) (ks : List ℕ) → list_any (nat_eq x) (distinct ks) ≡ list_any (nat_eq x) ks
 any_distinct x [] = refl
@@ -95,14 +79,6 @@ rows_kept n key xs x k = by (cases_Bool (nat_lt (length (take n (keys_of key xs)
     by (inl e) = rw e (new e)
     by (inr e) = rw e refl
 
-filter-append : (p : Row → Bool) (xs ys : List Row) → filter p (xs ++ ys) ≡ filter p xs ++ filter p ys
-filter-append p [] ys = refl
-filter-append p (x ∷ xs) ys = split (p x) (filter-append p xs ys)
-  where
-    split : (b : Bool) → filter p (xs ++ ys) ≡ filter p xs ++ filter p ys → cond b (x ∷ filter p (xs ++ ys)) (filter p (xs ++ ys)) ≡ cond b (x ∷ filter p xs) (filter p xs) ++ filter p ys
-    split true later = ap (λ l. x ∷ l) later
-    split false later = later
-
 -- one row more of a slot
 pub rows-push : (key : Row → ℕ) (xs : List Row) (o : Option Row) (ks : List ℕ) (k : ℕ) → rows_of_key key (xs ++ option_to_list o) (slice_get ks k) ≡ rows_of_key key xs (slice_get ks k) ++ option_to_list (of_slot key ks k o)
 rows-push key xs None ks k = ap (λ l. rows_of_key key l (slice_get ks k)) (append-nil xs) ∙ sym (append-nil (rows_of_key key xs (slice_get ks k)))
@@ -117,14 +93,6 @@ rows-push key xs (Some r) ks k = by (slice_get ks k)
     by (Some x) = filter-append (λ z. nat_eq (key z) x) xs (r ∷ []) ∙ ap (λ l. rows_with key xs x ++ l) (one x (nat_eq (key r) x) refl)
 
 -- ---- rows of further keys
-
-any_append : (p : Row → Bool) (xs ys : List Row) → list_any p (xs ++ ys) ≡ (list_any p xs || list_any p ys)
-any_append p [] ys = refl
-any_append p (x ∷ xs) ys = split (p x) (any_append p xs ys)
-  where
-    split : (b : Bool) → list_any p (xs ++ ys) ≡ (list_any p xs || list_any p ys) → (b || list_any p (xs ++ ys)) ≡ ((b || list_any p xs) || list_any p ys)
-    split true later = refl
-    split false later = later
 
 any_number : (p : ℕ → Bool) (xs ys : List ℕ) → list_any p xs ≡ true → list_any p (xs ++ ys) ≡ true
 any_number p [] ys h = absurd (cc)
@@ -144,7 +112,7 @@ none_further key ks (x ∷ xs) h =
 pub further-push : (n : ℕ) (key : Row → ℕ) (xs : List Row) (r : Row) → has_further n key (xs ++ r ∷ []) ≡ (has_further n key xs || not (list_any (nat_eq (key r)) (take n (keys_of key (xs ++ r ∷ [])))))
 unfolding has_further with_key
 further-push n key xs r =
-    any_append (λ x. not (list_any (nat_eq (key x)) (take n (keys_of key (xs ++ r ∷ []))))) xs (r ∷ [])
+    list_any-append (λ x. not (list_any (nat_eq (key x)) (take n (keys_of key (xs ++ r ∷ []))))) xs (r ∷ [])
     ∙ ap (λ b. list_any (λ x. not (list_any (nat_eq (key x)) (take n (keys_of key (xs ++ r ∷ []))))) xs || b) (or_none (not (list_any (nat_eq (key r)) (take n (keys_of key (xs ++ r ∷ []))))))
     ∙ ap (λ b. b || not (list_any (nat_eq (key r)) (take n (keys_of key (xs ++ r ∷ []))))) (ap (λ ks. list_any (λ x. not (list_any (nat_eq (key x)) ks)) xs) (keys-push n key xs r) ∙ same (cases_lt (length kept) n))
   where

@@ -4,12 +4,14 @@ use Rattle.std.specs.Prelude.{slice_get, not, ◌&&◌, ◌||◌, if◌then◌el
 use Rattle.std.specs.List.{list_any}
 use Rattle.std.proofs.lemmas.Bool.{cases_lt, ne_eqb}
 use Rattle.std.proofs.lemmas.Bool.Decides.{eqb_tells}
+use Rattle.std.proofs.Math.Bool.{and-true, and-false}
 use Rattle.gl_bits.specs.Results.{Row}
+use Rattle.gl_bits.proofs.Bools.{same_test}
 use Rattle.gl_registers.specs.Held.{counted_down}
 use Rattle.gl_groups.specs.Seeking.{Sought, asked, has, kept, matches, takes}
 use Rattle.gl_groups.specs.Slots.{Slots, is_further, keys_now, of_slot, same_key, slot_ends, slot_now, slot_takes, slots_next, with_tuple}
 use Rattle.gl_groups.specs.Values.{Cycle, Mirrors, Steps, Values, at_of, due_of, end_of, sought_of, tail_of, valid_of}
-use Rattle.gl_groups.proofs.SeekLemmas.{and_false, and_true, get_some, has_is, joined, later_few, left_is, matches_is, next_at, same_test}
+use Rattle.gl_groups.proofs.SeekLemmas.{get_some, has_is, joined, later_few, left_is, matches_is, next_at}
 
 abbrev pub tuple_of : Bool → Row → Option Row
 tuple_of v x = if v then Some x else None
@@ -19,10 +21,10 @@ abbrev base : Bool → Bool → Slots → List ℕ
 base e v s = if s.flush && (v || e) then [] else s.keys
 
 keys_are : (count : ℕ) (key : Row → ℕ) (e v : Bool) (x : Row) (s : Slots) → keys_now count key e (tuple_of v x) s ≡ joined count v (key x) (base e v s)
-keys_are count key true true x s = ap (λ b. with_tuple count key (Some x) (if b then [] else s.keys)) (sym (and_true s.flush))
-keys_are count key true false x s = ap (λ b. if b then [] else s.keys) (sym (and_true s.flush))
-keys_are count key false true x s = ap (λ b. with_tuple count key (Some x) (if b then [] else s.keys)) (sym (and_true s.flush))
-keys_are count key false false x s = ap (λ b. if b then [] else s.keys) (sym (and_false s.flush))
+keys_are count key true true x s = ap (λ b. with_tuple count key (Some x) (if b then [] else s.keys)) (sym (and-true s.flush))
+keys_are count key true false x s = ap (λ b. if b then [] else s.keys) (sym (and-true s.flush))
+keys_are count key false true x s = ap (λ b. with_tuple count key (Some x) (if b then [] else s.keys)) (sym (and-true s.flush))
+keys_are count key false false x s = ap (λ b. if b then [] else s.keys) (sym (and-false s.flush))
 
 -- which slots come before a turn
 turn_test : (count k n : ℕ) → k < count → nat_eq (count - n) (count - k) ≡ nat_eq k n
@@ -33,8 +35,8 @@ all_test count k l = same_test count (count - k) k 0 (λ e. omega (arith, e, l))
 
 at_turn : (x : Bool) (q k : ℕ) (f : ℕ → Bool) → ((x && nat_eq k q) && f k) ≡ ((x && f q) && nat_eq k q)
 at_turn x q k f = elim (eqb_tells k q) [
-  | inl h ↦ (let a = h.0 in rw (a, and_true x, and_true (x && f q)) (ap (λ n. x && f n) h.1))
-  | inr h ↦ (let a = h.0 in rw (a, and_false x, and_false (x && f q)) refl)
+  | inl h ↦ (let a = h.0 in rw (a, and-true x, and-true (x && f q)) (ap (λ n. x && f n) h.1))
+  | inr h ↦ (let a = h.0 in rw (a, and-false x, and-false (x && f q)) refl)
 ]
 
 module _ (count stride : ℕ) (key : Row → ℕ) (some : 1 ≤ count) (s : Slots) (p : Values) (m : Mirrors count s p) (e v : Bool) (x : Row) (y : ℕ) (is_key : v ≡ true → y ≡ key x) where
@@ -52,8 +54,8 @@ module _ (count stride : ℕ) (key : Row → ℕ) (some : 1 ≤ count) (s : Slot
   shown k l = ap (λ b. slice_get (if b && (v || e) then [] else s.keys) k) (sym m.flush) ∙ by (p.flush && (v || e))
     where
       by : (b : Bool) → slice_get (if b then [] else s.keys) k ≡ (if p.used k && not b then Some (p.key k) else None)
-      by true = rw (and_false (p.used k)) refl
-      by false = rw (and_true (p.used k)) (m.slots k l)
+      by true = rw (and-false (p.used k)) refl
+      by false = rw (and-true (p.used k)) (m.slots k l)
 
   few_base : length (base e v s) ≤ count
   few_base = by (s.flush && (v || e))
@@ -106,8 +108,8 @@ module _ (count stride : ℕ) (key : Row → ℕ) (some : 1 ≤ count) (s : Slot
     where
       by : (e' v' : Bool) → slot_ends e' (tuple_of v' x) ks s ≡ ((e' || ((p.flush && not (v' || e')) && nat_eq p.wait 0)) && nat_lt (slot_now e' s) (length ks))
       by true v' = refl
-      by false true = rw (and_false p.flush) refl
-      by false false = rw (and_true p.flush, m.flush, m.wait) refl
+      by false true = rw (and-false p.flush) refl
+      by false false = rw (and-true p.flush, m.flush, m.wait) refl
 
   pub end_is : (k : ℕ) → k < count → end_of count cycle p k ≡ (slot_ends e (tuple_of v x) ks s && nat_eq k (slot_now e s))
   end_is k l =
@@ -131,8 +133,8 @@ module _ (count stride : ℕ) (key : Row → ℕ) (some : 1 ≤ count) (s : Slot
       where
         by : (e' v' : Bool) → (slots_next stride e' (tuple_of v' x) ks s).flush ≡ (e' || (s.flush && not v'))
         by true v' = refl
-        by false true = sym (and_false s.flush)
-        by false false = sym (and_true s.flush)
+        by false true = sym (and-false s.flush)
+        by false false = sym (and-true s.flush)
 
     after_wait : after.wait ≡ counted_down (stride - 1) (stride - 1) e (s.flush && not (v || e)) s.wait
     after_wait = by e v
@@ -143,8 +145,8 @@ module _ (count stride : ℕ) (key : Row → ℕ) (some : 1 ≤ count) (s : Slot
 
         by : (e' v' : Bool) → (slots_next stride e' (tuple_of v' x) ks s).wait ≡ counted_down (stride - 1) (stride - 1) e' (s.flush && not (v' || e')) s.wait
         by true v' = refl
-        by false true = rw (and_false s.flush) refl
-        by false false = rw (and_true s.flush) (idle s.flush)
+        by false true = rw (and-false s.flush) refl
+        by false false = rw (and-true s.flush) (idle s.flush)
 
     one_more : (n : ℕ) → (if nat_eq (count - n) 0 then 0 else (count - n - 1)) ≡ count - suc n
     one_more n = by (nat_eq (count - n) 0) refl
@@ -165,8 +167,8 @@ module _ (count stride : ℕ) (key : Row → ℕ) (some : 1 ≤ count) (s : Slot
 
         by : (e' v' : Bool) → counted_down (count - 1) 0 e' ((s.flush && not (v' || e')) && nat_eq s.wait 0) (count - s.turn) ≡ count - (slots_next stride e' (tuple_of v' x) ks s).turn
         by true v' = refl
-        by false true = rw (and_false s.flush) refl
-        by false false = rw (and_true s.flush) (idle (s.flush && nat_eq s.wait 0))
+        by false true = rw (and-false s.flush) refl
+        by false false = rw (and-true s.flush) (idle (s.flush && nat_eq s.wait 0))
 
     next_held : after.flush ≡ true → after.held ≡ (if q.held then Some q.row else None)
     next_held = by e v refl refl
@@ -177,11 +179,11 @@ module _ (count stride : ℕ) (key : Row → ℕ) (some : 1 ≤ count) (s : Slot
             let row : q.row ≡ x = st.row (rw hv refl) ∙ rw hv refl in
             rw (is, row) refl
         by true false he hv h =
-            let is : q.held ≡ false = st.held ∙ rw (he, hv) (and_false p.held) in
+            let is : q.held ≡ false = st.held ∙ rw (he, hv) (and-false p.held) in
             rw is refl
         by false true he hv h = absurd (cc)
         by false false he hv h =
-            let is : q.held ≡ p.held = st.held ∙ rw he (and_true p.held) in
+            let is : q.held ≡ p.held = st.held ∙ rw he (and-true p.held) in
             let row : q.row ≡ p.row = st.row (rw hv (m.flush ∙ h)) ∙ rw hv refl in
             rw (is, row) (m.held h)
 
@@ -223,19 +225,19 @@ module _ (count stride : ℕ) (key : Row → ℕ) (some : 1 ≤ count) (s : Slot
         turned : (a b : Bool) → (if a then (if b then Some q.row else None) else None) ≡ (if b && ((a && true) || false) then Some q.row else None)
         turned true true = refl
         turned true false = refl
-        turned false b = rw (and_false b) refl
+        turned false b = rw (and-false b) refl
 
         nothing : (b : Bool) → (if b then of_slot key ks k None else None) ≡ None
         nothing true = refl
         nothing false = refl
 
         by_held : (h : Bool) → y ≡ key p.row → of_slot key ks k (if h then Some p.row else None) ≡ (if same k && (h || false) then Some p.row else None)
-        by_held true w = ap (λ n. if same_key (slice_get ks k) n then Some p.row else None) (sym w) ∙ ap (λ b. if b then Some p.row else None) (sym (and_true (same k)))
-        by_held false w = rw (and_false (same k)) refl
+        by_held true w = ap (λ n. if same_key (slice_get ks k) n then Some p.row else None) (sym w) ∙ ap (λ b. if b then Some p.row else None) (sym (and-true (same k)))
+        by_held false w = rw (and-false (same k)) refl
 
         -- an idle end takes what came with the end
         idle_end : (z : Bool) → (z ≡ true → s.flush ≡ true) → v ≡ false → (if z then of_slot key ks k s.held else None) ≡ (if same k && ((z && ((p.flush && true) && p.held)) || false) then Some q.row else None)
-        idle_end false on hv = rw (and_false (same k)) refl
+        idle_end false on hv = rw (and-false (same k)) refl
         idle_end true on hv =
             let f : p.flush ≡ true = m.flush ∙ on refl in
             let row : q.row ≡ p.row = st.row (rw hv f) ∙ rw hv refl in
@@ -256,12 +258,12 @@ module _ (count stride : ℕ) (key : Row → ℕ) (some : 1 ≤ count) (s : Slot
             ∙ ap (λ (r : Row). if c then (if same k then Some r else None) else None) (sym row) ∙ turned c (same k)
         by true false he hv =
             nothing (nat_lt 0 (length ks) && nat_eq k 0)
-            ∙ sym (ap (λ b. if same k && (((nat_lt 0 (length ks) && nat_eq k 0) && (b && p.held)) || false) then Some q.row else None) (and_false p.flush)
-            ∙ ap (λ b. if same k && (b || false) then Some q.row else None) (and_false (nat_lt 0 (length ks) && nat_eq k 0)) ∙ ap (λ b. if b then Some q.row else None) (and_false (same k)))
+            ∙ sym (ap (λ b. if same k && (((nat_lt 0 (length ks) && nat_eq k 0) && (b && p.held)) || false) then Some q.row else None) (and-false p.flush)
+            ∙ ap (λ b. if same k && (b || false) then Some q.row else None) (and-false (nat_lt 0 (length ks) && nat_eq k 0)) ∙ ap (λ b. if b then Some q.row else None) (and-false (same k)))
         by false true he hv =
             let row : q.row ≡ x = st.row (rw hv refl) ∙ rw hv refl in
             ap (λ n. if same_key (slice_get ks k) n then Some x else None) (sym (is_key hv))
-            ∙ ap (λ (r : Row). if same k then Some r else None) (sym row) ∙ ap (λ b. if b then Some q.row else None) (sym (and_true (same k)))
+            ∙ ap (λ (r : Row). if same k then Some r else None) (sym row) ∙ ap (λ b. if b then Some q.row else None) (sym (and-true (same k)))
         by false false he hv =
             idle_end (((s.flush && nat_eq s.wait 0) && nat_lt s.turn (length ks)) && nat_eq k s.turn)
             (on_flush s.flush (nat_eq s.wait 0) (nat_lt s.turn (length ks)) (nat_eq k s.turn)) hv

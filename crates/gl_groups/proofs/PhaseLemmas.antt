@@ -3,7 +3,7 @@ use Rattle.std.proofs.Common.{◌≡◌, ℕ, zero, suc, ◌+◌, ◌-◌, ◌*�
 use Rattle.gl_bits.specs.Lists.{groups, keys_of}
 use Rattle.gl_bits.specs.Results.{Row}
 use Rattle.gl_wire.specs.Apart.{Carries, a_tuple, an_end}
-use Rattle.gl_wire.specs.Wire.{Carried, pending, stream}
+use Rattle.gl_wire.specs.Wire.{pending, stream}
 use Rattle.gl_copies.specs.Lift.{Visits, visits}
 use Rattle.gl_copies.specs.Timed.{Begins, at_first, after_end}
 use Rattle.gl_groups.specs.Slots.{Slots, no_slots, freed, with_tuple, keys_now, slots_next, slots_at, keys_at, who_slots}
@@ -13,20 +13,7 @@ use Rattle.gl_groups.proofs.SlotLemmas.{Step, Flow, Flush, step_at, few_keys, ke
 use Rattle.gl_groups.proofs.FlushLemmas.{flush_idle, flush_done, fresh, none_taken}
 
 module _ (front : Setting) where
-  abbrev count : ℕ
-  count = front.count
-
-  abbrev key : Row → ℕ
-  key = front.key
-
-  abbrev stride : ℕ
-  stride = front.stride
-
-  abbrev a : Carried
-  a = front.a
-
-  abbrev ins : ℕ → Carried
-  ins = front.ins
+  open front use {count, key, stride, a, ins}
 
   abbrev who : Visits
   who = who_slots count key stride a

@@ -2,38 +2,18 @@
 use Rattle.std.proofs.Common.{◌≡◌, ℕ, zero, suc, ◌+◌, ◌<◌, ◌≤◌, List, [], ◌∷◌, ◌++◌, length, Option, Some, None, Bool, true, false, refl, sym, ap, ◌∙◌, arith, inl, inr, ◌⊎◌, length-append}
 use Rattle.std.specs.Prelude.{slice_get, not, ◌&&◌, ◌||◌, if◌then◌else◌, nat_eq, nat_lt, is_some}
 use Rattle.std.specs.List.{list_any}
-use Rattle.std.proofs.lemmas.Bool.{cases_lt, eq-eqb, ne_eqb}
-use Rattle.std.proofs.lemmas.Bool.Decides.{eqb_tells, leb_tells}
+use Rattle.std.proofs.lemmas.Bool.{cases_lt, eq-eqb}
+use Rattle.std.proofs.lemmas.Bool.Decides.{leb_tells}
 use Rattle.std.proofs.lemmas.List.Folds.{list_any-append}
+use Rattle.std.proofs.Math.Bool.{and-true, and-false, or-true}
 use Rattle.gl_bits.proofs.AllLists.{get_last, get_past}
 use Rattle.gl_bits.proofs.Bools.{or_none}
 use Rattle.gl_bits.specs.Tables.{with_key}
 use Rattle.gl_groups.specs.Seeking.{Sought, asked, found, has, kept, matches, takes}
 use Rattle.gl_groups.specs.Slots.{same_key}
 
-pub same_test : (a b c d : ℕ) → (a ≡ b → c ≡ d) → (c ≡ d → a ≡ b) → nat_eq a b ≡ nat_eq c d
-same_test a b c d f g = elim (eqb_tells a b) [
-  | inl h ↦ (let e = eq-eqb c d (f h.1) in h.0 ∙ sym e)
-  | inr h ↦ (let e = ne_eqb c d (λ q. h.1 (g q)) in h.0 ∙ sym e)
-]
-
-pub eq_turned : (a b : ℕ) → nat_eq a b ≡ nat_eq b a
-eq_turned a b = same_test a b b a (λ e. sym e) (λ e. sym e)
-
 lt_tells : (a b : ℕ) → ((nat_lt a b ≡ true) × (a < b)) ⊎ ((nat_lt a b ≡ false) × (b < suc a))
 lt_tells a b = leb_tells (suc a) b
-
-pub and_true : (b : Bool) → (b && true) ≡ b
-and_true true = refl
-and_true false = refl
-
-pub and_false : (b : Bool) → (b && false) ≡ false
-and_false true = refl
-and_false false = refl
-
-or_true : (b : Bool) → (b || true) ≡ true
-or_true true = refl
-or_true false = refl
 
 -- whether the first n keys are there, and none is this one
 abbrev unmatched : List ℕ → ℕ → ℕ → Bool
@@ -48,7 +28,7 @@ differs (Some x) y = not (nat_eq y x)
 unmatched_next : (ks : List ℕ) (y n : ℕ) → unmatched ks y (suc n) ≡ (unmatched ks y n && differs (slice_get ks n) y)
 unmatched_next [] y zero = refl
 unmatched_next [] y (suc n) = refl
-unmatched_next (x ∷ ks) y zero = and_true (not (nat_eq y x))
+unmatched_next (x ∷ ks) y zero = and-true (not (nat_eq y x))
 unmatched_next (x ∷ ks) y (suc n) = both (not (nat_eq y x)) (unmatched_next ks y n)
   where
     both : (b : Bool) → unmatched ks y (suc n) ≡ (unmatched ks y n && differs (slice_get ks n) y) → (b && unmatched ks y (suc n)) ≡ ((b && unmatched ks y n) && differs (slice_get ks n) y)
@@ -66,7 +46,7 @@ unmatched_all (x ∷ ks) y = both (nat_eq y x) (unmatched_all ks y)
 unmatched_past : (ks : List ℕ) (y n : ℕ) → length ks < n → unmatched ks y n ≡ false
 unmatched_past ks y zero l = absurd (omega (arith, l))
 unmatched_past [] y (suc n) l = refl
-unmatched_past (x ∷ ks) y (suc n) l = let h = unmatched_past ks y n (omega (arith, l)) in rw h (and_false (not (nat_eq y x)))
+unmatched_past (x ∷ ks) y (suc n) l = let h = unmatched_past ks y n (omega (arith, l)) in rw h (and-false (not (nat_eq y x)))
 
 pub get_some : (ks : List ℕ) (k : ℕ) → is_some (slice_get ks k) ≡ nat_lt k (length ks)
 get_some ks k = elim (lt_tells k (length ks)) [
@@ -94,7 +74,7 @@ with_key_at count ks y k l = elim (cases_lt k (length ks)) [
   | inl m ↦
       let some : is_some (slice_get ks k) ≡ true = get_some ks k ∙ less k (length ks) m in
       before (nat_lt (length ks) count && not (list_any (nat_eq y) ks)) m
-      ∙ sym (ap (λ b. if unmatched ks y k && not b then Some y else slice_get ks k) some ∙ ap (λ b. if b then Some y else slice_get ks k) (and_false (unmatched ks y k)))
+      ∙ sym (ap (λ b. if unmatched ks y k && not b then Some y else slice_get ks k) some ∙ ap (λ b. if b then Some y else slice_get ks k) (and-false (unmatched ks y k)))
   | inr m ↦ elim (cases_lt (length ks) k) [
     | inl n ↦
         let none : slice_get ks k ≡ None = get_past ks k m in
@@ -107,7 +87,7 @@ with_key_at count ks y k l = elim (cases_lt k (length ks)) [
         ap (λ b. slice_get (if b && not (list_any (nat_eq y) ks) then ks ++ y ∷ [] else ks) k) room
         ∙ here (list_any (nat_eq y) ks) at none
         ∙ sym (ap (λ (o : Option ℕ). if unmatched ks y k && not (is_some o) then Some y else o) none
-        ∙ ap (λ (b : Bool). if b then Some y else None) (and_true (unmatched ks y k) ∙ ap (unmatched ks y) (sym at) ∙ unmatched_all ks y))
+        ∙ ap (λ (b : Bool). if b then Some y else None) (and-true (unmatched ks y k) ∙ ap (unmatched ks y) (sym at) ∙ unmatched_all ks y))
   ]
 ]
   where
@@ -167,7 +147,7 @@ module _ (count : ℕ) (ks : List ℕ) (s : Sought) (shown : (k : ℕ) → k < c
       by false = refl
 
   pub asked_is : (k : ℕ) → k ≤ count → asked s k ≡ (s.ask && unmatched ks s.value k)
-  asked_is zero l = sym (and_true s.ask)
+  asked_is zero l = sym (and-true s.ask)
   asked_is (suc k) l =
       let before = asked_is k (omega (arith, l)) in
       let a = found_is k (omega (arith, l)) in
@@ -223,7 +203,7 @@ module _ (count : ℕ) (ks : List ℕ) (s : Sought) (shown : (k : ℕ) → k < c
       own = eq-eqb s.value s.value refl
 
       by : (b c : Bool) → ((b && nat_eq s.value (s.key k)) || c) ≡ same_key (if c then Some s.value else (if b then Some (s.key k) else None)) s.value
-      by b true = or_true (b && nat_eq s.value (s.key k)) ∙ sym own
+      by b true = or-true (b && nat_eq s.value (s.key k)) ∙ sym own
       by true false = or_none (nat_eq s.value (s.key k))
       by false false = refl
 

@@ -1,10 +1,10 @@
 -- A slot takes its end in its turn of a flush alone, so few visits end: none while no end comes, and after one at most one for each slot.
 use Rattle.std.proofs.Common.{◌≡◌, ℕ, zero, suc, ◌+◌, ◌-◌, ◌*◌, ◌<◌, ◌≤◌, List, length, Option, Some, None, Bool, true, false, ◌&&◌, refl, sym, ap, ◌∙◌, arith, inl, inr, mul-le-mul_right}
-use Rattle.std.specs.Prelude.{if◌then◌else◌, nat_eq, nat_lt, slice_get}
+use Rattle.std.specs.Prelude.{nat_eq, nat_lt, slice_get}
 use Rattle.std.proofs.lemmas.Bool.{cases_lt, eqb-true, and_parts, le-ltb, ltb-true}
 use Rattle.gl_bits.specs.Results.{Row}
 use Rattle.gl_wire.specs.Apart.{Carries, an_end}
-use Rattle.gl_wire.specs.Wire.{Carried, stream}
+use Rattle.gl_wire.specs.Wire.{stream}
 use Rattle.gl_copies.specs.Lift.{Visits, visits, with_visit}
 use Rattle.gl_copies.specs.Timed.{NoEnd, Rested}
 use Rattle.gl_groups.specs.Slots.{Slots, keys_now, slot_ends, slots_at, keys_at, slot_now, slot_ends_at, slot_at, who_slots}
@@ -12,24 +12,12 @@ use Rattle.gl_groups.proofs.Setting.{Setting}
 use Rattle.gl_copies.proofs.NumberLemmas.{mul_below}
 use Rattle.gl_groups.proofs.KeyLemmas.{key_below}
 use Rattle.gl_copies.proofs.VisitLemmas.{visits_none}
+use Rattle.gl_copies.proofs.TurnLemmas.{turn_of}
 use Rattle.gl_groups.proofs.SlotLemmas.{Step, step_at, few_keys, of_group}
 use Rattle.gl_groups.proofs.PhaseLemmas.{Phase, flows, flushes, phase}
 
 module _ (front : Setting) where
-  abbrev count : ℕ
-  count = front.count
-
-  abbrev key : Row → ℕ
-  key = front.key
-
-  abbrev stride : ℕ
-  stride = front.stride
-
-  abbrev a : Carried
-  a = front.a
-
-  abbrev ins : ℕ → Carried
-  ins = front.ins
+  open front use {count, key, stride, a, ins}
 
   abbrev who : Visits
   who = who_slots count key stride a
@@ -62,11 +50,7 @@ module _ (front : Setting) where
 
   -- a visit is such a turn
   pub visit_turn : (c k : ℕ) → who (suc c) ≡ Some k → (slot_ends_at count key stride a c ≡ true) × (slot c ≡ k)
-  visit_turn c k h = by (slot_ends_at count key stride a c) refl h
-    where
-      by : (b : Bool) → slot_ends_at count key stride a c ≡ b → (if b then Some (slot c) else None) ≡ Some k → (slot_ends_at count key stride a c ≡ true) × (slot c ≡ k)
-      by true p q = (p, cc)
-      by false p q = absurd (cc)
+  visit_turn c k h = turn_of (slot_ends_at count key stride a c) (slot c) k h
 
   has_key : (e : Bool) (o : Option Row) (ks : List ℕ) (s : Slots) → slot_ends e o ks s ≡ true → slot_now e s < length ks
   has_key true o ks s h = ltb-true 0 (length ks) h

@@ -1,8 +1,9 @@
 -- What groups cost: their front with the line of ends, and their back.
 use Rattle.std.specs.Prelude.{◌≡◌, ℕ, ◌+◌, ◌*◌, ◌≤◌, List, length, slice_index}
-use Rattle.std.specs.List.{All, sum}
+use Rattle.std.specs.List.{sum}
 use Rattle.gl_algebra.specs.Weights.{weight_of_copies}
 use Rattle.gl_wire.specs.Costs.{Cost}
+use Rattle.gl_wire.specs.Counted.{AreNarrow}
 
 -- a front of so many slots over a source of these columns, with the key in one of them, and the line of ends behind a timer
 abbrev pub cost_of_front : ℕ → ℕ → List ℕ → Cost
@@ -30,9 +31,6 @@ cost_of_grouping slots key source own =
       registers = front.registers + back.registers;
       memories = front.memories + back.memories;
     }
-
-abbrev pub AreNarrow : List ℕ → Type 0
-AreNarrow columns = All (λ w. w ≤ 64) columns
 
 -- a node for each of the weight, 64 bits of registers for each of it, and no memory
 pub record IsCounted (cost : Cost) (weight : ℕ) : Type 0 where

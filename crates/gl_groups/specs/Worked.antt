@@ -21,8 +21,8 @@ abbrev pub wire_with : List (Option Row) → List ℕ → Carried
 wire_with tuples ends = record { tuple = tuples_in tuples; ends = ends_in ends }
 
 -- a row of a key and one more number; the key stands first
-abbrev pub row : ℕ → ℕ → Row
-row key x = key ∷ x ∷ []
+abbrev pub row_with : ℕ → ℕ → Row
+row_with key x = key ∷ x ∷ []
 
 abbrev pub first : Row → ℕ
 first r = slice_index r 0
@@ -58,8 +58,8 @@ further_in count stride a c (suc n) =
 abbrev pub three_streams : Carried
 three_streams =
     wire_with
-    (None ∷ Some (row 5 1) ∷ Some (row 7 2) ∷ Some (row 5 3) ∷ Some (row 9 4) ∷ None ∷ None ∷ None ∷ None ∷ None ∷ None
-    ∷ None ∷ Some (row 9 6) ∷ Some (row 5 7) ∷ [])
+    (None ∷ Some (row_with 5 1) ∷ Some (row_with 7 2) ∷ Some (row_with 5 3) ∷ Some (row_with 9 4) ∷ None ∷ None ∷ None ∷ None ∷ None ∷ None
+    ∷ None ∷ Some (row_with 9 6) ∷ Some (row_with 5 7) ∷ [])
     (5 ∷ 13 ∷ 20 ∷ [])
 
 -- three streams over two slots that have their turns 3 cycles apart
@@ -67,10 +67,10 @@ pub record WorkedGroups : Type 0 where
   -- two groups end from the cycle after the end on, and the next stream finds both slots free; the last tuple of a stream comes with
   -- the turn of its slot
   pub visits : visits_in 2 3 three_streams 26 ≡
-      (6, 5, row 5 1 ∷ row 5 3 ∷ [])
-      ∷ (9, 7, row 7 2 ∷ [])
-      ∷ (14, 9, row 9 6 ∷ [])
-      ∷ (17, 5, row 5 7 ∷ [])
+      (6, 5, row_with 5 1 ∷ row_with 5 3 ∷ [])
+      ∷ (9, 7, row_with 7 2 ∷ [])
+      ∷ (14, 9, row_with 9 6 ∷ [])
+      ∷ (17, 5, row_with 5 7 ∷ [])
       ∷ []
   -- the row of the third key, and no other
   pub further : further_in 2 3 three_streams 0 26 ≡ 5 ∷ []

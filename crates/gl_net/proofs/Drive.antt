@@ -10,9 +10,10 @@ use Rattle.gl_net.specs.declared.node.Bus.{Bus}
 use Rattle.gl_net.specs.declared.node.Store.{Store}
 use Rattle.gl_net.specs.declared.node.Port.{Port}
 use Rattle.gl_net.specs.declared.node.Direction.{Direction}
-use Rattle.gl_net.specs.Net.{Net, Run, Shape, Value, Words, shape_of, shape_in, open_in, open_at, open_shape, Holds, Fits, IsTrace, IsRun, IsBus, Grows, stored_of, is_inner, size_of, register_bits, memory_bits, register_bits_of, memory_bits_of, has_no_reset, is_free}
+use Rattle.gl_net.specs.Net.{Net, Run, Shape, Value, Words, shape_of, shape_in, open_in, open_at, open_shape, Holds, Fits, IsTrace, IsRun, IsBus, Grows, Keeps, stored_of, is_inner, size_of, register_bits, memory_bits, register_bits_of, memory_bits_of, has_no_reset, is_free}
 use Rattle.gl_net.specs.WellFormed.{IsDrive, end_at, NodeFits, IsWellFormed}
 use Rattle.gl_net.specs.Steps.{Drives, DrivesMemory}
+use Rattle.gl_net.specs.Builds.{OthersStay}
 use Rattle.gl_net.proofs.Lists.{get_set_same, get_set_other, sum_by-replaced}
 use Rattle.gl_net.proofs.Growth.{kept_bus, kept_drive, kept_node, kept_end}
 
@@ -234,3 +235,17 @@ memory_fits nodes ports name at a w drive h i f =
     = record { there = h; nodes = refl; ports = refl; shape = refl; inner = refl; inner' = refl; register_bits' = refl; memory_bits' = refl } in
     let g : NodeFits (record { nodes = nodes; ports = ports; name = name }) at (Memory a w None) = f.nodes at _ h in
     replaced_fits _ _ _ _ _ q f (g.0, g.1, kept_drive _ _ (same_shapes _ _ _ _ _ q) (same_end _ _ _ _ _ q) a w drive i)
+
+-- a register that is opened, read by a block and driven behind it: nothing else has changed
+pub driven_keeps : (old made mid new : Net) (n : ℕ) → Grows old made → made.ports ≡ old.ports → made.name ≡ old.name → OthersStay old made n → open_at old n ≡ None
+    → Keeps made mid → Grows mid new → new.ports ≡ mid.ports → new.name ≡ mid.name → OthersStay mid new n → open_at new n ≡ None → Keeps old new
+driven_keeps old made mid new n grows ports name others fresh keeps drives ports' name' others' driven = record {
+  runs = λ run r. grows.runs run (keeps.runs run (drives.runs run r));
+  shapes = λ k shape h. drives.shapes k shape (keeps.shapes k shape (grows.shapes k shape h));
+  undriven = λ k. elim (cases_eq k n) [
+    | inl e ↦ ap (open_at new) e ∙ driven ∙ sym fresh ∙ sym (ap (open_at old) e)
+    | inr e ↦ others' k e ∙ keeps.undriven k ∙ others k e
+  ];
+  ports = ports' ∙ keeps.ports ∙ ports;
+  name = name' ∙ keeps.name ∙ name;
+}

@@ -1,12 +1,10 @@
 -- What buses, bits and memories carry in a run, and what choices and memories give for known values.
-use Rattle.std.proofs.Common.{◌≡◌, ◌≢◌, ℕ, ◌<◌, ◌^◌, Some, refl, subst}
+use Rattle.std.proofs.Common.{◌≡◌, ℕ, ◌<◌, ◌^◌, Some, refl, subst}
 use Rattle.std.specs.Prelude.{slice_get}
-use Rattle.std.proofs.Common.{eq-eqb, ne_eqb}
-use Rattle.std.proofs.Math.Bool.{and-false}
+use Rattle.std.proofs.Common.{eq-eqb}
 use Rattle.gl_net.specs.declared.node.Bus.{Bus}
 use Rattle.gl_net.specs.declared.node.Bit.{Bit}
-use Rattle.gl_net.specs.declared.node.Store.{Store}
-use Rattle.gl_net.specs.Net.{Net, Run, IsRun, Shape, Fits, shape_in, IsBus, IsBit, IsStore, stored_of}
+use Rattle.gl_net.specs.Net.{Net, Run, IsRun, Shape, Fits, shape_in, IsBus, IsBit, stored_of}
 use Rattle.gl_net.proofs.Growth.{shape_there}
 
 there_fits : (net : Net) (n : ℕ) (s : Shape) (run : Run) → shape_in net.nodes n ≡ Some s → IsRun net run → Fits run n s
@@ -21,20 +19,7 @@ bus_fits net b run i r = there_fits net b.node _ run i.there r
 pub bit_fits : (net : Net) (b : Bit) (run : Run) → IsBit net b → IsRun net run → (t : ℕ) → run.at t b.node < 2
 bit_fits net b run i r = there_fits net b.node _ run i.there r
 
--- a word of a memory is below 2 ^ width
-pub word_fits : (net : Net) (s : Store) (run : Run) → IsStore net s → IsRun net run → (t k : ℕ) → run.word t s.node k < 2 ^ s.width
-word_fits net s run i r = there_fits net s.node _ run i.there r
-
 -- a memory holds what was written to the address
 pub stored_now : (write address value k word : ℕ) → write ≡ 1 → address ≡ k → stored_of write address value k word ≡ value
 unfolding stored_of
 stored_now write address value k word w a = let e = eq-eqb write 1 w in let f = eq-eqb address k a in rw (e, f) refl
-
--- and keeps all other words
-pub stored_other : (write address value k word : ℕ) → address ≢ k → stored_of write address value k word ≡ word
-unfolding stored_of
-stored_other write address value k word a = let f = ne_eqb address k a in rw (f, and-false) refl
-
-pub stored_idle : (write address value k word : ℕ) → write ≢ 1 → stored_of write address value k word ≡ word
-unfolding stored_of
-stored_idle write address value k word w = let e = ne_eqb write 1 w in rw e refl

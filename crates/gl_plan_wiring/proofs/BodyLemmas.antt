@@ -1,5 +1,6 @@
 -- Copies of a body behind the wires of a front, each over the beats of its own wire, and the source before them.
 use Rattle.std.proofs.Common.{◌≡◌, ℕ, zero, suc, ◌+◌, ◌<◌, List, [], ◌∷◌, length, Some, slice_get, refl, sym, ap, ◌∙◌, subst, arith}
+use Rattle.gl_bits.proofs.AllLists.{get_there}
 use Rattle.gl_algebra.specs.declared.figures.Figures.{Figures}
 use Rattle.gl_algebra.specs.declared.node.PlanNode.{PlanNode}
 use Rattle.gl_algebra.specs.FigureTable.{figures_of, spaced}
@@ -27,7 +28,7 @@ use Rattle.gl_wire.proofs.ServingLemmas.{serving_as}
 use Rattle.gl_plan_wiring.specs.Copies.{AreBodies, IsSpacedFor, LeavesRoom, cost_of_spaced, paceless}
 use Rattle.gl_plan_wiring.specs.Leaves.{LeavesFit, leaf, widths_of}
 use Rattle.gl_plan_wiring.specs.Put.{GivesAs, IsPut, counted}
-use Rattle.gl_plan_wiring.proofs.CopyLemmas.{copy_fits, item_at}
+use Rattle.gl_plan_wiring.proofs.CopyLemmas.{copy_fits}
 use Rattle.gl_plan_wiring.proofs.CostLemmas.{costs_then}
 use Rattle.gl_plan_wiring.proofs.GivesLemmas.{gives_kept}
 use Rattle.gl_plan_wiring.proofs.SpacedLemmas.{behind_same, no_closer}
@@ -114,8 +115,8 @@ module _ (nodes : List PlanNode) (source body : ℕ) (plan : IsPlan nodes) (in_b
       → length wires ≡ c → (k : ℕ) → k < c → Spaced s (beats_of (carried_of run wires k))
       → CopyServes nodes body s (carried_of run wires k) (told_of run copies k) (gives_of run copies k)
   copies_serve mid net run wires c copies r are count k l spaced_beats =
-      let wire = item_at wires k (omega (arith, l, count)) in
-      let x = item_at copies k (omega (arith, l, are.as_many)) in
+      let wire = get_there wires k (omega (arith, l, count)) in
+      let x = get_there copies k (omega (arith, l, are.as_many)) in
       let same : carried_of run wires k ≡ carried run wire.0 = carried_of-get run wires k wire.0 wire.1 in
       let told : told_of run copies k ≡ lines_of run x.0.faults = ap (told_by run) x.1 in
       let gives : gives_of run copies k ≡ carried run x.0.wire = carried_of-get run (wires_of copies) k x.0.wire (wires_get copies k x.0 x.1) in

@@ -1,9 +1,10 @@
 -- Circuits of a body behind the wires of a front.
-use Rattle.std.proofs.Common.{◌≡◌, ℕ, zero, suc, ◌+◌, ◌*◌, ◌<◌, List, [], ◌∷◌, ◌++◌, length, Some, All, slice_get, length-append, refl, sym, ap, ◌∙◌, subst, arith}
+use Rattle.std.proofs.Common.{◌≡◌, ℕ, zero, suc, ◌+◌, ◌*◌, List, [], ◌∷◌, ◌++◌, length, Some, All, slice_get, length-append, refl, sym, ap, ◌∙◌, subst, arith}
 use Rattle.std.proofs.lemmas.List.Elements.{All-head, All-tail}
 use Rattle.std.proofs.lemmas.Option.{slice_get_within}
 use Rattle.std.proofs.Math.Nat.{add-mul}
 use Rattle.gl_bits.specs.declared.kind.Kind.{Kind}
+use Rattle.gl_bits.proofs.AllLists.{get_there}
 use Rattle.gl_algebra.specs.declared.figures.Figures.{Figures}
 use Rattle.gl_algebra.specs.declared.node.PlanNode.{PlanNode}
 use Rattle.gl_algebra.specs.declared.node.PlanNode.TheVariants.{Body}
@@ -44,12 +45,6 @@ copy_fits run w = record { each = each }
     each : (place : ℕ) (wire : Wire) → slice_get (w ∷ []) place ≡ Some wire → Fits input_figures (beats_of (carried run w)) (carried run wire)
     each zero wire h = let same : w ≡ wire = cc in subst (λ (x : Wire). Fits input_figures (beats_of (carried run w)) (carried run x)) same (own_fits (carried run w))
     each (suc place) wire h = absurd (cc)
-
--- something stands at each place
-pub item_at : {A : Type 0} (xs : List A) (k : ℕ) → k < length xs → (x : A) × (slice_get xs k ≡ Some x)
-item_at [] k l = absurd (omega arith)
-item_at (x ∷ xs) zero l = (x, refl)
-item_at (x ∷ xs) (suc k) l = item_at xs k (omega arith)
 
 -- behind wires with the columns of its source a body can be put
 pub can_copies : (nodes : List PlanNode) (figures : List Figures) (id source body : ℕ) (node : PlanNode) (old net : Net) (leaves wires : List Wire)
@@ -109,7 +104,7 @@ module _ (nodes : List PlanNode) (body : ℕ) (old new : Net) (wires : List Wire
   gives_each : (k : ℕ) (e : Emitted) → slice_get copies k ≡ Some e → HasColumns nodes body new e
   gives_each k e at =
       let l = slice_get_within copies k e at in
-      let w = item_at wires k (omega (arith, l, are.as_many)) in
+      let w = get_there wires k (omega (arith, l, are.as_many)) in
       let g = are.gives k w.0 e w.1 at in
       record { wire = g.wire; same_widths = g.same_widths; lines = g.lines }
 

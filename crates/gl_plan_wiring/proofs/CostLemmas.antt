@@ -2,18 +2,16 @@
 use Rattle.std.proofs.Common.{◌≡◌, ℕ, ◌+◌, ◌*◌, ◌≤◌, List, length, All, arith}
 use Rattle.std.specs.List.{sum}
 use Rattle.std.proofs.lemmas.List.{length-map}
-use Rattle.std.proofs.lemmas.List.Elements.{All-map}
-use Rattle.std.proofs.lemmas.List.Sums.{sum_by-le}
 use Rattle.gl_bits.specs.Kinds.{IsKind, width_of}
 use Rattle.gl_bits.specs.declared.kind.Kind.{Kind}
-use Rattle.gl_bits.specs.declared.kind.Kind.TheVariants.{Unsigned, Text}
 use Rattle.gl_algebra.specs.declared.node.PlanNode.{PlanNode}
 use Rattle.gl_algebra.specs.Cost.{lean_of, store_of}
 use Rattle.gl_algebra.specs.Weights.{weight_of}
 use Rattle.gl_net.specs.Net.{Net}
-use Rattle.gl_queue.specs.Counted.{IsCounted}
+use Rattle.gl_wire.specs.Counted.{IsCounted}
 use Rattle.gl_rows.specs.Costs.{cost_of_items, cost_of_rows}
 use Rattle.gl_wire.specs.Costs.{Cost, CostsAtMost}
+use Rattle.gl_wire.proofs.CountLemmas.{narrow_kinds, narrow_sum}
 use Rattle.gl_plan_wiring.specs.Leaves.{widths_of}
 use Rattle.gl_plan_wiring.specs.Put.{counted}
 
@@ -43,19 +41,19 @@ costs_then old mid new p q h i = record {
   memories = omega (arith, h.memories, i.memories);
 }
 
+-- the bits of memories of all parts, and a cost that is within what is counted
+pub stored_within : (source bodies spacer : ℕ) → source + spacer + 0 + bodies + 0 ≤ source + (bodies + spacer)
+stored_within source bodies spacer = omega arith
+
+pub at_most : (new old added counts : ℕ) → new ≤ old + added → added ≤ counts → new ≤ old + counts
+at_most new old added counts h k = omega (arith, h, k)
+
 -- ---- no column has more than 64 bits
-
-pub width_within : (kind : Kind) → IsKind kind → width_of kind ≤ 64
-width_within (Unsigned w) h = h.1
-width_within (Text n) h = omega (arith, h.1)
-
-pub narrow_kinds : (kinds : List Kind) → All IsKind kinds → All (λ w. w ≤ 64) (widths_of kinds)
-narrow_kinds kinds h = All-map (λ w. w ≤ 64) width_of kinds (λ i d lt. width_within _ (h i d lt))
 
 pub bits_within : (kinds : List Kind) → All IsKind kinds → sum (widths_of kinds) ≤ 64 * length kinds
 bits_within kinds h =
     let n : length (widths_of kinds) ≡ length kinds = length-map kinds width_of in
-    omega (arith, sum_by-le (λ (w : ℕ). w) 64 (widths_of kinds) (narrow_kinds kinds h), n)
+    omega (arith, narrow_sum (widths_of kinds) (narrow_kinds kinds h), n)
 
 -- ---- operators of rows
 

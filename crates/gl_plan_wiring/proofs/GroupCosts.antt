@@ -19,12 +19,13 @@ use Rattle.gl_net.specs.Net.{Net}
 use Rattle.gl_groups.specs.Costs.{IsCounted, cost_of_back, cost_of_front, cost_of_grouping, counted_for}
 use Rattle.gl_groups.proofs.CostLemmas.{groupings_are_counted}
 use Rattle.gl_wire.specs.Costs.{Cost, CostsAtMost}
+use Rattle.gl_wire.proofs.CountLemmas.{narrow_kinds}
 use Rattle.gl_plan_wiring.specs.declared.groups.GroupOf.{GroupOf}
 use Rattle.gl_plan_wiring.specs.Copies.{cost_of_spaced, times}
 use Rattle.gl_plan_wiring.specs.Groups.{IsGroupNode, cost_to_slots}
 use Rattle.gl_plan_wiring.specs.Leaves.{widths_of}
 use Rattle.gl_plan_wiring.specs.Put.{counted}
-use Rattle.gl_plan_wiring.proofs.CostLemmas.{costs_then, narrow_kinds}
+use Rattle.gl_plan_wiring.proofs.CostLemmas.{at_most, costs_then, stored_within}
 
 -- nodes, bits of registers, and bits of memories
 nodes_within : (source body spacer front back c s o : ℕ) → front + back ≤ weight_of_copies c 0 s o
@@ -39,12 +40,6 @@ bits_within source body spacer front back c s o h =
     let each : c * (body + 8 * (s + o + 4)) ≡ c * body + c * (0 + 8 * (s + o + 4)) = omega arith in
     let bits : c * (64 * body) ≡ 64 * (c * body) = omega arith in
     omega (arith, h, each, bits)
-
-stored_within : (source bodies spacer : ℕ) → source + spacer + 0 + bodies + 0 ≤ source + (bodies + spacer)
-stored_within source bodies spacer = omega arith
-
-at_most : (new old added counts : ℕ) → new ≤ old + added → added ≤ counts → new ≤ old + counts
-at_most new old added counts h k = omega (arith, h, k)
 
 -- the key has the width of its column
 pub key_width_is : (kinds : List Kind) (k : ℕ) → k < length kinds → slice_index (map width_of kinds) k ≡ width_of (kind_of_column kinds k)

@@ -4,6 +4,7 @@ use Rattle.std.specs.List.{All}
 use Rattle.std.proofs.lemmas.Option.{slice_get_within}
 use Rattle.std.specs.Prelude.{slice_index}
 use Rattle.gl_bits.specs.Kinds.{IsKind, width_of}
+use Rattle.gl_bits.proofs.AllLists.{get_there}
 use Rattle.gl_algebra.specs.Columns.{kind_of_column}
 use Rattle.gl_algebra.specs.declared.figures.Figures.{Figures}
 use Rattle.gl_algebra.specs.declared.node.PlanNode.{PlanNode}
@@ -20,7 +21,7 @@ use Rattle.gl_algebra.proofs.SoundLemmas.{spaced_sound}
 use Rattle.gl_algebra.proofs.TableLemmas.{nodes_follow_tables}
 use Rattle.gl_net.specs.Net.{Net}
 use Rattle.gl_net.proofs.Determined.{keeps_then}
-use Rattle.gl_queue.specs.Counted.{AreNarrow}
+use Rattle.gl_wire.specs.Counted.{AreNarrow}
 use Rattle.gl_rows.proofs.MadeLemmas.{as_many}
 use Rattle.gl_copies.specs.Bodies.{OfBody, alone}
 use Rattle.gl_copies.specs.Rotates.{lines_of_all}
@@ -40,6 +41,7 @@ use Rattle.gl_wire.specs.Spills.{Lines, both_lines}
 use Rattle.gl_wire.specs.Wire.{carried, line_at, widths}
 use Rattle.gl_wire.proofs.DelayLemmas.{spaced_closer}
 use Rattle.gl_wire.proofs.ServingLemmas.{serving_as, serving_lines}
+use Rattle.gl_wire.proofs.CountLemmas.{narrow_kinds}
 use Rattle.gl_plan_wiring.specs.declared.groups.GroupOf.{GroupOf}
 use Rattle.gl_plan_wiring.specs.Copies.{AreBodies, CanCopy, IsSpacedFor, LeavesRoom, paceless}
 use Rattle.gl_plan_wiring.specs.Groups.{IsGroupFront, IsGroupNode, group_whole, grouping_of, spaced_source}
@@ -47,8 +49,7 @@ use Rattle.gl_plan_wiring.specs.Leaves.{leaf, widths_of}
 use Rattle.gl_plan_wiring.specs.Put.{CanPut, GivesAs, HasColumns, IsPut}
 use Rattle.gl_plan_wiring.proofs.BodyLemmas.{columns_between, copies_serve, no_more, source_apart, source_cost, source_gives, source_keeps}
 use Rattle.gl_plan_wiring.proofs.CanLemmas.{first_within, second_within}
-use Rattle.gl_plan_wiring.proofs.CopyLemmas.{bodies_columns, can_copies, item_at}
-use Rattle.gl_plan_wiring.proofs.CostLemmas.{narrow_kinds}
+use Rattle.gl_plan_wiring.proofs.CopyLemmas.{bodies_columns, can_copies}
 use Rattle.gl_plan_wiring.proofs.GroupCosts.{group_cost, key_width_is}
 
 -- beats of the whole leave room for the body
@@ -147,7 +148,7 @@ module _ (nodes : List PlanNode) (g : GroupOf) (plan : IsPlan nodes) (at : IsGro
       → AreBodies nodes g.body mid net front.wires g.groups copies → length front.wires ≡ g.groups
       → key_width (grouping_of nodes g) front.source ∷ columns_of copies ≡ widths_of (kind_of_column (kinds_of nodes g.source) g.key ∷ kinds_of nodes g.body)
   own_columns mid net new leaves front copies gives are many =
-      let first = item_at copies 0 (omega (arith, fits.suits.2.least, are.as_many)) in
+      let first = get_there copies 0 (omega (arith, fits.suits.2.least, are.as_many)) in
       let bodies : AreBodies nodes g.body mid net front.wires (length front.wires) copies = subst (λ (n : ℕ). AreBodies nodes g.body mid net front.wires n copies) (sym many) are in
       let columns : columns_of copies ≡ widths_of (kinds_of nodes g.body) = bodies_columns nodes g.body mid net front.wires copies bodies 0 first.0 first.1 in
       let key : key_width (grouping_of nodes g) front.source ≡ width_of (kind_of_column (kinds_of nodes g.source) g.key) =

@@ -29,10 +29,11 @@ use Rattle.gl_wire.specs.Costs.{CostsAtMost}
 use Rattle.gl_wire.specs.Pace.{KeepsPace}
 use Rattle.gl_wire.specs.Spills.{always, never2}
 use Rattle.gl_wire.specs.Wire.{widths}
+use Rattle.gl_wire.proofs.CountLemmas.{narrow_kinds}
 use Rattle.gl_plan_wiring.specs.Leaves.{widths_of}
 use Rattle.gl_plan_wiring.specs.Put.{IsPut, counted}
 use Rattle.gl_plan_wiring.proofs.CanLemmas.{first_within, second_within}
-use Rattle.gl_plan_wiring.proofs.CostLemmas.{both_costs, cost_behind, costs_then, narrow_kinds}
+use Rattle.gl_plan_wiring.proofs.CostLemmas.{both_costs, cost_behind, costs_then}
 use Rattle.gl_plan_wiring.proofs.GivesLemmas.{behind2, gives_kept}
 use Rattle.gl_plan_wiring.proofs.SideLemmas.{joins_pace, sides_alike}
 

@@ -18,7 +18,7 @@ use Rattle.gl_algebra.specs.FigureTable.{delayed, settled, aggregate_figures, de
 use Rattle.gl_algebra.specs.Fits.{IsPlan}
 use Rattle.gl_algebra.specs.Results.{IsPlanResult, computed, selected, projected}
 use Rattle.gl_algebra.specs.Shapes.{Shape, kinds_of, shape_of}
-use Rattle.gl_algebra.proofs.FigureLemmas.{figures_are_sound}
+use Rattle.gl_algebra.proofs.FigureLemmas.{figures_are_sound, delayed_by_none}
 use Rattle.gl_algebra.proofs.KindLemmas.{columns_have_kinds}
 use Rattle.gl_algebra.proofs.SoundLemmas.{delayed_sound}
 use Rattle.gl_algebra.proofs.TableLemmas.{nodes_follow_tables}
@@ -58,13 +58,6 @@ kept_rows column (x ∷ xs) = by (nat_eq (slice_index x column) 1) (kept_rows co
         → cons_option (if b then Some x else None) (filter_map (keep_where column) xs) ≡ cond b (x ∷ selected column xs) (selected column xs)
     by true h = ap (λ (l : List Row). x ∷ l) h
     by false h = h
-
-delayed_by_none : (f : Figures) → delayed 0 f ≡ f
-delayed_by_none f =
-    let a : f.a + 0 ≡ f.a = omega arith in
-    let t : f.lt + 0 ≡ f.lt = omega arith in
-    let e : f.le + 0 ≡ f.le = omega arith in
-    rw (a, t, e) refl
 
 -- the width of a column of a kind
 pub width_at : (kinds : List Kind) (column : ℕ) (kind : Kind) → slice_get kinds column ≡ Some kind → slice_get (widths_of kinds) column ≡ Some (width_of kind)

@@ -8,7 +8,7 @@ use Rattle.gl_algebra.specs.declared.figures.Figures.{Figures}
 use Rattle.gl_algebra.specs.FigureTable.{beside_figures, delayed, is_fixed, wait_of}
 use Rattle.gl_algebra.specs.Laws.{IsFixed, PaceFixes}
 use Rattle.gl_algebra.specs.Shapes.{Pace, unsteady, once, with_stream, with_body}
-use Rattle.gl_algebra.proofs.PaceLemmas.{is_fixed-is}
+use Rattle.gl_algebra.proofs.PaceLemmas.{is_fixed-is, delayed_fixed}
 use Rattle.gl_queue.specs.Joiners.{joined_pace, joins_when}
 use Rattle.gl_wire.specs.Beats.{Beats}
 use Rattle.gl_wire.specs.Pace.{InStep, KeepsPace, WithEnds}
@@ -95,10 +95,7 @@ sides_alike with_body p q steady fp fq leaves beats x y fx fy px py false e = ab
 -- two sides in step begin as late as the slower one
 beside_first : (p q : Figures) → IsFixed p → IsFixed q → (beside_figures p q).a ≡ p.a + wait_of p q
 beside_first p q h h' =
-    rw (is_fixed-is (delayed (wait_of p q) p) (later (wait_of p q) p h), is_fixed-is (delayed (wait_of q p) q) (later (wait_of q p) q h')) refl
-  where
-    later : (m : ℕ) (f : Figures) → IsFixed f → IsFixed (delayed m f)
-    later m f h = record { tuples_last = omega (arith, h.tuples_last); end_last = omega (arith, h.end_last); tuples = h.tuples; end_tuples = h.end_tuples }
+    rw (is_fixed-is (delayed (wait_of p q) p) (delayed_fixed (wait_of p q) p h), is_fixed-is (delayed (wait_of q p) q) (delayed_fixed (wait_of q p) q h')) refl
 
 -- what a joiner gives keeps the pace of its sides
 pub joins_pace : (pace : Pace) (p q : Figures) → PaceFixes pace p → PaceFixes pace q → (leaves : ℕ → Carried) (x y o : Carried)

@@ -9,7 +9,7 @@ use Rattle.gl_algebra.specs.Results.{Inputs, Meaning}
 use Rattle.gl_algebra.specs.Shapes.{Shape}
 use Rattle.gl_net.specs.Net.{Net}
 use Rattle.gl_net.proofs.Growth.{same_keeps}
-use Rattle.gl_queue.specs.Counted.{AreNarrow}
+use Rattle.gl_wire.specs.Counted.{AreNarrow}
 use Rattle.gl_queue.specs.Spacers.{IsSpacerOf}
 use Rattle.gl_queue.proofs.CountLemmas.{spacers_are_counted}
 use Rattle.gl_wire.specs.declared.emitted.Emitted.{Emitted}

@@ -7,6 +7,7 @@ use Rattle.std.proofs.lemmas.List.Sums.{sum_by-cons}
 use Rattle.std.proofs.Math.Nat.{mul-le-mul_left, mul-le-mul_right}
 use Rattle.gl_bits.specs.Kinds.{IsKind, width_of}
 use Rattle.gl_bits.specs.declared.kind.Kind.{Kind}
+use Rattle.gl_bits.proofs.KindLemmas.{kind_width}
 use Rattle.gl_algebra.specs.declared.node.Operand.{Operand}
 use Rattle.gl_algebra.specs.declared.node.Operand.TheVariants.{Column, Literal}
 use Rattle.gl_algebra.specs.declared.node.PlanAgg.{PlanAgg}
@@ -14,14 +15,13 @@ use Rattle.gl_algebra.specs.declared.node.PlanAgg.TheVariants.{Count, Sum, Min, 
 use Rattle.gl_algebra.specs.Columns.{AggFits, OperandFits, bit_kind, kind_of_agg, kind_of_operand}
 use Rattle.gl_algebra.specs.FigureTable.{delay_of_aggs}
 use Rattle.gl_algebra.specs.Weights.{weight_of_agg}
-use Rattle.gl_queue.specs.Counted.{IsCounted}
+use Rattle.gl_wire.specs.Counted.{IsCounted}
 use Rattle.gl_totals.specs.Costs.{cost_of_aggs, state_of_agg}
-use Rattle.gl_plan_wiring.proofs.CostLemmas.{width_within}
 
 module _ (kinds : List Kind) (are : All IsKind kinds) where
   operand_within : (operand : Operand) → OperandFits kinds operand → width_of (kind_of_operand kinds operand) ≤ 64
-  operand_within (Column column) h = width_within (kind_of_operand kinds (Column column)) (are column bit_kind h)
-  operand_within (Literal word kind) h = width_within kind h.1
+  operand_within (Column column) h = kind_width (kind_of_operand kinds (Column column)) (are column bit_kind h)
+  operand_within (Literal word kind) h = kind_width kind h.1
 
   agg_within : (agg : PlanAgg) → AggFits kinds agg → width_of (kind_of_agg kinds agg) ≤ 64
   agg_within Count h = omega arith

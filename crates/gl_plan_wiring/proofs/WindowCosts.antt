@@ -17,12 +17,13 @@ use Rattle.gl_windows.specs.Costs.{IsCounted, cost_of_front, cost_of_rotation, c
 use Rattle.gl_registers.specs.Joins.{cost_of_back}
 use Rattle.gl_windows.proofs.CostLemmas.{rotations_are_counted}
 use Rattle.gl_wire.specs.Costs.{Cost, CostsAtMost}
+use Rattle.gl_wire.proofs.CountLemmas.{narrow_kinds}
 use Rattle.gl_plan_wiring.specs.declared.windows.WindowOf.{WindowOf}
 use Rattle.gl_plan_wiring.specs.Leaves.{widths_of}
 use Rattle.gl_plan_wiring.specs.Put.{counted}
 use Rattle.gl_plan_wiring.specs.Windows.{IsWindow, cost_to_front}
 use Rattle.gl_plan_wiring.specs.Copies.{cost_of_spaced, times}
-use Rattle.gl_plan_wiring.proofs.CostLemmas.{costs_then, narrow_kinds}
+use Rattle.gl_plan_wiring.proofs.CostLemmas.{at_most, costs_then, stored_within}
 
 -- nodes, bits of registers, and bits of memories
 nodes_within : (source body spacer front back c s o a : ℕ) → front + back ≤ weight_of_copies c 0 s o + 4 * a
@@ -37,12 +38,6 @@ bits_within source body spacer front back c s o a h =
     let each : c * (body + 8 * (s + o + 4)) ≡ c * body + c * (0 + 8 * (s + o + 4)) = omega arith in
     let bits : c * (64 * body) ≡ 64 * (c * body) = omega arith in
     omega (arith, h, each, bits)
-
-stored_within : (source bodies spacer : ℕ) → source + spacer + 0 + bodies + 0 ≤ source + (bodies + spacer)
-stored_within source bodies spacer = omega arith
-
-at_most : (new old added counts : ℕ) → new ≤ old + added → added ≤ counts → new ≤ old + counts
-at_most new old added counts h k = omega (arith, h, k)
 
 -- all parts
 module _ (nodes : List PlanNode) (w : WindowOf) (plan : IsPlan nodes) (at : IsWindow nodes w) (kinds_source : All IsKind (kinds_of nodes w.source))

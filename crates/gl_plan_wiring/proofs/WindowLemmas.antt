@@ -3,6 +3,7 @@ use Rattle.std.proofs.Common.{◌≡◌, ℕ, ◌<◌, ◌≤◌, List, [], ◌�
 use Rattle.gl_bits.specs.Lists.{slices}
 use Rattle.gl_bits.specs.Results.{Row, Results, AreJoined}
 use Rattle.gl_bits.proofs.Bools.{or_none}
+use Rattle.gl_bits.proofs.AllLists.{get_there}
 use Rattle.gl_algebra.specs.declared.figures.Figures.{Figures}
 use Rattle.gl_algebra.specs.declared.node.PlanNode.{PlanNode}
 use Rattle.gl_algebra.specs.declared.node.PlanNode.TheVariants.{Window}
@@ -18,7 +19,7 @@ use Rattle.gl_algebra.proofs.SoundLemmas.{spaced_sound}
 use Rattle.gl_algebra.proofs.TableLemmas.{nodes_follow_tables}
 use Rattle.gl_net.specs.Net.{Net}
 use Rattle.gl_net.proofs.Determined.{keeps_then}
-use Rattle.gl_queue.specs.Counted.{AreNarrow}
+use Rattle.gl_wire.specs.Counted.{AreNarrow}
 use Rattle.gl_windows.specs.declared.rotation.Fronted.{Fronted}
 use Rattle.gl_windows.specs.Costs.{cost_of_front}
 use Rattle.gl_windows.specs.Rotations.{IsBacked, IsFronted, IsRotation}
@@ -35,6 +36,7 @@ use Rattle.gl_wire.specs.Spills.{Lines, both_lines}
 use Rattle.gl_wire.specs.Wire.{carried, widths}
 use Rattle.gl_wire.proofs.DelayLemmas.{spaced_closer}
 use Rattle.gl_wire.proofs.ServingLemmas.{serving_as, serving_lines, serving_then}
+use Rattle.gl_wire.proofs.CountLemmas.{narrow_kinds}
 use Rattle.gl_copies.specs.Rotates.{lines_of_all}
 use Rattle.gl_plan_wiring.specs.declared.windows.WindowOf.{WindowOf}
 use Rattle.gl_plan_wiring.specs.Leaves.{leaf, widths_of}
@@ -43,8 +45,7 @@ use Rattle.gl_plan_wiring.specs.Windows.{IsFrontOf, IsWindow, rotation_of, sourc
 use Rattle.gl_plan_wiring.specs.Copies.{AreBodies, CanCopy, IsSpacedFor, LeavesRoom, paceless}
 use Rattle.gl_plan_wiring.proofs.CanLemmas.{first_within, second_within}
 use Rattle.gl_plan_wiring.proofs.BodyLemmas.{columns_between, copies_serve, no_more, source_apart, source_cost, source_gives, source_keeps}
-use Rattle.gl_plan_wiring.proofs.CopyLemmas.{bodies_columns, can_copies, item_at}
-use Rattle.gl_plan_wiring.proofs.CostLemmas.{narrow_kinds}
+use Rattle.gl_plan_wiring.proofs.CopyLemmas.{bodies_columns, can_copies}
 use Rattle.gl_plan_wiring.proofs.WindowCosts.{window_cost}
 
 -- beats of the whole leave room for the body
@@ -155,7 +156,7 @@ module _ (nodes : List PlanNode) (w : WindowOf) (plan : IsPlan nodes) (at : IsWi
       let many : length front.wires ≡ c = h.fronts.as_many in
       let are : AreBodies nodes w.body mid net front.wires c copies =
       subst (λ (n : ℕ). AreBodies nodes w.body mid net front.wires n copies) many bodies in
-      let first = item_at copies 0 (omega (arith, one_copy w.size w.advance fits.suits.1.least fits.suits.2.least, are.as_many)) in
+      let first = get_there copies 0 (omega (arith, one_copy w.size w.advance fits.suits.1.least fits.suits.2.least, are.as_many)) in
       let columns : columns_of copies ≡ widths_of (kinds_of nodes w.body) =
       bodies_columns nodes w.body mid net front.wires copies bodies 0 first.0 first.1 in
       let rear : CostsAtMost net new (cost_of_back c (widths_of (kinds_of nodes w.body))) =

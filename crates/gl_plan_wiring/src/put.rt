@@ -4,7 +4,7 @@ ghost use Rattle.std.specs.Prelude.{IfOk, length};
 ghost use Rattle.gl_plan_wiring.specs.Put.{CanPut, IsPut};
 ghost use Rattle.gl_plan_wiring.specs.Groups.{IsGroupNode};
 ghost use Rattle.gl_plan_wiring.specs.Windows.{IsWindow};
-ghost use Rattle.gl_plan_wiring.specs.Copies.{AreBodies, CanCopy};
+ghost use Rattle.gl_plan_wiring.specs.Copies.{AreBodies, CanCopy, IsOverCopies};
 
 use crate::arms::{
     aggregate_node, beside_node, compute_node, leaf_of, project_node, select_node, union_node,
@@ -70,6 +70,28 @@ pub fn put_node(
             let second = put_node(alloc, net, plan, figures, *right, leaves)?;
             beside_node(alloc, net, plan, figures, id, *left, *right, first, second)
         }
+        PlanNode::Window { .. } | PlanNode::Group { .. } => {
+            put_over(alloc, net, plan, figures, id, leaves)
+        }
+    }
+}
+
+// Adds the circuit of a window or of a group.
+#[cycle(put)]
+#[tactic(auto)]
+fn put_over(
+    alloc: Global,
+    net: &mut NetBuilder,
+    plan: &Plan,
+    figures: &[Figures],
+    id: PlanId,
+    leaves: &[Wire],
+) -> Result<Emitted, Memory>
+    requires over { IsOverCopies plan.now id }
+    requires can { CanPut plan.now figures.now id net.old leaves.now }
+    ensures { IfOk result (λ e. IsPut plan.now id net.old net.new leaves.now e) }
+{
+    match plan.node(id) {
         PlanNode::Window {
             source,
             body,
@@ -100,6 +122,7 @@ pub fn put_node(
             };
             put_group(alloc, net, plan, figures, group, leaves)
         }
+        _ => unreachable!(),
     }
 }
 

@@ -7,9 +7,10 @@ use Rattle.gl_bits.specs.declared.kind.Kind.TheVariants.{Unsigned, Text}
 use Rattle.gl_bits.specs.declared.op.Sort.{Sort}
 use Rattle.gl_bits.specs.declared.op.Sort.TheVariants.{Arithmetic, Comparison, Logic}
 use Rattle.gl_bits.specs.Kinds.{IsKind}
-use Rattle.gl_bits.specs.Operators.{result_kind, sort_of}
+use Rattle.gl_bits.specs.Operators.{sort_of}
 use Rattle.gl_bits.proofs.AllLists.{all_append, length_map}
 use Rattle.gl_bits.proofs.Bools.{by_cases}
+use Rattle.gl_bits.proofs.KindLemmas.{bit_is_kind, result_is}
 use Rattle.gl_schema.specs.declared.schema.Column.{Column}
 use Rattle.gl_schema.specs.declared.schema.Stream.{Stream}
 use Rattle.gl_schema.specs.Schemas.{IsColumn, IsStream, has_stream}
@@ -66,29 +67,21 @@ casts_are (shape.Cast kind e) columns place h =
 casts_are (shape.Binary op l r) columns place h =
     (casts_are l columns (left_place columns op place l r) h.0, casts_are r columns (right_place columns op place l r) h.1)
 
-bit_kind : IsKind (Unsigned 1)
-bit_kind = (lit≤ tt, lit≤ tt)
-
 pub alone_kind : (e : ExprShape) → IsKind (kind_alone e)
 alone_kind e = by_cases (begins_with_text e) (λ b. rw b (lit≤ tt, lit≤ tt)) (λ b. rw b (lit≤ tt, lit≤ tt))
 
 pub loose_is : (sort : Sort) (whole : Kind) (e : ExprShape) → IsKind whole → IsKind (loose_kind sort whole e)
 loose_is Arithmetic whole e h = h
 loose_is Comparison whole e h = alone_kind e
-loose_is Logic whole e h = bit_kind
+loose_is Logic whole e h = bit_is_kind
 
 pub place_is : (b : Bool) (sort : Sort) (whole : Kind) (e : ExprShape) (other : Kind) → IsKind whole → IsKind other → IsKind (if b then loose_kind sort whole e else other)
 place_is true sort whole e other h k = loose_is sort whole e h
 place_is false sort whole e other h k = k
 
-pub result_is : (sort : Sort) (k : Kind) → IsKind k → IsKind (result_kind sort k)
-result_is Arithmetic k h = h
-result_is Comparison k h = bit_kind
-result_is Logic k h = bit_kind
-
 -- the kind of the column at a place
 pub kind_at : (columns : List Column) (place : ℕ) → AreKinds columns → IsKind (unwrap_or (option_map (λ c. c.kind) (slice_get columns place)) (Unsigned 1))
-kind_at [] place h = bit_kind
+kind_at [] place h = bit_is_kind
 kind_at (c ∷ cs) zero h = h.0
 kind_at (c ∷ cs) (suc place) h = kind_at cs place h.1
 
@@ -96,7 +89,7 @@ pub kind_is : (e : ExprShape) (columns : List Column) (place : Kind) → AreKind
 kind_is (shape.Column name) columns place h p c = kind_at columns (column_number columns name) h
 kind_is (shape.Number n) columns place h p c = p
 kind_is (shape.Letters text) columns place h p c = p
-kind_is (shape.Not e) columns place h p c = bit_kind
+kind_is (shape.Not e) columns place h p c = bit_is_kind
 kind_is (shape.Cast kind e) columns place h p c = c.0
 kind_is (shape.Binary op l r) columns place h p c =
     let other = kind_of columns place r in
@@ -104,7 +97,8 @@ kind_is (shape.Binary op l r) columns place h p c =
     result_is (sort_of op) (kind_of columns (operand_place (sort_of op) place l r other) l)
     (kind_is l columns (operand_place (sort_of op) place l r other) h here c.0)
 
-whole_is : (e : ExprShape) (columns : List Column) → AreKinds columns → HasKind columns (kind_alone e) e → IsKind (kind_of columns (kind_alone e) e)
+-- what stands alone
+pub whole_is : (e : ExprShape) (columns : List Column) → AreKinds columns → HasKind columns (kind_alone e) e → IsKind (kind_of columns (kind_alone e) e)
 whole_is e columns h t = kind_is e columns (kind_alone e) h (alone_kind e) (casts_are e columns (kind_alone e) t)
 
 agg_is : (a : AggShape) (columns : List Column) → AreKinds columns → IsAgg columns a → IsKind (agg_kind columns a)

@@ -4,7 +4,7 @@ use Rattle.std.specs.List.{AllByRecursion}
 use Rattle.gl_query.specs.Shapes.{QueryShape}
 use Rattle.gl_query.specs.Shapes as shape
 use Rattle.gl_bits.specs.Kinds.{IsKind}
-use Rattle.gl_bits.specs.Results.{Row}
+use Rattle.gl_bits.specs.Results.{Row, AreSame}
 use Rattle.gl_query.specs.declared.tree.Statement.{Statement}
 use Rattle.gl_query.specs.Shapes.{statement_shape}
 use Rattle.gl_query.specs.Trees.{StatementTree, statement_tree}
@@ -27,11 +27,6 @@ HasNoUnion (shape.Each var source size advance body) = HasNoUnion source × HasN
 HasNoUnion (shape.PerGroup var source key groups body) = HasNoUnion source × HasNoUnion body
 HasNoUnion (shape.Union l r) = ⊥
 HasNoUnion (shape.Concat l r) = HasNoUnion l × HasNoUnion r
-
--- two results are one
-pub record AreSame (out out' : List Row) (spill spill' : Bool) : Type 0 where
-  pub rows : out ≡ out'
-  pub spills : spill ≡ spill'
 
 -- without UNION there is at most one result
 abbrev pub HasOneResult : Type 0

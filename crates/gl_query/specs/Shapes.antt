@@ -1,5 +1,5 @@
 -- Statements without their places. Two statements are alike where their shapes are equal.
-use Rattle.std.specs.Prelude.{◌≡◌, ℕ, List, map, Option, option_map}
+use Rattle.std.specs.Prelude.{ℕ, List, map, Option, option_map}
 use Rattle.gl_bits.specs.declared.kind.Kind.{Kind}
 use Rattle.gl_bits.specs.declared.op.Op.{Op}
 use Rattle.gl_query.specs.declared.tree.Num.{Num}
@@ -100,7 +100,3 @@ query_shape (query.Concat' p l q r at) = Concat (query_shape l) (query_shape r)
 
 abbrev pub statement_shape : Statement → StatementShape
 statement_shape s = record { query = query_shape s.query; name = s.name.text }
-
--- equal but for their places
-abbrev pub AreAlike : Statement → Statement → Type 0
-AreAlike s t = statement_shape s ≡ statement_shape t

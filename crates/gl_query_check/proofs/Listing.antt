@@ -1,12 +1,12 @@
 -- One more of what is under a name.
-use Rattle.std.proofs.Common.{◌≡◌, ℕ, zero, suc, ◌+◌, ◌<◌, ◌≤◌, true, false, List, [], ◌∷◌, ◌++◌, length, map, take, drop, Option, Some, refl, ap, ◌∙◌, arith}
+use Rattle.std.proofs.Common.{◌≡◌, ℕ, zero, suc, ◌+◌, ◌<◌, true, List, [], ◌∷◌, ◌++◌, length, map, take, drop, Option, refl, ap, ◌∙◌, arith}
 use Rattle.std.specs.Prelude.{bytes_eq, not, nat_lt}
 use Rattle.std.specs.List.{list_any}
-use Rattle.std.proofs.lemmas.Bool.{le-ltb, lt-ltb}
+use Rattle.std.proofs.lemmas.Bool.{lt-ltb}
 use Rattle.std.proofs.lemmas.List.{map-append}
 use Rattle.gl_bits.proofs.AllLists.{length_map}
 use Rattle.gl_query.specs.declared.fault.QueryFault.{QueryFault}
-use Rattle.gl_query.specs.declared.fault.QueryFault.TheVariants.{OutOfRange, TwiceNamed}
+use Rattle.gl_query.specs.declared.fault.QueryFault.TheVariants.{TwiceNamed}
 use Rattle.gl_query.specs.declared.tree.Name.{Name}
 use Rattle.gl_query.specs.Faults.{named_fault, or_else, unless}
 
@@ -44,11 +44,3 @@ named_step f name own xs n x rest e lt =
     ap (λ k. map f (take k xs)) (one_more n) ∙ ap (map f) (take_suc n xs x rest e) ∙ map-append f (take n xs) (x ∷ []) in
     let dropped : map f (drop (n + 1) xs) ≡ map f rest = ap (λ k. map f (drop k xs)) (one_more n) ∙ ap (map f) (drop_suc n xs x rest e) in
     rw (e, taken, dropped, room) refl
-
--- the 33rd
-pub named_many : {A B : Type 0} (f : A → B) (name : B → Name) (own : B → Option QueryFault) (xs : List A) (n : ℕ) (x : A) (rest : List A)
-    → drop n xs ≡ x ∷ rest → 32 ≤ n → Some (OutOfRange (name (f x)).at) ≡ named_fault name own (map f (take n xs)) (map f (drop n xs))
-named_many f name own xs n x rest e le =
-    let long : length (map f (take n xs)) ≡ n = length_map f (take n xs) ∙ take_long n xs x rest e in
-    let full : nat_lt (length (map f (take n xs))) 32 ≡ false = ap (λ k. nat_lt k 32) long ∙ le-ltb n 32 le in
-    rw (e, full) refl

@@ -12,7 +12,6 @@ use Rattle.gl_query_reader.specs.Grammar.{HasStatement, IsOrMemory, IsFault, IsV
 use Rattle.gl_query_reader.specs.Meaning.{statement_meaning}
 use Rattle.gl_query_reader.proofs.ReadQueries.{one_statement}
 use Rattle.gl_query_reader.proofs.Verdicts.{verdicts}
-use Rattle.gl_query_check.specs.Answers.{IsOr}
 use Rattle.gl_query_check.proofs.Accepting.{accepted_none}
 use Rattle.gl_query_judge.specs.Judged.{IsAcceptedText, HasNoStatement, BreaksRule, IsQueryFault, IsFaultOrMemory, TextsHaveOneFault}
 
@@ -59,15 +58,6 @@ unread schema text f is only = by (memory_or f)
   where
     by : IsReal f ⊎ (f ≡ fault.Memory) → IsFaultOrMemory schema text f
     by (inl r) = inl (record { real = r.real; found = inl (record { fault = is; none = λ m h. r.none m (only m h) }) })
-    by (inr e) = inr e
-
--- its statement breaks a rule
-pub unaccepted : (schema : Schema) (text : List ℕ) (s : Statement) (f : QueryFault) → HasStatement text (statement_tree s) → IsOr (first_fault schema (statement_tree s)) f → IsFaultOrMemory schema text f
-unaccepted schema text s f has (inr e) = inr e
-unaccepted schema text s f has (inl first) = by (memory_or f)
-  where
-    by : IsReal f ⊎ (f ≡ fault.Memory) → IsFaultOrMemory schema text f
-    by (inl r) = inl (record { real = r.real; found = inr (record { statement = statement_tree s; has = has; first = first }) })
     by (inr e) = inr e
 
 -- ---- one fault

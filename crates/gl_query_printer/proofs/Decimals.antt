@@ -10,6 +10,7 @@ use Rattle.std.proofs.lemmas.Str.Parse.{tells_digits, numerals_by_fold, FoldsDig
 use Rattle.std.proofs.lemmas.Fmt.{decimal_is_IsNumeral_wide}
 use Rattle.gl_schema.specs.Names.{is_name, is_digit, begins_with_letter}
 use Rattle.gl_bits.specs.declared.op.Op.TheVariants as op
+use Rattle.gl_bits.proofs.AllLists.{heads}
 use Rattle.std.specs.List as lists
 use Rattle.gl_query_tokens.specs.declared.token.Fold.TheVariants as fold
 use Rattle.gl_query_tokens.specs.declared.token.Join.TheVariants as join
@@ -78,9 +79,6 @@ lower_digit : (c : ℕ) → IsInRange 48 57 c → to_ascii_lowercase c ≡ c
 lower_digit c r = let l : nat_lt c 65 ≡ true = lt-ltb c 65 (omega (arith, r.1)) in rw l refl
 
 -- no keyword begins with a digit
-heads : (x y : ℕ) (xs ys : List ℕ) → x ∷ xs ≡ y ∷ ys → x ≡ y
-heads x y xs ys h = cc
-
 unlike : (a b c d : ℕ) (xs ys : List ℕ) → a ≡ c → b ≡ d → (c ≡ d → ⊥) → bytes_eq (a ∷ xs) (b ∷ ys) ≡ false
 unlike a b c d xs ys p q n = false_from_ne_true (bytes_eq (a ∷ xs) (b ∷ ys)) (λ t. n (sym p ∙ heads a b xs ys ((bytes_eq-Decides (a ∷ xs) (b ∷ ys)).0 t) ∙ q))
 

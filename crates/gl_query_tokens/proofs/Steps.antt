@@ -1,18 +1,9 @@
 -- A word that grows by a byte, and a text that is scanned one byte further.
-use Rattle.std.proofs.Common.{◌≡◌, ℕ, suc, ◌+◌, ◌-◌, ◌<◌, ◌≤◌, List, [], ◌∷◌, ◌++◌, length, take, drop, get_or, sym, ap, ◌∙◌, append_assoc, arith, length-drop, drop-cons}
-use Rattle.std.proofs.lemmas.List.{take_more, get_or-drop, append-nil, drop_all}
+use Rattle.std.proofs.Common.{◌≡◌, ℕ, suc, ◌+◌, ◌-◌, ◌<◌, ◌≤◌, List, [], ◌∷◌, ◌++◌, length, take, drop, get_or, sym, ap, ◌∙◌, append_assoc, arith, drop-cons}
+use Rattle.std.proofs.lemmas.List.{append-nil, drop_all}
+use Rattle.gl_bits.proofs.AllLists.{word_grows, word_starts}
 use Rattle.gl_query_tokens.specs.declared.token.Lexeme.{Lexeme}
 use Rattle.gl_query_tokens.specs.Tokens.{Mode, Move, to, move, then_scan, scan}
-
-pub word_grows : (text : List ℕ) (from at : ℕ) → from ≤ at → at < length text → take (at + 1 - from) (drop from text) ≡ take (at - from) (drop from text) ++ get_or text at 0 ∷ []
-word_grows text from at le lt =
-    let n : at + 1 - from ≡ at - from + 1 = omega arith in
-    let short : at - from < length (drop from text) = omega (arith, length-drop from text) in
-    let place : from + (at - from) ≡ at = omega arith in
-    rw (n, take_more (drop from text) (at - from) 0 short) (ap (λ (x : ℕ). take (at - from) (drop from text) ++ x ∷ []) (get_or-drop from text (at - from) 0 ∙ ap (λ (k : ℕ). get_or text k 0) place))
-
-pub word_starts : (text : List ℕ) (at : ℕ) → at < length text → take (at + 1 - at) (drop at text) ≡ get_or text at 0 ∷ []
-word_starts text at lt = word_grows text at at (omega arith) lt ∙ ap (λ (k : ℕ). take k (drop at text) ++ get_or text at 0 ∷ []) (let z : at - at ≡ 0 = omega arith in z)
 
 pub text_starts : (text : List ℕ) (at : ℕ) → take (at + 1 - (at + 1)) (drop (at + 1) text) ≡ []
 text_starts text at = ap (λ (k : ℕ). take k (drop (at + 1) text)) (let z : at + 1 - (at + 1) ≡ 0 = omega arith in z)

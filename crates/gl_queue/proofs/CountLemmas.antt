@@ -2,16 +2,14 @@
 use Rattle.std.proofs.Common.{◌≡◌, ℕ, ◌+◌, ◌*◌, ◌≤◌, List, length, Bool, sym, subst, arith}
 use Rattle.std.specs.Prelude.{if◌then◌else◌}
 use Rattle.std.specs.List.{sum}
-use Rattle.std.proofs.lemmas.List.Sums.{sum_by-le}
 use Rattle.std.proofs.Math.Nat.{mul-le-mul_left}
 use Rattle.gl_algebra.specs.Cost.{ring}
 use Rattle.gl_algebra.specs.declared.figures.Figures.{Figures}
 use Rattle.gl_algebra.specs.Weights.{pad_of}
-use Rattle.gl_queue.specs.Counted.{AreNarrow, IsCounted, JoinersAreCounted, SpacersAreCounted, UnionsAreCounted}
+use Rattle.gl_wire.specs.Counted.{AreNarrow, IsCounted}
+use Rattle.gl_wire.proofs.CountLemmas.{narrow_sum}
+use Rattle.gl_queue.specs.Counted.{JoinersAreCounted, SpacersAreCounted, UnionsAreCounted}
 use Rattle.gl_queue.specs.Spacers.{cost_of_spacer}
-
-narrow : (columns : List ℕ) → AreNarrow columns → sum columns ≤ length columns * 64
-narrow columns h = sum_by-le (λ (w : ℕ). w) 64 columns h
 
 -- as many bits in a place for each line of a pad
 bits_within : (bits columns pad : ℕ) → bits ≤ columns * 64 → (bits + 2) * (pad + 2) ≤ 64 * (columns * pad) + 128 * columns + 2 * pad + 4
@@ -37,8 +35,8 @@ unions_are_counted shapes figures left right columns h =
     let s : 64 * (4 * (n + 2) * (pad + 4)) ≡ 256 * (n * pad) + 1024 * n + 512 * pad + 2048 = omega arith in
     record {
       nodes = omega arith;
-      registers = omega (arith, bits_within (sum columns) n pad (narrow columns h), s);
-      memories = words_within (ring p.ne + ring q.ne) (sum columns) n (narrow columns h);
+      registers = omega (arith, bits_within (sum columns) n pad (narrow_sum columns h), s);
+      memories = words_within (ring p.ne + ring q.ne) (sum columns) n (narrow_sum columns h);
     }
 
 pub joiners_are_counted : JoinersAreCounted
@@ -48,7 +46,7 @@ joiners_are_counted shapes figures left right columns h =
     let s : 64 * (8 * (n + 2) * (pad + 4)) ≡ 512 * (n * pad) + 2048 * n + 1024 * pad + 4096 = omega arith in
     record {
       nodes = omega arith;
-      registers = omega (arith, bits_within (sum columns) n pad (narrow columns h), s);
+      registers = omega (arith, bits_within (sum columns) n pad (narrow_sum columns h), s);
       memories = omega arith;
     }
 
@@ -57,7 +55,7 @@ spacer_within : (f : Figures) (columns : List ℕ) → AreNarrow columns
     → IsCounted (cost_of_spacer f columns) (8 * (length columns + 2) * (f.ne + 6)) (8 * (length columns + 2)) (64 * (length columns + 2) * ring (f.ne + 1))
 spacer_within f columns h =
     let n = length columns in
-    let bits = narrow columns h in
+    let bits = narrow_sum columns h in
     let words = ring (f.ne + 1) in
     let m = mul-le-mul_left words (let z : sum columns + 2 ≤ 64 * (n + 2) = omega (arith, bits) in z) in
     let e : words * (64 * (n + 2)) ≡ 64 * (n + 2) * words = omega arith in

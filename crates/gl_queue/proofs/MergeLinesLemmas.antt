@@ -77,24 +77,12 @@ shown_is run valid left right ys ns outs v h (suc t) = rw (v (suc t), h.is (suc 
     by false true = refl
     by false false = refl
 
-pub same_length : (ys ns : List Bus) → widths ys ≡ widths ns → length ys ≡ length ns
-same_length [] [] h = refl
-same_length [] (n ∷ ns) h = absurd (cc h)
-same_length (y ∷ ys) [] h = absurd (cc h)
-same_length (y ∷ ys) (n ∷ ns) h = let t : widths ys ≡ widths ns = cc h in ap (λ i. suc i) (same_length ys ns t)
-
 pub widths_at : (ys ns : List Bus) (i : ℕ) (d : Bus) → widths ys ≡ widths ns → (get_or ys i d).width ≡ (get_or ns i d).width
 widths_at [] [] i d h = refl
 widths_at [] (n ∷ ns) i d h = absurd (cc h)
 widths_at (y ∷ ys) [] i d h = absurd (cc h)
 widths_at (y ∷ ys) (n ∷ ns) zero d h = cc h
 widths_at (y ∷ ys) (n ∷ ns) (suc i) d h = let t : widths ys ≡ widths ns = cc h in widths_at ys ns i d t
-
--- a line that carries 0
-pub never_is : (run : Run) (b : Bit) → ((t : ℕ) → run.at t b.node ≡ 0) → (t : ℕ) → line_at run b t ≡ false
-unfolding line_at
-never_is run b h zero = refl
-never_is run b h (suc t) = ap (λ n. nat_eq n 1) (h (suc t))
 
 shown_some : (run : Run) (v : Bit) (bs : List Bus) (c : ℕ) → line_at run v c ≡ is_some (tuple_at run v bs c)
 unfolding tuple_at

@@ -1,9 +1,8 @@
 -- What each part of a ring adds to a netlist, from what the builder's calls give.
-use Rattle.std.proofs.Common.{◌≡◌, ℕ, suc, ◌+◌, ◌*◌, ◌%◌, ◌^◌, ◌<◌, ◌≤◌, List, [], ◌∷◌, ◌++◌, length, refl, sym, ap, ◌∙◌, arith, length-append}
+use Rattle.std.proofs.Common.{◌≡◌, ℕ, suc, ◌+◌, ◌*◌, ◌%◌, ◌^◌, ◌<◌, List, [], ◌∷◌, ◌++◌, length, refl, sym, ap, ◌∙◌, arith, length-append}
 use Rattle.std.specs.Prelude.{not, ◌&&◌, ◌||◌, if◌then◌else◌, nat_eq}
 use Rattle.std.specs.List.{sum}
 use Rattle.std.proofs.lemmas.List.Sums.{sum_by-append}
-use Rattle.std.proofs.Math.Nat.{pow-le-pow_right}
 use Rattle.gl_bits.specs.Words.{choose_of, sum_of}
 use Rattle.gl_net.specs.declared.node.Bus.{Bus}
 use Rattle.gl_net.specs.declared.node.Bit.{Bit}
@@ -16,9 +15,6 @@ use Rattle.gl_wire.proofs.ColumnLemmas.{AreBuses-push, AreBuses-none, buses_kept
 use Rattle.gl_queue.specs.RingLines.{IsPointer, ArePlaces, IsPassed}
 use Rattle.gl_queue.specs.Parts.{AreStored, IsStored}
 use Rattle.gl_queue.proofs.RingLinesLemmas.{held_none, held_more}
-
-pub one_fits : (bits : ℕ) → 1 ≤ bits → 1 < 2 ^ bits
-one_fits bits l = pow-le-pow_right {n = 2} (omega arith) {i = 1} l
 
 -- a register that takes the next place where the line is 1
 pub pointer_is : (run : Run) (bits : ℕ) (step : Bit) (one place more next : Bus) → run.at 1 place.node ≡ 0

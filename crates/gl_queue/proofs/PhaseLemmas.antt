@@ -60,9 +60,6 @@ module _ (h : Held) (a b o : Carried) (c : ℕ) (w : Works h a b o c) where
 none_came : (o : Option Row) → o ≡ None → length (option_to_list o) ≡ 0
 none_came o e = rw e refl
 
-none_before : (s : Carried) (c x y : ℕ) → y ≤ x → length (rows s c (x - y)) ≡ length (rows s c (x - y))
-none_before s c x y l = refl
-
 module _ (k : Bounds) (la lb : Bool → ℕ) (beats : Beats) (h : Held) (a b o : Carried) (sa : Side k.first la k.most_a beats a) (sb : Side k.first lb k.most_b beats b) (in_a : (e : Bool) → la e ≤ k.late e) (in_b : (e : Bool) → lb e ≤ k.late e) (roomy : Roomy k beats) where
   -- what is left of a beat's end
   abbrev pub EndOf : ℕ → ℕ → Bool → Type 0

@@ -64,10 +64,6 @@ words w size h k zero = []
 words w size h k (suc n) = w (wrap size (h + k)) ∷ words w size h (suc k) n
 
 module _ {A : Type 0} (size : ℕ) where
-  words-length : (w : ℕ → A) (h n k : ℕ) → length (words w size h k n) ≡ n
-  words-length w h zero k = refl
-  words-length w h (suc n) k = omega (arith, words-length w h n (suc k))
-
   words-push : (w : ℕ → A) (h n k : ℕ) → words w size h k (suc n) ≡ words w size h k n ++ (w (wrap size (h + (k + n))) ∷ [])
   words-push w h zero k = let e : k + zero ≡ k = omega arith in rw e refl
   words-push w h (suc n) k = let e : suc k + n ≡ k + suc n = omega arith in ap (λ l. w (wrap size (h + k)) ∷ l) (words-push w h n (suc k) ∙ ap (λ i. words w size h (suc k) n ++ (w (wrap size (h + i)) ∷ [])) e)

@@ -39,9 +39,6 @@ held_more run push tail head column out columns outs h i = record {
     both false xs x ys y = refl
 
 module _ (run : Run) (bits depth : ℕ) (push hold some passed : Bit) (head tail : Bus) (columns outs : List Bus) (most : depth ≤ 2 ^ bits) (m : IsRingOf run bits depth push hold some passed head tail columns outs) where
-  size : ℕ
-  size = 2 ^ bits
-
   -- a tuple comes where the line is 1
   comes : (v : Bit) (bs : List Bus) (c : ℕ) → is_some (tuple_at run v bs c) ≡ line_at run v c
   unfolding tuple_at
@@ -89,9 +86,6 @@ module _ (run : Run) (bits depth : ℕ) (push hold some passed : Bit) (head tail
 
   tail_one : (t : ℕ) → (run.at t tail.node + 1) % 2 ^ bits ≡ wrap (2 ^ bits) (run.at t tail.node + 1)
   tail_one t = let l = m.tail_low t in sym (wrap_mod (2 ^ bits) (run.at t tail.node + 1) (omega (arith, l)))
-
-  pop_is : (c : ℕ) → pops run some hold c ≡ not (line_at run hold c) && line_at run some c
-  pop_is c = swap (line_at run some c) (not (line_at run hold c))
 
   -- the boolean forms are those of the ring
   one_left : (p s h l : Bool) → p || (s && not ((s && not h) && l)) ≡ p || (s && not (not h && l))

@@ -8,6 +8,7 @@ use Rattle.std.proofs.Math.Nat.{mul-le-mul_left}
 use Rattle.gl_algebra.specs.declared.figures.Figures.{Figures}
 use Rattle.gl_bits.specs.Results.{Row}
 use Rattle.gl_algebra.specs.FigureTable.{IsSound, spacer_figures, last_of}
+use Rattle.gl_algebra.proofs.FigureLemmas.{last_of-some}
 use Rattle.gl_wire.specs.Beats.{Beats, last, most, Spaced}
 use Rattle.gl_wire.specs.Wire.{Carried, pending, stream, rows}
 use Rattle.gl_wire.specs.Serves.{HasEnd, OneEnd, Fits}
@@ -21,7 +22,6 @@ use Rattle.gl_queue.specs.Spacing.{Entry, entry_at, arrives, row_in, end_in, IsS
 use Rattle.gl_queue.specs.SpacerPhases.{most_entries, Wide}
 use Rattle.gl_wire.proofs.SideLemmas.{fits_side}
 use Rattle.gl_wire.proofs.ApartLemmas.{is_carries}
-use Rattle.gl_queue.proofs.FigureLemmas.{last_some}
 use Rattle.gl_queue.proofs.QueueLemmas.{not_passed}
 use Rattle.gl_queue.proofs.TagLemmas.{tag, held_entries}
 use Rattle.gl_queue.proofs.SpacerLemmas.{Spaces, Leaves, leaving_tag, leaves_tag, leaves_or_not, carried_leaves, leave_apart, flow, pending_at, in_order}
@@ -68,13 +68,6 @@ ideal_spaces g a c = record {
   none = λ h. (ap (row_of a) h, ap (end_of_tag a) h);
   some = λ v h. (ap (row_of a) h, ap (end_of_tag a) h);
 }
-
-tag_arrives : (s : Carried) (c : ℕ) → length (option_to_list (arrives s c)) ≡ length (option_to_list (tag s c))
-tag_arrives s c = by (carries s c)
-  where
-    by : (b : Bool) → length (option_to_list (if b then Some (entry_at s c) else None)) ≡ length (option_to_list (if b then Some c else None))
-    by true = refl
-    by false = refl
 
 module _ (g : ℕ) (depth : ℕ) (passed : ℕ → Bool) (a o : Carried) (one : 1 ≤ g) (m : IsSpacer g depth passed a o) where
   abbrev pub go : ℕ → Bool
@@ -144,7 +137,7 @@ module _ (g : ℕ) (f : Figures) (passed : ℕ → Bool) (a o : Carried) (one : 
   entries_of : (t u : ℕ) (e d : Bool) → beats t ≡ Some e → beats u ≡ Some d → t < u → t + last f e + g * most_entries f e ≤ u + f.a
   entries_of t u true d i j l = let far = spaced.apart t u true d i j l in omega (arith, far, sound.tuples_last, sound.end_last)
   entries_of t u false d i j l = elim (cases_lt 0 f.nt) [
-    | inl n ↦ (let far = spaced.apart t u false d i j l in let z = last_some f.nt (f.a + 1) (f.lt + 1 + (f.nt - 1) * g) (omega (arith, n)) in let y = minus_one f.nt g (omega (arith, n)) in omega (arith, far, z, y, sound.tuples_last))
+    | inl n ↦ (let far = spaced.apart t u false d i j l in let z = last_of-some f.nt (f.a + 1) (f.lt + 1 + (f.nt - 1) * g) (omega (arith, n)) in let y = minus_one f.nt g (omega (arith, n)) in omega (arith, far, z, y, sound.tuples_last))
     | inr n ↦ (let far = late_of t u false d i j l in let none : f.nt ≡ 0 = omega (arith, n) in let y : g * f.nt ≡ 0 = rw none (omega arith) in omega (arith, far, y))
   ]
 
@@ -203,7 +196,7 @@ module _ (g : ℕ) (f : Figures) (passed : ℕ → Bool) (a o : Carried) (one : 
 
   high_of : (t c : ℕ) (e : Bool) → g ≤ g * most_entries f e → c + g ≤ t + last f e + 1 + g * most_entries f e → c ≤ t + last (spacer_figures g f) e
   high_of t c true n h = omega (arith, h)
-  high_of t c false n h = let k = not_none g f.nt one n in let z = last_some f.nt (f.a + 1) (f.lt + 1 + (f.nt - 1) * g) k in let y = minus_one f.nt g k in omega (arith, h, z, y)
+  high_of t c false n h = let k = not_none g f.nt one n in let z = last_of-some f.nt (f.a + 1) (f.lt + 1 + (f.nt - 1) * g) k in let y = minus_one f.nt g k in omega (arith, h, z, y)
 
   leaves_at : (c : ℕ) → carries o c ≡ true → (v : ℕ) × Leaves m.timer tags c v
   leaves_at = carried_leaves g one m.timer a o tags spaces refl
@@ -215,7 +208,7 @@ module _ (g : ℕ) (f : Figures) (passed : ℕ → Bool) (a o : Carried) (one : 
       let opened : IsOpen f.a beats (t + f.a + suc (f.le + 1 + f.ne * g - (f.a + 1))) t true = record { is = i; low = omega arith; later = λ u d j l. let far = entries_of t u true d i j l in omega (arith, far, low_of true, one) } in
       rw (at, n) (few_out g one m.timer a o tags f beats side wide spaces refl m.first t (f.le + 1 + f.ne * g - (f.a + 1)) true opened)
   few_of t false i = elim (cases_lt 0 f.nt) [
-    | inl k ↦ (let z = last_some f.nt (f.a + 1) (f.lt + 1 + (f.nt - 1) * g) (omega (arith, k)) in
+    | inl k ↦ (let z = last_of-some f.nt (f.a + 1) (f.lt + 1 + (f.nt - 1) * g) (omega (arith, k)) in
         let n : suc (f.lt + 1 + (f.nt - 1) * g) - (f.a + 1) ≡ suc (f.lt + 1 + (f.nt - 1) * g - (f.a + 1)) = omega (arith, sound.tuples_last) in
         let at : t + (f.a + 1) ≡ suc (t + f.a) = omega arith in
         let opened : IsOpen f.a beats (t + f.a + suc (f.lt + 1 + (f.nt - 1) * g - (f.a + 1))) t false = record { is = i; low = omega arith; later = λ u d j l. let far = entries_of t u false d i j l in let y = minus_one f.nt g (omega (arith, k)) in omega (arith, far, y, sound.tuples_last, one) } in

@@ -59,9 +59,6 @@ some_cycle s (suc n) v x l m h = elim (cases_lt v x) [
   | inr i ↦ (let e : x ≡ v = omega (arith, i, l) in let p : carries s v ≡ true = ap (carries s) (sym e) ∙ h in let q : length (option_to_list (tag s v)) ≡ 1 = rw p refl in omega (arith, length-append (option_to_list (tag s v)) (cycles s (suc v) n), q))
 ]
 
-one_at_most : (g : ℕ) (xs : List ℕ) (n m : ℕ) → 1 ≤ g → n + g * length xs ≤ m → length xs ≤ m
-one_at_most g xs n m one h = omega (arith, mul-le-mul_left (length xs) one, h)
-
 module _ (g : ℕ) (one : 1 ≤ g) (timer : ℕ → ℕ) (a o : Carried) (vs : ℕ → List ℕ) (f : Figures) (beats : Beats) (side : Side f.a (last f) (most f) beats a) (wide : Wide g f beats) where
   -- an open beat has brought no more entries than it may
   entries_few : (c t k : ℕ) (e : Bool) → IsOpen f.a beats c t e → t + f.a + k ≤ c → length (cycles a (t + f.a) k) ≤ most_entries f e

@@ -5,6 +5,7 @@ use Rattle.std.specs.Option.{option_map}
 use Rattle.std.proofs.lemmas.Bool.{cases_lt, or_parts}
 use Rattle.std.proofs.lemmas.List.{append-nil, map-append}
 use Rattle.gl_bits.specs.Results.{Row}
+use Rattle.gl_bits.proofs.AllLists.{heads}
 use Rattle.gl_wire.specs.Wire.{Carried, pending, rows}
 use Rattle.gl_queue.specs.Queue.{behind, entries}
 use Rattle.gl_wire.specs.Apart.{carries}
@@ -33,9 +34,6 @@ pub record First (s : Carried) (v n w : ℕ) (rest : List ℕ) : Type 0 where
   pub none : (x : ℕ) → v ≤ x → x < w → carries s x ≡ false
   pub behind_it : rest ≡ cycles s (suc w) (v + n - suc w)
 
-head_is : (x y : ℕ) (xs ys : List ℕ) → x ∷ xs ≡ y ∷ ys → x ≡ y
-head_is x y xs ys h = cc
-
 tail_is : (x y : ℕ) (xs ys : List ℕ) → x ∷ xs ≡ y ∷ ys → xs ≡ ys
 tail_is x y xs ys h = cc
 
@@ -46,7 +44,7 @@ first s (suc n) v w rest h = by (carries s v) refl (first s n (suc v) w rest)
     by : (b : Bool) → carries s v ≡ b → (cycles s (suc v) n ≡ w ∷ rest → First s (suc v) n w rest) → First s v (suc n) w rest
     by true p again =
         let q : v ∷ cycles s (suc v) n ≡ w ∷ rest = rw p at h in
-        let e : v ≡ w = head_is v w (cycles s (suc v) n) rest q in
+        let e : v ≡ w = heads v w (cycles s (suc v) n) rest q in
         let r : cycles s (suc v) n ≡ rest = tail_is v w (cycles s (suc v) n) rest q in
         let m : v + suc n - suc w ≡ n = omega (arith, e) in
         record {
@@ -77,10 +75,6 @@ none_tuple s c h = by (s.tuple c) refl
 
 pub none_end : (s : Carried) (c : ℕ) → carries s c ≡ false → s.ends c ≡ false
 none_end s c h = (or_parts (is_some (s.tuple c)) (s.ends c) h).1
-
-pub cycles-quiet : (s : Carried) (n v : ℕ) → ((x : ℕ) → v ≤ x → x < v + n → carries s x ≡ false) → cycles s v n ≡ []
-cycles-quiet s zero v h = refl
-cycles-quiet s (suc n) v h = rw (h v (omega arith) (omega arith)) (cycles-quiet s n (suc v) (λ x l m. h x (omega arith) (omega arith)))
 
 -- where nothing comes, nothing changes
 pub pending-quiet : (s : Carried) (n v : ℕ) → ((x : ℕ) → v ≤ x → x < v + n → carries s x ≡ false) → pending s (v + n) ≡ pending s v

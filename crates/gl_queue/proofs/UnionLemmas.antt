@@ -4,6 +4,7 @@ use Rattle.std.specs.Prelude.{option_to_list, is_some, not, if◌then◌else◌,
 use Rattle.std.proofs.lemmas.Bool.{cases_lt, false_from_ne_true, or_from}
 use Rattle.gl_algebra.specs.declared.figures.Figures.{Figures}
 use Rattle.gl_algebra.specs.FigureTable.{IsSound, merged, last_of}
+use Rattle.gl_algebra.proofs.FigureLemmas.{last_of-some}
 use Rattle.gl_bits.specs.Lists.{IsInterleaving}
 use Rattle.gl_wire.specs.Beats.{Beats, last, most, Spaced}
 use Rattle.gl_wire.specs.Wire.{Carried, stream, rows}
@@ -14,7 +15,6 @@ use Rattle.gl_queue.specs.Merging.{IsMerging, UnionServes, only_passed}
 use Rattle.gl_wire.specs.Sides.{IsOpen, Side}
 use Rattle.gl_queue.specs.Phases.{Held, Works, Bounds, Roomy, Quiet}
 use Rattle.gl_wire.proofs.SideLemmas.{fits_side}
-use Rattle.gl_queue.proofs.FigureLemmas.{last_some}
 use Rattle.gl_queue.proofs.QueueLemmas.{not_passed}
 use Rattle.gl_queue.proofs.PhaseLemmas.{Phase, idle, busy, EndOf, leaving, left_length, starts, Starts, StartsNot, still_open, clear_busy, phase_next}
 use Rattle.gl_queue.proofs.FlowLemmas.{OutEnd, few_out, out_caused, end_caused, out_end}
@@ -84,7 +84,7 @@ module _ (p q : Figures) (passed : ℕ → Bool) (a b o : Carried) (sound_p : Is
   rows_of : (t u : ℕ) (e d : Bool) → beats t ≡ Some e → beats u ≡ Some d → t < u → t + max (last p e) (last q e) + (most p e + most q e) ≤ u + p.a
   rows_of t u true d i j l = let far = ends_of t u d i j l in omega (arith, far)
   rows_of t u false d i j l = elim (cases_lt 0 (p.nt + q.nt)) [
-    | inl n ↦ (let far = spaced.apart t u false d i j l in let z = last_some (p.nt + q.nt) (p.a + 1) (max p.lt q.lt + p.nt + q.nt) (omega (arith, n)) in omega (arith, far, z, sound_p.tuples_last))
+    | inl n ↦ (let far = spaced.apart t u false d i j l in let z = last_of-some (p.nt + q.nt) (p.a + 1) (max p.lt q.lt + p.nt + q.nt) (omega (arith, n)) in omega (arith, far, z, sound_p.tuples_last))
     | inr n ↦ (let far = late_of t u false d i j l in omega (arith, far, n))
   ]
 
@@ -156,7 +156,7 @@ module _ (p q : Figures) (passed : ℕ → Bool) (a b o : Carried) (sound_p : Is
 
   out_high : (e : Bool) (t c : ℕ) → c ≤ t + max (last p e) (last q e) + (most p e + most q e) → 1 ≤ most p e + most q e → c ≤ t + last (merged p q) e
   out_high true t c l n = omega (arith, l)
-  out_high false t c l n = let z = last_some (p.nt + q.nt) (p.a + 1) (max p.lt q.lt + p.nt + q.nt) n in omega (arith, l, z)
+  out_high false t c l n = let z = last_of-some (p.nt + q.nt) (p.a + 1) (max p.lt q.lt + p.nt + q.nt) n in omega (arith, l, z)
 
   few_of : (t : ℕ) (e : Bool) → beats t ≡ Some e → length (rows o (t + (p.a + 1)) (suc (last (merged p q) e) - (p.a + 1))) ≤ most (merged p q) e
   few_of t true i =
@@ -165,7 +165,7 @@ module _ (p q : Figures) (passed : ℕ → Bool) (a b o : Carried) (sound_p : Is
       let opened : IsOpen p.a beats (t + p.a + suc (max p.le q.le + p.ne + q.ne + 1 - (p.a + 1))) t true = record { is = i; low = omega arith; later = λ u d j l. let far = ends_of t u d i j l in omega (arith, far, sound_p.tuples_last, sound_p.end_last) } in
       rw (at, n) (few_out bounds (last p) (last q) beats lists a b o side_a side_b in_a in_b roomy all_works phases t (max p.le q.le + p.ne + q.ne + 1 - (p.a + 1)) true opened)
   few_of t false i = elim (cases_lt 0 (p.nt + q.nt)) [
-    | inl m ↦ (let z = last_some (p.nt + q.nt) (p.a + 1) (max p.lt q.lt + p.nt + q.nt) (omega (arith, m)) in
+    | inl m ↦ (let z = last_of-some (p.nt + q.nt) (p.a + 1) (max p.lt q.lt + p.nt + q.nt) (omega (arith, m)) in
         let n : suc (max p.lt q.lt + p.nt + q.nt) - (p.a + 1) ≡ suc (max p.lt q.lt + p.nt + q.nt - (p.a + 1)) = omega (arith, sound_p.tuples_last, m) in
         let at : t + (p.a + 1) ≡ suc (t + p.a) = omega arith in
         let opened : IsOpen p.a beats (t + p.a + suc (max p.lt q.lt + p.nt + q.nt - (p.a + 1))) t false = record { is = i; low = omega arith; later = λ u d j l. let far = rows_of t u false d i j l in omega (arith, far, sound_p.tuples_last, m) } in

@@ -4,25 +4,17 @@ use Rattle.std.specs.Prelude.{map}
 use Rattle.gl_bits.proofs.AllLists.{all_of_mapped}
 use Rattle.gl_bits.specs.Results.{Row}
 use Rattle.gl_schema.specs.declared.schema.Column.{Column}
-use Rattle.gl_schema.specs.Schemas.{IsRowOf}
 use Rattle.gl_query.specs.declared.tree.Item.{Item}
 use Rattle.gl_query.specs.declared.tree.AggItem.{AggItem}
 use Rattle.gl_query.specs.Shapes.{AggItemShape, ExprShape, ItemShape, agg_item_shape, agg_shape, expr_shape, item_shape}
 use Rattle.gl_query.specs.Values.{HasKind, kind_alone}
 use Rattle.gl_query.specs.Accepted.{AreItems, IsAgg}
-use Rattle.gl_reference.specs.Fits.{AreAggs, AreRows, HasKindAlone, HasWord, IsRow}
+use Rattle.gl_reference.specs.Fits.{AreAggs, HasKindAlone, HasWord, IsRow}
 use Rattle.gl_reference.proofs.Fitting.{all_place}
 use Rattle.gl_query.proofs.Real.{alone_kind}
 
-pub row_at : (columns : List Column) (rows : List Row) (i : ℕ) (row : Row) → i < length rows → row ≡ get_or rows i row → AreRows columns rows → IsRow columns row
-row_at columns rows i row lt is h = record { kinds = h.kinds; fits = all_place (IsRowOf columns) rows i row lt is h.fit }
-
 pub word_alone : (columns : List Column) (e : ExprShape) (row : Row) → HasKindAlone columns e → IsRow columns row → HasWord columns (kind_alone e) e row
 word_alone columns e row h r = record { of_row = r; of_place = alone_kind e; typed = h }
-
-pub word_at : (columns : List Column) (e : ExprShape) (rows : List Row) (i : ℕ) (row : Row) → i < length rows → row ≡ get_or rows i row
-    → HasKindAlone columns e → AreRows columns rows → HasWord columns (kind_alone e) e row
-word_at columns e rows i row lt is h rs = word_alone columns e row h (row_at columns rows i row lt is rs)
 
 pub item_word : (columns : List Column) (items : List Item) (i : ℕ) (x : Item) (row : Row) → i < length items → x ≡ get_or items i x
     → AreItems columns (map item_shape items) → IsRow columns row → HasWord columns (kind_alone (expr_shape x.expr)) (expr_shape x.expr) row

@@ -1,5 +1,5 @@
 -- What the parts of an accepted query see over sources whose rows fit, and that their results fit.
-use Rattle.std.proofs.Common.{◌≡◌, ℕ, zero, suc, ◌+◌, ◌<◌, Bool, List, [], ◌∷◌, length, refl, sym, ap, subst, ◌∙◌, map, take, drop, nat_eq, get_or, arith}
+use Rattle.std.proofs.Common.{◌≡◌, ℕ, zero, suc, ◌+◌, ◌<◌, Bool, List, [], ◌∷◌, length, refl, sym, ap, subst, ◌∙◌, map, take, nat_eq, get_or, arith}
 use Rattle.std.specs.Prelude.{bytes_eq, slice_index, Option}
 use Rattle.std.specs.List.{AllByRecursion}
 use Rattle.gl_bits.specs.Lists.{Group as GroupOf}
@@ -7,8 +7,6 @@ use Rattle.gl_bits.specs.Lists.{groups, keys_of, rows_with}
 use Rattle.gl_bits.specs.Tables.{keyed_groups}
 use Rattle.gl_bits.specs.Results.{Row}
 use Rattle.gl_bits.specs.declared.lists.Group.{Group}
-use Rattle.std.proofs.lemmas.List.{take-append-drop}
-use Rattle.gl_bits.proofs.AllLists.{all_back, all_front}
 use Rattle.gl_bits.proofs.Bools.{by_cases}
 use Rattle.gl_schema.specs.declared.schema.Column.{Column}
 use Rattle.gl_schema.specs.declared.schema.Schema.{Schema}
@@ -58,11 +56,6 @@ pub all_place : {A : Type 0} (P : A → Type 0) (xs : List A) (i : ℕ) (x : A) 
 all_place P [] i x lt is h = absurd (omega arith)
 all_place P (y ∷ xs) zero x lt is h = subst P (sym is) h.0
 all_place P (y ∷ xs) (suc i) x lt is h = all_place P xs i x (omega arith) is h.1
-
-all_slice : {A : Type 0} (P : A → Type 0) (n m : ℕ) (xs : List A) → AllByRecursion P xs → AllByRecursion P (take n (drop m xs))
-all_slice P n m xs h =
-    let rest = all_back P (take m xs) (drop m xs) (rw (take-append-drop m xs) h) in
-    all_front P (take n (drop m xs)) (drop n (drop m xs)) (rw (take-append-drop n (drop m xs)) rest)
 
 all_groups_at : (P : Row → Type 0) (key_of : Row → ℕ) (rows : List Row) (keys : List ℕ) → AllByRecursion P rows
     → AllByRecursion (λ (g : Group). AllByRecursion P g.rows) (map (λ (g : GroupOf Row). record { key = g.key; rows = g.rows }) (map (λ (key : ℕ). record { key = key; rows = rows_with key_of rows key }) keys))

@@ -1,50 +1,26 @@
 -- An expression of a kind over a row that fits has a word of that kind, and so have its parts.
-use Rattle.std.proofs.Common.{ℕ, ◌<◌, ◌≤◌, ◌^◌, List, arith, lit≤}
+use Rattle.std.proofs.Common.{ℕ, ◌<◌, ◌≤◌, ◌^◌, List, arith}
 use Rattle.std.proofs.Math.Nat.{pow-le-pow_right}
 use Rattle.gl_bits.specs.declared.kind.Kind.{Kind}
-use Rattle.gl_bits.specs.declared.kind.Kind.TheVariants.{Unsigned, Text}
 use Rattle.gl_bits.specs.declared.op.Op.{Op}
 use Rattle.gl_bits.specs.Kinds.{IsKind, width_of}
 use Rattle.gl_bits.specs.Operators.{sort_of}
 use Rattle.gl_bits.specs.Results.{Row}
+use Rattle.gl_bits.proofs.KindLemmas.{kind_width}
 use Rattle.gl_schema.specs.declared.schema.Column.{Column}
 use Rattle.gl_query.specs.Shapes.{ExprShape}
 use Rattle.gl_query.specs.Shapes as shape
-use Rattle.gl_query.specs.Values.{HasKind, is_loose, kind_alone, kind_of, left_place, right_place, value_of}
-use Rattle.gl_query.specs.Laws.{AreKinds}
+use Rattle.gl_query.specs.Values.{is_loose, kind_alone, kind_of, left_place, right_place, value_of}
 use Rattle.gl_query.proofs.Fitting.{value_below}
 use Rattle.gl_reference.specs.Fits.{HasWord}
 use Rattle.gl_query.proofs.Real.{casts_are, alone_kind, place_is, kind_is}
-
--- ---- kinds of expressions are kinds
-
-CastsAreKinds : ExprShape → Type 0
-CastsAreKinds (shape.Column name) = Unit {0}
-CastsAreKinds (shape.Number n) = Unit {0}
-CastsAreKinds (shape.Letters text) = Unit {0}
-CastsAreKinds (shape.Not e) = CastsAreKinds e
-CastsAreKinds (shape.Cast kind e) = IsKind kind × CastsAreKinds e
-CastsAreKinds (shape.Binary op l r) = CastsAreKinds l × CastsAreKinds r
-
-bit_kind : IsKind (Unsigned 1)
-bit_kind = (lit≤ tt, lit≤ tt)
-
--- what stands alone
-pub whole_kind : (columns : List Column) (e : ExprShape) → AreKinds columns → HasKind columns (kind_alone e) e → IsKind (kind_of columns (kind_alone e) e)
-whole_kind columns e h t = kind_is e columns (kind_alone e) h (alone_kind e) (casts_are e columns (kind_alone e) t)
-
--- ---- words
-
-kind_small : (kind : Kind) → IsKind kind → width_of kind ≤ 64
-kind_small (Unsigned w) k = k.1
-kind_small (Text n) k = omega (arith, k.1)
 
 pub word_kind : (columns : List Column) (place : Kind) (e : ExprShape) (row : Row) → HasWord columns place e row → IsKind (kind_of columns place e)
 word_kind columns place e row h = kind_is e columns place h.of_row.kinds h.of_place (casts_are e columns place h.typed)
 
 pub word_small : (columns : List Column) (place : Kind) (e : ExprShape) (row : Row) → HasWord columns place e row → value_of columns place e row < 2 ^ 64
 word_small columns place e row h =
-    let width = kind_small (kind_of columns place e) (word_kind columns place e row h) in
+    let width = kind_width (kind_of columns place e) (word_kind columns place e row h) in
     below (value_of columns place e row) (2 ^ width_of (kind_of columns place e)) (value_below e columns place row h.typed h.of_row.fits)
     (pow-le-pow_right {n = 2} (omega arith) {i = width_of (kind_of columns place e)} {j = 64} width)
   where

@@ -85,7 +85,7 @@ fn numbers(alloc: Global, nums: &[Num]) -> Result<Vec<u128>, Memory>
 }
 
 /// The kind of an expression that stands alone.
-#[tactic(auto, using(crate::proofs::Words::whole_kind))]
+#[tactic(auto, using(gl_query::proofs::Real::whole_is))]
 fn own_kind(columns: &[Column], expr: &Expr) -> Kind
     ensures value { result
         ≡ kind_of columns.now (kind_alone (expr_shape expr.now)) (expr_shape expr.now) }

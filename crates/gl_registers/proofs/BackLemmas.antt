@@ -7,7 +7,6 @@ use Rattle.gl_bits.specs.Results.{Row}
 use Rattle.gl_net.specs.declared.node.Bus.{Bus}
 use Rattle.gl_net.specs.declared.node.Bit.{Bit}
 use Rattle.gl_net.specs.Net.{Net, Run, IsRun, IsBus, Keeps}
-use Rattle.gl_net.proofs.Growth.{same_keeps}
 use Rattle.gl_net.proofs.Determined.{keeps_then}
 use Rattle.gl_wire.specs.declared.wire.Wire.{Wire}
 use Rattle.gl_wire.specs.Wire.{AreBuses, Carried, carried, line_at, row_at, tuple_at, widths, wire_of}
@@ -16,21 +15,14 @@ use Rattle.gl_wire.specs.Costs.{Costs, nodes_alone}
 use Rattle.gl_wire.specs.Gates.{IsGate}
 use Rattle.gl_wire.specs.Stages.{IsPad}
 use Rattle.gl_wire.specs.Shapes.{IsDelayed}
-use Rattle.gl_wire.proofs.ColumnLemmas.{AreBuses-none, AreBuses-push, buses_kept, widths-push, row_at-push}
+use Rattle.gl_wire.proofs.ColumnLemmas.{AreBuses-push, buses_kept, widths-push, row_at-push}
 use Rattle.gl_wire.proofs.StageLemmas.{delayed_same}
+use Rattle.gl_wire.proofs.GateLemmas.{choose_line}
 use Rattle.gl_registers.specs.Lines.{carried_of}
 use Rattle.gl_registers.specs.declared.back.Merged.{Merged}
 use Rattle.gl_registers.specs.Backs.{ChoosesRow, JoinsCopies, Merges}
 use Rattle.gl_registers.specs.Numbers.{IsNever}
-use Rattle.gl_registers.proofs.CounterLemmas.{choose_line}
 use Rattle.gl_registers.proofs.RowLemmas.{carried_of-get}
-
--- columns of the same widths
-pub same_length : (xs ys : List Bus) → widths xs ≡ widths ys → length xs ≡ length ys
-same_length [] [] h = refl
-same_length [] (y ∷ ys) h = absurd (cc)
-same_length (x ∷ xs) [] h = absurd (cc)
-same_length (x ∷ xs) (y ∷ ys) h = let t : widths xs ≡ widths ys = cc in ap suc (same_length xs ys t)
 
 pub width_at : (xs ys : List Bus) (k : ℕ) (x y : Bus) → widths xs ≡ widths ys → slice_get xs k ≡ Some x → slice_get ys k ≡ Some y → y.width ≡ x.width
 width_at [] ys k x y h a b = absurd (cc)
@@ -41,19 +33,6 @@ width_at (c ∷ xs) (d ∷ ys) zero x y h a b =
     let g : d ≡ y = cc in
     ap (λ (z : Bus). z.width) (sym g) ∙ sym e ∙ ap (λ (z : Bus). z.width) f
 width_at (c ∷ xs) (d ∷ ys) (suc k) x y h a b = let t : widths xs ≡ widths ys = cc in width_at xs ys k x y t a b
-
-pub chooses_none : (net : Net) (test : Bit) → ChoosesRow net net test [] [] []
-chooses_none net test = record {
-  keeps = same_keeps net;
-  buses = AreBuses-none net;
-  same_widths = refl;
-  cost = record { nodes = omega arith; registers = omega arith; memories = omega arith };
-  row = λ run r t. both run t (line_at run test (suc t));
-}
-  where
-    both : (run : Run) (t : ℕ) (b : Bool) → row_at run (suc t) [] ≡ (if b then row_at run (suc t) [] else row_at run (suc t) [])
-    both run t true = refl
-    both run t false = refl
 
 pub chooses_more : (old mid new : Net) (test : Bit) (ys ns bs : List Bus) (y n b : Bus) → ChoosesRow old mid test ys ns bs → Keeps mid new → IsBus new b → b.width ≡ y.width → Costs mid new (nodes_alone 1)
     → ((run : Run) → IsRun new run → (t : ℕ) → run.at t b.node ≡ choose_of (run.at t test.node) (run.at t y.node) (run.at t n.node))

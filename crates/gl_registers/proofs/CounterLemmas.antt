@@ -2,16 +2,15 @@
 use Rattle.std.proofs.Common.{◌≡◌, ℕ, zero, suc, ◌+◌, ◌-◌, ◌<◌, ◌≤◌, ◌^◌, ◌%◌, ◌*◌, Bool, true, false, refl, sym, ap, ◌∙◌, arith, inl, inr}
 use Rattle.std.specs.Prelude.{nat_eq, if◌then◌else◌, not, ◌&&◌, ◌||◌}
 use Rattle.std.proofs.lemmas.Bool.{eq-eqb, ne_eqb, cases_lt}
-use Rattle.std.proofs.lemmas.Nat.{mod-mul-add, pow_pos}
-use Rattle.std.proofs.Math.Nat.{pow-suc}
-use Rattle.gl_bits.specs.Words.{difference_of, sum_of, choose_of, eq_of}
+use Rattle.std.proofs.lemmas.Nat.{mod-mul-add}
+use Rattle.gl_bits.specs.Words.{difference_of, sum_of, choose_of}
 use Rattle.gl_net.specs.declared.node.Bus.{Bus}
 use Rattle.gl_net.specs.declared.node.Bit.{Bit}
 use Rattle.gl_net.specs.Net.{Run}
 use Rattle.gl_wire.specs.Wire.{line_at}
 use Rattle.gl_wire.proofs.StageLemmas.{line_later}
+use Rattle.gl_wire.proofs.GateLemmas.{choose_line}
 use Rattle.gl_registers.specs.Held.{held_at, counted_down, turned}
-use Rattle.gl_registers.proofs.NumberLemmas.{bit_is}
 
 -- one law for every register with a reset value: its step holds from the reset cycle on, if the step of the reset cycle keeps the value
 pub held_by : (run : Run) (b : Bus) (reset : ℕ) (step : ℕ → ℕ → ℕ) → run.at 1 b.node ≡ reset → ((t : ℕ) → run.at (suc (suc t)) b.node ≡ step (suc t) (run.at (suc t) b.node)) → step 0 reset ≡ reset
@@ -19,14 +18,6 @@ pub held_by : (run : Run) (b : Bus) (reset : ℕ) (step : ℕ → ℕ → ℕ) �
 unfolding held_at
 held_by run b reset step first next blank zero = first ∙ sym blank
 held_by run b reset step first next blank (suc t) = next t
-
-pub choose_line : (run : Run) (x : Bit) (y n t : ℕ) → choose_of (run.at (suc t) x.node) y n ≡ (if line_at run x (suc t) then y else n)
-unfolding choose_of line_at
-choose_line run x y n t = refl
-
-pub choose_equal : (x n y z : ℕ) → choose_of (eq_of x n) y z ≡ (if nat_eq x n then y else z)
-unfolding choose_of eq_of
-choose_equal x n y z = ap (λ (b : Bool). if b then y else z) (bit_is (nat_eq x n))
 
 small : (v k : ℕ) → v < k → v % k ≡ v
 small v k l = let e : v ≡ 0 * k + v = omega arith in ap (λ z. z % k) e ∙ mod-mul-add 0 k v l
@@ -124,7 +115,3 @@ pub same_node : (run : Run) (x y : Bit) (t : ℕ) → x.node ≡ y.node → line
 unfolding line_at
 same_node run x y zero e = refl
 same_node run x y (suc t) e = ap (λ n. nat_eq (run.at (suc t) n) 1) e
-
-pub one_fits : (w : ℕ) → 1 ≤ w → 1 < 2 ^ w
-one_fits zero l = absurd (omega (arith, l))
-one_fits (suc n) l = let p = pow_pos n in rw pow-suc (omega (arith, p))

@@ -1,7 +1,7 @@
 -- The lines and the wires of copies, one copy more at a time.
 use Rattle.std.proofs.Common.{◌≡◌, ℕ, suc, ◌+◌, ◌*◌, List, [], ◌∷◌, ◌++◌, length, Some, Bool, ◌||◌, refl, sym, ap, ◌∙◌, subst, arith}
 use Rattle.std.specs.Prelude.{slice_get}
-use Rattle.gl_bits.proofs.AllLists.{length_map}
+use Rattle.gl_bits.proofs.AllLists.{length_map, get_unmapped}
 use Rattle.gl_bits.proofs.Bools.{or_join, or_none}
 use Rattle.gl_net.specs.declared.node.Bit.{Bit}
 use Rattle.gl_net.specs.declared.node.Bus.{Bus}
@@ -21,7 +21,6 @@ use Rattle.gl_copies.specs.Lift.{tuple_of_any}
 use Rattle.gl_copies.specs.Rotates.{any_of}
 use Rattle.gl_registers.specs.Backs.{AreWires, JoinsCopies}
 use Rattle.gl_registers.specs.Joins.{AreCopies, JoinsAll, JoinsLines, columns_of, gives_of, told_by, told_of, wires_of}
-use Rattle.gl_registers.proofs.ListLemmas.{from_map}
 
 pub or_more : (s a x y z : Bool) → z ≡ (y || x) → y ≡ (s || a) → z ≡ (s || (a || x))
 or_more s a x y z h k = h ∙ ap (λ q. q || x) k ∙ or_join s a x
@@ -74,7 +73,7 @@ wires_push es e ws w h k = ap (λ (l : List Wire). l ++ w ∷ []) h ∙ ap (λ (
     pushed (x ∷ xs) = ap (λ (l : List Wire). x.wire ∷ l) (pushed xs)
 
 -- copies stay in a netlist that grows
-copies_kept : (old new : Net) (copies : List Emitted) → Keeps old new → AreCopies old copies → AreCopies new copies
+pub copies_kept : (old new : Net) (copies : List Emitted) → Keeps old new → AreCopies old copies → AreCopies new copies
 copies_kept old new copies keeps h = record {
   each = λ k e at. wire_kept old new e.wire keeps (h.each k e at);
   same_widths = h.same_widths;
@@ -83,11 +82,11 @@ copies_kept old new copies keeps h = record {
 
 are_wires : (net : Net) (copies : List Emitted) → AreCopies net copies → AreWires net (wires_of copies) (columns_of copies)
 are_wires net copies h = record {
-  each = λ k w e. let m = from_map (λ (x : Emitted). x.wire) copies k w e in subst (IsWire net) m.2 (h.each k m.0 m.1);
-  same_widths = λ k w e. let m = from_map (λ (x : Emitted). x.wire) copies k w e in ap (λ (x : Wire). widths x.columns) (sym m.2) ∙ h.same_widths k m.0 m.1;
+  each = λ k w e. let m = get_unmapped (λ (x : Emitted). x.wire) copies k w e in subst (IsWire net) m.2 (h.each k m.0 m.1);
+  same_widths = λ k w e. let m = get_unmapped (λ (x : Emitted). x.wire) copies k w e in ap (λ (x : Wire). widths x.columns) (sym m.2) ∙ h.same_widths k m.0 m.1;
 }
 
-columns_at : (copies : List Emitted) (e : Emitted) → slice_get copies 0 ≡ Some e → columns_of copies ≡ widths e.wire.columns
+pub columns_at : (copies : List Emitted) (e : Emitted) → slice_get copies 0 ≡ Some e → columns_of copies ≡ widths e.wire.columns
 columns_at [] e h = absurd (cc)
 columns_at (x ∷ xs) e h = let q : x ≡ e = cc in ap (λ (y : Emitted). widths y.wire.columns) q
 

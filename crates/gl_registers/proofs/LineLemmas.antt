@@ -1,8 +1,9 @@
 -- Lines of many copies: one more, and one of all.
-use Rattle.std.proofs.Common.{◌≡◌, ℕ, zero, suc, ◌+◌, ◌<◌, ◌≤◌, List, [], ◌∷◌, ◌++◌, length, Some, Bool, true, false, refl, sym, ap, ◌∙◌, subst, arith, inl, inr, length-append}
+use Rattle.std.proofs.Common.{◌≡◌, ℕ, zero, suc, ◌+◌, ◌<◌, ◌≤◌, List, [], ◌∷◌, ◌++◌, length, Some, Bool, false, refl, sym, ap, ◌∙◌, subst, arith, inl, inr, length-append}
 use Rattle.std.specs.Prelude.{slice_get, ◌&&◌, ◌||◌, nat_eq}
 use Rattle.std.proofs.lemmas.Bool.{cases_lt, eq-eqb, ne_eqb}
-use Rattle.std.proofs.Math.Bool.{and-false}
+use Rattle.std.proofs.Math.Bool.{and-false, and-true}
+use Rattle.gl_bits.proofs.Bools.{or_none}
 use Rattle.gl_net.specs.declared.node.Bus.{Bus}
 use Rattle.gl_net.specs.declared.node.Bit.{Bit}
 use Rattle.gl_net.specs.Net.{Net, Run, IsRun, IsBit, Keeps}
@@ -10,16 +11,20 @@ use Rattle.gl_net.proofs.Determined.{keeps_then}
 use Rattle.gl_net.proofs.Lists.{get_push_cases}
 use Rattle.gl_wire.specs.Gates.{IsGate}
 use Rattle.gl_wire.specs.Wire.{line_at}
+use Rattle.gl_wire.proofs.ColumnLemmas.{bit_kept}
 use Rattle.gl_registers.specs.Numbers.{IsNever}
-use Rattle.gl_net.proofs.Growth.{same_keeps}
 use Rattle.gl_registers.specs.Lines.{line_of, any_to, AreBits, AddsLine, AddsLines, pairs, with_line, gated, pointed, pointed_at, any_line}
 use Rattle.gl_registers.specs.declared.lines.LineOp.{LineOp}
 
-pub bit_kept : (old new : Net) (b : Bit) → Keeps old new → IsBit old b → IsBit new b
-bit_kept old new b g i = record { there = g.shapes b.node _ i.there }
-
 pub bits_kept : (old new : Net) (bs : List Bit) → Keeps old new → AreBits old bs → AreBits new bs
 bits_kept old new bs g h = record { each = λ k b e. bit_kept old new b g (h.each k b e) }
+
+-- no line is 1 in the reset cycle
+pub line_of-first : (run : Run) (bs : List Bit) (k : ℕ) → line_of run bs k 0 ≡ false
+unfolding line_of line_at
+line_of-first run [] k = refl
+line_of-first run (b ∷ bs) zero = refl
+line_of-first run (b ∷ bs) (suc k) = line_of-first run bs k
 
 pub line_of-get : (run : Run) (bs : List Bit) (k : ℕ) (b : Bit) (t : ℕ) → slice_get bs k ≡ Some b → line_of run bs k t ≡ line_at run b t
 unfolding line_of
@@ -27,7 +32,7 @@ line_of-get run [] k b t h = absurd (cc)
 line_of-get run (x ∷ bs) zero b t h = let e : x ≡ b = cc in ap (λ (y : Bit). line_at run y t) e
 line_of-get run (x ∷ bs) (suc k) b t h = line_of-get run bs k b t h
 
-line_of-old : (run : Run) (bs : List Bit) (b : Bit) (k t : ℕ) → k < length bs → line_of run (bs ++ b ∷ []) k t ≡ line_of run bs k t
+pub line_of-old : (run : Run) (bs : List Bit) (b : Bit) (k t : ℕ) → k < length bs → line_of run (bs ++ b ∷ []) k t ≡ line_of run bs k t
 unfolding line_of
 line_of-old run [] b k t l = absurd (omega (arith, l))
 line_of-old run (x ∷ bs) b zero t l = refl
@@ -37,15 +42,6 @@ line_of-new : (run : Run) (bs : List Bit) (b : Bit) (t : ℕ) → line_of run (b
 unfolding line_of
 line_of-new run [] b t = refl
 line_of-new run (x ∷ bs) b t = line_of-new run bs b t
-
-pub lines_none : (net : Net) (price : ℕ) (f : Run → ℕ → ℕ → Bool) → AddsLines net net 0 price [] f
-lines_none net price f = record {
-  keeps = same_keeps net;
-  count = refl;
-  bits = record { each = λ k b h. absurd (cc) };
-  cost = record { nodes = omega arith; registers = omega arith; memories = omega arith };
-  line = λ run r k t l. absurd (omega (arith, l));
-}
 
 pub lines_more : (old mid new : Net) (n price : ℕ) (bs : List Bit) (b : Bit) (f : Run → ℕ → ℕ → Bool) (g : Run → ℕ → Bool) → AddsLines old mid n price bs f → AddsLine mid new price b g → ((run : Run) → IsRun new run → (t : ℕ) → g run t ≡ f run n t)
     → AddsLines old new (n + 1) price (bs ++ b ∷ []) f
@@ -90,16 +86,8 @@ any_at (suc n) q x m f l h = elim (cases_lt q n) [
       let a = any_none n q x m f z (λ k w. h k (omega (arith, w))) in
       let b = h n (omega arith) in
       let e = eq-eqb q n same in
-      rw (a, b, e, same, and_all) refl)
+      rw (a, b, e, same, and-true) refl)
 ]
-  where
-    or_none : (b : Bool) → (b || false) ≡ b
-    or_none true = refl
-    or_none false = refl
-
-    and_all : (b : Bool) → (b && true) ≡ b
-    and_all true = refl
-    and_all false = refl
 
 pub pairs_here : (op : LineOp) (run : Run) (xs ys : List Bit) (x y : Bit) (i t : ℕ) → slice_get xs i ≡ Some x → slice_get ys i ≡ Some y → gated op x y run t ≡ pairs op xs ys run i t
 unfolding gated pairs

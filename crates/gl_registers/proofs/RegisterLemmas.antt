@@ -3,14 +3,14 @@ use Rattle.std.proofs.Common.{◌≡◌, ◌≢◌, ℕ, zero, suc, ◌+◌, ◌
 use Rattle.std.specs.Prelude.{slice_get}
 use Rattle.std.specs.List.{sum}
 use Rattle.std.proofs.lemmas.List.{map-append}
+use Rattle.std.proofs.lemmas.Bool.{cases_eq}
 use Rattle.gl_bits.specs.Words.{Word}
 use Rattle.gl_net.specs.declared.node.Bus.{Bus}
 use Rattle.gl_net.specs.Net.{Net, Run, IsRun, IsBus, Grows, Keeps, Value, open_at}
 use Rattle.gl_bits.proofs.AllLists.{get_below, get_front, get_last}
-use Rattle.gl_net.proofs.Growth.{same_grows}
 use Rattle.gl_net.proofs.Lists.{get_push_cases}
 use Rattle.gl_wire.specs.Costs.{Costs, nodes_alone}
-use Rattle.gl_registers.proofs.ListLemmas.{nat_dec, sum-push}
+use Rattle.gl_wire.proofs.ColumnLemmas.{sum-push}
 use Rattle.gl_registers.specs.Registers.{word_widths, NoneOf, OpensOne, AreOpen, Opens, DrivesAll}
 
 pub grows_then : (a b c : Net) → Grows a b → Grows b c → Grows a c
@@ -18,12 +18,6 @@ grows_then a b c g h = record { runs = λ run r. g.runs run (h.runs run r); shap
 
 pub grown_bus : (a b : Net) (x : Bus) → Grows a b → IsBus a x → IsBus b x
 grown_bus a b x g i = record { there = g.shapes x.node _ i.there; width = i.width }
-
--- a place in a list that exists
-pub place_in : {A : Type 0} (xs : List A) (k : ℕ) → k < length xs → (x : A) × (slice_get xs k ≡ Some x)
-place_in [] k l = absurd (omega (arith, l))
-place_in (x ∷ xs) zero l = (x, refl)
-place_in (x ∷ xs) (suc k) l = place_in xs k (omega (arith, l))
 
 pub get_take : {A : Type 0} (xs : List A) (n k : ℕ) (x : A) → slice_get (take n xs) k ≡ Some x → (slice_get xs k ≡ Some x) × (k < n)
 get_take [] zero k x h = absurd (cc)
@@ -35,7 +29,7 @@ get_take (y ∷ xs) (suc n) (suc k) x h = let q = get_take xs n k x h in (q.0, o
 -- whether a node is one of these
 pub one_of : (n : ℕ) (bs : List Bus) → ((k : ℕ) × (b : Bus) × (slice_get bs k ≡ Some b) × (n ≡ b.node)) ⊎ NoneOf n bs
 one_of n [] = inr (λ k b h e. absurd (cc))
-one_of n (x ∷ bs) = elim (nat_dec n x.node) [
+one_of n (x ∷ bs) = elim (cases_eq n x.node) [
   | inl e ↦ inl (0, x, refl, e)
   | inr ne ↦ elim (one_of n bs) [
     | inl h ↦ inl (suc h.0, h.1, h.2, h.3)
@@ -48,21 +42,6 @@ one_of n (x ∷ bs) = elim (nat_dec n x.node) [
 
 pub widths_more : (ws : List Word) (w : Word) → sum (word_widths (ws ++ w ∷ [])) ≡ sum (word_widths ws) + w.width
 widths_more ws w = ap sum (map-append (λ (v : Word). v.width) ws (w ∷ [])) ∙ sum-push (word_widths ws) w.width
-
-pub opens_none : (net : Net) → Opens net net [] []
-opens_none net = record {
-  grows = same_grows net;
-  ports = refl;
-  name = refl;
-  count = refl;
-  others = λ n h. refl;
-  still = record { undriven = λ k b h. absurd (cc); apart = λ j k b d h i e. absurd (cc) };
-  fresh = λ k b h. absurd (cc);
-  each = λ k b h. absurd (cc);
-  widths = λ k b w h i. absurd (cc);
-  start = λ k b w h i. absurd (cc);
-  cost = record { nodes = omega arith; registers = omega arith; memories = omega arith };
-}
 
 module _ (old mid new : Net) (ws : List Word) (bs : List Bus) (w : Word) (x : Bus) (o : Opens old mid ws bs) (one : OpensOne mid new w x) where
   -- an earlier register is another one
@@ -146,17 +125,6 @@ module _ (old mid new : Net) (ws : List Word) (bs : List Bus) (w : Word) (x : Bu
 
 -- ---- driving
 
-pub drives_none : (net : Net) (nexts : List Bus) → DrivesAll net net [] nexts
-drives_none net nexts = record {
-  grows = same_grows net;
-  ports = refl;
-  name = refl;
-  others = λ n h. refl;
-  driven = λ k b h. absurd (cc);
-  value = λ k b d h i. absurd (cc);
-  cost = record { nodes = omega arith; registers = omega arith; memories = omega arith };
-}
-
 pub record DrivesOne (old new : Net) (x y : Bus) : Type 0 where
   pub grows : Grows old new
   pub ports : new.ports ≡ old.ports
@@ -188,9 +156,6 @@ drives_more old mid new bs nexts x y d one at none = record {
 -- a register that is still to be driven
 pub not_yet : (net : Net) (bs : List Bus) (i : ℕ) (x : Bus) → AreOpen net bs → slice_get bs i ≡ Some x → NoneOf x.node (take i bs)
 not_yet net bs i x o h k b e q = let t = get_take bs i k b e in let same = o.apart i k x b h t.0 q in absurd (omega (arith, same, t.1))
-
-pub kept_open : (b c : Net) (bs : List Bus) → AreOpen b bs → Keeps b c → AreOpen c bs
-kept_open b c bs o k = record { undriven = λ j x h. k.undriven x.node ∙ o.undriven j x h; apart = o.apart }
 
 -- opened, read by blocks, driven: nothing else has changed
 pub closed_up : (a b c d : Net) (ws : List Word) (bs nexts : List Bus) → Opens a b ws bs → Keeps b c → DrivesAll c d bs nexts → Keeps a d

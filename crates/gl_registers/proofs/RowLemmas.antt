@@ -10,13 +10,12 @@ use Rattle.gl_net.proofs.Determined.{keeps_then}
 use Rattle.gl_net.proofs.Lists.{get_push_cases}
 use Rattle.gl_wire.specs.declared.wire.Wire.{Wire}
 use Rattle.gl_wire.specs.Wire.{IsWire, Carried, carried, line_at, row_at, tuple_at, widths}
-use Rattle.gl_wire.proofs.ColumnLemmas.{AreBuses-none, AreBuses-push, buses_kept, wire_kept, widths-push, row_at-push, row_at-none}
+use Rattle.gl_wire.proofs.ColumnLemmas.{AreBuses-none, AreBuses-push, buses_kept, wire_kept, widths-push, row_at-push, row_at-none, sum-push}
+use Rattle.gl_wire.proofs.GateLemmas.{choose_line}
 use Rattle.gl_net.proofs.Growth.{same_keeps}
-use Rattle.gl_registers.proofs.ListLemmas.{sum-push}
 use Rattle.gl_registers.specs.Counters.{IsHold}
 use Rattle.gl_registers.specs.Lines.{line_of, carried_of}
 use Rattle.gl_registers.specs.Rows.{HoldsRow, AddsWire, AddsWires}
-use Rattle.gl_registers.proofs.CounterLemmas.{choose_line}
 use Rattle.gl_registers.proofs.LineLemmas.{line_of-get}
 
 pub holds_none : (net : Net) (load : Bit) → HoldsRow net net load [] []
@@ -72,19 +71,6 @@ unfolding carried_of
 carried_of-get run [] k w h = absurd (cc)
 carried_of-get run (x ∷ ws) zero w h = let e : x ≡ w = cc in ap (carried run) e
 carried_of-get run (x ∷ ws) (suc k) w h = carried_of-get run ws k w h
-
-pub wires_none : (net : Net) (valids ends : List Bit) (row : List Bus) → AddsWires net net 0 valids ends row []
-wires_none net valids ends row = record {
-  keeps = same_keeps net;
-  count = refl;
-  cost = record { nodes = omega arith; registers = omega arith; memories = omega arith };
-  wires = λ k w h. absurd (cc);
-  columns = λ k w h. absurd (cc);
-  first_tuple = λ run r k l. absurd (omega (arith, l));
-  first_end = λ run r k l. absurd (omega (arith, l));
-  tuple = λ run r k t l. absurd (omega (arith, l));
-  end = λ run r k t l. absurd (omega (arith, l));
-}
 
 module _ (old mid new : Net) (n : ℕ) (valids ends : List Bit) (row : List Bus) (ws : List Wire) (w : Wire) (v e : Bit) (h : AddsWires old mid n valids ends row ws) (one : AddsWire mid new v e row w)
     (has : slice_get valids n ≡ Some v) (has_end : slice_get ends n ≡ Some e) where

@@ -2,21 +2,7 @@
 use Rattle.std.proofs.Common.{◌≡◌, ℕ, ◌+◌, ◌-◌, ◌*◌, ◌/◌, ◌%◌, ◌^◌, ◌<◌, ◌≤◌, sym, ap, ◌∙◌, subst, arith}
 use Rattle.std.proofs.Math.Nat.{mod-eq_of_lt, div-one, mul-one, div-lt_iff_lt-mul}
 use Rattle.std.proofs.lemmas.Nat.{pow-add, pow_pos}
-use Rattle.gl_bits.proofs.Wrapping.{fits_wider}
 use Rattle.gl_bits.specs.Words.{cut_of, join_of}
-
--- the lowest bits
-pub low_cut : (w x : ℕ) → 1 ≤ w → cut_of (w - 1) 0 x ≡ x % 2 ^ w
-unfolding cut_of
-low_cut w x some =
-    let e : w - 1 + 1 - 0 ≡ w = omega (arith, some) in
-    let d : x / 2 ^ 0 ≡ x = div-one x in
-    ap (λ (n : ℕ). x / 2 ^ 0 % 2 ^ n) e ∙ ap (λ (n : ℕ). n % 2 ^ w) d
-
--- all of them, with zero bits above
-pub low_join : (v w x : ℕ) → x < 2 ^ v → v ≤ w → join_of v 0 x ≡ x % 2 ^ w
-unfolding join_of
-low_join v w x fits le = let z : 0 * 2 ^ v + x ≡ x = omega arith in z ∙ sym (mod-eq_of_lt (fits_wider x v w fits le))
 
 -- the highest bits
 pub high_cut : (v w x : ℕ) → x < 2 ^ v → 1 ≤ w → w ≤ v → cut_of (v - 1) (v - w) x ≡ x / 2 ^ (v - w) * 2 ^ (w - v)

@@ -1,7 +1,7 @@
 -- Buses that carry values of another width.
 use Rattle.std.proofs.Common.{◌≡◌, ℕ, ◌+◌, ◌-◌, ◌*◌, ◌/◌, ◌%◌, ◌^◌, ◌<◌, ◌≤◌, sym, ap, ◌∙◌, arith}
 use Rattle.std.proofs.Math.Nat.{mod-eq_of_lt}
-use Rattle.gl_bits.proofs.Wrapping.{fits_wider}
+use Rattle.gl_bits.proofs.Wrapping.{fits_wider, cut_low}
 use Rattle.gl_bits.specs.Words.{join_of}
 use Rattle.gl_net.specs.declared.node.Bus.{Bus}
 use Rattle.gl_net.specs.Builds.{IsCut, IsJoined}
@@ -14,7 +14,7 @@ use Rattle.gl_bits.specs.declared.kind.Kind.{Kind}
 use Rattle.gl_bits.specs.declared.kind.Kind.TheVariants.{Unsigned, Text}
 use Rattle.gl_algebra.specs.Columns.{CastFits}
 use Rattle.gl_rows.specs.Made.{AreHigh, AreLow, Carries, IsCast}
-use Rattle.gl_rows.proofs.CastLemmas.{high_cut, high_join, low_cut}
+use Rattle.gl_rows.proofs.CastLemmas.{high_cut, high_join}
 use Rattle.gl_rows.proofs.MadeLemmas.{carries_as}
 
 module _ (old mid new : Net) (width : ℕ) (bus zeros b : Bus) (is : IsBus old bus) (more : bus.width < width)
@@ -66,7 +66,7 @@ module _ (old new : Net) (width : ℕ) (bus b : Bus) (is : IsBus old bus) (some 
     cost = one_node;
     bus = there;
     same_width = omega (arith, wide, some);
-    carries = λ run r t. value run r t ∙ low_cut width (run.at t bus.node) some;
+    carries = λ run r t. value run r t ∙ cut_low width (run.at t bus.node) some;
   }
 
   pub high : b.width ≡ bus.width - 1 + 1 - (bus.width - width) → IsCut new bus (bus.width - 1) (bus.width - width) b

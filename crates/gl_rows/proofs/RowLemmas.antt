@@ -1,9 +1,7 @@
 -- Columns made of a wire's columns, under its lines.
-use Rattle.std.proofs.Common.{◌≡◌, ℕ, zero, suc, ◌+◌, List, Some, None, Bool, true, false, refl, sym, ap, ◌∙◌, arith}
+use Rattle.std.proofs.Common.{◌≡◌, ℕ, zero, suc, List, Some, None, Bool, true, false, refl, sym, ap, ◌∙◌}
 use Rattle.std.specs.Prelude.{if◌then◌else◌, nat_eq, option_and_then, slice_get, slice_index, ◌&&◌}
 use Rattle.gl_bits.specs.Results.{Row}
-use Rattle.gl_algebra.specs.declared.figures.Figures.{Figures}
-use Rattle.gl_algebra.specs.FigureTable.{delayed}
 use Rattle.gl_net.specs.declared.node.Bus.{Bus}
 use Rattle.gl_net.specs.declared.node.Bit.{Bit}
 use Rattle.gl_net.specs.Net.{Run}
@@ -50,10 +48,3 @@ module _ (run : Run) (a : Wire) (keep test : Bit) (bus : Bus) (k : ℕ) (has : s
 
   pub select_steady : (w : Wire) → IsDelayed 1 (carried run (wire_of keep a.eos a.columns)) (carried run w) → Steady 1 (keep_where k) (carried run a) (carried run w)
   select_steady w d = delayed_same 1 (carried run (wire_of keep a.eos a.columns)) (stepped (keep_where k) (carried run a)) (carried run w) select_tuple (λ c. refl) d
-
-pub delayed_by_none : (f : Figures) → delayed 0 f ≡ f
-delayed_by_none f =
-    let a : f.a + 0 ≡ f.a = omega arith in
-    let t : f.lt + 0 ≡ f.lt = omega arith in
-    let e : f.le + 0 ≡ f.le = omega arith in
-    rw (a, t, e) refl

@@ -152,9 +152,6 @@ text_of : (w : List ℕ) (k : Kind) → ReadAs w k → kind_text k ≡ w
 text_of w (Unsigned n) r = begins_same (117 ∷ []) (kind_text (Unsigned n)) w n 64 (read_tells (kind_text (Unsigned n)) (Unsigned n) (unsigned_read n r.low r.high)) r
 text_of w (Text n) r = begins_same (116 ∷ 101 ∷ 120 ∷ 116 ∷ []) (kind_text (Text n)) w n 8 (read_tells (kind_text (Text n)) (Text n) (text_is_read n r.low r.high)) r
 
-pub text_of_read : (w : List ℕ) (k : Kind) → kind_read w ≡ Some k → kind_text k ≡ w
-text_of_read w k h = text_of w k (read_tells w k h)
-
 found : (w : List ℕ) (k : Kind) → ReadAs w k → kind_named (kind_text k) ≡ Some k
 found w (Unsigned n) r = unsigned_found n r.low r.high
 found w (Text n) r = text_is_found n r.low r.high

@@ -5,7 +5,7 @@ use Rattle.std.specs.List.{AllByRecursion}
 use Rattle.std.proofs.lemmas.Bool.{cases_lt}
 use Rattle.std.proofs.lemmas.Nat.{pow-add}
 use Rattle.std.proofs.lemmas.List.Sums.{fold_more}
-use Rattle.std.proofs.lemmas.List.{length-append, length-replicate, get_or_append_left, get_or-append_right, get_or-replicate, get_or_past, take_all}
+use Rattle.std.proofs.lemmas.List.{length-append, length-replicate, get_or_append_left, get_or-append_right, get_or-replicate, get_or_past}
 use Rattle.std.proofs.Math.Nat.{pow-le-pow_right}
 use Rattle.gl_schema.specs.Schemas.{number_of, padded}
 
@@ -43,9 +43,6 @@ padded_at n text i le lt = elim (cases_lt i (length text)) [
 -- the next byte of a text in n bytes
 pub text_more : (n : ℕ) (text : List ℕ) (i v b : ℕ) → length text ≤ n → i < n → v ≡ number_of (take i (padded n text)) → b ≡ get_or text i 0 → 256 * v + b ≡ number_of (take (i + 1) (padded n text))
 text_more n text i v b le lt e byte = ap (λ (x : ℕ). 256 * v + x) (byte ∙ sym (padded_at n text i le lt)) ∙ byte_more (padded n text) i v (omega (arith, length-padded n text le)) e
-
-pub text_whole : (n : ℕ) (text : List ℕ) → length text ≤ n → number_of (take n (padded n text)) ≡ number_of (padded n text)
-text_whole n text le = ap number_of (take_all n (padded n text) (omega (arith, length-padded n text le)))
 
 -- bytes of a text make a number of as many bits
 pub bytes_below : (bytes : List ℕ) (i a : ℕ) → AllByRecursion (λ b. b < 256) bytes → a < 2 ^ (8 * i) → fold (λ n b. 256 * n + b) a bytes < 2 ^ (8 * (i + length bytes))

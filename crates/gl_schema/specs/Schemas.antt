@@ -64,8 +64,3 @@ padded n text = text ++ replicate (n - length text) 0
 -- its word
 unfoldable pub text_word : ℕ → List ℕ → ℕ
 text_word n text = number_of (padded n text)
-
--- a text that a kind of n bytes has: at most n bytes 0x20 to 0x7E
-pub record IsText (n : ℕ) (text : List ℕ) : Type 0 where
-  pub short : length text ≤ n
-  pub plain : AllByRecursion (λ b. (32 ≤ b) × (b ≤ 126)) text

@@ -5,7 +5,7 @@ use Rattle.std.proofs.lemmas.Nat.{mod_below, pow_pos}
 use Rattle.std.proofs.lemmas.List.Sums.{sum_by_more}
 use Rattle.std.proofs.lemmas.Bool.{cases_eq, cases_lt}
 use Rattle.std.proofs.lemmas.List.{get_or-set_same, get_or-set_other}
-use Rattle.gl_bits.proofs.AllLists.{get_mapped}
+use Rattle.gl_bits.proofs.AllLists.{get_mapped, get_below}
 use Rattle.gl_verilog.specs.Module.{Kind, Input, OutputWire, OutputRegister, Wire, Register, Memory, Declaration, Nets, Memories}
 use Rattle.gl_verilog.specs.declared.module.Declaration.{Declaration as Rust}
 use Rattle.gl_verilog.specs.View.{declaration_of}
@@ -14,7 +14,7 @@ use Rattle.gl_verilog.specs.Run.{IsRegister}
 use Rattle.gl_verilog.specs.Widths.{words_in, width_at}
 use Rattle.gl_verilog.specs.Evaluate.{IsStore, nets_of, memories_of}
 use Rattle.gl_verilog.specs.Runnable.{SameState}
-use Rattle.gl_verilog.proofs.Fits.{in_range, width_at-found}
+use Rattle.gl_verilog.proofs.Fits.{width_at-found}
 use Rattle.gl_verilog.proofs.Stores.{same_item, store_put}
 use Rattle.gl_sim.proofs.Fresh.{zeros_at, zero_words_at}
 use Rattle.gl_sim.specs.declared.start.Start.TheVariants.{Zero, Drawn}
@@ -84,7 +84,7 @@ drawn_in-more s st st' at width x before bank h lt moved value =
 -- a bank put in place of another
 pub store_bank : (ds : List Declaration) (vs : List ℕ) (bs : List (List ℕ)) (k : ℕ) (b : List ℕ) (d : Declaration) → IsStore ds vs bs → slice_get ds k ≡ Some d → length b ≡ words_in d.kind → ((at : ℕ) → slice_index b at < 2 ^ d.width) → IsStore ds vs (slice_set bs k b)
 store_bank ds vs bs k b d st e size fits =
-    let within : k < length bs = let h : k < length ds = in_range ds k d e in omega (arith, st.memories) in
+    let within : k < length bs = let h : k < length ds = get_below ds k d e in omega (arith, st.memories) in
     record {
       nets = st.nets;
       memories = length-set bs k b ∙ st.memories;
@@ -126,7 +126,7 @@ two_draws (Memory bits) r = absurd r
 pub draws_register : (ds : List Declaration) (n : ℕ) (d : Declaration) (st st' x : ℕ) (vs : List ℕ) (bs : List (List ℕ)) → IsStore ds vs bs → slice_get ds n ≡ Some d → IsRegister d.kind → st' ≡ next_draw (next_draw st) → x ≡ (next_draw st * 2 ^ 64 + next_draw (next_draw st)) % 2 ^ d.width → DrawsOne ds n d st st' vs (slice_set vs n x) bs bs
 draws_register ds n d st st' x vs bs store e r moved value =
     let next = word_next st 0 st st' x d.width (sym (draw-zero st)) moved value in
-    let within : n < length vs = let h : n < length ds = in_range ds n d e in omega (arith, store.nets) in
+    let within : n < length vs = let h : n < length ds = get_below ds n d e in omega (arith, store.nets) in
     record {
       moved = next.1 ∙ ap (draw st) (sym (two_draws d.kind r));
       store = store_put ds vs bs n x d store e (subst (λ y. y < 2 ^ d.width) (sym next.0) (word_drawn-fits st 0 d.width));
@@ -138,7 +138,7 @@ draws_register ds n d st st' x vs bs store e r moved value =
 
 pub draws_memory : (ds : List Declaration) (n : ℕ) (d : Declaration) (bits st st' : ℕ) (b : List ℕ) (vs : List ℕ) (bs : List (List ℕ)) → IsStore ds vs bs → slice_get ds n ≡ Some d → d.kind ≡ Memory bits → IsDrawnIn st st' (words_in d.kind) d.width (slice_index_or bs n []) b → DrawsOne ds n d st st' vs vs bs (slice_set bs n b)
 draws_memory ds n d bits st st' b vs bs store e is h =
-    let within : n < length bs = let p : n < length ds = in_range ds n d e in omega (arith, store.memories) in
+    let within : n < length bs = let p : n < length ds = get_below ds n d e in omega (arith, store.memories) in
     let size : length b ≡ words_in d.kind = h.size ∙ store.words n d e in
     record {
       moved = h.moved ∙ ap (draw st) (rw is refl);
@@ -185,7 +185,7 @@ drawn_to-first ds seed vs bs store = record {
 
 draws_before-more : (ds : List Declaration) (n : ℕ) (d : Declaration) → slice_get ds n ≡ Some d → draws_before ds (n + 1) ≡ draws_before ds n + draws_for d.kind
 draws_before-more ds n d e =
-    sum_by_more (λ c. draws_for c.kind) ds n d (in_range ds n d e) ∙ ap (λ (x : Declaration). draws_before ds n + draws_for x.kind) (found_at ds n d e)
+    sum_by_more (λ c. draws_for c.kind) ds n d (get_below ds n d e) ∙ ap (λ (x : Declaration). draws_before ds n + draws_for x.kind) (found_at ds n d e)
   where
     found_at : (xs : List Declaration) (i : ℕ) (x : Declaration) → slice_get xs i ≡ Some x → get_or xs i x ≡ x
     found_at [] i x e = absurd cc
@@ -219,8 +219,8 @@ drawn_to-more ds seed n d st st' vs vs' bs bs' e h one = record {
 
 pub drawn_all : (ds : List Declaration) (seed n st : ℕ) (vs : List ℕ) (bs : List (List ℕ)) → length ds ≤ n → IsDrawnTo ds seed n st vs bs → SameState ds (register_at (Drawn seed) ds) (word_at (Drawn seed) ds) (nets_of vs) (memories_of bs)
 drawn_all ds seed n st vs bs le h = record {
-  registers = λ k d e r. sym (h.registers k d (let lt : k < length ds = in_range ds k d e in omega arith) e r);
-  words = λ k d at e below. sym (h.words k d at (let lt : k < length ds = in_range ds k d e in omega arith) e below);
+  registers = λ k d e r. sym (h.registers k d (let lt : k < length ds = get_below ds k d e in omega arith) e r);
+  words = λ k d at e below. sym (h.words k d at (let lt : k < length ds = get_below ds k d e in omega arith) e below);
 }
 
 -- the declaration at a place of the program's list
@@ -228,11 +228,6 @@ pub declared_at : (all slice : List Rust) (n : ℕ) (x : Rust) → slice ≡ all
 declared_at all slice n x same lt is =
     subst (λ (xs : List Rust). slice_get (map declaration_of xs) n ≡ Some (declaration_of x)) same
     (get_mapped declaration_of slice n x (slice_get-at slice n x (subst (λ (xs : List Rust). n < length xs) (sym same) lt) is))
-
-pub get-some : {T : Type 0} (xs : List T) (i : ℕ) → i < length xs → (x : T) × (slice_get xs i ≡ Some x)
-get-some [] i lt = absurd (omega arith)
-get-some (x ∷ xs) zero lt = (x, refl)
-get-some (x ∷ xs) (suc i) lt = get-some xs i (omega arith)
 
 -- two that hold what a third does
 pub state_along : (ds : List Declaration) (s v w : Nets) (sm m n : Memories) → SameState ds s sm v m → SameState ds s sm w n → SameState ds v m w n

@@ -1,7 +1,8 @@
 -- What an edge leaves: registers and words that fit.
-use Rattle.std.proofs.Common.{◌≡◌, ℕ, ◌^◌, ◌<◌, ◌≤◌, List, [], ◌∷◌, Option, Some, None, map, refl, sym, ◌∙◌, ap, subst, arith, length, unwrap_or, slice_index}
+use Rattle.std.proofs.Common.{◌≡◌, ℕ, ◌^◌, ◌<◌, ◌≤◌, List, [], ◌∷◌, Option, None, map, refl, sym, ◌∙◌, ap, subst, arith, length, unwrap_or, slice_index}
 use Rattle.std.specs.Prelude.{slice_get, slice_index_or}
 use Rattle.std.specs.List.{AllByRecursion}
+use Rattle.gl_bits.proofs.AllLists.{get_below, all_at}
 use Rattle.gl_verilog.specs.Module as spec
 use Rattle.gl_verilog.specs.Module.{Declaration, Nets, Memories, Nothing, Put, Write, Both, If, value_of, later_or, assigned, written, assigned_by, written_by}
 use Rattle.gl_verilog.specs.Run.{IsRegister}
@@ -9,8 +10,8 @@ use Rattle.gl_verilog.specs.declared.module.Statement.{Statement}
 use Rattle.gl_verilog.specs.View.{statement_of, chained}
 use Rattle.gl_verilog.specs.Widths.{HasSize, IsMemory, width_of, KeepsWidthsIn}
 use Rattle.gl_verilog.specs.Evaluate.{IsStore, nets_of, memories_of}
-use Rattle.gl_verilog.proofs.Fits.{found_in, all_at, in_range, value_fits, can_evaluate, memory_words, pow_within}
-use Rattle.gl_verilog.proofs.Edges.{unwrap_fits, assigned_fits, written_fits}
+use Rattle.gl_verilog.proofs.Fits.{found_in, value_fits, can_evaluate, memory_words, pow_within}
+use Rattle.gl_verilog.proofs.Edges.{unwrap_fits, assigned_fits, written_fits, later_or-none}
 use Rattle.gl_sim.specs.declared.update.Update.{Update}
 use Rattle.gl_sim.specs.Updates.{CanExecute, put_of}
 
@@ -34,13 +35,13 @@ pub can_execute : (ds : List Declaration) (vs : List ℕ) (bs : List (List ℕ))
 can_execute ds vs bs Nothing z st h = tt
 can_execute ds vs bs (Put register value) z st h =
     let d = found_in (slice_get ds register) (λ d. IsRegister d.kind × (width_of ds value ≡ d.width)) h.0 in
-    let lt : register < length ds = in_range ds register d.item d.is in
+    let lt : register < length ds = get_below ds register d.item d.is in
     (omega (arith, st.nets), can_evaluate ds vs bs value z st h.1)
 can_execute ds vs bs (Write memory address value) z st h =
     let d = found_in (slice_get ds memory) (λ d. IsMemory d.kind (width_of ds address) × (width_of ds value ≡ d.width)) h.0 in
-    let lt : memory < length ds = in_range ds memory d.item d.is in
+    let lt : memory < length ds = get_below ds memory d.item d.is in
     let size : length (slice_index_or bs memory []) ≡ 2 ^ width_of ds address = st.words memory d.item d.is ∙ memory_words d.item.kind (width_of ds address) d.fact.0 in
-    let bits = (all_at HasSize ds memory d.item z d.is).1 (width_of ds address) d.fact.0 in
+    let bits = (all_at HasSize ds memory d.item d.is z).1 (width_of ds address) d.fact.0 in
     let at : value_of (nets_of vs) (memories_of bs) address < 2 ^ width_of ds address = value_fits ds (nets_of vs) (memories_of bs) address st.fits h.1 in
     let small : 2 ^ width_of ds address ≤ 2 ^ 64 = pow_within (width_of ds address) 64 (omega (arith, bits.1)) in
     (omega (arith, st.memories), omega arith, omega arith, can_evaluate ds vs bs address z st h.1, can_evaluate ds vs bs value z st h.2)
@@ -65,10 +66,6 @@ pub record AfterEdge (ds : List Declaration) (blocks : List spec.Statement) (vs 
   pub store : IsStore ds vs' bs'
   pub registers : (r : ℕ) → slice_index vs' r ≡ unwrap_or (assigned_by (nets_of vs) (memories_of bs) blocks r) (slice_index vs r)
   pub words : (k at : ℕ) → memories_of bs' k at ≡ unwrap_or (written_by (nets_of vs) (memories_of bs) blocks k at) (memories_of bs k at)
-
-later_or-none : (o : Option ℕ) → later_or o None ≡ o
-later_or-none None = refl
-later_or-none (Some x) = refl
 
 pub after_edge : (ds : List Declaration) (ss : List Statement) (vs vs' : List ℕ) (bs bs' : List (List ℕ)) (us : List Update) → IsStore ds vs bs → AllByRecursion (KeepsWidthsIn ds) (map statement_of ss) → length vs' ≡ length vs
     → ((r : ℕ) → slice_index vs' r ≡ unwrap_or (assigned (nets_of vs) (memories_of bs) (chained ss) r) (slice_index vs r))

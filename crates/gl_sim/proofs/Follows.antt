@@ -3,13 +3,13 @@ use Rattle.std.proofs.Common.{◌≡◌, ◌≢◌, ℕ, zero, suc, ◌+◌, Boo
 use Rattle.std.specs.Prelude.{slice_get, if◌then◌else◌}
 use Rattle.std.specs.List.{AllByRecursion, AllZip, cons_option}
 use Rattle.std.proofs.lemmas.Bool.Decides.{eqb_tells}
+use Rattle.gl_bits.proofs.AllLists.{all_at}
 use Rattle.gl_verilog.specs.Module.{Module, Declaration, Input, Assignment, Nets, Memories, value_of, assigned_by, written_by}
 use Rattle.gl_verilog.specs.Run.{IsSettled, IsRegister}
 use Rattle.gl_verilog.specs.Widths.{KeepsWidth, is_clock}
 use Rattle.gl_verilog.specs.Order.{evaluated, with_net}
 use Rattle.gl_verilog.specs.Evaluate.{IsStore, nets_of, memories_of}
 use Rattle.gl_verilog.specs.Runnable.{IsRunnable, is_input, inputs_from, inputs_of, HasInputs, SameInputs, SameState, SameNets}
-use Rattle.gl_verilog.proofs.Fits.{all_at}
 use Rattle.gl_verilog.proofs.Edges.{Alike, assigned_by-alike, written_by-alike}
 use Rattle.gl_verilog.proofs.Settles.{SameUndriven, settle_same, undriven_same, evaluated-undriven, evaluated-settled, with_net-other}
 use Rattle.gl_verilog.proofs.Runs.{undriven, register_undriven}
@@ -61,7 +61,7 @@ each_picked P as' (k ∷ ks) h = first (slice_get as' k) refl (picked as' ks) (e
   where
     first : (o : Option Assignment) → slice_get as' k ≡ o → (xs : List Assignment) → AllByRecursion P xs → AllByRecursion P (cons_option o xs)
     first None e xs g = g
-    first (Some a) e xs g = (all_at P as' k a h e, g)
+    first (Some a) e xs g = (all_at P as' k a e h, g)
 
 -- ---- a cycle
 

@@ -15,9 +15,9 @@ use Rattle.gl_sim.specs.Inputs.{with_inputs}
 use Rattle.std.proofs.lemmas.Bool.Decides.{eqb_tells}
 use Rattle.std.proofs.lemmas.List.{get_or-set_same, get_or-set_other}
 use mathlib.Core.Path.{fun_ext}
-use Rattle.gl_bits.proofs.AllLists.{get_mapped, all_weaker}
+use Rattle.gl_bits.proofs.AllLists.{get_mapped, all_weaker, get_below, all_at}
 use Rattle.gl_verilog_check.specs.Orders.{picked}
-use Rattle.gl_verilog.proofs.Fits.{found_in, all_at, in_range, width_at-found, value_fits}
+use Rattle.gl_verilog.proofs.Fits.{found_in, width_at-found, value_fits}
 use Rattle.gl_verilog.proofs.Stores.{store_put}
 
 pub slice_get-at : {T : Type 0} (xs : List T) (n : ℕ) (x : T) → n < length xs → x ≡ get_or xs n x → slice_get xs n ≡ Some x
@@ -28,8 +28,8 @@ slice_get-at (y ∷ xs) (suc n) x lt e = slice_get-at xs n x (omega arith) e
 -- the assignment at a place keeps its width
 pub assignment_at : (m : Module) (as' : List Assignment) (k : ℕ) (a : Assignment) → IsRunnable m → m.assignments ≡ map assignment_of as' → k < length as' → a ≡ get_or as' k a → KeepsWidth m.declarations (assignment_of a)
 assignment_at m as' k a runnable same lt e =
-    all_at (KeepsWidth m.declarations) (map assignment_of as') k (assignment_of a) (subst (λ xs. AllByRecursion (KeepsWidth m.declarations) xs) same runnable.assignments)
-    (get_mapped assignment_of as' k a (slice_get-at as' k a lt e))
+    all_at (KeepsWidth m.declarations) (map assignment_of as') k (assignment_of a) (get_mapped assignment_of as' k a (slice_get-at as' k a lt e))
+    (subst (λ xs. AllByRecursion (KeepsWidth m.declarations) xs) same runnable.assignments)
 
 -- the store with the target of an assignment put
 pub store_assigned : (ds : List Declaration) (vs : List ℕ) (bs : List (List ℕ)) (a : spec.Assignment) → IsStore ds vs bs → KeepsWidth ds a → IsStore ds (slice_set vs a.target (value_of (nets_of vs) (memories_of bs) a.value)) bs
@@ -40,7 +40,7 @@ store_assigned ds vs bs a st h =
 pub target_in : (ds : List Declaration) (vs : List ℕ) (bs : List (List ℕ)) (a : spec.Assignment) → IsStore ds vs bs → KeepsWidth ds a → a.target < length vs
 target_in ds vs bs a st h =
     let d = found_in (slice_get ds a.target) (λ d. IsDriven d.kind × (width_of ds a.value ≡ d.width)) h.0 in
-    let lt : a.target < length ds = in_range ds a.target d.item d.is in
+    let lt : a.target < length ds = get_below ds a.target d.item d.is in
     omega (arith, st.nets)
 
 pub all_get : {T : Type 0} (P : T → Type 0) (xs : List T) (i : ℕ) (d : T) → AllByRecursion P xs → i < length xs → P (get_or xs i d)
@@ -100,7 +100,7 @@ inputs_of-ports m = all_weaker (IsInputFrom m.declarations 0) (IsInputPort m.dec
 pub port_in : (m : Module) (vs : List ℕ) (bs : List (List ℕ)) (i : ℕ) → IsStore m.declarations vs bs → i < length (inputs_of m) → get_or (inputs_of m) i 0 < length vs
 port_in m vs bs i st lt =
     let port = all_get (IsInputPort m.declarations) (inputs_of m) i 0 (inputs_of-ports m) lt in
-    let within : get_or (inputs_of m) i 0 < length m.declarations = in_range m.declarations (get_or (inputs_of m) i 0) port.declaration port.is in
+    let within : get_or (inputs_of m) i 0 < length m.declarations = get_below m.declarations (get_or (inputs_of m) i 0) port.declaration port.is in
     omega (arith, st.nets)
 
 pub store_input : (m : Module) (vs inputs : List ℕ) (bs : List (List ℕ)) (i : ℕ) → IsStore m.declarations vs bs → FitInputs m inputs → i < length (inputs_of m) → IsStore m.declarations (slice_set vs (get_or (inputs_of m) i 0) (get_or inputs i 0)) bs
@@ -122,11 +122,6 @@ drop_here (y ∷ xs) zero x e = let same : y ≡ x = cc in rw same refl
 drop_here (y ∷ xs) (suc i) x e =
     let n : suc i + 1 ≡ suc (i + 1) = omega arith in
     subst (λ k. drop i xs ≡ x ∷ drop k (y ∷ xs)) (sym n) (drop_here xs i x e)
-
-pub drop-map : {S T : Type 0} (f : S → T) (xs : List S) (i : ℕ) → drop i (map f xs) ≡ map f (drop i xs)
-drop-map f xs zero = refl
-drop-map f [] (suc i) = refl
-drop-map f (x ∷ xs) (suc i) = drop-map f xs i
 
 -- ---- as functions of the nets
 

@@ -1,6 +1,5 @@
 -- What waits for the edge, one statement after another.
-use Rattle.std.proofs.Common.{◌≡◌, ℕ, ◌+◌, ◌<◌, List, [], ◌∷◌, ◌++◌, Option, Some, None, refl, sym, ◌∙◌, ap, length, unwrap_or, slice_index}
-use Rattle.std.specs.Prelude.{slice_index_or}
+use Rattle.std.proofs.Common.{◌≡◌, ℕ, ◌+◌, List, [], ◌∷◌, ◌++◌, Option, Some, None, refl, ◌∙◌, ap, length, unwrap_or, slice_index}
 use Rattle.gl_verilog.specs.Module as spec
 use Rattle.gl_verilog.specs.Module.{Nets, Memories, Both, Nothing, Write, value_of, later_or, assigned, written}
 use Rattle.gl_verilog.specs.declared.module.Statement.{Statement}
@@ -23,10 +22,6 @@ put_of-push [] u k at = alone (put_by u k at)
     alone (Some x) = refl
 put_of-push (w ∷ us) u k at = ap (λ (o : Option ℕ). later_or o (put_by w k at)) (put_of-push us u k at) ∙ later_or-assoc (put_by w k at) (put_of us k at) (put_by u k at)
 
-pub AreInside-push : (banks : List (List ℕ)) (us : List Update) (u : Update) → AreInside banks us → u.memory < length banks → u.address < length (slice_index_or banks u.memory []) → AreInside banks (us ++ u ∷ [])
-AreInside-push banks [] u h p q = ((p, q), tt)
-AreInside-push banks (w ∷ us) u h p q = (h.0, AreInside-push banks us u h.1 p q)
-
 -- a write that is noted
 pub put_of-note : (us us' : List Update) (v : Nets) (m : Memories) (memory : ℕ) (address value : spec.Expr) (at word : ℕ) → us' ≡ us ++ record { memory = memory; address = at; value = word } ∷ [] → at ≡ value_of v m address → word ≡ value_of v m value → (k place : ℕ) → put_of us' k place ≡ later_or (written v m (Write memory address value) k place) (put_of us k place)
 put_of-note us us' v m memory address value at word is at_is word_is k place =
@@ -43,16 +38,6 @@ pub record IsUnderWay (vs : List ℕ) (bs : List (List ℕ)) (v : Nets) (m : Mem
 
 pub under_way_first : (vs : List ℕ) (bs : List (List ℕ)) (v : Nets) (m : Memories) (all : spec.Statement) (next : List ℕ) (us : List Update) → CanExecute vs bs all → AreInside bs us → IsUnderWay vs bs v m all all next next us us
 under_way_first vs bs v m all next us can inside = record { can = can; size = refl; inside = inside; registers = λ r. refl; words = λ k at. refl }
-
--- one statement more
-pub under_way_more : (vs : List ℕ) (bs : List (List ℕ)) (v : Nets) (m : Memories) (all first rest : spec.Statement) (next next' next'' : List ℕ) (us us' us'' : List Update) → IsUnderWay vs bs v m all (Both first rest) next next' us us' → length next'' ≡ length next' → AreInside bs us'' → ((r : ℕ) → slice_index next'' r ≡ unwrap_or (assigned v m first r) (slice_index next' r)) → ((k at : ℕ) → put_of us'' k at ≡ later_or (written v m first k at) (put_of us' k at)) → IsUnderWay vs bs v m all rest next next'' us us''
-under_way_more vs bs v m all first rest next next' next'' us us' us'' way size inside registers words = record {
-  can = way.can.1;
-  size = size ∙ way.size;
-  inside = inside;
-  registers = λ r. ap (λ (x : ℕ). unwrap_or (assigned v m rest r) x) (registers r) ∙ sym (unwrap-later (assigned v m first r) (assigned v m rest r) (slice_index next' r)) ∙ way.registers r;
-  words = λ k at. ap (λ (o : Option ℕ). later_or (written v m rest k at) o) (words k at) ∙ sym (later_or-assoc (put_of us' k at) (written v m first k at) (written v m rest k at)) ∙ way.words k at;
-}
 
 -- how many parts a statement has
 abbrev pub parts_of : spec.Statement → ℕ

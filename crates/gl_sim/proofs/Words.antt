@@ -29,9 +29,6 @@ pub record HasPut (all : List Update) (before : List (List ℕ)) (rest : List Up
   pub sizes : (k : ℕ) → length (slice_index_or after k []) ≡ length (slice_index_or before k [])
   pub words : (k at : ℕ) → unwrap_or (put_of rest k at) (memories_of after k at) ≡ unwrap_or (put_of all k at) (memories_of before k at)
 
-pub has_put-first : (us : List Update) (bs : List (List ℕ)) → AreInside bs us → HasPut us bs us bs
-has_put-first us bs h = record { inside = h; size = refl; sizes = λ k. refl; words = λ k at. refl }
-
 pub inside_here : (bs : List (List ℕ)) (us : List Update) (i : ℕ) (d : Update) → i < length us → AreInside bs (drop i us) → AreInside bs (get_or us i d ∷ drop (i + 1) us)
 inside_here bs us i d lt h =
     let here : drop i us ≡ get_or us i d ∷ drop (i + 1) us = rw add-one (drop-cons us i d lt) in

@@ -25,7 +25,8 @@ use Rattle.gl_algebra.specs.Columns.{CastFits, SortFits, IsUnsigned}
 use Rattle.gl_algebra.proofs.ListLemmas.{first_passes}
 use Rattle.gl_terms.specs.Terms.{literal, term_of, IsTerm}
 use Rattle.gl_terms.proofs.TermLemmas.{term-kind}
-use Rattle.gl_query.proofs.Real.{alone_kind, loose_is, result_is}
+use Rattle.gl_bits.proofs.KindLemmas.{result_is}
+use Rattle.gl_query.proofs.Real.{alone_kind, loose_is}
 
 -- ---- literals
 

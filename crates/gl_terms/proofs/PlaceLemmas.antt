@@ -1,5 +1,5 @@
 -- Places in lists.
-use Rattle.std.proofs.Common.{◌≡◌, ℕ, ◌≤◌, Bool, List, [], ◌∷◌, length, Some, None, arith, nat_lt}
+use Rattle.std.proofs.Common.{◌≡◌, ◌≤◌, Bool, List, [], ◌∷◌, length, None, arith, nat_lt}
 use Rattle.std.specs.Prelude.{position}
 use Rattle.std.specs.List.{position_or_len}
 use Rattle.std.proofs.Math.Numerals.{one-add}
@@ -16,7 +16,3 @@ place-none p xs h =
     by_cases (nat_lt (position_or_len p xs) (length xs))
     (λ e. absurd (let lost = rw e at h in cc))
     (λ e. let past = ltb-false (position_or_len p xs) (length xs) e in omega arith)
-
-pub place-some : {K : Type 0} (p : K → Bool) (xs : List K) (i : ℕ) → position p xs ≡ Some i → i ≡ position_or_len p xs
-place-some p xs i h =
-    by_cases (nat_lt (position_or_len p xs) (length xs)) (λ e. let same = rw e at h in cc) (λ e. absurd (let lost = rw e at h in cc))

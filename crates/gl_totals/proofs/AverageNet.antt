@@ -15,8 +15,8 @@ use Rattle.gl_net.specs.Net.{Net, Run, IsRun, IsBus}
 use Rattle.gl_net.proofs.Values.{bus_fits}
 use Rattle.gl_wire.specs.Gates.{same_at}
 use Rattle.gl_wire.specs.Wire.{line_at}
+use Rattle.gl_wire.proofs.GateLemmas.{choose_line}
 use Rattle.gl_totals.specs.Open.{values_at}
-use Rattle.gl_divide.proofs.DigitNet.{choose_line}
 use Rattle.gl_totals.proofs.ValueLemmas.{values_through}
 use Rattle.gl_bits.specs.Words.{choose_of}
 
@@ -24,7 +24,7 @@ use Rattle.gl_bits.specs.Words.{choose_of}
 pub choose_empty : (run : Run) (line : Bit) (bottom none : Bus) (t x given n : ℕ) → line_at run line (suc t) ≡ same_at run bottom none (suc t) → run.at (suc t) none.node ≡ 0
     → x ≡ n → choose_of (run.at (suc t) line.node) x given ≡ (if nat_eq (run.at (suc t) bottom.node) 0 then n else given)
 choose_empty run line bottom none t x given n is zero same =
-    choose_line run line t x given ∙ ap (λ (b : Bool). if b then x else given) (is ∙ ap (nat_eq (run.at (suc t) bottom.node)) zero)
+    choose_line run line x given t ∙ ap (λ (b : Bool). if b then x else given) (is ∙ ap (nat_eq (run.at (suc t) bottom.node)) zero)
     ∙ ap (λ (m : ℕ). if nat_eq (run.at (suc t) bottom.node) 0 then m else given) same
 
 -- the same values in a wider word

@@ -6,7 +6,7 @@ use Rattle.gl_algebra.specs.declared.figures.Figures.{Figures}
 use Rattle.gl_algebra.specs.declared.node.PlanAgg.{PlanAgg}
 use Rattle.gl_algebra.specs.declared.node.PlanNode.TheVariants.{Aggregate}
 use Rattle.gl_algebra.specs.Shapes.{Shape}
-use Rattle.gl_rows.specs.Counted.{IsCountedAt}
+use Rattle.gl_wire.specs.Counted.{IsCountedAt}
 use Rattle.gl_totals.specs.Costs.{cost_of_aggs}
 use Rattle.gl_totals.specs.Totals.{total_widths}
 

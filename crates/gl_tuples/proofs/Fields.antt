@@ -40,15 +40,6 @@ field_is [] i f h = absurd cc
 field_is (g ∷ fs) zero f h = cc
 field_is (g ∷ fs) (suc i) f h = field_is fs i f h
 
-pub field_missing : (fs : List (List ℕ)) (i : ℕ) → slice_get fs i ≡ None → length fs ≤ i
-field_missing [] i h = omega arith
-field_missing (g ∷ fs) zero h = absurd cc
-field_missing (g ∷ fs) (suc i) h = let p = field_missing fs i h in omega arith
-
--- fields that are UTF-8 so far
-pub text_none : (fs : List (List ℕ)) → list_all is_utf8 (take 0 fs) ≡ true
-text_none fs = refl
-
 pub text_more : (fs : List (List ℕ)) (i : ℕ) → i < length fs → list_all is_utf8 (take i fs) ≡ true → is_utf8 (get_or fs i []) ≡ true → list_all is_utf8 (take (i + 1) fs) ≡ true
 text_more fs i lt a b = list_all_more is_utf8 fs i [] lt ∙ and_from (list_all is_utf8 (take i fs)) (is_utf8 (get_or fs i [])) a b
 

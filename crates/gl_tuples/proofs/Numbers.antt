@@ -6,7 +6,7 @@ use Rattle.std.specs.Str.Lossy.{utf8_valid_len}
 use Rattle.std.proofs.lemmas.Bool.{eq-eqb, ne_eqb, cases_lt, false≢true, lt-ltb, le-ltb}
 use Rattle.std.proofs.lemmas.Str.{utf8_valid_len-IsUtf8}
 use Rattle.std.proofs.lemmas.List.Sums.{fold_more}
-use Rattle.std.proofs.Math.Nat.{pow-le-pow_right, min-eq_left, min-eq_right}
+use Rattle.std.proofs.Math.Nat.{min-eq_left, min-eq_right}
 use Rattle.gl_bits.specs.Words.{Word}
 use Rattle.gl_tuples.specs.Values.{number_in, fitting}
 
@@ -47,18 +47,3 @@ word_made None bits width given b w low high = elim (cases_lt bits (2 ^ width)) 
   | inr le ↦ rw (le-ltb bits (2 ^ width) le) refl
 ]
 word_made (Some x) bits width given b w low high = rw (lt-ltb bits (2 ^ width) (given.0 refl).2) (some_word x bits width b w)
-
--- a number with a top fits where the number does
-pub fitting_min : (width n : ℕ) → width ≤ 64 → fitting width (Some (min n (2 ^ 64))) ≡ fitting width (Some n)
-fitting_min width n le = elim (cases_lt n (2 ^ 64)) [
-  | inl lt ↦ ap (λ (x : ℕ). fitting width (Some x)) (min-eq_left {n = n} {m = 2 ^ 64} (omega arith))
-  | inr top ↦ (let p : 2 ^ width ≤ 2 ^ 64 = pow-le-pow_right (let z : 0 < 2 = omega arith in z) le in
-      rw (min-eq_right {n = 2 ^ 64} {m = n} top, le-ltb (2 ^ 64) (2 ^ width) p, le-ltb n (2 ^ width) (below (2 ^ width) (2 ^ 64) n p top)) refl)
-]
-  where
-    below : (a b c : ℕ) → a ≤ b → b ≤ c → a ≤ c
-    below a b c p q = omega arith
-
--- a text's word fits its width
-pub text_fits : (n v : ℕ) → n ≤ 8 → v < 2 ^ (8 * n) → fitting (8 * n) (Some v) ≡ Some (record { bits = v; width = 8 * n })
-text_fits n v le lt = rw (lt-ltb v (2 ^ (8 * n)) lt) refl

@@ -127,9 +127,6 @@ tuple_entered number schema r name k row s f e h = tuple_given number schema r k
 
 -- ---- a stream's row in the beat of a cycle
 
-has_row_is : (rows : List (Option (List Word))) (k : ℕ) → has_row rows k ≡ is_some (row_among rows k)
-has_row_is rows k = refl
-
 none_is : {A : Type 0} (o : Option A) → is_some o ≡ false → o ≡ None
 none_is None h = refl
 none_is (Some x) h = absurd (true≢false h)

@@ -19,6 +19,15 @@ abbrev pub FitsIn : ℕ → Option ℕ → Type 0
 FitsIn width None = Unit {0}
 FitsIn width (Some x) = x < 2 ^ width
 
+pub later_or-none : (o : Option ℕ) → later_or o None ≡ o
+later_or-none None = refl
+later_or-none (Some x) = refl
+
+-- a choice between nothing and nothing
+pub none_either : (b : Bool) → cond {A = Option ℕ} b None None ≡ None
+none_either true = refl
+none_either false = refl
+
 fits_later : (w : ℕ) (a b : Option ℕ) → FitsIn w a → FitsIn w b → FitsIn w (later_or b a)
 fits_later w a None p q = p
 fits_later w a (Some x) p q = q

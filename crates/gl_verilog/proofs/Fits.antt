@@ -1,15 +1,18 @@
 -- The value of an expression fits its width.
-use Rattle.std.proofs.Common.{◌≡◌, ℕ, zero, suc, ◌+◌, ◌-◌, ◌*◌, ◌/◌, ◌^◌, ◌<◌, ◌≤◌, Bool, true, false, cond, List, [], ◌∷◌, Option, Some, None, nat_eq, nat_lt, nat_le, refl, sym, ◌∙◌, ap, subst, arith, length}
+use Rattle.std.proofs.Common.{◌≡◌, ℕ, ◌+◌, ◌-◌, ◌*◌, ◌/◌, ◌^◌, ◌<◌, ◌≤◌, Bool, true, false, cond, List, [], Option, Some, None, nat_eq, nat_lt, nat_le, refl, sym, ◌∙◌, ap, subst, arith, length}
 use Rattle.std.specs.Prelude.{slice_get, slice_index_or, IsSomeAnd, IsTrue}
 use Rattle.std.specs.List.{AllByRecursion}
 use Rattle.std.proofs.lemmas.Nat.{pow_pos, pow-add, mod_below, and_le_l, or_lt, xor_lt, mul-add-lt}
 use Rattle.std.proofs.Math.Nat.{pow-le-pow_right}
-use Rattle.gl_bits.specs.Words.{IsWidth, sum_of, difference_of, product_of, not_of, join_of, cut_of, eq_of, lt_of, le_of, bit, choose_of}
+use Rattle.gl_bits.specs.Words.{IsWidth, sum_of, difference_of, product_of, not_of, cut_of, eq_of, lt_of, le_of, bit, choose_of}
 use Rattle.gl_verilog.specs.Module.{Declaration, Kind, Memory, BinaryOp, Add, Sub, Mul, And, Xor, Or, Eq, Ne, Lt, Le, Gt, Ge, Expr, Net, Literal, Invert, Binary, Choose, Join, Select, Read, Nets, Memories, value_of, binary_of}
 use Rattle.gl_verilog.specs.Run.{Fit}
 use Rattle.gl_verilog.specs.Widths.{HasSize, IsReadable, IsMemory, words_in, width_at, width_after, width_of, KeepsWidths}
 use Rattle.gl_verilog.specs.Evaluate.{CanEvaluate, IsStore, nets_of, memories_of}
 use Rattle.gl_bits.proofs.Bools.{bit_fits}
+pub use Rattle.gl_bits.proofs.AllLists.{get_below as in_range}
+use Rattle.gl_bits.proofs.AllLists.{all_at, get_below}
+use Rattle.gl_bits.proofs.Wrapping.{join_fits}
 
 -- what is there, with its fact
 pub record Found {T : Type 0} (o : Option T) (P : T → Type 0) : Type 0 where
@@ -21,16 +24,6 @@ pub found_in : {T : Type 0} (o : Option T) (P : T → Type 0) → IsSomeAnd o P 
 found_in None P h = absurd h
 found_in (Some x) P h = record { item = x; is = refl; fact = h }
 
-pub all_at : {T : Type 0} (P : T → Type 0) (xs : List T) (n : ℕ) (x : T) → AllByRecursion P xs → slice_get xs n ≡ Some x → P x
-all_at P [] n x h e = absurd cc
-all_at P (y ∷ xs) zero x h e = let same : y ≡ x = cc in subst P same h.0
-all_at P (y ∷ xs) (suc n) x h e = all_at P xs n x h.1 e
-
-pub in_range : {T : Type 0} (xs : List T) (n : ℕ) (x : T) → slice_get xs n ≡ Some x → n < length xs
-in_range [] n x e = absurd cc
-in_range (y ∷ xs) zero x e = omega arith
-in_range (y ∷ xs) (suc n) x e = let h : n < length xs = in_range xs n x e in omega arith
-
 pub width_at-found : (ds : List Declaration) (n : ℕ) (d : Declaration) → slice_get ds n ≡ Some d → width_at ds n ≡ d.width
 width_at-found ds n d e = rw e refl
 
@@ -39,10 +32,6 @@ width_at-found ds n d e = rw e refl
 pub not_fits : (w x : ℕ) → not_of w x < 2 ^ w
 unfolding not_of
 not_fits w x = omega (arith, pow_pos w)
-
-pub join_fits : (i j x y : ℕ) → x < 2 ^ i → y < 2 ^ j → join_of j x y < 2 ^ (i + j)
-unfolding join_of
-join_fits i j x y p q = omega (arith, mul-add-lt x (2 ^ j) y (2 ^ i) p q, pow-add 2 i j)
 
 pub cut_fits : (high low x : ℕ) → cut_of high low x < 2 ^ (high + 1 - low)
 unfolding cut_of
@@ -84,7 +73,7 @@ value_fits ds v m (Binary op width left right) f h =
 value_fits ds v m (Choose test yes' no') f h =
     choose_fits (value_of v m test) (value_of v m yes') (value_of v m no') (2 ^ width_of ds yes') (value_fits ds v m yes' f h.3) (rw (← h.1) (value_fits ds v m no' f h.4))
 value_fits ds v m (Join low_width high low) f h =
-    join_fits (width_of ds high) low_width (value_of v m high) (value_of v m low) (value_fits ds v m high f h.2) (rw (← h.0) (value_fits ds v m low f h.3))
+    join_fits (value_of v m high) (value_of v m low) (width_of ds high) low_width (value_fits ds v m high f h.2) (rw (← h.0) (value_fits ds v m low f h.3))
 value_fits ds v m (Select high low n) f h = cut_fits high low (v n)
 value_fits ds v m (Read memory address) f h =
     let d = found_in (slice_get ds memory) (λ d. IsMemory d.kind (width_of ds address)) h.0 in
@@ -93,7 +82,7 @@ value_fits ds v m (Read memory address) f h =
 pub is_width : (ds : List Declaration) (e : Expr) → AllByRecursion HasSize ds → KeepsWidths ds e → IsWidth (width_of ds e)
 is_width ds (Net n) s h =
     let d = found_in (slice_get ds n) IsReadable h in
-    subst IsWidth (sym (width_at-found ds n d.item d.is)) (all_at HasSize ds n d.item s d.is).0
+    subst IsWidth (sym (width_at-found ds n d.item d.is)) (all_at HasSize ds n d.item d.is s).0
 is_width ds (Literal value width) s h = h.0
 is_width ds (Invert width arg) s h = subst IsWidth h.0 (is_width ds arg s h.1)
 is_width ds (Binary op width left right) s h = after op (subst IsWidth h.0 (is_width ds left s h.2))
@@ -113,11 +102,11 @@ is_width ds (Choose test yes' no') s h = is_width ds yes' s h.3
 is_width ds (Join low_width high low) s h = let a = is_width ds high s h.2 in record { some' = omega (arith, a.some'); most = h.1 }
 is_width ds (Select high low n) s h =
     let d = found_in (slice_get ds n) (λ d. IsReadable d × IsTrue d.is_vector × (high < d.width)) h.0 in
-    let w = (all_at HasSize ds n d.item s d.is).0 in
+    let w = (all_at HasSize ds n d.item d.is s).0 in
     record { some' = omega (arith, h.1); most = omega (arith, w.most, d.fact.2) }
 is_width ds (Read memory address) s h =
     let d = found_in (slice_get ds memory) (λ d. IsMemory d.kind (width_of ds address)) h.0 in
-    subst IsWidth (sym (width_at-found ds memory d.item d.is)) (all_at HasSize ds memory d.item s d.is).0
+    subst IsWidth (sym (width_at-found ds memory d.item d.is)) (all_at HasSize ds memory d.item d.is s).0
 
 -- ---- where expressions can be evaluated
 
@@ -131,7 +120,7 @@ pow_within i j le = let two : 0 < 2 = omega arith in pow-le-pow_right two le
 pub can_evaluate : (ds : List Declaration) (vs : List ℕ) (bs : List (List ℕ)) (e : Expr) → AllByRecursion HasSize ds → IsStore ds vs bs → KeepsWidths ds e → CanEvaluate vs bs e
 can_evaluate ds vs bs (Net n) s st h =
     let d = found_in (slice_get ds n) IsReadable h in
-    let lt : n < length ds = in_range ds n d.item d.is in
+    let lt : n < length ds = get_below ds n d.item d.is in
     omega (arith, st.nets)
 can_evaluate ds vs bs (Literal value width) s st h = tt
 can_evaluate ds vs bs (Invert width arg) s st h =
@@ -149,14 +138,14 @@ can_evaluate ds vs bs (Join low_width high low) s st h =
     (omega (arith, a.some', h.1), omega (arith, joined, pow-add 2 low_width (width_of ds high), pow_within (low_width + width_of ds high) 128 (omega (arith, h.1))), can_evaluate ds vs bs high s st h.2, can_evaluate ds vs bs low s st h.3)
 can_evaluate ds vs bs (Select high low n) s st h =
     let d = found_in (slice_get ds n) (λ d. IsReadable d × IsTrue d.is_vector × (high < d.width)) h.0 in
-    let w = (all_at HasSize ds n d.item s d.is).0 in
-    let lt : n < length ds = in_range ds n d.item d.is in
+    let w = (all_at HasSize ds n d.item d.is s).0 in
+    let lt : n < length ds = get_below ds n d.item d.is in
     (omega (arith, st.nets), h.1, omega (arith, w.most, d.fact.2))
 can_evaluate ds vs bs (Read memory address) s st h =
     let d = found_in (slice_get ds memory) (λ d. IsMemory d.kind (width_of ds address)) h.0 in
-    let lt : memory < length ds = in_range ds memory d.item d.is in
+    let lt : memory < length ds = get_below ds memory d.item d.is in
     let size : length (slice_index_or bs memory []) ≡ 2 ^ width_of ds address = st.words memory d.item d.is ∙ memory_words d.item.kind (width_of ds address) d.fact in
-    let bits = (all_at HasSize ds memory d.item s d.is).1 (width_of ds address) d.fact in
+    let bits = (all_at HasSize ds memory d.item d.is s).1 (width_of ds address) d.fact in
     let at : value_of (nets_of vs) (memories_of bs) address < 2 ^ width_of ds address = value_fits ds (nets_of vs) (memories_of bs) address st.fits h.1 in
     let small : 2 ^ width_of ds address ≤ 2 ^ 64 = pow_within (width_of ds address) 64 (omega (arith, bits.1)) in
     (omega (arith, st.memories), omega arith, omega arith, can_evaluate ds vs bs address s st h.1)

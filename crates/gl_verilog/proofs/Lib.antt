@@ -1,5 +1,6 @@
 pub mod Operators
 pub mod Fits
+pub mod Distinct
 pub mod Stores
 pub mod Chains
 pub mod Edges

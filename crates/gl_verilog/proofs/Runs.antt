@@ -6,23 +6,15 @@ use Rattle.std.proofs.lemmas.Bool.Decides.{eqb_tells}
 use Rattle.std.proofs.lemmas.List.Sorted.{IsPermutation-sym}
 use Rattle.gl_verilog.specs.Module.{Declaration, Kind, Input, OutputWire, OutputRegister, Wire, Register, Memory, Assignment, Module, Nets, Memories, Statement, Nothing, Put, Write, Both, If, value_of, assigned, assigned_by, written_by}
 use Rattle.gl_verilog.specs.Run.{Fit, IsRun, IsRegister}
-use Rattle.gl_verilog.specs.Widths.{IsNet, IsDriven, KeepsWidth, width_of}
+use Rattle.gl_verilog.specs.Widths.{IsDriven, KeepsWidth, width_of}
 use Rattle.gl_verilog.specs.Order.{IsUndriven, evaluated}
 use Rattle.gl_verilog.specs.Runnable.{IsRunnable, SameState, SameInputs, RunsAgree, RunsAreCausal, SettlesSomeWay, RunsFrom, HasRuns, LeavesAlone, KeepsStart}
 use Rattle.gl_verilog.proofs.Fits.{found_in}
 use Rattle.gl_verilog.proofs.Stores.{same_item}
-use Rattle.gl_verilog.proofs.Edges.{Alike, unwrap_fits, assigned_by-alike, written_by-alike, assigned_by_fits, written_by_fits}
+use Rattle.gl_verilog.proofs.Edges.{Alike, unwrap_fits, assigned_by-alike, written_by-alike, assigned_by_fits, written_by_fits, none_either}
 use Rattle.gl_verilog.proofs.Settles.{settles_one_way, each_in_order, evaluated-undriven, evaluated-fits, evaluated-settled}
 
 -- ---- two runs agree
-
-is_net : (k : Kind) → IsRegister k → IsNet k
-is_net OutputRegister h = tt
-is_net Register h = tt
-is_net Input h = tt
-is_net OutputWire h = tt
-is_net Wire h = tt
-is_net (Memory bits) h = absurd h
 
 -- the state behind the edge of two cycles that are alike
 pub state_alike : (m : Module) (value value' : ℕ → Nets) (word word' : ℕ → Memories) (t : ℕ) → IsRunnable m → IsRun m value word → IsRun m value' word' → Alike m.declarations (value t) (value' t) (word t) (word' t) → SameState m.declarations (value t) (word t) (value' t) (word' t) → SameState m.declarations (value (t + 1)) (word (t + 1)) (value' (t + 1)) (word' (t + 1))
@@ -56,11 +48,7 @@ left_alone v m Nothing r h = refl
 left_alone v m (Put register value) r h = elim (eqb_tells register r) [ inl same ↦ absurd (h same.1) | inr other ↦ rw other.0 refl ]
 left_alone v m (Write memory address value) r h = refl
 left_alone v m (Both first second) r h = rw (left_alone v m second r h.1, left_alone v m first r h.0) refl
-left_alone v m (If test yes' no') r h = rw (left_alone v m yes' r h.0, left_alone v m no' r h.1) (neither (nat_eq (value_of v m test) 1))
-  where
-    neither : (b : Bool) → cond {A = Option ℕ} b None None ≡ None
-    neither true = refl
-    neither false = refl
+left_alone v m (If test yes' no') r h = rw (left_alone v m yes' r h.0, left_alone v m no' r h.1) (none_either (nat_eq (value_of v m test) 1))
 
 left_alone_by : (v : Nets) (m : Memories) (bs : List Statement) (r : ℕ) → AllByRecursion (LeavesAlone r) bs → assigned_by v m bs r ≡ None
 left_alone_by v m [] r h = refl

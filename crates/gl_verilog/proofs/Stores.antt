@@ -1,12 +1,11 @@
 -- What stays of a store when one value or one word is put.
-use Rattle.std.proofs.Common.{◌≡◌, ◌≢◌, ℕ, ◌^◌, ◌<◌, List, [], Some, sym, ◌∙◌, ap, subst, arith, length, length-set, inl, inr, ◌⊎◌}
+use Rattle.std.proofs.Common.{◌≡◌, ◌≢◌, ℕ, ◌^◌, ◌<◌, List, [], Some, sym, ◌∙◌, ap, subst, arith, length, length-set, inl, inr}
 use Rattle.std.specs.Prelude.{slice_get, slice_index_or, slice_index, slice_set}
 use Rattle.std.proofs.lemmas.List.{get_or-set_same, get_or-set_other}
 use Rattle.std.proofs.lemmas.Bool.{cases_eq}
+use Rattle.gl_bits.proofs.AllLists.{get_below}
 use Rattle.gl_verilog.specs.Module.{Declaration}
-use Rattle.gl_verilog.specs.Widths.{words_in}
 use Rattle.gl_verilog.specs.Evaluate.{IsStore, memories_of}
-use Rattle.gl_verilog.proofs.Fits.{in_range}
 
 pub same_item : {T : Type 0} (xs : List T) (n : ℕ) (x y : T) → slice_get xs n ≡ Some x → slice_get xs n ≡ Some y → x ≡ y
 same_item xs n x y p q = let both : Some x ≡ Some y = sym p ∙ q in cc
@@ -22,7 +21,7 @@ store_put ds vs bs n x d st e lt = record {
     at : (k : ℕ) (d' : Declaration) → slice_get ds k ≡ Some d' → slice_index (slice_set vs n x) k < 2 ^ d'.width
     at k d' e' = elim (cases_eq n k) [
       | inl same ↦
-          let within : n < length vs = let h : n < length ds = in_range ds n d e in omega (arith, st.nets) in
+          let within : n < length vs = let h : n < length ds = get_below ds n d e in omega (arith, st.nets) in
           let there : slice_get ds n ≡ Some d' = subst (λ i. slice_get ds i ≡ Some d') (sym same) e' in
           let is : d ≡ d' = same_item ds n d d' e there in
           subst (λ i. slice_index (slice_set vs n x) i < 2 ^ d'.width) same
@@ -58,34 +57,3 @@ with_word-bank bs k at x k' lt = elim (cases_eq k k') [
   | inl same ↦ subst (λ i. length (slice_index_or (with_word bs k at x) i []) ≡ length (slice_index_or bs i [])) same (ap (λ (b : List ℕ). length b) (get_or-set_same bs k (slice_set (slice_index_or bs k []) at x) [] lt) ∙ length-set (slice_index_or bs k []) at x)
   | inr other ↦ ap (λ (b : List ℕ). length b) (with_word-other_bank bs k at x k' other)
 ]
-
--- either it is the word that was put, or it is as before
-pub with_word-cases : (bs : List (List ℕ)) (k at x k' at' : ℕ) → k < length bs → at < length (slice_index_or bs k []) → ((k ≡ k') × (at ≡ at') × (memories_of (with_word bs k at x) k' at' ≡ x)) ⊎ (memories_of (with_word bs k at x) k' at' ≡ memories_of bs k' at')
-with_word-cases bs k at x k' at' lt within = elim (cases_eq k k') [
-  | inl same ↦ elim (cases_eq at at') [
-    | inl here ↦ inl (same, here, subst (λ i. memories_of (with_word bs k at x) i at' ≡ x) same (subst (λ i. memories_of (with_word bs k at x) k i ≡ x) here (with_word-same bs k at x lt within)))
-    | inr there ↦ inr (subst (λ i. memories_of (with_word bs k at x) i at' ≡ memories_of bs i at') same (with_word-other_place bs k at x at' lt there))
-  ]
-  | inr other ↦ inr (ap (λ (b : List ℕ). slice_index b at') (with_word-other_bank bs k at x k' other))
-]
-
-pub store_write : (ds : List Declaration) (vs : List ℕ) (bs : List (List ℕ)) (k at x : ℕ) (d : Declaration) → IsStore ds vs bs → slice_get ds k ≡ Some d → at < words_in d.kind → x < 2 ^ d.width → IsStore ds vs (with_word bs k at x)
-store_write ds vs bs k at x d st e lt fits =
-    let there : k < length ds = in_range ds k d e in
-    let in_banks : k < length bs = omega (arith, st.memories) in
-    let within : at < length (slice_index_or bs k []) = omega (arith, st.words k d e) in
-    record {
-      nets = st.nets;
-      memories = with_word-length bs k at x ∙ st.memories;
-      words = λ k' d' e'. with_word-bank bs k at x k' in_banks ∙ st.words k' d' e';
-      fits = λ k' d' e'. (
-        (st.fits k' d' e').0,
-        λ at'. elim (with_word-cases bs k at x k' at' in_banks within) [
-          | inl here ↦
-              let there' : slice_get ds k ≡ Some d' = subst (λ i. slice_get ds i ≡ Some d') (sym here.0) e' in
-              let is : d ≡ d' = same_item ds k d d' e there' in
-              subst (λ y. y < 2 ^ d'.width) (sym here.2) (subst (λ c. x < 2 ^ c.width) is fits)
-          | inr before ↦ subst (λ y. y < 2 ^ d'.width) (sym before) ((st.fits k' d' e').1 at')
-        ],
-      );
-    }

@@ -1,9 +1,9 @@
 -- An expression with a width keeps its widths, and has that one.
-use Rattle.std.proofs.Common.{◌≡◌, ℕ, ◌+◌, ◌-◌, ◌^◌, ◌<◌, ◌≤◌, Bool, true, false, not, ◌&&◌, List, Option, Some, refl, sym, ap, subst, ◌∙◌, arith}
-use Rattle.std.specs.Prelude.{slice_get, option_and_then, nat_eq, nat_le, nat_lt, IsSomeAnd, IsTrue}
+use Rattle.std.proofs.Common.{◌≡◌, ℕ, ◌+◌, ◌-◌, ◌^◌, ◌<◌, ◌≤◌, Bool, true, false, not, ◌&&◌, List, Some, refl, sym, ap, subst, ◌∙◌, arith}
+use Rattle.std.specs.Prelude.{slice_get, option_and_then, nat_eq, nat_le, nat_lt, IsTrue}
 use Rattle.std.proofs.lemmas.Bool.{eqb-true, leb-true, ltb-true}
 use Rattle.gl_bits.proofs.Bools.{and_left, and_right, not_true}
-use Rattle.gl_bits.proofs.Options.{then_some}
+use Rattle.gl_bits.proofs.Options.{then_some, some_and}
 use Rattle.gl_bits.specs.Words.{IsWidth}
 use Rattle.gl_verilog.specs.Module.{Kind, Input, OutputWire, OutputRegister, Wire, Register, Memory, Declaration, Expr, Net, Literal, Invert, Binary, Choose, Join, Select, Read, Put, Write, Assignment}
 use Rattle.gl_verilog.specs.Run.{IsRegister}
@@ -80,9 +80,6 @@ pub size_of : (d : Declaration) → has_size d ≡ true → HasSize d
 size_of d h = (is_width_of d.width (and_left (is_width d.width) (memory_fits d.kind) h), λ bits m. memory_bits d.kind bits (and_right (is_width d.width) (memory_fits d.kind) h) m)
 
 -- ---- expressions
-
-some_and : (P : Declaration → Type 0) (o : Option Declaration) (d : Declaration) → o ≡ Some d → P d → IsSomeAnd o P
-some_and P o d e p = rw e p
 
 width_there : (ds : List Declaration) (n : ℕ) (d : Declaration) → slice_get ds n ≡ Some d → d.width ≡ width_at ds n
 width_there ds n d e = rw e refl

@@ -1,6 +1,6 @@
 -- Marks on nets that assignments drive, and modules that can run.
 use Rattle.std.proofs.Common.{◌≡◌, ◌≢◌, ℕ, zero, suc, ◌+◌, ◌<◌, Bool, true, false, not, ◌||◌, List, [], ◌∷◌, Option, Some, None, refl, sym, ap, subst, ◌∙◌, arith, length, drop, get_or, drop-cons, inl, inr}
-use Rattle.std.specs.Prelude.{slice_get, slice_set, unwrap_or, map, replicate, IsSomeAnd, IsTrue}
+use Rattle.std.specs.Prelude.{slice_get, slice_set, unwrap_or, map, IsSomeAnd, IsTrue}
 use Rattle.std.specs.List.{AllByRecursion}
 use Rattle.std.proofs.lemmas.Bool.{cases_eq}
 use Rattle.gl_bits.proofs.Bools.{and_both, and_left, and_right}
@@ -61,18 +61,6 @@ pub from_place : {A B : Type 0} (f : A → B) (xs : List A) (i : ℕ) (x : A) �
 from_place {A} f xs i x lt e =
     let one : suc i ≡ i + 1 = omega arith in
     ap (map f) (drop-cons xs i x lt ∙ ap (λ (y : A). y ∷ drop (suc i) xs) (sym e) ∙ ap (λ (j : ℕ). x ∷ drop j xs) one)
-
--- no net is marked before the first assignment
-pub none_marked : (marks : List Bool) → ((n : ℕ) → slice_get marks n ≡ Some true → ⊥) → AreMarks [] marks
-none_marked marks h = record { targets = tt; undriven = λ n e. tt; driven = λ n e u. h n e }
-
-all_false : (n k : ℕ) → slice_get (replicate n false) k ≡ Some true → ⊥
-all_false zero k h = absurd cc
-all_false (suc n) zero h = absurd cc
-all_false (suc n) (suc k) h = all_false n k h
-
-pub marks_fresh : (marks : List Bool) (n : ℕ) → marks ≡ replicate n false → AreMarks [] marks
-marks_fresh marks n e = none_marked marks (λ k h. all_false n k (subst (λ (ms : List Bool). slice_get ms k ≡ Some true) e h))
 
 -- ---- what is marked
 

@@ -4,7 +4,7 @@ use Rattle.std.specs.Prelude.{slice_get, slice_set, unwrap_or, IfSome, is_some}
 use Rattle.std.specs.List.{AllByRecursion, list_any, cons_option}
 use Rattle.std.specs.List.Sorted.{IsPermutation}
 use Rattle.std.proofs.lemmas.List.Sorted.{IsPermutation-refl, IsPermutation-cons, IsPermutation-trans, IsPermutation-middle, IsPermutation-sym, IsPermutation-append}
-use Rattle.gl_bits.proofs.Bools.{neither_left, neither_right, by_cases, and_left, and_right}
+use Rattle.gl_bits.proofs.Bools.{neither_left, neither_right, by_cases, and_left, and_right, not_true}
 use Rattle.gl_verilog.specs.Module.{Assignment, Expr, Net, Literal, Invert, Binary, Choose, Join, Select, Read}
 use Rattle.gl_verilog.specs.Order.{EachRead, IsUndriven, IsOrdered, CanBeOrdered}
 use Rattle.gl_verilog.proofs.Settles.{each_in_order, reads_and, reads_both}
@@ -165,10 +165,6 @@ ready_first marks as' a o i ready rest p ordered =
         ordered,
       ),
     )
-  where
-    not_true : (b : Bool) → not b ≡ true → b ≡ false
-    not_true true h = absurd cc
-    not_true false h = refl
 
 -- ---- passes
 
@@ -222,9 +218,6 @@ placing_ready as' marks o k a once at ready p =
 
 pub placing_placed : (as' : List Assignment) (marks : List Bool) (o : List ℕ) (k : ℕ) (a : Assignment) → AreOnce as' → slice_get as' k ≡ Some a → is_ready marks a ≡ true → IsPlacing as' marks o → IsPlacing as' (placed marks a) (o ++ k ∷ [])
 placing_placed as' marks o k a once at ready p = rw ready (placing_ready as' marks o k a once at ready p)
-
-pub placing_kept : (as' : List Assignment) (marks : List Bool) (o : List ℕ) (a : Assignment) → is_ready marks a ≡ false → IsPlacing as' marks o → IsPlacing as' (placed marks a) o
-placing_kept as' marks o a not_ready p = rw not_ready p
 
 pub placed_size : (marks : List Bool) (a : Assignment) → length (placed marks a) ≡ length marks
 placed_size marks a = by_ready (λ ms. length ms ≡ length marks) marks a (is_ready marks a) refl (λ e. length-set marks a.target false) refl

@@ -14,8 +14,8 @@ use Rattle.gl_verilog.proofs.Chains as chains
 use Rattle.gl_verilog_written.specs.declared.written.WrittenStatement as code
 use Rattle.gl_verilog_written.specs.declared.written.WrittenStatement.{WrittenStatement, IfThen', IfElse', Block'}
 use Rattle.gl_verilog_written.specs.View.{statement_of}
-use Rattle.gl_verilog_faults.specs.Demands.{Rule, BadTarget, BadMemory, TwiceDriven, WidthsDiffer, is_among}
-use Rattle.gl_verilog_elaborator.specs.Judged.{Broken, then', asks, named, Typed, judged_expr, Drivers, with_name, passed_by, left_list, Stated, stated, judged_put, judged_write, judged_test, judged_in}
+use Rattle.gl_verilog_faults.specs.Demands.{is_among}
+use Rattle.gl_verilog_elaborator.specs.Judged.{Broken, then', Typed, judged_expr, Drivers, with_name, driven, passed_by, left_list, Stated, stated, put_target, judged_put, write_target, judged_write, judged_test, judged_in}
 use Rattle.gl_verilog_elaborator.proofs.Steps.{left_at}
 use Rattle.gl_verilog_elaborator.proofs.Parts.{parts_of}
 
@@ -102,13 +102,6 @@ then_ok : {A B : Type 0} (r : Result A Broken) (f : A → Result B Broken) (x : 
 then_ok (Ok y) f x h = (y, refl, h)
 then_ok (Err b) f x h = absurd cc
 
-four : (p q r s : Rule) (k : ℕ) (a b c d : Bool) (y x : Stated) → asks p k a (asks q k b (asks r k c (asks s k d (Ok y)))) ≡ Ok x → x ≡ y
-four p q r s k true true true true y x h = (let e : y ≡ x = cc in sym e)
-four p q r s k true true true false y x h = absurd cc
-four p q r s k true true false d y x h = absurd cc
-four p q r s k true false c d y x h = absurd cc
-four p q r s k false b c d y x h = absurd cc
-
 abbrev pub is_single : written.WrittenStatement → Bool
 is_single (written.Update target value) = true
 is_single (written.UpdateWord target address value) = true
@@ -118,18 +111,16 @@ is_single (written.Block statements) = true
 is_single (written.Listed first rest) = false
 is_single written.Ended = false
 
+ok_is : (s r : Stated) (w : List (List ℕ)) → (let x : Result Stated Broken = Ok s in x) ≡ Ok r → s.drivers.beside ≡ w → r.drivers.beside ≡ w
+ok_is s r w h e = (let g : s ≡ r = cc in ap (λ (x : Stated). x.drivers.beside) (sym g) ∙ e)
+
 put_beside : (ds : List Declaration) (v : Drivers) (k : ℕ) (target : List ℕ) (t : Typed) (r : Stated) → judged_put ds v k target t ≡ Ok r → r.drivers.beside ≡ v.beside
 put_beside ds v k target t r h =
-    let y = then_ok (named ds k target) _ r h in
-    ap (λ (s : Stated). s.drivers.beside) (four BadTarget BadMemory TwiceDriven WidthsDiffer k _ _ _ _ _ r y.2)
+    (let y = then_ok (put_target ds v k target t.width) (λ n. Ok (stated (spec.Put n t.expr) (t.end + 1) (driven v target))) r h in ok_is (stated (spec.Put y.0 t.expr) (t.end + 1) (driven v target)) r v.beside y.2 refl)
 
 write_beside : (ds : List Declaration) (v : Drivers) (k : ℕ) (target : List ℕ) (a t : Typed) (r : Stated) → judged_write ds v k target a t ≡ Ok r → r.drivers.beside ≡ v.beside
 write_beside ds v k target a t r h =
-    let y = then_ok (named ds k target) _ r h in
-    ap (λ (s : Stated). s.drivers.beside) (four BadTarget BadMemory TwiceDriven WidthsDiffer k _ _ _ _ _ r y.2)
-
-ok_is : (s r : Stated) (w : List (List ℕ)) → (let x : Result Stated Broken = Ok s in x) ≡ Ok r → s.drivers.beside ≡ w → r.drivers.beside ≡ w
-ok_is s r w h e = (let g : s ≡ r = cc in ap (λ (x : Stated). x.drivers.beside) (sym g) ∙ e)
+    (let y = then_ok (write_target ds v k target a.width t.width) (λ n. Ok (stated (spec.Write n a.expr t.expr) (t.end + 1) (driven v target))) r h in ok_is (stated (spec.Write y.0 a.expr t.expr) (t.end + 1) (driven v target)) r v.beside y.2 refl)
 
 pub beside_kept : (ds : List Declaration) (s : written.WrittenStatement) (v : Drivers) (k : ℕ) (r : Stated) → is_single s ≡ true → judged_in ds v k s ≡ Ok r → r.drivers.beside ≡ v.beside
 beside_kept ds (written.Update target value) v k r i h = (let y = then_ok (judged_expr ds (k + 2) value) _ r h in put_beside ds v k target y.0 r y.2)

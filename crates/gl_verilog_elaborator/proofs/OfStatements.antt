@@ -5,11 +5,11 @@ use Rattle.std.specs.Str.{bytes_eq}
 use Rattle.std.proofs.lemmas.List.{append-nil}
 use Rattle.gl_verilog.specs.Tokens.{Mark, Reserved, CloseParen, CloseBracket, LessEquals, Semicolon, ElseWord, EndWord}
 use Rattle.gl_verilog.specs.Written.{WrittenExpr, spell_expr, WrittenStatement, Update, UpdateWord, IfThen, IfElse, Block, Listed, Ended, Place, Single, InBlock, IsStatementAt, spell_statement}
-use Rattle.gl_verilog.specs.Module.{Declaration, Expr, Statement, Nothing, Put, Write, Both, If}
+use Rattle.gl_verilog.specs.Module.{Declaration, Expr, Statement, Nothing, Put, Write, Both, If, number_of}
 use Rattle.gl_verilog.specs.Resolve.{both, three, resolve_expr, resolve_statement, is_so, is_memory, is_memory_kind}
 use Rattle.gl_verilog_faults.specs.Demands.{Demand, ask, Undeclared, BadTarget, BadMemory, TwiceDriven, WidthsDiffer, is_declared, is_clocked, is_clocked_kind, address_of, address_kind, bits_named, bits_in, is_among, targets_in, of_expr, of_statement}
 use Rattle.gl_verilog_faults.proofs.Names.{so_by}
-use Rattle.gl_verilog_elaborator.specs.Judged.{Broken, then', asks, Known, named, Typed, judged_expr, Drivers, driven, passed_by, left_list, Stated, stated, judged_put, judged_write, judged_test, judged_in}
+use Rattle.gl_verilog_elaborator.specs.Judged.{Broken, then', asks, Known, named, Typed, judged_expr, Drivers, driven, passed_by, left_list, Stated, stated, put_target, judged_put, write_target, judged_write, judged_test, judged_in}
 use Rattle.gl_verilog_elaborator.proofs.Demanded.{Is, is_then, is_ask_as, is_as, is_mapped}
 use Rattle.gl_verilog_elaborator.proofs.OfExpressions.{IsKnown, named_is, kind_so, width_known, number_known, Means, judged_is}
 use Rattle.gl_verilog_elaborator.proofs.Sets.{not_or, among_append, among_push, among_with, among_all}
@@ -62,32 +62,34 @@ module _ (ds : List Declaration) (done before beside : List (List ℕ)) (v : Dri
   clocked_so : (d : Known) (h : IsKnown ds target d) → is_so is_clocked ds target ≡ is_clocked_kind d.kind
   clocked_so d h = so_by is_clocked ds target h.n h.d h.seen ∙ ap (λ (x : Known). is_clocked_kind x.kind) (sym h.same)
 
-  -- what a target's demands leave to be shown
-  put_is : (value : WrittenExpr) (t : Typed) → Means ds (k + 2) value t → Is (put_demands (bits_in ds value)) (Says ds Single done before beside k (Update target value)) (judged_put ds v k target t)
-  put_is value t m =
-      is_then (ask Undeclared k (is_declared ds target) ∷ []) (ask BadTarget k (is_so is_clocked ds target) ∷ ask BadMemory k (not (is_so is_memory ds target)) ∷ ask TwiceDriven k (not (is_among target done) && not (is_among target beside)) ∷ ask WidthsDiffer k (nat_eq (bits_named ds target) (bits_in ds value)) ∷ [])
-      (IsKnown ds target) Q (named ds k target) (λ d. asks BadTarget k (is_clocked_kind d.kind) (asks BadMemory k (not (is_memory_kind d.kind)) (alone d))) (named_is ds target k) (λ d h.
-      is_ask_as BadTarget k (is_clocked_kind d.kind) (is_so is_clocked ds target) (ask BadMemory k (not (is_so is_memory ds target)) ∷ ask TwiceDriven k (not (is_among target done) && not (is_among target beside)) ∷ ask WidthsDiffer k (nat_eq (bits_named ds target) (bits_in ds value)) ∷ []) Q (asks BadMemory k (not (is_memory_kind d.kind)) (alone d)) (clocked_so d h) (λ a.
-      is_ask_as BadMemory k (not (is_memory_kind d.kind)) (not (is_so is_memory ds target)) (ask TwiceDriven k (not (is_among target done) && not (is_among target beside)) ∷ ask WidthsDiffer k (nat_eq (bits_named ds target) (bits_in ds value)) ∷ []) Q (alone d) (ap not (kind_so ds target d h)) (λ b.
-      is_ask_as TwiceDriven k (not (is_among target v.done) && not (is_among target v.beside)) (not (is_among target done) && not (is_among target beside)) (ask WidthsDiffer k (nat_eq (bits_named ds target) (bits_in ds value)) ∷ []) Q (wide d) (rw (same.done' target, same.beside' target) refl) (λ c.
-      is_ask_as WidthsDiffer k (nat_eq d.width t.width) (nat_eq (bits_named ds target) (bits_in ds value)) [] Q (Ok (stated (Put d.number t.expr) (t.end + 1) (driven v target))) (rw (width_known ds target d h, m.width) refl) (λ e. (
-        tt,
-        record {
-          meant = ap (λ (o : Option ℕ). both Put o (resolve_expr ds value)) h.seen.number ∙ ap (λ (o : Option Expr). both Put (Some h.n) o) m.meant ∙ ap (λ (n : ℕ). Some (Put n t.expr)) (sym (number_known ds target d h));
-          end' = (let z : t.end ≡ k + 2 + length (spell_expr value) = m.end' in omega (arith, length-append (spell_expr value) (Mark Semicolon ∷ [])));
-          leaves = driven_leaves v done before beside target same;
-          keeps = same.beside';
-        },
-      ))))))
+  abbrev HasNumber : ℕ → Type 0
+  HasNumber n = number_of ds target ≡ Some n
+
+  abbrev wide : Known → ℕ → Result ℕ Broken
+  wide d x = asks WidthsDiffer k (nat_eq d.width x) (Ok d.number)
+
+  wide_is : (d : Known) (h : IsKnown ds target d) (w x : ℕ) → x ≡ w → Is (ask WidthsDiffer k (nat_eq (bits_named ds target) w) ∷ []) HasNumber (wide d x)
+  wide_is d h w x e = is_ask_as WidthsDiffer k (nat_eq d.width x) (nat_eq (bits_named ds target) w) [] HasNumber (Ok d.number) (rw (width_known ds target d h, e) refl) (λ f. (tt, h.seen.number ∙ ap Some (sym (number_known ds target d h))))
+
+  -- what a target's demands leave: its number
+  put_number : (w x : ℕ) → x ≡ w → Is (put_demands w) HasNumber (put_target ds v k target x)
+  put_number w x e =
+      is_then (ask Undeclared k (is_declared ds target) ∷ []) (ask BadTarget k (is_so is_clocked ds target) ∷ ask BadMemory k (not (is_so is_memory ds target)) ∷ ask TwiceDriven k (not (is_among target done) && not (is_among target beside)) ∷ ask WidthsDiffer k (nat_eq (bits_named ds target) w) ∷ [])
+      (IsKnown ds target) HasNumber (named ds k target) (λ d. asks BadTarget k (is_clocked_kind d.kind) (asks BadMemory k (not (is_memory_kind d.kind)) (alone d))) (named_is ds target k) (λ d h.
+      is_ask_as BadTarget k (is_clocked_kind d.kind) (is_so is_clocked ds target) (ask BadMemory k (not (is_so is_memory ds target)) ∷ ask TwiceDriven k (not (is_among target done) && not (is_among target beside)) ∷ ask WidthsDiffer k (nat_eq (bits_named ds target) w) ∷ []) HasNumber (asks BadMemory k (not (is_memory_kind d.kind)) (alone d)) (clocked_so d h) (λ a.
+      is_ask_as BadMemory k (not (is_memory_kind d.kind)) (not (is_so is_memory ds target)) (ask TwiceDriven k (not (is_among target done) && not (is_among target beside)) ∷ ask WidthsDiffer k (nat_eq (bits_named ds target) w) ∷ []) HasNumber (alone d) (ap not (kind_so ds target d h)) (λ b.
+      is_ask_as TwiceDriven k (not (is_among target v.done) && not (is_among target v.beside)) (not (is_among target done) && not (is_among target beside)) (ask WidthsDiffer k (nat_eq (bits_named ds target) w) ∷ []) HasNumber (wide d x) (rw (same.done' target, same.beside' target) refl) (λ c. wide_is d h w x e))))
     where
-      Q : Stated → Type 0
-      Q = Says ds Single done before beside k (Update target value)
+      alone : Known → Result ℕ Broken
+      alone d = asks TwiceDriven k (not (is_among target v.done) && not (is_among target v.beside)) (wide d x)
 
-      wide : Known → Result Stated Broken
-      wide d = asks WidthsDiffer k (nat_eq d.width t.width) (Ok (stated (Put d.number t.expr) (t.end + 1) (driven v target)))
-
-      alone : Known → Result Stated Broken
-      alone d = asks TwiceDriven k (not (is_among target v.done) && not (is_among target v.beside)) (wide d)
+  put_is : (value : WrittenExpr) (t : Typed) → Means ds (k + 2) value t → Is (put_demands (bits_in ds value)) (Says ds Single done before beside k (Update target value)) (judged_put ds v k target t)
+  put_is value t m = is_mapped (put_demands (bits_in ds value)) HasNumber (Says ds Single done before beside k (Update target value)) (put_target ds v k target t.width) (λ n. stated (Put n t.expr) (t.end + 1) (driven v target)) (put_number (bits_in ds value) t.width m.width) (λ n h. record {
+    meant = ap (λ (o : Option ℕ). both Put o (resolve_expr ds value)) h ∙ ap (λ (o : Option Expr). both Put (Some n) o) m.meant;
+    end' = (let z : t.end ≡ k + 2 + length (spell_expr value) = m.end' in omega (arith, length-append (spell_expr value) (Mark Semicolon ∷ [])));
+    leaves = driven_leaves v done before beside target same;
+    keeps = same.beside';
+  })
 
   abbrev write_demands : ℕ → ℕ → List Demand
   write_demands a w = ask Undeclared k (is_declared ds target) ∷ ask BadTarget k (is_so is_clocked ds target)
@@ -99,32 +101,24 @@ module _ (ds : List Declaration) (done before beside : List (List ℕ)) (v : Dri
       so_by (λ x. is_memory x && nat_eq (address_of x) a) ds target h.n h.d h.seen ∙ ap (λ (x : Known). is_memory_kind x.kind && nat_eq (address_kind x.kind) a) (sym h.same)
       ∙ ap (λ (n : ℕ). is_memory_kind d.kind && nat_eq (address_kind d.kind) n) (sym e)
 
-  write_is : (address value : WrittenExpr) (a t : Typed) → Means ds (k + 2) address a → Means ds (a.end + 2) value t → Is (write_demands (bits_in ds address) (bits_in ds value)) (Says ds Single done before beside k (UpdateWord target address value)) (judged_write ds v k target a t)
-  write_is address value a t p m =
-      is_then (ask Undeclared k (is_declared ds target) ∷ []) (ask BadTarget k (is_so is_clocked ds target) ∷ ask BadMemory k (is_so (λ d. is_memory d && nat_eq (address_of d) (bits_in ds address)) ds target) ∷ ask TwiceDriven k (not (is_among target done) && not (is_among target before)) ∷ ask WidthsDiffer k (nat_eq (bits_named ds target) (bits_in ds value)) ∷ [])
-      (IsKnown ds target) Q (named ds k target) (λ d. asks BadTarget k (is_clocked_kind d.kind) (asks BadMemory k (is_memory_kind d.kind && nat_eq (address_kind d.kind) a.width) (alone d))) (named_is ds target k) (λ d h.
-      is_ask_as BadTarget k (is_clocked_kind d.kind) (is_so is_clocked ds target) (ask BadMemory k (is_so (λ x. is_memory x && nat_eq (address_of x) (bits_in ds address)) ds target) ∷ ask TwiceDriven k (not (is_among target done) && not (is_among target before)) ∷ ask WidthsDiffer k (nat_eq (bits_named ds target) (bits_in ds value)) ∷ []) Q (asks BadMemory k (is_memory_kind d.kind && nat_eq (address_kind d.kind) a.width) (alone d)) (clocked_so d h) (λ x.
-      is_ask_as BadMemory k (is_memory_kind d.kind && nat_eq (address_kind d.kind) a.width) (is_so (λ y. is_memory y && nat_eq (address_of y) (bits_in ds address)) ds target) (ask TwiceDriven k (not (is_among target done) && not (is_among target before)) ∷ ask WidthsDiffer k (nat_eq (bits_named ds target) (bits_in ds value)) ∷ []) Q (alone d) (memory_so d h (bits_in ds address) a.width p.width) (λ b.
-      is_ask_as TwiceDriven k (not (is_among target v.all)) (not (is_among target done) && not (is_among target before)) (ask WidthsDiffer k (nat_eq (bits_named ds target) (bits_in ds value)) ∷ []) Q (wide d) (sym (not_or (is_among target done) (is_among target before)) ∙ ap not (sym (same.all' target))) (λ c.
-      is_ask_as WidthsDiffer k (nat_eq d.width t.width) (nat_eq (bits_named ds target) (bits_in ds value)) [] Q (Ok (stated (Write d.number a.expr t.expr) (t.end + 1) (driven v target))) (rw (width_known ds target d h, m.width) refl) (λ e. (
-        tt,
-        record {
-          meant = ap (λ (o : Option ℕ). three Write o (resolve_expr ds address) (resolve_expr ds value)) h.seen.number ∙ ap (λ (o : Option Expr). both (Write h.n) o (resolve_expr ds value)) p.meant
-              ∙ ap (λ (o : Option Expr). both (Write h.n) (Some a.expr) o) m.meant ∙ ap (λ (n : ℕ). Some (Write n a.expr t.expr)) (sym (number_known ds target d h));
-          end' = (let y : a.end ≡ k + 2 + length (spell_expr address) = p.end' in let z : t.end ≡ a.end + 2 + length (spell_expr value) = m.end' in omega (arith, length-append (spell_expr address) (Mark CloseBracket ∷ Mark LessEquals ∷ (spell_expr value ++ Mark Semicolon ∷ [])), length-append (spell_expr value) (Mark Semicolon ∷ [])));
-          leaves = driven_leaves v done before beside target same;
-          keeps = same.beside';
-        },
-      ))))))
+  write_number : (b w y x : ℕ) → y ≡ b → x ≡ w → Is (write_demands b w) HasNumber (write_target ds v k target y x)
+  write_number b w y x p e =
+      is_then (ask Undeclared k (is_declared ds target) ∷ []) (ask BadTarget k (is_so is_clocked ds target) ∷ ask BadMemory k (is_so (λ d. is_memory d && nat_eq (address_of d) b) ds target) ∷ ask TwiceDriven k (not (is_among target done) && not (is_among target before)) ∷ ask WidthsDiffer k (nat_eq (bits_named ds target) w) ∷ [])
+      (IsKnown ds target) HasNumber (named ds k target) (λ d. asks BadTarget k (is_clocked_kind d.kind) (asks BadMemory k (is_memory_kind d.kind && nat_eq (address_kind d.kind) y) (alone d))) (named_is ds target k) (λ d h.
+      is_ask_as BadTarget k (is_clocked_kind d.kind) (is_so is_clocked ds target) (ask BadMemory k (is_so (λ z. is_memory z && nat_eq (address_of z) b) ds target) ∷ ask TwiceDriven k (not (is_among target done) && not (is_among target before)) ∷ ask WidthsDiffer k (nat_eq (bits_named ds target) w) ∷ []) HasNumber (asks BadMemory k (is_memory_kind d.kind && nat_eq (address_kind d.kind) y) (alone d)) (clocked_so d h) (λ f.
+      is_ask_as BadMemory k (is_memory_kind d.kind && nat_eq (address_kind d.kind) y) (is_so (λ z. is_memory z && nat_eq (address_of z) b) ds target) (ask TwiceDriven k (not (is_among target done) && not (is_among target before)) ∷ ask WidthsDiffer k (nat_eq (bits_named ds target) w) ∷ []) HasNumber (alone d) (memory_so d h b y p) (λ g.
+      is_ask_as TwiceDriven k (not (is_among target v.all)) (not (is_among target done) && not (is_among target before)) (ask WidthsDiffer k (nat_eq (bits_named ds target) w) ∷ []) HasNumber (wide d x) (sym (not_or (is_among target done) (is_among target before)) ∙ ap not (sym (same.all' target))) (λ c. wide_is d h w x e))))
     where
-      Q : Stated → Type 0
-      Q = Says ds Single done before beside k (UpdateWord target address value)
+      alone : Known → Result ℕ Broken
+      alone d = asks TwiceDriven k (not (is_among target v.all)) (wide d x)
 
-      wide : Known → Result Stated Broken
-      wide d = asks WidthsDiffer k (nat_eq d.width t.width) (Ok (stated (Write d.number a.expr t.expr) (t.end + 1) (driven v target)))
-
-      alone : Known → Result Stated Broken
-      alone d = asks TwiceDriven k (not (is_among target v.all)) (wide d)
+  write_is : (address value : WrittenExpr) (a t : Typed) → Means ds (k + 2) address a → Means ds (a.end + 2) value t → Is (write_demands (bits_in ds address) (bits_in ds value)) (Says ds Single done before beside k (UpdateWord target address value)) (judged_write ds v k target a t)
+  write_is address value a t p m = is_mapped (write_demands (bits_in ds address) (bits_in ds value)) HasNumber (Says ds Single done before beside k (UpdateWord target address value)) (write_target ds v k target a.width t.width) (λ n. stated (Write n a.expr t.expr) (t.end + 1) (driven v target)) (write_number (bits_in ds address) (bits_in ds value) a.width t.width p.width m.width) (λ n h. record {
+    meant = ap (λ (o : Option ℕ). three Write o (resolve_expr ds address) (resolve_expr ds value)) h ∙ ap (λ (o : Option Expr). both (Write n) o (resolve_expr ds value)) p.meant ∙ ap (λ (o : Option Expr). both (Write n) (Some a.expr) o) m.meant;
+    end' = (let y : a.end ≡ k + 2 + length (spell_expr address) = p.end' in let z : t.end ≡ a.end + 2 + length (spell_expr value) = m.end' in omega (arith, length-append (spell_expr address) (Mark CloseBracket ∷ Mark LessEquals ∷ (spell_expr value ++ Mark Semicolon ∷ [])), length-append (spell_expr value) (Mark Semicolon ∷ [])));
+    leaves = driven_leaves v done before beside target same;
+    keeps = same.beside';
+  })
 
 -- ---- all statements
 

@@ -9,19 +9,19 @@ use Rattle.gl_verilog_written.specs.View.{parts_list}
 use Rattle.gl_verilog_elaborator.specs.Judged.{Broken, then', asks, closed, Typed, typed, joined, joined_on, widths_of, judged_expr, judged_parts, judged_braces}
 use Rattle.gl_verilog_elaborator.proofs.Steps.{left_at}
 
--- how many parts an expression has; braces count for three more than their list
+-- how many parts an expression has; one with others in it counts for two more, and braces for three more than their list
 abbrev pub parts_in : written.WrittenExpr → ℕ
 parts_in (written.Named name) = 1
 parts_in (written.Constant size radix digits) = 1
 parts_in (written.BitOf name place) = 1
 parts_in (written.PartOf name high low) = 1
-parts_in (written.WordOf name address) = parts_in address + 1
+parts_in (written.WordOf name address) = parts_in address + 2
 parts_in (written.Braces parts) = parts_in parts + 3
 parts_in (written.Parts first rest) = parts_in first + parts_in rest + 2
-parts_in (written.Parens inner) = parts_in inner + 1
-parts_in (written.Prefix op arg) = parts_in arg + 1
-parts_in (written.Infix op left right) = parts_in left + parts_in right + 1
-parts_in (written.Conditional test yes' no') = parts_in test + parts_in yes' + parts_in no' + 1
+parts_in (written.Parens inner) = parts_in inner + 2
+parts_in (written.Prefix op arg) = parts_in arg + 2
+parts_in (written.Infix op left right) = parts_in left + parts_in right + 2
+parts_in (written.Conditional test yes' no') = parts_in test + parts_in yes' + parts_in no' + 2
 
 abbrev pub parts_sum : List written.WrittenExpr → ℕ
 parts_sum [] = 0
@@ -36,12 +36,12 @@ sum_of_list (p ∷ q ∷ ps) = omega (arith, sum_of_list (q ∷ ps))
 pub part_below : {B : Type 0} (g : B → written.WrittenExpr) (xs : List B) (i : ℕ) (d : B) → i < length xs → parts_sum (map g (drop i xs)) ≡ parts_in (g (get_or xs i d)) + 1 + parts_sum (map g (drop (i + 1) xs))
 part_below g xs i d lt = ap (λ (ys : List _). parts_sum (map g ys)) (left_at xs i d lt)
 
--- how many parts a statement has
+-- how many parts a statement has; one with others in it counts for two more
 abbrev pub parts_of : written.WrittenStatement → ℕ
 parts_of (written.Update target value) = 1
 parts_of (written.UpdateWord target address value) = 1
-parts_of (written.IfThen test yes') = parts_of yes' + 1
-parts_of (written.IfElse test yes' no') = parts_of yes' + parts_of no' + 1
+parts_of (written.IfThen test yes') = parts_of yes' + 2
+parts_of (written.IfElse test yes' no') = parts_of yes' + parts_of no' + 2
 parts_of (written.Block statements) = parts_of statements + 2
 parts_of (written.Listed first rest) = parts_of first + parts_of rest + 1
 parts_of written.Ended = 1

@@ -194,17 +194,23 @@ pub record Stated : Type 0 where
 abbrev pub stated : Statement → ℕ → Drivers → Stated
 stated statement end drivers = record { statement = statement; end = end; drivers = drivers }
 
-abbrev pub judged_put : List Declaration → Drivers → ℕ → List ℕ → Typed → Result Stated Broken
-judged_put ds v k target t =
+-- the number of a register that a block drives, at a token, for a value of this width
+abbrev pub put_target : List Declaration → Drivers → ℕ → List ℕ → ℕ → Result ℕ Broken
+put_target ds v k target width =
     then' (named ds k target) (λ d. asks BadTarget k (is_clocked_kind d.kind) (asks BadMemory k (not (is_memory_kind d.kind))
-    (asks TwiceDriven k (not (is_among target v.done) && not (is_among target v.beside)) (asks WidthsDiffer k (nat_eq d.width t.width)
-    (Ok (stated (Put d.number t.expr) (t.end + 1) (driven v target)))))))
+    (asks TwiceDriven k (not (is_among target v.done) && not (is_among target v.beside)) (asks WidthsDiffer k (nat_eq d.width width) (Ok d.number)))))
+
+-- the same of a memory, for an address of this width
+abbrev pub write_target : List Declaration → Drivers → ℕ → List ℕ → ℕ → ℕ → Result ℕ Broken
+write_target ds v k target address width =
+    then' (named ds k target) (λ d. asks BadTarget k (is_clocked_kind d.kind) (asks BadMemory k (is_memory_kind d.kind && nat_eq (address_kind d.kind) address)
+    (asks TwiceDriven k (not (is_among target v.all)) (asks WidthsDiffer k (nat_eq d.width width) (Ok d.number)))))
+
+abbrev pub judged_put : List Declaration → Drivers → ℕ → List ℕ → Typed → Result Stated Broken
+judged_put ds v k target t = then' (put_target ds v k target t.width) (λ n. Ok (stated (Put n t.expr) (t.end + 1) (driven v target)))
 
 abbrev pub judged_write : List Declaration → Drivers → ℕ → List ℕ → Typed → Typed → Result Stated Broken
-judged_write ds v k target a t =
-    then' (named ds k target) (λ d. asks BadTarget k (is_clocked_kind d.kind) (asks BadMemory k (is_memory_kind d.kind && nat_eq (address_kind d.kind) a.width)
-    (asks TwiceDriven k (not (is_among target v.all)) (asks WidthsDiffer k (nat_eq d.width t.width)
-    (Ok (stated (Write d.number a.expr t.expr) (t.end + 1) (driven v target)))))))
+judged_write ds v k target a t = then' (write_target ds v k target a.width t.width) (λ n. Ok (stated (Write n a.expr t.expr) (t.end + 1) (driven v target)))
 
 -- the condition of an `if`, which has the number k
 abbrev pub judged_test : List Declaration → ℕ → WrittenExpr → Result Typed Broken

@@ -1,17 +1,17 @@
 //! Statements as they are written, from the left.
 
 ghost use Rattle.std.specs.Prelude.{map};
-ghost use Rattle.gl_verilog.specs.Written.{listed, Block};
+ghost use Rattle.gl_verilog.specs.Written.{listed, IfThen, IfElse, Block};
 ghost use Rattle.gl_verilog_elaborator.specs.Judged as judged;
 ghost use Rattle.gl_verilog_elaborator.specs.View.{Gives, declarations_of, drivers_of, stated_of};
-ghost use Rattle.gl_verilog_written.specs.View.{statement_of};
+ghost use Rattle.gl_verilog_written.specs.View.{expr_of, statement_of};
 
 use crate::drivers::{Drivers, leave_list, pass_by};
 use crate::scope::{Scope, further};
 use crate::statements::{Stated, choice, test_typed, update, update_word};
 use crate::stop::Stop;
 use gl_verilog::Statement;
-use gl_verilog_written::WrittenStatement;
+use gl_verilog_written::{WrittenExpr, WrittenStatement};
 use std::alloc::Global;
 
 // A `begin`, which is the token k, with its list of statements.
@@ -44,6 +44,56 @@ fn block_made<'a>(
     })
 }
 
+// An `if` without an `else`, which is the token k.
+#[cycle(statement)]
+fn if_made<'a>(
+    alloc: Global,
+    scope: &Scope,
+    drivers: &mut Drivers<'a>,
+    k: usize,
+    test: &WrittenExpr<'a>,
+    yes: &WrittenStatement<'a>,
+) -> Result<Stated, Stop>
+    ensures { Gives (stated_of drivers.new) (judged.judged_in (declarations_of scope.now)
+        (drivers_of drivers.old) k (IfThen (expr_of test.now) (statement_of yes.now))) result }
+{
+    let test = test_typed(alloc, scope, k, test)?;
+    let first = further(test.end, 1)?;
+    let yes = statement_made(alloc, scope, drivers, first, yes)?;
+    let statement = choice(alloc, test.expr, yes.statement, Statement::Nothing)?;
+    Ok(Stated {
+        statement,
+        end: yes.end,
+    })
+}
+
+// An `if` with an `else`; the `if` is the token k.
+#[cycle(statement)]
+fn if_else_made<'a>(
+    alloc: Global,
+    scope: &Scope,
+    drivers: &mut Drivers<'a>,
+    k: usize,
+    test: &WrittenExpr<'a>,
+    yes: &WrittenStatement<'a>,
+    no: &WrittenStatement<'a>,
+) -> Result<Stated, Stop>
+    ensures { Gives (stated_of drivers.new) (judged.judged_in (declarations_of scope.now)
+        (drivers_of drivers.old) k (IfElse (expr_of test.now) (statement_of yes.now)
+        (statement_of no.now))) result }
+{
+    let test = test_typed(alloc, scope, k, test)?;
+    let first = further(test.end, 1)?;
+    let yes = statement_made(alloc, scope, drivers, first, yes)?;
+    let second = further(yes.end, 1)?;
+    let no = statement_made(alloc, scope, drivers, second, no)?;
+    let statement = choice(alloc, test.expr, yes.statement, no.statement)?;
+    Ok(Stated {
+        statement,
+        end: no.end,
+    })
+}
+
 /// What a statement means whose first token is k.
 #[cycle(statement)]
 #[tactic(auto, using(gl_verilog_written::proofs::Views::statements, gl_verilog_written::proofs::Views::block_is))]
@@ -67,26 +117,10 @@ pub(crate) fn statement_made<'a>(
             value,
         } => update_word(alloc, scope, drivers, k, *target, address, value),
         WrittenStatement::IfThen { test, yes, .. } => {
-            let test = test_typed(alloc, scope, k, test)?;
-            let first = further(test.end, 1)?;
-            let yes = statement_made(alloc, scope, drivers, first, yes)?;
-            let statement = choice(alloc, test.expr, yes.statement, Statement::Nothing)?;
-            Ok(Stated {
-                statement,
-                end: yes.end,
-            })
+            if_made(alloc, scope, drivers, k, test, yes)
         }
         WrittenStatement::IfElse { test, yes, no, .. } => {
-            let test = test_typed(alloc, scope, k, test)?;
-            let first = further(test.end, 1)?;
-            let yes = statement_made(alloc, scope, drivers, first, yes)?;
-            let second = further(yes.end, 1)?;
-            let no = statement_made(alloc, scope, drivers, second, no)?;
-            let statement = choice(alloc, test.expr, yes.statement, no.statement)?;
-            Ok(Stated {
-                statement,
-                end: no.end,
-            })
+            if_else_made(alloc, scope, drivers, k, test, yes, no)
         }
         WrittenStatement::Block(statements) => {
             block_made(alloc, scope, drivers, k, statements.as_slice())

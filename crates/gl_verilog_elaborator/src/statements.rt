@@ -35,16 +35,16 @@ fn is_clocked(kind: Kind) -> bool
     )
 }
 
-// A register, whose name is the token k, takes a value.
-fn put<'a>(
+// The number of a register that takes a value of this width; its name is the token k.
+fn register_of(
     scope: &Scope,
-    drivers: &mut Drivers<'a>,
+    drivers: &Drivers,
     k: usize,
-    target: Word<'a>,
-    value: Typed,
-) -> Result<Stated, Stop>
-    ensures { Gives (stated_of drivers.new) (judged.judged_put (declarations_of scope.now)
-        (drivers_of drivers.old) k (name_of target.entry) (typed_of value)) result }
+    target: Word,
+    width: u8,
+) -> Result<usize, Stop>
+    ensures { Gives (λ n. n) (judged.put_target (declarations_of scope.now)
+        (drivers_of drivers.now) k (name_of target.entry) width) result }
 {
     let known = named(scope, k, target)?;
     if !is_clocked(known.kind) {
@@ -65,21 +65,77 @@ fn put<'a>(
             token: k,
         });
     }
-    if known.width != value.width {
+    if known.width != width {
         return Err(Stop::Broken {
             rule: Rule::WidthsDiffer,
             token: k,
         });
     }
+    Ok(known.number)
+}
+
+// A register, whose name is the token k, takes a value.
+fn put<'a>(
+    scope: &Scope,
+    drivers: &mut Drivers<'a>,
+    k: usize,
+    target: Word<'a>,
+    value: Typed,
+) -> Result<Stated, Stop>
+    ensures { Gives (stated_of drivers.new) (judged.judged_put (declarations_of scope.now)
+        (drivers_of drivers.old) k (name_of target.entry) (typed_of value)) result }
+{
+    let register = register_of(scope, drivers, k, target, value.width)?;
     drive(drivers, target)?;
     let end = further(value.end, 1)?;
     Ok(Stated {
         statement: Statement::Put {
-            register: known.number,
+            register,
             value: value.expr,
         },
         end,
     })
+}
+
+// The number of a memory that takes a value of this width at an address of that width; its name is
+// the token k.
+fn memory_of(
+    scope: &Scope,
+    drivers: &Drivers,
+    k: usize,
+    target: Word,
+    address: u8,
+    width: u8,
+) -> Result<usize, Stop>
+    ensures { Gives (λ n. n) (judged.write_target (declarations_of scope.now)
+        (drivers_of drivers.now) k (name_of target.entry) address width) result }
+{
+    let known = named(scope, k, target)?;
+    if !is_clocked(known.kind) {
+        return Err(Stop::Broken {
+            rule: Rule::BadTarget,
+            token: k,
+        });
+    }
+    if !is_memory(known.kind) || address_bits(known.kind) != address {
+        return Err(Stop::Broken {
+            rule: Rule::BadMemory,
+            token: k,
+        });
+    }
+    if has(&drivers.all, target.bytes) {
+        return Err(Stop::Broken {
+            rule: Rule::TwiceDriven,
+            token: k,
+        });
+    }
+    if known.width != width {
+        return Err(Stop::Broken {
+            rule: Rule::WidthsDiffer,
+            token: k,
+        });
+    }
+    Ok(known.number)
 }
 
 // A word of a memory, whose name is the token k, takes a value.
@@ -95,36 +151,12 @@ fn write<'a>(
         (drivers_of drivers.old) k (name_of target.entry) (typed_of address) (typed_of value))
         result }
 {
-    let known = named(scope, k, target)?;
-    if !is_clocked(known.kind) {
-        return Err(Stop::Broken {
-            rule: Rule::BadTarget,
-            token: k,
-        });
-    }
-    if !is_memory(known.kind) || address_bits(known.kind) != address.width {
-        return Err(Stop::Broken {
-            rule: Rule::BadMemory,
-            token: k,
-        });
-    }
-    if has(&drivers.all, target.bytes) {
-        return Err(Stop::Broken {
-            rule: Rule::TwiceDriven,
-            token: k,
-        });
-    }
-    if known.width != value.width {
-        return Err(Stop::Broken {
-            rule: Rule::WidthsDiffer,
-            token: k,
-        });
-    }
+    let memory = memory_of(scope, drivers, k, target, address.width, value.width)?;
     drive(drivers, target)?;
     let end = further(value.end, 1)?;
     Ok(Stated {
         statement: Statement::Write {
-            memory: known.number,
+            memory,
             address: address.expr,
             value: value.expr,
         },

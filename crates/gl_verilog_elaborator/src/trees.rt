@@ -1,10 +1,10 @@
 //! Expressions as they are written, from the left.
 
 ghost use Rattle.std.specs.Prelude.{◌≡◌, ◌≤◌, ◌+◌, [], map, nat_le, Ok};
-ghost use Rattle.gl_verilog.specs.Written.{Braces};
+ghost use Rattle.gl_verilog.specs.Written.{BitOf, PartOf, WordOf, Braces, Parens, Prefix, Infix, Conditional};
 ghost use Rattle.gl_verilog_elaborator.specs.Judged as judged;
 ghost use Rattle.gl_verilog_elaborator.specs.View.{Gives, declarations_of, typed_of};
-ghost use Rattle.gl_verilog_written.specs.View.{expr_of, parts_list};
+ghost use Rattle.gl_verilog_written.specs.View.{name_of, prefix_of, infix_of, expr_of, parts_list};
 
 use crate::expressions::{
     Typed, choice, closed, infix, literal, memory, net, prefix, select, word,
@@ -12,7 +12,7 @@ use crate::expressions::{
 use crate::scope::{Scope, further};
 use crate::stop::{Rule, Stop};
 use gl_verilog::Expr;
-use gl_verilog_written::{Word, WrittenExpr};
+use gl_verilog_written::{InfixOp, PrefixOp, Word, WrittenExpr};
 use std::alloc::Global;
 
 // Whether parts have at most 128 bits together with a last one.
@@ -137,6 +137,110 @@ fn braces_typed(
     }
 }
 
+// A bit of a name, which is the token k.
+fn bit_typed(scope: &Scope, k: usize, name: Word, place: Word) -> Result<Typed, Stop>
+    ensures { Gives typed_of (judged.judged_expr (declarations_of scope.now) k
+        (BitOf (name_of name.entry) (name_of place.entry))) result }
+{
+    let end = further(k, 4)?;
+    select(scope, k, name, place, place, end)
+}
+
+// Some bits of a name, which is the token k.
+fn part_typed(scope: &Scope, k: usize, name: Word, high: Word, low: Word) -> Result<Typed, Stop>
+    ensures { Gives typed_of (judged.judged_expr (declarations_of scope.now) k
+        (PartOf (name_of name.entry) (name_of high.entry) (name_of low.entry))) result }
+{
+    let end = further(k, 6)?;
+    select(scope, k, name, high, low, end)
+}
+
+// A word of a memory, whose name is the token k.
+#[cycle(tree)]
+fn word_typed(
+    alloc: Global,
+    scope: &Scope,
+    k: usize,
+    name: Word,
+    address: &WrittenExpr,
+) -> Result<Typed, Stop>
+    ensures { Gives typed_of (judged.judged_expr (declarations_of scope.now) k
+        (WordOf (name_of name.entry) (expr_of address.now))) result }
+{
+    let known = memory(scope, k, name)?;
+    let first = further(k, 2)?;
+    let address = expr_typed(alloc, scope, first, address)?;
+    word(alloc, k, known, address)
+}
+
+// An expression in parentheses, of which the first is the token k.
+#[cycle(tree)]
+fn parens_typed(alloc: Global, scope: &Scope, k: usize, inner: &WrittenExpr) -> Result<Typed, Stop>
+    ensures { Gives typed_of (judged.judged_expr (declarations_of scope.now) k
+        (Parens (expr_of inner.now))) result }
+{
+    let first = further(k, 1)?;
+    let inner = expr_typed(alloc, scope, first, inner)?;
+    closed(inner)
+}
+
+// A prefix operator, which is the token k, and its operand.
+#[cycle(tree)]
+fn prefix_typed(
+    alloc: Global,
+    scope: &Scope,
+    k: usize,
+    op: PrefixOp,
+    arg: &WrittenExpr,
+) -> Result<Typed, Stop>
+    ensures { Gives typed_of (judged.judged_expr (declarations_of scope.now) k
+        (Prefix (prefix_of op) (expr_of arg.now))) result }
+{
+    let first = further(k, 1)?;
+    let arg = expr_typed(alloc, scope, first, arg)?;
+    prefix(alloc, k, op, arg)
+}
+
+// An operator between two operands, of which the left one begins at the token k.
+#[cycle(tree)]
+fn infix_typed(
+    alloc: Global,
+    scope: &Scope,
+    k: usize,
+    op: InfixOp,
+    left: &WrittenExpr,
+    right: &WrittenExpr,
+) -> Result<Typed, Stop>
+    ensures { Gives typed_of (judged.judged_expr (declarations_of scope.now) k
+        (Infix (infix_of op) (expr_of left.now) (expr_of right.now))) result }
+{
+    let left = expr_typed(alloc, scope, k, left)?;
+    let first = further(left.end, 1)?;
+    let right = expr_typed(alloc, scope, first, right)?;
+    infix(alloc, op, left, right)
+}
+
+// One of two by a test, which begins at the token k.
+#[cycle(tree)]
+fn choice_typed(
+    alloc: Global,
+    scope: &Scope,
+    k: usize,
+    test: &WrittenExpr,
+    yes: &WrittenExpr,
+    no: &WrittenExpr,
+) -> Result<Typed, Stop>
+    ensures { Gives typed_of (judged.judged_expr (declarations_of scope.now) k
+        (Conditional (expr_of test.now) (expr_of yes.now) (expr_of no.now))) result }
+{
+    let test = expr_typed(alloc, scope, k, test)?;
+    let first = further(test.end, 1)?;
+    let yes = expr_typed(alloc, scope, first, yes)?;
+    let second = further(yes.end, 1)?;
+    let no = expr_typed(alloc, scope, second, no)?;
+    choice(alloc, test, yes, no)
+}
+
 /// What an expression means whose first token is k.
 #[cycle(tree)]
 #[tactic(auto, using(gl_verilog_written::proofs::Views::expressions))]
@@ -156,49 +260,20 @@ pub(crate) fn expr_typed(
             radix,
             digits,
         } => literal(alloc, k, *size, *radix, *digits),
-        WrittenExpr::BitOf { name, place } => {
-            let end = further(k, 4)?;
-            select(scope, k, *name, *place, *place, end)
-        }
-        WrittenExpr::PartOf { name, high, low } => {
-            let end = further(k, 6)?;
-            select(scope, k, *name, *high, *low, end)
-        }
-        WrittenExpr::WordOf { name, address } => {
-            let known = memory(scope, k, *name)?;
-            let first = further(k, 2)?;
-            let address = expr_typed(alloc, scope, first, address)?;
-            word(alloc, k, known, address)
-        }
+        WrittenExpr::BitOf { name, place } => bit_typed(scope, k, *name, *place),
+        WrittenExpr::PartOf { name, high, low } => part_typed(scope, k, *name, *high, *low),
+        WrittenExpr::WordOf { name, address } => word_typed(alloc, scope, k, *name, address),
         WrittenExpr::Braces { parts, .. } => braces_typed(alloc, scope, k, parts.as_slice()),
-        WrittenExpr::Parens(inner) => {
-            let first = further(k, 1)?;
-            let inner = expr_typed(alloc, scope, first, inner)?;
-            closed(inner)
-        }
-        WrittenExpr::Prefix { op, arg, .. } => {
-            let first = further(k, 1)?;
-            let arg = expr_typed(alloc, scope, first, arg)?;
-            prefix(alloc, k, *op, arg)
-        }
+        WrittenExpr::Parens(inner) => parens_typed(alloc, scope, k, inner),
+        WrittenExpr::Prefix { op, arg, .. } => prefix_typed(alloc, scope, k, *op, arg),
         WrittenExpr::Infix {
             op,
             left,
             right,
             ..
-        } => {
-            let left = expr_typed(alloc, scope, k, left)?;
-            let first = further(left.end, 1)?;
-            let right = expr_typed(alloc, scope, first, right)?;
-            infix(alloc, *op, left, right)
-        }
+        } => infix_typed(alloc, scope, k, *op, left, right),
         WrittenExpr::Conditional { test, yes, no, .. } => {
-            let test = expr_typed(alloc, scope, k, test)?;
-            let first = further(test.end, 1)?;
-            let yes = expr_typed(alloc, scope, first, yes)?;
-            let second = further(yes.end, 1)?;
-            let no = expr_typed(alloc, scope, second, no)?;
-            choice(alloc, test, yes, no)
+            choice_typed(alloc, scope, k, test, yes, no)
         }
     }
 }

@@ -10,13 +10,13 @@ use Rattle.gl_verilog.specs.Run.{IsRegister}
 use Rattle.gl_verilog.specs.Widths.{IsDriven, IsMemory, width_of, KeepsWidth, KeepsWidthsIn}
 use Rattle.gl_verilog.specs.Valid.{AreDistinct, drivers_of, assigns, AssignsOnce, blocks_of, writes_in, writes_of}
 use Rattle.gl_verilog.specs.Resolve.{Resolved, with_assignment, with_block, clocked, decimal_number, declare, address_bits_of, resolve_expr, resolve_statement, resolve_items, is_memory_kind}
+use Rattle.gl_verilog.proofs.Distinct.{number_at}
 use Rattle.gl_verilog_faults.specs.Demands.{memory_declared}
 use Rattle.gl_verilog_faults.proofs.Names.{seen_number, Extends}
 use Rattle.gl_verilog_faults.proofs.Expressions.{at_some}
 use Rattle.gl_verilog_faults.proofs.Operators.{both_some, three_some, kind_memory}
-use Rattle.gl_verilog_faults.proofs.Declarations.{number_at}
 use Rattle.gl_verilog_faults.proofs.Items.{added, extends_by, memory-is}
-use Rattle.gl_bits.proofs.Bools.{bytes_same}
+use Rattle.gl_bits.proofs.Bools.{bytes_same, same_when}
 use Rattle.gl_bits.proofs.Options.{some_same, then_some}
 
 -- whether a register of this name is assigned in a statement
@@ -94,11 +94,13 @@ pub record SameItems (n : ℕ) (q : List ℕ) (items : List WrittenItem) (r : Re
   pub to : AllByRecursion (AssignsOnce n) r.blocks → OnceIn q items
   pub from : OnceIn q items → AllByRecursion (AssignsOnce n) r.blocks
 
-same_when : (a b : Bool) → (a ≡ true → b ≡ true) → (b ≡ true → a ≡ true) → a ≡ b
-same_when true true f g = refl
-same_when true false f g = sym (f refl)
-same_when false true f g = g refl
-same_when false false f g = refl
+pub count_true : (b : Bool) → 1 ≤ (if b then 1 else 0) → b ≡ true
+count_true true h = refl
+count_true false h = absurd (omega arith)
+
+pub one_of : (a b : ℕ) → 1 ≤ a + b → (1 ≤ a) ⊎ (1 ≤ b)
+one_of zero b h = inr (let t : 1 ≤ 0 + b = h in omega arith)
+one_of (suc a) b h = inl (omega arith)
 
 -- a declaration, its number and its name
 module _ (all : List Declaration) (distinct : AreDistinct all) (n : ℕ) (d : Declaration) (at : slice_get all n ≡ Some d) where
@@ -181,19 +183,11 @@ module _ (all : List Declaration) (distinct : AreDistinct all) (n : ℕ) (d : De
   assigned_kind (Both first second) k h = elim (or_cases (assigns first n) (assigns second n) h) [ inl p ↦ assigned_kind first k.0 p | inr p ↦ assigned_kind second k.1 p ]
   assigned_kind (If test yes' no') k h = elim (or_cases (assigns yes' n) (assigns no' n) h) [ inl p ↦ assigned_kind yes' k.2 p | inr p ↦ assigned_kind no' k.3 p ]
 
-  counts_one : (b : Bool) → 1 ≤ (if b then 1 else 0) → b ≡ true
-  counts_one true h = refl
-  counts_one false h = absurd (omega arith)
-
-  one_of : (a b : ℕ) → 1 ≤ a + b → (1 ≤ a) ⊎ (1 ≤ b)
-  one_of zero b h = inr (let t : 1 ≤ 0 + b = h in omega arith)
-  one_of (suc a) b h = inl (omega arith)
-
   pub written_kind : (x : Statement) → KeepsWidthsIn all x → 1 ≤ writes_in x n → is_memory_kind d.kind ≡ true
   written_kind Nothing k h = absurd (omega arith)
   written_kind (Put register value) k h = absurd (omega arith)
   written_kind (Write memory address value) k h =
-      let p : IsMemory d.kind (width_of all address) × (width_of all value ≡ d.width) = same_there memory (λ c. IsMemory c.kind (width_of all address) × (width_of all value ≡ c.width)) (counts_one (nat_eq memory n) h) k.0 in
+      let p : IsMemory d.kind (width_of all address) × (width_of all value ≡ d.width) = same_there memory (λ c. IsMemory c.kind (width_of all address) × (width_of all value ≡ c.width)) (count_true (nat_eq memory n) h) k.0 in
       (kind_memory d.kind (width_of all address) p.0).0
   written_kind (Both first second) k h = elim (one_of (writes_in first n) (writes_in second n) h) [ inl p ↦ written_kind first k.0 p | inr p ↦ written_kind second k.1 p ]
   written_kind (If test yes' no') k h = elim (one_of (writes_in yes' n) (writes_in no' n) h) [ inl p ↦ written_kind yes' k.2 p | inr p ↦ written_kind no' k.3 p ]
@@ -201,13 +195,13 @@ module _ (all : List Declaration) (distinct : AreDistinct all) (n : ℕ) (d : De
   pub driven_kind : (as' : List Assignment) → AllByRecursion (KeepsWidth all) as' → 1 ≤ drivers_of as' n → IsDriven d.kind
   driven_kind [] k h = absurd (omega arith)
   driven_kind (a ∷ as') k h = elim (one_of (if nat_eq a.target n then 1 else 0) (drivers_of as' n) h) [
-    | inl p ↦ (same_there a.target (λ c. IsDriven c.kind × (width_of all a.value ≡ c.width)) (counts_one (nat_eq a.target n) p) k.0.0).0
+    | inl p ↦ (same_there a.target (λ c. IsDriven c.kind × (width_of all a.value ≡ c.width)) (count_true (nat_eq a.target n) p) k.0.0).0
     | inr p ↦ driven_kind as' k.1 p
   ]
 
   pub blocks_kind : (bs : List Statement) → AllByRecursion (KeepsWidthsIn all) bs → 1 ≤ blocks_of bs n → IsRegister d.kind
   blocks_kind [] k h = absurd (omega arith)
-  blocks_kind (b ∷ bs) k h = elim (one_of (if assigns b n then 1 else 0) (blocks_of bs n) h) [ inl p ↦ assigned_kind b k.0 (counts_one (assigns b n) p) | inr p ↦ blocks_kind bs k.1 p ]
+  blocks_kind (b ∷ bs) k h = elim (one_of (if assigns b n then 1 else 0) (blocks_of bs n) h) [ inl p ↦ assigned_kind b k.0 (count_true (assigns b n) p) | inr p ↦ blocks_kind bs k.1 p ]
 
   pub writes_kind : (bs : List Statement) → AllByRecursion (KeepsWidthsIn all) bs → 1 ≤ writes_of bs n → is_memory_kind d.kind ≡ true
   writes_kind [] k h = absurd (omega arith)

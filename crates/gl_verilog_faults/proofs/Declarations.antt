@@ -1,29 +1,21 @@
 -- Declarations one behind the other: new names, and sizes.
 use Rattle.std.proofs.Common.{◌≡◌, ℕ, zero, suc, ◌+◌, ◌-◌, ◌≤◌, ◌^◌, Bool, true, false, List, [], ◌∷◌, ◌++◌, length, map, Some, None, leb, refl, sym, subst, arith, append_assoc}
-use Rattle.std.specs.Prelude.{not, nat_eq, nat_le, slice_get, if◌then◌else◌}
+use Rattle.std.specs.Prelude.{not, nat_eq, nat_le, if◌then◌else◌}
 use Rattle.std.specs.List.{AllByRecursion}
 use Rattle.std.specs.Str.{bytes_eq}
 use Rattle.std.proofs.lemmas.Bool.{le-leb, leb-true, not-true, not_from_false}
 use Rattle.std.proofs.lemmas.List.{append-nil}
-use Rattle.std.proofs.lemmas.Cmp.{nat_list_eq_equiv}
 use Rattle.gl_verilog.specs.Written.{Range, WrittenPort, Direction, In, InWire, Out, OutWire, OutReg, spell_port}
-use Rattle.gl_verilog.specs.Module.{Declaration, Kind, Memory, number_of}
+use Rattle.gl_verilog.specs.Module.{Declaration, Kind, Memory}
 use Rattle.gl_verilog.specs.Widths.{IsMemory, HasSize}
 use Rattle.gl_verilog.specs.Valid.{Differs, AreDistinct}
 use Rattle.gl_verilog.specs.Resolve.{declare, port_kind, declare_port, address_bits_to, address_bits_of}
 use Rattle.gl_verilog_faults.specs.Demands.{AreMet, is_declared, of_names, of_ports}
 use Rattle.gl_verilog_faults.proofs.Expressions.{AreSmall}
-use Rattle.gl_bits.proofs.AllLists.{all_append, all_front, all_back}
-
--- ---- lists
-
-pub all_at : {A : Type 0} (P : A → Type 0) (a : List A) (n : ℕ) (x : A) → AllByRecursion P a → slice_get a n ≡ Some x → P x
-all_at P [] n x h e = absurd cc
-all_at P (y ∷ a) zero x h e = let same : y ≡ x = cc in subst P same h.0
-all_at P (y ∷ a) (suc n) x h e = all_at P a n x h.1 e
+use Rattle.gl_bits.proofs.AllLists.{all_append, all_front, all_back, all_at}
 
 pub small_of : (ds : List Declaration) → AllByRecursion HasSize ds → AreSmall ds
-small_of ds h n d e = (all_at HasSize ds n d h e).0.most
+small_of ds h n d e = (all_at HasSize ds n d e h).0.most
 
 -- ---- distinct names
 
@@ -58,22 +50,6 @@ distinct_new [] d more h = refl
 distinct_new (x ∷ ds) d more h =
     let e : bytes_eq x.name d.name ≡ false = (differs_back x ds (d ∷ more) h.0).0 in
     rw e (distinct_new ds d more h.1)
-
-differs_at : (x : Declaration) (ds : List Declaration) (n : ℕ) (d : Declaration) → Differs x ds → slice_get ds n ≡ Some d → bytes_eq x.name d.name ≡ false
-differs_at x [] n d h e = absurd cc
-differs_at x (y ∷ ds) zero d h e = let same : y ≡ d = cc in subst (λ (z : Declaration). bytes_eq x.name z.name ≡ false) same h.0
-differs_at x (y ∷ ds) (suc n) d h e = differs_at x ds n d h.1 e
-
-pub number_at : (ds : List Declaration) (n : ℕ) (d : Declaration) → AreDistinct ds → slice_get ds n ≡ Some d → number_of ds d.name ≡ Some n
-number_at [] n d h e = absurd cc
-number_at (x ∷ ds) zero d h e =
-    let same : x ≡ d = cc in
-    subst (λ (z : Declaration). number_of (x ∷ ds) z.name ≡ Some 0) same (rw (nat_list_eq_equiv.refl x.name) refl)
-number_at (x ∷ ds) (suc n) d h e =
-    let other : bytes_eq x.name d.name ≡ false = differs_at x ds n d h.0 e in
-    let later : number_of ds d.name ≡ Some n = number_at ds n d h.1 e in
-    let one : n + 1 ≡ suc n = omega arith in
-    rw (other, later, one) refl
 
 -- ---- new declarations, one behind the other
 
@@ -169,7 +145,3 @@ bits_memory (Some high) name j h = (omega arith, λ b m. (let t : 1 ≤ j = h.0 
 pub named_so : (kind : Kind) (range : Range) (name : List ℕ) → (declare kind range name).name ≡ name
 named_so kind None name = refl
 named_so kind (Some high) name = refl
-
-pub kind_so : (kind : Kind) (range : Range) (name : List ℕ) → (declare kind range name).kind ≡ kind
-kind_so kind None name = refl
-kind_so kind (Some high) name = refl

@@ -9,6 +9,7 @@ use Rattle.gl_verilog.specs.Run.{IsRegister}
 use Rattle.gl_verilog.specs.Widths.{IsDriven, IsMemory, width_of, KeepsWidthsIn}
 use Rattle.gl_verilog.specs.Valid.{AreDistinct}
 use Rattle.gl_verilog.specs.Resolve.{Resolved, with_assignment, with_block, clocked, decimal_number, declare, address_bits_of, resolve_expr, resolve_statement, resolve_items, is_memory_kind}
+use Rattle.gl_verilog.proofs.Runs.{register_undriven}
 use Rattle.gl_verilog_faults.specs.Demands.{is_among, targets_in, memory_declared}
 use Rattle.gl_verilog_faults.proofs.Names.{seen_number, Extends}
 use Rattle.gl_verilog_faults.proofs.Expressions.{at_some}
@@ -28,14 +29,6 @@ register_memory OutputRegister h e = absurd cc
 register_memory Wire h e = h
 register_memory Register h e = absurd cc
 register_memory (Memory bits) h e = h
-
-pub driven_register : (k : Kind) → IsDriven k → IsRegister k → ⊥
-driven_register Input h e = h
-driven_register OutputWire h e = e
-driven_register OutputRegister h e = h
-driven_register Wire h e = e
-driven_register Register h e = h
-driven_register (Memory bits) h e = h
 
 pub driven_memory : (k : Kind) → IsDriven k → is_memory_kind k ≡ true → ⊥
 driven_memory Input h e = h
@@ -203,7 +196,7 @@ module _ (all : List Declaration) (distinct : AreDistinct all) where
       record {
         assigned_done = λ g h. not_among d.name done (target ∷ []) (c.assigned_done g (omega arith)) (alone d.name target (λ p. (let t : 1 ≤ (if bytes_eq d.name target then 1 else 0) = true_count (bytes_eq d.name target) p in let m : (if bytes_eq d.name target then 1 else 0) + assigned_in d.name is ≤ 1 = c.assigned_most g in omega arith)));
         assigned_most = λ g. (let m : (if bytes_eq d.name target then 1 else 0) + assigned_in d.name is ≤ 1 = c.assigned_most g in omega arith);
-        hit_done = λ g h. not_among d.name done (target ∷ []) (c.hit_done g h) (alone d.name target (λ p. driven_register d.kind (wire p) g));
+        hit_done = λ g h. not_among d.name done (target ∷ []) (c.hit_done g h) (alone d.name target (λ p. register_undriven d.kind g (wire p)));
         hit_most = c.hit_most;
         once = c.once;
         fill_done = λ g h. not_among d.name done (target ∷ []) (c.fill_done g h) (alone d.name target (λ p. driven_memory d.kind (wire p) g));
@@ -219,7 +212,7 @@ module _ (all : List Declaration) (distinct : AreDistinct all) where
       let reg : (hits d.name body ≡ true → IsRegister d.kind) = λ p. hit_in_kind ds (Always clock body ∷ is) r e q k n d at (let t : 1 ≤ (if hits d.name body then 1 else 0) = true_count (hits d.name body) p in omega arith) in
       let mem : (1 ≤ fills d.name body → is_memory_kind d.kind ≡ true) = λ p. filled_in_kind ds (Always clock body ∷ is) r e q k n d at (omega arith) in
       record {
-        assigned_done = λ g h. not_among d.name done (targets_in body) (c.assigned_done g h) (untouched d.name body (λ p. driven_register d.kind g (reg p)) (λ p. driven_memory d.kind g (mem p)));
+        assigned_done = λ g h. not_among d.name done (targets_in body) (c.assigned_done g h) (untouched d.name body (λ p. register_undriven d.kind (reg p) g) (λ p. driven_memory d.kind g (mem p)));
         assigned_most = c.assigned_most;
         hit_done = λ g h. not_among d.name done (targets_in body) (c.hit_done g (omega arith)) (untouched d.name body (λ p. (let t : 1 ≤ (if hits d.name body then 1 else 0) = true_count (hits d.name body) p in let m : (if hits d.name body then 1 else 0) + hit_in d.name is ≤ 1 = c.hit_most g in omega arith)) (λ p. register_memory d.kind g (mem p)));
         hit_most = λ g. (let m : (if hits d.name body then 1 else 0) + hit_in d.name is ≤ 1 = c.hit_most g in omega arith);

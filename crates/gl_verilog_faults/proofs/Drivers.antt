@@ -9,7 +9,7 @@ use Rattle.gl_verilog.specs.Written.{WrittenExpr, WrittenStatement, Update, Upda
 use Rattle.gl_verilog_faults.specs.Demands.{is_among, targets_in, targets_of}
 use Rattle.gl_verilog_faults.proofs.Statements.{Free}
 use Rattle.gl_verilog_faults.proofs.Items.{FreeItems}
-use Rattle.gl_verilog_faults.proofs.Counts.{hits, fills, Once, assigned_in, hit_in, filled_in, OnceIn}
+use Rattle.gl_verilog_faults.proofs.Counts.{hits, fills, Once, assigned_in, hit_in, filled_in, OnceIn, count_true, one_of}
 use Rattle.gl_bits.proofs.Bools.{bytes_same}
 
 -- ---- lists of names
@@ -33,17 +33,13 @@ one_among q t h = elim (or_cases (bytes_eq q t) false h) [ inl p ↦ p | inr p �
 among_one : (q t : List ℕ) → bytes_eq q t ≡ true → is_among q (t ∷ []) ≡ true
 among_one q t h = or_left (bytes_eq q t) false h
 
-pub count_true : (b : Bool) → 1 ≤ (if b then 1 else 0) → b ≡ true
-count_true true h = refl
-count_true false h = absurd (omega arith)
-
 pub true_count : (b : Bool) → b ≡ true → 1 ≤ (if b then 1 else 0)
 true_count true h = omega arith
 true_count false h = absurd cc
 
-pub one_of : (a b : ℕ) → 1 ≤ a + b → (1 ≤ a) ⊎ (1 ≤ b)
-one_of zero b h = inr (let t : 1 ≤ 0 + b = h in omega arith)
-one_of (suc a) b h = inl (omega arith)
+pub zero_unless : (n : ℕ) → (1 ≤ n → ⊥) → n ≡ 0
+zero_unless zero f = refl
+zero_unless (suc n) f = absurd (f (omega arith))
 
 at_most_one : (b : Bool) → (if b then 1 else 0) ≤ 1
 at_most_one true = omega arith
@@ -106,11 +102,7 @@ unhit : (q : List ℕ) (s : WrittenStatement) → is_among q (targets_in s) ≡ 
 unhit q s h = false_from_ne_true (hits q s) (λ p. both_ways (is_among q (targets_in s)) h (hit_target q s p))
 
 unfilled : (q : List ℕ) (s : WrittenStatement) → is_among q (targets_in s) ≡ false → fills q s ≡ 0
-unfilled q s h = zero_when (fills q s) (λ p. both_ways (is_among q (targets_in s)) h (fill_target q s p))
-  where
-    zero_when : (n : ℕ) → (1 ≤ n → ⊥) → n ≡ 0
-    zero_when zero f = refl
-    zero_when (suc n) f = absurd (f (omega arith))
+unfilled q s h = zero_unless (fills q s) (λ p. both_ways (is_among q (targets_in s)) h (fill_target q s p))
 
 -- ---- from free targets to counts
 
@@ -219,10 +211,6 @@ pub record BoundItems (q : List ℕ) (done : List (List ℕ)) (items : List Writ
 most_more : (a b : ℕ) → a ≤ 1 → b ≤ 1 → (1 ≤ b → a ≡ 0) → a + b ≤ 1
 most_more a zero h k f = omega arith
 most_more a (suc b) h k f = let e : a ≡ 0 = f (omega arith) in omega arith
-
-pub zero_unless : (n : ℕ) → (1 ≤ n → ⊥) → n ≡ 0
-zero_unless zero f = refl
-zero_unless (suc n) f = absurd (f (omega arith))
 
 bound_assign : (q : List ℕ) (done : List (List ℕ)) (target : List ℕ) (value : WrittenExpr) (is : List WrittenItem) → not (is_among target done) ≡ true → BoundItems q (done ++ target ∷ []) is → BoundItems q done (Assign target value ∷ is)
 bound_assign q done target value is f x =

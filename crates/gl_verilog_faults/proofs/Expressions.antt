@@ -12,7 +12,7 @@ use Rattle.gl_verilog_faults.specs.Demands.{AreMet, BadMemory, ask, is_declared,
 use Rattle.gl_verilog_faults.proofs.Names.{met_join, met_front, met_back, Seen, seen_declared, seen_number, is_declared_by, so_by, bits_by, Extends}
 use Rattle.gl_verilog_faults.proofs.Operators.{both_some, three_some, net_kind, kind_net, memory_kind, kind_memory, op_of, width_taken, infixed-is, after-is, taken-is, taken-met, bit_small, loose}
 use Rattle.gl_bits.proofs.Bools.{bytes_same}
-use Rattle.gl_bits.proofs.Options.{map_some}
+use Rattle.gl_bits.proofs.Options.{map_some, some_and}
 use Rattle.gl_verilog.proofs.Fits.{width_at-found}
 
 -- ---- what a name means
@@ -51,9 +51,6 @@ read_when ds name n false c e = let s = seen_number ds name n e in (s.0, record 
 read_back : (ds : List Declaration) (name : List ℕ) (n : ℕ) → number_read ds name ≡ Some n → (d : Declaration) × ReadAs ds name n d
 read_back ds name n e = read_when ds name n (is_clock_name name) refl e
 
-pub some_at : (o : Option Declaration) (d : Declaration) (P : Declaration → Type 0) → o ≡ Some d → P d → IsSomeAnd o P
-some_at o d P e h = rw e h
-
 pub at_some : (o : Option Declaration) (d : Declaration) (P : Declaration → Type 0) → o ≡ Some d → IsSomeAnd o P → P d
 at_some o d P e h = rw e at h
 
@@ -68,7 +65,7 @@ module _ (ds all : List Declaration) (ext : Extends ds all) (small : AreSmall ds
           resolved = ap (option_map Net) (read_by ds name s.0 s.1 s.2 c);
           here = width_at-found ds s.0 s.1 s.2.at ∙ sym (bits_by ds name s.0 s.1 s.2);
           wide = width_at-found all s.0 s.1 (ext s.0 s.1 s.2.at) ∙ sym (bits_by ds name s.0 s.1 s.2);
-          kept = some_at (slice_get all s.0) s.1 IsReadable (ext s.0 s.1 s.2.at) (net_kind s.1.kind m, not_clock name ds s.0 s.1 s.2 c);
+          kept = some_and IsReadable (slice_get all s.0) s.1 (ext s.0 s.1 s.2.at) (net_kind s.1.kind m, not_clock name ds s.0 s.1 s.2 c);
           small = rw (bits_by ds name s.0 s.1 s.2) (small s.0 s.1 s.2.at);
         },
       )
@@ -103,7 +100,7 @@ module _ (ds all : List Declaration) (ext : Extends ds all) (small : AreSmall ds
           resolved = r ∙ ap (option_map (Select high low)) (read_by ds name s.0 s.1 s.2 c);
           here = sym b;
           wide = sym b;
-          kept = (some_at (slice_get all s.0) s.1 (λ d. IsReadable d × IsTrue d.is_vector × (high < d.width)) (ext s.0 s.1 s.2.at) ((net_kind s.1.kind m, not_clock name ds s.0 s.1 s.2 c), p.0, hw), lh);
+          kept = (some_and (λ d. IsReadable d × IsTrue d.is_vector × (high < d.width)) (slice_get all s.0) s.1 (ext s.0 s.1 s.2.at) ((net_kind s.1.kind m, not_clock name ds s.0 s.1 s.2 c), p.0, hw), lh);
           small = rw b (omega arith);
         },
       )
@@ -120,7 +117,7 @@ module _ (ds all : List Declaration) (ext : Extends ds all) (small : AreSmall ds
           resolved = rw (read_by ds name s.0 s.1 s.2 c, a.resolved) refl;
           here = width_at-found ds s.0 s.1 s.2.at ∙ sym (bits_by ds name s.0 s.1 s.2);
           wide = width_at-found all s.0 s.1 (ext s.0 s.1 s.2.at) ∙ sym (bits_by ds name s.0 s.1 s.2);
-          kept = (some_at (slice_get all s.0) s.1 (λ d. IsMemory d.kind (width_of all x)) (ext s.0 s.1 s.2.at) (memory_kind s.1.kind (width_of all x) m (eqb-true (address_of s.1) (bits_in ds address) v ∙ sym a.wide)), a.kept);
+          kept = (some_and (λ d. IsMemory d.kind (width_of all x)) (slice_get all s.0) s.1 (ext s.0 s.1 s.2.at) (memory_kind s.1.kind (width_of all x) m (eqb-true (address_of s.1) (bits_in ds address) v ∙ sym a.wide)), a.kept);
           small = rw (bits_by ds name s.0 s.1 s.2) (small s.0 s.1 s.2.at);
         },
       )

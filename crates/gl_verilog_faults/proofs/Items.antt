@@ -10,11 +10,11 @@ use Rattle.gl_verilog.specs.Widths.{IsDriven, width_of, KeepsWidth, KeepsWidthsI
 use Rattle.gl_verilog.specs.Resolve.{Resolved, with_assignment, with_block, clocked, decimal_number, declare, address_bits_of, resolve_expr, resolve_statement, resolve_items, is_so, is_memory}
 use Rattle.gl_verilog_faults.specs.Demands.{AreMet, bits_named, bits_in, is_wire, is_wire_kind, is_clock_name, is_among, of_expr, of_statement, of_names, of_items, memory_declared, has_bits, targets_in}
 use Rattle.gl_verilog_faults.proofs.Names.{met_join, met_front, met_back, Seen, seen_declared, seen_number, is_declared_by, so_by, bits_by, Extends, extends_more}
-use Rattle.gl_verilog_faults.proofs.Expressions.{meant, asked, some_at, at_some}
+use Rattle.gl_verilog_faults.proofs.Expressions.{meant, asked, at_some}
 use Rattle.gl_verilog_faults.proofs.Operators.{three_some}
 use Rattle.gl_verilog_faults.proofs.Statements.{grouped, Free, meant_in, asked_in}
 use Rattle.gl_verilog_faults.proofs.Declarations.{small_of, IsSound, HasBits, sound_new, new_sound, sound_front, names_new, new_names, bits_names, bits_memory, address_most, NoMemory}
-use Rattle.gl_bits.proofs.Options.{some_same, then_some}
+use Rattle.gl_bits.proofs.Options.{some_same, then_some, some_and}
 
 -- what items declare
 abbrev pub added : List WrittenItem → List Declaration
@@ -139,7 +139,7 @@ meant_items (Assign target value ∷ is) ds all done k e s g h =
         record {
           resolved = rw (t.2.number, x.1.resolved, q.1.1.resolved) refl;
           declared = q.1.1.declared;
-          assignments = ((some_at (slice_get all t.0) t.1 (λ d. IsDriven d.kind × (width_of all x.0 ≡ d.width)) (ext t.0 t.1 t.2.at) (wire_kind t.1.kind w, same), x.1.kept), q.1.1.assignments);
+          assignments = ((some_and (λ d. IsDriven d.kind × (width_of all x.0 ≡ d.width)) (slice_get all t.0) t.1 (ext t.0 t.1 t.2.at) (wire_kind t.1.kind w, same), x.1.kept), q.1.1.assignments);
           blocks = q.1.1.blocks;
           free = (own.1.1.0, q.1.1.free);
         },

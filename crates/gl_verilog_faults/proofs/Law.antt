@@ -9,14 +9,15 @@ use Rattle.gl_verilog.specs.Run.{IsRegister}
 use Rattle.gl_verilog.specs.Widths.{IsDriven, HasSize, KeepsWidth, KeepsWidthsIn}
 use Rattle.gl_verilog.specs.Valid.{AreDistinct, AssignsOnce, drivers_of, blocks_of, writes_of, HasDriver, depends, mentions, HasNoLoop, IsValid}
 use Rattle.gl_verilog.specs.Resolve.{Resolved, declare, port_kind, declare_port, resolve_items, module_from, resolve, is_memory_kind}
+use Rattle.gl_verilog.proofs.Runs.{register_undriven}
 use Rattle.gl_verilog_faults.specs.Demands.{AreMet, is_among, targets_of, name_token, undriven_names, undriven_port, undriven_ports, undriven_items, of_ports, of_items, items_token, demands_of, IsLooped}
 use Rattle.gl_verilog_faults.proofs.Names.{met_join, met_front, met_back}
-use Rattle.gl_verilog_faults.proofs.Declarations.{all_at, IsSound, sound_new, new_sound, sound_front, ports_new, new_ports, bits_ports}
+use Rattle.gl_verilog_faults.proofs.Declarations.{IsSound, sound_new, new_sound, sound_front, ports_new, new_ports, bits_ports}
 use Rattle.gl_verilog_faults.proofs.Items.{added, FreeItems, meant_items, KeptItems, asked_items, declared_as}
 use Rattle.gl_verilog_faults.proofs.Counts.{assigned_in, hit_in, filled_in, SameItems, same_items}
 use Rattle.gl_verilog_faults.proofs.Drivers.{bound_items, counted, assigned_target, hit_targets, fill_targets}
-use Rattle.gl_verilog_faults.proofs.Driven.{RoomFor, register_memory, driven_register, driven_memory, assigned_in_kind, hit_in_kind, filled_in_kind, free_items}
-use Rattle.gl_bits.proofs.AllLists.{all_append, all_front, all_back, all_by_place}
+use Rattle.gl_verilog_faults.proofs.Driven.{RoomFor, register_memory, driven_memory, assigned_in_kind, hit_in_kind, filled_in_kind, free_items}
+use Rattle.gl_bits.proofs.AllLists.{all_append, all_front, all_back, all_by_place, all_at}
 use Rattle.gl_bits.proofs.Options.{map_some}
 use Rattle.gl_verilog_faults.proofs.Loops.{first_step}
 
@@ -171,11 +172,11 @@ module _ (w : WrittenModule) (all ports : List Declaration) (r : Resolved) (e : 
         record {
           wire = λ g. links.assigned ∙ one (assigned_in d.name w.items) b.assigned_most (elim (counted d.name w.items (wire_needs (targets_of w.items) d.kind d.name h g)) [
             | inl p ↦ p
-            | inr p ↦ elim p [ inl u ↦ absurd (driven_register d.kind g (register u)) | inr u ↦ absurd (driven_memory d.kind g (memory u)) ]
+            | inr p ↦ elim p [ inl u ↦ absurd (register_undriven d.kind (register u) g) | inr u ↦ absurd (driven_memory d.kind g (memory u)) ]
           ]);
           register = λ g. (
             links.hit ∙ one (hit_in d.name w.items) b.hit_most (elim (counted d.name w.items (register_needs (targets_of w.items) d.kind d.name h g)) [
-              | inl p ↦ absurd (driven_register d.kind (wire p) g)
+              | inl p ↦ absurd (register_undriven d.kind g (wire p))
               | inr p ↦ elim p [ inl u ↦ u | inr u ↦ absurd (register_memory d.kind g (memory u)) ]
             ]),
             links.from b.once,
@@ -262,7 +263,7 @@ judged w written h =
       ap (option_map (module_from w)) x.1.1.resolved,
       judged_all w x.1.0 (map declare_port w.ports ++ added w.items) x.1.1.declared x.0.0 x.0.1 x.1.1.assignments x.1.1.blocks
           (λ n d at. has_driver (module_from w x.1.0) n d.kind (given w (map declare_port w.ports ++ added w.items) (map declare_port w.ports) x.1.0 refl x.0 x.1.1.resolved (record { assignments = x.1.1.assignments; blocks = x.1.1.blocks }) n d at x.1.1.free
-          (all_at (NeedsMet (targets_of w.items)) (map declare_port w.ports ++ added w.items) n d needs at))),
+          (all_at (NeedsMet (targets_of w.items)) (map declare_port w.ports ++ added w.items) n d at needs))),
     )
 
 met_all : (w : WrittenModule) (r : Resolved) → resolve_items (map declare_port w.ports) w.items ≡ Some r → IsJudged (module_from w r) → AreMet (demands_of w)

@@ -177,11 +177,6 @@ over b o i rest h = (keeps_step (counts b o i) Plain rest b o i refl h).1
 under : (b o i : ℕ) (rest : List Role) → Fine b o i → Keeps (counts b o i) rest → Keeps (counts b o i) (Plain ∷ rest)
 under b o i rest f h = step_keeps (counts b o i) Plain rest b o i refl f h
 
--- what stands behind an item
-pub record Behind (b o i : ℕ) (rest : List Role) : Type 0 where
-  pub fine : Fine b o i
-  pub rest' : Keeps (counts b o i) rest
-
 declared_to : {A B : Type 0} (r : List A) (ns : List B) (b o i : ℕ) (rest : List Role) → Keeps (counts b o i) (Begins ∷ ((plain_for r ++ (plain_for ns ++ Plain ∷ [])) ++ rest)) → Keeps (counts 0 0 0) rest
 declared_to r ns b o i rest h =
     let p = begun b o i ((plain_for r ++ (plain_for ns ++ Plain ∷ [])) ++ rest) h in

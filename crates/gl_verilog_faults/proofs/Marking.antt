@@ -1,5 +1,5 @@
 -- The roles of a spelled module are those that its tokens have one behind the other, so a front's roles are the front's alone.
-use Rattle.std.proofs.Common.{◌≡◌, ℕ, zero, suc, ◌+◌, List, [], ◌∷◌, ◌++◌, length, take, None, Some, refl, sym, ap, subst, ◌∙◌, append_assoc}
+use Rattle.std.proofs.Common.{◌≡◌, ℕ, zero, suc, ◌+◌, List, [], ◌∷◌, ◌++◌, None, Some, refl, sym, ap, ◌∙◌, append_assoc}
 use Rattle.gl_verilog.specs.Tokens.{Token, Reserved, Name, Number, Sized, Mark, EndModuleWord, EndWord, ElseWord, OpenParen, CloseParen, OpenBracket, CloseBracket, OpenBrace, CloseBrace, Semicolon, Comma, Colon, Question, LessEquals}
 use Rattle.gl_verilog.specs.Written.{PrefixOp, BitNot, LogicalNot, InfixOp, Times, Added, Subtracted, Below, AtMost, Above, AtLeast, Equal, NotEqual, BitAnd, BitXor, BitOr, LogicalAnd, LogicalOr, WrittenExpr, Named, Constant, BitOf, PartOf, WordOf, Braces, Parts, Parens, Prefix, Infix, Conditional, WrittenStatement, Update, UpdateWord, IfThen, IfElse, Block, Listed, Ended, Direction, In, InWire, Out, OutWire, OutReg, Range, WrittenPort, WrittenItem, Wires, Registers, MemoryOf, Assign, Always, WrittenModule, prefix_token, infix_token, spell_expr, spell_statement, spell_direction, spell_range, spell_port, spell_more_ports, spell_ports, spell_more_names, spell_names, spell_item, spell_items, spell, zero_digit}
 use Rattle.gl_verilog_faults.specs.Counts.{Role, Opens, Closes, Operates, Starts, OpensWhole, Tests, Begins, Plain}
@@ -236,23 +236,3 @@ module_marks m = ap (λ (x : List Role). Plain ∷ Plain ∷ Plain ∷ x) (ports
 pub marks_join : (s : State) (a b : List Token) → marks s (a ++ b) ≡ marks s a ++ marks (behind s a) b
 marks_join s [] b = refl
 marks_join s (t ∷ a) b = ap (λ (x : List Role). role_at s t ∷ x) (marks_join (next s t) a b)
-
--- the roles of a front are the front's alone
-pub front_roles : (m : WrittenModule) (front more : List Token) → spell m ≡ front ++ more → roles_of m ≡ marks Header front ++ marks (behind Header front) more
-front_roles m front more e = sym (module_marks m) ∙ ap (marks Header) e ∙ marks_join Header front more
-
-length_marks : (s : State) (ts : List Token) → length (marks s ts) ≡ length ts
-length_marks s [] = refl
-length_marks s (t ∷ ts) = ap suc (length_marks (next s t) ts)
-
-take_front : (a b : List Role) → take (length a) (a ++ b) ≡ a
-take_front [] b = refl
-take_front (x ∷ a) b = ap (λ (y : List Role). x ∷ y) (take_front a b)
-
-pub front_take : (m : WrittenModule) (front more : List Token) → spell m ≡ front ++ more → take (length front) (roles_of m) ≡ marks Header front
-front_take m front more e =
-    let k : length (marks Header front) ≡ length front = length_marks Header front in
-    ap (take (length front)) (front_roles m front more e) ∙ subst (λ (n : ℕ). take n (marks Header front ++ marks (behind Header front) more) ≡ marks Header front) k (take_front (marks Header front) (marks (behind Header front) more))
-
-pub same_front : (m w : WrittenModule) (front more other : List Token) → spell m ≡ front ++ more → spell w ≡ front ++ other → take (length front) (roles_of m) ≡ take (length front) (roles_of w)
-same_front m w front more other e f = front_take m front more e ∙ sym (front_take w front other f)

@@ -2,6 +2,7 @@
 use Rattle.std.proofs.Common.{◌≡◌, ℕ, ◌+◌, ◌-◌, ◌≤◌, true, List, ◌++◌, length, Some, eqb, refl, sym, subst, ◌∙◌, arith}
 use Rattle.std.specs.Prelude.{◌&&◌, not, nat_eq, slice_get, IsSomeAnd}
 use Rattle.std.proofs.lemmas.Bool.{eq-eqb, eqb-true, and_parts, and_from}
+use Rattle.gl_bits.proofs.Options.{some_and}
 use Rattle.gl_verilog.specs.Written.{WrittenExpr, WrittenStatement, Update, UpdateWord, IfThen, IfElse, Block, Listed, Ended, Place, Single, InBlock, IsStatementAt, IsExpr, level, spell_expr, spell_statement}
 use Rattle.gl_verilog.specs.Module.{Declaration, Kind, Input, OutputWire, OutputRegister, Wire, Register, Memory, Expr, Statement, Nothing, Put, Write, Both, If, number_of}
 use Rattle.gl_verilog.specs.Run.{IsRegister}
@@ -9,7 +10,7 @@ use Rattle.gl_verilog.specs.Widths.{IsMemory, width_of, KeepsWidthsIn}
 use Rattle.gl_verilog.specs.Resolve.{resolve_expr, resolve_statement, is_memory, is_memory_kind}
 use Rattle.gl_verilog_faults.specs.Demands.{AreMet, bits_named, address_of, is_clocked, is_clocked_kind, bits_in, of_expr, of_statement, targets_in, is_among}
 use Rattle.gl_verilog_faults.proofs.Names.{met_join, met_front, met_back, Seen, seen_declared, seen_number, is_declared_by, so_by, bits_by, Extends}
-use Rattle.gl_verilog_faults.proofs.Expressions.{Meant, Asked, AreSmall, meant, asked, some_at, at_some}
+use Rattle.gl_verilog_faults.proofs.Expressions.{Meant, Asked, AreSmall, meant, asked, at_some}
 use Rattle.gl_verilog_faults.proofs.Operators.{memory_kind, kind_memory, both_some, three_some}
 
 -- ---- the expressions of a statement are grouped
@@ -87,7 +88,7 @@ module _ (ds all : List Declaration) (ext : Extends ds all) (small : AreSmall ds
   whole e k g h = meant ds all ext small e k g.1 (λ l. absurd (let t : level e ≤ 11 = g.0 in omega arith)) h
 
   takes : (n : ℕ) (d : Declaration) (x : Expr) (P : Declaration → Type 0) (name : List ℕ) (e : WrittenExpr) → Seen ds name n d → Meant ds all e x → P d → eqb (bits_named ds name) (bits_in ds e) ≡ true → IsSomeAnd (slice_get all n) (λ c. P c × (width_of all x ≡ c.width))
-  takes n d x P name e s a p h = some_at (slice_get all n) d (λ c. P c × (width_of all x ≡ c.width)) (ext n d s.at) (p, a.wide ∙ sym (eqb-true (bits_named ds name) (bits_in ds e) h) ∙ bits_by ds name n d s)
+  takes n d x P name e s a p h = some_and (λ c. P c × (width_of all x ≡ c.width)) (slice_get all n) d (ext n d s.at) (p, a.wide ∙ sym (eqb-true (bits_named ds name) (bits_in ds e) h) ∙ bits_by ds name n d s)
 
   pub meant_in : (s : WrittenStatement) (before beside : List (List ℕ)) (k : ℕ) → AreGrouped s → AreMet (of_statement ds done before beside k s) → (x : Statement) × MeantIn ds all done before beside s x
   meant_in (Update target value) before beside k g h =

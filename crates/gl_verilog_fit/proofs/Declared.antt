@@ -1,18 +1,17 @@
 -- Where declarations stand, by their names, and which of them are ports.
-use Rattle.std.proofs.Common.{◌≡◌, ℕ, zero, suc, ◌+◌, true, false, List, [], ◌∷◌, ◌++◌, length, take, map, Option, Some, None, refl, sym, ap, ◌∙◌, subst, append_assoc}
+use Rattle.std.proofs.Common.{◌≡◌, ℕ, zero, suc, ◌+◌, true, false, List, [], ◌∷◌, ◌++◌, length, take, map, Option, Some, None, refl, sym, ap, ◌∙◌, subst, append_assoc, take_at}
 use Rattle.std.specs.Prelude.{slice_get, option_and_then}
 use Rattle.std.specs.Option.{option_map}
 use Rattle.std.specs.List.{AllByRecursion}
 use Rattle.std.proofs.lemmas.List.{append-nil}
-use Rattle.gl_bits.proofs.AllLists.{all_append, length_map}
+use Rattle.gl_bits.proofs.AllLists.{all_append, all_at, length_map}
 use Rattle.gl_verilog.specs.Module.{Module, Declaration, Kind, Wire, Register, Memory, number_of}
 use Rattle.gl_verilog.specs.Resolve.{Resolved, resolve_items, resolve_expr, resolve_statement, module_from, declare, declare_port, three, with_assignment, with_block, clocked, address_bits_of, decimal_number}
 use Rattle.gl_verilog.specs.Runnable.{is_input}
 use Rattle.gl_verilog.specs.Text.{HasModule}
 use Rattle.gl_verilog.specs.Valid.{AreDistinct, Differs}
 use Rattle.gl_verilog.specs.Written.{WrittenItem, Range, Wires, Registers, MemoryOf, Assign, Always}
-use Rattle.gl_verilog.proofs.Fits.{all_at}
-pub use Rattle.gl_verilog_faults.proofs.Declarations.{number_at}
+pub use Rattle.gl_verilog.proofs.Distinct.{number_at}
 use Rattle.gl_verilog_fit.specs.Profile.{ports_of}
 
 -- ---- names
@@ -96,7 +95,7 @@ items_declare ds (Always clock body ∷ is) r e =
 
 in_front : (front more : List Declaration) (n : ℕ) (d : Declaration) → AllByRecursion NoInput more → slice_get (front ++ more) n ≡ Some d → is_input d.kind ≡ true → slice_get front n ≡ Some d
 unfolding NoInput
-in_front [] more n d h e i = let other : is_input d.kind ≡ false = all_at NoInput more n d h e in absurd cc
+in_front [] more n d h e i = let other : is_input d.kind ≡ false = all_at NoInput more n d e h in absurd cc
 in_front (x ∷ front) more zero d h e i = e
 in_front (x ∷ front) more (suc n) d h e i = in_front front more n d h e i
 
@@ -109,10 +108,6 @@ map_some : {A B : Type 0} (f : A → B) (o : Option A) (r : B) → option_map f 
 map_some f None r e = absurd cc
 map_some f (Some x) r e = record { found = x; there = refl; is = cc }
 
-take_front : {T : Type 0} (xs ys : List T) → take (length xs) (xs ++ ys) ≡ xs
-take_front [] ys = refl
-take_front (x ∷ xs) ys = ap (λ zs. x ∷ zs) (take_front xs ys)
-
 -- an input is a port
 pub input_is_port : (text : List ℕ) (m : Module) (n : ℕ) (d : Declaration) → HasModule text m → slice_get m.declarations n ≡ Some d → is_input d.kind ≡ true → slice_get (ports_of m) n ≡ Some d
 input_is_port text m n d h e i =
@@ -123,7 +118,7 @@ input_is_port text m n d h e i =
     let all : r.found.declarations ≡ m.declarations = ap (λ (x : Module). x.declarations) r.is in
     let size : m.ports ≡ length (map declare_port w.ports) = sym ports ∙ sym (length_map declare_port w.ports) in
     let front : take m.ports m.declarations ≡ map declare_port w.ports =
-    ap (λ (xs : List Declaration). take m.ports xs) (sym all ∙ declared.same) ∙ ap (λ (k : ℕ). take k (map declare_port w.ports ++ declared.more)) size ∙ take_front (map declare_port w.ports) declared.more in
+    ap (λ (xs : List Declaration). take m.ports xs) (sym all ∙ declared.same) ∙ ap (λ (k : ℕ). take k (map declare_port w.ports ++ declared.more)) size ∙ take_at (map declare_port w.ports) declared.more (length (map declare_port w.ports)) refl in
     subst (λ (xs : List Declaration). slice_get xs n ≡ Some d) (sym front)
     (in_front (map declare_port w.ports) declared.more n d declared.none (subst (λ (xs : List Declaration). slice_get xs n ≡ Some d) (sym all ∙ declared.same) e) i)
 

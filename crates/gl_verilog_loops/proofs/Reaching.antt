@@ -4,7 +4,8 @@ use Rattle.std.specs.Prelude.{◌&&◌, ◌||◌, nat_eq, fold, if◌then◌else
 use Rattle.std.specs.List.{AllByRecursion}
 use Rattle.std.proofs.lemmas.Bool.{or_cases, or_left, or_right, and_parts, and_from, eqb-true, eq-eqb, both_ways}
 use Rattle.std.proofs.lemmas.List.{map-append}
-use Rattle.gl_bits.proofs.Bools.{or_none, or_join}
+use Rattle.std.proofs.lemmas.List.Sums.{fold-append}
+use Rattle.gl_bits.proofs.Bools.{or_none, or_join, eq_turned}
 use Rattle.gl_bits.proofs.AllLists.{length_map}
 use Rattle.gl_verilog.specs.Module.{Expr, Net, Literal, Invert, Binary, Choose, Join, Select, Read, Assignment}
 use Rattle.gl_verilog.specs.Valid.{mentions, depends, IsChain}
@@ -12,18 +13,14 @@ use Rattle.gl_verilog.proofs.Acyclic.{chain-join}
 use Rattle.gl_verilog_faults.specs.Demands.{IsLooped}
 use Rattle.gl_verilog_loops.specs.Looping.{nets_in, is_found, with_net, with_nets, led, seeded, spread, Reached, Grows, IsTold, IsFirstLooped}
 
-fold_append : (f : List ℕ → ℕ → List ℕ) (xs ys s : List ℕ) → fold f s (xs ++ ys) ≡ fold f (fold f s xs) ys
-fold_append f [] ys s = refl
-fold_append f (x ∷ xs) ys s = fold_append f xs ys (f s x)
-
 pub nets_both : (found : List ℕ) (op : _) (w : ℕ) (x y : Expr) → with_nets found (Binary op w x y) ≡ with_nets (with_nets found x) y
-nets_both found op w x y = fold_append with_net (nets_in x) (nets_in y) found
+nets_both found op w x y = fold-append with_net found (nets_in x) (nets_in y)
 
 pub nets_join : (found : List ℕ) (w : ℕ) (x y : Expr) → with_nets found (Join w x y) ≡ with_nets (with_nets found x) y
-nets_join found w x y = fold_append with_net (nets_in x) (nets_in y) found
+nets_join found w x y = fold-append with_net found (nets_in x) (nets_in y)
 
 pub nets_three : (found : List ℕ) (t x y : Expr) → with_nets found (Choose t x y) ≡ with_nets (with_nets (with_nets found t) x) y
-nets_three found t x y = fold_append with_net (nets_in t) (nets_in x ++ nets_in y) found ∙ fold_append with_net (nets_in x) (nets_in y) (with_nets found t)
+nets_three found t x y = fold-append with_net found (nets_in t) (nets_in x ++ nets_in y) ∙ fold-append with_net (with_nets found t) (nets_in x) (nets_in y)
 
 pub ruleset folds = (nets_both, nets_join, nets_three)
 
@@ -51,15 +48,6 @@ found_all (m ∷ ms) found n = found_all ms (with_net found m) n ∙ ap (λ (b :
 found_parts : (xs ys : List ℕ) (n : ℕ) → is_found (xs ++ ys) n ≡ (is_found xs n || is_found ys n)
 found_parts [] ys n = refl
 found_parts (x ∷ xs) ys n = ap (λ (b : Bool). nat_eq n x || b) (found_parts xs ys n) ∙ sym (or_join (nat_eq n x) (is_found xs n) (is_found ys n))
-
-eq_turned : (m n : ℕ) → nat_eq m n ≡ nat_eq n m
-eq_turned m n = by (nat_eq m n) (nat_eq n m) refl refl
-  where
-    by : (a b : Bool) → nat_eq m n ≡ a → nat_eq n m ≡ b → a ≡ b
-    by true true e f = refl
-    by false false e f = refl
-    by true false e f = absurd (let s : m ≡ n = eqb-true m n e in let z : nat_eq n m ≡ true = subst (λ (k : ℕ). nat_eq n k ≡ true) (sym s) (eq-eqb n n refl) in cc)
-    by false true e f = absurd (let s : n ≡ m = eqb-true n m f in let z : nat_eq m n ≡ true = subst (λ (k : ℕ). nat_eq m k ≡ true) (sym s) (eq-eqb m m refl) in cc)
 
 one_net : (k n : ℕ) → is_found (k ∷ []) n ≡ nat_eq k n
 one_net k n = or_none (nat_eq n k) ∙ eq_turned n k

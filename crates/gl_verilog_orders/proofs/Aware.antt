@@ -5,12 +5,13 @@ use Rattle.std.specs.Option.{option_map_or}
 use Rattle.std.proofs.lemmas.Bool.{eq-eqb}
 use Rattle.std.proofs.lemmas.Bool.Decides.{eqb_tells}
 use Rattle.gl_bits.proofs.Bools.{or_left, or_right, true_or_false}
+use Rattle.gl_bits.proofs.AllLists.{all_at}
 use Rattle.gl_bits.specs.Words.{not_of, cut_of}
 use Rattle.gl_verilog.specs.Module.{Module, Declaration, Kind, Input, OutputWire, OutputRegister, Wire, Register, Memory, Assignment, Expr, Net, Literal, Invert, Binary, Choose, Join, Select, Read, Nets, Memories, value_of}
 use Rattle.gl_verilog.specs.Order.{with_net}
 use Rattle.gl_verilog.specs.Widths.{IsDriven, width_of, KeepsWidth}
 use Rattle.gl_verilog.specs.Valid.{IsValid, mentions, drivers_of, HasDriver}
-use Rattle.gl_verilog.proofs.Fits.{Found, found_in, all_at}
+use Rattle.gl_verilog.proofs.Fits.{Found, found_in}
 use Rattle.gl_verilog.proofs.Stores.{same_item}
 use Rattle.gl_verilog.proofs.Settles.{with_net-same, with_net-other}
 use Rattle.gl_verilog_orders.specs.Events.{Evaluates, State, reads_memory, evaluations, woken, net_takes, with_word, word_takes}
@@ -85,7 +86,7 @@ driven-once m n (Memory bits) k h = absurd k
 
 -- the declaration of what an assignment drives
 pub target_of : (m : Module) → IsValid m → (j : ℕ) (a : Assignment) → slice_get m.assignments j ≡ Some a → Found (slice_get m.declarations a.target) (λ d. IsDriven d.kind × (width_of m.declarations a.value ≡ d.width))
-target_of m v j a e = found_in (slice_get m.declarations a.target) (λ d. IsDriven d.kind × (width_of m.declarations a.value ≡ d.width)) (all_at (KeepsWidth m.declarations) m.assignments j a v.assignments e).0
+target_of m v j a e = found_in (slice_get m.declarations a.target) (λ d. IsDriven d.kind × (width_of m.declarations a.value ≡ d.width)) (all_at (KeepsWidth m.declarations) m.assignments j a e v.assignments).0
 
 pub same_driver : (m : Module) → IsValid m → (i j : ℕ) (a b : Assignment) → slice_get m.assignments i ≡ Some a → slice_get m.assignments j ≡ Some b → b.target ≡ a.target → i ≡ j
 same_driver m v i j a b e f q =

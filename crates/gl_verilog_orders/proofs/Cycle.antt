@@ -3,12 +3,13 @@ use Rattle.std.proofs.Common.{◌≡◌, ◌≢◌, ℕ, suc, ◌+◌, ◌^◌, 
 use Rattle.std.specs.Prelude.{slice_get, IsSomeAnd, ◌&&◌, not}
 use Rattle.std.specs.List.{AllByRecursion, AllZip}
 use Rattle.gl_bits.proofs.Bools.{and_left}
+use Rattle.gl_bits.proofs.AllLists.{all_at}
 use Rattle.gl_verilog.specs.Module.{Module, Declaration, Kind, Input, OutputWire, OutputRegister, Wire, Register, Memory, Assignment, Nets, Memories, value_of}
 use Rattle.gl_verilog.specs.Run.{IsRegister, IsSettled}
 use Rattle.gl_verilog.specs.Widths.{IsDriven, is_clock, width_at}
 use Rattle.gl_verilog.specs.Valid.{IsValid, mentions}
 use Rattle.gl_verilog.specs.Runnable.{is_input, inputs_from, inputs_of}
-use Rattle.gl_verilog.proofs.Fits.{found_in, all_at, width_at-found}
+use Rattle.gl_verilog.proofs.Fits.{found_in, width_at-found}
 use Rattle.gl_verilog.proofs.Stores.{same_item}
 use Rattle.gl_verilog.proofs.Settles.{with_net-same, with_net-other}
 use Rattle.gl_verilog.proofs.Runs.{register_undriven}
@@ -32,7 +33,7 @@ evaluations_fine : (ds : List Declaration) (e : Event) → IsEvaluation e → Is
 evaluations_fine ds e v = subst (IsFine ds) (sym v.is) tt
 
 settled_at : (as' : List Assignment) (v : Nets) (w : Memories) (j : ℕ) (a : Assignment) → IsSettled as' v w → slice_get as' j ≡ Some a → v a.target ≡ value_of v w a.value
-settled_at as' v w j a h e = all_at (λ a. v a.target ≡ value_of v w a.value) as' j a h e
+settled_at as' v w j a h e = all_at (λ a. v a.target ≡ value_of v w a.value) as' j a e h
 
 pub ready : (m : Module) (s : State) → StandsBefore m s → IsReady m s
 ready m s h = elim h [ inl start ↦ ready_start start | inr rest ↦ ready_rest rest ]

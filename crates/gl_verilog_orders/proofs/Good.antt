@@ -2,12 +2,13 @@
 use Rattle.std.proofs.Common.{◌≡◌, ℕ, suc, ◌^◌, ◌<◌, ◌⊎◌, inl, inr, Bool, List, [], ◌∷◌, ◌++◌, Some, nat_eq, refl, sym, ap, ◌∙◌, subst}
 use Rattle.std.specs.Prelude.{slice_get, IsSomeAnd}
 use Rattle.std.proofs.lemmas.Bool.Decides.{eqb_tells}
+use Rattle.gl_bits.proofs.AllLists.{all_at}
 use Rattle.gl_verilog.specs.Module.{Module, Declaration, Kind, Input, OutputWire, OutputRegister, Wire, Register, Memory, Assignment, Expr, Statement, Nothing, Put, Write, Both, If, Nets, Memories, value_of}
 use Rattle.gl_verilog.specs.Run.{Fit, IsRegister, IsSettled}
 use Rattle.gl_verilog.specs.Order.{with_net}
 use Rattle.gl_verilog.specs.Widths.{IsMemory, width_of, KeepsWidth, KeepsWidthsIn}
 use Rattle.gl_verilog.specs.Valid.{IsValid, mentions}
-use Rattle.gl_verilog.proofs.Fits.{found_in, all_at, value_fits}
+use Rattle.gl_verilog.proofs.Fits.{found_in, value_fits}
 use Rattle.gl_verilog.proofs.Stores.{same_item}
 use Rattle.gl_verilog.proofs.Runs.{register_undriven}
 use Rattle.gl_verilog_orders.specs.Events.{Event, Evaluates, Executes, Puts, Writes, State, reads_memory, evaluations, woken, net_takes, with_word, updates_of, happened, with_active, Step, happens, releases, Schedule, no_steps, a_step}
@@ -132,7 +133,7 @@ good_happened m v s (Evaluates k) h = mapped (IsGood m) (λ a. net_takes m s a.t
     (λ d e.
     let c = target_of m v k a is in
     let same : c.item ≡ d = same_item m.declarations a.target c.item d c.is e in
-    subst (λ n. value_of s.nets s.words a.value < 2 ^ n) (c.fact.1 ∙ ap (λ (x : Declaration). x.width) same) (value_fits m.declarations s.nets s.words a.value h.fits (all_at (KeepsWidth m.declarations) m.assignments k a v.assignments is).1))
+    subst (λ n. value_of s.nets s.words a.value < 2 ^ n) (c.fact.1 ∙ ap (λ (x : Declaration). x.width) same) (value_fits m.declarations s.nets s.words a.value h.fits (all_at (KeepsWidth m.declarations) m.assignments k a is v.assignments).1))
     (aware_net m s a.target (value_of s.nets s.words a.value)
     (λ j b e. elim (h.aware j b e) [
       | inl q ↦ inl (let at : k ≡ j = cc in let both : slice_get m.assignments k ≡ Some b = ap (slice_get m.assignments) at ∙ e in ap (λ (x : Assignment). x.target) (same_item m.assignments k b a both is))
@@ -149,7 +150,7 @@ good_happened m v s (Executes k) h = mapped (IsGood m) (λ b. record s { waiting
       fine = h.fine;
       waits = λ e i. elim (among_cases e s.waiting (updates_of s.nets s.words b) i) [
         | inl w ↦ h.waits e w
-        | inr u ↦ updates_fine m.declarations s.nets s.words b h.fits (all_at (KeepsWidthsIn m.declarations) m.blocks k b v.blocks is) e u
+        | inr u ↦ updates_fine m.declarations s.nets s.words b h.fits (all_at (KeepsWidthsIn m.declarations) m.blocks k b is v.blocks) e u
       ];
       aware = λ j a e. elim (h.aware j a e) [ inl q ↦ absurd cc | inr r ↦ r ];
     })

@@ -9,7 +9,7 @@ use Rattle.gl_bits.proofs.Bools.{and_both, or_left, or_right}
 use Rattle.gl_verilog.specs.Module.{Module, Assignment, Expr, Statement, Nothing, Put, Write, Both, If, Nets, Memories, value_of}
 use Rattle.gl_verilog.specs.Valid.{IsValid, mentions, depends}
 use Rattle.gl_verilog.proofs.Acyclic.{IsIn, IsRanked, ranked, targets_of, chosen}
-use Rattle.gl_verilog_orders.specs.Events.{Event, Evaluates, Executes, Puts, Writes, State, IsAtRest, reads_memory, evaluations, is_evaluation, woken, net_takes, word_takes, updates_of, happened, with_active, Step, happens, releases, Schedule, no_steps, a_step}
+use Rattle.gl_verilog_orders.specs.Events.{Event, Evaluates, Executes, Puts, Writes, State, IsAtRest, reads_memory, evaluations, is_evaluation, woken, net_takes, word_takes, updates_of, happened, with_active, Step, happens, releases, no_steps, a_step}
 use Rattle.gl_verilog_orders.specs.Laws.{Rests, ComesToRest, Ends}
 use Rattle.gl_verilog_orders.proofs.Aware.{mapped, net_takes-cases, word_takes-cases}
 
@@ -234,10 +234,6 @@ rests m v s =
     let r = ranked (targets_of m.assignments) (depends m.assignments) v.acyclic in
     let w = weights_of m r.rank in
     rests_within m w (falls m r) (weight_of w s) s (let z : weight_of w s ≤ weight_of w s = omega arith in z)
-
-pub joined : (m : Module) (s t u : State) → Schedule m s t → Schedule m t u → Schedule m s u
-joined m s t u (no_steps s') q = q
-joined m s t u (a_step s' t' t'' p r) q = a_step s' t' u p (joined m t' t'' u r q)
 
 pub comes_to_rest : (m : Module) → IsValid m → ComesToRest m
 comes_to_rest m v = λ s t p. rests m v t

@@ -10,6 +10,7 @@ use Rattle.gl_verilog.specs.Valid.{assigns, AssignsOnce, blocks_of, writes_in, w
 use Rattle.gl_verilog_orders.specs.Events.{Event, Executes, Puts, Writes, updates_of}
 use Rattle.gl_verilog_orders.proofs.Among.{IsAmong, among_left, among_right, among_cases}
 use Rattle.gl_verilog.proofs.Acyclic.{chosen}
+use Rattle.gl_verilog.proofs.Edges.{none_either}
 
 both_chosen : {A B : Type 0} (P : A → B → Type 0) (b : Bool) (x y : A) (x' y' : B) → P x x' → P y y' → P (cond b x y) (cond b x' y')
 both_chosen P true x y x' y' p q = p
@@ -48,11 +49,7 @@ not_assigned v w Nothing r e = refl
 not_assigned v w (Put register value) r e = rw e refl
 not_assigned v w (Write memory address value) r e = refl
 not_assigned v w (Both first second) r e = rw (not_assigned v w second r (neither_right (assigns first r) (assigns second r) e), not_assigned v w first r (neither_left (assigns first r) (assigns second r) e)) refl
-not_assigned v w (If test yes' no') r e = rw (not_assigned v w yes' r (neither_left (assigns yes' r) (assigns no' r) e), not_assigned v w no' r (neither_right (assigns yes' r) (assigns no' r) e)) (neither (nat_eq (value_of v w test) 1))
-  where
-    neither : (b : Bool) → cond {A = Option ℕ} b None None ≡ None
-    neither true = refl
-    neither false = refl
+not_assigned v w (If test yes' no') r e = rw (not_assigned v w yes' r (neither_left (assigns yes' r) (assigns no' r) e), not_assigned v w no' r (neither_right (assigns yes' r) (assigns no' r) e)) (none_either (nat_eq (value_of v w test) 1))
 
 puts_assigned : (v : Nets) (w : Memories) (s : Statement) (r x : ℕ) → AssignsOnce r s → IsAmong (Puts r x) (updates_of v w s) → assigned v w s r ≡ Some x
 puts_assigned v w Nothing r x o i = absurd i
@@ -147,11 +144,7 @@ not_written v w (Write memory address value) k at e = elim (eqb_tells memory k) 
   | inr other ↦ rw other.0 refl
 ]
 not_written v w (Both first second) k at e = rw (not_written v w second k at (omega (arith, e)), not_written v w first k at (omega (arith, e))) refl
-not_written v w (If test yes' no') k at e = rw (not_written v w yes' k at (omega (arith, e)), not_written v w no' k at (omega (arith, e))) (neither (nat_eq (value_of v w test) 1))
-  where
-    neither : (b : Bool) → cond {A = Option ℕ} b None None ≡ None
-    neither true = refl
-    neither false = refl
+not_written v w (If test yes' no') k at e = rw (not_written v w yes' k at (omega (arith, e)), not_written v w no' k at (omega (arith, e))) (none_either (nat_eq (value_of v w test) 1))
 
 writes_written : (v : Nets) (w : Memories) (s : Statement) (k at x : ℕ) → writes_in s k ≤ 1 → IsAmong (Writes k at x) (updates_of v w s) → written v w s k at ≡ Some x
 writes_written v w Nothing k at x o i = absurd i

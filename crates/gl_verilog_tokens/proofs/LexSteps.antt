@@ -1,17 +1,8 @@
 -- A word that grows by a byte, and a text read byte by byte.
-use Rattle.std.proofs.Common.{◌≡◌, ℕ, ◌+◌, ◌-◌, ◌<◌, ◌≤◌, List, [], ◌∷◌, ◌++◌, length, take, drop, get_or, refl, sym, ap, ◌∙◌, append_assoc, arith, length-drop}
-use Rattle.std.proofs.lemmas.List.{take_more, get_or-drop, map-append, append-nil, take_all}
+use Rattle.std.proofs.Common.{◌≡◌, ℕ, ◌+◌, ◌-◌, ◌<◌, List, [], ◌∷◌, ◌++◌, length, take, get_or, refl, sym, ap, ◌∙◌, append_assoc, arith}
+use Rattle.std.proofs.lemmas.List.{take_more, map-append, append-nil, take_all}
+use Rattle.gl_bits.proofs.AllLists.{word_grows, word_starts}
 use Rattle.gl_verilog.specs.Tokens.{Token, Mode, Between, Move, to, after, move, scan, last_of, tokens_of}
-
-pub word_grows : (text : List ℕ) (from at : ℕ) → from ≤ at → at < length text → take (at + 1 - from) (drop from text) ≡ take (at - from) (drop from text) ++ get_or text at 0 ∷ []
-word_grows text from at le lt =
-    let n : at + 1 - from ≡ at - from + 1 = omega arith in
-    let short : at - from < length (drop from text) = omega (arith, length-drop from text) in
-    let place : from + (at - from) ≡ at = omega arith in
-    rw (n, take_more (drop from text) (at - from) 0 short) (ap (λ (x : ℕ). take (at - from) (drop from text) ++ x ∷ []) (get_or-drop from text (at - from) 0 ∙ ap (λ (k : ℕ). get_or text k 0) place))
-
-pub word_starts : (text : List ℕ) (at : ℕ) → at < length text → take (at + 1 - at) (drop at text) ≡ get_or text at 0 ∷ []
-word_starts text at lt = word_grows text at at (omega arith) lt ∙ ap (λ (k : ℕ). take k (drop at text) ++ get_or text at 0 ∷ []) (let z : at - at ≡ 0 = omega arith in z)
 
 pub ruleset steps = (word_grows, word_starts, map-append, append_assoc, append-nil)
 

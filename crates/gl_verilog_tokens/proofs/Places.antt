@@ -91,9 +91,6 @@ places_next text at old new n m far next k p h =
 pub places_end : (text places : List ℕ) → AreSoFar text (length text) places → ArePlaces text places
 places_end text places far k p h = let f = far k p h in record { within = f.0; before = f.1; behind = λ q l u. f.2 q l u }
 
-pub places_begin : (text : List ℕ) → AreSoFar text 0 []
-places_begin text k p h = absurd cc
-
 -- ---- how many there are
 
 opened_size : (text : List ℕ) (at : ℕ) (s : Standing) → length (opened s) ≡ length (last_of (mode_of text at s))

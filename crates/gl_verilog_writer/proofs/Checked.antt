@@ -22,7 +22,7 @@ use Rattle.gl_verilog.specs.Widths.{IsNet, IsDriven, IsMemory, IsReadable, HasSi
 use Rattle.gl_verilog_writer.specs.Meaning.{kind_of}
 use Rattle.gl_verilog_writer.specs.Design.{node_width, numbered}
 use Rattle.gl_verilog_writer.proofs.Model.{Named, at_node, net_of, op_of, kind_for, assigned_to, assignment_for, shown_by, output_for, block_for, declarations_in, line_in}
-use Rattle.gl_verilog_writer.proofs.Lists.{numbered-all}
+use Rattle.gl_verilog_writer.proofs.Lists.{numbered-all, get-from_zero}
 use Rattle.gl_verilog_writer.proofs.Named.{node_there, port_there, port_found, port_no_clock, net_no_clock, sorted}
 use Rattle.gl_verilog_writer.proofs.Fitted.{width-fits, port_end, bus, bit, shown, stored, carried-width, carried-keeps, node-width}
 use Rattle.gl_verilog_writer.proofs.Resolved.{port-width, line-found, some-any}
@@ -124,16 +124,10 @@ module _ (net : Net) (family : ℕ) (c : Named net family) where
         carried-keeps net family c q.node f.0 i,
       )
 
-  here : (k : ℕ) (x : Node) → slice_get net.nodes k ≡ Some x → slice_get net.nodes (0 + k) ≡ Some x
-  here k x e = ap (λ (m : ℕ). slice_get net.nodes m) (let q : 0 + k ≡ k = omega arith in q) ∙ e
-
-  here-port : (k : ℕ) (x : Port) → slice_get net.ports k ≡ Some x → slice_get net.ports (0 + k) ≡ Some x
-  here-port k x e = ap (λ (m : ℕ). slice_get net.ports m) (let q : 0 + k ≡ k = omega arith in q) ∙ e
-
   pub assignments-keep : AllByRecursion (KeepsWidth ds) (numbered (assignment_for p) 0 net.nodes ++ numbered (output_for p) 0 net.ports)
   assignments-keep = all_append (KeepsWidth ds) (numbered (assignment_for p) 0 net.nodes) (numbered (output_for p) 0 net.ports)
-      (numbered-all (KeepsWidth ds) (assignment_for p) 0 net.nodes (λ k x e. value-keeps (0 + k) x (here k x e) (c.netlist.formed.nodes (0 + k) x (here k x e))))
-      (numbered-all (KeepsWidth ds) (output_for p) 0 net.ports (λ k q e. output-keeps (0 + k) q (here-port k q e) q.direction refl (c.netlist.formed.ends (0 + k) q (here-port k q e))))
+      (numbered-all (KeepsWidth ds) (assignment_for p) 0 net.nodes (λ k x e. value-keeps (0 + k) x (get-from_zero net.nodes k x e) (c.netlist.formed.nodes (0 + k) x (get-from_zero net.nodes k x e))))
+      (numbered-all (KeepsWidth ds) (output_for p) 0 net.ports (λ k q e. output-keeps (0 + k) q (get-from_zero net.ports k q e) q.direction refl (c.netlist.formed.ends (0 + k) q (get-from_zero net.ports k q e))))
 
   -- ---- blocks
 
@@ -195,7 +189,7 @@ module _ (net : Net) (family : ℕ) (c : Named net family) where
   block-keeps n (MemoryRead store x) e h = tt
 
   pub blocks-keep : AllByRecursion (KeepsWidthsIn ds) (numbered (block_for p (line_in net family)) 0 net.nodes)
-  blocks-keep = numbered-all (KeepsWidthsIn ds) (block_for p (line_in net family)) 0 net.nodes (λ k x e. block-keeps (0 + k) x (here k x e) (c.netlist.formed.nodes (0 + k) x (here k x e)))
+  blocks-keep = numbered-all (KeepsWidthsIn ds) (block_for p (line_in net family)) 0 net.nodes (λ k x e. block-keeps (0 + k) x (get-from_zero net.nodes k x e) (c.netlist.formed.nodes (0 + k) x (get-from_zero net.nodes k x e)))
 
   -- ---- sizes
 

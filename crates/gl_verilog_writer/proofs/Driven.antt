@@ -1,5 +1,5 @@
 -- Each net of a netlist's module has one driver, and none depends on itself.
-use Rattle.std.proofs.Common.{◌≡◌, ℕ, zero, suc, ◌+◌, ◌<◌, ◌≤◌, Bool, true, false, ◌&&◌, ◌||◌, List, [], ◌∷◌, ◌++◌, length, Option, Some, None, IfSome, is_some, refl, sym, ap, subst, ◌∙◌, arith, inl, inr, eq-eqb, eqb-true, ne_eqb}
+use Rattle.std.proofs.Common.{◌≡◌, ℕ, zero, suc, ◌+◌, ◌<◌, ◌≤◌, Bool, true, false, ◌&&◌, ◌||◌, List, [], ◌∷◌, ◌++◌, length, Option, Some, None, IfSome, is_some, refl, sym, ap, subst, ◌∙◌, arith, inl, inr, eq-eqb, eqb-true, ne_eqb, zero-add}
 use Rattle.std.specs.Prelude.{slice_get, option_map, option_and_then, nat_eq, if◌then◌else◌}
 use Rattle.std.specs.List.{AllByRecursion}
 use Rattle.std.proofs.lemmas.Option.{slice_get_within, slice_get_past}
@@ -22,7 +22,7 @@ use Rattle.gl_verilog_writer.specs.Meaning.{kind_of}
 use Rattle.gl_verilog_writer.specs.Design.{numbered}
 use Rattle.gl_verilog_writer.proofs.Model.{Named, at_node, kind_for, expression_of, assigned_to, assignment_for, shown_by, output_for, block_for, declarations_in, line_in, module_in}
 use Rattle.gl_verilog_writer.proofs.Ordered.{Descends, Above, if_some, in-order, rises-append, rises-numbered}
-use Rattle.gl_verilog_writer.proofs.Lists.{numbered-all, total, count, total-append, total-none, total-one}
+use Rattle.gl_verilog_writer.proofs.Lists.{numbered-all, total, count, total-append, total-none, total-one, get-from_zero}
 use Rattle.gl_verilog_writer.proofs.Named.{sorted, distinct, apart}
 use Rattle.gl_verilog_writer.proofs.Fitted.{port_end, shown}
 use Rattle.gl_verilog_writer.proofs.Checked.{sizes-fit, assignments-keep, blocks-keep}
@@ -118,9 +118,6 @@ once-each p line m r (Join x y) = tt
 once-each p line m r (Cut x high low) = tt
 once-each p line m r (MemoryRead store x) = tt
 
-zero_up : (n : ℕ) → 0 + n ≡ n
-zero_up n = omega arith
-
 -- ---- ranks
 
 abbrev rank_by : ℕ → ℕ → Direction → ℕ
@@ -173,7 +170,7 @@ module _ (net : Net) (family : ℕ) (c : Named net family) where
       let t = at_node p n in
       let a : total (drives t) values ≡ 1 =
       total-one (drives t) (assignment_for p) 0 net.nodes n x e (λ j y f ne. drives-not (at_node p (0 + j)) t (expression_of p y) (λ q. ne (let r : j ≡ n = omega (arith, q) in r)))
-      ∙ drives-once (at_node p (0 + n)) t (expression_of p x) (ap (at_node p) (zero_up n)) s in
+      ∙ drives-once (at_node p (0 + n)) t (expression_of p x) (ap (at_node p) (zero-add n)) s in
       let b : total (drives t) outputs ≡ 0 =
       total-none (drives t) (output_for p) 0 net.ports (λ k q f. shows-not p (0 + k) t q.node q.direction (λ r. (let l = slice_get_within net.ports k q f in omega (arith, l, r)))) in
       drivers-total (values ++ outputs) t ∙ total-append (drives t) values outputs ∙ rw (a, b) refl
@@ -186,13 +183,13 @@ module _ (net : Net) (family : ℕ) (c : Named net family) where
       total-none (drives t) (assignment_for p) 0 net.nodes (λ k x f. drives-not (at_node p (0 + k)) t (expression_of p x) (λ r. omega (arith, l, r))) in
       let b : total (drives t) outputs ≡ 1 =
       total-one (drives t) (output_for p) 0 net.ports place q e (λ j y f ne. shows-not p (0 + j) t y.node y.direction (λ r. ne (let z : j ≡ place = omega (arith, r) in z)))
-      ∙ shows-once p (0 + place) t q.node q.direction d (ap suc (zero_up place)) in
+      ∙ shows-once p (0 + place) t q.node q.direction d (ap suc (zero-add place)) in
       drivers-total (values ++ outputs) t ∙ total-append (drives t) values outputs ∙ rw (a, b) refl
 
   register-set : (n w : ℕ) (reset : Option ℕ) (next : Option Bus) → slice_get net.nodes n ≡ Some (Register w reset next) → count (sets (at_node p n)) (block_for p (line_in net family) (0 + n) (Register w reset next)) ≡ 1
   unfolding open_in
-  register-set n w None (Some next) e = let f : nat_eq (at_node p (0 + n)) (at_node p n) ≡ true = eq-eqb (at_node p (0 + n)) (at_node p n) (ap (at_node p) (zero_up n)) in rw f refl
-  register-set n w (Some value) (Some next) e = let f : nat_eq (at_node p (0 + n)) (at_node p n) ≡ true = eq-eqb (at_node p (0 + n)) (at_node p n) (ap (at_node p) (zero_up n)) in rw f refl
+  register-set n w None (Some next) e = let f : nat_eq (at_node p (0 + n)) (at_node p n) ≡ true = eq-eqb (at_node p (0 + n)) (at_node p n) (ap (at_node p) (zero-add n)) in rw f refl
+  register-set n w (Some value) (Some next) e = let f : nat_eq (at_node p (0 + n)) (at_node p n) ≡ true = eq-eqb (at_node p (0 + n)) (at_node p n) (ap (at_node p) (zero-add n)) in rw f refl
   register-set n w None None e = let f : None ≡ Some (Value w) = sym (c.netlist.finished.driven n) ∙ ap (option_and_then open_shape) e in absurd (not_some (Value w) f)
   register-set n w (Some value) None e = let f : None ≡ Some (Value w) = sym (c.netlist.finished.driven n) ∙ ap (option_and_then open_shape) e in absurd (not_some (Value w) f)
 
@@ -204,7 +201,7 @@ module _ (net : Net) (family : ℕ) (c : Named net family) where
 
   memory-set : (n bits w : ℕ) (drive : Option MemoryDrive) → slice_get net.nodes n ≡ Some (Memory bits w drive) → count (writes (at_node p n)) (block_for p (line_in net family) (0 + n) (Memory bits w drive)) ≡ 1
   unfolding open_in
-  memory-set n bits w (Some drive) e = let f : nat_eq (at_node p (0 + n)) (at_node p n) ≡ true = eq-eqb (at_node p (0 + n)) (at_node p n) (ap (at_node p) (zero_up n)) in rw f refl
+  memory-set n bits w (Some drive) e = let f : nat_eq (at_node p (0 + n)) (at_node p n) ≡ true = eq-eqb (at_node p (0 + n)) (at_node p n) (ap (at_node p) (zero-add n)) in rw f refl
   memory-set n bits w None e = let f : None ≡ Some (Words bits w) = sym (c.netlist.finished.driven n) ∙ ap (option_and_then open_shape) e in absurd (not_some (Words bits w) f)
 
   memory-driven : (n bits w : ℕ) (drive : Option MemoryDrive) → slice_get net.nodes n ≡ Some (Memory bits w drive) → writes_of blocks (at_node p n) ≡ 1
@@ -293,16 +290,10 @@ module _ (net : Net) (family : ℕ) (c : Named net family) where
       let b = rank-output place q e g in
       let z : ranks m < ranks (suc place) = omega (arith, a, b, l) in z
 
-  here : (k : ℕ) (x : Node) → slice_get net.nodes k ≡ Some x → slice_get net.nodes (0 + k) ≡ Some x
-  here k x e = ap (λ (m : ℕ). slice_get net.nodes m) (zero_up k) ∙ e
-
-  here-port : (k : ℕ) (x : Port) → slice_get net.ports k ≡ Some x → slice_get net.ports (0 + k) ≡ Some x
-  here-port k x e = ap (λ (m : ℕ). slice_get net.ports m) (zero_up k) ∙ e
-
   all-descend : AllByRecursion (Descends ranks) (values ++ outputs)
   all-descend = all_append (Descends ranks) values outputs
-      (numbered-all (Descends ranks) (assignment_for p) 0 net.nodes (λ k x e. value-descends (0 + k) x (here k x e) (c.netlist.formed.nodes (0 + k) x (here k x e))))
-      (numbered-all (Descends ranks) (output_for p) 0 net.ports (λ k q e. output-descends (0 + k) q (here-port k q e) q.direction refl (c.netlist.formed.ends (0 + k) q (here-port k q e))))
+      (numbered-all (Descends ranks) (assignment_for p) 0 net.nodes (λ k x e. value-descends (0 + k) x (get-from_zero net.nodes k x e) (c.netlist.formed.nodes (0 + k) x (get-from_zero net.nodes k x e))))
+      (numbered-all (Descends ranks) (output_for p) 0 net.ports (λ k q e. output-descends (0 + k) q (get-from_zero net.ports k q e) q.direction refl (c.netlist.formed.ends (0 + k) q (get-from_zero net.ports k q e))))
 
   loop-free : HasNoLoop (values ++ outputs)
   loop-free = no-loop ranks (values ++ outputs) all-descend
@@ -318,7 +309,7 @@ module _ (net : Net) (family : ℕ) (c : Named net family) where
   output-rank place q e Out g = rank-output place q e g
 
   output-at : (k : ℕ) (q : Port) → slice_get net.ports k ≡ Some q → IfSome (output_for p (0 + k) q) (λ a. ranks a.target ≡ last + (0 + k))
-  output-at k q e = output-rank (0 + k) q (here-port k q e) q.direction refl
+  output-at k q e = output-rank (0 + k) q (get-from_zero net.ports k q e) q.direction refl
 
   -- every output stands behind the node
   outputs-behind : (n k : ℕ) → n ≡ suc p + (0 + k) → k < length net.nodes → Above ranks n outputs

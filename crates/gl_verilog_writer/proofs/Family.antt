@@ -5,6 +5,7 @@ use Rattle.std.specs.List.{starts_with}
 use Rattle.std.specs.Str.Parse.{AllDigits}
 use Rattle.std.proofs.lemmas.Str.Parse.{tells_digits}
 use Rattle.std.proofs.lemmas.Fmt.{decimal_injective}
+use Rattle.std.proofs.lemmas.Bool.{cases_eq}
 use Rattle.gl_net.specs.declared.node.Port.{Port}
 use Rattle.gl_verilog_writer.specs.Pieces.{family_text}
 use Rattle.gl_verilog_writer.specs.Design.{begins_port, family_from, family_of}
@@ -100,19 +101,13 @@ outcome ports (suc n) at = elim (true_or_false (begins_port ports (family_text a
         | inl f ↦ inl (ap (λ (k : ℕ). begins_port ports (family_text k)) e ∙ f)
         | inr a ↦ inr (record {
           is = e ∙ a.is ∙ (let q : at + 1 + n ≡ at + suc n = omega arith in q);
-          taken = λ k l h. elim (same k at) [
+          taken = λ k l h. elim (cases_eq k at) [
             | inl q ↦ ap (λ (m : ℕ). begins_port ports (family_text m)) q ∙ t
             | inr ne ↦ a.taken k (let z : at + 1 ≤ k = omega (arith, l, ne) in z) (let z : k < at + 1 + n = omega (arith, h) in z)
           ];
         })
       ])
 ]
-  where
-    same : (a b : ℕ) → (a ≡ b) ⊎ (a ≡ b → ⊥)
-    same zero zero = inl refl
-    same zero (suc b) = inr (λ e. omega arith)
-    same (suc a) zero = inr (λ e. omega arith)
-    same (suc a) (suc b) = elim (same a b) [ inl e ↦ inl (ap suc e) | inr ne ↦ inr (λ e. ne (let q : a ≡ b = omega (arith, e) in q)) ]
 
 family-most : (ports : List Port) (n at : ℕ) → family_from ports n at ≤ at + n
 family-most ports zero at = omega arith

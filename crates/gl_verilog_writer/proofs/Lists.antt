@@ -1,24 +1,23 @@
 -- Elements of lists, and lists that are made of numbered elements.
-use Rattle.std.proofs.Common.{◌≡◌, ℕ, zero, suc, ◌+◌, List, [], ◌∷◌, ◌++◌, length, Option, Some, None, IfSome, map, refl, sym, ap, subst, ◌∙◌, arith, inl, inr, ◌⊎◌}
+use Rattle.std.proofs.Common.{◌≡◌, ℕ, zero, suc, ◌+◌, List, [], ◌∷◌, ◌++◌, length, Option, Some, None, IfSome, refl, sym, ap, subst, ◌∙◌, arith, inl, inr, ◌⊎◌, zero-add}
 use Rattle.std.specs.Prelude.{slice_get}
 use Rattle.std.specs.List.{AllByRecursion}
 use Rattle.gl_bits.proofs.Options.{some_same, not_some}
 use Rattle.gl_verilog_writer.specs.Design.{with_option, numbered}
 use Rattle.gl_verilog_writer.proofs.Model.{counted}
 
+-- a place counted from 0
+pub get-from_zero : {A : Type 0} (xs : List A) (k : ℕ) (x : A) → slice_get xs k ≡ Some x → slice_get xs (0 + k) ≡ Some x
+get-from_zero xs k x e = ap (slice_get xs) (zero-add k) ∙ e
+
 pub get-right : {A : Type 0} (xs ys : List A) (k : ℕ) → slice_get (xs ++ ys) (length xs + k) ≡ slice_get ys k
-get-right [] ys k = ap (slice_get ys) (let z : 0 + k ≡ k = omega arith in z)
+get-right [] ys k = ap (slice_get ys) (zero-add k)
 get-right (x ∷ xs) ys k = ap (slice_get (x ∷ (xs ++ ys))) (let z : suc (length xs) + k ≡ suc (length xs + k) = omega arith in z) ∙ get-right xs ys k
 
 pub get-parts : {A : Type 0} (xs ys : List A) (n : ℕ) (x : A) → slice_get (xs ++ ys) n ≡ Some x → (slice_get xs n ≡ Some x) ⊎ ((k : ℕ) × (n ≡ length xs + k) × (slice_get ys k ≡ Some x))
 get-parts [] ys n x e = inr (n, (let z : n ≡ 0 + n = omega arith in z), e)
 get-parts (z ∷ xs) ys zero x e = inl e
 get-parts (z ∷ xs) ys (suc n) x e = elim (get-parts xs ys n x e) [ inl p ↦ inl p | inr p ↦ inr (p.0, (let q = p.1 in let r : suc n ≡ suc (length xs) + p.0 = omega (arith, q) in r), p.2) ]
-
-pub get-unmapped : {A B : Type 0} (f : A → B) (xs : List A) (k : ℕ) (y : B) → slice_get (map f xs) k ≡ Some y → (x : A) × (slice_get xs k ≡ Some x) × (y ≡ f x)
-get-unmapped f [] k y e = absurd (not_some y e)
-get-unmapped f (z ∷ xs) zero y e = (z, refl, sym (some_same (f z) y e))
-get-unmapped f (z ∷ xs) (suc k) y e = get-unmapped f xs k y e
 
 up : (n k : ℕ) → n + 1 + k ≡ n + suc k
 up n k = omega arith

@@ -1,23 +1,24 @@
 -- The declarations of a netlist's module: where each stands, and that no two have one name.
-use Rattle.std.proofs.Common.{◌≡◌, ℕ, zero, suc, ◌+◌, ◌<◌, ◌^◌, Bool, true, false, ◌||◌, ◌==◌, List, [], ◌∷◌, ◌++◌, length, get_or, map, Some, refl, sym, ap, ◌∙◌, arith, add-one, inl, inr, ◌⊎◌, eq-eqb}
+use Rattle.std.proofs.Common.{◌≡◌, ℕ, zero, suc, ◌+◌, ◌<◌, ◌^◌, true, false, ◌==◌, List, [], ◌∷◌, ◌++◌, length, get_or, map, Some, refl, sym, ap, ◌∙◌, arith, inl, inr, ◌⊎◌, eq-eqb}
 use Rattle.std.specs.Prelude.{slice_get, codes, decimal, bytes_eq}
 use Rattle.std.specs.List.{starts_with}
-use Rattle.gl_bits.proofs.Bools.{bytes_own, bytes_other, not_both}
+use Rattle.gl_bits.proofs.Bools.{bytes_other, not_both, neither_left, neither_right}
 use Rattle.std.proofs.lemmas.List.{append_cancel_left, length-map}
 use Rattle.std.proofs.lemmas.Option.{slice_get_within}
 use Rattle.std.proofs.lemmas.Fmt.{decimal_injective}
-use Rattle.gl_bits.proofs.AllLists.{get_front, get_mapped}
+use Rattle.gl_bits.proofs.AllLists.{get_front, get_mapped, get_unmapped}
 use Rattle.gl_bits.proofs.Options.{some_same, not_some}
 use Rattle.gl_net.specs.declared.node.Node.{Node}
 use Rattle.gl_net.specs.declared.node.Port.{Port}
 use Rattle.gl_net.specs.Net.{Net}
 use Rattle.gl_verilog.specs.Module.{Declaration, number_of}
 use Rattle.gl_verilog.specs.Valid.{Differs, AreDistinct}
+use Rattle.gl_verilog.proofs.Distinct.{number_at}
 use Rattle.gl_verilog_writer.specs.Meaning.{declaration_of, clock}
 use Rattle.gl_verilog_writer.specs.Pieces.{family_text, net_name}
 use Rattle.gl_verilog_writer.specs.Design.{begins_port}
 use Rattle.gl_verilog_writer.proofs.Model.{Named, at_node, declaration_for, counted, declarations_in}
-use Rattle.gl_verilog_writer.proofs.Lists.{get-right, get-parts, get-unmapped, get-counted, get-uncounted}
+use Rattle.gl_verilog_writer.proofs.Lists.{get-right, get-parts, get-counted, get-uncounted}
 
 -- ---- names
 
@@ -38,14 +39,7 @@ distinct (d ∷ ds) h = (differs d ds (λ j e p n. (let r = h 0 (suc j) d e refl
 
 -- a name is found where it is declared
 pub found : (ds : List Declaration) (i : ℕ) (d : Declaration) → Apart ds → slice_get ds i ≡ Some d → number_of ds d.name ≡ Some i
-found [] i d h e = absurd (not_some d e)
-found (x ∷ ds) zero d h e =
-    let f : bytes_eq x.name d.name ≡ true = ap (λ (y : Declaration). bytes_eq y.name d.name) (some_same x d e) ∙ bytes_own d.name in
-    rw f refl
-found (x ∷ ds) (suc i) d h e =
-    let f : bytes_eq x.name d.name ≡ false = bytes_other x.name d.name (λ n. (let r = h 0 (suc i) x d refl e n in omega (arith, r))) in
-    let g = found ds i d (apart-tail x ds h) e in
-    rw (f, g) (ap Some (add-one i))
+found ds i d h e = number_at ds i d (distinct ds h) e
 
 -- ---- no port's name is a net's
 
@@ -55,16 +49,8 @@ begins-own (x ∷ a) b = let e : (x == x) ≡ true = eq-eqb x x refl in rw (e, b
 
 port-not : (ports : List Port) (front : List ℕ) (place : ℕ) (p : Port) → begins_port ports front ≡ false → slice_get ports place ≡ Some p → starts_with ◌==◌ p.name front ≡ false
 port-not [] front place p h e = absurd (not_some p e)
-port-not (q ∷ ports) front zero p h e = ap (λ (r : Port). starts_with ◌==◌ r.name front) (sym (some_same q p e)) ∙ first (starts_with ◌==◌ q.name front) (begins_port ports front) h
-  where
-    first : (a b : Bool) → (a || b) ≡ false → a ≡ false
-    first true b h = absurd (cc)
-    first false b h = refl
-port-not (q ∷ ports) front (suc place) p h e = port-not ports front place p (second (starts_with ◌==◌ q.name front) (begins_port ports front) h) e
-  where
-    second : (a b : Bool) → (a || b) ≡ false → b ≡ false
-    second true b h = absurd (cc)
-    second false b h = h
+port-not (q ∷ ports) front zero p h e = ap (λ (r : Port). starts_with ◌==◌ r.name front) (sym (some_same q p e)) ∙ neither_left (starts_with ◌==◌ q.name front) (begins_port ports front) h
+port-not (q ∷ ports) front (suc place) p h e = port-not ports front place p (neither_right (starts_with ◌==◌ q.name front) (begins_port ports front) h) e
 
 net_begins : (family n : ℕ) → starts_with ◌==◌ (net_name family n) (family_text family) ≡ true
 unfolding net_name
@@ -119,7 +105,7 @@ module _ (net : Net) (family : ℕ) (c : Named net family) where
       let ps = map (declaration_of net) net.ports in
       let ns = counted (declaration_for family) 0 net.nodes in
       elim (get-parts ps ns i d e) [
-        | inl p ↦ (let u = get-unmapped (declaration_of net) net.ports i d p in inr (inl (record { place = i; port = u.0; number = refl; there = u.1; is = u.2 })))
+        | inl p ↦ (let u = get_unmapped (declaration_of net) net.ports i d p in inr (inl (record { place = i; port = u.0; number = refl; there = u.1; is = sym u.2 })))
         | inr p ↦ (let u = get-uncounted (declaration_for family) 0 net.nodes p.0 d p.2 in
             inr (inr (record {
               n = p.0;

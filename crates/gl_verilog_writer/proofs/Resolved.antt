@@ -1,11 +1,13 @@
 -- The written module of a netlist means its module: names become numbers.
-use Rattle.std.proofs.Common.{◌≡◌, ℕ, zero, suc, ◌+◌, ◌-◌, ◌<◌, ◌≤◌, ◌^◌, Bool, true, false, ◌||◌, List, [], ◌∷◌, ◌++◌, length, map, Option, Some, None, refl, sym, ap, subst, ◌∙◌, arith, append_assoc, append-nil, inl, inr, ◌⊎◌, eq-eqb, eqb-true, ne_eqb, le-leb, pow_mono, is_some}
+use Rattle.std.proofs.Common.{◌≡◌, ℕ, zero, suc, ◌+◌, ◌-◌, ◌<◌, ◌≤◌, ◌^◌, Bool, true, false, List, [], ◌∷◌, ◌++◌, length, map, Option, Some, None, refl, sym, ap, subst, ◌∙◌, arith, append_assoc, append-nil, inl, inr, eq-eqb, eqb-true, ne_eqb, le-leb, pow_mono, is_some}
 use Rattle.std.specs.Prelude.{slice_get, codes, decimal, option_map, option_and_then, unwrap_or, nat_eq, nat_le, ◌==◌, not, if◌then◌else◌}
 use Rattle.std.specs.List.{list_any}
 use Rattle.std.specs.Option.{option_map_or}
 use Rattle.std.proofs.lemmas.Nat.{pow_below, pow_pos}
 use Rattle.std.proofs.lemmas.List.{length-map}
+use Rattle.std.proofs.lemmas.Bool.{cases_eq}
 use Rattle.gl_bits.proofs.Options.{some_same, not_some}
+use Rattle.gl_bits.proofs.Bools.{or_right}
 use Rattle.gl_bits.specs.Words.{IsWidth}
 use Rattle.gl_net.specs.declared.node.BinaryOp.{BinaryOp}
 use Rattle.gl_net.specs.declared.node.BinaryOp.TheVariants.{Add, Sub, Mul, And, Xor, Or, Eq, Ne, Lt, Le}
@@ -30,7 +32,7 @@ use Rattle.gl_verilog_writer.specs.Pieces.{net_name}
 use Rattle.gl_verilog_writer.specs.Design.{port_name, infix_of, named, literal, vector, last_word, declares, takes, does, with_option, numbered, declaring, assigning, shows, showing, clocking, leads, written_port, clock_port, items_of}
 use Rattle.gl_verilog_writer.proofs.Digits.{number_in-decimal}
 use Rattle.gl_verilog_writer.proofs.Model.{Named, at_node, net_of, op_of, declaration_for, expression_of, assigned_to, assignment_for, shown_by, output_for, block_for, counted, declarations_in, line_in, module_in}
-use Rattle.gl_verilog_writer.proofs.Lists.{with-append}
+use Rattle.gl_verilog_writer.proofs.Lists.{with-append, get-from_zero}
 use Rattle.gl_verilog_writer.proofs.Named.{node_found, port_found, port_no_clock}
 use Rattle.gl_verilog_writer.proofs.Fitted.{width-fits, port_end, IsCarried, bus, bit, shown, stored, node-read, carried-width, word-small}
 
@@ -45,17 +47,11 @@ width-back w h =
 bits_to : (m b : ℕ) → 1 ≤ b → b ≤ m → address_bits_to m (2 ^ b) ≡ Some b
 unfolding address_bits_to
 bits_to zero b l h = absurd (omega arith)
-bits_to (suc m) b l h = elim (same b (suc m)) [
+bits_to (suc m) b l h = elim (cases_eq b (suc m)) [
   | inl e ↦ (let f : nat_eq (2 ^ b) (2 ^ suc m) ≡ true = eq-eqb (2 ^ b) (2 ^ suc m) (ap (λ (k : ℕ). 2 ^ k) e) in rw f (ap Some (sym e)))
   | inr ne ↦ (let f : nat_eq (2 ^ b) (2 ^ suc m) ≡ false = ne_eqb (2 ^ b) (2 ^ suc m) (λ q. (let r = pow_below b (suc m) (let s : b < suc m = omega (arith, ne) in s) in omega (arith, q, r))) in
       rw f (bits_to m b l (let s : b ≤ m = omega (arith, ne) in s)))
 ]
-  where
-    same : (a b : ℕ) → (a ≡ b) ⊎ (a ≡ b → ⊥)
-    same zero zero = inl refl
-    same zero (suc b) = inr (λ e. omega arith)
-    same (suc a) zero = inr (λ e. omega arith)
-    same (suc a) (suc b) = elim (same a b) [ inl e ↦ inl (ap suc e) | inr ne ↦ inr (λ e. ne (let q : a ≡ b = omega (arith, e) in q)) ]
 
 pub last-small : (b : ℕ) → IsAddressWidth b → last_word b < 2 ^ 32
 unfolding last_word
@@ -161,10 +157,6 @@ pub some-any : (p : Node → Bool) (xs : List Node) (k : ℕ) (x : Node) → sli
 some-any p [] k x e t = absurd (not_some x e)
 some-any p (z ∷ xs) zero x e t = let f : p z ≡ true = ap p (some_same z x e) ∙ t in rw f refl
 some-any p (z ∷ xs) (suc k) x e t = or_right (p z) (list_any p xs) (some-any p xs k x e t)
-  where
-    or_right : (a b : Bool) → b ≡ true → (a || b) ≡ true
-    or_right true b h = refl
-    or_right false b h = h
 
 module _ (net : Net) (family : ℕ) (c : Named net family) where
   abbrev ds : List Declaration
@@ -317,9 +309,6 @@ module _ (net : Net) (family : ℕ) (c : Named net family) where
   fits : (n : ℕ) (x : Node) → slice_get net.nodes n ≡ Some x → NodeFits net n x
   fits n x e = c.netlist.formed.nodes n x e
 
-  zero_up : (n : ℕ) → 0 + n ≡ n
-  zero_up n = omega arith
-
   -- the ports
   range-back : (name : List ℕ) (d : Direction) (w : ℕ) → IsWidth w → (b : Bool) → (w == 1) ≡ b → declare (port_kind (leads d)) (if b then None else vector w) name ≡ record { name = name; width = w; is_vector = not b; kind = kind_of d }
   range-back name In w i true e = ap (λ (k : ℕ). record { name = name; width = k; is_vector = false; kind = kind_of In }) (sym (eqb-true w 1 e))
@@ -353,20 +342,20 @@ module _ (net : Net) (family : ℕ) (c : Named net family) where
       let a = numbered (assigning family net.ports) 0 net.nodes in
       let o = numbered (showing family) 0 net.ports in
       let b = numbered (clocking family) 0 net.nodes in
-      let ports : map declare_port (map (written_port net.nodes) net.ports) ≡ map (declaration_of net) net.ports = declare-ports 0 net.ports (λ k q e. ap (λ (m : ℕ). slice_get net.ports m) (zero_up k) ∙ e) in
+      let ports : map declare_port (map (written_port net.nodes) net.ports) ≡ map (declaration_of net) net.ports = declare-ports 0 net.ports (λ k q e. get-from_zero net.ports k q e) in
       let order : d ++ a ++ o ++ b ≡ d ++ (a ++ (o ++ (b ++ []))) = ap (λ (z : List WrittenItem). d ++ a ++ o ++ z) (sym (append-nil b)) ∙ append_assoc (d ++ a) o (b ++ []) ∙ append_assoc d a (o ++ (b ++ [])) in
       let r0 : Resolved = record { declarations = ds; assignments = []; blocks = [] } in
       let r1 : Resolved = record { declarations = ds; assignments = []; blocks = numbered (block_for p (line_in net family)) 0 net.nodes ++ [] } in
       let r2 : Resolved = record r1 { assignments = numbered (output_for p) 0 net.ports ++ [] } in
       let blocks = all-blocks ds (clocking family) (block_for p (line_in net family)) 0 net.nodes
-      (λ k x e. clock-by (does family (0 + k) x) (block_for p (line_in net family) (0 + k) x) (clocked-both (0 + k) x) (let z = ap (λ (m : ℕ). slice_get net.nodes m) (zero_up k) ∙ e in block-means (0 + k) x z (fits (0 + k) x z))) [] r0 refl in
+      (λ k x e. clock-by (does family (0 + k) x) (block_for p (line_in net family) (0 + k) x) (clocked-both (0 + k) x) (let z = get-from_zero net.nodes k x e in block-means (0 + k) x z (fits (0 + k) x z))) [] r0 refl in
       let outputs = all-assignments ds (showing family) (output_for p) 0 net.ports
-      (λ k q e. (let z = ap (λ (m : ℕ). slice_get net.ports m) (zero_up k) ∙ e in show-by (0 + k) q z q.direction (c.netlist.formed.ends (0 + k) q z))) (b ++ []) r1 blocks in
+      (λ k q e. (let z = get-from_zero net.ports k q e in show-by (0 + k) q z q.direction (c.netlist.formed.ends (0 + k) q z))) (b ++ []) r1 blocks in
       let values = all-assignments ds (assigning family net.ports) (assignment_for p) 0 net.nodes
-      (λ k x e. (let z = ap (λ (m : ℕ). slice_get net.nodes m) (zero_up k) ∙ e in assign-by (0 + k) x z (takes family net.ports x) (expression_of p x) (assigned-both x) (value-means (0 + k) x (fits (0 + k) x z)))) (o ++ (b ++ [])) r2 outputs in
+      (λ k x e. (let z = get-from_zero net.nodes k x e in assign-by (0 + k) x z (takes family net.ports x) (expression_of p x) (assigned-both x) (value-means (0 + k) x (fits (0 + k) x z)))) (o ++ (b ++ [])) r2 outputs in
       ap (λ (l : List Declaration). resolve_items (clock ∷ l) (d ++ a ++ o ++ b)) ports
       ∙ ap (resolve_items (clock ∷ map (declaration_of net) net.ports)) order
-      ∙ declare-all net family 0 net.nodes (clock ∷ map (declaration_of net) net.ports) (a ++ (o ++ (b ++ []))) (λ k x e. fits (0 + k) x (ap (λ (m : ℕ). slice_get net.nodes m) (zero_up k) ∙ e))
+      ∙ declare-all net family 0 net.nodes (clock ∷ map (declaration_of net) net.ports) (a ++ (o ++ (b ++ []))) (λ k x e. fits (0 + k) x (get-from_zero net.nodes k x e))
       ∙ values
       ∙ ap (λ (z : List Statement). Some (record { declarations = ds; assignments = numbered (assignment_for p) 0 net.nodes ++ (numbered (output_for p) 0 net.ports ++ []); blocks = z })) (append-nil (numbered (block_for p (line_in net family)) 0 net.nodes))
       ∙ ap (λ (z : List Assignment). Some (record { declarations = ds; assignments = numbered (assignment_for p) 0 net.nodes ++ z; blocks = numbered (block_for p (line_in net family)) 0 net.nodes })) (append-nil (numbered (output_for p) 0 net.ports))

@@ -1,5 +1,5 @@
 -- Each run of a netlist's module is one of the netlist.
-use Rattle.std.proofs.Common.{◌≡◌, ℕ, zero, suc, ◌+◌, ◌<◌, ◌^◌, Bool, true, false, ◌&&◌, List, [], ◌∷◌, ◌++◌, length, take, map, Option, Some, None, refl, sym, ap, ◌∙◌, arith, add-one, eq-eqb, ne_eqb}
+use Rattle.std.proofs.Common.{◌≡◌, ℕ, zero, suc, ◌+◌, ◌<◌, ◌^◌, Bool, true, false, ◌&&◌, List, [], ◌∷◌, ◌++◌, length, take, map, Option, Some, None, refl, sym, ap, ◌∙◌, arith, add-one, eq-eqb, ne_eqb, take_at}
 use Rattle.std.specs.Prelude.{slice_get, codes, option_map, option_and_then, unwrap_or, nat_eq, if◌then◌else◌, find, bytes_eq}
 use Rattle.std.proofs.lemmas.List.{length-map}
 use Rattle.std.specs.Option.{option_map_or}
@@ -21,6 +21,7 @@ use Rattle.gl_net.specs.PortValues.{port_values, leads_in, bits_of}
 use Rattle.gl_verilog.specs.Module as verilog
 use Rattle.gl_verilog.specs.Module.{Declaration, Expr, Statement, Assignment, Nets, Memories, value_of, later_or, taken, assigned, written, assigned_by, written_by, number_of}
 use Rattle.gl_verilog.specs.Run.{IsRegister, IsSettled, IsRun, port_of, is_input, is_input_at, input_values}
+use Rattle.gl_verilog.proofs.Edges.{later_or-none}
 use Rattle.gl_verilog_writer.specs.Meaning.{declaration_of, clock, kind_of, IsRunOf}
 use Rattle.gl_verilog_writer.specs.Design.{with_option, numbered}
 use Rattle.gl_verilog_writer.proofs.Model.{Named, at_node, net_of, op_of, kind_for, declaration_for, expression_of, assigned_to, assignment_for, shown_by, output_for, block_for, counted, declarations_in, line_in, module_in}
@@ -28,10 +29,6 @@ use Rattle.gl_verilog_writer.proofs.Lists.{numbered-each}
 use Rattle.gl_verilog_writer.proofs.Named.{node_there, port_there, port_found}
 
 -- ---- the later of what blocks give
-
-later-none : (x : Option ℕ) → later_or x None ≡ x
-later-none None = refl
-later-none (Some x) = refl
 
 module _ (one : Statement → Option ℕ) where
   abbrev latest : List Statement → Option ℕ
@@ -43,7 +40,7 @@ module _ (one : Statement → Option ℕ) where
   given (Some b) = one b
 
   latest-with : (o : Option Statement) (bs : List Statement) → latest (with_option o bs) ≡ later_or (latest bs) (given o)
-  latest-with None bs = sym (later-none (latest bs))
+  latest-with None bs = sym (later_or-none (latest bs))
   latest-with (Some b) bs = refl
 
   latest-none : {A : Type 0} (f : ℕ → A → Option Statement) (n : ℕ) (xs : List A) → ((k : ℕ) (x : A) → slice_get xs k ≡ Some x → given (f (n + k) x) ≡ None) → latest (numbered f n xs) ≡ None
@@ -62,7 +59,7 @@ module _ (one : Statement → Option ℕ) where
   latest-one f n (z ∷ xs) (suc k) x e h =
       let a : given (f n z) ≡ None = ap (λ (m : ℕ). given (f m z)) (let q : n ≡ n + 0 = omega arith in q) ∙ h 0 z refl (λ q. omega arith) in
       let b = latest-one f (n + 1) xs k x e (λ j y g ne. ap (λ (m : ℕ). given (f m y)) (let q : n + 1 + j ≡ n + suc j = omega arith in q) ∙ h (suc j) y g (λ q. ne (let r : j ≡ k = omega (arith, q) in r))) in
-      latest-with (f n z) (numbered f (n + 1) xs) ∙ ap (later_or (latest (numbered f (n + 1) xs))) a ∙ later-none (latest (numbered f (n + 1) xs)) ∙ b ∙ ap (λ (m : ℕ). given (f m x)) (let q : n + 1 + k ≡ n + suc k = omega arith in q)
+      latest-with (f n z) (numbered f (n + 1) xs) ∙ ap (later_or (latest (numbered f (n + 1) xs))) a ∙ later_or-none (latest (numbered f (n + 1) xs)) ∙ b ∙ ap (λ (m : ℕ). given (f m x)) (let q : n + 1 + k ≡ n + suc k = omega arith in q)
 
 assigned-latest : (v : Nets) (m : Memories) (bs : List Statement) (r : ℕ) → assigned_by v m bs r ≡ latest (λ b. assigned v m b r) bs
 assigned-latest v m [] r = refl
@@ -133,10 +130,6 @@ binary-same Lt w x y = refl
 binary-same Le w x y = refl
 
 -- ---- ports by name
-
-front : {A : Type 0} (xs ys : List A) → take (length xs) (xs ++ ys) ≡ xs
-front [] ys = refl
-front {A} (x ∷ xs) ys = ap (λ (l : List A). x ∷ l) (front xs ys)
 
 moved-up : (v : ℕ → Option ℕ) (o : Option ℕ) → option_and_then v (option_map (λ n. n + 1) o) ≡ option_and_then (λ n. v (n + 1)) o
 moved-up v None = refl
@@ -266,7 +259,7 @@ module _ (net : Net) (family : ℕ) (c : Named net family) (value : ℕ → Nets
       let ps = map (declaration_of net) net.ports in
       let ns = counted (declaration_for family) 0 net.nodes in
       let f : bytes_eq (codes "clk") name ≡ false = bytes_other (codes "clk") name (λ q. not_both (bytes_eq name (codes "clk")) (ap (λ (w : List ℕ). bytes_eq w (codes "clk")) (sym q)) e) in
-      let g : take p (ps ++ ns) ≡ ps = ap (λ (m : ℕ). take m (ps ++ ns)) (sym (length-map net.ports (declaration_of net))) ∙ front ps ns in
+      let g : take p (ps ++ ns) ≡ ps = ap (λ (m : ℕ). take m (ps ++ ns)) (sym (length-map net.ports (declaration_of net))) ∙ take_at ps ns (length ps) refl in
       ap (λ (l : List Declaration). option_and_then v (if bytes_eq (codes "clk") name then Some 0 else option_map (λ n. n + 1) (number_of l name))) g
       ∙ ap (λ (b : Bool). option_and_then v (if b then Some 0 else option_map (λ n. n + 1) (number_of ps name))) f
       ∙ moved-up v (number_of ps name)
@@ -304,4 +297,4 @@ pub ports-declared : (net : Net) (family : ℕ) → take (suc (length net.ports)
 ports-declared net family =
     let ps = map (declaration_of net) net.ports in
     let ns = counted (declaration_for family) 0 net.nodes in
-    ap (λ (l : List Declaration). clock ∷ l) (ap (λ (m : ℕ). take m (ps ++ ns)) (sym (length-map net.ports (declaration_of net))) ∙ front ps ns)
+    ap (λ (l : List Declaration). clock ∷ l) (ap (λ (m : ℕ). take m (ps ++ ns)) (sym (length-map net.ports (declaration_of net))) ∙ take_at ps ns (length ps) refl)

@@ -30,6 +30,7 @@ use Rattle.gl_verilog_writer.proofs.Loops.{item-first, items-parts}
 use Rattle.gl_verilog_writer.proofs.Fitted.{width-fits, port_end, bus, bit, shown, stored}
 use Rattle.gl_verilog_writer.proofs.Resolved.{port-width, last-small}
 use Rattle.gl_verilog_writer.proofs.Family.{family-small, family-free}
+use Rattle.gl_verilog_writer.proofs.Lists.{get-from_zero}
 
 -- the text has at most so many bytes
 record Within (most : ℕ) (text : List ℕ) : Type 0 where
@@ -272,9 +273,7 @@ four a b d e = let x = length-append (a ++ b ++ d) e in let y = length-append (a
 
 items-within : (net : Net) (family : ℕ) → Named net family → length net.nodes < 2 ^ 32 → family < 2 ^ 32 → length (more_ports_text (map (written_port net.nodes) net.ports)) + length (items_text (items_of family net.nodes net.ports)) ≤ 200 * length net.nodes + sum_by port_bytes net.ports
 items-within net family c few low =
-    let zero_up : (k : ℕ) → 0 + k ≡ k = λ k. omega arith in
-    let here : (k : ℕ) (x : Node) → slice_get net.nodes k ≡ Some x → slice_get net.nodes (0 + k) ≡ Some x = λ k x e. ap (λ (m : ℕ). slice_get net.nodes m) (zero_up k) ∙ e in
-    let n = nodes-within family net.ports 0 net.nodes (λ k x e. node-within net family c few low (0 + k) x (here k x e) (c.netlist.formed.nodes (0 + k) x (here k x e))) in
+    let n = nodes-within family net.ports 0 net.nodes (λ k x e. node-within net family c few low (0 + k) x (get-from_zero net.nodes k x e) (c.netlist.formed.nodes (0 + k) x (get-from_zero net.nodes k x e))) in
     let p = ports-within net.nodes family 0 net.ports (λ k q e. port-short net family c few low k q e) in
     let t = ap length (items-parts family net.nodes net.ports) in
     let f = four (items_text (numbered (declaring family) 0 net.nodes)) (items_text (numbered (assigning family net.ports) 0 net.nodes)) (items_text (numbered (showing family) 0 net.ports)) (items_text (numbered (clocking family) 0 net.nodes)) in

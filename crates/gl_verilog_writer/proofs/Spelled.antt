@@ -26,7 +26,7 @@ use Rattle.gl_verilog_writer.specs.Design.{port_name, infix_of, named, literal, 
 use Rattle.gl_verilog_writer.proofs.Digits.{IsPlain, IsSize, name-plain, clock-plain, reset-plain, size-decimal, numeral-decimal}
 use Rattle.gl_verilog_writer.proofs.Texts.{IsPrintable, CanPrint, IsRange, IsPrinted, IsPrintedPort, IsPrintedModule, module-spelled}
 use Rattle.gl_verilog_writer.proofs.Model.{Named}
-use Rattle.gl_verilog_writer.proofs.Lists.{numbered-all}
+use Rattle.gl_verilog_writer.proofs.Lists.{numbered-all, get-from_zero}
 use Rattle.gl_verilog_writer.proofs.Fitted.{width-fits, port_end, bus, bit, shown, stored, node-plain, word-small}
 use Rattle.gl_verilog_writer.proofs.Resolved.{last-small, port-width}
 
@@ -201,12 +201,6 @@ module _ (net : Net) (family : ℕ) (c : Named net family) where
       let i = shown net family c q.node f.0 f.1 in
       record { prints = (plain-port place q t, node-plain net family c q.node i.node i.there); grammar = (omega arith, tt); limits = (omega arith, omega arith) }
 
-  here : (k : ℕ) (x : Node) → slice_get net.nodes k ≡ Some x → slice_get net.nodes (0 + k) ≡ Some x
-  here k x e = ap (λ (m : ℕ). slice_get net.nodes m) (let q : 0 + k ≡ k = omega arith in q) ∙ e
-
-  here-port : (k : ℕ) (x : Port) → slice_get net.ports k ≡ Some x → slice_get net.ports (0 + k) ≡ Some x
-  here-port k x e = ap (λ (m : ℕ). slice_get net.ports m) (let q : 0 + k ≡ k = omega arith in q) ∙ e
-
   items-flat : AllByRecursion IsFlatItem (items_of family net.nodes net.ports)
   items-flat =
       let d = numbered (declaring family) 0 net.nodes in
@@ -214,10 +208,10 @@ module _ (net : Net) (family : ℕ) (c : Named net family) where
       let o = numbered (showing family) 0 net.ports in
       let b = numbered (clocking family) 0 net.nodes in
       let fits = c.netlist.formed.nodes in
-      let hd = numbered-all IsFlatItem (declaring family) 0 net.nodes (λ k x e. declaration-flat (0 + k) x (here k x e) (fits (0 + k) x (here k x e))) in
-      let ha = numbered-all IsFlatItem (assigning family net.ports) 0 net.nodes (λ k x e. assign-flat (net_name family (0 + k)) (takes family net.ports x) (node-plain net family c (0 + k) x (here k x e)) (value-flat (0 + k) x (fits (0 + k) x (here k x e)))) in
-      let ho = numbered-all IsFlatItem (showing family) 0 net.ports (λ k q e. show-flat (0 + k) q (here-port k q e) q.direction (c.netlist.formed.ends (0 + k) q (here-port k q e))) in
-      let hb = numbered-all IsFlatItem (clocking family) 0 net.nodes (λ k x e. always-flat (does family (0 + k) x) (block-flat (0 + k) x (here k x e) (fits (0 + k) x (here k x e)))) in
+      let hd = numbered-all IsFlatItem (declaring family) 0 net.nodes (λ k x e. declaration-flat (0 + k) x (get-from_zero net.nodes k x e) (fits (0 + k) x (get-from_zero net.nodes k x e))) in
+      let ha = numbered-all IsFlatItem (assigning family net.ports) 0 net.nodes (λ k x e. assign-flat (net_name family (0 + k)) (takes family net.ports x) (node-plain net family c (0 + k) x (get-from_zero net.nodes k x e)) (value-flat (0 + k) x (fits (0 + k) x (get-from_zero net.nodes k x e)))) in
+      let ho = numbered-all IsFlatItem (showing family) 0 net.ports (λ k q e. show-flat (0 + k) q (get-from_zero net.ports k q e) q.direction (c.netlist.formed.ends (0 + k) q (get-from_zero net.ports k q e))) in
+      let hb = numbered-all IsFlatItem (clocking family) 0 net.nodes (λ k x e. always-flat (does family (0 + k) x) (block-flat (0 + k) x (get-from_zero net.nodes k x e) (fits (0 + k) x (get-from_zero net.nodes k x e)))) in
       all_append IsFlatItem (d ++ a ++ o) b (all_append IsFlatItem (d ++ a) o (all_append IsFlatItem d a hd ha) ho) hb
 
   each-item : (P : WrittenItem → Type 0) → ((i : WrittenItem) → IsFlatItem i → P i) → (is : List WrittenItem) → AllByRecursion IsFlatItem is → AllByRecursion P is
@@ -241,7 +235,7 @@ module _ (net : Net) (family : ℕ) (c : Named net family) where
   pub module-printed : IsPrintedModule written_as
   module-printed = record {
     name = name-there net.name c.netlist.finished.module_name;
-    ports = (record { range = tt; name = clock-plain }, ports-printed 0 net.ports here-port);
+    ports = (record { range = tt; name = clock-plain }, ports-printed 0 net.ports (get-from_zero net.ports));
     items = each-item IsPrinted (λ i h. h.prints) (items_of family net.nodes net.ports) items-flat;
   }
 

@@ -6,7 +6,7 @@ use Rattle.std.proofs.lemmas.List.{drop_all, drop-append-le, append-nil}
 use Rattle.std.proofs.Math.Nat.{add-mod_right}
 use Rattle.std.proofs.lemmas.Nat.{mod_below}
 use Rattle.gl_bits.specs.Results.{Row}
-use Rattle.gl_wire.specs.Wire.{Carried, pending, stream}
+use Rattle.gl_wire.specs.Wire.{pending, stream}
 use Rattle.gl_copies.specs.Lift.{Visits, visits}
 use Rattle.gl_windows.specs.Front.{Front, opening, one_opened, closing, taken, closed_by, states, mid, who_ends}
 use Rattle.gl_windows.proofs.Setting.{Setting}
@@ -18,23 +18,7 @@ abbrev pub of_visit : ℕ × List Row → List Row
 of_visit v = v.1
 
 module _ (front : Setting) where
-  abbrev size : ℕ
-  size = front.size
-
-  abbrev advance : ℕ
-  advance = front.advance
-
-  abbrev count : ℕ
-  count = front.count
-
-  abbrev stride : ℕ
-  stride = front.stride
-
-  abbrev a : Carried
-  a = front.a
-
-  abbrev ins : ℕ → Carried
-  ins = front.ins
+  open front use {size, advance, count, stride, a, ins}
 
   abbrev who : Visits
   who = who_ends size advance count stride a
@@ -134,13 +118,6 @@ module _ (front : Setting) where
     ended_stream l =
         ap (λ z. z ++ option_to_list ((ins (t.closed % count)).tuple (suc c))) (h.on t.closed (omega arith) l).1
         ∙ ap (λ z. drop ((t.closed - base) * advance) xs ++ option_to_list z) (step.tuples (t.closed % count) (within t.closed))
-
-    -- the oldest window's copy is open exactly where a window is open
-    oldest_on : t.closed < t.opened → t.is_open (t.closed % count) ≡ true
-    oldest_on l = (h.on t.closed (omega arith) l).0
-
-    oldest_off : t.opened ≤ t.closed → t.is_open (t.closed % count) ≡ false
-    oldest_off l = (h.off t.closed l (omega (arith, front.copies_some))).0
 
   -- ---- the visits so far
 

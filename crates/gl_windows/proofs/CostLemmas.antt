@@ -1,11 +1,7 @@
 -- What a rotation costs against what a plan counts.
-use Rattle.std.proofs.Common.{◌≡◌, ℕ, ◌+◌, ◌*◌, ◌≤◌, List, length, refl, arith}
-use Rattle.std.specs.List.{sum}
-use Rattle.std.proofs.lemmas.List.Sums.{sum_by-le}
-use Rattle.gl_windows.specs.Costs.{AreNarrow, RotationsAreCounted}
-
-narrow : (columns : List ℕ) → AreNarrow columns → sum columns ≤ length columns * 64
-narrow columns h = sum_by-le (λ (w : ℕ). w) 64 columns h
+use Rattle.std.proofs.Common.{◌≡◌, ◌+◌, ◌*◌, length, refl, arith}
+use Rattle.gl_wire.proofs.CountLemmas.{narrow_sum}
+use Rattle.gl_windows.specs.Costs.{RotationsAreCounted}
 
 pub rotations_are_counted : RotationsAreCounted
 rotations_are_counted copies delay source own hs ho =
@@ -15,6 +11,6 @@ rotations_are_counted copies delay source own hs ho =
     let lines : copies * (o + 1) ≡ copies * o + copies = omega arith in
     record {
       nodes = omega (arith, each, lines);
-      registers = omega (arith, each, lines, narrow source hs, narrow own ho);
+      registers = omega (arith, each, lines, narrow_sum source hs, narrow_sum own ho);
       memories = refl;
     }

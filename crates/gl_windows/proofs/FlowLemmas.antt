@@ -5,7 +5,7 @@ use Rattle.std.proofs.lemmas.Bool.{cases_lt, eqb-true, and_from, and_left, and_r
 use Rattle.std.proofs.lemmas.List.{take_all, drop-append-le, append-nil}
 use Rattle.gl_bits.specs.Lists.{part}
 use Rattle.gl_bits.specs.Results.{Row}
-use Rattle.gl_wire.specs.Wire.{Carried, pending, stream}
+use Rattle.gl_wire.specs.Wire.{pending, stream}
 use Rattle.gl_copies.specs.Lift.{Visits}
 use Rattle.gl_windows.specs.Front.{Front, opening, one_opened, one_nearer, closing, closed_by, counted, next, who_ends}
 use Rattle.gl_windows.specs.Firsts.{firsts}
@@ -15,23 +15,7 @@ use Rattle.gl_copies.proofs.NumberLemmas.{mul_below}
 use Rattle.gl_windows.proofs.CopyLemmas.{Step, Copies, copies_opened, within, copies_next, ended_stream, did, did_none, did_one}
 
 module _ (front : Setting) where
-  abbrev size : ℕ
-  size = front.size
-
-  abbrev advance : ℕ
-  advance = front.advance
-
-  abbrev count : ℕ
-  count = front.count
-
-  abbrev stride : ℕ
-  stride = front.stride
-
-  abbrev a : Carried
-  a = front.a
-
-  abbrev ins : ℕ → Carried
-  ins = front.ins
+  open front use {size, advance, count, stride, a, ins}
 
   abbrev who : Visits
   who = who_ends size advance count stride a

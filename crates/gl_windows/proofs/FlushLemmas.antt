@@ -6,7 +6,7 @@ use Rattle.std.proofs.lemmas.List.{take_all, drop-append-le, append-nil}
 use Rattle.gl_bits.specs.Lists.{part}
 use Rattle.gl_bits.specs.Results.{Row}
 use Rattle.gl_wire.specs.Apart.{Carries, a_tuple, an_end}
-use Rattle.gl_wire.specs.Wire.{Carried, pending, stream}
+use Rattle.gl_wire.specs.Wire.{pending, stream}
 use Rattle.gl_copies.specs.Lift.{Visits}
 use Rattle.gl_windows.specs.Front.{Front, opening, closing, closed_by, counted, next, mid, who_ends}
 use Rattle.gl_windows.specs.Firsts.{firsts}
@@ -17,23 +17,7 @@ use Rattle.gl_windows.proofs.CopyLemmas.{Step, Copies, within, copies_next, ende
 use Rattle.gl_windows.proofs.FlowLemmas.{Flow, Mid, flow_mid}
 
 module _ (front : Setting) where
-  abbrev size : ℕ
-  size = front.size
-
-  abbrev advance : ℕ
-  advance = front.advance
-
-  abbrev count : ℕ
-  count = front.count
-
-  abbrev stride : ℕ
-  stride = front.stride
-
-  abbrev a : Carried
-  a = front.a
-
-  abbrev ins : ℕ → Carried
-  ins = front.ins
+  open front use {size, advance, count, stride, a, ins}
 
   abbrev who : Visits
   who = who_ends size advance count stride a

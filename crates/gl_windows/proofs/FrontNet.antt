@@ -3,6 +3,7 @@ use Rattle.std.proofs.Common.{◌≡◌, ℕ, zero, suc, ◌-◌, ◌<◌, ◌�
 use Rattle.std.specs.Prelude.{nat_eq, not, ◌&&◌, ◌||◌, if◌then◌else◌}
 use Rattle.std.proofs.Math.Nat.{zero-mod}
 use Rattle.gl_bits.specs.Results.{Row}
+use Rattle.gl_bits.proofs.Bools.{eq_turned}
 use Rattle.gl_net.specs.declared.node.Bus.{Bus}
 use Rattle.gl_net.specs.declared.node.Bit.{Bit}
 use Rattle.gl_net.specs.Net.{Net, Run, Keeps}
@@ -25,7 +26,7 @@ use Rattle.gl_windows.specs.declared.parts.Flush.{Flush}
 use Rattle.gl_windows.specs.declared.parts.Trigger.{Trigger}
 use Rattle.gl_windows.specs.declared.parts.Tail.{Tail}
 use Rattle.gl_windows.specs.declared.turns.OpenCopies.{OpenCopies}
-use Rattle.gl_windows.proofs.MachineLemmas.{mirrors_next, taken_is, end_is, any_same, eq_turned}
+use Rattle.gl_windows.proofs.MachineLemmas.{mirrors_next, taken_is, end_is, any_same}
 
 pub takes_of : (n0 n1 n2 n3 n4 : Net) (valid eos tail alone : Bit) (mids ends each last takes : List Bit) → IsGate n0 n1 (λ p q. p && not q) valid eos alone → length ends ≡ length mids
     → AddsLines n1 n2 (length mids) 1 each (with_line Both mids alone) → AddsLines n2 n3 (length ends) 1 last (with_line Both ends tail) → AddsLines n3 n4 (length each) 1 takes (pairs Either each last)

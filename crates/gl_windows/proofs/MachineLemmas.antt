@@ -4,30 +4,14 @@ use Rattle.std.specs.Prelude.{nat_eq, not, ◌&&◌, ◌||◌, if◌then◌else�
 use Rattle.std.proofs.lemmas.Bool.{cases_lt, eq-eqb, ne_eqb}
 use Rattle.std.proofs.lemmas.Bool.Decides.{eqb_tells}
 use Rattle.std.proofs.lemmas.Nat.{div-add-mod', mod-mul-add, mod_below}
+use Rattle.std.proofs.Math.Bool.{and-true, and-false}
 use Rattle.gl_bits.specs.Results.{Row}
-use Rattle.gl_bits.proofs.Bools.{or_none}
+use Rattle.gl_bits.proofs.Bools.{or_none, same_test, eq_turned}
 use Rattle.gl_windows.specs.Front.{Front, opening, one_opened, one_nearer, closing, closed_by, counted, next, taken}
 use Rattle.gl_registers.specs.Held.{counted_down, turned}
 use Rattle.gl_registers.specs.Lines.{any_to}
 use Rattle.gl_windows.specs.Values.{Values, opens_of, trigger_of, mid_of, end_of, valid_of, Steps, Mirrors}
 use Rattle.gl_registers.proofs.LineLemmas.{any_at}
-
-same_test : (a b c d : ℕ) → (a ≡ b → c ≡ d) → (c ≡ d → a ≡ b) → nat_eq a b ≡ nat_eq c d
-same_test a b c d f g = elim (eqb_tells a b) [
-  | inl h ↦ (let e = eq-eqb c d (f h.1) in h.0 ∙ sym e)
-  | inr h ↦ (let e = ne_eqb c d (λ q. h.1 (g q)) in h.0 ∙ sym e)
-]
-
-pub eq_turned : (a b : ℕ) → nat_eq a b ≡ nat_eq b a
-eq_turned a b = same_test a b b a (λ e. sym e) (λ e. sym e)
-
-and_true : (b : Bool) → (b && true) ≡ b
-and_true true = refl
-and_true false = refl
-
-and_false : (b : Bool) → (b && false) ≡ false
-and_false true = refl
-and_false false = refl
 
 pub turned_next : (count n : ℕ) → 1 ≤ count → turned (count - 1) true (n % count) ≡ suc n % count
 turned_next count n some = elim (cases_lt (n % count + 1) count) [
@@ -139,21 +123,21 @@ module _ (count : ℕ) (t : Front) where
 
   closed_flag : (b : Bool) (k : ℕ) → (closed_by count b t).is_open k ≡ (t.is_open k && not (b && nat_eq (t.closed % count) k))
   closed_flag true k = ap (λ q. t.is_open k && not q) (eq_turned k (t.closed % count))
-  closed_flag false k = sym (and_true (t.is_open k))
+  closed_flag false k = sym (and-true (t.is_open k))
 
 closing_by : (count : ℕ) (e v : Bool) (x : Row) (t : Front) (l w : ℕ) (f : Bool) → t.left ≡ l + 1 → t.flush ≡ f → t.wait ≡ w
     → closing count e (tuple_of v x) t ≡ ((e || ((v && nat_eq l 0) || ((f && not v) && nat_eq w 0))) && t.is_open (t.closed % count))
 closing_by count true v x t l w f a b c = refl
 closing_by count false true x t l w f a b c =
     let same : nat_eq t.left 1 ≡ nat_eq l 0 = same_test t.left 1 l 0 (λ h. omega (arith, h, a)) (λ h. omega (arith, h, a)) in
-    rw (same, and_false f, or_none) refl
-closing_by count false false x t l w f a b c = rw (b, c, and_true f) refl
+    rw (same, and-false f, or_none) refl
+closing_by count false false x t l w f a b c = rw (b, c, and-true f) refl
 
 -- the line of one copy is that of the oldest one, at that copy
 at_oldest : (q k : ℕ) (x : Bool) (m : ℕ → Bool) → ((x && nat_eq q k) && m k) ≡ ((x && m q) && nat_eq q k)
 at_oldest q k x m = elim (eqb_tells q k) [
-  | inl h ↦ (let a = h.0 in rw (a, and_true x, and_true (x && m q)) (ap (λ n. x && m n) (sym h.1)))
-  | inr h ↦ (let a = h.0 in rw (a, and_false x, and_false (x && m q)) refl)
+  | inl h ↦ (let a = h.0 in rw (a, and-true x, and-true (x && m q)) (ap (λ n. x && m n) (sym h.1)))
+  | inr h ↦ (let a = h.0 in rw (a, and-false x, and-false (x && m q)) refl)
 ]
 
 count_down_left : (size advance l : ℕ) (e v : Bool) → 1 ≤ size → 1 ≤ advance → counted_down (size - 1) (advance - 1) e v l + 1 ≡ (if e then size else (if v then (if nat_eq (l + 1) 1 then advance else (l + 1 - 1)) else (l + 1)))
@@ -176,9 +160,9 @@ only_mid false true false h = refl
 only_mid false false f h = refl
 
 only_end : (m n f h : Bool) → ((m && false) || (n && (((f && true) && h) && true))) ≡ (n && (f && h))
-only_end m false f h = rw (and_false m) refl
-only_end m true false h = rw (and_false m) refl
-only_end m true true h = rw (and_false m) (and_true h)
+only_end m false f h = rw (and-false m) refl
+only_end m true false h = rw (and-false m) refl
+only_end m true true h = rw (and-false m) (and-true h)
 
 module _ (size advance count stride : ℕ) (hs : 1 ≤ size) (ha : 1 ≤ advance) (hc : 1 ≤ count) (e v : Bool) (x : Row) (s : Front) (p : Values) (m : Mirrors count s p) where
   abbrev pub t : Front
@@ -249,12 +233,12 @@ module _ (size advance count stride : ℕ) (hs : 1 ≤ size) (ha : 1 ≤ advance
 
   after_flush : (e' v' : Bool) (f : Front) → (counted size advance stride e' (tuple_of v' x) f).flush ≡ (e' || (f.flush && not v'))
   after_flush true v' f = refl
-  after_flush false true f = sym (and_false f.flush)
-  after_flush false false f = sym (and_true f.flush)
+  after_flush false true f = sym (and-false f.flush)
+  after_flush false false f = sym (and-true f.flush)
 
   after_wait : (e' v' : Bool) (f : Front) → (counted size advance stride e' (tuple_of v' x) f).wait ≡ counted_down (stride - 1) (stride - 1) e' (f.flush && not v') f.wait
   after_wait true v' f = refl
-  after_wait false true f = rw (and_false f.flush) refl
+  after_wait false true f = rw (and-false f.flush) refl
   after_wait false false f = by f.flush
     where
       by : (b : Bool) → (if b then (if nat_eq f.wait 0 then stride - 1 else (f.wait - 1)) else f.wait) ≡ counted_down (stride - 1) (stride - 1) false (b && true) f.wait
@@ -286,13 +270,13 @@ module _ (size advance count stride : ℕ) (hs : 1 ≤ size) (ha : 1 ≤ advance
             let row : q.row ≡ x = st.row (rw hv refl) ∙ rw hv refl in
             rw (is, row) refl
         by true false he hv h =
-            let is : q.held ≡ false = st.held ∙ rw (he, hv) (and_false p.held) in
+            let is : q.held ≡ false = st.held ∙ rw (he, hv) (and-false p.held) in
             rw is refl
         by false true he hv h = absurd (cc)
         by false false he hv h =
             let b = closing count false (tuple_of false x) s in
             let on : s.flush ≡ true = sym (closed_flush count s b) ∙ h in
-            let is : q.held ≡ p.held = st.held ∙ rw he (and_true p.held) in
+            let is : q.held ≡ p.held = st.held ∙ rw he (and-true p.held) in
             let row : q.row ≡ p.row = st.row (rw hv (m.flush ∙ on)) ∙ rw hv refl in
             rw (is, row) (kept b ∙ m.held on)
 
@@ -353,9 +337,9 @@ module _ (size advance count stride : ℕ) (hs : 1 ≤ size) (ha : 1 ≤ advance
         by true true he hv =
             let row : q.row ≡ x = st.row (rw hv refl) ∙ rw hv refl in
             let f = t_of true in
-            rw (and_false (mid_of true p k), and_true (end_of true true p k), end_at true true he hv, row)
+            rw (and-false (mid_of true p k), and-true (end_of true true p k), end_at true true he hv, row)
             (ap (λ b. if f.is_open (f.closed % count) && b then Some x else None) (eq_turned k (f.closed % count)))
-        by true false he hv = rw (and_false (mid_of false p k), and_false (p.flush && true && p.held), and_false (end_of true false p k)) (if_same (s.is_open (s.closed % count) && nat_eq k (s.closed % count)) None)
+        by true false he hv = rw (and-false (mid_of false p k), and-false (p.flush && true && p.held), and-false (end_of true false p k)) (if_same (s.is_open (s.closed % count) && nat_eq k (s.closed % count)) None)
         by false true he hv =
             let row : q.row ≡ x = st.row (rw hv refl) ∙ rw hv refl in
             ap (λ (b : Bool). if b then Some x else None) (sym (mid_at true hv) ∙ sym (only_mid (mid_of true p k) (end_of false true p k) p.flush p.held))

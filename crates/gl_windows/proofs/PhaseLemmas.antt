@@ -6,7 +6,7 @@ use Rattle.std.proofs.Math.Nat.{le-mul_of_pos_right}
 use Rattle.gl_bits.specs.Lists.{slices}
 use Rattle.gl_bits.specs.Results.{Row}
 use Rattle.gl_wire.specs.Apart.{Carries, a_tuple, an_end}
-use Rattle.gl_wire.specs.Wire.{Carried, pending, stream, rows}
+use Rattle.gl_wire.specs.Wire.{pending, stream, rows}
 use Rattle.gl_wire.proofs.RowsLemmas.{rows-split, pending-rows}
 use Rattle.gl_copies.specs.Lift.{Visits, visits}
 use Rattle.gl_copies.specs.Timed.{Begins, at_first, after_end, NoEnd, Rested}
@@ -21,23 +21,7 @@ use Rattle.gl_windows.proofs.FlowLemmas.{Flowing, flow_mid, flow_tuple, flow_idl
 use Rattle.gl_windows.proofs.FlushLemmas.{Flushing, flow_end, flush_idle, flush_done, fresh}
 
 module _ (front : Setting) where
-  abbrev size : ℕ
-  size = front.size
-
-  abbrev advance : ℕ
-  advance = front.advance
-
-  abbrev count : ℕ
-  count = front.count
-
-  abbrev stride : ℕ
-  stride = front.stride
-
-  abbrev a : Carried
-  a = front.a
-
-  abbrev ins : ℕ → Carried
-  ins = front.ins
+  open front use {size, advance, count, stride, a, ins}
 
   abbrev who : Visits
   who = who_ends size advance count stride a

@@ -11,13 +11,12 @@ use Rattle.gl_wire.specs.Faults.{AreLines, lines_of}
 use Rattle.gl_wire.specs.Shapes.{IsDelayed}
 use Rattle.gl_wire.specs.Spills.{SameLines, both_lines}
 use Rattle.gl_wire.specs.Wire.{IsWire, carried, line_at}
-use Rattle.gl_wire.proofs.ColumnLemmas.{wire_kept}
+use Rattle.gl_wire.proofs.ColumnLemmas.{wire_kept, bit_kept}
 use Rattle.gl_wire.proofs.FaultLemmas.{lines_kept}
 use Rattle.gl_copies.specs.Lift.{tuple_of_any}
 use Rattle.gl_copies.specs.Rotates.{flush_of, lines_of_all}
 use Rattle.gl_registers.specs.Lines.{carried_of}
 use Rattle.gl_registers.specs.Timers.{IsClose, IsCloseLine}
-use Rattle.gl_registers.proofs.LineLemmas.{bit_kept}
 use Rattle.gl_windows.specs.declared.rotation.Fronted.{Fronted}
 use Rattle.gl_windows.specs.declared.rotation.Rotation.{Rotation}
 use Rattle.gl_windows.specs.Front.{IsFront}

@@ -4,7 +4,7 @@ use Rattle.std.specs.Prelude.{option_to_list, nat_eq}
 use Rattle.std.proofs.lemmas.Bool.{cases_lt, eqb-true, and_parts}
 use Rattle.gl_bits.specs.Results.{Row}
 use Rattle.gl_wire.specs.Apart.{Carries, a_tuple, an_end}
-use Rattle.gl_wire.specs.Wire.{Carried, rows}
+use Rattle.gl_wire.specs.Wire.{rows}
 use Rattle.gl_copies.specs.Lift.{Visits, visits}
 use Rattle.gl_copies.specs.Timed.{NoEnd, Rested}
 use Rattle.gl_windows.specs.Front.{Front, opening, closing, states, mid, closes, who_ends}
@@ -13,23 +13,7 @@ use Rattle.gl_windows.proofs.CopyLemmas.{Step, step_at}
 use Rattle.gl_windows.proofs.PhaseLemmas.{Phase, flows, flushes, phase}
 
 module _ (front : Setting) where
-  abbrev size : ℕ
-  size = front.size
-
-  abbrev advance : ℕ
-  advance = front.advance
-
-  abbrev count : ℕ
-  count = front.count
-
-  abbrev stride : ℕ
-  stride = front.stride
-
-  abbrev a : Carried
-  a = front.a
-
-  abbrev ins : ℕ → Carried
-  ins = front.ins
+  open front use {size, advance, count, stride, a, ins}
 
   abbrev who : Visits
   who = who_ends size advance count stride a

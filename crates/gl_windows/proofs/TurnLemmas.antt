@@ -20,12 +20,11 @@ use Rattle.gl_windows.specs.declared.turns.Turn.{Turn}
 use Rattle.gl_wire.proofs.StageLemmas.{line_later}
 use Rattle.std.proofs.lemmas.Option.{slice_get-map}
 use Rattle.gl_net.proofs.Lists.{get_push_cases}
-use Rattle.gl_bits.proofs.AllLists.{get_below, get_front, get_last, length_map}
+use Rattle.gl_bits.proofs.AllLists.{get_below, get_front, get_last, length_map, get_there, get_unmapped}
 use Rattle.gl_registers.specs.Registers.{word_widths, Opens, MayDrive, DrivesAll}
 use Rattle.gl_registers.proofs.CounterLemmas.{pointer_by}
-use Rattle.gl_registers.proofs.RegisterLemmas.{widths_more, place_in, get_take, closed_up, length_taken}
-use Rattle.gl_registers.proofs.LineLemmas.{bits_kept, line_of-get}
-use Rattle.gl_registers.proofs.ListLemmas.{from_map}
+use Rattle.gl_registers.proofs.RegisterLemmas.{widths_more, get_take, closed_up, length_taken}
+use Rattle.gl_registers.proofs.LineLemmas.{bits_kept, line_of-get, line_of-first}
 
 pairs_by : (op : LineOp) (a b : Net) (n count : ℕ) (xs ys bs : List Bit) → AddsLines a b n 1 bs (pairs op xs ys) → n ≡ count → AddsLines a b count 1 bs (pairs op xs ys)
 pairs_by op a b n count xs ys bs h e = subst (λ (m : ℕ). AddsLines a b m 1 bs (pairs op xs ys)) e h
@@ -85,12 +84,6 @@ take_get [] (suc n) k x h l = absurd (cc)
 take_get (y ∷ xs) (suc n) zero x h l = h
 take_get (y ∷ xs) (suc n) (suc k) x h l = take_get xs n k x h (omega (arith, l))
 
-line_of-first : (run : Run) (bs : List Bit) (k : ℕ) → line_of run bs k 0 ≡ false
-unfolding line_of line_at
-line_of-first run [] k = refl
-line_of-first run (b ∷ bs) zero = refl
-line_of-first run (b ∷ bs) (suc k) = line_of-first run bs k
-
 any_false : (n : ℕ) (f : ℕ → Bool) → ((k : ℕ) → f k ≡ false) → any_to n f ≡ false
 any_false zero f h = refl
 any_false (suc n) f h = rw (any_false n f h, h n) refl
@@ -120,7 +113,7 @@ module _ (n0 n1 : Net) (count : ℕ) (zero_word first : Word) (regs : List Bus) 
   pub flags_are : AreBits n1 (map to_bit (take count regs))
   flags_are = record {
     each = λ k x h.
-        let m = from_map to_bit (take count regs) k x h in
+        let m = get_unmapped to_bit (take count regs) k x h in
         let t = get_take regs count k m.0 m.1 in
         subst (IsBit n1) m.2 (record { there = (o.each k m.0 t.0).there ∙ ap (λ (w : ℕ). Some (Value w)) (flag_width k m.0 t.0 t.1) });
   }
@@ -154,12 +147,12 @@ module _ (n0 n1 : Net) (count : ℕ) (zero_word first : Word) (regs : List Bus) 
     may_drive = record {
       count = length-append (map to_bus r.kept) (r.next ∷ []) ∙ ap (λ n. n + 1) kept_length ∙ sym regs_length;
       each = λ k b h. elim (get_push_cases (map to_bus r.kept) r.next k b h) [
-        | inl e ↦ (let m = from_map to_bus r.kept k b e in subst (IsBus n2) m.2 (bit_bus m.0 (turns.kept.each k m.0 m.1)))
+        | inl e ↦ (let m = get_unmapped to_bus r.kept k b e in subst (IsBus n2) m.2 (bit_bus m.0 (turns.kept.each k m.0 m.1)))
         | inr e ↦ subst (IsBus n2) e.1 turns.next
       ];
       widths = λ k b d h i. elim (get_push_cases (map to_bus r.kept) r.next k d i) [
         | inl e ↦
-            (let m = from_map to_bus r.kept k d e in
+            (let m = get_unmapped to_bus r.kept k d e in
             let l = get_below r.kept k m.0 m.1 in
             ap (λ (x : Bus). x.width) (sym m.2) ∙ sym (flag_width k b h (omega (arith, l, turns.kept_count))))
         | inr e ↦
@@ -185,8 +178,8 @@ module _ (n0 n1 : Net) (count : ℕ) (zero_word first : Word) (regs : List Bus) 
             mid = turns.mid run r2;
             end = turns.end run r2;
             flag = λ k t l.
-                let at = place_in regs k (let e = regs_length in omega (arith, e, l)) in
-                let kept = place_in r.kept k (omega (arith, l, turns.kept_count)) in
+                let at = get_there regs k (let e = regs_length in omega (arith, e, l)) in
+                let kept = get_there r.kept k (omega (arith, l, turns.kept_count)) in
                 line_of-get run (map to_bit (take count regs)) k (to_bit at.0) (suc t) (slice_get-map to_bit (take count regs) k ∙ ap (option_map to_bit) (take_get regs count k at.0 at.1 l))
                 ∙ line_later run kept.0 (to_bit at.0) (o.start k at.0 zero_word at.1 (word_of k l) run r1 ∙ zero_bits) (λ u. d.value k at.0 (to_bus kept.0) at.1 (next_of k kept.0 kept.1) run r3 u) t
                 ∙ sym (line_of-get run r.kept k kept.0 t kept.1) ∙ turns.stays run r2 k t l;

@@ -1,11 +1,12 @@
 -- The law of windows: a rotation of a stream's tuples over copies of a body serves what the body makes of each window, with the figures
 -- of windows.
-use Rattle.std.proofs.Common.{◌≡◌, ℕ, zero, suc, ◌+◌, ◌-◌, ◌*◌, ◌<◌, ◌≤◌, max, List, Option, Some, Bool, true, false, ◌||◌, refl, sym, ap, ◌∙◌, arith, mul-le-mul_right}
+use Rattle.std.proofs.Common.{◌≡◌, ℕ, zero, suc, ◌+◌, ◌-◌, ◌*◌, ◌<◌, ◌≤◌, max, List, Option, Some, Bool, false, ◌||◌, refl, sym, ap, ◌∙◌, arith, mul-le-mul_right}
 use Rattle.gl_bits.specs.Lists.{slices}
 use Rattle.gl_bits.specs.Results.{Row, Results, AreJoined, IsOfParts}
+use Rattle.gl_bits.proofs.Bools.{or_none}
 use Rattle.gl_algebra.specs.declared.figures.Figures.{Figures}
 use Rattle.std.proofs.lemmas.Grind.{div_ceil_times}
-use Rattle.gl_algebra.proofs.FigureLemmas.{one_copy}
+use Rattle.gl_algebra.proofs.FigureLemmas.{one_copy, last_of-some}
 use Rattle.gl_algebra.specs.Fits.{copies_of_window}
 use Rattle.gl_algebra.proofs.SoundLemmas.{windows_sound}
 use Rattle.gl_algebra.specs.FigureTable.{IsSound, stride_of, window_gap, windows_over, last_of}
@@ -124,14 +125,10 @@ module _ (s : Figures) (sound : IsSound s) (size advance count : ℕ) (a : Carri
   }
 
 -- the table's row is that of such a whole
-last_of_some : (n x y : ℕ) → 1 ≤ n → last_of n x y ≡ y
-last_of_some zero x y l = absurd (omega (arith, l))
-last_of_some (suc n) x y l = refl
-
 pub window_table : (count : ℕ) (f s : Figures) → 1 ≤ count → IsSound s → OverCopies f s (windows_over count f s) count (window_gap s) (rest_gap count s) (λ n. n) (λ n. max n 1 - 1 + count)
 window_table count f s some sound = record {
   a = refl;
-  lt = λ l. last_of_some (f.nt * s.ne) (f.a + s.a + 2) (f.lt + s.le + 2) l;
+  lt = λ l. last_of-some (f.nt * s.ne) (f.a + s.a + 2) (f.lt + s.le + 2) l;
   le = omega arith;
   nt = refl;
   ne = refl;
@@ -185,12 +182,8 @@ module _ (f s : Figures) (sound_f : IsSound f) (sound_s : IsSound s) (closing : 
         parts_spill = q.2;
         of_source = q.3;
         of_parts = q.4;
-        any = q.5 ∙ sym (no_more (q.1 || q.2));
+        any = q.5 ∙ sym (or_none (q.1 || q.2));
       }) (serving_then f h means (λ xs ys p. AreJoined m (slices size advance xs) ys p) before (lines_of_all lines count) beats a b x y)
-    where
-      no_more : (x : Bool) → (x || false) ≡ x
-      no_more true = refl
-      no_more false = refl
 
 -- for a body of a plan
 pub rotations_serve : RotationsServe

@@ -1,8 +1,9 @@
 -- What a rotation costs: its front with the line of ends, and its back.
 use Rattle.std.specs.Prelude.{◌≡◌, ℕ, ◌+◌, ◌*◌, ◌≤◌, List, length}
-use Rattle.std.specs.List.{All, sum}
+use Rattle.std.specs.List.{sum}
 use Rattle.gl_algebra.specs.Weights.{weight_of_copies}
 use Rattle.gl_wire.specs.Costs.{Cost}
+use Rattle.gl_wire.specs.Counted.{AreNarrow}
 use Rattle.gl_registers.specs.Joins.{cost_of_back}
 
 -- a front of so many copies over a source of these columns, and the line of ends, which comes so many cycles behind a timer
@@ -23,9 +24,6 @@ cost_of_rotation copies delay source own =
       registers = front.registers + back.registers;
       memories = front.memories + back.memories;
     }
-
-abbrev pub AreNarrow : List ℕ → Type 0
-AreNarrow columns = All (λ w. w ≤ 64) columns
 
 -- a node for each of the weight, 64 bits of registers for each of what is counted lean, and no memory
 pub record IsCounted (cost : Cost) (weight lean : ℕ) : Type 0 where

@@ -4,7 +4,8 @@ use Rattle.std.specs.Prelude.{slice_get, slice_index}
 use Rattle.std.proofs.lemmas.List.Sums.{sum_by-append, sum_by-cons}
 use Rattle.std.specs.List.{sum}
 use Rattle.gl_net.specs.declared.node.Bus.{Bus}
-use Rattle.gl_net.specs.Net.{Net, Run, IsBus, Keeps}
+use Rattle.gl_net.specs.declared.node.Bit.{Bit}
+use Rattle.gl_net.specs.Net.{Net, Run, IsBit, IsBus, Keeps}
 use Rattle.gl_net.proofs.Determined.{keeps_then}
 use Rattle.gl_net.proofs.Growth.{same_keeps}
 use Rattle.gl_wire.specs.declared.wire.Wire.{Wire}
@@ -19,11 +20,6 @@ row_at-push run t (x ∷ bs) b = ap (λ l. run.at t x.node ∷ l) (row_at-push r
 pub row_at-none : (run : Run) (t : ℕ) → row_at run t [] ≡ []
 unfolding row_at
 row_at-none run t = refl
-
--- the row of one column
-pub row_at-one : (run : Run) (t : ℕ) (b : Bus) → row_at run t (b ∷ []) ≡ run.at t b.node ∷ []
-unfolding row_at
-row_at-one run t b = refl
 
 -- the value in a row of the column at a place
 pub row_at-value : (run : Run) (t : ℕ) (bs : List Bus) (k : ℕ) (b : Bus) → slice_get bs k ≡ Some b → slice_index (row_at run t bs) k ≡ run.at t b.node
@@ -71,7 +67,17 @@ AreBuses-append net bs cs h i = record { each = appended net bs cs h.each i.each
 pub AreBuses-none : (net : Net) → AreBuses net []
 AreBuses-none net = record { each = λ k x e. absurd (cc) }
 
--- a bus, a list of buses and a wire stay what they are
+-- columns of the same widths
+pub same_length : (xs ys : List Bus) → widths xs ≡ widths ys → length xs ≡ length ys
+same_length [] [] h = refl
+same_length [] (y ∷ ys) h = absurd (cc)
+same_length (x ∷ xs) [] h = absurd (cc)
+same_length (x ∷ xs) (y ∷ ys) h = let t : widths xs ≡ widths ys = cc in ap suc (same_length xs ys t)
+
+-- a bit, a bus, a list of buses and a wire stay what they are
+pub bit_kept : (old new : Net) (b : Bit) → Keeps old new → IsBit old b → IsBit new b
+bit_kept old new b g i = record { there = g.shapes b.node _ i.there }
+
 pub bus_kept : (old new : Net) (b : Bus) → Keeps old new → IsBus old b → IsBus new b
 bus_kept old new b g i = record { there = g.shapes b.node _ i.there; width = i.width }
 
@@ -89,7 +95,7 @@ wire_kept old new w g h = record {
 pub sum-one : (x : ℕ) → sum (x ∷ []) ≡ x
 sum-one x = sum_by-cons (λ (y : ℕ). y) x [] ∙ omega arith
 
-sum-push : (xs : List ℕ) (x : ℕ) → sum (xs ++ x ∷ []) ≡ sum xs + x
+pub sum-push : (xs : List ℕ) (x : ℕ) → sum (xs ++ x ∷ []) ≡ sum xs + x
 sum-push xs x = sum_by-append (λ (y : ℕ). y) xs (x ∷ []) ∙ ap (λ (n : ℕ). sum xs + n) (sum-one x)
 
 pub later_none : (net : Net) → AreLater net net [] []

@@ -1,7 +1,8 @@
 -- What gates give for lines, in each cycle, the reset cycle included.
-use Rattle.std.proofs.Common.{◌≡◌, ℕ, zero, suc, ◌<◌, Some, Bool, true, false, refl, ap, ◌∙◌, arith}
-use Rattle.std.specs.Prelude.{nat_eq, not, ◌&&◌, ◌||◌, bit_and, bit_or}
-use Rattle.gl_bits.specs.Words.{bit, eq_of, lt_of}
+use Rattle.std.proofs.Common.{◌≡◌, ℕ, zero, suc, ◌<◌, Some, false, refl, ap, ◌∙◌, arith}
+use Rattle.std.specs.Prelude.{nat_eq, not, ◌&&◌, ◌||◌, bit_and, bit_or, if◌then◌else◌}
+use Rattle.gl_bits.proofs.Bools.{bit_is}
+use Rattle.gl_bits.specs.Words.{choose_of, eq_of, lt_of}
 use Rattle.gl_net.specs.declared.node.Bus.{Bus}
 use Rattle.gl_net.specs.declared.node.Bit.{Bit}
 use Rattle.gl_net.specs.Net.{Net, Run, IsRun, IsBit, IsBus, Keeps, Value, shape_in}
@@ -37,11 +38,18 @@ less_bits x (suc (suc y)) hx hy = absurd (omega arith)
 
 equal_bits : (x y : ℕ) → nat_eq (eq_of x y) 1 ≡ nat_eq x y
 unfolding eq_of
-equal_bits x y = by (nat_eq x y)
-  where
-    by : (b : Bool) → nat_eq (bit b) 1 ≡ b
-    by true = refl
-    by false = refl
+equal_bits x y = bit_is (nat_eq x y)
+
+-- a choice by a line
+pub choose_line : (run : Run) (line : Bit) (y n t : ℕ) → choose_of (run.at (suc t) line.node) y n ≡ (if line_at run line (suc t) then y else n)
+unfolding choose_of line_at
+choose_line run line y n t = refl
+
+-- a line that carries 0 is never 1
+pub never_line : (run : Run) (b : Bit) → ((t : ℕ) → run.at t b.node ≡ 0) → (t : ℕ) → line_at run b t ≡ false
+unfolding line_at
+never_line run b h zero = refl
+never_line run b h (suc t) = ap (λ v. nat_eq v 1) (h (suc t))
 
 module _ (run : Run) (x y b : Bit) where
   both_line : ((t : ℕ) → run.at t b.node ≡ bit_and (run.at t x.node) (run.at t y.node)) → ((t : ℕ) → run.at t x.node < 2) → ((t : ℕ) → run.at t y.node < 2) → (t : ℕ) → line_at run b t ≡ (line_at run x t && line_at run y t)

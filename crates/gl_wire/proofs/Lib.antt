@@ -2,6 +2,7 @@ pub mod ColumnLemmas
 pub mod RowsLemmas
 pub mod StageLemmas
 pub mod GateLemmas
+pub mod CountLemmas
 pub mod FaultLemmas
 pub mod DelayLemmas
 pub mod SteadyLemmas

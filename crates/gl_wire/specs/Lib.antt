@@ -8,6 +8,7 @@ pub mod Pace
 pub mod Apart
 pub mod Sides
 pub mod Costs
+pub mod Counted
 pub mod Stages
 pub mod Gates
 pub mod Faults

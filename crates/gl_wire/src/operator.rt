@@ -48,5 +48,6 @@ pub trait Operator {
         requires columns { takes self.now (widths below.wire.columns) }
         ensures behind { IfOk result (IsBehind net.old net.new (shape self.now)
             (gives self.now (widths below.wire.columns)) (most self.now (widths below.wire.columns)) below) }
-        ensures serves { IfOk result (ServesIn net.new (figures_of self.now) (means self.now) below) };
+        ensures serves { IfOk result
+            (ServesIn net.new (figures_of self.now) (means self.now) below) };
 }

@@ -1,6 +1,5 @@
 -- Input ports column by column and stream by stream.
-use Rattle.std.proofs.Common.{ℕ, zero, suc, ◌+◌, ◌<◌, List, [], ◌∷◌, ◌++◌, length, ◌∙◌, arith, get_or}
-use Rattle.std.specs.List.{AllByRecursion}
+use Rattle.std.proofs.Common.{ℕ, ◌+◌, List, [], ◌∷◌, ◌++◌, ◌∙◌}
 use Rattle.gl_schema.specs.declared.schema.Column.{Column}
 use Rattle.gl_schema.specs.Ports.{in_column}
 use Rattle.gl_net.specs.declared.node.Bus.{Bus}
@@ -21,11 +20,6 @@ inputs_push net s [] [] c b h p q = ((p, q), tt)
 inputs_push net s [] (d ∷ bs) c b h p q = absurd h
 inputs_push net s (d ∷ cs) [] c b h p q = absurd h
 inputs_push net s (d ∷ cs) (e ∷ bs) c b h p q = (h.0, inputs_push net s cs bs c b h.1 p q)
-
-pub all_at : {A : Type 0} (P : A → Type 0) (xs : List A) (i : ℕ) (d : A) → AllByRecursion P xs → i < length xs → P (get_or xs i d)
-all_at P [] i d h lt = absurd (omega arith)
-all_at P (x ∷ xs) zero d h lt = h.0
-all_at P (x ∷ xs) (suc i) d h lt = all_at P xs i d h.1 (omega arith)
 
 -- what has been added stays behind what is added next
 pub extends_then : (a b c : Net) → Extends a b → Extends b c → Extends a c

@@ -8,12 +8,12 @@ use Rattle.gl_net.specs.declared.node.Bit.{Bit}
 use Rattle.gl_net.specs.declared.node.Bus.{Bus}
 use Rattle.gl_net.specs.declared.node.Direction.TheVariants.{Out}
 use Rattle.gl_net.proofs.Determined.{keeps_then}
-use Rattle.gl_queue.proofs.MergeLinesLemmas.{never_is}
 use Rattle.gl_schema.specs.Ports.{out_valid, out_column, out_eos, fault_group, fault_queue}
 use Rattle.gl_wire.specs.Stages.{IsLaterLine}
 use Rattle.gl_wire.specs.Wire.{line_at, widths}
 use Rattle.gl_wire.proofs.ColumnLemmas.{bus_kept, widths-push}
 use Rattle.gl_wire.proofs.StageLemmas.{line_first}
+use Rattle.gl_wire.proofs.GateLemmas.{never_line}
 use Rattle.gl_wiring.specs.Emitted.{CostsNothing, Extends, Puts}
 use Rattle.gl_wiring.specs.EmittedPorts.{output}
 use Rattle.gl_wiring.specs.Output.{AreShown, IsFault, group_cost, named_outputs, output_ports, queue_cost}
@@ -55,7 +55,7 @@ sticky_is run line next sticky start later either = record { first = refl; next 
     by (suc t) = ap (λ v. nat_eq v 1) (later t) ∙ either (suc t)
 
 pub low_is : (run : Run) (low : Bit) → ((t : ℕ) → run.at t low.node ≡ 0) → IsSticky (λ t. false) (line_at run low)
-low_is run low h = record { first = never_is run low h 0; next = λ t. rw (never_is run low h (suc t), never_is run low h t) refl }
+low_is run low h = record { first = never_line run low h 0; next = λ t. rw (never_line run low h (suc t), never_line run low h t) refl }
 
 -- the same behind a line that is the same
 sticky_same : (p q sticky : ℕ → Bool) → ((t : ℕ) → p t ≡ q t) → IsSticky p sticky → IsSticky q sticky

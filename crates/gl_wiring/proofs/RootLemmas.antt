@@ -3,9 +3,11 @@ use Rattle.std.proofs.Common.{◌≡◌, ℕ, zero, suc, ◌+◌, ◌-◌, ◌<�
 use Rattle.std.specs.Prelude.{option_to_list}
 use Rattle.std.proofs.lemmas.List.{append-nil}
 use Rattle.std.proofs.lemmas.Bool.{cases_lt, false_from_ne_true, or_cases}
+use Rattle.std.proofs.Math.Bool.{or-true}
 use Rattle.gl_algebra.specs.declared.figures.Figures.{Figures}
 use Rattle.gl_algebra.specs.FigureTable.{IsSound}
 use Rattle.gl_bits.specs.Results.{Row, Results}
+use Rattle.gl_bits.proofs.Bools.{same_when}
 use Rattle.gl_wire.specs.Beats.{Beats, Ends, Spaced}
 use Rattle.gl_wire.specs.Serves.{OneEnd, Caused}
 use Rattle.gl_wire.specs.Shapes.{IsDelayed}
@@ -15,12 +17,6 @@ use Rattle.gl_wire.proofs.RowsLemmas.{rows-split, pending-rows}
 use Rattle.gl_wire.specs.Serving.{Serving}
 use Rattle.gl_wire.proofs.SideLemmas.{none_unless}
 use Rattle.gl_wiring.specs.Root.{IsSticky, OneStream, ShowsRight, later_line}
-
--- two bits that are 1 together are equal
-alike_bits : (p q : Bool) → (p ≡ true → q ≡ true) → (q ≡ true → p ≡ true) → p ≡ q
-alike_bits true q h i = sym (h refl)
-alike_bits false true h i = i refl
-alike_bits false false h i = refl
 
 -- a line that is never 1 is not so a cycle later
 low_later : (line : ℕ → Bool) → ((c : ℕ) → line c ≡ false) → (c : ℕ) → later_line line c ≡ false
@@ -36,14 +32,10 @@ module _ (line sticky : ℕ → Bool) (s : IsSticky line sticky) where
   sticky_later zero c h = let e : zero + c ≡ c = omega arith in rw e h
   sticky_later (suc n) c h = let e : suc n + c ≡ suc (n + c) = omega arith in rw e (sticky_lasts (n + c) (sticky_later n c h))
 
-  or_true : (b : Bool) → (b || true) ≡ true
-  or_true true = refl
-  or_true false = refl
-
   -- it is 1 behind every cycle in which the line was
   sticky_after : (c d : ℕ) → c < d → line c ≡ true → sticky d ≡ true
   sticky_after c d l h =
-      let here : sticky (suc c) ≡ true = s.next c ∙ ap (λ (b : Bool). sticky c || b) h ∙ or_true (sticky c) in
+      let here : sticky (suc c) ≡ true = s.next c ∙ ap (λ (b : Bool). sticky c || b) h ∙ or-true (sticky c) in
       let e : (d - suc c) + suc c ≡ d = omega arith in subst (λ (i : ℕ). sticky i ≡ true) e (sticky_later (d - suc c) (suc c) here)
 
   -- and only there
@@ -88,9 +80,9 @@ root_shows f means lines beats b o group queue last sound spaced one s d g q = r
   none_later = none_later;
   no_overflow = sticky_none (later_line lines.passed) queue q (low_later lines.passed s.low);
   meets = subst (λ (xs : List Row). means last xs (group (suc end.at))) (sym (rows_shown b o d end.at ∙ sym (first_stream b end.at quiet)))
-      (subst (means last (stream b end.at)) (alike_bits (s.spill last) (group (suc end.at)) told so) (s.right last end.at one.is end.here));
+      (subst (means last (stream b end.at)) (same_when (s.spill last) (group (suc end.at)) told so) (s.right last end.at one.is end.here));
   lasts = sticky_lasts lines.further group g;
-  stays = λ c l. alike_bits (group c) (group (suc end.at))
+  stays = λ c l. same_when (group c) (group (suc end.at))
       (λ h. let x = sticky_from lines.further group g c h in
       sticky_after lines.further group g x.0 (suc end.at) (before_end x.0 x.2) x.2)
       (λ h. let x = sticky_from lines.further group g (suc end.at) h in

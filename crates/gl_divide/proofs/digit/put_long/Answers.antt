@@ -3,7 +3,8 @@ use Rattle.gl_bits.specs.Words.{difference_of}
 use Rattle.gl_net.proofs.Determined.{keeps_then}
 use Rattle.gl_net.proofs.Values.{bus_fits}
 use Rattle.gl_wire.specs.Wire.{line_at}
-use Rattle.gl_divide.proofs.DigitNet.{bit_kept, long_left, long_line}
+use Rattle.gl_wire.proofs.ColumnLemmas.{bit_kept}
+use Rattle.gl_divide.proofs.DigitNet.{long_left, long_line}
 use Rattle.gl_divide.proofs.RestLemmas.{is_long}
 use Rattle.gl_divide.proofs.digit.put_long.Goals as goal
 

@@ -1,13 +1,14 @@
 use Rattle.std.proofs.Common.{◌≡◌, ℕ, suc, ◌+◌, ◌*◌, ◌^◌, ◌<◌, ap, arith, sym, subst, ◌∙◌}
 use Rattle.gl_bits.specs.Words.{bit, difference_of, join_of}
+use Rattle.gl_bits.proofs.Wrapping.{cut_low}
 use Rattle.gl_net.proofs.Determined.{keeps_then}
 use Rattle.gl_net.proofs.Values.{bus_fits}
 use Rattle.gl_net.specs.Net.{Keeps, Run, IsRun}
 use Rattle.gl_wire.specs.Wire.{line_at}
-use Rattle.gl_wire.proofs.ColumnLemmas.{bus_kept}
+use Rattle.gl_wire.proofs.ColumnLemmas.{bus_kept, bit_kept}
 use Rattle.gl_divide.specs.Division.{highest}
-use Rattle.gl_divide.proofs.BitLemmas.{cut_low, none_above}
-use Rattle.gl_divide.proofs.DigitNet.{bit_kept, joined_value, short_left, short_line}
+use Rattle.gl_divide.proofs.BitLemmas.{none_above}
+use Rattle.gl_divide.proofs.DigitNet.{joined_value, short_left, short_line}
 use Rattle.gl_divide.proofs.digit.put_short.Goals as goal
 
 pub choose-requires-clause-yes : goal.choose-requires-clause-yes

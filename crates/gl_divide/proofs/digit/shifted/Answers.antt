@@ -2,7 +2,8 @@ use Rattle.std.proofs.Common.{ℕ, ◌-◌, ap, arith, ◌∙◌, sym}
 use Rattle.gl_bits.specs.Words.{cut_of, join_of}
 use Rattle.gl_net.proofs.Determined.{keeps_then}
 use Rattle.gl_net.proofs.Growth.{same_keeps}
-use Rattle.gl_divide.proofs.DigitNet.{bit_kept, bus_of, shifted_more, shifted_one}
+use Rattle.gl_wire.proofs.ColumnLemmas.{bit_kept}
+use Rattle.gl_divide.proofs.DigitNet.{bus_of, shifted_more, shifted_one}
 use Rattle.gl_divide.proofs.digit.shifted.Goals as goal
 
 pub returns-then-bus-eq1 : goal.returns-then-bus-eq1

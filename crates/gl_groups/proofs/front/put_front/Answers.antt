@@ -1,6 +1,5 @@
 use Rattle.gl_net.proofs.Determined.{keeps_then}
-use Rattle.gl_wire.proofs.ColumnLemmas.{buses_kept, wire_kept}
-use Rattle.gl_registers.proofs.LineLemmas.{bit_kept}
+use Rattle.gl_wire.proofs.ColumnLemmas.{buses_kept, wire_kept, bit_kept}
 use Rattle.gl_groups.proofs.FrontNet.{fronts_are}
 use Rattle.gl_groups.proofs.front.put_front.Goals as goal
 

@@ -2,8 +2,8 @@ use Rattle.std.proofs.Common.{ℕ, Bool, ap, arith, ◌∙◌}
 use Rattle.std.specs.Prelude.{not, ◌&&◌}
 use Rattle.gl_net.proofs.Determined.{keeps_then}
 use Rattle.gl_wire.specs.Wire.{line_at}
+use Rattle.gl_wire.proofs.ColumnLemmas.{bit_kept}
 use Rattle.gl_registers.specs.Held.{counted_down, held_at}
-use Rattle.gl_registers.proofs.LineLemmas.{bit_kept}
 use Rattle.gl_groups.proofs.parts.count_flush.Goals as goal
 
 pub returns : goal.returns

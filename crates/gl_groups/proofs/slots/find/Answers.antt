@@ -1,6 +1,6 @@
 use Rattle.std.proofs.Common.{arith}
 use Rattle.gl_net.proofs.Determined.{keeps_then}
-use Rattle.gl_registers.proofs.LineLemmas.{bit_kept}
+use Rattle.gl_wire.proofs.ColumnLemmas.{bit_kept}
 use Rattle.gl_groups.proofs.ChainLemmas.{found_line}
 use Rattle.gl_groups.proofs.slots.find.Goals as goal
 

@@ -1,6 +1,7 @@
 use Rattle.std.proofs.Common.{arith, refl, ◌∙◌}
 use Rattle.gl_net.proofs.Determined.{keeps_then}
-use Rattle.gl_groups.proofs.ChainLemmas.{key_law, one_closed}
+use Rattle.gl_net.proofs.Drive.{driven_keeps}
+use Rattle.gl_groups.proofs.ChainLemmas.{key_law}
 use Rattle.gl_groups.proofs.slots.keep_key.Goals as goal
 
 pub returns : goal.returns
@@ -11,7 +12,7 @@ returns c =
     let next = c.in_ok-next.ensures in
     let drive = c.in_ok-drive.ensures in
     record {
-      keeps = one_closed c.args.net.now c.register.new.self c.choose.new.self c.drive.new.self c.in_ok-key.key.node register.grows register.ports register.name register.others register.fresh
+      keeps = driven_keeps c.args.net.now c.register.new.self c.choose.new.self c.drive.new.self c.in_ok-key.key.node register.grows register.ports register.name register.others register.fresh
           (keeps_then c.register.new.self c.find.new.net c.choose.new.self found.keeps (keeps_then c.find.new.net c.take.new.net c.choose.new.self taken.keeps next.keeps))
           drive.grows drive.ports drive.name drive.others drive.driven;
       used = refl;

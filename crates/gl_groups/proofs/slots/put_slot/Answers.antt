@@ -1,8 +1,8 @@
 use Rattle.std.proofs.Common.{suc, ap, arith, ◌∙◌}
 use Rattle.gl_net.specs.declared.node.Bit.{Bit}
+use Rattle.gl_net.proofs.Drive.{driven_keeps}
 use Rattle.gl_wire.specs.Wire.{line_at}
 use Rattle.gl_wire.proofs.StageLemmas.{line_later}
-use Rattle.gl_groups.proofs.ChainLemmas.{one_closed}
 use Rattle.gl_groups.proofs.slots.put_slot.Goals as goal
 
 pub returns : goal.returns
@@ -11,7 +11,7 @@ returns c =
     let slot = c.in_ok-slot.ensures in
     let drive = c.in_ok-drive.ensures in
     record {
-      keeps = one_closed c.args.net.now c.register.new.self c.keep_key.new.net c.drive.new.self c.in_ok-used.used.node register.grows register.ports register.name register.others register.fresh
+      keeps = driven_keeps c.args.net.now c.register.new.self c.keep_key.new.net c.drive.new.self c.in_ok-used.used.node register.grows register.ports register.name register.others register.fresh
           slot.keeps drive.grows drive.ports drive.name drive.others drive.driven;
       key_bus = record { there = drive.grows.shapes _ _ slot.key_bus.there; width = slot.key_bus.width };
       key_width = slot.key_width;

@@ -1,5 +1,4 @@
-use Rattle.gl_wire.proofs.ColumnLemmas.{bus_kept}
-use Rattle.gl_registers.proofs.LineLemmas.{bit_kept}
+use Rattle.gl_wire.proofs.ColumnLemmas.{bus_kept, bit_kept}
 use Rattle.gl_groups.proofs.ChainLemmas.{slots_more, slots_none}
 use Rattle.gl_groups.proofs.slots.put_slots.Goals as goal
 

@@ -97,8 +97,8 @@ put_node-returns-in_ok-e-in-Body t c =
     body_put c.args.plan.now c.args.id c.args.net.now c.args.leaves.now c.node.ensures.plan c.requires.leaved c.in_ok-e-in-Body.e
     c.in-Body.field-0 (c.node.ensures.node ∙ ap Some c.in-Body.is) c.in_ok-e-in-Body.ensures.wire c.in_ok-e-in-Body.ensures.faults
 
-pub put_node-put_window-requires : goal.put_node-put_window-requires
-put_node-put_window-requires t c = (omega arith, (c.node.ensures.node ∙ ap Some c.in-Window.is, c.requires))
+pub put_over-put_window-requires : goal.put_over-put_window-requires
+put_over-put_window-requires t c = (omega arith, (c.node.ensures.node ∙ ap Some c.in-Window.is, c.requires.can))
 
 pub put_window-put_node-requires : goal.put_window-put_node-requires
 put_window-put_node-requires t c =
@@ -137,8 +137,8 @@ put_window-returns t c =
     c.back.ensures c.args.net.now c.front.new.net c.args.leaves.now (c.in_ok-front.ensures c.args.net.now c.args.leaves.now c.in_ok-below.ensures)
     (rw c.as_slice-2.ensures (rw c.as_slice.ensures at c.in_ok-copies.ensures))
 
-pub put_node-put_group-requires : goal.put_node-put_group-requires
-put_node-put_group-requires t c = (omega arith, (c.node.ensures.node ∙ ap Some c.in-Group.is, c.requires))
+pub put_over-put_group-requires : goal.put_over-put_group-requires
+put_over-put_group-requires t c = (omega arith, (c.node.ensures.node ∙ ap Some c.in-Group.is, c.requires.can))
 
 pub put_group-put_node-requires : goal.put_group-put_node-requires
 put_group-put_node-requires t c =

@@ -1,7 +1,7 @@
 use Rattle.std.proofs.Common.{ap, arith, ◌∙◌}
 use Rattle.gl_net.specs.Net.{Keeps}
 use Rattle.gl_net.proofs.Determined.{keeps_then}
-use Rattle.gl_queue.proofs.DriveLemmas.{driven_keeps}
+use Rattle.gl_net.proofs.Drive.{driven_keeps}
 use Rattle.gl_queue.proofs.JoinLinesLemmas.{waiting_both}
 use Rattle.gl_queue.proofs.joiner.put_waiting.Goals as goal
 

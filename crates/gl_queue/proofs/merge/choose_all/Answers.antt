@@ -1,8 +1,8 @@
 use Rattle.std.proofs.Common.{◌≡◌, ◌<◌, [], length, sym, subst, arith}
 use Rattle.std.proofs.lemmas.List.{take_more}
 use Rattle.std.proofs.lemmas.Option.{slice_get-get_or}
-use Rattle.gl_wire.proofs.ColumnLemmas.{bus_kept}
-use Rattle.gl_queue.proofs.MergeLinesLemmas.{chosen_none, chosen_more, same_length, widths_at}
+use Rattle.gl_wire.proofs.ColumnLemmas.{bus_kept, same_length}
+use Rattle.gl_queue.proofs.MergeLinesLemmas.{chosen_none, chosen_more, widths_at}
 use Rattle.gl_queue.specs.MergeLines.{AreChosenOf}
 use Rattle.gl_queue.proofs.merge.choose_all.Goals as goal
 

@@ -1,7 +1,7 @@
 use Rattle.std.proofs.Common.{ap, arith, ◌∙◌}
 use Rattle.gl_net.specs.Net.{Keeps}
 use Rattle.gl_net.proofs.Determined.{keeps_then}
-use Rattle.gl_queue.proofs.DriveLemmas.{driven_keeps}
+use Rattle.gl_net.proofs.Drive.{driven_keeps}
 use Rattle.gl_queue.proofs.MergeLinesLemmas.{waiting_is}
 use Rattle.gl_queue.proofs.merge.put_end.Goals as goal
 

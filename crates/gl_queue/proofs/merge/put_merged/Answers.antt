@@ -4,9 +4,10 @@ use Rattle.gl_net.specs.Net.{Keeps}
 use Rattle.gl_net.proofs.Determined.{keeps_then}
 use Rattle.gl_wire.specs.Wire.{AreBuses, widths}
 use Rattle.gl_wire.proofs.ColumnLemmas.{buses_kept, wire_kept}
+use Rattle.gl_wire.proofs.GateLemmas.{never_line}
 use Rattle.gl_algebra.specs.Cost.{ring}
 use Rattle.gl_queue.specs.MergeLines.{AreChosenOf}
-use Rattle.gl_queue.proofs.MergeLinesLemmas.{merging_is, never_is, two_stores}
+use Rattle.gl_queue.proofs.MergeLinesLemmas.{merging_is, two_stores}
 use Rattle.gl_queue.proofs.merge.put_merged.Goals as goal
 
 pub put_rows-requires-clause-wire : goal.put_rows-requires-clause-wire
@@ -72,6 +73,6 @@ returns c =
           let at_first = second.keeps.runs run at_second in
           let at_never = first.keeps.runs run at_first in
           merging_is run n m a b (record { valid = c.in_ok-valid.valid; eos = c.in_ok-eos.eos; columns = outs }) hold q.some p.some q.passed p.passed c.in_ok-passed.passed q.columns p.columns
-          (never_is run hold (λ t. ap (run.at t) c.bit-hold.ensures ∙ never.value run at_never t ∙ c.word.ensures.bits))
+          (never_line run hold (λ t. ap (run.at t) c.bit-hold.ensures ∙ never.value run at_never t ∙ c.word.ensures.bits))
           (first.queue run at_first) (second.queue run at_second) (valid.line run at_valid) (chosen.chosen run at_columns) (eos.waits run at_eos) (passed.line run r);
     }

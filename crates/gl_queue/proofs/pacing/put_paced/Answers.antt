@@ -1,8 +1,9 @@
 use Rattle.std.proofs.Common.{arith, ◌∙◌}
 use Rattle.gl_net.specs.Net.{Keeps}
 use Rattle.gl_net.proofs.Determined.{keeps_then}
+use Rattle.gl_net.proofs.Drive.{driven_keeps}
 use Rattle.gl_wire.proofs.ColumnLemmas.{buses_kept}
-use Rattle.gl_queue.proofs.DriveLemmas.{buses_driven, driven_keeps}
+use Rattle.gl_queue.proofs.DriveLemmas.{buses_driven}
 use Rattle.gl_queue.proofs.PacingLemmas.{pacing_is}
 use Rattle.gl_queue.proofs.pacing.put_paced.Goals as goal
 

@@ -1,8 +1,9 @@
 use Rattle.std.proofs.Common.{ℕ, ◌<◌, ◌^◌, ap, arith, ◌∙◌, subst}
 use Rattle.std.proofs.lemmas.Grind.{common_steps}
 use Rattle.gl_bits.specs.Words.{sum_of}
+use Rattle.gl_bits.proofs.Wrapping.{one_fits}
 use Rattle.gl_net.proofs.Values.{bus_fits}
-use Rattle.gl_queue.proofs.PartLemmas.{one_fits, pointer_is}
+use Rattle.gl_queue.proofs.PartLemmas.{pointer_is}
 use Rattle.gl_queue.proofs.ring.put_place.Goals as goal
 
 pub word-requires-clause-number : goal.word-requires-clause-number

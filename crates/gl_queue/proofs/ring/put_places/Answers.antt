@@ -1,10 +1,11 @@
 use Rattle.std.proofs.Common.{ℕ, Some, ap, arith, ◌∙◌}
+use Rattle.gl_bits.proofs.Wrapping.{one_fits}
 use Rattle.gl_net.specs.declared.node.Bus.{Bus}
 use Rattle.gl_net.specs.Net.{IsBus, Keeps, Value, shape_in}
 use Rattle.gl_net.proofs.Determined.{keeps_then}
+use Rattle.gl_net.proofs.Drive.{driven_keeps}
 use Rattle.gl_wire.proofs.ColumnLemmas.{bus_kept}
-use Rattle.gl_queue.proofs.DriveLemmas.{driven_keeps}
-use Rattle.gl_queue.proofs.PartLemmas.{one_fits, places_are}
+use Rattle.gl_queue.proofs.PartLemmas.{places_are}
 use Rattle.gl_queue.proofs.ring.put_places.Goals as goal
 
 pub put_meeting-requires-clause-number : goal.put_meeting-requires-clause-number

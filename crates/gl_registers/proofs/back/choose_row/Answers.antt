@@ -3,8 +3,8 @@ use Rattle.std.specs.Prelude.{slice_index_or}
 use Rattle.std.proofs.lemmas.List.{take_more}
 use Rattle.std.proofs.lemmas.Option.{slice_get-get_or}
 use Rattle.gl_net.specs.declared.node.Bus.{Bus}
-use Rattle.gl_wire.proofs.ColumnLemmas.{bus_kept}
-use Rattle.gl_registers.proofs.BackLemmas.{chooses_more, same_length, width_at}
+use Rattle.gl_wire.proofs.ColumnLemmas.{bus_kept, same_length}
+use Rattle.gl_registers.proofs.BackLemmas.{chooses_more, width_at}
 use Rattle.gl_registers.proofs.back.choose_row.Goals as goal
 
 pub choose-requires-clause-yes : goal.choose-requires-clause-yes

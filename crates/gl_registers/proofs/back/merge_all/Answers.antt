@@ -3,9 +3,8 @@ use Rattle.std.specs.Prelude.{slice_get}
 use Rattle.std.proofs.lemmas.Option.{slice_get-get_or}
 use Rattle.gl_net.specs.declared.node.Bus.{Bus}
 use Rattle.gl_wire.specs.Wire.{AreBuses, widths}
-use Rattle.gl_wire.proofs.ColumnLemmas.{buses_kept}
+use Rattle.gl_wire.proofs.ColumnLemmas.{buses_kept, bit_kept}
 use Rattle.gl_registers.specs.Backs.{Merges, ChoosesRow}
-use Rattle.gl_registers.proofs.LineLemmas.{bit_kept}
 use Rattle.gl_registers.proofs.BackLemmas.{merges_none, merges_more}
 use Rattle.gl_registers.proofs.back.merge_all.Goals as goal
 

@@ -2,8 +2,9 @@ use Rattle.std.proofs.Common.{◌+◌, length, arith, ◌≡◌, subst, ℕ}
 use Rattle.std.specs.Prelude.{slice_index_or}
 use Rattle.std.proofs.lemmas.Option.{slice_get-get_or}
 use Rattle.gl_net.specs.declared.node.Bit.{Bit}
+use Rattle.gl_wire.proofs.ColumnLemmas.{bit_kept}
 use Rattle.gl_registers.specs.Lines.{any_line, AddsLine}
-use Rattle.gl_registers.proofs.LineLemmas.{bit_kept, any_first, any_more}
+use Rattle.gl_registers.proofs.LineLemmas.{any_first, any_more}
 use Rattle.gl_registers.proofs.lines.any_of.Goals as goal
 
 pub loop-line-init : goal.loop-line-init

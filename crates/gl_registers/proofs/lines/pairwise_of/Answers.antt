@@ -2,8 +2,9 @@ use Rattle.std.proofs.Common.{◌<◌, length, arith}
 use Rattle.std.specs.Prelude.{slice_index_or}
 use Rattle.std.proofs.lemmas.Option.{slice_get-get_or}
 use Rattle.gl_net.specs.declared.node.Bit.{Bit}
+use Rattle.gl_wire.proofs.ColumnLemmas.{bit_kept}
 use Rattle.gl_registers.specs.Lines.{pairs, gated}
-use Rattle.gl_registers.proofs.LineLemmas.{bit_kept, lines_more, pairs_here}
+use Rattle.gl_registers.proofs.LineLemmas.{lines_more, pairs_here}
 use Rattle.gl_registers.proofs.lines.pairwise_of.Goals as goal
 
 pub gate-requires-clause-left : goal.gate-requires-clause-left

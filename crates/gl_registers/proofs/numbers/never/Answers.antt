@@ -1,6 +1,5 @@
 use Rattle.std.proofs.Common.{ap, arith, ◌∙◌}
-use Rattle.gl_wire.proofs.GateLemmas.{bit_of}
-use Rattle.gl_registers.proofs.NumberLemmas.{never_line}
+use Rattle.gl_wire.proofs.GateLemmas.{bit_of, never_line}
 use Rattle.gl_registers.proofs.numbers.never.Goals as goal
 
 pub returns : goal.returns

@@ -1,7 +1,7 @@
 use Rattle.std.proofs.Common.{suc, ap, arith, ◌∙◌}
 use Rattle.gl_bits.specs.Words.{choose_of}
 use Rattle.gl_net.proofs.Determined.{keeps_then}
-use Rattle.gl_registers.proofs.CounterLemmas.{choose_line}
+use Rattle.gl_wire.proofs.GateLemmas.{choose_line}
 use Rattle.gl_registers.proofs.numbers.number_or.Goals as goal
 
 pub returns : goal.returns

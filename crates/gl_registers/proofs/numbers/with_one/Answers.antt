@@ -1,7 +1,7 @@
 use Rattle.std.proofs.Common.{ap, arith, ◌∙◌}
+use Rattle.gl_bits.proofs.Wrapping.{one_fits}
 use Rattle.gl_net.specs.Net.{binary_of}
 use Rattle.gl_net.proofs.Determined.{keeps_then}
-use Rattle.gl_registers.proofs.CounterLemmas.{one_fits}
 use Rattle.gl_registers.proofs.numbers.with_one.Goals as goal
 
 pub word-requires-clause-fits : goal.word-requires-clause-fits

@@ -1,8 +1,7 @@
 use Rattle.std.proofs.Common.{◌<◌, length, arith}
 use Rattle.std.specs.Prelude.{slice_index_or}
 use Rattle.std.proofs.lemmas.Option.{slice_get-get_or}
-use Rattle.gl_wire.proofs.ColumnLemmas.{buses_kept}
-use Rattle.gl_registers.proofs.LineLemmas.{bit_kept}
+use Rattle.gl_wire.proofs.ColumnLemmas.{buses_kept, bit_kept}
 use Rattle.gl_registers.proofs.RowLemmas.{wires_more}
 use Rattle.gl_registers.proofs.rows.copy_each.Goals as goal
 

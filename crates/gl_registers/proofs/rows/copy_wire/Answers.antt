@@ -1,8 +1,7 @@
 use Rattle.std.proofs.Common.{subst, sym, arith}
 use Rattle.gl_wire.specs.Wire.{AreBuses}
 use Rattle.gl_net.proofs.Determined.{keeps_then}
-use Rattle.gl_wire.proofs.ColumnLemmas.{buses_kept}
-use Rattle.gl_registers.proofs.LineLemmas.{bit_kept}
+use Rattle.gl_wire.proofs.ColumnLemmas.{buses_kept, bit_kept}
 use Rattle.gl_registers.proofs.rows.copy_wire.Goals as goal
 
 pub returns : goal.returns

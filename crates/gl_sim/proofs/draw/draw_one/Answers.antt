@@ -1,12 +1,11 @@
 use Rattle.std.proofs.Common.{◌≡◌, ◌∙◌, ◌*◌, ◌<◌, ℕ, List, [], length, subst, sym, ap, arith}
 use Rattle.std.specs.Prelude.{slice_set, slice_index_or}
-use Rattle.gl_bits.proofs.AllLists.{length_map}
+use Rattle.gl_bits.proofs.AllLists.{length_map, all_at}
 use Rattle.gl_verilog.specs.View.{module_of, declaration_of, kind_of}
 use Rattle.gl_verilog.specs.Module as spec
 use Rattle.gl_verilog.specs.Run.{IsRegister}
 use Rattle.gl_verilog.specs.Widths.{HasSize, words_in}
 use Rattle.gl_verilog.specs.declared.module.Kind.{Kind}
-use Rattle.gl_verilog.proofs.Fits.{all_at}
 use Rattle.gl_verilog.proofs.Stores.{same_item}
 use Rattle.gl_sim.specs.Starts.{DrawsOne, draw, draws_for}
 use Rattle.gl_sim.proofs.Words.{get_or_default}
@@ -17,19 +16,19 @@ pub draw_word-requires : goal.draw_word-requires
 draw_word-requires c =
     let there = declared_at c.args.design.now.declarations c.as_slice.result.now c.args.n c.index-as_slice-n.result c.as_slice.ensures c.requires.within c.index-as_slice-n.is in
     let ds = (module_of c.args.design.now).declarations in
-    (all_at HasSize ds c.args.n (declaration_of c.index-as_slice-n.result) c.requires.runnable.sizes there).0.most
+    (all_at HasSize ds c.args.n (declaration_of c.index-as_slice-n.result) there c.requires.runnable.sizes).0.most
 
 pub draw_word-requires-in-Register : goal.draw_word-requires-in-Register
 draw_word-requires-in-Register c =
     let there = declared_at c.args.design.now.declarations c.as_slice.result.now c.args.n c.index-as_slice-n.result c.as_slice.ensures c.requires.within c.index-as_slice-n.is in
     let ds = (module_of c.args.design.now).declarations in
-    (all_at HasSize ds c.args.n (declaration_of c.index-as_slice-n.result) c.requires.runnable.sizes there).0.most
+    (all_at HasSize ds c.args.n (declaration_of c.index-as_slice-n.result) there c.requires.runnable.sizes).0.most
 
 pub draw_bank-requires : goal.draw_bank-requires
 draw_bank-requires c =
     let there = declared_at c.args.design.now.declarations c.as_slice.result.now c.args.n c.index-as_slice-n.result c.as_slice.ensures c.requires.within c.index-as_slice-n.is in
     let ds = (module_of c.args.design.now).declarations in
-    (all_at HasSize ds c.args.n (declaration_of c.index-as_slice-n.result) c.requires.runnable.sizes there).0.most
+    (all_at HasSize ds c.args.n (declaration_of c.index-as_slice-n.result) there c.requires.runnable.sizes).0.most
 
 pub returns-in-OutputRegister : goal.returns-in-OutputRegister
 returns-in-OutputRegister c = λ d e.

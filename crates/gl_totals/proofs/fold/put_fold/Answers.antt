@@ -2,11 +2,11 @@ use Rattle.std.proofs.Common.{ℕ, suc, ap, arith, ◌∙◌}
 use Rattle.std.specs.Prelude.{if◌then◌else◌}
 use Rattle.gl_net.specs.Net.{Keeps}
 use Rattle.gl_net.proofs.Determined.{keeps_then}
+use Rattle.gl_net.proofs.Drive.{driven_keeps}
 use Rattle.gl_wire.specs.Wire.{line_at}
 use Rattle.gl_wire.proofs.ColumnLemmas.{bus_kept}
+use Rattle.gl_wire.proofs.GateLemmas.{choose_line}
 use Rattle.gl_totals.specs.Folds.{next_of}
-use Rattle.gl_divide.proofs.DigitNet.{choose_line}
-use Rattle.gl_totals.proofs.FoldNet.{driven_keeps}
 use Rattle.gl_totals.proofs.fold.put_fold.Goals as goal
 
 pub returns : goal.returns
@@ -45,11 +45,11 @@ returns c =
             start = before.start run at_before;
             next = λ t.
                 drive.value run r t ∙ next.value run at_next (suc t)
-                ∙ choose_line run c.args.eos t (run.at (suc t) c.in_ok-again.again.node) (run.at (suc t) c.in_ok-now.now.node)
+                ∙ choose_line run c.args.eos (run.at (suc t) c.in_ok-again.again.node) (run.at (suc t) c.in_ok-now.now.node) t
                 ∙ ap (λ (n : ℕ). if line_at run c.args.eos (suc t) then n else run.at (suc t) c.in_ok-now.now.node) (again.value run at_again (suc t));
             with_row = λ t.
                 now.value run at_now (suc t)
-                ∙ choose_line run c.args.valid t (run.at (suc t) c.in_ok-stepped.stepped.node) (run.at (suc t) c.in_ok-before.before.node)
+                ∙ choose_line run c.args.valid (run.at (suc t) c.in_ok-stepped.stepped.node) (run.at (suc t) c.in_ok-before.before.node) t
                 ∙ ap (λ (n : ℕ). if line_at run c.args.valid (suc t) then n else run.at (suc t) c.in_ok-before.before.node)
                 (stepped.value run at_stepped t ∙ ap (λ (w : ℕ). next_of c.args.step run w (suc t) (run.at (suc t) c.in_ok-before.before.node)) (before.width ∙ c.width.ensures.value));
           };

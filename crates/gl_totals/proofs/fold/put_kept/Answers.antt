@@ -2,7 +2,7 @@ use Rattle.std.proofs.Common.{Bool, suc, ap, arith, ◌∙◌}
 use Rattle.std.specs.Prelude.{if◌then◌else◌, not, ◌&&◌}
 use Rattle.gl_net.proofs.Determined.{keeps_then}
 use Rattle.gl_wire.specs.Wire.{line_at}
-use Rattle.gl_divide.proofs.DigitNet.{choose_line}
+use Rattle.gl_wire.proofs.GateLemmas.{choose_line}
 use Rattle.gl_totals.specs.Folds.{is_better}
 use Rattle.gl_totals.proofs.FoldNet.{bit_line, kept_is}
 use Rattle.gl_totals.proofs.fold.put_kept.Goals as goal
@@ -29,7 +29,7 @@ returns c =
           let state = run.at (suc t) c.args.state.node in
           let value = run.at (suc t) best.value.node in
           let better = is_better best.extreme best.kind state value in
-          out.value run r (suc t) ∙ choose_line run c.in_ok-keep.keep t state value
+          out.value run r (suc t) ∙ choose_line run c.in_ok-keep.keep state value t
           ∙ ap (λ (b : Bool). if b then state else value)
           (keep.line run at_keep (suc t) ∙ ap (λ (b : Bool). line_at run best.some (suc t) && not b)
           (bit_line run c.bit.result t better (ap (run.at (suc t)) c.bit.ensures ∙ test.carries run at_test (suc t))))

@@ -19,5 +19,11 @@ invariant-block_made-loop-statement l = record {
 abbrev pub decreases-block_made : goal.decreases-block_made
 decreases-block_made l = parts_of (listed (map statement_of l.statements.now)) + 1
 
+abbrev pub decreases-if_made : goal.decreases-if_made
+decreases-if_made l = parts_of (statement_of l.yes.now) + 1
+
+abbrev pub decreases-if_else_made : goal.decreases-if_else_made
+decreases-if_else_made l = parts_of (statement_of l.yes.now) + parts_of (statement_of l.no.now) + 1
+
 abbrev pub decreases-statement_made : goal.decreases-statement_made
 decreases-statement_made l = parts_of (statement_of l.written.now)

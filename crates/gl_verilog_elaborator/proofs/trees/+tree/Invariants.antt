@@ -18,5 +18,20 @@ decreases-parts_typed l = parts_in (parts_list (map expr_of l.parts.now)) + 1
 abbrev pub decreases-braces_typed : goal.decreases-braces_typed
 decreases-braces_typed l = parts_in (parts_list (map expr_of l.parts.now)) + 2
 
+abbrev pub decreases-word_typed : goal.decreases-word_typed
+decreases-word_typed l = parts_in (expr_of l.address.now) + 1
+
+abbrev pub decreases-parens_typed : goal.decreases-parens_typed
+decreases-parens_typed l = parts_in (expr_of l.inner.now) + 1
+
+abbrev pub decreases-prefix_typed : goal.decreases-prefix_typed
+decreases-prefix_typed l = parts_in (expr_of l.arg.now) + 1
+
+abbrev pub decreases-infix_typed : goal.decreases-infix_typed
+decreases-infix_typed l = parts_in (expr_of l.left.now) + parts_in (expr_of l.right.now) + 1
+
+abbrev pub decreases-choice_typed : goal.decreases-choice_typed
+decreases-choice_typed l = parts_in (expr_of l.test.now) + parts_in (expr_of l.yes.now) + parts_in (expr_of l.no.now) + 1
+
 abbrev pub decreases-expr_typed : goal.decreases-expr_typed
 decreases-expr_typed l = parts_in (expr_of l.written.now)

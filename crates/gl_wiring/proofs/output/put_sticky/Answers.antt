@@ -1,6 +1,6 @@
 use Rattle.std.proofs.Common.{ℕ, Some, suc, ap, arith, ◌∙◌}
 use Rattle.gl_net.specs.Net.{Value, shape_in}
-use Rattle.gl_queue.proofs.DriveLemmas.{driven_keeps}
+use Rattle.gl_net.proofs.Drive.{driven_keeps}
 use Rattle.gl_wiring.proofs.OutputLemmas.{sticky_is}
 use Rattle.gl_wiring.proofs.output.put_sticky.Goals as goal
 

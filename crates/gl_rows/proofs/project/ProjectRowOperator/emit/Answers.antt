@@ -1,13 +1,13 @@
 use Rattle.std.proofs.Common.{Some, subst}
 use Rattle.gl_algebra.specs.declared.figures.Figures.{Figures}
 use Rattle.gl_algebra.specs.Results.{projected}
+use Rattle.gl_algebra.proofs.FigureLemmas.{delayed_by_none}
 use Rattle.gl_bits.specs.Results.{Row}
 use Rattle.gl_wire.specs.Wire.{carried}
 use Rattle.gl_wire.specs.Serves.{Serves}
 use Rattle.gl_wire.specs.Shapes.{Mapped}
 use Rattle.gl_wire.proofs.SettledLemmas.{settled_serves}
 use Rattle.gl_wire.proofs.SteadyLemmas.{steady_serves}
-use Rattle.gl_rows.proofs.RowLemmas.{delayed_by_none}
 use Rattle.gl_rows.proofs.project.ProjectRowOperator.emit.Goals as goal
 
 pub returns-clause-serves : goal.returns-clause-serves
