@@ -1,5 +1,5 @@
 -- Plain facts about truth values, numbers and texts that are compared, and numbers of one bit.
-use Rattle.std.proofs.Common.{◌≡◌, ◌≢◌, ℕ, ◌^◌, ◌<◌, ◌⊎◌, inl, inr, Bool, true, false, not, List, refl, sym, ◌∙◌, arith, eq-eqb, ne_eqb}
+use Rattle.std.proofs.Common.{◌≡◌, ◌≢◌, ℕ, ◌^◌, ◌<◌, ◌⊎◌, inl, inr, Bool, true, false, not, List, refl, sym, ap, ◌∙◌, arith, eq-eqb, ne_eqb}
 use Rattle.std.specs.Prelude.{◌&&◌, ◌||◌, bytes_eq, nat_eq}
 use Rattle.std.proofs.lemmas.Bool.Decides.{eqb_tells}
 use Rattle.std.proofs.lemmas.Slice.Eq.{bytes_eq-Decides}
@@ -68,6 +68,24 @@ not_true false h = refl
 pub not_false : (a : Bool) → a ≡ false → not a ≡ true
 not_false true h = absurd cc
 not_false false h = refl
+
+-- two of which the second is not false where the first is true
+pub and_so : (a b : Bool) → (a && not b) ≡ false → a ≡ true → b ≡ true
+and_so true true h e = refl
+and_so true false h e = absurd cc
+and_so false b h e = absurd cc
+
+pub so_and : (a b : Bool) → (a ≡ true → b ≡ true) → (a && not b) ≡ false
+so_and true b h = ap not (h refl)
+so_and false b h = refl
+
+pub and_no : (a b : Bool) → (a && b) ≡ false → a ≡ true → b ≡ false
+and_no true b h e = h
+and_no false b h e = absurd cc
+
+pub no_and : (a b : Bool) → (a ≡ true → b ≡ false) → (a && b) ≡ false
+no_and true b h = h refl
+no_and false b h = refl
 
 pub not_both : (a : Bool) → a ≡ true → a ≡ false → ⊥
 not_both true h k = absurd cc

@@ -4,6 +4,7 @@ pub mod AllLists
 pub mod KindLemmas
 pub mod Unique
 pub mod Wrapping
+pub mod Memories
 pub mod Slicing
 pub mod Grouping
 pub mod Interleaving

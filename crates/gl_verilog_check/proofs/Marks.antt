@@ -81,12 +81,6 @@ once_from f [] (suc i) h = h
 once_from f (x ∷ xs) zero h = h
 once_from f (x ∷ xs) (suc i) h = once_from f xs i h.1
 
--- what holds of each holds of one
-pub holds_at : {A B : Type 0} (P : B → Type 0) (f : A → B) (xs : List A) (i : ℕ) (x : A) → AllByRecursion P (map f xs) → i < length xs → x ≡ get_or xs i x → P (f x)
-holds_at P f [] i x h lt e = absurd (omega (arith, lt))
-holds_at P f (y ∷ ys) zero x h lt e = subst (λ z. P (f z)) (sym e) h.0
-holds_at P f (y ∷ ys) (suc i) x h lt e = holds_at P f ys i x h.1 (omega (arith, lt)) e
-
 -- ---- every net is a declared one
 
 within_of : (ds : List Declaration) (n : ℕ) (P : Declaration → Type 0) → IsSomeAnd (slice_get ds n) P → n < length ds

@@ -1,10 +1,10 @@
 -- An order is found pass by pass, or none is there.
-use Rattle.std.proofs.Common.{◌≡◌, ◌≢◌, ℕ, zero, suc, ◌+◌, ◌<◌, ◌≤◌, ◌⊎◌, inl, inr, Bool, true, false, not, ◌&&◌, ◌||◌, List, [], ◌∷◌, ◌++◌, Option, Some, None, length, length-set, append_assoc, append-nil, refl, sym, ap, subst, ◌∙◌, arith, Vec}
+use Rattle.std.proofs.Common.{◌≡◌, ◌≢◌, ℕ, zero, suc, ◌+◌, ◌<◌, ◌≤◌, ◌⊎◌, inl, inr, Bool, true, false, not, ◌||◌, List, [], ◌∷◌, ◌++◌, Option, Some, None, length, length-set, append_assoc, append-nil, refl, sym, ap, subst, ◌∙◌, arith, Vec}
 use Rattle.std.specs.Prelude.{slice_get, slice_set, unwrap_or, IfSome, is_some}
 use Rattle.std.specs.List.{AllByRecursion, list_any, cons_option}
 use Rattle.std.specs.List.Sorted.{IsPermutation}
 use Rattle.std.proofs.lemmas.List.Sorted.{IsPermutation-refl, IsPermutation-cons, IsPermutation-trans, IsPermutation-middle, IsPermutation-sym, IsPermutation-append}
-use Rattle.gl_bits.proofs.Bools.{neither_left, neither_right, by_cases, and_left, and_right, not_true}
+use Rattle.gl_bits.proofs.Bools.{neither_left, neither_right, by_cases, and_left, and_right, and_so, not_true}
 use Rattle.gl_verilog.specs.Module.{Assignment, Expr, Net, Literal, Invert, Binary, Choose, Join, Select, Read}
 use Rattle.gl_verilog.specs.Order.{EachRead, IsUndriven, IsOrdered, CanBeOrdered}
 use Rattle.gl_verilog.proofs.Settles.{each_in_order, reads_and, reads_both}
@@ -256,17 +256,12 @@ none_ready marks (b ∷ bs) e =
     let same : placed marks b ≡ marks = rw here refl in
     (here, none_ready marks bs (subst (λ (ms : List Bool). finds ms bs ≡ false) same (neither_right (is_ready marks b) (finds (placed marks b) bs) e)))
 
-stuck_reads : (a b : Bool) → (a && not b) ≡ false → a ≡ true → b ≡ true
-stuck_reads true true h e = refl
-stuck_reads true false h e = absurd cc
-stuck_reads false b h e = absurd cc
-
 never_stuck : (o : List Assignment) (marks : List Bool) → IsOrdered o → AllByRecursion (λ b. is_ready marks b ≡ false) o → AreNets (length marks) o → ((n : ℕ) → slice_get marks n ≡ Some true → IsUndriven o n → ⊥) → (n : ℕ) → slice_get marks n ≡ Some true → ⊥
 never_stuck [] marks i h r d n w = d n w tt
 never_stuck (a ∷ rest) marks i h r d n w = by_cases (waits marks a.target)
     (λ e. absurd (let none : reads marks a.value ≡ false = reads_nothing marks a.value
     (reads_and (λ k. (k < length marks) × IsUndriven (a ∷ rest) k) (λ k. slice_get marks k ≡ Some false) a.value (λ k p. unmarked marks k p.0 (λ f. d k f p.1)) (reads_both (λ k. k < length marks) (IsUndriven (a ∷ rest)) a.value r.0.1 i.0)) in
-    let some : reads marks a.value ≡ true = stuck_reads (waits marks a.target) (reads marks a.value) h.0 e in cc))
+    let some : reads marks a.value ≡ true = and_so (waits marks a.target) (reads marks a.value) h.0 e in cc))
     (λ e. never_stuck rest marks i.2 h.1 r.1
     (λ k f u. d k f ((λ same. absurd (let g : slice_get marks a.target ≡ Some true = ap (λ (j : ℕ). slice_get marks j) same ∙ f in let t : waits marks a.target ≡ true = rw g refl in cc)), u)) n w)
 

@@ -51,7 +51,7 @@ direction_tokens OutReg = refl
 port_tokens : (k : ℕ) (p : WrittenPort) → port_token k p ≡ k + name_token p
 port_tokens k p = (let a : direction_size p.direction ≡ length (spell_direction p.direction) = direction_tokens p.direction in let b : range_size p.range ≡ length (spell_range p.range) = range_tokens p.range in omega arith)
 
-port_size : (p : WrittenPort) → length (spell_port p) ≡ name_token p + 1
+pub port_size : (p : WrittenPort) → length (spell_port p) ≡ name_token p + 1
 port_size p = omega (arith, length-append (spell_direction p.direction) (spell_range p.range ++ Name p.name ∷ []), length-append (spell_range p.range) (Name p.name ∷ []))
 
 -- ---- one declaration

@@ -17,7 +17,8 @@ use Rattle.gl_verilog_elaborator.specs.Judged.{Broken, then', asks, Known, named
 use Rattle.gl_verilog_elaborator.specs.Elaborated.{Scope, declared_all, range_size, Elaborated, with_scope, assigned, with_assignment, block_begins, block_ends, with_block, elaborated_names, declared_memory, elaborated_memory, elaborated_assignment, elaborated_block, elaborated_item, elaborated_items}
 use Rattle.gl_verilog_elaborator.proofs.Demanded.{Is, is_then, is_ask, is_ask_as, is_as, is_weaker, is_mapped}
 use Rattle.gl_verilog_elaborator.proofs.OfExpressions.{IsKnown, named_is, kind_so, width_known, number_known, Means, judged_is}
-use Rattle.gl_verilog_elaborator.proofs.Sets.{among_append, among_with, among_all, among_push}
+use Rattle.gl_verilog_faults.proofs.Drivers.{among_join}
+use Rattle.gl_verilog_elaborator.proofs.Sets.{among_with, among_all, among_push}
 use Rattle.gl_verilog_elaborator.proofs.OfStatements.{Same, Leaves, Says, statement_is}
 use Rattle.gl_verilog_elaborator.proofs.OfDeclarations.{range_tokens, names_tokens, Adds, all_declared_is, AddsMemory, memory_is}
 
@@ -277,8 +278,8 @@ begins_same v done b = record { done' = b.done'; all' = λ n. b.all' n ∙ or_no
 
 ends_between : (v : Drivers) (done ts : List (List ℕ)) → Leaves v done ts → ((n : List ℕ) → is_among n v.beside ≡ false) → Between (block_ends v) (done ++ ts)
 ends_between v done ts l k = record {
-  done' = λ n. among_all n v.before v.done ∙ ap (λ (xs : List (List ℕ)). is_among n v.done || is_among n xs) l.before' ∙ ap (λ (x : Bool). x || is_among n ts) (l.done' n) ∙ sym (among_append n done ts);
-  all' = λ n. l.all' n ∙ sym (among_append n done ts);
+  done' = λ n. among_all n v.before v.done ∙ ap (λ (xs : List (List ℕ)). is_among n v.done || is_among n xs) l.before' ∙ ap (λ (x : Bool). x || is_among n ts) (l.done' n) ∙ sym (among_join n done ts);
+  all' = λ n. l.all' n ∙ sym (among_join n done ts);
   beside' = k;
 }
 

@@ -12,7 +12,8 @@ use Rattle.gl_verilog_faults.proofs.Names.{so_by}
 use Rattle.gl_verilog_elaborator.specs.Judged.{Broken, then', asks, Known, named, Typed, judged_expr, Drivers, driven, passed_by, left_list, Stated, stated, put_target, judged_put, write_target, judged_write, judged_test, judged_in}
 use Rattle.gl_verilog_elaborator.proofs.Demanded.{Is, is_then, is_ask_as, is_as, is_mapped}
 use Rattle.gl_verilog_elaborator.proofs.OfExpressions.{IsKnown, named_is, kind_so, width_known, number_known, Means, judged_is}
-use Rattle.gl_verilog_elaborator.proofs.Sets.{not_or, among_append, among_push, among_with, among_all}
+use Rattle.gl_verilog_faults.proofs.Drivers.{among_join}
+use Rattle.gl_verilog_elaborator.proofs.Sets.{not_or, among_push, among_with, among_all}
 
 -- the sets tell the same names as the lists
 pub record Same (v : Drivers) (done before beside : List (List ℕ)) : Type 0 where
@@ -198,7 +199,7 @@ passed_same v w done before beside ts e l k = record {
   beside' = λ n.
       among_all n (drop (length v.before) w.before) w.beside
       ∙ ap (λ (xs : List (List ℕ)). is_among n w.beside || is_among n xs) (ap (λ (xs : List (List ℕ)). drop (length xs) w.before) e ∙ ap (drop (length before)) l.before' ∙ drop_front before ts)
-      ∙ ap (λ (b : Bool). b || is_among n ts) (k n) ∙ sym (among_append n beside ts);
+      ∙ ap (λ (b : Bool). b || is_among n ts) (k n) ∙ sym (among_join n beside ts);
   before' = l.before';
 }
 

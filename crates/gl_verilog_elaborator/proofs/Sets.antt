@@ -2,20 +2,17 @@
 use Rattle.std.proofs.Common.{◌≡◌, ℕ, Bool, true, false, List, [], ◌∷◌, ◌++◌, refl, sym, ap, subst, ◌∙◌}
 use Rattle.std.specs.Prelude.{◌&&◌, ◌||◌, not, fold, if◌then◌else◌}
 use Rattle.std.specs.Str.{bytes_eq}
-use Rattle.gl_bits.proofs.Bools.{bytes_same, or_none, or_join}
+use Rattle.gl_bits.proofs.Bools.{bytes_same, or_none}
 use Rattle.gl_verilog_faults.specs.Demands.{is_among}
+use Rattle.gl_verilog_faults.proofs.Drivers.{among_join}
 use Rattle.gl_verilog_elaborator.specs.Judged.{with_name}
 
 pub not_or : (a b : Bool) → not (a || b) ≡ (not a && not b)
 not_or true b = refl
 not_or false b = refl
 
-pub among_append : (n : List ℕ) (xs ys : List (List ℕ)) → is_among n (xs ++ ys) ≡ (is_among n xs || is_among n ys)
-among_append n [] ys = refl
-among_append n (x ∷ xs) ys = ap (λ (b : Bool). bytes_eq n x || b) (among_append n xs ys) ∙ sym (or_join (bytes_eq n x) (is_among n xs) (is_among n ys))
-
 pub among_push : (n : List ℕ) (xs : List (List ℕ)) (m : List ℕ) → is_among n (xs ++ m ∷ []) ≡ (is_among n xs || bytes_eq n m)
-among_push n xs m = among_append n xs (m ∷ []) ∙ ap (λ (b : Bool). is_among n xs || b) (or_none (bytes_eq n m))
+among_push n xs m = among_join n xs (m ∷ []) ∙ ap (λ (b : Bool). is_among n xs || b) (or_none (bytes_eq n m))
 
 -- a name that is there already
 there : (n m : List ℕ) (xs : List (List ℕ)) (b : Bool) → bytes_eq n m ≡ b → is_among m xs ≡ true → is_among n xs ≡ (is_among n xs || b)

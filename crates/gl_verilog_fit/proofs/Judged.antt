@@ -3,7 +3,7 @@ use Rattle.std.proofs.Common.{◌≡◌, ℕ, zero, suc, ◌+◌, ◌<◌, ◌�
 use Rattle.std.specs.Prelude.{◌&&◌, ◌||◌, filter, nat_le, nat_lt, slice_get, if◌then◌else◌}
 use Rattle.std.specs.List.{AllByRecursion}
 use Rattle.std.proofs.lemmas.Bool.{leb-false, ltb-false, lt-leb, le-ltb}
-use Rattle.gl_bits.proofs.Bools.{neither, neither_parts}
+use Rattle.gl_bits.proofs.Bools.{and_so, so_and, and_no, no_and, neither, neither_parts}
 use Rattle.gl_bits.proofs.Options.{not_some}
 use Rattle.gl_schema.specs.declared.schema.Schema.{Schema}
 use Rattle.gl_verilog.specs.Module.{Declaration}
@@ -28,23 +28,6 @@ AreSuited schema columns [] = Unit {0}
 AreSuited schema columns (d ∷ ds) = IsSuited schema columns d × AreSuited schema (with_port columns d) ds
 
 -- ---- one port
-
-and_so : (a b : Bool) → (a && not b) ≡ false → a ≡ true → b ≡ true
-and_so true true h e = refl
-and_so true false h e = absurd cc
-and_so false b h e = absurd cc
-
-so_and : (a b : Bool) → (a ≡ true → b ≡ true) → (a && not b) ≡ false
-so_and true b h = ap not (h refl)
-so_and false b h = refl
-
-and_no : (a b : Bool) → (a && b) ≡ false → a ≡ true → b ≡ false
-and_no true b h e = h
-and_no false b h e = absurd cc
-
-no_and : (a b : Bool) → (a ≡ true → b ≡ false) → (a && b) ≡ false
-no_and true b h = h refl
-no_and false b h = refl
 
 suited : (schema : Schema) (columns : ℕ) (d : Declaration) → is_bad schema columns d ≡ false → IsSuited schema columns d
 suited schema columns d e =

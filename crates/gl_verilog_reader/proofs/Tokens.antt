@@ -1,12 +1,13 @@
 -- The token that shows a broken rule is one of the module's.
-use Rattle.std.proofs.Common.{◌≡◌, ℕ, ◌+◌, ◌<◌, ◌≤◌, inl, inr, false, List, [], ◌∷◌, ◌++◌, length, map, subst, arith, length-append}
+use Rattle.std.proofs.Common.{ℕ, ◌+◌, ◌<◌, ◌≤◌, inl, inr, false, List, [], ◌∷◌, ◌++◌, length, map, subst, arith, length-append}
 use Rattle.std.specs.Prelude.{nat_eq}
 use Rattle.std.specs.List.{AllByRecursion}
 use Rattle.gl_bits.proofs.AllLists.{all_append, all_back, all_at}
 use Rattle.gl_verilog.specs.Module.{Declaration, Kind, Input, OutputWire, OutputRegister, Wire, Register, Memory}
 use Rattle.gl_verilog.specs.Tokens.{Name, Number, Mark, Reserved, CloseBracket, CloseBrace, CloseParen, Comma, Question, Colon, Semicolon, LessEquals, OpenBracket, ElseWord, EndWord, EndModuleWord}
-use Rattle.gl_verilog.specs.Written.{WrittenExpr, Named, Constant, BitOf, PartOf, WordOf, Braces, Parts, Parens, Prefix, Infix, Conditional, infix_token, spell_expr, WrittenStatement, Update, UpdateWord, IfThen, IfElse, Block, Listed, Ended, spell_statement, Range, WrittenPort, spell_direction, spell_range, spell_port, spell_more_ports, spell_ports, spell_more_names, spell_names, zero_digit, WrittenItem, Wires, Registers, MemoryOf, Assign, Always, spell_item, spell_items, WrittenModule, spell}
+use Rattle.gl_verilog.specs.Written.{WrittenExpr, Named, Constant, BitOf, PartOf, WordOf, Braces, Parts, Parens, Prefix, Infix, Conditional, infix_token, spell_expr, WrittenStatement, Update, UpdateWord, IfThen, IfElse, Block, Listed, Ended, spell_statement, Range, WrittenPort, spell_range, spell_port, spell_more_ports, spell_ports, spell_more_names, spell_names, zero_digit, WrittenItem, Wires, Registers, MemoryOf, Assign, Always, spell_item, spell_items, WrittenModule, spell}
 use Rattle.gl_verilog.specs.Resolve.{declare, declare_port, port_kind}
+use Rattle.gl_verilog_elaborator.proofs.OfDeclarations.{port_size}
 use Rattle.gl_verilog_faults.specs.Demands.{Rule, WidthsDiffer, Demand, ask, bits_in, of_expr, of_statement, targets_in, of_names, of_ports, name_token, memory_declared, of_items, targets_of, undriven_names, undriven_port, undriven_ports, undriven_items, items_token, demands_of, assign_tokens}
 use Rattle.gl_verilog_faults.specs.Faults.{IsBroken}
 
@@ -108,9 +109,6 @@ names_before n kind range ds k (x ∷ names) h =
 undriven_names_before : (n : ℕ) (driven : List (List ℕ)) (k : ℕ) (names : List (List ℕ)) → k + length (spell_more_names names) ≤ n + 1 → AreBefore n (undriven_names driven k names)
 undriven_names_before n driven k [] h = tt
 undriven_names_before n driven k (x ∷ names) h = (omega arith, undriven_names_before n driven (k + 2) names (omega arith))
-
-port_size : (p : WrittenPort) → length (spell_port p) ≡ name_token p + 1
-port_size p = omega (arith, length-append (spell_direction p.direction) (spell_range p.range ++ Name p.name ∷ []), length-append (spell_range p.range) (Name p.name ∷ []))
 
 more_ports : (ps : List WrittenPort) → length (spell_more_ports ps) ≤ length (spell_ports ps) + 1
 more_ports [] = omega arith

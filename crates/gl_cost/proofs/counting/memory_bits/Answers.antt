@@ -1,6 +1,6 @@
 use Rattle.std.proofs.Common.{rules, ◌≤◌, subst}
 use Rattle.gl_cost.specs.Small.{IsAddressed}
-use Rattle.gl_cost.proofs.Bounds.{memory_small}
+use Rattle.gl_bits.proofs.Memories.{memory_small}
 use Rattle.gl_cost.proofs.counting.memory_bits.Goals as goal
 
 pub returns-in-Memory-clause-small : goal.returns-in-Memory-clause-small

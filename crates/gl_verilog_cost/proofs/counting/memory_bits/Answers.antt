@@ -1,6 +1,6 @@
 use Rattle.std.proofs.Common.{◌≡◌, ◌≤◌, ◌^◌, ◌*◌, ◌%◌, refl, ap, arith, rules}
 use Rattle.std.proofs.lemmas.Nat.{one_shl}
-use Rattle.gl_verilog_cost.proofs.Bounds.{memory_small}
+use Rattle.gl_bits.proofs.Memories.{memory_small}
 use Rattle.gl_verilog_cost.proofs.counting.memory_bits.Goals as goal
 
 pub overflow_shl-result : goal.overflow_shl-result
