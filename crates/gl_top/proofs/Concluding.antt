@@ -4,10 +4,10 @@ use Rattle.gl_outside.specs.Counts.{Rose}
 use Rattle.gl_schema.specs.declared.schema.Schema.{Schema}
 use Rattle.gl_query.specs.declared.tree.Statement.{Statement}
 use Rattle.gl_query.specs.declared.fault.QueryFault.{QueryFault}
-use Rattle.gl_top.specs.declared.notes.Refusal.{Refusal}
-use Rattle.gl_top.specs.declared.notes.Refusal.TheVariants as refusal
-use Rattle.gl_top.specs.declared.status.Status.{Status}
-use Rattle.gl_top.specs.declared.status.Status.TheVariants as status
+use Rattle.gl_notes.specs.declared.notes.Refusal.{Refusal}
+use Rattle.gl_notes.specs.declared.notes.Refusal.TheVariants as refusal
+use Rattle.gl_notes.specs.declared.status.Status.{Status}
+use Rattle.gl_notes.specs.declared.status.Status.TheVariants as status
 use Rattle.gl_outside.specs.Told.{Told}
 use Rattle.gl_forms.specs.declared.command.Command.{Command}
 use Rattle.gl_forms.specs.declared.command.Command.TheVariants.{Compile, Figures, Explain, Run, Sim, Load}
@@ -23,11 +23,12 @@ use Rattle.gl_verilog.specs.Module.{Module}
 use Rattle.gl_compiler.specs.declared.tracing.Ending.{Ending}
 use Rattle.gl_compiler.specs.declared.tracing.Ending.TheVariants as end
 use Rattle.gl_compiler.specs.Traces.{OfRunsOf, Traced, decimal_kinds}
-use Rattle.gl_top.specs.Passing.{FilePasses}
-use Rattle.gl_top.specs.Refusals.{Puts, Notes, status_of, note_of, no_end_line, write_line}
-use Rattle.gl_top.specs.Causes.{Change, HasCause, AreBadTuples, ToRun, ToSim, IsBadQuery, IsRefused}
-use Rattle.gl_top.specs.Verdicts.{AllPass, OfFile, Three, Completes, Whole, NoMemory, Endless, IsAnswer, Ran, Broke', Traced', Shown, Cut, Ended, IsEndless, IsGiven, OfLoad, OfTexts, Shows, IsTelling, TellsEnding, Yields, Same, ToRead, ToWrite, ToMemory, IsFaultless, Says, TellsFault}
-use Rattle.gl_top.proofs.Texts.{next_form}
+use Rattle.gl_judging.specs.Passing.{FilePasses}
+use Rattle.gl_notes.specs.Refusals.{Puts, Notes, status_of, note_of, no_end_line, write_line}
+use Rattle.gl_judging.specs.Causes.{Change, HasCause, AreBadTuples, ToRun, ToSim, IsBadQuery, IsRefused}
+use Rattle.gl_judging.specs.Shown.{Shows}
+use Rattle.gl_top.specs.Verdicts.{AllPass, OfFile, Three, Completes, Whole, NoMemory, Endless, IsAnswer, Ran, Broke', Traced', Shown, Cut, Ended, IsEndless, IsGiven, OfLoad, OfTexts, IsTelling, TellsEnding, Yields, Same, ToRead, ToWrite, ToMemory, IsFaultless, Says, TellsFault}
+use Rattle.gl_judging.proofs.Texts.{next_form}
 use Rattle.gl_top.proofs.Deciding.{Stops, load_goes, one_bad_query, stops, stops_once, passes_goes, two_go}
 
 noted_write : (own answered : Status) (line : List ℕ) (notes : Puts) → own ≡ status.WriteFault → Notes own line notes answered → answered ≡ status.WriteFault

@@ -26,18 +26,18 @@ use Rattle.gl_compiler.proofs.Refusing.{over_goes, query_accepted}
 use Rattle.gl_compiler.proofs.Shaped.{plans_alike}
 use Rattle.gl_forms.specs.declared.command.Command.TheVariants as command
 use Rattle.gl_forms.specs.declared.command.Part.TheVariants as part
-use Rattle.gl_top.specs.declared.notes.Refusal.{Refusal}
-use Rattle.gl_top.specs.declared.notes.Refusal.TheVariants as refusal
-use Rattle.gl_top.specs.declared.status.Status.{Status}
-use Rattle.gl_top.specs.declared.status.Status.TheVariants as status
+use Rattle.gl_notes.specs.declared.notes.Refusal.{Refusal}
+use Rattle.gl_notes.specs.declared.notes.Refusal.TheVariants as refusal
+use Rattle.gl_notes.specs.declared.status.Status.{Status}
+use Rattle.gl_notes.specs.declared.status.Status.TheVariants as status
 use Rattle.gl_forms.specs.Forms.{IsCommand, IsForm, IsLoadOf, IsNamed, command_of, name_of}
-use Rattle.gl_top.specs.Passing.{SchemaPasses, QueryPasses, TuplesPass, ModulePasses, FilePasses, kept_beats}
-use Rattle.gl_top.specs.Causes.{PassBeforeTuples, OfRun, OfSim, ToRun, ToSim, IsBadQuery, IsModuleFault, IsRefused}
-use Rattle.gl_top.specs.Refusals.{status_of}
+use Rattle.gl_judging.specs.Passing.{SchemaPasses, QueryPasses, TuplesPass, ModulePasses, FilePasses, kept_beats}
+use Rattle.gl_judging.specs.Causes.{PassBeforeTuples, OfRun, OfSim, ToRun, ToSim, IsBadQuery, IsModuleFault, IsRefused}
+use Rattle.gl_notes.specs.Refusals.{status_of}
 use Rattle.gl_top.specs.Verdicts.{AllPass, IsTelling, Loads, OfFile, Three, Two}
 use Rattle.gl_forms.proofs.Named.{form_of, load_names_none, named_form, one_command, sim_names_no_query}
-use Rattle.gl_top.proofs.Modules.{module_goes}
-use Rattle.gl_top.proofs.Texts.{run_names_tuples, sim_names_module, sim_names_tuples}
+use Rattle.gl_judging.proofs.Modules.{module_goes}
+use Rattle.gl_judging.proofs.Texts.{run_names_tuples, sim_names_module, sim_names_tuples}
 
 -- a text of at most 64 MiB with a property
 abbrev pub Fine : Told → (List ℕ → Type 0) → Type 0

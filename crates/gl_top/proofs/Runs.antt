@@ -16,7 +16,7 @@ use Rattle.gl_compiler.specs.declared.executing.Outcome.{Outcome}
 use Rattle.gl_compiler.specs.Prints.{CanRun, OfEachRun, Ran}
 use Rattle.gl_load.proofs.Runs.{can_run}
 use Rattle.gl_top.specs.Verdicts.{RanLines}
-use Rattle.gl_top.specs.Passing.{IsCompiled}
+use Rattle.gl_judging.specs.Passing.{IsCompiled}
 
 -- the text of a compiled query can be run over beats that keep the gap
 pub can_run_all : (c : Compiled) (beats : List files.Beat) (text : List ℕ) (schema : Schema) (kinds : List Kind) (printed : Printed) (start : Start) → IsCompiled c → AreFileBeats c.schema beats → KeepsGap (gap_of c.schema c.statement) (plain_beats beats)

@@ -1,7 +1,1 @@
-pub mod Statuses
-pub mod Refusals
-pub mod Passing
-pub mod Causes
-pub mod Explaining
-pub mod Figuring
 pub mod Verdicts

@@ -24,11 +24,11 @@ use Rattle.gl_compiler.specs.Traces.{OfRunsOf, Traced, TracesOut, decimal_kinds}
 use Rattle.gl_verilog.specs.Module.{Module}
 use Rattle.gl_verilog_written.specs.declared.fault.VerilogFault.{VerilogFault}
 use Rattle.gl_forms.specs.declared.command.Part.{Part}
-use Rattle.gl_top.specs.declared.notes.Refusal.{Refusal}
-use Rattle.gl_top.specs.declared.status.Status.{Status}
-use Rattle.gl_top.specs.declared.status.Status.TheVariants.{Done, WriteFault, ReadFault, Memory}
-use Rattle.gl_top.specs.declared.status.Status.TheVariants as status
-use Rattle.gl_top.specs.declared.notes.Refusal.TheVariants as refusal
+use Rattle.gl_notes.specs.declared.notes.Refusal.{Refusal}
+use Rattle.gl_notes.specs.declared.status.Status.{Status}
+use Rattle.gl_notes.specs.declared.status.Status.TheVariants.{Done, WriteFault, ReadFault, Memory}
+use Rattle.gl_notes.specs.declared.status.Status.TheVariants as status
+use Rattle.gl_notes.specs.declared.notes.Refusal.TheVariants as refusal
 use Rattle.gl_schema.specs.declared.fault.SchemaFault.{SchemaFault}
 use Rattle.gl_query.specs.declared.fault.QueryFault.{QueryFault}
 use Rattle.gl_tuples.specs.declared.fault.TupleFault.{TupleFault}
@@ -36,10 +36,11 @@ use Rattle.gl_forms.specs.declared.command.Command.{Command}
 use Rattle.gl_forms.specs.declared.command.Command.TheVariants.{Compile, Figures, Explain, Run, Sim, Load}
 use Rattle.gl_forms.specs.Forms.{IsCommand, IsForm, IsLoadOf, IsNamed, command_of, extra_of, name_of, start_of}
 use Rattle.gl_load.specs.Loads.{IsLoad}
-use Rattle.gl_top.specs.Figuring.{IsFigured}
-use Rattle.gl_top.specs.Passing.{QueryPasses, TuplesPass, FilePasses}
-use Rattle.gl_top.specs.Causes.{Change, HasCause, IsTooLong, IsBadSchema, IsBadQuery, IsOver, IsBadVerilog, AreBadTuples}
-use Rattle.gl_top.specs.Refusals.{Puts, Notes, status_of, note_of, no_end_line, write_line}
+use Rattle.gl_judging.specs.Figuring.{IsFigured}
+use Rattle.gl_judging.specs.Shown.{IsShownOf}
+use Rattle.gl_judging.specs.Passing.{QueryPasses, TuplesPass, FilePasses}
+use Rattle.gl_judging.specs.Causes.{Change, HasCause, IsTooLong, IsBadSchema, IsBadQuery, IsOver, IsBadVerilog, AreBadTuples}
+use Rattle.gl_notes.specs.Refusals.{Puts, Notes, status_of, note_of, no_end_line, write_line}
 
 -- the lines of the run of this text over these beats from this start were written, or a front of them
 abbrev pub WritesLines : Schema → Statement → List Beat → Start → List ℕ → Puts → Type 0
@@ -98,25 +99,6 @@ pub record IsTraced (words : List (List ℕ)) (c : Change) (out notes : Puts) (t
   pub tells : TellsEnding ending notes status
   pub calm : IsCalm c.old c.new
   pub left : text ≡ []
-
--- what a command other than `run`, `sim` and `load` writes of a statement, and the text that it leaves: the Verilog text, which meets the statement; the
--- figures that are printed for it and what it costs; or the statement and its plan
-abbrev pub Shows : Command → Schema → Statement → List ℕ → List ℕ → Type 0
-Shows Compile schema statement bytes text = (bytes ≡ text) × Meets schema statement (latency_of schema statement) (gap_of schema statement) text
-Shows Figures schema statement bytes text = IsFigured schema statement bytes text × Meets schema statement (latency_of schema statement) (gap_of schema statement) text
-Shows Explain schema statement bytes text = (bytes ≡ plan_text schema statement (plan_of schema statement)) × (text ≡ [])
-Shows Run schema statement bytes text = ⊥
-Shows Sim schema statement bytes text = ⊥
-Shows Load schema statement bytes text = ⊥
-
--- the texts that such a command names pass, and this is what it shows of them
-pub record IsShownOf (told : List ℕ → Told) (words : List (List ℕ)) (bytes text : List ℕ) : Type 0 where
-  pub command : Command
-  pub is : IsCommand words command
-  pub schema : Schema
-  pub statement : Statement
-  pub passes : QueryPasses told words schema statement
-  pub shows : Shows command schema statement bytes text
 
 -- the words load so many tuples; the bytes tell of the run over them, and the text is the one that was run
 pub record IsLoaded (words : List (List ℕ)) (bytes text : List ℕ) : Type 0 where

@@ -1,19 +1,13 @@
 //! All that the program does, over any shelf and any sinks.
 //!
-//! Here belong the order in which texts are judged, what each command does with them, statuses and
-//! notes: `compile`, `figures`, `explain`, `run` and `load` on the text that a query is compiled to,
-//! `sim` on a given Verilog text.
+//! Here belongs what each command does with the texts that gl_judging gives: `compile`, `figures`,
+//! `explain`, `run` and `load` on the text that a query is compiled to, `sim` on a given Verilog text.
+//! The words' forms are those of gl_forms, statuses and notes those of gl_notes.
 #![tactic(auto)]
 
-mod faults;
-mod figuring;
-pub mod judging;
-pub mod notes;
 pub mod running;
-pub mod simulating;
-pub mod status;
 mod tracing;
 
 pub use gl_forms::Part;
+pub use gl_notes::Status;
 pub use running::run;
-pub use status::Status;

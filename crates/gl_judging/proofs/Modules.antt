@@ -1,0 +1,141 @@
+-- What a Verilog text that was read says.
+use Rattle.std.proofs.Common.{◌≡◌, ◌≢◌, ℕ, List, Result, Ok, Err, inl, inr, refl, sym, ap, subst, ◌∙◌}
+use Rattle.std.specs.Prelude.{IfErr}
+use Rattle.std.specs.Result.{IsErrAnd}
+use Rattle.gl_outside.specs.States.{IsCalm}
+use Rattle.gl_outside.specs.Told.{Told}
+use Rattle.gl_schema.specs.declared.schema.Schema.{Schema}
+use Rattle.gl_verilog.specs.Module.{Module}
+use Rattle.gl_verilog.specs.Text.{HasModule}
+use Rattle.gl_verilog.specs.View.{module_of}
+use Rattle.gl_verilog_written.specs.declared.fault.VerilogFault.{VerilogFault}
+use Rattle.gl_verilog_written.specs.declared.fault.VerilogFault.TheVariants as verilog
+use Rattle.gl_verilog_reader.specs.declared.source.Source.{Source}
+use Rattle.gl_verilog_reader.specs.Reading.{IsFaultIn}
+use Rattle.gl_verilog_reader.specs.Sources.{IsSource}
+use Rattle.gl_verilog_reader.proofs.Places.{only_memory, only_module}
+use Rattle.gl_verilog_fit.specs.declared.fitting.Ports.{Ports}
+use Rattle.gl_verilog_fit.specs.declared.fitting.Misfit.{Misfit}
+use Rattle.gl_verilog_fit.specs.Fit.{fit_of}
+use Rattle.gl_verilog_fit.specs.Laws.{TellsPort}
+use Rattle.gl_verilog_fit.specs.Places.{IsPortFault, fit_at}
+use Rattle.gl_verilog_fit.proofs.Placed as placed
+use Rattle.gl_forms.specs.declared.command.Command.TheVariants.{Sim}
+use Rattle.gl_forms.specs.declared.command.Part.TheVariants as part
+use Rattle.gl_forms.specs.Forms.{IsCommand}
+use Rattle.gl_notes.specs.declared.notes.Refusal.TheVariants as refusal
+use Rattle.gl_judging.specs.declared.simulating.Fitted.{Fitted}
+use Rattle.gl_judging.specs.Passing.{HasText, SchemaPasses, IsFitted, IsFittedText}
+use Rattle.gl_judging.specs.Causes.{Change, HasCause, IsModuleFault, IsModuleFaultOrMemory, verilog_refusal}
+use Rattle.gl_judging.proofs.Texts.{has_text}
+
+-- ---- what is answered for a text
+
+-- by the reader, which tells of no port
+pub read_fault : (s : Schema) (text : List ℕ) (f : VerilogFault) → IsFaultIn text f → IsModuleFaultOrMemory s text f
+read_fault s text verilog.Memory is = inr refl
+read_fault s text (verilog.BadPort at) is = absurd is
+read_fault s text (verilog.Syntax at) is = inl is
+read_fault s text (verilog.Undeclared at) is = inl is
+read_fault s text (verilog.TwiceDeclared at) is = inl is
+read_fault s text (verilog.TwiceDriven at) is = inl is
+read_fault s text (verilog.NeverDriven at) is = inl is
+read_fault s text (verilog.WidthsDiffer at) is = inl is
+read_fault s text (verilog.Loop at) is = inl is
+read_fault s text (verilog.BadMemory at) is = inl is
+read_fault s text (verilog.ClockRead at) is = inl is
+read_fault s text (verilog.TooWide at) is = inl is
+read_fault s text (verilog.BadTarget at) is = inl is
+read_fault s text (verilog.TooDeep at) is = inl is
+
+-- by its ports alone
+port_fault : (s : Schema) (text : List ℕ) (f : VerilogFault) → TellsPort text s f → IsModuleFaultOrMemory s text f
+port_fault s text verilog.Memory is = absurd is
+port_fault s text (verilog.BadPort at) is = inl is
+port_fault s text (verilog.Syntax at) is = absurd is
+port_fault s text (verilog.Undeclared at) is = absurd is
+port_fault s text (verilog.TwiceDeclared at) is = absurd is
+port_fault s text (verilog.TwiceDriven at) is = absurd is
+port_fault s text (verilog.NeverDriven at) is = absurd is
+port_fault s text (verilog.WidthsDiffer at) is = absurd is
+port_fault s text (verilog.Loop at) is = absurd is
+port_fault s text (verilog.BadMemory at) is = absurd is
+port_fault s text (verilog.ClockRead at) is = absurd is
+port_fault s text (verilog.TooWide at) is = absurd is
+port_fault s text (verilog.BadTarget at) is = absurd is
+port_fault s text (verilog.TooDeep at) is = absurd is
+
+pub fit_fault : (s : Schema) (text : List ℕ) (source : Source) (f : VerilogFault) → IsSource text source → Err f ≡ fit_at source s → IsModuleFaultOrMemory s text f
+fit_fault s text source f is e = port_fault s text f (placed.told text source s f is (sym e))
+
+-- by a call whose fault is handed on
+pub handed : {A : Type 0} (P : VerilogFault → Type 0) (r : Result A VerilogFault) (f : VerilogFault) → IsErrAnd r (λ g. g ≡ f) → P f → IfErr r P
+handed P (Ok a) f h p = absurd h
+handed P (Err g) f h p = (let same : g ≡ f = h in subst P (sym same) p)
+
+-- ---- what it says of the words
+
+-- a fault is told as it is
+told_as : (f : VerilogFault) → f ≢ verilog.Memory → verilog_refusal f ≡ refusal.Verilog f
+told_as verilog.Memory real = absurd (real refl)
+told_as (verilog.Syntax at) real = refl
+told_as (verilog.Undeclared at) real = refl
+told_as (verilog.TwiceDeclared at) real = refl
+told_as (verilog.TwiceDriven at) real = refl
+told_as (verilog.NeverDriven at) real = refl
+told_as (verilog.WidthsDiffer at) real = refl
+told_as (verilog.Loop at) real = refl
+told_as (verilog.BadMemory at) real = refl
+told_as (verilog.ClockRead at) real = refl
+told_as (verilog.TooWide at) real = refl
+told_as (verilog.BadPort at) real = refl
+told_as (verilog.BadTarget at) real = refl
+told_as (verilog.TooDeep at) real = refl
+
+real_fault : (s : Schema) (text : List ℕ) (f : VerilogFault) → IsModuleFault s text f → f ≢ verilog.Memory
+real_fault s text f is e = subst (IsModuleFault s text) e is
+
+pub module_cause : (words : List (List ℕ)) (c : Change) (v : List ℕ) (s : Schema) (f : VerilogFault) → IsCommand words Sim → IsCalm c.old c.new → SchemaPasses c.old.told words s → HasText c.old.told words part.Module (λ text. v ≡ text)
+    → IsModuleFaultOrMemory s v f → HasCause words c (verilog_refusal f)
+module_cause words c v s f sims calm before h (inl is) =
+    rw (told_as f (real_fault s v f is)) (record { sims = sims; schema = s; before = before; text = has_text c.old.told words part.Module (λ text. IsModuleFault s text f) v h is }, calm)
+module_cause words c v s f sims calm before h (inr e) = rw e calm
+
+pub module_passes : (told : List ℕ → Told) (words : List (List ℕ)) (v : List ℕ) (s : Schema) (fitted : Fitted) → IsCommand words Sim → SchemaPasses told words s → HasText told words part.Module (λ text. v ≡ text) → IsFittedText s v fitted → IsFitted told words s fitted
+module_passes told words v s fitted sims before h is = record {
+  passes = record {
+    sims = sims;
+    before = before;
+    of_text = (v, is.has);
+    ports = fitted.ports;
+    fits = is.ports;
+    text = has_text told words part.Module (λ text. HasModule text (module_of fitted.design)) v h is.has;
+  };
+  ports = is.ports;
+}
+
+-- ---- a module that fits, or a fault
+
+-- a module that does not fit is another
+port_goes : (s : Schema) (text : List ℕ) (m : Module) (ports : Ports) (at : ℕ) → HasModule text m → fit_of m s ≡ Ok ports → IsPortFault text s at → ⊥
+port_goes s text m ports at has fits is =
+    let other : HasModule text is.design = record { written = is.written; spelled = is.spelled; grammar = is.grammar; limits = is.limits; resolved = is.resolved; valid = is.valid } in
+    let same : m ≡ is.design = only_module text m is.design has other in
+    let e : ◌≡◌ {A = Result Ports Misfit} (Ok ports) (Err is.misfit) = sym fits ∙ ap (λ (x : Module). fit_of x s) same ∙ is.is in
+    cc
+
+pub module_goes : (s : Schema) (text : List ℕ) (m : Module) (ports : Ports) (f : VerilogFault) → HasModule text m → fit_of m s ≡ Ok ports → IsModuleFault s text f → ⊥
+module_goes s text m ports verilog.Memory has fits is = is
+module_goes s text m ports (verilog.BadPort at) has fits is = port_goes s text m ports at has fits is
+module_goes s text m ports (verilog.Syntax at) has fits is = let e : verilog.Syntax at ≡ verilog.Memory = only_memory text m (verilog.Syntax at) has is in cc
+module_goes s text m ports (verilog.Undeclared at) has fits is = let e : verilog.Undeclared at ≡ verilog.Memory = only_memory text m (verilog.Undeclared at) has is in cc
+module_goes s text m ports (verilog.TwiceDeclared at) has fits is = let e : verilog.TwiceDeclared at ≡ verilog.Memory = only_memory text m (verilog.TwiceDeclared at) has is in cc
+module_goes s text m ports (verilog.TwiceDriven at) has fits is = let e : verilog.TwiceDriven at ≡ verilog.Memory = only_memory text m (verilog.TwiceDriven at) has is in cc
+module_goes s text m ports (verilog.NeverDriven at) has fits is = let e : verilog.NeverDriven at ≡ verilog.Memory = only_memory text m (verilog.NeverDriven at) has is in cc
+module_goes s text m ports (verilog.WidthsDiffer at) has fits is = let e : verilog.WidthsDiffer at ≡ verilog.Memory = only_memory text m (verilog.WidthsDiffer at) has is in cc
+module_goes s text m ports (verilog.Loop at) has fits is = let e : verilog.Loop at ≡ verilog.Memory = only_memory text m (verilog.Loop at) has is in cc
+module_goes s text m ports (verilog.BadMemory at) has fits is = let e : verilog.BadMemory at ≡ verilog.Memory = only_memory text m (verilog.BadMemory at) has is in cc
+module_goes s text m ports (verilog.ClockRead at) has fits is = let e : verilog.ClockRead at ≡ verilog.Memory = only_memory text m (verilog.ClockRead at) has is in cc
+module_goes s text m ports (verilog.TooWide at) has fits is = let e : verilog.TooWide at ≡ verilog.Memory = only_memory text m (verilog.TooWide at) has is in cc
+module_goes s text m ports (verilog.BadTarget at) has fits is = let e : verilog.BadTarget at ≡ verilog.Memory = only_memory text m (verilog.BadTarget at) has is in cc
+module_goes s text m ports (verilog.TooDeep at) has fits is = let e : verilog.TooDeep at ≡ verilog.Memory = only_memory text m (verilog.TooDeep at) has is in cc

@@ -1,0 +1,15 @@
+use Rattle.std.proofs.Common.{List, ℕ, subst}
+use Rattle.gl_judging.specs.Causes.{change}
+use Rattle.gl_judging.specs.Explaining.{IsExplained, IsExplainRefused}
+use Rattle.gl_judging.proofs.Explaining.{explain_cause, shown_of}
+use Rattle.gl_judging.proofs.judging.explain_query.Goals as goal
+
+pub returns-in-Ok-clause-shown : goal.returns-in-Ok-clause-shown
+returns-in-Ok-clause-shown g c =
+    let explained = subst (λ (v : List ℕ). IsExplained c.args.schema.now v c.in-Ok.shown.items) c.deref.ensures.value c.in-Ok.ensures.explained in
+    shown_of (g.S.Shelf.state c.args.shelf.now).told c.args.words.now c.in_ok-text.text.items c.args.schema.now c.in-Ok.shown.items c.requires.explains c.requires.passes c.in_ok-text.ensures.text explained
+
+pub returns-clause-leaves : goal.returns-clause-leaves
+returns-clause-leaves g c =
+    let refused = subst (λ (v : List ℕ). IsExplainRefused c.args.schema.now v c.in-Err.refusal) c.deref.ensures.value c.in-Err.ensures.refused in
+    explain_cause c.args.words.now (change (g.S.Shelf.state c.args.shelf.now) (g.S.Shelf.state c.text_of.new.shelf)) c.in_ok-text.text.items c.args.schema.now c.in-Err.refusal c.requires.explains c.in_ok-text.ensures.leaves c.requires.passes c.in_ok-text.ensures.text refused

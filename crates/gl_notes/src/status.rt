@@ -1,0 +1,55 @@
+//! How the program ends.
+
+ghost use Rattle.std.specs.Prelude.{◌≡◌};
+ghost use Rattle.gl_notes.specs.Statuses.{code_of};
+
+/// How the program ends.
+#[derive(Clone, Copy, PartialEq, Eq, Debug)]
+pub enum Status {
+    /// The output was written whole.
+    Done,
+    /// The words are of no form.
+    Usage,
+    /// The shelf has no text of a name.
+    Missing,
+    /// The shelf failed.
+    ReadFault,
+    /// A sink failed.
+    WriteFault,
+    /// The schema is refused.
+    Schema,
+    /// The query is refused.
+    Query,
+    /// The tuple file is refused.
+    Tuples,
+    /// The Verilog text is refused.
+    Verilog,
+    /// A limit is passed.
+    Limit,
+    /// Want of memory.
+    Memory,
+    /// The end of the result did not come.
+    NoEnd,
+}
+
+impl Status {
+    /// The number that the program ends with.
+    pub fn code(self) -> u8
+        ensures { result ≡ code_of self }
+    {
+        match self {
+            Status::Done => 0,
+            Status::Usage => 1,
+            Status::Missing => 2,
+            Status::ReadFault => 3,
+            Status::WriteFault => 4,
+            Status::Schema => 5,
+            Status::Query => 6,
+            Status::Tuples => 7,
+            Status::Verilog => 8,
+            Status::Limit => 9,
+            Status::Memory => 10,
+            Status::NoEnd => 11,
+        }
+    }
+}
