@@ -22,10 +22,10 @@ use Rattle.gl_verilog_orders.specs.Laws.{HasEventRuns}
 use Rattle.gl_verilog_writer.specs.Meaning.{clock, kind_of}
 use Rattle.gl_schema.specs.Profile.{ProfilePort, input_ports, CanCarry}
 use Rattle.gl_schema.proofs.Pinned.{pins_fit}
-use Rattle.gl_verilog_fit.specs.Profile.{ports_of}
+use Rattle.gl_verilog_ports.specs.Profile.{ports_of}
 use Rattle.gl_compiler.specs.Meets.{RunsOver}
-use Rattle.gl_compiler.proofs.Inputs.{input_there}
-use Rattle.gl_verilog_fit.proofs.Declared.{number_at, distinct_take, get_take}
+use Rattle.gl_testbench.proofs.Inputs.{input_there}
+use Rattle.gl_verilog_ports.proofs.Declared.{number_at, distinct_take, get_take}
 use Rattle.gl_compiler.proofs.Faces.{decl}
 use Rattle.gl_compiler.proofs.Fits.{inputs, asked, all_asked}
 

@@ -16,7 +16,7 @@ use Rattle.gl_verilog_writer.specs.Meaning.{declaration_of, clock, kind_of}
 use Rattle.gl_wiring.specs.EmittedPorts.{input, output, column_inputs, stream_inputs, streams_inputs}
 use Rattle.gl_wiring.specs.Output.{named_outputs, output_ports}
 use Rattle.gl_wiring.proofs.PortNames.{no_valid, out_valid-column, tail_apart}
-use Rattle.gl_verilog_fit.specs.Profile.{shows_column, ports_of}
+use Rattle.gl_verilog_ports.specs.Profile.{shows_column, ports_of}
 use Rattle.gl_bits.proofs.Bools.{bytes_other}
 
 -- the declaration of a port

@@ -19,7 +19,7 @@ use Rattle.gl_wiring.specs.EmittedPorts.{input, output, column_inputs, stream_in
 use Rattle.gl_wiring.specs.Output.{named_outputs, output_ports}
 use Rattle.gl_schema.specs.Profile as profile
 use Rattle.gl_schema.specs.Profile.{ProfilePort, clk, input_ports}
-use Rattle.gl_verilog_fit.specs.Profile.{input_width, ports_of, port_named, HasClock, HasLine, IsLine}
+use Rattle.gl_verilog_ports.specs.Profile.{input_width, ports_of, port_named, HasClock, HasLine, IsLine}
 use Rattle.gl_compiler.proofs.Faces.{decl, Stands, stands_next, stands_behind, found_named}
 
 -- ---- lines

@@ -32,8 +32,8 @@ use Rattle.gl_elaborate.specs.Plans.{plan_of}
 use Rattle.gl_plan_wiring.specs.Leaves.{widths_of}
 use Rattle.gl_wiring.specs.Output.{named_outputs, output_ports, plan_ports}
 use Rattle.gl_wiring.specs.Wired.{KeepsGroup, OverBeats, plan_means}
-use Rattle.gl_verilog_fit.specs.Profile.{FitsSchema, ports_of, result_ports, result_names, result_widths, shows_column}
-use Rattle.gl_verilog_fit.proofs.Fits.{finds_ok}
+use Rattle.gl_verilog_ports.specs.Profile.{FitsSchema, ports_of, result_ports, result_names, result_widths, shows_column}
+use Rattle.gl_verilog_ports.proofs.Fits.{finds_ok}
 use Rattle.gl_compiler.specs.Meets.{Meets, RunsOver, result_columns}
 use Rattle.gl_compiler.specs.Queries.{gap_of, latency_of}
 use Rattle.gl_compiler.proofs.PlanResults.{plan_result}

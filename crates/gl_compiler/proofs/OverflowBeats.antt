@@ -8,9 +8,9 @@ use Rattle.std.proofs.lemmas.Bool.Decides.{eqb_tells, leb_tells}
 use Rattle.gl_schema.specs.declared.schema.Stream.{Stream}
 use Rattle.gl_schema.specs.declared.schema.Schema.{Schema}
 use Rattle.gl_schema.specs.Beats.{Beat, IsBeat, AreBeats, AreInOrder, AreRowsOf, KeepsGap, beat_at, inputs_of, input_of, row_in}
-use Rattle.gl_compiler.specs.Cycles.{AreFrom}
+use Rattle.gl_testbench.specs.Dues.{AreFrom}
 use Rattle.gl_compiler.specs.Overflow.{beats_to}
-use Rattle.gl_compiler.proofs.Due.{other_beat, this_beat, none_before, from_first}
+use Rattle.gl_testbench.proofs.Due.{other_beat, this_beat, none_before, from_first}
 
 -- ---- the end alone
 

@@ -18,13 +18,13 @@ use Rattle.gl_verilog_orders.specs.Events.{IsEventRun}
 use Rattle.gl_verilog_orders.proofs.EventRuns.{event_runs_are_runs}
 use Rattle.gl_sim.proofs.Settling.{IsInputPort}
 use Rattle.gl_wiring.specs.Wired.{KeepsGroup}
-use Rattle.gl_compiler.specs.declared.pins.Pin.{Pin as Carried}
-use Rattle.gl_compiler.specs.Carried.{pin_at, with_beat}
-use Rattle.gl_verilog_fit.specs.Profile.{FitsSchema, result_names}
+use Rattle.gl_testbench.specs.declared.pins.Pin.{Pin as Carried}
+use Rattle.gl_testbench.specs.Carried.{pin_at, with_beat}
+use Rattle.gl_verilog_ports.specs.Profile.{FitsSchema, result_names}
 use Rattle.gl_compiler.specs.Meets.{RunsOver}
 use Rattle.gl_compiler.specs.Overflow.{HasSpill, TellsGroup, beats_to}
-use Rattle.gl_compiler.proofs.Inputs.{carried_at, port_carries}
-use Rattle.gl_compiler.proofs.Outputs.{shown_same}
+use Rattle.gl_testbench.proofs.Inputs.{carried_at, port_carries}
+use Rattle.gl_testbench.proofs.Outputs.{shown_same}
 use Rattle.gl_compiler.proofs.OverflowBeats.{IsCut, cut_of, is_cut}
 
 -- each run of the module in any order of events, over beats that keep the gap

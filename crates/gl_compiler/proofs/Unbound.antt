@@ -11,8 +11,8 @@ use Rattle.gl_schema.specs.Beats.{Beat}
 use Rattle.gl_schema.specs.Ports.{Pin, pins, IsStimulus}
 use Rattle.gl_verilog.specs.Module.{Module, Declaration, Nets, number_of}
 use Rattle.gl_verilog.specs.Run.{is_input, is_input_at, input_number, input_values}
-use Rattle.gl_verilog_fit.specs.Profile.{HasOnlyClock}
-use Rattle.gl_verilog_fit.proofs.Declared.{get_take}
+use Rattle.gl_verilog_ports.specs.Profile.{HasOnlyClock}
+use Rattle.gl_verilog_ports.proofs.Declared.{get_take}
 use Rattle.gl_compiler.proofs.Meeting.{pins_other}
 
 -- what a number that was found by its name stands for

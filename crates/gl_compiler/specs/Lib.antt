@@ -1,9 +1,4 @@
-pub mod Carried
-pub mod Benches
-pub mod Cycles
-pub mod Prints
 pub mod Overflow
 pub mod Meets
 pub mod Compiles
 pub mod Queries
-pub mod Traces

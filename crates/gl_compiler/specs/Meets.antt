@@ -19,8 +19,8 @@ use Rattle.gl_verilog.specs.Runnable.{SameState}
 use Rattle.gl_verilog.specs.Text.{HasModule}
 use Rattle.gl_verilog_orders.specs.Events.{IsEventRun}
 use Rattle.gl_compiler.specs.Overflow.{TellsGroup}
-use Rattle.gl_verilog_fit.specs.Fit.{fit_of}
-use Rattle.gl_verilog_fit.specs.Profile.{result_names, result_widths}
+use Rattle.gl_verilog_ports.specs.Fit.{fit_of}
+use Rattle.gl_verilog_ports.specs.Profile.{result_names, result_widths}
 
 -- the columns of a statement's result
 abbrev pub result_columns : Schema → Statement → List Column

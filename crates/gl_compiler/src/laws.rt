@@ -6,7 +6,7 @@ ghost use Rattle.gl_schema.specs.Beats.{Beat};
 ghost use Rattle.gl_schema.specs.Ports.{IsStimulus};
 ghost use Rattle.gl_verilog.specs.Module.{Module, Nets};
 ghost use Rattle.gl_verilog.specs.Run.{input_values};
-ghost use Rattle.gl_verilog_fit.specs.Profile.{HasOnlyClock};
+ghost use Rattle.gl_verilog_ports.specs.Profile.{HasOnlyClock};
 
 /// Beats are put on inputs alone: every run of a module with no input but the clock is one over any
 /// beats, whatever its outputs are called.

@@ -14,9 +14,9 @@ use Rattle.gl_verilog_reader.specs.declared.source.Source.{Source}
 use Rattle.gl_verilog_reader.specs.Reading.{IsFaultIn}
 use Rattle.gl_verilog_reader.specs.Sources.{IsSource}
 use Rattle.gl_verilog_reader.proofs.Places.{only_memory, only_module}
-use Rattle.gl_verilog_fit.specs.declared.fitting.Ports.{Ports}
-use Rattle.gl_verilog_fit.specs.declared.fitting.Misfit.{Misfit}
-use Rattle.gl_verilog_fit.specs.Fit.{fit_of}
+use Rattle.gl_verilog_ports.specs.declared.fitting.Ports.{Ports}
+use Rattle.gl_verilog_ports.specs.declared.fitting.Misfit.{Misfit}
+use Rattle.gl_verilog_ports.specs.Fit.{fit_of}
 use Rattle.gl_verilog_fit.specs.Laws.{TellsPort}
 use Rattle.gl_verilog_fit.specs.Places.{IsPortFault, fit_at}
 use Rattle.gl_verilog_fit.proofs.Placed as placed

@@ -16,13 +16,13 @@ use Rattle.gl_tuples.specs.Gaps.{AreFileBeats, plain_beats, first_close, close_a
 use Rattle.gl_verilog.specs.Module.{Module}
 use Rattle.gl_verilog.specs.Text.{HasModule}
 use Rattle.gl_verilog.specs.View.{module_of}
-use Rattle.gl_verilog_fit.specs.declared.fitting.Ports.{Ports}
-use Rattle.gl_verilog_fit.specs.Fit.{fit_of}
+use Rattle.gl_verilog_ports.specs.declared.fitting.Ports.{Ports}
+use Rattle.gl_verilog_ports.specs.Fit.{fit_of}
 use Rattle.gl_compiler.specs.declared.compiling.Compiled.{Compiled}
 use Rattle.gl_compiler.specs.Compiles.{HasCost}
 use Rattle.gl_compiler.specs.Queries.{IsQuery, copies_of, latency_of, gap_of}
 use Rattle.gl_compiler.specs.Meets.{Meets, result_columns}
-use Rattle.gl_compiler.specs.Traces.{IsOfText}
+use Rattle.gl_runner.specs.Traces.{IsOfText}
 use Rattle.gl_forms.specs.declared.command.Part.{Part}
 use Rattle.gl_forms.specs.declared.command.Part.TheVariants as part
 use Rattle.gl_judging.specs.declared.judging.Job.{Job}

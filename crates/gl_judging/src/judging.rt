@@ -221,11 +221,7 @@ fn judge_rest<S: Shelf>(
 }
 
 /// Judges the three texts of `run S Q T`.
-pub fn judge_run<S: Shelf>(
-    alloc: Global,
-    shelf: &mut S,
-    words: &Words,
-) -> Result<Job, Refusal>
+pub fn judge_run<S: Shelf>(alloc: Global, shelf: &mut S, words: &Words) -> Result<Job, Refusal>
     requires runs { IsCommand words.now Run }
     requires names { (S.state shelf.old).names ≡ words.now }
     ensures ready { IfOk result (λ job. IsReady (S.state shelf.old).told words.now job) }

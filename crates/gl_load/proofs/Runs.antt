@@ -8,7 +8,7 @@ use Rattle.gl_schema.specs.Beats.{Beat, AreBeats, KeepsGap}
 use Rattle.gl_query.specs.declared.tree.Statement.{Statement}
 use Rattle.gl_sim.specs.declared.start.Start.{Start}
 use Rattle.gl_compiler.specs.Meets.{Meets, result_columns}
-use Rattle.gl_compiler.specs.Prints.{CanRun}
+use Rattle.gl_runner.specs.Prints.{CanRun}
 
 pub can_run : (schema : Schema) (statement : Statement) (latency gap : ℕ) (text : List ℕ) (kinds : List Kind) (beats : List Beat) (start : Start)
     → Meets schema statement latency gap text → kinds ≡ kinds_of (result_columns schema statement) → latency ≤ 2 ^ 32 → AreBeats schema beats → KeepsGap gap beats → CanRun text schema kinds beats latency start

@@ -20,9 +20,9 @@ use Rattle.gl_tuples.specs.declared.beats.Beat.{Beat}
 use Rattle.gl_tuples.specs.declared.fault.TupleFault.{TupleFault}
 use Rattle.gl_tuples.specs.Gaps.{plain_beats}
 use Rattle.gl_verilog.specs.Module.{Module}
-use Rattle.gl_compiler.specs.declared.tracing.Ending.{Ending}
-use Rattle.gl_compiler.specs.declared.tracing.Ending.TheVariants as end
-use Rattle.gl_compiler.specs.Traces.{OfRunsOf, Traced, decimal_kinds}
+use Rattle.gl_runner.specs.declared.tracing.Ending.{Ending}
+use Rattle.gl_runner.specs.declared.tracing.Ending.TheVariants as end
+use Rattle.gl_runner.specs.Traces.{OfRunsOf, Traced, decimal_kinds}
 use Rattle.gl_judging.specs.Passing.{FilePasses}
 use Rattle.gl_notes.specs.Refusals.{Puts, Notes, status_of, note_of, no_end_line, write_line}
 use Rattle.gl_judging.specs.Causes.{Change, HasCause, AreBadTuples, ToRun, ToSim, IsBadQuery, IsRefused}

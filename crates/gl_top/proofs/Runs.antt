@@ -12,8 +12,8 @@ use Rattle.gl_compiler.specs.declared.compiling.Compiled.{Compiled}
 use Rattle.gl_compiler.specs.Queries.{gap_of}
 use Rattle.gl_compiler.specs.Meets.{Meets, result_columns}
 use Rattle.gl_outside.specs.States.{SinkState}
-use Rattle.gl_compiler.specs.declared.executing.Outcome.{Outcome}
-use Rattle.gl_compiler.specs.Prints.{CanRun, OfEachRun, Ran}
+use Rattle.gl_runner.specs.declared.executing.Outcome.{Outcome}
+use Rattle.gl_runner.specs.Prints.{CanRun, OfEachRun, Ran}
 use Rattle.gl_load.proofs.Runs.{can_run}
 use Rattle.gl_top.specs.Verdicts.{RanLines}
 use Rattle.gl_judging.specs.Passing.{IsCompiled}

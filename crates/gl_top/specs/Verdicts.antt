@@ -15,12 +15,12 @@ use Rattle.gl_tuples.specs.declared.beats.Beat.{Beat}
 use Rattle.gl_tuples.specs.Gaps.{plain_beats}
 use Rattle.gl_compiler.specs.Queries.{latency_of, gap_of}
 use Rattle.gl_compiler.specs.Meets.{Meets, result_columns}
-use Rattle.gl_compiler.specs.declared.executing.Outcome.{Outcome}
-use Rattle.gl_compiler.specs.Prints.{OfEachRun, Writes, WritesFront}
-use Rattle.gl_compiler.specs.Prints as prints
-use Rattle.gl_compiler.specs.declared.tracing.Ending.{Ending}
-use Rattle.gl_compiler.specs.declared.tracing.Ending.TheVariants as end
-use Rattle.gl_compiler.specs.Traces.{OfRunsOf, Traced, TracesOut, decimal_kinds}
+use Rattle.gl_runner.specs.declared.executing.Outcome.{Outcome}
+use Rattle.gl_runner.specs.Prints.{OfEachRun, Writes, WritesFront}
+use Rattle.gl_runner.specs.Prints as prints
+use Rattle.gl_runner.specs.declared.tracing.Ending.{Ending}
+use Rattle.gl_runner.specs.declared.tracing.Ending.TheVariants as end
+use Rattle.gl_runner.specs.Traces.{OfRunsOf, Traced, TracesOut, decimal_kinds}
 use Rattle.gl_verilog.specs.Module.{Module}
 use Rattle.gl_verilog_written.specs.declared.fault.VerilogFault.{VerilogFault}
 use Rattle.gl_forms.specs.declared.command.Part.{Part}

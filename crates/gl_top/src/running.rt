@@ -16,12 +16,13 @@ ghost use Rattle.gl_top.specs.Verdicts.{AllPass, Completes, IsAnswer, IsGiven, I
 ghost use Rattle.gl_top.specs.Verdicts.{IsFaultless, RanLines, Says, TellsFault, Yields};
 
 use crate::tracing::answer_sim;
-use gl_compiler::{Compiled, Outcome, execute};
+use gl_compiler::Compiled;
 use gl_forms::{Command, command_of, load_of, start_of};
 use gl_judging::{Job, figures_text, judge_compile, judge_explain, judge_run};
 use gl_load::load;
 use gl_notes::{Refusal, Status, tell, tell_write_fault};
 use gl_outside::{Shelf, Sink, Words, write_all_of};
+use gl_runner::{Outcome, execute};
 use std::alloc::Global;
 
 // Runs the compiled text over the beats, and writes the lines of the run.

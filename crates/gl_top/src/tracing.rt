@@ -9,11 +9,11 @@ ghost use Rattle.gl_judging.specs.Passing.{CanTrace, IsTraceable};
 ghost use Rattle.gl_notes.specs.Refusals.{puts};
 ghost use Rattle.gl_top.specs.Verdicts.{IsAnswer};
 
-use gl_compiler::{Ending, trace};
 use gl_forms::extra_of;
 use gl_judging::{Fitted, Simulation, judge_sim};
 use gl_notes::{Refusal, Status, tell, tell_no_end, tell_write_fault};
 use gl_outside::{Shelf, Sink, Words};
+use gl_runner::{Ending, trace};
 use gl_sim::Start;
 use std::alloc::Global;
 

@@ -1,7 +1,1 @@
-mod Asked
-pub mod Declared
-mod Judged
-pub mod Named
-pub mod Fits
-pub mod Inputs
 pub mod Placed

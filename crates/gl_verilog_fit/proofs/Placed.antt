@@ -13,13 +13,13 @@ use Rattle.gl_verilog_written.specs.declared.fault.VerilogFault.{VerilogFault}
 use Rattle.gl_verilog_written.specs.declared.fault.VerilogFault.TheVariants.{BadPort}
 use Rattle.gl_verilog_reader.specs.declared.source.Source.{Source}
 use Rattle.gl_verilog_reader.specs.Sources.{IsSource, port_tokens}
-use Rattle.gl_verilog_fit.specs.declared.fitting.Ports.{Ports}
-use Rattle.gl_verilog_fit.specs.declared.fitting.Misfit.{Misfit}
-use Rattle.gl_verilog_fit.specs.declared.fitting.Misfit.TheVariants.{Port, Lacks}
-use Rattle.gl_verilog_fit.specs.Fit.{is_bad, with_port, first_bad, with_needed, found_in, unless_bad, fit_of}
+use Rattle.gl_verilog_ports.specs.declared.fitting.Ports.{Ports}
+use Rattle.gl_verilog_ports.specs.declared.fitting.Misfit.{Misfit}
+use Rattle.gl_verilog_ports.specs.declared.fitting.Misfit.TheVariants.{Port, Lacks}
+use Rattle.gl_verilog_ports.specs.Fit.{is_bad, with_port, first_bad, with_needed, found_in, unless_bad, fit_of}
 use Rattle.gl_verilog_fit.specs.Laws.{TellsPort}
 use Rattle.gl_verilog_fit.specs.Places.{misfit_place, misfit_at, fit_at, IsPortFault}
-use Rattle.gl_verilog_fit.specs.Profile.{ports_of}
+use Rattle.gl_verilog_ports.specs.Profile.{ports_of}
 
 -- ---- the number of a bad port is that of a port
 

@@ -12,10 +12,10 @@ use Rattle.gl_verilog_written.specs.declared.fault.VerilogFault.{VerilogFault}
 use Rattle.gl_verilog_written.specs.declared.fault.VerilogFault.TheVariants.{BadPort}
 use Rattle.gl_verilog_reader.specs.declared.source.Source.{Source}
 use Rattle.gl_verilog_reader.specs.Sources.{port_tokens}
-use Rattle.gl_verilog_fit.specs.declared.fitting.Ports.{Ports}
-use Rattle.gl_verilog_fit.specs.declared.fitting.Misfit.{Misfit}
-use Rattle.gl_verilog_fit.specs.declared.fitting.Misfit.TheVariants.{Port, Lacks}
-use Rattle.gl_verilog_fit.specs.Fit.{fit_of}
+use Rattle.gl_verilog_ports.specs.declared.fitting.Ports.{Ports}
+use Rattle.gl_verilog_ports.specs.declared.fitting.Misfit.{Misfit}
+use Rattle.gl_verilog_ports.specs.declared.fitting.Misfit.TheVariants.{Port, Lacks}
+use Rattle.gl_verilog_ports.specs.Fit.{fit_of}
 
 -- the place of what shows a misfit: the port's name, or that of the module
 abbrev pub misfit_place : Source → Misfit → ℕ

@@ -1,14 +1,8 @@
-//! Laws of ports: each function's contract is the law.
+//! Laws of faults of ports: each function's contract is the law.
 
 ghost use Rattle.gl_verilog_fit.specs.Laws.{PortFaultsAreTold};
-ghost use Rattle.gl_verilog_fit.specs.Worked.{WorkedPorts};
 
 /// Where a module of a text does not fit, the fault is told at the token that shows it.
 pub fn port_faults_are_told()
     ensures { PortFaultsAreTold }
-{}
-
-/// Worked headers: of each the definition says what was worked out by hand.
-pub fn worked_ports()
-    ensures { WorkedPorts }
 {}

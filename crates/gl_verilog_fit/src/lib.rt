@@ -1,12 +1,9 @@
-//! Whether the ports of a module are those by which it takes the beats of a schema and shows a result, and which one is not.
+//! Where the text of a module shows that its ports are not those of a schema and of a result.
 //!
-//! Here belongs what is asked of ports alone. What is put on them and what they show stands in `gl_schema`.
+//! Here belongs the fault and its place. What is asked of ports stands in gl_verilog_ports.
 #![tactic(auto)]
 
-pub mod fitting;
 pub mod laws;
-mod names;
 pub mod port_fault;
 
-pub use fitting::{Misfit, Ports, find_ports, input_named};
 pub use port_fault::fit;

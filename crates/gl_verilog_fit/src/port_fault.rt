@@ -3,8 +3,8 @@
 ghost use Rattle.std.specs.Prelude.{◌≡◌};
 ghost use Rattle.gl_verilog_fit.specs.Places as places;
 
-use crate::fitting::{Misfit, Ports, find_ports};
 use gl_schema::Schema;
+use gl_verilog_ports::{Misfit, Ports, find_ports};
 use gl_verilog_reader::Source;
 use gl_verilog_written::VerilogFault;
 

@@ -1,6 +1,0 @@
-use Rattle.std.proofs.Common.{◌≡◌, map, take, length}
-use Rattle.gl_compiler.specs.Carried.{at_reset}
-use Rattle.gl_compiler.proofs.bench.set_reset.Given as goal
-
-abbrev pub invariant-loop-at : goal.invariant-loop-at
-invariant-loop-at l = (length l.values ≡ length l.pins) × (take l.at l.values ≡ map at_reset (take l.at l.pins))

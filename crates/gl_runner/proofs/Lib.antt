@@ -1,0 +1,6 @@
+pub mod Rows
+pub mod Puts
+pub mod Making
+pub mod Running
+pub mod Each
+pub mod Decimals

@@ -1,0 +1,24 @@
+use Rattle.gl_tuples.specs.Gaps.{plain_beats}
+use Rattle.gl_runner.proofs.Each.{can_follow, ran_each}
+use Rattle.gl_runner.proofs.executing.execute.Goals as goal
+
+-- the text has a module, so the one fault is want of memory
+pub unread-requires : goal.unread-requires
+unread-requires g c = c.in-Err.ensures.only c.requires.runs.design c.requires.runs.has
+
+pub execute_module-requires-clause-can : goal.execute_module-requires-clause-can
+execute_module-requires-clause-can g c = can_follow c.args.text.now c.args.schema.now c.args.kinds.now (plain_beats c.args.beats.now) c.args.latency c.args.start c.in-Ok.design c.requires.runs c.in-Ok.ensures.found c.requires.beats
+
+pub execute_module-requires-clause-many : goal.execute_module-requires-clause-many
+execute_module-requires-clause-many g c = c.requires.many
+
+pub execute_module-requires-clause-kinds : goal.execute_module-requires-clause-kinds
+execute_module-requires-clause-kinds g c = c.requires.kinds
+
+pub execute_module-requires-clause-short : goal.execute_module-requires-clause-short
+execute_module-requires-clause-short g c = c.requires.runs.short
+
+pub returns : goal.returns
+returns g c =
+    ran_each c.args.text.now c.args.schema.now c.args.kinds.now (plain_beats c.args.beats.now) c.args.latency c.args.start c.in-Ok.design
+    (g.K.Sink.state c.args.out.now) (g.K.Sink.state c.execute_module.new.out) c.execute_module.result c.requires.runs c.in-Ok.ensures.found c.execute_module.ensures

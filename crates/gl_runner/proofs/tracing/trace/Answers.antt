@@ -1,0 +1,58 @@
+use Rattle.std.proofs.Common.{◌≡◌, ◌∙◌, ◌≤◌, ℕ, List, length, sym, subst}
+use Rattle.std.specs.List.{AllByRecursion}
+use Rattle.gl_bits.specs.declared.kind.Kind.{Kind}
+use Rattle.gl_bits.specs.Kinds.{IsKind}
+use Rattle.gl_tuples.specs.Gaps.{plain_beats}
+use Rattle.gl_tuples.specs.declared.beats.Beat.{Beat}
+use Rattle.gl_verilog.specs.View.{module_of}
+use Rattle.gl_verilog_ports.proofs.Fits.{fits, numbered}
+use Rattle.gl_runner.specs.Cycles.{CanFollow}
+use Rattle.gl_runner.specs.Traces.{OfRunsOf, Traced, decimal_kinds}
+use Rattle.gl_runner.proofs.Decimals.{can_trace, decimals_are_kinds, decimals_many}
+use Rattle.gl_runner.proofs.tracing.trace.Goals as goal
+
+pub shows_at-requires-clause-valid : goal.shows_at-requires-clause-valid
+shows_at-requires-clause-valid g c = (numbered (module_of c.args.design) c.args.schema.now c.args.ports.now c.requires.fits).valid
+
+pub shows_at-requires-clause-end : goal.shows_at-requires-clause-end
+shows_at-requires-clause-end g c = (numbered (module_of c.args.design) c.args.schema.now c.args.ports.now c.requires.fits).end
+
+pub shows_at-requires-clause-group : goal.shows_at-requires-clause-group
+shows_at-requires-clause-group g c = (numbered (module_of c.args.design) c.args.schema.now c.args.ports.now c.requires.fits).group
+
+pub follow_module-requires-clause-can : goal.follow_module-requires-clause-can
+follow_module-requires-clause-can g c =
+    let m = module_of c.args.design in
+    let schema = c.args.schema.now in
+    let kinds : c.deref.result.now ≡ decimal_kinds m = c.deref.ensures.value ∙ c.in-Ok.ensures in
+    subst (λ (b : List Beat). CanFollow m schema c.deref.result.now (plain_beats b)) (sym c.as_slice.ensures)
+    (subst (λ (k : List Kind). CanFollow m schema k (plain_beats c.args.beats.now)) (sym kinds)
+    (can_trace m schema (plain_beats c.args.beats.now) c.requires.text (fits c.requires.text.0 m schema c.args.ports.now c.requires.text.1 c.requires.fits) c.requires.beats))
+
+pub follow_module-requires-clause-many : goal.follow_module-requires-clause-many
+follow_module-requires-clause-many g c =
+    let m = module_of c.args.design in
+    let schema = c.args.schema.now in
+    let kinds : c.deref.result.now ≡ decimal_kinds m = c.deref.ensures.value ∙ c.in-Ok.ensures in
+    subst (λ (k : List Kind). length k ≤ 32) (sym kinds) (decimals_many m schema (fits c.requires.text.0 m schema c.args.ports.now c.requires.text.1 c.requires.fits))
+
+pub follow_module-requires-clause-kinds : goal.follow_module-requires-clause-kinds
+follow_module-requires-clause-kinds g c =
+    let m = module_of c.args.design in
+    let schema = c.args.schema.now in
+    let kinds : c.deref.result.now ≡ decimal_kinds m = c.deref.ensures.value ∙ c.in-Ok.ensures in
+    subst (λ (k : List Kind). AllByRecursion IsKind k) (sym kinds) (decimals_are_kinds m schema c.requires.text (fits c.requires.text.0 m schema c.args.ports.now c.requires.text.1 c.requires.fits))
+
+pub returns : goal.returns
+returns g c =
+    let m = module_of c.args.design in
+    let schema = c.args.schema.now in
+    let start = c.args.start in
+    let old = g.K.Sink.state c.args.out.now in
+    let new = g.K.Sink.state c.follow_module.new.out in
+    let end' = c.follow_module.result in
+    let kinds : c.deref.result.now ≡ decimal_kinds m = c.deref.ensures.value ∙ c.in-Ok.ensures in
+    let beats = plain_beats c.args.beats.now in
+    subst (λ (n : ℕ). Traced (OfRunsOf m schema beats start) (decimal_kinds m) beats n old new end') c.from.ensures
+    (subst (λ (k : List Kind). Traced (OfRunsOf m schema beats start) k beats c.from.result old new end') kinds
+    (subst (λ (b : List Beat). Traced (OfRunsOf m schema (plain_beats b) start) c.deref.result.now (plain_beats b) c.from.result old new end') c.as_slice.ensures c.follow_module.ensures))

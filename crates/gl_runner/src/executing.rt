@@ -1,0 +1,116 @@
+//! Running the text of a module.
+
+ghost use Rattle.std.specs.Prelude.{◌≡◌, ◌≤◌, ◌^◌, length};
+ghost use Rattle.std.specs.List.{AllByRecursion};
+ghost use Rattle.gl_bits.specs.Kinds.{IsKind};
+ghost use Rattle.gl_schema.specs.Beats.{AreBeats};
+ghost use Rattle.gl_schema.specs.Schemas.{IsSchema};
+ghost use Rattle.gl_tuples.specs.Gaps.{plain_beats};
+ghost use Rattle.gl_verilog.specs.View.{module_of};
+ghost use Rattle.gl_runner.specs.Cycles.{CanFollow, OfTimely, outcome_of};
+ghost use Rattle.gl_runner.specs.Prints.{CanRun, OfEachRun, Ran};
+
+use crate::following::{Task, follow_module};
+use crate::tracing::Ending;
+use gl_bits::Kind;
+use gl_outside::Sink;
+use gl_schema::Schema;
+use gl_sim::Start;
+use gl_testbench::shows_of;
+use gl_tuples::Beats;
+use gl_verilog::Module;
+use gl_verilog_reader::{VerilogFault, read_module};
+use std::alloc::Global;
+
+/// How a run ended.
+#[derive(Clone, Copy, PartialEq, Eq, Debug)]
+pub enum Outcome {
+    /// At the end of the result.
+    Done,
+    /// The sink failed.
+    WriteFault,
+    /// Want of memory, or a text that the reader does not take; nothing was written.
+    Memory,
+}
+
+// The outcome of a module that comes to its end where it is waited for.
+fn outcome_of(ending: Ending) -> Outcome
+    ensures { result ≡ outcome_of ending }
+{
+    match ending {
+        Ending::Done | Ending::NoEnd { .. } => Outcome::Done,
+        Ending::WriteFault => Outcome::WriteFault,
+        Ending::Memory => Outcome::Memory,
+    }
+}
+
+/// Runs the module of a text over beats, and writes the lines of the result.
+///
+/// In the first cycle the module is reset. Behind it comes a cycle for each cycle of the file, to
+/// the first one from the last beat's on in which `out__eos` is 1. The lines stand in order of
+/// cycle; in a cycle a further group stands before the result, and the end behind it.
+pub fn execute_module<K: Sink>(
+    alloc: Global,
+    design: Module,
+    schema: &Schema,
+    kinds: &[Kind],
+    beats: &Beats,
+    latency: u64,
+    start: Start,
+    out: &mut K,
+) -> Outcome
+    requires can { CanFollow (module_of design) schema.now kinds.now (plain_beats beats.now) }
+    requires many { length kinds.now ≤ 32 }
+    requires kinds { AllByRecursion IsKind kinds.now }
+    requires short { latency ≤ 2 ^ 32 }
+    ensures { Ran (OfTimely latency (module_of design) schema.now (plain_beats beats.now) start)
+        kinds.now (plain_beats beats.now) (K.state out.old) (K.state out.new) result }
+{
+    let Ok(shows) = shows_of(alloc, &design) else {
+        return Outcome::Memory;
+    };
+    let task = Task {
+        schema,
+        kinds,
+        beats: beats.as_slice(),
+        start,
+        extra: latency,
+    };
+    outcome_of(follow_module(alloc, design, shows, &task, out))
+}
+
+// The outcome where a text that has a module was not read: nothing but want of memory does that.
+fn unread(fault: VerilogFault) -> Outcome
+    requires { fault ≡ VerilogFault.Memory }
+    ensures { result ≡ Outcome.Memory }
+{
+    let _ = fault;
+    Outcome::Memory
+}
+
+/// Runs the text of a module over beats, and writes the lines of the result, as `execute_module`
+/// does.
+pub fn execute<K: Sink>(
+    alloc: Global,
+    text: &[u8],
+    schema: &Schema,
+    kinds: &[Kind],
+    beats: &Beats,
+    latency: u64,
+    start: Start,
+    out: &mut K,
+) -> Outcome
+    requires schema { IsSchema schema.now }
+    requires beats { AreBeats schema.now (plain_beats beats.now) }
+    requires many { length kinds.now ≤ 32 }
+    requires kinds { AllByRecursion IsKind kinds.now }
+    requires runs { CanRun text.now schema.now kinds.now (plain_beats beats.now) latency start }
+    ensures { Ran (OfEachRun text.now schema.now (plain_beats beats.now) start)
+        kinds.now (plain_beats beats.now) (K.state out.old) (K.state out.new) result }
+{
+    let design = match read_module(alloc, text) {
+        Ok(design) => design,
+        Err(fault) => return unread(fault),
+    };
+    execute_module(alloc, design, schema, kinds, beats, latency, start, out)
+}

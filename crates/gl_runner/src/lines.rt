@@ -1,0 +1,153 @@
+//! The lines of a result.
+
+ghost use Rattle.std.specs.Prelude.{◌≡◌, ◌+◌, ◌<◌, ◌≤◌, ◌^◌, ◌++◌, length, map, take, replicate, decimal, not, ◌&&◌, slice_index, slice_set, IfOk};
+ghost use Rattle.std.specs.List.{AllByRecursion};
+ghost use Rattle.gl_bits.specs.Kinds.{IsKind, width_of};
+ghost use Rattle.gl_bits.specs.Words.{widths_of, bits_of};
+ghost use Rattle.gl_outside.specs.States.{Wrote};
+ghost use Rattle.gl_schema.specs.Seen.{cycle_lines};
+ghost use Rattle.gl_runner.specs.Cycles.{looked_at, overflow_if, end_if, row_if};
+
+use crate::looking::Looked;
+use gl_bits::{Kind, Memory, Row, Word};
+use gl_outside::{Sink, WriteFault, write_all_of};
+use gl_tuples::line_into;
+use itoa::Buffer;
+use std::alloc::Global;
+
+/// A row of zeros of these kinds.
+pub(crate) fn zero_row(alloc: Global, kinds: &[Kind]) -> Result<Row, Memory>
+    requires { AllByRecursion IsKind kinds.now }
+    ensures widths { IfOk result (λ r. widths_of r ≡ map width_of kinds.now) }
+    ensures zeros { IfOk result (λ r. bits_of r ≡ replicate (length kinds.now) 0) }
+{
+    let mut row = Row::new(alloc);
+    for kind in kinds {
+        let Some(word) = Word::new(0, kind.width()) else {
+            return Err(Memory);
+        };
+        row.push(word)?;
+    }
+    Ok(row)
+}
+
+/// Puts a value at a place of a row, if the word there can hold it.
+#[tactic(auto, using(crate::proofs::Rows::row_steps))]
+pub(crate) fn set_value(row: &mut Row, place: usize, value: u128)
+    ensures widths { widths_of row.new ≡ widths_of row.old }
+    ensures bits { value < 2 ^ slice_index (widths_of row.old) place
+        → bits_of row.new ≡ slice_set (bits_of row.old) place value }
+{
+    let Some(old) = row.get(place) else {
+        return;
+    };
+    if let Some(word) = Word::new(value, old.width()) {
+        row.set(place, word);
+    }
+}
+
+// Writes bytes at a place, and answers the place behind them.
+fn put(into: &mut [u8; 64], at: usize, bytes: &[u8]) -> usize
+    requires { at + length bytes.now ≤ 64 }
+    ensures end { result ≡ at + length bytes.now }
+    ensures written { take result into.new ≡ take at into.old ++ bytes.now }
+{
+    let end = at + bytes.len();
+    into[at..end].copy_from_slice(bytes);
+    end
+}
+
+// Writes a cycle and a word behind it, and answers the place behind them.
+fn word_into(cycle: u64, word: &[u8], into: &mut [u8; 64]) -> usize
+    requires { length word.now ≤ 16 }
+    ensures short { result ≤ 64 }
+    ensures written { take result into.new ≡ decimal cycle ++ word.now }
+{
+    let mut buffer = Buffer::new();
+    let end = put(into, 0, buffer.format(cycle).as_bytes());
+    put(into, end, word)
+}
+
+// Writes a line of a cycle and a word.
+fn put_word<K: Sink>(out: &mut K, cycle: u64, word: &[u8]) -> Result<(), WriteFault>
+    requires { length word.now ≤ 16 }
+    ensures { Wrote (K.state out.old) (K.state out.new) (decimal cycle ++ word.now) result }
+{
+    let mut line = [0u8; 64];
+    let end = word_into(cycle, word, &mut line);
+    write_all_of(out, &line[..end])
+}
+
+// Writes the line that says that a further group came, if it is due.
+#[tactic(auto, using(gl_outside::proofs::Takes::took_none), unfolding(gl_schema::specs::Seen::overflow_line))]
+fn put_overflow<K: Sink>(out: &mut K, cycle: u64, due: bool) -> Result<(), WriteFault>
+    ensures { Wrote (K.state out.old) (K.state out.new) (overflow_if due cycle) result }
+{
+    if due {
+        return put_word(out, cycle, b",overflow\n");
+    }
+    Ok(())
+}
+
+// Writes the line of the end, if it is due.
+#[tactic(auto, using(gl_outside::proofs::Takes::took_none), unfolding(gl_schema::specs::Seen::end_line))]
+fn put_end<K: Sink>(out: &mut K, cycle: u64, due: bool) -> Result<(), WriteFault>
+    ensures { Wrote (K.state out.old) (K.state out.new) (end_if due cycle) result }
+{
+    if due {
+        return put_word(out, cycle, b",end\n");
+    }
+    Ok(())
+}
+
+// Writes the line of a row, if one is due.
+#[tactic(auto, using(gl_outside::proofs::Takes::took_none))]
+fn put_row<K: Sink>(
+    out: &mut K,
+    cycle: u64,
+    kinds: &[Kind],
+    row: &Row,
+    due: bool,
+) -> Result<(), WriteFault>
+    requires many { length kinds.now ≤ 32 }
+    requires kinds { AllByRecursion IsKind kinds.now }
+    requires widths { widths_of row.now ≡ map width_of kinds.now }
+    ensures { let bytes = row_if due kinds.now cycle (bits_of row.now) in
+        Wrote (K.state out.old) (K.state out.new) bytes result }
+{
+    if !due {
+        return Ok(());
+    }
+    let mut line = [0u8; 1024];
+    let end = line_into(cycle, row, kinds, &mut line);
+    write_all_of(out, &line[..end])
+}
+
+// Whether a further group is to be told.
+fn is_news(group: bool, told: bool) -> bool
+    ensures { result ≡ (group && not told) }
+{
+    group && !told
+}
+
+/// Writes the lines of a cycle: that a further group came, where that was not told before, the
+/// row, and the end.
+pub(crate) fn put_cycle<K: Sink>(
+    out: &mut K,
+    cycle: u64,
+    kinds: &[Kind],
+    row: &Row,
+    told: bool,
+    looked: Looked,
+) -> Result<(), WriteFault>
+    requires many { length kinds.now ≤ 32 }
+    requires kinds { AllByRecursion IsKind kinds.now }
+    requires widths { widths_of row.now ≡ map width_of kinds.now }
+    ensures { let bytes = cycle_lines kinds.now told (looked_at looked cycle (bits_of row.now)) in
+        Wrote (K.state out.old) (K.state out.new) bytes result }
+{
+    let news = is_news(looked.group, told);
+    put_overflow(out, cycle, news)?;
+    put_row(out, cycle, kinds, row, looked.valid)?;
+    put_end(out, cycle, looked.end)
+}

@@ -1,0 +1,86 @@
+//! Tracing a module that is handed in: the lines of its run, with all values in decimal.
+
+ghost use Rattle.std.specs.Prelude.{◌≡◌, Ok, IfOk};
+ghost use Rattle.gl_schema.specs.Beats.{AreBeats};
+ghost use Rattle.gl_schema.specs.Schemas.{IsSchema};
+ghost use Rattle.gl_tuples.specs.Gaps.{plain_beats};
+ghost use Rattle.gl_verilog.specs.View.{module_of};
+ghost use Rattle.gl_verilog_ports.specs.Fit.{fit_of};
+ghost use Rattle.gl_runner.specs.Traces.{IsOfText, OfRunsOf, Traced, decimal_kinds};
+
+use crate::following::{Task, follow_module};
+use gl_bits::{Kind, Memory};
+use gl_outside::Sink;
+use gl_schema::Schema;
+use gl_sim::Start;
+use gl_testbench::shows_at;
+use gl_tuples::Beats;
+use gl_verilog::Module;
+use gl_verilog_ports::{Ports, ports_of, shows_column};
+use std::alloc::Global;
+
+/// How a trace ended.
+#[derive(Clone, Copy, PartialEq, Eq, Debug)]
+pub enum Ending {
+    /// At the end of the result.
+    Done,
+    /// The end came in none of the cycles that were waited for, of which this was the last.
+    NoEnd { cycle: u64 },
+    /// The sink failed.
+    WriteFault,
+    /// Want of memory; nothing was written.
+    Memory,
+}
+
+// The kinds by which the columns of a module are printed: numbers of their ports' bits.
+fn decimal_kinds(alloc: Global, design: &Module) -> Result<Vec<Kind>, Memory>
+    ensures { IfOk result (λ v. v.items ≡ decimal_kinds (module_of design.now)) }
+{
+    let mut kinds = Vec::new(alloc);
+    for port in ports_of(design) {
+        if shows_column(port) {
+            kinds.push(Kind::Unsigned(port.width))?;
+        }
+    }
+    Ok(kinds)
+}
+
+/// Runs a module that is handed in over beats, and writes the lines of its run, all values in
+/// decimal.
+///
+/// It ends in the first cycle from the last beat's on in which `out__eos` is 1, or, if that comes
+/// in none of the extra cycles behind the last beat's, in the last of these. The lines stand as
+/// `execute` writes them. All memory is taken before the first line.
+pub fn trace<K: Sink>(
+    alloc: Global,
+    design: Module,
+    ports: &Ports,
+    schema: &Schema,
+    beats: &Beats,
+    start: Start,
+    extra: u32,
+    out: &mut K,
+) -> Ending
+    requires text { IsOfText (module_of design) }
+    requires fits { fit_of (module_of design) schema.now ≡ Ok ports.now }
+    requires schema { IsSchema schema.now }
+    requires beats { AreBeats schema.now (plain_beats beats.now) }
+    ensures { Traced (OfRunsOf (module_of design) schema.now (plain_beats beats.now) start)
+        (decimal_kinds (module_of design)) (plain_beats beats.now) extra
+        (K.state out.old) (K.state out.new) result }
+{
+    let Ok(kinds) = decimal_kinds(alloc, &design) else {
+        return Ending::Memory;
+    };
+    let Ok(shows) = shows_at(alloc, &design, ports) else {
+        return Ending::Memory;
+    };
+    let task = Task {
+        schema,
+        kinds: &kinds,
+        beats: beats.as_slice(),
+        start,
+        extra: u64::from(extra),
+    };
+    follow_module(alloc, design, shows, &task, out)
+}

@@ -1,0 +1,5 @@
+pub mod Carries
+pub mod Inputs
+pub mod Outputs
+pub mod Words
+pub mod Due

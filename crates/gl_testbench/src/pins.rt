@@ -1,0 +1,187 @@
+//! Which port of a module is what: the inputs of the streams, and what shows the result.
+
+ghost use Rattle.std.specs.Prelude.{◌≡◌, ◌∷◌, [], ◌<◌, Some, map, option_map, IfOk, slice_index};
+ghost use Rattle.gl_bits.specs.Words.{bits_of};
+ghost use Rattle.gl_schema.specs.Ports.{out_valid, out_eos, fault_group};
+ghost use Rattle.gl_tuples.specs.Gaps.{plain_beat};
+ghost use Rattle.gl_verilog.specs.View.{declaration_of, module_of};
+ghost use Rattle.gl_verilog.specs.Module as spec;
+ghost use Rattle.gl_testbench.specs.Carried.{column_pin, stream_pin, pin_named, with_beat, row_among};
+ghost use Rattle.gl_verilog_ports.specs.Profile as profile;
+ghost use Rattle.gl_testbench.specs.Benches.{columns_from, AreShows};
+
+use gl_bits::{Memory, Row};
+use gl_schema::{Column, Schema, Stream};
+use gl_tuples::Beat;
+use gl_verilog::{Declaration, Module};
+use gl_verilog_ports::{Ports, is_in_column, is_in_valid, ports_of, shows_column};
+use std::alloc::Global;
+
+/// What an input port carries.
+#[derive(Clone, Copy, PartialEq, Eq, Debug)]
+pub enum Pin {
+    /// The reset line.
+    Reset,
+    /// Whether a tuple of this stream comes.
+    Valid(usize),
+    /// A column of a stream: the stream's number and the column's place.
+    Column(usize, usize),
+    /// The end of the input.
+    End,
+    /// Nothing that the beats tell of.
+    Unknown,
+}
+
+/// The numbers of the ports that show a result.
+#[derive(Drop, Debug)]
+pub struct Shows {
+    pub valid: Option<usize>,
+    pub end: Option<usize>,
+    pub group: Option<usize>,
+    pub columns: Vec<usize>,
+}
+
+// The column of stream `at` that the port of this name carries, if it is one.
+fn column_pin_of(stream: &Stream, at: usize, name: &[u8]) -> Pin
+    ensures { result ≡ column_pin name.now stream.now.name at 0 stream.now.columns }
+{
+    for (place, column) in stream.columns.as_slice().iter().enumerate() {
+        if is_in_column(stream.name.as_slice(), column.name.as_slice(), name) {
+            return Pin::Column(at, place);
+        }
+    }
+    Pin::Unknown
+}
+
+// What the port of this name carries of stream `at`.
+fn pin_in(stream: &Stream, at: usize, name: &[u8]) -> Pin
+    ensures { result ≡ stream_pin name.now at (stream.now ∷ []) }
+{
+    if is_in_valid(stream.name.as_slice(), name) {
+        return Pin::Valid(at);
+    }
+    column_pin_of(stream, at, name)
+}
+
+// What the port of this name carries of the streams.
+fn stream_pin_of(streams: &[Stream], name: &[u8]) -> Pin
+    ensures { result ≡ stream_pin name.now 0 streams.now }
+{
+    for (at, stream) in streams.iter().enumerate() {
+        let pin = pin_in(stream, at, name);
+        if pin != Pin::Unknown {
+            return pin;
+        }
+    }
+    Pin::Unknown
+}
+
+/// What an input port carries, by its name.
+#[tactic(auto, unfolding(gl_schema::specs::Ports::rst, gl_schema::specs::Ports::eos))]
+pub fn pin_of(schema: &Schema, name: &[u8]) -> Pin
+    ensures { result ≡ pin_named schema.now name.now }
+{
+    if b"rst".as_slice() == name {
+        return Pin::Reset;
+    }
+    match stream_pin_of(schema.streams.as_slice(), name) {
+        Pin::Unknown if b"eos".as_slice() == name => Pin::End,
+        pin => pin,
+    }
+}
+
+// The word of a column of a row.
+#[tactic(auto, using(crate::proofs::Words::word_none))]
+fn word_at(row: &Row, column: usize) -> u128
+    ensures { result ≡ slice_index (bits_of row.now) column }
+{
+    match row.get(column) {
+        Some(word) => word.bits(),
+        None => 0,
+    }
+}
+
+// The row of a stream in a beat.
+fn row_of(beat: &Beat, stream: usize) -> Option<&Row>
+    ensures { option_map (λ r. bits_of r.now) result ≡ row_among (plain_beat beat.now).rows stream }
+{
+    match beat.rows.as_slice().get(stream) {
+        Some(Some(row)) => Some(row),
+        _ => None,
+    }
+}
+
+/// What a pin carries in a file cycle with this beat, or with none.
+pub fn value_of(pin: Pin, beat: Option<&Beat>) -> u128
+    ensures { result ≡ with_beat (option_map (λ b. plain_beat b.now) beat.entry) pin }
+{
+    let Some(beat) = beat else {
+        return 0;
+    };
+    match pin {
+        Pin::Valid(stream) => u128::from(row_of(beat, stream).is_some()),
+        Pin::Column(stream, column) => match row_of(beat, stream) {
+            Some(row) => word_at(row, column),
+            None => 0,
+        },
+        Pin::End => u128::from(beat.end),
+        Pin::Reset | Pin::Unknown => 0,
+    }
+}
+
+// The number of the port of a name.
+fn number_of(ports: &[Declaration], name: &[u8]) -> Option<usize>
+    ensures { result ≡ spec.number_of (map declaration_of ports.now) name.now }
+{
+    for (number, port) in ports.iter().enumerate() {
+        if port.name.as_slice() == name {
+            return Some(number);
+        }
+    }
+    None
+}
+
+// The numbers of the ports that show the columns of the result.
+fn columns_of(alloc: Global, ports: &[Declaration]) -> Result<Vec<usize>, Memory>
+    ensures { IfOk result (λ v. v.items ≡ columns_from 0 (map declaration_of ports.now)) }
+{
+    let mut columns = Vec::new(alloc);
+    for (number, port) in ports.iter().enumerate() {
+        if shows_column(port) {
+            columns.push(number)?;
+        }
+    }
+    Ok(columns)
+}
+
+/// The ports of a module that show a result, by their names.
+#[tactic(auto, unfolding(gl_schema::specs::Ports::out_valid, gl_schema::specs::Ports::out_eos, gl_schema::specs::Ports::fault_group))]
+pub fn shows_of(alloc: Global, design: &Module) -> Result<Shows, Memory>
+    ensures { IfOk result (AreShows (module_of design.now)) }
+{
+    let ports = ports_of(design);
+    Ok(Shows {
+        valid: number_of(ports, b"out__valid"),
+        end: number_of(ports, b"out__eos"),
+        group: number_of(ports, b"fault__group"),
+        columns: columns_of(alloc, ports)?,
+    })
+}
+
+/// The ports of a module that show a result, where the numbers of its lines are known.
+pub fn shows_at(alloc: Global, design: &Module, lines: &Ports) -> Result<Shows, Memory>
+    requires valid { spec.number_of (profile.ports_of (module_of design.now)) out_valid
+        ≡ Some lines.now.valid }
+    requires end { spec.number_of (profile.ports_of (module_of design.now)) out_eos
+        ≡ Some lines.now.end }
+    requires group { spec.number_of (profile.ports_of (module_of design.now)) fault_group
+        ≡ lines.now.group }
+    ensures { IfOk result (AreShows (module_of design.now)) }
+{
+    Ok(Shows {
+        valid: Some(lines.valid),
+        end: Some(lines.end),
+        group: lines.group,
+        columns: columns_of(alloc, ports_of(design))?,
+    })
+}

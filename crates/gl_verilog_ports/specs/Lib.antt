@@ -1,0 +1,4 @@
+pub mod Profile
+pub mod Fit
+pub mod Steps
+pub mod Worked
