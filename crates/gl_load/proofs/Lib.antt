@@ -1,5 +1,3 @@
-mod Constants
-mod Planning
 mod Lines
 mod Beating
 pub mod Runs

@@ -1,4 +1,3 @@
-pub mod Query
 pub mod Tuples
 pub mod Tallies
 pub mod Steps

@@ -3,8 +3,7 @@
 ghost use Rattle.std.specs.Prelude.{◌≡◌, ◌≤◌, IfOk};
 ghost use Rattle.gl_schema.specs.Beats.{AreBeats, KeepsGap};
 ghost use Rattle.gl_tuples.specs.Gaps.{plain_beats};
-ghost use Rattle.gl_load.specs.Query as spec;
-ghost use Rattle.gl_load.specs.Query.{load_schema};
+ghost use Rattle.gl_load_query.specs.Query.{load_schema};
 ghost use Rattle.gl_load.specs.Loads.{AreRunLines, IsCompiledLoad, IsLoad};
 
 use crate::summary::summary_of;
@@ -12,6 +11,7 @@ use crate::text_sink::TextSink;
 use crate::tuples::load_beats;
 use gl_bits::Memory;
 use gl_compiler::{CompileFault, Compiled, compile_query};
+use gl_load_query::{query_text, schema_text};
 use gl_runner::{Outcome, execute};
 use gl_schema::{Schema, SchemaFault, read_schema};
 use gl_sim::Start;
@@ -25,22 +25,6 @@ pub struct Loaded {
     pub summary: Vec<u8>,
     /// The compiled query.
     pub compiled: Compiled,
-}
-
-// The text of the schema.
-#[tactic(auto, unfolding(crate::specs::Query::schema_text))]
-fn schema_text() -> &'static [u8]
-    ensures { result.now ≡ spec.schema_text }
-{
-    b"stream trades (symbol text4, price u32, volume u32);"
-}
-
-// The text of the query.
-#[tactic(auto, unfolding(crate::specs::Query::query_text))]
-fn query_text() -> &'static [u8]
-    ensures { result.now ≡ spec.query_text }
-{
-    b"SELECT count() AS n, sum(volume) AS v, max(price) AS top FROM trades [SIZE 600 ADVANCE 60 TUPLES] WHERE symbol = 'UBSN' INTO load"
 }
 
 // The schema's text has a schema: nothing but want of memory keeps it from being read.

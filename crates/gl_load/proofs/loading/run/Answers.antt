@@ -4,7 +4,7 @@ use Rattle.gl_schema.specs.Schemas.{IsSchema}
 use Rattle.gl_schema.specs.Beats.{AreBeats}
 use Rattle.gl_tuples.specs.Gaps.{plain_beats}
 use Rattle.gl_load.specs.Steps.{Kept}
-use Rattle.gl_load.proofs.Constants.{schema_spelled}
+use Rattle.gl_load_query.proofs.Constants.{schema_spelled}
 use Rattle.gl_load.proofs.Running.{can_run_load, ran_load}
 use Rattle.gl_load.proofs.loading.run.Goals as goal
 

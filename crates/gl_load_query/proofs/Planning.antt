@@ -18,8 +18,8 @@ use Rattle.gl_figures.specs.Answered.{AreSmallBefore, most_weight}
 use Rattle.gl_terms.specs.Levels.{level_of}
 use Rattle.gl_elaborate.specs.Plans.{placed, stream_node}
 use Rattle.gl_planner.specs.Planned.{IsWithinLimits}
-use Rattle.gl_load.specs.Query.{load_schema}
-use Rattle.gl_load.proofs.Constants.{load_tree}
+use Rattle.gl_load_query.specs.Query.{load_schema}
+use Rattle.gl_load_query.proofs.Constants.{load_tree}
 
 abbrev pub load_plan : Placed
 load_plan = placed (stream_node load_schema.streams) load_schema.streams (query_alike load_tree.query) []

@@ -16,7 +16,7 @@ use Rattle.gl_query_reader.specs.Grammar.{HasStatement, bare_tokens}
 use Rattle.gl_query_reader.specs.Written.{spell_statement}
 use Rattle.gl_query_reader.specs.Meaning.{statement_meaning}
 use Rattle.gl_query_reader.specs.Limits.{keeps_limits, none_counted}
-use Rattle.gl_load.specs.Query.{load_schema, load_written, query_text, schema_text}
+use Rattle.gl_load_query.specs.Query.{load_schema, load_written, query_text, schema_text}
 
 -- ---- the schema
 
