@@ -2,7 +2,7 @@
 use Rattle.std.proofs.Common.{◌≡◌, ℕ, Bool, true, false, List, [], ◌∷◌, ◌++◌, refl, sym, ap, subst, ◌∙◌}
 use Rattle.std.specs.Prelude.{◌&&◌, ◌||◌, not, fold, if◌then◌else◌}
 use Rattle.std.specs.Str.{bytes_eq}
-use Rattle.gl_bits.proofs.Bools.{bytes_same, or_none}
+use Rattle.gl_bits.proofs.Bools.{bytes_same, or_none, or_join}
 use Rattle.gl_verilog_faults.specs.Demands.{is_among}
 use Rattle.gl_verilog_faults.proofs.Drivers.{among_join}
 use Rattle.gl_verilog_elaborator.specs.Judged.{with_name}
