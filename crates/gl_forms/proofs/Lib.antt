@@ -2,3 +2,4 @@ pub mod Words
 mod Counts
 pub mod Named
 mod Rows
+pub mod Copies

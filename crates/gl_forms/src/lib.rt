@@ -6,8 +6,10 @@
 #![tactic(auto)]
 
 pub mod command;
+pub mod copying;
 pub mod laws;
 pub mod reading;
 
 pub use command::{Command, Part};
+pub use copying::copied;
 pub use reading::{command_of, extra_of, load_of, name_of, start_of};

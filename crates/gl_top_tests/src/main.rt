@@ -12,8 +12,9 @@
 //! these words, of which either may be missing. Every other line is a remark.
 #![tactic(auto)]
 
-ghost use Rattle.std.specs.Prelude.{◌≡◌, ◌++◌, ◌==◌, IfOk, OnOk, ◌∷◌, [], codes, length, if◌then◌else◌};
+ghost use Rattle.std.specs.Prelude.{◌≡◌, IfOk};
 
+use gl_forms::copied;
 use gl_outside::{Memory, MemoryShelf, MemorySink, Words};
 use gl_top::run;
 use std::alloc::Global;
@@ -39,119 +40,39 @@ struct Failing {
     note: u64,
 }
 
-// The words `run S Q T`.
-fn run_words(alloc: Global) -> Result<Words, Memory>
-    ensures { IfOk result (λ words. words ≡ codes "run" ∷ codes "S" ∷ codes "Q" ∷ codes "T" ∷ []) }
-{
+// The words of two texts, one after the other.
+fn words_of(alloc: Global, front: &str, more: &str) -> Result<Words, Memory> {
     let mut words = Words::new(alloc);
-    words.push("run")?;
-    words.push("S")?;
-    words.push("Q")?;
-    words.push("T")?;
-    Ok(words)
-}
-
-// The words `explain S Q`.
-fn explain_words(alloc: Global) -> Result<Words, Memory>
-    ensures { IfOk result (λ words. words ≡ codes "explain" ∷ codes "S" ∷ codes "Q" ∷ []) }
-{
-    let mut words = Words::new(alloc);
-    words.push("explain")?;
-    words.push("S")?;
-    words.push("Q")?;
-    Ok(words)
-}
-
-// The words `compile S Q`.
-fn compile_words(alloc: Global) -> Result<Words, Memory>
-    ensures { IfOk result (λ words. words ≡ codes "compile" ∷ codes "S" ∷ codes "Q" ∷ []) }
-{
-    let mut words = Words::new(alloc);
-    words.push("compile")?;
-    words.push("S")?;
-    words.push("Q")?;
-    Ok(words)
-}
-
-// The words `figures S Q`.
-fn figures_words(alloc: Global) -> Result<Words, Memory>
-    ensures { IfOk result (λ words. words ≡ codes "figures" ∷ codes "S" ∷ codes "Q" ∷ []) }
-{
-    let mut words = Words::new(alloc);
-    words.push("figures")?;
-    words.push("S")?;
-    words.push("Q")?;
-    Ok(words)
-}
-
-// The words `run --start 12345 S Q T`.
-fn start_words(alloc: Global) -> Result<Words, Memory>
-    ensures { IfOk result (λ words. words ≡ codes "run" ∷ codes "--start" ∷ codes "12345"
-        ∷ codes "S" ∷ codes "Q" ∷ codes "T" ∷ []) }
-{
-    let mut words = Words::new(alloc);
-    words.push("run")?;
-    words.push("--start")?;
-    words.push("12345")?;
-    words.push("S")?;
-    words.push("Q")?;
-    words.push("T")?;
-    Ok(words)
-}
-
-// The words `run S Q T` and an option.
-fn option_words(alloc: Global, option: &str) -> Result<Words, Memory>
-    ensures { IfOk result (λ words. words ≡ codes "run" ∷ codes "S" ∷ codes "Q" ∷ codes "T"
-        ∷ option.now ∷ []) }
-{
-    let mut words = Words::new(alloc);
-    words.push("run")?;
-    words.push("S")?;
-    words.push("Q")?;
-    words.push("T")?;
-    words.push(option)?;
-    Ok(words)
-}
-
-// Adds a word, if there is one.
-fn push_some(words: &mut Words, word: &str) -> Result<(), Memory>
-    ensures { OnOk result (words.new
-        ≡ words.old ++ (if length word.now == 0 then [] else word.now ∷ [])) }
-{
-    if word.is_empty() {
-        return Ok(());
+    for word in front.split_whitespace() {
+        words.push(word)?;
     }
-    words.push(word)
-}
-
-// The word `load` and up to two more.
-fn load_words(alloc: Global, first: &str, second: &str) -> Result<Words, Memory>
-    ensures { IfOk result (λ words. words
-        ≡ (codes "load" ∷ []) ++ (if length first.now == 0 then [] else first.now ∷ [])
-        ++ (if length second.now == 0 then [] else second.now ∷ [])) }
-{
-    let mut words = Words::new(alloc);
-    words.push("load")?;
-    push_some(&mut words, first)?;
-    push_some(&mut words, second)?;
+    for word in more.split_whitespace() {
+        words.push(word)?;
+    }
     Ok(words)
 }
 
-// The words `sim S V T` and up to two more.
-fn sim_words(alloc: Global, first: &str, second: &str) -> Result<Words, Memory>
-    ensures { IfOk result (λ words. words
-        ≡ (codes "sim" ∷ codes "S" ∷ codes "V" ∷ codes "T" ∷ [])
-        ++ (if length first.now == 0 then [] else first.now ∷ [])
-        ++ (if length second.now == 0 then [] else second.now ∷ [])) }
-{
-    let mut words = Words::new(alloc);
-    words.push("sim")?;
-    words.push("S")?;
-    words.push("V")?;
-    words.push("T")?;
-    push_some(&mut words, first)?;
-    push_some(&mut words, second)?;
-    Ok(words)
+// The words that a line of this kind runs, before those of its own; none for a remark.
+fn words_before(kind: &str) -> &'static str {
+    match kind {
+        "query" | "option" => "run S Q T",
+        "start" => "run --start 12345 S Q T",
+        "explain" | "root" => "explain S Q",
+        "compile" => "compile S Q",
+        "figures" => "figures S Q",
+        "sim" => "sim S V T",
+        "load" => "load",
+        _ => "",
+    }
+}
+
+// The words of its own of a line of this kind, and the query.
+fn parts_of<'a>(kind: &str, text: &'a str) -> (&'a str, &'a str) {
+    match kind {
+        "option" => text.split_once(' ').unwrap_or((text, "")),
+        "sim" | "load" => (text, ""),
+        _ => ("", text),
+    }
 }
 
 // Holds a text, if it is there.
@@ -192,74 +113,22 @@ struct Told {
     notes: MemorySink,
 }
 
-// What the words come to.
-fn told_by(alloc: Global, words: &Words, shelf: &mut MemoryShelf, row: &Row) -> Result<Told, Memory>
-    requires { shelf.old.held.names ≡ words.now }
-{
+// What the words come to over these texts and this query.
+fn told_by(alloc: Global, words: &Words, row: &Row, query: &str) -> Result<Told, Memory> {
+    let mut shelf = shelf_with(alloc, copied(alloc, words)?, row, query)?;
     let mut out = sink_with(alloc, row.failing.put)?;
     let mut notes = sink_with(alloc, row.failing.note)?;
     let mut text = Vec::new(alloc);
-    let status = run(alloc, words, shelf, &mut out, &mut notes, &mut text);
+    let status = run(alloc, words, &mut shelf, &mut out, &mut notes, &mut text);
     let code = status.code();
     Ok(Told { code, out, notes })
 }
 
-// What `run S Q T` comes to.
-fn told_of(alloc: Global, row: &Row, query: &str) -> Result<Told, Memory> {
-    let words = run_words(alloc)?;
-    let mut shelf = shelf_with(alloc, run_words(alloc)?, row, query)?;
-    told_by(alloc, &words, &mut shelf, row)
-}
-
-// What `explain S Q` comes to.
-fn explained_of(alloc: Global, row: &Row, query: &str) -> Result<Told, Memory> {
-    let words = explain_words(alloc)?;
-    let mut shelf = shelf_with(alloc, explain_words(alloc)?, row, query)?;
-    told_by(alloc, &words, &mut shelf, row)
-}
-
-// What `compile S Q` comes to.
-fn compiled_of(alloc: Global, row: &Row, query: &str) -> Result<Told, Memory> {
-    let words = compile_words(alloc)?;
-    let mut shelf = shelf_with(alloc, compile_words(alloc)?, row, query)?;
-    told_by(alloc, &words, &mut shelf, row)
-}
-
-// What `figures S Q` comes to.
-fn figures_of(alloc: Global, row: &Row, query: &str) -> Result<Told, Memory> {
-    let words = figures_words(alloc)?;
-    let mut shelf = shelf_with(alloc, figures_words(alloc)?, row, query)?;
-    told_by(alloc, &words, &mut shelf, row)
-}
-
-// What `run --start 12345 S Q T` comes to.
-fn started_of(alloc: Global, row: &Row, query: &str) -> Result<Told, Memory> {
-    let words = start_words(alloc)?;
-    let mut shelf = shelf_with(alloc, start_words(alloc)?, row, query)?;
-    told_by(alloc, &words, &mut shelf, row)
-}
-
-// What `run S Q T` comes to with this option.
-fn optioned_of(alloc: Global, row: &Row, option: &str, query: &str) -> Result<Told, Memory> {
-    let words = option_words(alloc, option)?;
-    let mut shelf = shelf_with(alloc, option_words(alloc, option)?, row, query)?;
-    told_by(alloc, &words, &mut shelf, row)
-}
-
-// What `sim S V T` comes to with these words.
-fn simulated_of(alloc: Global, row: &Row, text: &str) -> Result<Told, Memory> {
-    let (first, second) = text.split_once(' ').unwrap_or((text, ""));
-    let words = sim_words(alloc, first, second)?;
-    let mut shelf = shelf_with(alloc, sim_words(alloc, first, second)?, row, "")?;
-    told_by(alloc, &words, &mut shelf, row)
-}
-
-// What `load` comes to with these words.
-fn loaded_of(alloc: Global, row: &Row, text: &str) -> Result<Told, Memory> {
-    let (first, second) = text.split_once(' ').unwrap_or((text, ""));
-    let words = load_words(alloc, first, second)?;
-    let mut shelf = shelf_with(alloc, load_words(alloc, first, second)?, row, "")?;
-    told_by(alloc, &words, &mut shelf, row)
+// What a line of this kind comes to.
+fn told_of(alloc: Global, row: &Row, kind: &str, text: &str) -> Result<Told, Memory> {
+    let (more, query) = parts_of(kind, text);
+    let words = words_of(alloc, words_before(kind), more)?;
+    told_by(alloc, &words, row, query)
 }
 
 // The number in the place of a word; 0 where there is none.
@@ -318,27 +187,18 @@ fn main(rt: HostRuntime) -> io::Result<()> {
     };
     for line in rt.lines(rt.alloc()) {
         let line = line?;
-        let (command, text) = line.split_once(' ').unwrap_or((line.as_str(), ""));
-        match command {
+        let (kind, text) = line.split_once(' ').unwrap_or((line.as_str(), ""));
+        match kind {
             "schema" => row.schema = Some(text.to_string(rt.alloc())?),
             "verilog" => row.verilog = Some(text.to_string(rt.alloc())?),
             "tuples" => row.tuples = Some(text.replace(rt.alloc(), ' ', "\n")?),
             "without" => without(&mut row, text),
             "fail" => row.failing = failing_of(text),
-            "query" => print_told(&rt, text, told_of(rt.alloc(), &row, text), false)?,
-            "explain" => print_told(&rt, text, explained_of(rt.alloc(), &row, text), false)?,
-            "compile" => print_told(&rt, text, compiled_of(rt.alloc(), &row, text), false)?,
-            "figures" => print_told(&rt, text, figures_of(rt.alloc(), &row, text), false)?,
-            "start" => print_told(&rt, text, started_of(rt.alloc(), &row, text), false)?,
-            "option" => {
-                let (option, query) = text.split_once(' ').unwrap_or((text, ""));
-                let told = optioned_of(rt.alloc(), &row, option, query);
-                print_told(&rt, text, told, false)?
+            _ if words_before(kind).is_empty() => (),
+            _ => {
+                let told = told_of(rt.alloc(), &row, kind, text);
+                print_told(&rt, text, told, kind == "root")?
             }
-            "sim" => print_told(&rt, text, simulated_of(rt.alloc(), &row, text), false)?,
-            "load" => print_told(&rt, text, loaded_of(rt.alloc(), &row, text), false)?,
-            "root" => print_told(&rt, text, explained_of(rt.alloc(), &row, text), true)?,
-            _ => (),
         }
     }
     Ok(())

@@ -1,5 +1,5 @@
 use Rattle.std.proofs.Common.{◌≡◌, take}
-use Rattle.glacier.proofs.copied.Given as goal
+use Rattle.gl_forms.proofs.copying.copied.Given as goal
 
 abbrev pub invariant-loop-at : goal.invariant-loop-at
 invariant-loop-at l = l.copy ≡ take l.at l.words
