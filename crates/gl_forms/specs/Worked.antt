@@ -1,7 +1,7 @@
 -- Worked command lines.
 use Rattle.std.specs.Prelude.{◌≡◌, ℕ, List, [], ◌∷◌, codes, Some, None}
 use Rattle.gl_sim.specs.declared.start.Start.{Start}
-use Rattle.gl_sim.specs.declared.start.Start.TheVariants.{Zero}
+use Rattle.gl_sim.specs.declared.start.Start.TheVariants as from
 use Rattle.gl_forms.specs.declared.command.Command.{Command}
 use Rattle.gl_forms.specs.declared.command.Command.TheVariants.{Compile, Figures, Explain, Run, Sim, Load}
 use Rattle.gl_forms.specs.Forms.{command_of, extra_of, load_of, names_of, start_of}
@@ -51,14 +51,14 @@ pub record WorkedForms : Type 0 where
   pub compile : Names (codes "compile" ∷ s ∷ q ∷ []) Compile (s ∷ q ∷ [])
   pub figures : Names (codes "figures" ∷ s ∷ q ∷ []) Figures (s ∷ q ∷ [])
   pub explain : Names (codes "explain" ∷ s ∷ q ∷ []) Explain (s ∷ q ∷ [])
-  pub plain : RunsFrom (run (s ∷ q ∷ t ∷ [])) Zero
+  pub plain : RunsFrom (run (s ∷ q ∷ t ∷ [])) from.Zero
   -- the option stands anywhere behind the command, and its value is a word of its own or stands behind `=`
-  pub first : RunsFrom (run (codes "--start" ∷ codes "5" ∷ s ∷ q ∷ t ∷ [])) (Drawn 5)
-  pub within : RunsFrom (run (s ∷ codes "--start=5" ∷ q ∷ t ∷ [])) (Drawn 5)
-  pub last : RunsFrom (run (s ∷ q ∷ t ∷ codes "--start" ∷ codes "5" ∷ [])) (Drawn 5)
-  pub joined_zero : RunsFrom (run (codes "--start=0" ∷ s ∷ q ∷ t ∷ [])) Zero
-  pub zero_apart : RunsFrom (run (s ∷ q ∷ t ∷ codes "--start" ∷ codes "0" ∷ [])) Zero
-  pub greatest : RunsFrom (run (s ∷ q ∷ t ∷ codes "--start=18446744073709551615" ∷ [])) (Drawn 18446744073709551615)
+  pub first : RunsFrom (run (codes "--start" ∷ codes "5" ∷ s ∷ q ∷ t ∷ [])) (from.Drawn 5)
+  pub within : RunsFrom (run (s ∷ codes "--start=5" ∷ q ∷ t ∷ [])) (from.Drawn 5)
+  pub last : RunsFrom (run (s ∷ q ∷ t ∷ codes "--start" ∷ codes "5" ∷ [])) (from.Drawn 5)
+  pub joined_zero : RunsFrom (run (codes "--start=0" ∷ s ∷ q ∷ t ∷ [])) from.Zero
+  pub zero_apart : RunsFrom (run (s ∷ q ∷ t ∷ codes "--start" ∷ codes "0" ∷ [])) from.Zero
+  pub greatest : RunsFrom (run (s ∷ q ∷ t ∷ codes "--start=18446744073709551615" ∷ [])) (from.Drawn 18446744073709551615)
   pub too_great : IsFormless (run (s ∷ q ∷ t ∷ codes "--start=18446744073709551616" ∷ []))
   pub without_value : IsFormless (run (s ∷ q ∷ t ∷ codes "--start" ∷ []))
   pub no_number : IsFormless (run (s ∷ q ∷ t ∷ codes "--start" ∷ codes "x" ∷ []))

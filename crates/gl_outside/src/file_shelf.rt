@@ -9,7 +9,7 @@ use crate::counter::one_more;
 use crate::shelf::{Fetch, Shelf};
 use crate::words::Words;
 use std::fs::Files;
-use std::io::{ErrorKind, Read, Seek, SeekFrom};
+use std::io::{ErrorKind, Read as _, Seek as _, SeekFrom};
 use std::marker::Model;
 use std::{fs, io};
 
