@@ -1,8 +1,6 @@
 -- How the program ends: what was written, what was noted, and why.
 use Rattle.std.specs.Prelude.{◌≡◌, ◌≢◌, ℕ, ◌⊎◌, List, [], Some}
 use Rattle.gl_figures.specs.declared.Limit.{Limit}
-use Rattle.gl_elaborate.specs.Plans.{plan_of}
-use Rattle.gl_explain.specs.Lines.{plan_text}
 use Rattle.gl_outside.specs.Counts.{Rose}
 use Rattle.gl_outside.specs.Told.{Told, Untold}
 use Rattle.gl_outside.specs.States.{SinkState, Broke, IsCalm, Took}
@@ -32,11 +30,9 @@ use Rattle.gl_notes.specs.declared.notes.Refusal.TheVariants as refusal
 use Rattle.gl_schema.specs.declared.fault.SchemaFault.{SchemaFault}
 use Rattle.gl_query.specs.declared.fault.QueryFault.{QueryFault}
 use Rattle.gl_tuples.specs.declared.fault.TupleFault.{TupleFault}
-use Rattle.gl_forms.specs.declared.command.Command.{Command}
-use Rattle.gl_forms.specs.declared.command.Command.TheVariants.{Compile, Figures, Explain, Run, Sim, Load}
-use Rattle.gl_forms.specs.Forms.{IsCommand, IsForm, IsLoadOf, IsNamed, command_of, extra_of, name_of, start_of}
+use Rattle.gl_forms.specs.declared.command.Command.TheVariants.{Run}
+use Rattle.gl_forms.specs.Forms.{IsForm, IsLoadOf, IsNamed, command_of, extra_of, name_of, start_of}
 use Rattle.gl_load.specs.Loads.{IsLoad}
-use Rattle.gl_judging.specs.Figuring.{IsFigured}
 use Rattle.gl_judging.specs.Shown.{IsShownOf}
 use Rattle.gl_judging.specs.Passing.{QueryPasses, TuplesPass, FilePasses}
 use Rattle.gl_judging.specs.Causes.{Change, HasCause, IsTooLong, IsBadSchema, IsBadQuery, IsOver, IsBadVerilog, AreBadTuples}
