@@ -1,4 +1,3 @@
 pub mod Texts
 pub mod Modules
 pub mod Changes
-pub mod Explaining

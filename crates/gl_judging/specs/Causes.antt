@@ -9,12 +9,9 @@ use Rattle.gl_schema.specs.declared.fault.SchemaFault as faults
 use Rattle.gl_schema.specs.declared.fault.SchemaFault.TheVariants as schema
 use Rattle.gl_schema.specs.SchemaFaults.{schema_of}
 use Rattle.gl_query.specs.declared.fault.QueryFault.{QueryFault}
-use Rattle.gl_query.specs.declared.fault.QueryFault.TheVariants as query
 use Rattle.gl_query.specs.declared.tree.Statement.{Statement}
 use Rattle.gl_tuples.specs.declared.fault.TupleFault.{TupleFault}
 use Rattle.gl_tuples.specs.declared.fault.TupleFault.TheVariants as tuples
-use Rattle.gl_planner.specs.declared.planning.PlanFault.{PlanFault}
-use Rattle.gl_planner.specs.declared.planning.PlanFault.TheVariants as plan
 use Rattle.gl_compiler.specs.declared.compiling.CompileFault.{CompileFault}
 use Rattle.gl_compiler.specs.declared.compiling.CompileFault.TheVariants as compile
 use Rattle.gl_query_judge.specs.Judged.{IsQueryFault}
@@ -147,14 +144,6 @@ query_refusal compile.Memory = refusal.Memory
 query_refusal (compile.Query fault) = refusal.Query fault
 query_refusal (compile.Schema fault) = refusal.Schema fault
 query_refusal (compile.Limit limit) = refusal.Limit limit
-
-abbrev pub fault_refusal : QueryFault → Refusal
-fault_refusal query.Memory = refusal.Memory
-fault_refusal fault = refusal.Query fault
-
-abbrev pub plan_refusal : PlanFault → Refusal
-plan_refusal (plan.Limit limit) = refusal.Limit limit
-plan_refusal plan.Memory = refusal.Memory
 
 abbrev pub verilog_refusal : VerilogFault → Refusal
 verilog_refusal verilog.Memory = refusal.Memory

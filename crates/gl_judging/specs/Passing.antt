@@ -22,7 +22,6 @@ use Rattle.gl_compiler.specs.declared.compiling.Compiled.{Compiled}
 use Rattle.gl_compiler.specs.Compiles.{HasCost}
 use Rattle.gl_compiler.specs.Queries.{IsQuery, copies_of, latency_of, gap_of}
 use Rattle.gl_compiler.specs.Meets.{Meets, result_columns}
-use Rattle.gl_runner.specs.Traces.{IsOfText}
 use Rattle.gl_forms.specs.declared.command.Part.{Part}
 use Rattle.gl_forms.specs.declared.command.Part.TheVariants as part
 use Rattle.gl_judging.specs.declared.judging.Job.{Job}
@@ -63,7 +62,7 @@ pub record TuplesPass (told : List ℕ → Told) (words : List (List ℕ)) (sche
 pub record ModulePasses (told : List ℕ → Told) (words : List (List ℕ)) (schema : Schema) (m : Module) : Type 0 where
   pub sims : IsCommand words Sim
   pub before : SchemaPasses told words schema
-  pub of_text : IsOfText m
+  pub of_text : (text : List ℕ) × HasModule text m
   pub ports : Ports
   pub fits : fit_of m schema ≡ Ok ports
   pub text : HasText told words part.Module (λ text. HasModule text m)
@@ -104,7 +103,7 @@ pub record IsFitted (told : List ℕ → Told) (words : List (List ℕ)) (schema
 
 -- the module can be traced over the beats
 pub record CanTrace (s : Simulation) : Type 0 where
-  pub of_text : IsOfText (module_of s.fitted.design)
+  pub of_text : (text : List ℕ) × HasModule text (module_of s.fitted.design)
   pub ports : fit_of (module_of s.fitted.design) s.schema ≡ Ok s.fitted.ports
   pub fine : IsSchema s.schema
   pub beats' : AreBeats s.schema (plain_beats s.beats)

@@ -1,27 +1,21 @@
 //! Judging the texts: each is read and judged before the next is read.
 
-ghost use Rattle.std.specs.Prelude.{◌≡◌, [], IfErr, IfOk};
+ghost use Rattle.std.specs.Prelude.{◌≡◌, IfOk};
 ghost use Rattle.gl_schema.specs.Schemas.{IsSchema};
 ghost use Rattle.gl_schema.specs.Beats.{KeepsGap};
 ghost use Rattle.gl_tuples.specs.Entries.{Gives};
 ghost use Rattle.gl_tuples.specs.Gaps.{AreFileBeats, plain_beats};
-ghost use Rattle.gl_forms.specs.declared.command.Command.TheVariants.{Explain, Run};
-ghost use Rattle.gl_judging.specs.Explaining.{IsExplained, IsExplainRefused};
+ghost use Rattle.gl_forms.specs.declared.command.Command.TheVariants.{Run};
 ghost use Rattle.gl_forms.specs.Forms.{IsCommand, IsNamed};
 ghost use Rattle.gl_judging.specs.Causes as causes;
 ghost use Rattle.gl_judging.specs.Causes.{IsNext, Leaves};
 ghost use Rattle.gl_outside.specs.States.{Stays};
 ghost use Rattle.gl_judging.specs.Passing.{HasText, SchemaPasses, QueryPasses, TuplesPass, IsCompiled, IsReady, kept_beats};
-ghost use Rattle.gl_judging.specs.Shown.{IsShownOf};
 
 use gl_compiler::{CompileFault, Compiled, compile_query};
-use gl_explain::explain;
 use gl_forms::{Part, name_of};
 use gl_notes::Refusal;
 use gl_outside::{ReadFault, Shelf, Words, read_all};
-use gl_planner::PlanFault;
-use gl_query::QueryFault;
-use gl_query_judge::judge_query as judge_text;
 use gl_schema::{Schema, SchemaFault, read_schema};
 use gl_tuples::{Beats, TupleFault, read_tuples};
 use std::alloc::Global;
@@ -248,79 +242,6 @@ pub fn judge_compile<S: Shelf>(
 {
     match judge_schema(alloc, shelf, words) {
         Ok(schema) => judge_query(alloc, shelf, words, schema),
-        Err(refusal) => Err(refusal),
-    }
-}
-
-fn fault_refusal(fault: QueryFault) -> Refusal
-    ensures { result ≡ causes.fault_refusal fault }
-{
-    match fault {
-        QueryFault::Memory => Refusal::Memory,
-        fault => Refusal::Query(fault),
-    }
-}
-
-fn plan_refusal(fault: PlanFault) -> Refusal
-    ensures { result ≡ causes.plan_refusal fault }
-{
-    match fault {
-        PlanFault::Limit(limit) => Refusal::Limit(limit),
-        PlanFault::Memory => Refusal::Memory,
-    }
-}
-
-// The statement of a text and its plan, as text.
-fn explained(alloc: Global, schema: &Schema, query: &[u8]) -> Result<Vec<u8>, Refusal>
-    requires { IsSchema schema.now }
-    ensures explained { IfOk result (λ v. IsExplained schema.now query.now v.items) }
-    ensures refused { IfErr result (IsExplainRefused schema.now query.now) }
-{
-    let checked = match judge_text(alloc, schema, query) {
-        Ok(checked) => checked,
-        Err(fault) => return Err(fault_refusal(fault)),
-    };
-    match explain(alloc, &checked) {
-        Ok(text) => Ok(text),
-        Err(fault) => Err(plan_refusal(fault)),
-    }
-}
-
-// Reads the query and explains it.
-fn explain_query<S: Shelf>(
-    alloc: Global,
-    shelf: &mut S,
-    words: &Words,
-    schema: &Schema,
-) -> Result<Vec<u8>, Refusal>
-    requires explains { IsCommand words.now Explain }
-    requires passes { SchemaPasses (S.state shelf.old).told words.now schema.now }
-    requires names { (S.state shelf.old).names ≡ words.now }
-    ensures shown { let told = (S.state shelf.old).told in
-        IfOk result (λ v. IsShownOf told words.now v.items []) }
-    ensures leaves { Leaves words.now (S.state shelf.old) (S.state shelf.new) result }
-{
-    let text = text_of(alloc, shelf, words, Part::Query)?;
-    match explained(alloc, schema, &text) {
-        Ok(shown) => Ok(shown),
-        Err(refusal) => Err(refusal),
-    }
-}
-
-/// Judges the two texts of `explain S Q`, and answers what is explained.
-pub fn judge_explain<S: Shelf>(
-    alloc: Global,
-    shelf: &mut S,
-    words: &Words,
-) -> Result<Vec<u8>, Refusal>
-    requires explains { IsCommand words.now Explain }
-    requires names { (S.state shelf.old).names ≡ words.now }
-    ensures shown { let told = (S.state shelf.old).told in
-        IfOk result (λ v. IsShownOf told words.now v.items []) }
-    ensures leaves { Leaves words.now (S.state shelf.old) (S.state shelf.new) result }
-{
-    match judge_schema(alloc, shelf, words) {
-        Ok(schema) => explain_query(alloc, shelf, words, &schema),
         Err(refusal) => Err(refusal),
     }
 }

@@ -26,7 +26,7 @@ use Rattle.gl_runner.specs.Traces.{OfRunsOf, Traced, decimal_kinds}
 use Rattle.gl_judging.specs.Passing.{FilePasses}
 use Rattle.gl_notes.specs.Refusals.{Puts, Notes, status_of, note_of, no_end_line, write_line}
 use Rattle.gl_judging.specs.Causes.{Change, HasCause, AreBadTuples, ToRun, ToSim, IsBadQuery, IsRefused}
-use Rattle.gl_judging.specs.Shown.{Shows}
+use Rattle.gl_top.specs.Shown.{Shows}
 use Rattle.gl_top.specs.Verdicts.{AllPass, OfFile, Three, Completes, Whole, NoMemory, Endless, IsAnswer, Ran, Broke', Traced', Shown, Cut, Ended, IsEndless, IsGiven, OfLoad, OfTexts, IsTelling, TellsEnding, Yields, Same, ToRead, ToWrite, ToMemory, IsFaultless, Says, TellsFault}
 use Rattle.gl_judging.proofs.Texts.{next_form}
 use Rattle.gl_top.proofs.Deciding.{Stops, load_goes, one_bad_query, stops, stops_once, passes_goes, two_go}

@@ -1,3 +1,4 @@
+pub mod Explaining
 pub mod Runs
 pub mod Deciding
 pub mod Answering

@@ -33,7 +33,7 @@ use Rattle.gl_tuples.specs.declared.fault.TupleFault.{TupleFault}
 use Rattle.gl_forms.specs.declared.command.Command.TheVariants.{Run}
 use Rattle.gl_forms.specs.Forms.{IsForm, IsLoadOf, IsNamed, command_of, extra_of, name_of, start_of}
 use Rattle.gl_load.specs.Loads.{IsLoad}
-use Rattle.gl_judging.specs.Shown.{IsShownOf}
+use Rattle.gl_top.specs.Shown.{IsShownOf}
 use Rattle.gl_judging.specs.Passing.{QueryPasses, TuplesPass, FilePasses}
 use Rattle.gl_judging.specs.Causes.{Change, HasCause, IsTooLong, IsBadSchema, IsBadQuery, IsOver, IsBadVerilog, AreBadTuples}
 use Rattle.gl_notes.specs.Refusals.{Puts, Notes, status_of, note_of, no_end_line, write_line}

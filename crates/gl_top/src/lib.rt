@@ -5,6 +5,7 @@
 //! The words' forms are those of gl_forms, statuses and notes those of gl_notes.
 #![tactic(auto)]
 
+mod explaining;
 pub mod running;
 mod tracing;
 

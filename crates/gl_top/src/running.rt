@@ -15,10 +15,11 @@ ghost use Rattle.gl_notes.specs.Refusals.{puts, status_of};
 ghost use Rattle.gl_top.specs.Verdicts.{AllPass, Completes, IsAnswer, IsGiven, IsTelling};
 ghost use Rattle.gl_top.specs.Verdicts.{IsFaultless, RanLines, Says, TellsFault, Yields};
 
+use crate::explaining::judge_explain;
 use crate::tracing::answer_sim;
 use gl_compiler::Compiled;
 use gl_forms::{Command, command_of, load_of, start_of};
-use gl_judging::{Job, figures_text, judge_compile, judge_explain, judge_run};
+use gl_judging::{Job, figures_text, judge_compile, judge_run};
 use gl_load::load;
 use gl_notes::{Refusal, Status, tell, tell_write_fault};
 use gl_outside::{Shelf, Sink, Words, write_all_of};

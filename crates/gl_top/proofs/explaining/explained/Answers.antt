@@ -1,5 +1,5 @@
-use Rattle.gl_judging.proofs.Explaining.{explain_refused}
-use Rattle.gl_judging.proofs.judging.explained.Goals as goal
+use Rattle.gl_top.proofs.Explaining.{explain_refused}
+use Rattle.gl_top.proofs.explaining.explained.Goals as goal
 
 pub returns-in-Err-clause-refused : goal.returns-in-Err-clause-refused
 returns-in-Err-clause-refused c = rw c.fault_refusal.ensures (explain_refused c.args.schema.now c.args.query.now c.in-Err.fault c.in-Err.ensures.fault)

@@ -12,9 +12,9 @@ use Rattle.gl_forms.specs.Forms.{IsCommand}
 use Rattle.gl_notes.specs.declared.notes.Refusal.{Refusal}
 use Rattle.gl_notes.specs.declared.notes.Refusal.TheVariants as refusal
 use Rattle.gl_judging.specs.Passing.{HasText, SchemaPasses}
-use Rattle.gl_judging.specs.Causes.{Change, HasCause, fault_refusal}
-use Rattle.gl_judging.specs.Explaining.{IsExplained, IsExplainRefused}
-use Rattle.gl_judging.specs.Shown.{IsShownOf}
+use Rattle.gl_judging.specs.Causes.{Change, HasCause}
+use Rattle.gl_top.specs.Explaining.{IsExplained, IsExplainRefused, fault_refusal}
+use Rattle.gl_top.specs.Shown.{IsShownOf}
 use Rattle.gl_judging.proofs.Texts.{bad_query, explain_names_query, over_limit, query_passes}
 
 -- a fault is told as it is

@@ -3,6 +3,10 @@ use Rattle.std.specs.Prelude.{◌≡◌, ℕ, List}
 use Rattle.gl_schema.specs.declared.schema.Schema.{Schema}
 use Rattle.gl_query.specs.declared.tree.Statement.{Statement}
 use Rattle.gl_query_judge.specs.Judged.{IsQueryFault}
+use Rattle.gl_query.specs.declared.fault.QueryFault.{QueryFault}
+use Rattle.gl_query.specs.declared.fault.QueryFault.TheVariants as query
+use Rattle.gl_planner.specs.declared.planning.PlanFault.{PlanFault}
+use Rattle.gl_planner.specs.declared.planning.PlanFault.TheVariants as plan
 use Rattle.gl_elaborate.specs.Plans.{plan_of}
 use Rattle.gl_explain.specs.Lines.{plan_text}
 use Rattle.gl_compiler.specs.Queries.{IsOverLimit, IsQuery}
@@ -27,3 +31,12 @@ IsExplainRefused schema text (refusal.Limit limit) = IsOverLimit schema text lim
 IsExplainRefused schema text (refusal.Verilog fault) = ⊥
 IsExplainRefused schema text (refusal.Tuples fault) = ⊥
 IsExplainRefused schema text refusal.Memory = Unit {0}
+
+-- a fault of a lower call as a refusal: want of memory is its own
+abbrev pub fault_refusal : QueryFault → Refusal
+fault_refusal query.Memory = refusal.Memory
+fault_refusal fault = refusal.Query fault
+
+abbrev pub plan_refusal : PlanFault → Refusal
+plan_refusal (plan.Limit limit) = refusal.Limit limit
+plan_refusal plan.Memory = refusal.Memory

@@ -2,7 +2,7 @@ use Rattle.gl_forms.specs.declared.command.Part.TheVariants.{Query}
 use Rattle.gl_forms.proofs.Named.{schema_named}
 use Rattle.gl_judging.proofs.Changes.{leaves_later}
 use Rattle.gl_judging.proofs.Texts.{explain_names_query}
-use Rattle.gl_judging.proofs.judging.judge_explain.Goals as goal
+use Rattle.gl_top.proofs.explaining.judge_explain.Goals as goal
 
 pub returns-in-Ok-clause-leaves : goal.returns-in-Ok-clause-leaves
 returns-in-Ok-clause-leaves g c = leaves_later _ _ _ _ c.explain_query.result c.judge_schema.ensures.stays c.in-Ok.ensures.leaves c.explain_query.ensures.leaves
