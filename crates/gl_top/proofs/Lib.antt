@@ -1,4 +1,4 @@
-pub mod Explaining
+pub mod Explained
 pub mod Runs
 pub mod Deciding
 pub mod Answering

@@ -1,4 +1,4 @@
-use Rattle.gl_top.proofs.Explaining.{explain_refused}
+use Rattle.gl_top.proofs.Explained.{explain_refused}
 use Rattle.gl_top.proofs.explaining.explained.Goals as goal
 
 pub returns-in-Err-clause-refused : goal.returns-in-Err-clause-refused
