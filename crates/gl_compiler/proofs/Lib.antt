@@ -13,5 +13,3 @@ pub mod Unbound
 pub mod OverflowBeats
 pub mod OverflowRuns
 pub mod Shaped
-pub mod Refusing
-pub mod Made

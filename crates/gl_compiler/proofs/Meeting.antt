@@ -35,7 +35,7 @@ use Rattle.gl_wiring.specs.Wired.{KeepsGroup, OverBeats, plan_means}
 use Rattle.gl_verilog_ports.specs.Profile.{FitsSchema, ports_of, result_ports, result_names, result_widths, shows_column}
 use Rattle.gl_verilog_ports.proofs.Fits.{finds_ok}
 use Rattle.gl_compiler.specs.Meets.{Meets, RunsOver, result_columns}
-use Rattle.gl_compiler.specs.Queries.{gap_of, latency_of}
+use Rattle.gl_compiler.specs.Built.{gap_of, latency_of}
 use Rattle.gl_compiler.proofs.PlanResults.{plan_result}
 use Rattle.gl_compiler.proofs.Inner.{inputs_first}
 use Rattle.gl_compiler.proofs.Showing.{NoClock, shown_same, right_same, stimulus_same}

@@ -13,7 +13,7 @@ use Rattle.gl_planner.specs.declared.planning.PlanFault.TheVariants as plan
 use Rattle.gl_planner.specs.declared.planning.Planned.{Planned}
 use Rattle.gl_planner.specs.Planned.{IsPlanned, PassesOr}
 use Rattle.gl_compiler.specs.Compiles.{IsRefused}
-use Rattle.gl_compiler.specs.Queries.{IsBuilt, copies_of, fault_of_plan, gap_of, latency_of}
+use Rattle.gl_compiler.specs.Built.{IsBuilt, copies_of, fault_of_plan, gap_of, latency_of}
 
 -- why a plan is not made is why its statement is not compiled
 pub plan_refused : (schema : Schema) (statement : Statement) (f : PlanFault) → PassesOr (plan_of schema statement) f → IsRefused schema statement (fault_of_plan f)

@@ -9,7 +9,7 @@ use Rattle.gl_query.specs.Alike.{query_alike}
 use Rattle.gl_query.proofs.Alike.{query_same}
 use Rattle.gl_elaborate.specs.Plans.{placed, stream_node, plan_of}
 use Rattle.gl_planner.specs.Planned.{IsWithinLimits}
-use Rattle.gl_compiler.specs.Queries.{IsBuilt}
+use Rattle.gl_compiler.specs.Built.{IsBuilt}
 
 -- statements of one tree have queries of one shape
 pub shapes_alike : (s t : Statement) → statement_tree s ≡ statement_tree t → query_shape s.query ≡ query_shape t.query

@@ -2,8 +2,6 @@
 use Rattle.std.specs.Prelude.{◌≡◌, ℕ, ◌≤◌, ◌^◌, List}
 use Rattle.gl_schema.specs.declared.schema.Schema.{Schema}
 use Rattle.gl_schema.specs.Schemas.{kinds_of}
-use Rattle.gl_schema.specs.SchemaText.{IsSchemaText}
-use Rattle.gl_schema.specs.SchemaFaults.{Fails, schema_of}
 use Rattle.gl_query.specs.declared.tree.Statement.{Statement}
 use Rattle.gl_algebra.specs.Added.{placed_at}
 use Rattle.gl_algebra.specs.Cost.{most_memory, most_registers}
@@ -18,7 +16,7 @@ use Rattle.gl_compiler.specs.declared.compiling.Compiled.{Compiled}
 use Rattle.gl_compiler.specs.declared.compiling.CompileFault.{CompileFault}
 use Rattle.gl_compiler.specs.declared.compiling.CompileFault.TheVariants as fault
 use Rattle.gl_compiler.specs.Meets.{Meets, result_columns}
-use Rattle.gl_compiler.specs.Queries.{IsBuilt, IsQuery, IsQueryRefused, copies_of, gap_of, latency_of}
+use Rattle.gl_compiler.specs.Built.{IsBuilt, copies_of, gap_of, latency_of}
 
 -- the bits of registers and of memories that the text's module declares, which are no more than the statement's plan counts
 pub record HasCost (schema : Schema) (statement : Statement) (text : List ℕ) (cost : Cost) : Type 0 where
@@ -44,28 +42,9 @@ pub record IsCompiled (schema : Schema) (statement : Statement) (c : Compiled) :
   pub cost : HasCost schema statement c.text.items c.cost
   pub meets : Meets schema statement c.printed.latency c.printed.gap c.text.items
 
--- of the texts of a schema and of a query
-pub record IsCompiledText (text query : List ℕ) (c : Compiled) : Type 0 where
-  pub schema : IsSchemaText text c.schema
-  pub query' : IsQuery c.schema query c.statement
-  pub compiled : IsCompiled c.schema c.statement c
-
 -- why a checked statement is not compiled
 abbrev pub IsRefused : Schema → Statement → CompileFault → Type 0
 IsRefused schema statement (fault.Schema f) = ⊥
 IsRefused schema statement (fault.Query f) = ⊥
 IsRefused schema statement (fault.Limit l) = PassesLimit (plan_of schema statement) l
 IsRefused schema statement fault.Memory = Unit {0}
-
--- the text has a schema over which this is so
-pub record OfSchema (text : List ℕ) (P : Schema → Type 0) : Type 0 where
-  pub schema : Schema
-  pub is : IsSchemaText text schema
-  pub so : P schema
-
--- why texts are not compiled: the schema's first fault, or why the query is refused over the schema
-abbrev pub IsTextRefused : List ℕ → List ℕ → CompileFault → Type 0
-IsTextRefused text query (fault.Schema f) = Fails f (schema_of text)
-IsTextRefused text query (fault.Query f) = OfSchema text (λ schema. IsQueryRefused schema query (fault.Query f))
-IsTextRefused text query (fault.Limit l) = OfSchema text (λ schema. IsQueryRefused schema query (fault.Limit l))
-IsTextRefused text query fault.Memory = Unit {0}

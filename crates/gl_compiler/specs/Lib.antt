@@ -1,4 +1,4 @@
 pub mod Overflow
 pub mod Meets
 pub mod Compiles
-pub mod Queries
+pub mod Built

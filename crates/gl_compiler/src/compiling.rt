@@ -1,20 +1,14 @@
-//! Compiling a query.
+//! Compiling a statement.
 
-ghost use Rattle.std.specs.Prelude.{◌≡◌, ◌≤◌, ◌^◌, IfOk, IfErr, MatchResult, length};
-ghost use Rattle.std.specs.List.{AllByRecursion};
-ghost use Rattle.gl_bits.specs.Kinds.{IsKind};
-ghost use Rattle.gl_schema.specs.Schemas.{IsSchema, column_names, kinds_of};
-ghost use Rattle.gl_query.specs.declared.tree.Statement.{Statement as Stated};
+ghost use Rattle.std.specs.Prelude.{◌≡◌, IfOk, MatchResult};
+ghost use Rattle.gl_schema.specs.Schemas.{column_names, kinds_of};
 ghost use Rattle.gl_query.specs.Checked.{IsChecked};
 ghost use Rattle.gl_query.specs.Names.{StatementHasNames};
 ghost use Rattle.gl_query.specs.Shapes.{statement_shape};
-ghost use Rattle.gl_algebra.specs.Added.{placed_at};
-ghost use Rattle.gl_algebra.specs.Small.{AreFigures};
-ghost use Rattle.gl_elaborate.specs.Plans.{plan_of};
 ghost use Rattle.gl_planner.specs.Planned.{IsPlanned};
 ghost use Rattle.gl_compiler.specs.Meets.{Meets, result_columns};
-ghost use Rattle.gl_compiler.specs.Queries.{IsQuery, IsQueryRefused, IfRefused, TellsCauses, fault_of_query, fault_of_plan, latency_of, gap_of, copies_of};
-ghost use Rattle.gl_compiler.specs.Compiles.{HasCost, IsCompiled, IsCompiledText, IsRefused, IsTextRefused};
+ghost use Rattle.gl_compiler.specs.Built.{fault_of_plan, latency_of, gap_of};
+ghost use Rattle.gl_compiler.specs.Compiles.{HasCost, IsCompiled, IsRefused};
 
 use crate::naming::{kinds, names, result_columns};
 use gl_algebra::{Figures, Plan, PlanId};
@@ -25,8 +19,7 @@ use gl_planner::{PlanFault, Planned, plan_statement};
 use gl_query::columns::copy_of_name;
 use gl_query::{QueryFault, Statement};
 use gl_query_check::Checked;
-use gl_query_judge::judge_query;
-use gl_schema::{Column, Schema, SchemaFault, read_schema};
+use gl_schema::{Column, Schema, SchemaFault};
 use gl_verilog_writer::write_module;
 use gl_wiring::{ResultNames, wire_plan};
 use std::alloc::Global;
@@ -212,8 +205,8 @@ fn built(
     Ok((text, kinds))
 }
 
-// Compiles a checked statement whose names are names.
-fn compile_checked(alloc: Global, checked: Checked) -> Result<Compiled, CompileFault>
+/// Compiles a checked statement whose names are names. `Limit` comes exactly where its plan passes this limit.
+pub fn compile_checked(alloc: Global, checked: Checked) -> Result<Compiled, CompileFault>
     requires checked { IsChecked checked.schema checked.statement }
     requires names { StatementHasNames (statement_shape checked.statement) }
     ensures { MatchResult result (IsCompiled checked.schema checked.statement)
@@ -238,62 +231,4 @@ fn compile_checked(alloc: Global, checked: Checked) -> Result<Compiled, CompileF
         root: planned.root,
         figures: planned.figures,
     })
-}
-
-/// Compiles the text of a query over a schema.
-///
-/// `Query` is the first fault of the text, by reading and then by the rules of acceptance, and comes
-/// exactly where it has one; `Limit` comes exactly where its statement is accepted and its plan passes
-/// this limit.
-pub fn compile_query(alloc: Global, schema: Schema, query: &[u8]) -> Result<Compiled, CompileFault>
-    requires { IsSchema schema }
-    ensures schema { IfOk result (λ c. c.schema ≡ schema) }
-    ensures built { IfOk result (λ c. IsQuery schema query.now c.statement) }
-    ensures many { IfOk result (λ c. length c.kinds ≤ 32) }
-    ensures kinds { IfOk result (λ c. AllByRecursion IsKind c.kinds) }
-    ensures columns { IfOk result (λ c. c.kinds ≡ kinds_of (result_columns schema c.statement)) }
-    ensures latency { IfOk result (λ c. c.printed.latency ≡ latency_of schema c.statement) }
-    ensures gap { IfOk result (λ c. c.printed.gap ≡ gap_of schema c.statement) }
-    ensures copies { IfOk result (λ c. c.printed.copies ≡ copies_of schema c.statement) }
-    ensures short { IfOk result (λ c. c.printed.latency ≤ 2 ^ 32) }
-    ensures plan { IfOk result (λ c. placed_at c.plan c.root ≡ plan_of schema c.statement) }
-    ensures figures { IfOk result (λ c. AreFigures c.plan c.figures.items) }
-    ensures cost { IfOk result (λ c. HasCost schema c.statement c.text.items c.cost) }
-    ensures meets { IfOk result (λ c. Meets schema c.statement c.printed.latency c.printed.gap
-        c.text.items) }
-    ensures cause { IfErr result (IsQueryRefused schema query.now) }
-    ensures refused { IfErr result (λ fault. IfRefused fault ((statement : Stated)
-        → IsQuery schema query.now statement → ⊥)) }
-    ensures told { TellsCauses schema query.now result }
-{
-    let checked = match judge_query(alloc, &schema, query) {
-        Ok(checked) => checked,
-        Err(fault) => return Err(query_fault(fault)),
-    };
-    match compile_checked(alloc, checked) {
-        Ok(compiled) => Ok(compiled),
-        Err(fault) => Err(fault),
-    }
-}
-
-// The fault of a query's text.
-fn query_fault(fault: QueryFault) -> CompileFault
-    ensures { result ≡ fault_of_query fault }
-{
-    match fault {
-        QueryFault::Memory => CompileFault::Memory,
-        fault => CompileFault::Query(fault),
-    }
-}
-
-/// Compiles the text of a query over the text of a schema.
-pub fn compile(alloc: Global, schema: &[u8], query: &[u8]) -> Result<Compiled, CompileFault>
-    ensures { MatchResult result (IsCompiledText schema.now query.now)
-        (IsTextRefused schema.now query.now) }
-{
-    match read_schema(alloc, schema) {
-        Ok(schema) => compile_query(alloc, schema, query),
-        Err(SchemaFault::Memory) => Err(CompileFault::Memory),
-        Err(fault) => Err(CompileFault::Schema(fault)),
-    }
 }

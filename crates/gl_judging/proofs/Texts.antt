@@ -27,7 +27,8 @@ use Rattle.gl_compiler.specs.declared.compiling.CompileFault.{CompileFault}
 use Rattle.gl_compiler.specs.declared.compiling.CompileFault.TheVariants as compile
 use Rattle.gl_query_judge.specs.Judged.{IsQueryFault}
 use Rattle.gl_figures.specs.declared.Limit.{Limit}
-use Rattle.gl_compiler.specs.Queries.{IsOverLimit, IsQuery, IsQueryRefused, gap_of}
+use Rattle.gl_compiler.specs.Built.{gap_of}
+use Rattle.gl_query_compiler.specs.Queries.{IsOverLimit, IsQuery, IsQueryRefused}
 use Rattle.gl_forms.specs.declared.command.Part.{Part}
 use Rattle.gl_forms.specs.declared.command.Part.TheVariants as part
 use Rattle.gl_forms.specs.declared.command.Command.{Command}

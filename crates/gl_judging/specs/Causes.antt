@@ -16,7 +16,8 @@ use Rattle.gl_compiler.specs.declared.compiling.CompileFault.{CompileFault}
 use Rattle.gl_compiler.specs.declared.compiling.CompileFault.TheVariants as compile
 use Rattle.gl_query_judge.specs.Judged.{IsQueryFault}
 use Rattle.gl_figures.specs.declared.Limit.{Limit}
-use Rattle.gl_compiler.specs.Queries.{IsOverLimit, gap_of}
+use Rattle.gl_compiler.specs.Built.{gap_of}
+use Rattle.gl_query_compiler.specs.Queries.{IsOverLimit}
 use Rattle.gl_verilog.specs.Module.{Module}
 use Rattle.gl_verilog_written.specs.declared.fault.VerilogFault.{VerilogFault}
 use Rattle.gl_verilog_written.specs.declared.fault.VerilogFault.TheVariants as verilog

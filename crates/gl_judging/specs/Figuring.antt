@@ -5,7 +5,7 @@ use Rattle.gl_query.specs.declared.tree.Statement.{Statement}
 use Rattle.gl_figures.specs.declared.Printed.{Printed}
 use Rattle.gl_cost.specs.declared.counting.Cost.{Cost}
 use Rattle.gl_compiler.specs.Compiles.{HasCost}
-use Rattle.gl_compiler.specs.Queries.{copies_of, gap_of, latency_of}
+use Rattle.gl_compiler.specs.Built.{copies_of, gap_of, latency_of}
 
 unfoldable pub figure_line : List ℕ → ℕ → List ℕ
 figure_line name number = name ++ decimal number ++ codes "\n"

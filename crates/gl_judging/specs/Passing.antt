@@ -20,7 +20,8 @@ use Rattle.gl_verilog_ports.specs.declared.fitting.Ports.{Ports}
 use Rattle.gl_verilog_ports.specs.Fit.{fit_of}
 use Rattle.gl_compiler.specs.declared.compiling.Compiled.{Compiled}
 use Rattle.gl_compiler.specs.Compiles.{HasCost}
-use Rattle.gl_compiler.specs.Queries.{IsQuery, copies_of, latency_of, gap_of}
+use Rattle.gl_compiler.specs.Built.{copies_of, latency_of, gap_of}
+use Rattle.gl_query_compiler.specs.Queries.{IsQuery}
 use Rattle.gl_compiler.specs.Meets.{Meets, result_columns}
 use Rattle.gl_forms.specs.declared.command.Part.{Part}
 use Rattle.gl_forms.specs.declared.command.Part.TheVariants as part

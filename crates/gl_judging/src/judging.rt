@@ -12,10 +12,11 @@ ghost use Rattle.gl_judging.specs.Causes.{IsNext, Leaves};
 ghost use Rattle.gl_outside.specs.States.{Stays};
 ghost use Rattle.gl_judging.specs.Passing.{HasText, SchemaPasses, QueryPasses, TuplesPass, IsCompiled, IsReady, kept_beats};
 
-use gl_compiler::{CompileFault, Compiled, compile_query};
+use gl_compiler::{CompileFault, Compiled};
 use gl_forms::{Part, name_of};
 use gl_notes::Refusal;
 use gl_outside::{ReadFault, Shelf, Words, read_all};
+use gl_query_compiler::compile_query;
 use gl_schema::{Schema, SchemaFault, read_schema};
 use gl_tuples::{Beats, TupleFault, read_tuples};
 use std::alloc::Global;

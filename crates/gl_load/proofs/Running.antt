@@ -8,7 +8,7 @@ use Rattle.gl_sim.specs.declared.start.Start.TheVariants.{Zero}
 use Rattle.gl_figures.specs.declared.Printed.{Printed}
 use Rattle.gl_compiler.specs.declared.compiling.Compiled.{Compiled}
 use Rattle.gl_runner.specs.declared.executing.Outcome.TheVariants.{Done}
-use Rattle.gl_compiler.specs.Queries.{gap_of}
+use Rattle.gl_compiler.specs.Built.{gap_of}
 use Rattle.gl_compiler.specs.Meets.{Meets, result_columns}
 use Rattle.gl_runner.specs.Prints.{CanRun, OfEachRun, Ran, Writes}
 use Rattle.gl_load_query.specs.Query.{load_schema}

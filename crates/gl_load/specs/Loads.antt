@@ -7,7 +7,8 @@ use Rattle.gl_schema.specs.Beats.{Beat}
 use Rattle.gl_query.specs.declared.tree.Statement.{Statement}
 use Rattle.gl_sim.specs.declared.start.Start.TheVariants.{Zero}
 use Rattle.gl_compiler.specs.declared.compiling.Compiled.{Compiled}
-use Rattle.gl_compiler.specs.Queries.{IsQuery, gap_of, latency_of}
+use Rattle.gl_compiler.specs.Built.{gap_of, latency_of}
+use Rattle.gl_query_compiler.specs.Queries.{IsQuery}
 use Rattle.gl_compiler.specs.Meets.{Meets, result_columns}
 use Rattle.gl_runner.specs.Prints.{AreLinesOf, OfEachRun}
 use Rattle.gl_load_query.specs.Query.{load_schema, query_text}

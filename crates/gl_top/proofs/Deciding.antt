@@ -21,8 +21,9 @@ use Rattle.gl_tuples.specs.Filing.{beats_of, records_of}
 use Rattle.gl_verilog.specs.Module.{Module}
 use Rattle.gl_verilog.specs.Text.{HasModule}
 use Rattle.gl_verilog_written.specs.declared.fault.VerilogFault.{VerilogFault}
-use Rattle.gl_compiler.specs.Queries.{IsOverLimit, IsQuery, gap_of}
-use Rattle.gl_compiler.proofs.Refusing.{over_goes, query_accepted}
+use Rattle.gl_compiler.specs.Built.{gap_of}
+use Rattle.gl_query_compiler.specs.Queries.{IsOverLimit, IsQuery}
+use Rattle.gl_query_compiler.proofs.Refusing.{over_goes, query_accepted}
 use Rattle.gl_compiler.proofs.Shaped.{plans_alike}
 use Rattle.gl_forms.specs.declared.command.Command.TheVariants as command
 use Rattle.gl_forms.specs.declared.command.Part.TheVariants as part

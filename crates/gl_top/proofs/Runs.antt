@@ -9,7 +9,7 @@ use Rattle.gl_figures.specs.declared.Printed.{Printed}
 use Rattle.gl_tuples.specs.declared.beats.Beat as files
 use Rattle.gl_tuples.specs.Gaps.{AreFileBeats, plain_beats}
 use Rattle.gl_compiler.specs.declared.compiling.Compiled.{Compiled}
-use Rattle.gl_compiler.specs.Queries.{gap_of}
+use Rattle.gl_compiler.specs.Built.{gap_of}
 use Rattle.gl_compiler.specs.Meets.{Meets, result_columns}
 use Rattle.gl_outside.specs.States.{SinkState}
 use Rattle.gl_runner.specs.declared.executing.Outcome.{Outcome}

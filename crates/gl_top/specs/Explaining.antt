@@ -9,7 +9,7 @@ use Rattle.gl_planner.specs.declared.planning.PlanFault.{PlanFault}
 use Rattle.gl_planner.specs.declared.planning.PlanFault.TheVariants as plan
 use Rattle.gl_elaborate.specs.Plans.{plan_of}
 use Rattle.gl_explain.specs.Lines.{plan_text}
-use Rattle.gl_compiler.specs.Queries.{IsOverLimit, IsQuery}
+use Rattle.gl_query_compiler.specs.Queries.{IsOverLimit, IsQuery}
 use Rattle.gl_notes.specs.declared.notes.Refusal.{Refusal}
 use Rattle.gl_notes.specs.declared.notes.Refusal.TheVariants as refusal
 

@@ -5,7 +5,7 @@ use Rattle.gl_schema.specs.declared.schema.Schema.{Schema}
 use Rattle.gl_query.specs.declared.tree.Statement.{Statement}
 use Rattle.gl_elaborate.specs.Plans.{plan_of}
 use Rattle.gl_explain.specs.Lines.{plan_text}
-use Rattle.gl_compiler.specs.Queries.{latency_of, gap_of}
+use Rattle.gl_compiler.specs.Built.{latency_of, gap_of}
 use Rattle.gl_compiler.specs.Meets.{Meets}
 use Rattle.gl_forms.specs.declared.command.Command.{Command}
 use Rattle.gl_forms.specs.declared.command.Command.TheVariants.{Compile, Figures, Explain, Run, Sim, Load}

@@ -11,7 +11,7 @@ use Rattle.gl_sim.specs.declared.start.Start.{Start}
 use Rattle.gl_sim.specs.declared.start.Start.TheVariants.{Zero}
 use Rattle.gl_tuples.specs.declared.beats.Beat.{Beat}
 use Rattle.gl_tuples.specs.Gaps.{plain_beats}
-use Rattle.gl_compiler.specs.Queries.{latency_of, gap_of}
+use Rattle.gl_compiler.specs.Built.{latency_of, gap_of}
 use Rattle.gl_compiler.specs.Meets.{Meets, result_columns}
 use Rattle.gl_runner.specs.declared.executing.Outcome.{Outcome}
 use Rattle.gl_runner.specs.Prints.{OfEachRun, Writes, WritesFront}

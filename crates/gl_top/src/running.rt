@@ -4,7 +4,7 @@ ghost use Rattle.std.specs.Prelude.{◌≡◌, ◌≢◌, ◌≤◌, [], ℕ, Li
 ghost use Rattle.gl_outside.specs.States.{IsCalm, Took};
 ghost use Rattle.gl_schema.specs.Beats.{KeepsGap};
 ghost use Rattle.gl_tuples.specs.Gaps.{AreFileBeats, plain_beats};
-ghost use Rattle.gl_compiler.specs.Queries.{gap_of};
+ghost use Rattle.gl_compiler.specs.Built.{gap_of};
 ghost use Rattle.gl_notes.specs.declared.notes.Refusal.{Refusal as Refused};
 ghost use Rattle.gl_forms.specs.declared.command.Command.TheVariants.{Compile, Explain, Figures, Load, Run};
 ghost use Rattle.gl_forms.specs.Forms as forms;

@@ -18,7 +18,7 @@ use Rattle.gl_wiring.specs.StreamWires.{AreStreamLeaves}
 use Rattle.gl_wiring.specs.Wired.{KeepsGroup, OverBeats, plan_means}
 use Rattle.gl_verilog_writer.specs.Design.{module_text}
 use Rattle.gl_compiler.specs.Meets.{Meets, result_columns}
-use Rattle.gl_compiler.specs.Queries.{gap_of, latency_of}
+use Rattle.gl_compiler.specs.Built.{gap_of, latency_of}
 use Rattle.gl_compiler.proofs.KnownOf.{known}
 use Rattle.gl_compiler.proofs.Meeting.{text_meets}
 use Rattle.gl_compiler.proofs.compiling.text_of.Goals as goal

@@ -1,7 +1,7 @@
 use Rattle.std.proofs.Common.{ℕ, List, sym, subst}
 use Rattle.gl_schema.specs.declared.schema.Schema.{Schema}
 use Rattle.gl_schema.specs.Schemas.{IsSchema}
-use Rattle.gl_compiler.specs.Queries.{IsQueryRefused}
+use Rattle.gl_query_compiler.specs.Queries.{IsQueryRefused}
 use Rattle.gl_load_query.specs.Query.{load_schema}
 use Rattle.gl_load.proofs.Compiling.{made_of, uncompiled}
 use Rattle.gl_load_query.proofs.Constants.{schema_spelled}

@@ -5,9 +5,9 @@ use Rattle.gl_query.specs.Trees.{statement_tree}
 use Rattle.gl_query.proofs.Alike.{statement_same}
 use Rattle.gl_query_reader.proofs.Regular.{regular}
 use Rattle.gl_compiler.specs.Compiles.{IsRefused}
-use Rattle.gl_compiler.proofs.Made.{made}
-use Rattle.gl_compiler.proofs.Refusing.{refusal, refused_goes, statement_cause, tells_of}
-use Rattle.gl_compiler.proofs.compiling.compile_query.Goals as goal
+use Rattle.gl_query_compiler.proofs.Made.{made}
+use Rattle.gl_query_compiler.proofs.Refusing.{refusal, refused_goes, statement_cause, tells_of}
+use Rattle.gl_query_compiler.proofs.querying.compile_query.Goals as goal
 
 -- the text is refused
 

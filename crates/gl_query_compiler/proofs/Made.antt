@@ -16,9 +16,10 @@ use Rattle.gl_algebra.specs.Small.{AreFigures}
 use Rattle.gl_elaborate.specs.Plans.{plan_of}
 use Rattle.gl_compiler.specs.Compiles.{HasCost, IsCompiled}
 use Rattle.gl_compiler.specs.Meets.{Meets, result_columns}
-use Rattle.gl_compiler.specs.Queries.{IsQuery, TellsCauses, copies_of, gap_of, latency_of}
+use Rattle.gl_compiler.specs.Built.{copies_of, gap_of, latency_of}
+use Rattle.gl_query_compiler.specs.Queries.{IsQuery, TellsCauses}
 use Rattle.gl_compiler.proofs.KnownOf.{all_kinds}
-use Rattle.gl_compiler.proofs.Refusing.{tells_none}
+use Rattle.gl_query_compiler.proofs.Refusing.{tells_none}
 
 -- a query of the text over the schema is compiled
 pub record IsMade (schema : Schema) (text : List ℕ) (c : Compiled) : Type 0 where

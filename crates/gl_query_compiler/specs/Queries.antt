@@ -1,28 +1,19 @@
--- Which queries are compiled, the limits that their plans pass, and the figures that are printed for them.
+-- Which texts of queries are compiled, and why others are not.
 use Rattle.std.specs.Prelude.{◌≡◌, ◌⊎◌, ℕ, List, Result, Err}
 use Rattle.gl_schema.specs.declared.schema.Schema.{Schema}
 use Rattle.gl_query.specs.declared.tree.Statement.{Statement}
 use Rattle.gl_query.specs.declared.fault.QueryFault.{QueryFault}
 use Rattle.gl_query.specs.declared.fault.QueryFault.TheVariants as fault
-use Rattle.gl_query.specs.Accepted.{IsAccepted}
 use Rattle.gl_query.specs.Trees.{statement_tree}
 use Rattle.gl_query_reader.specs.Grammar.{HasStatement}
 use Rattle.gl_query_judge.specs.Judged.{IsAcceptedText, IsQueryFault}
-use Rattle.gl_algebra.specs.FigureTable as table
-use Rattle.gl_algebra.specs.Weights as weights
 use Rattle.gl_figures.specs.declared.Limit.{Limit}
 use Rattle.gl_elaborate.specs.Plans.{plan_of}
-use Rattle.gl_planner.specs.declared.planning.PlanFault.{PlanFault}
-use Rattle.gl_planner.specs.declared.planning.PlanFault.TheVariants as plan
-use Rattle.gl_planner.specs.Planned.{IsWithinLimits, PassesLimit}
+use Rattle.gl_planner.specs.Planned.{PassesLimit}
 use Rattle.gl_compiler.specs.declared.compiling.Compiled.{Compiled}
 use Rattle.gl_compiler.specs.declared.compiling.CompileFault.{CompileFault}
 use Rattle.gl_compiler.specs.declared.compiling.CompileFault.TheVariants as compile
-
--- the statement is accepted, and its plan is within the limits
-pub record IsBuilt (schema : Schema) (statement : Statement) : Type 0 where
-  pub accepted : IsAccepted schema statement
-  pub within : IsWithinLimits (plan_of schema statement)
+use Rattle.gl_compiler.specs.Built.{IsBuilt}
 
 -- the text has this statement, which is compiled over this schema
 pub record IsQuery (schema : Schema) (text : List ℕ) (statement : Statement) : Type 0 where
@@ -51,23 +42,7 @@ IfRefused f P = P
 abbrev pub TellsCauses : Schema → List ℕ → Result Compiled CompileFault → Type 0
 TellsCauses schema text r = (f : CompileFault) → IfRefused f (IsQueryRefused schema text f → (r ≡ Err f) ⊎ (r ≡ Err compile.Memory))
 
--- the cycles from the last beat to the end of the result, and from one beat to the next
-abbrev pub latency_of : Schema → Statement → ℕ
-latency_of schema statement = table.latency_of (plan_of schema statement).nodes (plan_of schema statement).root
-
-abbrev pub gap_of : Schema → Statement → ℕ
-gap_of schema statement = table.gap_of (plan_of schema statement).nodes (plan_of schema statement).root
-
--- the copies of bodies
-abbrev pub copies_of : Schema → Statement → ℕ
-copies_of schema statement = weights.copies_of (plan_of schema statement).nodes (plan_of schema statement).root
-
 -- the fault of a query's text, as the compiler answers it
 abbrev pub fault_of_query : QueryFault → CompileFault
 fault_of_query fault.Memory = compile.Memory
 fault_of_query f = compile.Query f
-
--- the fault of a plan
-abbrev pub fault_of_plan : PlanFault → CompileFault
-fault_of_plan (plan.Limit l) = compile.Limit l
-fault_of_plan plan.Memory = compile.Memory
