@@ -25,9 +25,10 @@ use Rattle.gl_forms.specs.declared.command.Part.TheVariants as part
 use Rattle.gl_forms.specs.Forms.{IsCommand}
 use Rattle.gl_notes.specs.declared.notes.Refusal.TheVariants as refusal
 use Rattle.gl_judging.specs.declared.simulating.Fitted.{Fitted}
-use Rattle.gl_judging.specs.Passing.{HasText, SchemaPasses, IsFitted, IsFittedText}
+use Rattle.gl_texts.specs.Texts.{HasText, SchemaPasses}
+use Rattle.gl_judging.specs.Passing.{IsFitted, IsFittedText}
 use Rattle.gl_judging.specs.Causes.{Change, HasCause, IsModuleFault, IsModuleFaultOrMemory, verilog_refusal}
-use Rattle.gl_judging.proofs.Texts.{has_text}
+use Rattle.gl_texts.proofs.Fetched.{has_text}
 
 -- ---- what is answered for a text
 

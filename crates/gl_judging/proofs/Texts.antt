@@ -1,18 +1,10 @@
 -- What a text that was read says of its part.
 use Rattle.std.proofs.Common.{◌≡◌, ◌⊎◌, ℕ, true, false, ◌<◌, ◌≤◌, List, length, Option, Some, None, Result, Ok, Err, inl, inr, refl, sym, ap, subst, ◌∙◌, arith}
-use Rattle.std.specs.Prelude.{is_some, Contains}
+use Rattle.std.specs.Prelude.{is_some}
 use Rattle.gl_forms.proofs.Named as forms
-use Rattle.gl_outside.specs.States.{ShelfState, IsCalm, Missed, Faulted, ReadLeaves}
-use Rattle.gl_outside.specs.Told.{Told, Untold, Lacks, Holds, IsLacking, IfTold}
-use Rattle.gl_outside.specs.Reads.{Refuses}
-use Rattle.gl_outside.specs.declared.reading.ReadFault as reads
-use Rattle.gl_outside.specs.declared.reading.ReadFault.TheVariants as read
+use Rattle.gl_outside.specs.States.{ShelfState, IsCalm}
+use Rattle.gl_outside.specs.Told.{Told}
 use Rattle.gl_schema.specs.declared.schema.Schema.{Schema}
-use Rattle.gl_schema.specs.declared.fault.SchemaFault as faults
-use Rattle.gl_schema.specs.declared.fault.SchemaFault.TheVariants as schema
-use Rattle.gl_schema.specs.SchemaFaults.{schema_of}
-use Rattle.gl_schema.specs.SchemaFaults as schemas
-use Rattle.gl_schema.specs.SchemaText.{IsSchemaText}
 use Rattle.gl_query.specs.declared.tree.Statement.{Statement}
 use Rattle.gl_query.specs.declared.fault.QueryFault.{QueryFault}
 use Rattle.gl_tuples.specs.declared.beats.Beat.{Beat}
@@ -28,15 +20,19 @@ use Rattle.gl_compiler.specs.declared.compiling.CompileFault.TheVariants as comp
 use Rattle.gl_query_judge.specs.Judged.{IsQueryFault}
 use Rattle.gl_figures.specs.declared.Limit.{Limit}
 use Rattle.gl_compiler.specs.Built.{gap_of}
-use Rattle.gl_query_compiler.specs.Queries.{IsOverLimit, IsQuery, IsQueryRefused}
+use Rattle.gl_query_judge.specs.Limits.{IsOverLimit}
+use Rattle.gl_query_compiler.specs.Queries.{IsQuery, IsQueryRefused}
 use Rattle.gl_forms.specs.declared.command.Part.{Part}
 use Rattle.gl_forms.specs.declared.command.Part.TheVariants as part
 use Rattle.gl_forms.specs.declared.command.Command.{Command}
 use Rattle.gl_forms.specs.declared.command.Command.TheVariants.{Explain, Run, Sim}
 use Rattle.gl_forms.specs.Forms.{IsCommand, IsForm, IsNamed, command_of, name_of}
+use Rattle.gl_notes.specs.declared.notes.Refusal.{Refusal}
 use Rattle.gl_notes.specs.declared.notes.Refusal.TheVariants as refusal
-use Rattle.gl_judging.specs.Passing.{HasText, SchemaPasses, QueryPasses, ModulePasses, FilePasses, kept_beats}
-use Rattle.gl_judging.specs.Causes.{OfRun, OfSim, IsNext, IsBadSchema, AreBadTuples, ToRun, ToSim, Change, change, HasCause, read_refusal, schema_refusal, query_refusal, tuples_refusal}
+use Rattle.gl_texts.specs.Texts.{HasText, SchemaPasses, IsUnfetched, LeavesText, HasNoSchema, LeavesSchema}
+use Rattle.gl_texts.proofs.Fetched.{has_text}
+use Rattle.gl_judging.specs.Passing.{QueryPasses, ModulePasses, FilePasses, kept_beats}
+use Rattle.gl_judging.specs.Causes.{OfRun, OfSim, IsNext, AreBadTuples, ToRun, ToSim, Change, change, HasCause, Leaves, query_refusal, tuples_refusal}
 
 -- the texts of a command that its words name
 pub run_names_query : (words : List (List ℕ)) → IsCommand words Run → IsNamed words part.Query
@@ -55,7 +51,7 @@ pub explain_names_query : (words : List (List ℕ)) → IsCommand words Explain 
 explain_names_query words is = record { command = Explain; is = is; names = (1, omega arith, refl) }
 
 -- where a text is judged the words name it
-next_named : (told : List ℕ → Told) (words : List (List ℕ)) (p : Part) → IsNext told words p → IsNamed words p
+pub next_named : (told : List ℕ → Told) (words : List (List ℕ)) (p : Part) → IsNext told words p → IsNamed words p
 next_named told words part.Schema next = next
 next_named told words part.Query next = next.0
 next_named told words part.Module next = sim_names_module words next.0
@@ -70,49 +66,39 @@ next_form told words p next = forms.named_form words p (next_named told words p 
 pub no_form : (words : List (List ℕ)) → command_of words ≡ None → IsForm words → ⊥
 no_form words none form = absurd (let z : false ≡ true = sym (ap (λ (o : Option Command). is_some o) none) ∙ form in cc)
 
--- and its name is one of them
-pub named : (told : List ℕ → Told) (words : List (List ℕ)) (p : Part) → IsNext told words p → Contains words (name_of words p)
-named told words p next = forms.named words p (next_named told words p next)
+-- the cause of a text that was not fetched
+unfetched_cause : (words : List (List ℕ)) (c : Change) (p : Part) (r : Refusal) → IsNext c.old.told words p → IsUnfetched words p c.old c.new r → HasCause words c r
+unfetched_cause words c p refusal.Usage next h = absurd h
+unfetched_cause words c p (refusal.Missing q) next h = subst (λ (x : Part). HasCause words c (refusal.Missing x)) (sym h.0) (record { next = next; lacking = h.1 }, h.2)
+unfetched_cause words c p (refusal.ReadFault q) next h = subst (λ (x : Part). HasCause words c (refusal.ReadFault x)) (sym h.0) (next, h.1)
+unfetched_cause words c p (refusal.TooLong q) next h = subst (λ (x : Part). HasCause words c (refusal.TooLong x)) (sym h.0) (record { next = next; long = h.1 }, h.2)
+unfetched_cause words c p (refusal.Schema f) next h = absurd h
+unfetched_cause words c p (refusal.Query f) next h = absurd h
+unfetched_cause words c p (refusal.Limit l) next h = absurd h
+unfetched_cause words c p (refusal.Verilog f) next h = absurd h
+unfetched_cause words c p (refusal.Tuples f) next h = absurd h
+unfetched_cause words c p refusal.Memory next h = h
 
--- what was read is the text that is told
-pub read_is : (t : Told) (v : List ℕ) → IfTold t (λ text. v ≡ text) → length v ≤ 67108864 → IfTold t (λ text. (length text ≤ 67108864) × (v ≡ text))
-read_is Untold v e le = tt
-read_is Lacks v e le = e
-read_is (Holds text) v e le = (subst (λ (x : List ℕ). length x ≤ 67108864) e le, e)
+pub text_leaves : {T : Type 0} (words : List (List ℕ)) (a b : ShelfState) (p : Part) (r : Result T Refusal) → IsNext a.told words p → LeavesText words p a b r → Leaves words a b r
+text_leaves words a b p (Ok x) next h = h
+text_leaves words a b p (Err f) next h = unfetched_cause words (change a b) p f next h
 
--- and what holds of the one holds of the other
-pub of_text : (t : Told) (P : List ℕ → Type 0) (v : List ℕ) → IfTold t (λ text. (length text ≤ 67108864) × (v ≡ text)) → P v → IfTold t (λ text. (length text ≤ 67108864) × P text)
-of_text Untold P v h p = tt
-of_text Lacks P v h p = h
-of_text (Holds text) P v h p = (h.0, subst P h.1 p)
+-- of a schema that was not read
+no_schema_cause : (words : List (List ℕ)) (c : Change) (r : Refusal) → IsNamed words part.Schema → HasNoSchema words c.old c.new r → HasCause words c r
+no_schema_cause words c (refusal.Schema f) named h = (record { named = named; text = h.0 }, h.1)
+no_schema_cause words c refusal.Usage named h = absurd h
+no_schema_cause words c (refusal.Missing q) named h = unfetched_cause words c part.Schema (refusal.Missing q) named h
+no_schema_cause words c (refusal.ReadFault q) named h = unfetched_cause words c part.Schema (refusal.ReadFault q) named h
+no_schema_cause words c (refusal.TooLong q) named h = unfetched_cause words c part.Schema (refusal.TooLong q) named h
+no_schema_cause words c (refusal.Query f) named h = absurd h
+no_schema_cause words c (refusal.Limit l) named h = absurd h
+no_schema_cause words c (refusal.Verilog f) named h = absurd h
+no_schema_cause words c (refusal.Tuples f) named h = absurd h
+no_schema_cause words c refusal.Memory named h = h
 
-pub has_text : (told : List ℕ → Told) (words : List (List ℕ)) (p : Part) (P : List ℕ → Type 0) (v : List ℕ) → HasText told words p (λ text. v ≡ text) → P v → HasText told words p P
-has_text told words p P v h q = of_text (told (name_of words p)) P v h q
-
--- the cause of a text that was not read
-pub read_cause : (words : List (List ℕ)) (a b : ShelfState) (p : Part) (name : List ℕ) (fault : reads.ReadFault) → name ≡ name_of words p → IsNext a.told words p
-    → Refuses {T = Unit {0}} (a.told name) (Err fault) → ReadLeaves {T = Unit {0}} a b name (Err fault) → HasCause words (change a b) (read_refusal p fault)
-read_cause words a b p name read.Missing e next told left =
-    (record { next = next; lacking = subst (λ n. IsLacking (a.told n)) e told }, subst (Missed a b) e left)
-read_cause words a b p name read.Failed e next told left = (next, subst (Faulted a b) e left)
-read_cause words a b p name read.TooLong e next told left = (record { next = next; long = subst (λ n. IfTold (a.told n) (λ text. 67108864 < length text)) e told }, left)
-read_cause words a b p name read.Memory e next told left = left
-
--- of a schema that is refused
-is_bad : (words : List (List ℕ)) (c : Change) (v : List ℕ) (fault : faults.SchemaFault) → IsNamed words part.Schema → HasText c.old.told words part.Schema (λ text. v ≡ text) → schema_of v ≡ Err fault → IsBadSchema c.old.told words fault
-is_bad words c v fault named h f = record { named = named; text = has_text c.old.told words part.Schema (λ text. schema_of text ≡ Err fault) v h f }
-
-pub schema_cause : (words : List (List ℕ)) (c : Change) (v : List ℕ) (fault : faults.SchemaFault) → IsCalm c.old c.new → IsNamed words part.Schema → HasText c.old.told words part.Schema (λ text. v ≡ text)
-    → schemas.Fails fault (schema_of v) → HasCause words c (schema_refusal fault)
-schema_cause words c v schema.Memory calm form h f = calm
-schema_cause words c v (schema.Syntax at) calm form h f = (is_bad words c v (schema.Syntax at) form h f, calm)
-schema_cause words c v (schema.BadName at) calm form h f = (is_bad words c v (schema.BadName at) form h f, calm)
-schema_cause words c v (schema.BadKind at) calm form h f = (is_bad words c v (schema.BadKind at) form h f, calm)
-schema_cause words c v (schema.Twice at) calm form h f = (is_bad words c v (schema.Twice at) form h f, calm)
-schema_cause words c v (schema.TooMany at) calm form h f = (is_bad words c v (schema.TooMany at) form h f, calm)
-
-pub schema_passes : (told : List ℕ → Told) (words : List (List ℕ)) (v : List ℕ) (s : Schema) → IsNamed words part.Schema → HasText told words part.Schema (λ text. v ≡ text) → IsSchemaText v s → SchemaPasses told words s
-schema_passes told words v s named h is = record { named = named; fine = is.schema'; text = has_text told words part.Schema (λ text. IsSchemaText text s) v h is }
+pub schema_leaves : {T : Type 0} (words : List (List ℕ)) (a b : ShelfState) (r : Result T Refusal) → IsNamed words part.Schema → LeavesSchema words a b r → Leaves words a b r
+schema_leaves words a b (Ok x) named h = h
+schema_leaves words a b (Err f) named h = no_schema_cause words (change a b) f named h
 
 -- of a query that is refused
 pub bad_query : (words : List (List ℕ)) (c : Change) (v : List ℕ) (s : Schema) (f : QueryFault) → IsCalm c.old c.new → IsNamed words part.Query → SchemaPasses c.old.told words s → HasText c.old.told words part.Query (λ text. v ≡ text) → IsQueryFault s v f → HasCause words c (query_refusal (compile.Query f))

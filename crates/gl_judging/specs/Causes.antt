@@ -2,11 +2,8 @@
 use Rattle.std.specs.Prelude.{◌≡◌, ◌⊎◌, ℕ, ◌<◌, List, length, Result, Ok, Err}
 use Rattle.gl_outside.specs.States.{ShelfState, IsCalm, Missed, Faulted}
 use Rattle.gl_outside.specs.Told.{Told, IsLacking, IfTold}
-use Rattle.gl_outside.specs.declared.reading.ReadFault as reads
-use Rattle.gl_outside.specs.declared.reading.ReadFault.TheVariants as read
 use Rattle.gl_schema.specs.declared.schema.Schema.{Schema}
 use Rattle.gl_schema.specs.declared.fault.SchemaFault as faults
-use Rattle.gl_schema.specs.declared.fault.SchemaFault.TheVariants as schema
 use Rattle.gl_schema.specs.SchemaFaults.{schema_of}
 use Rattle.gl_query.specs.declared.fault.QueryFault.{QueryFault}
 use Rattle.gl_query.specs.declared.tree.Statement.{Statement}
@@ -17,7 +14,7 @@ use Rattle.gl_compiler.specs.declared.compiling.CompileFault.TheVariants as comp
 use Rattle.gl_query_judge.specs.Judged.{IsQueryFault}
 use Rattle.gl_figures.specs.declared.Limit.{Limit}
 use Rattle.gl_compiler.specs.Built.{gap_of}
-use Rattle.gl_query_compiler.specs.Queries.{IsOverLimit}
+use Rattle.gl_query_judge.specs.Limits.{IsOverLimit}
 use Rattle.gl_verilog.specs.Module.{Module}
 use Rattle.gl_verilog_written.specs.declared.fault.VerilogFault.{VerilogFault}
 use Rattle.gl_verilog_written.specs.declared.fault.VerilogFault.TheVariants as verilog
@@ -30,7 +27,8 @@ use Rattle.gl_notes.specs.declared.notes.Refusal.TheVariants as refusal
 use Rattle.gl_forms.specs.declared.command.Command.TheVariants.{Run, Sim}
 use Rattle.gl_forms.specs.Forms.{IsCommand, IsForm, IsNamed, name_of}
 use Rattle.gl_tuples.specs.Filing.{beats_of, records_of}
-use Rattle.gl_judging.specs.Passing.{HasText, SchemaPasses, QueryPasses, ModulePasses, kept_beats}
+use Rattle.gl_texts.specs.Texts.{HasText, SchemaPasses}
+use Rattle.gl_judging.specs.Passing.{QueryPasses, ModulePasses, kept_beats}
 
 -- the texts before the tuple file pass: a query's to run it, a module's to simulate it
 pub data PassBeforeTuples (told : List ℕ → Told) (words : List (List ℕ)) : Type 0 where
@@ -130,16 +128,6 @@ Leaves words old new (Ok x) = IsCalm old new
 Leaves words old new (Err r) = HasCause words (change old new) r
 
 -- a fault of a lower call as a refusal: want of memory is its own
-abbrev pub read_refusal : Part → reads.ReadFault → Refusal
-read_refusal part read.Missing = refusal.Missing part
-read_refusal part read.Failed = refusal.ReadFault part
-read_refusal part read.TooLong = refusal.TooLong part
-read_refusal part read.Memory = refusal.Memory
-
-abbrev pub schema_refusal : faults.SchemaFault → Refusal
-schema_refusal schema.Memory = refusal.Memory
-schema_refusal fault = refusal.Schema fault
-
 abbrev pub query_refusal : CompileFault → Refusal
 query_refusal compile.Memory = refusal.Memory
 query_refusal (compile.Query fault) = refusal.Query fault

@@ -2,10 +2,9 @@
 use Rattle.std.specs.Prelude.{◌≡◌, ℕ, ◌≤◌, ◌^◌, List, length, Result, Ok}
 use Rattle.std.specs.List.{AllByRecursion}
 use Rattle.gl_bits.specs.Kinds.{IsKind}
-use Rattle.gl_outside.specs.Told.{Told, IfTold}
+use Rattle.gl_outside.specs.Told.{Told}
 use Rattle.gl_schema.specs.declared.schema.Schema.{Schema}
 use Rattle.gl_schema.specs.Schemas.{IsSchema, kinds_of}
-use Rattle.gl_schema.specs.SchemaText.{IsSchemaText}
 use Rattle.gl_schema.specs.Beats.{AreBeats, KeepsGap}
 use Rattle.gl_query.specs.declared.tree.Statement.{Statement}
 use Rattle.gl_tuples.specs.declared.beats.Beat.{Beat}
@@ -29,19 +28,10 @@ use Rattle.gl_judging.specs.declared.judging.Job.{Job}
 use Rattle.gl_judging.specs.declared.simulating.Fitted.{Fitted}
 use Rattle.gl_judging.specs.declared.simulating.Simulation.{Simulation}
 use Rattle.gl_forms.specs.declared.command.Command.TheVariants.{Run, Sim}
-use Rattle.gl_forms.specs.Forms.{IsCommand, IsNamed, name_of}
+use Rattle.gl_forms.specs.Forms.{IsCommand, IsNamed}
+use Rattle.gl_texts.specs.Texts.{HasText, SchemaPasses}
 
--- the shelf has the text, it has at most 64 MiB, and the fact holds of it
-abbrev pub HasText : (List ℕ → Told) → List (List ℕ) → Part → (List ℕ → Type 0) → Type 0
-HasText told words part P = IfTold (told (name_of words part)) (λ text. (length text ≤ 67108864) × P text)
-
--- the words name a schema, and its text is that of this one
-pub record SchemaPasses (told : List ℕ → Told) (words : List (List ℕ)) (schema : Schema) : Type 0 where
-  pub named : IsNamed words part.Schema
-  pub fine : IsSchema schema
-  pub text : HasText told words part.Schema (λ text. IsSchemaText text schema)
-
--- they name a query, and its text is that of this statement, which is accepted over the schema, and whose plan is within the limits
+-- the words name a query, and its text is that of this statement, which is accepted over the schema, and whose plan is within the limits
 pub record QueryPasses (told : List ℕ → Told) (words : List (List ℕ)) (schema : Schema) (statement : Statement) : Type 0 where
   pub named : IsNamed words part.Query
   pub before : SchemaPasses told words schema

@@ -10,14 +10,16 @@ ghost use Rattle.gl_forms.specs.Forms.{IsCommand, IsNamed};
 ghost use Rattle.gl_judging.specs.Causes as causes;
 ghost use Rattle.gl_judging.specs.Causes.{IsNext, Leaves};
 ghost use Rattle.gl_outside.specs.States.{Stays};
-ghost use Rattle.gl_judging.specs.Passing.{HasText, SchemaPasses, QueryPasses, TuplesPass, IsCompiled, IsReady, kept_beats};
+ghost use Rattle.gl_judging.specs.Passing.{QueryPasses, TuplesPass, IsCompiled, IsReady, kept_beats};
+ghost use Rattle.gl_texts.specs.Texts.{HasText, SchemaPasses};
 
 use gl_compiler::{CompileFault, Compiled};
-use gl_forms::{Part, name_of};
+use gl_forms::Part;
 use gl_notes::Refusal;
-use gl_outside::{ReadFault, Shelf, Words, read_all};
+use gl_outside::{Shelf, Words};
 use gl_query_compiler::compile_query;
-use gl_schema::{Schema, SchemaFault, read_schema};
+use gl_schema::Schema;
+use gl_texts::{fetch, fetch_schema};
 use gl_tuples::{Beats, TupleFault, read_tuples};
 use std::alloc::Global;
 
@@ -30,27 +32,7 @@ pub struct Job {
     pub beats: Beats,
 }
 
-// A fault of a text of the shelf as a refusal.
-fn read_refusal(part: Part, fault: ReadFault) -> Refusal
-    ensures { result ≡ causes.read_refusal part fault }
-{
-    match fault {
-        ReadFault::Missing => Refusal::Missing(part),
-        ReadFault::Failed => Refusal::ReadFault(part),
-        ReadFault::TooLong => Refusal::TooLong(part),
-        ReadFault::Memory => Refusal::Memory,
-    }
-}
-
-fn schema_refusal(fault: SchemaFault) -> Refusal
-    ensures { result ≡ causes.schema_refusal fault }
-{
-    match fault {
-        SchemaFault::Memory => Refusal::Memory,
-        fault => Refusal::Schema(fault),
-    }
-}
-
+// A fault of a lower call as a refusal.
 fn query_refusal(fault: CompileFault) -> Refusal
     ensures { result ≡ causes.query_refusal fault }
 {
@@ -72,7 +54,7 @@ pub fn tuples_refusal(fault: TupleFault) -> Refusal
     }
 }
 
-/// Reads the text of a part.
+/// Fetches the text of a part, where each text before it passes.
 pub fn text_of<S: Shelf>(
     alloc: Global,
     shelf: &mut S,
@@ -86,10 +68,7 @@ pub fn text_of<S: Shelf>(
         IfOk result (λ v. HasText told words.now part (λ text. v.items ≡ text)) }
     ensures leaves { Leaves words.now (S.state shelf.old) (S.state shelf.new) result }
 {
-    match read_all(alloc, shelf, name_of(words, part)) {
-        Ok(text) => Ok(text),
-        Err(fault) => Err(read_refusal(part, fault)),
-    }
+    fetch(alloc, shelf, words, part)
 }
 
 /// Reads and judges the schema.
@@ -105,11 +84,7 @@ pub fn judge_schema<S: Shelf>(
         IfOk result (λ schema. SchemaPasses told words.now schema) }
     ensures leaves { Leaves words.now (S.state shelf.old) (S.state shelf.new) result }
 {
-    let text = text_of(alloc, shelf, words, Part::Schema)?;
-    match read_schema(alloc, &text) {
-        Ok(schema) => Ok(schema),
-        Err(fault) => Err(schema_refusal(fault)),
-    }
+    fetch_schema(alloc, shelf, words)
 }
 
 // Reads and judges the query.

@@ -7,7 +7,8 @@ ghost use Rattle.gl_forms.specs.declared.command.Command.TheVariants.{Sim};
 ghost use Rattle.gl_forms.specs.Forms.{IsCommand};
 ghost use Rattle.gl_judging.specs.Causes as causes;
 ghost use Rattle.gl_judging.specs.Causes.{IsModuleFaultOrMemory, Leaves};
-ghost use Rattle.gl_judging.specs.Passing.{SchemaPasses, ModulePasses, FilePasses};
+ghost use Rattle.gl_judging.specs.Passing.{ModulePasses, FilePasses};
+ghost use Rattle.gl_texts.specs.Texts.{SchemaPasses};
 ghost use Rattle.gl_judging.specs.Passing.{IsFitted, IsFittedText, IsTraceable};
 
 use crate::judging::{judge_schema, text_of, tuples_refusal};

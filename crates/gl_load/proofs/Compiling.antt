@@ -27,7 +27,8 @@ use Rattle.gl_compiler.specs.declared.compiling.Compiled.{Compiled}
 use Rattle.gl_compiler.specs.declared.compiling.CompileFault.{CompileFault}
 use Rattle.gl_compiler.specs.declared.compiling.CompileFault.TheVariants as compile
 use Rattle.gl_compiler.specs.Built.{gap_of, latency_of}
-use Rattle.gl_query_compiler.specs.Queries.{IsOverLimit, IsQuery, IsQueryRefused}
+use Rattle.gl_query_judge.specs.Limits.{IsOverLimit}
+use Rattle.gl_query_compiler.specs.Queries.{IsQuery, IsQueryRefused}
 use Rattle.gl_compiler.specs.Meets.{Meets, result_columns}
 use Rattle.gl_load_query.specs.Query.{load_schema, query_text}
 use Rattle.gl_load.specs.Loads.{IsCompiledLoad}

@@ -18,7 +18,8 @@ use Rattle.gl_compiler.specs.declared.compiling.Compiled.{Compiled}
 use Rattle.gl_compiler.specs.declared.compiling.CompileFault.{CompileFault}
 use Rattle.gl_compiler.specs.declared.compiling.CompileFault.TheVariants as compile
 use Rattle.gl_compiler.specs.Compiles.{IsRefused}
-use Rattle.gl_query_compiler.specs.Queries.{IsOverLimit, IsQuery, IsQueryRefused, IfRefused, TellsCauses, fault_of_query}
+use Rattle.gl_query_judge.specs.Limits.{IsOverLimit}
+use Rattle.gl_query_compiler.specs.Queries.{IsQuery, IsQueryRefused, IfRefused, TellsCauses, fault_of_query}
 use Rattle.gl_compiler.proofs.Shaped.{plans_alike}
 
 -- a fault is answered as it is

@@ -6,10 +6,8 @@ use Rattle.gl_query.specs.declared.fault.QueryFault.{QueryFault}
 use Rattle.gl_query.specs.declared.fault.QueryFault.TheVariants as fault
 use Rattle.gl_query.specs.Trees.{statement_tree}
 use Rattle.gl_query_reader.specs.Grammar.{HasStatement}
-use Rattle.gl_query_judge.specs.Judged.{IsAcceptedText, IsQueryFault}
-use Rattle.gl_figures.specs.declared.Limit.{Limit}
-use Rattle.gl_elaborate.specs.Plans.{plan_of}
-use Rattle.gl_planner.specs.Planned.{PassesLimit}
+use Rattle.gl_query_judge.specs.Judged.{IsQueryFault}
+use Rattle.gl_query_judge.specs.Limits.{IsOverLimit}
 use Rattle.gl_compiler.specs.declared.compiling.Compiled.{Compiled}
 use Rattle.gl_compiler.specs.declared.compiling.CompileFault.{CompileFault}
 use Rattle.gl_compiler.specs.declared.compiling.CompileFault.TheVariants as compile
@@ -19,12 +17,6 @@ use Rattle.gl_compiler.specs.Built.{IsBuilt}
 pub record IsQuery (schema : Schema) (text : List ℕ) (statement : Statement) : Type 0 where
   pub has : HasStatement text (statement_tree statement)
   pub built : IsBuilt schema statement
-
--- the text has a statement that is accepted, and its plan passes this limit
-pub record IsOverLimit (schema : Schema) (text : List ℕ) (limit : Limit) : Type 0 where
-  pub statement : Statement
-  pub is : IsAcceptedText schema text statement
-  pub passes : PassesLimit (plan_of schema statement) limit
 
 -- why a query was refused; want of memory is free
 abbrev pub IsQueryRefused : Schema → List ℕ → CompileFault → Type 0

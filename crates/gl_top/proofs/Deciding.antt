@@ -22,7 +22,8 @@ use Rattle.gl_verilog.specs.Module.{Module}
 use Rattle.gl_verilog.specs.Text.{HasModule}
 use Rattle.gl_verilog_written.specs.declared.fault.VerilogFault.{VerilogFault}
 use Rattle.gl_compiler.specs.Built.{gap_of}
-use Rattle.gl_query_compiler.specs.Queries.{IsOverLimit, IsQuery}
+use Rattle.gl_query_judge.specs.Limits.{IsOverLimit}
+use Rattle.gl_query_compiler.specs.Queries.{IsQuery}
 use Rattle.gl_query_compiler.proofs.Refusing.{over_goes, query_accepted}
 use Rattle.gl_compiler.proofs.Shaped.{plans_alike}
 use Rattle.gl_forms.specs.declared.command.Command.TheVariants as command
@@ -32,7 +33,8 @@ use Rattle.gl_notes.specs.declared.notes.Refusal.TheVariants as refusal
 use Rattle.gl_notes.specs.declared.status.Status.{Status}
 use Rattle.gl_notes.specs.declared.status.Status.TheVariants as status
 use Rattle.gl_forms.specs.Forms.{IsCommand, IsForm, IsLoadOf, IsNamed, command_of, name_of}
-use Rattle.gl_judging.specs.Passing.{SchemaPasses, QueryPasses, TuplesPass, ModulePasses, FilePasses, kept_beats}
+use Rattle.gl_texts.specs.Texts.{SchemaPasses}
+use Rattle.gl_judging.specs.Passing.{QueryPasses, TuplesPass, ModulePasses, FilePasses, kept_beats}
 use Rattle.gl_judging.specs.Causes.{PassBeforeTuples, OfRun, OfSim, ToRun, ToSim, IsBadQuery, IsModuleFault, IsRefused}
 use Rattle.gl_notes.specs.Refusals.{status_of}
 use Rattle.gl_top.specs.Verdicts.{AllPass, IsTelling, Loads, OfFile, Three, Two}

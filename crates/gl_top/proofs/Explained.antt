@@ -1,42 +1,23 @@
 -- What is explained of a text, and why it is not.
-use Rattle.std.proofs.Common.{◌≡◌, ◌≢◌, ℕ, List, [], inl, inr, refl}
+use Rattle.std.proofs.Common.{◌≡◌, ℕ, List, [], refl}
 use Rattle.gl_outside.specs.States.{IsCalm}
 use Rattle.gl_outside.specs.Told.{Told}
 use Rattle.gl_schema.specs.declared.schema.Schema.{Schema}
-use Rattle.gl_query.specs.declared.fault.QueryFault.{QueryFault}
-use Rattle.gl_query.specs.declared.fault.QueryFault.TheVariants as fault
-use Rattle.gl_query_judge.specs.Judged.{IsFaultOrMemory}
 use Rattle.gl_forms.specs.declared.command.Command.TheVariants.{Explain}
 use Rattle.gl_forms.specs.declared.command.Part.TheVariants as part
 use Rattle.gl_forms.specs.Forms.{IsCommand}
 use Rattle.gl_notes.specs.declared.notes.Refusal.{Refusal}
 use Rattle.gl_notes.specs.declared.notes.Refusal.TheVariants as refusal
-use Rattle.gl_judging.specs.Passing.{HasText, SchemaPasses}
+use Rattle.gl_texts.specs.Texts.{HasText, SchemaPasses}
 use Rattle.gl_judging.specs.Causes.{Change, HasCause}
-use Rattle.gl_top.specs.Explaining.{IsExplained, IsExplainRefused, fault_refusal}
+use Rattle.gl_query_compiler.specs.Queries.{IsQuery}
+use Rattle.gl_query_explainer.specs.Explaining.{IsExplained, IsExplainRefused}
 use Rattle.gl_top.specs.Shown.{IsShownOf}
 use Rattle.gl_judging.proofs.Texts.{bad_query, explain_names_query, over_limit, query_passes}
 
--- a fault is told as it is
-told_as : (f : QueryFault) → f ≢ fault.Memory → fault_refusal f ≡ refusal.Query f
-told_as fault.Memory real = absurd (real refl)
-told_as (fault.Syntax at) real = refl
-told_as (fault.UnknownStream at) real = refl
-told_as (fault.UnknownColumn at) real = refl
-told_as (fault.KindsDiffer at) real = refl
-told_as (fault.LiteralTooWide at) real = refl
-told_as (fault.NotCondition at) real = refl
-told_as (fault.MixedItems at) real = refl
-told_as (fault.TwiceNamed at) real = refl
-told_as (fault.ColumnsDiffer at) real = refl
-told_as (fault.PaceDiffers at) real = refl
-told_as (fault.NotClosing at) real = refl
-told_as (fault.OutOfRange at) real = refl
-told_as (fault.TooDeep at) real = refl
-
-pub explain_refused : (schema : Schema) (text : List ℕ) (f : QueryFault) → IsFaultOrMemory schema text f → IsExplainRefused schema text (fault_refusal f)
-explain_refused schema text f (inl is) = rw (told_as f is.real) is
-explain_refused schema text f (inr e) = rw e tt
+-- what is explained is compiled
+is_query : (s : Schema) (v bytes : List ℕ) (e : IsExplained s v bytes) → IsQuery s v e.statement
+is_query s v bytes e = record { has = e.is.has; built = record { accepted = e.is.accepted; within = e.within } }
 
 -- what a text that was read says of the words
 pub shown_of : (told : List ℕ → Told) (words : List (List ℕ)) (v : List ℕ) (s : Schema) (bytes : List ℕ) → IsCommand words Explain → SchemaPasses told words s → HasText told words part.Query (λ text. v ≡ text) → IsExplained s v bytes → IsShownOf told words bytes []
@@ -45,7 +26,7 @@ shown_of told words v s bytes is before h e = record {
   is = is;
   schema = s;
   statement = e.statement;
-  passes = query_passes told words v s s e.statement refl (explain_names_query words is) before h e.is;
+  passes = query_passes told words v s s e.statement refl (explain_names_query words is) before h (is_query s v bytes e);
   shows = (e.shown, refl);
 }
 

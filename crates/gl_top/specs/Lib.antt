@@ -1,3 +1,2 @@
-pub mod Explaining
 pub mod Shown
 pub mod Verdicts

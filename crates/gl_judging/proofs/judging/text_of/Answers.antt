@@ -1,12 +1,8 @@
-use Rattle.std.proofs.Common.{List, ℕ, sym, subst}
-use Rattle.std.specs.Prelude.{Contains}
-use Rattle.gl_judging.proofs.Texts.{named, read_cause}
+use Rattle.gl_judging.proofs.Texts.{next_named, text_leaves}
 use Rattle.gl_judging.proofs.judging.text_of.Goals as goal
 
-pub read_all-requires : goal.read_all-requires
-read_all-requires g c =
-    let there : Contains c.args.words.now c.name_of.result.now = subst (λ (n : List ℕ). Contains c.args.words.now n) (sym c.name_of.ensures) (named (g.S.Shelf.state c.args.shelf.now).told c.args.words.now c.args.part c.requires.next) in
-    subst (λ (names : List (List ℕ)). Contains names c.name_of.result.now) (sym c.requires.names) there
+pub fetch-requires-clause-named : goal.fetch-requires-clause-named
+fetch-requires-clause-named g c = next_named (g.S.Shelf.state c.args.shelf.now).told c.args.words.now c.args.part c.requires.next
 
-pub returns-in-Err-clause-leaves : goal.returns-in-Err-clause-leaves
-returns-in-Err-clause-leaves g c = rw c.read_refusal.ensures (read_cause c.args.words.now _ _ c.args.part c.name_of.result.now c.in-Err.fault c.name_of.ensures c.requires.next c.in-Err.ensures.refuses c.in-Err.ensures.counts)
+pub returns-clause-leaves : goal.returns-clause-leaves
+returns-clause-leaves g c = text_leaves c.args.words.now _ _ c.args.part c.fetch.result c.requires.next c.fetch.ensures.leaves

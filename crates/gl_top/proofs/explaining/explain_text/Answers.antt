@@ -1,8 +1,8 @@
 use Rattle.std.proofs.Common.{List, ℕ, subst}
 use Rattle.gl_judging.specs.Causes.{change}
-use Rattle.gl_top.specs.Explaining.{IsExplained, IsExplainRefused}
+use Rattle.gl_query_explainer.specs.Explaining.{IsExplained, IsExplainRefused}
 use Rattle.gl_top.proofs.Explained.{explain_cause, shown_of}
-use Rattle.gl_top.proofs.explaining.explain_query.Goals as goal
+use Rattle.gl_top.proofs.explaining.explain_text.Goals as goal
 
 pub returns-in-Ok-clause-shown : goal.returns-in-Ok-clause-shown
 returns-in-Ok-clause-shown g c =

@@ -2,21 +2,23 @@
 use Rattle.std.specs.Prelude.{◌≡◌, ℕ, List}
 use Rattle.gl_schema.specs.declared.schema.Schema.{Schema}
 use Rattle.gl_query.specs.declared.tree.Statement.{Statement}
-use Rattle.gl_query_judge.specs.Judged.{IsQueryFault}
+use Rattle.gl_query_judge.specs.Judged.{IsAcceptedText, IsQueryFault}
+use Rattle.gl_query_judge.specs.Limits.{IsOverLimit}
 use Rattle.gl_query.specs.declared.fault.QueryFault.{QueryFault}
 use Rattle.gl_query.specs.declared.fault.QueryFault.TheVariants as query
 use Rattle.gl_planner.specs.declared.planning.PlanFault.{PlanFault}
 use Rattle.gl_planner.specs.declared.planning.PlanFault.TheVariants as plan
 use Rattle.gl_elaborate.specs.Plans.{plan_of}
+use Rattle.gl_planner.specs.Planned.{IsWithinLimits}
 use Rattle.gl_explain.specs.Lines.{plan_text}
-use Rattle.gl_query_compiler.specs.Queries.{IsOverLimit, IsQuery}
 use Rattle.gl_notes.specs.declared.notes.Refusal.{Refusal}
 use Rattle.gl_notes.specs.declared.notes.Refusal.TheVariants as refusal
 
--- the text's statement, and its plan
+-- the text's accepted statement, and its plan, which is within the limits
 pub record IsExplained (schema : Schema) (text bytes : List ℕ) : Type 0 where
   pub statement : Statement
-  pub is : IsQuery schema text statement
+  pub is : IsAcceptedText schema text statement
+  pub within : IsWithinLimits (plan_of schema statement)
   pub shown : bytes ≡ plan_text schema statement (plan_of schema statement)
 
 -- the text's fault, or the limit that its plan passes; want of memory is free
