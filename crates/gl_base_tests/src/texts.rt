@@ -5,7 +5,8 @@ ghost use Rattle.gl_bits.specs.Words.{widths_of};
 
 use gl_bits::{Kind, Memory, Row, Word};
 use gl_schema::{Schema, read_schema};
-use gl_tuples::{Beat, Beats, TupleFault, line_into, read_tuples};
+use gl_tuple_reader::read_tuples;
+use gl_tuples::{Beat, Beats, TupleFault, line_into};
 use std::alloc::Global;
 use std::io;
 

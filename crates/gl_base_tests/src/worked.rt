@@ -6,7 +6,7 @@ ghost use Rattle.gl_schema.specs.Schemas.{text_word};
 ghost use Rattle.gl_schema.specs.Ports as ports;
 ghost use Rattle.gl_schema.specs.Seen as seen;
 ghost use Rattle.gl_tuples.specs.declared.beats.Beat.{Beat};
-ghost use Rattle.gl_tuples.specs.FileBeats.{AreBeatsOf};
+ghost use Rattle.gl_tuple_reader.specs.FileBeats.{AreBeatsOf};
 
 // What two worked cycles show is told in these lines: in one cycle the overflow, the result and the
 // end in this order, the overflow once alone.
@@ -202,7 +202,7 @@ pub fn definitions() {
     gl_schema::one_reading();
     gl_schema::pins_go_by_the_profile();
     gl_schema::right_at_each_cycle();
-    gl_tuples::one_reading();
+    gl_tuple_reader::one_reading();
     worked_lines();
     worked_seen();
     worked_pins();

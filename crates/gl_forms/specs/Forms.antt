@@ -2,8 +2,8 @@
 -- but for one command the number of tuples.
 use Rattle.std.specs.Prelude.{◌≡◌, ℕ, zero, suc, ◌^◌, Bool, true, false, ◌&&◌, ◌==◌, nat_le, nat_lt, List, [], ◌∷◌, ◌++◌, length, codes, bytes_eq, slice_get, unwrap_or, drop, Contains, Option, Some, None, is_some, IsTrue, if◌then◌else◌}
 use Rattle.std.specs.List.{starts_with}
-use Rattle.gl_sim.specs.declared.start.Start.{Start}
-use Rattle.gl_sim.specs.declared.start.Start.TheVariants.{Zero, Drawn}
+use Rattle.gl_verilog_orders.specs.declared.start.Start.{Start}
+use Rattle.gl_verilog_orders.specs.declared.start.Start.TheVariants.{Zero, Drawn}
 use Rattle.gl_tuples.specs.Values.{number_of}
 use Rattle.gl_forms.specs.declared.command.Command.{Command}
 use Rattle.gl_forms.specs.declared.command.Command.TheVariants.{Compile, Figures, Explain, Run, Sim, Load}

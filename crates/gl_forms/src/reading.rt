@@ -7,8 +7,8 @@ ghost use Rattle.gl_forms.specs.Steps as steps;
 
 use crate::command::{Command, Part};
 use gl_outside::Words;
-use gl_sim::start::Start;
 use gl_tuples::value::number_of;
+use gl_verilog_orders::Start;
 
 // ---- the option
 

@@ -10,9 +10,9 @@ use Rattle.gl_query.specs.declared.fault.QueryFault.{QueryFault}
 use Rattle.gl_tuples.specs.declared.beats.Beat.{Beat}
 use Rattle.gl_tuples.specs.declared.fault.TupleFault.{TupleFault}
 use Rattle.gl_tuples.specs.declared.fault.TupleFault.TheVariants as tuples
-use Rattle.gl_tuples.specs.Entries.{Fails}
-use Rattle.gl_tuples.specs.Filing.{beats_of, records_of}
-use Rattle.gl_tuples.specs.FileBeats.{AreBeatsOf}
+use Rattle.gl_tuple_reader.specs.Entries.{Fails}
+use Rattle.gl_tuple_reader.specs.Filing.{beats_of, records_of}
+use Rattle.gl_tuple_reader.specs.FileBeats.{AreBeatsOf}
 use Rattle.gl_tuples.specs.Gaps.{first_close, close_answer}
 use Rattle.gl_verilog.specs.Module.{Module}
 use Rattle.gl_compiler.specs.declared.compiling.CompileFault.{CompileFault}

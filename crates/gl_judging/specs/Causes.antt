@@ -26,7 +26,7 @@ use Rattle.gl_notes.specs.declared.notes.Refusal.{Refusal}
 use Rattle.gl_notes.specs.declared.notes.Refusal.TheVariants as refusal
 use Rattle.gl_forms.specs.declared.command.Command.TheVariants.{Run, Sim}
 use Rattle.gl_forms.specs.Forms.{IsCommand, IsForm, IsNamed, name_of}
-use Rattle.gl_tuples.specs.Filing.{beats_of, records_of}
+use Rattle.gl_tuple_reader.specs.Filing.{beats_of, records_of}
 use Rattle.gl_texts.specs.Texts.{HasText, SchemaPasses}
 use Rattle.gl_judging.specs.Passing.{QueryPasses, ModulePasses, kept_beats}
 

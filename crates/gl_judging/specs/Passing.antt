@@ -9,8 +9,8 @@ use Rattle.gl_schema.specs.Beats.{AreBeats, KeepsGap}
 use Rattle.gl_query.specs.declared.tree.Statement.{Statement}
 use Rattle.gl_tuples.specs.declared.beats.Beat.{Beat}
 use Rattle.gl_tuples.specs.declared.fault.TupleFault.{TupleFault}
-use Rattle.gl_tuples.specs.Entries.{◌>>=◌}
-use Rattle.gl_tuples.specs.Filing.{beats_of, records_of}
+use Rattle.gl_tuple_reader.specs.Entries.{◌>>=◌}
+use Rattle.gl_tuple_reader.specs.Filing.{beats_of, records_of}
 use Rattle.gl_tuples.specs.Gaps.{AreFileBeats, plain_beats, first_close, close_answer}
 use Rattle.gl_verilog.specs.Module.{Module}
 use Rattle.gl_verilog.specs.Text.{HasModule}

@@ -3,7 +3,7 @@
 ghost use Rattle.std.specs.Prelude.{◌≡◌, IfOk};
 ghost use Rattle.gl_schema.specs.Schemas.{IsSchema};
 ghost use Rattle.gl_schema.specs.Beats.{KeepsGap};
-ghost use Rattle.gl_tuples.specs.Entries.{Gives};
+ghost use Rattle.gl_tuple_reader.specs.Entries.{Gives};
 ghost use Rattle.gl_tuples.specs.Gaps.{AreFileBeats, plain_beats};
 ghost use Rattle.gl_forms.specs.declared.command.Command.TheVariants.{Run};
 ghost use Rattle.gl_forms.specs.Forms.{IsCommand, IsNamed};
@@ -20,7 +20,8 @@ use gl_outside::{Shelf, Words};
 use gl_query_compiler::compile_query;
 use gl_schema::Schema;
 use gl_texts::{fetch, fetch_schema};
-use gl_tuples::{Beats, TupleFault, read_tuples};
+use gl_tuple_reader::read_tuples;
+use gl_tuples::{Beats, TupleFault};
 use std::alloc::Global;
 
 /// What the three texts give: the compiled query, and the beats of the tuple file.

@@ -4,7 +4,7 @@ use Rattle.gl_bits.specs.declared.kind.Kind.{Kind}
 use Rattle.gl_schema.specs.declared.schema.Schema.{Schema}
 use Rattle.gl_schema.specs.Schemas.{kinds_of}
 use Rattle.gl_schema.specs.Beats.{Beat, AreBeats, KeepsGap}
-use Rattle.gl_sim.specs.declared.start.Start.TheVariants.{Zero}
+use Rattle.gl_verilog_orders.specs.declared.start.Start.TheVariants.{Zero}
 use Rattle.gl_figures.specs.declared.Printed.{Printed}
 use Rattle.gl_compiler.specs.declared.compiling.Compiled.{Compiled}
 use Rattle.gl_runner.specs.declared.executing.Outcome.TheVariants.{Done}

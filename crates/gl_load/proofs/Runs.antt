@@ -6,7 +6,7 @@ use Rattle.gl_schema.specs.declared.schema.Schema.{Schema}
 use Rattle.gl_schema.specs.Schemas.{kinds_of}
 use Rattle.gl_schema.specs.Beats.{Beat, AreBeats, KeepsGap}
 use Rattle.gl_query.specs.declared.tree.Statement.{Statement}
-use Rattle.gl_sim.specs.declared.start.Start.{Start}
+use Rattle.gl_verilog_orders.specs.declared.start.Start.{Start}
 use Rattle.gl_compiler.specs.Meets.{Meets, result_columns}
 use Rattle.gl_runner.specs.Prints.{CanRun}
 

@@ -5,7 +5,7 @@ use Rattle.gl_bits.specs.Kinds.{IsKind}
 use Rattle.gl_schema.specs.Schemas.{kinds_of}
 use Rattle.gl_schema.specs.Beats.{Beat}
 use Rattle.gl_query.specs.declared.tree.Statement.{Statement}
-use Rattle.gl_sim.specs.declared.start.Start.TheVariants.{Zero}
+use Rattle.gl_verilog_orders.specs.declared.start.Start.TheVariants.{Zero}
 use Rattle.gl_compiler.specs.declared.compiling.Compiled.{Compiled}
 use Rattle.gl_compiler.specs.Built.{gap_of, latency_of}
 use Rattle.gl_query_compiler.specs.Queries.{IsQuery}

@@ -15,8 +15,8 @@ use gl_load_query::{query_text, schema_text};
 use gl_query_compiler::compile_query;
 use gl_runner::{Outcome, execute};
 use gl_schema::{Schema, SchemaFault, read_schema};
-use gl_sim::Start;
 use gl_tuples::Beats;
+use gl_verilog_orders::Start;
 use std::alloc::Global;
 
 /// What a load leaves: what is told of its run, and the compiled query whose text was run.

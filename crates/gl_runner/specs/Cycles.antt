@@ -13,7 +13,7 @@ use Rattle.gl_verilog.specs.View.{module_of}
 use Rattle.gl_verilog.specs.Text.{HasModule}
 use Rattle.gl_sim.specs.Simulation.{Simulation, IsAt}
 use Rattle.gl_sim.specs.Starts.{StartsFrom}
-use Rattle.gl_sim.specs.declared.start.Start.{Start}
+use Rattle.gl_verilog_orders.specs.declared.start.Start.{Start}
 use Rattle.gl_verilog.specs.declared.module.Module.{Module as Rust}
 use Rattle.gl_bits.specs.Words.{Word, widths_of}
 use Rattle.gl_runner.specs.declared.looking.Looked.{Looked}

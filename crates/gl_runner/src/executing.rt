@@ -15,10 +15,10 @@ use crate::tracing::Ending;
 use gl_bits::Kind;
 use gl_outside::Sink;
 use gl_schema::Schema;
-use gl_sim::Start;
 use gl_testbench::shows_of;
 use gl_tuples::Beats;
 use gl_verilog::Module;
+use gl_verilog_orders::Start;
 use gl_verilog_reader::{VerilogFault, read_module};
 use std::alloc::Global;
 

@@ -20,11 +20,12 @@ use crate::tracing::Ending;
 use gl_bits::{Kind, Memory, Row};
 use gl_outside::Sink;
 use gl_schema::Schema;
+use gl_sim::Sim;
 use gl_sim::room::{ports_of, zeros};
-use gl_sim::{Sim, Start};
 use gl_testbench::{Pin, Shows, pins_at, set_beat, set_reset};
 use gl_tuples::Beat;
 use gl_verilog::Module;
+use gl_verilog_orders::Start;
 use std::alloc::Global;
 
 /// What a module is followed over, from where, and how far.

@@ -12,10 +12,10 @@ use crate::following::{Task, follow_module};
 use gl_bits::{Kind, Memory};
 use gl_outside::Sink;
 use gl_schema::Schema;
-use gl_sim::Start;
 use gl_testbench::shows_at;
 use gl_tuples::Beats;
 use gl_verilog::Module;
+use gl_verilog_orders::Start;
 use gl_verilog_ports::{Ports, ports_of, shows_column};
 use std::alloc::Global;
 

@@ -12,8 +12,8 @@ use Rattle.gl_verilog.specs.Runnable.{IsRunnable, is_input, inputs_from, inputs_
 use Rattle.gl_verilog.proofs.Fits.{width_at-found}
 use Rattle.gl_verilog.proofs.Runs.{has_runs}
 use Rattle.gl_verilog.proofs.Settles.{with_net-same, with_net-other}
-use Rattle.gl_sim.specs.declared.start.Start.{Start}
-use Rattle.gl_sim.specs.declared.start.Start.TheVariants.{Zero, Drawn}
+use Rattle.gl_verilog_orders.specs.declared.start.Start.{Start}
+use Rattle.gl_verilog_orders.specs.declared.start.Start.TheVariants.{Zero, Drawn}
 use Rattle.gl_sim.specs.Starts.{register_at, word_at, draws_before, RunsWith}
 use Rattle.gl_sim.specs.Inputs.{with_inputs}
 use Rattle.gl_sim.proofs.Draws.{word_drawn-fits}

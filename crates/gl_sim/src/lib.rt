@@ -9,9 +9,7 @@ pub mod laws;
 pub mod order;
 pub mod room;
 pub mod simulator;
-pub mod start;
 pub mod update;
 
 pub use simulator::Sim;
-pub use start::Start;
 pub use update::Update;

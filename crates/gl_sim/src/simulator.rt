@@ -14,10 +14,10 @@ use crate::draw::begin;
 use crate::edge::clock;
 use crate::order::order_in;
 use crate::room::{banks_of, ports_of, updates_of, zeros};
-use crate::start::Start;
 use crate::update::Update;
 use gl_bits::Memory;
 use gl_verilog::{Bank, Module};
+use gl_verilog_orders::Start;
 use std::alloc::Global;
 use std::marker::Model;
 

@@ -8,11 +8,12 @@ ghost use Rattle.gl_verilog.specs.Widths.{width_at};
 ghost use Rattle.gl_verilog.specs.Runnable.{IsRunnable, inputs_of};
 
 use gl_bits::{Listed, Word};
+use gl_sim::Sim;
 use gl_sim::laws::a_run_is_there;
 use gl_sim::room::ports_of;
-use gl_sim::{Sim, Start};
 use gl_verilog::{Assignment, Declaration, Expr, Kind, Module, Statement};
 use gl_verilog_check::is_runnable;
+use gl_verilog_orders::Start;
 use std::alloc::Global;
 use std::test::Fail;
 

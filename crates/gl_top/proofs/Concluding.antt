@@ -15,7 +15,7 @@ use Rattle.gl_forms.specs.declared.command.Part.TheVariants as part
 use Rattle.gl_forms.specs.Forms.{IsForm, command_of, extra_of}
 use Rattle.gl_forms.proofs.Named.{form_of, named_form}
 use Rattle.gl_outside.specs.States.{IsCalm, Took}
-use Rattle.gl_sim.specs.declared.start.Start.TheVariants.{Zero}
+use Rattle.gl_verilog_orders.specs.declared.start.Start.TheVariants.{Zero}
 use Rattle.gl_tuples.specs.declared.beats.Beat.{Beat}
 use Rattle.gl_tuples.specs.declared.fault.TupleFault.{TupleFault}
 use Rattle.gl_tuples.specs.Gaps.{plain_beats}

@@ -17,7 +17,7 @@ use Rattle.gl_algebra.specs.FigureTable as table
 use Rattle.gl_figures.specs.declared.Limit.{Limit}
 use Rattle.gl_tuples.specs.declared.beats.Beat.{Beat}
 use Rattle.gl_tuples.specs.declared.fault.TupleFault.{TupleFault}
-use Rattle.gl_tuples.specs.Filing.{beats_of, records_of}
+use Rattle.gl_tuple_reader.specs.Filing.{beats_of, records_of}
 use Rattle.gl_verilog.specs.Module.{Module}
 use Rattle.gl_verilog.specs.Text.{HasModule}
 use Rattle.gl_verilog_written.specs.declared.fault.VerilogFault.{VerilogFault}

@@ -4,7 +4,7 @@ use Rattle.gl_bits.specs.declared.kind.Kind.{Kind}
 use Rattle.gl_schema.specs.declared.schema.Schema.{Schema}
 use Rattle.gl_schema.specs.Schemas.{kinds_of}
 use Rattle.gl_schema.specs.Beats.{KeepsGap}
-use Rattle.gl_sim.specs.declared.start.Start.{Start}
+use Rattle.gl_verilog_orders.specs.declared.start.Start.{Start}
 use Rattle.gl_figures.specs.declared.Printed.{Printed}
 use Rattle.gl_tuples.specs.declared.beats.Beat as files
 use Rattle.gl_tuples.specs.Gaps.{AreFileBeats, plain_beats}

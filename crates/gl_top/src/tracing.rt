@@ -14,7 +14,7 @@ use gl_judging::{Fitted, Simulation, judge_sim};
 use gl_notes::{Refusal, Status, tell, tell_no_end, tell_write_fault};
 use gl_outside::{Shelf, Sink, Words};
 use gl_runner::{Ending, trace};
-use gl_sim::Start;
+use gl_verilog_orders::Start;
 use std::alloc::Global;
 
 // Runs the module over the beats from all zero, writes the lines of the run, and notes how that failed

@@ -4,9 +4,9 @@ use Rattle.std.specs.Str.{is_utf8 as is_text, chars}
 use lib.Utf8.{encode}
 use Rattle.gl_tuples.specs.declared.fault.TupleFault.TheVariants.{BadValue, StreamTwice, AfterEnd}
 use Rattle.gl_tuples.specs.Values.{is_utf8, are_digits, is_number, number_in, number_of, word_of}
-use Rattle.gl_tuples.specs.Entries.{are_utf8, text_checked, cycle_of, row_of, stream_named, entry_of}
-use Rattle.gl_tuples.specs.Filing.{next_filing, beats_of}
-use Rattle.gl_tuples.proofs.FileReadings.{not_both}
+use Rattle.gl_tuple_reader.specs.Entries.{are_utf8, text_checked, cycle_of, row_of, stream_named, entry_of}
+use Rattle.gl_tuple_reader.specs.Filing.{next_filing, beats_of}
+use Rattle.gl_tuple_reader.proofs.FileReadings.{not_both}
 use Rattle.gl_base_tests.proofs.worked.refused_records.Goals as goal
 
 pub returns-clause-too_wide : goal.returns-clause-too_wide

@@ -1,7 +1,7 @@
 use Rattle.std.proofs.Common.{◌≡◌, ◌∙◌, List, ℕ, ap, subst}
 use Rattle.gl_schema.specs.declared.schema.Schema.{Schema}
 use Rattle.gl_figures.specs.declared.Printed.{Printed}
-use Rattle.gl_tuples.specs.Entries.{Fails}
+use Rattle.gl_tuple_reader.specs.Entries.{Fails}
 use Rattle.gl_compiler.specs.Built.{gap_of}
 use Rattle.gl_judging.specs.Causes.{OfRun, change}
 use Rattle.gl_judging.specs.Passing.{kept_beats}

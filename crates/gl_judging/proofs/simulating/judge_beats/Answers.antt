@@ -1,6 +1,6 @@
 use Rattle.std.proofs.Common.{List, ℕ, subst}
-use Rattle.gl_tuples.specs.Entries.{Fails}
-use Rattle.gl_tuples.specs.Filing.{beats_of, records_of}
+use Rattle.gl_tuple_reader.specs.Entries.{Fails}
+use Rattle.gl_tuple_reader.specs.Filing.{beats_of, records_of}
 use Rattle.gl_verilog.specs.View.{module_of}
 use Rattle.gl_judging.specs.Causes.{OfSim, change}
 use Rattle.gl_judging.proofs.Texts.{file_cause}

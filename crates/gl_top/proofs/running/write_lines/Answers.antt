@@ -1,6 +1,6 @@
 use Rattle.std.proofs.Common.{sym, subst}
 use Rattle.gl_schema.specs.Schemas.{IsSchema}
-use Rattle.gl_sim.specs.declared.start.Start.{Start}
+use Rattle.gl_verilog_orders.specs.declared.start.Start.{Start}
 use Rattle.gl_top.specs.Verdicts.{RanLines}
 use Rattle.gl_top.proofs.Runs.{can_run_all, ran_lines}
 use Rattle.gl_top.proofs.running.write_lines.Goals as goal

@@ -1,0 +1,358 @@
+-- A record can be added exactly where it may stand behind those before it.
+use Rattle.std.proofs.Common.{◌≡◌, ℕ, ◌+◌, ◌≤◌, Bool, true, false, cond, List, [], ◌∷◌, ◌++◌, length, drop, Option, Some, None, Result, Ok, Err, refl, sym, ap, ◌∙◌, subst, arith, append_assoc, inl, inr}
+use Rattle.std.specs.Prelude.{slice_get, slice_set, is_some, IfSome, IsTrue, IsFalse, nat_lt, ◌==◌, bytes_eq, codes}
+use Rattle.std.specs.Option.{option_map_or}
+use Rattle.std.specs.List.{AllByRecursion}
+use Rattle.std.proofs.lemmas.Bool.{cases_Bool, ltb-false, le-ltb, eqb-true, eq-eqb, true≢false, false≢true}
+use Rattle.std.proofs.lemmas.List.{append-nil}
+use Rattle.gl_bits.proofs.AllLists.{all_append, all_back, all_weaker}
+use Rattle.gl_bits.specs.Words.{Word}
+use Rattle.gl_schema.specs.declared.schema.Schema.{Schema}
+use Rattle.gl_tuples.specs.declared.beats.Beat.{Beat}
+use Rattle.gl_tuple_reader.specs.declared.entry.Entry.{Entry}
+use Rattle.gl_tuple_reader.specs.declared.entry.Entry.TheVariants.{Tuple, End}
+use Rattle.gl_tuple_reader.specs.declared.filing.Filing.{Filing}
+use Rattle.gl_tuples.specs.declared.fault.TupleFault.{TupleFault}
+use Rattle.gl_tuples.specs.declared.fault.TupleFault.TheVariants.{NotUtf8, StreamTwice, FieldCount, CycleTooLarge, AfterEnd, CycleFalls}
+use Rattle.gl_tuple_reader.specs.Entries.{◌>>=◌, are_utf8, text_checked, words_of, row_of, row_found, columns_at, entry_of, entry_named, tuple_of, stream_named, cycle_of, cycle_below}
+use Rattle.gl_tuple_reader.specs.Filing.{filing_after, next_filing, no_records, ended, beats_of, beat_with, beat_of, whole_before, empty_beat, has_row, open_checked, cycle_checked}
+use Rattle.gl_tuple_reader.specs.FileBeats.{cycle_said, says_end, IsBy, Brings, MayFollow, KeepRules, row_of_records, row_among}
+use Rattle.gl_tuple_reader.proofs.Filings.{Next, next_tells, bind_ok, ok_is, guard_ok, filing_after-append}
+use Rattle.gl_tuple_reader.proofs.Beatings.{ok_true, found_row}
+use Rattle.gl_tuple_reader.proofs.FileBeating.{Stands, stands_first, stands_next, turn_is, row_here, at_cycle, filed_beats}
+
+-- ---- lists
+
+all_push : {A : Type 0} (P : A → Type 0) (xs : List A) (x : A) → AllByRecursion P xs → P x → AllByRecursion P (xs ++ x ∷ [])
+all_push P xs x h p = all_append P xs (x ∷ []) h (p, tt)
+
+all_last : {A : Type 0} (P : A → Type 0) (xs : List A) (x : A) → AllByRecursion P (xs ++ x ∷ []) → P x
+all_last P xs x h = (all_back P xs (x ∷ []) h).0
+
+-- ---- what the beats so far tell of the records before
+
+-- the cycle of the last record, and whether the end came
+abbrev Latest : List (List (List ℕ)) → Option Beat → Type 0
+Latest rs None = rs ≡ []
+Latest rs (Some b) = AllByRecursion (IsBy b.cycle) rs × ((c : ℕ) → AllByRecursion (IsBy c) rs → b.cycle ≤ c) × (IsFalse b.end → AllByRecursion (λ r. IsFalse (says_end r)) rs) × (AllByRecursion (λ r. IsFalse (says_end r)) rs → IsFalse b.end)
+
+by_later : (a b : ℕ) → a ≤ b → (r : List (List ℕ)) → IsBy a r → IsBy b r
+by_later a b le r h = at_option (cycle_said r) h
+  where
+    at_option : (o : Option ℕ) → IfSome o (λ c. c ≤ a) → IfSome o (λ c. c ≤ b)
+    at_option None h = tt
+    at_option (Some c) h = omega arith
+
+by_own : (r : List (List ℕ)) (cycle c : ℕ) → cycle_said r ≡ Some cycle → cycle ≤ c → IsBy c r
+by_own r cycle c e le = subst (λ (o : Option ℕ). IfSome o (λ d. d ≤ c)) (sym e) le
+
+own_by : (r : List (List ℕ)) (cycle c : ℕ) → cycle_said r ≡ Some cycle → IsBy c r → cycle ≤ c
+own_by r cycle c e h = subst (λ (o : Option ℕ). IfSome o (λ d. d ≤ c)) e h
+
+-- ---- a cycle
+
+said_below : (number : ℕ) (o : Option ℕ) (cycle : ℕ) → cycle_below number o ≡ Ok cycle → (o ≡ Some cycle) × (cycle ≤ 10000000)
+said_below number None cycle h = absurd cc
+said_below number (Some c) cycle h = let p = guard_ok (nat_lt 10000000 c) (CycleTooLarge number) c cycle h in
+    (ap Some p.1, subst (λ (n : ℕ). n ≤ 10000000) p.1 (ltb-false 10000000 c p.0))
+
+said_cycle : (number : ℕ) (r : List (List ℕ)) (cycle : ℕ) → cycle_of number r ≡ Ok cycle → (cycle_said r ≡ Some cycle) × (cycle ≤ 10000000)
+unfolding cycle_of
+said_cycle number r cycle h = said_below number (cycle_said r) cycle h
+
+cycle_given : (number : ℕ) (r : List (List ℕ)) (cycle : ℕ) → cycle_said r ≡ Some cycle → cycle ≤ 10000000 → cycle_of number r ≡ Ok cycle
+unfolding cycle_of
+cycle_given number r cycle e le = ap (cycle_below number) e ∙ rw (le-ltb 10000000 cycle le) refl
+
+-- ---- what a record brings
+
+-- what a record brings, behind these beats
+abbrev Enters : Schema → List (List ℕ) → Entry → Type 0
+Enters schema r End = IsTrue (says_end r) × (length r ≡ 2)
+Enters schema r (Tuple k row) = IsFalse (says_end r) × (name : List ℕ) × (slice_get r 1 ≡ Some name) × (stream_named schema name ≡ Some k) × (words_of (columns_at schema.streams k) (drop 2 r) ≡ Some row) × (length r ≡ 2 + length (columns_at schema.streams k))
+
+row_enters : (number : ℕ) (schema : Schema) (k : ℕ) (r : List (List ℕ)) (row : List Word) → row_of number (columns_at schema.streams k) r ≡ Ok row → (words_of (columns_at schema.streams k) (drop 2 r) ≡ Some row) × (length r ≡ 2 + length (columns_at schema.streams k))
+unfolding row_of
+row_enters number schema k r row h = elim (cases_Bool (length r == 2 + length (columns_at schema.streams k))) [
+  | inl t ↦ (found_row number (words_of (columns_at schema.streams k) (drop 2 r)) row (rw t at h), eqb-true (length r) (2 + length (columns_at schema.streams k)) t)
+  | inr f ↦ absurd (cc (rw f at h))
+]
+
+tuple_enters : (number : ℕ) (schema : Schema) (r : List (List ℕ)) (name : List ℕ) (o : Option ℕ) (entry : Entry) → slice_get r 1 ≡ Some name → IsFalse (says_end r) → stream_named schema name ≡ o → tuple_of number schema r o ≡ Ok entry → Enters schema r entry
+tuple_enters number schema r name None entry s f e h = absurd cc
+tuple_enters number schema r name (Some k) entry s f e h =
+    let a = bind_ok (row_of number (columns_at schema.streams k) r) (λ row. Ok (Tuple k row)) entry h in
+    let p = row_enters number schema k r a.0 a.1 in
+    subst (Enters schema r) (ok_is (Tuple k a.0) entry a.2) (f, name, s, e, p.0, p.1)
+
+end_enters : (number : ℕ) (schema : Schema) (r : List (List ℕ)) (b : Bool) (entry : Entry) → (length r == 2) ≡ b → IsTrue (says_end r) → cond b (Ok End) (Err (FieldCount number)) ≡ Ok entry → Enters schema r entry
+end_enters number schema r true entry e t h = subst (Enters schema r) (ok_is End entry h) (t, eqb-true (length r) 2 e)
+end_enters number schema r false entry e t h = absurd cc
+
+named_enters : (number : ℕ) (schema : Schema) (r : List (List ℕ)) (o : Option (List ℕ)) (entry : Entry) → slice_get r 1 ≡ o → entry_named number schema r o ≡ Ok entry → Enters schema r entry
+unfolding says_end
+named_enters number schema r None entry s h = absurd cc
+named_enters number schema r (Some name) entry s h = elim (cases_Bool (bytes_eq name (codes "end"))) [
+  | inl t ↦ end_enters number schema r (length r == 2) entry refl (ap (λ (o : Option (List ℕ)). option_map_or (λ n. bytes_eq n (codes "end")) o false) s ∙ t) (rw t at h)
+  | inr f ↦ tuple_enters number schema r name (stream_named schema name) entry s (ap (λ (o : Option (List ℕ)). option_map_or (λ n. bytes_eq n (codes "end")) o false) s ∙ f) refl (rw f at h)
+]
+
+enters : (number : ℕ) (schema : Schema) (r : List (List ℕ)) (entry : Entry) → entry_of number schema r ≡ Ok entry → Enters schema r entry
+unfolding entry_of
+enters number schema r entry h = named_enters number schema r (slice_get r 1) entry refl h
+
+end_given : (number : ℕ) (schema : Schema) (r : List (List ℕ)) (o : Option (List ℕ)) → option_map_or (λ n. bytes_eq n (codes "end")) o false ≡ true → length r ≡ 2 → entry_named number schema r o ≡ Ok End
+end_given number schema r None t e = absurd (false≢true t)
+end_given number schema r (Some name) t e = rw (t, eq-eqb (length r) 2 e) refl
+
+end_entered : (number : ℕ) (schema : Schema) (r : List (List ℕ)) → IsTrue (says_end r) → length r ≡ 2 → entry_of number schema r ≡ Ok End
+unfolding entry_of says_end
+end_entered number schema r t e = end_given number schema r (slice_get r 1) t e
+
+row_given : (number : ℕ) (schema : Schema) (k : ℕ) (r : List (List ℕ)) (row : List Word) → words_of (columns_at schema.streams k) (drop 2 r) ≡ Some row → length r ≡ 2 + length (columns_at schema.streams k) → row_of number (columns_at schema.streams k) r ≡ Ok row
+unfolding row_of
+row_given number schema k r row w e = rw (eq-eqb (length r) (2 + length (columns_at schema.streams k)) e) (ap (row_found number) w)
+
+tuple_given : (number : ℕ) (schema : Schema) (r : List (List ℕ)) (k : ℕ) (row : List Word) (o : Option (List ℕ)) (name : List ℕ) → o ≡ Some name → option_map_or (λ n. bytes_eq n (codes "end")) o false ≡ false → stream_named schema name ≡ Some k
+    → row_of number (columns_at schema.streams k) r ≡ Ok row → entry_named number schema r o ≡ Ok (Tuple k row)
+tuple_given number schema r k row None name s f e h = absurd cc
+tuple_given number schema r k row (Some n) name s f e h =
+    let same : n ≡ name = cc in
+    rw f (ap (tuple_of number schema r) (ap (stream_named schema) same ∙ e) ∙ ap (λ (x : Result (List Word) TupleFault). x >>= λ row. Ok (Tuple k row)) h)
+
+tuple_entered : (number : ℕ) (schema : Schema) (r : List (List ℕ)) (name : List ℕ) (k : ℕ) (row : List Word) → slice_get r 1 ≡ Some name → IsFalse (says_end r) → stream_named schema name ≡ Some k
+    → row_of number (columns_at schema.streams k) r ≡ Ok row → entry_of number schema r ≡ Ok (Tuple k row)
+unfolding entry_of says_end
+tuple_entered number schema r name k row s f e h = tuple_given number schema r k row (slice_get r 1) name s f e h
+
+-- ---- a stream's row in the beat of a cycle
+
+none_is : {A : Type 0} (o : Option A) → is_some o ≡ false → o ≡ None
+none_is None h = refl
+none_is (Some x) h = absurd (true≢false h)
+
+-- ---- one record
+
+text_true : (number : ℕ) (b : Bool) → ◌≡◌ {A = Result (Unit {0}) TupleFault} (cond b (Ok tt) (Err (NotUtf8 number))) (Ok tt) → b ≡ true
+text_true number true h = refl
+text_true number false h = absurd cc
+
+is_text : (number : ℕ) (r : List (List ℕ)) (u : Unit {0}) → text_checked number r ≡ Ok u → IsTrue (are_utf8 r)
+unfolding text_checked
+is_text number r u h = text_true number (are_utf8 r) h
+
+-- what a record that is added tells of its text
+next_text : (schema : Schema) (f : Filing) (r : List (List ℕ)) (g : Filing) → next_filing schema f r ≡ Ok g → IsTrue (are_utf8 r)
+unfolding next_filing
+next_text schema f r g h = let a = bind_ok (text_checked (f.records + 1) r) _ g h in is_text (f.records + 1) r a.0 a.1
+
+-- ---- the beat that a record is added to
+
+beat_cycle : (number : ℕ) (b : Beat) (entry : Entry) (full : Beat) → beat_with number b entry ≡ Ok full → full.cycle ≡ b.cycle
+beat_cycle number b End full h = ap (λ (x : Beat). x.cycle) (sym (ok_is _ full h))
+beat_cycle number b (Tuple k row) full h = let p = guard_ok (has_row b.rows k) (StreamTwice number) _ full h in ap (λ (x : Beat). x.cycle) (sym p.1)
+
+abbrev ends : Entry → Bool → Bool
+ends End before = true
+ends (Tuple k row) before = before
+
+beat_end : (number : ℕ) (b : Beat) (entry : Entry) (full : Beat) → beat_with number b entry ≡ Ok full → full.end ≡ ends entry b.end
+beat_end number b End full h = ap (λ (x : Beat). x.end) (sym (ok_is _ full h))
+beat_end number b (Tuple k row) full h = let p = guard_ok (has_row b.rows k) (StreamTwice number) _ full h in ap (λ (x : Beat). x.end) (sym p.1)
+
+open_if : (streams cycle number : ℕ) (b : Beat) (same : Bool) → b.end ≡ false → (cond same b (empty_beat streams cycle number)).end ≡ false
+open_if streams cycle number b true h = h
+open_if streams cycle number b false h = refl
+
+base_open : (streams cycle number : ℕ) (current : Option Beat) → open_checked number current ≡ Ok tt → (beat_of streams cycle number current).end ≡ false
+base_open streams cycle number None h = refl
+base_open streams cycle number (Some b) h = open_if streams cycle number b (b.cycle == cycle) (ok_true b.end (AfterEnd number) h)
+
+-- ---- the last record's cycle, and the end
+
+before_by : (rs : List (List (List ℕ))) (current : Option Beat) (number cycle : ℕ) → Latest rs current → cycle_checked number cycle current ≡ Ok tt → AllByRecursion (IsBy cycle) rs
+before_by rs None number cycle l h = subst (AllByRecursion (IsBy cycle)) (sym l) tt
+before_by rs (Some b) number cycle l h = all_weaker (IsBy b.cycle) (IsBy cycle) (by_later b.cycle cycle (ltb-false cycle b.cycle (ok_true (nat_lt cycle b.cycle) (CycleFalls number) h))) rs l.0
+
+before_still : (rs : List (List (List ℕ))) (current : Option Beat) (number : ℕ) → Latest rs current → open_checked number current ≡ Ok tt → AllByRecursion (λ r. IsFalse (says_end r)) rs
+before_still rs None number l h = subst (AllByRecursion (λ r. IsFalse (says_end r))) (sym l) tt
+before_still rs (Some b) number l h = l.2 (ok_true b.end (AfterEnd number) h)
+
+open_given : (rs : List (List (List ℕ))) (current : Option Beat) (number : ℕ) → Latest rs current → AllByRecursion (λ r. IsFalse (says_end r)) rs → open_checked number current ≡ Ok tt
+open_given rs None number l h = refl
+open_given rs (Some b) number l h = rw (l.3 h) refl
+
+rises_given : (rs : List (List (List ℕ))) (current : Option Beat) (number cycle : ℕ) → Latest rs current → AllByRecursion (IsBy cycle) rs → cycle_checked number cycle current ≡ Ok tt
+rises_given rs None number cycle l h = refl
+rises_given rs (Some b) number cycle l h = rw (le-ltb cycle b.cycle (l.1 cycle h)) refl
+
+still_in : (schema : Schema) (r : List (List ℕ)) (entry : Entry) (e : Bool) → Enters schema r entry → e ≡ ends entry false → IsFalse e → IsFalse (says_end r)
+still_in schema r End e h is f = absurd (true≢false (sym is ∙ f))
+still_in schema r (Tuple k row) e h is f = h.0
+
+still_out : (schema : Schema) (r : List (List ℕ)) (entry : Entry) (e : Bool) → Enters schema r entry → e ≡ ends entry false → IsFalse (says_end r) → IsFalse e
+still_out schema r End e h is f = absurd (true≢false (sym h.0 ∙ f))
+still_out schema r (Tuple k row) e h is f = is
+
+-- ---- the beats so far, and what they tell
+
+record Keeps (schema : Schema) (rs : List (List (List ℕ))) (f : Filing) : Type 0 where
+  stands : Stands schema rs f
+  latest : Latest rs f.current
+
+beat_cycle_is : (schema : Schema) (rs : List (List (List ℕ))) (f : Filing) (r : List (List ℕ)) (g : Filing) → Keeps schema rs f → (n : Next schema f r g) → n.beat.cycle ≡ n.cycle
+beat_cycle_is schema rs f r g k n =
+    beat_cycle (f.records + 1) (beat_of (length schema.streams) n.cycle (f.records + 1) f.current) n.entry n.beat n.filled
+    ∙ (turn_is schema (f.records + 1) f.whole f.current n.cycle k.stands.filed.current n.opened n.rises).cycled
+
+beat_end_is : (schema : Schema) (f : Filing) (r : List (List ℕ)) (g : Filing) (n : Next schema f r g) → n.beat.end ≡ ends n.entry false
+beat_end_is schema f r g n =
+    beat_end (f.records + 1) (beat_of (length schema.streams) n.cycle (f.records + 1) f.current) n.entry n.beat n.filled
+    ∙ ap (ends n.entry) (base_open (length schema.streams) n.cycle (f.records + 1) f.current n.opened)
+
+latest_next : (schema : Schema) (rs : List (List (List ℕ))) (f : Filing) (r : List (List ℕ)) (g : Filing) → Keeps schema rs f → (n : Next schema f r g) → Latest (rs ++ r ∷ []) (Some n.beat)
+latest_next schema rs f r g k n =
+    let same = beat_cycle_is schema rs f r g k n in
+    let said = said_cycle (f.records + 1) r n.cycle n.cycled in
+    let entering = enters (f.records + 1) schema r n.entry n.entered in
+    let is = beat_end_is schema f r g n in (
+      subst (λ (c : ℕ). AllByRecursion (IsBy c) (rs ++ r ∷ [])) (sym same) (all_push (IsBy n.cycle) rs r (before_by rs f.current (f.records + 1) n.cycle k.latest n.rises) (by_own r n.cycle n.cycle said.0 (omega arith))),
+      λ c all. subst (λ (x : ℕ). x ≤ c) (sym same) (own_by r n.cycle c said.0 (all_last (IsBy c) rs r all)),
+      λ e. all_push (λ r. IsFalse (says_end r)) rs r (before_still rs f.current (f.records + 1) k.latest n.opened) (still_in schema r n.entry n.beat.end entering is e),
+      λ all. still_out schema r n.entry n.beat.end entering is (all_last (λ r. IsFalse (says_end r)) rs r all),
+    )
+
+keeps_next : (schema : Schema) (rs : List (List (List ℕ))) (f : Filing) (r : List (List ℕ)) (g : Filing) → Keeps schema rs f → Next schema f r g → Keeps schema (rs ++ r ∷ []) g
+keeps_next schema rs f r g k n = record {
+  stands = stands_next schema rs f r g k.stands n;
+  latest = subst (λ (g : Filing). Latest (rs ++ r ∷ []) g.current) n.is (latest_next schema rs f r g k n);
+}
+
+keeps_after : (schema : Schema) (rs us : List (List (List ℕ))) (f g : Filing) → Keeps schema rs f → filing_after schema us f ≡ Ok g → Keeps schema (rs ++ us) g
+keeps_after schema rs [] f g k e = subst (λ (x : List (List (List ℕ))). Keeps schema x g) (sym (append-nil rs)) (subst (Keeps schema rs) (ok_is f g e) k)
+keeps_after schema rs (u ∷ us) f g k e =
+    let b = bind_ok (next_filing schema f u) (filing_after schema us) g e in
+    subst (λ (x : List (List (List ℕ))). Keeps schema x g) (append_assoc rs (u ∷ []) us)
+    (keeps_after schema (rs ++ u ∷ []) us b.0 g (keeps_next schema rs f u b.0 k (next_tells schema f u b.0 b.1)) b.2)
+
+keeps_first : (schema : Schema) → Keeps schema [] no_records
+keeps_first schema = record { stands = stands_first schema; latest = refl }
+
+-- the row of a stream in the beat of a cycle is that of the records before
+row_before : (schema : Schema) (rs : List (List (List ℕ))) (f : Filing) (cycle k : ℕ) → Keeps schema rs f → open_checked (f.records + 1) f.current ≡ Ok tt → cycle_checked (f.records + 1) cycle f.current ≡ Ok tt
+    → row_among (beat_of (length schema.streams) cycle (f.records + 1) f.current).rows k ≡ row_of_records schema cycle k rs
+row_before schema rs f cycle k s opened rises =
+    let turn = turn_is schema (f.records + 1) f.whole f.current cycle s.stands.filed.current opened rises in
+    row_here (f.records + 1) (length schema.streams) (at_cycle (filed_beats f.whole f.current) cycle) (beat_of (length schema.streams) cycle (f.records + 1) f.current) k turn.was ∙ s.stands.shows.rows cycle k
+
+-- ---- a record that is added may stand there
+
+brings_of : (schema : Schema) (rs : List (List (List ℕ))) (f : Filing) (r : List (List ℕ)) (cycle : ℕ) (entry : Entry) (beat : Beat) → Keeps schema rs f → open_checked (f.records + 1) f.current ≡ Ok tt → cycle_checked (f.records + 1) cycle f.current ≡ Ok tt
+    → Enters schema r entry → beat_with (f.records + 1) (beat_of (length schema.streams) cycle (f.records + 1) f.current) entry ≡ Ok beat → Brings schema rs cycle r (says_end r)
+brings_of schema rs f r cycle End beat k opened rises h filled = subst (Brings schema rs cycle r) (sym h.0) h.1
+brings_of schema rs f r cycle (Tuple j row) beat k opened rises h filled =
+    let base = beat_of (length schema.streams) cycle (f.records + 1) f.current in
+    let p = guard_ok (has_row base.rows j) (StreamTwice (f.records + 1)) _ beat filled in
+    subst (Brings schema rs cycle r) (sym h.0) (record {
+      name = h.1;
+      second = h.2;
+      stream = j;
+      named = h.3;
+      row = row;
+      values = h.4;
+      many = h.5;
+      new = sym (row_before schema rs f cycle j k opened rises) ∙ none_is (row_among base.rows j) p.0;
+    })
+
+may_follow : (schema : Schema) (rs : List (List (List ℕ))) (f : Filing) (r : List (List ℕ)) (g : Filing) → Keeps schema rs f → next_filing schema f r ≡ Ok g → MayFollow schema rs r
+may_follow schema rs f r g k h =
+    let n = next_tells schema f r g h in
+    let said = said_cycle (f.records + 1) r n.cycle n.cycled in
+    record {
+      text = next_text schema f r g h;
+      cycle = n.cycle;
+      said = said.0;
+      early = said.1;
+      rises = before_by rs f.current (f.records + 1) n.cycle k.latest n.rises;
+      still = before_still rs f.current (f.records + 1) k.latest n.opened;
+      brings = brings_of schema rs f r n.cycle n.entry n.beat k n.opened n.rises (enters (f.records + 1) schema r n.entry n.entered) n.filled;
+    }
+
+-- all records of a file that has beats keep the rules
+pub rules_kept : (schema : Schema) (rs : List (List (List ℕ))) (g : Filing) → filing_after schema rs no_records ≡ Ok g → KeepRules schema rs
+rules_kept schema rs g h before r after e =
+    let split : (filing_after schema before no_records >>= filing_after schema (r ∷ after)) ≡ Ok g = sym (filing_after-append schema before (r ∷ after) no_records) ∙ ap (λ (x : List (List (List ℕ))). filing_after schema x no_records) (sym e) ∙ h in
+    let a = bind_ok (filing_after schema before no_records) (filing_after schema (r ∷ after)) g split in
+    let b = bind_ok (next_filing schema a.0 r) (filing_after schema after) g a.2 in
+    may_follow schema before a.0 r b.0 (keeps_after schema [] before no_records a.0 (keeps_first schema) a.1) b.1
+
+-- ---- a record that may stand there is added
+
+bind_given : {A B : Type 0} (x : Result A TupleFault) (f : A → Result B TupleFault) (y : A) → x ≡ Ok y → (x >>= f) ≡ f y
+bind_given x f y h = ap (λ (z : Result _ TupleFault). z >>= f) h
+
+text_given : (number : ℕ) (r : List (List ℕ)) → IsTrue (are_utf8 r) → text_checked number r ≡ Ok tt
+unfolding text_checked
+text_given number r h = rw h refl
+
+next_given : (schema : Schema) (f : Filing) (r : List (List ℕ)) (cycle : ℕ) (entry : Entry) (beat : Beat)
+    → text_checked (f.records + 1) r ≡ Ok tt → open_checked (f.records + 1) f.current ≡ Ok tt → cycle_of (f.records + 1) r ≡ Ok cycle → cycle_checked (f.records + 1) cycle f.current ≡ Ok tt
+    → entry_of (f.records + 1) schema r ≡ Ok entry → beat_with (f.records + 1) (beat_of (length schema.streams) cycle (f.records + 1) f.current) entry ≡ Ok beat
+    → next_filing schema f r ≡ Ok (record { whole = whole_before cycle f.whole f.current; current = Some beat; records = f.records + 1 })
+unfolding next_filing
+next_given schema f r cycle entry beat a b c d e k =
+    bind_given (text_checked (f.records + 1) r) _ tt a ∙ bind_given (open_checked (f.records + 1) f.current) _ tt b ∙ bind_given (cycle_of (f.records + 1) r) _ cycle c
+    ∙ bind_given (cycle_checked (f.records + 1) cycle f.current) _ tt d ∙ bind_given (entry_of (f.records + 1) schema r) _ entry e ∙ bind_given (beat_with (f.records + 1) (beat_of (length schema.streams) cycle (f.records + 1) f.current) entry) _ beat k
+
+-- the entry that a record brings, and that its beat has room for it
+record HasEntry (schema : Schema) (f : Filing) (r : List (List ℕ)) (cycle : ℕ) : Type 0 where
+  entry : Entry
+  entered : entry_of (f.records + 1) schema r ≡ Ok entry
+  beat : Beat
+  filled : beat_with (f.records + 1) (beat_of (length schema.streams) cycle (f.records + 1) f.current) entry ≡ Ok beat
+
+entry_given : (schema : Schema) (rs : List (List (List ℕ))) (f : Filing) (r : List (List ℕ)) (cycle : ℕ) (b : Bool) → says_end r ≡ b → Keeps schema rs f → open_checked (f.records + 1) f.current ≡ Ok tt → cycle_checked (f.records + 1) cycle f.current ≡ Ok tt
+    → Brings schema rs cycle r b → HasEntry schema f r cycle
+entry_given schema rs f r cycle true s k opened rises h = record { entry = End; entered = end_entered (f.records + 1) schema r s h; beat = _; filled = refl }
+entry_given schema rs f r cycle false s k opened rises h =
+    let base = beat_of (length schema.streams) cycle (f.records + 1) f.current in
+    let none : has_row base.rows h.stream ≡ false = ap is_some (row_before schema rs f cycle h.stream k opened rises ∙ h.new) in
+    record {
+      entry = Tuple h.stream h.row;
+      entered = tuple_entered (f.records + 1) schema r h.name h.stream h.row h.second s h.named (row_given (f.records + 1) schema h.stream r h.row h.values h.many);
+      beat = record base { rows = slice_set base.rows h.stream (Some h.row) };
+      filled = rw none refl;
+    }
+
+record IsAdded (schema : Schema) (f : Filing) (r : List (List ℕ)) : Type 0 where
+  after : Filing
+  is : next_filing schema f r ≡ Ok after
+
+is_added : (schema : Schema) (rs : List (List (List ℕ))) (f : Filing) (r : List (List ℕ)) → Keeps schema rs f → MayFollow schema rs r → IsAdded schema f r
+is_added schema rs f r k m =
+    let opened = open_given rs f.current (f.records + 1) k.latest m.still in
+    let rises = rises_given rs f.current (f.records + 1) m.cycle k.latest m.rises in
+    let e = entry_given schema rs f r m.cycle (says_end r) refl k opened rises m.brings in
+    record {
+      after = record { whole = whole_before m.cycle f.whole f.current; current = Some e.beat; records = f.records + 1 };
+      is = next_given schema f r m.cycle e.entry e.beat (text_given (f.records + 1) r m.text) opened (cycle_given (f.records + 1) r m.cycle m.said m.early) rises e.entered e.filled;
+    }
+
+record AreAdded (schema : Schema) (f : Filing) (rs : List (List (List ℕ))) : Type 0 where
+  after : Filing
+  is : filing_after schema rs f ≡ Ok after
+
+are_added : (schema : Schema) (before rs : List (List (List ℕ))) (f : Filing) → Keeps schema before f → KeepRules schema (before ++ rs) → AreAdded schema f rs
+are_added schema before [] f k rules = record { after = f; is = refl }
+are_added schema before (r ∷ rs) f k rules =
+    let one = is_added schema before f r k (rules before r rs refl) in
+    let same = append_assoc before (r ∷ []) rs in
+    let more = are_added schema (before ++ r ∷ []) rs one.after (keeps_next schema before f r one.after k (next_tells schema f r one.after one.is)) (subst (KeepRules schema) (sym same) rules) in
+    record { after = more.after; is = bind_given (next_filing schema f r) (filing_after schema rs) one.after one.is ∙ more.is }
+
+-- records that keep the rules have beats
+pub rules_give : (schema : Schema) (rs : List (List (List ℕ))) → KeepRules schema rs → (beats : List Beat) × (beats_of schema rs ≡ Ok beats)
+unfolding beats_of
+rules_give schema rs rules =
+    let all = are_added schema [] rs no_records (keeps_first schema) rules in
+    (ended (length schema.streams) all.after, bind_given (filing_after schema rs no_records) (λ f. Ok (ended (length schema.streams) f)) all.after all.is)

@@ -1,0 +1,193 @@
+//! Records, one after another, made into beats.
+
+ghost use Rattle.std.specs.Prelude.{◌≡◌, ◌+◌, ◌<◌, ◌^◌, length, replicate, None, Ok};
+ghost use Rattle.gl_schema.specs.Schemas.{IsSchema};
+ghost use Rattle.gl_tuple_reader.specs.Entries.{Gives};
+ghost use Rattle.gl_tuple_reader.specs.Filing as spec;
+ghost use Rattle.csv.specs.Records.{fields_of};
+
+use crate::entry::Entry;
+use crate::record::{check_text, cycle_of, entry_of};
+use csv::ByteRecord;
+use gl_bits::Listed;
+use gl_schema::Schema;
+use gl_tuples::{Beat, Beats, StreamRows, TupleFault};
+use std::alloc::Global;
+
+/// The beats of the records so far: those that are whole, and that of the last record.
+#[derive(Drop, Debug)]
+pub struct Filing {
+    pub whole: Listed<Beat>,
+    pub current: Option<Beat>,
+    pub records: u64,
+}
+
+impl Filing {
+    /// Before the first record.
+    pub fn new(alloc: Global) -> Filing
+        ensures { result ≡ spec.no_records }
+    {
+        Filing {
+            whole: Listed::new(alloc),
+            current: None,
+            records: 0,
+        }
+    }
+
+    /// Adds a record, or answers the first rule that it breaks.
+    #[tactic(auto, using(crate::proofs::Fields::fails_then), unfolding(crate::specs::Filing::next_filing))]
+    pub fn take(
+        self,
+        alloc: Global,
+        schema: &Schema,
+        fields: &ByteRecord,
+    ) -> Result<Filing, TupleFault>
+        requires schema { IsSchema schema.now }
+        requires counted { self.records + 1 < 2 ^ 64 }
+        requires rows { spec.HasRows (length schema.now.streams) self.current }
+        ensures { Gives result (spec.next_filing schema.now self (fields_of fields.now)) }
+    {
+        let number = self.records + 1;
+        check_text(fields, number)?;
+        check_open(&self.current, number)?;
+        let cycle = cycle_of(fields, number)?;
+        check_cycle(&self.current, cycle, number)?;
+        let entry = entry_of(alloc, schema, fields, number)?;
+        self.add(alloc, schema.streams.len(), cycle, number, entry)
+    }
+
+    fn add(
+        self,
+        alloc: Global,
+        streams: usize,
+        cycle: u32,
+        number: u64,
+        entry: Entry,
+    ) -> Result<Filing, TupleFault>
+        requires rows { spec.HasRows streams self.current }
+        requires stream { spec.IsEntry streams entry }
+        ensures { Gives result (spec.added streams self number cycle entry) }
+    {
+        let Filing {
+            whole,
+            current,
+            records: _,
+        } = self;
+        let (whole, beat) = turned(alloc, streams, whole, current, cycle, number)?;
+        let beat = beat_with(beat, entry, number)?;
+        Ok(Filing {
+            whole,
+            current: Some(beat),
+            records: number,
+        })
+    }
+
+    /// The beats of all records. The last one has the end.
+    pub fn end(self, alloc: Global, streams: usize) -> Result<Beats, TupleFault>
+        ensures { Gives result (Ok (spec.ended streams self)) }
+    {
+        let Filing {
+            mut whole,
+            current,
+            records: _,
+        } = self;
+        let mut last = match current {
+            Some(beat) => beat,
+            None => empty_beat(alloc, streams, 0, 0)?,
+        };
+        last.end = true;
+        whole.push(last)?;
+        Ok(Beats::from_vec(whole.into_vec()))
+    }
+}
+
+/// No end came before.
+fn check_open(current: &Option<Beat>, number: u64) -> Result<(), TupleFault>
+    ensures { Gives result (spec.open_checked number current.now) }
+{
+    match current {
+        Some(beat) if beat.end => Err(TupleFault::AfterEnd { number }),
+        _ => Ok(()),
+    }
+}
+
+/// The cycle is not below the one before.
+fn check_cycle(current: &Option<Beat>, cycle: u32, number: u64) -> Result<(), TupleFault>
+    ensures { Gives result (spec.cycle_checked number cycle current.now) }
+{
+    match current {
+        Some(beat) if cycle < beat.cycle => Err(TupleFault::CycleFalls { number }),
+        _ => Ok(()),
+    }
+}
+
+/// The whole beats in front of a cycle, and the beat of the cycle.
+fn turned(
+    alloc: Global,
+    streams: usize,
+    whole: Listed<Beat>,
+    current: Option<Beat>,
+    cycle: u32,
+    number: u64,
+) -> Result<(Listed<Beat>, Beat), TupleFault>
+    ensures { Gives result (Ok (
+      spec.whole_before cycle whole current,
+      spec.beat_of streams cycle
+          number current,
+    )) }
+{
+    let mut whole = whole;
+    match current {
+        Some(beat) => {
+            if beat.cycle == cycle {
+                return Ok((whole, beat));
+            }
+            whole.push(beat)?;
+        }
+        None => {}
+    }
+    Ok((whole, empty_beat(alloc, streams, cycle, number)?))
+}
+
+/// A beat without rows.
+fn empty_beat(alloc: Global, streams: usize, cycle: u32, number: u64) -> Result<Beat, TupleFault>
+    ensures { Gives result (Ok (spec.empty_beat streams cycle number)) }
+{
+    Ok(Beat {
+        cycle,
+        number,
+        rows: no_rows(alloc, streams)?,
+        tick: false,
+        end: false,
+    })
+}
+
+fn no_rows(alloc: Global, streams: usize) -> Result<StreamRows, TupleFault>
+    ensures { Gives result (Ok (replicate streams None)) }
+{
+    let mut rows = StreamRows::new(alloc);
+    for _ in 0..streams {
+        rows.push(None)?;
+    }
+    Ok(rows)
+}
+
+/// A beat with what the record of this number brings.
+fn beat_with(beat: Beat, entry: Entry, number: u64) -> Result<Beat, TupleFault>
+    requires { spec.IsEntry (length beat.rows) entry }
+    ensures { Gives result (spec.beat_with number beat entry) }
+{
+    let mut beat = beat;
+    match entry {
+        Entry::End => beat.end = true,
+        Entry::Tuple(stream, row) => {
+            let mut rows = beat.rows.into_vec();
+            if rows[stream].is_some() {
+                return Err(TupleFault::StreamTwice { number });
+            }
+            rows[stream] = Some(row);
+            beat.rows = StreamRows::from_vec(rows);
+        }
+    }
+    Ok(beat)
+}

@@ -1,7 +1,0 @@
-use Rattle.std.proofs.Common.{◌≡◌}
-use Rattle.std.specs.Prelude.{replicate, None}
-use Rattle.gl_tuples.proofs.filing.no_rows.Given as goal
-
--- as many entries as turns
-abbrev pub invariant-loop : goal.invariant-loop
-invariant-loop l = l.rows ≡ replicate l.counter None
