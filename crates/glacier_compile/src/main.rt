@@ -1,5 +1,5 @@
-//! The command `compile` alone, in the words and with the statuses of the whole program: for a first
-//! look, since it is built sooner.
+//! The command `compile` alone, in the words and with the statuses of the whole program: for a look
+//! at a module, since it is built sooner.
 #![tactic(auto)]
 
 use gl_arguments::words_of;
