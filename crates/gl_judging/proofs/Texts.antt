@@ -1,5 +1,5 @@
 -- What a text that was read says of its part.
-use Rattle.std.proofs.Common.{◌≡◌, ◌⊎◌, ℕ, true, false, ◌<◌, ◌≤◌, List, length, Option, Some, None, Result, Ok, Err, inl, inr, refl, sym, ap, subst, ◌∙◌, arith}
+use Rattle.std.proofs.Common.{◌≡◌, ◌⊎◌, ℕ, true, false, List, Option, Some, None, Result, Ok, Err, inl, inr, refl, sym, ap, subst, ◌∙◌, arith}
 use Rattle.std.specs.Prelude.{is_some}
 use Rattle.gl_forms.proofs.Named as forms
 use Rattle.gl_outside.specs.States.{ShelfState, IsCalm}
@@ -26,7 +26,7 @@ use Rattle.gl_forms.specs.declared.command.Part.{Part}
 use Rattle.gl_forms.specs.declared.command.Part.TheVariants as part
 use Rattle.gl_forms.specs.declared.command.Command.{Command}
 use Rattle.gl_forms.specs.declared.command.Command.TheVariants.{Explain, Run, Sim}
-use Rattle.gl_forms.specs.Forms.{IsCommand, IsForm, IsNamed, command_of, name_of}
+use Rattle.gl_forms.specs.Forms.{IsCommand, IsForm, IsNamed, command_of}
 use Rattle.gl_notes.specs.declared.notes.Refusal.{Refusal}
 use Rattle.gl_notes.specs.declared.notes.Refusal.TheVariants as refusal
 use Rattle.gl_texts.specs.Texts.{HasText, SchemaPasses, IsUnfetched, LeavesText, HasNoSchema, LeavesSchema}

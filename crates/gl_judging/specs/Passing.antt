@@ -22,7 +22,6 @@ use Rattle.gl_compiler.specs.Compiles.{HasCost}
 use Rattle.gl_compiler.specs.Built.{copies_of, latency_of, gap_of}
 use Rattle.gl_query_compiler.specs.Queries.{IsQuery}
 use Rattle.gl_compiler.specs.Meets.{Meets, result_columns}
-use Rattle.gl_forms.specs.declared.command.Part.{Part}
 use Rattle.gl_forms.specs.declared.command.Part.TheVariants as part
 use Rattle.gl_judging.specs.declared.judging.Job.{Job}
 use Rattle.gl_judging.specs.declared.simulating.Fitted.{Fitted}
