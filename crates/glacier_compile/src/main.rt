@@ -1,35 +1,48 @@
-//! The command `compile` alone, in the words and with the statuses of the whole program: for a look
-//! at a module, since it is built sooner.
+//! A look at the module of a query: its Verilog text, as the command `compile` writes it. It stands on
+//! no reader of Verilog and of tuple files, so that it is built sooner than the whole program.
 #![tactic(auto)]
 
-use gl_arguments::words_of;
-use gl_forms::{Command, command_of, copied};
-use gl_judging::judge_compile;
-use gl_notes::{Refusal, Status, tell, tell_write_fault};
-use gl_outside::{FileShelf, Memory, StreamSink, write_all_of};
+use gl_compiler::CompileFault;
+use gl_query_compiler::compile;
+use std::fmt::Display;
+use std::io::Write;
 use std::process::ExitCode;
+use std::{env, fs, io};
 
-fn status_of(rt: HostRuntime) -> Result<Status, Memory> {
-    let alloc = rt.alloc();
-    let words = words_of(&rt)?;
-    let mut out = StreamSink::new(rt.stdout());
-    let mut notes = StreamSink::new(rt.stderr());
-    let mut shelf = FileShelf::new(rt, copied(alloc, &words)?);
-    let Some(Command::Compile) = command_of(&words) else {
-        return Ok(tell(&mut notes, &words, &Refusal::Usage));
+// Compiles the query of a text over the schema of another, and tells what refuses it.
+fn look(rt: &HostRuntime, schema: &[u8], query: &[u8]) -> io::Result<ExitCode> {
+    match compile(rt.alloc(), schema, query) {
+        Ok(compiled) => io::writer(rt).write_all(compiled.text())?,
+        Err(CompileFault::Schema(fault)) => return refuse(rt, "schema", &fault),
+        Err(CompileFault::Query(fault)) => return refuse(rt, "query", &fault),
+        Err(CompileFault::Limit(limit)) => return refuse(rt, "limit", &limit),
+        Err(CompileFault::Memory) => return refuse(rt, "query", &CompileFault::Memory),
+    }
+    Ok(ExitCode::from(0))
+}
+
+// Tells a fault.
+fn refuse<F: Display>(rt: &HostRuntime, of: &str, fault: &F) -> io::Result<ExitCode> {
+    eprintln!(rt; "{of}: {fault}")?;
+    Ok(ExitCode::from(1))
+}
+
+// Compiles the two texts that the words `compile S Q` name.
+fn look_at_words(rt: &HostRuntime) -> io::Result<ExitCode> {
+    let mut words = env::args(rt)?.skip(2);
+    let (Some(schema), Some(query)) = (words.next(), words.next()) else {
+        eprintln!(rt; "usage: compile S Q")?;
+        return Ok(ExitCode::from(1));
     };
-    Ok(match judge_compile(alloc, &mut shelf, &words) {
-        Ok(compiled) => match write_all_of(&mut out, compiled.text()) {
-            Ok(()) => Status::Done,
-            Err(_) => tell_write_fault(&mut notes),
-        },
-        Err(refusal) => tell(&mut notes, &words, &refusal),
-    })
+    look(rt, &fs::read(rt, &schema)?, &fs::read(rt, &query)?)
 }
 
 fn main(rt: HostRuntime) -> ExitCode {
-    match status_of(rt) {
-        Ok(status) => ExitCode::from(status.code()),
-        Err(_) => ExitCode::from(Status::Memory.code()),
+    match look_at_words(&rt) {
+        Ok(code) => code,
+        Err(fault) => {
+            let _told = eprintln!(rt; "{fault}");
+            ExitCode::from(1)
+        }
     }
 }

@@ -1,49 +1,56 @@
-//! The command `explain` alone, in the words and with the statuses of the whole program: for a first
-//! look, since it is built soonest.
+//! A first look at a query: its plan, as the command `explain` writes it. It stands on as few crates as
+//! may be, so that it is built soonest before its proof.
 #![tactic(auto)]
 
-ghost use Rattle.std.specs.Prelude.{◌≡◌};
-ghost use Rattle.gl_forms.specs.Forms.{IsNamed};
-
-use gl_arguments::words_of;
-use gl_forms::{Command, Part, command_of, copied};
-use gl_notes::{Refusal, Status, tell, tell_write_fault};
-use gl_outside::{FileShelf, Memory, Shelf, StreamSink, Words, write_all_of};
-use gl_query_explainer::explain_query;
-use gl_texts::{fetch, fetch_schema};
-use std::alloc::Global;
+use gl_explain::explain;
+use gl_planner::PlanFault;
+use gl_query_judge::judge_query;
+use gl_schema::read_schema;
+use std::fmt::Display;
+use std::io::Write;
 use std::process::ExitCode;
+use std::{env, fs, io};
 
-fn explained<S: Shelf>(alloc: Global, shelf: &mut S, words: &Words) -> Result<Vec<u8>, Refusal>
-    requires named { IsNamed words.now Part.Query }
-    requires names { (S.state shelf.old).names ≡ words.now }
-{
-    let schema = fetch_schema(alloc, shelf, words)?;
-    let query = fetch(alloc, shelf, words, Part::Query)?;
-    explain_query(alloc, &schema, &query)
+// Explains the query of a text over the schema of another, and tells what refuses it.
+fn look(rt: &HostRuntime, schema: &[u8], query: &[u8]) -> io::Result<ExitCode> {
+    let schema = match read_schema(rt.alloc(), schema) {
+        Ok(schema) => schema,
+        Err(fault) => return refuse(rt, "schema", &fault),
+    };
+    let checked = match judge_query(rt.alloc(), &schema, query) {
+        Ok(checked) => checked,
+        Err(fault) => return refuse(rt, "query", &fault),
+    };
+    match explain(rt.alloc(), &checked) {
+        Ok(text) => io::writer(rt).write_all(&text)?,
+        Err(PlanFault::Limit(limit)) => return refuse(rt, "limit", &limit),
+        Err(PlanFault::Memory) => return refuse(rt, "plan", &PlanFault::Memory),
+    }
+    Ok(ExitCode::from(0))
 }
 
-fn status_of(rt: HostRuntime) -> Result<Status, Memory> {
-    let alloc = rt.alloc();
-    let words = words_of(&rt)?;
-    let mut out = StreamSink::new(rt.stdout());
-    let mut notes = StreamSink::new(rt.stderr());
-    let mut shelf = FileShelf::new(rt, copied(alloc, &words)?);
-    let Some(Command::Explain) = command_of(&words) else {
-        return Ok(tell(&mut notes, &words, &Refusal::Usage));
+// Tells a fault.
+fn refuse<F: Display>(rt: &HostRuntime, of: &str, fault: &F) -> io::Result<ExitCode> {
+    eprintln!(rt; "{of}: {fault}")?;
+    Ok(ExitCode::from(1))
+}
+
+// Explains the two texts that the words `explain S Q` name.
+fn look_at_words(rt: &HostRuntime) -> io::Result<ExitCode> {
+    let mut words = env::args(rt)?.skip(2);
+    let (Some(schema), Some(query)) = (words.next(), words.next()) else {
+        eprintln!(rt; "usage: explain S Q")?;
+        return Ok(ExitCode::from(1));
     };
-    Ok(match explained(alloc, &mut shelf, &words) {
-        Ok(text) => match write_all_of(&mut out, &text) {
-            Ok(()) => Status::Done,
-            Err(_) => tell_write_fault(&mut notes),
-        },
-        Err(refusal) => tell(&mut notes, &words, &refusal),
-    })
+    look(rt, &fs::read(rt, &schema)?, &fs::read(rt, &query)?)
 }
 
 fn main(rt: HostRuntime) -> ExitCode {
-    match status_of(rt) {
-        Ok(status) => ExitCode::from(status.code()),
-        Err(_) => ExitCode::from(Status::Memory.code()),
+    match look_at_words(&rt) {
+        Ok(code) => code,
+        Err(fault) => {
+            let _told = eprintln!(rt; "{fault}");
+            ExitCode::from(1)
+        }
     }
 }
