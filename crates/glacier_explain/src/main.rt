@@ -42,7 +42,11 @@ fn look_at_words(rt: &HostRuntime) -> io::Result<ExitCode> {
         eprintln!(rt; "usage: explain S Q")?;
         return Ok(ExitCode::from(1));
     };
-    look(rt, &fs::read(rt, &schema)?, &fs::read(rt, &query)?)
+    match (fs::read(rt, &schema), fs::read(rt, &query)) {
+        (Ok(schema), Ok(query)) => look(rt, &schema, &query),
+        (Err(fault), _) => refuse(rt, &schema, &fault),
+        (_, Err(fault)) => refuse(rt, &query, &fault),
+    }
 }
 
 fn main(rt: HostRuntime) -> ExitCode {
