@@ -5,7 +5,7 @@
 use gl_compiler::CompileFault;
 use gl_query_compiler::compile;
 use std::fmt::Display;
-use std::io::Write;
+use std::io::Write as _;
 use std::process::ExitCode;
 use std::{env, fs, io};
 

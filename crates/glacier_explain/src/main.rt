@@ -7,7 +7,7 @@ use gl_planner::PlanFault;
 use gl_query_judge::judge_query;
 use gl_schema::read_schema;
 use std::fmt::Display;
-use std::io::Write;
+use std::io::Write as _;
 use std::process::ExitCode;
 use std::{env, fs, io};
 
