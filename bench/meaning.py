@@ -15,6 +15,8 @@ Lists are gone through only where an order that UNION leaves open comes to matte
 """
 import collections, functools
 
+from common import width_of
+
 MOST = 400          # lists of rows that are looked at where an order is open
 WORK = 20000        # rows of slices and groups that are looked at
 LEVELS = {'OR': 0, 'AND': 1, 'NOT': 2, '+': 4, '-': 4, '*': 5} | dict.fromkeys(['=', '<>', '<', '<=', '>', '>='], 3)
@@ -27,14 +29,6 @@ class TooMany(Exception):
 
 
 # ---- kinds and words
-
-def width_of(kind):
-    return 8 * int(kind[4:]) if kind[0] == 't' else int(kind[1:])
-
-
-def word_of(text, kind):
-    return int.from_bytes(text.encode().ljust(int(kind[4:]), b'\0'), 'big')
-
 
 def shown(word, kind):
     """A word as a file has it."""

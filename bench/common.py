@@ -1,0 +1,151 @@
+"""What the scripts of this folder share: the program, schemas and words, a testbench around a module, and processor seconds."""
+import os, re, resource, subprocess, sys
+
+HOME = os.path.dirname(os.path.dirname(os.path.abspath(__file__)))
+PROGRAM = os.path.join(HOME, 'crates', 'glacier', 'out', 'glacier')
+STACK = 8 << 20     # bytes, as a process has them by default
+
+
+# ---- the program
+
+def with_program(words):
+    """The option by which a script is told which program it calls."""
+    words.add_argument('--program', metavar='PATH', default=PROGRAM, help='a built glacier, if not the one that ./glacier leaves')
+
+
+def program_of(asked):
+    """The program's path. Nothing is built here: a first ./glacier proves for a while."""
+    path = os.path.abspath(asked.program)
+    if not os.access(path, os.X_OK):
+        sys.exit(f'no program at {path}: ./glacier builds it, proved, or name one by --program')
+    return path
+
+
+def ended(words, **more):
+    """A command that ran, with all that it wrote."""
+    return subprocess.run(words, stdout=subprocess.PIPE, stderr=subprocess.STDOUT, text=True, **more)
+
+
+def measured(words, folder=None, text=None):
+    """The processor seconds of a command, with the system's, and the command that ran. Its stack is that of a default process."""
+    before = resource.getrusage(resource.RUSAGE_CHILDREN)
+    ran = subprocess.run(words, cwd=folder, input=text, stdout=subprocess.PIPE, stderr=subprocess.PIPE,
+                         preexec_fn=lambda: resource.setrlimit(resource.RLIMIT_STACK, (STACK, STACK)))
+    after = resource.getrusage(resource.RUSAGE_CHILDREN)
+    return after.ru_utime + after.ru_stime - before.ru_utime - before.ru_stime, ran
+
+
+def timed(words):
+    """The processor seconds of a command that must end well, and the lines of its output, without those of a simulator's own."""
+    seconds, ran = measured(words)
+    if ran.returncode:
+        sys.exit(f'status {ran.returncode}: ' + ' '.join(words))
+    return seconds, [line for line in ran.stdout.decode().splitlines(True) if not line.startswith('- ')]
+
+
+def compiled(program, files, room):
+    """The file in the room with the Verilog text of a query, and the text; or None, and what is told of the refusal."""
+    said = subprocess.run([program, 'compile', *files], stdout=subprocess.PIPE, stderr=subprocess.PIPE, text=True)
+    if said.returncode:
+        return None, said.stderr.strip()
+    with open(f'{room}/design.v', 'w') as f:
+        f.write(said.stdout)
+    return f'{room}/design.v', said.stdout
+
+
+# ---- schemas, words, tuple files
+
+def width_of(kind):
+    return 8 * int(kind[4:]) if kind.startswith('text') else int(kind[1:])
+
+
+def word_of(text, kind):
+    """The word that a value of a tuple file stands for."""
+    return int.from_bytes(text.encode().ljust(int(kind[4:]), b'\0'), 'big') if kind.startswith('text') else int(text)
+
+
+def schema_of(text):
+    """The streams of a schema's text, each with its columns and their kinds."""
+    text = re.sub(r'--.*', '', text)
+    return [(name, re.findall(r'(\w+)\s+(\w+)', columns)) for name, columns in re.findall(r'stream\s+(\w+)\s*\(([^)]*)\)', text)]
+
+
+def beats_of(rows):
+    """The records of a tuple file by their cycle, and the cycle of the end."""
+    beats, last, end = {}, 0, None
+    for row in rows:
+        last = int(row[0])
+        if row[1] == 'end':
+            end = last
+        else:
+            beats.setdefault(last, []).append(row[1:])
+    return beats, last if end is None else end
+
+
+# ---- modules and testbenches
+
+def ports_of(text):
+    """The name of a module, and the columns of its result with their widths."""
+    outs = re.findall(r'output wire (?:\[(\d+):0\] )?(out__\w+)', text)
+    return re.search(r'module (\w+)', text).group(1), [(n, int(w or 0) + 1) for w, n in outs if n not in ('out__valid', 'out__eos')]
+
+
+def inputs_of(schema):
+    """The input ports of a schema's streams, in order, with their widths."""
+    ports = []
+    for stream, columns in schema:
+        ports += [(f'in__{stream}__valid', 1)] + [(f'in__{stream}__{column}', width_of(kind)) for column, kind in columns]
+    return ports
+
+
+def harness(module, schema, outs, shown, steps, more=()):
+    """A testbench: `shown` is what is done with outputs in the middle of a cycle, `steps` sets the inputs right behind the edge that begins one,
+    `more` stands behind the declarations."""
+    inputs = inputs_of(schema)
+    lines = ['module testbench;', 'reg clk = 0, rst = 1, eos = 0, told = 0;', 'integer cycle = -1;']
+    lines += [f'reg [{w - 1}:0] {name} = 0;' for name, w in inputs]
+    lines += ['wire out__valid, out__eos, fault__group, fault__queue;'] + [f'wire [{w - 1}:0] {name};' for name, w in outs] + list(more)
+    names = ['clk', 'rst'] + [n for n, _ in inputs] + ['eos', 'out__valid'] + [n for n, _ in outs] + ['out__eos', 'fault__group', 'fault__queue']
+    lines += [f'{module} unit(' + ', '.join(f'.{n}({n})' for n in names) + ');', 'always #5 clk = ~clk;', 'always @(negedge clk) if (!rst) begin']
+    lines += shown + ['end', 'always @(posedge clk) #1 begin', 'cycle = cycle + 1; rst = 0; eos = 0;']
+    lines += [f'{name} = 0;' for name, _ in inputs] + steps
+    return '\n'.join(lines + ['end', 'endmodule', ''])
+
+
+def steps_of(schema, beats, end):
+    """The statements that set the inputs of each cycle that has a beat."""
+    steps = ['case (cycle)']
+    for cycle in sorted(set(beats) | {end}):
+        steps.append(f'{cycle}: begin')
+        for stream, *values in beats.get(cycle, []):
+            steps.append(f'in__{stream}__valid = 1;')
+            for (column, kind), value in zip(dict(schema)[stream], values):
+                steps.append(f"in__{stream}__{column} = {width_of(kind)}'d{word_of(value, kind)};")
+        steps += ['eos = 1;'] if cycle == end else []
+        steps.append('end')
+    return steps + ['default: ;', 'endcase']
+
+
+def verilated(bench, design, room, *more):
+    """A simulator that Verilator builds of a testbench, or the command that failed."""
+    words = ['--timing', '-Wno-fatal', '-Wno-lint', '--top-module', 'testbench', '--Mdir', f'{room}/v', bench, design]
+    built = ended(['verilator', '--binary', *more, *words])
+    return (f'{room}/v/Vtestbench', None) if not built.returncode else (None, built)
+
+
+# ---- queries that are large
+
+def tree(operators, first):
+    """A balanced tree of so many additions, whose leaves are columns and numbers from `first` on."""
+    if operators == 0:
+        return ('abcd'[first % 4] + ' * ' if first % 2 else '') + str(first + 1)
+    left = (operators - 1) // 2
+    return f'({tree(left, first)}) + ({tree(operators - 1 - left, first + left + 1)})'
+
+
+def chain(column, times, number):
+    return column + f' + {number}' * times
+
+
+def select(items, source='s'):
+    return 'SELECT ' + ', '.join(f'{item} AS x{at}' for at, item in enumerate(items)) + f' FROM {source}'
