@@ -1,0 +1,145 @@
+//! What statements answer over rows.
+
+use gl_bits::{Kind, Listed, Memory, Table};
+use gl_query::columns::columns_of;
+use gl_query::{Sources, Statement};
+use gl_query_reader::read_query;
+use gl_reference::{Answer, evaluate};
+use gl_schema::value::text_number;
+use gl_schema::{Column, Schema, read_schema};
+use std::alloc::{AllocError, Global};
+
+/// The text of the schema, and the rows that come in on two streams.
+#[derive(Drop)]
+pub struct Given {
+    pub schema: String,
+    pub trades: String,
+    pub other: String,
+}
+
+// The letters of a field as a number, if the kind has so many; 0 otherwise.
+fn letters_of(field: &[u8], bytes: u8) -> u128 {
+    let bytes = bytes as usize;
+    if bytes <= 8 && field.len() <= bytes {
+        text_number(field, bytes) as u128
+    } else {
+        0
+    }
+}
+
+// The value of a field.
+fn value_of(kind: Kind, field: &str) -> u128 {
+    match kind {
+        Kind::Text(bytes) => letters_of(field.as_bytes(), bytes),
+        Kind::Unsigned(_) => field.parse::<u128>().unwrap_or(0),
+    }
+}
+
+// A row, whose fields are parted by commas.
+fn row_of(alloc: Global, columns: &[Column], text: &str) -> Result<Listed<u128>, Memory> {
+    let mut row = Listed::new(alloc);
+    for (column, field) in columns.iter().zip(text.split(',')) {
+        row.push(value_of(column.kind, field))?;
+    }
+    Ok(row)
+}
+
+// Rows, parted by spaces.
+fn table_of(alloc: Global, columns: &[Column], text: &str) -> Result<Table, Memory> {
+    let mut table = Listed::new(alloc);
+    for row in text.split_whitespace() {
+        let row = row_of(alloc, columns, row)?;
+        table.push(row)?;
+    }
+    Ok(table)
+}
+
+// What comes in on the stream of a name.
+fn rows_on<'a>(given: &'a Given, name: &[u8]) -> &'a str {
+    match name {
+        b"trades" => given.trades.as_str(),
+        b"other" => given.other.as_str(),
+        _ => "",
+    }
+}
+
+// What comes in on each stream.
+fn inputs_of(alloc: Global, schema: &Schema, given: &Given) -> Result<Listed<Table>, Memory> {
+    let mut inputs = Listed::new(alloc);
+    for stream in schema.streams.as_slice() {
+        let rows = rows_on(given, stream.name.as_slice());
+        let table = table_of(alloc, stream.columns.as_slice(), rows)?;
+        inputs.push(table)?;
+    }
+    Ok(inputs)
+}
+
+// Adds a value: of a text its letters.
+fn push_value(out: &mut String, kind: Kind, value: u128) -> Result<(), AllocError> {
+    match kind {
+        Kind::Unsigned(_) => write!(out, "{value}"),
+        Kind::Text(_) => {
+            for byte in value.to_be_bytes() {
+                if byte != 0 {
+                    out.push(char::from(byte))?;
+                }
+            }
+            Ok(())
+        }
+    }
+}
+
+// Adds a row.
+fn push_row(out: &mut String, columns: &[Column], row: &[u128]) -> Result<(), AllocError> {
+    let mut mark = "";
+    for (column, value) in columns.iter().zip(row) {
+        out.push_str(mark)?;
+        push_value(out, column.kind, *value)?;
+        mark = ",";
+    }
+    Ok(())
+}
+
+// The rows of an answer, and whether groups are left out.
+fn answer_told(alloc: Global, columns: &[Column], answer: &Answer) -> Result<String, AllocError> {
+    let mut out = String::new(alloc);
+    out.push_str(">")?;
+    for row in answer.rows.as_slice() {
+        out.push_str(" ")?;
+        push_row(&mut out, columns, row.as_slice())?;
+    }
+    if answer.spill {
+        out.push_str(" spill")?;
+    }
+    Ok(out)
+}
+
+// What a statement answers.
+fn evaluated(
+    alloc: Global,
+    schema: &Schema,
+    statement: &Statement,
+    inputs: &[Table],
+) -> Result<String, Memory> {
+    if inputs.len() != schema.streams.len() {
+        return Err(Memory);
+    }
+    let sources = Sources::Schema(schema.streams.as_slice());
+    let columns = columns_of(alloc, sources, &statement.query)?;
+    match evaluate(alloc, schema, statement, inputs) {
+        Ok(answer) => Ok(answer_told(alloc, columns.as_slice(), &answer)?),
+        Err(_) => Ok(String::from_str(alloc, "no answer")?),
+    }
+}
+
+/// What a text's statement answers over what comes in.
+pub fn answered(alloc: Global, given: &Given, text: &[u8]) -> Result<String, Memory> {
+    let Ok(schema) = read_schema(alloc, given.schema.as_bytes()) else {
+        return Ok(String::from_str(alloc, "no schema")?);
+    };
+    let inputs = inputs_of(alloc, &schema, given)?;
+    match read_query(alloc, text) {
+        Ok(statement) => evaluated(alloc, &schema, &statement, inputs.as_slice()),
+        Err(_) => Ok(String::from_str(alloc, "not read")?),
+    }
+}
