@@ -5,9 +5,8 @@ ghost use Rattle.gl_bits.specs.Words.{sum_of, choose_of};
 ghost use Rattle.gl_net.specs.Net.{Run, IsRun, IsBus, IsBit, Keeps, size_of};
 
 use gl_bits::{Memory, Word};
-use gl_net::{BinaryOp, Bit, Bus, Direction, NetBuilder, Netlist, Node};
-use std::alloc::Global;
-use std::test::Fail;
+use gl_net::{BinaryOp, Bit, Bus, Direction, NetBuilder, Netlist, Port};
+use std::alloc::{AllocError, Global};
 
 // A count of the cycles in which `enable` is 1, since the last one in which `clear` was 1.
 fn count_cycles(
@@ -115,28 +114,35 @@ fn mixed_netlist(alloc: Global) -> Result<Netlist, Memory> {
     Ok(net.finish())
 }
 
-#[test]
-fn finishes_a_delay(rt: HostRuntime) -> Result<(), Fail> {
-    let netlist = delay_netlist(rt.alloc())?;
-    let data = Bus { node: 0, width: 8 };
-    let nodes = [Node::Input(0, 8), Node::Register(8, None, Some(data))];
-    assert_eq!(rt; netlist.nodes(), nodes.as_slice());
-    assert_eq!(rt; netlist.name(), b"delay".as_slice());
-    let ports = netlist.ports();
-    assert_eq!(rt; ports.len(), 2);
-    assert_eq!(rt; ports[0].name.as_slice(), b"data".as_slice());
-    assert_eq!(rt; ports[0].direction, Direction::In);
-    assert_eq!(rt; ports[1].name.as_slice(), b"later".as_slice());
-    assert_eq!(rt; ports[1].direction, Direction::Out);
-    assert_eq!(rt; ports[1].node, 1);
-    Ok(())
+// Adds a port behind a mark: its direction, its name and its node.
+fn push_port(out: &mut String, port: &Port) -> Result<(), AllocError> {
+    let direction = match port.direction {
+        Direction::In => "in",
+        Direction::Out => "out",
+    };
+    let name = str::from_utf8(port.name.as_slice()).unwrap_or("?");
+    write!(out, ", {direction} {name} at {}", port.node)
 }
 
-#[test]
-fn finishes_every_kind_of_node(rt: HostRuntime) -> Result<(), Fail> {
-    let netlist = mixed_netlist(rt.alloc())?;
-    assert_eq!(rt; netlist.nodes().len(), 17);
-    assert_eq!(rt; netlist.ports().len(), 4);
-    assert_eq!(rt; netlist.name(), b"mixed".as_slice());
-    Ok(())
+// The name of a netlist, how many nodes it has, and its ports.
+fn told(alloc: Global, netlist: &Netlist) -> Result<String, AllocError> {
+    let name = str::from_utf8(netlist.name()).unwrap_or("?");
+    let mut out = format!(in alloc; "{name}: {} nodes", netlist.nodes().len())?;
+    for port in netlist.ports() {
+        push_port(&mut out, port)?;
+    }
+    Ok(out)
+}
+
+/// The delay, and its nodes.
+pub fn delayed(alloc: Global) -> Result<String, Memory> {
+    let netlist = delay_netlist(alloc)?;
+    let told = told(alloc, &netlist)?;
+    Ok(format!(in alloc; "{told}: {:?}", netlist.nodes())?)
+}
+
+/// The netlist with a node of every kind.
+pub fn mixed(alloc: Global) -> Result<String, Memory> {
+    let netlist = mixed_netlist(alloc)?;
+    Ok(told(alloc, &netlist)?)
 }

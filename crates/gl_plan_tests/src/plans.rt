@@ -1,4 +1,4 @@
-//! Tests: what no clause says, and plans with known figures.
+//! Plans that are made by hand: one with a node of every kind, and one that is given a node twice.
 
 ghost use Rattle.std.specs.Prelude.{◌≡◌, ◌∷◌, [], length, IfOk, OnOk};
 ghost use Rattle.gl_bits.specs.declared.kind.Kind.TheVariants.{Unsigned};
@@ -8,9 +8,8 @@ ghost use Rattle.gl_algebra.specs.Shapes.{shape_from, shape_of, HasShape, KeepsS
 ghost use Rattle.gl_algebra.specs.Worked.{WorkedFigures, WorkedWeights};
 
 use gl_algebra::*;
-use gl_bits::{Kind, Listed, Op};
+use gl_bits::{Kind, Listed, Memory, Op};
 use std::alloc::Global;
-use std::test::Fail;
 
 // The figures and weights of plans that were worked out by hand.
 fn worked_plans()
@@ -19,37 +18,37 @@ fn worked_plans()
 {}
 
 // The kinds of one number.
-fn kinds(alloc: Global) -> Result<Kinds, Fail>
+fn kinds(alloc: Global) -> Result<Kinds, Memory>
     ensures { IfOk result (λ kinds. kinds ≡ Unsigned 8 ∷ []) }
 {
     Ok(Listed::from_vec(vec![in alloc; Kind::Unsigned(8)]?))
 }
 
 // Adds a node that fits.
-fn put(plan: &mut Plan, node: PlanNode) -> Result<PlanId, Fail>
+fn put(plan: &mut Plan, node: PlanNode) -> Result<PlanId, Memory>
     requires { Fits plan.old (length plan.old) node }
     ensures made { IfOk result (λ id. HasShape plan.new id (shape_from (shape_of plan.old) node)) }
     ensures kept { OnOk result (KeepsShapes plan.old plan.new) }
 {
     let _ = plan.len();
-    Ok(plan.add(node)?)
+    plan.add(node)
 }
 
 // The operations, the items and the aggregates of the plan below.
-fn tests(alloc: Global) -> Result<Ops, Fail>
+fn tests(alloc: Global) -> Result<Ops, Memory>
     ensures { IfOk result (λ ops. ops ≡ every.tests) }
 {
     let same = ColOp::Binary(Op::Eq, Operand::Column(0), Operand::Column(0));
     Ok(Listed::from_vec(vec![in alloc; same]?))
 }
 
-fn items(alloc: Global) -> Result<Operands, Fail>
+fn items(alloc: Global) -> Result<Operands, Memory>
     ensures { IfOk result (λ xs. xs ≡ every.items) }
 {
     Ok(Listed::from_vec(vec![in alloc; Operand::Column(0)]?))
 }
 
-fn sums(alloc: Global) -> Result<PlanAggs, Fail>
+fn sums(alloc: Global) -> Result<PlanAggs, Memory>
     ensures { IfOk result (λ aggs. aggs ≡ every.sums) }
 {
     let mut aggs = Listed::new(alloc);
@@ -58,7 +57,7 @@ fn sums(alloc: Global) -> Result<PlanAggs, Fail>
 }
 
 // Adds the rows of a body that pass a test.
-fn put_choice(alloc: Global, plan: &mut Plan) -> Result<PlanId, Fail>
+fn put_choice(alloc: Global, plan: &mut Plan) -> Result<PlanId, Memory>
     ensures { IfOk result (λ id. HasShape plan.new id every.of_choice) }
 {
     let input = put(plan, PlanNode::Body(kinds(alloc)?))?;
@@ -74,7 +73,7 @@ fn put_choice(alloc: Global, plan: &mut Plan) -> Result<PlanId, Fail>
 }
 
 // Adds the sum of the numbers of such rows.
-fn put_sums(alloc: Global, plan: &mut Plan, child: PlanId) -> Result<PlanId, Fail>
+fn put_sums(alloc: Global, plan: &mut Plan, child: PlanId) -> Result<PlanId, Memory>
     requires { HasShape plan.old child every.of_choice }
     ensures { IfOk result (λ id. HasShape plan.new id every.of_sums) }
 {
@@ -97,7 +96,7 @@ fn put_sums(alloc: Global, plan: &mut Plan, child: PlanId) -> Result<PlanId, Fai
 }
 
 // Adds a stream.
-fn put_stream(alloc: Global, plan: &mut Plan) -> Result<PlanId, Fail>
+fn put_stream(alloc: Global, plan: &mut Plan) -> Result<PlanId, Memory>
     ensures made { IfOk result (λ id. HasShape plan.new id every.of_stream) }
     ensures kept { OnOk result (KeepsShapes plan.old plan.new) }
 {
@@ -105,7 +104,7 @@ fn put_stream(alloc: Global, plan: &mut Plan) -> Result<PlanId, Fail>
 }
 
 // Adds sums of windows.
-fn put_windows(plan: &mut Plan, source: PlanId, body: PlanId) -> Result<(), Fail>
+fn put_windows(plan: &mut Plan, source: PlanId, body: PlanId) -> Result<(), Memory>
     requires source { HasShape plan.old source every.of_stream }
     requires body { HasShape plan.old body every.of_sums }
     ensures { OnOk result (KeepsShapes plan.old plan.new) }
@@ -121,7 +120,7 @@ fn put_windows(plan: &mut Plan, source: PlanId, body: PlanId) -> Result<(), Fail
 }
 
 // Adds sums of groups, twice in any order.
-fn put_groups(plan: &mut Plan, source: PlanId, body: PlanId) -> Result<(), Fail>
+fn put_groups(plan: &mut Plan, source: PlanId, body: PlanId) -> Result<(), Memory>
     requires source { HasShape plan.old source every.of_stream }
     requires body { HasShape plan.old body every.of_sums }
 {
@@ -143,7 +142,7 @@ fn put_groups(plan: &mut Plan, source: PlanId, body: PlanId) -> Result<(), Fail>
 }
 
 // Adds a stream beside itself.
-fn put_beside(plan: &mut Plan, source: PlanId) -> Result<(), Fail>
+fn put_beside(plan: &mut Plan, source: PlanId) -> Result<(), Memory>
     requires { HasShape plan.old source every.of_stream }
     ensures { OnOk result (KeepsShapes plan.old plan.new) }
 {
@@ -156,7 +155,7 @@ fn put_beside(plan: &mut Plan, source: PlanId) -> Result<(), Fail>
 }
 
 // Adds a node of every other kind.
-fn put_others(alloc: Global, plan: &mut Plan, body: PlanId) -> Result<(), Fail>
+fn put_others(alloc: Global, plan: &mut Plan, body: PlanId) -> Result<(), Memory>
     requires { HasShape plan.old body every.of_sums }
 {
     let source = put_stream(alloc, plan)?;
@@ -165,27 +164,23 @@ fn put_others(alloc: Global, plan: &mut Plan, body: PlanId) -> Result<(), Fail>
     put_groups(plan, source, body)
 }
 
-#[test]
-fn a_plan_takes_a_node_of_every_kind(rt: HostRuntime) -> Result<(), Fail> {
-    let mut plan = Plan::new(rt.alloc());
-    let choice = put_choice(rt.alloc(), &mut plan)?;
-    let sums = put_sums(rt.alloc(), &mut plan, choice)?;
-    assert_eq!(rt; plan.len(), 5);
-    put_others(rt.alloc(), &mut plan, sums)?;
-    assert_eq!(rt; plan.len(), 10);
-    let first = plan.id(0);
-    assert_eq!(rt; *plan.node(first), PlanNode::Body(kinds(rt.alloc())?));
-    Ok(())
+/// A plan with a node of every kind: how many nodes it has when half of them are added, and at its end; and its first node.
+pub fn every(alloc: Global) -> Result<String, Memory> {
+    let mut plan = Plan::new(alloc);
+    let choice = put_choice(alloc, &mut plan)?;
+    let sums = put_sums(alloc, &mut plan, choice)?;
+    let half = plan.len();
+    put_others(alloc, &mut plan, sums)?;
+    let first = plan.node(plan.id(0));
+    Ok(format!(in alloc; "{half} nodes, then {}; the first is {first:?}", plan.len())?)
 }
 
-#[test]
-fn adding_a_node_twice_keeps_one(rt: HostRuntime) -> Result<(), Fail> {
+/// The numbers of a node that is added twice, and how many nodes there are.
+pub fn twice(alloc: Global) -> Result<String, Memory> {
     worked_plans();
-    let mut plan = Plan::new(rt.alloc());
-    let first = plan.add(PlanNode::Stream(0, kinds(rt.alloc())?))?;
-    let second = plan.add(PlanNode::Stream(0, kinds(rt.alloc())?))?;
-    assert_eq!(rt; second, first);
-    assert_eq!(rt; first.number(), 0);
-    assert_eq!(rt; plan.len(), 1);
-    Ok(())
+    let mut plan = Plan::new(alloc);
+    let first = plan.add(PlanNode::Stream(0, kinds(alloc)?))?;
+    let second = plan.add(PlanNode::Stream(0, kinds(alloc)?))?;
+    let (first, second) = (first.number(), second.number());
+    Ok(format!(in alloc; "p{first} and p{second} of {} node", plan.len())?)
 }

@@ -1,34 +1,58 @@
-//! A plan as text, for tests: a line for each node, with its words and its figures.
+//! A plan as text: a line for each node, with its words and its figures.
 
 use gl_algebra::{ColOp, Figures, Operand, Plan, PlanAgg, PlanNode};
+use gl_bits::{Kind, Word};
 use gl_schema::Schema;
-use std::alloc::Global;
-use std::test::Fail;
+use std::alloc::{AllocError, Global};
 
 // Adds the bytes of a name.
-fn push_name(out: &mut String, name: &[u8]) -> Result<(), Fail> {
+fn push_name(out: &mut String, name: &[u8]) -> Result<(), AllocError> {
     for byte in name {
         out.push(char::from(*byte))?;
     }
     Ok(())
 }
 
-fn push_operand(out: &mut String, operand: &Operand) -> Result<(), Fail> {
+// Adds a literal: of a text its letters.
+fn push_literal(out: &mut String, word: Word, kind: Kind) -> Result<(), AllocError> {
+    match kind {
+        Kind::Unsigned(_) => write!(out, " #{}", word.bits()),
+        Kind::Text(_) => {
+            out.push_str(" '")?;
+            for byte in word.bits().to_be_bytes() {
+                if byte != 0 {
+                    out.push(char::from(byte))?;
+                }
+            }
+            out.push_str("'")
+        }
+    }
+}
+
+// Adds a kind.
+fn push_kind(out: &mut String, kind: Kind) -> Result<(), AllocError> {
+    match kind {
+        Kind::Unsigned(width) => write!(out, " u{width}"),
+        Kind::Text(bytes) => write!(out, " text{bytes}"),
+    }
+}
+
+fn push_operand(out: &mut String, operand: &Operand) -> Result<(), AllocError> {
     match operand {
         Operand::Column(column) => write!(out, " c{}", *column)?,
-        Operand::Literal(word, _) => write!(out, " #{}", word.bits())?,
+        Operand::Literal(word, kind) => push_literal(out, *word, *kind)?,
     }
     Ok(())
 }
 
-fn push_op(out: &mut String, op: &ColOp) -> Result<(), Fail> {
+fn push_op(out: &mut String, op: &ColOp) -> Result<(), AllocError> {
     match op {
         ColOp::Not(x) => {
             out.push_str(" not")?;
             push_operand(out, x)
         }
         ColOp::Cast(x, kind) => {
-            write!(out, " {kind:?}")?;
+            push_kind(out, *kind)?;
             push_operand(out, x)
         }
         ColOp::Binary(op, x, y) => {
@@ -39,7 +63,7 @@ fn push_op(out: &mut String, op: &ColOp) -> Result<(), Fail> {
     }
 }
 
-fn push_agg(out: &mut String, agg: &PlanAgg) -> Result<(), Fail> {
+fn push_agg(out: &mut String, agg: &PlanAgg) -> Result<(), AllocError> {
     match agg {
         PlanAgg::Count => Ok(out.push_str(" count")?),
         PlanAgg::Sum(x) => {
@@ -69,7 +93,7 @@ fn push_agg(out: &mut String, agg: &PlanAgg) -> Result<(), Fail> {
     }
 }
 
-fn push_node(out: &mut String, schema: &Schema, node: &PlanNode) -> Result<(), Fail> {
+fn push_node(out: &mut String, schema: &Schema, node: &PlanNode) -> Result<(), AllocError> {
     match node {
         PlanNode::Stream(number, _) => {
             out.push_str("input ")?;
@@ -128,7 +152,7 @@ fn push_node(out: &mut String, schema: &Schema, node: &PlanNode) -> Result<(), F
     Ok(())
 }
 
-fn push_figures(out: &mut String, f: &Figures) -> Result<(), Fail> {
+fn push_figures(out: &mut String, f: &Figures) -> Result<(), AllocError> {
     write!(out, " : {} {} {}", f.a, f.lt, f.le)?;
     write!(out, " {} {}", f.nt, f.ne)?;
     write!(out, " {} {}", f.gt, f.ge)?;
@@ -141,16 +165,17 @@ pub fn shown(
     schema: &Schema,
     plan: &Plan,
     figures: &[Figures],
-) -> Result<String, Fail> {
+) -> Result<String, AllocError> {
     let mut out = String::new(alloc);
+    let mut mark = "";
     for number in 0..plan.len() {
-        write!(out, "p{number} ")?;
+        write!(out, "{mark}p{number} ")?;
         push_node(&mut out, schema, plan.node(plan.id(number)))?;
         match figures.get(number) {
             Some(own) => push_figures(&mut out, own)?,
             None => {}
         }
-        out.push_str("\n")?;
+        mark = "\n";
     }
     Ok(out)
 }
