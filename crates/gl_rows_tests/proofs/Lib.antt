@@ -1,1 +1,2 @@
+pub mod BenchLemmas
 pub mod CircuitLemmas

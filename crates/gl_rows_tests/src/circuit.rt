@@ -9,7 +9,7 @@ ghost use Rattle.gl_rows_tests.specs.Circuits.{IsSourceOf};
 use gl_bits::{Kind, Memory};
 use gl_divide::divide;
 use gl_net::{Buses, NetBuilder, Netlist};
-use gl_wire::{Emitted, Faults, Operator, Wire};
+use gl_wire::{Emitted, Faults, Operator, Wire, pad};
 use std::alloc::Global;
 
 /// A netlist, and the wire that is looked at.
@@ -91,5 +91,20 @@ pub fn divider_of(alloc: Global, first: u8, second: u8) -> Result<Circuit, Memor
             eos: source.wire.eos,
             columns,
         },
+    })
+}
+
+/// The columns, of these widths, so many cycles later.
+pub fn padded_of(alloc: Global, first: u8, second: u8, cycles: u32) -> Result<Circuit, Memory>
+    requires first { IsWidth first }
+    requires second { IsWidth second }
+{
+    let mut net = NetBuilder::new(alloc);
+    let source = put_source(alloc, &mut net, first, second)?;
+    let later = pad(alloc, &mut net, &source.wire, cycles)?;
+    net.module(b"tested")?;
+    Ok(Circuit {
+        netlist: net.finish(),
+        wire: later,
     })
 }

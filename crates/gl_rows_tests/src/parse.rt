@@ -1,14 +1,15 @@
 //! What stands in a row: two kinds, a block, and beats.
 //!
 //! A kind is `u1` to `u64`, `text1` to `text8`; for the divider the widths go to `u128`. A block is `compute OP..`, `select` (by the first
-//! column), `project OPERAND..`, `totals AGGREGATE..` or `divide`. An operand is the column `a` or `b`, or a literal `KIND#NUMBER`; an
-//! operation `add:a,b`, `cast:a,u16`, `not:a`; an aggregate `count`, `sum:a`, `wsum:a,1,2,4`. A beat is a row `200,100`, a row with the
-//! end `200,100!`, the end alone `!`, or nothing `-`.
+//! column), `project OPERAND..`, `totals AGGREGATE..`, `pad CYCLES` or `divide`. An operand is the column `a` or `b`, or a literal `KIND#VALUE`; an
+//! operation `add:a,b`, `cast:a,u16`, `not:a`; an aggregate `count`, `sum:a`, `wsum:a,1,2,4`. A beat is a row `200,'ab'`, a row with the
+//! end `200,'ab'!`, the end alone `!`, or nothing `-`.
 
-use crate::circuit::{Circuit, circuit_of, divider_of};
+use crate::beats::Beat;
+use crate::circuit::{Circuit, circuit_of, divider_of, padded_of};
 use crate::fits::{aggs_fit, is_kind, operands_fit, ops_fit};
-use crate::interpreter::Beat;
-use gl_algebra::columns::kind_of_operand;
+use crate::kinds::{kind_of, value_of};
+use gl_algebra::columns::{kind_of_agg, kind_of_op, kind_of_operand};
 use gl_algebra::{ColOp, Operand, PlanAgg};
 use gl_bits::{Kind, Listed, Memory, Op, Word};
 use gl_rows::{ComputeRow, ProjectRow, SelectRow};
@@ -17,19 +18,6 @@ use std::alloc::Global;
 
 // No column, which fits nothing.
 const NONE: Operand = Operand::Column(u16::MAX);
-
-// A number of at most 8 bits; 0 where there is none.
-fn small_of(text: &str) -> u8 {
-    text.parse::<u8>().unwrap_or(0)
-}
-
-// A kind; one without bits, which is none, where the text names none.
-fn kind_of(text: &str) -> Kind {
-    match text.strip_prefix("text") {
-        Some(bytes) => Kind::Text(small_of(bytes)),
-        None => Kind::Unsigned(small_of(text.strip_prefix("u").unwrap_or(""))),
-    }
-}
 
 /// Two kinds.
 pub fn kinds_of(text: &str) -> [Kind; 2] {
@@ -54,8 +42,9 @@ fn operand_of(text: &str) -> Operand {
         "a" => Operand::Column(0),
         "b" => Operand::Column(1),
         _ => {
-            let (kind, number) = text.split_once('#').unwrap_or(("", ""));
-            literal_of(kind_of(kind), number.parse::<u128>().unwrap_or(0))
+            let (kind, value) = text.split_once('#').unwrap_or(("", ""));
+            let kind = kind_of(kind);
+            literal_of(kind, value_of(kind, value))
         }
     }
 }
@@ -208,6 +197,17 @@ fn totalled(alloc: Global, kinds: [Kind; 2], text: &str) -> Result<Option<Circui
     Ok(Some(circuit))
 }
 
+// The columns, so many cycles later.
+fn padded(alloc: Global, kinds: [Kind; 2], text: &str) -> Result<Option<Circuit>, Memory> {
+    let [first, second] = kinds;
+    if !is_kind(first) || !is_kind(second) {
+        return Ok(None);
+    }
+    let cycles = u32::from(text.parse::<u8>().unwrap_or(0));
+    let circuit = padded_of(alloc, first.width(), second.width(), cycles)?;
+    Ok(Some(circuit))
+}
+
 // The first column by the second.
 fn divided(alloc: Global, kinds: [Kind; 2]) -> Result<Option<Circuit>, Memory> {
     let [Kind::Unsigned(first), Kind::Unsigned(second)] = kinds else {
@@ -229,31 +229,57 @@ pub fn block_of(alloc: Global, kinds: [Kind; 2], text: &str) -> Result<Option<Ci
         "select" => kept(alloc, kinds),
         "project" => picked(alloc, kinds, items),
         "totals" => totalled(alloc, kinds, items),
+        "pad" => padded(alloc, kinds, items),
         "divide" => divided(alloc, kinds),
         _ => Ok(None),
     }
 }
 
-// A beat.
-fn beat_of(alloc: Global, text: &str) -> Result<Beat, Memory> {
-    let numbers = numbers_of(alloc, text)?;
-    let row = [
-        numbers.get(0).copied().unwrap_or(1),
-        numbers.get(1).copied().unwrap_or(1),
-    ];
-    Ok(Beat {
-        valid: numbers.len() > 0,
-        end: text.ends_with('!'),
-        row,
-    })
+// The kind of the column that a word of a block puts out.
+fn kind_behind(alloc: Global, kinds: &[Kind], name: &str, word: &str) -> Result<Kind, Memory> {
+    let kind = match name {
+        "compute" => kind_of_op(kinds, &op_of(word)),
+        "project" => kind_of_operand(kinds, &operand_of(word)),
+        _ => kind_of_agg(kinds, &agg_of(alloc, kinds, word)?),
+    };
+    Ok(kind)
 }
 
-/// Beats.
-pub fn beats_of(alloc: Global, text: &str) -> Result<Vec<Beat>, Memory> {
+/// The kinds of the columns that a block puts out; of a quotient none.
+pub fn kinds_behind(alloc: Global, kinds: [Kind; 2], text: &str) -> Result<Vec<Kind>, Memory> {
+    let text = text.trim();
+    let (name, items) = text.split_once(' ').unwrap_or((text, ""));
+    let mut out = Vec::new(alloc);
+    if name == "compute" || name == "select" || name == "pad" {
+        out.extend_from_slice(&kinds)?;
+    }
+    if name == "pad" {
+        return Ok(out);
+    }
+    for word in items.split_whitespace() {
+        let kind = kind_behind(alloc, &kinds, name, word)?;
+        out.push(kind)?;
+    }
+    Ok(out)
+}
+
+// A beat of columns of these kinds.
+fn beat_of(kinds: [Kind; 2], text: &str) -> Beat {
+    let row = text.trim_end_matches('!');
+    let (first, second) = row.split_once(',').unwrap_or(("1", "1"));
+    let [a, b] = kinds;
+    Beat {
+        valid: row.contains(','),
+        end: text.ends_with('!'),
+        row: [value_of(a, first), value_of(b, second)],
+    }
+}
+
+/// Beats of columns of these kinds.
+pub fn beats_of(alloc: Global, kinds: [Kind; 2], text: &str) -> Result<Vec<Beat>, Memory> {
     let mut beats = Vec::new(alloc);
     for word in text.split_whitespace() {
-        let beat = beat_of(alloc, word)?;
-        beats.push(beat)?;
+        beats.push(beat_of(kinds, word))?;
     }
     Ok(beats)
 }

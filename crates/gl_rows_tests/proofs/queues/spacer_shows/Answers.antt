@@ -1,5 +1,5 @@
-use Rattle.gl_queue_tests.proofs.BenchLemmas.{ready_kept}
-use Rattle.gl_queue_tests.proofs.tests.spacer_shows.Goals as goal
+use Rattle.gl_rows_tests.proofs.BenchLemmas.{ready_kept}
+use Rattle.gl_rows_tests.proofs.queues.spacer_shows.Goals as goal
 
 pub finished-requires : goal.finished-requires
 finished-requires c =

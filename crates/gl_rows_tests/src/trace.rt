@@ -41,6 +41,11 @@ fn above(value: u128, low: u8) -> u128 {
     if low < 128 { value >> low } else { 0 }
 }
 
+// A word above another one of so many bits.
+fn joined(high: u128, low: u128, width: u8) -> u128 {
+    high.checked_shl(u32::from(width)).unwrap_or(0) | low
+}
+
 // The word of a memory at an address.
 fn word_at(taken: &[Taken], store: usize, address: u128) -> u128 {
     let mut word = 1;
@@ -108,7 +113,11 @@ impl Trace {
                 let chosen = if value_at(now, test.node) == 1 { x } else { y };
                 value_at(now, chosen.node)
             }
-            Node::Join(_, low) => value_at(now, low.node),
+            Node::Join(high, low) => joined(
+                value_at(now, high.node),
+                value_at(now, low.node),
+                low.width,
+            ),
             Node::Cut(x, high, low) => {
                 above(value_at(now, x.node), *low)
                     & mask(high.saturating_sub(*low).saturating_add(1))

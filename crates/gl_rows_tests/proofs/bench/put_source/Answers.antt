@@ -2,9 +2,9 @@ use Rattle.std.proofs.Common.{◌≡◌, refl, ap, ◌∙◌, arith}
 use Rattle.gl_net.proofs.Determined.{keeps_then}
 use Rattle.gl_wire.proofs.ColumnLemmas.{bus_kept}
 use Rattle.gl_wire.proofs.GateLemmas.{bit_of}
-use Rattle.gl_queue_tests.proofs.BenchLemmas.{pair_more}
-use Rattle.gl_queue_tests.specs.Benches.{widths_of_pairs}
-use Rattle.gl_queue_tests.proofs.bench.put_source.Goals as goal
+use Rattle.gl_rows_tests.proofs.BenchLemmas.{pair_more}
+use Rattle.gl_rows_tests.specs.Benches.{widths_of_pairs}
+use Rattle.gl_rows_tests.proofs.bench.put_source.Goals as goal
 
 pub loop-pair-preserved : goal.loop-pair-preserved
 loop-pair-preserved c =

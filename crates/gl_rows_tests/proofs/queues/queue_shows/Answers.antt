@@ -1,8 +1,8 @@
 use Rattle.std.proofs.Common.{sym, subst}
 use Rattle.gl_wire.specs.Wire.{AreBuses}
 use Rattle.gl_wire.proofs.ColumnLemmas.{buses_kept}
-use Rattle.gl_queue_tests.proofs.BenchLemmas.{ready_kept}
-use Rattle.gl_queue_tests.proofs.tests.queue_shows.Goals as goal
+use Rattle.gl_rows_tests.proofs.BenchLemmas.{ready_kept}
+use Rattle.gl_rows_tests.proofs.queues.queue_shows.Goals as goal
 
 pub put_queue-requires-clause-columns : goal.put_queue-requires-clause-columns
 put_queue-requires-clause-columns c =

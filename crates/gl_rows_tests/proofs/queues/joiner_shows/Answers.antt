@@ -1,6 +1,6 @@
 use Rattle.gl_wire.proofs.ColumnLemmas.{wire_kept}
-use Rattle.gl_queue_tests.proofs.BenchLemmas.{ready_kept}
-use Rattle.gl_queue_tests.proofs.tests.union_shows.Goals as goal
+use Rattle.gl_rows_tests.proofs.BenchLemmas.{ready_kept}
+use Rattle.gl_rows_tests.proofs.queues.joiner_shows.Goals as goal
 
 pub emit-requires-clause-left : goal.emit-requires-clause-left
 emit-requires-clause-left c = wire_kept _ _ _ c.in_ok-other.ensures.keeps c.in_ok-one.ensures.wire

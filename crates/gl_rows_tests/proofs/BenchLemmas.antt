@@ -4,7 +4,7 @@ use Rattle.gl_net.specs.declared.node.Bus.{Bus}
 use Rattle.gl_net.specs.Net.{IsBus, Keeps, Net}
 use Rattle.gl_wire.specs.Wire.{AreBuses, widths}
 use Rattle.gl_wire.proofs.ColumnLemmas.{AreBuses-push, widths-append}
-use Rattle.gl_queue_tests.specs.Benches.{IsReady, widths_of_pairs}
+use Rattle.gl_rows_tests.specs.Benches.{IsReady, widths_of_pairs}
 
 -- a pair more
 pub pair_more : (net : Net) (xs ys zs : List Bus) (f w : Bus) (n : ℕ) → ys ≡ xs ++ f ∷ [] → zs ≡ ys ++ w ∷ [] → IsBus net f → f.width ≡ 1 → IsBus net w → w.width ≡ 64

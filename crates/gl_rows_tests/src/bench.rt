@@ -1,10 +1,10 @@
-//! Blocks between ports, and what they show, with a letter for each cycle: '.' is nothing, a small letter a tuple, a capital a tuple with the
+//! Blocks on queues between ports, and what they show, with a letter for each cycle: '.' is nothing, a small letter a tuple, a capital a tuple with the
 //! end, '-' an end alone, and '!' a queue that is passed. The tuple of a letter has columns of 1 and of 64 bits in turn.
 
 ghost use Rattle.std.specs.Prelude.{◌≡◌, ◌+◌, max, IfOk};
 ghost use Rattle.gl_algebra.specs.FigureTable.{IsSound};
 ghost use Rattle.gl_net.specs.Net.{IsBus};
-ghost use Rattle.gl_queue_tests.specs.Benches.{IsBench, IsReady, IsSourceOf};
+ghost use Rattle.gl_rows_tests.specs.Benches.{IsBench, IsReady, IsSourceOf};
 
 use crate::trace::Trace;
 use gl_algebra::Figures;
@@ -74,29 +74,37 @@ pub fn finished(net: NetBuilder) -> Result<Netlist, Memory>
     Ok(net.finish())
 }
 
-/// Figures of a stream whose tuples come so many cycles behind their beats, in so many cycles more, and so many with the end at most.
-pub fn figures(first: u16, more: u16, most: u16) -> Figures
+/// A stream whose tuples come so many cycles behind their beats, in so many cycles more, and so many with the end at most.
+#[derive(Clone, Copy)]
+pub struct Side {
+    pub first: u16,
+    pub more: u16,
+    pub most: u16,
+}
+
+/// The figures of such a stream.
+pub fn figures(side: Side) -> Figures
     ensures value { result ≡ record {
-      a = first;
-      lt = first + more;
-      le = first + more;
+      a = side.first;
+      lt = side.first + side.more;
+      le = side.first + side.more;
       nt = 1;
-      ne = max most 1;
-      gt = more + 1;
-      ge = more + 1;
+      ne = max side.most 1;
+      gt = side.more + 1;
+      ge = side.more + 1;
     } }
     ensures sound { IsSound result }
 {
-    let a = first as u32;
-    let gap = more as u32 + 1;
+    let a = side.first as u32;
+    let more = side.more as u32;
     Figures {
         a,
-        lt: a + more as u32,
-        le: a + more as u32,
+        lt: a + more,
+        le: a + more,
         nt: 1,
-        ne: (most as u32).max(1),
-        gt: gap,
-        ge: gap,
+        ne: (side.most as u32).max(1),
+        gt: more + 1,
+        ge: more + 1,
     }
 }
 
