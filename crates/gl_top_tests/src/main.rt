@@ -23,13 +23,14 @@ use std::io;
 // Bytes that a sink takes at most.
 const ROOM: usize = 100_000;
 
-// The texts of the schema, of the module and of the tuple file, and the numbers of the calls that fail.
+// The texts of the schema, of the module and of the tuple file, the numbers of the calls that fail, and whether the text that is left is shown.
 #[derive(Drop)]
 struct Row {
     schema: Option<String>,
     verilog: Option<String>,
     tuples: Option<String>,
     failing: Failing,
+    shows_text: bool,
 }
 
 // The numbers of the fetch, of the put and of the note that fail, 0 for none.
@@ -52,17 +53,18 @@ fn words_of(alloc: Global, front: &str, more: &str) -> Result<Words, Memory> {
     Ok(words)
 }
 
-// The words that a line of this kind runs, before those of its own; none for a remark.
-fn words_before(kind: &str) -> &'static str {
+// The words that a line of this kind runs, before those of its own; None for a remark.
+fn words_before(kind: &str) -> Option<&'static str> {
     match kind {
-        "query" | "option" => "run S Q T",
-        "start" => "run --start 12345 S Q T",
-        "explain" | "root" => "explain S Q",
-        "compile" => "compile S Q",
-        "figures" => "figures S Q",
-        "sim" => "sim S V T",
-        "load" => "load",
-        _ => "",
+        "query" | "option" => Some("run S Q T"),
+        "start" => Some("run --start 12345 S Q T"),
+        "explain" | "root" => Some("explain S Q"),
+        "compile" => Some("compile S Q"),
+        "figures" => Some("figures S Q"),
+        "sim" => Some("sim S V T"),
+        "load" => Some("load"),
+        "words" => Some(""),
+        _ => None,
     }
 }
 
@@ -70,7 +72,7 @@ fn words_before(kind: &str) -> &'static str {
 fn parts_of<'a>(kind: &str, text: &'a str) -> (&'a str, &'a str) {
     match kind {
         "option" => text.split_once(' ').unwrap_or((text, "")),
-        "sim" | "load" => (text, ""),
+        "sim" | "load" | "words" => (text, ""),
         _ => ("", text),
     }
 }
@@ -105,12 +107,13 @@ fn sink_with(alloc: Global, failing: u64) -> Result<MemorySink, Memory> {
     Ok(sink)
 }
 
-// What a query comes to: its status, and the two sinks.
+// What a query comes to: its status, the two sinks, and the text that is left.
 #[derive(Drop)]
 struct Told {
     code: u8,
     out: MemorySink,
     notes: MemorySink,
+    text: Vec<u8>,
 }
 
 // What the words come to over these texts and this query.
@@ -121,13 +124,18 @@ fn told_by(alloc: Global, words: &Words, row: &Row, query: &str) -> Result<Told,
     let mut text = Vec::new(alloc);
     let status = run(alloc, words, &mut shelf, &mut out, &mut notes, &mut text);
     let code = status.code();
-    Ok(Told { code, out, notes })
+    Ok(Told {
+        code,
+        out,
+        notes,
+        text,
+    })
 }
 
 // What a line of this kind comes to.
 fn told_of(alloc: Global, row: &Row, kind: &str, text: &str) -> Result<Told, Memory> {
     let (more, query) = parts_of(kind, text);
-    let words = words_of(alloc, words_before(kind), more)?;
+    let words = words_of(alloc, words_before(kind).unwrap_or(""), more)?;
     told_by(alloc, &words, row, query)
 }
 
@@ -166,6 +174,7 @@ fn print_told(
     query: &str,
     told: Result<Told, Memory>,
     root: bool,
+    shows_text: bool,
 ) -> io::Result<()> {
     let Ok(told) = told else {
         return println!(rt; "out of memory");
@@ -175,7 +184,12 @@ fn print_told(
     let noted = str::from_utf8(told.notes.bytes()).unwrap_or("?");
     let written = if root { last_but_one(written) } else { written };
     println!(rt; "{query}")?;
-    println!(rt; "{code}|{written}|{noted}")
+    println!(rt; "{code}|{written}|{noted}")?;
+    if shows_text {
+        let text = str::from_utf8(&told.text).unwrap_or("?");
+        println!(rt; "text|{text}")?;
+    }
+    Ok(())
 }
 
 fn main(rt: HostRuntime) -> io::Result<()> {
@@ -184,6 +198,7 @@ fn main(rt: HostRuntime) -> io::Result<()> {
         verilog: None,
         tuples: None,
         failing: failing_of(""),
+        shows_text: false,
     };
     for line in rt.lines(rt.alloc()) {
         let line = line?;
@@ -194,10 +209,11 @@ fn main(rt: HostRuntime) -> io::Result<()> {
             "tuples" => row.tuples = Some(text.replace(rt.alloc(), ' ', "\n")?),
             "without" => without(&mut row, text),
             "fail" => row.failing = failing_of(text),
-            _ if words_before(kind).is_empty() => (),
+            "show" => row.shows_text = text == "text",
+            _ if words_before(kind).is_none() => (),
             _ => {
                 let told = told_of(rt.alloc(), &row, kind, text);
-                print_told(&rt, text, told, kind == "root")?
+                print_told(&rt, text, told, kind == "root", row.shows_text)?
             }
         }
     }
