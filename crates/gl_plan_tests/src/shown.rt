@@ -167,15 +167,16 @@ pub fn shown(
     figures: &[Figures],
 ) -> Result<String, AllocError> {
     let mut out = String::new(alloc);
-    let mut mark = "";
     for number in 0..plan.len() {
-        write!(out, "{mark}p{number} ")?;
+        if number > 0 {
+            out.push_str("\n")?;
+        }
+        write!(out, "p{number} ")?;
         push_node(&mut out, schema, plan.node(plan.id(number)))?;
         match figures.get(number) {
             Some(own) => push_figures(&mut out, own)?,
             None => {}
         }
-        mark = "\n";
     }
     Ok(out)
 }

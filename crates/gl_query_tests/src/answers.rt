@@ -89,13 +89,21 @@ fn push_value(out: &mut String, kind: Kind, value: u128) -> Result<(), AllocErro
     }
 }
 
+// The kind of the column at a place; that of numbers where there is none.
+fn kind_at(columns: &[Column], place: usize) -> Kind {
+    match columns.get(place) {
+        Some(column) => column.kind,
+        None => Kind::Unsigned(64),
+    }
+}
+
 // Adds a row.
 fn push_row(out: &mut String, columns: &[Column], row: &[u128]) -> Result<(), AllocError> {
-    let mut mark = "";
-    for (column, value) in columns.iter().zip(row) {
-        out.push_str(mark)?;
-        push_value(out, column.kind, *value)?;
-        mark = ",";
+    for (place, value) in row.iter().enumerate() {
+        if place > 0 {
+            out.push_str(",")?;
+        }
+        push_value(out, kind_at(columns, place), *value)?;
     }
     Ok(())
 }

@@ -32,11 +32,9 @@ fn push_row(
     wire: &Wire,
     kinds: &[Kind],
 ) -> Result<(), AllocError> {
-    let mut mark = ":";
     for (place, bus) in wire.columns.as_slice().iter().enumerate() {
-        out.push_str(mark)?;
+        out.push_str(if place == 0 { ":" } else { "," })?;
         push_value(out, kinds.get(place).copied(), trace.value(bus.node))?;
-        mark = ",";
     }
     Ok(())
 }
