@@ -31,21 +31,30 @@ fn made(alloc: Global, name: &str) -> Result<String, Memory> {
     }
 }
 
-// What a line comes to; None where it is a remark.
-fn told_of(
-    alloc: Global,
+// What a line comes to; nothing for a remark.
+fn told_of(alloc: Global, schema: &str, command: &str, text: &str) -> Result<String, Memory> {
+    match command {
+        "plan" => planned(alloc, schema, text),
+        "printed" => printed(alloc, schema, text),
+        "weight" => weight_told(alloc, schema, text),
+        "made" => made(alloc, text),
+        _ => Ok(String::new(alloc)),
+    }
+}
+
+// Prints a line and what it comes to, if it is no remark.
+fn print_told(
+    rt: &HostRuntime,
     schema: &str,
+    line: &str,
     command: &str,
     text: &str,
-) -> Result<Option<String>, Memory> {
-    let told = match command {
-        "plan" => planned(alloc, schema, text)?,
-        "printed" => printed(alloc, schema, text)?,
-        "weight" => weight_told(alloc, schema, text)?,
-        "made" => made(alloc, text)?,
-        _ => return Ok(None),
-    };
-    Ok(Some(told))
+) -> io::Result<()> {
+    match told_of(rt.alloc(), schema, command, text) {
+        Ok(told) if told.is_empty() => Ok(()),
+        Ok(told) => println!(rt; "{line}\n{told}"),
+        Err(_) => println!(rt; "out of memory"),
+    }
 }
 
 fn main(rt: HostRuntime) -> io::Result<()> {
@@ -56,11 +65,7 @@ fn main(rt: HostRuntime) -> io::Result<()> {
         if command == "schema" {
             schema = text.to_string(rt.alloc())?;
         } else {
-            match told_of(rt.alloc(), schema.as_str(), command, text) {
-                Ok(Some(told)) => println!(rt; "{line}\n{told}")?,
-                Ok(None) => (),
-                Err(_) => println!(rt; "out of memory")?,
-            }
+            print_told(&rt, &schema, &line, command, text)?;
         }
     }
     Ok(())

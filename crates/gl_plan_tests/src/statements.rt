@@ -45,7 +45,7 @@ fn limit_told(alloc: Global, limit: Limit) -> Result<String, AllocError> {
     format!(in alloc; "limit: {limit:?}")
 }
 
-// The lines of a plan.
+// The lines of a plan, each with its node's figures.
 fn lines_of(alloc: Global, schema: &Schema, plan: &Plan) -> Result<String, AllocError> {
     match figured(alloc, plan)? {
         Ok(own) => shown(alloc, schema, plan, &own),
@@ -94,38 +94,70 @@ fn printed_of(alloc: Global, plan: &Plan, root: PlanId) -> Result<String, AllocE
     }
 }
 
-/// The lines of the plan of a statement's text.
-pub fn planned(alloc: Global, schema: &str, text: &str) -> Result<String, Memory> {
-    let Ok(schema) = read_schema(alloc, schema.as_bytes()) else {
-        return Ok(String::from_str(alloc, "no schema")?);
-    };
-    match plan_of(alloc, &schema, text)? {
-        Some((plan, _root)) => Ok(lines_of(alloc, &schema, &plan)?),
+// The weight of the root of a plan, alone and with its output's part, or the limit that a figure passes.
+fn weight_of(alloc: Global, plan: &Plan, root: PlanId) -> Result<String, AllocError>
+    requires { root < length plan.now }
+{
+    match figured(alloc, plan)? {
+        Ok(own) => heavy_told(alloc, plan, root, &own),
+        Err(limit) => limit_told(alloc, limit),
+    }
+}
+
+// What is asked of the plan of a statement.
+#[derive(Clone, Copy)]
+enum Asked {
+    Lines,
+    Printed,
+    Weight,
+}
+
+// What is told of a plan.
+fn plan_told(
+    alloc: Global,
+    schema: &Schema,
+    plan: &Plan,
+    root: PlanId,
+    asked: Asked,
+) -> Result<String, AllocError>
+    requires { root < length plan.now }
+{
+    match asked {
+        Asked::Lines => lines_of(alloc, schema, plan),
+        Asked::Printed => printed_of(alloc, plan, root),
+        Asked::Weight => weight_of(alloc, plan, root),
+    }
+}
+
+// What is told of the plan of a text's statement over a schema.
+fn text_told(alloc: Global, schema: &Schema, text: &str, asked: Asked) -> Result<String, Memory>
+    requires { IsSchema schema.now }
+{
+    match plan_of(alloc, schema, text)? {
+        Some((plan, root)) => Ok(plan_told(alloc, schema, &plan, root, asked)?),
         None => Ok(String::from_str(alloc, "not accepted")?),
     }
+}
+
+// What is told of the plan of a text's statement.
+fn told(alloc: Global, schema: &str, text: &str, asked: Asked) -> Result<String, Memory> {
+    match read_schema(alloc, schema.as_bytes()) {
+        Ok(schema) => text_told(alloc, &schema, text, asked),
+        Err(_) => Ok(String::from_str(alloc, "no schema")?),
+    }
+}
+
+/// The lines of the plan of a statement's text.
+pub fn planned(alloc: Global, schema: &str, text: &str) -> Result<String, Memory> {
+    told(alloc, schema, text, Asked::Lines)
 }
 
 /// What is printed of a statement's text, or the limit that it passes.
 pub fn printed(alloc: Global, schema: &str, text: &str) -> Result<String, Memory> {
-    let Ok(schema) = read_schema(alloc, schema.as_bytes()) else {
-        return Ok(String::from_str(alloc, "no schema")?);
-    };
-    match plan_of(alloc, &schema, text)? {
-        Some((plan, root)) => Ok(printed_of(alloc, &plan, root)?),
-        None => Ok(String::from_str(alloc, "not accepted")?),
-    }
+    told(alloc, schema, text, Asked::Printed)
 }
 
 /// The weight of the root of the plan of a statement's text, alone and with its output's part.
 pub fn weight_told(alloc: Global, schema: &str, text: &str) -> Result<String, Memory> {
-    let Ok(schema) = read_schema(alloc, schema.as_bytes()) else {
-        return Ok(String::from_str(alloc, "no schema")?);
-    };
-    let Some((plan, root)) = plan_of(alloc, &schema, text)? else {
-        return Ok(String::from_str(alloc, "not accepted")?);
-    };
-    match figured(alloc, &plan)? {
-        Ok(own) => Ok(heavy_told(alloc, &plan, root, &own)?),
-        Err(limit) => Ok(limit_told(alloc, limit)?),
-    }
+    told(alloc, schema, text, Asked::Weight)
 }

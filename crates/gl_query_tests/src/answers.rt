@@ -122,32 +122,68 @@ fn answer_told(alloc: Global, columns: &[Column], answer: &Answer) -> Result<Str
     Ok(out)
 }
 
-// What a statement answers.
+// What a statement answers over these inputs.
 fn evaluated(
     alloc: Global,
     schema: &Schema,
     statement: &Statement,
+    columns: &[Column],
     inputs: &[Table],
-) -> Result<String, Memory> {
+) -> Result<String, AllocError> {
     if inputs.len() != schema.streams.len() {
-        return Err(Memory);
+        return String::from_str(alloc, "no inputs");
     }
-    let sources = Sources::Schema(schema.streams.as_slice());
-    let columns = columns_of(alloc, sources, &statement.query)?;
     match evaluate(alloc, schema, statement, inputs) {
-        Ok(answer) => Ok(answer_told(alloc, columns.as_slice(), &answer)?),
-        Err(_) => Ok(String::from_str(alloc, "no answer")?),
+        Ok(answer) => answer_told(alloc, columns, &answer),
+        Err(_) => String::from_str(alloc, "no answer"),
+    }
+}
+
+// What a statement with these columns answers over what comes in.
+fn answered_with(
+    alloc: Global,
+    schema: &Schema,
+    statement: &Statement,
+    columns: &[Column],
+    given: &Given,
+) -> Result<String, AllocError> {
+    match inputs_of(alloc, schema, given) {
+        Ok(inputs) => evaluated(alloc, schema, statement, columns, inputs.as_slice()),
+        Err(_) => String::from_str(alloc, "out of memory"),
+    }
+}
+
+// What a statement answers over what comes in.
+fn statement_answered(
+    alloc: Global,
+    schema: &Schema,
+    statement: &Statement,
+    given: &Given,
+) -> Result<String, AllocError> {
+    let sources = Sources::Schema(schema.streams.as_slice());
+    match columns_of(alloc, sources, &statement.query) {
+        Ok(columns) => answered_with(alloc, schema, statement, columns.as_slice(), given),
+        Err(_) => String::from_str(alloc, "out of memory"),
+    }
+}
+
+// What a text's statement answers over a schema.
+fn text_answered(
+    alloc: Global,
+    schema: &Schema,
+    given: &Given,
+    text: &[u8],
+) -> Result<String, AllocError> {
+    match read_query(alloc, text) {
+        Ok(statement) => statement_answered(alloc, schema, &statement, given),
+        Err(_) => String::from_str(alloc, "not read"),
     }
 }
 
 /// What a text's statement answers over what comes in.
-pub fn answered(alloc: Global, given: &Given, text: &[u8]) -> Result<String, Memory> {
-    let Ok(schema) = read_schema(alloc, given.schema.as_bytes()) else {
-        return Ok(String::from_str(alloc, "no schema")?);
-    };
-    let inputs = inputs_of(alloc, &schema, given)?;
-    match read_query(alloc, text) {
-        Ok(statement) => evaluated(alloc, &schema, &statement, inputs.as_slice()),
-        Err(_) => Ok(String::from_str(alloc, "not read")?),
+pub fn answered(alloc: Global, given: &Given, text: &[u8]) -> Result<String, AllocError> {
+    match read_schema(alloc, given.schema.as_bytes()) {
+        Ok(schema) => text_answered(alloc, &schema, given, text),
+        Err(_) => String::from_str(alloc, "no schema"),
     }
 }

@@ -15,36 +15,49 @@ mod statements;
 mod texts;
 
 use crate::answers::{Given, answered};
-use crate::statements::{checked, fronts, joined, printed, read};
+use crate::statements::{checked, fronts, joined, printed, printed_with, read};
 use crate::texts::bytes_of;
-use gl_bits::Memory;
 use std::alloc::{AllocError, Global};
 use std::io;
 
-// A select with a condition.
-fn with_condition(alloc: Global, condition: &str) -> Result<String, AllocError> {
-    format!(in alloc; "SELECT * FROM s WHERE {condition} INTO r")
-}
-
-// What a line comes to; None where it is a remark.
-fn told_of(
+// What a line that asks comes to; nothing for a remark.
+fn answer_of(
     alloc: Global,
     given: &Given,
     command: &str,
-    text: &str,
-) -> Result<Option<String>, Memory> {
+    text: &[u8],
+) -> Result<String, AllocError> {
+    match command {
+        "read" => read(alloc, text),
+        "fronts" => fronts(alloc, text),
+        "joins" => joined(alloc, text),
+        "check" => checked(alloc, given.schema.as_bytes(), text),
+        "print" => printed(alloc, text),
+        "where" => printed_with(alloc, text),
+        "answer" => answered(alloc, given, text),
+        _ => Ok(String::new(alloc)),
+    }
+}
+
+// What a line comes to, whose text has bytes that are told by their numbers.
+fn told_of(alloc: Global, given: &Given, command: &str, text: &str) -> Result<String, AllocError> {
     let bytes = bytes_of(alloc, text)?;
-    let told = match command {
-        "read" => read(alloc, &bytes)?,
-        "fronts" => fronts(alloc, &bytes)?,
-        "joins" => joined(alloc, &bytes)?,
-        "check" => checked(alloc, given.schema.as_bytes(), &bytes)?,
-        "print" => printed(alloc, &bytes)?,
-        "where" => printed(alloc, with_condition(alloc, text)?.as_bytes())?,
-        "answer" => answered(alloc, given, &bytes)?,
-        _ => return Ok(None),
-    };
-    Ok(Some(told))
+    answer_of(alloc, given, command, &bytes)
+}
+
+// Prints a line and what it comes to, if it is no remark.
+fn print_told(
+    rt: &HostRuntime,
+    given: &Given,
+    line: &str,
+    command: &str,
+    text: &str,
+) -> io::Result<()> {
+    match told_of(rt.alloc(), given, command, text) {
+        Ok(told) if told.is_empty() => Ok(()),
+        Ok(told) => println!(rt; "{line}\n{told}"),
+        Err(_) => println!(rt; "out of memory"),
+    }
 }
 
 fn main(rt: HostRuntime) -> io::Result<()> {
@@ -60,11 +73,7 @@ fn main(rt: HostRuntime) -> io::Result<()> {
             "schema" => given.schema = text.to_string(rt.alloc())?,
             "trades" => given.trades = text.to_string(rt.alloc())?,
             "other" => given.other = text.to_string(rt.alloc())?,
-            _ => match told_of(rt.alloc(), &given, command, text) {
-                Ok(Some(told)) => println!(rt; "{line}\n{told}")?,
-                Ok(None) => (),
-                Err(_) => println!(rt; "out of memory")?,
-            },
+            _ => print_told(&rt, &given, &line, command, text)?,
         }
     }
     Ok(())

@@ -1,10 +1,12 @@
 //! What texts come to as statements.
 
+ghost use Rattle.gl_schema.specs.Schemas.{IsSchema};
+
 use gl_query::{Query, QueryFault, Statement};
 use gl_query_check::check;
 use gl_query_printer::print_statement;
 use gl_query_reader::read_query;
-use gl_schema::read_schema;
+use gl_schema::{Schema, read_schema};
 use std::alloc::{AllocError, Global};
 
 // A fault, with its place.
@@ -78,28 +80,48 @@ pub fn joined(alloc: Global, text: &[u8]) -> Result<String, AllocError> {
     }
 }
 
+// The fault of a statement over a schema, or that it is accepted.
+fn judged(alloc: Global, schema: &Schema, text: &[u8]) -> Result<String, AllocError>
+    requires { IsSchema schema.now }
+{
+    let fault = match read_query(alloc, text) {
+        Ok(statement) => match check(alloc, schema, statement) {
+            Ok(_) => return String::from_str(alloc, "accepted"),
+            Err(fault) => fault,
+        },
+        Err(fault) => fault,
+    };
+    fault_told(alloc, &fault)
+}
+
 /// The fault of a text's statement over a schema, or that it is accepted.
 pub fn checked(alloc: Global, schema: &[u8], text: &[u8]) -> Result<String, AllocError> {
-    let Ok(schema) = read_schema(alloc, schema) else {
-        return String::from_str(alloc, "no schema");
-    };
-    match read_query(alloc, text) {
-        Ok(statement) => match check(alloc, &schema, statement) {
-            Ok(_) => String::from_str(alloc, "accepted"),
-            Err(fault) => fault_told(alloc, &fault),
-        },
-        Err(fault) => fault_told(alloc, &fault),
+    match read_schema(alloc, schema) {
+        Ok(schema) => judged(alloc, &schema, text),
+        Err(_) => String::from_str(alloc, "no schema"),
+    }
+}
+
+// The canonical text of a statement.
+fn canonical(alloc: Global, statement: &Statement) -> Result<String, AllocError> {
+    let mut bytes = Vec::new(alloc);
+    match print_statement(alloc, statement, &mut bytes) {
+        Ok(()) => String::from_str(alloc, str::from_utf8(&bytes).unwrap_or("?")),
+        Err(_) => String::from_str(alloc, "out of memory"),
     }
 }
 
 /// The canonical text of a text's statement.
 pub fn printed(alloc: Global, text: &[u8]) -> Result<String, AllocError> {
-    let mut bytes = Vec::new(alloc);
     match read_query(alloc, text) {
-        Ok(statement) => match print_statement(alloc, &statement, &mut bytes) {
-            Ok(()) => String::from_str(alloc, str::from_utf8(&bytes).unwrap_or("?")),
-            Err(_) => String::from_str(alloc, "out of memory"),
-        },
+        Ok(statement) => canonical(alloc, &statement),
         Err(fault) => fault_told(alloc, &fault),
     }
+}
+
+/// The canonical text of a select with a condition.
+pub fn printed_with(alloc: Global, condition: &[u8]) -> Result<String, AllocError> {
+    let condition = str::from_utf8(condition).unwrap_or("?");
+    let text = format!(in alloc; "SELECT * FROM s WHERE {condition} INTO r")?;
+    printed(alloc, text.as_bytes())
 }
