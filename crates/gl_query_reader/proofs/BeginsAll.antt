@@ -10,7 +10,8 @@ use Rattle.gl_query_tokens.specs.declared.token.Token.TheVariants as token
 use Rattle.gl_query_tokens.specs.Sorts.{plain_eq}
 use Rattle.gl_query_reader.specs.declared.written.Window.{Window}
 use Rattle.gl_query_reader.specs.Written.{Expr, Column, Cast, Count, Item, Pick, All, Query, Stream}
-use Rattle.gl_query_reader.specs.Machine.{State, Control, Frame, SelectHead, EachHead, SelectGroups, InCast, InItem, InFold, InWsum, WantTerm, WantItem, WantOperand, HaveExpr, WantCastOpen, WantKind, WantCastClose, WantCountOpen, WantCountClose, WantFoldOpen, WantWsumOpen, WantWeightsOpen, WantWeight, HaveWeight, WantWsumClose, WantAs, WantItemName, HaveItem, WantFrom, WantSource, HaveSource, HaveEachSource, WantSize, WantSizeNumber, WantAdvance, WantAdvanceNumber, WantTuples, WantWindowClose, WantBy, WantKey, WantGroups, WantGroupsNumber, WantVar, WantIn, WantBody, HaveTerm, WantName, HaveName, WantEnd, step}
+use Rattle.gl_query_reader.specs.States.{State, Control, Frame, SelectHead, EachHead, SelectGroups, InCast, InItem, InFold, InWsum, WantTerm, WantItem, WantOperand, HaveExpr, WantCastOpen, WantKind, WantCastClose, WantCountOpen, WantCountClose, WantFoldOpen, WantWsumOpen, WantWeightsOpen, WantWeight, HaveWeight, WantWsumClose, WantAs, WantItemName, HaveItem, WantFrom, WantSource, HaveSource, HaveEachSource, WantSize, WantSizeNumber, WantAdvance, WantAdvanceNumber, WantTuples, WantWindowClose, WantBy, WantKey, WantGroups, WantGroupsNumber, WantVar, WantIn, WantBody, HaveTerm, WantName, HaveName, WantEnd}
+use Rattle.gl_query_reader.specs.Machine.{step}
 use Rattle.gl_query_reader.proofs.Steps.{steps, state}
 use Rattle.gl_query_reader.proofs.ReadExpressions.{wanting, having}
 use Rattle.gl_query_reader.specs.Grammar.{CanBegin}

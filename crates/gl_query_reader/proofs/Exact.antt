@@ -9,7 +9,8 @@ use Rattle.gl_query_tokens.specs.Tokens.{tokens_of}
 use Rattle.gl_query_reader.specs.declared.limits.Counts.{Counts}
 use Rattle.gl_query_reader.specs.declared.parsing.ReadFault.TheVariants.{Syntax, TooDeep}
 use Rattle.gl_query_reader.specs.Written.{Statement}
-use Rattle.gl_query_reader.specs.Machine.{State, start, step, finish}
+use Rattle.gl_query_reader.specs.States.{State, start}
+use Rattle.gl_query_reader.specs.Machine.{step, finish}
 use Rattle.gl_query_reader.specs.Limits.{none_counted, after, counted, is_past, keeps_limits}
 use Rattle.gl_query.specs.Trees.{StatementTree, statement_tree}
 use Rattle.gl_query_reader.specs.Reading.{run, or_syntax, with_items, answered, Answers}

@@ -1,5 +1,6 @@
 pub mod Stack
 pub mod Loop
+pub mod Eaches
 pub mod ItemLists
 pub mod Steps
 pub mod ReadExpressions

@@ -6,7 +6,8 @@ use Rattle.std.proofs.lemmas.List.{reverse-append}
 use Rattle.gl_query_tokens.specs.declared.token.Lexeme.{Lexeme}
 use Rattle.gl_query_reader.specs.declared.limits.Counts.{Counts}
 use Rattle.gl_query_reader.specs.declared.parsing.ReadFault.TheVariants.{Syntax, TooDeep}
-use Rattle.gl_query_reader.specs.Machine.{State, step, finish}
+use Rattle.gl_query_reader.specs.States.{State}
+use Rattle.gl_query_reader.specs.Machine.{step, finish}
 use Rattle.gl_query_reader.specs.Limits.{after, is_past}
 use Rattle.gl_query_reader.specs.Reading.{run, or_syntax, checked}
 

@@ -12,7 +12,8 @@ use Rattle.gl_query_reader.specs.declared.limits.Counts.{Counts}
 use Rattle.gl_query_reader.specs.declared.parsing.ReadFault.{ReadFault}
 use Rattle.gl_query_reader.specs.declared.parsing.ReadFault.TheVariants.{Syntax, TooDeep, Memory}
 use Rattle.gl_query_reader.specs.Written.{Statement, spell_statement}
-use Rattle.gl_query_reader.specs.Machine.{State, start, step, finish}
+use Rattle.gl_query_reader.specs.States.{State, start}
+use Rattle.gl_query_reader.specs.Machine.{step, finish}
 use Rattle.gl_query_reader.specs.Limits.{none_counted, after, counted, is_past, keeps_limits}
 use Rattle.gl_query.specs.Trees.{StatementTree, statement_tree}
 use Rattle.gl_query_reader.specs.Mixed.{mixed_in}

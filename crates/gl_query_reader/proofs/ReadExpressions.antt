@@ -12,7 +12,8 @@ use Rattle.gl_query_tokens.specs.declared.token.Token.{Token}
 use Rattle.gl_query_tokens.specs.declared.token.Token.TheVariants as token
 use Rattle.gl_query_tokens.specs.Sorts.{plain_eq}
 use Rattle.gl_query_reader.specs.Written.{Expr, Column, Number, Letters, Brackets, Cast, Not, Binary, looseness, left_looseness, level, IsExpr, spell}
-use Rattle.gl_query_reader.specs.Machine.{State, Frame, LeftOf, NotOf, BracketOf, InCast, WantOperand, HaveExpr, Reduced, room, reduced, step}
+use Rattle.gl_query_reader.specs.States.{State, Frame, LeftOf, NotOf, BracketOf, InCast, WantOperand, HaveExpr}
+use Rattle.gl_query_reader.specs.Machine.{Reduced, room, reduced, step}
 use Rattle.gl_query_reader.proofs.Steps.{steps, state}
 
 -- what is still open at an expression's end, and its last operand

@@ -8,7 +8,8 @@ use Rattle.gl_query_tokens.specs.declared.token.Token.{Token}
 use Rattle.gl_query_tokens.specs.declared.token.Token.TheVariants as token
 use Rattle.gl_query_tokens.specs.Sorts.{plain_eq, is_plain}
 use Rattle.gl_query_reader.specs.Written.{Expr, Column, Number, Letters, Brackets, Cast, Not, Binary, Agg, Count, Fold', Wsum, Item, Bare, Named, Total, Pick, All, Items, IsAgg, IsItem, AreItems, IsPick, spell, spell_numbers, spell_agg, spell_item, spell_items, spell_pick}
-use Rattle.gl_query_reader.specs.Machine.{State, Frame, InItem, InFold, InWsum, WantItem, WantWeight, WantAs, HaveItem, WantSource, SelectHead, reduced, step, is_operator}
+use Rattle.gl_query_reader.specs.States.{State, Frame, InItem, InFold, InWsum, WantItem, WantWeight, WantAs, HaveItem, WantSource, SelectHead}
+use Rattle.gl_query_reader.specs.Machine.{reduced, step, is_operator}
 use Rattle.gl_query_reader.proofs.Steps.{steps, state}
 use Rattle.gl_query_reader.proofs.ReadExpressions.{waits, last_of, pair, wanting, having, reads_expr, reduced-whole, level-lt}
 

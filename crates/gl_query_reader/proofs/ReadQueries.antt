@@ -9,7 +9,8 @@ use Rattle.gl_query_tokens.specs.Sorts.{plain_eq, is_plain}
 use Rattle.gl_query_reader.specs.declared.written.Window.{Window}
 use Rattle.gl_query_reader.specs.declared.written.Grouping.{Grouping}
 use Rattle.gl_query_reader.specs.Written.{Expr, Pick, Query, Stream, InBrackets, Select, Windows, Groups, Join', Statement, IsPick, IsQuery, IsSource, IsTerm, IsFilter, spell, spell_pick, spell_window, spell_if_window, spell_filter, spell_grouping, spell_if_grouping, spell_query, spell_end, spell_statement}
-use Rattle.gl_query_reader.specs.Machine.{State, Frame, InFilter, JoinOf, InQuery, InSource, InBody, Head, SelectHead, EachHead, WindowsHead, GroupsHead', WantTerm, WantSource, HaveSource, HaveEachSource, HaveTerm, WantName, HaveName, WantEnd, Joined, start, reduced, joined, after_source, after_query, have_term, is_operator, step, finish}
+use Rattle.gl_query_reader.specs.States.{State, Frame, InFilter, JoinOf, InQuery, InSource, InBody, Head, SelectHead, EachHead, WindowsHead, GroupsHead', WantTerm, WantSource, HaveSource, HaveEachSource, HaveTerm, WantName, HaveName, WantEnd, start}
+use Rattle.gl_query_reader.specs.Machine.{Joined, reduced, joined, after_source, after_query, have_term, is_operator, step, finish}
 use Rattle.gl_query_reader.specs.Grammar.{Derives}
 use Rattle.gl_query_reader.proofs.Steps.{steps, state, steps-one}
 use Rattle.gl_query_reader.proofs.ReadExpressions.{waits, last_of, pair, wanting, having, reads_expr, reduced-whole, level-lt}

@@ -13,7 +13,8 @@ use Rattle.gl_query_tokens.specs.declared.token.Token.{Token}
 use Rattle.gl_query_tokens.specs.declared.token.Token.TheVariants as token
 use Rattle.gl_query_tokens.specs.Sorts.{plain_eq, is_plain, name_in, number_in, open_in, size_in, by_in}
 use Rattle.gl_query_reader.specs.Written.{Wsum, Item, Items, Query, left_looseness, looseness, level, IsExpr, IsAgg, AreItems, IsPick, IsFilter, IsQuery, IsSource, IsTerm, spell, spell_numbers, spell_agg, spell_items, spell_pick, spell_window, spell_if_window, spell_filter, spell_grouping, spell_query}
-use Rattle.gl_query_reader.specs.Machine.{State, Control, Frame, Head, BodyHead, GroupsHead, Unnamed, SelectHead, EachHead, WindowsHead, GroupsHead', SelectGroups, EachGroups, UnnamedExpr, UnnamedAgg, LeftOf, NotOf, BracketOf, InCast, InItem, InFold, InWsum, InFilter, JoinOf, InQuery, InSource, InBody, WantTerm, WantItem, WantOperand, HaveExpr, WantCastOpen, WantKind, WantCastClose, WantCountOpen, WantCountClose, WantFoldOpen, WantWsumOpen, WantWeightsOpen, WantWeight, HaveWeight, WantWsumClose, WantAs, WantItemName, HaveItem, WantFrom, WantSource, HaveSource, HaveEachSource, WantSize, WantSizeNumber, WantAdvance, WantAdvanceNumber, WantTuples, WantWindowClose, WantBy, WantKey, WantGroups, WantGroupsNumber, WantVar, WantIn, WantBody, HaveTerm, WantName, HaveName, WantEnd, room}
+use Rattle.gl_query_reader.specs.States.{State, Control, Frame, Head, BodyHead, GroupsHead, Unnamed, SelectHead, EachHead, WindowsHead, GroupsHead', SelectGroups, EachGroups, UnnamedExpr, UnnamedAgg, LeftOf, NotOf, BracketOf, InCast, InItem, InFold, InWsum, InFilter, JoinOf, InQuery, InSource, InBody, WantTerm, WantItem, WantOperand, HaveExpr, WantCastOpen, WantKind, WantCastClose, WantCountOpen, WantCountClose, WantFoldOpen, WantWsumOpen, WantWeightsOpen, WantWeight, HaveWeight, WantWsumClose, WantAs, WantItemName, HaveItem, WantFrom, WantSource, HaveSource, HaveEachSource, WantSize, WantSizeNumber, WantAdvance, WantAdvanceNumber, WantTuples, WantWindowClose, WantBy, WantKey, WantGroups, WantGroupsNumber, WantVar, WantIn, WantBody, HaveTerm, WantName, HaveName, WantEnd}
+use Rattle.gl_query_reader.specs.Machine.{room}
 use Rattle.gl_query_reader.proofs.Steps.{state}
 use Rattle.gl_query_reader.proofs.ReadQueries.{NoJoin}
 use Rattle.gl_bits.proofs.Options.{some_same}

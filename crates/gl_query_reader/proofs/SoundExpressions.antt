@@ -13,7 +13,8 @@ use Rattle.gl_query_tokens.specs.declared.token.Plain.TheVariants as plain
 use Rattle.gl_query_tokens.specs.declared.token.Token.{Token}
 use Rattle.gl_query_tokens.specs.declared.token.Token.TheVariants as token
 use Rattle.gl_query_reader.specs.Written.{Expr, Column, Cast, Not, Binary, Agg, Count, Wsum, Item, Bare, All, Items, Select, looseness, left_looseness, level, IsExpr, IsAgg, IsItem, AreItems, IsPick, spell, spell_numbers, spell_agg, spell_item, spell_items, spell_pick, spell_query, spell_if_window}
-use Rattle.gl_query_reader.specs.Machine.{State, Frame, SelectHead, Unnamed, UnnamedExpr, UnnamedAgg, LeftOf, NotOf, BracketOf, InCast, InItem, InFold, InWsum, InFilter, WantItem, WantOperand, HaveExpr, WantCastOpen, WantKind, WantCastClose, WantCountOpen, WantCountClose, WantFoldOpen, WantWsumOpen, WantWeightsOpen, WantWeight, HaveWeight, WantWsumClose, WantAs, WantItemName, HaveItem, WantFrom, WantSource, Reduced, room, reduced, want_operand, have_item, after_expr, after_item, bare, under_name, goes}
+use Rattle.gl_query_reader.specs.States.{State, Frame, SelectHead, Unnamed, UnnamedExpr, UnnamedAgg, LeftOf, NotOf, BracketOf, InCast, InItem, InFold, InWsum, InFilter, WantItem, WantOperand, HaveExpr, WantCastOpen, WantKind, WantCastClose, WantCountOpen, WantCountClose, WantFoldOpen, WantWsumOpen, WantWeightsOpen, WantWeight, HaveWeight, WantWsumClose, WantAs, WantItemName, HaveItem, WantFrom, WantSource, goes}
+use Rattle.gl_query_reader.specs.Machine.{Reduced, room, reduced, want_operand, have_item, after_expr, after_item, bare, under_name}
 use Rattle.gl_query_reader.proofs.ReadExpressions.{pair}
 use Rattle.gl_query_reader.proofs.Said.{items_before, numbers_before, in_items, unnamed_text, before, control_text, IsUnnamed, InExpr, Fits, Read, by_some, by_if, by_plain, by_name, by_number, by_open, go_on, go_in}
 use Rattle.gl_query_reader.proofs.SoundTerms.{Keeps, keeps_term}

@@ -4,7 +4,8 @@ use Rattle.std.specs.Prelude.{option_and_then}
 use Rattle.gl_query_tokens.specs.declared.token.Token.{Token}
 use Rattle.gl_query_tokens.specs.declared.token.Lexeme.{Lexeme}
 use Rattle.gl_query_reader.specs.declared.limits.Counts.{Counts}
-use Rattle.gl_query_reader.specs.Machine.{State, Control, Frame, step, finish}
+use Rattle.gl_query_reader.specs.States.{State, Control, Frame}
+use Rattle.gl_query_reader.specs.Machine.{step, finish}
 use Rattle.gl_query_reader.specs.Limits.{after, is_past, keeps_limits}
 use Rattle.gl_query_reader.specs.Reading.{run, or_syntax}
 use Rattle.gl_query_reader.specs.Grammar.{bare_tokens}

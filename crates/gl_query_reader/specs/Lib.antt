@@ -1,4 +1,5 @@
 pub mod Written
+pub mod States
 pub mod Machine
 pub mod Trees
 pub mod Limits

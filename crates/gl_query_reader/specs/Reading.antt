@@ -9,7 +9,8 @@ use Rattle.gl_query_reader.specs.declared.parsing.ReadFault.{ReadFault}
 use Rattle.gl_query_reader.specs.declared.parsing.ReadFault.TheVariants.{Syntax, TooDeep, Memory}
 use Rattle.gl_query_reader.specs.declared.written.WrittenStatement.{WrittenStatement}
 use Rattle.gl_query_reader.specs.Written.{Statement}
-use Rattle.gl_query_reader.specs.Machine.{State, step, finish}
+use Rattle.gl_query_reader.specs.States.{State}
+use Rattle.gl_query_reader.specs.Machine.{step, finish}
 use Rattle.gl_query_reader.specs.Limits.{after, is_past}
 use Rattle.gl_query_reader.specs.declared.state.State as declared
 use Rattle.gl_query_reader.specs.Trees.{statement_of, state_of}

@@ -1,5 +1,7 @@
 -- What the reader's trees and states stand for, without where they lie in memory.
-use Rattle.std.specs.Prelude.{List, map, reverse, Option, option_map}
+use Rattle.std.specs.Prelude.{ℕ, List, map, reverse, Option, option_map}
+use Rattle.gl_query.specs.declared.tree.Name.{Name}
+use Rattle.gl_query.specs.Trees.{QueryTree, Each, PerGroup}
 use Rattle.gl_query_reader.specs.declared.written.WrittenExpr as expr
 use Rattle.gl_query_reader.specs.declared.written.WrittenAgg.{WrittenAgg}
 use Rattle.gl_query_reader.specs.declared.written.WrittenAgg.TheVariants as agg
@@ -7,29 +9,44 @@ use Rattle.gl_query_reader.specs.declared.written.WrittenItem.{WrittenItem}
 use Rattle.gl_query_reader.specs.declared.written.WrittenItem.TheVariants as item
 use Rattle.gl_query_reader.specs.declared.written.WrittenPick.{WrittenPick}
 use Rattle.gl_query_reader.specs.declared.written.WrittenPick.TheVariants as pick
+use Rattle.gl_query_reader.specs.declared.written.Over.{Over}
+use Rattle.gl_query_reader.specs.declared.written.Over.TheVariants as over
+use Rattle.gl_query_reader.specs.declared.written.WrittenEach.{WrittenEach}
+use Rattle.gl_query_reader.specs.declared.written.WrittenSelect.{WrittenSelect}
 use Rattle.gl_query_reader.specs.declared.written.WrittenQuery as query
 use Rattle.gl_query_reader.specs.declared.written.WrittenStatement.{WrittenStatement}
 use Rattle.gl_query_reader.specs.Written.{Expr, Column, Number, Letters, Brackets, Cast, Not, Binary, Agg, Count, Fold', Wsum, Item, Bare, Named, Total, Pick, All, Items, Query, Stream, InBrackets, Select, Windows, Groups, Join', Statement}
 use Rattle.gl_query_reader.specs.declared.state.Head.{Head}
 use Rattle.gl_query_reader.specs.declared.state.Head.TheVariants as head
+use Rattle.gl_query_reader.specs.declared.state.SelectFrom.{SelectFrom}
+use Rattle.gl_query_reader.specs.declared.state.WindowHead.{WindowHead}
 use Rattle.gl_query_reader.specs.declared.state.BodyHead.{BodyHead}
-use Rattle.gl_query_reader.specs.declared.state.BodyHead.TheVariants as body_head
 use Rattle.gl_query_reader.specs.declared.state.GroupsHead.{GroupsHead}
 use Rattle.gl_query_reader.specs.declared.state.GroupsHead.TheVariants as groups_head
+use Rattle.gl_query_reader.specs.declared.state.CastHead.{CastHead}
+use Rattle.gl_query_reader.specs.declared.state.WsumHead.{WsumHead}
 use Rattle.gl_query_reader.specs.declared.state.Unnamed.{Unnamed}
 use Rattle.gl_query_reader.specs.declared.state.Unnamed.TheVariants as unnamed
 use Rattle.gl_query_reader.specs.declared.state.Frame.{Frame}
 use Rattle.gl_query_reader.specs.declared.state.Frame.TheVariants as frame
 use Rattle.gl_query_reader.specs.declared.state.Control.{Control}
 use Rattle.gl_query_reader.specs.declared.state.Control.TheVariants as control
+use Rattle.gl_query_reader.specs.declared.state.ExprControl.{ExprControl}
+use Rattle.gl_query_reader.specs.declared.state.ExprControl.TheVariants as expr_control
 use Rattle.gl_query_reader.specs.declared.state.ItemControl.{ItemControl}
 use Rattle.gl_query_reader.specs.declared.state.ItemControl.TheVariants as item_control
+use Rattle.gl_query_reader.specs.declared.state.AggControl.{AggControl}
+use Rattle.gl_query_reader.specs.declared.state.AggControl.TheVariants as agg_control
 use Rattle.gl_query_reader.specs.declared.state.SourceControl.{SourceControl}
 use Rattle.gl_query_reader.specs.declared.state.SourceControl.TheVariants as source_control
+use Rattle.gl_query_reader.specs.declared.state.WindowControl.{WindowControl}
+use Rattle.gl_query_reader.specs.declared.state.WindowControl.TheVariants as window_control
+use Rattle.gl_query_reader.specs.declared.state.GroupsControl.{GroupsControl}
+use Rattle.gl_query_reader.specs.declared.state.GroupsControl.TheVariants as groups_control
 use Rattle.gl_query_reader.specs.declared.state.QueryControl.{QueryControl}
 use Rattle.gl_query_reader.specs.declared.state.QueryControl.TheVariants as query_control
 use Rattle.gl_query_reader.specs.declared.state.State.{State}
-use Rattle.gl_query_reader.specs.Machine as machine
+use Rattle.gl_query_reader.specs.States as states
 
 -- the tree of a written expression
 abbrev pub expr_of : expr.WrittenExpr → Expr
@@ -61,104 +78,136 @@ pick_of (pick.Items items) = Items (items_of items)
 abbrev pub filter_of : Option expr.WrittenExpr → Option Expr
 filter_of o = option_map expr_of o
 
+abbrev pub select_of : WrittenSelect → Query → Query
+select_of s source = Select (pick_of s.pick) source s.window (filter_of s.filter) s.grouping
+
+abbrev pub over_of : Over → ℕ → Name → ℕ → Query → Query → Query
+over_of (over.Windows w) at var open' source body = Windows at var source w open' body
+over_of (over.Groups g) at var open' source body = Groups at var source g open' body
+
+unfoldable pub each_of : WrittenEach → Query → Query → Query
+each_of e source body = over_of e.over e.at e.var e.open source body
+
 abbrev pub query_of : query.WrittenQuery → Query
 query_of (query.Stream name) = Stream name
 query_of (query.Brackets' at p q) = InBrackets at (query_of q)
-query_of (query.Select' pick p source window filter grouping) = Select (pick_of pick) (query_of source) window (filter_of filter) grouping
-query_of (query.Windows' at var p source window open' q body) = Windows at var (query_of source) window open' (query_of body)
-query_of (query.Groups' at var p source grouping open' q body) = Groups at var (query_of source) grouping open' (query_of body)
+query_of (query.Select' s p source) = select_of s (query_of source)
+query_of (query.Each' e p source q body) = each_of e (query_of source) (query_of body)
 query_of (query.Join' join at p l q r) = Join' join at (query_of l) (query_of r)
+
+-- what an EACH means over what its source means, with what its body means
+abbrev pub over_tree : Over → ℕ → Name → QueryTree → QueryTree → QueryTree
+over_tree (over.Windows w) at var source body = Each var source w.size w.advance body at
+over_tree (over.Groups g) at var source body = PerGroup var source g.key g.groups body at
+
+unfoldable pub each_tree : WrittenEach → QueryTree → QueryTree → QueryTree
+each_tree e source body = over_tree e.over e.at e.var source body
 
 abbrev pub statement_of : WrittenStatement → Statement
 statement_of s = record { query = query_of s.query; name = s.name; closed = s.closed }
 
-abbrev pub head_of : Head → machine.Head
-head_of (head.Select pick) = machine.SelectHead (pick_of pick)
-head_of (head.Each at var) = machine.EachHead at var
+abbrev pub head_of : Head → states.Head
+head_of (head.Select pick) = states.SelectHead (pick_of pick)
+head_of (head.Each at var) = states.EachHead at var
 
-abbrev pub body_head_of : BodyHead → machine.BodyHead
-body_head_of (body_head.Windows at var source window) = machine.WindowsHead at var (query_of source) window
-body_head_of (body_head.Groups at var source grouping) = machine.GroupsHead' at var (query_of source) grouping
+abbrev pub over_head_of : Over → ℕ → Name → Query → states.BodyHead
+over_head_of (over.Windows w) at var source = states.WindowsHead at var source w
+over_head_of (over.Groups g) at var source = states.GroupsHead' at var source g
 
-abbrev pub groups_head_of : GroupsHead → machine.GroupsHead
-groups_head_of (groups_head.Select pick source window filter) = machine.SelectGroups (pick_of pick) (query_of source) window (filter_of filter)
-groups_head_of (groups_head.Each at var source) = machine.EachGroups at var (query_of source)
+abbrev pub body_head_of : BodyHead → states.BodyHead
+body_head_of h = over_head_of h.over h.at h.var (query_of h.source)
 
-abbrev pub unnamed_of : Unnamed → machine.Unnamed
-unnamed_of (unnamed.Expr e) = machine.UnnamedExpr (expr_of e)
-unnamed_of (unnamed.Agg a) = machine.UnnamedAgg (agg_of a)
+abbrev pub groups_head_of : GroupsHead → states.GroupsHead
+groups_head_of (groups_head.Select from filter) = states.SelectGroups (pick_of from.pick) (query_of from.source) from.window (filter_of filter)
+groups_head_of (groups_head.Each at var source) = states.EachGroups at var (query_of source)
 
-abbrev pub frame_of : Frame → machine.Frame
-frame_of (frame.LeftOf l o at) = machine.LeftOf (expr_of l) o at
-frame_of (frame.NotOf at) = machine.NotOf at
-frame_of (frame.InBrackets at) = machine.BracketOf at
-frame_of (frame.InCast at open') = machine.InCast at open'
-frame_of (frame.InItem items) = machine.InItem (items_of items)
-frame_of (frame.InFold items fold at open') = machine.InFold (items_of items) fold at open'
-frame_of (frame.InWsum items at open') = machine.InWsum (items_of items) at open'
-frame_of (frame.InFilter pick source window) = machine.InFilter (pick_of pick) (query_of source) window
-frame_of (frame.JoinOf l join at) = machine.JoinOf (query_of l) join at
-frame_of (frame.InQuery at) = machine.InQuery at
-frame_of (frame.InSource head at) = machine.InSource (head_of head) at
-frame_of (frame.InBody head open') = machine.InBody (body_head_of head) open'
+abbrev pub unnamed_of : Unnamed → states.Unnamed
+unnamed_of (unnamed.Expr e) = states.UnnamedExpr (expr_of e)
+unnamed_of (unnamed.Agg a) = states.UnnamedAgg (agg_of a)
+
+abbrev pub frame_of : Frame → states.Frame
+frame_of (frame.LeftOf l o at) = states.LeftOf (expr_of l) o at
+frame_of (frame.NotOf at) = states.NotOf at
+frame_of (frame.InBrackets at) = states.BracketOf at
+frame_of (frame.InCast at open') = states.InCast at open'
+frame_of (frame.InItem items) = states.InItem (items_of items)
+frame_of (frame.InFold items fold at open') = states.InFold (items_of items) fold at open'
+frame_of (frame.InWsum items at open') = states.InWsum (items_of items) at open'
+frame_of (frame.InFilter from) = states.InFilter (pick_of from.pick) (query_of from.source) from.window
+frame_of (frame.JoinOf l join at) = states.JoinOf (query_of l) join at
+frame_of (frame.InQuery at) = states.InQuery at
+frame_of (frame.InSource head at) = states.InSource (head_of head) at
+frame_of (frame.InBody head open') = states.InBody (body_head_of head) open'
 
 -- the innermost frame is the last of a Vec
-abbrev pub frames_of : List Frame → List machine.Frame
+abbrev pub frames_of : List Frame → List states.Frame
 frames_of stack = map frame_of (reverse stack)
 
-abbrev pub item_control_of : ItemControl → machine.Control
-item_control_of (item_control.WantItem items) = machine.WantItem (items_of items)
-item_control_of item_control.WantOperand = machine.WantOperand
-item_control_of (item_control.HaveExpr e) = machine.HaveExpr (expr_of e)
-item_control_of (item_control.WantCastOpen at) = machine.WantCastOpen at
-item_control_of (item_control.WantKind at open' e) = machine.WantKind at open' (expr_of e)
-item_control_of (item_control.WantCastClose at open' e word kind) = machine.WantCastClose at open' (expr_of e) word kind
-item_control_of (item_control.WantCountOpen items at) = machine.WantCountOpen (items_of items) at
-item_control_of (item_control.WantCountClose items at open') = machine.WantCountClose (items_of items) at open'
-item_control_of (item_control.WantFoldOpen items fold at) = machine.WantFoldOpen (items_of items) fold at
-item_control_of (item_control.WantWsumOpen items at) = machine.WantWsumOpen (items_of items) at
-item_control_of (item_control.WantWeightsOpen items at open' e) = machine.WantWeightsOpen (items_of items) at open' (expr_of e)
-item_control_of (item_control.WantWeight items at open' e ns) = machine.WantWeight (items_of items) at open' (expr_of e) ns
-item_control_of (item_control.HaveWeight items at open' e ns) = machine.HaveWeight (items_of items) at open' (expr_of e) ns
-item_control_of (item_control.WantWsumClose items at open' e ns) = machine.WantWsumClose (items_of items) at open' (expr_of e) ns
-item_control_of (item_control.WantAs items a) = machine.WantAs (items_of items) (agg_of a)
-item_control_of (item_control.WantItemName items u) = machine.WantItemName (items_of items) (unnamed_of u)
-item_control_of (item_control.HaveItem items) = machine.HaveItem (items_of items)
-item_control_of (item_control.WantFrom at) = machine.WantFrom at
+abbrev pub expr_control_of : ExprControl → states.Control
+expr_control_of expr_control.WantOperand = states.WantOperand
+expr_control_of (expr_control.HaveExpr e) = states.HaveExpr (expr_of e)
+expr_control_of (expr_control.WantCastOpen at) = states.WantCastOpen at
+expr_control_of (expr_control.WantKind h) = states.WantKind h.at h.open (expr_of h.inner)
+expr_control_of (expr_control.WantCastClose h word kind) = states.WantCastClose h.at h.open (expr_of h.inner) word kind
 
-abbrev pub source_control_of : SourceControl → machine.Control
-source_control_of (source_control.WantSource head) = machine.WantSource (head_of head)
-source_control_of (source_control.HaveSource pick source window) = machine.HaveSource (pick_of pick) (query_of source) window
-source_control_of (source_control.HaveEachSource at var source) = machine.HaveEachSource at var (query_of source)
-source_control_of (source_control.WantSize head source) = machine.WantSize (head_of head) (query_of source)
-source_control_of (source_control.WantSizeNumber head source at) = machine.WantSizeNumber (head_of head) (query_of source) at
-source_control_of (source_control.WantAdvance head source at size) = machine.WantAdvance (head_of head) (query_of source) at size
-source_control_of (source_control.WantAdvanceNumber head source at size) = machine.WantAdvanceNumber (head_of head) (query_of source) at size
-source_control_of (source_control.WantTuples head source window) = machine.WantTuples (head_of head) (query_of source) window
-source_control_of (source_control.WantWindowClose head source window) = machine.WantWindowClose (head_of head) (query_of source) window
-source_control_of (source_control.WantBy pick source window filter) = machine.WantBy (pick_of pick) (query_of source) window (filter_of filter)
-source_control_of (source_control.WantKey head at) = machine.WantKey (groups_head_of head) at
-source_control_of (source_control.WantGroups head at key) = machine.WantGroups (groups_head_of head) at key
-source_control_of (source_control.WantGroupsNumber head at key) = machine.WantGroupsNumber (groups_head_of head) at key
+abbrev pub item_control_of : ItemControl → states.Control
+item_control_of (item_control.WantItem items) = states.WantItem (items_of items)
+item_control_of (item_control.WantAs items a) = states.WantAs (items_of items) (agg_of a)
+item_control_of (item_control.WantItemName items u) = states.WantItemName (items_of items) (unnamed_of u)
+item_control_of (item_control.HaveItem items) = states.HaveItem (items_of items)
+item_control_of (item_control.WantFrom at) = states.WantFrom at
 
-abbrev pub query_control_of : QueryControl → machine.Control
-query_control_of query_control.WantTerm = machine.WantTerm
-query_control_of (query_control.WantVar at) = machine.WantVar at
-query_control_of (query_control.WantIn at var) = machine.WantIn at var
-query_control_of (query_control.WantBody head) = machine.WantBody (body_head_of head)
-query_control_of (query_control.HaveTerm q) = machine.HaveTerm (query_of q)
-query_control_of (query_control.WantName q) = machine.WantName (query_of q)
-query_control_of (query_control.HaveName q name) = machine.HaveName (query_of q) name
-query_control_of (query_control.WantEnd q name) = machine.WantEnd (query_of q) name
+abbrev pub agg_control_of : AggControl → states.Control
+agg_control_of (agg_control.WantCountOpen items at) = states.WantCountOpen (items_of items) at
+agg_control_of (agg_control.WantCountClose items at open') = states.WantCountClose (items_of items) at open'
+agg_control_of (agg_control.WantFoldOpen items fold at) = states.WantFoldOpen (items_of items) fold at
+agg_control_of (agg_control.WantWsumOpen items at) = states.WantWsumOpen (items_of items) at
+agg_control_of (agg_control.WantWeightsOpen h) = states.WantWeightsOpen (items_of h.items) h.at h.open (expr_of h.arg)
+agg_control_of (agg_control.WantWeight h ns) = states.WantWeight (items_of h.items) h.at h.open (expr_of h.arg) ns
+agg_control_of (agg_control.HaveWeight h ns) = states.HaveWeight (items_of h.items) h.at h.open (expr_of h.arg) ns
+agg_control_of (agg_control.WantWsumClose h ns) = states.WantWsumClose (items_of h.items) h.at h.open (expr_of h.arg) ns
 
-abbrev pub control_of : Control → machine.Control
+abbrev pub source_control_of : SourceControl → states.Control
+source_control_of (source_control.WantSource head) = states.WantSource (head_of head)
+source_control_of (source_control.HaveSource from) = states.HaveSource (pick_of from.pick) (query_of from.source) from.window
+source_control_of (source_control.HaveEachSource at var source) = states.HaveEachSource at var (query_of source)
+
+abbrev pub window_control_of : WindowControl → states.Control
+window_control_of (window_control.WantSize h) = states.WantSize (head_of h.head) (query_of h.source)
+window_control_of (window_control.WantSizeNumber h at) = states.WantSizeNumber (head_of h.head) (query_of h.source) at
+window_control_of (window_control.WantAdvance h at size) = states.WantAdvance (head_of h.head) (query_of h.source) at size
+window_control_of (window_control.WantAdvanceNumber h at size) = states.WantAdvanceNumber (head_of h.head) (query_of h.source) at size
+window_control_of (window_control.WantTuples h window) = states.WantTuples (head_of h.head) (query_of h.source) window
+window_control_of (window_control.WantWindowClose h window) = states.WantWindowClose (head_of h.head) (query_of h.source) window
+
+abbrev pub groups_control_of : GroupsControl → states.Control
+groups_control_of (groups_control.WantBy from filter) = states.WantBy (pick_of from.pick) (query_of from.source) from.window (filter_of filter)
+groups_control_of (groups_control.WantKey head at) = states.WantKey (groups_head_of head) at
+groups_control_of (groups_control.WantGroups head at key) = states.WantGroups (groups_head_of head) at key
+groups_control_of (groups_control.WantGroupsNumber head at key) = states.WantGroupsNumber (groups_head_of head) at key
+
+abbrev pub query_control_of : QueryControl → states.Control
+query_control_of query_control.WantTerm = states.WantTerm
+query_control_of (query_control.WantVar at) = states.WantVar at
+query_control_of (query_control.WantIn at var) = states.WantIn at var
+query_control_of (query_control.WantBody head) = states.WantBody (body_head_of head)
+query_control_of (query_control.HaveTerm q) = states.HaveTerm (query_of q)
+query_control_of (query_control.WantName q) = states.WantName (query_of q)
+query_control_of (query_control.HaveName q name) = states.HaveName (query_of q) name
+query_control_of (query_control.WantEnd q name) = states.WantEnd (query_of q) name
+
+abbrev pub control_of : Control → states.Control
+control_of (control.Expr c) = expr_control_of c
 control_of (control.Item c) = item_control_of c
+control_of (control.Agg c) = agg_control_of c
 control_of (control.Source c) = source_control_of c
+control_of (control.Window c) = window_control_of c
+control_of (control.Groups c) = groups_control_of c
 control_of (control.Query c) = query_control_of c
 
-abbrev pub state_of : State → machine.State
+abbrev pub state_of : State → states.State
 state_of s = record { control = control_of s.control; frames = frames_of s.frames.items }
 
 -- what a call leads to
-abbrev pub next_of : Option State → Option machine.State
+abbrev pub next_of : Option State → Option states.State
 next_of o = option_map state_of o

@@ -1,16 +1,19 @@
 //! Expressions: operators and what binds them.
 
 ghost use Rattle.std.specs.Prelude.{◌≡◌, ◌∷◌, IfOk};
-ghost use Rattle.gl_query_reader.specs.Written.{looseness, left_looseness};
+ghost use Rattle.gl_query_reader.specs.Written.{Binary, Cast, Column, Letters, Not, looseness, left_looseness};
+ghost use Rattle.gl_query_reader.specs.States as states;
 ghost use Rattle.gl_query_reader.specs.Machine as machine;
-ghost use Rattle.gl_query_reader.specs.Trees.{expr_of, frame_of, frames_of, next_of};
+ghost use Rattle.gl_query_reader.specs.Trees.{expr_of, frame_of, expr_control_of, frames_of, next_of};
 
+use crate::boxes::{OneBox, TwoBoxes, one_box, two_boxes};
 use crate::following::after_expr;
+use crate::keeping::{Beside, keep_beside, pushed};
 use crate::parts::{cloned, cloned_text, give_up, goes, goes_in, name_of, refuse};
-use crate::state::{Control, Frame, ItemControl, State};
+use crate::state::{CastHead, Control, ExprControl, Frame, State};
 use crate::written::WrittenExpr;
 use gl_bits::Kind;
-use gl_query::{Name, Op};
+use gl_query::{Name, Op, TextBytes};
 use gl_query_tokens::sorts::{is_plain, open_in};
 use gl_query_tokens::{Plain, Token};
 use gl_schema::kind_named;
@@ -77,25 +80,45 @@ fn binds(frame: &Frame, most: u8) -> bool
     }
 }
 
+fn binary(
+    alloc: Global,
+    op: Op,
+    at: u64,
+    left: WrittenExpr,
+    right: WrittenExpr,
+) -> Result<WrittenExpr, AllocError>
+    ensures { IfOk result (λ e. expr_of e ≡ Binary op at (expr_of left) (expr_of right)) }
+{
+    let TwoBoxes {
+        kept: at,
+        first: left,
+        second: right,
+    } = two_boxes(alloc, at, left, right)?;
+    Ok(WrittenExpr::Binary {
+        op,
+        at,
+        left,
+        right,
+    })
+}
+
+fn negated(alloc: Global, at: u64, expr: WrittenExpr) -> Result<WrittenExpr, AllocError>
+    ensures { IfOk result (λ e. expr_of e ≡ Not at (expr_of expr)) }
+{
+    let OneBox {
+        kept: at,
+        boxed: inner,
+    } = one_box(alloc, at, expr)?;
+    Ok(WrittenExpr::Not { at, inner })
+}
+
 // An operator with its operands.
 fn applied(alloc: Global, frame: Frame, expr: WrittenExpr) -> Result<WrittenExpr, AllocError>
     ensures { IfOk result (λ e. expr_of e ≡ machine.applied (frame_of frame) (expr_of expr)) }
 {
     match frame {
-        Frame::LeftOf { left, op, at } => {
-            let left = Box::new(alloc, left)?;
-            let right = Box::new(alloc, expr)?;
-            Ok(WrittenExpr::Binary {
-                op,
-                at,
-                left,
-                right,
-            })
-        }
-        Frame::NotOf { at } => {
-            let inner = Box::new(alloc, expr)?;
-            Ok(WrittenExpr::Not { at, inner })
-        }
+        Frame::LeftOf { left, op, at } => binary(alloc, op, at, left, expr),
+        Frame::NotOf { at } => negated(alloc, at, expr),
         other => {
             drop(other);
             Ok(expr)
@@ -120,25 +143,24 @@ pub fn reduced(
         if !binds(&frame, most) {
             return stopped(frames, frame, expr);
         }
-        expr = applied(alloc, frame, expr)?;
+        let next = keep_beside(frames, applied(alloc, frame, expr))?;
+        frames = next.kept;
+        expr = next.made;
     }
     Ok(Around { frames, expr })
 }
 
 // An expression in these frames and one more.
 #[tactic(auto, using(crate::proofs::Stack::reductions))]
-fn stopped(mut frames: Vec<Frame>, frame: Frame, expr: WrittenExpr) -> Result<Around, AllocError>
+fn stopped(frames: Vec<Frame>, frame: Frame, expr: WrittenExpr) -> Result<Around, AllocError>
     ensures { IfOk result (λ r. (frames_of r.frames.items ≡ frame_of frame ∷ frames_of frames.items)
         × (expr_of r.expr ≡ expr_of expr)) }
 {
-    match frames.push(frame) {
-        Ok(()) => Ok(Around { frames, expr }),
-        Err(full) => {
-            drop(full);
-            drop(expr);
-            Err(AllocError)
-        }
-    }
+    let Beside {
+        kept: expr,
+        made: frames,
+    } = pushed(expr, frames, frame)?;
+    Ok(Around { frames, expr })
 }
 
 // An operator behind an expression.
@@ -151,7 +173,7 @@ fn with_operator(op: Op, at: u64, around: Around) -> Result<Option<State>, Alloc
         return refuse((frames, expr));
     }
     goes_in(
-        Control::Item(ItemControl::WantOperand),
+        Control::Expr(ExprControl::WantOperand),
         frames,
         Frame::LeftOf { left: expr, op, at },
     )
@@ -165,7 +187,7 @@ fn with_not(at: u64, frames: Vec<Frame>) -> Result<Option<State>, AllocError>
         return refuse(frames);
     }
     goes_in(
-        Control::Item(ItemControl::WantOperand),
+        Control::Expr(ExprControl::WantOperand),
         frames,
         Frame::NotOf { at },
     )
@@ -181,23 +203,17 @@ pub fn want_operand(
         ≡ machine.want_operand (frames_of frames.items) token.now) }
 {
     match token {
-        Token::Name(name) => have(WrittenExpr::Column(cloned(alloc, name)?), frames),
+        Token::Name(name) => have_column(alloc, name, frames),
         Token::Number(number) => have(WrittenExpr::Number(*number), frames),
-        Token::Letters { text, at } => have(
-            WrittenExpr::Letters {
-                text: cloned_text(alloc, text)?,
-                at: *at,
-            },
-            frames,
-        ),
+        Token::Letters { text, at } => have_letters(alloc, text, *at, frames),
         Token::Open { at } => {
             goes_in(
-                Control::Item(ItemControl::WantOperand),
+                Control::Expr(ExprControl::WantOperand),
                 frames,
                 Frame::InBrackets { at: *at },
             )
         }
-        Token::Cast { at } => goes(Control::Item(ItemControl::WantCastOpen { at: *at }), frames),
+        Token::Cast { at } => goes(Control::Expr(ExprControl::WantCastOpen { at: *at }), frames),
         Token::Not { at } => with_not(*at, frames),
         _ => refuse(frames),
     }
@@ -206,23 +222,48 @@ pub fn want_operand(
 // Behind an expression.
 fn have(last: WrittenExpr, frames: Vec<Frame>) -> Result<Option<State>, AllocError>
     ensures { IfOk result (λ o. next_of o
-        ≡ machine.goes (machine.HaveExpr (expr_of last)) (frames_of frames.items)) }
+        ≡ states.goes (states.HaveExpr (expr_of last)) (frames_of frames.items)) }
 {
-    goes(Control::Item(ItemControl::HaveExpr { last }), frames)
+    goes(Control::Expr(ExprControl::HaveExpr { last }), frames)
 }
 
-/// `(` behind CAST.
-pub fn want_cast_open(
-    frames: Vec<Frame>,
+// Behind a column.
+fn have_column(alloc: Global, name: &Name, frames: Vec<Frame>) -> Result<Option<State>, AllocError>
+    ensures { IfOk result (λ o. next_of o
+        ≡ states.goes (states.HaveExpr (Column name.now)) (frames_of frames.items)) }
+{
+    let Beside {
+        kept: frames,
+        made: name,
+    } = keep_beside(frames, cloned(alloc, name))?;
+    have(WrittenExpr::Column(name), frames)
+}
+
+// Behind a text.
+fn have_letters(
+    alloc: Global,
+    text: &TextBytes,
     at: u64,
-    token: &Token,
+    frames: Vec<Frame>,
 ) -> Result<Option<State>, AllocError>
+    ensures { IfOk result (λ o. next_of o
+        ≡ states.goes (states.HaveExpr (Letters text.now at)) (frames_of frames.items)) }
+{
+    let Beside {
+        kept: frames,
+        made: text,
+    } = keep_beside(frames, cloned_text(alloc, text))?;
+    have(WrittenExpr::Letters { text, at }, frames)
+}
+
+// `(` behind CAST.
+fn want_cast_open(frames: Vec<Frame>, at: u64, token: &Token) -> Result<Option<State>, AllocError>
     ensures { IfOk result (λ o. next_of o
         ≡ machine.want_cast_open (frames_of frames.items) at token.now) }
 {
     match open_in(token) {
         Some(open) => goes_in(
-            Control::Item(ItemControl::WantOperand),
+            Control::Expr(ExprControl::WantOperand),
             frames,
             Frame::InCast { at, open },
         ),
@@ -230,68 +271,71 @@ pub fn want_cast_open(
     }
 }
 
-/// The word of a kind.
-pub fn want_kind(
+// The word of a kind.
+fn want_kind(
     alloc: Global,
     frames: Vec<Frame>,
-    at: u64,
-    open: u64,
-    inner: WrittenExpr,
+    head: CastHead,
     token: &Token,
 ) -> Result<Option<State>, AllocError>
     ensures { IfOk result (λ o. next_of o
-        ≡ machine.want_kind (frames_of frames.items) at «open» (expr_of inner) token.now) }
+        ≡ machine.want_kind (frames_of frames.items) head.at head.open (expr_of head.inner)
+        token.now) }
 {
     let Ok(found) = name_of(alloc, token) else {
-        return give_up((frames, inner));
+        return give_up((frames, head));
     };
     let Some(word) = found else {
-        return refuse((frames, inner));
+        return refuse((frames, head));
     };
     match kind_named(word.text.as_slice()) {
         Some(kind) => goes(
-            Control::Item(ItemControl::WantCastClose {
-                at,
-                open,
-                inner,
-                word,
-                kind,
-            }),
+            Control::Expr(ExprControl::WantCastClose { head, word, kind }),
             frames,
         ),
-        None => refuse((frames, inner, word)),
+        None => refuse((frames, head, word)),
     }
 }
 
-/// `)` behind a kind.
-pub fn want_cast_close(
+// `)` behind a kind.
+fn want_cast_close(
     alloc: Global,
     frames: Vec<Frame>,
-    at: u64,
-    open: u64,
-    inner: WrittenExpr,
+    head: CastHead,
     word: Name,
     kind: Kind,
     token: &Token,
 ) -> Result<Option<State>, AllocError>
     ensures { IfOk result (λ o. next_of o
-        ≡ machine.want_cast_close (frames_of frames.items) at «open» (expr_of inner) word kind
-        token.now) }
+        ≡ machine.want_cast_close (frames_of frames.items) head.at head.open (expr_of head.inner)
+        word kind token.now) }
 {
     if !is_plain(token, Plain::Close) {
-        return refuse((frames, inner, word));
+        return refuse((frames, head, word));
     }
-    let inner = Box::new(alloc, inner)?;
-    have(
-        WrittenExpr::Cast {
-            at,
-            open,
-            inner,
-            word,
-            kind,
-        },
-        frames,
-    )
+    let Beside {
+        kept: frames,
+        made: last,
+    } = keep_beside(frames, cast(alloc, head, word, kind))?;
+    have(last, frames)
+}
+
+fn cast(alloc: Global, head: CastHead, word: Name, kind: Kind) -> Result<WrittenExpr, AllocError>
+    ensures { IfOk result (λ e. expr_of e
+        ≡ Cast head.at head.open (expr_of head.inner) word kind) }
+{
+    let CastHead { at, open, inner } = head;
+    let OneBox {
+        kept: word,
+        boxed: inner,
+    } = one_box(alloc, word, inner)?;
+    Ok(WrittenExpr::Cast {
+        at,
+        open,
+        inner,
+        word,
+        kind,
+    })
 }
 
 fn is_operator(token: &Token) -> bool
@@ -320,8 +364,8 @@ fn have_operator(
     }
 }
 
-/// An operator behind an expression, or what ends it.
-pub fn have_expr(
+// An operator behind an expression, or what ends it.
+fn have_expr(
     alloc: Global,
     frames: Vec<Frame>,
     last: WrittenExpr,
@@ -334,4 +378,25 @@ pub fn have_expr(
         return have_operator(alloc, frames, last, token);
     }
     after_expr(alloc, reduced(alloc, frames, last, 6)?, token)
+}
+
+/// The state behind a token in an expression.
+pub fn step_expr(
+    alloc: Global,
+    control: ExprControl,
+    frames: Vec<Frame>,
+    token: &Token,
+) -> Result<Option<State>, AllocError>
+    ensures { IfOk result (λ o. next_of o
+        ≡ machine.step_at (expr_control_of control) (frames_of frames.items) token.now) }
+{
+    match control {
+        ExprControl::WantOperand => want_operand(alloc, frames, token),
+        ExprControl::HaveExpr { last } => have_expr(alloc, frames, last, token),
+        ExprControl::WantCastOpen { at } => want_cast_open(frames, at, token),
+        ExprControl::WantKind(head) => want_kind(alloc, frames, head, token),
+        ExprControl::WantCastClose { head, word, kind } => want_cast_close(
+            alloc, frames, head, word, kind, token,
+        ),
+    }
 }

@@ -4,14 +4,17 @@ ghost use Rattle.std.specs.Prelude.{◌≡◌, ◌∷◌, IfOk};
 ghost use Rattle.gl_query_reader.specs.Machine as machine;
 ghost use Rattle.gl_query_reader.specs.Trees.{expr_of, items_of, pick_of, query_of, frame_of, frames_of, next_of};
 
+use crate::boxes::{OneBox, one_box};
 use crate::expressions::Around;
-use crate::items::{add_item, have_item};
-use crate::parts::{expect, give_up, goes, refuse};
-use crate::queries::have_term;
-use crate::state::{Control, Frame, ItemControl, SourceControl, State, Unnamed};
-use crate::written::{
-    Window, WrittenAgg, WrittenExpr, WrittenItem, WrittenItems, WrittenPick, WrittenQuery,
+use crate::items::{have_item, with_item};
+use crate::keeping::Beside;
+use crate::parts::{expect, goes, refuse};
+use crate::state::{
+    AggControl, CastHead, Control, ExprControl, Frame, GroupsControl, ItemControl, SelectFrom,
+    State, Unnamed, WsumHead,
 };
+use crate::terms::end_select;
+use crate::written::{WrittenAgg, WrittenExpr, WrittenItem, WrittenItems};
 use gl_query::Name;
 use gl_query_tokens::sorts::is_plain;
 use gl_query_tokens::{Fold, Plain, Token};
@@ -52,8 +55,10 @@ fn after_item(
     let Some(name) = bare(expr) else {
         return refuse((frames, items));
     };
-    let mut items = items;
-    add_item(&mut items, WrittenItem::Bare(name))?;
+    let Beside {
+        kept: frames,
+        made: items,
+    } = with_item(frames, items, WrittenItem::Bare(name))?;
     have_item(frames, items, token)
 }
 
@@ -61,43 +66,22 @@ fn after_item(
 fn after_filter(
     alloc: Global,
     frames: Vec<Frame>,
-    pick: WrittenPick,
-    source: WrittenQuery,
-    window: Option<Window>,
+    from: SelectFrom,
     expr: WrittenExpr,
     token: &Token,
 ) -> Result<Option<State>, AllocError>
     ensures { IfOk result (λ o. next_of o
-        ≡ machine.after_filter (frames_of frames.items) (pick_of pick) (query_of source) window
-        (expr_of expr) token.now) }
+        ≡ machine.after_filter (frames_of frames.items) (pick_of from.pick) (query_of from.source)
+        from.window (expr_of expr) token.now) }
 {
+    let filter = Some(expr);
     if is_plain(token, Plain::Group) {
         return goes(
-            Control::Source(SourceControl::WantBy {
-                pick,
-                source,
-                window,
-                filter: Some(expr),
-            }),
+            Control::Groups(GroupsControl::WantBy { from, filter }),
             frames,
         );
     }
-    match Box::new(alloc, source) {
-        Ok(source) => {
-            let term = WrittenQuery::Select {
-                pick,
-                source,
-                window,
-                filter: Some(expr),
-                grouping: None,
-            };
-            have_term(alloc, frames, term, token)
-        }
-        Err(full) => {
-            drop(full);
-            give_up((frames, pick, expr))
-        }
-    }
+    end_select(alloc, frames, from, filter, token)
 }
 
 // Behind an expression in brackets.
@@ -114,9 +98,12 @@ fn after_brackets(
     if !is_plain(token, Plain::Close) {
         return refuse((frames, expr));
     }
-    let inner = Box::new(alloc, expr)?;
+    let OneBox {
+        kept: frames,
+        boxed: inner,
+    } = one_box(alloc, frames, expr)?;
     goes(
-        Control::Item(ItemControl::HaveExpr {
+        Control::Expr(ExprControl::HaveExpr {
             last: WrittenExpr::Brackets { at, inner },
         }),
         frames,
@@ -134,11 +121,12 @@ fn after_cast(
     ensures { IfOk result (λ o. next_of o
         ≡ machine.after_cast (frames_of frames.items) at «open» (expr_of expr) token.now) }
 {
-    let next = Control::Item(ItemControl::WantKind {
+    let head = CastHead {
         at,
         open,
         inner: expr,
-    });
+    };
+    let next = Control::Expr(ExprControl::WantKind(head));
     expect(token, Plain::As, next, frames)
 }
 
@@ -179,12 +167,13 @@ fn after_wsum(
         ≡ machine.after_wsum (frames_of frames.items) (items_of items) at «open» (expr_of expr)
         token.now) }
 {
-    let next = Control::Item(ItemControl::WantWeightsOpen {
+    let head = WsumHead {
         items,
         at,
         open,
         arg: expr,
-    });
+    };
+    let next = Control::Agg(AggControl::WantWeightsOpen(head));
     expect(token, Plain::Comma, next, frames)
 }
 
@@ -222,11 +211,7 @@ fn after_expr_in(
             open,
         } => after_fold(frames, items, fold, at, open, expr, token),
         Frame::InWsum { items, at, open } => after_wsum(frames, items, at, open, expr, token),
-        Frame::InFilter {
-            pick,
-            source,
-            window,
-        } => after_filter(alloc, frames, pick, source, window, expr, token),
+        Frame::InFilter(from) => after_filter(alloc, frames, from, expr, token),
         other => refuse((other, frames, expr)),
     }
 }

@@ -1,16 +1,18 @@
 //! The items of a select.
 
 ghost use Rattle.std.specs.Prelude.{◌≡◌, ◌∷◌, ◌++◌, [], IfOk, OnOk};
+ghost use Rattle.gl_query_reader.specs.States as states;
 ghost use Rattle.gl_query_reader.specs.Machine as machine;
-ghost use Rattle.gl_query_reader.specs.Trees.{expr_of, item_of, items_of, unnamed_of, frames_of, next_of};
+ghost use Rattle.gl_query_reader.specs.Trees.{item_of, items_of, unnamed_of, item_control_of, frames_of, next_of};
 
 use crate::expressions::want_operand;
-use crate::parts::{give_up, goes, goes_in, name_of, refuse};
-use crate::state::{Control, Frame, Head, ItemControl, SourceControl, State, Unnamed};
-use crate::written::{WrittenExpr, WrittenItem, WrittenItems, WrittenPick};
-use gl_query::{Name, Num, Nums, Op};
-use gl_query_tokens::sorts::{is_plain, number_in, open_in};
-use gl_query_tokens::{Fold, Plain, Token};
+use crate::keeping::{Beside, listed, pushed};
+use crate::parts::{expect, give_up, goes, name_of, refuse};
+use crate::state::{AggControl, Control, Frame, Head, ItemControl, SourceControl, State, Unnamed};
+use crate::written::{WrittenItem, WrittenItems, WrittenPick};
+use gl_query::{Name, Op};
+use gl_query_tokens::sorts::is_plain;
+use gl_query_tokens::{Plain, Token};
 use std::alloc::{AllocError, Global};
 
 // `*` in place of the first item.
@@ -52,11 +54,11 @@ fn want_agg(
     match token {
         Token::Operator { op, at } => want_all(items, *op, *at, frames),
         Token::Count { at } => goes(
-            Control::Item(ItemControl::WantCountOpen { items, at: *at }),
+            Control::Agg(AggControl::WantCountOpen { items, at: *at }),
             frames,
         ),
         Token::Fold { fold, at } => goes(
-            Control::Item(ItemControl::WantFoldOpen {
+            Control::Agg(AggControl::WantFoldOpen {
                 items,
                 fold: *fold,
                 at: *at,
@@ -64,15 +66,15 @@ fn want_agg(
             frames,
         ),
         Token::Wsum { at } => goes(
-            Control::Item(ItemControl::WantWsumOpen { items, at: *at }),
+            Control::Agg(AggControl::WantWsumOpen { items, at: *at }),
             frames,
         ),
         _ => refuse((items, frames)),
     }
 }
 
-/// An item behind these, or `*` where there is none.
-pub fn want_item(
+// An item behind these, or `*` where there is none.
+fn want_item(
     alloc: Global,
     items: WrittenItems,
     frames: Vec<Frame>,
@@ -92,163 +94,18 @@ pub fn want_item(
 fn want_operand_of_item(
     alloc: Global,
     items: WrittenItems,
-    mut frames: Vec<Frame>,
+    frames: Vec<Frame>,
     token: &Token,
 ) -> Result<Option<State>, AllocError>
     ensures { IfOk result (λ o. next_of o
-        ≡ machine.want_operand (machine.InItem (items_of items)
+        ≡ machine.want_operand (states.InItem (items_of items)
         ∷ frames_of frames.items) token.now) }
 {
-    frames.push(Frame::InItem { items })?;
+    let Beside {
+        kept: (),
+        made: frames,
+    } = pushed((), frames, Frame::InItem { items })?;
     want_operand(alloc, frames, token)
-}
-
-/// `(` behind COUNT.
-pub fn want_count_open(
-    frames: Vec<Frame>,
-    items: WrittenItems,
-    at: u64,
-    token: &Token,
-) -> Result<Option<State>, AllocError>
-    ensures { IfOk result (λ o. next_of o
-        ≡ machine.want_count_open (frames_of frames.items) (items_of items) at token.now) }
-{
-    match open_in(token) {
-        Some(open) => goes(
-            Control::Item(ItemControl::WantCountClose { items, at, open }),
-            frames,
-        ),
-        None => refuse((frames, items)),
-    }
-}
-
-/// `(` behind SUM, MIN, MAX or AVG.
-pub fn want_fold_open(
-    frames: Vec<Frame>,
-    items: WrittenItems,
-    fold: Fold,
-    at: u64,
-    token: &Token,
-) -> Result<Option<State>, AllocError>
-    ensures { IfOk result (λ o. next_of o
-        ≡ machine.want_fold_open (frames_of frames.items) (items_of items) fold at token.now) }
-{
-    match open_in(token) {
-        Some(open) => goes_in(
-            Control::Item(ItemControl::WantOperand),
-            frames,
-            Frame::InFold {
-                items,
-                fold,
-                at,
-                open,
-            },
-        ),
-        None => refuse((frames, items)),
-    }
-}
-
-/// `(` behind WSUM.
-pub fn want_wsum_open(
-    frames: Vec<Frame>,
-    items: WrittenItems,
-    at: u64,
-    token: &Token,
-) -> Result<Option<State>, AllocError>
-    ensures { IfOk result (λ o. next_of o
-        ≡ machine.want_wsum_open (frames_of frames.items) (items_of items) at token.now) }
-{
-    match open_in(token) {
-        Some(open) => goes_in(
-            Control::Item(ItemControl::WantOperand),
-            frames,
-            Frame::InWsum { items, at, open },
-        ),
-        None => refuse((frames, items)),
-    }
-}
-
-fn add_weight(weights: &mut Nums, weight: Num) -> Result<(), AllocError>
-    ensures { OnOk result (weights.new ≡ weights.old ++ weight ∷ []) }
-{
-    match weights.push(weight) {
-        Ok(()) => Ok(()),
-        Err(_) => Err(AllocError),
-    }
-}
-
-/// A weight.
-pub fn want_weight(
-    frames: Vec<Frame>,
-    items: WrittenItems,
-    at: u64,
-    open: u64,
-    arg: WrittenExpr,
-    weights: Nums,
-    token: &Token,
-) -> Result<Option<State>, AllocError>
-    ensures { IfOk result (λ o. next_of o
-        ≡ machine.want_weight (frames_of frames.items) (items_of items) at «open» (expr_of arg)
-        weights token.now) }
-{
-    let Some(number) = number_in(token) else {
-        return refuse((frames, items, arg, weights));
-    };
-    let mut weights = weights;
-    match add_weight(&mut weights, number) {
-        Ok(()) => goes(
-            Control::Item(ItemControl::HaveWeight {
-                items,
-                at,
-                open,
-                arg,
-                weights,
-            }),
-            frames,
-        ),
-        Err(_) => give_up((frames, items, arg, weights)),
-    }
-}
-
-/// `,` or `]` behind a weight.
-pub fn have_weight(
-    frames: Vec<Frame>,
-    items: WrittenItems,
-    at: u64,
-    open: u64,
-    arg: WrittenExpr,
-    weights: Nums,
-    token: &Token,
-) -> Result<Option<State>, AllocError>
-    ensures { IfOk result (λ o. next_of o
-        ≡ machine.have_weight (frames_of frames.items) (items_of items) at «open» (expr_of arg)
-        weights token.now) }
-{
-    if is_plain(token, Plain::Comma) {
-        return goes(
-            Control::Item(ItemControl::WantWeight {
-                items,
-                at,
-                open,
-                arg,
-                weights,
-            }),
-            frames,
-        );
-    }
-    if is_plain(token, Plain::RightSquare) {
-        return goes(
-            Control::Item(ItemControl::WantWsumClose {
-                items,
-                at,
-                open,
-                arg,
-                weights,
-            }),
-            frames,
-        );
-    }
-    refuse((frames, items, arg, weights))
 }
 
 fn under_name(unnamed: Unnamed, name: Name) -> WrittenItem
@@ -260,19 +117,21 @@ fn under_name(unnamed: Unnamed, name: Name) -> WrittenItem
     }
 }
 
-/// Adds an item.
+/// Items with one more, beside these frames.
 #[tactic(auto, using(crate::proofs::ItemLists::item_steps))]
-pub fn add_item(items: &mut WrittenItems, item: WrittenItem) -> Result<(), AllocError>
-    ensures { OnOk result (items_of items.new ≡ items_of items.old ++ item_of item ∷ []) }
+pub fn with_item(
+    frames: Vec<Frame>,
+    items: WrittenItems,
+    item: WrittenItem,
+) -> Result<Beside<Vec<Frame>, WrittenItems>, AllocError>
+    ensures frames { IfOk result (λ b. b.kept ≡ frames) }
+    ensures items { IfOk result (λ b. items_of b.made ≡ items_of items ++ item_of item ∷ []) }
 {
-    match items.push(item) {
-        Ok(()) => Ok(()),
-        Err(_) => Err(AllocError),
-    }
+    listed(frames, items, item)
 }
 
-/// The name of an item.
-pub fn want_item_name(
+// The name of an item.
+fn want_item_name(
     alloc: Global,
     frames: Vec<Frame>,
     items: WrittenItems,
@@ -293,14 +152,17 @@ pub fn want_item_name(
 // Behind one more item.
 fn have_named(
     frames: Vec<Frame>,
-    mut items: WrittenItems,
+    items: WrittenItems,
     item: WrittenItem,
 ) -> Result<Option<State>, AllocError>
     ensures { IfOk result (λ o. next_of o
-        ≡ machine.goes (machine.HaveItem (items_of items ++ item_of item ∷ []))
+        ≡ states.goes (states.HaveItem (items_of items ++ item_of item ∷ []))
         (frames_of frames.items)) }
 {
-    add_item(&mut items, item)?;
+    let Beside {
+        kept: frames,
+        made: items,
+    } = with_item(frames, items, item)?;
     goes(Control::Item(ItemControl::HaveItem { items }), frames)
 }
 
@@ -325,4 +187,33 @@ pub fn have_item(
         );
     }
     refuse((frames, items))
+}
+
+/// The state behind a token in the items of a select.
+pub fn step_item(
+    alloc: Global,
+    control: ItemControl,
+    frames: Vec<Frame>,
+    token: &Token,
+) -> Result<Option<State>, AllocError>
+    ensures { IfOk result (λ o. next_of o
+        ≡ machine.step_at (item_control_of control) (frames_of frames.items) token.now) }
+{
+    match control {
+        ItemControl::WantItem { items } => want_item(alloc, items, frames, token),
+        ItemControl::WantAs { items, agg } => {
+            let unnamed = Unnamed::Agg(agg);
+            let next = Control::Item(ItemControl::WantItemName { items, unnamed });
+            expect(token, Plain::As, next, frames)
+        }
+        ItemControl::WantItemName { items, unnamed } => want_item_name(
+            alloc, frames, items, unnamed, token,
+        ),
+        ItemControl::HaveItem { items } => have_item(frames, items, token),
+        ItemControl::WantFrom { at } => {
+            let head = Head::Select(WrittenPick::All { at });
+            let next = Control::Source(SourceControl::WantSource { head });
+            expect(token, Plain::From, next, frames)
+        }
+    }
 }

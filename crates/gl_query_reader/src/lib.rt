@@ -2,9 +2,14 @@
 //! statement is gl_query_printer's, and the tests are gl_query_tests'.
 #![tactic(auto)]
 
+mod aggregates;
+mod boxes;
 mod expressions;
 mod following;
+mod groups;
+mod item_meaning;
 mod items;
+mod keeping;
 pub mod laws;
 mod limits;
 mod meaning;
@@ -12,9 +17,12 @@ mod mixed;
 mod parsing;
 mod parts;
 mod queries;
+mod select_meaning;
 mod sources;
 mod state;
+mod terms;
 pub mod text;
+mod windows;
 mod written;
 
 pub use text::read_query;

@@ -6,7 +6,7 @@ ghost use Rattle.gl_query_reader.specs.Limits as limits;
 use gl_query_tokens::{Plain, Token};
 
 /// What was counted so far.
-#[derive(Clone, Copy, Debug, PartialEq, Eq)]
+#[derive(Clone, Copy)]
 pub struct Counts {
     /// Round brackets that are open.
     pub brackets: u32,

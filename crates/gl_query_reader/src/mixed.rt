@@ -150,20 +150,17 @@ fn least(a: Option<u64>, b: Option<u64>) -> Option<u64>
 }
 
 /// The first item in the text that shows that the items of its select do not go together.
+#[tactic(auto, using(crate::proofs::Eaches::eaches))]
 pub fn mixed_in(query: &WrittenQuery) -> Option<u64>
     ensures { result ≡ mixed.mixed_in (query_of query.now) }
 {
     match query {
         WrittenQuery::Stream(_) => None,
         WrittenQuery::Brackets { inner, .. } => mixed_in(inner),
-        WrittenQuery::Select {
-            pick,
-            source,
-            grouping,
-            ..
-        } => least(mixed_pick(pick, grouping), mixed_in(source)),
-        WrittenQuery::Windows { source, body, .. } => least(mixed_in(source), mixed_in(body)),
-        WrittenQuery::Groups { source, body, .. } => least(mixed_in(source), mixed_in(body)),
+        WrittenQuery::Select { select, source } => {
+            least(mixed_pick(&select.pick, &select.grouping), mixed_in(source))
+        }
+        WrittenQuery::Each { source, body, .. } => least(mixed_in(source), mixed_in(body)),
         WrittenQuery::Join { left, right, .. } => least(mixed_in(left), mixed_in(right)),
     }
 }

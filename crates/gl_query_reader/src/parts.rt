@@ -2,10 +2,11 @@
 
 ghost use Rattle.std.specs.Prelude.{◌≡◌, ◌∷◌, IfOk, None};
 ghost use Rattle.gl_query_tokens.specs.Sorts.{name_in};
-ghost use Rattle.gl_query_reader.specs.Machine as machine;
-ghost use Rattle.gl_query_reader.specs.Machine.{expected};
+ghost use Rattle.gl_query_reader.specs.States as states;
+ghost use Rattle.gl_query_reader.specs.States.{expected};
 ghost use Rattle.gl_query_reader.specs.Trees.{frame_of, frames_of, control_of, next_of};
 
+use crate::keeping::{Beside, pushed};
 use crate::state::{Control, Frame, State};
 use gl_query::{Name, TextBytes};
 use gl_query_tokens::sorts::is_plain;
@@ -32,7 +33,7 @@ pub fn give_up<T: Drop>(parts: T) -> Result<Option<State>, AllocError>
 /// The state of a place in these frames.
 pub fn goes(control: Control, frames: Vec<Frame>) -> Result<Option<State>, AllocError>
     ensures { IfOk result (λ o. next_of o
-        ≡ machine.goes (control_of control) (frames_of frames.items)) }
+        ≡ states.goes (control_of control) (frames_of frames.items)) }
 {
     Ok(Some(State { control, frames }))
 }
@@ -58,19 +59,17 @@ pub fn expect(
 #[tactic(auto, using(crate::proofs::Stack::reductions))]
 pub fn goes_in(
     control: Control,
-    mut frames: Vec<Frame>,
+    frames: Vec<Frame>,
     frame: Frame,
 ) -> Result<Option<State>, AllocError>
     ensures { IfOk result (λ o. next_of o
-        ≡ machine.goes (control_of control) (frame_of frame ∷ frames_of frames.items)) }
+        ≡ states.goes (control_of control) (frame_of frame ∷ frames_of frames.items)) }
 {
-    match frames.push(frame) {
-        Ok(()) => Ok(Some(State { control, frames })),
-        Err(full) => {
-            drop(full);
-            give_up((control, frames))
-        }
-    }
+    let Beside {
+        kept: control,
+        made: frames,
+    } = pushed(control, frames, frame)?;
+    goes(control, frames)
 }
 
 /// A copy of a name.

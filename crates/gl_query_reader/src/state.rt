@@ -1,7 +1,7 @@
 //! What the reader has read so far.
 
 use crate::written::{
-    Grouping, Window, WrittenAgg, WrittenExpr, WrittenItems, WrittenPick, WrittenQuery,
+    Over, Window, WrittenAgg, WrittenExpr, WrittenItems, WrittenPick, WrittenQuery,
 };
 use gl_bits::Kind;
 use gl_query::{Name, Num, Nums, Op};
@@ -16,30 +16,35 @@ pub enum Head {
     Each { at: u64, var: Name },
 }
 
+/// A select with its source, and with its window where it has one.
+#[derive(Drop)]
+pub struct SelectFrom {
+    pub pick: WrittenPick,
+    pub source: WrittenQuery,
+    pub window: Option<Window>,
+}
+
+/// What stands before a window.
+#[derive(Drop)]
+pub struct WindowHead {
+    pub head: Head,
+    pub source: WrittenQuery,
+}
+
 /// What stands before the bracket of a body.
 #[derive(Drop)]
-pub enum BodyHead {
-    Windows {
-        at: u64,
-        var: Name,
-        source: WrittenQuery,
-        window: Window,
-    },
-    Groups {
-        at: u64,
-        var: Name,
-        source: WrittenQuery,
-        grouping: Grouping,
-    },
+pub struct BodyHead {
+    pub at: u64,
+    pub var: Name,
+    pub source: WrittenQuery,
+    pub over: Over,
 }
 
 /// What stands before BY.
 #[derive(Drop)]
 pub enum GroupsHead {
     Select {
-        pick: WrittenPick,
-        source: WrittenQuery,
-        window: Option<Window>,
+        from: SelectFrom,
         filter: Option<WrittenExpr>,
     },
     Each {
@@ -47,6 +52,23 @@ pub enum GroupsHead {
         var: Name,
         source: WrittenQuery,
     },
+}
+
+/// A CAST with its expression.
+#[derive(Drop)]
+pub struct CastHead {
+    pub at: u64,
+    pub open: u64,
+    pub inner: WrittenExpr,
+}
+
+/// A WSUM with its argument, and the items before it.
+#[derive(Drop)]
+pub struct WsumHead {
+    pub items: WrittenItems,
+    pub at: u64,
+    pub open: u64,
+    pub arg: WrittenExpr,
 }
 
 /// An expression or an aggregate that waits for its name.
@@ -89,11 +111,7 @@ pub enum Frame {
         at: u64,
         open: u64,
     },
-    InFilter {
-        pick: WrittenPick,
-        source: WrittenQuery,
-        window: Option<Window>,
-    },
+    InFilter(SelectFrom),
     // These wait for a query.
     JoinOf {
         left: WrittenQuery,
@@ -113,13 +131,9 @@ pub enum Frame {
     },
 }
 
-/// A place in the items of a select or in an expression, and what may follow there.
+/// A place in an expression, and what may follow there.
 #[derive(Drop)]
-pub enum ItemControl {
-    /// An item behind these, or `*` where there is none.
-    WantItem {
-        items: WrittenItems,
-    },
+pub enum ExprControl {
     /// An operand.
     WantOperand,
     /// An operator, or what may stand behind an expression.
@@ -131,19 +145,45 @@ pub enum ItemControl {
         at: u64,
     },
     /// The word of a kind.
-    WantKind {
-        at: u64,
-        open: u64,
-        inner: WrittenExpr,
-    },
+    WantKind(CastHead),
     /// `)` behind a kind.
     WantCastClose {
-        at: u64,
-        open: u64,
-        inner: WrittenExpr,
+        head: CastHead,
         word: Name,
         kind: Kind,
     },
+}
+
+/// A place in the items of a select, and what may follow there.
+#[derive(Drop)]
+pub enum ItemControl {
+    /// An item behind these, or `*` where there is none.
+    WantItem {
+        items: WrittenItems,
+    },
+    /// AS behind an aggregate.
+    WantAs {
+        items: WrittenItems,
+        agg: WrittenAgg,
+    },
+    /// The name of an item.
+    WantItemName {
+        items: WrittenItems,
+        unnamed: Unnamed,
+    },
+    /// `,` or FROM behind an item.
+    HaveItem {
+        items: WrittenItems,
+    },
+    /// FROM behind `*`.
+    WantFrom {
+        at: u64,
+    },
+}
+
+/// A place in an aggregate, and what may follow there.
+#[derive(Drop)]
+pub enum AggControl {
     /// `(` behind COUNT.
     WantCountOpen {
         items: WrittenItems,
@@ -167,57 +207,25 @@ pub enum ItemControl {
         at: u64,
     },
     /// `[` behind the argument of WSUM.
-    WantWeightsOpen {
-        items: WrittenItems,
-        at: u64,
-        open: u64,
-        arg: WrittenExpr,
-    },
+    WantWeightsOpen(WsumHead),
     /// A weight.
     WantWeight {
-        items: WrittenItems,
-        at: u64,
-        open: u64,
-        arg: WrittenExpr,
+        head: WsumHead,
         weights: Nums,
     },
     /// `,` or `]` behind a weight.
     HaveWeight {
-        items: WrittenItems,
-        at: u64,
-        open: u64,
-        arg: WrittenExpr,
+        head: WsumHead,
         weights: Nums,
     },
     /// `)` behind the weights.
     WantWsumClose {
-        items: WrittenItems,
-        at: u64,
-        open: u64,
-        arg: WrittenExpr,
+        head: WsumHead,
         weights: Nums,
-    },
-    /// AS behind an aggregate.
-    WantAs {
-        items: WrittenItems,
-        agg: WrittenAgg,
-    },
-    /// The name of an item.
-    WantItemName {
-        items: WrittenItems,
-        unnamed: Unnamed,
-    },
-    /// `,` or FROM behind an item.
-    HaveItem {
-        items: WrittenItems,
-    },
-    /// FROM behind `*`.
-    WantFrom {
-        at: u64,
     },
 }
 
-/// A place behind a source, and what may follow there.
+/// A place at a source, and what may follow there.
 #[derive(Drop)]
 pub enum SourceControl {
     /// A name or `(`.
@@ -225,59 +233,55 @@ pub enum SourceControl {
         head: Head,
     },
     /// What may stand behind the source of a select.
-    HaveSource {
-        pick: WrittenPick,
-        source: WrittenQuery,
-        window: Option<Window>,
-    },
+    HaveSource(SelectFrom),
     /// `[` or BY behind the source of an EACH.
     HaveEachSource {
         at: u64,
         var: Name,
         source: WrittenQuery,
     },
+}
+
+/// A place in a window, and what may follow there.
+#[derive(Drop)]
+pub enum WindowControl {
     /// SIZE.
-    WantSize {
-        head: Head,
-        source: WrittenQuery,
-    },
+    WantSize(WindowHead),
     /// The number behind SIZE.
     WantSizeNumber {
-        head: Head,
-        source: WrittenQuery,
+        head: WindowHead,
         at: u64,
     },
     /// ADVANCE.
     WantAdvance {
-        head: Head,
-        source: WrittenQuery,
+        head: WindowHead,
         at: u64,
         size: Num,
     },
     /// The number behind ADVANCE.
     WantAdvanceNumber {
-        head: Head,
-        source: WrittenQuery,
+        head: WindowHead,
         at: u64,
         size: Num,
     },
     /// TUPLES.
     WantTuples {
-        head: Head,
-        source: WrittenQuery,
+        head: WindowHead,
         window: Window,
     },
     /// `]` behind TUPLES.
     WantWindowClose {
-        head: Head,
-        source: WrittenQuery,
+        head: WindowHead,
         window: Window,
     },
+}
+
+/// A place in what makes groups, and what may follow there.
+#[derive(Drop)]
+pub enum GroupsControl {
     /// BY behind GROUP.
     WantBy {
-        pick: WrittenPick,
-        source: WrittenQuery,
-        window: Option<Window>,
+        from: SelectFrom,
         filter: Option<WrittenExpr>,
     },
     /// The name behind BY.
@@ -323,8 +327,12 @@ pub enum QueryControl {
 /// Where the reader stands: what it has read last, and what may follow.
 #[derive(Drop)]
 pub enum Control {
+    Expr(ExprControl),
     Item(ItemControl),
+    Agg(AggControl),
     Source(SourceControl),
+    Window(WindowControl),
+    Groups(GroupsControl),
     Query(QueryControl),
 }
 

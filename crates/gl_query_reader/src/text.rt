@@ -2,7 +2,7 @@
 
 ghost use Rattle.std.specs.Prelude.{◌≡◌, ℕ, length, Err, IfOk, IfErr};
 ghost use Rattle.gl_query_tokens.specs.Tokens.{tokens_of};
-ghost use Rattle.gl_query_reader.specs.Machine.{start};
+ghost use Rattle.gl_query_reader.specs.States.{start};
 ghost use Rattle.gl_query_reader.specs.Limits.{none_counted};
 ghost use Rattle.gl_query_reader.specs.Reading.{run, Gives, answered, with_items, Answers};
 ghost use Rattle.gl_query_reader.specs.Trees.{statement_of};

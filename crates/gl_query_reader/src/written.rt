@@ -97,6 +97,31 @@ pub struct Grouping {
     pub groups: Num,
 }
 
+/// A select without its source.
+#[derive(Drop)]
+pub struct WrittenSelect {
+    pub pick: WrittenPick,
+    pub window: Option<Window>,
+    pub filter: Option<WrittenExpr>,
+    pub grouping: Option<Grouping>,
+}
+
+/// What an EACH goes over.
+#[derive(Drop)]
+pub enum Over {
+    Windows(Window),
+    Groups(Grouping),
+}
+
+/// An EACH without its source and its body; the body's bracket is at `open`.
+#[derive(Drop)]
+pub struct WrittenEach {
+    pub at: u64,
+    pub var: Name,
+    pub over: Over,
+    pub open: u64,
+}
+
 /// A query as it is written. A source is a `Stream` or in `Brackets`, a body is in brackets.
 #[derive(Drop)]
 pub enum WrittenQuery {
@@ -107,28 +132,12 @@ pub enum WrittenQuery {
         inner: Box<WrittenQuery>,
     },
     Select {
-        pick: WrittenPick,
+        select: WrittenSelect,
         source: Box<WrittenQuery>,
-        window: Option<Window>,
-        filter: Option<WrittenExpr>,
-        grouping: Option<Grouping>,
     },
-    /// EACH over windows.
-    Windows {
-        at: u64,
-        var: Name,
+    Each {
+        each: WrittenEach,
         source: Box<WrittenQuery>,
-        window: Window,
-        open: u64,
-        body: Box<WrittenQuery>,
-    },
-    /// EACH over groups.
-    Groups {
-        at: u64,
-        var: Name,
-        source: Box<WrittenQuery>,
-        grouping: Grouping,
-        open: u64,
         body: Box<WrittenQuery>,
     },
     Join {

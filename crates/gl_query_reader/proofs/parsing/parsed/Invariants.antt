@@ -1,5 +1,5 @@
 use Rattle.std.proofs.Common.{◌≡◌, reverse, vec_len}
-use Rattle.gl_query_reader.specs.Machine.{start}
+use Rattle.gl_query_reader.specs.States.{start}
 use Rattle.gl_query_reader.specs.Limits.{none_counted, IsSmall}
 use Rattle.gl_query_reader.specs.Reading.{run}
 use Rattle.gl_query_reader.specs.Trees.{state_of}

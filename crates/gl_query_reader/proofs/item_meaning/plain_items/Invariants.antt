@@ -3,7 +3,7 @@ use Rattle.std.specs.Prelude.{map}
 use Rattle.gl_query_reader.specs.Meaning.{plain_items}
 use Rattle.gl_query.specs.Trees.{item_tree}
 use Rattle.gl_query_reader.specs.Trees.{items_of}
-use Rattle.gl_query_reader.proofs.meaning.plain_items.Given as goal
+use Rattle.gl_query_reader.proofs.item_meaning.plain_items.Given as goal
 
 abbrev pub invariant-loop-item : goal.invariant-loop-item
 invariant-loop-item l = map item_tree l.items.items ++ plain_items (items_of (reverse l.left.items)) ≡ plain_items (items_of l.fn.written)

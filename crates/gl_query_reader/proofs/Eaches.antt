@@ -1,0 +1,36 @@
+-- EACH over windows and EACH over groups alike.
+use Rattle.std.proofs.Common.{◌≡◌, ℕ, refl}
+use Rattle.gl_query.specs.declared.tree.Name.{Name}
+use Rattle.gl_query_reader.specs.declared.written.Over.{Over}
+use Rattle.gl_query_reader.specs.declared.written.Over.TheVariants as over
+use Rattle.gl_query_reader.specs.declared.written.WrittenEach.{WrittenEach}
+use Rattle.gl_query_reader.specs.Written.{Query}
+use Rattle.gl_query_reader.specs.Machine.{body_of}
+use Rattle.gl_query_reader.specs.Trees.{over_of, each_of, over_tree, each_tree, over_head_of}
+use Rattle.gl_query_reader.specs.Meaning.{query_meaning}
+use Rattle.gl_query_reader.specs.Mixed.{least, mixed_in}
+
+over-means : (o : Over) (at : ℕ) (var : Name) (open' : ℕ) (s b : Query) → query_meaning (over_of o at var open' s b) ≡ over_tree o at var (query_meaning s) (query_meaning b)
+over-means (over.Windows w) at var open' s b = refl
+over-means (over.Groups g) at var open' s b = refl
+
+over-mixes : (o : Over) (at : ℕ) (var : Name) (open' : ℕ) (s b : Query) → mixed_in (over_of o at var open' s b) ≡ least (mixed_in s) (mixed_in b)
+over-mixes (over.Windows w) at var open' s b = refl
+over-mixes (over.Groups g) at var open' s b = refl
+
+-- the term that a body ends, by what stands before its bracket
+pub over-body : (o : Over) (at : ℕ) (var : Name) (open' : ℕ) (s b : Query) → body_of (over_head_of o at var s) open' b ≡ over_of o at var open' s b
+over-body (over.Windows w) at var open' s b = refl
+over-body (over.Groups g) at var open' s b = refl
+
+pub ruleset bodies = (over-body)
+
+pub each-means : (e : WrittenEach) (s b : Query) → query_meaning (each_of e s b) ≡ each_tree e (query_meaning s) (query_meaning b)
+unfolding each_of each_tree
+each-means e s b = over-means e.over e.at e.var e.open s b
+
+pub each-mixes : (e : WrittenEach) (s b : Query) → mixed_in (each_of e s b) ≡ least (mixed_in s) (mixed_in b)
+unfolding each_of
+each-mixes e s b = over-mixes e.over e.at e.var e.open s b
+
+pub ruleset eaches = (each-means, each-mixes)

@@ -1,0 +1,106 @@
+-- What the reader has read so far: what may follow, and what is open on a stack.
+use Rattle.std.specs.Prelude.{ℕ, List, [], Option, Some, None, if◌then◌else◌}
+use Rattle.gl_bits.specs.declared.kind.Kind.{Kind}
+use Rattle.gl_query.specs.declared.tree.Name.{Name}
+use Rattle.gl_query.specs.declared.tree.Num.{Num}
+use Rattle.gl_bits.specs.declared.op.Op.{Op}
+use Rattle.gl_query_tokens.specs.declared.token.Fold.{Fold}
+use Rattle.gl_query_tokens.specs.declared.token.Join.{Join}
+use Rattle.gl_query_tokens.specs.declared.token.Plain.{Plain}
+use Rattle.gl_query_tokens.specs.declared.token.Token.{Token}
+use Rattle.gl_query_tokens.specs.Sorts.{is_plain}
+use Rattle.gl_query_reader.specs.declared.written.Window.{Window}
+use Rattle.gl_query_reader.specs.declared.written.Grouping.{Grouping}
+use Rattle.gl_query_reader.specs.Written.{Expr, Agg, Item, Pick, Query}
+
+-- what reads a source: a select of these items, or an EACH with its variable
+pub data Head : Type 0 where
+  SelectHead : (pick : Pick) → Head
+  EachHead : (at : ℕ) (var : Name) → Head
+
+-- what stands before the bracket of a body
+pub data BodyHead : Type 0 where
+  WindowsHead : (at : ℕ) (var : Name) (source : Query) (window : Window) → BodyHead
+  GroupsHead' : (at : ℕ) (var : Name) (source : Query) (grouping : Grouping) → BodyHead
+
+-- what stands before BY
+pub data GroupsHead : Type 0 where
+  SelectGroups : (pick : Pick) (source : Query) (window : Option Window) (filter : Option Expr) → GroupsHead
+  EachGroups : (at : ℕ) (var : Name) (source : Query) → GroupsHead
+
+-- an expression or an aggregate that waits for its name
+pub data Unnamed : Type 0 where
+  UnnamedExpr : (e : Expr) → Unnamed
+  UnnamedAgg : (agg : Agg) → Unnamed
+
+-- what is open: eight frames wait for an expression, four for a query
+pub data Frame : Type 0 where
+  LeftOf : (l : Expr) (o : Op) (at : ℕ) → Frame
+  NotOf : (at : ℕ) → Frame
+  BracketOf : (at : ℕ) → Frame
+  InCast : (at open' : ℕ) → Frame
+  InItem : (items : List Item) → Frame
+  InFold : (items : List Item) (fold : Fold) (at open' : ℕ) → Frame
+  InWsum : (items : List Item) (at open' : ℕ) → Frame
+  InFilter : (pick : Pick) (source : Query) (window : Option Window) → Frame
+  JoinOf : (l : Query) (join : Join) (at : ℕ) → Frame
+  InQuery : (at : ℕ) → Frame
+  InSource : (head : Head) (at : ℕ) → Frame
+  InBody : (head : BodyHead) (open' : ℕ) → Frame
+
+-- what was read last, and what may follow
+pub data Control : Type 0 where
+  WantTerm : Control
+  WantItem : (items : List Item) → Control
+  WantOperand : Control
+  HaveExpr : (last' : Expr) → Control
+  WantCastOpen : (at : ℕ) → Control
+  WantKind : (at open' : ℕ) (inner : Expr) → Control
+  WantCastClose : (at open' : ℕ) (inner : Expr) (word : Name) (kind : Kind) → Control
+  WantCountOpen : (items : List Item) (at : ℕ) → Control
+  WantCountClose : (items : List Item) (at open' : ℕ) → Control
+  WantFoldOpen : (items : List Item) (fold : Fold) (at : ℕ) → Control
+  WantWsumOpen : (items : List Item) (at : ℕ) → Control
+  WantWeightsOpen : (items : List Item) (at open' : ℕ) (arg : Expr) → Control
+  WantWeight : (items : List Item) (at open' : ℕ) (arg : Expr) (weights : List Num) → Control
+  HaveWeight : (items : List Item) (at open' : ℕ) (arg : Expr) (weights : List Num) → Control
+  WantWsumClose : (items : List Item) (at open' : ℕ) (arg : Expr) (weights : List Num) → Control
+  WantAs : (items : List Item) (agg : Agg) → Control
+  WantItemName : (items : List Item) (unnamed : Unnamed) → Control
+  HaveItem : (items : List Item) → Control
+  WantFrom : (at : ℕ) → Control
+  WantSource : (head : Head) → Control
+  HaveSource : (pick : Pick) (source : Query) (window : Option Window) → Control
+  HaveEachSource : (at : ℕ) (var : Name) (source : Query) → Control
+  WantSize : (head : Head) (source : Query) → Control
+  WantSizeNumber : (head : Head) (source : Query) (at : ℕ) → Control
+  WantAdvance : (head : Head) (source : Query) (at : ℕ) (size : Num) → Control
+  WantAdvanceNumber : (head : Head) (source : Query) (at : ℕ) (size : Num) → Control
+  WantTuples : (head : Head) (source : Query) (window : Window) → Control
+  WantWindowClose : (head : Head) (source : Query) (window : Window) → Control
+  WantBy : (pick : Pick) (source : Query) (window : Option Window) (filter : Option Expr) → Control
+  WantKey : (head : GroupsHead) (at : ℕ) → Control
+  WantGroups : (head : GroupsHead) (at : ℕ) (key : Name) → Control
+  WantGroupsNumber : (head : GroupsHead) (at : ℕ) (key : Name) → Control
+  WantVar : (at : ℕ) → Control
+  WantIn : (at : ℕ) (var : Name) → Control
+  WantBody : (head : BodyHead) → Control
+  HaveTerm : (term : Query) → Control
+  WantName : (query : Query) → Control
+  HaveName : (query : Query) (name : Name) → Control
+  WantEnd : (query : Query) (name : Name) → Control
+
+-- the innermost frame stands first
+pub record State : Type 0 where
+  pub control : Control
+  pub frames : List Frame
+
+abbrev pub start : State
+start = record { control = WantTerm; frames = [] }
+
+abbrev pub goes : Control → List Frame → Option State
+goes control fs = Some (record { control = control; frames = fs })
+
+-- a keyword or a sign leads on
+abbrev pub expected : Plain → Control → List Frame → Token → Option State
+expected wanted next fs t = if is_plain wanted t then goes next fs else None

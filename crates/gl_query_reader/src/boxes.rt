@@ -1,0 +1,54 @@
+//! Boxes of values of any type.
+
+ghost use Rattle.std.specs.Prelude.{◌≡◌, IfOk};
+
+use std::alloc::{AllocError, Global};
+
+/// A box, and what its caller keeps beside it. Where memory runs out, all is dropped where it would
+/// have been made, whose types are open: over trees each such path is dear to prove.
+#[derive(Drop)]
+pub struct OneBox<T, U> {
+    pub kept: T,
+    pub boxed: Box<U>,
+}
+
+/// A value in a box.
+pub fn one_box<T: Drop, U: Drop>(
+    alloc: Global,
+    kept: T,
+    value: U,
+) -> Result<OneBox<T, U>, AllocError>
+    ensures kept { IfOk result (λ b. b.kept ≡ kept) }
+    ensures boxed { IfOk result (λ b. b.boxed.value ≡ value) }
+{
+    let boxed = Box::new(alloc, value)?;
+    Ok(OneBox { kept, boxed })
+}
+
+/// Two boxes, and what their caller keeps beside them.
+#[derive(Drop)]
+pub struct TwoBoxes<T, U, V> {
+    pub kept: T,
+    pub first: Box<U>,
+    pub second: Box<V>,
+}
+
+/// Two values in boxes.
+pub fn two_boxes<T: Drop, U: Drop, V: Drop>(
+    alloc: Global,
+    kept: T,
+    first: U,
+    second: V,
+) -> Result<TwoBoxes<T, U, V>, AllocError>
+    ensures kept { IfOk result (λ b. b.kept ≡ kept) }
+    ensures first { IfOk result (λ b. b.first.value ≡ first) }
+    ensures second { IfOk result (λ b. b.second.value ≡ second) }
+{
+    let first = Box::new(alloc, first)?;
+    let second = Box::new(alloc, second)?;
+    Ok(TwoBoxes {
+        kept,
+        first,
+        second,
+    })
+}

@@ -1,0 +1,84 @@
+//! What a caller keeps while memory may run out. Where it does, all is dropped here, whose types are
+//! open: over trees each such path is dear to prove.
+
+ghost use Rattle.std.specs.Prelude.{◌≡◌, ◌++◌, ◌∷◌, [], Ok, IfOk, OnOk};
+
+use gl_bits::Listed;
+use std::alloc::AllocError;
+
+/// What was made, and what its caller keeps beside it.
+#[derive(Drop)]
+pub struct Beside<T, U> {
+    pub kept: T,
+    pub made: U,
+}
+
+/// What a call made, beside what its caller keeps.
+pub fn keep_beside<T: Drop, U: Drop>(
+    kept: T,
+    made: Result<U, AllocError>,
+) -> Result<Beside<T, U>, AllocError>
+    ensures kept { IfOk result (λ b. b.kept ≡ kept) }
+    ensures made { IfOk result (λ b. made ≡ Ok b.made) }
+{
+    let made = made?;
+    Ok(Beside { kept, made })
+}
+
+/// What two calls made.
+#[derive(Drop)]
+pub struct Both<T, U> {
+    pub first: T,
+    pub second: U,
+}
+
+/// What two calls made, where neither ran out of memory.
+pub fn take_both<T: Drop, U: Drop>(
+    first: Result<T, AllocError>,
+    second: Result<U, AllocError>,
+) -> Result<Both<T, U>, AllocError>
+    ensures first { IfOk result (λ b. first ≡ Ok b.first) }
+    ensures second { IfOk result (λ b. second ≡ Ok b.second) }
+{
+    let first = first?;
+    let second = second?;
+    Ok(Both { first, second })
+}
+
+/// Puts a value at the end of a list.
+pub fn put<T: Drop>(list: &mut Vec<T>, value: T) -> Result<(), AllocError>
+    ensures { OnOk result (list.new.items ≡ list.old.items ++ value ∷ []) }
+{
+    list.push(value)?;
+    Ok(())
+}
+
+/// A list with one more value at its end.
+pub fn pushed<T: Drop, U: Drop>(
+    kept: T,
+    list: Vec<U>,
+    value: U,
+) -> Result<Beside<T, Vec<U>>, AllocError>
+    ensures kept { IfOk result (λ b. b.kept ≡ kept) }
+    ensures made { IfOk result (λ b. b.made.items ≡ list.items ++ value ∷ []) }
+{
+    let mut made = list;
+    put(&mut made, value)?;
+    Ok(Beside { kept, made })
+}
+
+/// A list of a tree with one more value at its end.
+pub fn listed<T: Drop, U: Drop>(
+    kept: T,
+    list: Listed<U>,
+    value: U,
+) -> Result<Beside<T, Listed<U>>, AllocError>
+    ensures kept { IfOk result (λ b. b.kept ≡ kept) }
+    ensures made { IfOk result (λ b. b.made ≡ list ++ value ∷ []) }
+{
+    let mut made = list;
+    match made.push(value) {
+        Ok(()) => Ok(Beside { kept, made }),
+        Err(_) => Err(AllocError),
+    }
+}
