@@ -17,4 +17,7 @@ pub mod Exact
 pub mod Verdicts
 pub mod Meanings
 pub mod Small
+pub mod Limiting
+pub mod LimitingItems
+pub mod LimitingQueries
 pub mod Regular

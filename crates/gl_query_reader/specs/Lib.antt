@@ -3,6 +3,7 @@ pub mod States
 pub mod Machine
 pub mod Trees
 pub mod Limits
+pub mod Sizes
 pub mod Reading
 pub mod Meaning
 pub mod Mixed

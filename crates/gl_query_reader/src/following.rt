@@ -5,9 +5,9 @@ ghost use Rattle.gl_query_reader.specs.Machine as machine;
 ghost use Rattle.gl_query_reader.specs.Trees.{expr_of, items_of, pick_of, query_of, frame_of, frames_of, next_of};
 
 use crate::boxes::{OneBox, one_box};
-use crate::expressions::Around;
 use crate::items::{have_item, with_item};
 use crate::keeping::Beside;
+use crate::operators::Around;
 use crate::parts::{expect, goes, refuse};
 use crate::state::{
     AggControl, CastHead, Control, ExprControl, Frame, GroupsControl, ItemControl, SelectFrom,

@@ -14,6 +14,7 @@ pub mod laws;
 mod limits;
 mod meaning;
 mod mixed;
+mod operators;
 mod parsing;
 mod parts;
 mod queries;

@@ -1,7 +1,7 @@
 use Rattle.std.proofs.Common.{◌≡◌, vec_len}
 use Rattle.gl_query_reader.specs.Machine.{reduced}
 use Rattle.gl_query_reader.specs.Trees.{frames_of, expr_of}
-use Rattle.gl_query_reader.proofs.expressions.reduced.Given as goal
+use Rattle.gl_query_reader.proofs.operators.reduced.Given as goal
 
 abbrev pub invariant-loop-frame : goal.invariant-loop-frame
 invariant-loop-frame l = reduced l.most (frames_of l.frames.items) (expr_of l.expr) ≡ reduced l.most (frames_of l.initial.frames.items) (expr_of l.initial.expr)

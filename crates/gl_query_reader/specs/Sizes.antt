@@ -1,0 +1,104 @@
+-- How deep and how long a written statement may be.
+use Rattle.std.specs.Prelude.{◌≡◌, ℕ, ◌+◌, ◌≤◌, max, true, ◌↔◌, List, [], ◌∷◌, Option, Some, None}
+use Rattle.std.specs.List.{AllByRecursion}
+use Rattle.gl_query_reader.specs.Limits.{none_counted, keeps_limits, MOST_BRACKETS, MOST_OPERATORS, MOST_JOINS}
+use Rattle.gl_query_reader.specs.Written.{Expr, Column, Number, Letters, Brackets, Cast, Not, Binary, Agg, Count, Fold', Wsum, Item, Bare, Named, Total, Pick, All, Items, Query, Stream, InBrackets, Select, Windows, Groups, Join', Statement, spell_statement}
+
+-- how many round brackets are open at once
+abbrev pub expr_depth : Expr → ℕ
+expr_depth (Column name) = 0
+expr_depth (Number n) = 0
+expr_depth (Letters text at) = 0
+expr_depth (Brackets at e) = expr_depth e + 1
+expr_depth (Cast at open' e word kind) = expr_depth e + 1
+expr_depth (Not at e) = expr_depth e
+expr_depth (Binary o at l r) = max (expr_depth l) (expr_depth r)
+
+abbrev pub agg_depth : Agg → ℕ
+agg_depth (Count at open') = 1
+agg_depth (Fold' fold at open' e) = expr_depth e + 1
+agg_depth (Wsum at open' e weights) = expr_depth e + 1
+
+abbrev pub item_depth : Item → ℕ
+item_depth (Bare name) = 0
+item_depth (Named e name) = expr_depth e
+item_depth (Total agg name) = agg_depth agg
+
+abbrev pub items_depth : List Item → ℕ
+items_depth [] = 0
+items_depth (i ∷ is) = max (item_depth i) (items_depth is)
+
+abbrev pub pick_depth : Pick → ℕ
+pick_depth (All at) = 0
+pick_depth (Items items) = items_depth items
+
+abbrev pub filter_depth : Option Expr → ℕ
+filter_depth None = 0
+filter_depth (Some e) = expr_depth e
+
+abbrev pub depth_of : Query → ℕ
+depth_of (Stream name) = 0
+depth_of (InBrackets at q) = depth_of q + 1
+depth_of (Select pick source window filter grouping) =
+    max (pick_depth pick) (max (depth_of source) (filter_depth filter))
+depth_of (Windows at var source window open' body) = max (depth_of source) (depth_of body + 1)
+depth_of (Groups at var source grouping open' body) = max (depth_of source) (depth_of body + 1)
+depth_of (Join' join at l r) = max (depth_of l) (depth_of r)
+
+-- how many UNION and CONCAT there are
+abbrev pub joins_of : Query → ℕ
+joins_of (Stream name) = 0
+joins_of (InBrackets at q) = joins_of q
+joins_of (Select pick source window filter grouping) = joins_of source
+joins_of (Windows at var source window open' body) = joins_of source + joins_of body
+joins_of (Groups at var source grouping open' body) = joins_of source + joins_of body
+joins_of (Join' join at l r) = joins_of l + joins_of r + 1
+
+-- how many operators, NOT and CAST an expression has
+abbrev pub operators_of : Expr → ℕ
+operators_of (Column name) = 0
+operators_of (Number n) = 0
+operators_of (Letters text at) = 0
+operators_of (Brackets at e) = operators_of e
+operators_of (Cast at open' e word kind) = operators_of e + 1
+operators_of (Not at e) = operators_of e + 1
+operators_of (Binary o at l r) = operators_of l + operators_of r + 1
+
+abbrev pub IsShort : Expr → Type 0
+IsShort e = operators_of e ≤ MOST_OPERATORS
+
+-- each whole expression is short
+abbrev pub AggIsShort : Agg → Type 0
+AggIsShort (Count at open') = Unit {0}
+AggIsShort (Fold' fold at open' e) = IsShort e
+AggIsShort (Wsum at open' e weights) = IsShort e
+
+abbrev pub ItemIsShort : Item → Type 0
+ItemIsShort (Bare name) = Unit {0}
+ItemIsShort (Named e name) = IsShort e
+ItemIsShort (Total agg name) = AggIsShort agg
+
+abbrev pub PickIsShort : Pick → Type 0
+PickIsShort (All at) = Unit {0}
+PickIsShort (Items items) = AllByRecursion ItemIsShort items
+
+abbrev pub FilterIsShort : Option Expr → Type 0
+FilterIsShort None = Unit {0}
+FilterIsShort (Some e) = IsShort e
+
+abbrev pub AreShort : Query → Type 0
+AreShort (Stream name) = Unit {0}
+AreShort (InBrackets at q) = AreShort q
+AreShort (Select pick source window filter grouping) = PickIsShort pick × AreShort source × FilterIsShort filter
+AreShort (Windows at var source window open' body) = AreShort source × AreShort body
+AreShort (Groups at var source grouping open' body) = AreShort source × AreShort body
+AreShort (Join' join at l r) = AreShort l × AreShort r
+
+pub record IsWithinLimits (w : Statement) : Type 0 where
+  pub brackets : depth_of w.query ≤ MOST_BRACKETS
+  pub joins : joins_of w.query ≤ MOST_JOINS
+  pub short : AreShort w.query
+
+-- a statement is within the limits exactly where the counts of its tokens keep them
+abbrev pub LimitsAreCounted : Type 0
+LimitsAreCounted = (w : Statement) → IsWithinLimits w ↔ (keeps_limits none_counted (spell_statement w) ≡ true)
