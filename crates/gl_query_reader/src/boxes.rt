@@ -1,11 +1,11 @@
-//! Boxes of values of any type.
+//! Boxes of values of any type, made beside what their caller keeps: where memory runs out, all of it
+//! is dropped here. Over types that are open such a way out is cheap to prove; over trees it costs seconds.
 
 ghost use Rattle.std.specs.Prelude.{◌≡◌, IfOk};
 
 use std::alloc::{AllocError, Global};
 
-/// A box, and what its caller keeps beside it. Where memory runs out, all is dropped where it would
-/// have been made, whose types are open: over trees each such path is dear to prove.
+/// A box, and what its caller keeps beside it.
 #[derive(Drop)]
 pub struct OneBox<T, U> {
     pub kept: T,

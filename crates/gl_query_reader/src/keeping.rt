@@ -1,5 +1,5 @@
-//! What a caller keeps while memory may run out. Where it does, all is dropped here, whose types are
-//! open: over trees each such path is dear to prove.
+//! What a caller keeps while memory may run out: where it does, all of it is dropped here. Over types
+//! that are open such a way out is cheap to prove; over trees it costs seconds.
 
 ghost use Rattle.std.specs.Prelude.{◌≡◌, ◌++◌, ◌∷◌, [], Ok, IfOk, OnOk};
 
