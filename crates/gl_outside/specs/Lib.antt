@@ -5,3 +5,4 @@ pub mod Fetched
 pub mod Reads
 pub mod Held
 pub mod Seen
+pub mod Streams

@@ -13,7 +13,7 @@ use crate::words::{Memory, Words};
 use std::alloc::Global;
 use std::marker::Model;
 
-// A text and its name.
+/// A text and its name.
 #[derive(Drop, Debug)]
 pub struct NamedText {
     name: String,
@@ -42,7 +42,10 @@ impl NamedText {
     }
 }
 
-// Texts for a list of names. The last refused name is kept as its place in the list.
+/// Texts for a list of names. The last refused name is kept as its place in the list.
+///
+/// In clauses they are seen as the names, the texts, how often one was missing, and the name that was
+/// last refused.
 #[derive(Drop, Debug)]
 pub struct HeldTexts {
     names: Words,
@@ -62,6 +65,7 @@ impl Model for HeldTexts {
 }
 
 impl HeldTexts {
+    /// No text yet, for these names.
     pub fn new(alloc: Global, names: Words) -> HeldTexts
         ensures { result ≡ spec.no_texts names }
     {
@@ -73,7 +77,7 @@ impl HeldTexts {
         }
     }
 
-    // Adds a text behind the others.
+    /// Adds a text behind the others.
     pub fn hold(&mut self, name: &str, bytes: &[u8]) -> Result<(), Memory>
         ensures ok { OnOk result (self.new ≡ spec.with_text self.old name.now bytes.now) }
         ensures err { OnErr result (self.new ≡ self.old) }
@@ -85,7 +89,7 @@ impl HeldTexts {
         }
     }
 
-    // Notes that this name was refused.
+    /// Notes that this name was refused.
     pub fn refuse(&mut self, name: &str)
         requires { Contains self.old.names name.now }
         ensures { self.new ≡ record self.old { last = Some name.now } }
@@ -93,7 +97,7 @@ impl HeldTexts {
         self.last = Some(self.names.place_of(name));
     }
 
-    // Gives as many bytes of the text of this name as there is room for.
+    /// Gives as many bytes of the text of this name as there is room for.
     pub fn give(&mut self, name: &str, at: u64, into: &mut [u8]) -> Fetch
         requires listed { Contains self.old.names name.now }
         requires room { 0 < length into.old }
