@@ -1,70 +1,76 @@
-//! Texts of schemas and of tuple files: `stdin` has the rows, `stdout` what each comes to.
+//! Words, texts and the outside: `stdin` has the rows, `stdout` what each comes to.
 //!
-//! A line `schema TEXT`, `tuples TEXT`, `gap NUMBER TEXT` or `line NUMBER NUMBER` is a row, which
-//! is printed with what it comes to below it; every other line is a remark. In a text `%0A` is the
-//! byte 10, and so are all bytes that a line cannot have (RFC 3986, 2.1).
-//!
-//! Words and the outside are tested beside it. All stand apart from the crates that they test, since
-//! a crate with tests is proved twice.
+//! A line that begins with `--` is a remark. Every other line is a row, which is printed with what
+//! it comes to below it; its first word says which kind of row it is, and the module of that kind
+//! what stands behind it (`texts`, `words`, `totals`, `shelves`, `sinks`, `files`). In a text `%0A`
+//! is the byte 10, and so are all bytes that a line cannot have (RFC 3986, 2.1).
 #![tactic(auto)]
 
-#[cfg(test)]
-mod outside;
+mod files;
+mod pieces;
+mod shelves;
+mod sinks;
 mod texts;
-#[cfg(test)]
+mod totals;
 mod words;
 mod worked;
 
-use gl_bits::Memory;
-use percent_encoding::percent_decode;
-use std::alloc::Global;
+use crate::pieces::word_before;
+use crate::shelves::Shelves;
+use crate::sinks::Sinks;
 use std::io;
 
-// The bytes that a text stands for.
-fn bytes_of(alloc: Global, text: &str) -> Result<Vec<u8>, Memory> {
-    let mut bytes = Vec::new(alloc);
-    percent_decode(text.as_bytes()).append_to(&mut bytes)?;
-    Ok(bytes)
-}
-
-// A number in front of a blank, and what stands behind it.
-fn number_before(text: &str) -> (u64, &str) {
-    let (number, rest) = text.split_once(' ').unwrap_or((text, ""));
-    (number.parse::<u64>().unwrap_or(0), rest)
-}
-
-fn print_told(rt: &HostRuntime, command: &str, text: &str) -> io::Result<()> {
-    let Ok(bytes) = bytes_of(rt.alloc(), text) else {
-        return println!(rt; "out of memory");
-    };
-    match command {
-        "schema" => texts::print_schema(rt, bytes.as_slice()),
-        "tuples" => texts::print_tuples(rt, bytes.as_slice()),
-        _ => print_numbered(rt, command, text),
+fn print_told(
+    rt: &HostRuntime,
+    shelves: &mut Shelves,
+    sinks: &mut Sinks,
+    kind: &str,
+    text: &str,
+) -> io::Result<()> {
+    match kind {
+        "schema" | "tuples" | "gap" | "line" => texts::print_text(rt, kind, text),
+        "word" | "kind" | "name" => words::print_single(rt, kind, text),
+        "total" | "weigh" | "windows" | "groups" => totals::print_listed(rt, kind, text),
+        "words" | "endless" => shelves::print_alone(rt, kind, text),
+        "shelf" | "hold" | "many" | "fail" | "fetch" | "read" | "never" => {
+            shelves::print_shelf(rt, shelves, kind, text)
+        }
+        "sink" | "refuse" | "put" | "taken" => sinks::print_sink(rt, sinks, kind, text),
+        "nowhere" | "slice" | "narrow" | "unflushed" => sinks::print_writer(rt, kind, text),
+        "file" | "directory" => files::print_file(rt, kind, text),
+        _ => println!(rt; "no row"),
     }
 }
 
-fn print_numbered(rt: &HostRuntime, command: &str, text: &str) -> io::Result<()> {
-    let (number, rest) = number_before(text);
-    if command == "line" {
-        return texts::print_line(rt, number.into(), number_before(rest).0.into());
+fn print_row(
+    rt: &HostRuntime,
+    shelves: &mut Shelves,
+    sinks: &mut Sinks,
+    line: &str,
+) -> io::Result<()> {
+    let (kind, text) = word_before(line);
+    if kind == "--" {
+        return Ok(());
     }
-    let Ok(bytes) = bytes_of(rt.alloc(), rest) else {
-        return println!(rt; "out of memory");
-    };
-    let gap = u32::try_from(number).unwrap_or(u32::MAX);
-    texts::print_gap(rt, gap, bytes.as_slice())
+    println!(rt; "{line}")?;
+    print_told(rt, shelves, sinks, kind, text)
+}
+
+fn print_rows(rt: &HostRuntime, shelves: &mut Shelves, sinks: &mut Sinks) -> io::Result<()> {
+    for line in rt.lines(rt.alloc()) {
+        let line = line?;
+        print_row(rt, shelves, sinks, line.as_str())?;
+    }
+    Ok(())
 }
 
 fn main(rt: HostRuntime) -> io::Result<()> {
     worked::definitions();
-    for line in rt.lines(rt.alloc()) {
-        let line = line?;
-        let (command, text) = line.split_once(' ').unwrap_or((line.as_str(), ""));
-        if matches!(command, "schema" | "tuples" | "gap" | "line") {
-            println!(rt; "{line}")?;
-            print_told(&rt, command, text)?;
-        }
-    }
-    Ok(())
+    let Ok(mut shelves) = Shelves::new(rt.alloc()) else {
+        return println!(rt; "out of memory");
+    };
+    let Ok(mut sinks) = Sinks::new(rt.alloc(), 0) else {
+        return println!(rt; "out of memory");
+    };
+    print_rows(&rt, &mut shelves, &mut sinks)
 }

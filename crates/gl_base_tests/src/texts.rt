@@ -1,8 +1,13 @@
-//! What the text of a row comes to, printed.
+//! Rows of texts.
+//!
+//! A row `schema TEXT` prints the streams of a schema or its fault, a row `tuples TEXT` the beats of a
+//! tuple file or its fault, a row `gap NUMBER TEXT` whether its beats keep a gap, and a row `line
+//! NUMBER NUMBER` the line of a result.
 
 ghost use Rattle.std.specs.Prelude.{◌≡◌, [], ◌∷◌, IfOk, IfSome};
 ghost use Rattle.gl_bits.specs.Words.{widths_of};
 
+use crate::pieces::{bytes_of, number_before};
 use gl_bits::{Kind, Memory, Row, Word};
 use gl_schema::{Schema, read_schema};
 use gl_tuple_reader::read_tuples;
@@ -10,11 +15,11 @@ use gl_tuples::{Beat, Beats, TupleFault, line_into};
 use std::alloc::Global;
 use std::io;
 
-/// The schema of the tuple files.
+// The schema of the tuple files.
 const SCHEMA: &[u8] = b"stream trades (symbol text4, price u32, volume u32); stream other (v u64);";
 
-/// Prints the streams of a schema's text, or its fault.
-pub fn print_schema(rt: &HostRuntime, text: &[u8]) -> io::Result<()> {
+// Prints the streams of a schema's text, or its fault.
+fn print_schema(rt: &HostRuntime, text: &[u8]) -> io::Result<()> {
     match read_schema(rt.alloc(), text) {
         Ok(schema) => print_streams(rt, &schema),
         Err(fault) => println!(rt; "{fault}"),
@@ -43,9 +48,9 @@ fn beats_of(alloc: Global, text: &[u8]) -> Result<Beats, TupleFault> {
     }
 }
 
-/// Prints each beat of a tuple file, or its fault: the cycle, `#` and its record, and for each
-/// stream `-` or the numbers of its row with their widths.
-pub fn print_tuples(rt: &HostRuntime, text: &[u8]) -> io::Result<()> {
+// Prints each beat of a tuple file, or its fault: the cycle, `#` and its record, and for each
+// stream `-` or the numbers of its row with their widths.
+fn print_tuples(rt: &HostRuntime, text: &[u8]) -> io::Result<()> {
     match beats_of(rt.alloc(), text) {
         Ok(beats) => {
             for beat in beats.as_slice() {
@@ -81,8 +86,8 @@ fn print_row(rt: &HostRuntime, row: &Row) -> io::Result<()> {
     Ok(())
 }
 
-/// Prints whether a tuple file keeps a gap.
-pub fn print_gap(rt: &HostRuntime, gap: u32, text: &[u8]) -> io::Result<()> {
+// Prints whether a tuple file keeps a gap.
+fn print_gap(rt: &HostRuntime, gap: u32, text: &[u8]) -> io::Result<()> {
     let kept = match beats_of(rt.alloc(), text) {
         Ok(beats) => beats.keep(gap),
         Err(fault) => Err(fault),
@@ -106,12 +111,32 @@ fn two_words(alloc: Global, text: u128, number: u128) -> Result<Option<Row>, Mem
     Ok(Some(row))
 }
 
-/// Prints the line of a result in cycle 12, of a text of four bytes and a number of 32 bits.
-pub fn print_line(rt: &HostRuntime, text: u128, number: u128) -> io::Result<()> {
+// Prints the line of a result in cycle 12, of a text of four bytes and a number of 32 bits.
+fn print_line(rt: &HostRuntime, text: u128, number: u128) -> io::Result<()> {
     let Ok(Some(row)) = two_words(rt.alloc(), text, number) else {
         return println!(rt; "no row");
     };
     let mut line = [0u8; 1024];
     let len = line_into(12, &row, &[Kind::Text(4), Kind::Unsigned(32)], &mut line);
     print!(rt; "{}", str::from_utf8(&line[..len]).unwrap_or("?"))
+}
+
+/// Prints what such a row comes to.
+pub fn print_text(rt: &HostRuntime, kind: &str, text: &str) -> io::Result<()> {
+    let (number, rest) = number_before(text);
+    if kind == "line" {
+        return print_line(rt, number.into(), number_before(rest).0.into());
+    }
+    let Ok(bytes) = bytes_of(rt.alloc(), if kind == "gap" { rest } else { text }) else {
+        return println!(rt; "out of memory");
+    };
+    match kind {
+        "schema" => print_schema(rt, bytes.as_slice()),
+        "tuples" => print_tuples(rt, bytes.as_slice()),
+        _ => print_gap(
+            rt,
+            u32::try_from(number).unwrap_or(u32::MAX),
+            bytes.as_slice(),
+        ),
+    }
 }
