@@ -9,4 +9,4 @@ pub mod notes;
 pub mod status;
 
 pub use notes::{Refusal, tell, tell_no_end, tell_write_fault};
-pub use status::Status;
+pub use status::{Status, exit_code};

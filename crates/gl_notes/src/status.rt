@@ -1,7 +1,11 @@
 //! How the program ends.
 
 ghost use Rattle.std.specs.Prelude.{◌≡◌};
-ghost use Rattle.gl_notes.specs.Statuses.{code_of};
+ghost use Rattle.std.specs.Process.{exit_status};
+ghost use Rattle.gl_notes.specs.Statuses.{code_of, ended_as};
+
+use gl_outside::Memory;
+use std::process::ExitCode;
 
 /// How the program ends.
 #[derive(Clone, Copy, PartialEq, Eq, Debug)]
@@ -51,5 +55,15 @@ impl Status {
             Status::Memory => 10,
             Status::NoEnd => 11,
         }
+    }
+}
+
+/// What the process ends with: the number of the status, that of want of memory where none came about.
+pub fn exit_code(ended: Result<Status, Memory>) -> ExitCode
+    ensures { exit_status result ≡ code_of (ended_as ended) }
+{
+    match ended {
+        Ok(status) => ExitCode::from(status.code()),
+        Err(Memory) => ExitCode::from(Status::Memory.code()),
     }
 }
