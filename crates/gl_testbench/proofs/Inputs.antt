@@ -11,6 +11,7 @@ use Rattle.gl_verilog.specs.Run.{input_values, input_number, is_input_at}
 use Rattle.gl_verilog.specs.Run.{is_input as leads_in}
 use Rattle.gl_verilog.specs.Runnable.{inputs_of, FitInputs, HasInputs}
 use Rattle.gl_verilog.specs.Text.{HasModule}
+use Rattle.gl_verilog.specs.Valid.{IsValid}
 use Rattle.gl_verilog.specs.Widths.{width_at}
 use Rattle.gl_verilog.proofs.Fits.{width_at-found}
 use Rattle.gl_bits.proofs.AllLists.{all_weaker}
@@ -19,7 +20,7 @@ use Rattle.gl_testbench.specs.declared.pins.Pin.{Pin as Carried}
 use Rattle.gl_testbench.specs.Carried.{pin_named, pin_at, at_reset, with_beat}
 use Rattle.gl_schema.specs.Profile.{input_ports}
 use Rattle.gl_schema.proofs.Pinned.{pins_fit}
-use Rattle.gl_verilog_ports.specs.Profile.{FitsSchema, input_width, ports_of}
+use Rattle.gl_verilog_ports.specs.Profile.{FitsSchema, HasInputPorts, input_width, ports_of}
 use Rattle.gl_verilog_ports.proofs.Fits.{kind_is_input}
 use Rattle.gl_testbench.proofs.Carries.{Fact, OfBoth, IsNarrow, found, zip_all}
 use Rattle.gl_verilog_ports.proofs.Declared as declared
@@ -34,7 +35,7 @@ carried_at beats zero p = at_reset p
 carried_at beats (suc n) p = with_beat (beat_at beats n) p
 
 -- a fact of all of the schema's ports holds of what an input port carries
-found_at : (R : Fact) (schema : Schema) (beats : List Beat) (t : ℕ) (name : List ℕ) (w : ℕ) → AllZip (OfBoth R) (input_ports schema) (pins schema beats t) → input_width schema name ≡ Some w → R w name (carried_at beats t (pin_named schema name))
+pub found_at : (R : Fact) (schema : Schema) (beats : List Beat) (t : ℕ) (name : List ℕ) (w : ℕ) → AllZip (OfBoth R) (input_ports schema) (pins schema beats t) → input_width schema name ≡ Some w → R w name (carried_at beats t (pin_named schema name))
 found_at R schema beats zero name w z e = found R schema name 1 [] false w z e
 found_at R schema beats (suc n) name w z e = found R schema name 0 (rows_at beats n) (ends_at beats n) w z e
 
@@ -51,11 +52,11 @@ record IsAsked (schema : Schema) (m : Module) (n : ℕ) : Type 0 where
   number : input_number m d.name ≡ Some n
   width : input_width schema d.name ≡ Some d.width
 
-is_asked : (text : List ℕ) (schema : Schema) (m : Module) (n : ℕ) → HasModule text m → FitsSchema m schema → IsInputPort m.declarations n → IsAsked schema m n
-is_asked text schema m n has fits p = record {
+is_asked : (schema : Schema) (m : Module) (n : ℕ) → IsValid m → HasInputPorts m → FitsSchema m schema → IsInputPort m.declarations n → IsAsked schema m n
+is_asked schema m n valid among fits p = record {
   d = p.declaration;
   there = p.is;
-  number = input_there m n p.declaration p.is (kind_is_input p.declaration.kind p.input) (declared.input_number text m n p.declaration has p.is p.input);
+  number = input_there m n p.declaration p.is (kind_is_input p.declaration.kind p.input) (declared.input_number m n p.declaration valid.names among p.is p.input);
   width = fits.inputs n p.declaration p.is (kind_is_input p.declaration.kind p.input) p.no_clock;
 }
 
@@ -63,20 +64,20 @@ pin_is : (schema : Schema) (m : Module) (n : ℕ) (d : Declaration) → slice_ge
 pin_is schema m n d e = ap (λ (o : Option Declaration). pin_named schema (option_map_or (λ (x : Declaration). x.name) o [])) e
 
 -- they fit
-pub inputs_fit : (text : List ℕ) (schema : Schema) (m : Module) (beats : List Beat) (t : ℕ) → HasModule text m → FitsSchema m schema → AreBeats schema beats → FitInputs m (map (carried_at beats t) (map (pin_at schema m.declarations) (inputs_of m)))
-inputs_fit text schema m beats t has fits are =
+pub inputs_fit : (schema : Schema) (m : Module) (beats : List Beat) (t : ℕ) → IsValid m → HasInputPorts m → FitsSchema m schema → AreBeats schema beats → FitInputs m (map (carried_at beats t) (map (pin_at schema m.declarations) (inputs_of m)))
+inputs_fit schema m beats t valid among fits are =
     zip_maps (λ n x. x < 2 ^ width_at m.declarations n) (pin_at schema m.declarations) (carried_at beats t) (inputs_of m)
     (all_weaker (IsInputPort m.declarations) (λ n. carried_at beats t (pin_at schema m.declarations n) < 2 ^ width_at m.declarations n)
     (λ n p.
-    let a = is_asked text schema m n has fits p in
+    let a = is_asked schema m n valid among fits p in
     let small : carried_at beats t (pin_named schema a.d.name) < 2 ^ a.d.width = found_at IsNarrow schema beats t a.d.name a.d.width (pins_fit schema beats t are) a.width in
     rw (pin_is schema m n a.d a.there, width_at-found m.declarations n a.d a.there) small)
     (inputs_of m) (inputs_of-ports m))
 
 -- in a run over the beats a port carries its value
-pub port_carries : (text : List ℕ) (schema : Schema) (m : Module) (beats : List Beat) (value : ℕ → Nets) (t : ℕ) → HasModule text m → FitsSchema m schema → AreBeats schema beats → IsStimulus schema beats (input_values m value) → (n : ℕ) → IsInputPort m.declarations n → value t n ≡ carried_at beats t (pin_at schema m.declarations n)
-port_carries text schema m beats value t has fits are stimulus n p =
-    let a = is_asked text schema m n has fits p in
+pub input_carries : (schema : Schema) (m : Module) (beats : List Beat) (value : ℕ → Nets) (t : ℕ) → IsValid m → HasInputPorts m → FitsSchema m schema → AreBeats schema beats → IsStimulus schema beats (input_values m value) → (n : ℕ) → IsInputPort m.declarations n → value t n ≡ carried_at beats t (pin_at schema m.declarations n)
+input_carries schema m beats value t valid among fits are stimulus n p =
+    let a = is_asked schema m n valid among fits p in
     let carries : IfSome (input_values m value t a.d.name) (λ v. v ≡ carried_at beats t (pin_named schema a.d.name)) =
     found_at (λ w name x. IfSome (input_values m value t name) (λ v. v ≡ x)) schema beats t a.d.name a.d.width
     (zip_all (OfBoth IsNarrow) (λ (q : Pin). IfSome (input_values m value t q.name) (λ v. v ≡ q.value)) (input_ports schema) (pins schema beats t) (pins_fit schema beats t are) (stimulus.carries t)) a.width in
@@ -84,9 +85,13 @@ port_carries text schema m beats value t has fits are stimulus n p =
     subst (λ (o : Option ℕ). IfSome (option_map (value t) o) (λ v. v ≡ carried_at beats t (pin_named schema a.d.name))) a.number carries in
     there ∙ sym (ap (carried_at beats t) (pin_is schema m n a.d a.there))
 
+-- and so in the module of a text
+pub port_carries : (text : List ℕ) (schema : Schema) (m : Module) (beats : List Beat) (value : ℕ → Nets) (t : ℕ) → HasModule text m → FitsSchema m schema → AreBeats schema beats → IsStimulus schema beats (input_values m value) → (n : ℕ) → IsInputPort m.declarations n → value t n ≡ carried_at beats t (pin_at schema m.declarations n)
+port_carries text schema m beats value t has fits are stimulus n p = input_carries schema m beats value t has.valid (declared.inputs_are_ports text m has) fits are stimulus n p
+
 -- and the inputs have theirs
-pub run_has_inputs : (text : List ℕ) (schema : Schema) (m : Module) (beats : List Beat) (value : ℕ → Nets) (t : ℕ) → HasModule text m → FitsSchema m schema → AreBeats schema beats → IsStimulus schema beats (input_values m value) → HasInputs m (value t) (map (carried_at beats t) (map (pin_at schema m.declarations) (inputs_of m)))
-run_has_inputs text schema m beats value t has fits are stimulus =
+pub run_has_inputs : (schema : Schema) (m : Module) (beats : List Beat) (value : ℕ → Nets) (t : ℕ) → IsValid m → HasInputPorts m → FitsSchema m schema → AreBeats schema beats → IsStimulus schema beats (input_values m value) → HasInputs m (value t) (map (carried_at beats t) (map (pin_at schema m.declarations) (inputs_of m)))
+run_has_inputs schema m beats value t valid among fits are stimulus =
     zip_maps (λ n x. value t n ≡ x) (pin_at schema m.declarations) (carried_at beats t) (inputs_of m)
     (all_weaker (IsInputPort m.declarations) (λ n. value t n ≡ carried_at beats t (pin_at schema m.declarations n))
-    (port_carries text schema m beats value t has fits are stimulus) (inputs_of m) (inputs_of-ports m))
+    (input_carries schema m beats value t valid among fits are stimulus) (inputs_of m) (inputs_of-ports m))

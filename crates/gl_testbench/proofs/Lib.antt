@@ -3,3 +3,5 @@ pub mod Inputs
 pub mod Outputs
 pub mod Words
 pub mod Due
+mod PinNames
+mod Runs

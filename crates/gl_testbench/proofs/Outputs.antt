@@ -10,6 +10,7 @@ use Rattle.gl_verilog.specs.Module.{Module, Declaration, Kind, Input, OutputWire
 use Rattle.gl_verilog.specs.Run.{Fit, port_of}
 use Rattle.gl_verilog.specs.Runnable.{SameNets}
 use Rattle.gl_verilog.specs.Text.{HasModule}
+use Rattle.gl_verilog.specs.Valid.{IsValid}
 use Rattle.gl_verilog.specs.Widths.{IsNet, IsReadable, is_clock, width_at}
 use Rattle.gl_verilog.proofs.Fits.{in_range, width_at-found}
 use Rattle.gl_testbench.specs.declared.pins.Shows.{Shows}
@@ -119,11 +120,11 @@ columns_each Q from (d ∷ ds) h =
     pick false e later = later
 
 -- the values of the columns are those at their names
-pub columns_read : (text : List ℕ) (m : Module) (v : Nets) → HasModule text m → map v (columns_from 0 (ports_of m)) ≡ map (λ name. unwrap_or (option_map v (number_of (ports_of m) name)) 0) (result_names m)
-columns_read text m v has =
+pub columns_read : (m : Module) (v : Nets) → IsValid m → map v (columns_from 0 (ports_of m)) ≡ map (λ name. unwrap_or (option_map v (number_of (ports_of m) name)) 0) (result_names m)
+columns_read m v valid =
     columns_are v (λ (d : Declaration). unwrap_or (option_map v (number_of (ports_of m) d.name)) 0) 0 (ports_of m)
     (λ n d e.
-    let number : number_of (ports_of m) d.name ≡ Some n = number_at (ports_of m) n d (distinct_take m.ports m.declarations has.valid.names) e in
+    let number : number_of (ports_of m) d.name ≡ Some n = number_at (ports_of m) n d (distinct_take m.ports m.declarations valid.names) e in
     let same : 0 + n ≡ n = omega arith in
     rw (number, same) refl)
     ∙ sym (map_map (λ name. unwrap_or (option_map v (number_of (ports_of m) name)) 0) (λ (d : Declaration). d.name) (filter shows_column (ports_of m)))
@@ -199,17 +200,20 @@ columns_same m v v' (k ∷ ks) same h =
     cc
 
 -- two cycles that have the same nets show the same
-pub shown_same : (text : List ℕ) (schema : Schema) (m : Module) (v : Nets) (value : ℕ → Nets) (n : ℕ) → HasModule text m → FitsSchema m schema → SameNets m.declarations v (value (suc n)) → shown (port_of m (λ t. v)) (result_names m) n ≡ shown (port_of m value) (result_names m) n
+pub same_shown : (schema : Schema) (m : Module) (v : Nets) (value : ℕ → Nets) (n : ℕ) → IsValid m → FitsSchema m schema → SameNets m.declarations v (value (suc n)) → shown (port_of m (λ t. v)) (result_names m) n ≡ shown (port_of m value) (result_names m) n
 unfolding shown
-shown_same text schema m v value n has fits same =
+same_shown schema m v value n valid fits same =
     let v' : Nets = value (suc n) in
-    let valid : option_map v (number_of (ports_of m) out_valid) ≡ option_map v' (number_of (ports_of m) out_valid) = line_same m v v' out_valid valid_is_no_clock (line_named m out_valid fits.valid) same in
+    let comes : option_map v (number_of (ports_of m) out_valid) ≡ option_map v' (number_of (ports_of m) out_valid) = line_same m v v' out_valid valid_is_no_clock (line_named m out_valid fits.valid) same in
     let ends : option_map v (number_of (ports_of m) out_eos) ≡ option_map v' (number_of (ports_of m) out_eos) = line_same m v v' out_eos ends_is_no_clock (line_named m out_eos fits.end) same in
     let group : option_map v (number_of (ports_of m) fault_group) ≡ option_map v' (number_of (ports_of m) fault_group) = line_same m v v' fault_group group_is_no_clock fits.group same in
     let queue : option_map v (number_of (ports_of m) fault_queue) ≡ option_map v' (number_of (ports_of m) fault_queue) = line_same m v v' fault_queue queue_is_no_clock fits.queue same in
     let columns : map (λ name. unwrap_or (option_map v (number_of (ports_of m) name)) 0) (result_names m) ≡ map (λ name. unwrap_or (option_map v' (number_of (ports_of m) name)) 0) (result_names m) =
-    sym (columns_read text m v has) ∙ columns_same m v v' (columns_from 0 (ports_of m)) same (columns_ports m) ∙ columns_read text m v' has in
-    rw (valid, ends, group, queue, columns) refl
+    sym (columns_read m v valid) ∙ columns_same m v v' (columns_from 0 (ports_of m)) same (columns_ports m) ∙ columns_read m v' valid in
+    rw (comes, ends, group, queue, columns) refl
+
+pub shown_same : (text : List ℕ) (schema : Schema) (m : Module) (v : Nets) (value : ℕ → Nets) (n : ℕ) → HasModule text m → FitsSchema m schema → SameNets m.declarations v (value (suc n)) → shown (port_of m (λ t. v)) (result_names m) n ≡ shown (port_of m value) (result_names m) n
+shown_same text schema m v value n has fits same = same_shown schema m v value n has.valid fits same
 
 -- in a run each column fits its width
 pub columns_fit : (m : Module) (v v' : Nets) (words : Memories) → Fit m.declarations v' words → SameNets m.declarations v v' → AllZip (λ n width. v n < 2 ^ width) (columns_from 0 (ports_of m)) (result_widths m)

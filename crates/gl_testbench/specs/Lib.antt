@@ -1,3 +1,4 @@
 pub mod Carried
 pub mod Benches
 pub mod Dues
+pub mod Runs

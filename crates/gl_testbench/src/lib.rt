@@ -6,6 +6,7 @@
 #![tactic(auto)]
 
 pub mod bench;
+pub mod laws;
 pub mod pins;
 
 pub use bench::{pins_at, set_beat, set_reset};

@@ -12,7 +12,7 @@ use Rattle.gl_verilog.specs.Text.{HasModule}
 use Rattle.gl_verilog.specs.Valid.{AreDistinct, Differs}
 use Rattle.gl_verilog.specs.Written.{WrittenItem, Range, Wires, Registers, MemoryOf, Assign, Always}
 pub use Rattle.gl_verilog.proofs.Distinct.{number_at}
-use Rattle.gl_verilog_ports.specs.Profile.{ports_of}
+use Rattle.gl_verilog_ports.specs.Profile.{HasInputPorts, ports_of}
 
 -- ---- names
 
@@ -108,9 +108,9 @@ map_some : {A B : Type 0} (f : A → B) (o : Option A) (r : B) → option_map f 
 map_some f None r e = absurd cc
 map_some f (Some x) r e = record { found = x; there = refl; is = cc }
 
--- an input is a port
-pub input_is_port : (text : List ℕ) (m : Module) (n : ℕ) (d : Declaration) → HasModule text m → slice_get m.declarations n ≡ Some d → is_input d.kind ≡ true → slice_get (ports_of m) n ≡ Some d
-input_is_port text m n d h e i =
+-- in the module of a text an input is a port
+pub inputs_are_ports : (text : List ℕ) (m : Module) → HasModule text m → HasInputPorts m
+inputs_are_ports text m h = λ n d e i.
     let w = h.written in
     let r = map_some (module_from w) (resolve_items (map declare_port w.ports) w.items) m h.resolved in
     let declared = items_declare (map declare_port w.ports) w.items r.found r.there in
@@ -123,5 +123,5 @@ input_is_port text m n d h e i =
     (in_front (map declare_port w.ports) declared.more n d declared.none (subst (λ (xs : List Declaration). slice_get xs n ≡ Some d) (sym all ∙ declared.same) e) i)
 
 -- so its number is found by its name among the ports
-pub input_number : (text : List ℕ) (m : Module) (n : ℕ) (d : Declaration) → HasModule text m → slice_get m.declarations n ≡ Some d → is_input d.kind ≡ true → number_of (ports_of m) d.name ≡ Some n
-input_number text m n d h e i = number_at (ports_of m) n d (distinct_take m.ports m.declarations h.valid.names) (input_is_port text m n d h e i)
+pub input_number : (m : Module) (n : ℕ) (d : Declaration) → AreDistinct m.declarations → HasInputPorts m → slice_get m.declarations n ≡ Some d → is_input d.kind ≡ true → number_of (ports_of m) d.name ≡ Some n
+input_number m n d distinct h e i = number_at (ports_of m) n d (distinct_take m.ports m.declarations distinct) (h n d e i)

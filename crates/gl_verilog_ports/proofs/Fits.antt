@@ -1,4 +1,4 @@
--- The ports of a module of a text are found exactly where they are those of a schema and of a result.
+-- The ports of a module are found exactly where they are those of a schema and of a result.
 use Rattle.std.proofs.Common.{◌≡◌, ℕ, Bool, true, false, List, Option, Some, None, Result, Ok, Err, inl, inr, refl, sym, ap, ◌∙◌, subst, codes, eq-eqb}
 use Rattle.std.specs.Prelude.{◌||◌, find, slice_get, option_map, unwrap_or, bytes_eq, nat_eq, IfSome, IsOk, if◌then◌else◌}
 use Rattle.std.proofs.lemmas.Bool.{eqb-true}
@@ -15,8 +15,8 @@ use Rattle.gl_verilog.specs.Widths.{is_clock}
 use Rattle.gl_verilog_ports.specs.declared.fitting.Ports.{Ports}
 use Rattle.gl_verilog_ports.specs.declared.fitting.Misfit.{Misfit}
 use Rattle.gl_verilog_ports.specs.Fit.{inputs, is_among, is_asked, is_line_name, is_line, first_bad, input_at, output_at, with_needed, found_in, unless_bad, fit_of}
-use Rattle.gl_verilog_ports.specs.Profile.{input_width, ports_of, is_output, port_named, IsLine, HasLine, HasClock, FitsSchema}
-use Rattle.gl_verilog_ports.proofs.Declared.{input_is_port, distinct_take, get_take}
+use Rattle.gl_verilog_ports.specs.Profile.{input_width, ports_of, is_output, port_named, IsLine, HasLine, HasClock, FitsSchema, HasInputPorts}
+use Rattle.gl_verilog_ports.proofs.Declared.{distinct_take, get_take}
 use Rattle.gl_verilog_ports.proofs.Judged.{IsAllowed, AreAllowed, allowed, all_allowed, narrow_at}
 use Rattle.gl_verilog_ports.proofs.Named.{eq_flip, inputs_so, outputs_so, found_port, port_there, where_named, has_named, same_named, outputs_numbered}
 
@@ -198,17 +198,19 @@ has_clock schema m k distinct all e =
       bit = clock_width schema p.d.name p.d.width (eq_flip p.d.name clk true p.named) asked;
     }
 
--- where the ports are found, they fit
-pub fits : (text : List ℕ) (m : Module) (schema : Schema) (ports : Ports) → HasModule text m → fit_of m schema ≡ Ok ports → FitsSchema m schema
-fits text m schema ports has e =
+-- an input port but the clock is one of the schema's, with its bits
+pub asked_port : (m : Module) (schema : Schema) (ports : Ports) (n : ℕ) (d : Declaration) → fit_of m schema ≡ Ok ports → slice_get (ports_of m) n ≡ Some d → is_input d.kind ≡ true → is_clock d ≡ false → input_width schema d.name ≡ Some d.width
+asked_port m schema ports n d e at way other =
+    width_asked schema d.name d.width (clock_so d false other) (((allowed schema (ports_of m) (found m schema ports e).none).each n d at).asked way)
+
+-- where the ports are found, and each input is one, they fit
+pub fits : (m : Module) (schema : Schema) (ports : Ports) → AreDistinct m.declarations → HasInputPorts m → fit_of m schema ≡ Ok ports → FitsSchema m schema
+fits m schema ports distinct among e =
     let f = found m schema ports e in
     let all = allowed schema (ports_of m) f.none in
-    let input = λ (n : ℕ) (d : Declaration) (at : slice_get m.declarations n ≡ Some d) (is : d.kind ≡ Input) (other : is_clock d ≡ false).
-    (let way : is_input d.kind ≡ true = ap is_input is in
-    width_asked schema d.name d.width (clock_so d false other) ((all.each n d (input_is_port text m n d has at way)).asked way)) in
     record {
-      clock = has_clock schema m ports.clock (distinct_take m.ports m.declarations has.valid.names) all f.clock;
-      inputs = input;
+      clock = has_clock schema m ports.clock (distinct_take m.ports m.declarations distinct) all f.clock;
+      inputs = λ n d at is other. asked_port m schema ports n d e (among n d at (ap is_input is)) (ap is_input is) other;
       valid = has_line schema m out_valid ports.valid all (valid_line out_valid (bytes_own out_valid)) f.valid;
       end = has_line schema m out_eos ports.end all (end_line out_eos (bytes_own out_eos)) f.end;
       group = may_have_line schema m fault_group all (group_line fault_group (bytes_own fault_group));
@@ -279,11 +281,11 @@ finds text m schema has fit =
 
 -- ---- the same, of the answer alone
 
-pub fits_ok : (text : List ℕ) (m : Module) (schema : Schema) → HasModule text m → IsOk (fit_of m schema) → FitsSchema m schema
-fits_ok text m schema has ok = pick (fit_of m schema) refl ok
+pub fits_ok : (m : Module) (schema : Schema) → AreDistinct m.declarations → HasInputPorts m → IsOk (fit_of m schema) → FitsSchema m schema
+fits_ok m schema distinct among ok = pick (fit_of m schema) refl ok
   where
     pick : (r : Result Ports Misfit) → fit_of m schema ≡ r → IsOk r → FitsSchema m schema
-    pick (Ok ports) e ok = fits text m schema ports has e
+    pick (Ok ports) e ok = fits m schema ports distinct among e
     pick (Err misfit) e ok = absurd cc
 
 pub finds_ok : (text : List ℕ) (m : Module) (schema : Schema) → HasModule text m → FitsSchema m schema → IsOk (fit_of m schema)

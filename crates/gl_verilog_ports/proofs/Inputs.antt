@@ -1,4 +1,4 @@
--- In a module of a text the input of a name is the port of that name, if this is an input.
+-- Where no name is declared twice, the input of a name is the port of that name, if this is an input.
 use Rattle.std.proofs.Common.{◌≡◌, ℕ, ◌+◌, Bool, true, false, List, [], ◌∷◌, Option, Some, None, refl, sym, ap, ◌∙◌, subst, add-one}
 use Rattle.std.specs.Prelude.{◌&&◌, slice_get, bytes_eq, option_and_then, if◌then◌else◌}
 use Rattle.std.specs.Option.{option_map, option_map_or}
@@ -6,7 +6,6 @@ use Rattle.gl_bits.proofs.Bools.{bytes_same}
 use Rattle.gl_bits.proofs.Options.{not_some, some_same, map_some}
 use Rattle.gl_verilog.specs.Module.{Module, Declaration, number_of}
 use Rattle.gl_verilog.specs.Run.{is_input, is_input_at, input_number}
-use Rattle.gl_verilog.specs.Text.{HasModule}
 use Rattle.gl_verilog.specs.Valid.{AreDistinct, Differs}
 use Rattle.gl_verilog_ports.specs.Fit.{input_at}
 use Rattle.gl_verilog_ports.specs.Profile.{ports_of}
@@ -60,9 +59,9 @@ found_there (x ∷ ds) name n e = pick (bytes_eq x.name name) e (found_there ds 
         let r = more f.0 f.1 in
         (r.0, ap (slice_get (x ∷ ds)) (f.2 ∙ add-one f.0) ∙ r.1)
 
-pub inputs_numbered : (text : List ℕ) (m : Module) (name : List ℕ) → HasModule text m → input_number m name ≡ input_at (ports_of m) name
-inputs_numbered text m name has =
-    within (number_of (ports_of m) name) refl ∙ numbered (ports_of m) name (distinct_take m.ports m.declarations has.valid.names)
+pub inputs_numbered : (m : Module) (name : List ℕ) → AreDistinct m.declarations → input_number m name ≡ input_at (ports_of m) name
+inputs_numbered m name distinct =
+    within (number_of (ports_of m) name) refl ∙ numbered (ports_of m) name (distinct_take m.ports m.declarations distinct)
   where
     within : (o : Option ℕ) → number_of (ports_of m) name ≡ o → option_and_then (if_input m.declarations) o ≡ option_and_then (if_input (ports_of m)) o
     within None e = refl

@@ -68,6 +68,10 @@ pub record FitsSchema (m : Module) (schema : Schema) : Type 0 where
   pub many : length (result_ports m) ≤ 32
   pub narrow : AllByRecursion (λ width. width ≤ 64) (result_widths m)
 
+-- each input of the module stands among its ports
+abbrev pub HasInputPorts : Module → Type 0
+HasInputPorts m = (n : ℕ) (d : Declaration) → slice_get m.declarations n ≡ Some d → is_input d.kind ≡ true → slice_get (ports_of m) n ≡ Some d
+
 -- each input of the module is the clock
 abbrev pub HasOnlyClock : Module → Type 0
 HasOnlyClock m = (n : ℕ) (d : Declaration) → slice_get m.declarations n ≡ Some d → is_input d.kind ≡ true → is_clock d ≡ true
