@@ -9,10 +9,11 @@ use Rattle.gl_bits.specs.Kinds.{IsKind, width_of}
 use Rattle.gl_schema.specs.declared.schema.Schema.{Schema}
 use Rattle.gl_schema.specs.Beats.{Beat, AreBeats}
 use Rattle.gl_verilog.specs.Module.{Module, Declaration}
+use Rattle.gl_verilog.specs.Valid.{IsValid}
 use Rattle.gl_verilog.specs.Widths.{HasSize}
 use Rattle.gl_runner.specs.Cycles.{CanFollow}
-use Rattle.gl_runner.specs.Traces.{IsOfText, decimal_kinds}
-use Rattle.gl_verilog_ports.specs.Profile.{FitsSchema, result_ports, result_widths, shows_column}
+use Rattle.gl_runner.specs.Traces.{decimal_kinds}
+use Rattle.gl_verilog_ports.specs.Profile.{FitsSchema, HasInputPorts, result_ports, result_widths, shows_column}
 
 -- the kinds of the columns among these ports
 abbrev pub decimals_of : List Declaration → List Kind
@@ -32,8 +33,8 @@ sizes_kinds (suc p) (d ∷ ds) h n = pick (shows_column d) (sizes_kinds p ds h.1
     pick true later n = ((h.0.0.some', n.0), later n.1)
     pick false later n = later n
 
-pub decimals_are_kinds : (m : Module) (schema : Schema) → IsOfText m → FitsSchema m schema → AllByRecursion IsKind (decimal_kinds m)
-decimals_are_kinds m schema t f = sizes_kinds m.ports m.declarations t.1.valid.sizes f.narrow
+pub decimals_are_kinds : (m : Module) (schema : Schema) → IsValid m → FitsSchema m schema → AllByRecursion IsKind (decimal_kinds m)
+decimals_are_kinds m schema valid f = sizes_kinds m.ports m.declarations valid.sizes f.narrow
 
 pub decimals_many : (m : Module) (schema : Schema) → FitsSchema m schema → length (decimal_kinds m) ≤ 32
 decimals_many m schema f =
@@ -44,5 +45,5 @@ decimal_widths : (widths : List ℕ) → widths ≡ map width_of (map Unsigned w
 decimal_widths [] = refl
 decimal_widths (w ∷ ws) = ap (λ (all : List ℕ). w ∷ all) (decimal_widths ws)
 
-pub can_trace : (m : Module) (schema : Schema) (beats : List Beat) → IsOfText m → FitsSchema m schema → AreBeats schema beats → CanFollow m schema (decimal_kinds m) beats
-can_trace m schema beats t f are = record { text = t.0; has = t.1; fits = f; widths = decimal_widths (result_widths m); beats' = are }
+pub can_trace : (m : Module) (schema : Schema) (beats : List Beat) → IsValid m → HasInputPorts m → FitsSchema m schema → AreBeats schema beats → CanFollow m schema (decimal_kinds m) beats
+can_trace m schema beats valid inputs f are = record { valid = valid; inputs = inputs; fits = f; widths = decimal_widths (result_widths m); beats' = are }

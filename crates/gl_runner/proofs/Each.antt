@@ -1,5 +1,5 @@
 -- From the run that was followed to each run of the text's module.
-use Rattle.std.proofs.Common.{◌≡◌, ℕ, inl, inr, true, false, List, Option, refl, sym, subst, map}
+use Rattle.std.proofs.Common.{◌≡◌, ℕ, inl, inr, true, false, List, Option, Ok, refl, sym, subst, map}
 use Rattle.std.specs.Prelude.{IsOk}
 use Rattle.gl_bits.specs.declared.kind.Kind.{Kind}
 use Rattle.gl_bits.specs.Kinds.{width_of}
@@ -11,10 +11,8 @@ use Rattle.gl_verilog.specs.Module.{Module, Nets, Memories}
 use Rattle.gl_verilog.specs.declared.module.Module.{Module as Rust}
 use Rattle.gl_verilog.specs.Run.{IsRun, port_of, input_values}
 use Rattle.gl_verilog.specs.Text.{HasModule}
-use Rattle.gl_verilog.specs.Valid.{IsValid}
-use Rattle.gl_verilog_orders.proofs.EventRuns.{event_runs_are_runs}
+use Rattle.gl_verilog_orders.specs.Laws.{EventRunsAreRuns}
 use Rattle.gl_verilog.specs.View.{module_of}
-use Rattle.gl_verilog_grammar.proofs.ReadModules.{one_module}
 use Rattle.gl_sim.specs.Simulation.{Simulation, IsAt}
 use Rattle.gl_sim.specs.Starts.{StartsFrom}
 use Rattle.gl_verilog_orders.specs.declared.start.Start.{Start}
@@ -24,10 +22,12 @@ use Rattle.gl_runner.specs.declared.executing.Outcome.TheVariants.{Done, WriteFa
 use Rattle.gl_runner.specs.declared.tracing.Ending.{Ending}
 use Rattle.gl_runner.specs.declared.tracing.Ending.TheVariants as ending
 use Rattle.gl_runner.specs.Cycles.{CanFollow, IsFollowed, OfFollowed, OfTimely, outcome_of}
-use Rattle.gl_runner.specs.Prints.{CanRun, EndsWithin, IsRunOver, OfEachRun, Ran, Writes, WritesFront}
+use Rattle.gl_runner.specs.Prints.{CanRun, EndsWithin, HasRunOver, IsRunOver, OfEachRun, Ran, Writes, WritesFront}
 use Rattle.gl_runner.specs.Traces.{OfRunsOf, RunsOut, Traced, TracesFront, TracesOut, TracesToEnd}
+use Rattle.gl_testbench.specs.Runs.{HasStartedRuns}
+use Rattle.gl_verilog_ports.specs.declared.fitting.Ports.{Ports}
 use Rattle.gl_verilog_ports.specs.Fit.{fit_of}
-use Rattle.gl_verilog_ports.specs.Profile.{result_names, result_widths}
+use Rattle.gl_verilog_ports.specs.Profile.{HasInputPorts, result_names, result_widths}
 use Rattle.gl_verilog_ports.proofs.Fits.{fits_ok}
 
 -- what holds of each run of one sort holds of each of the other, so the trace is one of these too
@@ -42,28 +42,39 @@ pub from_reset : (s s' : Simulation) (schema : Schema) (beats : List Beat) (P : 
     → ((value : ℕ → Nets) (word : ℕ → Memories) → IsFollowed s schema beats value word 0 → IsFollowed s' schema beats value word 1) → OfFollowed s' schema beats 1 P → OfFollowed s schema beats 0 P
 from_reset s s' schema beats P same followed h = λ value word f. subst (λ (d : Rust). P (result_names (module_of d)) (port_of (module_of d) value)) same (h value word (followed value word f))
 
+-- a text has one module
+abbrev pub HasOne : List ℕ → Type 0
+HasOne text = (m n : Module) → HasModule text m → HasModule text n → m ≡ n
+
 -- the module that was read is the one that can run
-pub can_follow : (text : List ℕ) (schema : Schema) (kinds : List Kind) (beats : List Beat) (latency : ℕ) (start : Start) (d : Rust) → CanRun text schema kinds beats latency start → HasModule text (module_of d) → AreBeats schema beats → CanFollow (module_of d) schema kinds beats
-can_follow text schema kinds beats latency start d can has are =
-    let mine : can.design ≡ module_of d = one_module text can.design (module_of d) can.has has in
+pub can_follow : (text : List ℕ) (schema : Schema) (kinds : List Kind) (beats : List Beat) (latency : ℕ) (start : Start) (d : Rust) → HasOne text → HasInputPorts (module_of d)
+    → CanRun text schema kinds beats latency start → HasModule text (module_of d) → AreBeats schema beats → CanFollow (module_of d) schema kinds beats
+can_follow text schema kinds beats latency start d one inputs can has are =
+    let mine : can.design ≡ module_of d = one can.design (module_of d) can.has has in
     record {
-      text = text;
-      has = has;
-      fits = fits_ok text (module_of d) schema has (subst (λ (m : Module). IsOk (fit_of m schema)) mine can.fits);
+      valid = has.valid;
+      inputs = inputs;
+      fits = fits_ok (module_of d) schema has.valid.names inputs (subst (λ (m : Module). IsOk (fit_of m schema)) mine can.fits);
       widths = subst (λ (m : Module). result_widths m ≡ map width_of kinds) mine can.widths;
       beats' = are;
     }
 
 -- each run from the start is one that the simulator is before the first cycle of
-pub of_runs : (schema : Schema) (beats : List Beat) (start : Start) (d : Rust) (s : Simulation) (P : List (List ℕ) → PortValues → Type 0) → IsValid (module_of d) → s.design ≡ d
+pub of_runs : (schema : Schema) (beats : List Beat) (start : Start) (d : Rust) (s : Simulation) (P : List (List ℕ) → PortValues → Type 0) → EventRunsAreRuns (module_of d) → s.design ≡ d
     → ((value : ℕ → Nets) (word : ℕ → Memories) → StartsFrom start (module_of d) value word → IsAt s value word 0) → OfFollowed s schema beats 0 P → OfRunsOf (module_of d) schema beats start P
-of_runs schema beats start d s P valid same started h = λ value word over.
+of_runs schema beats start d s P runs same started h = λ value word over.
     let followed : IsFollowed s schema beats value word 0 = record {
-      run = subst (λ (e : Rust). IsRun (module_of e) value word) (sym same) (event_runs_are_runs (module_of d) valid value word over.run);
+      run = subst (λ (e : Rust). IsRun (module_of e) value word) (sym same) (runs value word over.run);
       stimulus = subst (λ (e : Rust). IsStimulus schema beats (input_values (module_of e) value)) (sym same) over.stimulus;
       at = started value word over.starts;
     } in
     subst (λ (e : Rust). P (result_names (module_of e)) (port_of (module_of e) value)) same (h value word followed)
+
+-- there is such a run where the ports are found
+pub run_there : (m : Module) (schema : Schema) (ports : Ports) (beats : List Beat) (start : Start) → (IsOk (fit_of m schema) → HasStartedRuns m schema) → fit_of m schema ≡ Ok ports → AreBeats schema beats → HasRunOver m schema beats start
+run_there m schema ports beats start runs fit are =
+    let r = runs (subst IsOk (sym fit) refl) beats start are in
+    record { value = r.value; word = r.word; over = record { run = r.run; starts = r.starts; stimulus = r.stimulus } }
 
 -- ---- runs that end in time
 
@@ -100,19 +111,19 @@ ran_timely m schema kinds beats latency start old new ending.WriteFault h = (h.0
 ran_timely m schema kinds beats latency start old new ending.Memory h = h
 
 -- each run of the text's module ends in time
-pub of_each_run : (text : List ℕ) (schema : Schema) (kinds : List Kind) (beats : List Beat) (latency : ℕ) (start : Start) (d : Rust) (Q : List (List ℕ) → PortValues → Type 0) → CanRun text schema kinds beats latency start → HasModule text (module_of d)
+pub of_each_run : (text : List ℕ) (schema : Schema) (kinds : List Kind) (beats : List Beat) (latency : ℕ) (start : Start) (d : Rust) (Q : List (List ℕ) → PortValues → Type 0) → HasOne text → CanRun text schema kinds beats latency start → HasModule text (module_of d)
     → OfTimely latency (module_of d) schema beats start Q → OfEachRun text schema beats start Q
-of_each_run text schema kinds beats latency start d Q can has h = λ m value word its run.
-    let this : m ≡ module_of d = one_module text m (module_of d) its has in
-    let mine : module_of d ≡ can.design = one_module text (module_of d) can.design has can.has in
+of_each_run text schema kinds beats latency start d Q one can has h = λ m value word its run.
+    let this : m ≡ module_of d = one m (module_of d) its has in
+    let mine : module_of d ≡ can.design = one (module_of d) can.design has can.has in
     let over : IsRunOver (module_of d) schema beats start value word = subst (λ (x : Module). IsRunOver x schema beats start value word) this run in
     let ends : EndsWithin latency beats (result_names (module_of d)) (port_of (module_of d) value) =
     subst (λ (x : Module). EndsWithin latency beats (result_names x) (port_of x value)) (sym mine) (can.ends value word (subst (λ (x : Module). IsRunOver x schema beats start value word) mine over)) in
     subst (λ (x : Module). Q (result_names x) (port_of x value)) (sym this) (h value word over ends)
 
 -- how the run of the text's module ended is how each run of the text did
-pub ran_each : (text : List ℕ) (schema : Schema) (kinds : List Kind) (beats : List Beat) (latency : ℕ) (start : Start) (d : Rust) (old new : SinkState) (r : Outcome) → CanRun text schema kinds beats latency start → HasModule text (module_of d)
+pub ran_each : (text : List ℕ) (schema : Schema) (kinds : List Kind) (beats : List Beat) (latency : ℕ) (start : Start) (d : Rust) (old new : SinkState) (r : Outcome) → HasOne text → CanRun text schema kinds beats latency start → HasModule text (module_of d)
     → Ran (OfTimely latency (module_of d) schema beats start) kinds beats old new r → Ran (OfEachRun text schema beats start) kinds beats old new r
-ran_each text schema kinds beats latency start d old new Done can has h = (h.0, of_each_run text schema kinds beats latency start d (λ outs port. Writes kinds beats outs port old.taken new.taken) can has h.1)
-ran_each text schema kinds beats latency start d old new WriteFault can has h = (h.0, of_each_run text schema kinds beats latency start d (λ outs port. WritesFront kinds beats outs port old.taken new.taken) can has h.1)
-ran_each text schema kinds beats latency start d old new Memory can has h = h
+ran_each text schema kinds beats latency start d old new Done one can has h = (h.0, of_each_run text schema kinds beats latency start d (λ outs port. Writes kinds beats outs port old.taken new.taken) one can has h.1)
+ran_each text schema kinds beats latency start d old new WriteFault one can has h = (h.0, of_each_run text schema kinds beats latency start d (λ outs port. WritesFront kinds beats outs port old.taken new.taken) one can has h.1)
+ran_each text schema kinds beats latency start d old new Memory one can has h = h

@@ -26,7 +26,7 @@ use Rattle.gl_testbench.specs.Carried.{pin_at, at_reset, with_beat}
 use Rattle.gl_runner.specs.Cycles.{CanFollow, IsFollowed, IsMade, looked_at}
 use Rattle.gl_verilog_ports.specs.Profile.{ports_of, result_names, result_widths}
 use Rattle.gl_testbench.proofs.Inputs.{carried_at, inputs_fit, run_has_inputs}
-use Rattle.gl_testbench.proofs.Outputs.{columns_read, columns_widths, columns_fit, shown_same}
+use Rattle.gl_testbench.proofs.Outputs.{columns_read, columns_widths, columns_fit, same_shown}
 
 -- the values set for a cycle of the file, and for the reset
 pub beat_values : (m : Module) (schema : Schema) (beats : List Beat) (n : ℕ) (o : Option Beat) (ps pins : List Pin) (values : List ℕ)
@@ -38,7 +38,7 @@ pub reset_values : (m : Module) (schema : Schema) (beats : List Beat) (ps pins :
 reset_values m schema beats ps pins values e same are = e ∙ ap (map at_reset) (same ∙ are)
 
 pub values_fit : (m : Module) (schema : Schema) (kinds : List Kind) (beats : List Beat) (t : ℕ) (values : List ℕ) → CanFollow m schema kinds beats → values ≡ map (carried_at beats t) (map (pin_at schema m.declarations) (inputs_of m)) → FitInputs m values
-values_fit m schema kinds beats t values can e = subst (FitInputs m) (sym e) (inputs_fit can.text schema m beats t can.has can.fits can.beats')
+values_fit m schema kinds beats t values can e = subst (FitInputs m) (sym e) (inputs_fit schema m beats t can.valid can.inputs can.fits can.beats')
 
 pub columns_count : (m : Module) (kinds : List Kind) (row : List Word) (columns : List ℕ) → columns ≡ columns_from 0 (ports_of m) → result_widths m ≡ map width_of kinds → widths_of row ≡ map width_of kinds → length columns ≡ length row
 columns_count m kinds row columns are widths same =
@@ -54,7 +54,7 @@ step_followed : (s s' : Simulation) (schema : Schema) (kinds : List Kind) (beats
     → IsFollowed s schema beats value word t → SimShows s' (value t) × IsAt s' value word (t + 1)
 step_followed s s' schema kinds beats t values value word can e follows f =
     follows value word t f.run f.at
-    (subst (HasInputs (module_of s.design) (value t)) (sym e) (run_has_inputs can.text schema (module_of s.design) beats value t can.has can.fits can.beats' f.stimulus))
+    (subst (HasInputs (module_of s.design) (value t)) (sym e) (run_has_inputs schema (module_of s.design) beats value t can.valid can.inputs can.fits can.beats' f.stimulus))
 
 followed_on : (s s' : Simulation) (schema : Schema) (beats : List Beat) (t t' : ℕ) (value : ℕ → Nets) (word : ℕ → Memories) → s'.design ≡ s.design → IsFollowed s schema beats value word t → IsAt s' value word t' → IsFollowed s' schema beats value word t'
 followed_on s s' schema beats t t' value word e f at = record {
@@ -80,10 +80,10 @@ pub record IsLook (p : Simulation) (m : Module) (columns widths row : List ℕ) 
   pub columns' : columns ≡ columns_from 0 (ports_of m)
   pub bits : AllZip (λ n width. slice_index p.shown n < 2 ^ width) columns widths → row ≡ map (slice_index p.shown) columns
 
-shown_looked : (text : List ℕ) (s' : Simulation) (m : Module) (schema : Schema) (columns widths row : List ℕ) (l : Looked) (n : ℕ) (kinds : List Kind) (told : Bool) → IsLook s' m columns widths row l → row ≡ map (λ name. unwrap_or (option_map (nets_of s'.shown) (number_of (ports_of m) name)) 0) (result_names m)
+shown_looked : (s' : Simulation) (m : Module) (schema : Schema) (columns widths row : List ℕ) (l : Looked) (n : ℕ) (kinds : List Kind) (told : Bool) → IsLook s' m columns widths row l → row ≡ map (λ name. unwrap_or (option_map (nets_of s'.shown) (number_of (ports_of m) name)) 0) (result_names m)
     → cycle_lines kinds told (looked_at l n row) ≡ cycle_lines kinds told (shown (port_of m (λ t. nets_of s'.shown)) (result_names m) n)
 unfolding shown
-shown_looked text s' m schema columns widths row l n kinds told look same =
+shown_looked s' m schema columns widths row l n kinds told look same =
     lines_same kinds told (looked_at l n row) (shown (port_of m (λ t. nets_of s'.shown)) (result_names m) n) refl (rw (look.valid, same) refl) look.ends look.group
 
 group_shown : (m : Module) (v : Nets) (n : ℕ) → is_high (port_of m (λ t. v)) 0 fault_group ≡ (shown (port_of m (λ t. v)) (result_names m) n).group
@@ -104,14 +104,14 @@ cycle_made s s' schema kinds beats n values columns widths row l value word can 
     let step = step_followed s s' schema kinds beats (suc n) values value word can e follows f' in
     let two : suc n + 1 ≡ n + 2 = omega arith in
     let nets : SameNets m.declarations (nets_of s'.shown) (value (suc n)) = subst (λ (d : Rust). SameNets (module_of d).declarations (nets_of s'.shown) (value (suc n))) same step.0 in
-    let equal : shown (port_of m (λ t. nets_of s'.shown)) (result_names m) n ≡ shown (port_of m value) (result_names m) n = shown_same can.text schema m (nets_of s'.shown) value n can.has can.fits nets in
+    let equal : shown (port_of m (λ t. nets_of s'.shown)) (result_names m) n ≡ shown (port_of m value) (result_names m) n = same_shown schema m (nets_of s'.shown) value n can.valid can.fits nets in
     let fit : AllZip (λ k width. slice_index s'.shown k < 2 ^ width) columns widths =
     rw (look.columns', wide, ← can.widths) (columns_fit m (nets_of s'.shown) (value (suc n)) (word (suc n)) (f.run.fits (suc n)) nets) in
     let bits : row ≡ map (λ name. unwrap_or (option_map (nets_of s'.shown) (number_of (ports_of m) name)) 0) (result_names m) =
-    look.bits fit ∙ ap (map (slice_index s'.shown)) look.columns' ∙ columns_read can.text m (nets_of s'.shown) can.has in
+    look.bits fit ∙ ap (map (slice_index s'.shown)) look.columns' ∙ columns_read m (nets_of s'.shown) can.valid in
     record {
       followed = followed_on s s' schema beats (suc n) (n + 2) value word same f' (subst (IsAt s' value word) two step.1);
-      lines' = λ ks told. shown_looked can.text s' m schema columns widths row l n ks told look bits ∙ ap (cycle_lines ks told) equal;
+      lines' = λ ks told. shown_looked s' m schema columns widths row l n ks told look bits ∙ ap (cycle_lines ks told) equal;
       group' = look.group ∙ group_shown m (nets_of s'.shown) n ∙ ap (λ (x : Shown). x.group) equal;
       end' = look.ends ∙ end_shown m (nets_of s'.shown) n ∙ ap (λ (x : Shown). x.end) equal;
     }

@@ -10,7 +10,7 @@ use Rattle.gl_verilog.specs.Module.{Module, Nets, Memories}
 use Rattle.gl_verilog.specs.Run.{IsRun, port_of, input_values}
 use Rattle.gl_verilog.specs.Evaluate.{nets_of}
 use Rattle.gl_verilog.specs.View.{module_of}
-use Rattle.gl_verilog.specs.Text.{HasModule}
+use Rattle.gl_verilog.specs.Valid.{IsValid}
 use Rattle.gl_sim.specs.Simulation.{Simulation, IsAt}
 use Rattle.gl_sim.specs.Starts.{StartsFrom}
 use Rattle.gl_verilog_orders.specs.declared.start.Start.{Start}
@@ -25,7 +25,7 @@ use Rattle.gl_runner.specs.declared.executing.Outcome.TheVariants as outcome
 use Rattle.gl_runner.specs.declared.tracing.Ending.{Ending}
 use Rattle.gl_runner.specs.declared.tracing.Ending.TheVariants as ending
 use Rattle.gl_runner.specs.Prints.{IsRunOver, EndsWithin}
-use Rattle.gl_verilog_ports.specs.Profile.{FitsSchema, result_names, result_widths}
+use Rattle.gl_verilog_ports.specs.Profile.{FitsSchema, HasInputPorts, result_names, result_widths}
 
 -- what a simulator has on its ports
 abbrev pub port_by : Simulation → PortValues
@@ -45,10 +45,10 @@ row_if due kinds n row = row_line kinds n (if due then Some row else None)
 abbrev pub end_if : Bool → ℕ → List ℕ
 end_if due n = if due then end_line n else []
 
--- the module is that of a text, with the ports of the schema and of the result, and the beats are the schema's
+-- the module is valid and each of its inputs is a port, its ports are those of the schema and of the result, and the beats are the schema's
 pub record CanFollow (m : Module) (schema : Schema) (kinds : List Kind) (beats : List Beat) : Type 0 where
-  pub text : List ℕ
-  pub has : HasModule text m
+  pub valid : IsValid m
+  pub inputs : HasInputPorts m
   pub fits : FitsSchema m schema
   pub widths : result_widths m ≡ map width_of kinds
   pub beats' : AreBeats schema beats

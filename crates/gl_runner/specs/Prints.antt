@@ -25,6 +25,12 @@ pub record IsRunOver (m : Module) (schema : Schema) (beats : List Beat) (start :
   pub starts : StartsFrom start m value word
   pub stimulus : IsStimulus schema beats (input_values m value)
 
+-- there is such a run
+pub record HasRunOver (m : Module) (schema : Schema) (beats : List Beat) (start : Start) : Type 0 where
+  pub value : ℕ → Nets
+  pub word : ℕ → Memories
+  pub over : IsRunOver m schema beats start value word
+
 -- the file cycle is the first from the last beat's on in which the end is seen
 pub record IsEnd (beats : List Beat) (outs : List (List ℕ)) (port : PortValues) (n : ℕ) : Type 0 where
   pub soonest : last_cycle beats ≤ n

@@ -12,7 +12,6 @@ use Rattle.gl_verilog_orders.specs.declared.start.Start.{Start}
 use Rattle.gl_schema.specs.declared.schema.Schema.{Schema}
 use Rattle.gl_verilog.specs.Module.{Module, Nets, Memories}
 use Rattle.gl_verilog.specs.Run.{port_of}
-use Rattle.gl_verilog.specs.Text.{HasModule}
 use Rattle.gl_runner.specs.declared.tracing.Ending.{Ending}
 use Rattle.gl_runner.specs.declared.tracing.Ending.TheVariants.{Done, NoEnd, WriteFault, Memory}
 use Rattle.gl_runner.specs.Prints.{IsEnd, IsRunOver}
@@ -55,10 +54,6 @@ pub record TracesToEnd (kinds : List Kind) (beats : List Beat) (extra : ℕ) (ou
 pub record TracesOut (kinds : List Kind) (beats : List Beat) (extra cycle : ℕ) (outs : List (List ℕ)) (port : PortValues) (old new : Option (List ℕ)) : Type 0 where
   pub out : RunsOut beats outs port extra cycle
   pub taken : WritesTo kinds outs port cycle old new
-
--- the module is that of a text
-abbrev pub IsOfText : Module → Type 0
-IsOfText m = (text : List ℕ) × HasModule text m
 
 -- a fact about each run of a module from this start over these beats
 abbrev pub OfRunsOf : Module → Schema → List Beat → Start → (List (List ℕ) → PortValues → Type 0) → Type 0

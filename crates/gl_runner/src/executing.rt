@@ -18,7 +18,9 @@ use gl_schema::Schema;
 use gl_testbench::shows_of;
 use gl_tuples::Beats;
 use gl_verilog::Module;
+use gl_verilog_grammar::laws::one_module;
 use gl_verilog_orders::Start;
+use gl_verilog_ports::laws::inputs_are_ports;
 use gl_verilog_reader::{VerilogFault, read_module};
 use std::alloc::Global;
 
@@ -29,7 +31,7 @@ pub enum Outcome {
     Done,
     /// The sink failed.
     WriteFault,
-    /// Want of memory, or a text that the reader does not take; nothing was written.
+    /// Want of memory; nothing was written.
     Memory,
 }
 
@@ -108,6 +110,8 @@ pub fn execute<K: Sink>(
     ensures { Ran (OfEachRun text.now schema.now (plain_beats beats.now) start)
         kinds.now (plain_beats beats.now) (K.state out.old) (K.state out.new) result }
 {
+    one_module();
+    inputs_are_ports();
     let design = match read_module(alloc, text) {
         Ok(design) => design,
         Err(fault) => return unread(fault),

@@ -25,7 +25,9 @@ use gl_sim::room::{ports_of, zeros};
 use gl_testbench::{Pin, Shows, pins_at, set_beat, set_reset};
 use gl_tuples::Beat;
 use gl_verilog::Module;
+use gl_verilog::laws::valid_modules_run;
 use gl_verilog_orders::Start;
+use gl_verilog_orders::laws::event_runs_are_runs;
 use std::alloc::Global;
 
 /// What a module is followed over, from where, and how far.
@@ -58,14 +60,6 @@ fn bench_of(alloc: Global, schema: &Schema, design: &Module, shows: Shows) -> Re
     Ok(Bench { pins, shows })
 }
 
-// What is run, and over which beats.
-#[derive(Clone, Copy)]
-struct Course<'a> {
-    bench: &'a Bench,
-    task: &'a Task<'a>,
-    last: u64,
-}
-
 // The beat of this cycle, and the place behind it.
 fn due<'a>(beats: &'a [Beat], next: &mut usize, cycle: u64) -> Option<&'a Beat>
     requires { AreDue (plain_beats beats.now) next.old cycle }
@@ -84,50 +78,51 @@ fn due<'a>(beats: &'a [Beat], next: &mut usize, cycle: u64) -> Option<&'a Beat>
 // Makes one cycle of the file, and answers what it shows; the row takes the columns.
 fn advance(
     sim: &mut Sim,
-    course: &Course,
+    bench: &Bench,
+    task: &Task,
     next: &mut usize,
     cycle: u64,
     values: &mut [u128],
     row: &mut Row,
 ) -> Looked
-    requires can { CanFollow (module_of sim.old.design) course.now.task.now.schema.now
-        course.now.task.now.kinds.now (plain_beats course.now.task.now.beats.now) }
-    requires bench { IsBench (module_of sim.old.design) course.now.task.now.schema.now
-        course.now.bench.now.pins.items course.now.bench.now.shows }
-    requires values { length values.old ≡ length course.now.bench.now.pins.items }
-    requires widths { widths_of row.old ≡ map width_of course.now.task.now.kinds.now }
-    requires due { AreDue (plain_beats course.now.task.now.beats.now) next.old cycle }
+    requires can { CanFollow (module_of sim.old.design) task.now.schema.now
+        task.now.kinds.now (plain_beats task.now.beats.now) }
+    requires bench { IsBench (module_of sim.old.design) task.now.schema.now
+        bench.now.pins.items bench.now.shows }
+    requires values { length values.old ≡ length bench.now.pins.items }
+    requires widths { widths_of row.old ≡ map width_of task.now.kinds.now }
+    requires due { AreDue (plain_beats task.now.beats.now) next.old cycle }
     ensures design { sim.new.design ≡ sim.old.design }
     ensures widths { widths_of row.new ≡ widths_of row.old }
-    ensures due { AreDue (plain_beats course.now.task.now.beats.now) next.new (cycle + 1) }
+    ensures due { AreDue (plain_beats task.now.beats.now) next.new (cycle + 1) }
     ensures made { (value : ℕ → Nets) (word : ℕ → Memories)
-        → IsFollowed sim.old course.now.task.now.schema.now
-        (plain_beats course.now.task.now.beats.now) value word (cycle + 1)
-        → IsMade (module_of sim.old.design) sim.new course.now.task.now.schema.now
-        (plain_beats course.now.task.now.beats.now) result (bits_of row.new) cycle value word }
+        → IsFollowed sim.old task.now.schema.now
+        (plain_beats task.now.beats.now) value word (cycle + 1)
+        → IsMade (module_of sim.old.design) sim.new task.now.schema.now
+        (plain_beats task.now.beats.now) result (bits_of row.new) cycle value word }
 {
-    let beat = due(course.task.beats, next, cycle);
-    set_beat(&course.bench.pins, beat, values);
+    let beat = due(task.beats, next, cycle);
+    set_beat(&bench.pins, beat, values);
     sim.step(values);
-    set_row(sim, &course.bench.shows.columns, row);
-    look(sim, &course.bench.shows)
+    set_row(sim, &bench.shows.columns, row);
+    look(sim, &bench.shows)
 }
 
 // Makes the cycle of the reset.
-fn reset(sim: &mut Sim, course: &Course, values: &mut [u128])
-    requires can { CanFollow (module_of sim.old.design) course.now.task.now.schema.now
-        course.now.task.now.kinds.now (plain_beats course.now.task.now.beats.now) }
-    requires bench { IsBench (module_of sim.old.design) course.now.task.now.schema.now
-        course.now.bench.now.pins.items course.now.bench.now.shows }
-    requires values { length values.old ≡ length course.now.bench.now.pins.items }
+fn reset(sim: &mut Sim, bench: &Bench, task: &Task, values: &mut [u128])
+    requires can { CanFollow (module_of sim.old.design) task.now.schema.now
+        task.now.kinds.now (plain_beats task.now.beats.now) }
+    requires bench { IsBench (module_of sim.old.design) task.now.schema.now
+        bench.now.pins.items bench.now.shows }
+    requires values { length values.old ≡ length bench.now.pins.items }
     ensures design { sim.new.design ≡ sim.old.design }
     ensures followed { (value : ℕ → Nets) (word : ℕ → Memories)
-        → IsFollowed sim.old course.now.task.now.schema.now
-        (plain_beats course.now.task.now.beats.now) value word 0
-        → IsFollowed sim.new course.now.task.now.schema.now
-        (plain_beats course.now.task.now.beats.now) value word 1 }
+        → IsFollowed sim.old task.now.schema.now
+        (plain_beats task.now.beats.now) value word 0
+        → IsFollowed sim.new task.now.schema.now
+        (plain_beats task.now.beats.now) value word 1 }
 {
-    set_reset(&course.bench.pins, values);
+    set_reset(&bench.pins, values);
     sim.step(values);
 }
 
@@ -135,36 +130,36 @@ fn reset(sim: &mut Sim, course: &Course, values: &mut [u128])
 // lines.
 fn follow<K: Sink>(
     sim: &mut Sim,
-    course: &Course,
+    bench: &Bench,
+    task: &Task,
     values: &mut [u128],
     row: &mut Row,
     out: &mut K,
 ) -> Ending
-    requires can { CanFollow (module_of sim.old.design) course.now.task.now.schema.now
-        course.now.task.now.kinds.now (plain_beats course.now.task.now.beats.now) }
-    requires bench { IsBench (module_of sim.old.design) course.now.task.now.schema.now
-        course.now.bench.now.pins.items course.now.bench.now.shows }
-    requires values { length values.old ≡ length course.now.bench.now.pins.items }
-    requires many { length course.now.task.now.kinds.now ≤ 32 }
-    requires kinds { AllByRecursion IsKind course.now.task.now.kinds.now }
-    requires widths { widths_of row.old ≡ map width_of course.now.task.now.kinds.now }
-    requires last { course.now.last ≡ last_cycle (plain_beats course.now.task.now.beats.now) }
-    requires early { course.now.last ≤ 2 ^ 32 }
-    requires short { course.now.task.now.extra ≤ 2 ^ 32 }
-    ensures { Traced (OfFollowed sim.old course.now.task.now.schema.now
-        (plain_beats course.now.task.now.beats.now) 1) course.now.task.now.kinds.now
-        (plain_beats course.now.task.now.beats.now) course.now.task.now.extra
+    requires can { CanFollow (module_of sim.old.design) task.now.schema.now
+        task.now.kinds.now (plain_beats task.now.beats.now) }
+    requires bench { IsBench (module_of sim.old.design) task.now.schema.now
+        bench.now.pins.items bench.now.shows }
+    requires values { length values.old ≡ length bench.now.pins.items }
+    requires many { length task.now.kinds.now ≤ 32 }
+    requires kinds { AllByRecursion IsKind task.now.kinds.now }
+    requires widths { widths_of row.old ≡ map width_of task.now.kinds.now }
+    requires short { task.now.extra ≤ 2 ^ 32 }
+    ensures { Traced (OfFollowed sim.old task.now.schema.now
+        (plain_beats task.now.beats.now) 1) task.now.kinds.now
+        (plain_beats task.now.beats.now) task.now.extra
         (K.state out.old) (K.state out.new) result }
 {
     let mut next = 0;
     let mut told = false;
-    let far = course.last + course.task.extra;
+    let last = last_of(task.beats);
+    let far = last + task.extra;
     for cycle in 0..far + 1 {
-        let looked = advance(sim, course, &mut next, cycle, values, row);
-        if put_cycle(out, cycle, course.task.kinds, row, told, looked).is_err() {
+        let looked = advance(sim, bench, task, &mut next, cycle, values, row);
+        if put_cycle(out, cycle, task.kinds, row, told, looked).is_err() {
             return Ending::WriteFault;
         }
-        if looked.end && cycle >= course.last {
+        if looked.end && cycle >= last {
             return Ending::Done;
         }
         told |= looked.group;
@@ -240,14 +235,9 @@ fn run<K: Sink>(prepared: Prepared, task: &Task, out: &mut K) -> Ending
         mut values,
         mut row,
     } = prepared;
-    let course = Course {
-        bench: &bench,
-        task,
-        last: last_of(task.beats),
-    };
     let inputs = values.as_mut_slice();
-    reset(&mut sim, &course, inputs);
-    follow(&mut sim, &course, inputs, &mut row, out)
+    reset(&mut sim, &bench, task, inputs);
+    follow(&mut sim, &bench, task, inputs, &mut row, out)
 }
 
 /// Runs a module, in which these ports show the result, and writes the lines of its run.
@@ -273,6 +263,8 @@ pub(crate) fn follow_module<K: Sink>(
         (plain_beats task.now.beats.now) task.now.start) task.now.kinds.now
         (plain_beats task.now.beats.now) task.now.extra (K.state out.old) (K.state out.new) result }
 {
+    valid_modules_run();
+    event_runs_are_runs();
     let Ok(prepared) = prepare(alloc, design, shows, task) else {
         return Ending::Memory;
     };

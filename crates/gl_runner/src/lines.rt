@@ -15,6 +15,19 @@ use gl_tuples::line_into;
 use itoa::Buffer;
 use std::alloc::Global;
 
+// The word of a kind that is 0.
+fn zero_of(kind: Kind) -> Word
+    requires { IsKind kind }
+    ensures width { result.width ≡ width_of kind }
+    ensures bits { result.bits ≡ 0 }
+{
+    match Word::new(0, kind.width()) {
+        Some(word) => word,
+        // A kind has 1 to 64 bits.
+        None => unreachable!(),
+    }
+}
+
 /// A row of zeros of these kinds.
 pub(crate) fn zero_row(alloc: Global, kinds: &[Kind]) -> Result<Row, Memory>
     requires { AllByRecursion IsKind kinds.now }
@@ -23,10 +36,7 @@ pub(crate) fn zero_row(alloc: Global, kinds: &[Kind]) -> Result<Row, Memory>
 {
     let mut row = Row::new(alloc);
     for kind in kinds {
-        let Some(word) = Word::new(0, kind.width()) else {
-            return Err(Memory);
-        };
-        row.push(word)?;
+        row.push(zero_of(*kind))?;
     }
     Ok(row)
 }

@@ -4,14 +4,18 @@ ghost use Rattle.std.specs.Prelude.{◌≡◌, Ok, IfOk};
 ghost use Rattle.gl_schema.specs.Beats.{AreBeats};
 ghost use Rattle.gl_schema.specs.Schemas.{IsSchema};
 ghost use Rattle.gl_tuples.specs.Gaps.{plain_beats};
+ghost use Rattle.gl_verilog.specs.Valid.{IsValid};
 ghost use Rattle.gl_verilog.specs.View.{module_of};
 ghost use Rattle.gl_verilog_ports.specs.Fit.{fit_of};
-ghost use Rattle.gl_runner.specs.Traces.{IsOfText, OfRunsOf, Traced, decimal_kinds};
+ghost use Rattle.gl_verilog_ports.specs.Profile.{HasInputPorts};
+ghost use Rattle.gl_runner.specs.Prints.{HasRunOver};
+ghost use Rattle.gl_runner.specs.Traces.{OfRunsOf, Traced, decimal_kinds};
 
 use crate::following::{Task, follow_module};
 use gl_bits::{Kind, Memory};
 use gl_outside::Sink;
 use gl_schema::Schema;
+use gl_testbench::laws::has_runs_over;
 use gl_testbench::shows_at;
 use gl_tuples::Beats;
 use gl_verilog::Module;
@@ -61,14 +65,17 @@ pub fn trace<K: Sink>(
     extra: u32,
     out: &mut K,
 ) -> Ending
-    requires text { IsOfText (module_of design) }
+    requires valid { IsValid (module_of design) }
+    requires inputs { HasInputPorts (module_of design) }
     requires fits { fit_of (module_of design) schema.now ≡ Ok ports.now }
     requires schema { IsSchema schema.now }
     requires beats { AreBeats schema.now (plain_beats beats.now) }
-    ensures { Traced (OfRunsOf (module_of design) schema.now (plain_beats beats.now) start)
+    ensures run { HasRunOver (module_of design) schema.now (plain_beats beats.now) start }
+    ensures lines { Traced (OfRunsOf (module_of design) schema.now (plain_beats beats.now) start)
         (decimal_kinds (module_of design)) (plain_beats beats.now) extra
         (K.state out.old) (K.state out.new) result }
 {
+    has_runs_over();
     let Ok(kinds) = decimal_kinds(alloc, &design) else {
         return Ending::Memory;
     };

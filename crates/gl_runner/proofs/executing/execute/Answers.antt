@@ -1,4 +1,5 @@
 use Rattle.gl_tuples.specs.Gaps.{plain_beats}
+use Rattle.gl_verilog.specs.View.{module_of}
 use Rattle.gl_runner.proofs.Each.{can_follow, ran_each}
 use Rattle.gl_runner.proofs.executing.execute.Goals as goal
 
@@ -7,7 +8,8 @@ pub unread-requires : goal.unread-requires
 unread-requires g c = c.in-Err.ensures.only c.requires.runs.design c.requires.runs.has
 
 pub execute_module-requires-clause-can : goal.execute_module-requires-clause-can
-execute_module-requires-clause-can g c = can_follow c.args.text.now c.args.schema.now c.args.kinds.now (plain_beats c.args.beats.now) c.args.latency c.args.start c.in-Ok.design c.requires.runs c.in-Ok.ensures.found c.requires.beats
+execute_module-requires-clause-can g c = can_follow c.args.text.now c.args.schema.now c.args.kinds.now (plain_beats c.args.beats.now) c.args.latency c.args.start c.in-Ok.design (c.one_module.ensures c.args.text.now) (c.inputs_are_ports.ensures c.args.text.now (module_of c.in-Ok.design) c.in-Ok.ensures.found)
+    c.requires.runs c.in-Ok.ensures.found c.requires.beats
 
 pub execute_module-requires-clause-many : goal.execute_module-requires-clause-many
 execute_module-requires-clause-many g c = c.requires.many
@@ -21,4 +23,4 @@ execute_module-requires-clause-short g c = c.requires.runs.short
 pub returns : goal.returns
 returns g c =
     ran_each c.args.text.now c.args.schema.now c.args.kinds.now (plain_beats c.args.beats.now) c.args.latency c.args.start c.in-Ok.design
-    (g.K.Sink.state c.args.out.now) (g.K.Sink.state c.execute_module.new.out) c.execute_module.result c.requires.runs c.in-Ok.ensures.found c.execute_module.ensures
+    (g.K.Sink.state c.args.out.now) (g.K.Sink.state c.execute_module.new.out) c.execute_module.result (c.one_module.ensures c.args.text.now) c.requires.runs c.in-Ok.ensures.found c.execute_module.ensures

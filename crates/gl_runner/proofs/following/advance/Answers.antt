@@ -16,10 +16,10 @@ use Rattle.gl_runner.proofs.following.advance.Goals as goal
 pub step-requires : goal.step-requires
 step-requires c =
     let m = module_of c.args.sim.now.design in
-    let course = c.args.course.now in
-    let beats = plain_beats course.task.now.beats.now in
-    values_fit m course.task.now.schema.now course.task.now.kinds.now beats (suc c.args.cycle) c.set_beat.new.values c.requires.can
-    (beat_values m course.task.now.schema.now beats c.args.cycle (option_map (λ b. plain_beat b.now) c.due-beat.result) c.deref.result.now course.bench.now.pins.items c.set_beat.new.values c.set_beat.ensures c.deref.ensures.value c.due-beat.ensures.beat c.requires.bench.pins')
+    let task = c.args.task.now in
+    let beats = plain_beats task.beats.now in
+    values_fit m task.schema.now task.kinds.now beats (suc c.args.cycle) c.set_beat.new.values c.requires.can
+    (beat_values m task.schema.now beats c.args.cycle (option_map (λ b. plain_beat b.now) c.due-beat.result) c.deref.result.now c.args.bench.now.pins.items c.set_beat.new.values c.set_beat.ensures c.deref.ensures.value c.due-beat.ensures.beat c.requires.bench.pins')
 
 pub set_row-requires-clause-inside : goal.set_row-requires-clause-inside
 set_row-requires-clause-inside c =
@@ -28,20 +28,20 @@ set_row-requires-clause-inside c =
 
 pub set_row-requires-clause-lengths : goal.set_row-requires-clause-lengths
 set_row-requires-clause-lengths c =
-    columns_count (module_of c.args.sim.now.design) c.args.course.now.task.now.kinds.now c.args.row.now c.deref-2.result.now (c.deref-2.ensures.value ∙ c.requires.bench.shows'.columns') c.requires.can.widths c.requires.widths
+    columns_count (module_of c.args.sim.now.design) c.args.task.now.kinds.now c.args.row.now c.deref-2.result.now (c.deref-2.ensures.value ∙ c.requires.bench.shows'.columns') c.requires.can.widths c.requires.widths
 
 pub look-requires : goal.look-requires
-look-requires c = subst (λ (d : Module). AreShows (module_of d) c.args.course.now.bench.now.shows) (sym c.step.ensures.design) c.requires.bench.shows'
+look-requires c = subst (λ (d : Module). AreShows (module_of d) c.args.bench.now.shows) (sym c.step.ensures.design) c.requires.bench.shows'
 
 pub returns-clause-made : goal.returns-clause-made
 returns-clause-made c = λ value word f.
     let m = module_of c.args.sim.now.design in
-    let course = c.args.course.now in
-    let beats = plain_beats course.task.now.beats.now in
+    let task = c.args.task.now in
+    let beats = plain_beats task.beats.now in
     let s' = c.step.new.self in
-    cycle_made c.args.sim.now s' course.task.now.schema.now course.task.now.kinds.now beats c.args.cycle c.set_beat.new.values c.deref-2.result.now (widths_of c.args.row.now) (bits_of c.set_row.new.row) c.look.result value word
+    cycle_made c.args.sim.now s' task.schema.now task.kinds.now beats c.args.cycle c.set_beat.new.values c.deref-2.result.now (widths_of c.args.row.now) (bits_of c.set_row.new.row) c.look.result value word
     c.requires.can c.step.ensures.design
-    (beat_values m course.task.now.schema.now beats c.args.cycle (option_map (λ b. plain_beat b.now) c.due-beat.result) c.deref.result.now course.bench.now.pins.items c.set_beat.new.values c.set_beat.ensures c.deref.ensures.value c.due-beat.ensures.beat c.requires.bench.pins')
+    (beat_values m task.schema.now beats c.args.cycle (option_map (λ b. plain_beat b.now) c.due-beat.result) c.deref.result.now c.args.bench.now.pins.items c.set_beat.new.values c.set_beat.ensures c.deref.ensures.value c.due-beat.ensures.beat c.requires.bench.pins')
     c.step.ensures.follows c.requires.widths
     (record {
       group = c.look.ensures.group ∙ ap (λ (d : Module). is_high (port_of (module_of d) (λ t. nets_of s'.shown)) 0 fault_group) c.step.ensures.design;

@@ -2,7 +2,6 @@ use Rattle.std.proofs.Common.{sym, subst}
 use Rattle.gl_tuples.specs.Gaps.{plain_beats}
 use Rattle.gl_verilog.specs.declared.module.Module.{Module}
 use Rattle.gl_verilog.specs.View.{module_of}
-use Rattle.gl_verilog.proofs.Acyclic.{runnable}
 use Rattle.gl_testbench.specs.Benches.{IsBench}
 use Rattle.gl_runner.specs.Cycles.{CanFollow, OfFollowed}
 use Rattle.gl_runner.specs.Traces.{OfRunsOf}
@@ -10,7 +9,7 @@ use Rattle.gl_runner.proofs.Each.{of_runs, traced_from}
 use Rattle.gl_runner.proofs.following.follow_module.Goals as goal
 
 pub prepare-requires-clause-runnable : goal.prepare-requires-clause-runnable
-prepare-requires-clause-runnable g c = runnable (module_of c.args.design) c.requires.can.has.valid
+prepare-requires-clause-runnable g c = c.valid_modules_run.ensures (module_of c.args.design) c.requires.can.valid
 
 pub prepare-requires-clause-shows : goal.prepare-requires-clause-shows
 prepare-requires-clause-shows g c = c.requires.shows
@@ -47,4 +46,4 @@ returns g c =
     let beats = plain_beats task.beats.now in
     traced_from (OfFollowed c.in-Ok.prepared.sim task.schema.now beats 0) (OfRunsOf (module_of c.args.design) task.schema.now beats task.start) task.kinds.now beats task.extra
     (g.K.Sink.state c.args.out.now) (g.K.Sink.state c.run.new.out) c.run.result
-    (λ P. of_runs task.schema.now beats task.start c.args.design c.in-Ok.prepared.sim P c.requires.can.has.valid c.in-Ok.ensures.design' c.in-Ok.ensures.started) c.run.ensures
+    (λ P. of_runs task.schema.now beats task.start c.args.design c.in-Ok.prepared.sim P (c.event_runs_are_runs.ensures.runs (module_of c.args.design) c.requires.can.valid) c.in-Ok.ensures.design' c.in-Ok.ensures.started) c.run.ensures

@@ -35,12 +35,6 @@ follow-requires-clause-kinds g c = c.requires.kinds
 pub follow-requires-clause-widths : goal.follow-requires-clause-widths
 follow-requires-clause-widths g c = c.requires.widths
 
-pub follow-requires-clause-last : goal.follow-requires-clause-last
-follow-requires-clause-last g c = c.last_of.ensures.cycle
-
-pub follow-requires-clause-early : goal.follow-requires-clause-early
-follow-requires-clause-early g c = c.last_of.ensures.early
-
 pub follow-requires-clause-short : goal.follow-requires-clause-short
 follow-requires-clause-short g c = c.requires.short
 

@@ -8,6 +8,7 @@ use Rattle.gl_verilog.specs.View.{module_of}
 use Rattle.gl_verilog_ports.proofs.Fits.{fits, numbered}
 use Rattle.gl_runner.specs.Cycles.{CanFollow}
 use Rattle.gl_runner.specs.Traces.{OfRunsOf, Traced, decimal_kinds}
+use Rattle.gl_runner.proofs.Each.{run_there}
 use Rattle.gl_runner.proofs.Decimals.{can_trace, decimals_are_kinds, decimals_many}
 use Rattle.gl_runner.proofs.tracing.trace.Goals as goal
 
@@ -27,24 +28,24 @@ follow_module-requires-clause-can g c =
     let kinds : c.deref.result.now ≡ decimal_kinds m = c.deref.ensures.value ∙ c.in-Ok.ensures in
     subst (λ (b : List Beat). CanFollow m schema c.deref.result.now (plain_beats b)) (sym c.as_slice.ensures)
     (subst (λ (k : List Kind). CanFollow m schema k (plain_beats c.args.beats.now)) (sym kinds)
-    (can_trace m schema (plain_beats c.args.beats.now) c.requires.text (fits c.requires.text.0 m schema c.args.ports.now c.requires.text.1 c.requires.fits) c.requires.beats))
+    (can_trace m schema (plain_beats c.args.beats.now) c.requires.valid c.requires.inputs (fits m schema c.args.ports.now c.requires.valid.names c.requires.inputs c.requires.fits) c.requires.beats))
 
 pub follow_module-requires-clause-many : goal.follow_module-requires-clause-many
 follow_module-requires-clause-many g c =
     let m = module_of c.args.design in
     let schema = c.args.schema.now in
     let kinds : c.deref.result.now ≡ decimal_kinds m = c.deref.ensures.value ∙ c.in-Ok.ensures in
-    subst (λ (k : List Kind). length k ≤ 32) (sym kinds) (decimals_many m schema (fits c.requires.text.0 m schema c.args.ports.now c.requires.text.1 c.requires.fits))
+    subst (λ (k : List Kind). length k ≤ 32) (sym kinds) (decimals_many m schema (fits m schema c.args.ports.now c.requires.valid.names c.requires.inputs c.requires.fits))
 
 pub follow_module-requires-clause-kinds : goal.follow_module-requires-clause-kinds
 follow_module-requires-clause-kinds g c =
     let m = module_of c.args.design in
     let schema = c.args.schema.now in
     let kinds : c.deref.result.now ≡ decimal_kinds m = c.deref.ensures.value ∙ c.in-Ok.ensures in
-    subst (λ (k : List Kind). AllByRecursion IsKind k) (sym kinds) (decimals_are_kinds m schema c.requires.text (fits c.requires.text.0 m schema c.args.ports.now c.requires.text.1 c.requires.fits))
+    subst (λ (k : List Kind). AllByRecursion IsKind k) (sym kinds) (decimals_are_kinds m schema c.requires.valid (fits m schema c.args.ports.now c.requires.valid.names c.requires.inputs c.requires.fits))
 
-pub returns : goal.returns
-returns g c =
+pub returns-clause-lines : goal.returns-clause-lines
+returns-clause-lines g c =
     let m = module_of c.args.design in
     let schema = c.args.schema.now in
     let start = c.args.start in
@@ -56,3 +57,21 @@ returns g c =
     subst (λ (n : ℕ). Traced (OfRunsOf m schema beats start) (decimal_kinds m) beats n old new end') c.from.ensures
     (subst (λ (k : List Kind). Traced (OfRunsOf m schema beats start) k beats c.from.result old new end') kinds
     (subst (λ (b : List Beat). Traced (OfRunsOf m schema (plain_beats b) start) c.deref.result.now (plain_beats b) c.from.result old new end') c.as_slice.ensures c.follow_module.ensures))
+
+pub returns-in_default-clause-run : goal.returns-in_default-clause-run
+returns-in_default-clause-run g c =
+    let m = module_of c.args.design in
+    let schema = c.args.schema.now in
+    run_there m schema c.args.ports.now (plain_beats c.args.beats.now) c.args.start (c.has_runs_over.ensures.started m schema c.requires.valid c.requires.schema) c.requires.fits c.requires.beats
+
+pub returns-in_default-shows_at-clause-run : goal.returns-in_default-shows_at-clause-run
+returns-in_default-shows_at-clause-run g c =
+    let m = module_of c.args.design in
+    let schema = c.args.schema.now in
+    run_there m schema c.args.ports.now (plain_beats c.args.beats.now) c.args.start (c.has_runs_over.ensures.started m schema c.requires.valid c.requires.schema) c.requires.fits c.requires.beats
+
+pub returns-clause-run : goal.returns-clause-run
+returns-clause-run g c =
+    let m = module_of c.args.design in
+    let schema = c.args.schema.now in
+    run_there m schema c.args.ports.now (plain_beats c.args.beats.now) c.args.start (c.has_runs_over.ensures.started m schema c.requires.valid c.requires.schema) c.requires.fits c.requires.beats
