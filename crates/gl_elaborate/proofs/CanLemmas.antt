@@ -11,7 +11,7 @@ use Rattle.gl_schema.specs.declared.schema.Schema.{Schema}
 use Rattle.gl_query.specs.declared.tree.Statement.{Statement}
 use Rattle.gl_query.specs.Shapes.{ExprShape, ItemShape, AggShape, AggItemShape, PickShape, QueryShape, query_shape}
 use Rattle.gl_query.specs.Shapes as shape
-use Rattle.gl_query.specs.Values.{kind_alone, left_place, right_place}
+use Rattle.gl_query.specs.Values.{kind_alone, operand_place}
 use Rattle.gl_query.specs.Columns.{agg_column, agg_kind, columns_of, variable, item_column}
 use Rattle.gl_query.specs.Accepted.{IsAcceptedOver, IsFilter, IsPick}
 use Rattle.gl_query.specs.Sizes.{IsSmall, QueryIsSmall, operators_in}
@@ -42,7 +42,7 @@ term-ops columns place (shape.Letters text) = refl
 term-ops columns place (shape.Not e) = ap (λ (n : ℕ). 1 + n) (term-ops columns (Unsigned 1) e)
 term-ops columns place (shape.Cast kind e) = ap (λ (n : ℕ). 1 + n) (term-ops columns (kind_alone e) e)
 term-ops columns place (shape.Binary o l r) = λ i.
-    1 + term-ops columns (left_place columns o place l r) l i + term-ops columns (right_place columns o place l r) r i
+    1 + term-ops columns (operand_place columns o place l r) l i + term-ops columns (operand_place columns o place r l) r i
 
 condition-ops : (t : Term) → ops_in (condition_of t) ≤ ops_in t + 1
 condition-ops (Column n) = omega arith

@@ -8,7 +8,7 @@ use Rattle.gl_schema.specs.declared.schema.Stream.{Stream}
 use Rattle.gl_schema.specs.Schemas.{kinds_of}
 use Rattle.gl_query.specs.Shapes.{ExprShape, ItemShape, AggShape, AggItemShape, PickShape, QueryShape}
 use Rattle.gl_query.specs.Shapes as shape
-use Rattle.gl_query.specs.Values.{kind_alone, left_place, right_place}
+use Rattle.gl_query.specs.Values.{kind_alone, operand_place}
 use Rattle.gl_query.specs.Columns.{columns_of, variable}
 use Rattle.gl_query.specs.Accepted.{IsAcceptedOver}
 use Rattle.gl_algebra.specs.declared.figures.Figures.{Figures}
@@ -40,7 +40,7 @@ term-depth columns place (shape.Letters text) = refl
 term-depth columns place (shape.Not e) = ap (λ (n : ℕ). 1 + n) (term-depth columns (Unsigned 1) e)
 term-depth columns place (shape.Cast kind e) = ap (λ (n : ℕ). 1 + n) (term-depth columns (kind_alone e) e)
 term-depth columns place (shape.Binary o l r) = λ i.
-    1 + max (term-depth columns (left_place columns o place l r) l i) (term-depth columns (right_place columns o place l r) r i)
+    1 + max (term-depth columns (operand_place columns o place l r) l i) (term-depth columns (operand_place columns o place r l) r i)
 
 condition-depth : (columns : List NamedColumn) (e : ExprShape) → depth_of (condition_of (term_of columns (Unsigned 1) e)) ≡ filter_depth e
 condition-depth columns (shape.Column name) = refl

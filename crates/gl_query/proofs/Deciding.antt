@@ -19,7 +19,7 @@ use Rattle.gl_query.specs.declared.tree.Num.{Num}
 use Rattle.gl_query.specs.Trees as tree
 use Rattle.gl_query.specs.Trees.{ExprTree, AggTree}
 use Rattle.gl_query.specs.Alike.{expr_alike, agg_alike}
-use Rattle.gl_query.specs.Values.{CanApply, CanCast, HasKind, IsLettersOf, IsNumberOf, IsUnsigned, is_loose, kind_alone, kind_of, left_place, right_place}
+use Rattle.gl_query.specs.Values.{CanApply, CanCast, HasKind, IsLettersOf, IsNumberOf, IsUnsigned, is_loose, kind_alone, kind_of, operand_place}
 use Rattle.gl_query.specs.Accepted.{IsAgg, IsFilter, IsSummed}
 use Rattle.gl_query.specs.Faults.{or_else, unless, same_kind, same_kinds, is_unsigned, is_bit, is_within, can_cast, letters_fit, number_fault, letters_fault, operator_fault, of_operands, expr_fault, whole_fault, whole_kind, filter_fault, named_fault, summed_fault, too_many, weights_fault, agg_fault}
 
@@ -66,12 +66,12 @@ kinds_equal (Unsigned v) (Text n) e = absurd (cc)
 kinds_equal (Text m) (Unsigned w) e = absurd (cc)
 kinds_equal (Text m) (Text n) e = ap Text (eqb-true m n e)
 
-own_kind : (k : Kind) → same_kind k k ≡ true
-own_kind (Unsigned w) = eq-eqb w w refl
-own_kind (Text n) = eq-eqb n n refl
+kind_itself : (k : Kind) → same_kind k k ≡ true
+kind_itself (Unsigned w) = eq-eqb w w refl
+kind_itself (Text n) = eq-eqb n n refl
 
 pub equal_kinds : (j k : Kind) → j ≡ k → same_kind j k ≡ true
-equal_kinds j k e = subst (λ (x : Kind). same_kind j x ≡ true) e (own_kind j)
+equal_kinds j k e = subst (λ (x : Kind). same_kind j x ≡ true) e (kind_itself j)
 
 pub lists_equal : (js ks : List Kind) → same_kinds js ks ≡ true → js ≡ ks
 lists_equal [] [] e = refl
@@ -81,12 +81,12 @@ lists_equal (j ∷ js) (k ∷ ks) e =
     let p = and_parts (same_kind j k) (same_kinds js ks) e in
     ap (λ (x : Kind). x ∷ js) (kinds_equal j k p.0) ∙ ap (λ (x : List Kind). k ∷ x) (lists_equal js ks p.1)
 
-own_kinds : (ks : List Kind) → same_kinds ks ks ≡ true
-own_kinds [] = refl
-own_kinds (k ∷ ks) = and_both (same_kind k k) (same_kinds ks ks) (own_kind k) (own_kinds ks)
+kinds_themselves : (ks : List Kind) → same_kinds ks ks ≡ true
+kinds_themselves [] = refl
+kinds_themselves (k ∷ ks) = and_both (same_kind k k) (same_kinds ks ks) (kind_itself k) (kinds_themselves ks)
 
 pub equal_lists : (js ks : List Kind) → js ≡ ks → same_kinds js ks ≡ true
-equal_lists js ks e = subst (λ (x : List Kind). same_kinds js x ≡ true) e (own_kinds js)
+equal_lists js ks e = subst (λ (x : List Kind). same_kinds js x ≡ true) e (kinds_themselves js)
 
 unsigned_is : (k : Kind) → is_unsigned k ≡ true → IsUnsigned k
 unsigned_is (Unsigned w) e = tt
@@ -173,12 +173,12 @@ expr_decides (tree.Cast e kind at) columns place =
     let from = kind_of columns alone (expr_alike e) in
     both (expr_fault columns alone e) _ (expr_decides e columns alone) (λ h. rule (can_cast from kind) _ (CanCast from kind) (casts from kind) (can_cast_of from kind))
 expr_decides (tree.Binary op l r at) columns place =
-    let left = left_place columns op place (expr_alike l) (expr_alike r) in
-    let right = right_place columns op place (expr_alike l) (expr_alike r) in
-    let operands = either_order (is_loose (expr_alike l) && not (is_loose (expr_alike r))) (expr_fault columns left l) (expr_fault columns right r)
+    let left = operand_place columns op place (expr_alike l) (expr_alike r) in
+    let right = operand_place columns op place (expr_alike r) (expr_alike l) in
+    let operands = either_order (is_loose columns (expr_alike l) && not (is_loose columns (expr_alike r))) (expr_fault columns left l) (expr_fault columns right r)
     (expr_decides l columns left) (expr_decides r columns right) in
     let own = operator_decides (sort_of op) (kind_of columns left (expr_alike l)) (kind_of columns right (expr_alike r)) at in
-    change _ (both (of_operands (is_loose (expr_alike l)) (is_loose (expr_alike r)) (expr_fault columns left l) (expr_fault columns right r)) _ operands (λ h. own))
+    change _ (both (of_operands (is_loose columns (expr_alike l)) (is_loose columns (expr_alike r)) (expr_fault columns left l) (expr_fault columns right r)) _ operands (λ h. own))
     (λ h. (h.0.0, h.0.1, h.1)) (λ h. ((h.0, h.1), h.2))
 
 pub whole_decides : (e : ExprTree) (columns : List NamedColumn) → Decides (whole_fault columns e) (HasKind columns (kind_alone (expr_alike e)) (expr_alike e))

@@ -21,12 +21,13 @@ use Rattle.gl_schema.specs.declared.schema.Column.{Column}
 use Rattle.gl_schema.specs.Schemas.{IsRowOf, has_column, kinds_of, number_of, padded, text_word}
 use Rattle.gl_query.specs.Shapes.{AggItemShape, AggShape, ExprShape, ItemShape, PickShape}
 use Rattle.gl_query.specs.Shapes as shape
-use Rattle.gl_query.specs.Values.{CanApply, CanCast, HasKind, cast_of, column_number, kind_alone, kind_of, left_place, right_place, value_of}
+use Rattle.gl_query.specs.Values.{CanApply, CanCast, HasKind, cast_of, column_number, kind_alone, kind_of, operand_place, value_of}
 use Rattle.gl_query.specs.Columns.{agg_column, agg_kind, item_column, picked_columns}
 use Rattle.gl_query.specs.Accepted.{IsAgg, IsPick}
 use Rattle.gl_query.specs.Results.{agg_value, picked, total_row, values_of}
 use Rattle.gl_query.specs.Laws.{ResultsFit}
 use Rattle.gl_query.proofs.Holding.{IsKept, results_hold}
+use Rattle.gl_query.proofs.OwnKinds.{operator_gives}
 use Rattle.gl_schema.proofs.TextNumbers.{bytes_below, zeros_small}
 
 -- ---- texts
@@ -120,10 +121,10 @@ value_below (shape.Letters text) columns (Text n) row h fits = text_below n text
 value_below (shape.Not e) columns place row h fits = not_below (value_of columns (Unsigned 1) e row)
 value_below (shape.Cast kind e) columns place row h fits =
     cast_below (kind_of columns (kind_alone e) e) kind (value_of columns (kind_alone e) e row) h.1 (value_below e columns (kind_alone e) row h.0 fits)
-value_below (shape.Binary o l r) columns place row h fits =
-    operate_below o (kind_of columns (left_place columns o place l r) l) (kind_of columns (right_place columns o place l r) r)
-    (value_of columns (left_place columns o place l r) l row) (value_of columns (right_place columns o place l r) r row) h.2
-    (value_below l columns (left_place columns o place l r) row h.0 fits) (value_below r columns (right_place columns o place l r) row h.1 fits)
+value_below (shape.Binary o l r) columns place row h fits = rw (operator_gives columns place o l r)
+    (operate_below o (kind_of columns (operand_place columns o place l r) l) (kind_of columns (operand_place columns o place r l) r)
+    (value_of columns (operand_place columns o place l r) l row) (value_of columns (operand_place columns o place r l) r row) h.2
+    (value_below l columns (operand_place columns o place l r) row h.0 fits) (value_below r columns (operand_place columns o place r l) row h.1 fits))
 
 -- ---- aggregates
 

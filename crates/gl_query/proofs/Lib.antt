@@ -3,6 +3,7 @@ pub mod Existing
 pub mod Alike
 pub mod Holding
 pub mod Lengths
+pub mod OwnKinds
 pub mod Fitting
 pub mod Real
 pub mod Deciding

@@ -1,22 +1,23 @@
 -- The columns of an accepted query are columns of a result: at most 32, no two of one name, and of kinds that are kinds.
 use Rattle.std.proofs.Common.{◌≡◌, ℕ, zero, suc, ◌≤◌, Bool, true, false, List, [], ◌∷◌, length, map, sym, subst, arith, lit≤, length-append}
-use Rattle.std.specs.Prelude.{◌||◌, bytes_eq, slice_get, unwrap_or, option_map, if◌then◌else◌}
+use Rattle.std.specs.Prelude.{◌||◌, IfSome, Option, None, Some, bytes_eq, slice_get, unwrap_or, option_map, if◌then◌else◌}
 use Rattle.std.specs.List.{AllByRecursion, IsDistinct, list_any}
 use Rattle.gl_bits.specs.declared.kind.Kind.{Kind}
 use Rattle.gl_bits.specs.declared.kind.Kind.TheVariants.{Unsigned, Text}
+use Rattle.gl_bits.specs.declared.op.Op.{Op}
 use Rattle.gl_bits.specs.declared.op.Sort.{Sort}
 use Rattle.gl_bits.specs.declared.op.Sort.TheVariants.{Arithmetic, Comparison, Logic}
 use Rattle.gl_bits.specs.Kinds.{IsKind}
 use Rattle.gl_bits.specs.Operators.{sort_of}
 use Rattle.gl_bits.proofs.AllLists.{all_append, length_map}
 use Rattle.gl_bits.proofs.Bools.{by_cases}
-use Rattle.gl_bits.proofs.KindLemmas.{bit_is_kind, result_is}
+use Rattle.gl_bits.proofs.KindLemmas.{bit_is_kind}
 use Rattle.gl_schema.specs.declared.schema.Column.{Column}
 use Rattle.gl_schema.specs.declared.schema.Stream.{Stream}
 use Rattle.gl_schema.specs.Schemas.{IsColumn, IsStream, has_stream}
 use Rattle.gl_query.specs.Shapes.{AggItemShape, AggShape, ExprShape, ItemShape, QueryShape}
 use Rattle.gl_query.specs.Shapes as shape
-use Rattle.gl_query.specs.Values.{CanCast, HasKind, begins_with_text, column_number, is_loose, kind_alone, kind_of, left_place, right_place, loose_kind, operand_place}
+use Rattle.gl_query.specs.Values.{CanCast, HasKind, begins_with_text, column_number, kind_alone, kind_of, loose_kind, operand_place, operator_kind, own_kind}
 use Rattle.gl_query.specs.Columns.{agg_column, agg_kind, item_column, source_columns}
 use Rattle.gl_query.specs.Accepted.{AreResultColumns, IsAcceptedOver, IsAgg, Scope, body_scope, columns_under}
 use Rattle.gl_query.specs.Sizes.{HasItems}
@@ -65,19 +66,15 @@ casts_are (shape.Not e) columns place h = casts_are e columns (Unsigned 1) h.0
 casts_are (shape.Cast kind e) columns place h =
     (cast_kind (kind_of columns (kind_alone e) e) kind h.1, casts_are e columns (kind_alone e) h.0)
 casts_are (shape.Binary op l r) columns place h =
-    (casts_are l columns (left_place columns op place l r) h.0, casts_are r columns (right_place columns op place l r) h.1)
+    (casts_are l columns (operand_place columns op place l r) h.0, casts_are r columns (operand_place columns op place r l) h.1)
 
 pub alone_kind : (e : ExprShape) → IsKind (kind_alone e)
 alone_kind e = by_cases (begins_with_text e) (λ b. rw b (lit≤ tt, lit≤ tt)) (λ b. rw b (lit≤ tt, lit≤ tt))
 
-pub loose_is : (sort : Sort) (whole : Kind) (e : ExprShape) → IsKind whole → IsKind (loose_kind sort whole e)
+loose_is : (sort : Sort) (whole : Kind) (e : ExprShape) → IsKind whole → IsKind (loose_kind sort whole e)
 loose_is Arithmetic whole e h = h
 loose_is Comparison whole e h = alone_kind e
 loose_is Logic whole e h = bit_is_kind
-
-pub place_is : (b : Bool) (sort : Sort) (whole : Kind) (e : ExprShape) (other : Kind) → IsKind whole → IsKind other → IsKind (if b then loose_kind sort whole e else other)
-place_is true sort whole e other h k = loose_is sort whole e h
-place_is false sort whole e other h k = k
 
 -- the kind of the column at a place
 pub kind_at : (columns : List Column) (place : ℕ) → AreKinds columns → IsKind (unwrap_or (option_map (λ c. c.kind) (slice_get columns place)) (Unsigned 1))
@@ -85,17 +82,30 @@ kind_at [] place h = bit_is_kind
 kind_at (c ∷ cs) zero h = h.0
 kind_at (c ∷ cs) (suc place) h = kind_at cs place h.1
 
+operator_is : (sort : Sort) (left right : Option Kind) → IfSome left IsKind → IfSome right IsKind → IfSome (operator_kind sort left right) IsKind
+operator_is Arithmetic None right h k = k
+operator_is Arithmetic (Some kind) right h k = h
+operator_is Comparison left right h k = bit_is_kind
+operator_is Logic left right h k = bit_is_kind
+
+own_is : (e : ExprShape) (columns : List Column) → AreKinds columns → CastsAreKinds e → IfSome (own_kind columns e) IsKind
+own_is (shape.Column name) columns h c = kind_at columns (column_number columns name) h
+own_is (shape.Number n) columns h c = tt
+own_is (shape.Letters text) columns h c = tt
+own_is (shape.Not e) columns h c = bit_is_kind
+own_is (shape.Cast kind e) columns h c = c.0
+own_is (shape.Binary op l r) columns h c =
+    operator_is (sort_of op) (own_kind columns l) (own_kind columns r) (own_is l columns h c.0) (own_is r columns h c.1)
+
+or_place : (own : Option Kind) (place : Kind) → IfSome own IsKind → IsKind place → IsKind (unwrap_or own place)
+or_place None place h p = p
+or_place (Some kind) place h p = h
+
 pub kind_is : (e : ExprShape) (columns : List Column) (place : Kind) → AreKinds columns → IsKind place → CastsAreKinds e → IsKind (kind_of columns place e)
-kind_is (shape.Column name) columns place h p c = kind_at columns (column_number columns name) h
-kind_is (shape.Number n) columns place h p c = p
-kind_is (shape.Letters text) columns place h p c = p
-kind_is (shape.Not e) columns place h p c = bit_is_kind
-kind_is (shape.Cast kind e) columns place h p c = c.0
-kind_is (shape.Binary op l r) columns place h p c =
-    let other = kind_of columns place r in
-    let here = place_is (is_loose r) (sort_of op) place l other p (kind_is r columns place h p c.1) in
-    result_is (sort_of op) (kind_of columns (operand_place (sort_of op) place l r other) l)
-    (kind_is l columns (operand_place (sort_of op) place l r other) h here c.0)
+kind_is e columns place h p c = or_place (own_kind columns e) place (own_is e columns h c) p
+
+pub place_is : (columns : List Column) (op : Op) (place : Kind) (e other : ExprShape) → AreKinds columns → IsKind place → CastsAreKinds other → IsKind (operand_place columns op place e other)
+place_is columns op place e other h p c = or_place (own_kind columns other) (loose_kind (sort_of op) place e) (own_is other columns h c) (loose_is (sort_of op) place e p)
 
 -- what stands alone
 pub whole_is : (e : ExprShape) (columns : List Column) → AreKinds columns → HasKind columns (kind_alone e) e → IsKind (kind_of columns (kind_alone e) e)

@@ -16,7 +16,7 @@ use Rattle.gl_query.specs.declared.tree.Num.{Num}
 use Rattle.gl_query.specs.Trees.{ExprTree, AggTree, ItemTree, AggItemTree, PickTree, QueryTree, StatementTree, Column, Number, Letters, Not, Cast, Binary, Count, Sum, Min, Max, Avg, Wsum, All, Items, Read, Rows, Total, Each, PerGroup, Union, Concat}
 use Rattle.gl_query.specs.Shapes.{QueryShape}
 use Rattle.gl_query.specs.Alike.{expr_alike, query_alike}
-use Rattle.gl_query.specs.Values.{is_loose, kind_alone, kind_of, left_place, right_place}
+use Rattle.gl_query.specs.Values.{is_loose, kind_alone, kind_of, operand_place}
 use Rattle.gl_query.specs.Columns.{Pace, Once, Step, is_closing, pace_of}
 use Rattle.gl_query.specs.Accepted.{Scope, body_scope, columns_under, schema_scope}
 
@@ -107,9 +107,9 @@ expr_fault columns place (Cast e kind at) =
     let alone = kind_alone (expr_alike e) in
     or_else (expr_fault columns alone e) (unless (can_cast (kind_of columns alone (expr_alike e)) kind) (KindsDiffer at))
 expr_fault columns place (Binary op l r at) =
-    let left = left_place columns op place (expr_alike l) (expr_alike r) in
-    let right = right_place columns op place (expr_alike l) (expr_alike r) in
-    or_else (of_operands (is_loose (expr_alike l)) (is_loose (expr_alike r)) (expr_fault columns left l) (expr_fault columns right r))
+    let left = operand_place columns op place (expr_alike l) (expr_alike r) in
+    let right = operand_place columns op place (expr_alike r) (expr_alike l) in
+    or_else (of_operands (is_loose columns (expr_alike l)) (is_loose columns (expr_alike r)) (expr_fault columns left l) (expr_fault columns right r))
     (operator_fault (sort_of op) (kind_of columns left (expr_alike l)) (kind_of columns right (expr_alike r)) at)
 
 -- an expression of an item or an argument

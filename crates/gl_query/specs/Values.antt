@@ -1,13 +1,14 @@
 -- The kind and the value of an expression over one row.
-use Rattle.std.specs.Prelude.{◌≡◌, ℕ, ◌*◌, ◌/◌, ◌%◌, ◌^◌, ◌<◌, ◌≤◌, Bool, true, false, ◌&&◌, List, length, unwrap_or, option_map, slice_get, slice_index, bytes_eq, IsTrue, if◌then◌else◌}
+use Rattle.std.specs.Prelude.{◌≡◌, ℕ, ◌*◌, ◌/◌, ◌%◌, ◌^◌, ◌<◌, ◌≤◌, Bool, true, false, List, length, Option, Some, None, is_none, unwrap_or, option_map, slice_get, slice_index, bytes_eq, IsTrue, if◌then◌else◌}
 use Rattle.std.specs.List.{AllByRecursion, position_or_len}
+use Rattle.std.specs.Option.{option_or}
 use Rattle.gl_bits.specs.declared.kind.Kind.{Kind}
 use Rattle.gl_bits.specs.declared.kind.Kind.TheVariants.{Unsigned, Text}
 use Rattle.gl_bits.specs.declared.op.Op.{Op}
 use Rattle.gl_bits.specs.declared.op.Sort.{Sort}
 use Rattle.gl_bits.specs.declared.op.Sort.TheVariants.{Arithmetic, Comparison, Logic}
 use Rattle.gl_bits.specs.Kinds.{IsKind}
-use Rattle.gl_bits.specs.Operators.{sort_of, is_arithmetic, result_kind, operate}
+use Rattle.gl_bits.specs.Operators.{sort_of, operate}
 use Rattle.gl_bits.specs.Words.{not_of}
 use Rattle.gl_schema.specs.declared.schema.Column.{Column}
 use Rattle.gl_schema.specs.Schemas.{has_column, text_word}
@@ -26,14 +27,27 @@ column_kind columns name = unwrap_or (option_map (λ c. c.kind) (slice_get colum
 
 -- ---- kinds
 
--- a literal is loose, and so is `+ - *` of two loose operands: its kind comes from its place
-abbrev pub is_loose : ExprShape → Bool
-is_loose (shape.Column name) = false
-is_loose (shape.Number n) = true
-is_loose (shape.Letters text) = true
-is_loose (shape.Not e) = false
-is_loose (shape.Cast kind e) = false
-is_loose (shape.Binary op l r) = is_arithmetic (sort_of op) && is_loose l && is_loose r
+-- `+ - *` have the kind of their left operand, or else of their right one; comparisons, AND and OR give one bit
+abbrev pub operator_kind : Sort → Option Kind → Option Kind → Option Kind
+operator_kind Arithmetic left right = option_or left right
+operator_kind Comparison left right = Some (Unsigned 1)
+operator_kind Logic left right = Some (Unsigned 1)
+
+-- the kind that an expression has of itself, whatever its place; none where it is loose
+abbrev pub own_kind : List Column → ExprShape → Option Kind
+own_kind columns (shape.Column name) = Some (column_kind columns name)
+own_kind columns (shape.Number n) = None
+own_kind columns (shape.Letters text) = None
+own_kind columns (shape.Not e) = Some (Unsigned 1)
+own_kind columns (shape.Cast kind e) = Some kind
+own_kind columns (shape.Binary op l r) = operator_kind (sort_of op) (own_kind columns l) (own_kind columns r)
+
+abbrev pub is_loose : List Column → ExprShape → Bool
+is_loose columns e = is_none (own_kind columns e)
+
+-- its kind in a place: its own, or else the one that the place gives
+abbrev pub kind_of : List Column → Kind → ExprShape → Kind
+kind_of columns place e = unwrap_or (own_kind columns e) place
 
 -- the leftmost literal of what is loose is a text
 abbrev pub begins_with_text : ExprShape → Bool
@@ -48,32 +62,15 @@ begins_with_text (shape.Binary op l r) = begins_with_text l
 abbrev pub kind_alone : ExprShape → Kind
 kind_alone e = if begins_with_text e then Text 8 else Unsigned 64
 
--- the kind that a loose operand takes beside a loose one
+-- the kind that a loose operand takes beside a loose one, under an operator in a place of this kind
 abbrev pub loose_kind : Sort → Kind → ExprShape → Kind
-loose_kind Arithmetic whole e = whole
-loose_kind Comparison whole e = kind_alone e
-loose_kind Logic whole e = Unsigned 1
+loose_kind Arithmetic place e = place
+loose_kind Comparison place e = kind_alone e
+loose_kind Logic place e = Unsigned 1
 
--- the kind that the place of an operand gives: that of the other operand, unless it is loose too
-abbrev pub operand_place : Sort → Kind → ExprShape → ExprShape → Kind → Kind
-operand_place sort whole e other other_kind = if is_loose other then loose_kind sort whole e else other_kind
-
--- the kind of an expression in a place that gives what is loose this kind
-abbrev pub kind_of : List Column → Kind → ExprShape → Kind
-kind_of columns place (shape.Column name) = column_kind columns name
-kind_of columns place (shape.Number n) = place
-kind_of columns place (shape.Letters text) = place
-kind_of columns place (shape.Not e) = Unsigned 1
-kind_of columns place (shape.Cast kind e) = kind
-kind_of columns place (shape.Binary op l r) =
-    result_kind (sort_of op) (kind_of columns (operand_place (sort_of op) place l r (kind_of columns place r)) l)
-
--- the kinds that the places of the operands give
-abbrev pub left_place : List Column → Op → Kind → ExprShape → ExprShape → Kind
-left_place columns op place l r = operand_place (sort_of op) place l r (kind_of columns place r)
-
-abbrev pub right_place : List Column → Op → Kind → ExprShape → ExprShape → Kind
-right_place columns op place l r = operand_place (sort_of op) place r l (kind_of columns place l)
+-- the kind that an operand's place gives: the other operand's own, or else this one
+abbrev pub operand_place : List Column → Op → Kind → ExprShape → ExprShape → Kind
+operand_place columns op place e other = unwrap_or (own_kind columns other) (loose_kind (sort_of op) place e)
 
 -- ---- which expressions have a kind
 
@@ -112,8 +109,8 @@ HasKind columns place (shape.Letters text) = IsLettersOf place text
 HasKind columns place (shape.Not e) = HasKind columns (Unsigned 1) e × (kind_of columns (Unsigned 1) e ≡ Unsigned 1)
 HasKind columns place (shape.Cast kind e) = HasKind columns (kind_alone e) e × CanCast (kind_of columns (kind_alone e) e) kind
 HasKind columns place (shape.Binary op l r) =
-    HasKind columns (left_place columns op place l r) l × HasKind columns (right_place columns op place l r) r
-    × CanApply (sort_of op) (kind_of columns (left_place columns op place l r) l) (kind_of columns (right_place columns op place l r) r)
+    HasKind columns (operand_place columns op place l r) l × HasKind columns (operand_place columns op place r l) r
+    × CanApply (sort_of op) (kind_of columns (operand_place columns op place l r) l) (kind_of columns (operand_place columns op place r l) r)
 
 -- ---- values
 
@@ -137,5 +134,5 @@ value_of columns place (shape.Letters text) row = text_word (bytes_in place) tex
 value_of columns place (shape.Not e) row = not_of 1 (value_of columns (Unsigned 1) e row)
 value_of columns place (shape.Cast kind e) row = cast_of (kind_of columns (kind_alone e) e) kind (value_of columns (kind_alone e) e row)
 value_of columns place (shape.Binary op l r) row =
-    operate op (kind_of columns (left_place columns op place l r) l)
-    (value_of columns (left_place columns op place l r) l row) (value_of columns (right_place columns op place l r) r row)
+    operate op (kind_of columns (operand_place columns op place l r) l)
+    (value_of columns (operand_place columns op place l r) l row) (value_of columns (operand_place columns op place r l) r row)

@@ -3,10 +3,10 @@
 ghost use Rattle.std.specs.Prelude.{◌≡◌, ◌↔◌, ◌≤◌, IsTrue, length};
 ghost use Rattle.gl_bits.specs.Kinds.{IsKind};
 ghost use Rattle.gl_query.specs.Shapes.{expr_shape};
-ghost use Rattle.gl_query.specs.Values.{begins_with_text, column_kind, column_number, is_loose, kind_alone, kind_of, operand_place};
+ghost use Rattle.gl_query.specs.Values.{begins_with_text, column_kind, column_number, kind_alone, kind_of, loose_kind, operand_place, operator_kind, own_kind};
 
 use crate::tree::Expr;
-use gl_bits::{Kind, Sort};
+use gl_bits::{Kind, Op, Sort};
 use gl_schema::Column;
 
 /// The number of the column with a name; the number of columns where there is none.
@@ -33,23 +33,39 @@ pub fn column_kind(columns: &[Column], name: &[u8]) -> Kind
     }
 }
 
-/// Whether the kind of an expression comes from its place.
-pub fn is_loose(expr: &Expr) -> bool
-    ensures { result ≡ is_loose (expr_shape expr.now) }
+/// The kind of what an operator gives over operands that have these kinds of themselves.
+pub fn operator_kind(sort: Sort, left: Option<Kind>, right: Option<Kind>) -> Option<Kind>
+    ensures { result ≡ operator_kind sort left right }
+{
+    match sort {
+        Sort::Arithmetic => left.or(right),
+        Sort::Comparison | Sort::Logic => Some(Kind::Unsigned(1)),
+    }
+}
+
+/// The kind that an expression has of itself, whatever its place; none where it is loose.
+pub fn own_kind(columns: &[Column], expr: &Expr) -> Option<Kind>
+    ensures { result ≡ own_kind columns.now (expr_shape expr.now) }
 {
     match expr {
-        Expr::Column(_) | Expr::Not { .. } | Expr::Cast { .. } => false,
-        Expr::Number(_) | Expr::Letters { .. } => true,
+        Expr::Column(name) => Some(column_kind(columns, name.text.as_slice())),
+        Expr::Number(_) | Expr::Letters { .. } => None,
+        Expr::Not { .. } => Some(Kind::Unsigned(1)),
+        Expr::Cast { kind, .. } => Some(*kind),
         Expr::Binary {
             op,
             left,
             right,
             ..
-        } => match op.sort() {
-            Sort::Arithmetic => is_loose(left) && is_loose(right),
-            Sort::Comparison | Sort::Logic => false,
-        },
+        } => operator_kind(op.sort(), own_kind(columns, left), own_kind(columns, right)),
     }
+}
+
+/// The kind of an expression in a place: its own, or else the one that the place gives.
+pub fn kind_of(columns: &[Column], place: Kind, expr: &Expr) -> Kind
+    ensures { result ≡ kind_of columns.now place (expr_shape expr.now) }
+{
+    own_kind(columns, expr).unwrap_or(place)
 }
 
 /// Whether the leftmost literal of a loose expression is a text.
@@ -74,48 +90,23 @@ pub fn kind_alone(expr: &Expr) -> Kind
     }
 }
 
-/// The kind that the place of an operand gives, where the other operand has a kind.
-pub fn operand_place(sort: Sort, whole: Kind, expr: &Expr, other: &Expr, other_kind: Kind) -> Kind
-    ensures { result
-        ≡ operand_place sort whole (expr_shape expr.now) (expr_shape other.now) other_kind }
+/// The kind that a loose operand takes beside a loose one, under an operator in a place of this kind.
+pub fn loose_kind(sort: Sort, place: Kind, expr: &Expr) -> Kind
+    ensures { result ≡ loose_kind sort place (expr_shape expr.now) }
 {
-    if !is_loose(other) {
-        return other_kind;
-    }
     match sort {
-        Sort::Arithmetic => whole,
+        Sort::Arithmetic => place,
         Sort::Comparison => kind_alone(expr),
         Sort::Logic => Kind::Unsigned(1),
     }
 }
 
-/// The kind of an expression in a place that gives what is loose this kind.
-pub fn kind_of(columns: &[Column], place: Kind, expr: &Expr) -> Kind
-    ensures { result ≡ kind_of columns.now place (expr_shape expr.now) }
+/// The kind that an operand's place gives: the other operand's own, or else that of what is loose.
+pub fn operand_place(columns: &[Column], op: Op, place: Kind, expr: &Expr, other: &Expr) -> Kind
+    ensures { result
+        ≡ operand_place columns.now op place (expr_shape expr.now) (expr_shape other.now) }
 {
-    match expr {
-        Expr::Column(name) => column_kind(columns, name.text.as_slice()),
-        Expr::Number(_) | Expr::Letters { .. } => place,
-        Expr::Not { .. } => Kind::Unsigned(1),
-        Expr::Cast { kind, .. } => *kind,
-        Expr::Binary {
-            op,
-            left,
-            right,
-            ..
-        } => {
-            let other = kind_of(columns, place, right);
-            let own = kind_of(
-                columns,
-                operand_place(op.sort(), place, left, right, other),
-                left,
-            );
-            match op.sort() {
-                Sort::Arithmetic => own,
-                Sort::Comparison | Sort::Logic => Kind::Unsigned(1),
-            }
-        }
-    }
+    own_kind(columns, other).unwrap_or(loose_kind(op.sort(), place, expr))
 }
 
 /// Whether words may have this kind.

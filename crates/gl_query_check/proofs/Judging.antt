@@ -1,70 +1,56 @@
 -- An expression that is judged before its place is known.
-use Rattle.std.proofs.Common.{◌≡◌, ℕ, Bool, true, false, List, Option, refl, sym, ap, ◌∙◌}
-use Rattle.std.specs.Prelude.{◌&&◌}
-use Rattle.gl_bits.proofs.Bools.{and_left, and_right}
+use Rattle.std.proofs.Common.{◌≡◌, ℕ, Bool, true, false, List, Option, None, Some, refl, sym, ap, ◌∙◌}
+use Rattle.std.specs.Prelude.{IsSome, is_none, is_some, not}
 use Rattle.gl_bits.specs.declared.kind.Kind.{Kind}
+use Rattle.gl_bits.specs.declared.kind.Kind.TheVariants.{Unsigned}
 use Rattle.gl_bits.specs.declared.op.Op.{Op}
 use Rattle.gl_bits.specs.declared.op.Sort.{Sort}
 use Rattle.gl_bits.specs.declared.op.Sort.TheVariants.{Arithmetic, Comparison, Logic}
-use Rattle.gl_bits.specs.Operators.{is_arithmetic, result_kind, sort_of}
+use Rattle.gl_bits.specs.Operators.{sort_of}
 use Rattle.gl_schema.specs.declared.schema.Column.{Column}
 use Rattle.gl_query.specs.declared.fault.QueryFault.{QueryFault}
 use Rattle.gl_query.specs.declared.fault.QueryFault.TheVariants.{KindsDiffer}
 use Rattle.gl_query.specs.Alike.{expr_alike}
 use Rattle.gl_query.specs.Faults.{expr_fault, is_unsigned, of_operands, operator_fault, or_else, unless}
+use Rattle.gl_query.specs.Shapes.{ExprShape}
 use Rattle.gl_query.specs.Trees.{ExprTree}
 use Rattle.gl_query.specs.Trees as tree
-use Rattle.gl_query.specs.Values.{is_loose, kind_of, operand_place}
+use Rattle.gl_query.specs.Values.{kind_of, loose_kind, operand_place, operator_kind, own_kind}
 use Rattle.gl_query.proofs.Deciding.{equal_kinds}
 use Rattle.gl_query_check.specs.declared.expressions.Judged.{Judged}
 use Rattle.gl_query_check.specs.declared.expressions.Judged.TheVariants.{Loose, Fixed}
 use Rattle.gl_query_check.specs.declared.expressions.Placed.{Placed}
-use Rattle.gl_query_check.specs.Judging.{IsFixed, IsPlaced, Judges, are_loose, kind_judged, loose_judged, place_beside}
+use Rattle.gl_query_check.specs.Judging.{IsFixed, IsPlaced, Judges, kind_judged, place_beside}
 
 -- ---- what is loose
 
-arithmetic_is : (sort : Sort) → is_arithmetic sort ≡ true → sort ≡ Arithmetic
-arithmetic_is Arithmetic h = refl
-arithmetic_is Comparison h = absurd cc
-arithmetic_is Logic h = absurd cc
-
 -- the parts of a loose operator
-pub record IsLooseOperator (op : Op) (l r : ExprTree) : Type 0 where
-  pub sort : sort_of op ≡ Arithmetic
-  pub left : is_loose (expr_alike l) ≡ true
-  pub right : is_loose (expr_alike r) ≡ true
+pub record IsLooseOperator (sort : Sort) (left right : Option Kind) : Type 0 where
+  pub sort' : sort ≡ Arithmetic
+  pub left' : left ≡ None
+  pub right' : right ≡ None
 
-pub loose_parts : (op : Op) (l r : ExprTree) → (is_arithmetic (sort_of op) && is_loose (expr_alike l) && is_loose (expr_alike r)) ≡ true → IsLooseOperator op l r
-loose_parts op l r h =
-    let both = and_left (is_arithmetic (sort_of op) && is_loose (expr_alike l)) (is_loose (expr_alike r)) h in
-    record {
-      sort = arithmetic_is (sort_of op) (and_left (is_arithmetic (sort_of op)) (is_loose (expr_alike l)) both);
-      left = and_right (is_arithmetic (sort_of op)) (is_loose (expr_alike l)) both;
-      right = and_right (is_arithmetic (sort_of op) && is_loose (expr_alike l)) (is_loose (expr_alike r)) h;
-    }
+pub loose_parts : (sort : Sort) (left right : Option Kind) → operator_kind sort left right ≡ None → IsLooseOperator sort left right
+loose_parts Arithmetic None None h = record { sort' = refl; left' = refl; right' = refl }
+loose_parts Arithmetic None (Some kind) h = absurd cc
+loose_parts Arithmetic (Some kind) right h = absurd cc
+loose_parts Comparison left right h = absurd cc
+loose_parts Logic left right h = absurd cc
 
--- it has the kind of its place
-pub loose_takes : (columns : List Column) (place : Kind) (e : ExprTree) → is_loose (expr_alike e) ≡ true → kind_of columns place (expr_alike e) ≡ place
-loose_takes columns place (tree.Column name) h = absurd cc
-loose_takes columns place (tree.Number n) h = refl
-loose_takes columns place (tree.Letters text at) h = refl
-loose_takes columns place (tree.Not e at) h = absurd cc
-loose_takes columns place (tree.Cast e kind at) h = absurd cc
-loose_takes columns place (tree.Binary op l r at) h =
-    let p = loose_parts op l r h in
-    rw (p.sort, p.right) (loose_takes columns place l p.left)
-
-pub loose_operator : (columns : List Column) (place : Kind) (op : Op) (l r : ExprTree) (at : ℕ) → is_loose (expr_alike (tree.Binary op l r at)) ≡ true
+pub loose_operator : (columns : List Column) (place : Kind) (op : Op) (l r : ExprTree) (at : ℕ) → own_kind columns (expr_alike (tree.Binary op l r at)) ≡ None
     → expr_fault columns place (tree.Binary op l r at) ≡ or_else (or_else (expr_fault columns place l) (expr_fault columns place r)) (unless (is_unsigned place) (KindsDiffer at))
 loose_operator columns place op l r at h =
-    let p = loose_parts op l r h in
-    rw (p.sort, p.left, p.right, loose_takes columns place l p.left, loose_takes columns place r p.right, equal_kinds place place refl) refl
+    let p = loose_parts (sort_of op) (own_kind columns (expr_alike l)) (own_kind columns (expr_alike r)) h in
+    rw (p.left', p.right', p.sort', equal_kinds place place refl) refl
+
+-- the answer of `is_none`
+pub none_is : (own : Option Kind) (b : Bool) → is_some own ≡ not b → b ≡ is_none own
+none_is None true e = refl
+none_is None false e = absurd cc
+none_is (Some kind) true e = absurd cc
+none_is (Some kind) false e = refl
 
 -- ---- operands
-
--- not both are loose under `+ - *`
-abbrev pub IsSettled : Sort → Judged → Judged → Type 0
-IsSettled sort left right = are_loose sort left right ≡ false
 
 -- an operand's place is the one beside the other, unless its place is nothing to it
 pub record IsSame (columns : List Column) (p q : Kind) (e : ExprTree) : Type 0 where
@@ -75,54 +61,58 @@ at_one : (columns : List Column) (p q : Kind) (e : ExprTree) → p ≡ q → IsS
 at_one columns p q e h = record { kind = ap (λ (k : Kind). kind_of columns k (expr_alike e)) h; fault = ap (λ (k : Kind). expr_fault columns k e) h }
 
 fixed_same : (columns : List Column) (p q : Kind) (e : ExprTree) (kind : Kind) (fault : Option QueryFault) → IsFixed columns e kind fault → IsSame columns p q e
-fixed_same columns p q e kind fault f = record { kind = f.kind' p ∙ sym (f.kind' q); fault = f.fault' p ∙ sym (f.fault' q) }
+fixed_same columns p q e kind fault f = record { kind = rw f.kind' refl; fault = f.fault' p ∙ sym (f.fault' q) }
 
-beside_fixed : (columns : List Column) (sort : Sort) (whole : Kind) (e other : ExprTree) (kind : Kind) (fault : Option QueryFault) → IsFixed columns other kind fault
-    → operand_place sort whole (expr_alike e) (expr_alike other) (kind_of columns whole (expr_alike other)) ≡ kind
-beside_fixed columns sort whole e other kind fault f = rw f.fixed (f.kind' whole)
+own_is : (columns : List Column) (e : ExprTree) (j : Judged) → Judges columns e j → own_kind columns (expr_alike e) ≡ kind_judged j
+own_is columns e Loose h = h
+own_is columns e (Fixed kind fault) f = f.kind'
 
-pub operand_same : (columns : List Column) (sort : Sort) (whole : Kind) (e other : ExprTree) (own beside : Judged) → Judges columns e own → Judges columns other beside → IsSettled sort own beside
-    → IsSame columns (operand_place sort whole (expr_alike e) (expr_alike other) (kind_of columns whole (expr_alike other))) (place_beside sort (kind_judged beside) (expr_alike e)) e
-operand_same columns sort whole e other (Fixed kind fault) beside f j s = fixed_same columns _ _ e kind fault f
-operand_same columns sort whole e other Loose (Fixed kind fault) h f s = at_one columns _ kind e (beside_fixed columns sort whole e other kind fault f)
-operand_same columns Arithmetic whole e other Loose Loose h j s = absurd cc
-operand_same columns Comparison whole e other Loose Loose h j s = at_one columns _ _ e (rw j refl)
-operand_same columns Logic whole e other Loose Loose h j s = at_one columns _ _ e (rw j refl)
+-- beside a loose operand, one of an operator that is not loose has no place of the whole
+no_whole : (sort : Sort) (place : Kind) (e : ExprShape) (own : Option Kind) → own ≡ None → IsSome (operator_kind sort own None) → loose_kind sort place e ≡ loose_kind sort (Unsigned 1) e
+no_whole Arithmetic place e None n s = absurd cc
+no_whole Arithmetic place e (Some kind) n s = absurd cc
+no_whole Comparison place e own n s = refl
+no_whole Logic place e own n s = refl
+
+operand_same : (columns : List Column) (op : Op) (place : Kind) (e other : ExprTree) (own beside : Judged) → Judges columns e own → Judges columns other beside
+    → IsSome (operator_kind (sort_of op) (kind_judged own) (kind_judged beside))
+    → IsSame columns (operand_place columns op place (expr_alike e) (expr_alike other)) (place_beside (sort_of op) (kind_judged beside) (expr_alike e)) e
+operand_same columns op place e other (Fixed kind fault) beside f j s = fixed_same columns _ _ e kind fault f
+operand_same columns op place e other Loose (Fixed kind fault) h f s = at_one columns _ kind e (rw f.kind' refl)
+operand_same columns op place e other Loose Loose h j s = at_one columns _ _ e (rw j (no_whole (sort_of op) place (expr_alike e) None refl s))
 
 -- ---- operators
 
-loose_is : (columns : List Column) (e : ExprTree) (j : Judged) → Judges columns e j → is_loose (expr_alike e) ≡ loose_judged j
-loose_is columns e Loose h = h
-loose_is columns e (Fixed kind fault) f = f.fixed
+turned : (sort : Sort) (left right : Option Kind) → IsSome (operator_kind sort left right) → IsSome (operator_kind sort right left)
+turned Arithmetic None None s = absurd cc
+turned Arithmetic None (Some kind) s = refl
+turned Arithmetic (Some kind) None s = refl
+turned Arithmetic (Some kind) (Some other) s = refl
+turned Comparison left right s = refl
+turned Logic left right s = refl
 
-pub whole_loose : (columns : List Column) (op : Op) (l r : ExprTree) (jl jr : Judged) (at : ℕ) → Judges columns l jl → Judges columns r jr
-    → is_loose (expr_alike (tree.Binary op l r at)) ≡ are_loose (sort_of op) jl jr
-whole_loose columns op l r jl jr at hl hr = rw (loose_is columns l jl hl, loose_is columns r jr hr) refl
-
-settled_back : (sort : Sort) (a b : Judged) → IsSettled sort a b → IsSettled sort b a
-settled_back Arithmetic Loose Loose s = s
-settled_back Arithmetic Loose (Fixed k f) s = refl
-settled_back Arithmetic (Fixed k f) Loose s = refl
-settled_back Arithmetic (Fixed k f) (Fixed j g) s = refl
-settled_back Comparison a b s = refl
-settled_back Logic a b s = refl
+pub whole_kind : (columns : List Column) (op : Op) (l r : ExprTree) (jl jr : Judged) (at : ℕ) → Judges columns l jl → Judges columns r jr
+    → own_kind columns (expr_alike (tree.Binary op l r at)) ≡ operator_kind (sort_of op) (kind_judged jl) (kind_judged jr)
+whole_kind columns op l r jl jr at hl hr = rw (own_is columns l jl hl, own_is columns r jr hr) refl
 
 -- the fault of an operator, by what is known of its operands
-abbrev pub fault_by : Sort → ℕ → Bool → Bool → Option QueryFault → Option QueryFault → Kind → Kind → Option QueryFault
-fault_by sort at left_loose right_loose left right left_kind right_kind = or_else (of_operands left_loose right_loose left right) (operator_fault sort left_kind right_kind at)
+abbrev pub fault_by : Sort → ℕ → Option Kind → Option Kind → Option QueryFault → Option QueryFault → Kind → Kind → Option QueryFault
+fault_by sort at left_own right_own left right left_kind right_kind =
+    or_else (of_operands (is_none left_own) (is_none right_own) left right) (operator_fault sort left_kind right_kind at)
 
-fault_same : (sort : Sort) (at : ℕ) (a a' b b' : Bool) (f f' g g' : Option QueryFault) (j j' k k' : Kind) → a ≡ a' → b ≡ b' → f ≡ f' → g ≡ g' → j ≡ j' → k ≡ k'
+fault_same : (sort : Sort) (at : ℕ) (a a' b b' : Option Kind) (f f' g g' : Option QueryFault) (j j' k k' : Kind) → a ≡ a' → b ≡ b' → f ≡ f' → g ≡ g' → j ≡ j' → k ≡ k'
     → fault_by sort at a b f g j k ≡ fault_by sort at a' b' f' g' j' k'
 fault_same sort at a a' b b' f f' g g' j j' k k' p q r s t u = rw (p, q, r, s, t, u) refl
 
-pub combined_fixed : (columns : List Column) (op : Op) (l r : ExprTree) (at : ℕ) (jl jr : Judged) (left right : Placed) → Judges columns l jl → Judges columns r jr → IsSettled (sort_of op) jl jr
+pub combined_fixed : (columns : List Column) (op : Op) (l r : ExprTree) (at : ℕ) (jl jr : Judged) (left right : Placed) (kind : Kind) → Judges columns l jl → Judges columns r jr
+    → operator_kind (sort_of op) (kind_judged jl) (kind_judged jr) ≡ Some kind
     → IsPlaced columns (place_beside (sort_of op) (kind_judged jr) (expr_alike l)) l left → IsPlaced columns (place_beside (sort_of op) (kind_judged jl) (expr_alike r)) r right
-    → IsFixed columns (tree.Binary op l r at) (result_kind (sort_of op) left.kind) (fault_by (sort_of op) at (loose_judged jl) (loose_judged jr) left.fault right.fault left.kind right.kind)
-combined_fixed columns op l r at jl jr left right hl hr s pl pr = record {
-  fixed = whole_loose columns op l r jl jr at hl hr ∙ s;
-  kind' = λ place. let a = operand_same columns (sort_of op) place l r jl jr hl hr s in ap (result_kind (sort_of op)) (a.kind ∙ sym pl.kind');
+    → IsFixed columns (tree.Binary op l r at) kind (fault_by (sort_of op) at (kind_judged jl) (kind_judged jr) left.fault right.fault left.kind right.kind)
+combined_fixed columns op l r at jl jr left right kind hl hr s pl pr = record {
+  kind' = whole_kind columns op l r jl jr at hl hr ∙ s;
   fault' = λ place.
-      let a = operand_same columns (sort_of op) place l r jl jr hl hr s in
-      let b = operand_same columns (sort_of op) place r l jr jl hr hl (settled_back (sort_of op) jl jr s) in
-      fault_same (sort_of op) at _ _ _ _ _ _ _ _ _ _ _ _ (loose_is columns l jl hl) (loose_is columns r jr hr) (a.fault ∙ sym pl.fault') (b.fault ∙ sym pr.fault') (a.kind ∙ sym pl.kind') (b.kind ∙ sym pr.kind');
+      let some : IsSome (operator_kind (sort_of op) (kind_judged jl) (kind_judged jr)) = rw s refl in
+      let a = operand_same columns op place l r jl jr hl hr some in
+      let b = operand_same columns op place r l jr jl hr hl (turned (sort_of op) (kind_judged jl) (kind_judged jr) some) in
+      fault_same (sort_of op) at _ _ _ _ _ _ _ _ _ _ _ _ (own_is columns l jl hl) (own_is columns r jr hr) (a.fault ∙ sym pl.fault') (b.fault ∙ sym pr.fault') (a.kind ∙ sym pl.kind') (b.kind ∙ sym pr.kind');
 }

@@ -3,8 +3,7 @@
 //! What is not loose has one kind and one first fault whatever its place. So operands are judged before
 //! their places are known, and only what is loose is gone over again, once, in its place.
 
-ghost use Rattle.std.specs.Prelude.{◌≡◌, List, true};
-ghost use Rattle.gl_bits.specs.Operators as operators;
+ghost use Rattle.std.specs.Prelude.{◌≡◌, List, None};
 ghost use Rattle.gl_schema.specs.declared.schema.Column.{Column as NamedColumn};
 ghost use Rattle.gl_query.specs.Alike.{expr_alike};
 ghost use Rattle.gl_query.specs.Faults as faults;
@@ -18,6 +17,7 @@ use crate::rules::{
     can_cast, has_column, is_bit, is_unsigned, letters_fit, number_fits, or_else, same_kind, unless,
 };
 use gl_bits::{Kind, Op, Sort};
+use gl_query::kinds::operator_kind;
 use gl_query::{Expr, Name, Num, QueryFault, kinds};
 use gl_schema::Column;
 
@@ -107,7 +107,7 @@ fn of_operands(
 // The first fault of a loose expression in a place; it has no columns.
 fn loose_fault(place: Kind, expr: &Expr) -> Option<QueryFault>
     ensures { (columns : List NamedColumn)
-        → values.is_loose (expr_alike (expr_tree expr.now)) ≡ true
+        → values.own_kind columns (expr_alike (expr_tree expr.now)) ≡ None
         → result ≡ faults.expr_fault columns place (expr_tree expr.now) }
 {
     match expr {
@@ -141,17 +141,7 @@ fn settle(place: Kind, judged: Judged, expr: &Expr) -> Placed
     }
 }
 
-// Whether it was judged to be loose.
-fn is_loose(judged: &Judged) -> bool
-    ensures { result ≡ judging.loose_judged judged.now }
-{
-    match judged {
-        Judged::Loose => true,
-        Judged::Fixed { .. } => false,
-    }
-}
-
-// The kind of what is not loose.
+// The kind that it has of itself.
 fn kind_judged(judged: &Judged) -> Option<Kind>
     ensures { result ≡ judging.kind_judged judged.now }
 {
@@ -161,38 +151,20 @@ fn kind_judged(judged: &Judged) -> Option<Kind>
     }
 }
 
+// The kind that a loose operand takes beside a loose one.
+#[tactic(auto, using(gl_query::proofs::Alike::expr_same))]
+fn loose_kind(sort: Sort, place: Kind, expr: &Expr) -> Kind
+    ensures { result ≡ values.loose_kind sort place (expr_alike (expr_tree expr.now)) }
+{
+    kinds::loose_kind(sort, place, expr)
+}
+
 // The place that an operand has beside another one. One bit where that comes from the whole, which
 // only a loose whole asks for.
 fn place_beside(sort: Sort, other: Option<Kind>, expr: &Expr) -> Kind
     ensures { result ≡ judging.place_beside sort other (expr_alike (expr_tree expr.now)) }
 {
-    match other {
-        Some(kind) => kind,
-        None => match sort {
-            Sort::Comparison => kind_alone(expr),
-            Sort::Arithmetic | Sort::Logic => Kind::Unsigned(1),
-        },
-    }
-}
-
-// Whether an operator over these operands is loose.
-fn are_loose(sort: Sort, left: &Judged, right: &Judged) -> bool
-    ensures { result ≡ judging.are_loose sort left.now right.now }
-{
-    match sort {
-        Sort::Arithmetic => is_loose(left) && is_loose(right),
-        Sort::Comparison | Sort::Logic => false,
-    }
-}
-
-// The kind of what an operator gives.
-fn result_kind(sort: Sort, kind: Kind) -> Kind
-    ensures { result ≡ operators.result_kind sort kind }
-{
-    match sort {
-        Sort::Arithmetic => kind,
-        Sort::Comparison | Sort::Logic => Kind::Unsigned(1),
-    }
+    other.unwrap_or(loose_kind(sort, Kind::Unsigned(1), expr))
 }
 
 // An operator over operands that were judged.
@@ -209,21 +181,24 @@ fn combined(
         → Judges columns (tree.Binary op (expr_tree left.now) (expr_tree right.now) at) result }
 {
     let sort = op.sort();
-    if are_loose(sort, &left_judged, &right_judged) {
+    let of_left = kind_judged(&left_judged);
+    let of_right = kind_judged(&right_judged);
+    let Some(kind) = operator_kind(sort, of_left, of_right) else {
         drop(left_judged);
         drop(right_judged);
         return Judged::Loose;
-    }
-    let left_loose = is_loose(&left_judged);
-    let right_loose = is_loose(&right_judged);
-    let left_place = place_beside(sort, kind_judged(&right_judged), left);
-    let right_place = place_beside(sort, kind_judged(&left_judged), right);
-    let of_left = settle(left_place, left_judged, left);
-    let of_right = settle(right_place, right_judged, right);
-    let operands = of_operands(left_loose, right_loose, of_left.fault, of_right.fault);
-    let own = operator_fault(sort, of_left.kind, of_right.kind, at);
+    };
+    let left_placed = settle(place_beside(sort, of_right, left), left_judged, left);
+    let right_placed = settle(place_beside(sort, of_left, right), right_judged, right);
+    let operands = of_operands(
+        of_left.is_none(),
+        of_right.is_none(),
+        left_placed.fault,
+        right_placed.fault,
+    );
+    let own = operator_fault(sort, left_placed.kind, right_placed.kind, at);
     Judged::Fixed {
-        kind: result_kind(sort, of_left.kind),
+        kind,
         fault: or_else(operands, own),
     }
 }

@@ -4,13 +4,12 @@ use Rattle.std.proofs.Math.Nat.{pow-le-pow_right}
 use Rattle.gl_bits.specs.declared.kind.Kind.{Kind}
 use Rattle.gl_bits.specs.declared.op.Op.{Op}
 use Rattle.gl_bits.specs.Kinds.{IsKind, width_of}
-use Rattle.gl_bits.specs.Operators.{sort_of}
 use Rattle.gl_bits.specs.Results.{Row}
 use Rattle.gl_bits.proofs.KindLemmas.{kind_width}
 use Rattle.gl_schema.specs.declared.schema.Column.{Column}
 use Rattle.gl_query.specs.Shapes.{ExprShape}
 use Rattle.gl_query.specs.Shapes as shape
-use Rattle.gl_query.specs.Values.{is_loose, kind_alone, kind_of, left_place, right_place, value_of}
+use Rattle.gl_query.specs.Values.{kind_alone, kind_of, operand_place, value_of}
 use Rattle.gl_query.proofs.Fitting.{value_below}
 use Rattle.gl_reference.specs.Fits.{HasWord}
 use Rattle.gl_query.proofs.Real.{casts_are, alone_kind, place_is, kind_is}
@@ -31,21 +30,19 @@ pub in_cast : (columns : List Column) (place kind : Kind) (e : ExprShape) (row :
 in_cast columns place kind e row h = record { of_row = h.of_row; of_place = alone_kind e; typed = h.typed.0 }
 
 pub in_left : (columns : List Column) (place : Kind) (o : Op) (l r : ExprShape) (row : Row) → HasWord columns place (shape.Binary o l r) row
-    → HasWord columns (left_place columns o place l r) l row
+    → HasWord columns (operand_place columns o place l r) l row
 in_left columns place o l r row h =
-    let other = kind_is r columns place h.of_row.kinds h.of_place (casts_are r columns (right_place columns o place l r) h.typed.1) in
     record {
       of_row = h.of_row;
-      of_place = place_is (is_loose r) (sort_of o) place l (kind_of columns place r) h.of_place other;
+      of_place = place_is columns o place l r h.of_row.kinds h.of_place (casts_are r columns (operand_place columns o place r l) h.typed.1);
       typed = h.typed.0;
     }
 
 pub in_right : (columns : List Column) (place : Kind) (o : Op) (l r : ExprShape) (row : Row) → HasWord columns place (shape.Binary o l r) row
-    → HasWord columns (right_place columns o place l r) r row
+    → HasWord columns (operand_place columns o place r l) r row
 in_right columns place o l r row h =
-    let other = kind_is l columns place h.of_row.kinds h.of_place (casts_are l columns (left_place columns o place l r) h.typed.0) in
     record {
       of_row = h.of_row;
-      of_place = place_is (is_loose l) (sort_of o) place r (kind_of columns place l) h.of_place other;
+      of_place = place_is columns o place r l h.of_row.kinds h.of_place (casts_are l columns (operand_place columns o place l r) h.typed.0);
       typed = h.typed.1;
     }

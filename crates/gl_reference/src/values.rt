@@ -141,9 +141,8 @@ pub fn value_of(columns: &[Column], place: Kind, expr: &Expr, row: &[u128]) -> O
             right,
             ..
         } => {
-            let sort = op.sort();
-            let at_left = operand_place(sort, place, left, right, kind_of(columns, place, right));
-            let at_right = operand_place(sort, place, right, left, kind_of(columns, place, left));
+            let at_left = operand_place(columns, *op, place, left, right);
+            let at_right = operand_place(columns, *op, place, right, left);
             let x = value_of(columns, at_left, left, row)?;
             let y = value_of(columns, at_right, right, row)?;
             operate(*op, kind_of(columns, at_left, left), x, y)

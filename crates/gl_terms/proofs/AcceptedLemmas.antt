@@ -1,6 +1,6 @@
 -- The term of an accepted expression is one.
-use Rattle.std.proofs.Common.{◌≡◌, ℕ, zero, suc, ◌+◌, ◌-◌, ◌*◌, ◌^◌, ◌<◌, ◌≤◌, true, List, [], ◌∷◌, length, slice_get, refl, sym, ap, subst, ◌∙◌, arith, fold, replicate, length-append, lit<, lit≤}
-use Rattle.std.specs.Prelude.{unwrap_or, option_map, bytes_eq}
+use Rattle.std.proofs.Common.{◌≡◌, ℕ, zero, suc, ◌+◌, ◌-◌, ◌*◌, ◌^◌, ◌<◌, ◌≤◌, true, List, [], ◌∷◌, length, refl, sym, ap, subst, ◌∙◌, arith, fold, replicate, length-append, lit<, lit≤}
+use Rattle.std.specs.Prelude.{bytes_eq}
 use Rattle.std.specs.List.{AllByRecursion}
 use Rattle.std.proofs.lemmas.List.{length-map, length-replicate}
 use Rattle.std.proofs.lemmas.Nat.{pow-add}
@@ -13,20 +13,18 @@ use Rattle.gl_bits.specs.declared.kind.Kind.TheVariants.{Unsigned, Text}
 use Rattle.gl_bits.specs.declared.op.Sort.{Sort}
 use Rattle.gl_bits.specs.declared.op.Sort.TheVariants.{Arithmetic, Comparison, Logic}
 use Rattle.gl_bits.proofs.AllLists.{all_append}
-use Rattle.gl_bits.proofs.Bools.{by_cases}
 use Rattle.gl_schema.specs.declared.schema.Column.{Column as NamedColumn}
 use Rattle.gl_schema.specs.Schemas.{kinds_of, has_column, text_word, padded}
 use Rattle.gl_query.specs.Shapes.{ExprShape}
 use Rattle.gl_query.specs.Shapes as shape
-use Rattle.gl_query.specs.Values.{CanApply, CanCast, HasKind, IsLettersOf, IsNumberOf, bytes_in, column_number, is_loose, kind_alone, kind_of, left_place, operand_place, right_place}
+use Rattle.gl_query.specs.Values.{CanApply, CanCast, HasKind, IsLettersOf, IsNumberOf, bytes_in, column_number, kind_alone, kind_of, operand_place}
 use Rattle.gl_query.specs.Values as query
 use Rattle.gl_query.specs.Laws.{AreKinds}
 use Rattle.gl_algebra.specs.Columns.{CastFits, SortFits, IsUnsigned}
 use Rattle.gl_algebra.proofs.ListLemmas.{first_passes}
 use Rattle.gl_terms.specs.Terms.{literal, term_of, IsTerm}
 use Rattle.gl_terms.proofs.TermLemmas.{term-kind}
-use Rattle.gl_bits.proofs.KindLemmas.{result_is}
-use Rattle.gl_query.proofs.Real.{alone_kind, loose_is}
+use Rattle.gl_query.proofs.Real.{alone_kind, casts_are, kind_is, place_is}
 
 -- ---- literals
 
@@ -71,14 +69,6 @@ letters-fit kinds (Text m) text kind h =
 
 -- ---- kinds
 
-pub kind_default : (columns : List NamedColumn) (n : ℕ) → AreKinds columns → IsKind (unwrap_or (option_map (λ (c : NamedColumn). c.kind) (slice_get columns n)) (Unsigned 1))
-kind_default [] n h = (lit≤ tt, lit≤ tt)
-kind_default (c ∷ cs) zero h = h.0
-kind_default (c ∷ cs) (suc n) h = kind_default cs n h.1
-
-place-fits : (sort : Sort) (whole : Kind) (e other : ExprShape) (other_kind : Kind) → IsKind whole → IsKind other_kind → IsKind (operand_place sort whole e other other_kind)
-place-fits sort whole e other other_kind h k = by_cases (is_loose other) (λ p. rw p (loose_is sort whole e h)) (λ p. rw p k)
-
 can-cast : (from to : Kind) → CanCast from to → IsKind to × CastFits from to
 can-cast (Unsigned v) (Unsigned w) h = (h, tt)
 can-cast (Unsigned v) (Text n) h = absurd h
@@ -97,15 +87,7 @@ can-apply Logic l r h = (h.0 ∙ sym h.1, h.0)
 module _ (columns : List NamedColumn) (kinds : AreKinds columns) where
   -- in any place
   pub kind-fits : (e : ExprShape) (typed place : Kind) → HasKind columns typed e → IsKind place → IsKind (kind_of columns place e)
-  kind-fits (shape.Column name) typed place h k = kind_default columns (column_number columns name) kinds
-  kind-fits (shape.Number n) typed place h k = k
-  kind-fits (shape.Letters text) typed place h k = k
-  kind-fits (shape.Not e) typed place h k = (lit≤ tt, lit≤ tt)
-  kind-fits (shape.Cast kind e) typed place h k = (can-cast (kind_of columns (kind_alone e) e) kind h.1).0
-  kind-fits (shape.Binary o l r) typed place h k =
-      result_is (sort_of o) (kind_of columns (left_place columns o place l r) l)
-      (kind-fits l (left_place columns o typed l r) (left_place columns o place l r) h.0
-      (place-fits (sort_of o) place l r (kind_of columns place r) k (kind-fits r (right_place columns o typed l r) place h.1 k)))
+  kind-fits e typed place h k = kind_is e columns place kinds k (casts_are e columns typed h)
 
   pub column-fits : (name : List ℕ) → has_column columns name ≡ true → column_number columns name < length (kinds_of columns)
   unfolding has_column
@@ -124,13 +106,13 @@ module _ (columns : List NamedColumn) (kinds : AreKinds columns) where
       let can = can-cast (kind_of columns (kind_alone e) e) kind h.1 in
       (term-fits e (kind_alone e) (alone_kind e) h.0, can.0, subst (λ (from : Kind). CastFits from kind) (sym (term-kind columns (kind_alone e) e)) can.1)
   term-fits (shape.Binary o l r) place k h =
-      let left = left_place columns o place l r in
-      let right = right_place columns o place l r in
+      let left = operand_place columns o place l r in
+      let right = operand_place columns o place r l in
       let can = can-apply (sort_of o) (kind_of columns left l) (kind_of columns right r) h.2 in
       let a = term-kind columns left l in
       let c = term-kind columns right r in (
-        term-fits l left (place-fits (sort_of o) place l r (kind_of columns place r) k (kind-fits r right place h.1 k)) h.0,
-        term-fits r right (place-fits (sort_of o) place r l (kind_of columns place l) k (kind-fits l left place h.0 k)) h.1,
+        term-fits l left (place_is columns o place l r kinds k (casts_are r columns right h.1)) h.0,
+        term-fits r right (place_is columns o place r l kinds k (casts_are l columns left h.0)) h.1,
         a ∙ can.0 ∙ sym c,
         subst (SortFits (sort_of o)) (sym a) can.1,
       )

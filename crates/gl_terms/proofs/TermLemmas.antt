@@ -11,9 +11,10 @@ use Rattle.gl_schema.specs.declared.schema.Column.{Column as NamedColumn}
 use Rattle.gl_schema.specs.Schemas.{kinds_of}
 use Rattle.gl_query.specs.Shapes.{ExprShape}
 use Rattle.gl_query.specs.Shapes as shape
-use Rattle.gl_query.specs.Values.{cast_of, column_kind, column_number, kind_alone, kind_of, left_place, right_place, value_of}
+use Rattle.gl_query.specs.Values.{cast_of, column_kind, column_number, kind_alone, kind_of, operand_place, value_of}
 use Rattle.gl_algebra.specs.Columns.{bit_kind, kind_of_column}
 use Rattle.gl_algebra.specs.Values.{value_as}
+use Rattle.gl_query.proofs.OwnKinds.{operator_gives}
 use Rattle.gl_terms.specs.Terms.{term_of, term_kind, term_value}
 
 -- ---- casts
@@ -74,7 +75,7 @@ term-kind columns place (shape.Letters text) = refl
 term-kind columns place (shape.Not e) = refl
 term-kind columns place (shape.Cast kind e) = refl
 term-kind columns place (shape.Binary o l r) =
-    ap (result_kind (sort_of o)) (term-kind columns (left_place columns o place l r) l)
+    ap (result_kind (sort_of o)) (term-kind columns (operand_place columns o place l r) l) ∙ sym (operator_gives columns place o l r)
 
 pub term-value : (columns : List NamedColumn) (place : Kind) (e : ExprShape) (row : List ℕ)
     → term_value (kinds_of columns) row (term_of columns place e) ≡ value_of columns place e row
@@ -86,5 +87,5 @@ term-value columns place (shape.Cast kind e) row =
     rw (term-kind columns (kind_alone e) e, term-value columns (kind_alone e) e row)
     (cast-value (kind_of columns (kind_alone e) e) kind (value_of columns (kind_alone e) e row))
 term-value columns place (shape.Binary o l r) row =
-    λ i. operate o (term-kind columns (left_place columns o place l r) l i)
-    (term-value columns (left_place columns o place l r) l row i) (term-value columns (right_place columns o place l r) r row i)
+    λ i. operate o (term-kind columns (operand_place columns o place l r) l i)
+    (term-value columns (operand_place columns o place l r) l row i) (term-value columns (operand_place columns o place r l) r row i)

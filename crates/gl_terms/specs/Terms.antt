@@ -10,7 +10,7 @@ use Rattle.gl_schema.specs.declared.schema.Column.{Column as NamedColumn}
 use Rattle.gl_schema.specs.Schemas.{text_word}
 use Rattle.gl_query.specs.Shapes.{ExprShape}
 use Rattle.gl_query.specs.Shapes as shape
-use Rattle.gl_query.specs.Values.{bytes_in, column_number, kind_alone, left_place, right_place}
+use Rattle.gl_query.specs.Values.{bytes_in, column_number, kind_alone, operand_place}
 use Rattle.gl_algebra.specs.Columns.{bit_kind, kind_of_column, CastFits, SortFits}
 use Rattle.gl_algebra.specs.Values.{value_as}
 
@@ -33,7 +33,7 @@ term_of columns place (shape.Letters text) = literal place (text_word (bytes_in 
 term_of columns place (shape.Not e) = Not (term_of columns (Unsigned 1) e)
 term_of columns place (shape.Cast kind e) = Cast (term_of columns (kind_alone e) e) kind
 term_of columns place (shape.Binary op l r) =
-    Binary op (term_of columns (left_place columns op place l r) l) (term_of columns (right_place columns op place l r) r)
+    Binary op (term_of columns (operand_place columns op place l r) l) (term_of columns (operand_place columns op place r l) r)
 
 -- its kind over columns of these kinds
 abbrev pub term_kind : List Kind → Term → Kind

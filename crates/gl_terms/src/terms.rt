@@ -10,7 +10,7 @@ ghost use Rattle.gl_terms.specs.Trees.{term};
 use crate::trees::Tree;
 use gl_bits::{Kind, Memory, Word};
 use gl_query::Expr;
-use gl_query::kinds::{column_number, kind_alone, kind_of, operand_place};
+use gl_query::kinds::{column_number, kind_alone, operand_place};
 use gl_schema::{Column, text_number};
 use std::alloc::Global;
 
@@ -63,20 +63,8 @@ pub fn tree_of(alloc: Global, columns: &[Column], place: Kind, expr: &Expr) -> R
             right,
             ..
         } => {
-            let left_place = operand_place(
-                op.sort(),
-                place,
-                left,
-                right,
-                kind_of(columns, place, right),
-            );
-            let right_place = operand_place(
-                op.sort(),
-                place,
-                right,
-                left,
-                kind_of(columns, place, left),
-            );
+            let left_place = operand_place(columns, *op, place, left, right);
+            let right_place = operand_place(columns, *op, place, right, left);
             let first = tree_of(alloc, columns, left_place, left)?;
             let second = tree_of(alloc, columns, right_place, right)?;
             let x = Box::new(alloc, first)?;

@@ -1,8 +1,9 @@
-use Rattle.std.proofs.Common.{◌≡◌, true, refl}
+use Rattle.std.proofs.Common.{◌≡◌, None, refl}
+use Rattle.gl_bits.specs.Operators.{sort_of}
 use Rattle.gl_query.specs.Alike.{expr_alike}
 use Rattle.gl_query.specs.Trees.{expr_tree}
 use Rattle.gl_query.specs.Trees as tree
-use Rattle.gl_query.specs.Values.{is_loose}
+use Rattle.gl_query.specs.Values.{own_kind}
 use Rattle.gl_query_check.proofs.Judging.{loose_operator, loose_parts}
 use Rattle.gl_query_check.proofs.expressions.+loose_fault.Goals as goal
 
@@ -11,6 +12,6 @@ returns-in-Binary t c = λ columns loose.
     let op = c.in-Binary.op in
     let l = expr_tree c.in-Binary.left.value in
     let r = expr_tree c.in-Binary.right.value in
-    let h : is_loose (expr_alike (tree.Binary op l r c.in-Binary.at)) ≡ true = rw c.in-Binary.is at loose in
-    let p = loose_parts op l r h in
-    rw (c.in-Binary.is, loose_operator columns c.args.place op l r c.in-Binary.at h, c.or_else.ensures, c.or_else-operands.ensures, c.loose_fault.ensures columns (rw c.deref.ensures p.left), c.loose_fault-in-Binary.ensures columns (rw c.deref-in-Binary.ensures p.right), c.unless-unsigned.ensures, c.is_unsigned.ensures, c.deref.ensures, c.deref-in-Binary.ensures) refl
+    let h : own_kind columns (expr_alike (tree.Binary op l r c.in-Binary.at)) ≡ None = rw c.in-Binary.is at loose in
+    let p = loose_parts (sort_of op) (own_kind columns (expr_alike l)) (own_kind columns (expr_alike r)) h in
+    rw (c.in-Binary.is, loose_operator columns c.args.place op l r c.in-Binary.at h, c.or_else.ensures, c.or_else-operands.ensures, c.loose_fault.ensures columns (rw c.deref.ensures p.left'), c.loose_fault-in-Binary.ensures columns (rw c.deref-in-Binary.ensures p.right'), c.unless-unsigned.ensures, c.is_unsigned.ensures, c.deref.ensures, c.deref-in-Binary.ensures) refl
