@@ -7,7 +7,7 @@ use Rattle.gl_algebra.specs.declared.node.PlanNode.{PlanNode}
 use Rattle.gl_algebra.specs.declared.node.PlanNode.TheVariants.{Stream, Body, Compute, Select, Project, Aggregate, Union, Beside, Window, Group}
 use Rattle.gl_algebra.specs.Nodewise.{named_by}
 use Rattle.gl_algebra.specs.Shapes.{Shape, shape_from, shape_of, is_closing}
-use Rattle.gl_algebra.specs.Fits.{copies_of_window}
+use Rattle.gl_algebra.specs.Views.{copies_of_window}
 use Rattle.gl_algebra.specs.FigureTable.{IsSound, input_figures, settled, delayed, last_of, wait_of, delay_of_aggs, window_gap, group_gap, needs_spacer, spacer_figures, spaced, is_fixed, in_step, at_end, joined, figures_from, figures_of}
 use Rattle.gl_algebra.specs.Laws.{RowsKeepSound, FiguresAreSound, ClosingNodesWait}
 use Rattle.gl_bits.proofs.Bools.{and_parts}

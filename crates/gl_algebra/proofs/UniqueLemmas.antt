@@ -18,28 +18,31 @@ use Rattle.gl_algebra.proofs.ResultLemmas.{meaning-node, moved}
 abbrev pub IsFunction : Meaning → Type 0
 IsFunction M = (inputs : Inputs) → HasOne (M inputs)
 
+none_of_two : (a b : Bool) → (a || (b || false)) ≡ false → (a ≡ false) × (b ≡ false)
+none_of_two a b none = let parts = neither_parts a (b || false) none in (parts.0, (neither_parts b false parts.1).0)
+
 rows_one : (s : ℕ → Shape) (m : ℕ → Meaning) (u : ℕ → Bool) (node : PlanNode) → All (λ child. u child ≡ false → IsFunction (m child)) (named_by node)
     → has_union_from u node ≡ false → IsFunction (meaning_from s m node)
 rows_one s m u (Stream number kinds) one none inputs = one_input (inputs.streams number)
 rows_one s m u (Body kinds) one none inputs = one_input inputs.body
 rows_one s m u (Compute child ops) one none inputs =
-    one_changed (m child inputs) (map (computed (s child).kinds ops)) (one 0 0 (lit< tt) none inputs)
+    one_changed (m child inputs) (map (computed (s child).kinds ops)) (one 0 0 (lit< tt) (neither_parts (u child) false none).0 inputs)
 rows_one s m u (Select child column) one none inputs =
-    one_changed (m child inputs) (selected column) (one 0 0 (lit< tt) none inputs)
+    one_changed (m child inputs) (selected column) (one 0 0 (lit< tt) (neither_parts (u child) false none).0 inputs)
 rows_one s m u (Project child items) one none inputs =
-    one_changed (m child inputs) (map (projected items)) (one 0 0 (lit< tt) none inputs)
+    one_changed (m child inputs) (map (projected items)) (one 0 0 (lit< tt) (neither_parts (u child) false none).0 inputs)
 rows_one s m u (Aggregate child aggs) one none inputs =
-    one_changed (m child inputs) (totalled (s child).kinds aggs) (one 0 0 (lit< tt) none inputs)
+    one_changed (m child inputs) (totalled (s child).kinds aggs) (one 0 0 (lit< tt) (neither_parts (u child) false none).0 inputs)
 rows_one s m u (Union left right) one none inputs = absurd (cc)
 rows_one s m u (Beside left right) one none inputs =
-    let sides = neither_parts (u left) (u right) none in
+    let sides = none_of_two (u left) (u right) none in
     one_of_both (m left inputs) (m right inputs) (one 0 0 (lit< tt) sides.0 inputs) (one 1 0 (lit< tt) sides.1 inputs)
 rows_one s m u (Window source body size advance) one none inputs =
-    let sides = neither_parts (u source) (u body) none in
+    let sides = none_of_two (u source) (u body) none in
     one_of_parts (m source inputs) (slices size advance) (λ slice. m body (given inputs slice)) (λ rows. false)
     (one 0 0 (lit< tt) sides.0 inputs) (λ slice. one 1 0 (lit< tt) sides.1 (given inputs slice))
 rows_one s m u (Group source body key count) one none inputs =
-    let sides = neither_parts (u source) (u body) none in
+    let sides = none_of_two (u source) (u body) none in
     one_of_parts (m source inputs) (groups count (λ row. slice_index row key))
     (IsOfGroup (λ rows. m body (given inputs rows))) (has_further count (λ row. slice_index row key))
     (one 0 0 (lit< tt) sides.0 inputs)
@@ -49,14 +52,14 @@ rows_one s m u (Group source body key count) one none inputs =
 union_local : (v w : ℕ → Bool) (node : PlanNode) → Agree v w (named_by node) → has_union_from v node ≡ has_union_from w node
 union_local v w (Stream number kinds) h = refl
 union_local v w (Body kinds) h = refl
-union_local v w (Compute child ops) h = h.0
-union_local v w (Select child column) h = h.0
-union_local v w (Project child items) h = h.0
-union_local v w (Aggregate child aggs) h = h.0
+union_local v w (Compute child ops) h = λ i. h.0 i || false
+union_local v w (Select child column) h = λ i. h.0 i || false
+union_local v w (Project child items) h = λ i. h.0 i || false
+union_local v w (Aggregate child aggs) h = λ i. h.0 i || false
 union_local v w (Union left right) h = refl
-union_local v w (Beside left right) h = λ i. h.0 i || h.1.0 i
-union_local v w (Window source body size advance) h = λ i. h.0 i || h.1.0 i
-union_local v w (Group source body key count) h = λ i. h.0 i || h.1.0 i
+union_local v w (Beside left right) h = λ i. h.0 i || (h.1.0 i || false)
+union_local v w (Window source body size advance) h = λ i. h.0 i || (h.1.0 i || false)
+union_local v w (Group source body key count) h = λ i. h.0 i || (h.1.0 i || false)
 
 union-node : FollowsRow has_union (λ nodes. has_union_from)
 unfolding has_union

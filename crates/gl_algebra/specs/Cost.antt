@@ -2,12 +2,12 @@
 use Rattle.std.specs.Prelude.{ℕ, zero, suc, ◌+◌, ◌*◌, ◌^◌, List, nat_le, if◌then◌else◌}
 use Rattle.gl_algebra.specs.declared.figures.Figures.{Figures}
 use Rattle.gl_algebra.specs.declared.node.PlanNode.{PlanNode}
-use Rattle.gl_algebra.specs.declared.node.PlanNode.TheVariants.{Stream, Body, Compute, Select, Project, Aggregate, Union, Beside, Window, Group}
-use Rattle.gl_algebra.specs.FigureTable.{figures_of, needs_spacer, window_gap, group_gap}
-use Rattle.gl_algebra.specs.Fits.{copies_of_window}
+use Rattle.gl_algebra.specs.declared.node.PlanNode.TheVariants.{Union}
+use Rattle.gl_algebra.specs.FigureTable.{figures_of, needs_spacer}
 use Rattle.gl_algebra.specs.Nodewise.{nodewise}
 use Rattle.gl_algebra.specs.Shapes.{Shape, shape_of, shape_from}
-use Rattle.gl_algebra.specs.Weights.{lines_of, pad_of, own_weight, weight_of_copies, sum_over_children}
+use Rattle.gl_algebra.specs.Views.{copies_in, of_body}
+use Rattle.gl_algebra.specs.Weights.{lines_of, own_part, pad_of, part_of_spacer, sum_over_children}
 
 -- the least exponent, of so many from this one on, whose power of two is at least a depth
 abbrev pub least_exponent : ℕ → ℕ → ℕ → ℕ
@@ -25,23 +25,8 @@ lean_of_spacer gap f lines = if needs_spacer gap f then 8 * lines else 0
 
 -- a node's own part in registers, from those of bodies: its weight, but for queues
 abbrev pub own_lean : (ℕ → Shape) → (ℕ → Figures) → (ℕ → ℕ) → ℕ → PlanNode → ℕ
-own_lean shapes figures leans lines (Stream number kinds) = lines
-own_lean shapes figures leans lines (Body kinds) = lines
-own_lean shapes figures leans lines (Compute child ops) = own_weight shapes figures leans lines (Compute child ops)
-own_lean shapes figures leans lines (Select child column) = own_weight shapes figures leans lines (Select child column)
-own_lean shapes figures leans lines (Project child items) = own_weight shapes figures leans lines (Project child items)
-own_lean shapes figures leans lines (Aggregate child aggs) = own_weight shapes figures leans lines (Aggregate child aggs)
 own_lean shapes figures leans lines (Union left right) = 4 * lines * (pad_of (figures left) (figures right) + 4)
-own_lean shapes figures leans lines (Beside left right) = own_weight shapes figures leans lines (Beside left right)
-own_lean shapes figures leans lines (Window source body size advance) =
-    let source_lines = lines_of (shapes source) in
-    weight_of_copies (copies_of_window size advance) (leans body) source_lines lines
-    + 4 * (figures body).a
-    + lean_of_spacer (window_gap (figures body)) (figures source) source_lines
-own_lean shapes figures leans lines (Group source body key groups) =
-    let source_lines = lines_of (shapes source) in
-    weight_of_copies groups (leans body) source_lines lines
-    + lean_of_spacer (group_gap (figures body)) (figures source) source_lines
+own_lean shapes figures leans lines node = own_part lean_of_spacer shapes figures leans lines node
 
 abbrev pub lean_from : (ℕ → Shape) → (ℕ → Figures) → (ℕ → ℕ) → PlanNode → ℕ
 lean_from shapes figures leans node =
@@ -57,20 +42,9 @@ store_of_spacer gap f lines = if needs_spacer gap f then 64 * lines * ring (f.ne
 
 -- a node's own part in memories, from those of bodies
 abbrev pub own_store : (ℕ → Shape) → (ℕ → Figures) → (ℕ → ℕ) → ℕ → PlanNode → ℕ
-own_store shapes figures stores lines (Stream number kinds) = 0
-own_store shapes figures stores lines (Body kinds) = 0
-own_store shapes figures stores lines (Compute child ops) = 0
-own_store shapes figures stores lines (Select child column) = 0
-own_store shapes figures stores lines (Project child items) = 0
-own_store shapes figures stores lines (Aggregate child aggs) = 0
 own_store shapes figures stores lines (Union left right) = 64 * lines * (ring (figures left).ne + ring (figures right).ne)
-own_store shapes figures stores lines (Beside left right) = 0
-own_store shapes figures stores lines (Window source body size advance) =
-    copies_of_window size advance * stores body
-    + store_of_spacer (window_gap (figures body)) (figures source) (lines_of (shapes source))
-own_store shapes figures stores lines (Group source body key groups) =
-    groups * stores body
-    + store_of_spacer (group_gap (figures body)) (figures source) (lines_of (shapes source))
+own_store shapes figures stores lines node =
+    copies_in node * of_body stores node + part_of_spacer store_of_spacer shapes figures node
 
 abbrev pub store_from : (ℕ → Shape) → (ℕ → Figures) → (ℕ → ℕ) → PlanNode → ℕ
 store_from shapes figures stores node =

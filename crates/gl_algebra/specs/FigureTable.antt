@@ -8,9 +8,9 @@ use Rattle.gl_algebra.specs.declared.node.PlanNode.TheVariants.{Stream, Body, Co
 use Rattle.gl_algebra.specs.declared.node.PlanAgg.{PlanAgg}
 use Rattle.gl_algebra.specs.declared.node.PlanAgg.TheVariants.{Count, Sum, Min, Max, Avg, Wsum}
 use Rattle.gl_algebra.specs.Columns.{kind_of_operand}
-use Rattle.gl_algebra.specs.Fits.{copies_of_window}
 use Rattle.gl_algebra.specs.Nodewise.{nodewise}
 use Rattle.gl_algebra.specs.Shapes.{Shape, shape_of}
+use Rattle.gl_algebra.specs.Views.{copies_of_window}
 
 -- sound figures: intervals end after they begin, those of two beats never overlap, and after a beat with the end there is room
 -- for a tuple and the gap is no less than after a beat without it
@@ -174,6 +174,12 @@ window_gap body = max body.gt body.ge
 
 abbrev pub group_gap : Figures → ℕ
 group_gap body = body.gt
+
+-- the cycles that the copies of a node's body need from one tuple to the next, 0 where it has no body
+abbrev pub gap_in : (ℕ → Figures) → PlanNode → ℕ
+gap_in figures (Window source body size advance) = window_gap (figures body)
+gap_in figures (Group source body key groups) = group_gap (figures body)
+gap_in figures node = 0
 
 -- windows of this many copies, over a source that is spaced already
 abbrev pub windows_over : ℕ → Figures → Figures → Figures

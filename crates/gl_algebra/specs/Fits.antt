@@ -1,6 +1,5 @@
 -- When a node fits a plan, and what a plan is.
 use Rattle.std.specs.Prelude.{ℕ, ◌≡◌, ◌≢◌, ◌<◌, ◌≤◌, List, length, slice_get, Some, All, IsTrue}
-use Rattle.std.specs.Int.{div_ceil}
 use Rattle.gl_bits.specs.Kinds.{IsKind}
 use Rattle.gl_bits.specs.declared.kind.Kind.{Kind}
 use Rattle.gl_algebra.specs.declared.node.PlanNode.{PlanNode}
@@ -8,15 +7,12 @@ use Rattle.gl_algebra.specs.declared.node.PlanNode.TheVariants.{Stream, Body, Co
 use Rattle.gl_algebra.specs.Columns.{bit_kind, OperandFits, OpFits, AggFits}
 use Rattle.gl_algebra.specs.Nodewise.{named_by}
 use Rattle.gl_algebra.specs.Shapes.{Shape, unsteady, shape_of, kinds_of}
+use Rattle.gl_algebra.specs.Views.{copies_of_window}
 
 -- a number from 1 to a limit
 pub record IsWithin (limit number : ℕ) : Type 0 where
   pub least : 1 ≤ number
   pub most : number ≤ limit
-
--- the windows that can be open at once: the size by the advance, rounded up
-abbrev pub copies_of_window : ℕ → ℕ → ℕ
-copies_of_window size advance = div_ceil size advance
 
 -- the limits: of a window's size and advance, of its copies, of groups
 abbrev pub most_rows : ℕ

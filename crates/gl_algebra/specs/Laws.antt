@@ -1,10 +1,11 @@
 -- Laws of plans.
 use Rattle.std.specs.Prelude.{ℕ, ◌≡◌, ◌<◌, ◌≤◌, ◌↔◌, Bool, false, true, ◌||◌, List, ◌++◌, length, Some, slice_get, All, IsTrue, ⊤}
+use Rattle.std.specs.List.{list_any}
 use Rattle.gl_bits.specs.Kinds.{IsKind}
 use Rattle.gl_bits.specs.declared.kind.Kind.{Kind}
 use Rattle.gl_algebra.specs.declared.figures.Figures.{Figures}
 use Rattle.gl_algebra.specs.declared.node.PlanNode.{PlanNode}
-use Rattle.gl_algebra.specs.declared.node.PlanNode.TheVariants.{Stream, Body, Compute, Select, Project, Aggregate, Union, Beside, Window, Group}
+use Rattle.gl_algebra.specs.declared.node.PlanNode.TheVariants.{Body, Union}
 use Rattle.gl_algebra.specs.FigureTable.{IsSound, figures_from, figures_of, spacer_figures}
 use Rattle.gl_algebra.specs.Fits.{Suits, IsPlan}
 use Rattle.gl_algebra.specs.Nodewise.{named_by, nodewise}
@@ -67,18 +68,14 @@ BodiesReadTheirInput = (nodes : List PlanNode) (number : ℕ) → IsPlan nodes �
 abbrev pub ColumnsHaveKinds : Type 0
 ColumnsHaveKinds = (nodes : List PlanNode) (number : ℕ) → IsPlan nodes → number < length nodes → All IsKind (kinds_of nodes number)
 
--- whether a node is a union or has one below it, in a body too
+-- whether a node is a union
+abbrev pub is_union : PlanNode → Bool
+is_union (Union left right) = true
+is_union node = false
+
+-- whether it is one or has one below it, in a body too
 abbrev pub has_union_from : (ℕ → Bool) → PlanNode → Bool
-has_union_from unions (Stream number kinds) = false
-has_union_from unions (Body kinds) = false
-has_union_from unions (Compute child ops) = unions child
-has_union_from unions (Select child column) = unions child
-has_union_from unions (Project child items) = unions child
-has_union_from unions (Aggregate child aggs) = unions child
-has_union_from unions (Union left right) = true
-has_union_from unions (Beside left right) = unions left || unions right
-has_union_from unions (Window source body size advance) = unions source || unions body
-has_union_from unions (Group source body key groups) = unions source || unions body
+has_union_from unions node = is_union node || list_any unions (named_by node)
 
 unfoldable pub has_union : List PlanNode → ℕ → Bool
 has_union nodes = nodewise has_union_from false nodes

@@ -1,3 +1,4 @@
+pub mod Views
 pub mod Nodewise
 pub mod Columns
 pub mod Shapes

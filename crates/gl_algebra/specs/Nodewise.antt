@@ -1,20 +1,11 @@
 -- Values of nodes, each of which follows from the values of the nodes that it names. These stand before it in the plan's list.
-use Rattle.std.specs.Prelude.{ℕ, zero, suc, List, [], ◌∷◌, Option, Some, None, slice_get}
+use Rattle.std.specs.Prelude.{ℕ, zero, suc, List, ◌++◌, Option, Some, None, option_to_list, slice_get}
 use Rattle.gl_algebra.specs.declared.node.PlanNode.{PlanNode}
-use Rattle.gl_algebra.specs.declared.node.PlanNode.TheVariants.{Stream, Body, Compute, Select, Project, Aggregate, Union, Beside, Window, Group}
+use Rattle.gl_algebra.specs.Views.{children_of, body_of}
 
 -- the nodes that a node names: its children, and the body last
 abbrev pub named_by : PlanNode → List ℕ
-named_by (Stream number kinds) = []
-named_by (Body kinds) = []
-named_by (Compute child ops) = child ∷ []
-named_by (Select child column) = child ∷ []
-named_by (Project child items) = child ∷ []
-named_by (Aggregate child aggs) = child ∷ []
-named_by (Union left right) = left ∷ right ∷ []
-named_by (Beside left right) = left ∷ right ∷ []
-named_by (Window source body size advance) = source ∷ body ∷ []
-named_by (Group source body key groups) = source ∷ body ∷ []
+named_by node = children_of node ++ option_to_list (body_of node)
 
 -- the value at a node, or at no node
 abbrev pub value_at_node {ℓ} : {A : Type ℓ} → (PlanNode → A) → A → Option PlanNode → A

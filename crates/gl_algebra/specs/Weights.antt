@@ -8,10 +8,10 @@ use Rattle.gl_algebra.specs.declared.node.PlanNode.TheVariants.{Stream, Body, Co
 use Rattle.gl_algebra.specs.declared.node.PlanAgg.{PlanAgg}
 use Rattle.gl_algebra.specs.declared.node.PlanAgg.TheVariants.{Count, Sum, Min, Max, Avg, Wsum}
 use Rattle.gl_algebra.specs.Columns.{kind_of_operand}
-use Rattle.gl_algebra.specs.FigureTable.{figures_of, delay_of_aggs, wait_of, needs_spacer, window_gap, group_gap}
-use Rattle.gl_algebra.specs.Fits.{copies_of_window}
+use Rattle.gl_algebra.specs.FigureTable.{figures_of, delay_of_aggs, gap_in, wait_of, needs_spacer}
 use Rattle.gl_algebra.specs.Nodewise.{nodewise}
 use Rattle.gl_algebra.specs.Shapes.{Shape, shape_of, shape_from}
+use Rattle.gl_algebra.specs.Views.{children_of, copies_in, copies_of_window, of_body}
 
 -- the lines of a wire: its columns, valid and end
 abbrev pub lines_of : Shape → ℕ
@@ -38,42 +38,39 @@ weight_of_spacer gap f lines = if needs_spacer gap f then 8 * lines * (f.ne + 6)
 abbrev pub weight_of_copies : ℕ → ℕ → ℕ → ℕ → ℕ
 weight_of_copies copies weight source own = copies * (weight + 8 * (source + own + 4)) + 8 * (source + own + 16)
 
--- a node's own part, where it has so many lines, from the weights of bodies
-abbrev pub own_weight : (ℕ → Shape) → (ℕ → Figures) → (ℕ → ℕ) → ℕ → PlanNode → ℕ
-own_weight shapes figures weights lines (Stream number kinds) = lines
-own_weight shapes figures weights lines (Body kinds) = lines
-own_weight shapes figures weights lines (Compute child ops) = 4 * (lines + length ops)
-own_weight shapes figures weights lines (Select child column) = 4 * lines
-own_weight shapes figures weights lines (Project child items) = 4 * lines
-own_weight shapes figures weights lines (Aggregate child aggs) =
-    let kinds = (shapes child).kinds in
-    4 * lines + sum_by (λ agg. 2 * delay_of_aggs kinds aggs + weight_of_agg kinds agg) aggs
-own_weight shapes figures weights lines (Union left right) =
-    8 * lines * (pad_of (figures left) (figures right) + (figures left).ne + (figures right).ne + 4)
-own_weight shapes figures weights lines (Beside left right) =
-    8 * lines * (pad_of (figures left) (figures right) + 4)
-own_weight shapes figures weights lines (Window source body size advance) =
-    let source_lines = lines_of (shapes source) in
-    weight_of_copies (copies_of_window size advance) (weights body) source_lines lines
-    + 4 * (figures body).a
-    + weight_of_spacer (window_gap (figures body)) (figures source) source_lines
-own_weight shapes figures weights lines (Group source body key groups) =
-    let source_lines = lines_of (shapes source) in
-    weight_of_copies groups (weights body) source_lines lines
-    + weight_of_spacer (group_gap (figures body)) (figures source) source_lines
-
 -- the sum over a node's children: a shared child counts for each use, and a body is none
 abbrev pub sum_over_children : (ℕ → ℕ) → PlanNode → ℕ
-sum_over_children values (Stream number kinds) = 0
-sum_over_children values (Body kinds) = 0
-sum_over_children values (Compute child ops) = values child
-sum_over_children values (Select child column) = values child
-sum_over_children values (Project child items) = values child
-sum_over_children values (Aggregate child aggs) = values child
-sum_over_children values (Union left right) = values left + values right
-sum_over_children values (Beside left right) = values left + values right
-sum_over_children values (Window source body size advance) = values source
-sum_over_children values (Group source body key groups) = values source
+sum_over_children values node = sum_by values (children_of node)
+
+-- the part of the spacer before the copies of a node's body, by what a spacer of a gap counts over figures and lines
+abbrev pub part_of_spacer : (ℕ → Figures → ℕ → ℕ) → (ℕ → Shape) → (ℕ → Figures) → PlanNode → ℕ
+part_of_spacer spacer shapes figures node =
+    sum_over_children (λ source. spacer (gap_in figures node) (figures source) (lines_of (shapes source))) node
+
+-- a node's own part, where it has so many lines, from the weights of bodies, with what a spacer counts
+abbrev pub own_part : (ℕ → Figures → ℕ → ℕ) → (ℕ → Shape) → (ℕ → Figures) → (ℕ → ℕ) → ℕ → PlanNode → ℕ
+own_part spacer shapes figures weights lines (Stream number kinds) = lines
+own_part spacer shapes figures weights lines (Body kinds) = lines
+own_part spacer shapes figures weights lines (Compute child ops) = 4 * (lines + length ops)
+own_part spacer shapes figures weights lines (Select child column) = 4 * lines
+own_part spacer shapes figures weights lines (Project child items) = 4 * lines
+own_part spacer shapes figures weights lines (Aggregate child aggs) =
+    let kinds = (shapes child).kinds in
+    4 * lines + sum_by (λ agg. 2 * delay_of_aggs kinds aggs + weight_of_agg kinds agg) aggs
+own_part spacer shapes figures weights lines (Union left right) =
+    8 * lines * (pad_of (figures left) (figures right) + (figures left).ne + (figures right).ne + 4)
+own_part spacer shapes figures weights lines (Beside left right) =
+    8 * lines * (pad_of (figures left) (figures right) + 4)
+own_part spacer shapes figures weights lines (Window source body size advance) =
+    weight_of_copies (copies_of_window size advance) (weights body) (lines_of (shapes source)) lines
+    + 4 * (figures body).a
+    + part_of_spacer spacer shapes figures (Window source body size advance)
+own_part spacer shapes figures weights lines (Group source body key groups) =
+    weight_of_copies groups (weights body) (lines_of (shapes source)) lines
+    + part_of_spacer spacer shapes figures (Group source body key groups)
+
+abbrev pub own_weight : (ℕ → Shape) → (ℕ → Figures) → (ℕ → ℕ) → ℕ → PlanNode → ℕ
+own_weight = own_part weight_of_spacer
 
 -- a node's weight, from those of the nodes that it names
 abbrev pub weight_from : (ℕ → Shape) → (ℕ → Figures) → (ℕ → ℕ) → PlanNode → ℕ
@@ -90,16 +87,7 @@ weight_with_output nodes root = weight_of nodes root + 8 * (lines_of (shape_of n
 
 -- the copies that a node itself has of its body, with those in each
 abbrev pub own_copies : (ℕ → ℕ) → PlanNode → ℕ
-own_copies copies (Stream number kinds) = 0
-own_copies copies (Body kinds) = 0
-own_copies copies (Compute child ops) = 0
-own_copies copies (Select child column) = 0
-own_copies copies (Project child items) = 0
-own_copies copies (Aggregate child aggs) = 0
-own_copies copies (Union left right) = 0
-own_copies copies (Beside left right) = 0
-own_copies copies (Window source body size advance) = copies_of_window size advance * (1 + copies body)
-own_copies copies (Group source body key groups) = groups * (1 + copies body)
+own_copies copies node = copies_in node * (1 + of_body copies node)
 
 -- a node's copies, from those of the nodes that it names
 abbrev pub copies_from : (ℕ → ℕ) → PlanNode → ℕ

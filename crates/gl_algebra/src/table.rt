@@ -2,7 +2,7 @@
 
 ghost use Rattle.std.specs.Prelude.{◌≡◌, ◌≤◌};
 ghost use Rattle.gl_algebra.specs.FigureTable.{aggregate_figures, beside_figures, delay_of_agg, delay_of_aggs, delayed, group_figures, input_figures, settled, spaced, union_figures, wait_of, window_figures};
-ghost use Rattle.gl_algebra.specs.Fits.{copies_of_window};
+ghost use Rattle.gl_algebra.specs.Views.{copies_of_window};
 ghost use Rattle.gl_algebra.specs.Small.{small_of};
 
 use crate::columns::{kind_of_operand, width_in};

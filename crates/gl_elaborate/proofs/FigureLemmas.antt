@@ -15,7 +15,8 @@ use Rattle.gl_algebra.specs.declared.figures.Figures.{Figures}
 use Rattle.gl_algebra.specs.declared.node.PlanNode.{PlanNode}
 use Rattle.gl_algebra.specs.declared.node.PlanNode.TheVariants as node
 use Rattle.gl_algebra.specs.FigureTable.{input_figures, settled, delayed, aggregate_figures, union_figures, beside_figures, window_figures, group_figures, figures_from, figures_of}
-use Rattle.gl_algebra.specs.Fits.{IsPlan, copies_of_window}
+use Rattle.gl_algebra.specs.Fits.{IsPlan}
+use Rattle.gl_algebra.specs.Views.{copies_of_window}
 use Rattle.gl_algebra.specs.Shapes.{Shape, shape_of}
 use Rattle.gl_algebra.proofs.FigureLemmas.{figures-kept}
 use Rattle.gl_algebra.proofs.PlanLemmas.{in_order}

@@ -10,7 +10,8 @@ use Rattle.gl_query.specs.Accepted.{IsWindow}
 use Rattle.gl_algebra.specs.declared.node.PlanNode.{PlanNode}
 use Rattle.gl_algebra.specs.declared.node.PlanNode.TheVariants as node
 use Rattle.gl_algebra.specs.Columns.{kind_of_column}
-use Rattle.gl_algebra.specs.Fits.{IsPlan, IsBodyFor, copies_of_window}
+use Rattle.gl_algebra.specs.Fits.{IsPlan, IsBodyFor}
+use Rattle.gl_algebra.specs.Views.{copies_of_window}
 use Rattle.gl_algebra.specs.Shapes.{Shape, unsteady, shape_from, shape_of}
 use Rattle.gl_algebra.specs.Added.{Placed, added}
 use Rattle.gl_algebra.specs.Results.{Inputs, Meaning, given, IsPlanResult, meaning_from}

@@ -6,8 +6,9 @@ use Rattle.gl_algebra.specs.declared.figures.Figures.{Figures}
 use Rattle.gl_algebra.specs.declared.node.PlanNode.{PlanNode}
 use Rattle.gl_algebra.specs.declared.node.PlanNode.TheVariants.{Stream, Body, Compute, Select, Project, Aggregate, Union, Beside, Window, Group}
 use Rattle.gl_algebra.specs.FigureTable.{figures_of}
-use Rattle.gl_algebra.specs.Fits.{IsPlan, Suits, copies_of_window}
+use Rattle.gl_algebra.specs.Fits.{IsPlan, Suits}
 use Rattle.gl_algebra.specs.Nodewise.{named_by}
+use Rattle.gl_algebra.specs.Views.{copies_of_window}
 use Rattle.gl_algebra.specs.Shapes.{Shape, shape_of}
 use Rattle.gl_algebra.specs.Weights.{sum_over_children, own_weight, weight_from, weight_of, copies_from, copies_of, lines_of}
 use Rattle.gl_algebra.proofs.FigureLemmas.{one_copy}

@@ -7,7 +7,8 @@ use Rattle.gl_algebra.specs.declared.node.PlanNode.{PlanNode}
 use Rattle.gl_algebra.specs.declared.node.PlanNode.TheVariants.{Window}
 use Rattle.gl_algebra.specs.Cost.{lean_of, lean_of_spacer, store_of}
 use Rattle.gl_algebra.specs.FigureTable.{figures_of, window_gap}
-use Rattle.gl_algebra.specs.Fits.{IsPlan, copies_of_window}
+use Rattle.gl_algebra.specs.Fits.{IsPlan}
+use Rattle.gl_algebra.specs.Views.{copies_of_window}
 use Rattle.gl_algebra.specs.Laws.{FollowsTables}
 use Rattle.gl_algebra.specs.Shapes.{kinds_of}
 use Rattle.gl_algebra.specs.Weights.{weight_of, weight_of_copies}

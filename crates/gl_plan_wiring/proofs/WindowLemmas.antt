@@ -8,7 +8,8 @@ use Rattle.gl_algebra.specs.declared.figures.Figures.{Figures}
 use Rattle.gl_algebra.specs.declared.node.PlanNode.{PlanNode}
 use Rattle.gl_algebra.specs.declared.node.PlanNode.TheVariants.{Window}
 use Rattle.gl_algebra.specs.FigureTable.{AreSmall, IsSound, figures_of, window_gap, windows_over}
-use Rattle.gl_algebra.specs.Fits.{Fits as FitsPlan, IsPlan, copies_of_window}
+use Rattle.gl_algebra.specs.Fits.{Fits as FitsPlan, IsPlan}
+use Rattle.gl_algebra.specs.Views.{copies_of_window}
 use Rattle.gl_algebra.specs.Laws.{FollowsTables}
 use Rattle.gl_algebra.specs.Results.{Inputs, IsPlanResult, given}
 use Rattle.gl_algebra.specs.Shapes.{kinds_of, shape_of}

@@ -1,12 +1,12 @@
 -- Copies of a body behind a front, of windows and of groups alike: the source, spaced where its tuples may come too fast, and a circuit of
 -- the body behind each wire of the front.
-use Rattle.std.specs.Prelude.{◌≡◌, ℕ, ◌+◌, ◌-◌, ◌*◌, ◌≤◌, Bool, true, false, List, [], ◌∷◌, length, Some, slice_get, option_map}
+use Rattle.std.specs.Prelude.{◌≡◌, ℕ, ◌+◌, ◌-◌, ◌*◌, ◌≤◌, Bool, true, List, [], ◌∷◌, length, Some, is_some, slice_get, option_map}
 use Rattle.gl_algebra.specs.declared.figures.Figures.{Figures}
 use Rattle.gl_algebra.specs.declared.node.PlanNode.{PlanNode}
-use Rattle.gl_algebra.specs.declared.node.PlanNode.TheVariants.{Stream, Body, Compute, Select, Project, Aggregate, Union, Beside, Window, Group}
 use Rattle.gl_algebra.specs.Cost.{lean_of_spacer, store_of_spacer}
 use Rattle.gl_algebra.specs.FigureTable.{NoCloser, spaced}
 use Rattle.gl_algebra.specs.Shapes.{Shape, unsteady}
+use Rattle.gl_algebra.specs.Views.{body_of}
 use Rattle.gl_algebra.specs.Weights.{weight_of_spacer}
 use Rattle.gl_net.specs.Net.{Net, Run, IsRun, Keeps}
 use Rattle.gl_wire.specs.declared.emitted.Emitted.{Emitted}
@@ -23,16 +23,7 @@ use Rattle.gl_plan_wiring.specs.Put.{CanPut, Gives, counted}
 
 -- whether a node is put over copies of a body
 abbrev pub is_over : PlanNode → Bool
-is_over (Stream number kinds) = false
-is_over (Body kinds) = false
-is_over (Compute child ops) = false
-is_over (Select child column) = false
-is_over (Project child items) = false
-is_over (Aggregate child aggs) = false
-is_over (Union left right) = false
-is_over (Beside left right) = false
-is_over (Window source body size advance) = true
-is_over (Group source body key groups) = true
+is_over node = is_some (body_of node)
 
 abbrev pub IsOverCopies : List PlanNode → ℕ → Type 0
 IsOverCopies nodes id = option_map is_over (slice_get nodes id) ≡ Some true

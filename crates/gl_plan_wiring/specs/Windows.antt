@@ -5,7 +5,7 @@ use Rattle.gl_algebra.specs.declared.figures.Figures.{Figures}
 use Rattle.gl_algebra.specs.declared.node.PlanNode.{PlanNode}
 use Rattle.gl_algebra.specs.declared.node.PlanNode.TheVariants.{Window}
 use Rattle.gl_algebra.specs.FigureTable.{figures_of, spaced, window_figures, window_gap}
-use Rattle.gl_algebra.specs.Fits.{copies_of_window}
+use Rattle.gl_algebra.specs.Views.{copies_of_window}
 use Rattle.gl_algebra.specs.Results.{IsPlanResult}
 use Rattle.gl_algebra.specs.Shapes.{kinds_of, shape_of}
 use Rattle.gl_net.specs.Net.{Net, Run, IsRun, Keeps}

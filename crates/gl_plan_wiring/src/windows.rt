@@ -2,7 +2,7 @@
 
 ghost use Rattle.std.specs.Prelude.{◌≡◌, ◌<◌, ◌≤◌, List, IfOk, length};
 ghost use Rattle.gl_algebra.specs.FigureTable.{IsSound, needs_spacer};
-ghost use Rattle.gl_algebra.specs.Fits.{copies_of_window};
+ghost use Rattle.gl_algebra.specs.Views.{copies_of_window};
 ghost use Rattle.gl_algebra.specs.Small.{AreFigures};
 ghost use Rattle.gl_net.specs.Net.{Net};
 ghost use Rattle.gl_wire.specs.Counted.{AreNarrow};

@@ -7,7 +7,7 @@ use Rattle.gl_bits.proofs.Bools.{or_none}
 use Rattle.gl_algebra.specs.declared.figures.Figures.{Figures}
 use Rattle.std.proofs.lemmas.Grind.{div_ceil_times}
 use Rattle.gl_algebra.proofs.FigureLemmas.{one_copy, last_of-some}
-use Rattle.gl_algebra.specs.Fits.{copies_of_window}
+use Rattle.gl_algebra.specs.Views.{copies_of_window}
 use Rattle.gl_algebra.proofs.SoundLemmas.{windows_sound}
 use Rattle.gl_algebra.specs.FigureTable.{IsSound, stride_of, window_gap, windows_over, last_of}
 use Rattle.gl_wire.specs.Apart.{Carries, CarriesApart, a_tuple, an_end}

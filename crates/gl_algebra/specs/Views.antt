@@ -1,0 +1,38 @@
+-- What is seen of a node whatever its form: its children, its body, and the copies that it has of it.
+use Rattle.std.specs.Prelude.{ℕ, List, [], ◌∷◌, Option, Some, None, option_map, unwrap_or}
+use Rattle.std.specs.Int.{div_ceil}
+use Rattle.gl_algebra.specs.declared.node.PlanNode.{PlanNode}
+use Rattle.gl_algebra.specs.declared.node.PlanNode.TheVariants.{Stream, Body, Compute, Select, Project, Aggregate, Union, Beside, Window, Group}
+
+-- the nodes whose rows it takes
+abbrev pub children_of : PlanNode → List ℕ
+children_of (Stream number kinds) = []
+children_of (Body kinds) = []
+children_of (Compute child ops) = child ∷ []
+children_of (Select child column) = child ∷ []
+children_of (Project child items) = child ∷ []
+children_of (Aggregate child aggs) = child ∷ []
+children_of (Union left right) = left ∷ right ∷ []
+children_of (Beside left right) = left ∷ right ∷ []
+children_of (Window source body size advance) = source ∷ []
+children_of (Group source body key groups) = source ∷ []
+
+-- the body that it has copies of
+abbrev pub body_of : PlanNode → Option ℕ
+body_of (Window source body size advance) = Some body
+body_of (Group source body key groups) = Some body
+body_of node = None
+
+-- the windows that can be open at once: the size by the advance, rounded up
+abbrev pub copies_of_window : ℕ → ℕ → ℕ
+copies_of_window size advance = div_ceil size advance
+
+-- the copies of its body, 0 where it has none
+abbrev pub copies_in : PlanNode → ℕ
+copies_in (Window source body size advance) = copies_of_window size advance
+copies_in (Group source body key groups) = groups
+copies_in node = 0
+
+-- the value of its body, 0 where it has none
+abbrev pub of_body : (ℕ → ℕ) → PlanNode → ℕ
+of_body values node = unwrap_or (option_map values (body_of node)) 0
