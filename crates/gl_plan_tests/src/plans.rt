@@ -9,7 +9,7 @@ ghost use Rattle.gl_algebra.specs.Worked.{WorkedFigures, WorkedWeights};
 
 use gl_algebra::*;
 use gl_bits::{Kind, Listed, Memory, Op};
-use std::alloc::Global;
+use std::alloc::{AllocError, Global};
 
 // The figures and weights of plans that were worked out by hand.
 fn worked_plans()
@@ -31,7 +31,7 @@ fn put(plan: &mut Plan, node: PlanNode) -> Result<PlanId, Memory>
     ensures kept { OnOk result (KeepsShapes plan.old plan.new) }
 {
     let _ = plan.len();
-    plan.add(node)
+    Ok(plan.add(node)?)
 }
 
 // The operations, the items and the aggregates of the plan below.
@@ -164,23 +164,44 @@ fn put_others(alloc: Global, plan: &mut Plan, body: PlanId) -> Result<(), Memory
     put_groups(plan, source, body)
 }
 
-/// A plan with a node of every kind: how many nodes it has when half of them are added, and at its end; and its first node.
+// Adds a node of every kind; how many nodes there are when half of them are added.
+fn put_every(alloc: Global, plan: &mut Plan) -> Result<usize, Memory> {
+    let choice = put_choice(alloc, plan)?;
+    let sums = put_sums(alloc, plan, choice)?;
+    let half = plan.len();
+    put_others(alloc, plan, sums)?;
+    Ok(half)
+}
+
+// How many nodes a plan has, and the first of them.
+fn nodes_told(alloc: Global, plan: &Plan, half: usize) -> Result<String, AllocError> {
+    let size = plan.len();
+    if size == 0 {
+        return String::from_str(alloc, "no node");
+    }
+    let first = plan.node(plan.id(0));
+    format!(in alloc; "{half} nodes, then {size}; the first is {first:?}")
+}
+
+/// How many nodes a plan of every kind has when half of them are added, and at its end; and its first node.
 pub fn every(alloc: Global) -> Result<String, Memory> {
     let mut plan = Plan::new(alloc);
-    let choice = put_choice(alloc, &mut plan)?;
-    let sums = put_sums(alloc, &mut plan, choice)?;
-    let half = plan.len();
-    put_others(alloc, &mut plan, sums)?;
-    let first = plan.node(plan.id(0));
-    Ok(format!(in alloc; "{half} nodes, then {}; the first is {first:?}", plan.len())?)
+    let half = put_every(alloc, &mut plan)?;
+    Ok(nodes_told(alloc, &plan, half)?)
+}
+
+// Adds a stream two times.
+fn put_twice(alloc: Global, plan: &mut Plan) -> Result<(PlanId, PlanId), Memory> {
+    let first = put_stream(alloc, plan)?;
+    let second = put_stream(alloc, plan)?;
+    Ok((first, second))
 }
 
 /// The numbers of a node that is added twice, and how many nodes there are.
 pub fn twice(alloc: Global) -> Result<String, Memory> {
     worked_plans();
     let mut plan = Plan::new(alloc);
-    let first = plan.add(PlanNode::Stream(0, kinds(alloc)?))?;
-    let second = plan.add(PlanNode::Stream(0, kinds(alloc)?))?;
+    let (first, second) = put_twice(alloc, &mut plan)?;
     let (first, second) = (first.number(), second.number());
     Ok(format!(in alloc; "p{first} and p{second} of {} node", plan.len())?)
 }
