@@ -7,7 +7,7 @@ use Rattle.gl_query_tokens.specs.declared.token.Fold.TheVariants as fold
 use Rattle.gl_query_tokens.specs.declared.token.Join.{Join}
 use Rattle.gl_query_tokens.specs.declared.token.Join.TheVariants as join
 use Rattle.gl_query.specs.Shapes.{ExprShape}
-use Rattle.gl_query.specs.Trees.{ExprTree, QueryTree, Column, Read}
+use Rattle.gl_query.specs.Trees.{ExprTree, QueryTree, Read}
 use Rattle.gl_query.specs.Alike.{expr_alike, agg_alike, item_alike, agg_item_alike, query_alike}
 use Rattle.gl_query.specs.Parts.{InAgg, InItem, InAggItem, InFilter, InQuery}
 use Rattle.gl_query_reader.specs.declared.written.Window.{Window}

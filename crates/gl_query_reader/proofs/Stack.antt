@@ -1,5 +1,5 @@
 -- The stack of what is open, whose innermost frame is the last of a Vec.
-use Rattle.std.proofs.Common.{◌≡◌, ℕ, true, false, List, [], ◌∷◌, ◌++◌, reverse, refl, ap}
+use Rattle.std.proofs.Common.{◌≡◌, ℕ, true, false, List, [], ◌∷◌, ◌++◌, refl, ap}
 use Rattle.std.specs.Prelude.{map}
 use Rattle.std.proofs.lemmas.List.{reverse-append}
 use Rattle.gl_query_reader.specs.declared.state.Frame.{Frame}

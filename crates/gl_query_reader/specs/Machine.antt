@@ -7,7 +7,6 @@ use Rattle.gl_query.specs.declared.tree.Num.{Num}
 use Rattle.gl_bits.specs.declared.op.Op.{Op}
 use Rattle.gl_bits.specs.declared.op.Op.TheVariants as op
 use Rattle.gl_query_tokens.specs.declared.token.Fold.{Fold}
-use Rattle.gl_query_tokens.specs.declared.token.Join.{Join}
 use Rattle.gl_query_tokens.specs.declared.token.Plain.{Plain}
 use Rattle.gl_query_tokens.specs.declared.token.Plain.TheVariants as plain
 use Rattle.gl_query_tokens.specs.declared.token.Token.{Token}

@@ -18,13 +18,9 @@ use Rattle.gl_query_reader.specs.declared.written.WrittenStatement.{WrittenState
 use Rattle.gl_query_reader.specs.Written.{Expr, Column, Number, Letters, Brackets, Cast, Not, Binary, Agg, Count, Fold', Wsum, Item, Bare, Named, Total, Pick, All, Items, Query, Stream, InBrackets, Select, Windows, Groups, Join', Statement}
 use Rattle.gl_query_reader.specs.declared.state.Head.{Head}
 use Rattle.gl_query_reader.specs.declared.state.Head.TheVariants as head
-use Rattle.gl_query_reader.specs.declared.state.SelectFrom.{SelectFrom}
-use Rattle.gl_query_reader.specs.declared.state.WindowHead.{WindowHead}
 use Rattle.gl_query_reader.specs.declared.state.BodyHead.{BodyHead}
 use Rattle.gl_query_reader.specs.declared.state.GroupsHead.{GroupsHead}
 use Rattle.gl_query_reader.specs.declared.state.GroupsHead.TheVariants as groups_head
-use Rattle.gl_query_reader.specs.declared.state.CastHead.{CastHead}
-use Rattle.gl_query_reader.specs.declared.state.WsumHead.{WsumHead}
 use Rattle.gl_query_reader.specs.declared.state.Unnamed.{Unnamed}
 use Rattle.gl_query_reader.specs.declared.state.Unnamed.TheVariants as unnamed
 use Rattle.gl_query_reader.specs.declared.state.Frame.{Frame}

@@ -1,5 +1,5 @@
 -- Statements as they are written, and the tokens that spell them.
-use Rattle.std.specs.Prelude.{◌≡◌, ℕ, ◌+◌, ◌<◌, ◌≤◌, Bool, true, false, List, [], ◌∷◌, ◌++◌, Option, Some, None}
+use Rattle.std.specs.Prelude.{◌≡◌, ℕ, ◌<◌, ◌≤◌, Bool, true, false, List, [], ◌∷◌, ◌++◌, Option, Some, None}
 use Rattle.gl_bits.specs.declared.kind.Kind.{Kind}
 use Rattle.gl_schema.specs.SchemaFaults.{kind_named}
 use Rattle.gl_query.specs.declared.tree.Name.{Name}
