@@ -1,5 +1,6 @@
 -- Code can place a checked statement: its columns have numbers of 16 bits.
 use Rattle.std.proofs.Common.{◌≡◌, ℕ, zero, suc, ◌+◌, ◌*◌, ◌≤◌, List, [], ◌∷◌, length, Option, Some, None, refl, ap, arith, map, lit≤}
+use Rattle.std.specs.Prelude.{option_to_list}
 use Rattle.std.specs.List.{AllByRecursion, range_with_len}
 use Rattle.std.proofs.lemmas.List.{length-map}
 use Rattle.gl_bits.specs.Kinds.{IsKind}
@@ -21,7 +22,7 @@ use Rattle.gl_query.specs.Laws.{AreKinds}
 use Rattle.gl_query.proofs.Real.{IsScope, body_is, real}
 use Rattle.gl_bits.proofs.AllLists.{all_of_mapped}
 use Rattle.gl_terms.specs.Terms.{Term, Column, Literal, Not, Cast, Binary, ops_in, ops_in_all, term_of}
-use Rattle.gl_elaborate.specs.Plans.{condition_of, conditions_of, picked_terms, arguments_of, arguments_of_all, stream_node}
+use Rattle.gl_elaborate.specs.Plans.{condition_of, filter_of, picked_terms, arguments_of, arguments_of_all, stream_node}
 use Rattle.gl_elaborate.specs.Fitting.{CanPlace, FilterTerm, PlacedFit}
 use Rattle.gl_terms.proofs.AcceptedLemmas.{column-fits, term-fits}
 use Rattle.gl_elaborate.proofs.RowsLemmas.{pick-fits}
@@ -72,7 +73,7 @@ pick-ops columns (shape.Items items) h s =
     let same = length-map items (item_column columns) in
     omega arith
 
-filter-ops : (columns : List NamedColumn) (condition : Option ExprShape) → InFilter IsSmall condition → ops_in_all (conditions_of columns condition) ≤ 257
+filter-ops : (columns : List NamedColumn) (condition : Option ExprShape) → InFilter IsSmall condition → ops_in_all (option_to_list (filter_of columns condition)) ≤ 257
 filter-ops columns None s = omega arith
 filter-ops columns (Some e) s =
     let one = term-ops columns (Unsigned 1) e in
@@ -116,7 +117,7 @@ can (shape.Rows pick condition source) sources most is a s =
     let narrow = own.result.most in
     let picks = pick-ops columns pick a.1.picks s.1 in
     let filters = filter-ops columns condition s.2 in
-    let both = ops-both (picked_terms columns pick) (conditions_of columns condition) in (
+    let both = ops-both (picked_terms columns pick) (option_to_list (filter_of columns condition)) in (
       can source sources most is a.0 s.0,
       record {
         rows = a.1;

@@ -1,5 +1,6 @@
 -- The figures of a query's plan are the query's.
 use Rattle.std.proofs.Common.{◌≡◌, ℕ, zero, suc, ◌+◌, ◌<◌, List, [], ◌∷◌, ◌++◌, length, Option, Some, None, refl, sym, ap, subst, ◌∙◌, arith, map, max}
+use Rattle.std.specs.Prelude.{is_some, option_map, option_to_list}
 use Rattle.std.specs.List.{range_with_len}
 use Rattle.gl_bits.specs.declared.kind.Kind.{Kind}
 use Rattle.gl_bits.specs.declared.kind.Kind.TheVariants.{Unsigned}
@@ -23,7 +24,7 @@ use Rattle.gl_algebra.proofs.PlanLemmas.{in_order}
 use Rattle.gl_terms.specs.Terms.{Term, Column, depth_of, depth_of_all, term_of}
 use Rattle.gl_terms.specs.Levels.{level_of, reduced, operand_of}
 use Rattle.gl_algebra.specs.Added.{Placed, added}
-use Rattle.gl_elaborate.specs.Plans.{levels, levelled, placed, condition_of, conditions_of, picked_terms, aggs_of, arguments_of, arguments_of_all, selected, rows_over, totals_over, column_under}
+use Rattle.gl_elaborate.specs.Plans.{levels, levelled, placed, condition_of, filter_of, picked_terms, aggs_of, arguments_of, arguments_of_all, selected, rows_over, totals_over, column_under, with_filter}
 use Rattle.gl_elaborate.specs.Fitting.{FitsNext, LevelsFit, SelectFits, RowsFit, TotalsFit}
 use Rattle.gl_elaborate.specs.Figures.{expr_depth, filter_depth, items_depth, pick_depth, condition_depth, agg_depth, aggs_depth, aggs_delay, computed_figures, filtered_figures, query_figures}
 use Rattle.gl_elaborate.proofs.PlacedLemmas.{IsOver, is_added}
@@ -63,9 +64,9 @@ pick-depth columns (shape.Items items) = each items
     each [] = refl
     each (i ∷ items) = λ k. max (term-depth columns (kind_alone i.expr) i.expr k) (each items k)
 
-conditions-depth : (columns : List NamedColumn) (condition : Option ExprShape) → depth_of_all (conditions_of columns condition) ≡ condition_depth condition
-conditions-depth columns None = refl
-conditions-depth columns (Some e) = let one = condition-depth columns e in omega arith
+filter-depth : (columns : List NamedColumn) (condition : Option ExprShape) → depth_of_all (option_to_list (filter_of columns condition)) ≡ condition_depth condition
+filter-depth columns None = refl
+filter-depth columns (Some e) = let one = condition-depth columns e in omega arith
 
 arguments-depth : (columns : List NamedColumn) (items : List AggItemShape) → depth_of_all (arguments_of_all columns items) ≡ aggs_depth items
 arguments-depth columns [] = refl
@@ -96,46 +97,41 @@ more p f n g h fits row =
     let new = is_added p.nodes n h.plan fits in
     record { plan = new.over.plan; is = new.figures ∙ row (shape_of p.nodes) (figures_of p.nodes) ∙ ap g h.is }
 
-levels-figures : (depth base : ℕ) (p : Placed) (f : Figures) (items conditions : List Term) → HasFigures p f → LevelsFit depth base p items conditions
-    → HasFigures (levels depth base p items conditions).at (computed_figures depth f)
-levels-figures zero base p f items conditions h fits = h
-levels-figures (suc depth) base p f items conditions h fits =
-    let level = level_of (items ++ conditions) in
+levels-figures : (depth base : ℕ) (p : Placed) (f : Figures) (items : List Term) (left : Option Term) → HasFigures p f → LevelsFit depth base p items left
+    → HasFigures (levels depth base p items left).at (computed_figures depth f)
+levels-figures zero base p f items left h fits = h
+levels-figures (suc depth) base p f items left h fits =
+    let level = level_of (with_filter items left) in
     levels-figures depth (base + length level) (added p.nodes (node.Compute p.root level)) (settled (delayed 1 f))
-    (map (reduced base level) items) (map (reduced base level) conditions)
+    (map (reduced base level) items) (option_map (reduced base level) left)
     (more p f (node.Compute p.root level) (λ x. settled (delayed 1 x)) h fits.0 (λ s v. refl)) fits.1
 
--- as many conditions as there are filters
-abbrev Same : Option ExprShape → List Term → Type 0
-Same None [] = Unit {0}
-Same None (t ∷ ts) = ⊥
-Same (Some e) [] = ⊥
-Same (Some e) (t ∷ ts) = Unit {0}
+-- there is a filter's term exactly where there is a filter
+abbrev Same : Option ExprShape → Option Term → Type 0
+Same condition left = is_some left ≡ is_some condition
 
-same-map : (condition : Option ExprShape) (f : Term → Term) (ts : List Term) → Same condition ts → Same condition (map f ts)
-same-map None f [] h = tt
-same-map None f (t ∷ ts) h = absurd h
-same-map (Some e) f [] h = absurd h
-same-map (Some e) f (t ∷ ts) h = tt
+same-map : (f : Term → Term) (left : Option Term) → is_some (option_map f left) ≡ is_some left
+same-map f None = refl
+same-map f (Some t) = refl
 
-same-levels : (depth base : ℕ) (p : Placed) (items conditions : List Term) (condition : Option ExprShape) → Same condition conditions
-    → Same condition (levels depth base p items conditions).conditions
-same-levels zero base p items conditions condition h = h
-same-levels (suc depth) base p items conditions condition h =
-    let level = level_of (items ++ conditions) in
-    same-levels depth (base + length level) (added p.nodes (node.Compute p.root level)) (map (reduced base level) items) (map (reduced base level) conditions)
-    condition (same-map condition (reduced base level) conditions h)
+same-levels : (depth base : ℕ) (p : Placed) (items : List Term) (left : Option Term) (condition : Option ExprShape) → Same condition left
+    → Same condition (levels depth base p items left).filter
+same-levels zero base p items left condition h = h
+same-levels (suc depth) base p items left condition h =
+    let level = level_of (with_filter items left) in
+    same-levels depth (base + length level) (added p.nodes (node.Compute p.root level)) (map (reduced base level) items) (option_map (reduced base level) left)
+    condition (same-map (reduced base level) left ∙ h)
 
-same-conditions : (columns : List NamedColumn) (condition : Option ExprShape) → Same condition (conditions_of columns condition)
-same-conditions columns None = tt
-same-conditions columns (Some e) = tt
+same-filter : (columns : List NamedColumn) (condition : Option ExprShape) → Same condition (filter_of columns condition)
+same-filter columns None = refl
+same-filter columns (Some e) = refl
 
-select-figures : (p : Placed) (f : Figures) (condition : Option ExprShape) (conditions : List Term) → HasFigures p f → Same condition conditions → SelectFits p conditions
-    → HasFigures (selected p conditions) (filtered_figures condition f)
-select-figures p f None [] h same fits = h
-select-figures p f None (t ∷ ts) h same fits = absurd same
-select-figures p f (Some e) [] h same fits = absurd same
-select-figures p f (Some e) (t ∷ ts) h same fits =
+select-figures : (p : Placed) (f : Figures) (condition : Option ExprShape) (left : Option Term) → HasFigures p f → Same condition left → SelectFits p left
+    → HasFigures (selected p left) (filtered_figures condition f)
+select-figures p f None None h same fits = h
+select-figures p f None (Some t) h same fits = absurd (cc)
+select-figures p f (Some e) None h same fits = absurd (cc)
+select-figures p f (Some e) (Some t) h same fits =
     more p f (node.Select p.root (column_under (operand_of t))) (λ x. settled (delayed 1 x)) h fits (λ s v. refl)
 
 rows-figures : (columns : List NamedColumn) (pick : PickShape) (condition : Option ExprShape) (p : Placed) (f : Figures) → HasFigures p f → RowsFit columns pick condition p
@@ -143,24 +139,24 @@ rows-figures : (columns : List NamedColumn) (pick : PickShape) (condition : Opti
     (settled (filtered_figures condition (computed_figures (max (pick_depth pick) (condition_depth condition)) f)))
 rows-figures columns pick condition p f h fits =
     let items = picked_terms columns pick in
-    let conditions = conditions_of columns condition in
-    let over = levelled (length columns) p items conditions in
-    let depth = depth-both items conditions ∙ (λ i. max (pick-depth columns pick i) (conditions-depth columns condition i)) in
+    let left = filter_of columns condition in
+    let over = levelled (length columns) p items left in
+    let depth = depth-both items (option_to_list left) ∙ (λ i. max (pick-depth columns pick i) (filter-depth columns condition i)) in
     let first = subst (λ (d : ℕ). HasFigures over.at (computed_figures d f)) depth
-    (levels-figures (depth_of_all (items ++ conditions)) (length columns) p f items conditions h fits.of_levels) in
-    let same = same-levels (depth_of_all (items ++ conditions)) (length columns) p items conditions condition (same-conditions columns condition) in
-    let second = select-figures over.at (computed_figures (max (pick_depth pick) (condition_depth condition)) f) condition over.conditions first same fits.of_select in
-    more (selected over.at over.conditions) (filtered_figures condition (computed_figures (max (pick_depth pick) (condition_depth condition)) f))
-    (node.Project (selected over.at over.conditions).root (map operand_of over.items)) settled second fits.of_project (λ s v. refl)
+    (levels-figures (depth_of_all (with_filter items left)) (length columns) p f items left h fits.of_levels) in
+    let same = same-levels (depth_of_all (with_filter items left)) (length columns) p items left condition (same-filter columns condition) in
+    let second = select-figures over.at (computed_figures (max (pick_depth pick) (condition_depth condition)) f) condition over.filter first same fits.of_select in
+    more (selected over.at over.filter) (filtered_figures condition (computed_figures (max (pick_depth pick) (condition_depth condition)) f))
+    (node.Project (selected over.at over.filter).root (map operand_of over.items)) settled second fits.of_project (λ s v. refl)
 
 totals-figures : (columns : List NamedColumn) (items : List AggItemShape) (p : Placed) (f : Figures) → HasFigures p f → TotalsFit columns items p → HasDelay columns items p
     → HasFigures (totals_over columns items p) (aggregate_figures (aggs_delay columns items) (computed_figures (aggs_depth items) f))
 totals-figures columns items p f h fits delay =
     let terms = arguments_of_all columns items in
-    let over = levelled (length columns) p terms [] in
+    let over = levelled (length columns) p terms None in
     let depth : depth_of_all (terms ++ []) ≡ aggs_depth items = (let d = depth-both terms [] in let e = arguments-depth columns items in omega arith) in
     let first = subst (λ (d : ℕ). HasFigures over.at (computed_figures d f)) depth
-    (levels-figures (depth_of_all (terms ++ [])) (length columns) p f terms [] h fits.of_levels) in
+    (levels-figures (depth_of_all (terms ++ [])) (length columns) p f terms None h fits.of_levels) in
     let aggs = node.Aggregate over.at.root (aggs_of columns items over.items) in
     let new = is_added over.at.nodes aggs first.plan fits.of_aggregate in
     record {

@@ -1,5 +1,6 @@
 -- A select over a node of a plan: its nodes fit, and its results are those of the select.
-use Rattle.std.proofs.Common.{◌≡◌, ℕ, zero, suc, ◌+◌, ◌%◌, ◌^◌, ◌<◌, ◌≤◌, Bool, true, List, [], ◌∷◌, ◌++◌, length, Option, Some, None, slice_get, get_or, slice_index, refl, sym, ap, subst, ◌∙◌, arith, map, filter, nat_eq, lit≤}
+use Rattle.std.proofs.Common.{◌≡◌, ℕ, zero, suc, ◌+◌, ◌%◌, ◌^◌, ◌<◌, ◌≤◌, Bool, true, List, [], ◌∷◌, length, Option, Some, None, slice_get, get_or, slice_index, refl, sym, ap, subst, ◌∙◌, arith, map, filter, nat_eq, lit≤}
+use Rattle.std.specs.Prelude.{option_to_list}
 use Rattle.std.specs.List.{AllByRecursion, AllZip, range_with_len}
 use Rattle.std.proofs.lemmas.List.{length-map}
 use Rattle.std.proofs.lemmas.Option.{slice_get-get_or}
@@ -27,7 +28,7 @@ use Rattle.gl_algebra.specs.Results.{Meaning}
 use Rattle.gl_algebra.specs.Results as algebra
 use Rattle.gl_terms.specs.Terms.{Term, Column, Literal, Not, Cast, Binary, IsTerm, term_of, term_kind, term_value, depth_of, depth_of_all}
 use Rattle.gl_terms.specs.Levels.{operand_of}
-use Rattle.gl_elaborate.specs.Plans.{projected, levelled, condition_of, conditions_of, picked_terms, column_under, selected, rows_over}
+use Rattle.gl_elaborate.specs.Plans.{projected, levelled, condition_of, filter_of, picked_terms, column_under, selected, rows_over, with_filter}
 use Rattle.gl_elaborate.specs.Fitting.{LevelledFit, SelectFits, ProjectFits, RowsFit}
 use Rattle.gl_terms.proofs.TermLemmas.{term-kind, term-value}
 use Rattle.gl_terms.proofs.AcceptedLemmas.{term-fits}
@@ -203,13 +204,13 @@ module _ (columns : List NamedColumn) (areKinds : AreKinds columns) (old : List 
   abbrev given : Shape
   given = record shape { kinds = kinds_of columns }
 
-  open_levels : (pick : PickShape) (conditions : List Term) → IsPick columns pick
-      → AllByRecursion (IsTerm (kinds_of columns)) conditions → AllByRecursion IsNoLiteral conditions
+  open_levels : (pick : PickShape) (left : Option Term) → IsPick columns pick
+      → AllByRecursion (IsTerm (kinds_of columns)) (option_to_list left) → AllByRecursion IsNoLiteral (option_to_list left)
       → Stands old at shape Means
-      → IsLevelled old given Means (picked_terms columns pick) conditions (levelled (length columns) at (picked_terms columns pick) conditions)
-      (LevelledFit (length columns) at (picked_terms columns pick) conditions)
-  open_levels pick conditions picks fits nl s =
-      levels-stand (depth_of_all (picked_terms columns pick ++ conditions)) (length columns) old at given Means (picked_terms columns pick) conditions
+      → IsLevelled old given Means (picked_terms columns pick) left (levelled (length columns) at (picked_terms columns pick) left)
+      (LevelledFit (length columns) at (picked_terms columns pick) left)
+  open_levels pick left picks fits nl s =
+      levels-stand (depth_of_all (with_filter (picked_terms columns pick) left)) (length columns) old at given Means (picked_terms columns pick) left
       (sym (length-map columns (λ c. c.kind))) (omega arith) (pick-fits columns areKinds pick picks) fits nl
       (subst (λ (k : List Kind). Stands old at (record shape { kinds = k }) Means) same s)
 
@@ -253,32 +254,32 @@ module _ (columns : List NamedColumn) (areKinds : AreKinds columns) (old : List 
             }),
       )
 
-  over_none : (pick : PickShape) (from : Placed) (items conditions : List Term) (Fit : Type 0)
-      → IsLevelled old given Means (picked_terms columns pick) [] (record { at = from; items = items; conditions = conditions }) Fit
-      → SelectFits from conditions × ProjectFits (selected from conditions) items
-      × Stands old (projected (selected from conditions) items) (record shape { kinds = kinds_of (picked_columns columns pick) })
+  over_none : (pick : PickShape) (from : Placed) (items : List Term) (left : Option Term) (Fit : Type 0)
+      → IsLevelled old given Means (picked_terms columns pick) None (record { at = from; items = items; filter = left }) Fit
+      → SelectFits from left × ProjectFits (selected from left) items
+      × Stands old (projected (selected from left) items) (record shape { kinds = kinds_of (picked_columns columns pick) })
       (λ inputs. IsPicked columns pick None (Means inputs))
-  over_none pick from items [] Fit l =
+  over_none pick from items None Fit l =
       let done = finish pick None shape.pace from l.kinds l.widen (λ row. true) items
       (weaker old from (record shape { kinds = l.kinds }) (λ inputs. IsChanged (Means inputs) (map l.widen))
       (λ inputs. IsChanged (IsChanged (Means inputs) (map l.widen)) (filter (λ row. true))) l.stands
       (λ inputs out spill r. record { rows = out; of_source = r; changed = unfiltered out }))
       l.of_items l.flat_items (λ row long. refl) in
       (tt, done.0, done.1)
-  over_none pick from items (t ∷ ts) Fit l = absurd l.of_conditions
+  over_none pick from items (Some t) Fit l = absurd l.of_filter
 
-  over_some : (pick : PickShape) (e : ExprShape) (from : Placed) (items conditions : List Term) (Fit : Type 0)
+  over_some : (pick : PickShape) (e : ExprShape) (from : Placed) (items : List Term) (left : Option Term) (Fit : Type 0)
       → IsCast (kinds_of columns) (term_of columns (Unsigned 1) e) (condition_of (term_of columns (Unsigned 1) e))
-      → IsLevelled old given Means (picked_terms columns pick) (conditions_of columns (Some e)) (record { at = from; items = items; conditions = conditions }) Fit
-      → SelectFits from conditions × ProjectFits (selected from conditions) items
-      × Stands old (projected (selected from conditions) items) (record shape { kinds = kinds_of (picked_columns columns pick); pace = unsteady })
+      → IsLevelled old given Means (picked_terms columns pick) (filter_of columns (Some e)) (record { at = from; items = items; filter = left }) Fit
+      → SelectFits from left × ProjectFits (selected from left) items
+      × Stands old (projected (selected from left) items) (record shape { kinds = kinds_of (picked_columns columns pick); pace = unsteady })
       (λ inputs. IsPicked columns pick (Some e) (Means inputs))
-  over_some pick e from items [] Fit is l = absurd l.of_conditions
-  over_some pick e from items (t ∷ ts) Fit is l =
-      let carried = l.of_conditions.0 in
-      let bit = flat-column l.kinds t (let d = l.flat_conditions in omega arith) carried.fits l.columns.0 (carried.kind ∙ is.kind) in
+  over_some pick e from items None Fit is l = absurd l.of_filter
+  over_some pick e from items (Some t) Fit is l =
+      let carried = l.of_filter.0 in
+      let bit = flat-column l.kinds t (let d = l.flat_filter in omega arith) carried.fits l.columns.0 (carried.kind ∙ is.kind) in
       let column = column_under (operand_of t) in
-      let done = finish pick (Some e) unsteady (selected from (t ∷ ts)) l.kinds l.widen (λ row. nat_eq (slice_index row column) 1) items
+      let done = finish pick (Some e) unsteady (selected from (Some t)) l.kinds l.widen (λ row. nat_eq (slice_index row column) 1) items
       (select-stands old from (record shape { kinds = l.kinds }) (λ inputs. IsChanged (Means inputs) (map l.widen)) l.stands column bit.is)
       l.of_items l.flat_items
       (λ row long. ap (λ (n : ℕ). nat_eq n 1)
@@ -292,12 +293,12 @@ module _ (columns : List NamedColumn) (areKinds : AreKinds columns) (old : List 
       × Stands old (rows_over columns pick condition at) (record shape { kinds = kinds_of (picked_columns columns pick); pace = pace_under condition shape.pace })
       (λ inputs. IsPicked columns pick condition (Means inputs))
   rows-stand pick None is s =
-      let opened = open_levels pick [] is.picks tt tt s in
+      let opened = open_levels pick None is.picks tt tt s in
       let done = over_none pick _ _ _ _ opened in
       (record { of_levels = opened.fit; of_select = done.0; of_project = done.1 }, done.2)
   rows-stand pick (Some e) is s =
       let fits = term-fits columns areKinds e (Unsigned 1) (lit≤ tt, lit≤ tt) is.filters.typed in
       let cast = condition (kinds_of columns) (term_of columns (Unsigned 1) e) fits (term-kind columns (Unsigned 1) e ∙ is.filters.bit) in
-      let opened = open_levels pick (conditions_of columns (Some e)) is.picks (cast.fits, tt) (cast.no, tt) s in
+      let opened = open_levels pick (filter_of columns (Some e)) is.picks (cast.fits, tt) (cast.no, tt) s in
       let done = over_some pick e _ _ _ _ cast opened in
       (record { of_levels = opened.fit; of_select = done.0; of_project = done.1 }, done.2)

@@ -1,5 +1,6 @@
 -- Levels over a node of a plan: their nodes fit, and what they make of a result of the node.
-use Rattle.std.proofs.Common.{◌≡◌, ℕ, zero, suc, ◌+◌, ◌<◌, ◌≤◌, Bool, true, List, [], ◌∷◌, ◌++◌, length, Some, slice_get, refl, sym, ap, subst, ◌∙◌, arith, map, All, length-append}
+use Rattle.std.proofs.Common.{◌≡◌, ℕ, zero, suc, ◌+◌, ◌<◌, ◌≤◌, Bool, true, List, [], ◌∷◌, ◌++◌, length, Option, Some, slice_get, refl, sym, ap, subst, ◌∙◌, arith, map, All, length-append}
+use Rattle.std.specs.Prelude.{option_map, option_to_list}
 use Rattle.std.specs.List.{AllByRecursion, AllZip}
 use Rattle.std.proofs.lemmas.List.{length-map, map-id}
 use Rattle.std.proofs.lemmas.List.Elements.{All-cons, All-nil, All-from_recursion}
@@ -19,9 +20,10 @@ use Rattle.gl_algebra.specs.Results.{Inputs, Meaning, IsPlanResult, meaning_from
 use Rattle.gl_algebra.proofs.ResultLemmas.{moved}
 use Rattle.gl_terms.specs.Terms.{Term, IsTerm, depth_of_all}
 use Rattle.gl_terms.specs.Levels.{innermost_of_all, level_of, reduced}
-use Rattle.gl_elaborate.specs.Plans.{Levelled, levels}
+use Rattle.gl_elaborate.specs.Plans.{Levelled, levels, with_filter}
 use Rattle.gl_elaborate.specs.Fitting.{LevelsFit}
 use Rattle.gl_elaborate.proofs.PlacedLemmas.{IsOver, over-then, is_added}
+use Rattle.gl_elaborate.proofs.StepLemmas.{listed}
 use Rattle.gl_terms.proofs.LevelLemmas.{Has, IsCarried, wider, all-carried, level-has, level-fits, length-computed}
 use Rattle.gl_terms.proofs.RoomLemmas.{innermost-both}
 use Rattle.gl_terms.proofs.DepthLemmas.{depth-reduced_all, depth-both, IsNoLiteral, all-no-literal}
@@ -166,24 +168,24 @@ zip-fits k k' w (x ∷ xs) (y ∷ ys) h = (h.0.fits, zip-fits k k' w xs ys h.1)
 
 -- ---- levels
 
-pub record IsLevelled (old : List PlanNode) (shape : Shape) (Means : Meaning) (items conditions : List Term) (over : Levelled) (Fit : Type 0) : Type 0 where
+pub record IsLevelled (old : List PlanNode) (shape : Shape) (Means : Meaning) (items : List Term) (filter : Option Term) (over : Levelled) (Fit : Type 0) : Type 0 where
   pub fit : Fit
   pub kinds : List Kind
   pub widen : Row → Row
   pub stands : Stands old over.at (record shape { kinds = kinds }) (λ inputs. IsChanged (Means inputs) (map widen))
   pub wide : (row : Row) → length row ≡ length shape.kinds → length (widen row) ≡ length kinds
   pub of_items : AllZip (IsCarried shape.kinds kinds widen) items over.items
-  pub of_conditions : AllZip (IsCarried shape.kinds kinds widen) conditions over.conditions
+  pub of_filter : AllZip (IsCarried shape.kinds kinds widen) (option_to_list filter) (option_to_list over.filter)
   pub flat_items : depth_of_all over.items ≡ 0
-  pub flat_conditions : depth_of_all over.conditions ≡ 0
-  pub columns : AllByRecursion IsNoLiteral over.conditions
+  pub flat_filter : depth_of_all (option_to_list over.filter) ≡ 0
+  pub columns : AllByRecursion IsNoLiteral (option_to_list over.filter)
 
-pub levels-stand : (depth base : ℕ) (old : List PlanNode) (at : Placed) (shape : Shape) (Means : Meaning) (items conditions : List Term)
-    → base ≡ length shape.kinds → depth_of_all (items ++ conditions) ≤ depth
-    → AllByRecursion (IsTerm shape.kinds) items → AllByRecursion (IsTerm shape.kinds) conditions → AllByRecursion IsNoLiteral conditions
-    → Stands old at shape Means → IsLevelled old shape Means items conditions (levels depth base at items conditions) (LevelsFit depth base at items conditions)
-levels-stand zero base old at shape Means items conditions same deep fits fits' columns s =
-    let both = depth-both items conditions in
+pub levels-stand : (depth base : ℕ) (old : List PlanNode) (at : Placed) (shape : Shape) (Means : Meaning) (items : List Term) (filter : Option Term)
+    → base ≡ length shape.kinds → depth_of_all (with_filter items filter) ≤ depth
+    → AllByRecursion (IsTerm shape.kinds) items → AllByRecursion (IsTerm shape.kinds) (option_to_list filter) → AllByRecursion IsNoLiteral (option_to_list filter)
+    → Stands old at shape Means → IsLevelled old shape Means items filter (levels depth base at items filter) (LevelsFit depth base at items filter)
+levels-stand zero base old at shape Means items filter same deep fits fits' columns s =
+    let both = depth-both items (option_to_list filter) in
     record {
       fit = tt;
       kinds = shape.kinds;
@@ -192,13 +194,16 @@ levels-stand zero base old at shape Means items conditions same deep fits fits' 
           (λ inputs out spill r. record { rows = out; of_source = r; changed = sym (map-id out) });
       wide = λ row e. e;
       of_items = zip-self shape.kinds items fits;
-      of_conditions = zip-self shape.kinds conditions fits';
+      of_filter = zip-self shape.kinds (option_to_list filter) fits';
       flat_items = omega arith;
-      flat_conditions = omega arith;
+      flat_filter = omega arith;
       columns = columns;
     }
-levels-stand (suc depth) base old at shape Means items conditions same deep fits fits' columns s =
+levels-stand (suc depth) base old at shape Means items filter same deep fits fits' columns s =
+    let conditions = option_to_list filter in
     let level = level_of (items ++ conditions) in
+    let left = option_map (reduced base level) filter in
+    let as_list : option_to_list left ≡ map (reduced base level) conditions = listed (reduced base level) filter in
     let next = added at.nodes (node.Compute at.root level) in
     let kinds' = wider shape.kinds level in
     let w = computed shape.kinds level in
@@ -208,19 +213,21 @@ levels-stand (suc depth) base old at shape Means items conditions same deep fits
     let made : AllZip (IsCarried shape.kinds kinds' w) items (map (reduced base level) items) =
     subst (λ (b : ℕ). AllZip (IsCarried shape.kinds kinds' w) items (map (reduced b level) items)) (sym same)
     (all-carried shape.kinds level items fits (all_front (Has level) (innermost_of_all items) (innermost_of_all conditions) has)) in
-    let made' : AllZip (IsCarried shape.kinds kinds' w) conditions (map (reduced base level) conditions) =
-    subst (λ (b : ℕ). AllZip (IsCarried shape.kinds kinds' w) conditions (map (reduced b level) conditions)) (sym same)
-    (all-carried shape.kinds level conditions fits' (all_back (Has level) (innermost_of_all items) (innermost_of_all conditions) has)) in
+    let made' : AllZip (IsCarried shape.kinds kinds' w) conditions (option_to_list left) =
+    subst (AllZip (IsCarried shape.kinds kinds' w) conditions) (sym as_list)
+    (subst (λ (b : ℕ). AllZip (IsCarried shape.kinds kinds' w) conditions (map (reduced b level) conditions)) (sym same)
+    (all-carried shape.kinds level conditions fits' (all_back (Has level) (innermost_of_all items) (innermost_of_all conditions) has))) in
     let a = depth-reduced_all base level items in
     let b = depth-reduced_all base level conditions in
     let before = depth-both items conditions in
-    let after = depth-both (map (reduced base level) items) (map (reduced base level) conditions) in
-    let less : depth_of_all (map (reduced base level) items ++ map (reduced base level) conditions) ≤ depth = omega arith in
+    let after = depth-both (map (reduced base level) items) (option_to_list left) in
+    let shallow = ap depth_of_all as_list in
+    let less : depth_of_all (with_filter (map (reduced base level) items) left) ≤ depth = omega arith in
     let rest = levels-stand depth (base + length level) old next (record shape { kinds = kinds' })
-    (λ inputs. IsChanged (Means inputs) (map w)) (map (reduced base level) items) (map (reduced base level) conditions)
+    (λ inputs. IsChanged (Means inputs) (map w)) (map (reduced base level) items) left
     base' less (zip-fits shape.kinds kinds' w items (map (reduced base level) items) made)
-    (zip-fits shape.kinds kinds' w conditions (map (reduced base level) conditions) made')
-    (all-no-literal base level conditions columns)
+    (zip-fits shape.kinds kinds' w conditions (option_to_list left) made')
+    (subst (AllByRecursion IsNoLiteral) (sym as_list) (all-no-literal base level conditions columns))
     (compute-stands old at shape Means s level (level-fits shape.kinds (items ++ conditions) all)) in
     record {
       fit = (compute-fits old at shape Means s level (level-fits shape.kinds (items ++ conditions) all), rest.fit);
@@ -232,9 +239,9 @@ levels-stand (suc depth) base old at shape Means items conditions same deep fits
       wide = λ row e. rest.wide (w row) (length-computed shape.kinds level row e);
       of_items = zip-then shape.kinds kinds' rest.kinds w rest.widen items (map (reduced base level) items) _
           (λ row e. length-computed shape.kinds level row e) made rest.of_items;
-      of_conditions = zip-then shape.kinds kinds' rest.kinds w rest.widen conditions (map (reduced base level) conditions) _
-          (λ row e. length-computed shape.kinds level row e) made' rest.of_conditions;
+      of_filter = zip-then shape.kinds kinds' rest.kinds w rest.widen conditions (option_to_list left) _
+          (λ row e. length-computed shape.kinds level row e) made' rest.of_filter;
       flat_items = rest.flat_items;
-      flat_conditions = rest.flat_conditions;
+      flat_filter = rest.flat_filter;
       columns = rest.columns;
     }

@@ -1,5 +1,5 @@
 -- Totals over a node of a plan.
-use Rattle.std.proofs.Common.{◌≡◌, ℕ, ◌+◌, ◌^◌, ◌<◌, Bool, true, List, [], ◌∷◌, ◌++◌, length, refl, sym, ap, subst, ◌∙◌, arith, map, max}
+use Rattle.std.proofs.Common.{◌≡◌, ℕ, ◌+◌, ◌^◌, ◌<◌, Bool, true, List, [], ◌∷◌, ◌++◌, length, None, refl, sym, ap, subst, ◌∙◌, arith, map, max}
 use Rattle.std.specs.List.{AllByRecursion, AllZip, All}
 use Rattle.std.proofs.lemmas.List.{length-map}
 use Rattle.std.proofs.lemmas.List.Elements.{All-from_recursion}
@@ -214,7 +214,7 @@ pub record IsTotalled (columns : List NamedColumn) (items : List AggItemShape) (
 -- the node of the aggregates has their delay
 abbrev pub HasDelay : List NamedColumn → List AggItemShape → Placed → Type 0
 HasDelay columns items at =
-    let over = levelled (length columns) at (arguments_of_all columns items) [] in
+    let over = levelled (length columns) at (arguments_of_all columns items) None in
     delay_of_aggs (shape_of over.at.nodes over.at.root).kinds (aggs_of columns items over.items) ≡ aggs_delay columns items
 
 module _ (columns : List NamedColumn) (areKinds : AreKinds columns) (old : List PlanNode) (at : Placed) (shape : Shape) (Means : Meaning)
@@ -227,10 +227,10 @@ module _ (columns : List NamedColumn) (areKinds : AreKinds columns) (old : List 
       (λ inputs. IsTotalled columns items (Means inputs))
   totals-stand items h s =
       let terms = arguments_of_all columns items in
-      let l = levels-stand (depth_of_all (terms ++ [])) (length columns) old at (record shape { kinds = kinds_of columns }) Means terms []
+      let l = levels-stand (depth_of_all (terms ++ [])) (length columns) old at (record shape { kinds = kinds_of columns }) Means terms None
       (sym (length-map columns (λ c. c.kind))) (omega arith) (arguments-fit columns areKinds items h) tt tt
       (subst (λ (k : List Kind). Stands old at (record shape { kinds = k }) Means) same s) in
-      let over = levelled (length columns) at terms [] in
+      let over = levelled (length columns) at terms None in
       let all = aggregates columns areKinds l.kinds l.widen items over.items h l.of_items l.flat_items in
       let aggs = aggs_of columns items over.items in
       let stood = aggregate-stands old over.at (record shape { kinds = l.kinds }) (λ inputs. IsChanged (Means inputs) (map l.widen)) l.stands aggs all.0 in

@@ -1,5 +1,5 @@
 -- The nodes that a plan of a query is made of fit, each where it is added.
-use Rattle.std.specs.Prelude.{◌≡◌, ℕ, zero, suc, ◌+◌, ◌<◌, ◌≤◌, List, [], ◌∷◌, ◌++◌, map, length, Option, Some, None}
+use Rattle.std.specs.Prelude.{◌≡◌, ℕ, zero, suc, ◌+◌, ◌<◌, ◌≤◌, List, map, length, Option, Some, None, option_map}
 use Rattle.gl_bits.specs.declared.kind.Kind.TheVariants.{Unsigned}
 use Rattle.gl_schema.specs.declared.schema.Column.{Column as NamedColumn}
 use Rattle.gl_query.specs.Shapes.{ExprShape, PickShape, AggItemShape, QueryShape}
@@ -17,50 +17,50 @@ use Rattle.gl_algebra.specs.Fits.{Fits}
 use Rattle.gl_algebra.specs.Added.{Placed, added}
 use Rattle.gl_terms.specs.Terms.{Term, depth_of_all, ops_in_all, term_of, IsTerm}
 use Rattle.gl_terms.specs.Levels.{level_of, reduced, operand_of}
-use Rattle.gl_elaborate.specs.Plans.{levelled, selected, column_under, picked_terms, conditions_of, arguments_of_all, aggs_of, placed}
+use Rattle.gl_elaborate.specs.Plans.{levelled, selected, column_under, picked_terms, filter_of, with_filter, arguments_of_all, aggs_of, placed}
 
 -- a node fits behind these
 abbrev pub FitsNext : List PlanNode → PlanNode → Type 0
 FitsNext nodes n = Fits nodes (length nodes) n
 
-abbrev pub LevelsFit : ℕ → ℕ → Placed → List Term → List Term → Type 0
-LevelsFit zero base at items conditions = Unit {0}
-LevelsFit (suc depth) base at items conditions =
-    let level = level_of (items ++ conditions) in
+abbrev pub LevelsFit : ℕ → ℕ → Placed → List Term → Option Term → Type 0
+LevelsFit zero base at items filter = Unit {0}
+LevelsFit (suc depth) base at items filter =
+    let level = level_of (with_filter items filter) in
     FitsNext at.nodes (node.Compute at.root level)
-    × LevelsFit depth (base + length level) (added at.nodes (node.Compute at.root level)) (map (reduced base level) items) (map (reduced base level) conditions)
+    × LevelsFit depth (base + length level) (added at.nodes (node.Compute at.root level)) (map (reduced base level) items) (option_map (reduced base level) filter)
 
-abbrev pub LevelledFit : ℕ → Placed → List Term → List Term → Type 0
-LevelledFit base at items conditions = LevelsFit (depth_of_all (items ++ conditions)) base at items conditions
+abbrev pub LevelledFit : ℕ → Placed → List Term → Option Term → Type 0
+LevelledFit base at items filter = LevelsFit (depth_of_all (with_filter items filter)) base at items filter
 
-abbrev pub SelectFits : Placed → List Term → Type 0
-SelectFits at [] = Unit {0}
-SelectFits at (t ∷ ts) = FitsNext at.nodes (node.Select at.root (column_under (operand_of t)))
+abbrev pub SelectFits : Placed → Option Term → Type 0
+SelectFits at None = Unit {0}
+SelectFits at (Some t) = FitsNext at.nodes (node.Select at.root (column_under (operand_of t)))
 
 abbrev pub ProjectFits : Placed → List Term → Type 0
 ProjectFits at items = FitsNext at.nodes (node.Project at.root (map operand_of items))
 
 -- the nodes of a select
 pub record RowsFit (columns : List NamedColumn) (pick : PickShape) (filter : Option ExprShape) (at : Placed) : Type 0 where
-  pub of_levels : LevelledFit (length columns) at (picked_terms columns pick) (conditions_of columns filter)
+  pub of_levels : LevelledFit (length columns) at (picked_terms columns pick) (filter_of columns filter)
   pub of_select :
-      let over = levelled (length columns) at (picked_terms columns pick) (conditions_of columns filter) in SelectFits over.at over.conditions
+      let over = levelled (length columns) at (picked_terms columns pick) (filter_of columns filter) in SelectFits over.at over.filter
   pub of_project :
-      let over = levelled (length columns) at (picked_terms columns pick) (conditions_of columns filter) in
-      ProjectFits (selected over.at over.conditions) over.items
+      let over = levelled (length columns) at (picked_terms columns pick) (filter_of columns filter) in
+      ProjectFits (selected over.at over.filter) over.items
 
 -- one level done: the same levels come of what is left, whose nodes fit and whose columns have room
-pub record IsStep (base : ℕ) (at : Placed) (items conditions : List Term) (base' : ℕ) (at' : Placed) (items' conditions' : List Term) : Type 0 where
-  pub same : levelled base' at' items' conditions' ≡ levelled base at items conditions
-  pub fit : LevelledFit base' at' items' conditions'
-  pub room : base' + ops_in_all (items' ++ conditions') < 65536
-  pub less : depth_of_all (items' ++ conditions') < depth_of_all (items ++ conditions)
+pub record IsStep (base : ℕ) (at : Placed) (items : List Term) (filter : Option Term) (base' : ℕ) (at' : Placed) (items' : List Term) (filter' : Option Term) : Type 0 where
+  pub same : levelled base' at' items' filter' ≡ levelled base at items filter
+  pub fit : LevelledFit base' at' items' filter'
+  pub room : base' + ops_in_all (with_filter items' filter') < 65536
+  pub less : depth_of_all (with_filter items' filter') < depth_of_all (with_filter items filter)
 
 -- the nodes of a total
 pub record TotalsFit (columns : List NamedColumn) (items : List AggItemShape) (at : Placed) : Type 0 where
-  pub of_levels : LevelledFit (length columns) at (arguments_of_all columns items) []
+  pub of_levels : LevelledFit (length columns) at (arguments_of_all columns items) None
   pub of_aggregate :
-      let over = levelled (length columns) at (arguments_of_all columns items) [] in
+      let over = levelled (length columns) at (arguments_of_all columns items) None in
       FitsNext over.at.nodes (node.Aggregate over.at.root (aggs_of columns items over.items))
 
 -- the nodes of a query
@@ -101,7 +101,7 @@ pub record CanPlaceRows (columns : List NamedColumn) (pick : PickShape) (filter 
   pub rows : IsRows columns pick filter
   pub terms : AllByRecursion (IsTerm (kinds_of columns)) (picked_terms columns pick)
   pub filter_term : FilterTerm columns filter
-  pub room : length columns + ops_in_all (picked_terms columns pick ++ conditions_of columns filter) < 65536
+  pub room : length columns + ops_in_all (with_filter (picked_terms columns pick) (filter_of columns filter)) < 65536
 
 pub record CanPlaceTotal (columns : List NamedColumn) (items : List AggItemShape) : Type 0 where
   pub typed : AllByRecursion (λ (i : AggItemShape). IsAgg columns i.agg) items

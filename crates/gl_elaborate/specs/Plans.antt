@@ -1,5 +1,5 @@
 -- The plan of a query: its source first, then its body, then its own nodes, each added to a plan.
-use Rattle.std.specs.Prelude.{ℕ, zero, suc, ◌+◌, List, [], ◌∷◌, ◌++◌, map, length, Option, Some, None, bytes_eq}
+use Rattle.std.specs.Prelude.{ℕ, zero, suc, ◌+◌, List, [], ◌∷◌, ◌++◌, map, length, Option, Some, None, option_map, option_to_list, bytes_eq}
 use Rattle.std.specs.List.{position_or_len, range_with_len}
 use Rattle.gl_bits.specs.Words.{Word}
 use Rattle.gl_bits.specs.Kinds.{width_of}
@@ -24,23 +24,27 @@ use Rattle.gl_algebra.specs.Added.{Placed, added, placed_at}
 use Rattle.gl_terms.specs.Terms.{Term, Column, Literal, Not, Cast, Binary, term_of, depth_of_all}
 use Rattle.gl_terms.specs.Levels.{level_of, reduced, operand_of}
 
--- what the levels give over a node: the last of their nodes, and terms that are left of the items and of the conditions
+-- what the levels give over a node: the last of their nodes, and terms that are left of the items and of the filter, if there is one
 pub record Levelled : Type 0 where
   pub at : Placed
   pub items : List Term
-  pub conditions : List Term
+  pub filter : Option Term
+
+-- the items, and the filter behind them
+abbrev pub with_filter : List Term → Option Term → List Term
+with_filter items filter = items ++ option_to_list filter
 
 -- so many levels over a node with `base` columns
-abbrev pub levels : ℕ → ℕ → Placed → List Term → List Term → Levelled
-levels zero base at items conditions = record { at = at; items = items; conditions = conditions }
-levels (suc depth) base at items conditions =
-    let level = level_of (items ++ conditions) in
+abbrev pub levels : ℕ → ℕ → Placed → List Term → Option Term → Levelled
+levels zero base at items filter = record { at = at; items = items; filter = filter }
+levels (suc depth) base at items filter =
+    let level = level_of (with_filter items filter) in
     levels depth (base + length level) (added at.nodes (node.Compute at.root level))
-    (map (reduced base level) items) (map (reduced base level) conditions)
+    (map (reduced base level) items) (option_map (reduced base level) filter)
 
 -- as many as the terms are deep
-abbrev pub levelled : ℕ → Placed → List Term → List Term → Levelled
-levelled base at items conditions = levels (depth_of_all (items ++ conditions)) base at items conditions
+abbrev pub levelled : ℕ → Placed → List Term → Option Term → Levelled
+levelled base at items filter = levels (depth_of_all (with_filter items filter)) base at items filter
 
 -- ---- selects
 
@@ -52,9 +56,8 @@ condition_of (Not t) = Not t
 condition_of (Cast t kind) = Cast t kind
 condition_of (Binary op l r) = Binary op l r
 
-abbrev pub conditions_of : List NamedColumn → Option ExprShape → List Term
-conditions_of columns None = []
-conditions_of columns (Some e) = condition_of (term_of columns (Unsigned 1) e) ∷ []
+abbrev pub filter_of : List NamedColumn → Option ExprShape → Option Term
+filter_of columns filter = option_map (λ e. condition_of (term_of columns (Unsigned 1) e)) filter
 
 -- every column, or the items
 abbrev pub picked_terms : List NamedColumn → PickShape → List Term
@@ -65,18 +68,18 @@ abbrev pub column_under : Operand → ℕ
 column_under (operand.Column column) = column
 column_under (operand.Literal word kind) = 0
 
--- the rows for which the conditions, at most one, are 1
-abbrev pub selected : Placed → List Term → Placed
-selected at [] = at
-selected at (t ∷ ts) = added at.nodes (node.Select at.root (column_under (operand_of t)))
+-- the rows for which the filter, if there is one, is 1
+abbrev pub selected : Placed → Option Term → Placed
+selected at None = at
+selected at (Some t) = added at.nodes (node.Select at.root (column_under (operand_of t)))
 
 abbrev pub projected : Placed → List Term → Placed
 projected at items = added at.nodes (node.Project at.root (map operand_of items))
 
 abbrev pub rows_over : List NamedColumn → PickShape → Option ExprShape → Placed → Placed
 rows_over columns pick filter at =
-    let over = levelled (length columns) at (picked_terms columns pick) (conditions_of columns filter) in
-    projected (selected over.at over.conditions) over.items
+    let over = levelled (length columns) at (picked_terms columns pick) (filter_of columns filter) in
+    projected (selected over.at over.filter) over.items
 
 -- ---- totals
 
@@ -129,7 +132,7 @@ aggs_of columns (i ∷ items) terms = agg_over columns i.agg terms ∷ aggs_of c
 
 abbrev pub totals_over : List NamedColumn → List AggItemShape → Placed → Placed
 totals_over columns aggs at =
-    let over = levelled (length columns) at (arguments_of_all columns aggs) [] in
+    let over = levelled (length columns) at (arguments_of_all columns aggs) None in
     added over.at.nodes (node.Aggregate over.at.root (aggs_of columns aggs over.items))
 
 -- ---- queries
@@ -171,5 +174,5 @@ abbrev pub plan_of : Schema → Statement → Placed
 plan_of schema statement = placed (stream_node schema.streams) schema.streams (query_shape statement.query) []
 
 -- the parts of what the levels give, as code has them
-abbrev pub levelled_at : List PlanNode → ℕ → List Term → List Term → Levelled
-levelled_at nodes root items conditions = record { at = placed_at nodes root; items = items; conditions = conditions }
+abbrev pub levelled_at : List PlanNode → ℕ → List Term → Option Term → Levelled
+levelled_at nodes root items filter = record { at = placed_at nodes root; items = items; filter = filter }

@@ -11,7 +11,7 @@ ghost use Rattle.gl_algebra.specs.Added.{placed_at};
 ghost use Rattle.gl_terms.specs.Terms.{IsTerm, Column as TermColumn};
 ghost use Rattle.gl_terms.specs.Levels.{operand_of};
 ghost use Rattle.gl_terms.specs.Trees.{term};
-ghost use Rattle.gl_elaborate.specs.Plans.{column_under, condition_of, conditions_of, picked_terms, projected, rows_over, selected};
+ghost use Rattle.gl_elaborate.specs.Plans.{column_under, condition_of, filter_of, picked_terms, projected, rows_over, selected};
 ghost use Rattle.gl_elaborate.specs.Fitting.{CanPlaceRows, FilterTerm, ProjectFits, RowsFit, SelectFits};
 
 use crate::levels::{levelled, put};
@@ -92,24 +92,25 @@ fn condition_tree(alloc: Global, tree: Tree) -> Result<Tree, Memory>
     }
 }
 
-// The trees of a filter, one at most.
-fn condition_trees(
+// The tree of a filter, if there is one.
+fn filter_tree(
     alloc: Global,
     columns: &[Column],
     filter: &Option<Expr>,
-) -> Result<Vec<Tree>, Memory>
+) -> Result<Option<Tree>, Memory>
     requires typed { IsFilter columns.now (option_map expr_shape filter.now) }
     requires fits { FilterTerm columns.now (option_map expr_shape filter.now) }
     requires most { length columns.now < 65536 }
-    ensures { IfOk result (λ trees.
-        map term trees.items ≡ conditions_of columns.now (option_map expr_shape filter.now)) }
+    ensures { IfOk result (λ tree.
+        option_map term tree ≡ filter_of columns.now (option_map expr_shape filter.now)) }
 {
-    let mut trees = Vec::new(alloc);
-    if let Some(expr) = filter {
-        let tree = tree_of(alloc, columns, Kind::Unsigned(1), expr)?;
-        trees.push(condition_tree(alloc, tree)?)?;
+    match filter {
+        Some(expr) => {
+            let tree = tree_of(alloc, columns, Kind::Unsigned(1), expr)?;
+            Ok(Some(condition_tree(alloc, tree)?))
+        }
+        None => Ok(None),
     }
-    Ok(trees)
 }
 
 // The operands of trees of depth 0.
@@ -134,13 +135,13 @@ fn column_under(tree: &Tree) -> u16
     }
 }
 
-// Selects the rows for which the conditions, at most one, are 1.
-fn select(plan: &mut Plan, at: PlanId, conditions: &[Tree]) -> Result<PlanId, Memory>
-    requires { SelectFits (placed_at plan.old at) (map term conditions.now) }
+// Selects the rows for which the filter, if there is one, is 1.
+fn select(plan: &mut Plan, at: PlanId, filter: &Option<Tree>) -> Result<PlanId, Memory>
+    requires { SelectFits (placed_at plan.old at) (option_map term filter.now) }
     ensures { IfOk result (λ id.
-        placed_at plan.new id ≡ selected (placed_at plan.old at) (map term conditions.now)) }
+        placed_at plan.new id ≡ selected (placed_at plan.old at) (option_map term filter.now)) }
 {
-    match conditions.first() {
+    match filter {
         Some(condition) => put(
             plan,
             PlanNode::Select {
@@ -181,9 +182,9 @@ pub fn rows_over(
         (placed_at plan.old at)) }
 {
     let mut items = picked_trees(alloc, columns, pick)?;
-    let mut conditions = condition_trees(alloc, columns, filter)?;
+    let mut condition = filter_tree(alloc, columns, filter)?;
     let base = columns.len() as u16;
-    let over = levelled(alloc, plan, at, base, &mut items, &mut conditions)?;
-    let kept = select(plan, over, &conditions)?;
+    let over = levelled(alloc, plan, at, base, &mut items, &mut condition)?;
+    let kept = select(plan, over, &condition)?;
     project(alloc, plan, kept, &items)
 }

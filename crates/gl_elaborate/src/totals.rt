@@ -222,7 +222,7 @@ pub fn totals_over(
 {
     let mut trees = Vec::new(alloc);
     push_arguments(alloc, columns, items, &mut trees)?;
-    let mut none: Vec<Tree> = Vec::new(alloc);
+    let mut none: Option<Tree> = None;
     let over = levelled(alloc, plan, at, columns.len() as u16, &mut trees, &mut none)?;
     let mut aggs = Listed::new(alloc);
     push_aggs(alloc, columns, items, &trees, &mut aggs)?;

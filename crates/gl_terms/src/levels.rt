@@ -1,6 +1,6 @@
 //! Levels of operations.
 
-ghost use Rattle.std.specs.Prelude.{◌≡◌, ◌+◌, ◌++◌, ◌<◌, ◌≤◌, ◌↔◌, IfOk, IsTrue, OnOk, length, map};
+ghost use Rattle.std.specs.Prelude.{◌≡◌, ◌+◌, ◌++◌, ◌<◌, ◌≤◌, ◌↔◌, IfOk, IsTrue, OnOk, length, map, option_map, option_to_list};
 ghost use Rattle.std.specs.List.{position_or_len};
 ghost use Rattle.indexmap.specs.IndexSet.{insert_all, insert_key};
 ghost use Rattle.gl_terms.specs.Terms.{depth_of_all};
@@ -101,6 +101,29 @@ pub fn reduce_all(base: u16, level: &IndexSet<ColOp>, trees: &mut [Tree])
     reduce_all(base, level, rest)
 }
 
+/// Makes columns of the innermost operations of a tree, where there is one, all of which are in a
+/// level behind `base` columns.
+pub fn reduce_some(base: u16, level: &IndexSet<ColOp>, tree: &mut Option<Tree>)
+    requires { base + length level.now.keys < 65536 }
+    ensures { option_map term tree.new
+        ≡ option_map (reduced base level.now.keys) (option_map term tree.old) }
+{
+    match tree {
+        Some(tree) => reduce(base, level, tree),
+        None => {}
+    }
+}
+
+/// Whether a tree, where there is one, is a column or literal.
+pub fn is_flat(tree: &Option<Tree>) -> bool
+    ensures { IsTrue result ↔ (depth_of_all (option_to_list (option_map term tree.now)) ≡ 0) }
+{
+    match tree {
+        Some(tree) => leaf_of(tree).is_some(),
+        None => true,
+    }
+}
+
 /// Whether all trees are columns or literals.
 pub fn are_flat(trees: &[Tree]) -> bool
     ensures { IsTrue result ↔ (depth_of_all (map term trees.now) ≡ 0) }
@@ -111,18 +134,31 @@ pub fn are_flat(trees: &[Tree]) -> bool
     leaf_of(first).is_some() && are_flat(rest)
 }
 
-/// The innermost operations of items and conditions, each once.
+// Inserts the innermost operations of a tree, where there is one.
+fn gather_some(tree: &Option<Tree>, level: &mut IndexSet<ColOp>) -> Result<(), Memory>
+    ensures { OnOk result
+        (level.new.keys
+        ≡ insert_all same_op level.old.keys
+        (innermost_of_all (option_to_list (option_map term tree.now)))) }
+{
+    match tree {
+        Some(tree) => gather(tree, level),
+        None => Ok(()),
+    }
+}
+
+/// The innermost operations of items and of a filter, each once.
 pub fn level_over(
     alloc: Global,
     items: &[Tree],
-    conditions: &[Tree],
+    filter: &Option<Tree>,
 ) -> Result<IndexSet<ColOp>, Memory>
     ensures { IfOk result (λ level.
-        level.keys ≡ level_of (map term items.now ++ map term conditions.now)) }
+        level.keys ≡ level_of (map term items.now ++ option_to_list (option_map term filter.now))) }
 {
     let mut level = IndexSet::new(alloc);
     gather_all(items, &mut level)?;
-    gather_all(conditions, &mut level)?;
+    gather_some(filter, &mut level)?;
     Ok(level)
 }
 

@@ -11,6 +11,6 @@ pub mod levels;
 pub mod terms;
 pub mod trees;
 
-pub use levels::{are_flat, level_over, ops_of, reduce_all};
+pub use levels::{are_flat, is_flat, level_over, ops_of, reduce_all, reduce_some};
 pub use terms::tree_of;
 pub use trees::{Tree, operand_of};
