@@ -1,5 +1,6 @@
 -- The compiled query of the load, run.
-use Rattle.std.proofs.Common.{◌≡◌, ℕ, List, [], Some, sym, ap, subst, ◌∙◌}
+use Rattle.std.proofs.Common.{◌≡◌, ◌↔◌, ℕ, List, [], Some, Result, Ok, Err, refl, sym, ap, subst, ◌∙◌}
+use Rattle.std.specs.Prelude.{IfOk, IsOk}
 use Rattle.gl_bits.specs.declared.kind.Kind.{Kind}
 use Rattle.gl_schema.specs.declared.schema.Schema.{Schema}
 use Rattle.gl_schema.specs.Schemas.{kinds_of}
@@ -48,6 +49,11 @@ ran_load c beats text schema kinds old new is a b d none h = λ m value word has
         subst (λ (x : List ℕ). OfEachRun x load_schema beats Zero (λ outs port. Writes (kinds_of (result_columns load_schema c.statement)) beats outs port (Some []) (Some new.bytes))) a (
         subst (λ (x : Schema). OfEachRun text x beats Zero (λ outs port. Writes (kinds_of (result_columns load_schema c.statement)) beats outs port (Some []) (Some new.bytes))) (b ∙ is.schema) (
         subst (λ (x : List Kind). OfEachRun text schema beats Zero (λ outs port. Writes x beats outs port (Some []) (Some new.bytes))) (d ∙ is.columns) before))
+
+-- what holds of the sink of a run that came to its end
+pub where_ended : {E D : Type 0} (P : Kept → Type 0) (r : Result Kept E) (sink : Kept) → (IsOk r ↔ D) → IfOk r (λ kept. kept ≡ sink) → (D → P sink) → IfOk r P
+where_ended P (Ok kept) sink done same h = subst P (sym same) (h (done.0 refl))
+where_ended P (Err e) sink done same h = tt
 
 -- and what is told of them is told of each run
 pub loaded : (count : ℕ) (c : Compiled) (lines kept summary : List ℕ) → IsCompiledLoad c → AreRunLines c (load_beats count) kept → lines ≡ kept → summary ≡ summary_of count lines → IsLoad count summary c.text.items

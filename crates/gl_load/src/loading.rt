@@ -1,6 +1,6 @@
 //! The load: compiled, run and told.
 
-ghost use Rattle.std.specs.Prelude.{◌≡◌, ◌≤◌, IfOk};
+ghost use Rattle.std.specs.Prelude.{◌≡◌, ◌↔◌, ◌≤◌, IfOk, IsOk};
 ghost use Rattle.gl_schema.specs.Beats.{AreBeats, KeepsGap};
 ghost use Rattle.gl_tuples.specs.Gaps.{plain_beats};
 ghost use Rattle.gl_load_query.specs.Query.{load_schema};
@@ -65,6 +65,17 @@ fn compile_load(alloc: Global, schema: Schema) -> Result<Compiled, Memory>
     }
 }
 
+// The sink of a run that came to its end. The sink fails for want of memory alone.
+fn ended(outcome: Outcome, sink: TextSink) -> Result<TextSink, Memory>
+    ensures done { IsOk result ↔ (outcome ≡ Outcome.Done) }
+    ensures same { IfOk result (λ kept. kept ≡ sink) }
+{
+    match outcome {
+        Outcome::Done => Ok(sink),
+        Outcome::WriteFault | Outcome::Memory => Err(Memory),
+    }
+}
+
 // What running the text over the beats writes.
 fn run(alloc: Global, compiled: &Compiled, beats: &Beats) -> Result<TextSink, Memory>
     requires compiled { IsCompiledLoad compiled.now }
@@ -83,11 +94,7 @@ fn run(alloc: Global, compiled: &Compiled, beats: &Beats) -> Result<TextSink, Me
         Start::Zero,
         &mut sink,
     );
-    match outcome {
-        Outcome::Done => Ok(sink),
-        // The sink fails for want of memory alone.
-        Outcome::WriteFault | Outcome::Memory => Err(Memory),
-    }
+    ended(outcome, sink)
 }
 
 /// Compiles the query of the load, runs its text over so many tuples from registers and words of 0,
