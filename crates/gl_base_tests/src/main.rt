@@ -17,13 +17,13 @@ mod worked;
 
 use crate::pieces::word_before;
 use crate::shelves::Shelves;
-use crate::sinks::Sinks;
+use gl_outside::MemorySink;
 use std::io;
 
 fn print_told(
     rt: &HostRuntime,
     shelves: &mut Shelves,
-    sinks: &mut Sinks,
+    sink: &mut MemorySink,
     kind: &str,
     text: &str,
 ) -> io::Result<()> {
@@ -35,7 +35,7 @@ fn print_told(
         "shelf" | "hold" | "many" | "fail" | "fetch" | "read" | "never" => {
             shelves::print_shelf(rt, shelves, kind, text)
         }
-        "sink" | "refuse" | "put" | "taken" => sinks::print_sink(rt, sinks, kind, text),
+        "sink" | "refuse" | "put" | "taken" => sinks::print_sink(rt, sink, kind, text),
         "nowhere" | "slice" | "narrow" | "unflushed" => sinks::print_writer(rt, kind, text),
         "file" | "directory" => files::print_file(rt, kind, text),
         _ => println!(rt; "no row"),
@@ -45,7 +45,7 @@ fn print_told(
 fn print_row(
     rt: &HostRuntime,
     shelves: &mut Shelves,
-    sinks: &mut Sinks,
+    sink: &mut MemorySink,
     line: &str,
 ) -> io::Result<()> {
     let (kind, text) = word_before(line);
@@ -53,13 +53,13 @@ fn print_row(
         return Ok(());
     }
     println!(rt; "{line}")?;
-    print_told(rt, shelves, sinks, kind, text)
+    print_told(rt, shelves, sink, kind, text)
 }
 
-fn print_rows(rt: &HostRuntime, shelves: &mut Shelves, sinks: &mut Sinks) -> io::Result<()> {
+fn print_rows(rt: &HostRuntime, shelves: &mut Shelves, sink: &mut MemorySink) -> io::Result<()> {
     for line in rt.lines(rt.alloc()) {
         let line = line?;
-        print_row(rt, shelves, sinks, line.as_str())?;
+        print_row(rt, shelves, sink, line.as_str())?;
     }
     Ok(())
 }
@@ -69,8 +69,8 @@ fn main(rt: HostRuntime) -> io::Result<()> {
     let Ok(mut shelves) = Shelves::new(rt.alloc()) else {
         return println!(rt; "out of memory");
     };
-    let Ok(mut sinks) = Sinks::new(rt.alloc(), 0) else {
+    let Ok(mut sink) = MemorySink::new(rt.alloc(), 0) else {
         return println!(rt; "out of memory");
     };
-    print_rows(&rt, &mut shelves, &mut sinks)
+    print_rows(&rt, &mut shelves, &mut sink)
 }

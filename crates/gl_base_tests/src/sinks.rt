@@ -13,21 +13,6 @@ use gl_outside::*;
 use std::alloc::Global;
 use std::io;
 
-/// A sink in memory.
-#[derive(Drop)]
-pub struct Sinks {
-    sink: MemorySink,
-}
-
-impl Sinks {
-    /// A sink with room for so many bytes.
-    pub fn new(alloc: Global, room: usize) -> Result<Sinks, Memory> {
-        Ok(Sinks {
-            sink: MemorySink::new(alloc, room)?,
-        })
-    }
-}
-
 // A writer that takes so many bytes a call, up to a number in all.
 #[derive(Drop)]
 struct Narrow {
@@ -75,28 +60,33 @@ fn told(done: Result<(), WriteFault>) -> &'static str {
 }
 
 // Makes the sink anew.
-fn renew(alloc: Global, sinks: &mut Sinks, room: usize) -> Result<(), Memory> {
-    *sinks = Sinks::new(alloc, room)?;
+fn renew(alloc: Global, sink: &mut MemorySink, room: usize) -> Result<(), Memory> {
+    *sink = MemorySink::new(alloc, room)?;
     Ok(())
 }
 
-fn print_put(rt: &HostRuntime, sinks: &mut Sinks, text: &str) -> io::Result<()> {
+fn print_put(rt: &HostRuntime, sink: &mut MemorySink, text: &str) -> io::Result<()> {
     match bytes_of(rt.alloc(), text) {
-        Ok(bytes) => println!(rt; "{}", told(write_all_of(&mut sinks.sink, bytes.as_slice()))),
+        Ok(bytes) => println!(rt; "{}", told(write_all_of(sink, bytes.as_slice()))),
         Err(_) => println!(rt; "out of memory"),
     }
 }
 
 /// Prints what a row of the sink in memory comes to.
-pub fn print_sink(rt: &HostRuntime, sinks: &mut Sinks, kind: &str, text: &str) -> io::Result<()> {
+pub fn print_sink(
+    rt: &HostRuntime,
+    sink: &mut MemorySink,
+    kind: &str,
+    text: &str,
+) -> io::Result<()> {
     match kind {
         "sink" => {
             let room = number_before(text).0 as usize;
-            print_done(rt, renew(rt.alloc(), sinks, room))
+            print_done(rt, renew(rt.alloc(), sink, room))
         }
-        "refuse" => print_done(rt, sinks.sink.fail(number_before(text).0)),
-        "put" => print_put(rt, sinks, text),
-        _ => println!(rt; "{:?}", str::from_utf8(sinks.sink.bytes()).unwrap_or("?")),
+        "refuse" => print_done(rt, sink.fail(number_before(text).0)),
+        "put" => print_put(rt, sink, text),
+        _ => println!(rt; "{:?}", str::from_utf8(sink.bytes()).unwrap_or("?")),
     }
 }
 
