@@ -22,6 +22,7 @@ use Rattle.gl_tuples.specs.Gaps.{plain_beats}
 use Rattle.gl_verilog.specs.Module.{Module}
 use Rattle.gl_runner.specs.declared.tracing.Ending.{Ending}
 use Rattle.gl_runner.specs.declared.tracing.Ending.TheVariants as end
+use Rattle.gl_runner.specs.Prints.{HasRunOver}
 use Rattle.gl_runner.specs.Traces.{OfRunsOf, Traced, decimal_kinds}
 use Rattle.gl_judging.specs.Passing.{FilePasses}
 use Rattle.gl_notes.specs.Refusals.{Puts, Notes, status_of, note_of, no_end_line, write_line}
@@ -74,7 +75,8 @@ ending_no_query ending notes answered h e = elim (ending_status ending notes ans
   | inr (inr n) ↦ (let f : status.Query ≡ status.NoEnd = sym e ∙ n in cc)
 ]
 
-module _ (words : List (List ℕ)) (c : Change) (out notes : Puts) (schema : Schema) (design : Module) (beats : List Beat) (passes : FilePasses c.old.told words schema design beats) (calm : IsCalm c.old c.new) where
+module _ (words : List (List ℕ)) (c : Change) (out notes : Puts) (schema : Schema) (design : Module) (beats : List Beat) (passes : FilePasses c.old.told words schema design beats)
+    (run : HasRunOver design schema (plain_beats beats) Zero) (calm : IsCalm c.old c.new) where
   abbrev IsSo : Ending → Type 0
   IsSo ending = Traced (OfRunsOf design schema (plain_beats beats) Zero) (decimal_kinds design) (plain_beats beats) (extra_of words) out.old out.new ending
 
@@ -84,6 +86,7 @@ module _ (words : List (List ℕ)) (c : Change) (out notes : Puts) (schema : Sch
     design = design;
     beats = beats;
     passes = passes;
+    run = run;
     cycle = cycle;
     traced = h.1;
     noted = took;
@@ -110,7 +113,7 @@ module _ (words : List (List ℕ)) (c : Change) (out notes : Puts) (schema : Sch
 pub when_says : (words : List (List ℕ)) (c : Change) (out notes : Puts) (text : List ℕ) (answered : Status) → IsAnswer words c out notes text answered → Says words c out notes answered
 when_says words c out notes text answered (Ran d) = subst (Says words c out notes) (sym d.done) (d.calm, d.whole, d.silent)
 when_says words c out notes text answered (Broke' b) = says_noted words c out notes status.WriteFault answered write_line (inl b.cause) b.noted
-when_says words c out notes text answered (Traced' d) = trace_says words c out notes d.schema d.design d.beats d.passes d.calm answered d.ending d.traced d.tells
+when_says words c out notes text answered (Traced' d) = trace_says words c out notes d.schema d.design d.beats d.passes d.run d.calm answered d.ending d.traced d.tells
 when_says words c out notes text answered (Shown d) = subst (Says words c out notes) (sym d.done) (d.calm, d.wrote.calm, d.silent)
 when_says words c out notes text answered (Cut b) = says_noted words c out notes status.WriteFault answered write_line (inl b.wrote.cause) b.noted
 when_says words c out notes text answered (Ended d) = says_noted words c out notes (status_of d.refusal) answered (note_of words d.refusal) (of_refusal words c out notes d.refusal d.cause) d.noted
@@ -210,7 +213,7 @@ by_calm words c out notes answered tells pass calm (refusal.Tuples f) h n = absu
 pub when_calm : (words : List (List ℕ)) (c : Change) (out notes : Puts) (text : List ℕ) (answered : Status) → IsAnswer words c out notes text answered → IsTelling c.old.told words → AllPass c.old.told words → IsFaultless c out notes → Completes words c out notes answered
 when_calm words c out notes text answered (Ran d) tells p calm = Whole d.done
 when_calm words c out notes text answered (Shown d) tells p calm = Whole d.done
-when_calm words c out notes text answered (Traced' d) tells p calm = trace_completes words c out notes d.schema d.design d.beats d.passes d.calm answered d.ending calm d.traced d.tells
+when_calm words c out notes text answered (Traced' d) tells p calm = trace_completes words c out notes d.schema d.design d.beats d.passes d.run d.calm answered d.ending calm d.traced d.tells
 when_calm words c out notes text answered (Cut b) tells p calm = absurd (calm.out' b.wrote.cause)
 when_calm words c out notes text answered (Broke' b) tells p calm = absurd (calm.out' b.cause)
 when_calm words c out notes text answered (Ended d) tells p calm = by_calm words c out notes answered tells p calm d.refusal d.cause d.noted

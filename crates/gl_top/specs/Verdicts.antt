@@ -14,7 +14,7 @@ use Rattle.gl_tuples.specs.Gaps.{plain_beats}
 use Rattle.gl_compiler.specs.Built.{latency_of, gap_of}
 use Rattle.gl_compiler.specs.Meets.{Meets, result_columns}
 use Rattle.gl_runner.specs.declared.executing.Outcome.{Outcome}
-use Rattle.gl_runner.specs.Prints.{OfEachRun, Writes, WritesFront}
+use Rattle.gl_runner.specs.Prints.{HasRunOver, OfEachRun, Writes, WritesFront}
 use Rattle.gl_runner.specs.Prints as prints
 use Rattle.gl_runner.specs.declared.tracing.Ending.{Ending}
 use Rattle.gl_runner.specs.declared.tracing.Ending.TheVariants as end
@@ -84,12 +84,13 @@ TellsEnding (end.NoEnd cycle) notes answered = Notes status.NoEnd (no_end_line c
 TellsEnding end.WriteFault notes answered = Notes WriteFault write_line notes answered
 TellsEnding end.Memory notes answered = ⊥
 
--- a module was traced over the beats of a file, from all zero; no text was missing, and none is left
+-- a module was traced over the beats of a file, from all zero, and it has a run over them; no text was missing, and none is left
 pub record IsTraced (words : List (List ℕ)) (c : Change) (out notes : Puts) (text : List ℕ) (status : Status) : Type 0 where
   pub schema : Schema
   pub design : Module
   pub beats : List Beat
   pub passes : FilePasses c.old.told words schema design beats
+  pub run : HasRunOver design schema (plain_beats beats) Zero
   pub ending : Ending
   pub traced : Traced (OfRunsOf design schema (plain_beats beats) Zero) (decimal_kinds design) (plain_beats beats) (extra_of words) out.old out.new ending
   pub tells : TellsEnding ending notes status
@@ -173,13 +174,14 @@ pub record IsFaultless (c : Change) (out notes : Puts) : Type 0 where
 abbrev pub TellsFault : List (List ℕ) → Change → Puts → Status → Type 0
 TellsFault words c notes answered = (fault : QueryFault) → IsTelling c.old.told words → IsBadQuery c.old.told words fault → answered ≡ status.Query → Took notes.old notes.new (note_of words (refusal.Query fault))
 
--- in no run of the module of a simulation the end is seen in time; the lines of all its cycles were written, and the last of these was
--- noted; no text was missing, and nothing failed
+-- the module of a simulation has a run, and in none of its runs the end is seen in time; the lines of all its cycles were written, and the
+-- last of these was noted; no text was missing, and nothing failed
 pub record IsEndless (words : List (List ℕ)) (c : Change) (out notes : Puts) : Type 0 where
   pub schema : Schema
   pub design : Module
   pub beats : List Beat
   pub passes : FilePasses c.old.told words schema design beats
+  pub run : HasRunOver design schema (plain_beats beats) Zero
   pub cycle : ℕ
   pub traced : OfRunsOf design schema (plain_beats beats) Zero (λ outs port. TracesOut (decimal_kinds design) (plain_beats beats) (extra_of words) cycle outs port out.old.taken out.new.taken)
   pub noted : Took notes.old notes.new (no_end_line cycle)

@@ -15,6 +15,7 @@ use gl_notes::{Refusal, Status, tell, tell_no_end, tell_write_fault};
 use gl_outside::{Shelf, Sink, Words};
 use gl_runner::{Ending, trace};
 use gl_verilog_orders::Start;
+use gl_verilog_ports::laws::inputs_are_ports;
 use std::alloc::Global;
 
 // Runs the module over the beats from all zero, writes the lines of the run, and notes how that failed
@@ -38,6 +39,7 @@ fn finish_trace<K: Sink, N: Sink>(
     } = simulation;
     let Fitted { design, ports } = fitted;
     let extra = extra_of(words);
+    inputs_are_ports();
     match trace(
         alloc,
         design,

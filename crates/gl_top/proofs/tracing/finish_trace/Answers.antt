@@ -10,6 +10,12 @@ use Rattle.gl_notes.specs.declared.notes.Refusal.TheVariants as refusal
 use Rattle.gl_top.specs.Verdicts.{Traced', Ended}
 use Rattle.gl_top.proofs.tracing.finish_trace.Goals as goal
 
+pub trace-requires-clause-valid : goal.trace-requires-clause-valid
+trace-requires-clause-valid g c = c.requires.of_text.1.valid
+
+pub trace-requires-clause-inputs : goal.trace-requires-clause-inputs
+trace-requires-clause-inputs g c = c.inputs_are_ports.ensures c.requires.of_text.0 (module_of c.args.simulation.fitted.design) c.requires.of_text.1
+
 pub returns-in-Done : goal.returns-in-Done
 returns-in-Done g c = λ ch ready calm.
     let s = c.args.simulation in
@@ -20,8 +26,9 @@ returns-in-Done g c = λ ch ready calm.
       design = m;
       beats = s.beats;
       passes = ready.passes;
+      run = c.in-Done.ensures.run;
       ending = end.Done;
-      traced = subst of_extra c.extra_of-extra.ensures c.in-Done.ensures;
+      traced = subst of_extra c.extra_of-extra.ensures c.in-Done.ensures.lines;
       tells = (refl, took_none _);
       calm = calm;
       left = refl;
@@ -37,8 +44,9 @@ returns-in-NoEnd g c = λ ch ready calm.
       design = m;
       beats = s.beats;
       passes = ready.passes;
+      run = c.in-NoEnd.ensures.run;
       ending = end.NoEnd c.in-NoEnd.cycle;
-      traced = subst of_extra c.extra_of-extra.ensures c.in-NoEnd.ensures;
+      traced = subst of_extra c.extra_of-extra.ensures c.in-NoEnd.ensures.lines;
       tells = c.tell_no_end.ensures;
       calm = calm;
       left = refl;
@@ -54,8 +62,9 @@ returns-in-WriteFault g c = λ ch ready calm.
       design = m;
       beats = s.beats;
       passes = ready.passes;
+      run = c.in-WriteFault.ensures.run;
       ending = end.WriteFault;
-      traced = subst of_extra c.extra_of-extra.ensures c.in-WriteFault.ensures;
+      traced = subst of_extra c.extra_of-extra.ensures c.in-WriteFault.ensures.lines;
       tells = c.tell_write_fault.ensures;
       calm = calm;
       left = refl;
@@ -65,7 +74,7 @@ pub returns : goal.returns
 returns g c = λ ch ready calm. Ended (record {
   refusal = refusal.Memory;
   cause = calm;
-  untouched = let P : SinkState → Type 0 = λ s. Took (g.K.Sink.state c.args.out.now) s [] in subst P (sym c.in-Memory.ensures) (took_none _);
+  untouched = let P : SinkState → Type 0 = λ s. Took (g.K.Sink.state c.args.out.now) s [] in subst P (sym c.in-Memory.ensures.lines) (took_none _);
   noted = c.tell.ensures;
   left = inl refl;
 })
