@@ -4,3 +4,4 @@ mod Judged
 pub mod Named
 pub mod Fits
 pub mod Inputs
+pub mod Profiled

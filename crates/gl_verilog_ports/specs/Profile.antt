@@ -1,9 +1,10 @@
 -- When the ports of a module are those of a schema and of a result.
-use Rattle.std.specs.Prelude.{◌≡◌, ℕ, Bool, true, false, not, ◌&&◌, ◌≤◌, List, map, filter, find, length, take, Option, Some, option_map, codes, bytes_eq, slice_get, IfSome}
+use Rattle.std.specs.Prelude.{◌≡◌, ◌==◌, ℕ, ◌∷◌, Bool, true, false, not, ◌&&◌, ◌≤◌, List, map, filter, find, length, take, Option, Some, option_map, codes, bytes_eq, slice_get, IfSome}
 use Rattle.std.specs.List.{AllByRecursion}
+use Rattle.gl_schema.specs.declared.schema.Column.{Column}
 use Rattle.gl_schema.specs.declared.schema.Schema.{Schema}
 use Rattle.gl_schema.specs.Ports.{out_valid, out_eos, fault_group, fault_queue}
-use Rattle.gl_schema.specs.Profile.{clk, input_ports}
+use Rattle.gl_schema.specs.Profile.{Direction, In, Out, ProfilePort, clk, input, input_ports, profile}
 use Rattle.gl_verilog.specs.Module.{Module, Declaration, Kind, Input, OutputWire, OutputRegister}
 use Rattle.gl_verilog.specs.Run.{is_input}
 use Rattle.gl_verilog.specs.Widths.{is_clock}
@@ -75,3 +76,17 @@ HasInputPorts m = (n : ℕ) (d : Declaration) → slice_get m.declarations n ≡
 -- each input of the module is the clock
 abbrev pub HasOnlyClock : Module → Type 0
 HasOnlyClock m = (n : ℕ) (d : Declaration) → slice_get m.declarations n ≡ Some d → is_input d.kind ≡ true → is_clock d ≡ true
+
+-- ---- the whole profile
+
+-- how a port of the profile is declared: an input, or an output that is a wire; one of a single bit is no vector
+abbrev pub declared_kind : Direction → Kind
+declared_kind In = Input
+declared_kind Out = OutputWire
+
+abbrev pub declared : ProfilePort → Declaration
+declared p = record { name = p.name; width = p.width; is_vector = not (p.width == 1); kind = declared_kind p.direction }
+
+-- the ports of the module are, in this order, the clock and the profile of this schema and of a result with these columns
+abbrev pub HasProfile : Module → Schema → List Column → Type 0
+HasProfile m schema columns = ports_of m ≡ map declared (input clk 1 ∷ profile schema columns)

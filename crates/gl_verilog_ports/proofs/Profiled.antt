@@ -1,0 +1,266 @@
+-- A module whose ports are those of the profile, no two of one name: it fits the schema, and shows the columns of the result.
+use Rattle.std.proofs.Common.{◌≡◌, ℕ, zero, suc, ◌≤◌, true, false, List, [], ◌∷◌, ◌++◌, length, map, take, Some, refl, sym, ap, subst, ◌∙◌, arith, codes}
+use Rattle.std.specs.Prelude.{bytes_eq, find, filter, option_map, slice_get}
+use Rattle.std.specs.List.{AllByRecursion, IsDistinct}
+use Rattle.std.proofs.lemmas.List.{append-nil, map-append}
+use Rattle.std.proofs.lemmas.Slice.Eq.{bytes_eq-Decides}
+use Rattle.gl_bits.proofs.AllLists.{all_append, all_at, all_back, all_front, get_unmapped, length_map}
+use Rattle.gl_bits.proofs.Bools.{bytes_other, not_both}
+use Rattle.gl_bits.specs.declared.kind.Kind as bits
+use Rattle.gl_bits.specs.declared.kind.Kind.TheVariants.{Unsigned, Text}
+use Rattle.gl_bits.specs.Kinds.{IsKind, width_of}
+use Rattle.gl_schema.specs.declared.schema.Column.{Column}
+use Rattle.gl_schema.specs.declared.schema.Stream.{Stream}
+use Rattle.gl_schema.specs.declared.schema.Schema.{Schema}
+use Rattle.gl_schema.specs.Schemas.{column_names, kinds_of}
+use Rattle.gl_schema.specs.Ports.{eos, out_valid, out_column, out_eos, fault_group, fault_queue}
+use Rattle.gl_schema.specs.Profile.{In, Out, ProfilePort, clk, column_inputs, column_outputs, input, input_ports, output, output_ports, port_names, profile, stream_inputs, streams_inputs}
+use Rattle.gl_verilog.specs.Module.{Module, Declaration, Input}
+use Rattle.gl_verilog.specs.Text.{HasModule}
+use Rattle.gl_verilog.specs.Valid.{AreDistinct, Differs}
+use Rattle.gl_verilog.specs.Widths.{is_clock}
+use Rattle.gl_verilog_ports.specs.Profile.{FitsSchema, HasProfile, IsLine, declared, declared_kind, input_width, port_named, result_names, result_ports, result_widths, shows_column}
+use Rattle.gl_verilog_ports.proofs.Declared.{distinct_take, input_is_port}
+
+-- ---- no two ports have one name
+
+differs_named : (x : ProfilePort) (ps : List ProfilePort) → Differs (declared x) (map declared ps) → AllByRecursion (λ n. bytes_eq x.name n ≡ false) (port_names ps)
+differs_named x [] h = tt
+differs_named x (p ∷ ps) h = (h.0, differs_named x ps h.1)
+
+names_distinct : (ps : List ProfilePort) → AreDistinct (map declared ps) → IsDistinct bytes_eq (port_names ps)
+unfolding IsDistinct
+names_distinct [] h = tt
+names_distinct (p ∷ ps) h = (differs_named p ps h.0, names_distinct ps h.1)
+
+distinct_front : (xs ys : List (List ℕ)) → IsDistinct bytes_eq (xs ++ ys) → IsDistinct bytes_eq xs
+unfolding IsDistinct
+distinct_front [] ys h = tt
+distinct_front (x ∷ xs) ys h = (all_front (λ n. bytes_eq x n ≡ false) xs ys h.0, distinct_front xs ys h.1)
+
+distinct_back : (xs ys : List (List ℕ)) → IsDistinct bytes_eq (xs ++ ys) → IsDistinct bytes_eq ys
+unfolding IsDistinct
+distinct_back [] ys h = h
+distinct_back (x ∷ xs) ys h = distinct_back xs ys h.1
+
+-- each name of the front is another than the first one behind
+others_front : (xs : List (List ℕ)) (y : List ℕ) (ys : List (List ℕ)) → IsDistinct bytes_eq (xs ++ y ∷ ys) → AllByRecursion (λ x. bytes_eq x y ≡ false) xs
+unfolding IsDistinct
+others_front [] y ys h = tt
+others_front (x ∷ xs) y ys h = ((all_back (λ n. bytes_eq x n ≡ false) xs (y ∷ ys) h.0).0, others_front xs y ys h.1)
+
+turned : (x y : List ℕ) → bytes_eq x y ≡ false → bytes_eq y x ≡ false
+turned x y h = bytes_other y x (λ e. not_both (bytes_eq x y) ((bytes_eq-Decides x y).1 (sym e)) h)
+
+-- ---- a port by its name
+
+name_at : (P : List ℕ → Type 0) (ps : List ProfilePort) (i : ℕ) (p : ProfilePort) → AllByRecursion P (port_names ps) → slice_get ps i ≡ Some p → P p.name
+name_at P [] i p all h = absurd cc
+name_at P (x ∷ ps) zero p all h = let same : x ≡ p = cc in subst (λ (y : ProfilePort). P y.name) same all.0
+name_at P (x ∷ ps) (suc i) p all h = name_at P ps i p all.1 h
+
+-- what stands for a port is found by the port's name
+found_named : {A : Type 0} (called : A → List ℕ) (f : ProfilePort → A) → ((p : ProfilePort) → called (f p) ≡ p.name) → (ps : List ProfilePort) (i : ℕ) (p : ProfilePort) → IsDistinct bytes_eq (port_names ps) → slice_get ps i ≡ Some p → find (λ (a : A). bytes_eq (called a) p.name) (map f ps) ≡ Some (f p)
+unfolding IsDistinct
+found_named called f names [] i p distinct h = absurd cc
+found_named {A} called f names (x ∷ ps) zero p distinct h =
+    let same : x ≡ p = cc in
+    let e : bytes_eq (called (f x)) p.name ≡ true = (bytes_eq-Decides (called (f x)) p.name).1 (names x ∙ ap (λ (y : ProfilePort). y.name) same) in
+    rw e (ap (λ (y : ProfilePort). Some (f y)) same)
+found_named {A} called f names (x ∷ ps) (suc i) p distinct h =
+    let e : bytes_eq (called (f x)) p.name ≡ false = ap (λ (n : List ℕ). bytes_eq n p.name) (names x) ∙ name_at (λ n. bytes_eq x.name n ≡ false) ps i p distinct.0 h in
+    rw e (found_named called f names ps i p distinct.1 h)
+
+-- the port stands among these
+record Stands (p : ProfilePort) (ps : List ProfilePort) : Type 0 where
+  place : ℕ
+  there : slice_get ps place ≡ Some p
+
+stands_next : (p x : ProfilePort) (ps : List ProfilePort) → Stands p ps → Stands p (x ∷ ps)
+stands_next p x ps h = record { place = suc h.place; there = h.there }
+
+stands_behind : (p : ProfilePort) (xs ps : List ProfilePort) → Stands p ps → Stands p (xs ++ ps)
+stands_behind p [] ps h = h
+stands_behind p (x ∷ xs) ps h = stands_next p x (xs ++ ps) (stands_behind p xs ps h)
+
+-- ---- which way ports go
+
+abbrev IsIn : ProfilePort → Type 0
+IsIn p = p.direction ≡ In
+
+abbrev IsOut : ProfilePort → Type 0
+IsOut p = p.direction ≡ Out
+
+columns_in : (s : List ℕ) (cs : List Column) → AllByRecursion IsIn (column_inputs s cs)
+columns_in s [] = tt
+columns_in s (c ∷ cs) = (refl, columns_in s cs)
+
+streams_in : (ss : List Stream) → AllByRecursion IsIn (streams_inputs ss)
+streams_in [] = tt
+streams_in (s ∷ ss) = all_append IsIn (stream_inputs s) (streams_inputs ss) (refl, columns_in s.name s.columns) (streams_in ss)
+
+pub inputs_in : (schema : Schema) → AllByRecursion (λ (p : ProfilePort). p.direction ≡ In) (input_ports schema)
+inputs_in schema = (refl, all_append IsIn (streams_inputs schema.streams) (input eos 1 ∷ []) (streams_in schema.streams) (refl, tt))
+
+abbrev tail : List ProfilePort
+tail = output out_eos 1 ∷ output fault_group 1 ∷ output fault_queue 1 ∷ []
+
+outputs_out : (cs : List Column) → AllByRecursion IsOut (column_outputs cs ++ tail)
+outputs_out [] = (refl, (refl, (refl, tt)))
+outputs_out (c ∷ cs) = (refl, outputs_out cs)
+
+out_differs : (p : ProfilePort) → IsOut p → declared_kind p.direction ≡ Input → ⊥
+out_differs p o e = let z = ap declared_kind (sym o) ∙ e in absurd cc
+
+-- an input among ports stands before the outputs
+in_front : (xs ys : List ProfilePort) (i : ℕ) (p : ProfilePort) → AllByRecursion IsOut ys → slice_get (xs ++ ys) i ≡ Some p → declared_kind p.direction ≡ Input → slice_get xs i ≡ Some p
+in_front [] ys i p all h e = absurd (out_differs p (all_at IsOut ys i p h all) e)
+in_front (x ∷ xs) ys zero p all h e = h
+in_front (x ∷ xs) ys (suc i) p all h e = in_front xs ys i p all h e
+
+-- ---- which ports show columns
+
+abbrev Hidden : List ProfilePort → Type 0
+Hidden ps = AllByRecursion (λ (p : ProfilePort). shows_column (declared p) ≡ false) ps
+
+abbrev Seen : List ProfilePort → Type 0
+Seen ps = AllByRecursion (λ (p : ProfilePort). shows_column (declared p) ≡ true) ps
+
+filter_hidden : (xs ys : List ProfilePort) → Hidden xs → filter shows_column (map declared (xs ++ ys)) ≡ filter shows_column (map declared ys)
+filter_hidden [] ys h = refl
+filter_hidden (x ∷ xs) ys h = rw h.0 (filter_hidden xs ys h.1)
+
+filter_seen : (xs ys : List ProfilePort) → Seen xs → filter shows_column (map declared (xs ++ ys)) ≡ map declared xs ++ filter shows_column (map declared ys)
+filter_seen [] ys h = refl
+filter_seen (x ∷ xs) ys h = rw h.0 (ap (λ (t : List Declaration). declared x ∷ t) (filter_seen xs ys h.1))
+
+in_hidden : (ps : List ProfilePort) → AllByRecursion IsIn ps → Hidden ps
+in_hidden [] h = tt
+in_hidden (p ∷ ps) h = (rw h.0 refl, in_hidden ps h.1)
+
+valid_hidden : shows_column (declared (output out_valid 1)) ≡ false
+unfolding out_valid out_eos
+valid_hidden = refl
+
+tail_hidden : Hidden tail
+unfolding out_valid out_eos fault_group fault_queue
+tail_hidden = (refl, (refl, (refl, tt)))
+
+begins_out : (n : List ℕ) → bytes_eq (take 5 (out_column n)) (codes "out__") ≡ true
+unfolding out_column
+begins_out n = refl
+
+columns_seen : (cs : List Column) → AllByRecursion (λ n. bytes_eq out_valid n ≡ false) (port_names (column_outputs cs)) → AllByRecursion (λ n. bytes_eq n out_eos ≡ false) (port_names (column_outputs cs)) → Seen (column_outputs cs)
+columns_seen [] v e = tt
+columns_seen (c ∷ cs) v e = (rw (begins_out c.name, turned out_valid (out_column c.name) v.0, e.0) refl, columns_seen cs v.1 e.1)
+
+-- ---- the columns
+
+names_of : (cs : List Column) → map (λ (d : Declaration). d.name) (map declared (column_outputs cs)) ≡ map out_column (column_names cs)
+names_of [] = refl
+names_of (c ∷ cs) = ap (λ (x : List (List ℕ)). out_column c.name ∷ x) (names_of cs)
+
+widths_of : (cs : List Column) → map (λ (d : Declaration). d.width) (map declared (column_outputs cs)) ≡ map width_of (kinds_of cs)
+widths_of [] = refl
+widths_of (c ∷ cs) = ap (λ (x : List ℕ). width_of c.kind ∷ x) (widths_of cs)
+
+kind_narrow : (k : bits.Kind) → IsKind k → width_of k ≤ 64
+kind_narrow (Unsigned w) h = h.1
+kind_narrow (Text n) h = omega (arith, h.1)
+
+kinds_narrow : (ks : List bits.Kind) → AllByRecursion IsKind ks → AllByRecursion (λ w. w ≤ 64) (map width_of ks)
+kinds_narrow [] h = tt
+kinds_narrow (k ∷ ks) h = (kind_narrow k h.0, kinds_narrow ks h.1)
+
+-- ---- the module
+
+module _ (m : Module) (schema : Schema) (columns : List Column) (distinct : AreDistinct m.declarations) (face : HasProfile m schema columns) where
+  abbrev behind : List ProfilePort
+  behind = profile schema columns
+
+  all_distinct : IsDistinct bytes_eq (port_names (input clk 1 ∷ behind))
+  all_distinct = names_distinct (input clk 1 ∷ behind) (subst AreDistinct face (distinct_take m.ports m.declarations distinct))
+
+  -- reset, the streams and the end; the outputs
+  parts_named : IsDistinct bytes_eq (port_names (input_ports schema) ++ port_names (output_ports columns))
+  unfolding IsDistinct
+  parts_named = subst (λ (x : List (List ℕ)). IsDistinct bytes_eq x) (map-append (λ (p : ProfilePort). p.name) (input_ports schema) (output_ports columns)) all_distinct.1
+
+  outputs_named : IsDistinct bytes_eq (out_valid ∷ (port_names (column_outputs columns) ++ port_names tail))
+  outputs_named =
+      subst (λ (x : List (List ℕ)). IsDistinct bytes_eq (out_valid ∷ x)) (map-append (λ (p : ProfilePort). p.name) (column_outputs columns) tail)
+      (distinct_back (port_names (input_ports schema)) (port_names (output_ports columns)) parts_named)
+
+  all_seen : Seen (column_outputs columns)
+  unfolding IsDistinct
+  all_seen =
+      columns_seen columns (all_front (λ n. bytes_eq out_valid n ≡ false) (port_names (column_outputs columns)) (port_names tail) outputs_named.0)
+      (others_front (port_names (column_outputs columns)) out_eos (fault_group ∷ fault_queue ∷ []) outputs_named.1)
+
+  columns_shown : result_ports m ≡ map declared (column_outputs columns)
+  columns_shown =
+      let none : filter shows_column (map declared (tail ++ [])) ≡ [] = filter_hidden tail [] tail_hidden in
+      ap (filter shows_column) face
+      ∙ filter_hidden (input_ports schema) (output_ports columns) (in_hidden (input_ports schema) (inputs_in schema))
+      ∙ filter_hidden (output out_valid 1 ∷ []) (column_outputs columns ++ tail) (valid_hidden, tt)
+      ∙ filter_seen (column_outputs columns) tail all_seen
+      ∙ ap (λ (x : List Declaration). map declared (column_outputs columns) ++ x) none ∙ append-nil (map declared (column_outputs columns))
+
+  pub names_shown : result_names m ≡ map out_column (column_names columns)
+  names_shown = ap (map (λ (d : Declaration). d.name)) columns_shown ∙ names_of columns
+
+  pub widths_shown : result_widths m ≡ map width_of (kinds_of columns)
+  widths_shown = ap (map (λ (d : Declaration). d.width)) columns_shown ∙ widths_of columns
+
+  count_is : length (result_ports m) ≡ length columns
+  count_is = ap length columns_shown ∙ length_map declared (column_outputs columns) ∙ length_map (λ (c : Column). output (out_column c.name) (width_of c.kind)) columns
+
+  -- a line of the result
+  line_there : (name : List ℕ) → Stands (output name 1) (output_ports columns) → port_named m name ≡ Some (declared (output name 1))
+  line_there name s =
+      let all = stands_next (output name 1) (input clk 1) behind (stands_behind (output name 1) (input_ports schema) (output_ports columns) s) in
+      ap (find (λ (d : Declaration). bytes_eq d.name name)) face
+      ∙ found_named {A = Declaration} (λ d. d.name) declared (λ x. refl) (input clk 1 ∷ behind) all.place (output name 1) all_distinct all.there
+
+  tail_stands : (p : ProfilePort) → Stands p tail → Stands p (output_ports columns)
+  tail_stands p s = stands_next p (output out_valid 1) (column_outputs columns ++ tail) (stands_behind p (column_outputs columns) tail s)
+
+  line_is : (name : List ℕ) → IsLine (declared (output name 1))
+  line_is name = record { output = refl; bit = refl }
+
+  asked_width : (i : ℕ) (p : ProfilePort) → slice_get (input_ports schema) i ≡ Some p → input_width schema p.name ≡ Some p.width
+  asked_width i p h =
+      let own = distinct_front (port_names (input_ports schema)) (port_names (output_ports columns)) parts_named in
+      ap (option_map (λ (q : ProfilePort). q.width))
+      (ap (find (λ (q : ProfilePort). bytes_eq q.name p.name)) (sym (map_same (input_ports schema)))
+      ∙ found_named {A = ProfilePort} (λ q. q.name) (λ q. q) (λ x. refl) (input_ports schema) i p own h)
+    where
+      map_same : (ps : List ProfilePort) → map (λ (q : ProfilePort). q) ps ≡ ps
+      map_same [] = refl
+      map_same (q ∷ ps) = ap (λ (x : List ProfilePort). q ∷ x) (map_same ps)
+
+  input_fits : (n : ℕ) (d : Declaration) → slice_get (map declared (input clk 1 ∷ behind)) n ≡ Some d → d.kind ≡ Input → is_clock d ≡ false → input_width schema d.name ≡ Some d.width
+  unfolding clk
+  input_fits zero d h is other =
+      let same : declared (input clk 1) ≡ d = cc in
+      let z : true ≡ false = ap is_clock same ∙ other in
+      absurd (let y : true ≡ false = z in cc)
+  input_fits (suc i) d h is other =
+      let p = get_unmapped declared behind i d h in
+      let kind : declared_kind p.0.direction ≡ Input = ap (λ (x : Declaration). x.kind) p.2 ∙ is in
+      let front = in_front (input_ports schema) (output_ports columns) i p.0 (refl, outputs_out columns) p.1 kind in
+      subst (λ (x : Declaration). input_width schema x.name ≡ Some x.width) p.2 (asked_width i p.0 front)
+
+  -- the schema is fitted by the module of a text, where the columns are as few and as narrow as those of a result
+  pub fits : (text : List ℕ) → HasModule text m → length columns ≤ 32 → AllByRecursion IsKind (kinds_of columns) → FitsSchema m schema
+  unfolding clk
+  fits text has few kinds = record {
+    clock = record { port = declared (input clk 1); there = ap (find (λ (d : Declaration). bytes_eq d.name clk)) face; input = refl; bit = refl };
+    inputs = λ n d at is other. input_fits n d (ap (λ (ds : List Declaration). slice_get ds n) (sym face) ∙ input_is_port text m n d has at (rw is refl)) is other;
+    valid = record { port = declared (output out_valid 1); there = line_there out_valid (record { place = 0; there = refl }); line = line_is out_valid };
+    end = record { port = declared (output out_eos 1); there = line_there out_eos (tail_stands (output out_eos 1) (record { place = 0; there = refl })); line = line_is out_eos };
+    group = rw (line_there fault_group (tail_stands (output fault_group 1) (record { place = 1; there = refl }))) (line_is fault_group);
+    queue = rw (line_there fault_queue (tail_stands (output fault_queue 1) (record { place = 2; there = refl }))) (line_is fault_queue);
+    many = omega (arith, count_is, few);
+    narrow = subst (AllByRecursion (λ w. w ≤ 64)) (sym widths_shown) (kinds_narrow (kinds_of columns) kinds);
+  }
