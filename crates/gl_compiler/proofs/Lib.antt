@@ -3,12 +3,11 @@ pub mod Planning
 pub mod PlanLeaves
 pub mod KnownOf
 pub mod PlanResults
-pub mod Inner
 pub mod Showing
 pub mod Faces
-pub mod Fits
 pub mod Existing
 pub mod Meeting
+pub mod Ports
 pub mod Unbound
 pub mod OverflowBeats
 pub mod OverflowRuns

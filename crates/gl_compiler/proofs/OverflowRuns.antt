@@ -4,7 +4,7 @@ use Rattle.std.proofs.Common.{◌≡◌, ℕ, zero, suc, ◌+◌, ◌-◌, ◌�
 use Rattle.std.specs.Prelude.{IsTrue}
 use Rattle.std.proofs.lemmas.Bool.{cases_lt}
 use Rattle.gl_schema.specs.declared.schema.Schema.{Schema}
-use Rattle.gl_schema.specs.Beats.{Beat, Inputs, AreBeats, KeepsGap, beat_at, inputs_of}
+use Rattle.gl_schema.specs.Beats.{Beat, Inputs, AreBeats, beat_at, inputs_of}
 use Rattle.gl_schema.specs.Ports.{PortValues, IsStimulus}
 use Rattle.gl_schema.specs.Seen.{Shown, shown, seen, rows_of}
 use Rattle.gl_schema.specs.Right.{Meaning, IsRight}
@@ -14,23 +14,17 @@ use Rattle.gl_verilog.specs.Runnable.{SameInputs, SameNets, is_input}
 use Rattle.gl_verilog.specs.Text.{HasModule}
 use Rattle.gl_verilog.proofs.Acyclic.{runnable}
 use Rattle.gl_verilog.proofs.Runs.{runs_are_causal}
-use Rattle.gl_verilog_orders.specs.Events.{IsEventRun}
 use Rattle.gl_verilog_orders.proofs.EventRuns.{event_runs_are_runs}
 use Rattle.gl_sim.proofs.Settling.{IsInputPort}
 use Rattle.gl_wiring.specs.Wired.{KeepsGroup}
 use Rattle.gl_testbench.specs.declared.pins.Pin.{Pin as Carried}
 use Rattle.gl_testbench.specs.Carried.{pin_at, with_beat}
 use Rattle.gl_verilog_ports.specs.Profile.{FitsSchema, result_names}
-use Rattle.gl_compiler.specs.Meets.{RunsOver}
+use Rattle.gl_compiler.specs.Meets.{Drives, RunsOver, WhereDriven}
 use Rattle.gl_compiler.specs.Overflow.{HasSpill, TellsGroup, beats_to}
 use Rattle.gl_testbench.proofs.Inputs.{carried_at, port_carries}
 use Rattle.gl_testbench.proofs.Outputs.{shown_same}
 use Rattle.gl_compiler.proofs.OverflowBeats.{IsCut, cut_of, is_cut}
-
--- each run of the module in any order of events, over beats that keep the gap
-abbrev pub OverRuns : Module → Schema → ℕ → (List Beat → PortValues → Type 0) → Type 0
-OverRuns m schema gap P =
-    (beats : List Beat) (value : ℕ → Nets) (word : ℕ → Memories) → AreBeats schema beats → KeepsGap gap beats → IsEventRun m value word → IsStimulus schema beats (input_values m value) → P beats (port_of m value)
 
 -- ---- a line that is 1 in a cycle is 1 at the end
 
@@ -76,29 +70,30 @@ module _ (text : List ℕ) (schema : Schema) (m : Module) (has : HasModule text 
 
   module _ (means : Meaning) (latency gap : ℕ)
       (runs : (beats : List Beat) (start : Nets) (words : Memories) → AreBeats schema beats → Fit m.declarations start words → RunsOver m schema beats start words)
-      (right : OverRuns m schema gap (λ beats port. IsRight means latency beats (result_names m) port))
-      (keeps : OverRuns m schema gap (λ beats port. KeepsGroup (result_names m) port)) where
-    spilled : (c : ℕ) → OverRuns m schema gap (λ beats port. IsTrue (shown port (result_names m) c).group → HasSpill means (inputs_of (beats_to c beats)))
-    spilled c = λ beats value word are gaps run stimulus h.
+      (right : WhereDriven m schema gap (IsRight means latency))
+      (keeps : WhereDriven m schema gap (λ beats outs port. KeepsGroup outs port)) where
+    spilled : (c : ℕ) → WhereDriven m schema gap (λ beats outs port. IsTrue (shown port outs c).group → HasSpill means (inputs_of (beats_to c beats)))
+    spilled c = λ beats value word driven h.
         let outs : List (List ℕ) = result_names m in
         let cut : List Beat = cut_of schema gap c beats in
-        let is : IsCut schema gap c beats cut = is_cut schema gap c beats are gaps in
-        let first = event_runs_are_runs m has.valid value word run in
+        let is : IsCut schema gap c beats cut = is_cut schema gap c beats driven.are driven.keep in
+        let first = event_runs_are_runs m has.valid value word driven.run in
         let r : RunsOver m schema cut (value 0) (word 0) = runs cut (value 0) (word 0) is.are (first.fits 0) in
         let port : PortValues = port_of m r.value in
         let both = runs_are_causal m (runnable m has.valid) value r.value word r.word first (event_runs_are_runs m has.valid r.value r.word r.run) r.starts (suc c)
-        (inputs_same beats cut value r.value c are is.are stimulus r.stimulus is.same) (suc c) (omega arith) in
+        (inputs_same beats cut value r.value c driven.are is.are driven.stimulus r.stimulus is.same) (suc c) (omega arith) in
         let here : IsTrue (shown port outs c).group = subst (λ (s : Shown). IsTrue s.group) (nets_show value r.value c both.0) h in
-        let w : IsRight means latency cut outs port = right cut r.value r.word is.are is.gaps r.run r.stimulus in
-        let spill : IsTrue (shown port outs w.ended).group = line_at_end outs port (keeps cut r.value r.word is.are is.gaps r.run r.stimulus) c here w.ended w.ends in
+        let again : Drives m schema gap cut r.value r.word = record { are = is.are; keep = is.gaps; run = r.run; stimulus = r.stimulus } in
+        let w : IsRight means latency cut outs port = right cut r.value r.word again in
+        let spill : IsTrue (shown port outs w.ended).group = line_at_end outs port (keeps cut r.value r.word again) c here w.ended w.ends in
         let rows : List (List ℕ) = rows_of (seen port outs w.ended) in
         record {
           rows = rows;
           spills = subst (λ (i : Inputs). means i rows true) is.brings (subst (λ (b : Bool). means (inputs_of cut) rows b) spill w.meets);
         }
 
-    pub tells_group : OverRuns m schema gap (λ beats port. TellsGroup means beats (result_names m) port)
-    tells_group = λ beats value word are gaps run stimulus. record {
-      lasts = (keeps beats value word are gaps run stimulus).lasts;
-      so = λ n. spilled n beats value word are gaps run stimulus;
+    pub tells_group : WhereDriven m schema gap (TellsGroup means)
+    tells_group = λ beats value word driven. record {
+      lasts = (keeps beats value word driven).lasts;
+      so = λ n. spilled n beats value word driven;
     }

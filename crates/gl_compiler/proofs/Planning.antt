@@ -1,5 +1,5 @@
 -- What the plan of a statement says of what is compiled.
-use Rattle.std.proofs.Common.{◌≡◌, ◌≤◌, ◌^◌, length, ap, ◌∙◌, arith}
+use Rattle.std.proofs.Common.{◌≡◌, ◌+◌, ◌≤◌, ◌^◌, length, ap, ◌∙◌, arith}
 use Rattle.gl_schema.specs.declared.schema.Schema.{Schema}
 use Rattle.gl_query.specs.declared.tree.Statement.{Statement}
 use Rattle.gl_query.specs.Checked.{IsChecked}
@@ -7,25 +7,23 @@ use Rattle.gl_algebra.specs.Added.{Placed}
 use Rattle.gl_algebra.specs.FigureTable as table
 use Rattle.gl_algebra.specs.FigureTable.{figures_of}
 use Rattle.gl_algebra.specs.Weights as weights
+use Rattle.gl_algebra.specs.declared.figures.Figures.{Figures}
+use Rattle.gl_elaborate.proofs.StatementLemmas.{plans-right}
 use Rattle.gl_elaborate.specs.Plans.{plan_of}
-use Rattle.gl_planner.specs.declared.planning.PlanFault.{PlanFault}
-use Rattle.gl_planner.specs.declared.planning.PlanFault.TheVariants as plan
 use Rattle.gl_planner.specs.declared.planning.Planned.{Planned}
-use Rattle.gl_planner.specs.Planned.{IsPlanned, PassesOr}
-use Rattle.gl_compiler.specs.Compiles.{IsRefused}
-use Rattle.gl_compiler.specs.Built.{IsBuilt, copies_of, fault_of_plan, gap_of, latency_of}
+use Rattle.gl_planner.specs.Planned.{IsPlanned}
+use Rattle.gl_compiler.specs.Built.{IsBuilt, copies_of, gap_of, latency_of, statement_figures}
 
--- why a plan is not made is why its statement is not compiled
-pub plan_refused : (schema : Schema) (statement : Statement) (f : PlanFault) → PassesOr (plan_of schema statement) f → IsRefused schema statement (fault_of_plan f)
-plan_refused schema statement (plan.Limit l) h = h
-plan_refused schema statement plan.Memory h = tt
+-- the figures of the plan are those of the query
+pub figures_are : (schema : Schema) (statement : Statement) → IsChecked schema statement → figures_of (plan_of schema statement).nodes (plan_of schema statement).root ≡ statement_figures schema statement
+figures_are schema statement checked = (plans-right schema statement checked).figures
 
-module _ (schema : Schema) (statement : Statement) (p : Planned) (is : IsPlanned schema statement p) where
-  pub is_built : IsChecked schema statement → IsBuilt schema statement
-  is_built checked = record { accepted = checked.accepted; within = is.limits }
+module _ (schema : Schema) (statement : Statement) (p : Planned) (checked : IsChecked schema statement) (is : IsPlanned schema statement p) where
+  pub is_built : IsBuilt schema statement
+  is_built = record { accepted = checked.accepted; within = is.limits }
 
   pub latency_is : p.printed.latency ≡ latency_of schema statement
-  latency_is = is.printed'.latency ∙ ap (λ (x : Placed). table.latency_of x.nodes x.root) is.at
+  latency_is = is.printed'.latency ∙ ap (λ (x : Placed). table.latency_of x.nodes x.root) is.at ∙ ap (λ (f : Figures). f.le + 1) (figures_are schema statement checked)
 
   pub short : p.printed.latency ≤ 2 ^ 32
   short =
@@ -36,7 +34,7 @@ module _ (schema : Schema) (statement : Statement) (p : Planned) (is : IsPlanned
       omega (arith, is.printed'.latency, same, small)
 
   pub gap_is : p.printed.gap ≡ gap_of schema statement
-  gap_is = is.printed'.gap ∙ ap (λ (x : Placed). table.gap_of x.nodes x.root) is.at
+  gap_is = is.printed'.gap ∙ ap (λ (x : Placed). table.gap_of x.nodes x.root) is.at ∙ ap (λ (f : Figures). f.gt) (figures_are schema statement checked)
 
   pub copies_are : p.printed.copies ≡ copies_of schema statement
   copies_are = is.printed'.copies ∙ ap (λ (x : Placed). weights.copies_of x.nodes x.root) is.at

@@ -1,4 +1,4 @@
--- What compiling gives, and when it is refused.
+-- What compiling gives.
 use Rattle.std.specs.Prelude.{◌≡◌, ℕ, ◌≤◌, ◌^◌, List}
 use Rattle.gl_schema.specs.declared.schema.Schema.{Schema}
 use Rattle.gl_schema.specs.Schemas.{kinds_of}
@@ -8,13 +8,10 @@ use Rattle.gl_algebra.specs.Cost.{most_memory, most_registers}
 use Rattle.gl_algebra.specs.Small.{AreFigures}
 use Rattle.gl_cost.specs.declared.counting.Cost.{Cost}
 use Rattle.gl_elaborate.specs.Plans.{plan_of}
-use Rattle.gl_planner.specs.Planned.{PassesLimit}
 use Rattle.gl_verilog.specs.Cost.{memory_bits, register_bits}
 use Rattle.gl_verilog.specs.Module.{Module}
 use Rattle.gl_verilog.specs.Text.{HasModule}
 use Rattle.gl_compiler.specs.declared.compiling.Compiled.{Compiled}
-use Rattle.gl_compiler.specs.declared.compiling.CompileFault.{CompileFault}
-use Rattle.gl_compiler.specs.declared.compiling.CompileFault.TheVariants as fault
 use Rattle.gl_compiler.specs.Meets.{Meets, result_columns}
 use Rattle.gl_compiler.specs.Built.{IsBuilt, copies_of, gap_of, latency_of}
 
@@ -41,10 +38,3 @@ pub record IsCompiled (schema : Schema) (statement : Statement) (c : Compiled) :
   pub figures : AreFigures c.plan c.figures.items
   pub cost : HasCost schema statement c.text.items c.cost
   pub meets : Meets schema statement c.printed.latency c.printed.gap c.text.items
-
--- why a checked statement is not compiled
-abbrev pub IsRefused : Schema → Statement → CompileFault → Type 0
-IsRefused schema statement (fault.Schema f) = ⊥
-IsRefused schema statement (fault.Query f) = ⊥
-IsRefused schema statement (fault.Limit l) = PassesLimit (plan_of schema statement) l
-IsRefused schema statement fault.Memory = Unit {0}

@@ -1,12 +1,11 @@
--- What a compiled text is: every run of its module in any order of events, over any beats that keep the gap and from any start, is right
--- for the statement, and its overflow line says what has come by each cycle.
-use Rattle.std.specs.Prelude.{◌≡◌, ℕ, List, map, IsOk}
-use Rattle.gl_bits.specs.Kinds.{width_of}
+-- What a compiled text is: a module of the statement's name with the ports of the schema and of the result, every run of which, in any
+-- order of events, over any beats that keep the gap and from any start, is right for the statement, and whose overflow line says what
+-- has come by each cycle.
+use Rattle.std.specs.Prelude.{◌≡◌, ℕ, ◌++◌, List, codes}
 use Rattle.gl_schema.specs.declared.schema.Column.{Column}
 use Rattle.gl_schema.specs.declared.schema.Schema.{Schema}
-use Rattle.gl_schema.specs.Schemas.{column_names, kinds_of}
 use Rattle.gl_schema.specs.Beats.{Beat, AreBeats, KeepsGap}
-use Rattle.gl_schema.specs.Ports.{IsStimulus, out_column}
+use Rattle.gl_schema.specs.Ports.{IsStimulus, PortValues}
 use Rattle.gl_schema.specs.Right.{IsRight}
 use Rattle.gl_query.specs.declared.tree.Statement.{Statement}
 use Rattle.gl_query.specs.Shapes.{query_shape}
@@ -18,9 +17,8 @@ use Rattle.gl_verilog.specs.Run.{Fit, port_of, input_values}
 use Rattle.gl_verilog.specs.Runnable.{SameState}
 use Rattle.gl_verilog.specs.Text.{HasModule}
 use Rattle.gl_verilog_orders.specs.Events.{IsEventRun}
+use Rattle.gl_verilog_ports.specs.Profile.{HasProfile, result_names}
 use Rattle.gl_compiler.specs.Overflow.{TellsGroup}
-use Rattle.gl_verilog_ports.specs.Fit.{fit_of}
-use Rattle.gl_verilog_ports.specs.Profile.{result_names, result_widths}
 
 -- the columns of a statement's result
 abbrev pub result_columns : Schema → Statement → List Column
@@ -34,16 +32,29 @@ pub record RunsOver (m : Module) (schema : Schema) (beats : List Beat) (start : 
   pub starts : SameState m.declarations start words (value 0) (word 0)
   pub stimulus : IsStimulus schema beats (input_values m value)
 
--- the text has a module with the ports of the schema and of the statement's result; there is a run of it from any start over any beats
--- of the schema, and in each, whatever the order of its events, over beats that keep the gap, what is seen is right for the statement,
--- within the latency, and the overflow line never falls, and is 1 only where what has come has a result that spills
+-- beats of the schema that keep the gap drive the module in this run of it, whatever the order of its events
+pub record Drives (m : Module) (schema : Schema) (gap : ℕ) (beats : List Beat) (value : ℕ → Nets) (word : ℕ → Memories)
+    : Type 0 where
+  pub are : AreBeats schema beats
+  pub keep : KeepsGap gap beats
+  pub run : IsEventRun m value word
+  pub stimulus : IsStimulus schema beats (input_values m value)
+
+-- this holds of the beats and of what is seen on the result's columns, whatever drives the module
+abbrev pub WhereDriven : Module → Schema → ℕ → (List Beat → List (List ℕ) → PortValues → Type 0) → Type 0
+WhereDriven m schema gap P = (beats : List Beat) (value : ℕ → Nets) (word : ℕ → Memories)
+    → Drives m schema gap beats value word → P beats (result_names m) (port_of m value)
+
+-- the text has a module of the statement's name, whose ports are in order the clock, the inputs of the schema and the outputs of the
+-- result; there is a run of it from any start over any beats of the schema, and whatever drives it, what is seen is right for the
+-- statement, within the latency, and the overflow line never falls, and is 1 only where what has come has a result that spills
 pub record Meets (schema : Schema) (statement : Statement) (latency gap : ℕ) (text : List ℕ) : Type 0 where
   pub accepted : IsAccepted schema statement
   pub design : Module
   pub has : HasModule text design
-  pub fits : IsOk (fit_of design schema)
-  pub names : result_names design ≡ map out_column (column_names (result_columns schema statement))
-  pub widths : result_widths design ≡ map width_of (kinds_of (result_columns schema statement))
-  pub runs : (beats : List Beat) (start : Nets) (words : Memories) → AreBeats schema beats → Fit design.declarations start words → RunsOver design schema beats start words
-  pub right : (beats : List Beat) (value : ℕ → Nets) (word : ℕ → Memories) → AreBeats schema beats → KeepsGap gap beats → IsEventRun design value word → IsStimulus schema beats (input_values design value) → IsRight (IsResult schema statement) latency beats (result_names design) (port_of design value)
-  pub group : (beats : List Beat) (value : ℕ → Nets) (word : ℕ → Memories) → AreBeats schema beats → KeepsGap gap beats → IsEventRun design value word → IsStimulus schema beats (input_values design value) → TellsGroup (IsResult schema statement) beats (result_names design) (port_of design value)
+  pub name : design.name ≡ codes "q__" ++ statement.name.text
+  pub face : HasProfile design schema (result_columns schema statement)
+  pub runs : (beats : List Beat) (start : Nets) (words : Memories) → AreBeats schema beats
+      → Fit design.declarations start words → RunsOver design schema beats start words
+  pub right : WhereDriven design schema gap (IsRight (IsResult schema statement) latency)
+  pub group : WhereDriven design schema gap (TellsGroup (IsResult schema statement))

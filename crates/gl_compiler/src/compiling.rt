@@ -5,42 +5,25 @@ ghost use Rattle.gl_schema.specs.Schemas.{column_names, kinds_of};
 ghost use Rattle.gl_query.specs.Checked.{IsChecked};
 ghost use Rattle.gl_query.specs.Names.{StatementHasNames};
 ghost use Rattle.gl_query.specs.Shapes.{statement_shape};
-ghost use Rattle.gl_planner.specs.Planned.{IsPlanned};
+ghost use Rattle.gl_elaborate.specs.Plans.{plan_of};
+ghost use Rattle.gl_planner.specs.Planned.{IsPlanned, PassesOr};
 ghost use Rattle.gl_compiler.specs.Meets.{Meets, result_columns};
-ghost use Rattle.gl_compiler.specs.Built.{fault_of_plan, latency_of, gap_of};
-ghost use Rattle.gl_compiler.specs.Compiles.{HasCost, IsCompiled, IsRefused};
+ghost use Rattle.gl_compiler.specs.Built.{latency_of, gap_of};
+ghost use Rattle.gl_compiler.specs.Compiles.{HasCost, IsCompiled};
 
 use crate::naming::{kinds, names, result_columns};
 use gl_algebra::{Figures, Plan, PlanId};
 use gl_bits::{Kind, Listed, Memory};
 use gl_cost::{Cost, cost_of};
-use gl_figures::{Limit, Printed};
+use gl_figures::Printed;
 use gl_planner::{PlanFault, Planned, plan_statement};
+use gl_query::Statement;
 use gl_query::columns::copy_of_name;
-use gl_query::{QueryFault, Statement};
 use gl_query_check::Checked;
-use gl_schema::{Column, Schema, SchemaFault};
+use gl_schema::{Column, Schema};
 use gl_verilog_writer::write_module;
 use gl_wiring::{ResultNames, wire_plan};
 use std::alloc::Global;
-use thiserror::Error;
-
-/// Why a query was not compiled.
-#[derive(Debug, Drop, Error)]
-pub enum CompileFault {
-    /// The schema's text has no schema.
-    #[error("the schema is not read")]
-    Schema(SchemaFault),
-    /// The query's text has no statement, or one that is not accepted.
-    #[error("the query is refused")]
-    Query(QueryFault),
-    /// The query's plan passes a limit.
-    #[error("the query passes a limit")]
-    Limit(Limit),
-    /// Want of memory.
-    #[error("out of memory")]
-    Memory,
-}
 
 /// The text of a module, and what it costs.
 #[derive(Drop)]
@@ -173,16 +156,6 @@ fn text_of(
     })
 }
 
-// The fault of a plan.
-fn plan_fault(fault: PlanFault) -> CompileFault
-    ensures { result ≡ fault_of_plan fault }
-{
-    match fault {
-        PlanFault::Limit(limit) => CompileFault::Limit(limit),
-        PlanFault::Memory => CompileFault::Memory,
-    }
-}
-
 // What a statement is compiled to: the text of its module, and the kinds of its columns.
 fn built(
     alloc: Global,
@@ -206,19 +179,14 @@ fn built(
 }
 
 /// Compiles a checked statement whose names are names. `Limit` comes exactly where its plan passes this limit.
-pub fn compile_checked(alloc: Global, checked: Checked) -> Result<Compiled, CompileFault>
+pub fn compile_checked(alloc: Global, checked: Checked) -> Result<Compiled, PlanFault>
     requires checked { IsChecked checked.schema checked.statement }
     requires names { StatementHasNames (statement_shape checked.statement) }
-    ensures { MatchResult result (IsCompiled checked.schema checked.statement)
-        (IsRefused checked.schema checked.statement) }
+    ensures { let at = plan_of checked.schema checked.statement in
+        MatchResult result (IsCompiled checked.schema checked.statement) (PassesOr at) }
 {
-    let planned = match plan_statement(alloc, &checked) {
-        Ok(planned) => planned,
-        Err(fault) => return Err(plan_fault(fault)),
-    };
-    let Ok((made, kinds)) = built(alloc, &checked, &planned) else {
-        return Err(CompileFault::Memory);
-    };
+    let planned = plan_statement(alloc, &checked)?;
+    let (made, kinds) = built(alloc, &checked, &planned)?;
     let Checked { schema, statement } = checked;
     Ok(Compiled {
         text: made.text,

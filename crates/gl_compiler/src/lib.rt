@@ -9,5 +9,5 @@ pub mod compiling;
 pub mod laws;
 mod naming;
 
-pub use compiling::{CompileFault, Compiled, compile_checked};
+pub use compiling::{Compiled, compile_checked};
 pub use laws::outputs_bind_nothing;

@@ -1,4 +1,4 @@
-use Rattle.std.proofs.Common.{◌≡◌, ◌≤◌, ◌++◌, ◌∙◌, ap, sym, subst, length, List, ℕ}
+use Rattle.std.proofs.Common.{◌≡◌, ◌≤◌, ◌++◌, ◌∙◌, ap, sym, subst, length, List, Some, codes, ℕ}
 use Rattle.std.specs.List.{AllByRecursion, IsDistinct}
 use Rattle.std.specs.Prelude.{bytes_eq, map}
 use Rattle.gl_schema.specs.Names.{IsName}
@@ -53,6 +53,7 @@ returns-clause-meets c =
     let w = c.in_ok-net.ensures in
     let columns = c.in_ok-names.ensures.columns ∙ ap column_names c.requires.columns in
     let e : module_text net ≡ c.write_module.new.into.items = sym (c.in_ok-write_module.ensures.text ∙ ap (λ (xs : List ℕ). xs ++ module_text net) c.new-text.ensures.items) in
+    let called = w.name ∙ ap (λ (n : List ℕ). Some (codes "q__" ++ n)) c.in_ok-names.ensures.into in
     let ports = subst (λ (ns : List (List ℕ)). port_shapes net ≡ plan_ports schema (shapes.kinds_of c.args.planned.now.plan c.args.planned.now.root) ns) columns w.ports in
     let right = subst (λ (ns : List (List ℕ)). OverBeats schema (table.gap_of c.args.planned.now.plan c.args.planned.now.root) (λ all port. IsRight (plan_means c.args.planned.now.plan c.args.planned.now.root) (table.latency_of c.args.planned.now.plan c.args.planned.now.root) all (map out_column ns) port) net) columns w.right in
     let group = subst (λ (ns : List (List ℕ)). OverBeats schema (table.gap_of c.args.planned.now.plan c.args.planned.now.root) (λ all port. KeepsGroup (map out_column ns) port) net) columns w.group in
@@ -60,7 +61,7 @@ returns-clause-meets c =
     let right' = subst (λ (x : Placed). OverBeats schema (table.gap_of x.nodes x.root) (λ all port. IsRight (plan_means x.nodes x.root) (table.latency_of x.nodes x.root) all (map out_column (column_names (result_columns schema statement))) port) net) is.at right in
     let group' = subst (λ (x : Placed). OverBeats schema (table.gap_of x.nodes x.root) (λ all port. KeepsGroup (map out_column (column_names (result_columns schema statement))) port) net) is.at group in
     subst (Meets schema statement (latency_of schema statement) (gap_of schema statement)) e
-    (text_meets schema statement net (module_text net) c.requires.checked.of_schema c.requires.checked k.right k.named k.columns k.real c.write_module.ensures.meaning ports' right' group')
+    (text_meets schema statement net (module_text net) k c.requires.checked c.write_module.ensures.meaning ports' called right' group')
 
 pub returns-clause-cost : goal.returns-clause-cost
 returns-clause-cost c =
