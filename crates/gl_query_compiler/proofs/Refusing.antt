@@ -1,5 +1,5 @@
 -- Why a query is refused: each text has one cause at most, and none where it has a statement that is built.
-use Rattle.std.proofs.Common.{◌≡◌, ◌≢◌, ◌⊎◌, ℕ, List, Result, Ok, Err, refl, subst, inl, inr}
+use Rattle.std.proofs.Common.{◌≡◌, ◌≢◌, ℕ, List, Ok, Err, refl, subst, inl, inr}
 use Rattle.gl_schema.specs.declared.schema.Schema.{Schema}
 use Rattle.gl_schema.specs.Schemas.{IsSchema}
 use Rattle.gl_query.specs.declared.tree.Statement.{Statement}
@@ -12,14 +12,15 @@ use Rattle.gl_query_judge.proofs.Judged.{one_meaning, one_fault, accepted_goes}
 use Rattle.gl_algebra.specs.Added.{Placed}
 use Rattle.gl_figures.specs.declared.Limit.{Limit}
 use Rattle.gl_elaborate.specs.Plans.{plan_of}
-use Rattle.gl_planner.specs.Planned.{IsWithinLimits, PassesLimit}
+use Rattle.gl_planner.specs.declared.planning.PlanFault.{PlanFault}
+use Rattle.gl_planner.specs.declared.planning.PlanFault.TheVariants as plan
+use Rattle.gl_planner.specs.Planned.{IsWithinLimits, PassesLimit, PassesOr}
 use Rattle.gl_planner.proofs.LimitLemmas.{one_limit}
 use Rattle.gl_compiler.specs.declared.compiling.Compiled.{Compiled}
-use Rattle.gl_compiler.specs.declared.compiling.CompileFault.{CompileFault}
-use Rattle.gl_compiler.specs.declared.compiling.CompileFault.TheVariants as compile
-use Rattle.gl_compiler.specs.Compiles.{IsRefused}
 use Rattle.gl_query_judge.specs.Limits.{IsOverLimit}
-use Rattle.gl_query_compiler.specs.Queries.{IsQuery, IsQueryRefused, IfRefused, TellsCauses, fault_of_query}
+use Rattle.gl_query_compiler.specs.declared.fault.CompileFault.{CompileFault}
+use Rattle.gl_query_compiler.specs.declared.fault.CompileFault.TheVariants as compile
+use Rattle.gl_query_compiler.specs.Queries.{IsQuery, IsQueryRefused, IfRefused, IsTold, TellsCauses, fault_of_plan, fault_of_query}
 use Rattle.gl_compiler.proofs.Shaped.{plans_alike}
 
 -- a fault is answered as it is
@@ -74,24 +75,22 @@ refused_goes schema text (compile.Limit l) fine h = λ s is. over_goes schema te
 refused_goes schema text compile.Memory fine h = tt
 
 -- why a statement that is accepted is not compiled
-pub statement_cause : (schema : Schema) (text : List ℕ) (s : Statement) (f : CompileFault) → IsAcceptedText schema text s → IsRefused schema s f → IsQueryRefused schema text f
-statement_cause schema text s (compile.Schema f) is h = h
-statement_cause schema text s (compile.Query f) is h = absurd h
-statement_cause schema text s (compile.Limit l) is h = record { statement = s; is = is; passes = h }
-statement_cause schema text s compile.Memory is h = tt
+statement_cause : (schema : Schema) (text : List ℕ) (s : Statement) (f : PlanFault) → IsAcceptedText schema text s → PassesOr (plan_of schema s) f → IsQueryRefused schema text (fault_of_plan f)
+statement_cause schema text s (plan.Limit l) is h = record { statement = s; is = is; passes = h }
+statement_cause schema text s plan.Memory is h = tt
+
+pub plan_cause : (own schema : Schema) (text : List ℕ) (s : Statement) (f : PlanFault) (g : CompileFault) → own ≡ schema → g ≡ fault_of_plan f → IsAcceptedText schema text s → PassesOr (plan_of own s) f → IsQueryRefused schema text g
+plan_cause own schema text s f g e told is h = rw told (statement_cause schema text s f is (subst (λ (x : Schema). PassesOr (plan_of x s) f) e h))
 
 -- ---- each cause is told
 
-abbrev IsToldAs : Result Compiled CompileFault → CompileFault → Type 0
-IsToldAs r f = (r ≡ Err f) ⊎ (r ≡ Err compile.Memory)
-
-query_told : (schema : Schema) (text : List ℕ) (g : CompileFault) (f : QueryFault) → IsSchema schema → IsQueryRefused schema text g → IsQueryFault schema text f → IsToldAs (Err g) (compile.Query f)
+query_told : (schema : Schema) (text : List ℕ) (g : CompileFault) (f : QueryFault) → IsSchema schema → IsQueryRefused schema text g → IsQueryFault schema text f → IsTold (Err g) (compile.Query f)
 query_told schema text (compile.Schema g) f fine h is = absurd h
 query_told schema text (compile.Query g) f fine h is = inl (let e : g ≡ f = one_fault schema text g f h is in rw e refl)
 query_told schema text (compile.Limit l) f fine h is = absurd (accepted_goes schema text f fine is h.statement h.is)
 query_told schema text compile.Memory f fine h is = inr refl
 
-limit_told : (schema : Schema) (text : List ℕ) (g : CompileFault) (l : Limit) → IsSchema schema → IsQueryRefused schema text g → IsOverLimit schema text l → IsToldAs (Err g) (compile.Limit l)
+limit_told : (schema : Schema) (text : List ℕ) (g : CompileFault) (l : Limit) → IsSchema schema → IsQueryRefused schema text g → IsOverLimit schema text l → IsTold (Err g) (compile.Limit l)
 limit_told schema text (compile.Schema g) l fine h is = absurd h
 limit_told schema text (compile.Query g) l fine h is = absurd (accepted_goes schema text g fine h is.statement is.is)
 limit_told schema text (compile.Limit m) l fine h is = inl (let e : m ≡ l = same_limit schema text l m is h in rw e refl)

@@ -8,10 +8,12 @@ use Rattle.gl_query.specs.Trees.{statement_tree}
 use Rattle.gl_query_reader.specs.Grammar.{HasStatement}
 use Rattle.gl_query_judge.specs.Judged.{IsQueryFault}
 use Rattle.gl_query_judge.specs.Limits.{IsOverLimit}
+use Rattle.gl_planner.specs.declared.planning.PlanFault.{PlanFault}
+use Rattle.gl_planner.specs.declared.planning.PlanFault.TheVariants as plan
 use Rattle.gl_compiler.specs.declared.compiling.Compiled.{Compiled}
-use Rattle.gl_compiler.specs.declared.compiling.CompileFault.{CompileFault}
-use Rattle.gl_compiler.specs.declared.compiling.CompileFault.TheVariants as compile
 use Rattle.gl_compiler.specs.Built.{IsBuilt}
+use Rattle.gl_query_compiler.specs.declared.fault.CompileFault.{CompileFault}
+use Rattle.gl_query_compiler.specs.declared.fault.CompileFault.TheVariants as compile
 
 -- the text has this statement, which is compiled over this schema
 pub record IsQuery (schema : Schema) (text : List ℕ) (statement : Statement) : Type 0 where
@@ -30,11 +32,20 @@ abbrev pub IfRefused : CompileFault → Type 0 → Type 0
 IfRefused compile.Memory P = Unit {0}
 IfRefused f P = P
 
+-- this fault was answered, or want of memory
+abbrev pub IsTold : Result Compiled CompileFault → CompileFault → Type 0
+IsTold r f = (r ≡ Err f) ⊎ (r ≡ Err compile.Memory)
+
 -- each cause of a refusal is what was answered, unless memory ran out
 abbrev pub TellsCauses : Schema → List ℕ → Result Compiled CompileFault → Type 0
-TellsCauses schema text r = (f : CompileFault) → IfRefused f (IsQueryRefused schema text f → (r ≡ Err f) ⊎ (r ≡ Err compile.Memory))
+TellsCauses schema text r = (f : CompileFault) → IfRefused f (IsQueryRefused schema text f → IsTold r f)
 
 -- the fault of a query's text, as the compiler answers it
 abbrev pub fault_of_query : QueryFault → CompileFault
 fault_of_query fault.Memory = compile.Memory
 fault_of_query f = compile.Query f
+
+-- and that of a statement's plan
+abbrev pub fault_of_plan : PlanFault → CompileFault
+fault_of_plan (plan.Limit l) = compile.Limit l
+fault_of_plan plan.Memory = compile.Memory

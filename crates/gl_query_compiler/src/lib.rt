@@ -4,6 +4,8 @@
 //! is made of a statement belongs to gl_compiler.
 #![tactic(auto)]
 
+pub mod fault;
 pub mod querying;
 
+pub use fault::CompileFault;
 pub use querying::{compile, compile_query};

@@ -1,6 +1,6 @@
 //! Compiling the text of a query.
 
-ghost use Rattle.std.specs.Prelude.{◌≡◌, ◌≤◌, ◌^◌, IfOk, IfErr, MatchResult, length};
+ghost use Rattle.std.specs.Prelude.{◌≡◌, ◌≤◌, ◌^◌, IfOk, IfErr, length};
 ghost use Rattle.std.specs.List.{AllByRecursion};
 ghost use Rattle.gl_bits.specs.Kinds.{IsKind};
 ghost use Rattle.gl_schema.specs.Schemas.{IsSchema, kinds_of};
@@ -11,10 +11,12 @@ ghost use Rattle.gl_elaborate.specs.Plans.{plan_of};
 ghost use Rattle.gl_compiler.specs.Meets.{Meets, result_columns};
 ghost use Rattle.gl_compiler.specs.Built.{latency_of, gap_of, copies_of};
 ghost use Rattle.gl_compiler.specs.Compiles.{HasCost};
-ghost use Rattle.gl_query_compiler.specs.Queries.{IsQuery, IsQueryRefused, IfRefused, TellsCauses, fault_of_query};
-ghost use Rattle.gl_query_compiler.specs.Texts.{IsCompiledText, IsTextRefused};
+ghost use Rattle.gl_query_compiler.specs.Queries.{IsQuery, IsQueryRefused, IfRefused, TellsCauses, fault_of_plan, fault_of_query};
+ghost use Rattle.gl_query_compiler.specs.Texts.{IsCompiledText, IsTextRefused, TellsTextCauses, fault_of_schema};
 
-use gl_compiler::{CompileFault, Compiled, compile_checked};
+use crate::fault::CompileFault;
+use gl_compiler::{Compiled, compile_checked};
+use gl_planner::PlanFault;
 use gl_query::QueryFault;
 use gl_query_judge::judge_query;
 use gl_schema::{Schema, SchemaFault, read_schema};
@@ -52,7 +54,17 @@ pub fn compile_query(alloc: Global, schema: Schema, query: &[u8]) -> Result<Comp
     };
     match compile_checked(alloc, checked) {
         Ok(compiled) => Ok(compiled),
-        Err(fault) => Err(fault),
+        Err(fault) => Err(plan_fault(fault)),
+    }
+}
+
+// The fault of a schema's text.
+fn schema_fault(fault: SchemaFault) -> CompileFault
+    ensures { result ≡ fault_of_schema fault }
+{
+    match fault {
+        SchemaFault::Memory => CompileFault::Memory,
+        fault => CompileFault::Schema(fault),
     }
 }
 
@@ -66,14 +78,27 @@ fn query_fault(fault: QueryFault) -> CompileFault
     }
 }
 
+// The fault of a statement's plan.
+fn plan_fault(fault: PlanFault) -> CompileFault
+    ensures { result ≡ fault_of_plan fault }
+{
+    match fault {
+        PlanFault::Limit(limit) => CompileFault::Limit(limit),
+        PlanFault::Memory => CompileFault::Memory,
+    }
+}
+
 /// Compiles the text of a query over the text of a schema.
+///
+/// `Schema` is the first fault of the schema's text, and comes exactly where it has one; `Query` and
+/// `Limit` come as `compile_query` answers them over its schema.
 pub fn compile(alloc: Global, schema: &[u8], query: &[u8]) -> Result<Compiled, CompileFault>
-    ensures { MatchResult result (IsCompiledText schema.now query.now)
-        (IsTextRefused schema.now query.now) }
+    ensures compiled { IfOk result (IsCompiledText schema.now query.now) }
+    ensures cause { IfErr result (IsTextRefused schema.now query.now) }
+    ensures told { TellsTextCauses schema.now query.now result }
 {
     match read_schema(alloc, schema) {
         Ok(schema) => compile_query(alloc, schema, query),
-        Err(SchemaFault::Memory) => Err(CompileFault::Memory),
-        Err(fault) => Err(CompileFault::Schema(fault)),
+        Err(fault) => Err(schema_fault(fault)),
     }
 }

@@ -1,12 +1,10 @@
 use Rattle.std.proofs.Common.{subst}
-use Rattle.gl_schema.specs.declared.schema.Schema.{Schema}
 use Rattle.gl_query.specs.Names.{StatementHasNames}
 use Rattle.gl_query.specs.Trees.{statement_tree}
 use Rattle.gl_query.proofs.Alike.{statement_same}
 use Rattle.gl_query_reader.proofs.Regular.{regular}
-use Rattle.gl_compiler.specs.Compiles.{IsRefused}
 use Rattle.gl_query_compiler.proofs.Made.{made}
-use Rattle.gl_query_compiler.proofs.Refusing.{refusal, refused_goes, statement_cause, tells_of}
+use Rattle.gl_query_compiler.proofs.Refusing.{plan_cause, refusal, refused_goes, tells_of}
 use Rattle.gl_query_compiler.proofs.querying.compile_query.Goals as goal
 
 -- the text is refused
@@ -86,14 +84,16 @@ returns-in-Ok-compile_checked-clause-told c =
 
 -- it is not
 
+pub returns-clause-cause : goal.returns-clause-cause
+returns-clause-cause c =
+    plan_cause c.in-Ok.checked.schema c.args.schema c.args.query.now c.in-Ok.checked.statement c.in-Err-compile_checked.fault c.plan_fault.result c.in-Ok.ensures.schema c.plan_fault.ensures c.in-Ok.ensures.accepted c.in-Err-compile_checked.ensures
+
 pub returns-clause-refused : goal.returns-clause-refused
 returns-clause-refused c =
-    let fault = c.in-Err-compile_checked.fault in
-    let refused = subst (λ (s : Schema). IsRefused s c.in-Ok.checked.statement fault) c.in-Ok.ensures.schema c.in-Err-compile_checked.ensures in
-    refused_goes c.args.schema c.args.query.now fault c.requires (statement_cause c.args.schema c.args.query.now c.in-Ok.checked.statement fault c.in-Ok.ensures.accepted refused)
+    refused_goes c.args.schema c.args.query.now c.plan_fault.result c.requires
+    (plan_cause c.in-Ok.checked.schema c.args.schema c.args.query.now c.in-Ok.checked.statement c.in-Err-compile_checked.fault c.plan_fault.result c.in-Ok.ensures.schema c.plan_fault.ensures c.in-Ok.ensures.accepted c.in-Err-compile_checked.ensures)
 
 pub returns-clause-told : goal.returns-clause-told
 returns-clause-told c =
-    let fault = c.in-Err-compile_checked.fault in
-    let refused = subst (λ (s : Schema). IsRefused s c.in-Ok.checked.statement fault) c.in-Ok.ensures.schema c.in-Err-compile_checked.ensures in
-    tells_of c.args.schema c.args.query.now fault c.requires (statement_cause c.args.schema c.args.query.now c.in-Ok.checked.statement fault c.in-Ok.ensures.accepted refused)
+    tells_of c.args.schema c.args.query.now c.plan_fault.result c.requires
+    (plan_cause c.in-Ok.checked.schema c.args.schema c.args.query.now c.in-Ok.checked.statement c.in-Err-compile_checked.fault c.plan_fault.result c.in-Ok.ensures.schema c.plan_fault.ensures c.in-Ok.ensures.accepted c.in-Err-compile_checked.ensures)
