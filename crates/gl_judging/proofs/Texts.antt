@@ -15,8 +15,8 @@ use Rattle.gl_tuple_reader.specs.Filing.{beats_of, records_of}
 use Rattle.gl_tuple_reader.specs.FileBeats.{AreBeatsOf}
 use Rattle.gl_tuples.specs.Gaps.{first_close, close_answer}
 use Rattle.gl_verilog.specs.Module.{Module}
-use Rattle.gl_compiler.specs.declared.compiling.CompileFault.{CompileFault}
-use Rattle.gl_compiler.specs.declared.compiling.CompileFault.TheVariants as compile
+use Rattle.gl_query_compiler.specs.declared.fault.CompileFault.{CompileFault}
+use Rattle.gl_query_compiler.specs.declared.fault.CompileFault.TheVariants as compile
 use Rattle.gl_query_judge.specs.Judged.{IsQueryFault}
 use Rattle.gl_figures.specs.declared.Limit.{Limit}
 use Rattle.gl_compiler.specs.Built.{gap_of}

@@ -9,8 +9,8 @@ use Rattle.gl_query.specs.declared.fault.QueryFault.{QueryFault}
 use Rattle.gl_query.specs.declared.tree.Statement.{Statement}
 use Rattle.gl_tuples.specs.declared.fault.TupleFault.{TupleFault}
 use Rattle.gl_tuples.specs.declared.fault.TupleFault.TheVariants as tuples
-use Rattle.gl_compiler.specs.declared.compiling.CompileFault.{CompileFault}
-use Rattle.gl_compiler.specs.declared.compiling.CompileFault.TheVariants as compile
+use Rattle.gl_query_compiler.specs.declared.fault.CompileFault.{CompileFault}
+use Rattle.gl_query_compiler.specs.declared.fault.CompileFault.TheVariants as compile
 use Rattle.gl_query_judge.specs.Judged.{IsQueryFault}
 use Rattle.gl_figures.specs.declared.Limit.{Limit}
 use Rattle.gl_compiler.specs.Built.{gap_of}

@@ -13,11 +13,11 @@ ghost use Rattle.gl_outside.specs.States.{Stays};
 ghost use Rattle.gl_judging.specs.Passing.{QueryPasses, TuplesPass, IsCompiled, IsReady, kept_beats};
 ghost use Rattle.gl_texts.specs.Texts.{HasText, SchemaPasses};
 
-use gl_compiler::{CompileFault, Compiled};
+use gl_compiler::Compiled;
 use gl_forms::Part;
 use gl_notes::Refusal;
 use gl_outside::{Shelf, Words};
-use gl_query_compiler::compile_query;
+use gl_query_compiler::{CompileFault, compile_query};
 use gl_schema::Schema;
 use gl_texts::{fetch, fetch_schema};
 use gl_tuple_reader::read_tuples;

@@ -11,21 +11,20 @@ use Rattle.gl_query.specs.declared.tree.Statement.{Statement}
 use Rattle.gl_query.specs.declared.fault.QueryFault.{QueryFault}
 use Rattle.gl_query.specs.Alike.{query_alike}
 use Rattle.gl_query.specs.Faults.{first_fault}
-use Rattle.gl_query.specs.Shapes.{QueryShape}
+use Rattle.gl_query.specs.Shapes.{QueryShape, query_shape}
 use Rattle.gl_query.specs.Trees.{StatementTree, statement_tree}
 use Rattle.gl_query.proofs.Alike.{query_same}
 use Rattle.gl_query_reader.specs.Grammar.{HasStatement}
 use Rattle.gl_query_judge.specs.Judged.{BreaksRule, HasNoStatement}
 use Rattle.gl_query_judge.proofs.Judged.{one_meaning}
-use Rattle.gl_algebra.specs.Added.{Placed}
-use Rattle.gl_algebra.specs.FigureTable as table
 use Rattle.gl_figures.specs.declared.Limit.{Limit}
+use Rattle.gl_elaborate.specs.Figures.{query_figures}
 use Rattle.gl_elaborate.specs.Plans.{placed, plan_of, stream_node}
 use Rattle.gl_planner.specs.Planned.{IsWithinLimits}
 use Rattle.gl_planner.proofs.LimitLemmas.{one_limit}
 use Rattle.gl_compiler.specs.declared.compiling.Compiled.{Compiled}
-use Rattle.gl_compiler.specs.declared.compiling.CompileFault.{CompileFault}
-use Rattle.gl_compiler.specs.declared.compiling.CompileFault.TheVariants as compile
+use Rattle.gl_query_compiler.specs.declared.fault.CompileFault.{CompileFault}
+use Rattle.gl_query_compiler.specs.declared.fault.CompileFault.TheVariants as compile
 use Rattle.gl_compiler.specs.Built.{gap_of, latency_of}
 use Rattle.gl_query_judge.specs.Limits.{IsOverLimit}
 use Rattle.gl_query_compiler.specs.Queries.{IsQuery, IsQueryRefused}
@@ -33,7 +32,7 @@ use Rattle.gl_compiler.specs.Meets.{Meets, result_columns}
 use Rattle.gl_load_query.specs.Query.{load_schema, query_text}
 use Rattle.gl_load.specs.Loads.{IsCompiledLoad}
 use Rattle.gl_load_query.proofs.Constants.{load_tree, query_faultless, query_has}
-use Rattle.gl_load_query.proofs.Planning.{load_plan, plan_gap, plan_within}
+use Rattle.gl_load_query.proofs.Planning.{load_plan, plan_within, query_gap}
 
 -- the text of the schema is read
 pub unread : (f : SchemaFault) → Gives {A = Schema} (Err f) (Ok load_schema) → f ≡ schema.Memory
@@ -44,14 +43,15 @@ unread (schema.BadKind at) h = absurd cc
 unread (schema.Twice at) h = absurd cc
 unread (schema.TooMany at) h = absurd cc
 
--- each statement of the query's text has the plan of the load
+-- each statement of the query's text has the query and the plan of the load, and takes a tuple in each cycle
+query_is : (s : Statement) → HasStatement query_text (statement_tree s) → query_shape s.query ≡ query_alike load_tree.query
+query_is s has = sym (query_same s.query) ∙ ap (λ (x : StatementTree). query_alike x.query) (one_meaning query_text (statement_tree s) load_tree has query_has)
+
 plan_is : (s : Statement) → HasStatement query_text (statement_tree s) → plan_of load_schema s ≡ load_plan
-plan_is s has =
-    let tree : statement_tree s ≡ load_tree = one_meaning query_text (statement_tree s) load_tree has query_has in
-    ap (λ (q : QueryShape). placed (stream_node load_schema.streams) load_schema.streams q []) (sym (query_same s.query) ∙ ap (λ (x : StatementTree). query_alike x.query) tree)
+plan_is s has = ap (λ (q : QueryShape). placed (stream_node load_schema.streams) load_schema.streams q []) (query_is s has)
 
 pub gap_is : (s : Statement) → HasStatement query_text (statement_tree s) → gap_of load_schema s ≡ 1
-gap_is s has = ap (λ (p : Placed). table.gap_of p.nodes p.root) (plan_is s has) ∙ plan_gap
+gap_is s has = ap (λ (q : QueryShape). (query_figures load_schema.streams q).gt) (query_is s has) ∙ query_gap
 
 faultless : (f : QueryFault) → HasNoStatement query_text f ⊎ BreaksRule load_schema query_text f → ⊥
 faultless f (inl h) = h.none load_tree query_has

@@ -13,6 +13,7 @@ use Rattle.gl_compiler.specs.Built.{gap_of}
 use Rattle.gl_compiler.specs.Meets.{Meets, result_columns}
 use Rattle.gl_runner.specs.Prints.{CanRun, OfEachRun, Ran, Writes}
 use Rattle.gl_load_query.specs.Query.{load_schema}
+use Rattle.gl_load_query.proofs.Constants.{schema_spelled}
 use Rattle.gl_load.specs.Steps.{Kept, kept_state}
 use Rattle.gl_load.specs.Tuples.{load_beats}
 use Rattle.gl_load.specs.Tallies.{summary_of}
@@ -27,7 +28,7 @@ can_run_load c beats text schema kinds printed is are keeps a b d e =
     let p : printed.latency ≡ c.printed.latency = ap (λ (x : Printed). x.latency) e in
     let meets = subst (λ (n : ℕ). Meets load_schema c.statement n gap c.text.items) (sym is.latency) is.meets in
     let near = subst (λ (n : ℕ). KeepsGap n beats) (sym is.gap) keeps in
-    let run : CanRun c.text.items load_schema c.kinds beats c.printed.latency Zero = can_run load_schema c.statement c.printed.latency gap c.text.items c.kinds beats Zero meets is.columns is.short are near in
+    let run : CanRun c.text.items load_schema c.kinds beats c.printed.latency Zero = can_run load_schema c.statement c.printed.latency gap c.text.items c.kinds beats Zero schema_spelled.schema' meets is.columns is.short are near in
     subst (λ (x : List ℕ). CanRun x schema kinds beats printed.latency Zero) (sym a) (
     subst (λ (x : Schema). CanRun c.text.items x kinds beats printed.latency Zero) (sym (b ∙ is.schema)) (
     subst (λ (x : List Kind). CanRun c.text.items load_schema x beats printed.latency Zero) (sym d) (

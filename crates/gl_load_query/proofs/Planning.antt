@@ -1,4 +1,4 @@
--- The plan of the load's query is within the limits, has no group, and takes a tuple in each cycle.
+-- The plan of the load's query is within the limits, and the query takes a tuple in each cycle.
 use Rattle.std.proofs.Common.{◌<◌, ◌≡◌, ◌≢◌, ℕ, zero, suc, Bool, true, false, List, [], length, refl, sym, subst, arith}
 use Rattle.std.specs.Prelude.{◌==◌, ◌&&◌, is_some}
 use Rattle.std.proofs.Math.Dec.{leb}
@@ -8,7 +8,7 @@ use Rattle.gl_bits.proofs.Options.{some_there}
 use Rattle.gl_query.specs.Alike.{query_alike}
 use Rattle.gl_algebra.specs.declared.node.PlanNode.{PlanNode}
 use Rattle.gl_algebra.specs.Added.{Placed, added}
-use Rattle.gl_algebra.specs.FigureTable.{AreSmall, figures_of, gap_of}
+use Rattle.gl_algebra.specs.FigureTable.{AreSmall, figures_of}
 use Rattle.gl_algebra.specs.Nodewise.{nodewise, value_to_depth}
 use Rattle.gl_algebra.specs.Shapes.{shape_of}
 use Rattle.gl_algebra.specs.Small.{are_small, small_of}
@@ -16,6 +16,7 @@ use Rattle.gl_algebra.proofs.SmallLemmas.{small-is}
 use Rattle.gl_algebra.specs.Weights.{weight_of, weight_with_output}
 use Rattle.gl_figures.specs.Answered.{AreSmallBefore, most_weight}
 use Rattle.gl_terms.specs.Levels.{level_of}
+use Rattle.gl_elaborate.specs.Figures.{query_figures}
 use Rattle.gl_elaborate.specs.Plans.{placed, stream_node}
 use Rattle.gl_planner.specs.Planned.{IsWithinLimits}
 use Rattle.gl_load_query.specs.Query.{load_schema}
@@ -49,6 +50,5 @@ pub plan_within : IsWithinLimits load_plan
 plan_within = record { small = small_before load_plan.nodes (length load_plan.nodes) plan_small; light = leb-true _ _ plan_light }
 
 -- it takes a tuple in each cycle
-pub plan_gap : gap_of load_plan.nodes load_plan.root ≡ 1
-unfolding added level_of nodewise value_to_depth figures_of shape_of
-plan_gap = refl
+pub query_gap : (query_figures load_schema.streams (query_alike load_tree.query)).gt ≡ 1
+query_gap = refl
