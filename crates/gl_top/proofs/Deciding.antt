@@ -9,11 +9,11 @@ use Rattle.gl_schema.specs.Schemas.{IsSchema}
 use Rattle.gl_schema.proofs.Complete.{read_again}
 use Rattle.gl_query.specs.declared.tree.Statement.{Statement}
 use Rattle.gl_query.specs.declared.fault.QueryFault.{QueryFault}
+use Rattle.gl_query.specs.Shapes.{QueryShape}
 use Rattle.gl_query.specs.Trees.{statement_tree}
 use Rattle.gl_query_judge.specs.Judged.{IsQueryFault}
 use Rattle.gl_query_judge.proofs.Judged.{accepted_goes, one_fault, one_meaning}
-use Rattle.gl_algebra.specs.Added.{Placed}
-use Rattle.gl_algebra.specs.FigureTable as table
+use Rattle.gl_elaborate.specs.Figures.{query_figures}
 use Rattle.gl_figures.specs.declared.Limit.{Limit}
 use Rattle.gl_tuples.specs.declared.beats.Beat.{Beat}
 use Rattle.gl_tuples.specs.declared.fault.TupleFault.{TupleFault}
@@ -25,7 +25,7 @@ use Rattle.gl_compiler.specs.Built.{gap_of}
 use Rattle.gl_query_judge.specs.Limits.{IsOverLimit}
 use Rattle.gl_query_compiler.specs.Queries.{IsQuery}
 use Rattle.gl_query_compiler.proofs.Refusing.{over_goes, query_accepted}
-use Rattle.gl_compiler.proofs.Shaped.{plans_alike}
+use Rattle.gl_compiler.proofs.Shaped.{shapes_alike}
 use Rattle.gl_forms.specs.declared.command.Command.TheVariants as command
 use Rattle.gl_forms.specs.declared.command.Part.TheVariants as part
 use Rattle.gl_notes.specs.declared.notes.Refusal.{Refusal}
@@ -210,8 +210,8 @@ one_bad_query told words f g tells a b =
 -- its statements have one gap
 same_gap : (s : Schema) (st st' : Statement) (text : List ℕ) → IsQuery s text st → IsQuery s text st' → gap_of s st ≡ gap_of s st'
 same_gap s st st' text p q =
-    ap (λ (x : Placed). table.gap_of x.nodes x.root)
-    (plans_alike s st st' (one_meaning text (statement_tree st) (statement_tree st') p.has q.has))
+    ap (λ (q : QueryShape). (query_figures s.streams q).gt)
+    (shapes_alike st st' (one_meaning text (statement_tree st) (statement_tree st') p.has q.has))
 
 one_gap : (told : List ℕ → Told) (words : List (List ℕ)) (s : Schema) (st st' : Statement) → IsTelling told words → QueryPasses told words s st → QueryPasses told words s st' → gap_of s st ≡ gap_of s st'
 one_gap told words s st st' tells p q =

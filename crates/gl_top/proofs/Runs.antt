@@ -24,7 +24,7 @@ pub can_run_all : (c : Compiled) (beats : List files.Beat) (text : List ℕ) (sc
 can_run_all c beats text schema kinds printed start is fine gap a b d e =
     let p : printed.latency ≡ c.printed.latency = ap (λ (x : Printed). x.latency) e in
     let meets : Meets c.schema c.statement c.printed.latency (gap_of c.schema c.statement) c.text.items = subst (λ (n : ℕ). Meets c.schema c.statement n (gap_of c.schema c.statement) c.text.items) (sym is.latency) is.meets in
-    let run : CanRun c.text.items c.schema c.kinds (plain_beats beats) c.printed.latency start = can_run c.schema c.statement c.printed.latency (gap_of c.schema c.statement) c.text.items c.kinds (plain_beats beats) start meets is.columns is.short fine.beats' gap in
+    let run : CanRun c.text.items c.schema c.kinds (plain_beats beats) c.printed.latency start = can_run c.schema c.statement c.printed.latency (gap_of c.schema c.statement) c.text.items c.kinds (plain_beats beats) start is.fine meets is.columns is.short fine.beats' gap in
     subst (λ (x : List ℕ). CanRun x schema kinds (plain_beats beats) printed.latency start) (sym a) (
     subst (λ (x : Schema). CanRun c.text.items x kinds (plain_beats beats) printed.latency start) (sym b) (
     subst (λ (x : List Kind). CanRun c.text.items c.schema x (plain_beats beats) printed.latency start) (sym d) (
