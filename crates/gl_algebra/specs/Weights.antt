@@ -1,5 +1,5 @@
 -- The weight of a node, which bounds its hardware, and the copies of bodies that it has.
-use Rattle.std.specs.Prelude.{ℕ, ◌+◌, ◌*◌, max, sum_by, List, length, if◌then◌else◌}
+use Rattle.std.specs.Prelude.{ℕ, ◌+◌, ◌*◌, max, sum_by, List, [], ◌∷◌, length, if◌then◌else◌}
 use Rattle.gl_bits.specs.Kinds.{width_of}
 use Rattle.gl_bits.specs.declared.kind.Kind.{Kind}
 use Rattle.gl_algebra.specs.declared.figures.Figures.{Figures}
@@ -38,9 +38,15 @@ weight_of_spacer gap f lines = if needs_spacer gap f then 8 * lines * (f.ne + 6)
 abbrev pub weight_of_copies : ℕ → ℕ → ℕ → ℕ → ℕ
 weight_of_copies copies weight source own = copies * (weight + 8 * (source + own + 4)) + 8 * (source + own + 16)
 
+-- the sum of the values of nodes
+abbrev pub sum_over : (ℕ → ℕ) → List ℕ → ℕ
+sum_over values [] = 0
+sum_over values (node ∷ []) = values node
+sum_over values (node ∷ next ∷ nodes) = values node + sum_over values (next ∷ nodes)
+
 -- the sum over a node's children: a shared child counts for each use, and a body is none
 abbrev pub sum_over_children : (ℕ → ℕ) → PlanNode → ℕ
-sum_over_children values node = sum_by values (children_of node)
+sum_over_children values node = sum_over values (children_of node)
 
 -- the part of the spacer before the copies of a node's body, by what a spacer of a gap counts over figures and lines
 abbrev pub part_of_spacer : (ℕ → Figures → ℕ → ℕ) → (ℕ → Shape) → (ℕ → Figures) → PlanNode → ℕ
@@ -69,6 +75,7 @@ own_part spacer shapes figures weights lines (Group source body key groups) =
     weight_of_copies groups (weights body) (lines_of (shapes source)) lines
     + part_of_spacer spacer shapes figures (Group source body key groups)
 
+-- its own part in the weight
 abbrev pub own_weight : (ℕ → Shape) → (ℕ → Figures) → (ℕ → ℕ) → ℕ → PlanNode → ℕ
 own_weight = own_part weight_of_spacer
 

@@ -1,6 +1,6 @@
 -- The columns of an accepted query are columns of a result: at most 32, no two of one name, and of kinds that are kinds.
 use Rattle.std.proofs.Common.{◌≡◌, ℕ, zero, suc, ◌≤◌, Bool, true, false, List, [], ◌∷◌, length, map, sym, subst, arith, lit≤, length-append}
-use Rattle.std.specs.Prelude.{◌||◌, IfSome, Option, None, Some, bytes_eq, slice_get, unwrap_or, option_map, if◌then◌else◌}
+use Rattle.std.specs.Prelude.{◌||◌, IfSome, Option, None, Some, bytes_eq, slice_get, unwrap_or, option_map}
 use Rattle.std.specs.List.{AllByRecursion, IsDistinct, list_any}
 use Rattle.gl_bits.specs.declared.kind.Kind.{Kind}
 use Rattle.gl_bits.specs.declared.kind.Kind.TheVariants.{Unsigned, Text}
