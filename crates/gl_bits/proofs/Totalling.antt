@@ -5,7 +5,7 @@ use Rattle.std.proofs.Math.Nat.{mod-add-mod, zero-mod}
 use Rattle.gl_bits.proofs.Wrapping.{wraps_within}
 use Rattle.gl_bits.specs.declared.kind.Kind.{Kind}
 use Rattle.gl_bits.specs.declared.kind.Kind.TheVariants.{Unsigned, Text}
-use Rattle.gl_bits.specs.Kinds.{held_of, width_of, word_of}
+use Rattle.gl_bits.specs.Kinds.{wrapped, width_of, word_of}
 use Rattle.gl_bits.specs.Totals.{average_of, count_of, quotient_of, sum_of_numbers, sum_total, weighted, weighted_sum}
 
 -- one more value
@@ -37,18 +37,18 @@ unsigned_sum : (kind : Kind) (xs : List ℕ) → sum_of_numbers kind xs ≡ pos 
 unsigned_sum (Unsigned w) xs = summed 0 xs
 unsigned_sum (Text n) xs = summed 0 xs
 
-held_unsigned : (kind : Kind) (bits n : ℕ) → held_of kind bits (pos n) ≡ pos (n % 2 ^ bits)
-held_unsigned (Unsigned w) bits n = refl
-held_unsigned (Text m) bits n = refl
+wrapped_unsigned : (kind : Kind) (bits n : ℕ) → wrapped kind bits (pos n) ≡ pos (n % 2 ^ bits)
+wrapped_unsigned (Unsigned w) bits n = refl
+wrapped_unsigned (Text m) bits n = refl
 
-held_sum : (kind : Kind) (bits : ℕ) (xs : List ℕ) → held_of kind bits (sum_of_numbers kind xs) ≡ pos (sum xs % 2 ^ bits)
-held_sum kind bits xs = ap (held_of kind bits) (unsigned_sum kind xs) ∙ held_unsigned kind bits (sum xs)
+wrapped_sum : (kind : Kind) (bits : ℕ) (xs : List ℕ) → wrapped kind bits (sum_of_numbers kind xs) ≡ pos (sum xs % 2 ^ bits)
+wrapped_sum kind bits xs = ap (wrapped kind bits) (unsigned_sum kind xs) ∙ wrapped_unsigned kind bits (sum xs)
 
 pub average_some : (kind : Kind) (xs : List ℕ) (n : ℕ) → n ≡ count_of xs → n ≢ 0 → sum_total (width_of kind + 32) xs / n % 2 ^ width_of kind ≡ average_of kind xs
 unfolding average_of sum_total
 average_some kind xs n e some =
     let quotient : quotient_of (pos (sum xs % 2 ^ (width_of kind + 32))) n ≡ pos (sum xs % 2 ^ (width_of kind + 32) / n) = rw (ne_eqb n 0 some) refl in
-    sym (ap (λ z. word_of (width_of kind) (quotient_of z (count_of xs))) (held_sum kind (width_of kind + 32) xs)
+    sym (ap (λ z. word_of (width_of kind) (quotient_of z (count_of xs))) (wrapped_sum kind (width_of kind + 32) xs)
     ∙ ap (λ c. word_of (width_of kind) (quotient_of (pos (sum xs % 2 ^ (width_of kind + 32))) c)) (sym e)
     ∙ ap (word_of (width_of kind)) quotient)
 

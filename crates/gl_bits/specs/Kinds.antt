@@ -30,7 +30,7 @@ is_at_most kind x y = int_le (number_of kind x) (number_of kind y)
 abbrev pub word_of : ℕ → ℤ → ℕ
 word_of width number = unsigned_abs (int_rem_euclid number (pos (2 ^ width)))
 
--- the number of a kind's sort that so many bits can hold of a number, which wraps: a kind without a sign holds none below 0
-abbrev pub held_of : Kind → ℕ → ℤ → ℤ
-held_of (Unsigned w) bits number = int_rem_euclid number (pos (2 ^ bits))
-held_of (Text n) bits number = int_rem_euclid number (pos (2 ^ bits))
+-- a number as so many bits of a kind hold it, a multiple of 2 ^ bits away: a kind without a sign holds none below 0
+abbrev pub wrapped : Kind → ℕ → ℤ → ℤ
+wrapped (Unsigned w) bits number = int_rem_euclid number (pos (2 ^ bits))
+wrapped (Text n) bits number = int_rem_euclid number (pos (2 ^ bits))

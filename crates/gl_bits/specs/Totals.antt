@@ -1,7 +1,7 @@
 -- Totals over the values of a column, each a word of one kind. Each is 0 over no values.
 use Rattle.std.specs.Prelude.{ℕ, ℤ, pos, ◌+ℤ◌, ◌+◌, ◌*◌, ◌%◌, ◌^◌, List, [], ◌∷◌, length, map, fold, sum, nat_eq, int_div, if◌then◌else◌}
 use Rattle.gl_bits.specs.declared.kind.Kind.{Kind}
-use Rattle.gl_bits.specs.Kinds.{width_of, number_of, held_of, word_of, is_below}
+use Rattle.gl_bits.specs.Kinds.{width_of, number_of, wrapped, word_of, is_below}
 
 -- how many, which wraps in 32 bits
 unfoldable pub count_of : {A : Type 0} → List A → ℕ
@@ -39,7 +39,7 @@ quotient_of top bottom = if nat_eq bottom 0 then pos 0 else int_div top (pos bot
 -- the sum of the numbers, in 32 bits more than the width, by their count, in the width
 unfoldable pub average_of : Kind → List ℕ → ℕ
 average_of kind xs =
-    word_of (width_of kind) (quotient_of (held_of kind (width_of kind + 32) (sum_of_numbers kind xs)) (count_of xs))
+    word_of (width_of kind) (quotient_of (wrapped kind (width_of kind + 32) (sum_of_numbers kind xs)) (count_of xs))
 
 -- the values by their weights, the oldest first; values past the last weight count 0
 abbrev pub weighted : List ℕ → List ℕ → ℕ
