@@ -2,7 +2,7 @@
 use Rattle.std.specs.Prelude.{ℕ, Bool, true, false, List, [], ◌∷◌, ◌++◌, Option, Some, None, option_map, option_and_then, if◌then◌else◌}
 use Rattle.gl_verilog.specs.Tokens.{Token, Reserved, Name, Number, Sized, Mark, IfWord, BeginWord, EndWord, ElseWord, OpenParen, CloseParen, OpenBracket, CloseBracket, OpenBrace, Semicolon, Comma, Colon, Equals, Tilde, Exclamation, LessEquals}
 use Rattle.gl_verilog.specs.Written.{BitNot, LogicalNot, InfixOp, looseness, WrittenExpr, Named, Constant, BitOf, PartOf, WrittenStatement, Range, WrittenPort, WrittenItem, MemoryOf, WrittenModule}
-pub use Rattle.gl_verilog_grammar.specs.Stages.{Frame, InParens, InBraces, InIndex, PrefixOf, InfixOf, TestOf, ColonOf, AssignTo, UpdateTo, AddressFor, UpdateWordTo, IfTest, ThenOf, ElseOf, InBegin, BodyOf, Sort, WireSort, RegisterSort, Owner, OfPort, OfItem, Stage, WantModule, WantTitle, WantPorts, WantPort, Declaring, WantHigh, WantColon, WantZero, WantClose, WantName, AfterPort, AfterPorts, AfterName, WantMore, WantFirst, WantMemoryColon, WantLast, WantMemoryClose, WantMemoryEnd, WantItem, WantAssigned, WantEquals, WantAt, WantEdge, WantPosedge, WantClock, WantEdgeEnd, WantStatement, AfterTarget, WantArrow, WantTest, HaveStatement, WantOperand, HaveOperand, AtIndex, AtPlace, WantLow, AtPart, Complete, sign_number, word_number, is_mark, is_word, name_in, digits_in, is_zero, expect, either, with_word, item_stage, memory_stage, next_stage, item_of, Open, is_if, if_of, else_at, block_of, Stated, InList, AsBody, Nowhere, stated, binds, applied, parts_of, Role, IsInfix, IsQuestion, IsColon, IsComma, IsBrace, IsParen, IsBracket, IsSemicolon, IsIndex, IsOther, role_of, Closed, AnOperand, ATest, AnAddress, AnItem, AStatement, Further, Unclosed, closed, close_top, alone}
+pub use Rattle.gl_verilog_grammar.specs.Stages.{Frame, InParens, InBraces, InIndex, PrefixOf, InfixOf, TestOf, ColonOf, AssignTo, UpdateTo, AddressFor, UpdateWordTo, IfTest, ThenOf, ElseOf, InBegin, BodyOf, Sort, WireSort, RegisterSort, Owner, OfPort, OfItem, Stage, WantModule, WantTitle, WantPorts, WantPort, Declaring, WantHigh, WantColon, WantZero, WantClose, WantName, AfterPort, AfterPorts, AfterName, WantMore, WantFirst, WantMemoryColon, WantLast, WantMemoryClose, WantMemoryEnd, WantItem, WantAssigned, WantEquals, WantAt, WantEdge, WantPosedge, WantClock, WantEdgeEnd, WantStatement, AfterTarget, WantArrow, WantTest, HaveStatement, WantOperand, HaveOperand, AtIndex, AtPlace, WantLow, AtPart, Complete, is_plain, sign_number, word_number, is_mark, is_word, name_in, digits_in, is_zero, expect, either, with_word, item_stage, memory_stage, next_stage, item_of, Open, is_if, if_of, else_at, block_of, Stated, InList, AsBody, Nowhere, stated, binds, applied, parts_of, Role, IsInfix, IsQuestion, IsColon, IsComma, IsBrace, IsParen, IsBracket, IsSemicolon, IsIndex, IsOther, role_of, Closed, AnOperand, ATest, AnAddress, AnItem, AStatement, Further, Unclosed, closed, close_top, alone}
 unfoldable pub use Rattle.gl_verilog_grammar.specs.Stages.{at_else, at_end, reduce}
 
 -- what was read: the name, the ports and the items that are complete, the stage, and what is open

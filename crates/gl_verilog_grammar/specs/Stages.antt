@@ -75,6 +75,15 @@ pub data Stage : Type 0 where
   AtPart : (name high low : List ℕ) → Stage
   Complete : Stage
 
+-- whether a stage holds words alone
+abbrev pub is_plain : Stage → Bool
+is_plain (AfterName sort range names) = false
+is_plain (WantMore sort range names) = false
+is_plain (WantArrow target address) = false
+is_plain (HaveStatement s) = false
+is_plain (HaveOperand e) = false
+is_plain stage = true
+
 -- ---- tests of tokens
 
 -- the number of a sign, and of a reserved word, in the order of their declarations
@@ -223,6 +232,29 @@ else_at (ThenOf test) fs st more = Some (ElseOf test st ∷ fs)
 else_at (ElseOf test yes') fs st more = more
 else_at f fs st more = None
 
+-- what is open on top
+abbrev pub top_is_if : List Frame → Bool
+top_is_if [] = false
+top_is_if (f ∷ fs) = is_if f
+
+abbrev pub is_else : Frame → Bool
+is_else (ElseOf test yes') = true
+is_else f = false
+
+abbrev pub top_is_else : List Frame → Bool
+top_is_else [] = false
+top_is_else (f ∷ fs) = is_else f
+
+-- the `if` on top ends
+abbrev pub end_top : List Frame → WrittenStatement → Open WrittenStatement
+end_top [] st = ([], st)
+end_top (f ∷ fs) st = (fs, if_of f st)
+
+-- the `if` on top gets an `else`
+abbrev pub else_on_top : List Frame → WrittenStatement → Option (List Frame)
+else_on_top [] st = None
+else_on_top (f ∷ fs) st = else_at f fs st None
+
 -- an `else` goes to the nearest `if` that has none
 unfoldable pub at_else : List Frame → WrittenStatement → Option (List Frame)
 at_else [] st = None
@@ -232,6 +264,11 @@ at_else (f ∷ fs) st = else_at f fs st (at_else fs (if_of f st))
 unfoldable pub at_end : List Frame → WrittenStatement → Open WrittenStatement
 at_end [] st = ([], st)
 at_end (f ∷ fs) st = if is_if f then at_end fs (if_of f st) else (f ∷ fs, st)
+
+-- whether a frame is a block
+abbrev pub is_block : Frame → Bool
+is_block (InBegin done) = true
+is_block f = false
 
 -- the statements of a block
 abbrev pub block_of : Frame → Option WrittenStatement
@@ -261,6 +298,15 @@ applied (PrefixOf op) e = Prefix op e
 applied (InfixOf op l) e = Infix op l e
 applied (ColonOf c x) e = Conditional c x e
 applied f e = e
+
+abbrev pub top_binds : ℕ → List Frame → Bool
+top_binds p [] = false
+top_binds p (f ∷ fs) = binds p f
+
+-- applies the operator on top
+abbrev pub apply_top : List Frame → WrittenExpr → Open WrittenExpr
+apply_top [] e = ([], e)
+apply_top (f ∷ fs) e = (fs, applied f e)
 
 -- applies what binds at least as tight as the level
 unfoldable pub reduce : ℕ → List Frame → WrittenExpr → Open WrittenExpr
@@ -320,6 +366,13 @@ pub data Closed : Type 0 where
   AStatement : (statement : WrittenStatement) → Closed
   Further : (frame : Frame) → Closed
   Unclosed : Closed
+
+-- whether a frame holds no tree that goes on behind what closes it
+abbrev pub is_bare : Frame → Bool
+is_bare (InBraces parts) = false
+is_bare (TestOf test) = false
+is_bare (UpdateWordTo target address) = false
+is_bare f = true
 
 abbrev pub closed : Role → Frame → WrittenExpr → Closed
 closed IsColon (TestOf test) e = Further (ColonOf test e)

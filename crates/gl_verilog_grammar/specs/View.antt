@@ -1,5 +1,6 @@
 -- What the values of the reader stand for: what was read so far.
 use Rattle.std.specs.Prelude.{◌≡◌, Bool, List, map, reverse, Option, Some, None, Result, IfOk, MatchBool}
+use Rattle.gl_verilog.specs.Written as written
 use Rattle.gl_verilog_grammar.specs.Machine as machine
 use Rattle.gl_verilog_grammar.specs.declared.frames.Frame.{Frame}
 use Rattle.gl_verilog_grammar.specs.declared.frames.Frame.TheVariants as frame_is
@@ -57,9 +58,11 @@ unfoldable pub closed_of : Closed → machine.Closed
 closed_of (closed_is.AnOperand operand) = machine.AnOperand (expr_of operand)
 closed_of (closed_is.ATest at test) = machine.ATest (expr_of test)
 closed_of (closed_is.AnAddress target address) = machine.AnAddress (name_of target) (expr_of address)
-closed_of (closed_is.AnItem item) = machine.AnItem (item_of item)
-closed_of (closed_is.AStatement statement) = machine.AStatement (statement_of statement)
-closed_of (closed_is.Further frame) = machine.Further (frame_of frame)
+closed_of (closed_is.AnAssignment target value) = machine.AnItem (written.Assign (name_of target) (expr_of value))
+closed_of (closed_is.AnUpdate target value) = machine.AStatement (written.Update (name_of target) (expr_of value))
+closed_of (closed_is.AWordUpdate target address value) = machine.AStatement (written.UpdateWord (name_of target) (expr_of address) (expr_of value))
+closed_of (closed_is.AnotherPart at test yes') = machine.Further (machine.ColonOf (expr_of test) (expr_of yes'))
+closed_of (closed_is.FurtherParts at parts) = machine.Further (machine.InBraces (map expr_of parts.items))
 closed_of closed_is.Unclosed = machine.Unclosed
 
 abbrev pub frames_of : List Frame → List machine.Frame

@@ -1,163 +1,244 @@
 //! What a sign behind an expression closes.
 
-ghost use Rattle.std.specs.Prelude.{◌≡◌, option_map, IfOk};
+ghost use Rattle.std.specs.Prelude.{◌≡◌, true, map, option_map, IfOk};
 ghost use Rattle.gl_verilog_grammar.specs.Stages as machine;
 ghost use Rattle.gl_verilog_written.specs.View.{expr_of, name_of};
 ghost use Rattle.gl_verilog_grammar.specs.View.{frame_of, frames_of, role_is, closed_of};
 
+use crate::boxes::{OneBox, one_box};
 use crate::frames::{Frame, reduce};
+use crate::stacks::with_last;
 use crate::stage::Role;
-use gl_verilog_written::{Word, WrittenExpr, WrittenItem, WrittenStatement};
+use gl_verilog_written::{Word, WrittenExpr};
 use std::alloc::{AllocError, Global};
 use std::mem;
 
 /// What a sign closes: an operand, the condition of an `if`, the address of a word that takes a
-/// value, an item, a statement; or what it opens in its place.
+/// value, an assignment, an update of a register or of a word; or what it opens in its place: the
+/// other part of a conditional, further parts.
 #[derive(Drop)]
 pub enum Closed<'a> {
     AnOperand(WrittenExpr<'a>),
     ATest(usize, WrittenExpr<'a>),
     AnAddress(Word<'a>, WrittenExpr<'a>),
-    AnItem(WrittenItem<'a>),
-    AStatement(WrittenStatement<'a>),
-    Further(Frame<'a>),
+    AnAssignment(Word<'a>, WrittenExpr<'a>),
+    AnUpdate(Word<'a>, WrittenExpr<'a>),
+    AWordUpdate {
+        target: Word<'a>,
+        address: WrittenExpr<'a>,
+        value: WrittenExpr<'a>,
+    },
+    AnotherPart {
+        at: usize,
+        test: WrittenExpr<'a>,
+        yes: WrittenExpr<'a>,
+    },
+    FurtherParts {
+        at: usize,
+        parts: Vec<WrittenExpr<'a>>,
+    },
     Unclosed,
 }
 
-#[tactic(auto, unfolding(crate::specs::View::frame_of, crate::specs::View::closed_of))]
-fn at_colon<'a>(frame: Frame<'a>, operand: WrittenExpr<'a>) -> Closed<'a>
-    ensures { closed_of result ≡ machine.closed machine.IsColon (frame_of frame.entry)
-        (expr_of operand.entry) }
-{
-    match frame {
-        Frame::TestOf { at, test } => Closed::Further(Frame::ColonOf {
-            at,
-            test,
-            yes: operand,
-        }),
-        other => {
-            mem::drop(other);
-            mem::drop(operand);
-            Closed::Unclosed
-        }
-    }
-}
-
 #[tactic(auto, using(crate::proofs::Stack::pushes), unfolding(crate::specs::View::frame_of, crate::specs::View::closed_of))]
-fn at_comma<'a>(frame: Frame<'a>, operand: WrittenExpr<'a>) -> Result<Closed<'a>, AllocError>
-    ensures { IfOk result (λ c. closed_of c ≡ machine.closed machine.IsComma (frame_of frame.entry)
-        (expr_of operand.entry)) }
+fn further<'a>(
+    at: usize,
+    parts: Vec<WrittenExpr<'a>>,
+    operand: WrittenExpr<'a>,
+) -> Result<Closed<'a>, AllocError>
+    ensures { IfOk result (λ c. closed_of c ≡ machine.closed machine.IsComma
+        (machine.InBraces (map expr_of parts.entry.items)) (expr_of operand.entry)) }
 {
-    match frame {
-        Frame::InBraces { at, parts } => {
-            let mut parts = parts;
-            parts.push(operand)?;
-            Ok(Closed::Further(Frame::InBraces { at, parts }))
-        }
-        other => {
-            mem::drop(other);
-            mem::drop(operand);
-            Ok(Closed::Unclosed)
-        }
-    }
+    let parts = with_last(parts, operand)?;
+    Ok(Closed::FurtherParts { at, parts })
 }
 
-#[tactic(auto, using(gl_verilog_written::proofs::Views::exprs, crate::proofs::Stack::pushes), unfolding(crate::specs::View::frame_of, crate::specs::View::closed_of))]
-fn at_brace<'a>(frame: Frame<'a>, operand: WrittenExpr<'a>) -> Result<Closed<'a>, AllocError>
-    ensures { IfOk result (λ c. closed_of c ≡ machine.closed machine.IsBrace (frame_of frame.entry)
+#[tactic(auto, using(gl_verilog_written::proofs::Views::exprs, crate::proofs::Stack::pushes), unfolding(crate::specs::View::closed_of))]
+fn whole<'a>(
+    at: usize,
+    parts: Vec<WrittenExpr<'a>>,
+    operand: WrittenExpr<'a>,
+) -> Result<Closed<'a>, AllocError>
+    ensures { IfOk result (λ c. closed_of c ≡ machine.closed machine.IsBrace
+        (machine.InBraces (map expr_of parts.entry.items)) (expr_of operand.entry)) }
+{
+    let parts = with_last(parts, operand)?;
+    Ok(Closed::AnOperand(WrittenExpr::Braces { at, parts }))
+}
+
+#[tactic(auto, using(gl_verilog_written::proofs::Views::exprs), unfolding(crate::specs::View::closed_of))]
+fn in_parens<'a>(alloc: Global, operand: WrittenExpr<'a>) -> Result<Closed<'a>, AllocError>
+    ensures { IfOk result (λ c. closed_of c ≡ machine.closed machine.IsParen machine.InParens
         (expr_of operand.entry)) }
 {
-    match frame {
-        Frame::InBraces { at, parts } => {
-            let mut parts = parts;
-            parts.push(operand)?;
-            Ok(Closed::AnOperand(WrittenExpr::Braces { at, parts }))
-        }
-        other => {
-            mem::drop(other);
-            mem::drop(operand);
-            Ok(Closed::Unclosed)
-        }
-    }
+    let OneBox { kept: _, boxed } = one_box(alloc, (), operand)?;
+    Ok(Closed::AnOperand(WrittenExpr::Parens(boxed)))
 }
 
 #[tactic(auto, using(gl_verilog_written::proofs::Views::exprs), unfolding(crate::specs::View::frame_of, crate::specs::View::closed_of))]
 fn at_paren<'a>(
     alloc: Global,
-    frame: Frame<'a>,
+    frame: &Frame<'a>,
     operand: WrittenExpr<'a>,
 ) -> Result<Closed<'a>, AllocError>
-    ensures { IfOk result (λ c. closed_of c ≡ machine.closed machine.IsParen (frame_of frame.entry)
+    ensures { IfOk result (λ c. closed_of c ≡ machine.closed machine.IsParen (frame_of frame.now)
         (expr_of operand.entry)) }
 {
     match frame {
-        Frame::InParens => {
-            let inner = Box::new(alloc, operand)?;
-            Ok(Closed::AnOperand(WrittenExpr::Parens(inner)))
-        }
-        Frame::IfTest(at) => Ok(Closed::ATest(at, operand)),
-        other => {
-            mem::drop(other);
+        Frame::InParens => in_parens(alloc, operand),
+        Frame::IfTest(at) => Ok(Closed::ATest(*at, operand)),
+        _ => {
             mem::drop(operand);
             Ok(Closed::Unclosed)
         }
     }
+}
+
+#[tactic(auto, using(gl_verilog_written::proofs::Views::exprs), unfolding(crate::specs::View::closed_of))]
+fn word_of<'a>(
+    alloc: Global,
+    name: Word<'a>,
+    operand: WrittenExpr<'a>,
+) -> Result<Closed<'a>, AllocError>
+    ensures { IfOk result (λ c. closed_of c ≡ machine.closed machine.IsBracket
+        (machine.InIndex (name_of name.entry)) (expr_of operand.entry)) }
+{
+    let OneBox { kept, boxed } = one_box(alloc, name, operand)?;
+    Ok(Closed::AnOperand(WrittenExpr::WordOf {
+        name: kept,
+        address: boxed,
+    }))
 }
 
 #[tactic(auto, using(gl_verilog_written::proofs::Views::exprs), unfolding(crate::specs::View::frame_of, crate::specs::View::closed_of))]
 fn at_bracket<'a>(
     alloc: Global,
-    frame: Frame<'a>,
+    frame: &Frame<'a>,
     operand: WrittenExpr<'a>,
 ) -> Result<Closed<'a>, AllocError>
     ensures { IfOk result (λ c. closed_of c ≡ machine.closed machine.IsBracket
-        (frame_of frame.entry) (expr_of operand.entry)) }
+        (frame_of frame.now) (expr_of operand.entry)) }
 {
     match frame {
-        Frame::InIndex(name) => {
-            let address = Box::new(alloc, operand)?;
-            Ok(Closed::AnOperand(WrittenExpr::WordOf { name, address }))
-        }
-        Frame::AddressFor(target) => Ok(Closed::AnAddress(target, operand)),
-        other => {
-            mem::drop(other);
+        Frame::InIndex(name) => word_of(alloc, *name, operand),
+        Frame::AddressFor(target) => Ok(Closed::AnAddress(*target, operand)),
+        _ => {
             mem::drop(operand);
             Ok(Closed::Unclosed)
         }
     }
 }
 
-#[tactic(auto, using(gl_verilog_written::proofs::Views::items, gl_verilog_written::proofs::Views::exprs), unfolding(crate::specs::View::frame_of, crate::specs::View::closed_of))]
-fn at_semicolon<'a>(frame: Frame<'a>, operand: WrittenExpr<'a>) -> Closed<'a>
-    ensures { closed_of result ≡ machine.closed machine.IsSemicolon (frame_of frame.entry)
+#[tactic(auto, unfolding(crate::specs::View::frame_of, crate::specs::View::closed_of))]
+fn at_semicolon<'a>(frame: &Frame<'a>, operand: WrittenExpr<'a>) -> Closed<'a>
+    requires { machine.is_bare (frame_of frame.now) ≡ true }
+    ensures { closed_of result ≡ machine.closed machine.IsSemicolon (frame_of frame.now)
         (expr_of operand.entry) }
 {
     match frame {
-        Frame::AssignTo(target) => Closed::AnItem(WrittenItem::Assign {
-            target,
-            value: operand,
-        }),
-        Frame::UpdateTo(target) => Closed::AStatement(WrittenStatement::Update {
-            target,
-            value: operand,
-        }),
-        Frame::UpdateWordTo { target, address } => Closed::AStatement(
-            WrittenStatement::UpdateWord {
-                target,
-                address,
-                value: operand,
-            },
-        ),
-        other => {
-            mem::drop(other);
+        Frame::AssignTo(target) => Closed::AnAssignment(*target, operand),
+        Frame::UpdateTo(target) => Closed::AnUpdate(*target, operand),
+        _ => {
             mem::drop(operand);
             Closed::Unclosed
         }
     }
 }
 
-// What a sign closes where this is open.
 #[tactic(auto, unfolding(crate::specs::View::closed_of))]
+fn in_braces<'a>(
+    role: Role,
+    at: usize,
+    parts: Vec<WrittenExpr<'a>>,
+    operand: WrittenExpr<'a>,
+) -> Result<Closed<'a>, AllocError>
+    ensures { IfOk result (λ c. closed_of c ≡ machine.closed (role_is role)
+        (machine.InBraces (map expr_of parts.entry.items)) (expr_of operand.entry)) }
+{
+    match role {
+        Role::IsComma => further(at, parts, operand),
+        Role::IsBrace => whole(at, parts, operand),
+        _ => {
+            mem::drop(parts);
+            mem::drop(operand);
+            Ok(Closed::Unclosed)
+        }
+    }
+}
+
+#[tactic(auto, unfolding(crate::specs::View::closed_of))]
+fn in_question<'a>(
+    role: Role,
+    at: usize,
+    test: WrittenExpr<'a>,
+    operand: WrittenExpr<'a>,
+) -> Closed<'a>
+    ensures { closed_of result ≡ machine.closed (role_is role)
+        (machine.TestOf (expr_of test.entry)) (expr_of operand.entry) }
+{
+    match role {
+        Role::IsColon => Closed::AnotherPart {
+            at,
+            test,
+            yes: operand,
+        },
+        _ => {
+            mem::drop(test);
+            mem::drop(operand);
+            Closed::Unclosed
+        }
+    }
+}
+
+#[tactic(auto, unfolding(crate::specs::View::closed_of))]
+fn in_word_update<'a>(
+    role: Role,
+    target: Word<'a>,
+    address: WrittenExpr<'a>,
+    operand: WrittenExpr<'a>,
+) -> Closed<'a>
+    ensures { closed_of result ≡ machine.closed (role_is role) (machine.UpdateWordTo
+        (name_of target.entry) (expr_of address.entry)) (expr_of operand.entry) }
+{
+    match role {
+        Role::IsSemicolon => Closed::AWordUpdate {
+            target,
+            address,
+            value: operand,
+        },
+        _ => {
+            mem::drop(address);
+            mem::drop(operand);
+            Closed::Unclosed
+        }
+    }
+}
+
+// What a sign closes where this is open, which holds no tree that goes on.
+#[tactic(auto, unfolding(crate::specs::View::closed_of))]
+fn in_bare<'a>(
+    alloc: Global,
+    role: Role,
+    frame: &Frame<'a>,
+    operand: WrittenExpr<'a>,
+) -> Result<Closed<'a>, AllocError>
+    requires { machine.is_bare (frame_of frame.now) ≡ true }
+    ensures { IfOk result (λ c. closed_of c ≡ machine.closed (role_is role) (frame_of frame.now)
+        (expr_of operand.entry)) }
+{
+    match role {
+        Role::IsParen => at_paren(alloc, frame, operand),
+        Role::IsBracket => at_bracket(alloc, frame, operand),
+        Role::IsSemicolon => Ok(at_semicolon(frame, operand)),
+        _ => {
+            mem::drop(operand);
+            Ok(Closed::Unclosed)
+        }
+    }
+}
+
+// What a sign closes where this is open.
+#[tactic(auto, unfolding(crate::specs::View::frame_of))]
 fn close_frame<'a>(
     alloc: Global,
     role: Role,
@@ -167,17 +248,16 @@ fn close_frame<'a>(
     ensures { IfOk result (λ c. closed_of c ≡ machine.closed (role_is role) (frame_of frame.entry)
         (expr_of operand.entry)) }
 {
-    match role {
-        Role::IsColon => Ok(at_colon(frame, operand)),
-        Role::IsComma => at_comma(frame, operand),
-        Role::IsBrace => at_brace(frame, operand),
-        Role::IsParen => at_paren(alloc, frame, operand),
-        Role::IsBracket => at_bracket(alloc, frame, operand),
-        Role::IsSemicolon => Ok(at_semicolon(frame, operand)),
-        Role::IsInfix(_) | Role::IsQuestion | Role::IsIndex | Role::IsOther => {
-            mem::drop(frame);
-            mem::drop(operand);
-            Ok(Closed::Unclosed)
+    match frame {
+        Frame::InBraces { at, parts } => in_braces(role, at, parts, operand),
+        Frame::TestOf { at, test } => Ok(in_question(role, at, test, operand)),
+        Frame::UpdateWordTo { target, address } => Ok(in_word_update(
+            role, target, address, operand,
+        )),
+        other => {
+            let closed = in_bare(alloc, role, &other, operand);
+            mem::drop(other);
+            closed
         }
     }
 }
@@ -206,14 +286,11 @@ pub(crate) fn close_top<'a>(
 
 // A name alone may be indexed.
 #[tactic(auto, unfolding(gl_verilog_written::specs::View::expr_of))]
-pub(crate) fn alone<'a>(operand: WrittenExpr<'a>) -> Option<Word<'a>>
-    ensures { option_map name_of result ≡ machine.alone (expr_of operand.entry) }
+pub(crate) fn alone<'a>(operand: &WrittenExpr<'a>) -> Option<Word<'a>>
+    ensures { option_map name_of result ≡ machine.alone (expr_of operand.now) }
 {
     match operand {
-        WrittenExpr::Named(name) => Some(name),
-        other => {
-            mem::drop(other);
-            None
-        }
+        WrittenExpr::Named(name) => Some(*name),
+        _ => None,
     }
 }

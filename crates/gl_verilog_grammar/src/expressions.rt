@@ -1,15 +1,18 @@
 //! Reading expressions.
 ghost use Rattle.gl_verilog.specs.Written.{looseness};
 ghost use Rattle.gl_verilog_grammar.specs.Machine as machine;
-ghost use Rattle.gl_verilog_written.specs.View.{token_of, infix_of, expr_of, name_of};
+ghost use Rattle.gl_verilog_written.specs.View.{token_of, infix_of, expr_of, statement_of, name_of};
 ghost use Rattle.gl_verilog_grammar.specs.View.{frames_of, view, closed_of, role_is, Moves};
 
 use crate::closing::{Closed, alone, close_top};
 use crate::frames::{Frame, looseness_of, reduce};
 use crate::matching::is_mark;
 use crate::reading::Reading;
+use crate::stacks::put;
 use crate::stage::{Role, Stage, role_of};
-use gl_verilog_written::{InfixOp, PrefixOp, Sign, Token, Word, WrittenExpr};
+use gl_verilog_written::{
+    InfixOp, PrefixOp, Sign, Token, Word, WrittenExpr, WrittenItem, WrittenStatement,
+};
 use std::alloc::AllocError;
 use std::mem;
 
@@ -89,12 +92,21 @@ impl<'a> Reading<'a> {
         ensures { Moves result (machine.after_close (view self.old)
             (frames_of self.old.frames.items, machine.ATest (expr_of test.entry))) (view self.new) }
     {
-        self.frames.push(Frame::ThenOf { at, test })?;
+        put(&mut self.frames, Frame::ThenOf { at, test })?;
         self.goto(Stage::WantStatement)
     }
 
+    // A statement that takes a value is complete.
+    #[tactic(auto, using(crate::proofs::Views::stages))]
+    fn update(&mut self, statement: WrittenStatement<'a>) -> Result<bool, AllocError>
+        ensures { Moves result (machine.goto (view self.old)
+            (machine.HaveStatement (statement_of statement.entry))) (view self.new) }
+    {
+        self.goto(Stage::HaveStatement(statement))
+    }
+
     // What was open on top is closed.
-    #[tactic(auto, using(crate::proofs::Views::stages), unfolding(crate::specs::View::view, crate::specs::View::closed_of))]
+    #[tactic(auto, using(crate::proofs::Views::stages, crate::proofs::Views::frames, gl_verilog_written::proofs::Views::items, gl_verilog_written::proofs::Views::exprs), unfolding(crate::specs::View::view, crate::specs::View::closed_of))]
     fn after_close(&mut self, closed: Closed<'a>) -> Result<bool, AllocError>
         ensures { Moves result (machine.after_close (view self.old)
             (frames_of self.old.frames.items, closed_of closed.entry)) (view self.new) }
@@ -103,10 +115,29 @@ impl<'a> Reading<'a> {
             Closed::AnOperand(operand) => self.close(operand),
             Closed::ATest(at, test) => self.end_test(at, test),
             Closed::AnAddress(target, address) => self.goto(Stage::WantArrow(target, address)),
-            Closed::AnItem(item) => self.put_item(item),
-            Closed::AStatement(statement) => self.goto(Stage::HaveStatement(statement)),
-            Closed::Further(frame) => self.push(frame),
-            Closed::Unclosed => Ok(false),
+            Closed::AnAssignment(target, value) => self.put_item(WrittenItem::Assign {
+                target,
+                value,
+            }),
+            Closed::AnUpdate(target, value) => self.update(WrittenStatement::Update {
+                target,
+                value,
+            }),
+            Closed::AWordUpdate {
+                target,
+                address,
+                value,
+            } => self.update(WrittenStatement::UpdateWord {
+                target,
+                address,
+                value,
+            }),
+            Closed::AnotherPart { at, test, yes } => self.push(Frame::ColonOf { at, test, yes }),
+            Closed::FurtherParts { at, parts } => self.push(Frame::InBraces { at, parts }),
+            Closed::Unclosed => {
+                mem::drop(closed);
+                Ok(false)
+            }
         }
     }
 
@@ -127,7 +158,9 @@ impl<'a> Reading<'a> {
         ensures { Moves result (machine.indexed (view self.old) (expr_of operand.entry))
             (view self.new) }
     {
-        match alone(operand) {
+        let name = alone(&operand);
+        mem::drop(operand);
+        match name {
             Some(name) => { self.goto(Stage::AtIndex(name)) }
             None => Ok(false),
         }
@@ -192,7 +225,7 @@ impl<'a> Reading<'a> {
         match token {
             Token::Number(place) => self.goto(Stage::AtPlace(name, place)),
             _ => {
-                self.frames.push(Frame::InIndex(name))?;
+                put(&mut self.frames, Frame::InIndex(name))?;
                 self.want_operand(at, token)
             }
         }

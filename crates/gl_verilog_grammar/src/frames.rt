@@ -1,11 +1,13 @@
 //! What is open while a module is read, the top of the stack last.
 
-ghost use Rattle.std.specs.Prelude.{◌≡◌, option_map, IfOk, MatchBool, Some, None};
+ghost use Rattle.std.specs.Prelude.{◌≡◌, ◌<◌, length, map, option_map, true, false, vec_len, IfOk, MatchBool, Some, None};
 ghost use Rattle.gl_verilog_grammar.specs.Stages as machine;
 ghost use Rattle.gl_verilog.specs.Written.{looseness};
 ghost use Rattle.gl_verilog_written.specs.View.{infix_of, expr_of, statement_of};
 ghost use Rattle.gl_verilog_grammar.specs.View.{frame_of, frames_of, stated_of};
 
+use crate::stacks::{put, with_last};
+use crate::trees::{chosen, else_of, infixed, prefixed, then_of};
 use gl_verilog_written::{InfixOp, PrefixOp, Word, WrittenExpr, WrittenItem, WrittenStatement};
 use std::alloc::{AllocError, Global};
 use std::mem;
@@ -88,37 +90,37 @@ pub(crate) fn binds(frame: &Frame, level: u8) -> bool
     }
 }
 
-// The operation of a frame on its last operand.
-#[tactic(auto, unfolding(crate::specs::View::frame_of, gl_verilog_written::specs::View::expr_of))]
-pub(crate) fn apply<'a>(
+// Whether what is open on top is an operator that binds at least as tight as the level.
+#[tactic(auto, using(crate::proofs::Stack::reductions))]
+pub(crate) fn top_binds(frames: &[Frame], level: u8) -> bool
+    ensures is { result ≡ machine.top_binds level (frames_of frames.now) }
+    ensures some { result ≡ true → 0 < length frames.now }
+{
+    match frames.split_last() {
+        Some((top, _)) => binds(top, level),
+        None => false,
+    }
+}
+
+// Takes the operation on top, and applies it to its last operand.
+#[tactic(auto, using(crate::proofs::Stack::reductions), unfolding(crate::specs::View::frame_of))]
+fn apply_top<'a>(
     alloc: Global,
-    frame: Frame<'a>,
+    frames: &mut Vec<Frame<'a>>,
     operand: WrittenExpr<'a>,
 ) -> Result<WrittenExpr<'a>, AllocError>
-    ensures { IfOk result (λ e. expr_of e ≡ machine.applied (frame_of frame.entry)
-        (expr_of operand.entry)) }
+    ensures is { IfOk result (λ e. machine.apply_top (frames_of frames.old.items)
+        (expr_of operand.entry) ≡ (frames_of frames.new.items, expr_of e)) }
+    ensures shorter { 0 < vec_len frames.old → vec_len frames.new < vec_len frames.old }
 {
-    match frame {
-        Frame::PrefixOf { op, at } => {
-            let arg = Box::new(alloc, operand)?;
-            Ok(WrittenExpr::Prefix { op, at, arg })
+    let top = frames.pop();
+    match top {
+        Some(Frame::PrefixOf { op, at }) => {
+            mem::drop(top);
+            prefixed(alloc, op, at, operand)
         }
-        Frame::InfixOf { op, at, left } => {
-            let left = Box::new(alloc, left)?;
-            let right = Box::new(alloc, operand)?;
-            Ok(WrittenExpr::Infix {
-                op,
-                at,
-                left,
-                right,
-            })
-        }
-        Frame::ColonOf { at, test, yes } => {
-            let test = Box::new(alloc, test)?;
-            let yes = Box::new(alloc, yes)?;
-            let no = Box::new(alloc, operand)?;
-            Ok(WrittenExpr::Conditional { at, test, yes, no })
-        }
+        Some(Frame::InfixOf { op, at, left }) => infixed(alloc, op, at, left, operand),
+        Some(Frame::ColonOf { at, test, yes }) => chosen(alloc, at, test, yes, operand),
         other => {
             mem::drop(other);
             Ok(operand)
@@ -138,12 +140,8 @@ pub(crate) fn reduce<'a>(
         (expr_of operand.entry) ≡ (frames_of frames.new.items, expr_of e)) }
 {
     let mut operand = operand;
-    while let Some(top) = frames.pop() {
-        if !binds(&top, level) {
-            frames.push(top)?;
-            return Ok(operand);
-        }
-        operand = apply(alloc, top, operand)?;
+    while top_binds(frames.as_slice(), level) {
+        operand = apply_top(alloc, frames, operand)?;
     }
     Ok(operand)
 }
@@ -155,26 +153,32 @@ pub(crate) fn is_if(frame: &Frame) -> bool
     matches!(frame, Frame::ThenOf { .. } | Frame::ElseOf { .. })
 }
 
-// The `if` of a frame with its last statement.
-#[tactic(auto, unfolding(crate::specs::View::frame_of, gl_verilog_written::specs::View::statement_of))]
-pub(crate) fn if_of<'a>(
+// Whether what is open on top is an `if`.
+#[tactic(auto, using(crate::proofs::Stack::endings))]
+fn top_is_if(frames: &[Frame]) -> bool
+    ensures is { result ≡ machine.top_is_if (frames_of frames.now) }
+    ensures some { result ≡ true → 0 < length frames.now }
+{
+    match frames.split_last() {
+        Some((top, _)) => is_if(top),
+        None => false,
+    }
+}
+
+// Takes the `if` on top, and ends it with its last statement.
+#[tactic(auto, using(crate::proofs::Stack::endings), unfolding(crate::specs::View::frame_of))]
+fn end_top<'a>(
     alloc: Global,
-    frame: Frame<'a>,
+    frames: &mut Vec<Frame<'a>>,
     statement: WrittenStatement<'a>,
 ) -> Result<WrittenStatement<'a>, AllocError>
-    ensures { IfOk result (λ s. statement_of s
-        ≡ machine.if_of (frame_of frame.entry) (statement_of statement.entry)) }
+    ensures is { IfOk result (λ s. machine.end_top (frames_of frames.old.items)
+        (statement_of statement.entry) ≡ (frames_of frames.new.items, statement_of s)) }
+    ensures shorter { 0 < vec_len frames.old → vec_len frames.new < vec_len frames.old }
 {
-    match frame {
-        Frame::ThenOf { at, test } => {
-            let yes = Box::new(alloc, statement)?;
-            Ok(WrittenStatement::IfThen { at, test, yes })
-        }
-        Frame::ElseOf { at, test, yes } => {
-            let yes = Box::new(alloc, yes)?;
-            let no = Box::new(alloc, statement)?;
-            Ok(WrittenStatement::IfElse { at, test, yes, no })
-        }
+    match frames.pop() {
+        Some(Frame::ThenOf { at, test }) => then_of(alloc, at, test, statement),
+        Some(Frame::ElseOf { at, test, yes }) => else_of(alloc, at, test, yes, statement),
         other => {
             mem::drop(other);
             Ok(statement)
@@ -193,18 +197,64 @@ pub(crate) fn end_ifs<'a>(
         (statement_of statement.entry) ≡ (frames_of frames.new.items, statement_of s)) }
 {
     let mut statement = statement;
-    while let Some(top) = frames.pop() {
-        if !is_if(&top) {
-            frames.push(top)?;
-            return Ok(statement);
-        }
-        statement = if_of(alloc, top, statement)?;
+    while top_is_if(frames.as_slice()) {
+        statement = end_top(alloc, frames, statement)?;
     }
     Ok(statement)
 }
 
-// Gives an `else` to the nearest `if` that has none; false where there is none.
+#[tactic(auto, unfolding(crate::specs::View::frame_of))]
+fn is_else(frame: &Frame) -> bool
+    ensures { result ≡ machine.is_else (frame_of frame.now) }
+{
+    matches!(frame, Frame::ElseOf { .. })
+}
+
+// Whether what is open on top is an `if` with an `else`.
+#[tactic(auto, using(crate::proofs::Stack::elses))]
+fn top_is_else(frames: &[Frame]) -> bool
+    ensures is { result ≡ machine.top_is_else (frames_of frames.now) }
+    ensures some { result ≡ true → 0 < length frames.now }
+{
+    match frames.split_last() {
+        Some((top, _)) => is_else(top),
+        None => false,
+    }
+}
+
+// Gives an `else` to the `if` on top; false where none stands there.
 #[tactic(auto, using(crate::proofs::Stack::elses), unfolding(crate::specs::View::frame_of))]
+fn else_on_top<'a>(
+    frames: &mut Vec<Frame<'a>>,
+    statement: WrittenStatement<'a>,
+) -> Result<bool, AllocError>
+    ensures { IfOk result (λ stands. MatchBool stands
+        (machine.else_on_top (frames_of frames.old.items) (statement_of statement.entry)
+        ≡ Some (frames_of frames.new.items)) (machine.else_on_top (frames_of frames.old.items)
+        (statement_of statement.entry) ≡ None)) }
+{
+    match frames.pop() {
+        Some(Frame::ThenOf { at, test }) => {
+            put(
+                frames,
+                Frame::ElseOf {
+                    at,
+                    test,
+                    yes: statement,
+                },
+            )?;
+            Ok(true)
+        }
+        other => {
+            mem::drop(other);
+            mem::drop(statement);
+            Ok(false)
+        }
+    }
+}
+
+// Gives an `else` to the nearest `if` that has none; false where there is none.
+#[tactic(auto, using(crate::proofs::Stack::elses))]
 pub(crate) fn take_else<'a>(
     alloc: Global,
     frames: &mut Vec<Frame<'a>>,
@@ -216,26 +266,10 @@ pub(crate) fn take_else<'a>(
         (statement_of statement.entry) ≡ None)) }
 {
     let mut statement = statement;
-    while let Some(top) = frames.pop() {
-        match top {
-            Frame::ThenOf { at, test } => {
-                frames.push(Frame::ElseOf {
-                    at,
-                    test,
-                    yes: statement,
-                })?;
-                return Ok(true);
-            }
-            Frame::ElseOf { .. } => statement = if_of(alloc, top, statement)?,
-            other => {
-                mem::drop(other);
-                mem::drop(statement);
-                return Ok(false);
-            }
-        }
+    while top_is_else(frames.as_slice()) {
+        statement = end_top(alloc, frames, statement)?;
     }
-    mem::drop(statement);
-    Ok(false)
+    else_on_top(frames, statement)
 }
 
 // The statements of a block.
@@ -260,7 +294,37 @@ pub enum Stated<'a> {
     Nowhere,
 }
 
-#[tactic(auto, using(gl_verilog_written::proofs::Views::items, crate::proofs::Stack::pushes), unfolding(crate::specs::View::frame_of, crate::specs::View::stated_of))]
+#[tactic(auto, using(crate::proofs::Stack::pushes), unfolding(crate::specs::View::stated_of))]
+fn in_list<'a>(
+    done: Vec<WrittenStatement<'a>>,
+    statement: WrittenStatement<'a>,
+) -> Result<Stated<'a>, AllocError>
+    ensures { IfOk result (λ s. stated_of s ≡ machine.stated
+        (machine.InBegin (map statement_of done.entry.items)) (statement_of statement.entry)) }
+{
+    let done = with_last(done, statement)?;
+    Ok(Stated::InList(done))
+}
+
+#[tactic(auto, using(gl_verilog_written::proofs::Views::items), unfolding(crate::specs::View::frame_of, crate::specs::View::stated_of))]
+fn end_body<'a>(frame: &Frame<'a>, statement: WrittenStatement<'a>) -> Stated<'a>
+    requires { machine.is_block (frame_of frame.now) ≡ false }
+    ensures { stated_of result ≡ machine.stated (frame_of frame.now)
+        (statement_of statement.entry) }
+{
+    match frame {
+        Frame::BodyOf(clock) => Stated::AsBody(WrittenItem::Always {
+            clock: *clock,
+            body: statement,
+        }),
+        _ => {
+            mem::drop(statement);
+            Stated::Nowhere
+        }
+    }
+}
+
+#[tactic(auto, unfolding(crate::specs::View::frame_of))]
 pub(crate) fn end_statement<'a>(
     frame: Frame<'a>,
     statement: WrittenStatement<'a>,
@@ -269,19 +333,11 @@ pub(crate) fn end_statement<'a>(
         (statement_of statement.entry)) }
 {
     match frame {
-        Frame::InBegin(done) => {
-            let mut done = done;
-            done.push(statement)?;
-            Ok(Stated::InList(done))
-        }
-        Frame::BodyOf(clock) => Ok(Stated::AsBody(WrittenItem::Always {
-            clock,
-            body: statement,
-        })),
+        Frame::InBegin(done) => in_list(done, statement),
         other => {
+            let stated = end_body(&other, statement);
             mem::drop(other);
-            mem::drop(statement);
-            Ok(Stated::Nowhere)
+            Ok(stated)
         }
     }
 }

@@ -8,6 +8,7 @@ ghost use Rattle.gl_verilog_grammar.specs.View.{sort_of, owner_of, view, Moves};
 
 use crate::matching::{is_mark, name_in};
 use crate::reading::Reading;
+use crate::stacks::{put, with_last};
 use crate::stage::{Owner, Sort, Stage, item_of_names, memory_stage, word_stage};
 use gl_verilog_written::{Sign, Token, Word, WrittenPort};
 use std::alloc::AllocError;
@@ -39,16 +40,18 @@ impl<'a> Reading<'a> {
     {
         match owner {
             Owner::OfPort(direction) => {
-                self.ports.push(WrittenPort {
-                    direction,
-                    range,
-                    name,
-                })?;
+                put(
+                    &mut self.ports,
+                    WrittenPort {
+                        direction,
+                        range,
+                        name,
+                    },
+                )?;
                 self.goto(Stage::AfterPort)
             }
             Owner::OfItem(sort) => {
-                let mut names = Vec::new(self.alloc);
-                names.push(name)?;
+                let names = with_last(Vec::new(self.alloc), name)?;
                 self.goto(Stage::AfterName(sort, range, names))
             }
         }
@@ -125,8 +128,7 @@ impl<'a> Reading<'a> {
     {
         match name_in(token) {
             Some(name) => {
-                let mut names = names;
-                names.push(name)?;
+                let names = with_last(names, name)?;
                 self.goto(Stage::AfterName(sort, range, names))
             }
             None => Ok(false),

@@ -5,6 +5,7 @@
 ghost use Rattle.gl_verilog_written.specs.View.{tokens_in};
 ghost use Rattle.gl_verilog_grammar.specs.Answers.{IsAnswer, IsOnly};
 
+pub mod boxes;
 pub mod closing;
 pub mod counting;
 pub mod expressions;
@@ -13,8 +14,10 @@ pub mod header;
 pub mod laws;
 pub mod matching;
 pub mod reading;
+pub mod stacks;
 pub mod stage;
 pub mod statements;
+pub mod trees;
 
 use gl_verilog_written::{Lexeme, VerilogFault, WrittenModule};
 use std::alloc::Global;

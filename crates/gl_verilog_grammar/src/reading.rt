@@ -1,6 +1,6 @@
 //! From tokens to a written module, with what is open on a stack: one step for each token.
 
-ghost use Rattle.std.specs.Prelude.{◌≡◌, ◌<◌, option_map, IfOk, IfErr, MatchResult, Some, None};
+ghost use Rattle.std.specs.Prelude.{◌≡◌, ◌<◌, option_map, true, IfOk, IfErr, MatchResult, Some, None};
 ghost use Rattle.gl_verilog_grammar.specs.Machine as machine;
 ghost use Rattle.gl_verilog_written.specs.View.{token_of, tokens_in, expr_of, name_of, range_of, item_of, module_of};
 ghost use Rattle.gl_verilog_grammar.specs.Counting.{IsWithin};
@@ -10,6 +10,7 @@ ghost use Rattle.gl_verilog_grammar.specs.View.{frame_of, stage_of, view, Moves}
 use crate::counting::Counter;
 use crate::frames::Frame;
 use crate::matching::{is_mark, is_word, is_zero};
+use crate::stacks::put;
 use crate::stage::{
     Stage, assigned_stage, behind_port, clock_stage, high_stage, item_stage, last_stage, low_stage,
     port_stage,
@@ -86,7 +87,7 @@ impl<'a> Reading<'a> {
         ensures { Moves result (machine.push (view self.old) (frame_of frame.entry))
             (view self.new) }
     {
-        self.frames.push(frame)?;
+        put(&mut self.frames, frame)?;
         self.goto(Stage::WantOperand)
     }
 
@@ -104,7 +105,7 @@ impl<'a> Reading<'a> {
         ensures { Moves result (Some (machine.with_item (view self.old) (item_of item.entry)))
             (view self.new) }
     {
-        self.items.push(item)?;
+        put(&mut self.items, item)?;
         self.goto(Stage::WantItem)
     }
 
@@ -186,9 +187,16 @@ impl<'a> Reading<'a> {
         self.close_if(stands, WrittenExpr::PartOf { name, high, low })
     }
 
+    // Takes a token at a stage that holds words alone.
     #[tactic(auto, using(crate::proofs::Views::stages, crate::proofs::Views::frames), unfolding(crate::specs::View::stage_of))]
-    fn take_at(&mut self, stage: Stage<'a>, at: usize, token: Token<'a>) -> Result<bool, AllocError>
-        ensures { Moves result (machine.step_at (stage_of stage.entry) (view self.old)
+    fn take_plain(
+        &mut self,
+        stage: &Stage<'a>,
+        at: usize,
+        token: Token<'a>,
+    ) -> Result<bool, AllocError>
+        requires { machine.is_plain (stage_of stage.now) ≡ true }
+        ensures { Moves result (machine.step_at (stage_of stage.now) (view self.old)
             (token_of token.entry)) (view self.new) }
     {
         match stage {
@@ -196,68 +204,82 @@ impl<'a> Reading<'a> {
             Stage::WantTitle => self.want_title(token),
             Stage::WantPorts => self.expect(is_mark(token, Sign::OpenParen), Stage::WantPort),
             Stage::WantPort => self.go(port_stage(token)),
-            Stage::Declaring(owner) => self.declaring(owner, token),
-            Stage::WantHigh(owner) => self.go(high_stage(owner, token)),
+            Stage::Declaring(owner) => self.declaring(*owner, token),
+            Stage::WantHigh(owner) => self.go(high_stage(*owner, token)),
             Stage::WantColon(owner, high) => self.expect(
                 is_mark(token, Sign::Colon),
-                Stage::WantZero(owner, high),
+                Stage::WantZero(*owner, *high),
             ),
             Stage::WantZero(owner, high) => self.expect(
                 is_zero(token),
-                Stage::WantClose(owner, high),
+                Stage::WantClose(*owner, *high),
             ),
             Stage::WantClose(owner, high) => self.expect(
                 is_mark(token, Sign::CloseBracket),
-                Stage::WantName(owner, Some(high)),
+                Stage::WantName(*owner, Some(*high)),
             ),
-            Stage::WantName(owner, range) => self.want_name(owner, range, token),
+            Stage::WantName(owner, range) => self.want_name(*owner, *range, token),
             Stage::AfterPort => self.go(behind_port(token)),
             Stage::AfterPorts => self.expect(is_mark(token, Sign::Semicolon), Stage::WantItem),
-            Stage::AfterName(sort, range, names) => self.after_name(sort, range, names, token),
-            Stage::WantMore(sort, range, names) => self.want_more(sort, range, names, token),
             Stage::WantFirst(range, name) => self.expect(
                 is_zero(token),
-                Stage::WantMemoryColon(range, name),
+                Stage::WantMemoryColon(*range, *name),
             ),
             Stage::WantMemoryColon(range, name) => self.expect(
                 is_mark(token, Sign::Colon),
-                Stage::WantLast(range, name),
+                Stage::WantLast(*range, *name),
             ),
-            Stage::WantLast(range, name) => self.go(last_stage(range, name, token)),
+            Stage::WantLast(range, name) => self.go(last_stage(*range, *name, token)),
             Stage::WantMemoryClose(range, name, last) => self.expect(
                 is_mark(token, Sign::CloseBracket),
-                Stage::WantMemoryEnd(range, name, last),
+                Stage::WantMemoryEnd(*range, *name, *last),
             ),
-            Stage::WantMemoryEnd(range, name, last) => self.memory_end(range, name, last, token),
+            Stage::WantMemoryEnd(range, name, last) => self.memory_end(*range, *name, *last, token),
             Stage::WantItem => self.go(item_stage(token)),
             Stage::WantAssigned => self.go(assigned_stage(token)),
             Stage::WantEquals(target) => self.push_if(
                 is_mark(token, Sign::Equals),
-                Frame::AssignTo(target),
+                Frame::AssignTo(*target),
             ),
             Stage::WantAt => self.expect(is_mark(token, Sign::At), Stage::WantEdge),
             Stage::WantEdge => self.expect(is_mark(token, Sign::OpenParen), Stage::WantPosedge),
             Stage::WantPosedge => self.expect(is_word(token, Keyword::Posedge), Stage::WantClock),
             Stage::WantClock => self.go(clock_stage(token)),
-            Stage::WantEdgeEnd(clock) => self.body_if(is_mark(token, Sign::CloseParen), clock),
+            Stage::WantEdgeEnd(clock) => self.body_if(is_mark(token, Sign::CloseParen), *clock),
             Stage::WantStatement => self.want_statement(at, token),
-            Stage::AfterTarget(target) => self.after_target(target, token),
+            Stage::AfterTarget(target) => self.after_target(*target, token),
+            Stage::WantTest(place) => self.push_if(
+                is_mark(token, Sign::OpenParen),
+                Frame::IfTest(*place),
+            ),
+            Stage::WantOperand => self.want_operand(at, token),
+            Stage::AtIndex(name) => self.at_index(*name, at, token),
+            Stage::AtPlace(name, place) => self.at_place(*name, *place, token),
+            Stage::WantLow(name, high) => self.go(low_stage(*name, *high, token)),
+            Stage::AtPart(name, high, low) => self.part_end(*name, *high, *low, token),
+            _ => Ok(false),
+        }
+    }
+
+    #[tactic(auto, using(crate::proofs::Views::stages, crate::proofs::Views::frames), unfolding(crate::specs::View::stage_of))]
+    fn take_at(&mut self, stage: Stage<'a>, at: usize, token: Token<'a>) -> Result<bool, AllocError>
+        ensures { Moves result (machine.step_at (stage_of stage.entry) (view self.old)
+            (token_of token.entry)) (view self.new) }
+    {
+        match stage {
+            Stage::AfterName(sort, range, names) => self.after_name(sort, range, names, token),
+            Stage::WantMore(sort, range, names) => self.want_more(sort, range, names, token),
             Stage::WantArrow(target, address) => self.push_if(
                 is_mark(token, Sign::LessEquals),
                 Frame::UpdateWordTo { target, address },
             ),
-            Stage::WantTest(place) => self.push_if(
-                is_mark(token, Sign::OpenParen),
-                Frame::IfTest(place),
-            ),
             Stage::HaveStatement(statement) => self.have_statement(statement, at, token),
-            Stage::WantOperand => self.want_operand(at, token),
             Stage::HaveOperand(operand) => self.have_token(operand, at, token),
-            Stage::AtIndex(name) => self.at_index(name, at, token),
-            Stage::AtPlace(name, place) => self.at_place(name, place, token),
-            Stage::WantLow(name, high) => self.go(low_stage(name, high, token)),
-            Stage::AtPart(name, high, low) => self.part_end(name, high, low, token),
-            Stage::Complete => Ok(false),
+            other => {
+                let stands = self.take_plain(&other, at, token);
+                mem::drop(other);
+                stands
+            }
         }
     }
 
@@ -306,7 +328,10 @@ impl<'a> Reading<'a> {
         } = self;
         mem::drop(frames);
         match stage {
-            Stage::Complete => Ok(WrittenModule { name, ports, items }),
+            Stage::Complete => {
+                mem::drop(stage);
+                Ok(WrittenModule { name, ports, items })
+            }
             other => {
                 mem::drop(other);
                 mem::drop(ports);

@@ -6,6 +6,7 @@ ghost use Rattle.gl_verilog_grammar.specs.View.{frames_of, view, Moves};
 use crate::frames::{Frame, Stated, block_of, end_ifs, end_statement, take_else};
 use crate::matching::{is_mark, is_word};
 use crate::reading::Reading;
+use crate::stacks::put;
 use crate::stage::{Stage, item_stage};
 use gl_verilog_written::{Keyword, Sign, Token, Word, WrittenStatement};
 use std::alloc::AllocError;
@@ -20,7 +21,7 @@ impl<'a> Reading<'a> {
         if !stands {
             return Ok(false);
         }
-        self.frames.push(Frame::BodyOf(clock))?;
+        put(&mut self.frames, Frame::BodyOf(clock))?;
         self.goto(Stage::WantStatement)
     }
 
@@ -42,7 +43,7 @@ impl<'a> Reading<'a> {
     fn begin_block(&mut self) -> Result<bool, AllocError>
         ensures { Moves result (machine.begun (view self.old)) (view self.new) }
     {
-        self.frames.push(Frame::InBegin(Vec::new(self.alloc)))?;
+        put(&mut self.frames, Frame::InBegin(Vec::new(self.alloc)))?;
         self.goto(Stage::WantStatement)
     }
 
@@ -106,16 +107,20 @@ impl<'a> Reading<'a> {
             mem::drop(statement);
             return Ok(false);
         };
-        match end_statement(frame, statement)? {
+        let stated = end_statement(frame, statement)?;
+        match stated {
             Stated::InList(done) => {
-                self.frames.push(Frame::InBegin(done))?;
+                put(&mut self.frames, Frame::InBegin(done))?;
                 self.want_statement(at, token)
             }
             Stated::AsBody(item) => {
-                self.items.push(item)?;
+                put(&mut self.items, item)?;
                 self.go(item_stage(token))
             }
-            Stated::Nowhere => Ok(false),
+            Stated::Nowhere => {
+                mem::drop(stated);
+                Ok(false)
+            }
         }
     }
 

@@ -4,8 +4,8 @@ use Rattle.gl_verilog_written.specs.View.{statement_of}
 use Rattle.gl_verilog_grammar.specs.View.{frames_of}
 use Rattle.gl_verilog_grammar.proofs.frames.end_ifs.Given as goal
 
-abbrev pub invariant-loop-top : goal.invariant-loop-top
-invariant-loop-top l = machine.at_end (frames_of l.frames.items) (statement_of l.statement) ≡ machine.at_end (frames_of l.initial.frames.items) (statement_of l.initial.statement)
+abbrev pub invariant-loop-alloc : goal.invariant-loop-alloc
+invariant-loop-alloc l = machine.at_end (frames_of l.frames.items) (statement_of l.statement) ≡ machine.at_end (frames_of l.initial.frames.items) (statement_of l.initial.statement)
 
-abbrev pub decreases-loop-top : goal.decreases-loop-top
-decreases-loop-top l = vec_len l.frames
+abbrev pub decreases-loop-alloc : goal.decreases-loop-alloc
+decreases-loop-alloc l = vec_len l.frames
