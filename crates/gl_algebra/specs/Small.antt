@@ -1,4 +1,5 @@
 -- Figures that fit 32 bits, and the figures of all nodes of a plan.
+-- A middle layer, proved equal to `FigureTable`: no promise rests on it.
 use Rattle.std.specs.Prelude.{ℕ, ◌≡◌, ◌^◌, ◌<◌, Bool, List, [], ◌∷◌, length, nat_lt, Option, Some, None, slice_get, if◌then◌else◌}
 use Rattle.std.specs.List.{list_all}
 use Rattle.gl_algebra.specs.declared.figures.Figures.{Figures}

@@ -1,4 +1,5 @@
 -- Figures while they are computed, which may pass 32 bits.
+-- A middle layer, proved equal to `FigureTable`: no promise rests on it.
 use Rattle.std.specs.Prelude.{◌^◌, ◌<◌}
 use Rattle.gl_algebra.specs.declared.figures.Figures.{Figures}
 use Rattle.gl_algebra.specs.declared.wide.Wide.{Wide}

@@ -6,6 +6,7 @@
 //! does not.
 #![tactic(auto)]
 
+pub mod boxes;
 pub mod kind;
 pub mod laws;
 pub mod listed;

@@ -1,4 +1,5 @@
 -- The nodes that a plan of a query is made of fit, each where it is added.
+-- A middle layer, proved equal to `Plans`: no promise rests on it.
 use Rattle.std.specs.Prelude.{◌≡◌, ℕ, zero, suc, ◌+◌, ◌<◌, ◌≤◌, List, map, length, Option, Some, None, option_map}
 use Rattle.gl_bits.specs.declared.kind.Kind.TheVariants.{Unsigned}
 use Rattle.gl_schema.specs.declared.schema.Column.{Column as NamedColumn}

@@ -1,4 +1,5 @@
 -- The nodes of what a query may read, as code has it.
+-- A middle layer, proved equal to `Plans`: no promise rests on it.
 use Rattle.std.specs.Prelude.{ℕ, List}
 use Rattle.gl_schema.specs.Schemas.{kinds_of}
 use Rattle.gl_query.specs.declared.columns.Sources.{Sources}

@@ -1,4 +1,5 @@
 -- What places hold of the nodes of a plan while it is gone through: what is known of the nodes before one.
+-- A middle layer, proved equal to `Answered`: no promise rests on it.
 use Rattle.std.specs.Prelude.{ℕ, ◌≡◌, ◌<◌, ◌≤◌, ◌+◌, ◌^◌, min, List, length, Option, Some, slice_get}
 use Rattle.gl_algebra.specs.declared.figures.Figures.{Figures}
 use Rattle.gl_algebra.specs.declared.node.PlanNode.{PlanNode}

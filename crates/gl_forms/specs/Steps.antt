@@ -1,4 +1,5 @@
 -- What one word of a command line says, where it is known whether it is the value of the option.
+-- A middle layer, proved equal to `Forms`: no promise rests on it.
 use Rattle.std.specs.Prelude.{ℕ, Bool, true, false, not, ◌&&◌, ◌==◌, List, drop, length, bytes_eq, Option, Some, None, option_map, if◌then◌else◌}
 use Rattle.std.specs.Borrow.{Bor}
 use Rattle.std.specs.List.{starts_with}

@@ -1,4 +1,5 @@
 -- What the code has of a tally, and the sink that keeps what it takes.
+-- A middle layer, proved equal to `Tallies`: no promise rests on it.
 use Rattle.std.specs.Prelude.{ℕ, ◌*◌, ◌≤◌, List, Some}
 use Rattle.gl_outside.specs.States.{SinkState}
 use Rattle.gl_load.specs.declared.tally.Tally.{Tally as Rust}

@@ -1,4 +1,5 @@
 -- What the builder's own steps do to a netlist.
+-- A middle layer, proved equal to `Builds`: no promise rests on it.
 use Rattle.std.specs.Prelude.{◌≡◌, ℕ, List, [], ◌∷◌, ◌++◌, length, Option, Some, None, slice_get, slice_set}
 use Rattle.gl_net.specs.declared.node.Node.{Node}
 use Rattle.gl_net.specs.declared.node.Node.TheVariants.{Input, Register, Memory}

@@ -1,4 +1,5 @@
 -- What a query may read, as code has it.
+-- A middle layer, proved equal to `Columns`: no promise rests on it.
 use Rattle.gl_query.specs.Columns.{variable}
 use Rattle.gl_query.specs.Accepted.{Scope}
 use Rattle.gl_query.specs.declared.columns.Sources.{Sources}

@@ -1,4 +1,5 @@
 -- What is known of an expression before its place is.
+-- A middle layer, proved equal to gl_query (`Faults`): no promise rests on it.
 use Rattle.std.specs.Prelude.{◌≡◌, List, Option, Some, None, unwrap_or}
 use Rattle.gl_bits.specs.declared.kind.Kind.{Kind}
 use Rattle.gl_bits.specs.declared.kind.Kind.TheVariants.{Unsigned}

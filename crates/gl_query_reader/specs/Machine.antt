@@ -1,4 +1,5 @@
 -- Reading a statement from left to right, a token at a time, with what is open on a stack.
+-- A middle layer, proved equal to `Grammar`: no promise rests on it.
 use Rattle.std.specs.Prelude.{ℕ, Bool, true, false, ◌&&◌, List, [], ◌∷◌, ◌++◌, Option, Some, None, option_and_then, nat_lt, nat_le, if◌then◌else◌}
 use Rattle.gl_bits.specs.declared.kind.Kind.{Kind}
 use Rattle.gl_schema.specs.SchemaFaults.{kind_named}

@@ -1,4 +1,5 @@
 -- Reading all tokens: the statement as it is written, or the first fault from the left.
+-- A middle layer, proved equal to `Grammar`: no promise rests on it.
 use Rattle.std.specs.Prelude.{◌≡◌, ℕ, Bool, true, false, is_some, List, [], ◌∷◌, Option, Some, None, Result, Ok, Err, if◌then◌else◌}
 use Rattle.gl_query.specs.declared.tree.Statement as tree
 use Rattle.gl_query.specs.declared.fault.QueryFault.{QueryFault}

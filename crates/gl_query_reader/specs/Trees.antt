@@ -1,4 +1,5 @@
 -- What the reader's trees and states stand for, without where they lie in memory.
+-- A middle layer, proved equal to `Grammar`: no promise rests on it.
 use Rattle.std.specs.Prelude.{ℕ, List, map, reverse, Option, option_map}
 use Rattle.gl_query.specs.declared.tree.Name.{Name}
 use Rattle.gl_query.specs.Trees.{QueryTree, Each, PerGroup}

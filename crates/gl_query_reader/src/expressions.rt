@@ -6,7 +6,6 @@ ghost use Rattle.gl_query_reader.specs.States as states;
 ghost use Rattle.gl_query_reader.specs.Machine as machine;
 ghost use Rattle.gl_query_reader.specs.Trees.{expr_of, expr_control_of, frames_of, next_of};
 
-use crate::boxes::{OneBox, one_box};
 use crate::following::after_expr;
 use crate::keeping::{Beside, keep_beside};
 use crate::operators::{Around, left_looseness, looseness, reduced, room};
@@ -14,6 +13,7 @@ use crate::parts::{cloned, cloned_text, give_up, goes, goes_in, name_of, refuse}
 use crate::state::{CastHead, Control, ExprControl, Frame, State};
 use crate::written::WrittenExpr;
 use gl_bits::Kind;
+use gl_bits::boxes::{OneBox, one_box};
 use gl_query::{Name, Op, TextBytes};
 use gl_query_tokens::sorts::{is_plain, open_in};
 use gl_query_tokens::{Plain, Token};

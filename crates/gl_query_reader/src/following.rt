@@ -4,7 +4,6 @@ ghost use Rattle.std.specs.Prelude.{◌≡◌, ◌∷◌, IfOk};
 ghost use Rattle.gl_query_reader.specs.Machine as machine;
 ghost use Rattle.gl_query_reader.specs.Trees.{expr_of, items_of, pick_of, query_of, frame_of, frames_of, next_of};
 
-use crate::boxes::{OneBox, one_box};
 use crate::items::{have_item, with_item};
 use crate::keeping::Beside;
 use crate::operators::Around;
@@ -15,6 +14,7 @@ use crate::state::{
 };
 use crate::terms::end_select;
 use crate::written::{WrittenAgg, WrittenExpr, WrittenItem, WrittenItems};
+use gl_bits::boxes::{OneBox, one_box};
 use gl_query::Name;
 use gl_query_tokens::sorts::is_plain;
 use gl_query_tokens::{Fold, Plain, Token};

@@ -5,11 +5,11 @@ ghost use Rattle.gl_query_reader.specs.Meaning as meaning;
 ghost use Rattle.gl_query.specs.Trees.{Binary, Cast, Not, expr_tree, agg_tree, item_tree, agg_item_tree};
 ghost use Rattle.gl_query_reader.specs.Trees.{expr_of, agg_of, item_of, items_of};
 
-use crate::boxes::{OneBox, TwoBoxes, one_box, two_boxes};
 use crate::keeping::{Beside, Both, keep_beside, put, take_both};
 use crate::parts::cloned;
 use crate::written::{WrittenAgg, WrittenExpr, WrittenItem, WrittenItems};
 use gl_bits::Kind;
+use gl_bits::boxes::{OneBox, TwoBoxes, one_box, two_boxes};
 use gl_query::{Agg, AggItem, AggItems, Expr, Item, ItemList, Op};
 use gl_query_tokens::Fold;
 use std::alloc::{AllocError, Global};

@@ -3,7 +3,6 @@
 #![tactic(auto)]
 
 mod aggregates;
-mod boxes;
 mod expressions;
 mod following;
 mod groups;

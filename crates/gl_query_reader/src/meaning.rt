@@ -5,10 +5,10 @@ ghost use Rattle.gl_query_reader.specs.Meaning as meaning;
 ghost use Rattle.gl_query.specs.Trees.{query_tree, statement_tree};
 ghost use Rattle.gl_query_reader.specs.Trees.{each_tree, query_of, statement_of};
 
-use crate::boxes::{TwoBoxes, two_boxes};
 use crate::keeping::{Beside, Both, keep_beside, take_both};
 use crate::select_meaning::select_meaning;
 use crate::written::{Over, WrittenEach, WrittenQuery, WrittenStatement};
+use gl_bits::boxes::{TwoBoxes, two_boxes};
 use gl_query::{Query, Statement};
 use gl_query_tokens::Join;
 use std::alloc::{AllocError, Global};

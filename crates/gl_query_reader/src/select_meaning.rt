@@ -5,13 +5,13 @@ ghost use Rattle.gl_query_reader.specs.Meaning as meaning;
 ghost use Rattle.gl_query.specs.Trees.{filter_tree, query_tree, All, Each, Items, PerGroup, Read, Rows, Total};
 ghost use Rattle.gl_query_reader.specs.Trees.{items_of, pick_of, filter_of};
 
-use crate::boxes::{OneBox, TwoBoxes, one_box, two_boxes};
 use crate::item_meaning::{agg_items, expr_meaning, plain_items};
 use crate::keeping::{Beside, Both, keep_beside, take_both};
 use crate::mixed::is_total;
 use crate::written::{
     Grouping, Window, WrittenExpr, WrittenItem, WrittenItems, WrittenPick, WrittenSelect,
 };
+use gl_bits::boxes::{OneBox, TwoBoxes, one_box, two_boxes};
 use gl_query::{Expr, Name, Pick, Query};
 use gl_schema::NameText;
 use std::alloc::{AllocError, Global};

@@ -6,13 +6,13 @@ ghost use Rattle.gl_query_reader.specs.States as states;
 ghost use Rattle.gl_query_reader.specs.Machine as machine;
 ghost use Rattle.gl_query_reader.specs.Trees.{pick_of, query_of, filter_of, head_of, body_head_of, frame_of, frames_of, control_of, next_of};
 
-use crate::boxes::{OneBox, TwoBoxes, one_box, two_boxes};
 use crate::keeping::{Beside, keep_beside, pushed};
 use crate::parts::{goes, goes_in, refuse};
 use crate::state::{
     BodyHead, Control, Frame, Head, QueryControl, SelectFrom, SourceControl, State,
 };
 use crate::written::{Grouping, WrittenEach, WrittenExpr, WrittenQuery, WrittenSelect};
+use gl_bits::boxes::{OneBox, TwoBoxes, one_box, two_boxes};
 use gl_query_tokens::{Join, Plain, Token};
 use std::alloc::{AllocError, Global};
 

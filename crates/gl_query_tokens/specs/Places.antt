@@ -1,4 +1,5 @@
 -- What is open, by its place in the text.
+-- A middle layer, proved equal to `Tokens`: no promise rests on it.
 use Rattle.std.specs.Prelude.{ℕ, ◌-◌, ◌≤◌, List, take, drop}
 use Rattle.gl_query_tokens.specs.declared.lexing.Standing.{Standing}
 use Rattle.gl_query_tokens.specs.declared.lexing.Standing.TheVariants as standing

@@ -1,4 +1,5 @@
 -- What a token is.
+-- A middle layer, proved equal to `Tokens`: no promise rests on it.
 use Rattle.std.specs.Prelude.{ℕ, Bool, true, false, Option, Some, None}
 use Rattle.gl_query.specs.declared.tree.Name.{Name}
 use Rattle.gl_query.specs.declared.tree.Num.{Num}

@@ -1,4 +1,5 @@
 -- A body over each part of a source, its results joined in order.
+-- A middle layer, proved equal to gl_query (`Results`): no promise rests on it.
 use Rattle.std.specs.Prelude.{ℕ, List, ◌∷◌, map}
 use Rattle.gl_bits.specs.declared.lists.Group.{Group}
 use Rattle.gl_schema.specs.declared.schema.Column.{Column}

@@ -1,4 +1,5 @@
 -- What a query may read, as the code is given it, and what it is answered.
+-- A middle layer, proved equal to gl_query (`Results`): no promise rests on it.
 use Rattle.std.specs.Prelude.{List, [], map, slice_get, unwrap_or}
 use Rattle.gl_bits.specs.Results.{Row}
 use Rattle.gl_schema.specs.Beats.{Inputs}

@@ -1,4 +1,5 @@
 -- Tokens by their places in a text, as the reader keeps them.
+-- A middle layer, proved equal to `SchemaText`: no promise rests on it.
 use Rattle.std.specs.Prelude.{◌≡◌, ℕ, ◌≤◌, List, [], ◌∷◌, slice_range, Result, Ok, Err}
 use Rattle.gl_schema.specs.declared.lexing.Standing.{Standing}
 use Rattle.gl_schema.specs.declared.lexing.Standing.TheVariants as standing

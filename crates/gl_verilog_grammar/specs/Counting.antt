@@ -1,4 +1,5 @@
 -- What the counter's values stand for, and the limits that it has not passed.
+-- A middle layer, proved equal to the limits of gl_verilog_faults (`Counts`): no promise rests on it.
 use Rattle.std.specs.Prelude.{ℕ, ◌≤◌}
 use Rattle.gl_verilog_faults.specs.Counts as counts
 use Rattle.gl_verilog_faults.specs.Marks as marks

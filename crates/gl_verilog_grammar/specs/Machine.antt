@@ -1,4 +1,5 @@
 -- Reading tokens from left to right: one step for each token.
+-- A middle layer, proved equal to the spelling of gl_verilog (`Written`) and gl_verilog_faults: no promise rests on it.
 use Rattle.std.specs.Prelude.{ℕ, Bool, true, false, List, [], ◌∷◌, ◌++◌, Option, Some, None, option_map, option_and_then, if◌then◌else◌}
 use Rattle.gl_verilog.specs.Tokens.{Token, Reserved, Name, Number, Sized, Mark, IfWord, BeginWord, EndWord, ElseWord, OpenParen, CloseParen, OpenBracket, CloseBracket, OpenBrace, Semicolon, Comma, Colon, Equals, Tilde, Exclamation, LessEquals}
 use Rattle.gl_verilog.specs.Written.{BitNot, LogicalNot, InfixOp, looseness, WrittenExpr, Named, Constant, BitOf, PartOf, WrittenStatement, Range, WrittenPort, WrittenItem, MemoryOf, WrittenModule}

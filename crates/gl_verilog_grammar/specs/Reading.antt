@@ -1,4 +1,5 @@
 -- Reading tokens from left to right, with the counts kept beside the machine: what the code does, exactly.
+-- A middle layer, proved equal to the spelling of gl_verilog (`Written`) and gl_verilog_faults: no promise rests on it.
 use Rattle.std.specs.Prelude.{ℕ, ◌+◌, Bool, true, false, List, [], ◌∷◌, Option, Some, None, Result, Ok, Err}
 use Rattle.gl_verilog.specs.Tokens.{Token}
 use Rattle.gl_verilog.specs.Written.{WrittenModule}

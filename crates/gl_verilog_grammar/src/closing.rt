@@ -5,10 +5,10 @@ ghost use Rattle.gl_verilog_grammar.specs.Stages as machine;
 ghost use Rattle.gl_verilog_written.specs.View.{expr_of, name_of};
 ghost use Rattle.gl_verilog_grammar.specs.View.{frame_of, frames_of, role_is, closed_of};
 
-use crate::boxes::{OneBox, one_box};
 use crate::frames::{Frame, reduce};
 use crate::stacks::with_last;
 use crate::stage::Role;
+use gl_bits::boxes::{OneBox, one_box};
 use gl_verilog_written::{Word, WrittenExpr};
 use std::alloc::{AllocError, Global};
 use std::mem;

@@ -5,7 +5,6 @@
 ghost use Rattle.gl_verilog_written.specs.View.{tokens_in};
 ghost use Rattle.gl_verilog_grammar.specs.Answers.{IsAnswer, IsOnly};
 
-pub mod boxes;
 pub mod closing;
 pub mod counting;
 pub mod expressions;

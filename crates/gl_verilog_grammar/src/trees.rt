@@ -4,7 +4,7 @@ ghost use Rattle.std.specs.Prelude.{◌≡◌, IfOk};
 ghost use Rattle.gl_verilog_grammar.specs.Stages as machine;
 ghost use Rattle.gl_verilog_written.specs.View.{infix_of, prefix_of, expr_of, statement_of};
 
-use crate::boxes::{OneBox, TwoBoxes, one_box, two_boxes};
+use gl_bits::boxes::{OneBox, TwoBoxes, one_box, two_boxes};
 use gl_verilog_written::{InfixOp, PrefixOp, WrittenExpr, WrittenStatement};
 use std::alloc::{AllocError, Global};
 

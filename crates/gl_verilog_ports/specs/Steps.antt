@@ -1,4 +1,5 @@
 -- The same, as it is looked for: a name is compared piece by piece, and no name is made.
+-- A middle layer, proved equal to `Fit`: no promise rests on it.
 use Rattle.std.specs.Prelude.{ℕ, Bool, false, List, [], ◌∷◌, Option, None, Some, codes, bytes_eq, nat_eq, ◌==◌, unwrap_or, if◌then◌else◌}
 use Rattle.std.specs.Option.{option_map_or, option_or}
 use Rattle.gl_bits.specs.Kinds.{width_of}
