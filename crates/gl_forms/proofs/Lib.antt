@@ -2,4 +2,3 @@ pub mod Words
 mod Counts
 pub mod Named
 mod Rows
-pub mod Copies

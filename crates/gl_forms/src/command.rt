@@ -59,16 +59,3 @@ pub enum Part {
     /// The tuple file.
     Tuples,
 }
-
-impl Part {
-    /// The place of its name among the names.
-    pub fn place(self) -> usize
-        ensures { result ≡ forms.place_of self }
-    {
-        match self {
-            Part::Schema => 0,
-            Part::Query | Part::Module => 1,
-            Part::Tuples => 2,
-        }
-    }
-}

@@ -12,4 +12,4 @@ pub mod reading;
 
 pub use command::{Command, Part};
 pub use copying::copied;
-pub use reading::{command_of, extra_of, load_of, name_of, start_of};
+pub use reading::{command_of, extra_at, load_at, start_at};

@@ -5,7 +5,7 @@ ghost use Rattle.gl_tuples.specs.Values.{number_of};
 ghost use Rattle.gl_forms.specs.Forms as forms;
 ghost use Rattle.gl_forms.specs.Steps as steps;
 
-use crate::command::{Command, Part};
+use crate::command::Command;
 use gl_outside::Words;
 use gl_tuples::value::number_of;
 use gl_verilog_orders::Start;
@@ -141,17 +141,6 @@ fn has_names(words: &Words, count: usize) -> bool
     !has_name(words, count) && (count == 0 || has_name(words, count - 1))
 }
 
-/// The name of a text; no byte where the words name none.
-#[tactic(auto, unfolding(crate::specs::Forms::name_of))]
-pub fn name_of(words: &Words, part: Part) -> &str
-    ensures { result.now ≡ forms.name_of words.now part }
-{
-    match name_at(words, part.place()) {
-        Some(name) => name,
-        None => "",
-    }
-}
-
 // ---- values
 
 // The value at a place among the values.
@@ -195,8 +184,8 @@ fn start_from(number: u64) -> Start
     }
 }
 
-// The start that a value says.
-fn start_at(value: &[u8]) -> Option<Start>
+/// The start that a text says.
+pub fn start_at(value: &[u8]) -> Option<Start>
     ensures { result ≡ forms.start_at (number_of value.now) }
 {
     match u64::try_from(number_of(value)?) {
@@ -222,18 +211,10 @@ fn start_in(words: &Words) -> Option<Start>
     }
 }
 
-/// What a run starts from.
-#[tactic(auto, unfolding(crate::specs::Forms::start_of))]
-pub fn start_of(words: &Words) -> Start
-    ensures { result ≡ forms.start_of words.now }
-{
-    start_in(words).unwrap_or(Start::Zero)
-}
-
 // ---- the cycles that are waited for the end
 
-// So many cycles, if so many may be waited.
-fn extra_at(value: &[u8]) -> Option<u32>
+/// The cycles that a text says, if so many may be waited.
+pub fn extra_at(value: &[u8]) -> Option<u32>
     ensures { result ≡ forms.extra_at (number_of value.now) }
 {
     let number = number_of(value)?;
@@ -254,18 +235,10 @@ fn extra_in(words: &Words) -> Option<u32>
     }
 }
 
-/// How many cycles are waited for the end behind the last beat's; 0 where the words say none.
-#[tactic(auto, unfolding(crate::specs::Forms::extra_of))]
-pub fn extra_of(words: &Words) -> u32
-    ensures { result ≡ forms.extra_of words.now }
-{
-    extra_in(words).unwrap_or(0)
-}
-
 // ---- the tuples of a load
 
-// So many tuples, if a load may have them.
-fn load_at(name: &[u8]) -> Option<u32>
+/// The tuples that a text says, if a load may have so many.
+pub fn load_at(name: &[u8]) -> Option<u32>
     ensures value { result ≡ forms.load_at (number_of name.now) }
     ensures some { IfSome result (λ count. 1 ≤ count) }
 {
@@ -277,11 +250,9 @@ fn load_at(name: &[u8]) -> Option<u32>
     }
 }
 
-/// How many tuples a load has, if the first name says it.
-#[tactic(auto, unfolding(crate::specs::Forms::load_of))]
-pub fn load_of(words: &Words) -> Option<u32>
-    ensures value { result ≡ forms.load_of words.now }
-    ensures some { IfSome result (λ count. 1 ≤ count) }
+// The tuples that the first name says.
+fn load_in(words: &Words) -> Option<u32>
+    ensures { result ≡ forms.load_in (forms.names_of words.now) }
 {
     load_at(name_at(words, 0)?.as_bytes())
 }
@@ -302,12 +273,11 @@ fn takes_values(words: &Words, command: Command) -> bool
 }
 
 // Whether the command takes the names.
-#[tactic(auto, unfolding(crate::specs::Forms::load_of))]
 fn takes_names(words: &Words, command: Command) -> bool
     ensures { result ≡ forms.takes_names command (forms.names_of words.now) }
 {
     match command {
-        Command::Load => load_of(words).is_some(),
+        Command::Load => load_in(words).is_some(),
         Command::Compile | Command::Figures | Command::Explain | Command::Run | Command::Sim =>
             true,
     }

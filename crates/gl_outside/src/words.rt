@@ -1,6 +1,7 @@
 //! Lists of texts.
 
-ghost use Rattle.std.specs.Prelude.{◌≡◌, ◌++◌, ◌∷◌, [], length, slice_get, option_map, OnOk, OnErr, Some, Contains};
+ghost use Rattle.std.specs.Prelude.{◌≡◌, ◌++◌, ◌∷◌, [], length, map, slice_get, string_bytes};
+ghost use Rattle.std.specs.Prelude.{option_map, OnOk, OnErr, Some, Contains};
 
 use std::alloc::Global;
 use std::marker::Model;
@@ -48,6 +49,13 @@ impl Words {
             Some(word) => Some(word.as_str()),
             None => None,
         }
+    }
+
+    /// All words, in order.
+    pub fn texts(&self) -> &[String]
+        ensures { map string_bytes result.now ≡ self.now }
+    {
+        &self.words
     }
 
     /// Adds a word at the end. On want of memory the list is as before.

@@ -1,0 +1,7 @@
+mod Steps
+mod Laid
+mod Ends
+mod Names
+mod Runs
+mod Sims
+pub mod Taking
