@@ -35,4 +35,6 @@ text_of m id = unwrap_or (first_value (found_of m) id) []
 
 -- what was matched is what the words say
 abbrev pub Tells : List (List ℕ) → ArgMatches → Type 0
-Tells words m = IsSaid words (text_of m (codes "first")) (text_of m (codes "second")) (text_of m (codes "third")) (first_value (found_of m) (codes "value"))
+Tells words m =
+    IsSaid words (text_of m (codes "first")) (text_of m (codes "second")) (text_of m (codes "third"))
+    (first_value (found_of m) (codes "value"))

@@ -1,7 +1,7 @@
 //! The commands as clap has them, and what it matches.
 
 ghost use Rattle.std.specs.Prelude.{◌≡◌, IfOk};
-ghost use Rattle.clap.specs.Words.{app_of, new_app, with_rule};
+ghost use Rattle.clap.specs.Words.{app_of, with_rule};
 ghost use Rattle.gl_forms.specs.Forms.{IsCommand};
 ghost use Rattle.gl_matches.specs.Apps.{Tells, app_for, name_rule, one_name, option_rule, three_names, two_names};
 
