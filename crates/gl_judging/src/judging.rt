@@ -15,8 +15,9 @@ ghost use Rattle.gl_texts.specs.Texts.{HasText, SchemaPasses};
 
 use gl_compiler::Compiled;
 use gl_forms::Part;
+use gl_matches::Taken;
 use gl_notes::Refusal;
-use gl_outside::{Shelf, Words};
+use gl_outside::Shelf;
 use gl_query_compiler::{CompileFault, compile_query};
 use gl_schema::Schema;
 use gl_texts::{fetch, fetch_schema};
@@ -59,7 +60,7 @@ pub fn tuples_refusal(fault: TupleFault) -> Refusal
 pub fn text_of<S: Shelf>(
     alloc: Global,
     shelf: &mut S,
-    words: &Words,
+    words: &Taken<'_>,
     part: Part,
 ) -> Result<Vec<u8>, Refusal>
     requires next { IsNext (S.state shelf.old).told words.now part }
@@ -76,7 +77,7 @@ pub fn text_of<S: Shelf>(
 pub fn judge_schema<S: Shelf>(
     alloc: Global,
     shelf: &mut S,
-    words: &Words,
+    words: &Taken<'_>,
 ) -> Result<Schema, Refusal>
     requires named { IsNamed words.now Part.Schema }
     requires names { (S.state shelf.old).names ≡ words.now }
@@ -92,7 +93,7 @@ pub fn judge_schema<S: Shelf>(
 fn judge_query<S: Shelf>(
     alloc: Global,
     shelf: &mut S,
-    words: &Words,
+    words: &Taken<'_>,
     schema: Schema,
 ) -> Result<Compiled, Refusal>
     requires named { IsNamed words.now Part.Query }
@@ -132,7 +133,7 @@ fn beats_of(alloc: Global, schema: &Schema, gap: u32, text: &[u8]) -> Result<Bea
 fn judge_tuples<S: Shelf>(
     alloc: Global,
     shelf: &mut S,
-    words: &Words,
+    words: &Taken<'_>,
     compiled: &Compiled,
 ) -> Result<Beats, Refusal>
     requires runs { IsCommand words.now Run }
@@ -155,7 +156,7 @@ fn judge_tuples<S: Shelf>(
 fn judge_file<S: Shelf>(
     alloc: Global,
     shelf: &mut S,
-    words: &Words,
+    words: &Taken<'_>,
     compiled: Compiled,
 ) -> Result<Job, Refusal>
     requires runs { IsCommand words.now Run }
@@ -176,7 +177,7 @@ fn judge_file<S: Shelf>(
 fn judge_rest<S: Shelf>(
     alloc: Global,
     shelf: &mut S,
-    words: &Words,
+    words: &Taken<'_>,
     schema: Schema,
 ) -> Result<Job, Refusal>
     requires runs { IsCommand words.now Run }
@@ -192,7 +193,7 @@ fn judge_rest<S: Shelf>(
 }
 
 /// Judges the three texts of `run S Q T`.
-pub fn judge_run<S: Shelf>(alloc: Global, shelf: &mut S, words: &Words) -> Result<Job, Refusal>
+pub fn judge_run<S: Shelf>(alloc: Global, shelf: &mut S, words: &Taken<'_>) -> Result<Job, Refusal>
     requires runs { IsCommand words.now Run }
     requires names { (S.state shelf.old).names ≡ words.now }
     ensures ready { IfOk result (λ job. IsReady (S.state shelf.old).told words.now job) }
@@ -208,7 +209,7 @@ pub fn judge_run<S: Shelf>(alloc: Global, shelf: &mut S, words: &Words) -> Resul
 pub fn judge_compile<S: Shelf>(
     alloc: Global,
     shelf: &mut S,
-    words: &Words,
+    words: &Taken<'_>,
 ) -> Result<Compiled, Refusal>
     requires named { IsNamed words.now Part.Query }
     requires names { (S.state shelf.old).names ≡ words.now }

@@ -13,8 +13,9 @@ ghost use Rattle.gl_judging.specs.Passing.{IsFitted, IsFittedText, IsTraceable};
 
 use crate::judging::{judge_schema, text_of, tuples_refusal};
 use gl_forms::Part;
+use gl_matches::Taken;
 use gl_notes::Refusal;
-use gl_outside::{Shelf, Words};
+use gl_outside::Shelf;
 use gl_schema::Schema;
 use gl_tuple_reader::read_tuples;
 use gl_tuples::Beats;
@@ -71,7 +72,7 @@ fn fitted_of(alloc: Global, schema: &Schema, text: &[u8]) -> Result<Fitted, Veri
 fn judge_module<S: Shelf>(
     alloc: Global,
     shelf: &mut S,
-    words: &Words,
+    words: &Taken<'_>,
     schema: &Schema,
 ) -> Result<Fitted, Refusal>
     requires sims { IsCommand words.now Sim }
@@ -93,7 +94,7 @@ fn judge_module<S: Shelf>(
 fn judge_beats<S: Shelf>(
     alloc: Global,
     shelf: &mut S,
-    words: &Words,
+    words: &Taken<'_>,
     schema: &Schema,
     design: &Module,
 ) -> Result<Beats, Refusal>
@@ -115,7 +116,7 @@ fn judge_beats<S: Shelf>(
 fn judge_behind_module<S: Shelf>(
     alloc: Global,
     shelf: &mut S,
-    words: &Words,
+    words: &Taken<'_>,
     schema: Schema,
     fitted: Fitted,
 ) -> Result<Simulation, Refusal>
@@ -138,7 +139,7 @@ fn judge_behind_module<S: Shelf>(
 fn judge_behind_schema<S: Shelf>(
     alloc: Global,
     shelf: &mut S,
-    words: &Words,
+    words: &Taken<'_>,
     schema: Schema,
 ) -> Result<Simulation, Refusal>
     requires sims { IsCommand words.now Sim }
@@ -157,7 +158,7 @@ fn judge_behind_schema<S: Shelf>(
 pub fn judge_sim<S: Shelf>(
     alloc: Global,
     shelf: &mut S,
-    words: &Words,
+    words: &Taken<'_>,
 ) -> Result<Simulation, Refusal>
     requires sims { IsCommand words.now Sim }
     requires names { (S.state shelf.old).names ≡ words.now }

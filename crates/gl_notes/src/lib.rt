@@ -8,5 +8,5 @@ mod faults;
 pub mod notes;
 pub mod status;
 
-pub use notes::{Refusal, tell, tell_no_end, tell_write_fault};
+pub use notes::{Refusal, tell, tell_memory, tell_no_end, tell_usage, tell_write_fault};
 pub use status::{Status, exit_code};

@@ -13,8 +13,9 @@ use crate::faults::{
 };
 use crate::status::Status;
 use gl_figures::Limit;
-use gl_forms::{Part, name_of};
-use gl_outside::{Sink, Words, WriteFault, write_all_of};
+use gl_forms::Part;
+use gl_matches::Taken;
+use gl_outside::{Sink, WriteFault, write_all_of};
 use gl_query::QueryFault;
 use gl_schema::SchemaFault;
 use gl_tuples::TupleFault;
@@ -65,13 +66,13 @@ fn put_line<N: Sink>(notes: &mut N, head: &[u8], rest: &[u8]) -> Result<(), Writ
 fn put_name<N: Sink>(
     notes: &mut N,
     head: &[u8],
-    words: &Words,
+    words: &Taken<'_>,
     part: Part,
 ) -> Result<(), WriteFault>
     ensures { let bytes = line head.now (forms.name_of words.now part) in
         Wrote (N.state notes.old) (N.state notes.new) bytes result }
 {
-    put_line(notes, head, name_of(words, part).as_bytes())
+    put_line(notes, head, words.name(part).as_bytes())
 }
 
 // Writes a line of a text and a number.
@@ -157,7 +158,7 @@ fn put_verilog<N: Sink>(notes: &mut N, fault: &VerilogFault) -> Result<(), Write
 }
 
 // Writes the line of a refusal.
-fn put_note<N: Sink>(notes: &mut N, words: &Words, refusal: &Refusal) -> Result<(), WriteFault>
+fn put_note<N: Sink>(notes: &mut N, words: &Taken<'_>, refusal: &Refusal) -> Result<(), WriteFault>
     ensures { Wrote (N.state notes.old) (N.state notes.new) (note_of words.now refusal.now) result }
 {
     match refusal {
@@ -211,12 +212,34 @@ fn status_of(refusal: &Refusal) -> Status
 
 /// Writes the line of a refusal, and answers its status: that of a failed write, if the line could
 /// not be written.
-pub fn tell<N: Sink>(notes: &mut N, words: &Words, refusal: &Refusal) -> Status
+pub fn tell<N: Sink>(notes: &mut N, words: &Taken<'_>, refusal: &Refusal) -> Status
     ensures { let made = puts (N.state notes.old) (N.state notes.new) in
         Notes (told.status_of refusal.now) (note_of words.now refusal.now) made result }
 {
     match put_note(notes, words, refusal) {
         Ok(()) => status_of(refusal),
+        Err(_) => Status::WriteFault,
+    }
+}
+
+/// Writes the line of all forms, for words that are of none.
+pub fn tell_usage<N: Sink>(notes: &mut N) -> Status
+    ensures { let made = puts (N.state notes.old) (N.state notes.new) in
+        Notes Status.Usage usage_line made result }
+{
+    match put_usage(notes) {
+        Ok(()) => Status::Usage,
+        Err(_) => Status::WriteFault,
+    }
+}
+
+/// Writes the line of want of memory, for words that could not be taken apart.
+pub fn tell_memory<N: Sink>(notes: &mut N) -> Status
+    ensures { let made = puts (N.state notes.old) (N.state notes.new) in
+        Notes Status.Memory memory_line made result }
+{
+    match put_memory(notes) {
+        Ok(()) => Status::Memory,
         Err(_) => Status::WriteFault,
     }
 }

@@ -6,9 +6,10 @@ ghost use Rattle.gl_forms.specs.Forms.{IsNamed};
 ghost use Rattle.gl_texts.specs.Texts as texts;
 ghost use Rattle.gl_texts.specs.Texts.{HasText, LeavesSchema, LeavesText, SchemaPasses};
 
-use gl_forms::{Part, name_of};
+use gl_forms::Part;
+use gl_matches::Taken;
 use gl_notes::Refusal;
-use gl_outside::{ReadFault, Shelf, Words, read_all};
+use gl_outside::{ReadFault, Shelf, read_all};
 use gl_schema::{Schema, SchemaFault, read_schema};
 use std::alloc::Global;
 
@@ -39,7 +40,7 @@ fn schema_refusal(fault: SchemaFault) -> Refusal
 pub fn fetch<S: Shelf>(
     alloc: Global,
     shelf: &mut S,
-    words: &Words,
+    words: &Taken<'_>,
     part: Part,
 ) -> Result<Vec<u8>, Refusal>
     requires named { IsNamed words.now part }
@@ -49,7 +50,7 @@ pub fn fetch<S: Shelf>(
         IfOk result (λ v. HasText told words.now part (λ text. v.items ≡ text)) }
     ensures leaves { LeavesText words.now part (S.state shelf.old) (S.state shelf.new) result }
 {
-    match read_all(alloc, shelf, name_of(words, part)) {
+    match read_all(alloc, shelf, words.name(part)) {
         Ok(text) => Ok(text),
         Err(fault) => Err(read_refusal(part, fault)),
     }
@@ -62,7 +63,7 @@ pub fn fetch<S: Shelf>(
 pub fn fetch_schema<S: Shelf>(
     alloc: Global,
     shelf: &mut S,
-    words: &Words,
+    words: &Taken<'_>,
 ) -> Result<Schema, Refusal>
     requires named { IsNamed words.now Part.Schema }
     requires names { (S.state shelf.old).names ≡ words.now }

@@ -6,8 +6,8 @@ use Rattle.gl_texts.proofs.fetching.fetch.Goals as goal
 
 pub read_all-requires : goal.read_all-requires
 read_all-requires g c =
-    let there : Contains c.args.words.now c.name_of.result.now = subst (λ (n : List ℕ). Contains c.args.words.now n) (sym c.name_of.ensures) (named c.args.words.now c.args.part c.requires.named) in
-    subst (λ (names : List (List ℕ)). Contains names c.name_of.result.now) (sym c.requires.names) there
+    let there : Contains c.args.words.now c.name.result.now = subst (λ (n : List ℕ). Contains c.args.words.now n) (sym c.name.ensures) (named c.args.words.now c.args.part c.requires.named) in
+    subst (λ (names : List (List ℕ)). Contains names c.name.result.now) (sym c.requires.names) there
 
 pub returns-in-Err-clause-leaves : goal.returns-in-Err-clause-leaves
-returns-in-Err-clause-leaves g c = rw c.read_refusal.ensures (unfetched c.args.words.now _ _ c.args.part c.name_of.result.now c.in-Err.fault c.name_of.ensures c.in-Err.ensures.refuses c.in-Err.ensures.counts)
+returns-in-Err-clause-leaves g c = rw c.read_refusal.ensures (unfetched c.args.words.now _ _ c.args.part c.name.result.now c.in-Err.fault c.name.ensures c.in-Err.ensures.refuses c.in-Err.ensures.counts)
