@@ -9,8 +9,9 @@ ghost use Rattle.gl_top.specs.Shown.{IsShownOf};
 
 use gl_forms::Part;
 use gl_judging::{judge_schema, text_of};
+use gl_matches::Taken;
 use gl_notes::Refusal;
-use gl_outside::{Shelf, Words};
+use gl_outside::Shelf;
 use gl_query_explainer::explain_query;
 use gl_schema::Schema;
 use std::alloc::Global;
@@ -19,7 +20,7 @@ use std::alloc::Global;
 fn explain_text<S: Shelf>(
     alloc: Global,
     shelf: &mut S,
-    words: &Words,
+    words: &Taken<'_>,
     schema: &Schema,
 ) -> Result<Vec<u8>, Refusal>
     requires explains { IsCommand words.now Explain }
@@ -40,7 +41,7 @@ fn explain_text<S: Shelf>(
 pub(crate) fn judge_explain<S: Shelf>(
     alloc: Global,
     shelf: &mut S,
-    words: &Words,
+    words: &Taken<'_>,
 ) -> Result<Vec<u8>, Refusal>
     requires explains { IsCommand words.now Explain }
     requires names { (S.state shelf.old).names ≡ words.now }

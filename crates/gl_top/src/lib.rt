@@ -2,10 +2,12 @@
 //!
 //! Here belongs what each command does with the texts that gl_judging gives: `compile`, `figures`,
 //! `explain`, `run` and `load` on the text that a query is compiled to, `sim` on a given Verilog text.
-//! The words' forms are those of gl_forms, statuses and notes those of gl_notes.
+//! The words' forms are those of gl_forms, what they say is taken apart by gl_matches, statuses and
+//! notes are those of gl_notes.
 #![tactic(auto)]
 
 mod explaining;
+mod loading;
 pub mod running;
 mod tracing;
 

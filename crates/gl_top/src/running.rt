@@ -1,14 +1,14 @@
 //! From words to a status.
 
-ghost use Rattle.std.specs.Prelude.{◌≡◌, ◌≢◌, ◌≤◌, [], ℕ, List};
+ghost use Rattle.std.specs.Prelude.{◌≡◌, ◌≢◌, [], ℕ, List};
 ghost use Rattle.gl_outside.specs.States.{IsCalm, Took};
 ghost use Rattle.gl_schema.specs.Beats.{KeepsGap};
 ghost use Rattle.gl_tuples.specs.Gaps.{AreFileBeats, plain_beats};
 ghost use Rattle.gl_compiler.specs.Built.{gap_of};
 ghost use Rattle.gl_notes.specs.declared.notes.Refusal.{Refusal as Refused};
-ghost use Rattle.gl_forms.specs.declared.command.Command.TheVariants.{Compile, Explain, Figures, Load, Run};
+ghost use Rattle.gl_forms.specs.declared.command.Command.TheVariants.{Compile, Explain, Figures, Run};
 ghost use Rattle.gl_forms.specs.Forms as forms;
-ghost use Rattle.gl_forms.specs.Forms.{IsCommand, IsForm, IsLoadOf};
+ghost use Rattle.gl_forms.specs.Forms.{IsCommand, IsForm};
 ghost use Rattle.gl_judging.specs.Causes.{Change, change, IsRefused};
 ghost use Rattle.gl_judging.specs.Passing.{IsCompiled, IsReady, QueryPasses};
 ghost use Rattle.gl_notes.specs.Refusals.{puts, status_of};
@@ -16,18 +16,19 @@ ghost use Rattle.gl_top.specs.Verdicts.{AllPass, Completes, IsAnswer, IsGiven, I
 ghost use Rattle.gl_top.specs.Verdicts.{IsFaultless, RanLines, Says, TellsFault, Yields};
 
 use crate::explaining::judge_explain;
+use crate::loading::answer_load;
 use crate::tracing::answer_sim;
 use gl_compiler::Compiled;
-use gl_forms::{Command, command_of, load_of, start_of};
+use gl_forms::{Command, command_of};
 use gl_judging::{Job, figures_text, judge_compile, judge_run};
-use gl_load::load;
-use gl_notes::{Refusal, Status, tell, tell_write_fault};
+use gl_matches::{Taken, take};
+use gl_notes::{Refusal, Status, tell, tell_memory, tell_usage, tell_write_fault};
 use gl_outside::{Shelf, Sink, Words, write_all_of};
 use gl_runner::{Outcome, execute};
 use std::alloc::Global;
 
 // Runs the compiled text over the beats, and writes the lines of the run.
-fn write_lines<K: Sink>(alloc: Global, words: &Words, job: &Job, out: &mut K) -> Outcome
+fn write_lines<K: Sink>(alloc: Global, words: &Taken<'_>, job: &Job, out: &mut K) -> Outcome
     requires compiled { IsCompiled job.now.compiled }
     requires fine { AreFileBeats job.now.compiled.schema job.now.beats }
     requires gap { let c = job.now.compiled in
@@ -42,7 +43,7 @@ fn write_lines<K: Sink>(alloc: Global, words: &Words, job: &Job, out: &mut K) ->
         job.compiled.kinds(),
         &job.beats,
         job.compiled.printed().latency,
-        start_of(words),
+        words.start(),
         out,
     )
 }
@@ -50,7 +51,7 @@ fn write_lines<K: Sink>(alloc: Global, words: &Words, job: &Job, out: &mut K) ->
 // Runs the compiled text, and notes how that failed.
 fn finish_run<K: Sink, N: Sink>(
     alloc: Global,
-    words: &Words,
+    words: &Taken<'_>,
     job: &Job,
     out: &mut K,
     notes: &mut N,
@@ -73,7 +74,7 @@ fn finish_run<K: Sink, N: Sink>(
 // Keeps the compiled text, and runs it.
 fn finish<K: Sink, N: Sink>(
     alloc: Global,
-    words: &Words,
+    words: &Taken<'_>,
     job: &Job,
     out: &mut K,
     notes: &mut N,
@@ -97,7 +98,7 @@ fn finish<K: Sink, N: Sink>(
 // Judges the texts of `run S Q T`, and runs what was compiled.
 fn answer_run<S: Shelf, K: Sink, N: Sink>(
     alloc: Global,
-    words: &Words,
+    words: &Taken<'_>,
     shelf: &mut S,
     out: &mut K,
     notes: &mut N,
@@ -133,7 +134,7 @@ fn show<K: Sink, N: Sink>(bytes: &[u8], out: &mut K, notes: &mut N) -> Status
 // Judges the texts of `explain S Q`, and writes what is explained.
 fn answer_explain<S: Shelf, K: Sink, N: Sink>(
     alloc: Global,
-    words: &Words,
+    words: &Taken<'_>,
     shelf: &mut S,
     out: &mut K,
     notes: &mut N,
@@ -152,8 +153,8 @@ fn answer_explain<S: Shelf, K: Sink, N: Sink>(
 }
 
 // Keeps the compiled text, and writes what is shown of it.
-fn show_text<K: Sink, N: Sink>(
-    words: &Words,
+pub(crate) fn show_text<K: Sink, N: Sink>(
+    words: &Taken<'_>,
     compiled: &Compiled,
     bytes: &[u8],
     out: &mut K,
@@ -176,7 +177,7 @@ fn show_text<K: Sink, N: Sink>(
 // Judges the texts of `compile S Q`, and writes the Verilog text.
 fn answer_compile<S: Shelf, K: Sink, N: Sink>(
     alloc: Global,
-    words: &Words,
+    words: &Taken<'_>,
     shelf: &mut S,
     out: &mut K,
     notes: &mut N,
@@ -199,7 +200,7 @@ fn answer_compile<S: Shelf, K: Sink, N: Sink>(
 // Writes the figures of a compiled query.
 fn show_figures<K: Sink, N: Sink>(
     alloc: Global,
-    words: &Words,
+    words: &Taken<'_>,
     compiled: &Compiled,
     out: &mut K,
     notes: &mut N,
@@ -222,7 +223,7 @@ fn show_figures<K: Sink, N: Sink>(
 // Judges the texts of `figures S Q`, and writes the figures.
 fn answer_figures<S: Shelf, K: Sink, N: Sink>(
     alloc: Global,
-    words: &Words,
+    words: &Taken<'_>,
     shelf: &mut S,
     out: &mut K,
     notes: &mut N,
@@ -242,45 +243,31 @@ fn answer_figures<S: Shelf, K: Sink, N: Sink>(
     }
 }
 
-// Loads so many tuples, keeps the text that was run, and writes what is told of it.
-fn load_many<K: Sink, N: Sink>(
+// Does what the words of a command say, and notes how that failed.
+fn answer_command<S: Shelf, K: Sink, N: Sink>(
     alloc: Global,
-    words: &Words,
-    count: u32,
+    command: Command,
+    words: &Taken<'_>,
+    shelf: &mut S,
     out: &mut K,
     notes: &mut N,
     text: &mut Vec<u8>,
 ) -> Status
-    requires many { IsLoadOf words.now count }
-    requires some { 1 ≤ count }
+    requires command { IsCommand words.now command }
+    requires names { (S.state shelf.old).names ≡ words.now }
     requires empty { text.old.items ≡ [] }
-    ensures { (c : Change) → IsCalm c.old c.new
-        → IsAnswer words.now c (puts (K.state out.old) (K.state out.new))
-        (puts (N.state notes.old) (N.state notes.new)) text.new.items result }
+    ensures { let seen = change (S.state shelf.old) (S.state shelf.new) in
+        let made = puts (K.state out.old) (K.state out.new) in
+        let noted = puts (N.state notes.old) (N.state notes.new) in
+        IsAnswer words.now seen made noted text.new.items result }
 {
-    match load(alloc, count) {
-        Ok(loaded) => show_text(words, &loaded.compiled, &loaded.summary, out, notes, text),
-        Err(_) => tell(notes, words, &Refusal::Memory),
-    }
-}
-
-// Loads as many tuples as the words say.
-fn answer_load<K: Sink, N: Sink>(
-    alloc: Global,
-    words: &Words,
-    out: &mut K,
-    notes: &mut N,
-    text: &mut Vec<u8>,
-) -> Status
-    requires loads { IsCommand words.now Load }
-    requires empty { text.old.items ≡ [] }
-    ensures { (c : Change) → IsCalm c.old c.new
-        → IsAnswer words.now c (puts (K.state out.old) (K.state out.new))
-        (puts (N.state notes.old) (N.state notes.new)) text.new.items result }
-{
-    match load_of(words) {
-        Some(count) => load_many(alloc, words, count, out, notes, text),
-        None => unreachable!(),
+    match command {
+        Command::Compile => answer_compile(alloc, words, shelf, out, notes, text),
+        Command::Figures => answer_figures(alloc, words, shelf, out, notes, text),
+        Command::Explain => answer_explain(alloc, words, shelf, out, notes),
+        Command::Run => answer_run(alloc, words, shelf, out, notes, text),
+        Command::Sim => answer_sim(alloc, words, shelf, out, notes),
+        Command::Load => answer_load(alloc, words, out, notes, text),
     }
 }
 
@@ -301,13 +288,11 @@ fn answer<S: Shelf, K: Sink, N: Sink>(
         IsAnswer words.now seen made noted text.new.items result }
 {
     match command_of(words) {
-        Some(Command::Compile) => answer_compile(alloc, words, shelf, out, notes, text),
-        Some(Command::Figures) => answer_figures(alloc, words, shelf, out, notes, text),
-        Some(Command::Explain) => answer_explain(alloc, words, shelf, out, notes),
-        Some(Command::Run) => answer_run(alloc, words, shelf, out, notes, text),
-        Some(Command::Sim) => answer_sim(alloc, words, shelf, out, notes),
-        Some(Command::Load) => answer_load(alloc, words, out, notes, text),
-        None => tell(notes, words, &Refusal::Usage),
+        Some(command) => match take(alloc, words, command) {
+            Ok(taken) => answer_command(alloc, command, &taken, shelf, out, notes, text),
+            Err(_) => tell_memory(notes),
+        },
+        None => tell_usage(notes),
     }
 }
 

@@ -9,10 +9,10 @@ ghost use Rattle.gl_judging.specs.Passing.{CanTrace, IsTraceable};
 ghost use Rattle.gl_notes.specs.Refusals.{puts};
 ghost use Rattle.gl_top.specs.Verdicts.{IsAnswer};
 
-use gl_forms::extra_of;
 use gl_judging::{Fitted, Simulation, judge_sim};
+use gl_matches::Taken;
 use gl_notes::{Refusal, Status, tell, tell_no_end, tell_write_fault};
-use gl_outside::{Shelf, Sink, Words};
+use gl_outside::{Shelf, Sink};
 use gl_runner::{Ending, trace};
 use gl_verilog_orders::Start;
 use gl_verilog_ports::laws::inputs_are_ports;
@@ -22,7 +22,7 @@ use std::alloc::Global;
 // or that no end came.
 fn finish_trace<K: Sink, N: Sink>(
     alloc: Global,
-    words: &Words,
+    words: &Taken<'_>,
     simulation: Simulation,
     out: &mut K,
     notes: &mut N,
@@ -38,7 +38,7 @@ fn finish_trace<K: Sink, N: Sink>(
         beats,
     } = simulation;
     let Fitted { design, ports } = fitted;
-    let extra = extra_of(words);
+    let extra = words.extra();
     inputs_are_ports();
     match trace(
         alloc,
@@ -60,7 +60,7 @@ fn finish_trace<K: Sink, N: Sink>(
 /// Judges the texts of `sim S V T`, and runs the Verilog text.
 pub(crate) fn answer_sim<S: Shelf, K: Sink, N: Sink>(
     alloc: Global,
-    words: &Words,
+    words: &Taken<'_>,
     shelf: &mut S,
     out: &mut K,
     notes: &mut N,

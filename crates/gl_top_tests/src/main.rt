@@ -9,7 +9,9 @@
 //! too, and prints the line of the root's node alone. Lines `compile TEXT`, `figures TEXT`, `start
 //! TEXT` and `option WORD TEXT` run `compile S Q`, `figures S Q`, `run --start 12345 S Q T` and `run S
 //! Q T WORD`. A line `sim WORD WORD` runs `sim S V T`, and a line `load WORD WORD` runs `load`, with
-//! these words, of which either may be missing. Every other line is a remark.
+//! these words, of which either may be missing. A line `over TEXT` sets the query of the lines `words
+//! WORD|WORD|..`, which run these words, of which each may be empty. Behind a line `show text` the text
+//! that is left is printed too, until a line `show no text`. Every other line is a remark.
 #![tactic(auto)]
 
 ghost use Rattle.std.specs.Prelude.{◌≡◌, IfOk};
@@ -23,12 +25,14 @@ use std::io;
 // Bytes that a sink takes at most.
 const ROOM: usize = 100_000;
 
-// The texts of the schema, of the module and of the tuple file, the numbers of the calls that fail, and whether the text that is left is shown.
+// The texts of the schema, of the module, of the tuple file and of the query that a line does not give,
+// the numbers of the calls that fail, and whether the text that is left is shown.
 #[derive(Drop)]
 struct Row {
     schema: Option<String>,
     verilog: Option<String>,
     tuples: Option<String>,
+    query: Option<String>,
     failing: Failing,
     shows_text: bool,
 }
@@ -53,18 +57,17 @@ fn words_of(alloc: Global, front: &str, more: &str) -> Result<Words, Memory> {
     Ok(words)
 }
 
-// The words that a line of this kind runs, before those of its own; None for a remark.
-fn words_before(kind: &str) -> Option<&'static str> {
+// The words that a line of this kind runs, before those of its own; none for a remark.
+fn words_before(kind: &str) -> &'static str {
     match kind {
-        "query" | "option" => Some("run S Q T"),
-        "start" => Some("run --start 12345 S Q T"),
-        "explain" | "root" => Some("explain S Q"),
-        "compile" => Some("compile S Q"),
-        "figures" => Some("figures S Q"),
-        "sim" => Some("sim S V T"),
-        "load" => Some("load"),
-        "words" => Some(""),
-        _ => None,
+        "query" | "option" => "run S Q T",
+        "start" => "run --start 12345 S Q T",
+        "explain" | "root" => "explain S Q",
+        "compile" => "compile S Q",
+        "figures" => "figures S Q",
+        "sim" => "sim S V T",
+        "load" => "load",
+        _ => "",
     }
 }
 
@@ -72,7 +75,7 @@ fn words_before(kind: &str) -> Option<&'static str> {
 fn parts_of<'a>(kind: &str, text: &'a str) -> (&'a str, &'a str) {
     match kind {
         "option" => text.split_once(' ').unwrap_or((text, "")),
-        "sim" | "load" | "words" => (text, ""),
+        "sim" | "load" => (text, ""),
         _ => ("", text),
     }
 }
@@ -135,7 +138,20 @@ fn told_by(alloc: Global, words: &Words, row: &Row, query: &str) -> Result<Told,
 // What a line of this kind comes to.
 fn told_of(alloc: Global, row: &Row, kind: &str, text: &str) -> Result<Told, Memory> {
     let (more, query) = parts_of(kind, text);
-    let words = words_of(alloc, words_before(kind).unwrap_or(""), more)?;
+    let words = words_of(alloc, words_before(kind), more)?;
+    told_by(alloc, &words, row, query)
+}
+
+// What the words of a line come to, which `|` parts.
+fn told_in(alloc: Global, row: &Row, text: &str) -> Result<Told, Memory> {
+    let mut words = Words::new(alloc);
+    for word in text.split('|') {
+        words.push(word)?;
+    }
+    let query = match &row.query {
+        Some(query) => query.as_str(),
+        None => "",
+    };
     told_by(alloc, &words, row, query)
 }
 
@@ -197,6 +213,7 @@ fn main(rt: HostRuntime) -> io::Result<()> {
         schema: None,
         verilog: None,
         tuples: None,
+        query: None,
         failing: failing_of(""),
         shows_text: false,
     };
@@ -207,10 +224,15 @@ fn main(rt: HostRuntime) -> io::Result<()> {
             "schema" => row.schema = Some(text.to_string(rt.alloc())?),
             "verilog" => row.verilog = Some(text.to_string(rt.alloc())?),
             "tuples" => row.tuples = Some(text.replace(rt.alloc(), ' ', "\n")?),
+            "over" => row.query = Some(text.to_string(rt.alloc())?),
             "without" => without(&mut row, text),
             "fail" => row.failing = failing_of(text),
             "show" => row.shows_text = text == "text",
-            _ if words_before(kind).is_none() => (),
+            "words" => {
+                let told = told_in(rt.alloc(), &row, text);
+                print_told(&rt, text, told, false, row.shows_text)?
+            }
+            _ if words_before(kind).is_empty() => (),
             _ => {
                 let told = told_of(rt.alloc(), &row, kind, text);
                 print_told(&rt, text, told, kind == "root", row.shows_text)?

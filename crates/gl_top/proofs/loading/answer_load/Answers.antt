@@ -1,12 +1,12 @@
 use Rattle.std.proofs.Common.{◌≡◌, ℕ, Option, None, Some, sym, ◌∙◌}
 use Rattle.gl_forms.proofs.Named.{load_given}
-use Rattle.gl_top.proofs.running.answer_load.Goals as goal
+use Rattle.gl_top.proofs.loading.answer_load.Goals as goal
 
 pub load_many-requires-clause-many : goal.load_many-requires-clause-many
-load_many-requires-clause-many g c = record { loads = c.requires.loads; many = sym c.load_of.ensures.value ∙ c.in-Some.is }
+load_many-requires-clause-many g c = record { loads = c.requires.loads; many = sym c.load.ensures.value ∙ c.in-Some.is }
 
 pub unreachable-requires : goal.unreachable-requires
 unreachable-requires g c =
     let there = load_given c.args.words.now c.requires.loads in
-    let none : ◌≡◌ {A = Option ℕ} None (Some there.0) = sym c.in-None.is ∙ c.load_of.ensures.value ∙ there.1.many in
+    let none : ◌≡◌ {A = Option ℕ} None (Some there.0) = sym c.in-None.is ∙ c.load.ensures.value ∙ there.1.many in
     absurd cc

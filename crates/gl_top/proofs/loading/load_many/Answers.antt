@@ -3,7 +3,7 @@ use Rattle.gl_outside.proofs.Takes.{took_none}
 use Rattle.gl_load.specs.Loads.{IsLoad}
 use Rattle.gl_notes.specs.declared.notes.Refusal.TheVariants as refusal
 use Rattle.gl_top.specs.Verdicts.{Ended, OfLoad}
-use Rattle.gl_top.proofs.running.load_many.Goals as goal
+use Rattle.gl_top.proofs.loading.load_many.Goals as goal
 
 pub returns-in-Ok : goal.returns-in-Ok
 returns-in-Ok g c = λ ch calm.

@@ -2,7 +2,6 @@ use Rattle.std.proofs.Common.{inl, sym, ◌∙◌}
 use Rattle.gl_outside.proofs.Counting.{calm_none}
 use Rattle.gl_outside.proofs.Takes.{took_none}
 use Rattle.gl_notes.specs.declared.notes.Refusal.TheVariants as refusal
-use Rattle.gl_judging.specs.Causes.{change}
 use Rattle.gl_top.specs.Verdicts.{Ended}
 use Rattle.gl_judging.proofs.Texts.{no_form}
 use Rattle.gl_top.proofs.running.answer.Goals as goal
@@ -12,9 +11,15 @@ returns-in-None g c = Ended (record {
   refusal = refusal.Usage;
   cause = (no_form c.args.words.now (sym c.command_of.ensures ∙ c.in-None.is), calm_none _);
   untouched = took_none _;
-  noted = c.tell.ensures;
+  noted = c.tell_usage.ensures;
   left = inl c.requires.empty;
 })
 
-pub returns-in-Some-Load : goal.returns-in-Some-Load
-returns-in-Some-Load g c = c.answer_load.ensures (change _ _) (calm_none _)
+pub returns-in-Err : goal.returns-in-Err
+returns-in-Err g c = Ended (record {
+  refusal = refusal.Memory;
+  cause = calm_none _;
+  untouched = took_none _;
+  noted = c.tell_memory.ensures;
+  left = inl c.requires.empty;
+})

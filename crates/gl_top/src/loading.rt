@@ -1,0 +1,58 @@
+//! What a load comes to.
+
+ghost use Rattle.std.specs.Prelude.{◌≡◌, ◌≤◌, []};
+ghost use Rattle.gl_outside.specs.States.{IsCalm};
+ghost use Rattle.gl_forms.specs.declared.command.Command.TheVariants.{Load};
+ghost use Rattle.gl_forms.specs.Forms.{IsCommand, IsLoadOf};
+ghost use Rattle.gl_judging.specs.Causes.{Change};
+ghost use Rattle.gl_notes.specs.Refusals.{puts};
+ghost use Rattle.gl_top.specs.Verdicts.{IsAnswer};
+
+use crate::running::show_text;
+use gl_load::load;
+use gl_matches::Taken;
+use gl_notes::{Refusal, Status, tell};
+use gl_outside::Sink;
+use std::alloc::Global;
+
+// Loads so many tuples, keeps the text that was run, and writes what is told of it.
+fn load_many<K: Sink, N: Sink>(
+    alloc: Global,
+    words: &Taken<'_>,
+    count: u32,
+    out: &mut K,
+    notes: &mut N,
+    text: &mut Vec<u8>,
+) -> Status
+    requires many { IsLoadOf words.now count }
+    requires some { 1 ≤ count }
+    requires empty { text.old.items ≡ [] }
+    ensures { (c : Change) → IsCalm c.old c.new
+        → IsAnswer words.now c (puts (K.state out.old) (K.state out.new))
+        (puts (N.state notes.old) (N.state notes.new)) text.new.items result }
+{
+    match load(alloc, count) {
+        Ok(loaded) => show_text(words, &loaded.compiled, &loaded.summary, out, notes, text),
+        Err(_) => tell(notes, words, &Refusal::Memory),
+    }
+}
+
+/// Loads as many tuples as the words say.
+pub(crate) fn answer_load<K: Sink, N: Sink>(
+    alloc: Global,
+    words: &Taken<'_>,
+    out: &mut K,
+    notes: &mut N,
+    text: &mut Vec<u8>,
+) -> Status
+    requires loads { IsCommand words.now Load }
+    requires empty { text.old.items ≡ [] }
+    ensures { (c : Change) → IsCalm c.old c.new
+        → IsAnswer words.now c (puts (K.state out.old) (K.state out.new))
+        (puts (N.state notes.old) (N.state notes.new)) text.new.items result }
+{
+    match words.load() {
+        Some(count) => load_many(alloc, words, count, out, notes, text),
+        None => unreachable!(),
+    }
+}
