@@ -5,7 +5,6 @@ pub mod KnownOf
 pub mod PlanResults
 pub mod Showing
 pub mod Faces
-pub mod Existing
 pub mod Meeting
 pub mod Ports
 pub mod Unbound

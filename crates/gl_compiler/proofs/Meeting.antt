@@ -20,18 +20,19 @@ use Rattle.gl_algebra.specs.declared.figures.Figures.{Figures}
 use Rattle.gl_net.specs.Net.{Net}
 use Rattle.gl_net.specs.PortValues as circuit
 use Rattle.gl_net.specs.PortValues.{port_values, port_shapes}
-use Rattle.gl_verilog.specs.Module.{Nets, Memories}
-use Rattle.gl_verilog.specs.Run.{Fit, port_of, input_values}
+use Rattle.gl_verilog.specs.Run.{port_of, input_values}
 use Rattle.gl_verilog_orders.proofs.EventRuns.{event_runs_are_runs, has_event_runs}
 use Rattle.gl_verilog_writer.specs.Meaning.{IsTextOf}
 use Rattle.gl_verilog_ports.specs.Profile.{FitsSchema, HasProfile}
+use Rattle.gl_verilog_ports.proofs.Fits.{finds_ok}
 use Rattle.gl_verilog_ports.proofs.Profiled.{fits, names_shown}
 use Rattle.gl_elaborate.specs.Plans.{plan_of}
 use Rattle.gl_wiring.specs.Output.{plan_ports}
 use Rattle.gl_wiring.specs.Wired.{KeepsGroup, OverBeats, plan_means}
-use Rattle.gl_compiler.specs.Meets.{Meets, RunsOver, WhereDriven, result_columns}
+use Rattle.gl_testbench.specs.Runs.{HasRunsOver}
+use Rattle.gl_testbench.proofs.Runs.{runs_over}
+use Rattle.gl_compiler.specs.Meets.{Meets, WhereDriven, result_columns}
 use Rattle.gl_compiler.specs.Built.{gap_of, latency_of}
-use Rattle.gl_compiler.proofs.Existing.{runs_over}
 use Rattle.gl_compiler.proofs.Faces.{profile_of}
 use Rattle.gl_compiler.proofs.KnownOf.{Known}
 use Rattle.gl_compiler.proofs.OverflowRuns.{keeps_same, tells_group}
@@ -106,8 +107,8 @@ module _ (schema : Schema) (statement : Statement) (net : Net) (text : List ℕ)
   fit : FitsSchema t.design schema
   fit = fits t.design schema columns t.has.valid.names face text t.has k.columns.most k.real
 
-  text_runs : (beats : List Beat) (start : Nets) (words : Memories) → AreBeats schema beats → Fit t.design.declarations start words → RunsOver t.design schema beats start words
-  text_runs beats start words are fits = runs_over t.design schema columns beats face t.has.valid.names are start words (has_event_runs t.design t.has.valid) (pins_other schema beats) fits
+  text_runs : HasRunsOver t.design schema
+  text_runs = runs_over t.design schema t.has.valid is.of_schema (finds_ok text t.design schema t.has fit) (has_event_runs t.design t.has.valid)
 
   -- what holds of the netlist's runs holds of the text's, if it goes from ports to ports that show the same
   of_net : (P : List Beat → PortValues → Type 0) (Q : List Beat → List (List ℕ) → PortValues → Type 0)

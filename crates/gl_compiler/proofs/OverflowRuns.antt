@@ -8,8 +8,8 @@ use Rattle.gl_schema.specs.Beats.{Beat, Inputs, AreBeats, beat_at, inputs_of}
 use Rattle.gl_schema.specs.Ports.{PortValues, IsStimulus}
 use Rattle.gl_schema.specs.Seen.{Shown, shown, seen, rows_of}
 use Rattle.gl_schema.specs.Right.{Meaning, IsRight}
-use Rattle.gl_verilog.specs.Module.{Module, Nets, Memories}
-use Rattle.gl_verilog.specs.Run.{Fit, port_of, input_values}
+use Rattle.gl_verilog.specs.Module.{Module, Nets}
+use Rattle.gl_verilog.specs.Run.{port_of, input_values}
 use Rattle.gl_verilog.specs.Runnable.{SameInputs, SameNets, is_input}
 use Rattle.gl_verilog.specs.Text.{HasModule}
 use Rattle.gl_verilog.proofs.Acyclic.{runnable}
@@ -20,7 +20,8 @@ use Rattle.gl_wiring.specs.Wired.{KeepsGroup}
 use Rattle.gl_testbench.specs.declared.pins.Pin.{Pin as Carried}
 use Rattle.gl_testbench.specs.Carried.{pin_at, with_beat}
 use Rattle.gl_verilog_ports.specs.Profile.{FitsSchema, result_names}
-use Rattle.gl_compiler.specs.Meets.{Drives, RunsOver, WhereDriven}
+use Rattle.gl_testbench.specs.Runs.{HasRunsOver, RunsOver}
+use Rattle.gl_compiler.specs.Meets.{Drives, WhereDriven}
 use Rattle.gl_compiler.specs.Overflow.{HasSpill, TellsGroup, beats_to}
 use Rattle.gl_testbench.proofs.Inputs.{carried_at, port_carries}
 use Rattle.gl_testbench.proofs.Outputs.{shown_same}
@@ -69,7 +70,7 @@ module _ (text : List ℕ) (schema : Schema) (m : Module) (has : HasModule text 
   -- ---- the line
 
   module _ (means : Meaning) (latency gap : ℕ)
-      (runs : (beats : List Beat) (start : Nets) (words : Memories) → AreBeats schema beats → Fit m.declarations start words → RunsOver m schema beats start words)
+      (runs : HasRunsOver m schema)
       (right : WhereDriven m schema gap (IsRight means latency))
       (keeps : WhereDriven m schema gap (λ beats outs port. KeepsGroup outs port)) where
     spilled : (c : ℕ) → WhereDriven m schema gap (λ beats outs port. IsTrue (shown port outs c).group → HasSpill means (inputs_of (beats_to c beats)))

@@ -13,24 +13,16 @@ use Rattle.gl_query.specs.Columns.{columns_of}
 use Rattle.gl_query.specs.Accepted.{IsAccepted}
 use Rattle.gl_query.specs.Results.{IsResult}
 use Rattle.gl_verilog.specs.Module.{Module, Nets, Memories}
-use Rattle.gl_verilog.specs.Run.{Fit, port_of, input_values}
-use Rattle.gl_verilog.specs.Runnable.{SameState}
+use Rattle.gl_verilog.specs.Run.{port_of, input_values}
 use Rattle.gl_verilog.specs.Text.{HasModule}
 use Rattle.gl_verilog_orders.specs.Events.{IsEventRun}
 use Rattle.gl_verilog_ports.specs.Profile.{HasProfile, result_names}
+use Rattle.gl_testbench.specs.Runs.{HasRunsOver}
 use Rattle.gl_compiler.specs.Overflow.{TellsGroup}
 
 -- the columns of a statement's result
 abbrev pub result_columns : Schema → Statement → List Column
 result_columns schema statement = columns_of schema.streams (query_shape statement.query)
-
--- a run of the module in some order of events with these beats on its inputs, which begins with these registers and words
-pub record RunsOver (m : Module) (schema : Schema) (beats : List Beat) (start : Nets) (words : Memories) : Type 0 where
-  pub value : ℕ → Nets
-  pub word : ℕ → Memories
-  pub run : IsEventRun m value word
-  pub starts : SameState m.declarations start words (value 0) (word 0)
-  pub stimulus : IsStimulus schema beats (input_values m value)
 
 -- beats of the schema that keep the gap drive the module in this run of it, whatever the order of its events
 pub record Drives (m : Module) (schema : Schema) (gap : ℕ) (beats : List Beat) (value : ℕ → Nets) (word : ℕ → Memories)
@@ -55,7 +47,6 @@ pub record Meets (schema : Schema) (statement : Statement) (latency gap : ℕ) (
   pub has : HasModule text design
   pub name : design.name ≡ codes "q__" ++ statement.name.text
   pub face : HasProfile design schema (result_columns schema statement)
-  pub runs : (beats : List Beat) (start : Nets) (words : Memories) → AreBeats schema beats
-      → Fit design.declarations start words → RunsOver design schema beats start words
+  pub runs : HasRunsOver design schema
   pub right : WhereDriven design schema gap (IsRight (IsResult schema statement) latency)
   pub group : WhereDriven design schema gap (TellsGroup (IsResult schema statement))
