@@ -1,14 +1,17 @@
 //! Circuits of one block behind two columns at ports.
 
 ghost use Rattle.std.specs.Prelude.{◌≡◌, ◌∷◌, [], IfOk, None, ℕ};
+ghost use Rattle.gl_algebra.specs.FigureTable.{IsSound};
 ghost use Rattle.gl_bits.specs.Kinds.{IsKind, width_of};
 ghost use Rattle.gl_bits.specs.Words.{IsWidth};
 ghost use Rattle.gl_net.specs.Net.{open_at};
 ghost use Rattle.gl_rows_tests.specs.Circuits.{IsSourceOf};
 
+use gl_algebra::Figures;
 use gl_bits::{Kind, Memory};
 use gl_divide::divide;
 use gl_net::{Buses, NetBuilder, Netlist};
+use gl_queue::UnionOf;
 use gl_wire::{Emitted, Faults, Operator, Wire, pad};
 use std::alloc::Global;
 
@@ -18,6 +21,12 @@ pub struct Circuit {
     pub netlist: Netlist,
     pub wire: Wire,
 }
+
+// No line that tells of a fault.
+const NO_FAULTS: Faults = Faults {
+    passed: None,
+    further: None,
+};
 
 // Two columns at the ports of an empty netlist.
 fn put_source(alloc: Global, net: &mut NetBuilder, first: u8, second: u8) -> Result<Emitted, Memory>
@@ -41,10 +50,7 @@ fn put_source(alloc: Global, net: &mut NetBuilder, first: u8, second: u8) -> Res
             eos: eos.bit(),
             columns,
         },
-        faults: Faults {
-            passed: None,
-            further: None,
-        },
+        faults: NO_FAULTS,
     })
 }
 
@@ -106,5 +112,34 @@ pub fn padded_of(alloc: Global, first: u8, second: u8, cycles: u32) -> Result<Ci
     Ok(Circuit {
         netlist: net.finish(),
         wire: later,
+    })
+}
+
+/// A union of columns of these widths with themselves, whose sides have these figures.
+pub fn union_of(alloc: Global, first: u8, second: u8, side: Figures) -> Result<Circuit, Memory>
+    requires first { IsWidth first }
+    requires second { IsWidth second }
+    requires sound { IsSound side }
+{
+    let mut net = NetBuilder::new(alloc);
+    let source = put_source(alloc, &mut net, first, second)?;
+    let again = pad(alloc, &mut net, &source.wire, 0)?;
+    let one = Emitted {
+        wire: source.wire,
+        faults: NO_FAULTS,
+    };
+    let other = Emitted {
+        wire: again,
+        faults: NO_FAULTS,
+    };
+    let union = UnionOf {
+        left: side,
+        right: side,
+    };
+    let out = union.emit(alloc, &mut net, one, other)?;
+    net.module(b"tested")?;
+    Ok(Circuit {
+        netlist: net.finish(),
+        wire: out.wire,
     })
 }

@@ -4,12 +4,14 @@
 //! printed, and then what the block's wire carries: `CYCLE:ROW` and `CYCLE:end`. `parse` says what stands in the three parts. A line
 //! `BLOCK | LETTERS | LETTERS` puts a block on queues behind two ports, and gives each a letter in each cycle; it is printed, and then a
 //! letter for each cycle of what the block shows. `queues` says what stands in the first part, and `bench` what a letter is; a joiner has
-//! letters for each side, parted by `/`. `queues` also says which lines ask for figures alone. Every other line is a remark.
+//! letters for each side, parted by `/`. `queues` also says which lines ask for figures alone; `bits of a union MOST` tells
+//! what a union of two columns of 16 bits holds. Every other line is a remark.
 #![tactic(auto)]
 
 mod beats;
 mod bench;
 mod circuit;
+mod costs;
 mod fits;
 mod kinds;
 mod parse;
@@ -17,6 +19,7 @@ mod queues;
 mod trace;
 
 use crate::beats::shown;
+use crate::costs::bits_of;
 use crate::parse::{beats_of, block_of, kinds_behind, kinds_of};
 use crate::queues::{letters_of, still_told};
 use gl_bits::Memory;
@@ -56,6 +59,10 @@ fn letters_told(
 
 // What the row of a line comes to; None where it is a remark.
 fn told_of(alloc: Global, line: &str) -> Result<Option<String>, Memory> {
+    if let Some(most) = line.strip_prefix("bits of a union ") {
+        let told = bits_of(alloc, most.parse::<u16>().unwrap_or(0))?;
+        return Ok(Some(told));
+    }
     let Some((front, rest)) = line.split_once('|') else {
         return still_told(alloc, line);
     };
