@@ -15,7 +15,7 @@ use crate::items::step_item;
 use crate::limits::Counts;
 use crate::queries::step_query;
 use crate::sources::step_source;
-use crate::state::{Control, Frame, QueryControl, State};
+use crate::state::{Control, QueryControl, State};
 use crate::windows::step_window;
 use crate::written::WrittenStatement;
 use gl_query_tokens::{Lexeme, Token};

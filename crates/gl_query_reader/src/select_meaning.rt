@@ -6,7 +6,7 @@ ghost use Rattle.gl_query.specs.Trees.{filter_tree, query_tree, All, Each, Items
 ghost use Rattle.gl_query_reader.specs.Trees.{items_of, pick_of, filter_of};
 
 use crate::item_meaning::{agg_items, expr_meaning, plain_items};
-use crate::keeping::{Beside, Both, keep_beside, take_both};
+use crate::keeping::{Beside, keep_beside, take_both};
 use crate::mixed::is_total;
 use crate::written::{
     Grouping, Window, WrittenExpr, WrittenItem, WrittenItems, WrittenPick, WrittenSelect,
