@@ -20,7 +20,7 @@ use Rattle.gl_verilog.specs.Text.{HasModule}
 use Rattle.gl_verilog.specs.Valid.{AreDistinct, Differs}
 use Rattle.gl_verilog.specs.Widths.{is_clock}
 use Rattle.gl_verilog_ports.specs.Profile.{FitsSchema, HasProfile, IsLine, declared, declared_kind, input_width, port_named, result_names, result_ports, result_widths, shows_column}
-use Rattle.gl_verilog_ports.proofs.Declared.{distinct_take, input_is_port}
+use Rattle.gl_verilog_ports.proofs.Declared.{distinct_take, inputs_are_ports}
 
 -- ---- no two ports have one name
 
@@ -256,7 +256,7 @@ module _ (m : Module) (schema : Schema) (columns : List Column) (distinct : AreD
   unfolding clk
   fits text has few kinds = record {
     clock = record { port = declared (input clk 1); there = ap (find (λ (d : Declaration). bytes_eq d.name clk)) face; input = refl; bit = refl };
-    inputs = λ n d at is other. input_fits n d (ap (λ (ds : List Declaration). slice_get ds n) (sym face) ∙ input_is_port text m n d has at (rw is refl)) is other;
+    inputs = λ n d at is other. input_fits n d (ap (λ (ds : List Declaration). slice_get ds n) (sym face) ∙ inputs_are_ports text m has n d at (rw is refl)) is other;
     valid = record { port = declared (output out_valid 1); there = line_there out_valid (record { place = 0; there = refl }); line = line_is out_valid };
     end = record { port = declared (output out_eos 1); there = line_there out_eos (tail_stands (output out_eos 1) (record { place = 0; there = refl })); line = line_is out_eos };
     group = rw (line_there fault_group (tail_stands (output fault_group 1) (record { place = 1; there = refl }))) (line_is fault_group);
