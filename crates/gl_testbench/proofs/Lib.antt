@@ -4,4 +4,4 @@ pub mod Outputs
 pub mod Words
 pub mod Due
 mod PinNames
-mod Runs
+pub mod Runs
