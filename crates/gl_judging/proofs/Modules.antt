@@ -1,5 +1,5 @@
 -- What a Verilog text that was read says.
-use Rattle.std.proofs.Common.{◌≡◌, ◌≢◌, ℕ, List, Result, Ok, Err, inl, inr, refl, sym, ap, subst, ◌∙◌}
+use Rattle.std.proofs.Common.{◌≡◌, ◌≢◌, ℕ, List, Option, Some, Result, Ok, Err, inl, inr, refl, sym, ap, subst, ◌∙◌}
 use Rattle.std.specs.Prelude.{IfErr}
 use Rattle.std.specs.Result.{IsErrAnd}
 use Rattle.gl_outside.specs.States.{IsCalm}
@@ -7,18 +7,25 @@ use Rattle.gl_outside.specs.Told.{Told}
 use Rattle.gl_schema.specs.declared.schema.Schema.{Schema}
 use Rattle.gl_verilog.specs.Module.{Module}
 use Rattle.gl_verilog.specs.Text.{HasModule}
+use Rattle.gl_verilog.specs.Tokens.{IsPlaceOf}
 use Rattle.gl_verilog.specs.View.{module_of}
+use Rattle.gl_verilog.specs.Written.{WrittenModule}
+use Rattle.gl_verilog_faults.specs.Demands.{Undeclared, TwiceDeclared, TwiceDriven, NeverDriven, WidthsDiffer, Loop, BadMemory, ClockRead, TooWide, BadTarget}
+use Rattle.gl_verilog_faults.specs.Faults.{Verdict, IsModule, IsSyntax, IsTooDeep, Breaks, IsVerdict}
+use Rattle.gl_verilog_faults.proofs.Exact.{one_place}
+use Rattle.gl_verilog_grammar.proofs.ReadModules.{one_spelt}
+use Rattle.gl_verilog_grammar.proofs.Verdicts.{one_only}
 use Rattle.gl_verilog_written.specs.declared.fault.VerilogFault.{VerilogFault}
 use Rattle.gl_verilog_written.specs.declared.fault.VerilogFault.TheVariants as verilog
 use Rattle.gl_verilog_reader.specs.declared.source.Source.{Source}
-use Rattle.gl_verilog_reader.specs.Reading.{IsFaultIn}
+use Rattle.gl_verilog_reader.specs.Reading.{IsFaultIn, fault_as}
 use Rattle.gl_verilog_reader.specs.Sources.{IsSource}
 use Rattle.gl_verilog_reader.proofs.Places.{only_memory, only_module}
 use Rattle.gl_verilog_ports.specs.declared.fitting.Ports.{Ports}
 use Rattle.gl_verilog_ports.specs.declared.fitting.Misfit.{Misfit}
 use Rattle.gl_verilog_ports.specs.Fit.{fit_of}
 use Rattle.gl_verilog_fit.specs.Laws.{TellsPort}
-use Rattle.gl_verilog_fit.specs.Places.{IsPortFault, fit_at}
+use Rattle.gl_verilog_fit.specs.Places.{IsPortFault, fit_at, misfit_token}
 use Rattle.gl_verilog_fit.proofs.Placed as placed
 use Rattle.gl_forms.specs.declared.command.Command.TheVariants.{Sim}
 use Rattle.gl_forms.specs.declared.command.Part.TheVariants as part
@@ -117,11 +124,14 @@ module_passes told words v s fitted sims before h is = record {
 
 -- ---- a module that fits, or a fault
 
+-- the module of a text whose ports do not fit
+port_module : (s : Schema) (text : List ℕ) (at : ℕ) (is : IsPortFault text s at) → HasModule text is.design
+port_module s text at is = record { written = is.written; spelled = is.spelled; grammar = is.grammar; limits = is.limits; resolved = is.resolved; valid = is.valid }
+
 -- a module that does not fit is another
 port_goes : (s : Schema) (text : List ℕ) (m : Module) (ports : Ports) (at : ℕ) → HasModule text m → fit_of m s ≡ Ok ports → IsPortFault text s at → ⊥
 port_goes s text m ports at has fits is =
-    let other : HasModule text is.design = record { written = is.written; spelled = is.spelled; grammar = is.grammar; limits = is.limits; resolved = is.resolved; valid = is.valid } in
-    let same : m ≡ is.design = only_module text m is.design has other in
+    let same : m ≡ is.design = only_module text m is.design has (port_module s text at is) in
     let e : ◌≡◌ {A = Result Ports Misfit} (Ok ports) (Err is.misfit) = sym fits ∙ ap (λ (x : Module). fit_of x s) same ∙ is.is in
     cc
 
@@ -140,3 +150,58 @@ module_goes s text m ports (verilog.ClockRead at) has fits is = let e : verilog.
 module_goes s text m ports (verilog.TooWide at) has fits is = let e : verilog.TooWide at ≡ verilog.Memory = only_memory text m (verilog.TooWide at) has is in cc
 module_goes s text m ports (verilog.BadTarget at) has fits is = let e : verilog.BadTarget at ≡ verilog.Memory = only_memory text m (verilog.BadTarget at) has is in cc
 module_goes s text m ports (verilog.TooDeep at) has fits is = let e : verilog.TooDeep at ≡ verilog.Memory = only_memory text m (verilog.TooDeep at) has is in cc
+
+-- ---- one fault
+
+-- the fault that a verdict says; a module has none
+abbrev verdict_fault : Verdict → VerilogFault
+verdict_fault (IsModule m) = verilog.Memory
+verdict_fault (IsSyntax at) = verilog.Syntax at
+verdict_fault (IsTooDeep at) = verilog.TooDeep at
+verdict_fault (Breaks rule at) = fault_as rule at
+
+-- a fault is that of the text's verdict, or that of a port
+data IsFound (s : Schema) (text : List ℕ) (f : VerilogFault) : Type 0 where
+  ByText : (v : Verdict) (so : IsVerdict text v) (is : f ≡ verdict_fault v) → IsFound s text f
+  ByPort : (at : ℕ) (so : IsPortFault text s at) (is : f ≡ verilog.BadPort at) → IsFound s text f
+
+found : (s : Schema) (text : List ℕ) (f : VerilogFault) → IsModuleFault s text f → IsFound s text f
+found s text verilog.Memory is = absurd is
+found s text (verilog.BadPort at) is = ByPort at is refl
+found s text (verilog.Syntax at) is = ByText (IsSyntax at) is refl
+found s text (verilog.TooDeep at) is = ByText (IsTooDeep at) is refl
+found s text (verilog.Undeclared at) is = ByText (Breaks Undeclared at) is refl
+found s text (verilog.TwiceDeclared at) is = ByText (Breaks TwiceDeclared at) is refl
+found s text (verilog.TwiceDriven at) is = ByText (Breaks TwiceDriven at) is refl
+found s text (verilog.NeverDriven at) is = ByText (Breaks NeverDriven at) is refl
+found s text (verilog.WidthsDiffer at) is = ByText (Breaks WidthsDiffer at) is refl
+found s text (verilog.Loop at) is = ByText (Breaks Loop at) is refl
+found s text (verilog.BadMemory at) is = ByText (Breaks BadMemory at) is refl
+found s text (verilog.ClockRead at) is = ByText (Breaks ClockRead at) is refl
+found s text (verilog.TooWide at) is = ByText (Breaks TooWide at) is refl
+found s text (verilog.BadTarget at) is = ByText (Breaks BadTarget at) is refl
+
+-- the ports do not fit in one way, which is shown at one place
+one_port : (s : Schema) (text : List ℕ) (p q : ℕ) → IsPortFault text s p → IsPortFault text s q → p ≡ q
+one_port s text p q a b =
+    let w : a.written ≡ b.written = one_spelt a.written b.written a.grammar b.grammar (sym a.spelled ∙ b.spelled) in
+    let m : a.design ≡ b.design = only_module text a.design b.design (port_module s text p a) (port_module s text q b) in
+    let errs : ◌≡◌ {A = Result Ports Misfit} (Err a.misfit) (Err b.misfit) = sym a.is ∙ ap (λ (x : Module). fit_of x s) m ∙ b.is in
+    let misfit : a.misfit ≡ b.misfit = cc in
+    let tokens : ◌≡◌ {A = Option ℕ} (Some a.token) (Some b.token) = sym a.shows ∙ ap (λ (x : WrittenModule). misfit_token x a.misfit) w ∙ ap (misfit_token b.written) misfit ∙ b.shows in
+    let token : a.token ≡ b.token = cc in
+    one_place text a.token p q a.place (subst (λ (k : ℕ). IsPlaceOf text k q) (sym token) b.place)
+
+-- a text whose ports do not fit has a module, so it has no other fault
+port_only : (s : Schema) (text : List ℕ) (f : VerilogFault) (at : ℕ) (v : Verdict) → IsModuleFault s text f → IsVerdict text v → f ≡ verdict_fault v → IsPortFault text s at → ⊥
+port_only s text f at v is so e port =
+    real_fault s text f is (e ∙ ap verdict_fault (one_only text v (IsModule port.design) so (port_module s text at port)))
+
+pub one_module_fault : (s : Schema) (text : List ℕ) (f g : VerilogFault) → IsModuleFault s text f → IsModuleFault s text g → f ≡ g
+one_module_fault s text f g a b = by (found s text f a) (found s text g b)
+  where
+    by : IsFound s text f → IsFound s text g → f ≡ g
+    by (ByText v i e) (ByText w j d) = e ∙ ap verdict_fault (one_only text v w i j) ∙ sym d
+    by (ByText v i e) (ByPort at j d) = absurd (port_only s text f at v a i e j)
+    by (ByPort at i e) (ByText w j d) = absurd (port_only s text g at w b j d i)
+    by (ByPort p i e) (ByPort q j d) = e ∙ ap verilog.BadPort (one_port s text p q i j) ∙ sym d

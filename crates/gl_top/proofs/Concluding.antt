@@ -1,9 +1,8 @@
 -- What each status says.
-use Rattle.std.proofs.Common.{◌≡◌, ◌≢◌, ◌⊎◌, ℕ, List, [], Option, Some, refl, sym, subst, ◌∙◌, inl, inr}
+use Rattle.std.proofs.Common.{◌≡◌, ◌≢◌, ◌⊎◌, ℕ, List, [], Option, Some, refl, sym, ap, subst, ◌∙◌, inl, inr}
 use Rattle.gl_outside.specs.Counts.{Rose}
 use Rattle.gl_schema.specs.declared.schema.Schema.{Schema}
 use Rattle.gl_query.specs.declared.tree.Statement.{Statement}
-use Rattle.gl_query.specs.declared.fault.QueryFault.{QueryFault}
 use Rattle.gl_notes.specs.declared.notes.Refusal.{Refusal}
 use Rattle.gl_notes.specs.declared.notes.Refusal.TheVariants as refusal
 use Rattle.gl_notes.specs.declared.status.Status.{Status}
@@ -11,13 +10,13 @@ use Rattle.gl_notes.specs.declared.status.Status.TheVariants as status
 use Rattle.gl_outside.specs.Told.{Told}
 use Rattle.gl_forms.specs.declared.command.Command.{Command}
 use Rattle.gl_forms.specs.declared.command.Command.TheVariants.{Compile, Figures, Explain, Run, Sim, Load}
+use Rattle.gl_forms.specs.declared.command.Part.{Part}
 use Rattle.gl_forms.specs.declared.command.Part.TheVariants as part
 use Rattle.gl_forms.specs.Forms.{IsForm, command_of, extra_of}
 use Rattle.gl_forms.proofs.Named.{form_of, named_form}
 use Rattle.gl_outside.specs.States.{IsCalm, Took}
 use Rattle.gl_verilog_orders.specs.declared.start.Start.TheVariants.{Zero}
 use Rattle.gl_tuples.specs.declared.beats.Beat.{Beat}
-use Rattle.gl_tuples.specs.declared.fault.TupleFault.{TupleFault}
 use Rattle.gl_tuples.specs.Gaps.{plain_beats}
 use Rattle.gl_verilog.specs.Module.{Module}
 use Rattle.gl_runner.specs.declared.tracing.Ending.{Ending}
@@ -26,20 +25,54 @@ use Rattle.gl_runner.specs.Prints.{HasRunOver}
 use Rattle.gl_runner.specs.Traces.{OfRunsOf, Traced, decimal_kinds}
 use Rattle.gl_judging.specs.Passing.{FilePasses}
 use Rattle.gl_notes.specs.Refusals.{Puts, Notes, status_of, note_of, no_end_line, write_line}
-use Rattle.gl_judging.specs.Causes.{Change, HasCause, AreBadTuples, ToRun, ToSim, IsBadQuery, IsRefused}
+use Rattle.gl_judging.specs.Causes.{Change, HasCause, IsNext, IsRefused}
 use Rattle.gl_top.specs.Shown.{Shows}
-use Rattle.gl_top.specs.Verdicts.{AllPass, OfFile, Three, Completes, Whole, NoMemory, Endless, IsAnswer, Ran, Broke', Traced', Shown, Cut, Ended, IsEndless, IsGiven, OfLoad, OfTexts, IsTelling, TellsEnding, Yields, Same, ToRead, ToWrite, ToMemory, IsFaultless, Says, TellsFault}
+use Rattle.gl_top.specs.Verdicts.{AllPass, OfFile, Three, Completes, Whole, NoMemory, Endless, IsAnswer, Ran, Broke', Traced', Shown, Cut, Ended, IsEndless, IsGiven, OfLoad, OfTexts, IsTelling, TellsEnding, Yields, Same, ToRead, ToWrite, ToMemory, IsFaultless, Says, TellsRefusal}
 use Rattle.gl_judging.proofs.Texts.{next_form}
-use Rattle.gl_top.proofs.Deciding.{Stops, load_goes, one_bad_query, stops, stops_once, passes_goes, two_go}
+use Rattle.gl_top.proofs.Deciding.{Stops, formed, load_goes, one_refusal, stops, passes_goes, two_go}
 
 noted_write : (own answered : Status) (line : List ℕ) (notes : Puts) → own ≡ status.WriteFault → Notes own line notes answered → answered ≡ status.WriteFault
 noted_write own answered line notes e (inl n) = n.0 ∙ e
 noted_write own answered line notes e (inr n) = n.0
 
--- a note of another status
-other_status : (r : Refusal) (answered : Status) (notes : Puts) (line : List ℕ) {A : Type 0} → (status_of r ≡ status.Query → ⊥) → answered ≡ status.Query → Notes (status_of r) line notes answered → A
-other_status r answered notes line other e (inl n) = absurd (other (sym n.0 ∙ e))
-other_status r answered notes line other e (inr n) = absurd (let f : status.Query ≡ status.WriteFault = sym e ∙ n.0 in cc)
+-- what there is of a refusal's cause: the words and the texts are refused so, a read failed, or memory ran out
+data IsCaused (words : List (List ℕ)) (c : Change) (r : Refusal) : Type 0 where
+  Judged : (is : IsRefused c.old.told words r) → IsCaused words c r
+  Unread : (part : Part) (next : IsNext c.old.told words part) (rose : Rose c.old.faults c.new.faults) (is : status_of r ≡ status.ReadFault) → IsCaused words c r
+  Short : (is : status_of r ≡ status.Memory) → IsCaused words c r
+
+caused : (words : List (List ℕ)) (c : Change) (r : Refusal) → HasCause words c r → IsCaused words c r
+caused words c refusal.Usage h = Judged h.0
+caused words c (refusal.Missing p) h = Judged h.0
+caused words c (refusal.ReadFault p) h = Unread p h.0 h.1.faults refl
+caused words c (refusal.TooLong p) h = Judged h.0
+caused words c (refusal.Schema f) h = Judged h.0
+caused words c (refusal.Query f) h = Judged h.0
+caused words c (refusal.Limit l) h = Judged h.0
+caused words c (refusal.Verilog f) h = Judged h.0
+caused words c (refusal.Tuples f) h = Judged h.0
+caused words c refusal.Memory h = Short refl
+
+-- the statuses of what the words and the texts are refused for
+abbrev IsJudged : Status → Type 0
+IsJudged status.Done = ⊥
+IsJudged status.ReadFault = ⊥
+IsJudged status.WriteFault = ⊥
+IsJudged status.Memory = ⊥
+IsJudged status.NoEnd = ⊥
+IsJudged _ = Unit {0}
+
+judged : (told : List ℕ → Told) (words : List (List ℕ)) (r : Refusal) → IsRefused told words r → IsJudged (status_of r)
+judged told words refusal.Usage h = tt
+judged told words (refusal.Missing p) h = tt
+judged told words (refusal.ReadFault p) h = h
+judged told words (refusal.TooLong p) h = tt
+judged told words (refusal.Schema f) h = tt
+judged told words (refusal.Query f) h = tt
+judged told words (refusal.Limit l) h = tt
+judged told words (refusal.Verilog f) h = tt
+judged told words (refusal.Tuples f) h = tt
+judged told words refusal.Memory h = h
 
 -- what a refusal says
 of_refusal : (words : List (List ℕ)) (c : Change) (out notes : Puts) (r : Refusal) → HasCause words c r → Says words c out notes (status_of r)
@@ -67,13 +100,6 @@ ending_status (end.NoEnd cycle) notes answered (inl n) = inr (inr n.0)
 ending_status (end.NoEnd cycle) notes answered (inr n) = inr (inl n.0)
 ending_status end.WriteFault notes answered h = inr (inl (noted_write status.WriteFault answered write_line notes refl h))
 ending_status end.Memory notes answered h = absurd h
-
-ending_no_query : (ending : Ending) (notes : Puts) (answered : Status) → TellsEnding ending notes answered → answered ≡ status.Query → ⊥
-ending_no_query ending notes answered h e = elim (ending_status ending notes answered h) [
-  | inl d ↦ (let f : status.Query ≡ status.Done = sym e ∙ d in cc)
-  | inr (inl w) ↦ (let f : status.Query ≡ status.WriteFault = sym e ∙ w in cc)
-  | inr (inr n) ↦ (let f : status.Query ≡ status.NoEnd = sym e ∙ n in cc)
-]
 
 module _ (words : List (List ℕ)) (c : Change) (out notes : Puts) (schema : Schema) (design : Module) (beats : List Beat) (passes : FilePasses c.old.told words schema design beats)
     (run : HasRunOver design schema (plain_beats beats) Zero) (calm : IsCalm c.old c.new) where
@@ -118,29 +144,33 @@ when_says words c out notes text answered (Shown d) = subst (Says words c out no
 when_says words c out notes text answered (Cut b) = says_noted words c out notes status.WriteFault answered write_line (inl b.wrote.cause) b.noted
 when_says words c out notes text answered (Ended d) = says_noted words c out notes (status_of d.refusal) answered (note_of words d.refusal) (of_refusal words c out notes d.refusal d.cause) d.noted
 
--- with the status of a refused query its one fault is noted
-told_by : (words : List (List ℕ)) (c : Change) (notes : Puts) (answered : Status) (fault : QueryFault) → IsTelling c.old.told words → IsBadQuery c.old.told words fault → answered ≡ status.Query
-    → (r : Refusal) → HasCause words c r → Notes (status_of r) (note_of words r) notes answered → Took notes.old notes.new (note_of words (refusal.Query fault))
-told_by words c notes answered fault tells bad e (refusal.Query g) h (inl n) =
-    let same : g ≡ fault = one_bad_query c.old.told words g fault tells h.0 bad in subst (λ (f : QueryFault). Took notes.old notes.new (note_of words (refusal.Query f))) same n.1
-told_by words c notes answered fault tells bad e (refusal.Query g) h (inr n) = absurd (let f : status.Query ≡ status.WriteFault = sym e ∙ n.0 in cc)
-told_by words c notes answered fault tells bad e refusal.Usage h n = other_status refusal.Usage answered notes (note_of words refusal.Usage) (λ f. absurd cc) e n
-told_by words c notes answered fault tells bad e (refusal.Missing p) h n = other_status (refusal.Missing p) answered notes (note_of words (refusal.Missing p)) (λ f. absurd cc) e n
-told_by words c notes answered fault tells bad e (refusal.ReadFault p) h n = other_status (refusal.ReadFault p) answered notes (note_of words (refusal.ReadFault p)) (λ f. absurd cc) e n
-told_by words c notes answered fault tells bad e (refusal.TooLong p) h n = other_status (refusal.TooLong p) answered notes (note_of words (refusal.TooLong p)) (λ f. absurd cc) e n
-told_by words c notes answered fault tells bad e (refusal.Schema g) h n = other_status (refusal.Schema g) answered notes (note_of words (refusal.Schema g)) (λ f. absurd cc) e n
-told_by words c notes answered fault tells bad e (refusal.Limit l) h n = other_status (refusal.Limit l) answered notes (note_of words (refusal.Limit l)) (λ f. absurd cc) e n
-told_by words c notes answered fault tells bad e (refusal.Verilog g) h n = other_status (refusal.Verilog g) answered notes (note_of words (refusal.Verilog g)) (λ f. absurd cc) e n
-told_by words c notes answered fault tells bad e (refusal.Tuples g) h n = other_status (refusal.Tuples g) answered notes (note_of words (refusal.Tuples g)) (λ f. absurd cc) e n
-told_by words c notes answered fault tells bad e refusal.Memory h n = other_status refusal.Memory answered notes (note_of words refusal.Memory) (λ f. absurd cc) e n
+-- with the status of what the words and the texts are refused for, its line is noted
+told_by : (words : List (List ℕ)) (c : Change) (notes : Puts) (answered : Status) (r : Refusal) → IsTelling c.old.told words → IsRefused c.old.told words r → answered ≡ status_of r
+    → (s : Refusal) → IsCaused words c s → Notes (status_of s) (note_of words s) notes answered → Took notes.old notes.new (note_of words r)
+told_by words c notes answered r tells is e s cause (inr n) = absurd (subst IsJudged (sym e ∙ n.0) (judged c.old.told words r is))
+told_by words c notes answered r tells is e s (Judged h) (inl n) =
+    let same : s ≡ r = one_refusal c.old.told words s r tells h is in subst (λ (x : Refusal). Took notes.old notes.new (note_of words x)) same n.1
+told_by words c notes answered r tells is e s (Unread p next rose own) (inl n) = absurd (subst IsJudged (sym e ∙ n.0 ∙ own) (judged c.old.told words r is))
+told_by words c notes answered r tells is e s (Short own) (inl n) = absurd (subst IsJudged (sym e ∙ n.0 ∙ own) (judged c.old.told words r is))
 
-pub when_told : (words : List (List ℕ)) (c : Change) (out notes : Puts) (text : List ℕ) (answered : Status) → IsAnswer words c out notes text answered → TellsFault words c notes answered
-when_told words c out notes text answered (Ran d) fault tells bad e = absurd (let f : status.Query ≡ status.Done = sym e ∙ d.done in cc)
-when_told words c out notes text answered (Broke' b) fault tells bad e = absurd (let f : status.Query ≡ status.WriteFault = sym e ∙ noted_write status.WriteFault answered write_line notes refl b.noted in cc)
-when_told words c out notes text answered (Traced' d) fault tells bad e = absurd (ending_no_query d.ending notes answered d.tells e)
-when_told words c out notes text answered (Shown d) fault tells bad e = absurd (let f : status.Query ≡ status.Done = sym e ∙ d.done in cc)
-when_told words c out notes text answered (Cut b) fault tells bad e = absurd (let f : status.Query ≡ status.WriteFault = sym e ∙ noted_write status.WriteFault answered write_line notes refl b.noted in cc)
-when_told words c out notes text answered (Ended d) fault tells bad e = told_by words c notes answered fault tells bad e d.refusal d.cause d.noted
+-- no other status is one of these
+ending_other : (told : List ℕ → Told) (words : List (List ℕ)) (r : Refusal) (ending : Ending) (notes : Puts) (answered : Status) → IsRefused told words r → answered ≡ status_of r → TellsEnding ending notes answered → ⊥
+ending_other told words r ending notes answered is e h = elim (ending_status ending notes answered h) [
+  | inl d ↦ subst IsJudged (sym e ∙ d) (judged told words r is)
+  | inr (inl w) ↦ subst IsJudged (sym e ∙ w) (judged told words r is)
+  | inr (inr n) ↦ subst IsJudged (sym e ∙ n) (judged told words r is)
+]
+
+broken_other : (told : List ℕ → Told) (words : List (List ℕ)) (r : Refusal) (notes : Puts) (answered : Status) → IsRefused told words r → answered ≡ status_of r → Notes status.WriteFault write_line notes answered → ⊥
+broken_other told words r notes answered is e n = subst IsJudged (sym e ∙ noted_write status.WriteFault answered write_line notes refl n) (judged told words r is)
+
+pub when_told : (words : List (List ℕ)) (c : Change) (out notes : Puts) (text : List ℕ) (answered : Status) → IsAnswer words c out notes text answered → TellsRefusal words c notes answered
+when_told words c out notes text answered (Ran d) r tells is e = absurd (subst IsJudged (sym e ∙ d.done) (judged c.old.told words r is))
+when_told words c out notes text answered (Broke' b) r tells is e = absurd (broken_other c.old.told words r notes answered is e b.noted)
+when_told words c out notes text answered (Traced' d) r tells is e = absurd (ending_other c.old.told words r d.ending notes answered is e d.tells)
+when_told words c out notes text answered (Shown d) r tells is e = absurd (subst IsJudged (sym e ∙ d.done) (judged c.old.told words r is))
+when_told words c out notes text answered (Cut b) r tells is e = absurd (broken_other c.old.told words r notes answered is e b.noted)
+when_told words c out notes text answered (Ended d) r tells is e = told_by words c notes answered r tells is e d.refusal (caused words c d.refusal d.cause) d.noted
 
 -- nothing is written but by a run
 pub when_untouched : (words : List (List ℕ)) (c : Change) (out notes : Puts) (text : List ℕ) (answered : Status) → IsAnswer words c out notes text answered
@@ -162,53 +192,36 @@ runs_none Sim schema statement bytes text h o e r = h
 runs_none Load schema statement bytes text h o e r = h
 
 -- what is answered, where a refusal was noted or not
-yields : (r : Refusal) (own answered : Status) (c : Change) (notes : Puts) (line : List ℕ) → status_of r ≡ own → Notes (status_of r) line notes answered → Yields own c notes answered
-yields r own answered c notes line e (inl n) = Same (n.0 ∙ e)
-yields r own answered c notes line e (inr n) = ToWrite n.0 n.1.cause
+yields : (own answered : Status) (c : Change) (notes : Puts) (line : List ℕ) → Notes own line notes answered → Yields own c notes answered
+yields own answered c notes line (inl n) = Same n.0
+yields own answered c notes line (inr n) = ToWrite n.0 n.1.cause
 
-by_cause : (words : List (List ℕ)) (c : Change) (notes : Puts) (answered own : Status) → IsTelling c.old.told words → Stops c.old.told words own → (s : Refusal) → HasCause words c s → Notes (status_of s) (note_of words s) notes answered → Yields own c notes answered
-by_cause words c notes answered own tells st refusal.Memory h (inl n) = ToMemory n.0
-by_cause words c notes answered own tells st refusal.Memory h (inr n) = ToWrite n.0 n.1.cause
-by_cause words c notes answered own tells st (refusal.ReadFault p) h (inl n) = ToRead n.0 h.1.faults
-by_cause words c notes answered own tells st (refusal.ReadFault p) h (inr n) = ToWrite n.0 n.1.cause
-by_cause words c notes answered own tells st refusal.Usage h n = yields refusal.Usage own answered c notes (note_of words refusal.Usage) (stops_once c.old.told words (status_of refusal.Usage) own tells (stops c.old.told words refusal.Usage h.0) st) n
-by_cause words c notes answered own tells st (refusal.Missing p) h n = yields (refusal.Missing p) own answered c notes (note_of words (refusal.Missing p)) (stops_once c.old.told words (status_of (refusal.Missing p)) own tells (stops c.old.told words (refusal.Missing p) h.0) st) n
-by_cause words c notes answered own tells st (refusal.TooLong p) h n = yields (refusal.TooLong p) own answered c notes (note_of words (refusal.TooLong p)) (stops_once c.old.told words (status_of (refusal.TooLong p)) own tells (stops c.old.told words (refusal.TooLong p) h.0) st) n
-by_cause words c notes answered own tells st (refusal.Schema f) h n = yields (refusal.Schema f) own answered c notes (note_of words (refusal.Schema f)) (stops_once c.old.told words (status_of (refusal.Schema f)) own tells (stops c.old.told words (refusal.Schema f) h.0) st) n
-by_cause words c notes answered own tells st (refusal.Query f) h n = yields (refusal.Query f) own answered c notes (note_of words (refusal.Query f)) (stops_once c.old.told words (status_of (refusal.Query f)) own tells (stops c.old.told words (refusal.Query f) h.0) st) n
-by_cause words c notes answered own tells st (refusal.Limit l) h n = yields (refusal.Limit l) own answered c notes (note_of words (refusal.Limit l)) (stops_once c.old.told words (status_of (refusal.Limit l)) own tells (stops c.old.told words (refusal.Limit l) h.0) st) n
-by_cause words c notes answered own tells st (refusal.Verilog f) h n = yields (refusal.Verilog f) own answered c notes (note_of words (refusal.Verilog f)) (stops_once c.old.told words (status_of (refusal.Verilog f)) own tells (stops c.old.told words (refusal.Verilog f) h.0) st) n
-by_cause words c notes answered own tells st (refusal.Tuples f) h n = yields (refusal.Tuples f) own answered c notes (note_of words (refusal.Tuples f)) (stops_once c.old.told words (status_of (refusal.Tuples f)) own tells (stops c.old.told words (refusal.Tuples f) h.0) st) n
+by_cause : (words : List (List ℕ)) (c : Change) (notes : Puts) (answered : Status) (r : Refusal) → IsTelling c.old.told words → IsRefused c.old.told words r → (s : Refusal) → IsCaused words c s → Notes (status_of s) (note_of words s) notes answered
+    → Yields (status_of r) c notes answered
+by_cause words c notes answered r tells is s cause (inr n) = ToWrite n.0 n.1.cause
+by_cause words c notes answered r tells is s (Judged h) (inl n) = Same (n.0 ∙ ap status_of (one_refusal c.old.told words s r tells h is))
+by_cause words c notes answered r tells is s (Unread p next rose own) (inl n) = ToRead (n.0 ∙ own) rose
+by_cause words c notes answered r tells is s (Short own) (inl n) = ToMemory (n.0 ∙ own)
 
 -- what is shown was not refused
-shown_goes : (told : List ℕ → Told) (words : List (List ℕ)) (bytes text : List ℕ) (a : Status) → IsTelling told words → IsGiven told words bytes text → Stops told words a → ⊥
+shown_goes : (told : List ℕ → Told) (words : List (List ℕ)) (bytes text : List ℕ) (a : Refusal) → IsTelling told words → IsGiven told words bytes text → Stops told words a → ⊥
 shown_goes told words bytes text a tells (OfLoad d) h = load_goes told words d.count a d.is h
 shown_goes told words bytes text a tells (OfTexts d) h = two_go told words d.schema d.statement a tells d.passes (runs_none d.command d.schema d.statement bytes text d.shows (command_of words) d.is) h
 
 pub when_refused : (words : List (List ℕ)) (c : Change) (out notes : Puts) (text : List ℕ) (answered : Status) → IsAnswer words c out notes text answered → (r : Refusal) → IsTelling c.old.told words → IsRefused c.old.told words r → Yields (status_of r) c notes answered
-when_refused words c out notes text answered (Ran d) r tells h = absurd (passes_goes c.old.told words (status_of r) tells (Three d.schema d.statement d.beats d.emitted.passes) (stops c.old.told words r h))
-when_refused words c out notes text answered (Broke' b) r tells h = absurd (passes_goes c.old.told words (status_of r) tells (Three b.schema b.statement b.beats b.emitted.passes) (stops c.old.told words r h))
-when_refused words c out notes text answered (Traced' d) r tells h = absurd (passes_goes c.old.told words (status_of r) tells (OfFile d.schema d.design d.beats d.passes) (stops c.old.told words r h))
-when_refused words c out notes text answered (Shown d) r tells h = absurd (shown_goes c.old.told words d.bytes text (status_of r) tells d.given (stops c.old.told words r h))
-when_refused words c out notes text answered (Cut b) r tells h = absurd (shown_goes c.old.told words b.bytes text (status_of r) tells b.given (stops c.old.told words r h))
-when_refused words c out notes text answered (Ended d) r tells h = by_cause words c notes answered (status_of r) tells (stops c.old.told words r h) d.refusal d.cause d.noted
-
-calm_noted : (s : Refusal) (line : List ℕ) (notes : Puts) (answered : Status) {A : Type 0} → (Rose notes.old.faults notes.new.faults → ⊥) → (answered ≡ status_of s → A) → Notes (status_of s) line notes answered → A
-calm_noted s line notes answered calm f (inl n) = f n.0
-calm_noted s line notes answered calm f (inr n) = absurd (calm n.1.cause)
+when_refused words c out notes text answered (Ran d) r tells h = absurd (passes_goes c.old.told words r tells (Three d.schema d.statement d.beats d.emitted.passes) (stops c.old.told words r h))
+when_refused words c out notes text answered (Broke' b) r tells h = absurd (passes_goes c.old.told words r tells (Three b.schema b.statement b.beats b.emitted.passes) (stops c.old.told words r h))
+when_refused words c out notes text answered (Traced' d) r tells h = absurd (passes_goes c.old.told words r tells (OfFile d.schema d.design d.beats d.passes) (stops c.old.told words r h))
+when_refused words c out notes text answered (Shown d) r tells h = absurd (shown_goes c.old.told words d.bytes text r tells d.given (stops c.old.told words r h))
+when_refused words c out notes text answered (Cut b) r tells h = absurd (shown_goes c.old.told words b.bytes text r tells b.given (stops c.old.told words r h))
+when_refused words c out notes text answered (Ended d) r tells h = by_cause words c notes answered r tells h d.refusal (caused words c d.refusal d.cause) d.noted
 
 by_calm : (words : List (List ℕ)) (c : Change) (out notes : Puts) (answered : Status) → IsTelling c.old.told words → AllPass c.old.told words → IsFaultless c out notes
-    → (s : Refusal) → HasCause words c s → Notes (status_of s) (note_of words s) notes answered → Completes words c out notes answered
-by_calm words c out notes answered tells pass calm refusal.Memory h n = calm_noted refusal.Memory (note_of words refusal.Memory) notes answered calm.notes' (λ e. NoMemory e) n
-by_calm words c out notes answered tells pass calm (refusal.ReadFault q) h n = absurd (calm.shelf h.1.faults)
-by_calm words c out notes answered tells pass calm refusal.Usage h n = absurd (passes_goes c.old.told words (status_of refusal.Usage) tells pass (stops c.old.told words refusal.Usage h.0))
-by_calm words c out notes answered tells pass calm (refusal.Missing p) h n = absurd (passes_goes c.old.told words (status_of (refusal.Missing p)) tells pass (stops c.old.told words (refusal.Missing p) h.0))
-by_calm words c out notes answered tells pass calm (refusal.TooLong p) h n = absurd (passes_goes c.old.told words (status_of (refusal.TooLong p)) tells pass (stops c.old.told words (refusal.TooLong p) h.0))
-by_calm words c out notes answered tells pass calm (refusal.Schema f) h n = absurd (passes_goes c.old.told words (status_of (refusal.Schema f)) tells pass (stops c.old.told words (refusal.Schema f) h.0))
-by_calm words c out notes answered tells pass calm (refusal.Query f) h n = absurd (passes_goes c.old.told words (status_of (refusal.Query f)) tells pass (stops c.old.told words (refusal.Query f) h.0))
-by_calm words c out notes answered tells pass calm (refusal.Limit l) h n = absurd (passes_goes c.old.told words (status_of (refusal.Limit l)) tells pass (stops c.old.told words (refusal.Limit l) h.0))
-by_calm words c out notes answered tells pass calm (refusal.Verilog f) h n = absurd (passes_goes c.old.told words (status_of (refusal.Verilog f)) tells pass (stops c.old.told words (refusal.Verilog f) h.0))
-by_calm words c out notes answered tells pass calm (refusal.Tuples f) h n = absurd (passes_goes c.old.told words (status_of (refusal.Tuples f)) tells pass (stops c.old.told words (refusal.Tuples f) h.0))
+    → (s : Refusal) → IsCaused words c s → Notes (status_of s) (note_of words s) notes answered → Completes words c out notes answered
+by_calm words c out notes answered tells pass calm s cause (inr n) = absurd (calm.notes' n.1.cause)
+by_calm words c out notes answered tells pass calm s (Judged h) (inl n) = absurd (passes_goes c.old.told words s tells pass (stops c.old.told words s h))
+by_calm words c out notes answered tells pass calm s (Unread p next rose own) (inl n) = absurd (calm.shelf rose)
+by_calm words c out notes answered tells pass calm s (Short own) (inl n) = NoMemory (n.0 ∙ own)
 
 pub when_calm : (words : List (List ℕ)) (c : Change) (out notes : Puts) (text : List ℕ) (answered : Status) → IsAnswer words c out notes text answered → IsTelling c.old.told words → AllPass c.old.told words → IsFaultless c out notes → Completes words c out notes answered
 when_calm words c out notes text answered (Ran d) tells p calm = Whole d.done
@@ -216,25 +229,14 @@ when_calm words c out notes text answered (Shown d) tells p calm = Whole d.done
 when_calm words c out notes text answered (Traced' d) tells p calm = trace_completes words c out notes d.schema d.design d.beats d.passes d.run d.calm answered d.ending calm d.traced d.tells
 when_calm words c out notes text answered (Cut b) tells p calm = absurd (calm.out' b.wrote.cause)
 when_calm words c out notes text answered (Broke' b) tells p calm = absurd (calm.out' b.cause)
-when_calm words c out notes text answered (Ended d) tells p calm = by_calm words c out notes answered tells p calm d.refusal d.cause d.noted
+when_calm words c out notes text answered (Ended d) tells p calm = by_calm words c out notes answered tells p calm d.refusal (caused words c d.refusal d.cause) d.noted
 
 -- words of no form
-tuples_form : (told : List ℕ → Told) (words : List (List ℕ)) (f : TupleFault) → AreBadTuples told words f → IsForm words
-tuples_form told words f (ToRun runs s st before text) = form_of words Run runs
-tuples_form told words f (ToSim s m before text) = form_of words Sim before.sims
-
-by_form : (words : List (List ℕ)) (c : Change) (notes : Puts) (answered : Status) → (IsForm words → ⊥) → (s : Refusal) → HasCause words c s → Notes (status_of s) (note_of words s) notes answered → Yields status.Usage c notes answered
-by_form words c notes answered none refusal.Usage h n = yields refusal.Usage status.Usage answered c notes (note_of words refusal.Usage) refl n
-by_form words c notes answered none (refusal.Missing p) h n = absurd (none (next_form c.old.told words p h.0.next))
-by_form words c notes answered none (refusal.ReadFault p) h n = absurd (none (next_form c.old.told words p h.0))
-by_form words c notes answered none (refusal.TooLong p) h n = absurd (none (next_form c.old.told words p h.0.next))
-by_form words c notes answered none (refusal.Schema f) h n = absurd (none (named_form words part.Schema h.0.named))
-by_form words c notes answered none (refusal.Query f) h n = absurd (none (named_form words part.Query h.0.named))
-by_form words c notes answered none (refusal.Limit l) h n = absurd (none (named_form words part.Query h.0.named))
-by_form words c notes answered none (refusal.Verilog f) h n = absurd (none (form_of words Sim h.0.sims))
-by_form words c notes answered none (refusal.Tuples f) h n = absurd (none (tuples_form c.old.told words f h.0))
-by_form words c notes answered none refusal.Memory h (inl n) = ToMemory n.0
-by_form words c notes answered none refusal.Memory h (inr n) = ToWrite n.0 n.1.cause
+by_form : (words : List (List ℕ)) (c : Change) (notes : Puts) (answered : Status) → (IsForm words → ⊥) → (s : Refusal) → IsCaused words c s → Notes (status_of s) (note_of words s) notes answered → Yields status.Usage c notes answered
+by_form words c notes answered none s cause (inr n) = ToWrite n.0 n.1.cause
+by_form words c notes answered none s (Judged h) (inl n) = elim (formed c.old.told words s (stops c.old.told words s h)) [ inl e ↦ Same (n.0 ∙ ap status_of e) | inr form ↦ absurd (none form) ]
+by_form words c notes answered none s (Unread p next rose own) (inl n) = absurd (none (next_form c.old.told words p next))
+by_form words c notes answered none s (Short own) (inl n) = ToMemory (n.0 ∙ own)
 
 given_form : (told : List ℕ → Told) (words : List (List ℕ)) (bytes text : List ℕ) → IsGiven told words bytes text → IsForm words
 given_form told words bytes text (OfTexts d) = named_form words part.Query d.passes.named
@@ -246,4 +248,4 @@ when_formless words c out notes text answered (Broke' b) none = absurd (none (fo
 when_formless words c out notes text answered (Traced' d) none = absurd (none (form_of words Sim d.passes.before.sims))
 when_formless words c out notes text answered (Shown d) none = absurd (none (given_form c.old.told words d.bytes text d.given))
 when_formless words c out notes text answered (Cut b) none = absurd (none (given_form c.old.told words b.bytes text b.given))
-when_formless words c out notes text answered (Ended d) none = by_form words c notes answered none d.refusal d.cause d.noted
+when_formless words c out notes text answered (Ended d) none = by_form words c notes answered none d.refusal (caused words c d.refusal d.cause) d.noted

@@ -35,7 +35,7 @@ use Rattle.gl_forms.specs.Forms.{IsForm, IsLoadOf, IsNamed, command_of, extra_of
 use Rattle.gl_load.specs.Loads.{IsLoad}
 use Rattle.gl_top.specs.Shown.{IsShownOf}
 use Rattle.gl_judging.specs.Passing.{QueryPasses, TuplesPass, FilePasses}
-use Rattle.gl_judging.specs.Causes.{Change, HasCause, IsTooLong, IsBadSchema, IsBadQuery, IsOver, IsBadVerilog, AreBadTuples}
+use Rattle.gl_judging.specs.Causes.{Change, HasCause, IsTooLong, IsBadSchema, IsBadQuery, IsOver, IsBadVerilog, IsRefused, AreBadTuples}
 use Rattle.gl_notes.specs.Refusals.{Puts, Notes, status_of, note_of, no_end_line, write_line}
 
 -- the lines of the run of this text over these beats from this start were written, or a front of them
@@ -170,9 +170,11 @@ pub record IsFaultless (c : Change) (out notes : Puts) : Type 0 where
   pub out' : Rose out.old.faults out.new.faults → ⊥
   pub notes' : Rose notes.old.faults notes.new.faults → ⊥
 
--- with the status of a query that is refused, what was noted is the fault of its text
-abbrev pub TellsFault : List (List ℕ) → Change → Puts → Status → Type 0
-TellsFault words c notes answered = (fault : QueryFault) → IsTelling c.old.told words → IsBadQuery c.old.told words fault → answered ≡ status.Query → Took notes.old notes.new (note_of words (refusal.Query fault))
+-- where the words and the texts are refused so, and the status is that of this refusal, its line is what was noted
+abbrev pub TellsRefusal : List (List ℕ) → Change → Puts → Status → Type 0
+TellsRefusal words c notes answered =
+    (r : Refusal) → IsTelling c.old.told words → IsRefused c.old.told words r → answered ≡ status_of r
+    → Took notes.old notes.new (note_of words r)
 
 -- the module of a simulation has a run, and in none of its runs the end is seen in time; the lines of all its cycles were written, and the
 -- last of these was noted; no text was missing, and nothing failed

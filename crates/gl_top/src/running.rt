@@ -13,7 +13,7 @@ ghost use Rattle.gl_judging.specs.Causes.{Change, change, IsRefused};
 ghost use Rattle.gl_judging.specs.Passing.{IsCompiled, IsReady, QueryPasses};
 ghost use Rattle.gl_notes.specs.Refusals.{puts, status_of};
 ghost use Rattle.gl_top.specs.Verdicts.{AllPass, Completes, IsAnswer, IsGiven, IsTelling};
-ghost use Rattle.gl_top.specs.Verdicts.{IsFaultless, RanLines, Says, TellsFault, Yields};
+ghost use Rattle.gl_top.specs.Verdicts.{IsFaultless, RanLines, Says, TellsRefusal, Yields};
 
 use crate::explaining::judge_explain;
 use crate::loading::answer_load;
@@ -330,10 +330,10 @@ pub fn run<S: Shelf, K: Sink, N: Sink>(
         let noted = puts (N.state notes.old) (N.state notes.new) in
         Says words.now seen made noted result }
 
-    // Where the query is refused, its fault and the place are what is noted.
+    // With the status of a refusal that holds, what is noted is its line.
     ensures told { let seen = change (S.state shelf.old) (S.state shelf.new) in
         let noted = puts (N.state notes.old) (N.state notes.new) in
-        TellsFault words.now seen noted result }
+        TellsRefusal words.now seen noted result }
 
     // Nothing is written but by what was asked for.
     ensures untouched { result ≢ Status.Done → result ≢ Status.WriteFault
