@@ -8,36 +8,33 @@ use Rattle.gl_bits.specs.Lists.{keys_of, has_further}
 use Rattle.gl_bits.specs.Results.{Row}
 use Rattle.gl_bits.proofs.Bools.{or_none}
 use Rattle.gl_wire.specs.Apart.{Carries, a_tuple}
-use Rattle.gl_wire.specs.Wire.{pending, stream}
-use Rattle.gl_groups.specs.Slots.{keys_at, is_further, further_line}
+use Rattle.gl_wire.specs.Wire.{Carried, pending, stream}
+use Rattle.gl_groups.specs.Slots.{keys_at, is_further, further_line, came_further}
 use Rattle.gl_groups.proofs.Setting.{Setting}
 use Rattle.gl_groups.proofs.KeyLemmas.{further-push, further-none}
 use Rattle.gl_groups.proofs.PhaseLemmas.{keys_are}
 
-module _ (front : Setting) where
-  open front use {count, key, a}
-
-  -- the keys with what comes in a cycle
-  abbrev kept : ℕ → List ℕ
-  kept = keys_at count key front.stride a
+module _ (count : ℕ) (key : Row → ℕ) (a : Carried) where
+  -- the first keys of the stream with what comes in a cycle
+  abbrev first : ℕ → List ℕ
+  first c = take count (keys_of key (stream a c))
 
   -- the line
   abbrev own : ℕ → Bool
-  own = further_line count key front.stride a
+  own = came_further count key a
 
   further_step : (c : ℕ) → has_further count key (stream a c) ≡ (has_further count key (pending a c) || own (suc c))
   further_step c = by (a.tuple c) refl
     where
       by : (o : Option Row) → a.tuple c ≡ o → has_further count key (stream a c) ≡ (has_further count key (pending a c) || own (suc c))
       by None p =
-          let line : own (suc c) ≡ false = ap (is_further key (kept c)) p in
+          let line : own (suc c) ≡ false = ap (is_further key (first c)) p in
           let same : stream a c ≡ pending a c = ap (λ z. pending a c ++ option_to_list z) p ∙ append-nil (pending a c) in
           ap (has_further count key) same ∙ sym (or_none (has_further count key (pending a c))) ∙ ap (λ z. has_further count key (pending a c) || z) (sym line)
       by (Some r) p =
           let same : stream a c ≡ pending a c ++ r ∷ [] = ap (λ z. pending a c ++ option_to_list z) p in
-          let keys : kept c ≡ take count (keys_of key (stream a c)) = keys_are front c r p in
           let line : own (suc c) ≡ not (list_any (nat_eq (key r)) (take count (keys_of key (pending a c ++ r ∷ [])))) =
-          ap (is_further key (kept c)) p ∙ ap (λ ks. not (list_any (nat_eq (key r)) ks)) (keys ∙ ap (λ z. take count (keys_of key z)) same)
+          ap (is_further key (first c)) p ∙ ap (λ z. not (list_any (nat_eq (key r)) (take count (keys_of key z)))) same
           in
           ap (has_further count key) same ∙ further-push count key (pending a c) r ∙ ap (λ z. has_further count key (pending a c) || z) (sym line)
 
@@ -67,4 +64,16 @@ module _ (front : Setting) where
     where
       by : (o : Option Row) → a.tuple x ≡ o → Carries a x
       by (Some r) p = a_tuple r p
-      by None p = absurd (let z = ap (is_further key (kept x)) p in cc (h, z))
+      by None p = absurd (let z = ap (is_further key (first x)) p in cc (h, z))
+
+-- of no tuple lists of keys tell the same, and of one where they are one list
+same_further : (key : Row → ℕ) (ks js : List ℕ) (o : Option Row) → ((r : Row) → o ≡ Some r → ks ≡ js) → is_further key ks o ≡ is_further key js o
+same_further key ks js None same = refl
+same_further key ks js (Some r) same = ap (λ (xs : List ℕ). is_further key xs (Some r)) (same r refl)
+
+-- the machine's line tells the same, where a stream's slots are free when it begins
+pub further_came : (front : Setting) (c : ℕ) → further_line front.count front.key front.stride front.a c ≡ came_further front.count front.key front.a c
+further_came front zero = refl
+further_came front (suc c) =
+    same_further front.key (keys_at front.count front.key front.stride front.a c) (take front.count (keys_of front.key (stream front.a c)))
+    (front.a.tuple c) (keys_are front c)

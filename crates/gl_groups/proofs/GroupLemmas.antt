@@ -7,7 +7,7 @@ use Rattle.gl_bits.proofs.Bools.{or_join}
 use Rattle.gl_algebra.specs.declared.figures.Figures.{Figures}
 use Rattle.gl_algebra.specs.FigureTable.{IsSound, group_gap, groups_over, stride_of}
 use Rattle.gl_algebra.proofs.SoundLemmas.{groups_sound}
-use Rattle.gl_wire.specs.Apart.{CarriesApart, an_end}
+use Rattle.gl_wire.specs.Apart.{Carries, CarriesApart, an_end}
 use Rattle.gl_wire.specs.Beats.{Beats, Ends, Spaced, beats_of}
 use Rattle.gl_wire.specs.Serves.{Fits}
 use Rattle.gl_wire.specs.Serving.{Serving}
@@ -18,7 +18,7 @@ use Rattle.gl_wire.proofs.FurtherLemmas.{served_further}
 use Rattle.gl_wire.proofs.ServingLemmas.{serving_as, serving_then}
 use Rattle.gl_copies.specs.Lift.{Visits, tuple_of_any}
 use Rattle.gl_copies.specs.Rotates.{OverCopies, Rotates, delay_of_whole, lines_of_all, turns_of}
-use Rattle.gl_copies.specs.Timed.{Origin, Timed}
+use Rattle.gl_copies.specs.Timed.{Origin, Rested, Timed}
 use Rattle.gl_copies.proofs.LiftSpillLemmas.{lift_spills}
 use Rattle.gl_copies.proofs.TimeLemmas.{next_stream, timed_by}
 use Rattle.gl_copies.proofs.WholeServes.{whole_lines}
@@ -26,7 +26,7 @@ use Rattle.gl_registers.specs.Timers.{IsClose}
 use Rattle.gl_groups.specs.Groupings.{AreKeys, OfGroups, key_of, line_of_further, with_keys}
 use Rattle.gl_copies.specs.Bodies.{OfBody}
 use Rattle.gl_groups.specs.Laws.{GroupingsServe, GroupsGroup}
-use Rattle.gl_groups.specs.Slots.{AreSlots, further_line, key_or, slot_or, slots_at, who_slots}
+use Rattle.gl_groups.specs.Slots.{AreSlots, came_further, key_or, slot_or, slots_at, who_slots}
 use Rattle.gl_groups.proofs.Setting.{Setting}
 use Rattle.gl_copies.proofs.NumberLemmas.{all_turns}
 use Rattle.gl_copies.proofs.VisitLemmas.{BeatOf, its_end, its_tuple, beat_of}
@@ -160,7 +160,7 @@ groups_then f h means count key Body Like to before own beats a b source whole =
 
 module _ (f s : Figures) (sound_f : IsSound f) (sound_s : IsSound s) (closing : s.nt ≡ 0) (count : ℕ) (key : Row → ℕ) (some : 1 ≤ count)
     (a : Carried) (ins outs : ℕ → Carried) (law : AreSlots count key (stride_of s) a ins) (keys : ℕ → ℕ → ℕ) (are : AreKeys count key (stride_of s) a keys)
-    (further : ℕ → Bool) (tells : (c : ℕ) → further c ≡ further_line count key (stride_of s) a c) (Body : List Row → Results) (lines : ℕ → Lines)
+    (further : ℕ → Bool) (tells : ((c : ℕ) → Carries a c → Rested (count * stride_of s) a c) → (c : ℕ) → further c ≡ came_further count key a c) (Body : List Row → Results) (lines : ℕ → Lines)
     (b : Carried) (close : ℕ → Bool) (back : IsDelayed 1 (record { tuple = tuple_of_any (with_keys keys outs) count; ends = close }) b)
     (closes : IsClose (s.le + turns_of count s + 1) (s.le + turns_of count s + 1 + 1) a.ends close) where
   abbrev pub h : Figures
@@ -230,23 +230,26 @@ module _ (f s : Figures) (sound_f : IsSound f) (sound_s : IsSound s) (closing : 
       timed : Timed (group_gap s) (rest_gap count s) a
       timed = in_time beats spaced fits near
 
+      line : (c : ℕ) → further c ≡ came_further count key a c
+      line = tells (λ x k. record { over = λ u p l. let y = timed.after u x p k l in let z = flush_fits count s some sound_s in omega (arith, y, z) })
+
       told : Ends beats → (d : ℕ) → a.ends d ≡ true → has_further count key (stream a d) ≡ true → (c : ℕ) × (further c ≡ true)
-      told en d p e = let x = further_told (setting s sound_s count key a ins law some timed) d e in (x.0, tells x.0 ∙ x.1)
+      told en d p e = let x = further_told count key a d e in (x.0, line x.0 ∙ x.1)
 
       carried : (c : ℕ) → further (suc c) ≡ true → Ends beats → (d : ℕ) × (c ≤ d) × (a.ends d ≡ true) × ((j : ℕ) → c ≤ j → j < d → a.ends j ≡ false)
       carried c e en =
           next_stream f h beats a sound_f (omega (arith, sound_f.tuples_gap)) (omega (arith, sound_f.end_gap)) spaced fits en c
-          (further_carries (setting s sound_s count key a ins law some timed) c (sym (tells (suc c)) ∙ e))
+          (further_carries count key a c (sym (line (suc c)) ∙ e))
 
       so : Ends beats → (c : ℕ) → further c ≡ true → (d : ℕ) × (a.ends d ≡ true) × (has_further count key (stream a d) ≡ true)
-      so en zero e = absurd (let z = tells 0 in cc (z, e))
+      so en zero e = absurd (let z = line 0 in cc (z, e))
       so en (suc c) e =
           let d = carried c e en in
           let at : c + (d.0 - c) ≡ d.0 = omega (arith, d.1) in (
             d.0,
             d.2,
             ap (λ i. has_further count key (stream a i)) (sym at)
-                ∙ further_so (setting s sound_s count key a ins law some timed) (d.0 - c) c (sym (tells (suc c)) ∙ e) (λ j l m. d.3 j l (omega (arith, m, d.1))),
+                ∙ further_so count key a (d.0 - c) c (sym (line (suc c)) ∙ e) (λ j l m. d.3 j l (omega (arith, m, d.1))),
           )
 
       whole_end : (u : ℕ) → b.ends (u + delay_of_whole count s) ≡ a.ends u
@@ -255,7 +258,7 @@ module _ (f s : Figures) (sound_f : IsSound f) (sound_s : IsSound s) (closing : 
           ap b.ends e ∙ back.ends (u + (s.le + turns_of count s + 2)) ∙ closes_late timed u
 
       last : Ends beats → (c : ℕ) → further c ≡ true → (e : ℕ) × (c ≤ e) × (b.ends e ≡ true)
-      last en zero e = absurd (let z = tells 0 in cc (z, e))
+      last en zero e = absurd (let z = line 0 in cc (z, e))
       last en (suc c) e = let d = carried c e en in (d.0 + delay_of_whole count s, omega (arith, d.1), whole_end d.0 ∙ d.2)
 
   -- over what the source's wire gives, and the copies' over their own

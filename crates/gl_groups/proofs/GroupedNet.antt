@@ -1,5 +1,5 @@
 -- A front and a back in a netlist, from their parts, and what they serve.
-use Rattle.std.proofs.Common.{◌≡◌, ℕ, ◌+◌, ◌<◌, ◌≤◌, List, [], ◌∷◌, length, Some, refl, sym, ap, ◌∙◌, subst, arith}
+use Rattle.std.proofs.Common.{◌≡◌, ℕ, ◌+◌, ◌*◌, ◌<◌, ◌≤◌, List, [], ◌∷◌, length, Some, refl, sym, ap, ◌∙◌, subst, arith}
 use Rattle.std.specs.Prelude.{slice_get}
 use Rattle.gl_algebra.specs.FigureTable.{stride_of}
 use Rattle.gl_net.specs.declared.node.Bit.{Bit}
@@ -11,10 +11,11 @@ use Rattle.gl_wire.specs.Costs.{CostsAtMost}
 use Rattle.gl_wire.specs.Faults.{AreLines, lines_of}
 use Rattle.gl_wire.specs.Shapes.{IsDelayed}
 use Rattle.gl_wire.specs.Spills.{SameLines, both_lines}
-use Rattle.gl_wire.specs.Wire.{IsWire, carried, line_at}
+use Rattle.gl_wire.specs.Wire.{Carried, IsWire, carried, line_at}
 use Rattle.gl_wire.proofs.ColumnLemmas.{bus_kept, wire_kept, bit_kept}
 use Rattle.gl_wire.proofs.FaultLemmas.{lines_kept}
 use Rattle.gl_copies.specs.Lift.{tuple_of_any}
+use Rattle.gl_copies.proofs.NumberLemmas.{all_turns}
 use Rattle.gl_copies.specs.Rotates.{lines_of_all}
 use Rattle.gl_registers.specs.Lines.{carried_of}
 use Rattle.gl_registers.specs.Timers.{IsClose, IsCloseLine}
@@ -25,16 +26,39 @@ use Rattle.gl_groups.specs.Chain.{held_of}
 use Rattle.gl_groups.specs.Costs.{cost_of_back}
 use Rattle.gl_groups.specs.Fronts.{AddsFront, IsFront}
 use Rattle.gl_groups.specs.Grouped.{Fronts, IsBacked, IsFronted, columns_with_key, key_width}
-use Rattle.gl_groups.specs.Groupings.{IsGrouping, close_cycles, close_delay, line_of_further, with_keys}
+use Rattle.gl_groups.specs.Groupings.{AwaitsFlush, IsGrouping, close_cycles, close_delay, key_of, line_of_further, with_keys}
 use Rattle.gl_groups.specs.Joins.{AreKeyBuses, JoinsAll, width_of_keys}
 use Rattle.gl_registers.specs.Joins.{columns_of, gives_of, told_of}
+use Rattle.gl_groups.specs.Slots.{AreSlots}
+use Rattle.gl_groups.proofs.Setting.{Setting}
+use Rattle.gl_groups.proofs.FurtherLemmas.{further_came}
 use Rattle.gl_groups.proofs.GroupLemmas.{groupings_serve}
 
+-- what is given behind a source that awaits each flush
+abbrev setting_of : (r : Grouping) (a : Carried) (ins : ℕ → Carried) → IsGrouping r → AreSlots r.slots (key_of r) (stride_of r.body) a ins → AwaitsFlush r a → Setting
+setting_of r a ins is law awaits = record {
+  count = r.slots;
+  key = key_of r;
+  stride = stride_of r.body;
+  g1 = 1;
+  g2 = r.slots * stride_of r.body + 1;
+  gap_end = stride_of r.body;
+  a = a;
+  ins = ins;
+  law = law;
+  slots_some = is.some';
+  stride_some = omega arith;
+  timed = record { apart = λ c d p q l. omega (arith, l); after = λ u d p q l. (awaits d q).over u p l };
+  wide = omega arith;
+  strides = omega arith;
+  far = omega (arith, all_turns r.slots (stride_of r.body) is.some');
+}
+
 -- wires and keys of a front, and a line of ends behind it
-pub is_fronted : (old mid new : Net) (r : Grouping) (source : Emitted) (g : Front) (close : Bit) (stride cycles : ℕ) → stride ≡ stride_of r.body → cycles ≡ close_cycles r
+pub is_fronted : (old mid new : Net) (r : Grouping) (source : Emitted) (g : Front) (close : Bit) (stride cycles : ℕ) → stride ≡ stride_of r.body → cycles ≡ close_cycles r → IsGrouping r
     → IsWire old source.wire → AreLines old source.faults → r.key < length source.wire.columns → AddsFront old mid r.key r.slots stride source.wire g → IsCloseLine mid new cycles 0 source.wire.eos close
     → IsFronted old new r source (record { source = source; wires = g.wires; keys = g.keys; further = g.further; close = close })
-is_fronted old mid new r source g close stride cycles is_stride is_cycles wire lines key f c = record {
+is_fronted old mid new r source g close stride cycles is_stride is_cycles is wire lines key f c = record {
   keeps = keeps_then old mid new f.keeps c.keeps;
   cost = record {
     nodes = omega (arith, f.cost.nodes, c.cost.nodes);
@@ -54,7 +78,7 @@ is_fronted old mid new r source g close stride cycles is_stride is_cycles wire l
     close = c.bit;
     front = λ run z. (law run (f.law run (c.keeps.runs run z))).front;
     shown = λ run z. (law run (f.law run (c.keeps.runs run z))).shown;
-    told = λ run z. (law run (f.law run (c.keeps.runs run z))).told;
+    told = λ run z awaits n. (let l = law run (f.law run (c.keeps.runs run z)) in l.told n ∙ further_came (setting_of r (carried run source.wire) (carried_of run g.wires) is l.front awaits) n);
     closes = λ run z.
         ap_close run (subst (λ (n : ℕ). IsClose n (n + 1 + 0) (line_at run source.wire.eos) (line_at run close)) is_cycles (c.close run z));
   };

@@ -17,16 +17,16 @@ use Rattle.gl_groups.specs.declared.grouping.Fronted.{Fronted}
 use Rattle.gl_groups.specs.declared.grouping.Grouping.{Grouping}
 use Rattle.gl_groups.specs.Chain.{held_of}
 use Rattle.gl_groups.specs.Costs.{cost_of_back, cost_of_front}
-use Rattle.gl_groups.specs.Groupings.{AreKeys, ServesGroups, close_cycles, close_delay, key_of, line_of_further}
+use Rattle.gl_groups.specs.Groupings.{AreKeys, AwaitsFlush, ServesGroups, close_cycles, close_delay, key_of, line_of_further}
 use Rattle.gl_registers.specs.Joins.{columns_of, gives_of, told_of}
-use Rattle.gl_groups.specs.Slots.{AreSlots, further_line}
+use Rattle.gl_groups.specs.Slots.{AreSlots, came_further}
 
 -- the width of the key
 abbrev pub key_width : Grouping → Emitted → ℕ
 key_width r source = slice_index (widths source.wire.columns) r.key
 
--- a front behind a source: for each slot a wire that carries what the machine gives it, and its key; the line of further keys, and that
--- of ends
+-- a front behind a source: for each slot a wire and its key, the line of further keys, and that of ends. `front` and
+-- `shown` are in the words of the machine of slots: glue for the back, and what the whole serves is said without it
 pub record Fronts (net : Net) (r : Grouping) (f : Fronted) : Type 0 where
   pub source : IsWire net f.source.wire
   pub lines : AreLines net f.source.faults
@@ -40,8 +40,9 @@ pub record Fronts (net : Net) (r : Grouping) (f : Fronted) : Type 0 where
   pub front : (run : Run) → IsRun net run
       → AreSlots r.slots (key_of r) (stride_of r.body) (carried run f.source.wire) (carried_of run f.wires)
   pub shown : (run : Run) → IsRun net run → AreKeys r.slots (key_of r) (stride_of r.body) (carried run f.source.wire) (held_of run f.keys)
-  pub told : (run : Run) → IsRun net run → (c : ℕ)
-      → line_at run f.further c ≡ further_line r.slots (key_of r) (stride_of r.body) (carried run f.source.wire) c
+  -- after reset it is 1 exactly in the cycle after one in which a tuple came whose key is not among its stream's first keys
+  pub told : (run : Run) → IsRun net run → AwaitsFlush r (carried run f.source.wire) → (c : ℕ)
+      → line_at run f.further c ≡ came_further r.slots (key_of r) (carried run f.source.wire) c
   pub closes : (run : Run) → IsRun net run
       → IsClose (close_cycles r) (close_delay r) (line_at run f.source.wire.eos) (line_at run f.close)
 

@@ -1,17 +1,18 @@
 -- Groups over copies of a body: their numbers, what the back reads of the copies, and what the whole serves.
-use Rattle.std.specs.Prelude.{◌≡◌, ℕ, ◌+◌, ◌^◌, ◌<◌, ◌≤◌, ◌||◌, List, ◌∷◌, Option, Some, None, Bool, false, slice_get, slice_index}
+use Rattle.std.specs.Prelude.{◌≡◌, ℕ, ◌+◌, ◌*◌, ◌^◌, ◌<◌, ◌≤◌, ◌||◌, List, ◌∷◌, Option, Some, None, Bool, false, slice_get, slice_index}
 use Rattle.gl_algebra.specs.declared.figures.Figures.{Figures}
 use Rattle.gl_algebra.specs.declared.node.PlanNode.{PlanNode}
-use Rattle.gl_algebra.specs.FigureTable.{IsSound, group_gap, groups_over}
+use Rattle.gl_algebra.specs.FigureTable.{IsSound, group_gap, groups_over, stride_of}
 use Rattle.gl_bits.specs.Lists.{groups, has_further}
 use Rattle.gl_bits.specs.Results.{Row, Results, AreJoined, IsOfGroup}
-use Rattle.gl_wire.specs.Apart.{CarriesApart}
+use Rattle.gl_wire.specs.Apart.{Carries, CarriesApart}
 use Rattle.gl_wire.specs.Beats.{Beats, Spaced, beats_of}
 use Rattle.gl_wire.specs.Serves.{Fits}
 use Rattle.gl_wire.specs.Serving.{Serving}
 use Rattle.gl_wire.specs.Spills.{Lines, Relation, ServedWithLines, both_lines}
 use Rattle.gl_wire.specs.Wire.{Carried, stream}
 use Rattle.gl_copies.specs.Rotates.{lines_of_all, turns_of}
+use Rattle.gl_copies.specs.Timed.{Rested}
 use Rattle.gl_copies.specs.Bodies.{OfBody}
 use Rattle.gl_groups.specs.declared.grouping.Grouping.{Grouping}
 use Rattle.gl_groups.specs.Slots.{slots_at}
@@ -34,6 +35,10 @@ pub record IsGrouping (r : Grouping) : Type 0 where
   pub sound : IsSound r.body
   pub closing : r.body.nt ≡ 0
   pub timed : r.body.le + turns_of r.slots r.body + 3 < 2 ^ 32
+
+-- whatever comes finds the flush of each end before it over: in so many cycles each slot has its turn
+abbrev pub AwaitsFlush : Grouping → Carried → Type 0
+AwaitsFlush r a = (c : ℕ) → Carries a c → Rested (r.slots * stride_of r.body) a c
 
 -- numbers, for each slot and cycle, that are the keys of the slots that are used
 pub record AreKeys (count : ℕ) (key : Row → ℕ) (stride : ℕ) (a : Carried) (keys : ℕ → ℕ → ℕ) : Type 0 where

@@ -8,8 +8,8 @@ use Rattle.gl_wire.specs.Wire.{Carried}
 use Rattle.gl_copies.specs.Lift.{tuple_of_any}
 use Rattle.gl_registers.specs.Timers.{IsClose}
 use Rattle.gl_groups.specs.declared.grouping.Grouping.{Grouping}
-use Rattle.gl_groups.specs.Groupings.{AreKeys, IsGrouping, ServesGroups, close_cycles, close_delay, key_of, with_keys}
-use Rattle.gl_groups.specs.Slots.{AreSlots, further_line}
+use Rattle.gl_groups.specs.Groupings.{AreKeys, AwaitsFlush, IsGrouping, ServesGroups, close_cycles, close_delay, key_of, with_keys}
+use Rattle.gl_groups.specs.Slots.{AreSlots, came_further}
 
 -- wires behind the machine of slots, the keys of the slots that are used, the line of further keys, a line of ends that comes late, and
 -- a wire one cycle behind all copies, with the key of its slot in front of what a copy gives
@@ -20,7 +20,7 @@ GroupingsServe =
     → IsGrouping r → IsSound f
     → AreSlots r.slots (key_of r) (stride_of r.body) a ins
     → AreKeys r.slots (key_of r) (stride_of r.body) a keys
-    → ((c : ℕ) → further c ≡ further_line r.slots (key_of r) (stride_of r.body) a c)
+    → (AwaitsFlush r a → (c : ℕ) → further c ≡ came_further r.slots (key_of r) a c)
     → IsClose (close_cycles r) (close_delay r) a.ends close
     → IsDelayed 1 (record { tuple = tuple_of_any (with_keys keys outs) r.slots; ends = close }) b
     → ServesGroups r f a ins outs lines further b

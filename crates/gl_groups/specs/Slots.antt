@@ -1,10 +1,10 @@
 -- The front of groups as a machine: which slot takes a tuple, and which takes an end.
-use Rattle.std.specs.Prelude.{◌≡◌, ℕ, zero, suc, ◌-◌, ◌<◌, List, [], length, Option, Some, None, Bool, true, false, not, ◌&&◌, if◌then◌else◌, nat_eq, nat_lt, slice_get}
+use Rattle.std.specs.Prelude.{◌≡◌, ℕ, zero, suc, ◌-◌, ◌<◌, List, [], length, Option, Some, None, Bool, true, false, not, ◌&&◌, if◌then◌else◌, nat_eq, nat_lt, slice_get, take}
 use Rattle.std.specs.List.{list_any}
-use Rattle.gl_bits.specs.Lists.{rows_with}
+use Rattle.gl_bits.specs.Lists.{keys_of, rows_with}
 use Rattle.gl_bits.specs.Tables.{with_key}
 use Rattle.gl_bits.specs.Results.{Row}
-use Rattle.gl_wire.specs.Wire.{Carried}
+use Rattle.gl_wire.specs.Wire.{Carried, stream}
 use Rattle.gl_copies.specs.Lift.{Visits}
 
 -- the registers: the keys of the slots that are used (they stay until the next tuple or end comes), whether an end was the last
@@ -119,12 +119,17 @@ abbrev pub slot_or : Option ℕ → ℕ
 slot_or None = 0
 slot_or (Some k) = k
 
--- whether a tuple's key is none of the slots'
+-- whether a tuple's key is none of these
 abbrev pub is_further : (Row → ℕ) → List ℕ → Option Row → Bool
 is_further key ks None = false
 is_further key ks (Some r) = not (list_any (nat_eq (key r)) ks)
 
--- the line that tells of a row of a further key, one cycle after it
+-- what the machine's line of further keys tells, one cycle after a tuple
 abbrev pub further_line : ℕ → (Row → ℕ) → ℕ → Carried → ℕ → Bool
 further_line count key stride a zero = false
 further_line count key stride a (suc c) = is_further key (keys_at count key stride a c) (a.tuple c)
+
+-- whether a tuple came one cycle earlier whose key is not among the first keys of its stream
+abbrev pub came_further : ℕ → (Row → ℕ) → Carried → ℕ → Bool
+came_further count key a zero = false
+came_further count key a (suc c) = is_further key (take count (keys_of key (stream a c))) (a.tuple c)

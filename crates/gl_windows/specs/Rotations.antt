@@ -50,7 +50,8 @@ pub record AreFronts (old new : Net) (size advance count stride : ℕ) (source :
 abbrev pub close_delay : Rotation → ℕ
 close_delay r = flush_of r.copies r.body + 1 + r.body.a
 
--- a front behind a source: for each copy a wire that carries what the machine gives it, and the line of ends
+-- a front behind a source: for each copy a wire that carries what the machine gives it, and the line of ends. `front`
+-- is in the words of the machine: glue for the back, and what the whole serves is said without it
 pub record Fronts (net : Net) (r : Rotation) (f : Fronted) : Type 0 where
   pub source : IsWire net f.source.wire
   pub lines : AreLines net f.source.faults

@@ -4,4 +4,4 @@ use Rattle.gl_groups.proofs.grouping.Grouping.front.Goals as goal
 pub returns : goal.returns
 returns c =
     is_fronted c.args.net.now c.put_front.new.net c.close_line.new.net c.args.self.now c.args.source c.in_ok-front.front c.in_ok-close.close c.stride-stride.result c.cycles-cycles.result
-    c.stride-stride.ensures c.cycles-cycles.ensures c.requires.wire c.requires.lines c.requires.key c.in_ok-front.ensures c.in_ok-close.ensures
+    c.stride-stride.ensures c.cycles-cycles.ensures c.requires.grouping c.requires.wire c.requires.lines c.requires.key c.in_ok-front.ensures c.in_ok-close.ensures
