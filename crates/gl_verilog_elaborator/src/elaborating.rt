@@ -71,7 +71,7 @@ fn test_driven(scope: &Scope, done: &IndexSet<&[u8]>) -> Result<(), Stop>
 {
     for i in 0..scope.names.len() {
         let Some((name, declared)) = scope.names.get_index(i) else {
-            return Err(Stop::Memory);
+            unreachable!()
         };
         if !has_driver(done, *name, declared.kind) {
             return Err(Stop::Broken {
@@ -104,7 +104,7 @@ fn declarations_made(alloc: Global, scope: &Scope) -> Result<Vec<Declaration>, S
     let mut all = Vec::new(alloc);
     for i in 0..scope.names.len() {
         let Some((name, declared)) = scope.names.get_index(i) else {
-            return Err(Stop::Memory);
+            unreachable!()
         };
         let bytes = Vec::from_slice(alloc, *name)?;
         all.push(Declaration {

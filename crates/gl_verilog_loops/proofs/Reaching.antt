@@ -2,7 +2,7 @@
 use Rattle.std.proofs.Common.{◌≡◌, ℕ, zero, suc, ◌+◌, ◌<◌, ◌≤◌, inl, inr, Bool, true, false, List, [], ◌∷◌, ◌++◌, length, take, drop, get_or, map, Some, refl, sym, ap, subst, ◌∙◌, arith, length-append}
 use Rattle.std.specs.Prelude.{◌&&◌, ◌||◌, nat_eq, fold, if◌then◌else◌, slice_get}
 use Rattle.std.specs.List.{AllByRecursion}
-use Rattle.std.proofs.lemmas.Bool.{or_cases, or_left, or_right, and_parts, and_from, eqb-true, eq-eqb, both_ways}
+use Rattle.std.proofs.lemmas.Bool.{or_cases, or_left, or_right, and_parts, and_from, eqb-true, eq-eqb, both_ways, cases_order}
 use Rattle.std.proofs.lemmas.List.{map-append}
 use Rattle.std.proofs.lemmas.List.Sums.{fold-append}
 use Rattle.gl_bits.proofs.Bools.{or_none, or_join, eq_turned}
@@ -167,6 +167,12 @@ led_same false found e h = refl
 spread_longer : (as' : List Assignment) (found : List ℕ) → length found ≤ length (spread as' found)
 spread_longer [] found = omega arith
 spread_longer (a ∷ rest) found = omega (arith, led_longer (is_found (spread rest found) a.target) (spread rest found) a.value, spread_longer rest found)
+
+-- a pass that does not find as many finds more
+pub grown : (all : List Assignment) (found found' : List ℕ) → found' ≡ spread all found → (length found' ≡ length found → ⊥) → length found < length found'
+grown all found found' e other =
+    let least : length found ≤ length found' = subst (λ (k : List ℕ). length found ≤ length k) (sym e) (spread_longer all found) in
+    elim (cases_order (length found') (length found)) [ inl same ↦ absurd (other same) | inr (inl less) ↦ absurd (omega (arith, less, least)) | inr (inr more) ↦ more ]
 
 pub spread_same : (as' : List Assignment) (found : List ℕ) → length (spread as' found) ≤ length found → spread as' found ≡ found
 spread_same [] found h = refl

@@ -128,14 +128,13 @@ fn is_looped(
     let mut found = IndexSet::new(alloc);
     seed(&mut found, assignments, net)?;
     explore(&mut found, drivers, assignments)?;
-    for _pass in 0..assignments.len() {
+    'passes: loop {
         let before = found.len();
         pass(&mut found, assignments)?;
         if found.len() == before {
             return Ok(found.contains(&net));
         }
     }
-    Err(Memory)
 }
 
 // The rank of a net; 0 where it has none.

@@ -190,10 +190,17 @@ impl Walk {
         Ok(())
     }
 
+    // As many steps as a walk can have: each assignment is entered and left once, and each read is
+    // followed and passed once.
+    fn most_steps(&self) -> usize {
+        let all = self.ends.len().saturating_add(self.reads.len());
+        all.saturating_mul(2).saturating_add(2)
+    }
+
     // All to which an assignment leads, which was not entered.
     fn follow(&mut self, k: usize) -> Result<(), AllocError> {
         self.path.push(k)?;
-        for _step in 0..usize::MAX {
+        for _step in 0..self.most_steps() {
             let Some(last) = self.path.last().copied() else {
                 return Ok(());
             };
