@@ -8,3 +8,4 @@ pub mod Readings
 pub mod TextNumbers
 pub mod Pinned
 pub mod RightTo
+pub mod InputNames

@@ -11,7 +11,8 @@ use Rattle.gl_net.specs.Net.{Net, open_at}
 use Rattle.gl_net.specs.Finished.{HasReset, IsFinished, clock_name}
 use Rattle.gl_wiring.specs.PortNames.{port_names}
 use Rattle.gl_wiring.specs.Emitted.{names_of}
-use Rattle.gl_wiring.proofs.PortNames.{Apart, AreApart, apart_distinct, port_names-distinct}
+use Rattle.gl_schema.proofs.InputNames.{Apart, AreApart, apart_distinct}
+use Rattle.gl_wiring.proofs.PortNames.{port_names-distinct}
 use Rattle.gl_wiring.proofs.VerilogNames.{IsPortName, ports_named, module_name-name}
 
 -- what holds of each name holds of each port's name
