@@ -1,5 +1,6 @@
 -- The kinds of columns: of operands, of operations, of aggregates, and when they fit the columns that they are applied to.
 use Rattle.std.specs.Prelude.{ℕ, ◌≡◌, ◌<◌, ◌≤◌, List, length, slice_index_or, All, ⊤}
+use Rattle.gl_bits.specs.Limits.{most_weights}
 use Rattle.gl_bits.specs.Words.{Word, IsWord}
 use Rattle.gl_bits.specs.Kinds.{width_of, IsKind}
 use Rattle.gl_bits.specs.declared.kind.Kind.{Kind}
@@ -73,10 +74,6 @@ OpFits kinds (Binary operator left right) =
     OperandFits kinds left × OperandFits kinds right
     × (kind_of_operand kinds left ≡ kind_of_operand kinds right)
     × SortFits (sort_of operator) (kind_of_operand kinds left)
-
--- the most weights
-abbrev pub most_weights : ℕ
-most_weights = 64
 
 -- a weight is a number of its operand's kind
 pub record WeightFits (kind : Kind) (weight : Word) : Type 0 where

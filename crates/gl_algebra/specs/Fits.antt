@@ -1,5 +1,6 @@
 -- When a node fits a plan, and what a plan is.
 use Rattle.std.specs.Prelude.{ℕ, ◌≡◌, ◌≢◌, ◌<◌, ◌≤◌, List, length, slice_get, Some, All, IsTrue}
+use Rattle.gl_bits.specs.Limits.{most_copies, most_groups, most_rows}
 use Rattle.gl_bits.specs.Kinds.{IsKind}
 use Rattle.gl_bits.specs.declared.kind.Kind.{Kind}
 use Rattle.gl_algebra.specs.declared.node.PlanNode.{PlanNode}
@@ -13,16 +14,6 @@ use Rattle.gl_algebra.specs.Views.{copies_of_window}
 pub record IsWithin (limit number : ℕ) : Type 0 where
   pub least : 1 ≤ number
   pub most : number ≤ limit
-
--- the limits: of a window's size and advance, of its copies, of groups
-abbrev pub most_rows : ℕ
-most_rows = 65536
-
-abbrev pub most_copies : ℕ
-most_copies = 64
-
-abbrev pub most_groups : ℕ
-most_groups = 256
 
 -- a body for rows of a source: it waits for the end, and it reads nothing but its input, which has the source's columns
 pub record IsBodyFor (source body : Shape) : Type 0 where

@@ -1,5 +1,6 @@
 pub mod Words
 pub mod Kinds
+pub mod Limits
 pub mod Lists
 pub mod Operators
 pub mod Totals

@@ -9,6 +9,7 @@
 pub mod boxes;
 pub mod kind;
 pub mod laws;
+pub mod limits;
 pub mod listed;
 pub mod lists;
 pub mod op;

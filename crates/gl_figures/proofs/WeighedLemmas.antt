@@ -10,7 +10,8 @@ use Rattle.gl_algebra.specs.Fits.{IsPlan}
 use Rattle.gl_algebra.specs.Shapes.{shape_of}
 use Rattle.gl_algebra.specs.Weights.{copies_from, copies_of, weight_of, weight_with_output, lines_of}
 use Rattle.gl_algebra.proofs.TableLemmas.{nodes_follow_tables}
-use Rattle.gl_figures.specs.Answered.{IsPrinted, most_weight}
+use Rattle.gl_figures.specs.Answered.{IsPrinted}
+use Rattle.gl_bits.specs.Limits.{most_weight}
 use Rattle.gl_figures.specs.Known.{capped, capped_at, weight_by, HasValues}
 use Rattle.gl_figures.proofs.CapLemmas.{copies-capped, weight-capped, copies_light}
 use Rattle.gl_figures.proofs.PlaceLemmas.{get-written, get-other}

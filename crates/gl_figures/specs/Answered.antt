@@ -1,5 +1,6 @@
 -- What the calls on figures and weights answer.
 use Rattle.std.specs.Prelude.{ℕ, ◌≡◌, ◌<◌, ◌≤◌, List, length, Some, slice_get}
+use Rattle.gl_bits.specs.Limits.{most_weight}
 use Rattle.gl_algebra.specs.declared.figures.Figures.{Figures}
 use Rattle.gl_algebra.specs.declared.node.PlanNode.{PlanNode}
 use Rattle.gl_algebra.specs.FigureTable.{AreSmall, figures_of, latency_of, gap_of}
@@ -22,10 +23,6 @@ pub record IsLate (nodes : List PlanNode) (old new : List Figures) (limit : Limi
   pub first : AreSmallBefore nodes node
   pub before : (number : ℕ) → number < node → slice_get new number ≡ Some (figures_of nodes number)
   pub behind : (number : ℕ) → node ≤ number → slice_get new number ≡ slice_get old number
-
--- the most that a plan may weigh with its output
-abbrev pub most_weight : ℕ
-most_weight = 262144
 
 -- what is printed of a plan
 pub record IsPrinted (nodes : List PlanNode) (root : ℕ) (printed : Printed) : Type 0 where

@@ -10,6 +10,7 @@ use crate::copied::{cap, count_copies};
 use crate::weights::{lines_of, weight_over};
 use crate::{Limit, Printed};
 use gl_algebra::{Figures, Plan, PlanId};
+use gl_bits::limits::MOST_WEIGHT;
 
 /// What is printed of a plan with this root, unless its weight with the output's part passes 262,144. The figures are those of
 /// each node. Each node's place then has the node's weight, or 2^62 where it is more.
@@ -31,7 +32,7 @@ pub fn weigh(
     let copies = into[root.number()];
     weigh_nodes(plan, figures, into);
     let weight = weight_with_output(plan, root, into[root.number()]);
-    if weight > 262_144 {
+    if weight > MOST_WEIGHT {
         return Err(Limit::Nodes { weight });
     }
     let own = figures[root.number()];

@@ -14,7 +14,8 @@ use Rattle.gl_algebra.specs.Shapes.{shape_of}
 use Rattle.gl_algebra.specs.Small.{are_small, small_of}
 use Rattle.gl_algebra.proofs.SmallLemmas.{small-is}
 use Rattle.gl_algebra.specs.Weights.{weight_of, weight_with_output}
-use Rattle.gl_figures.specs.Answered.{AreSmallBefore, most_weight}
+use Rattle.gl_figures.specs.Answered.{AreSmallBefore}
+use Rattle.gl_bits.specs.Limits.{most_weight}
 use Rattle.gl_terms.specs.Levels.{level_of}
 use Rattle.gl_elaborate.specs.Figures.{query_figures}
 use Rattle.gl_elaborate.specs.Plans.{placed, stream_node}

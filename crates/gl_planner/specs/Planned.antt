@@ -1,5 +1,6 @@
 -- What the plan of a statement gives, and the limit that it passes.
 use Rattle.std.specs.Prelude.{ℕ, ◌≡◌, ◌<◌, ◌≤◌, List, length}
+use Rattle.gl_bits.specs.Limits.{most_weight}
 use Rattle.gl_schema.specs.declared.schema.Schema.{Schema}
 use Rattle.gl_query.specs.declared.tree.Statement.{Statement}
 use Rattle.gl_algebra.specs.declared.node.PlanNode.{PlanNode}
@@ -9,7 +10,7 @@ use Rattle.gl_algebra.specs.Small.{AreFigures}
 use Rattle.gl_algebra.specs.Weights.{weight_with_output}
 use Rattle.gl_figures.specs.declared.Limit.{Limit}
 use Rattle.gl_figures.specs.declared.Limit.TheVariants.{Latency, Nodes}
-use Rattle.gl_figures.specs.Answered.{AreSmallBefore, IsPrinted, most_weight}
+use Rattle.gl_figures.specs.Answered.{AreSmallBefore, IsPrinted}
 use Rattle.gl_figures.specs.Known.{capped}
 use Rattle.gl_elaborate.specs.Plans.{plan_of}
 use Rattle.gl_planner.specs.declared.planning.PlanFault.{PlanFault}

@@ -1,6 +1,7 @@
 -- Which statements are accepted over a schema.
 use Rattle.std.specs.Prelude.{◌≡◌, ℕ, ◌*◌, ◌≤◌, List, length, Option, Some, None, IsSome, IsTrue, bytes_eq}
 use Rattle.std.specs.List.{AllByRecursion, IsDistinct}
+use Rattle.gl_bits.specs.Limits as limit
 use Rattle.gl_bits.specs.declared.kind.Kind.TheVariants.{Unsigned}
 use Rattle.gl_schema.specs.declared.schema.Column.{Column}
 use Rattle.gl_schema.specs.declared.schema.Stream.{Stream}
@@ -14,7 +15,7 @@ use Rattle.gl_query.specs.Columns.{columns_of, picked_columns, is_closing, pace_
 
 -- at most 32 columns, no two of one name
 pub record AreResultColumns (columns : List Column) : Type 0 where
-  pub most : length columns ≤ 32
+  pub most : length columns ≤ limit.most_columns
   pub distinct : IsDistinct bytes_eq (column_names columns)
 
 -- an argument that is added or averaged is no text
@@ -25,7 +26,7 @@ pub record IsSummed (columns : List Column) (e : ExprShape) : Type 0 where
 -- at most 64 weights, each a number of the argument's kind
 pub record IsWeighted (columns : List Column) (e : ExprShape) (weights : List ℕ) : Type 0 where
   pub summed : IsSummed columns e
-  pub most : length weights ≤ 64
+  pub most : length weights ≤ limit.most_weights
   pub fit : AllByRecursion (IsNumberOf (kind_of columns (kind_alone e) e)) weights
 
 abbrev pub IsAgg : List Column → AggShape → Type 0
@@ -57,10 +58,10 @@ IsFilter columns (Some e) = IsCondition columns e
 -- SIZE and ADVANCE are 1 to 65,536, and at most 64 windows are open at once
 pub record IsWindow (size advance : ℕ) : Type 0 where
   pub some_size : 1 ≤ size
-  pub most_size : size ≤ 65536
+  pub most_size : size ≤ limit.most_rows
   pub some_advance : 1 ≤ advance
-  pub most_advance : advance ≤ 65536
-  pub copies : size ≤ 64 * advance
+  pub most_advance : advance ≤ limit.most_rows
+  pub copies : size ≤ limit.most_copies * advance
 
 pub record IsRows (source : List Column) (pick : PickShape) (filter : Option ExprShape) : Type 0 where
   pub picks : IsPick source pick
@@ -74,7 +75,7 @@ pub record IsTotal (source : List Column) (aggs : List AggItemShape) (result : L
 pub record IsGrouping (source : List Column) (key : List ℕ) (groups : ℕ) (result : List Column) : Type 0 where
   pub known : IsTrue (has_column source key)
   pub some_groups : 1 ≤ groups
-  pub most_groups : groups ≤ 256
+  pub most_groups : groups ≤ limit.most_groups
   pub columns : AreResultColumns result
 
 -- both sides give one row, or one for each row of the same source

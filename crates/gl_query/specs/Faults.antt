@@ -1,6 +1,7 @@
 -- The first rule of acceptance that a statement breaks, with its place: the sources of a query come first, then its own parts.
 use Rattle.std.specs.Prelude.{ℕ, ◌*◌, ◌^◌, Bool, true, false, not, ◌&&◌, List, [], ◌∷◌, ◌++◌, length, Option, Some, None, bytes_eq, nat_le, nat_lt, nat_eq, slice_get, if◌then◌else◌}
 use Rattle.std.specs.List.{list_all, list_any}
+use Rattle.gl_bits.specs.Limits.{most_columns, most_copies, most_groups, most_rows, most_weights}
 use Rattle.gl_bits.specs.declared.kind.Kind.{Kind}
 use Rattle.gl_bits.specs.declared.kind.Kind.TheVariants.{Unsigned, Text}
 use Rattle.gl_bits.specs.declared.op.Sort.{Sort}
@@ -138,7 +139,7 @@ filter_fault columns (Some e) =
 abbrev pub named_fault : {A : Type 0} → (A → Name) → (A → Option QueryFault) → List A → List A → Option QueryFault
 named_fault name own earlier [] = None
 named_fault name own earlier (i ∷ items) =
-    or_else (unless (nat_lt (length earlier) 32) (OutOfRange (name i).at))
+    or_else (unless (nat_lt (length earlier) most_columns) (OutOfRange (name i).at))
     (or_else (own i)
     (or_else (unless (not (list_any (λ j. bytes_eq (name i).text (name j).text) earlier)) (TwiceNamed (name i).at))
     (named_fault name own (earlier ++ i ∷ []) items)))
@@ -170,7 +171,7 @@ agg_fault columns (Min e) name = whole_fault columns e
 agg_fault columns (Max e) name = whole_fault columns e
 agg_fault columns (Avg e) name = summed_fault columns e name
 agg_fault columns (Wsum e weights) name =
-    or_else (summed_fault columns e name) (or_else (too_many (slice_get weights 64)) (weights_fault (whole_kind columns e) weights))
+    or_else (summed_fault columns e name) (or_else (too_many (slice_get weights most_weights)) (weights_fault (whole_kind columns e) weights))
 
 abbrev pub aggs_fault : List NamedColumn → List AggItemTree → List AggItemTree → Option QueryFault
 aggs_fault columns earlier items = named_fault (λ (i : AggItemTree). i.name) (λ (i : AggItemTree). agg_fault columns i.agg i.name) earlier items
@@ -180,18 +181,18 @@ aggs_fault columns earlier items = named_fault (λ (i : AggItemTree). i.name) (�
 -- SIZE, ADVANCE, and SIZE again for the windows that are open at once
 abbrev pub window_fault : Num → Num → Option QueryFault
 window_fault size advance =
-    or_else (unless (is_within size.value 65536) (OutOfRange size.at))
-    (or_else (unless (is_within advance.value 65536) (OutOfRange advance.at)) (unless (nat_le size.value (64 * advance.value)) (OutOfRange size.at)))
+    or_else (unless (is_within size.value most_rows) (OutOfRange size.at))
+    (or_else (unless (is_within advance.value most_rows) (OutOfRange advance.at)) (unless (nat_le size.value (most_copies * advance.value)) (OutOfRange size.at)))
 
 -- the key's name and the count of columns, behind all faults of the body
 abbrev pub key_fault : Name → List NamedColumn → Option QueryFault
 key_fault key columns =
-    or_else (unless (not (list_any (bytes_eq key.text) (column_names columns))) (TwiceNamed key.at)) (unless (nat_lt (length columns) 32) (OutOfRange key.at))
+    or_else (unless (not (list_any (bytes_eq key.text) (column_names columns))) (TwiceNamed key.at)) (unless (nat_lt (length columns) most_columns) (OutOfRange key.at))
 
 abbrev pub beside_fault : QueryShape → QueryShape → List NamedColumn → ℕ → Option QueryFault
 beside_fault l r columns at =
     or_else (unless (same_pace (pace_of l) (pace_of r)) (PaceDiffers at))
-    (or_else (unless (are_distinct (column_names columns)) (TwiceNamed at)) (unless (nat_le (length columns) 32) (OutOfRange at)))
+    (or_else (unless (are_distinct (column_names columns)) (TwiceNamed at)) (unless (nat_le (length columns) most_columns) (OutOfRange at)))
 
 abbrev pub query_fault : Scope → QueryTree → Option QueryFault
 query_fault scope (Read name) = unless (has_stream scope.sources name.text) (UnknownStream name.at)
@@ -208,7 +209,7 @@ query_fault scope (PerGroup var source key groups body at) =
     let inside = body_scope var.text columns in
     or_else (query_fault scope source)
     (or_else (unless (has_column columns key.text) (UnknownColumn key.at))
-    (or_else (unless (is_within groups.value 256) (OutOfRange groups.at))
+    (or_else (unless (is_within groups.value most_groups) (OutOfRange groups.at))
     (or_else (query_fault inside body)
     (or_else (unless (is_closing (query_alike body)) (NotClosing at)) (key_fault key (columns_under inside (query_alike body)))))))
 query_fault scope (Union l r at) =

@@ -2,6 +2,7 @@
 
 ghost use Rattle.std.specs.Prelude.{◌≡◌, ◌≤◌, bytes_eq, drop, length, map, slice_get, take};
 ghost use Rattle.std.specs.List.{list_any};
+ghost use Rattle.gl_bits.specs.Limits.{most_weights};
 ghost use Rattle.gl_query.specs.Faults as faults;
 ghost use Rattle.gl_query.specs.declared.fault.QueryFault.TheVariants.{KindsDiffer};
 ghost use Rattle.gl_query.specs.Trees.{AggItemTree, ItemTree, agg_item_tree, agg_tree, item_tree, pick_tree};
@@ -9,11 +10,9 @@ ghost use Rattle.gl_query.specs.Trees.{AggItemTree, ItemTree, agg_item_tree, agg
 use crate::expressions::{Placed, judge_whole, number_fault};
 use crate::rules::{is_unsigned, or_else, unless};
 use gl_bits::Kind;
+use gl_bits::limits::{MOST_COLUMNS, MOST_WEIGHTS};
 use gl_query::{Agg, AggItem, Item, Name, Num, Pick, QueryFault};
 use gl_schema::Column;
-
-/// Items, aggregates and columns that a select may have.
-const MOST_COLUMNS: usize = 32;
 
 // Whether an item has a name.
 fn is_item(items: &[Item], name: &[u8]) -> bool
@@ -95,10 +94,10 @@ fn narrow_fault(kind: Kind, weights: &[Num]) -> Option<QueryFault>
 
 // The 65th weight, or the first that is no number of the kind.
 fn weights_fault(kind: Kind, weights: &[Num]) -> Option<QueryFault>
-    ensures { let many = faults.too_many (slice_get weights.now 64) in
+    ensures { let many = faults.too_many (slice_get weights.now most_weights) in
         result ≡ faults.or_else many (faults.weights_fault kind weights.now) }
 {
-    match weights.get(64) {
+    match weights.get(MOST_WEIGHTS) {
         Some(weight) => Some(QueryFault::OutOfRange { at: weight.at }),
         None => narrow_fault(kind, weights),
     }

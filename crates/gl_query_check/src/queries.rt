@@ -1,6 +1,7 @@
 //! Faults of queries, and the columns of those that have none.
 
 ghost use Rattle.std.specs.Prelude.{◌≡◌, ◌*◌, [], map, nat_le, option_map, IfOk};
+ghost use Rattle.gl_bits.specs.Limits.{most_copies};
 ghost use Rattle.gl_query.specs.Accepted.{columns_under};
 ghost use Rattle.gl_query.specs.Alike.{agg_item_alike, pick_alike, query_alike};
 ghost use Rattle.gl_query.specs.Columns as columns;
@@ -17,6 +18,7 @@ use crate::rules::{
     are_distinct, has_column, has_source, is_among, is_within, or_else, refuse, same_kinds, unless,
 };
 use gl_bits::Memory;
+use gl_bits::limits::{MOST_COLUMNS, MOST_COPIES, MOST_GROUPS, MOST_ROWS};
 use gl_query::columns::{
     agg_columns, group_columns, joined_columns, picked_columns, source_columns,
 };
@@ -46,12 +48,12 @@ fn window_fault(size: Num, advance: Num) -> Option<QueryFault>
 {
     or_else(
         unless(
-            is_within(size.value, 65536),
+            is_within(size.value, MOST_ROWS),
             QueryFault::OutOfRange { at: size.at },
         ),
         or_else(
             unless(
-                is_within(advance.value, 65536),
+                is_within(advance.value, MOST_ROWS),
                 QueryFault::OutOfRange { at: advance.at },
             ),
             unless(
@@ -62,11 +64,11 @@ fn window_fault(size: Num, advance: Num) -> Option<QueryFault>
     )
 }
 
-// Whether at most 64 windows are open at once.
+// Whether no more windows are open at once than may be.
 fn keeps_copies(size: u128, advance: u128) -> bool
-    ensures { result ≡ nat_le size (64 * advance) }
+    ensures { result ≡ nat_le size (most_copies * advance) }
 {
-    match advance.checked_mul(64) {
+    match advance.checked_mul(MOST_COPIES) {
         Some(most) => size <= most,
         None => true,
     }
@@ -117,7 +119,7 @@ fn beside_fault(left: &Query, right: &Query, columns: &[Column], at: u64) -> Opt
         unless(paced, QueryFault::PaceDiffers { at }),
         or_else(
             unless(are_distinct(columns), QueryFault::TwiceNamed { at }),
-            unless(columns.len() <= 32, QueryFault::OutOfRange { at }),
+            unless(columns.len() <= MOST_COLUMNS, QueryFault::OutOfRange { at }),
         ),
     )
 }
@@ -129,7 +131,10 @@ fn key_fault(key: &Name, columns: &[Column]) -> Option<QueryFault>
     let fresh = !is_among(key.text.as_slice(), columns);
     or_else(
         unless(fresh, QueryFault::TwiceNamed { at: key.at }),
-        unless(columns.len() < 32, QueryFault::OutOfRange { at: key.at }),
+        unless(
+            columns.len() < MOST_COLUMNS,
+            QueryFault::OutOfRange { at: key.at },
+        ),
     )
 }
 
@@ -234,7 +239,7 @@ pub fn columns_checked(
             let columns = columns_checked(alloc, sources, source)?;
             let known = has_column(columns.as_slice(), key.text.as_slice());
             refuse(unless(known, QueryFault::UnknownColumn { at: key.at }))?;
-            let within = is_within(groups.value, 256);
+            let within = is_within(groups.value, MOST_GROUPS);
             refuse(unless(within, QueryFault::OutOfRange { at: groups.at }))?;
             let inside = Sources::Variable(var.text.as_slice(), columns.as_slice());
             let later = columns_checked(alloc, inside, body)?;

@@ -1,6 +1,7 @@
 //! Results, and the steps that make one of others.
 
 ghost use Rattle.std.specs.Prelude.{◌≡◌, ◌≤◌, ◌||◌, ◌++◌, IfOk, length, map, option_map};
+ghost use Rattle.gl_bits.specs.Limits.{most_groups};
 ghost use Rattle.gl_bits.specs.Lists.{slices};
 ghost use Rattle.gl_query.specs.Shapes.{agg_item_shape, expr_shape, pick_shape, query_shape};
 ghost use Rattle.gl_query.specs.Shapes as shape;
@@ -12,6 +13,7 @@ ghost use Rattle.gl_reference.specs.Sources.{IsAnswer, columns_over};
 use crate::aggregates::total_row;
 use crate::columns::{Source, columns_of, source_named};
 use crate::rows::{Fault, beside, copy_of_table, joined, picked_rows};
+use gl_bits::limits::{MOST_GROUPS, MOST_ROWS};
 use gl_bits::lists::slices_of;
 use gl_bits::{Listed, Table};
 use gl_query::{AggItem, Expr, Name, Pick, Query};
@@ -104,7 +106,7 @@ pub fn windows_of<'a>(
     ensures value { IfOk result (λ v. map (λ s. s.now) v.items ≡ slices size advance rows.now) }
     ensures fits { IsWindow size advance → IsOrMemory result }
 {
-    if size > 65536 || advance == 0 || advance > 65536 {
+    if size > MOST_ROWS || advance == 0 || advance > MOST_ROWS {
         return Err(Fault::Unfit);
     }
     Ok(slices_of(alloc, size as usize, advance as usize, rows)?)
@@ -113,9 +115,9 @@ pub fn windows_of<'a>(
 /// GROUPS within its limit.
 pub fn groups_wanted(groups: u128) -> Result<usize, Fault>
     ensures value { IfOk result (λ n. n ≡ groups) }
-    ensures fits { groups ≤ 256 → IsOrMemory result }
+    ensures fits { groups ≤ most_groups → IsOrMemory result }
 {
-    if groups > 256 {
+    if groups > MOST_GROUPS {
         return Err(Fault::Unfit);
     }
     Ok(groups as usize)

@@ -1,6 +1,7 @@
 -- Names of streams, columns and results.
 use Rattle.std.specs.Prelude.{ℕ, Bool, false, not, ◌&&◌, ◌||◌, List, [], ◌∷◌, length, codes, bytes_eq, nat_le, ◌==◌, IsTrue}
 use Rattle.std.specs.List.{list_any, list_all}
+use Rattle.gl_bits.specs.Limits.{most_bytes}
 
 -- a byte from a to z
 abbrev pub is_lower : ℕ → Bool
@@ -46,7 +47,7 @@ is_taken bytes = list_any (bytes_eq bytes) keywords || list_any (bytes_eq bytes)
 
 -- a small letter, then small letters, digits and single underscores, none last: at most 32 bytes, and no word with another meaning
 unfoldable pub is_name : List ℕ → Bool
-is_name bytes = nat_le (length bytes) 32 && begins_with_letter bytes && has_name_bytes bytes && not (has_loose_underscore bytes)
+is_name bytes = nat_le (length bytes) most_bytes && begins_with_letter bytes && has_name_bytes bytes && not (has_loose_underscore bytes)
     && not (is_taken bytes)
 
 abbrev pub IsName : List ℕ → Type 0

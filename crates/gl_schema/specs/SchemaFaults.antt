@@ -2,6 +2,7 @@
 use Rattle.std.specs.Prelude.{◌≡◌, ℕ, zero, suc, ◌∷◌, not, List, [], ◌++◌, length, map, codes, bytes_eq, nat_le, ◌==◌, find, Option, Some, None, Result, Ok, Err, if◌then◌else◌}
 use Rattle.gl_bits.specs.declared.kind.Kind.{Kind}
 use Rattle.gl_bits.specs.declared.kind.Kind.TheVariants.{Unsigned, Text}
+use Rattle.gl_bits.specs.Limits.{most_columns, most_streams}
 use Rattle.gl_schema.specs.declared.schema.Stream.{Stream}
 use Rattle.gl_schema.specs.declared.schema.Schema.{Schema}
 use Rattle.gl_schema.specs.declared.fault.SchemaFault.{SchemaFault}
@@ -32,7 +33,7 @@ goes_to r next = Ok (record r { place = next })
 
 -- `stream` begins a stream, but no ninth one
 abbrev pub stream_next : Reading → ℕ → List ℕ → Result Reading SchemaFault
-stream_next r at w = if not (bytes_eq w (codes "stream")) then Err (Syntax at) else if nat_le 8 (length r.streams) then Err (TooMany at) else goes_to r place.Name
+stream_next r at w = if not (bytes_eq w (codes "stream")) then Err (Syntax at) else if nat_le most_streams (length r.streams) then Err (TooMany at) else goes_to r place.Name
 
 -- in a stream's place a name that no stream has
 abbrev pub name_next : Reading → ℕ → List ℕ → Result Reading SchemaFault
@@ -40,7 +41,7 @@ name_next r at w = if not (is_name w) then Err (BadName at) else if has_stream r
 
 -- in a column's place a name that no column of the stream has, but no 33rd one
 abbrev pub column_next : Reading → Stream → ℕ → List ℕ → Result Reading SchemaFault
-column_next r s at w = if not (is_name w) then Err (BadName at) else if nat_le 32 (length s.columns) then Err (TooMany at)
+column_next r s at w = if not (is_name w) then Err (BadName at) else if nat_le most_columns (length s.columns) then Err (TooMany at)
     else if has_column s.columns w then Err (Twice at) else goes_to r (place.Kind s w)
 
 -- a stream with one more column

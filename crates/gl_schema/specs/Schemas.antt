@@ -1,6 +1,7 @@
 -- Schemas: streams of named columns, and the rows of a stream.
 use Rattle.std.specs.Prelude.{ℕ, ◌+◌, ◌*◌, ◌^◌, ◌<◌, ◌≤◌, ◌-◌, Bool, List, [], ◌∷◌, ◌++◌, length, map, replicate, bytes_eq}
 use Rattle.std.specs.List.{AllByRecursion, IsDistinct, fold, list_any}
+use Rattle.gl_bits.specs.Limits.{most_columns, most_streams}
 use Rattle.gl_bits.specs.declared.kind.Kind.{Kind}
 use Rattle.gl_bits.specs.Kinds.{IsKind, width_of}
 use Rattle.gl_schema.specs.declared.schema.Column.{Column}
@@ -35,14 +36,14 @@ pub record IsColumn (c : Column) : Type 0 where
 pub record IsStream (s : Stream) : Type 0 where
   pub name : IsName s.name
   pub some' : 1 ≤ length s.columns
-  pub most : length s.columns ≤ 32
+  pub most : length s.columns ≤ most_columns
   pub columns : AllByRecursion IsColumn s.columns
   pub distinct : IsDistinct bytes_eq (column_names s.columns)
 
 -- a schema has 1 to 8 streams, no two of one name
 pub record IsSchema (schema : Schema) : Type 0 where
   pub some' : 1 ≤ length schema.streams
-  pub most : length schema.streams ≤ 8
+  pub most : length schema.streams ≤ most_streams
   pub streams : AllByRecursion IsStream schema.streams
   pub distinct : IsDistinct bytes_eq (stream_names schema.streams)
 

@@ -4,6 +4,8 @@ ghost use Rattle.std.specs.Prelude.{◌≡◌, bytes_eq};
 ghost use Rattle.std.specs.List.{list_any};
 ghost use Rattle.gl_schema.specs.Names as spec;
 
+use gl_bits::limits::MOST_BYTES;
+
 /// The keywords of the query language in lower case.
 const KEYWORDS: [&[u8]; 26] = [
     b"select", b"from", b"where", b"group", b"by", b"groups", b"each", b"in", b"size", b"advance",
@@ -20,7 +22,7 @@ const RESERVED: [&[u8]; 4] = [b"end", b"tick", b"valid", b"eos"];
 pub fn is_name(word: &[u8]) -> bool
     ensures { result ≡ spec.is_name word.now }
 {
-    word.len() <= 32
+    word.len() <= MOST_BYTES
         && begins_with_letter(word)
         && has_name_bytes(word)
         && !has_loose_underscore(word)

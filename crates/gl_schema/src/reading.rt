@@ -11,6 +11,7 @@ use crate::kind::kind_named;
 use crate::name::is_name;
 use crate::schema::{Column, Columns, NameText, Schema, Stream, Streams};
 use gl_bits::Kind;
+use gl_bits::limits::{MOST_COLUMNS, MOST_STREAMS};
 use std::alloc::Global;
 
 /// What may come next.
@@ -108,7 +109,7 @@ fn begin_stream(streams: Streams, at: u64, word: &[u8]) -> Result<Reading, Schem
     if word != b"stream".as_slice() {
         return Err(SchemaFault::Syntax { at });
     }
-    if streams.len() >= 8 {
+    if streams.len() >= MOST_STREAMS {
         return Err(SchemaFault::TooMany { at });
     }
     Ok(Reading {
@@ -152,7 +153,7 @@ fn name_column(
     if !is_name(word) {
         return Err(SchemaFault::BadName { at });
     }
-    if stream.columns.len() >= 32 {
+    if stream.columns.len() >= MOST_COLUMNS {
         return Err(SchemaFault::TooMany { at });
     }
     if has_column(stream.columns.as_slice(), word) {

@@ -9,4 +9,4 @@ returns-clause-ok c =
     (rw c.number-3.ensures (c.requires.figures.each c.args.root c.requires.root)))
     (get_or_from_slice_get c.count_copies.new.into c.number.result _ _
     (rw c.number.ensures (c.count_copies.ensures.each c.args.root c.requires.root)))
-    c.weight_with_output-weight.ensures c.if-weight-gt262144.false
+    c.weight_with_output-weight.ensures c.if-weight-gt-MOST_WEIGHT.false

@@ -1,0 +1,34 @@
+-- The limits of schemas, statements and plans: how many of each there may be at most.
+use Rattle.std.specs.Prelude.{ℕ}
+
+-- streams of a schema
+abbrev pub most_streams : ℕ
+most_streams = 8
+
+-- columns of a stream or of a result
+abbrev pub most_columns : ℕ
+most_columns = 32
+
+-- bytes of a name
+abbrev pub most_bytes : ℕ
+most_bytes = 32
+
+-- rows of a window, and rows from one window's begin to the next one's: SIZE and ADVANCE
+abbrev pub most_rows : ℕ
+most_rows = 65536
+
+-- windows that are open at once, each with a copy of the body
+abbrev pub most_copies : ℕ
+most_copies = 64
+
+-- groups of a stream: GROUPS
+abbrev pub most_groups : ℕ
+most_groups = 256
+
+-- weights of a weighted sum
+abbrev pub most_weights : ℕ
+most_weights = 64
+
+-- the weight of a plan with its output
+abbrev pub most_weight : ℕ
+most_weight = 262144

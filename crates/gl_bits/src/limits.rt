@@ -1,0 +1,25 @@
+//! The limits of schemas, statements and plans: how many of each there may be at most.
+
+/// Streams of a schema.
+pub const MOST_STREAMS: usize = 8;
+
+/// Columns of a stream or of a result.
+pub const MOST_COLUMNS: usize = 32;
+
+/// Bytes of a name.
+pub const MOST_BYTES: usize = 32;
+
+/// Rows of a window, and rows from one window's begin to the next one's: SIZE and ADVANCE.
+pub const MOST_ROWS: u128 = 65_536;
+
+/// Windows that are open at once, each with a copy of the body.
+pub const MOST_COPIES: u128 = 64;
+
+/// Groups of a stream: GROUPS.
+pub const MOST_GROUPS: u128 = 256;
+
+/// Weights of a weighted sum.
+pub const MOST_WEIGHTS: usize = 64;
+
+/// The weight of a plan with its output.
+pub const MOST_WEIGHT: u64 = 262_144;
