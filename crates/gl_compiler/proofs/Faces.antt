@@ -17,7 +17,7 @@ use Rattle.gl_net.specs.Net.{Net}
 use Rattle.gl_net.specs.PortValues.{PortShape, port_shape, port_shapes}
 use Rattle.gl_verilog.specs.Module.{Module, Declaration, Kind}
 use Rattle.gl_verilog_writer.specs.Meaning.{declaration_of, clock, kind_of}
-use Rattle.gl_plan_wiring.specs.Leaves.{widths_of}
+use Rattle.gl_wiring.specs.Leaves.{widths_of}
 use Rattle.gl_wiring.specs.EmittedPorts.{input, output, column_inputs, stream_inputs, streams_inputs}
 use Rattle.gl_wiring.specs.Output.{input_ports, named_outputs, output_ports, plan_ports}
 use Rattle.gl_verilog_ports.specs.Profile.{HasProfile, declared, declared_kind, ports_of}

@@ -14,7 +14,7 @@ ghost use Rattle.gl_compiler.specs.Compiles.{HasCost, IsCompiled};
 use crate::naming::{kinds, names, result_columns};
 use gl_algebra::{Figures, Plan, PlanId};
 use gl_bits::{Kind, Listed, Memory};
-use gl_cost::{Cost, cost_of};
+use gl_net::{Cost, cost_of};
 use gl_figures::Printed;
 use gl_planner::{PlanFault, Planned, plan_statement};
 use gl_query::Statement;

@@ -21,13 +21,13 @@ use Rattle.gl_query.specs.Checked.{IsChecked}
 use Rattle.gl_query.specs.Laws.{AreKinds}
 use Rattle.gl_query.proofs.Real.{IsScope, body_is, real}
 use Rattle.gl_bits.proofs.AllLists.{all_of_mapped}
-use Rattle.gl_terms.specs.Terms.{Term, Column, Literal, Not, Cast, Binary, ops_in, ops_in_all, term_of}
+use Rattle.gl_elaborate.specs.Terms.{Term, Column, Literal, Not, Cast, Binary, ops_in, ops_in_all, term_of}
 use Rattle.gl_elaborate.specs.Plans.{condition_of, filter_of, picked_terms, arguments_of, arguments_of_all, stream_node}
 use Rattle.gl_elaborate.specs.Fitting.{CanPlace, FilterTerm, PlacedFit}
-use Rattle.gl_terms.proofs.AcceptedLemmas.{column-fits, term-fits}
+use Rattle.gl_elaborate.proofs.AcceptedLemmas.{column-fits, term-fits}
 use Rattle.gl_elaborate.proofs.RowsLemmas.{pick-fits}
 use Rattle.gl_elaborate.proofs.TotalsLemmas.{arguments-fit}
-use Rattle.gl_terms.proofs.RoomLemmas.{ops-both}
+use Rattle.gl_elaborate.proofs.RoomLemmas.{ops-both}
 use Rattle.gl_elaborate.proofs.StatementLemmas.{plans-right, schema-reader}
 
 -- no more is asked of names

@@ -21,14 +21,14 @@ use Rattle.gl_algebra.specs.Views.{copies_of_window}
 use Rattle.gl_algebra.specs.Shapes.{Shape, shape_of}
 use Rattle.gl_algebra.proofs.FigureLemmas.{figures-kept}
 use Rattle.gl_algebra.proofs.PlanLemmas.{in_order}
-use Rattle.gl_terms.specs.Terms.{Term, Column, depth_of, depth_of_all, term_of}
-use Rattle.gl_terms.specs.Levels.{level_of, reduced, operand_of}
+use Rattle.gl_elaborate.specs.Terms.{Term, Column, depth_of, depth_of_all, term_of}
+use Rattle.gl_elaborate.specs.Levels.{level_of, reduced, operand_of}
 use Rattle.gl_algebra.specs.Added.{Placed, added}
 use Rattle.gl_elaborate.specs.Plans.{levels, levelled, placed, condition_of, filter_of, picked_terms, aggs_of, arguments_of, arguments_of_all, selected, rows_over, totals_over, column_under, with_filter}
 use Rattle.gl_elaborate.specs.Fitting.{FitsNext, LevelsFit, SelectFits, RowsFit, TotalsFit}
 use Rattle.gl_elaborate.specs.Figures.{expr_depth, filter_depth, items_depth, pick_depth, condition_depth, agg_depth, aggs_depth, aggs_delay, computed_figures, filtered_figures, query_figures}
 use Rattle.gl_elaborate.proofs.PlacedLemmas.{IsOver, is_added}
-use Rattle.gl_terms.proofs.DepthLemmas.{depth-both}
+use Rattle.gl_elaborate.proofs.DepthLemmas.{depth-both}
 use Rattle.gl_elaborate.proofs.TotalsLemmas.{HasDelay}
 use Rattle.gl_elaborate.proofs.ReadLemmas.{IsLeafOf, IsReader, body-reader}
 use Rattle.gl_elaborate.proofs.QueryLemmas.{right, total-delay, columns-are}

@@ -13,3 +13,10 @@ pub mod CanLemmas
 pub mod BodyLemmas
 pub mod ArgumentLemmas
 pub mod TreeLemmas
+pub mod TermLemmas
+pub mod AcceptedLemmas
+pub mod LevelLemmas
+pub mod DepthLemmas
+pub mod PartLemmas
+pub mod PlaceLemmas
+pub mod RoomLemmas

@@ -22,8 +22,8 @@ use Rattle.gl_algebra.specs.Fits.{IsPlan}
 use Rattle.gl_algebra.specs.Shapes.{Pace, unsteady, shape_of}
 use Rattle.gl_algebra.specs.Added.{added}
 use Rattle.gl_algebra.specs.Results.{given, IsPlanResult}
-use Rattle.gl_terms.proofs.TermLemmas.{kind-column}
-use Rattle.gl_terms.proofs.AcceptedLemmas.{column-fits}
+use Rattle.gl_elaborate.proofs.TermLemmas.{kind-column}
+use Rattle.gl_elaborate.proofs.AcceptedLemmas.{column-fits}
 use Rattle.gl_elaborate.specs.Plans.{placed, rows_over, totals_over}
 use Rattle.gl_elaborate.specs.Fitting.{PlacedFit}
 use Rattle.gl_elaborate.specs.Right.{plan_pace, leaves_of, shape_for}

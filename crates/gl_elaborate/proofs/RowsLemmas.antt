@@ -26,14 +26,14 @@ use Rattle.gl_algebra.specs.Columns.{CastFits}
 use Rattle.gl_algebra.specs.Added.{Placed}
 use Rattle.gl_algebra.specs.Results.{Meaning}
 use Rattle.gl_algebra.specs.Results as algebra
-use Rattle.gl_terms.specs.Terms.{Term, Column, Literal, Not, Cast, Binary, IsTerm, term_of, term_kind, term_value, depth_of, depth_of_all}
-use Rattle.gl_terms.specs.Levels.{operand_of}
+use Rattle.gl_elaborate.specs.Terms.{Term, Column, Literal, Not, Cast, Binary, IsTerm, term_of, term_kind, term_value, depth_of, depth_of_all}
+use Rattle.gl_elaborate.specs.Levels.{operand_of}
 use Rattle.gl_elaborate.specs.Plans.{projected, levelled, condition_of, filter_of, picked_terms, column_under, selected, rows_over, with_filter}
 use Rattle.gl_elaborate.specs.Fitting.{LevelledFit, SelectFits, ProjectFits, RowsFit}
-use Rattle.gl_terms.proofs.TermLemmas.{term-kind, term-value}
-use Rattle.gl_terms.proofs.AcceptedLemmas.{term-fits}
-use Rattle.gl_terms.proofs.LevelLemmas.{IsLeaf, IsCarried}
-use Rattle.gl_terms.proofs.DepthLemmas.{IsNoLiteral}
+use Rattle.gl_elaborate.proofs.TermLemmas.{term-kind, term-value}
+use Rattle.gl_elaborate.proofs.AcceptedLemmas.{term-fits}
+use Rattle.gl_elaborate.proofs.LevelLemmas.{IsLeaf, IsCarried}
+use Rattle.gl_elaborate.proofs.DepthLemmas.{IsNoLiteral}
 use Rattle.gl_elaborate.proofs.LongLemmas.{AreLong}
 use Rattle.gl_elaborate.proofs.StandsLemmas.{Stands, weaker, select-stands, project-stands, select-fits, project-fits, IsLevelled, levels-stand, zip-fits}
 use Rattle.gl_query.proofs.Real.{alone_kind}

@@ -18,15 +18,15 @@ use Rattle.gl_bits.proofs.AllLists.{all_append, all_front, all_back, map_map}
 use Rattle.gl_algebra.specs.Added.{Placed, added}
 use Rattle.gl_algebra.specs.Results.{Inputs, Meaning, IsPlanResult, meaning_from, computed, selected, projected, totalled}
 use Rattle.gl_algebra.proofs.ResultLemmas.{moved}
-use Rattle.gl_terms.specs.Terms.{Term, IsTerm, depth_of_all}
-use Rattle.gl_terms.specs.Levels.{innermost_of_all, level_of, reduced}
+use Rattle.gl_elaborate.specs.Terms.{Term, IsTerm, depth_of_all}
+use Rattle.gl_elaborate.specs.Levels.{innermost_of_all, level_of, reduced}
 use Rattle.gl_elaborate.specs.Plans.{Levelled, levels, with_filter}
 use Rattle.gl_elaborate.specs.Fitting.{LevelsFit}
 use Rattle.gl_elaborate.proofs.PlacedLemmas.{IsOver, over-then, is_added}
 use Rattle.gl_elaborate.proofs.StepLemmas.{listed}
-use Rattle.gl_terms.proofs.LevelLemmas.{Has, IsCarried, wider, all-carried, level-has, level-fits, length-computed}
-use Rattle.gl_terms.proofs.RoomLemmas.{innermost-both}
-use Rattle.gl_terms.proofs.DepthLemmas.{depth-reduced_all, depth-both, IsNoLiteral, all-no-literal}
+use Rattle.gl_elaborate.proofs.LevelLemmas.{Has, IsCarried, wider, all-carried, level-has, level-fits, length-computed}
+use Rattle.gl_elaborate.proofs.RoomLemmas.{innermost-both}
+use Rattle.gl_elaborate.proofs.DepthLemmas.{depth-reduced_all, depth-both, IsNoLiteral, all-no-literal}
 
 -- a node that stands over a plan with this shape, whose results are among these
 pub record Stands (old : List PlanNode) (at : Placed) (shape : Shape) (Means : Meaning) : Type 0 where

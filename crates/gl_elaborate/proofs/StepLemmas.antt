@@ -4,10 +4,10 @@ use Rattle.std.specs.Prelude.{option_map, option_to_list}
 use Rattle.gl_algebra.specs.declared.node.ColOp.{ColOp}
 use Rattle.gl_algebra.specs.declared.node.PlanNode.TheVariants as node
 use Rattle.gl_algebra.specs.Added.{Placed, added}
-use Rattle.gl_terms.specs.Terms.{Term, depth_of_all, ops_in_all}
-use Rattle.gl_terms.specs.Levels.{innermost_of_all, level_of, reduced}
-use Rattle.gl_terms.proofs.DepthLemmas.{depth-reduced_all, depth-both}
-use Rattle.gl_terms.proofs.RoomLemmas.{innermost-both, length-level, ops-reduced_all, ops-both}
+use Rattle.gl_elaborate.specs.Terms.{Term, depth_of_all, ops_in_all}
+use Rattle.gl_elaborate.specs.Levels.{innermost_of_all, level_of, reduced}
+use Rattle.gl_elaborate.proofs.DepthLemmas.{depth-reduced_all, depth-both}
+use Rattle.gl_elaborate.proofs.RoomLemmas.{innermost-both, length-level, ops-reduced_all, ops-both}
 use Rattle.gl_elaborate.specs.Plans.{levels, levelled, with_filter}
 use Rattle.gl_elaborate.specs.Fitting.{FitsNext, LevelsFit, LevelledFit, IsStep}
 

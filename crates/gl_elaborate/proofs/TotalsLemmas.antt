@@ -31,13 +31,13 @@ use Rattle.gl_query.specs.Laws.{AreKinds}
 use Rattle.gl_query.specs.Values.{IsNumberOf}
 use Rattle.gl_algebra.specs.Added.{Placed}
 use Rattle.gl_algebra.specs.Results.{Meaning, total_of, totalled}
-use Rattle.gl_terms.specs.Terms.{Term, IsTerm, term_of, depth_of, depth_of_all}
-use Rattle.gl_terms.specs.Levels.{operand_of}
+use Rattle.gl_elaborate.specs.Terms.{Term, IsTerm, term_of, depth_of, depth_of_all}
+use Rattle.gl_elaborate.specs.Levels.{operand_of}
 use Rattle.gl_elaborate.specs.Plans.{levelled, arguments_of, arguments_of_all, weights_of, agg_over, behind, aggs_of, totals_over}
 use Rattle.gl_elaborate.specs.Fitting.{TotalsFit}
-use Rattle.gl_terms.proofs.TermLemmas.{term-kind, term-value}
-use Rattle.gl_terms.proofs.AcceptedLemmas.{term-fits, kind-fits, unsigned}
-use Rattle.gl_terms.proofs.LevelLemmas.{IsCarried}
+use Rattle.gl_elaborate.proofs.TermLemmas.{term-kind, term-value}
+use Rattle.gl_elaborate.proofs.AcceptedLemmas.{term-fits, kind-fits, unsigned}
+use Rattle.gl_elaborate.proofs.LevelLemmas.{IsCarried}
 use Rattle.gl_elaborate.proofs.StandsLemmas.{Stands, weaker, aggregate-fits, aggregate-stands, levels-stand}
 use Rattle.gl_elaborate.proofs.LongLemmas.{AreLong}
 use Rattle.gl_elaborate.proofs.RowsLemmas.{flat-operand}

@@ -16,8 +16,8 @@ use Rattle.gl_algebra.specs.declared.node.PlanNode.{PlanNode}
 use Rattle.gl_algebra.specs.declared.node.PlanNode.TheVariants as node
 use Rattle.gl_algebra.specs.Fits.{Fits}
 use Rattle.gl_algebra.specs.Added.{Placed, added}
-use Rattle.gl_terms.specs.Terms.{Term, depth_of_all, ops_in_all, term_of, IsTerm}
-use Rattle.gl_terms.specs.Levels.{level_of, reduced, operand_of}
+use Rattle.gl_elaborate.specs.Terms.{Term, depth_of_all, ops_in_all, term_of, IsTerm}
+use Rattle.gl_elaborate.specs.Levels.{level_of, reduced, operand_of}
 use Rattle.gl_elaborate.specs.Plans.{levelled, selected, column_under, picked_terms, filter_of, with_filter, arguments_of_all, aggs_of, placed}
 
 -- a node fits behind these

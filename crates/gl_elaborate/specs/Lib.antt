@@ -4,3 +4,7 @@ pub mod Right
 pub mod Figures
 pub mod Laws
 pub mod Sources
+pub mod Terms
+pub mod Levels
+pub mod Trees
+pub mod Depths

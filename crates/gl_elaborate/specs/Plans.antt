@@ -21,8 +21,8 @@ use Rattle.gl_algebra.specs.declared.node.PlanAgg.TheVariants as agg
 use Rattle.gl_algebra.specs.declared.node.PlanNode.{PlanNode}
 use Rattle.gl_algebra.specs.declared.node.PlanNode.TheVariants as node
 use Rattle.gl_algebra.specs.Added.{Placed, added, placed_at}
-use Rattle.gl_terms.specs.Terms.{Term, Column, Literal, Not, Cast, Binary, term_of, depth_of_all}
-use Rattle.gl_terms.specs.Levels.{level_of, reduced, operand_of}
+use Rattle.gl_elaborate.specs.Terms.{Term, Column, Literal, Not, Cast, Binary, term_of, depth_of_all}
+use Rattle.gl_elaborate.specs.Levels.{level_of, reduced, operand_of}
 
 -- what the levels give over a node: the last of their nodes, and terms that are left of the items and of the filter, if there is one
 pub record Levelled : Type 0 where

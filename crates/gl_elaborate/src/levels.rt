@@ -2,14 +2,14 @@
 
 ghost use Rattle.std.specs.Prelude.{◌≡◌, ◌+◌, ◌<◌, ◌≤◌, ◌↔◌, IfOk, IsTrue, map, option_map};
 ghost use Rattle.gl_algebra.specs.Added.{added, placed_at};
-ghost use Rattle.gl_terms.specs.Terms.{depth_of_all, ops_in_all};
-ghost use Rattle.gl_terms.specs.Trees.{term};
+ghost use Rattle.gl_elaborate.specs.Terms.{depth_of_all, ops_in_all};
+ghost use Rattle.gl_elaborate.specs.Trees.{term};
 ghost use Rattle.gl_elaborate.specs.Plans.{levelled, levelled_at, with_filter};
 ghost use Rattle.gl_elaborate.specs.Fitting.{FitsNext, IsStep, LevelledFit};
 
 use gl_algebra::{Plan, PlanId, PlanNode};
 use gl_bits::Memory;
-use gl_terms::{Tree, are_flat, is_flat, level_over, ops_of, reduce_all, reduce_some};
+use crate::{Tree, are_flat, is_flat, level_over, ops_of, reduce_all, reduce_some};
 use std::alloc::Global;
 
 /// Adds a node that fits.

@@ -8,9 +8,9 @@ ghost use Rattle.gl_query.specs.Shapes as shape;
 ghost use Rattle.gl_query.specs.Values.{HasKind, kind_alone};
 ghost use Rattle.gl_query.specs.Accepted.{IsFilter, IsPick};
 ghost use Rattle.gl_algebra.specs.Added.{placed_at};
-ghost use Rattle.gl_terms.specs.Terms.{IsTerm, Column as TermColumn};
-ghost use Rattle.gl_terms.specs.Levels.{operand_of};
-ghost use Rattle.gl_terms.specs.Trees.{term};
+ghost use Rattle.gl_elaborate.specs.Terms.{IsTerm, Column as TermColumn};
+ghost use Rattle.gl_elaborate.specs.Levels.{operand_of};
+ghost use Rattle.gl_elaborate.specs.Trees.{term};
 ghost use Rattle.gl_elaborate.specs.Plans.{column_under, condition_of, filter_of, picked_terms, projected, rows_over, selected};
 ghost use Rattle.gl_elaborate.specs.Fitting.{CanPlaceRows, FilterTerm, ProjectFits, RowsFit, SelectFits};
 
@@ -20,7 +20,7 @@ use gl_bits::{Kind, Listed, Memory};
 use gl_query::kinds::kind_alone;
 use gl_query::{Expr, Item, Pick};
 use gl_schema::Column;
-use gl_terms::{Tree, operand_of, tree_of};
+use crate::{Tree, operand_of, tree_of};
 use std::alloc::Global;
 
 // Adds the trees of items.

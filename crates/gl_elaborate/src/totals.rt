@@ -10,8 +10,8 @@ ghost use Rattle.gl_query.specs.Values.{HasKind, IsNumberOf, kind_alone};
 ghost use Rattle.gl_query.specs.Columns.{agg_kind};
 ghost use Rattle.gl_query.specs.Accepted.{IsAgg};
 ghost use Rattle.gl_algebra.specs.Added.{placed_at};
-ghost use Rattle.gl_terms.specs.Terms.{term_of, IsTerm};
-ghost use Rattle.gl_terms.specs.Trees.{term};
+ghost use Rattle.gl_elaborate.specs.Terms.{term_of, IsTerm};
+ghost use Rattle.gl_elaborate.specs.Trees.{term};
 ghost use Rattle.gl_elaborate.specs.Plans.{agg_over, aggs_of, arguments_of, arguments_of_all, behind, first_of, rest_of, totals_over, weights_of};
 ghost use Rattle.gl_elaborate.specs.Fitting.{CanPlaceTotal, TotalsFit};
 
@@ -21,7 +21,7 @@ use gl_bits::{Kind, Listed, Memory, Word};
 use gl_query::kinds::{kind_alone, kind_of};
 use gl_query::{Agg, AggItem, Expr, Num};
 use gl_schema::Column;
-use gl_terms::{Tree, operand_of, tree_of};
+use crate::{Tree, operand_of, tree_of};
 use std::alloc::Global;
 
 // Adds the tree of an expression.

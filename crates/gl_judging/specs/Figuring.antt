@@ -3,7 +3,7 @@ use Rattle.std.specs.Prelude.{◌≡◌, ℕ, List, ◌++◌, codes, decimal}
 use Rattle.gl_schema.specs.declared.schema.Schema.{Schema}
 use Rattle.gl_query.specs.declared.tree.Statement.{Statement}
 use Rattle.gl_figures.specs.declared.Printed.{Printed}
-use Rattle.gl_cost.specs.declared.counting.Cost.{Cost}
+use Rattle.gl_net.specs.declared.counting.Cost.{Cost}
 use Rattle.gl_compiler.specs.Compiles.{HasCost}
 use Rattle.gl_compiler.specs.Built.{copies_of, gap_of, latency_of}
 

@@ -9,7 +9,7 @@ use Rattle.gl_schema.specs.Schemas.{IsRowOf, text_word}
 use Rattle.gl_tuples.specs.declared.beats.Beat as files
 use Rattle.gl_tuples.specs.Gaps.{plain_beat, plain_beats}
 use Rattle.gl_schema.specs.Beats.{Beat, AreBeats, AreInOrder, IsBeat, KeepsGap}
-use Rattle.gl_load_query.specs.Query.{load_columns, load_schema}
+use Rattle.gl_load.specs.Query.{load_columns, load_schema}
 use Rattle.gl_load.specs.Tuples.{load_beat, load_beats, load_row, symbol_at}
 
 symbol_small : (k : ℕ) → text_word 4 (symbol_at k) < 2 ^ 32

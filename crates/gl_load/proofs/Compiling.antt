@@ -29,10 +29,10 @@ use Rattle.gl_compiler.specs.Built.{gap_of, latency_of}
 use Rattle.gl_query_judge.specs.Limits.{IsOverLimit}
 use Rattle.gl_query_compiler.specs.Queries.{IsQuery, IsQueryRefused}
 use Rattle.gl_compiler.specs.Meets.{Meets, result_columns}
-use Rattle.gl_load_query.specs.Query.{load_schema, query_text}
+use Rattle.gl_load.specs.Query.{load_schema, query_text}
 use Rattle.gl_load.specs.Loads.{IsCompiledLoad}
-use Rattle.gl_load_query.proofs.Constants.{load_tree, query_faultless, query_has}
-use Rattle.gl_load_query.proofs.Planning.{load_plan, plan_within, query_gap}
+use Rattle.gl_load.proofs.Constants.{load_tree, query_faultless, query_has}
+use Rattle.gl_load.proofs.Planning.{load_plan, plan_within, query_gap}
 
 -- the text of the schema is read
 pub unread : (f : SchemaFault) → Gives {A = Schema} (Err f) (Ok load_schema) → f ≡ schema.Memory

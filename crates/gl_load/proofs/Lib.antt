@@ -3,3 +3,5 @@ mod Beating
 pub mod Runs
 mod Running
 mod Compiling
+pub mod Constants
+pub mod Planning

@@ -12,8 +12,8 @@ use Rattle.gl_runner.specs.declared.executing.Outcome.TheVariants.{Done}
 use Rattle.gl_compiler.specs.Built.{gap_of}
 use Rattle.gl_compiler.specs.Meets.{Meets, result_columns}
 use Rattle.gl_runner.specs.Prints.{CanRun, OfEachRun, Ran, Writes}
-use Rattle.gl_load_query.specs.Query.{load_schema}
-use Rattle.gl_load_query.proofs.Constants.{schema_spelled}
+use Rattle.gl_load.specs.Query.{load_schema}
+use Rattle.gl_load.proofs.Constants.{schema_spelled}
 use Rattle.gl_load.specs.Steps.{Kept, kept_state}
 use Rattle.gl_load.specs.Tuples.{load_beats}
 use Rattle.gl_load.specs.Tallies.{summary_of}

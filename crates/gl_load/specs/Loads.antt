@@ -11,7 +11,7 @@ use Rattle.gl_compiler.specs.Built.{gap_of, latency_of}
 use Rattle.gl_query_compiler.specs.Queries.{IsQuery}
 use Rattle.gl_compiler.specs.Meets.{Meets, result_columns}
 use Rattle.gl_runner.specs.Prints.{AreLinesOf, OfEachRun}
-use Rattle.gl_load_query.specs.Query.{load_schema, query_text}
+use Rattle.gl_load.specs.Query.{load_schema, query_text}
 use Rattle.gl_load.specs.Tuples.{load_beats}
 use Rattle.gl_load.specs.Tallies.{summary_of}
 

@@ -9,6 +9,8 @@ pub mod loading;
 mod summary;
 pub mod tally;
 mod text_sink;
+pub mod texts;
 mod tuples;
 
 pub use loading::{Loaded, load};
+pub use texts::{query_text, schema_text};

@@ -3,7 +3,7 @@
 ghost use Rattle.std.specs.Prelude.{◌≡◌, ◌↔◌, ◌≤◌, IfOk, IsOk};
 ghost use Rattle.gl_schema.specs.Beats.{AreBeats, KeepsGap};
 ghost use Rattle.gl_tuples.specs.Gaps.{plain_beats};
-ghost use Rattle.gl_load_query.specs.Query.{load_schema};
+ghost use Rattle.gl_load.specs.Query.{load_schema};
 ghost use Rattle.gl_load.specs.Loads.{AreRunLines, IsCompiledLoad, IsLoad};
 
 use crate::summary::summary_of;
@@ -11,7 +11,7 @@ use crate::text_sink::TextSink;
 use crate::tuples::load_beats;
 use gl_bits::Memory;
 use gl_compiler::Compiled;
-use gl_load_query::{query_text, schema_text};
+use crate::{query_text, schema_text};
 use gl_query_compiler::{CompileFault, compile_query};
 use gl_runner::{Outcome, execute};
 use gl_schema::{Schema, SchemaFault, read_schema};

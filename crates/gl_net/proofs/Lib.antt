@@ -5,3 +5,4 @@ pub mod Ports
 pub mod Values
 pub mod Names
 pub mod Determined
+mod Addressed

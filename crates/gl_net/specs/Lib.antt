@@ -5,3 +5,4 @@ pub mod Steps
 pub mod Builds
 pub mod Laws
 pub mod PortValues
+pub mod Small

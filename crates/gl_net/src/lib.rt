@@ -6,6 +6,7 @@
 #![tactic(auto)]
 
 pub mod builder;
+pub mod counting;
 pub mod laws;
 pub mod netlist;
 pub mod node;
@@ -13,3 +14,4 @@ pub mod node;
 pub use builder::NetBuilder;
 pub use netlist::Netlist;
 pub use node::{BinaryOp, Bit, Bus, Buses, Direction, MemoryDrive, Node, Port, Store};
+pub use counting::{Cost, cost_of};

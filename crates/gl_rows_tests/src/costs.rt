@@ -3,7 +3,7 @@
 use crate::bench::{Side, figures};
 use crate::circuit::union_of;
 use gl_bits::Memory;
-use gl_cost::cost_of;
+use gl_net::cost_of;
 use std::alloc::Global;
 
 /// The bits that a union of two columns of 16 bits holds, whose sides bring at most so many tuples with the end: of registers whether they are at

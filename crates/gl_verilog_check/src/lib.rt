@@ -2,6 +2,7 @@
 //! of a module with its names resolved; which fault a text has stands elsewhere.
 #![tactic(auto)]
 
+pub mod costing;
 mod counting;
 mod homes;
 mod order;
@@ -12,3 +13,4 @@ mod widths;
 pub use order::order_of;
 pub use runnable::is_runnable;
 pub use valid::is_valid;
+pub use costing::{Cost, cost_of};

@@ -16,9 +16,9 @@ use Rattle.gl_bits.proofs.Options.{some_same}
 use Rattle.gl_bits.specs.Kinds.{width_of}
 use Rattle.gl_net.specs.Net.{Net, Run, IsRun, IsTrace, memory_bits_of, register_bits_of, size_of}
 use Rattle.gl_net.specs.PortValues.{PortShape, input_values, port_shapes}
-use Rattle.gl_plan_wiring.specs.Leaves.{widths_of}
-use Rattle.gl_plan_wiring.specs.Put.{counted}
-use Rattle.gl_plan_wiring.proofs.CostLemmas.{bits_within}
+use Rattle.gl_wiring.specs.Leaves.{widths_of}
+use Rattle.gl_wiring.specs.Put.{counted}
+use Rattle.gl_wiring.proofs.CostLemmas.{bits_within}
 use Rattle.gl_schema.specs.Beats.{Beat, AreBeats, KeepsGap, inputs_of, last_cycle}
 use Rattle.gl_schema.specs.Ports.{IsStimulus, rst, eos, out_valid, out_column, out_eos, fault_group, fault_queue}
 use Rattle.gl_schema.specs.Right.{IsRight}

@@ -9,7 +9,7 @@ use Rattle.gl_algebra.specs.declared.node.PlanNode.{PlanNode}
 use Rattle.gl_algebra.proofs.FigureLemmas.{figures_are_sound}
 use Rattle.gl_bits.specs.Results.{Row}
 use Rattle.gl_net.specs.Net.{Run}
-use Rattle.gl_plan_wiring.specs.Leaves.{LeavesFit, carried_by, leaf, silent}
+use Rattle.gl_wiring.specs.Leaves.{LeavesFit, carried_by, leaf, silent}
 use Rattle.gl_schema.specs.Beats.{Beat, AreInOrder, KeepsGap, input_of, inputs_of, last_cycle}
 use Rattle.gl_wire.specs.Faults.{lines_of}
 use Rattle.gl_wire.specs.Serving.{inputs_at}

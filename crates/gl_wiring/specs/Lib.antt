@@ -7,3 +7,8 @@ pub mod Root
 pub mod Output
 pub mod Wired
 pub mod PlanNet
+pub mod Copies
+pub mod Groups
+pub mod Leaves
+pub mod Put
+pub mod Windows

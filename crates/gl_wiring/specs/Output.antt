@@ -7,7 +7,7 @@ use Rattle.gl_net.specs.PortValues.{PortShape}
 use Rattle.gl_net.specs.declared.node.Bit.{Bit}
 use Rattle.gl_net.specs.declared.node.Bus.{Bus}
 use Rattle.gl_net.specs.declared.node.Direction.TheVariants.{Out}
-use Rattle.gl_plan_wiring.specs.Leaves.{widths_of}
+use Rattle.gl_wiring.specs.Leaves.{widths_of}
 use Rattle.gl_schema.specs.Ports.{rst, eos, out_valid, out_column, out_eos, fault_group, fault_queue}
 use Rattle.gl_schema.specs.declared.schema.Schema.{Schema}
 use Rattle.gl_wire.specs.Costs.{Cost, CostsAtMost}

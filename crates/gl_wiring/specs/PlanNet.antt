@@ -10,7 +10,7 @@ use Rattle.gl_algebra.specs.declared.node.PlanNode.{PlanNode}
 use Rattle.gl_net.specs.Finished.{HasReset}
 use Rattle.gl_net.specs.Net.{Net, Run, IsRun, memory_bits_of, register_bits_of, size_of}
 use Rattle.gl_net.specs.PortValues.{port_shapes}
-use Rattle.gl_plan_wiring.specs.Leaves.{LeavesFit, leaf}
+use Rattle.gl_wiring.specs.Leaves.{LeavesFit, leaf}
 use Rattle.gl_schema.specs.declared.schema.Schema.{Schema}
 use Rattle.gl_wire.specs.Beats.{Beats, Spaced}
 use Rattle.gl_wire.specs.Faults.{lines_of}

@@ -4,11 +4,16 @@
 //! are stands in `gl_net`, what is right for a query in `gl_schema`; no text is written here.
 #![tactic(auto)]
 
+mod arms;
+pub mod groups;
 mod leaves;
 pub mod names;
 mod output;
 pub mod parts;
 pub mod plan;
+pub mod put;
+pub mod windows;
 
 pub use names::{ResultNames, in_column_name, in_valid_name};
 pub use plan::wire_plan;
+pub use put::put_node;

@@ -11,7 +11,7 @@ use crate::output::put_result;
 use gl_algebra::{Figures, Plan, PlanId};
 use gl_bits::Memory;
 use gl_net::{NetBuilder, Netlist};
-use gl_plan_wiring::put_node;
+use crate::put_node;
 use gl_schema::Schema;
 use std::alloc::Global;
 

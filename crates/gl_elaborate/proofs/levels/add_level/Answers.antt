@@ -3,7 +3,7 @@ use Rattle.std.specs.Prelude.{option_map}
 use Rattle.gl_algebra.specs.declared.node.ColOp.{ColOp}
 use Rattle.gl_algebra.specs.declared.node.PlanNode.TheVariants.{Compute}
 use Rattle.gl_elaborate.specs.Fitting.{FitsNext}
-use Rattle.gl_terms.specs.Trees.{term}
+use Rattle.gl_elaborate.specs.Trees.{term}
 use Rattle.gl_algebra.specs.Added.{placed_at, added}
 use Rattle.gl_elaborate.proofs.StepLemmas.{a_step, step-fits, step-room}
 use Rattle.gl_elaborate.proofs.levels.add_level.Goals as goal

@@ -1,8 +1,8 @@
 use Rattle.std.proofs.Common.{map, arith, ◌≡◌}
 use Rattle.std.specs.Prelude.{option_map, option_to_list}
-use Rattle.gl_terms.specs.Terms.{depth_of_all}
-use Rattle.gl_terms.specs.Trees.{term}
-use Rattle.gl_terms.proofs.DepthLemmas.{depth-both}
+use Rattle.gl_elaborate.specs.Terms.{depth_of_all}
+use Rattle.gl_elaborate.specs.Trees.{term}
+use Rattle.gl_elaborate.proofs.DepthLemmas.{depth-both}
 use Rattle.gl_elaborate.proofs.levels.are_done.Goals as goal
 
 pub returns-then-are_flat : goal.returns-then-are_flat

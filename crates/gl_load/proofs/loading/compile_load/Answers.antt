@@ -2,9 +2,9 @@ use Rattle.std.proofs.Common.{ℕ, List, sym, subst}
 use Rattle.gl_schema.specs.declared.schema.Schema.{Schema}
 use Rattle.gl_schema.specs.Schemas.{IsSchema}
 use Rattle.gl_query_compiler.specs.Queries.{IsQueryRefused}
-use Rattle.gl_load_query.specs.Query.{load_schema}
+use Rattle.gl_load.specs.Query.{load_schema}
 use Rattle.gl_load.proofs.Compiling.{made_of, uncompiled}
-use Rattle.gl_load_query.proofs.Constants.{schema_spelled}
+use Rattle.gl_load.proofs.Constants.{schema_spelled}
 use Rattle.gl_load.proofs.loading.compile_load.Goals as goal
 
 pub compile_query-requires : goal.compile_query-requires

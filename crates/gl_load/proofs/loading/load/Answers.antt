@@ -1,6 +1,6 @@
 use Rattle.std.proofs.Common.{List, sym, subst}
 use Rattle.gl_schema.specs.Beats.{Beat, AreBeats, KeepsGap}
-use Rattle.gl_load_query.specs.Query.{load_schema}
+use Rattle.gl_load.specs.Query.{load_schema}
 use Rattle.gl_load.specs.Loads.{AreRunLines}
 use Rattle.gl_load.proofs.Beating.{are_beats, keep_gap}
 use Rattle.gl_load.proofs.Running.{loaded}

@@ -2,9 +2,9 @@ use Rattle.std.proofs.Common.{◌≡◌, ℕ, List, Ok, Result, sym, subst}
 use Rattle.gl_schema.specs.declared.schema.Schema.{Schema}
 use Rattle.gl_schema.specs.declared.fault.SchemaFault.{SchemaFault}
 use Rattle.gl_schema.specs.SchemaText.{IsSchemaText}
-use Rattle.gl_load_query.specs.Query.{load_schema}
+use Rattle.gl_load.specs.Query.{load_schema}
 use Rattle.gl_load.proofs.Compiling.{unread}
-use Rattle.gl_load_query.proofs.Constants.{schema_spelled}
+use Rattle.gl_load.proofs.Constants.{schema_spelled}
 use Rattle.gl_load.proofs.loading.read_load.Goals as goal
 
 pub unread-requires : goal.unread-requires

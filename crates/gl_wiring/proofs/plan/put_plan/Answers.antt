@@ -1,6 +1,6 @@
 use Rattle.std.proofs.Common.{ℕ, List, [], sym, subst}
 use Rattle.gl_algebra.specs.Shapes.{kinds_of, shape_of}
-use Rattle.gl_plan_wiring.specs.Leaves.{widths_of}
+use Rattle.gl_wiring.specs.Leaves.{widths_of}
 use Rattle.gl_wire.specs.Wire.{widths}
 use Rattle.gl_wiring.specs.Emitted.{Extends, Puts}
 use Rattle.gl_wiring.specs.Output.{IsOutput, input_ports, output_ports, plan_ports}

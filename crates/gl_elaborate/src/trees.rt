@@ -1,0 +1,56 @@
+//! Expressions over numbered columns.
+
+ghost use Rattle.std.specs.Prelude.{◌≡◌};
+ghost use Rattle.gl_elaborate.specs.Levels.{leaf_of, op_of, operand_of};
+ghost use Rattle.gl_elaborate.specs.Trees.{term};
+
+use gl_algebra::{ColOp, Operand};
+use gl_bits::{Kind, Op, Word};
+
+/// An expression over the columns of a node, by their numbers.
+#[derive(Drop)]
+pub enum Tree {
+    Column(u16),
+    Literal(Word, Kind),
+    Not(Box<Tree>),
+    Cast(Box<Tree>, Kind),
+    Binary(Op, Box<Tree>, Box<Tree>),
+}
+
+/// A column or literal as an operand.
+pub fn leaf_of(tree: &Tree) -> Option<Operand>
+    ensures { result ≡ leaf_of (term tree.now) }
+{
+    match tree {
+        Tree::Column(number) => Some(Operand::Column(*number)),
+        Tree::Literal(word, kind) => Some(Operand::Literal(*word, *kind)),
+        Tree::Not(_) | Tree::Cast(..) | Tree::Binary(..) => None,
+    }
+}
+
+/// The operation that a tree is, where its operands are columns or literals.
+pub fn op_of(tree: &Tree) -> Option<ColOp>
+    ensures { result ≡ op_of (term tree.now) }
+{
+    match tree {
+        Tree::Column(_) | Tree::Literal(..) => None,
+        Tree::Not(arg) => Some(ColOp::Not(leaf_of(arg)?)),
+        Tree::Cast(arg, kind) => Some(ColOp::Cast(leaf_of(arg)?, *kind)),
+        Tree::Binary(operator, left, right) => {
+            let x = leaf_of(left)?;
+            let y = leaf_of(right)?;
+            Some(ColOp::Binary(*operator, x, y))
+        }
+    }
+}
+
+/// A tree of depth 0 as an operand.
+pub fn operand_of(tree: &Tree) -> Operand
+    ensures { result ≡ operand_of (term tree.now) }
+{
+    match tree {
+        Tree::Column(number) => Operand::Column(*number),
+        Tree::Literal(word, kind) => Operand::Literal(*word, *kind),
+        Tree::Not(_) | Tree::Cast(..) | Tree::Binary(..) => Operand::Column(0),
+    }
+}

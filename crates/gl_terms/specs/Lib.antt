@@ -1,4 +1,0 @@
-pub mod Terms
-pub mod Levels
-pub mod Trees
-pub mod Depths

@@ -1,8 +1,0 @@
-//! Laws of terms. The contract of each function is the law; it does nothing.
-
-ghost use Rattle.gl_terms.specs.Depths.{LevelsAreByDepth};
-
-/// A level has the operations of its depth.
-pub fn levels_are_by_depth()
-    ensures { LevelsAreByDepth }
-{}

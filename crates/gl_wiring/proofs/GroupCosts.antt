@@ -1,0 +1,105 @@
+-- What a group's parts cost is within what a plan counts for it.
+use Rattle.std.proofs.Common.{◌≡◌, ℕ, zero, suc, ◌+◌, ◌*◌, ◌<◌, ◌≤◌, List, [], ◌∷◌, length, map, refl, arith}
+use Rattle.std.specs.Prelude.{slice_index}
+use Rattle.std.specs.List.{All}
+use Rattle.std.proofs.lemmas.List.{length-map}
+use Rattle.gl_bits.specs.Kinds.{IsKind, width_of}
+use Rattle.gl_bits.specs.declared.kind.Kind.{Kind}
+use Rattle.gl_algebra.specs.Columns.{kind_of_column}
+use Rattle.gl_algebra.specs.declared.node.PlanNode.{PlanNode}
+use Rattle.gl_algebra.specs.declared.node.PlanNode.TheVariants.{Group}
+use Rattle.gl_algebra.specs.Cost.{lean_of, lean_of_spacer, store_of}
+use Rattle.gl_algebra.specs.FigureTable.{figures_of, group_gap}
+use Rattle.gl_algebra.specs.Fits.{IsPlan}
+use Rattle.gl_algebra.specs.Laws.{FollowsTables}
+use Rattle.gl_algebra.specs.Shapes.{kinds_of}
+use Rattle.gl_algebra.specs.Weights.{weight_of, weight_of_copies}
+use Rattle.gl_algebra.proofs.TableLemmas.{nodes_follow_tables}
+use Rattle.gl_net.specs.Net.{Net}
+use Rattle.gl_groups.specs.Costs.{IsCounted, cost_of_back, cost_of_front, cost_of_grouping, counted_for}
+use Rattle.gl_groups.proofs.CostLemmas.{groupings_are_counted}
+use Rattle.gl_wire.specs.Costs.{Cost, CostsAtMost}
+use Rattle.gl_wire.proofs.CountLemmas.{narrow_kinds}
+use Rattle.gl_wiring.specs.declared.groups.GroupOf.{GroupOf}
+use Rattle.gl_wiring.specs.Copies.{cost_of_spaced, times}
+use Rattle.gl_wiring.specs.Groups.{IsGroupNode, cost_to_slots}
+use Rattle.gl_wiring.specs.Leaves.{widths_of}
+use Rattle.gl_wiring.specs.Put.{counted}
+use Rattle.gl_wiring.proofs.CostLemmas.{at_most, costs_then, stored_within}
+
+-- nodes, bits of registers, and bits of memories
+nodes_within : (source body spacer front back c s o : ℕ) → front + back ≤ weight_of_copies c 0 s o
+    → source + spacer + front + c * body + back ≤ source + (weight_of_copies c body s o + spacer)
+nodes_within source body spacer front back c s o h =
+    let each : c * (body + 8 * (s + o + 4)) ≡ c * body + c * (0 + 8 * (s + o + 4)) = omega arith in
+    omega (arith, h, each)
+
+bits_within : (source body spacer front back c s o : ℕ) → front + back ≤ 64 * weight_of_copies c 0 s o
+    → 64 * source + 64 * spacer + front + c * (64 * body) + back ≤ 64 * (source + (weight_of_copies c body s o + spacer))
+bits_within source body spacer front back c s o h =
+    let each : c * (body + 8 * (s + o + 4)) ≡ c * body + c * (0 + 8 * (s + o + 4)) = omega arith in
+    let bits : c * (64 * body) ≡ 64 * (c * body) = omega arith in
+    omega (arith, h, each, bits)
+
+-- the key has the width of its column
+pub key_width_is : (kinds : List Kind) (k : ℕ) → k < length kinds → slice_index (map width_of kinds) k ≡ width_of (kind_of_column kinds k)
+key_width_is [] k within = absurd (omega (arith, within))
+key_width_is (kind ∷ kinds) zero within = refl
+key_width_is (kind ∷ kinds) (suc k) within = key_width_is kinds k (omega (arith, within))
+
+-- all parts
+module _ (nodes : List PlanNode) (g : GroupOf) (plan : IsPlan nodes) (at : IsGroupNode nodes g) (kinds_source : All IsKind (kinds_of nodes g.source))
+    (kinds_own : All IsKind (kind_of_column (kinds_of nodes g.source) g.key ∷ kinds_of nodes g.body)) where
+  abbrev source : List ℕ
+  source = widths_of (kinds_of nodes g.source)
+
+  abbrev own_kinds : List Kind
+  own_kinds = kind_of_column (kinds_of nodes g.source) g.key ∷ kinds_of nodes g.body
+
+  abbrev own : List ℕ
+  own = widths_of own_kinds
+
+  abbrev spacer : Cost
+  spacer = cost_of_spaced (group_gap (figures_of nodes g.body)) (figures_of nodes g.source) source
+
+  abbrev lines : ℕ → ℕ
+  lines body = weight_of_copies g.groups body (length source + 2) (length own + 2)
+
+  source_lines : length source ≡ length (kinds_of nodes g.source)
+  source_lines = length-map (kinds_of nodes g.source) width_of
+
+  own_lines : length own ≡ length own_kinds
+  own_lines = length-map own_kinds width_of
+
+  follows : FollowsTables nodes g.id (Group g.source g.body g.key g.groups)
+  follows = nodes_follow_tables nodes g.id (Group g.source g.body g.key g.groups) plan at
+
+  grouping : IsCounted (cost_of_grouping g.groups g.key source own) (counted_for g.groups source own)
+  grouping = groupings_are_counted g.groups g.key source own (narrow_kinds (kinds_of nodes g.source) kinds_source) (narrow_kinds own_kinds kinds_own)
+
+  weight : weight_of nodes g.id ≡ weight_of nodes g.source + (lines (weight_of nodes g.body) + spacer.nodes)
+  weight = rw (source_lines, own_lines) follows.weight
+
+  abbrev lean_spacer : ℕ
+  lean_spacer = lean_of_spacer (group_gap (figures_of nodes g.body)) (figures_of nodes g.source) (length source + 2)
+
+  lean : lean_of nodes g.id ≡ lean_of nodes g.source + (lines (lean_of nodes g.body) + lean_spacer)
+  lean = rw (source_lines, own_lines) follows.lean
+
+  store : store_of nodes g.id ≡ store_of nodes g.source + (g.groups * store_of nodes g.body + spacer.memories)
+  store = rw source_lines follows.store
+
+  pub group_cost : (old mid net new : Net) → CostsAtMost old mid (cost_to_slots nodes g) → CostsAtMost mid net (times g.groups (counted nodes g.body))
+      → CostsAtMost net new (cost_of_back g.groups own) → CostsAtMost old new (counted nodes g.id)
+  group_cost old mid net new front bodies back =
+      let all = costs_then old net new _ _ (costs_then old mid net _ _ front bodies) back in
+      record {
+        nodes = rw weight (at_most _ _ _ _ all.nodes
+            (nodes_within (weight_of nodes g.source) (weight_of nodes g.body) spacer.nodes (cost_of_front g.groups g.key source).nodes (cost_of_back g.groups own).nodes
+            g.groups (length source + 2) (length own + 2) grouping.nodes));
+        registers = rw lean (at_most _ _ _ _ all.registers
+            (bits_within (lean_of nodes g.source) (lean_of nodes g.body) lean_spacer (cost_of_front g.groups g.key source).registers
+            (cost_of_back g.groups own).registers g.groups (length source + 2) (length own + 2) grouping.registers));
+        memories = rw store (at_most _ _ _ _ all.memories
+            (stored_within (store_of nodes g.source) (g.groups * store_of nodes g.body) spacer.memories));
+      }

@@ -1,0 +1,97 @@
+-- The circuits of leaves.
+use Rattle.std.proofs.Common.{◌≡◌, ℕ, ◌+◌, ◌<◌, List, Some, Bool, length, slice_get, sym, ap, subst, arith}
+use Rattle.std.specs.Prelude.{is_some}
+use Rattle.std.proofs.lemmas.Option.{slice_get_within}
+use Rattle.gl_bits.specs.declared.kind.Kind.{Kind}
+use Rattle.gl_bits.specs.Results.{Row, IsInput}
+use Rattle.gl_algebra.specs.declared.node.PlanNode.{PlanNode}
+use Rattle.gl_algebra.specs.declared.node.PlanNode.TheVariants.{Stream, Body}
+use Rattle.gl_algebra.specs.FigureTable.{input_figures}
+use Rattle.gl_algebra.specs.Fits.{IsPlan}
+use Rattle.gl_algebra.specs.Results.{Meaning, IsPlanResult}
+use Rattle.gl_algebra.specs.Shapes.{Shape, shape_of}
+use Rattle.gl_algebra.proofs.TableLemmas.{nodes_follow_tables}
+use Rattle.gl_net.specs.Net.{Net}
+use Rattle.gl_net.proofs.Growth.{same_keeps}
+use Rattle.gl_wire.specs.declared.emitted.Emitted.{Emitted}
+use Rattle.gl_wire.specs.declared.emitted.Faults.{Faults}
+use Rattle.gl_wire.specs.declared.wire.Wire.{Wire}
+use Rattle.gl_wire.specs.Costs.{CostsAtMost}
+use Rattle.gl_wire.specs.Faults.{AreLines, line_of, lines_of, no_faults}
+use Rattle.gl_wire.specs.Pace.{InStep, KeepsPace}
+use Rattle.gl_wire.specs.Serving.{inputs_at}
+use Rattle.gl_wire.specs.Wire.{Carried, IsWire, carried, stream, widths}
+use Rattle.gl_wire.proofs.ServingLemmas.{leaf_serving, serving_as}
+use Rattle.gl_wiring.specs.Leaves.{HasLeaf, HaveLeaves, carried_by, leaf, leaf_kinds, leaf_place, widths_of}
+use Rattle.gl_wiring.specs.Put.{GivesAs, IsPut, counted}
+
+-- a leaf's wire gives the leaf
+leaf_gives : (s : Shape) (m : Meaning) (k : ℕ) (net : Net) (leaves : List Wire) (e : Emitted) → slice_get leaves k ≡ Some e.wire → e.faults ≡ no_faults
+    → IsWire net e.wire → widths e.wire.columns ≡ widths_of s.kinds
+    → ((ls : ℕ → Carried) → KeepsPace s.pace 0 ls (ls k))
+    → ((ls : ℕ → Carried) (t : ℕ) (ys : List Row) (p : Bool) → IsInput (stream (ls k) t) ys p → m (inputs_at ls (ls 0) t) ys p)
+    → GivesAs s input_figures m net leaves e
+leaf_gives s m k net leaves e at none is columns pace results = record {
+  wire = is;
+  same_widths = columns;
+  lines = subst (AreLines net) (sym none) (record { passed = tt; further = tt });
+  paced = λ run r. subst (KeepsPace s.pace 0 (leaf run leaves)) (ap (carried_by run) at) (pace (leaf run leaves));
+  serving = λ run r beats spaced fits.
+      let same : leaf run leaves k ≡ carried run e.wire = ap (carried_by run) at in
+      let ls : ℕ → Carried = leaf run leaves in
+      serving_as input_figures _ (λ t. m (inputs_at ls (ls 0) t)) (lines_of run e.faults) beats (carried run e.wire)
+      (λ t ys p x. results ls t ys p (subst (λ (c : Carried). IsInput (stream c t) ys p) (sym same) x))
+      (leaf_serving (lines_of run e.faults) beats (carried run e.wire) (fits.each k e.wire at)
+      (λ c. ap (λ (f : Faults). line_of run f.passed c) none) (λ c. ap (λ (f : Faults). line_of run f.further c) none));
+}
+
+at_once : (leaf : Carried) → InStep 0 leaf leaf
+at_once leaf = record {
+  before = λ c l. absurd (omega (arith, l));
+  each = λ c. let e : c + 0 ≡ c = omega arith in ap (λ (i : ℕ). is_some (leaf.tuple i)) e;
+}
+
+-- the leaf's wire is the one that is asked for
+leaf_wire : (net : Net) (leaves : List Wire) (node : PlanNode) (w : Wire) → HasLeaf net leaves node → slice_get leaves (leaf_place node) ≡ Some w
+    → IsWire net w × (widths w.columns ≡ widths_of (leaf_kinds node))
+leaf_wire net leaves node w h at = let same : h.wire ≡ w = let z = h.there in cc in
+    (subst (IsWire net) same h.is, subst (λ (x : Wire). widths x.columns ≡ widths_of (leaf_kinds node)) same h.same_widths)
+
+-- nothing is added
+no_cost : (nodes : List PlanNode) (id : ℕ) (net : Net) → CostsAtMost net net (counted nodes id)
+no_cost nodes id net = record { nodes = omega arith; registers = omega arith; memories = omega arith }
+
+module _ (nodes : List PlanNode) (id : ℕ) (net : Net) (leaves : List Wire) (plan : IsPlan nodes) (has : HaveLeaves net leaves (shape_of nodes id).leaves) where
+  pub stream_there : (number : ℕ) (kinds : List Kind) → slice_get nodes id ≡ Some (Stream number kinds) → number < length leaves
+  stream_there number kinds at =
+      let follows = nodes_follow_tables nodes id (Stream number kinds) plan at in
+      let h = (rw follows.shape at has).0 in slice_get_within leaves number h.wire h.there
+
+  pub body_there : (kinds : List Kind) → slice_get nodes id ≡ Some (Body kinds) → 0 < length leaves
+  body_there kinds at =
+      let follows = nodes_follow_tables nodes id (Body kinds) plan at in
+      let h = (rw follows.shape at has).0 in slice_get_within leaves 0 h.wire h.there
+
+  pub stream_put : (e : Emitted) (number : ℕ) (kinds : List Kind) → slice_get nodes id ≡ Some (Stream number kinds)
+      → slice_get leaves number ≡ Some e.wire → e.faults ≡ no_faults → IsPut nodes id net net leaves e
+  stream_put e number kinds at there none =
+      let follows = nodes_follow_tables nodes id (Stream number kinds) plan at in
+      let h = leaf_wire net leaves (Stream number kinds) e.wire (rw follows.shape at has).0 there in
+      record {
+        keeps = same_keeps net;
+        cost = no_cost nodes id net;
+        gives = rw (follows.shape, follows.figures) (leaf_gives _ (IsPlanResult nodes id) number net leaves e there none h.0 h.1
+            (λ ls. at_once (ls number)) (λ ls t ys p x. (follows.results (inputs_at ls (ls 0) t) ys p).1 x));
+      }
+
+  pub body_put : (e : Emitted) (kinds : List Kind) → slice_get nodes id ≡ Some (Body kinds)
+      → slice_get leaves 0 ≡ Some e.wire → e.faults ≡ no_faults → IsPut nodes id net net leaves e
+  body_put e kinds at there none =
+      let follows = nodes_follow_tables nodes id (Body kinds) plan at in
+      let h = leaf_wire net leaves (Body kinds) e.wire (rw follows.shape at has).0 there in
+      record {
+        keeps = same_keeps net;
+        cost = no_cost nodes id net;
+        gives = rw (follows.shape, follows.figures) (leaf_gives _ (IsPlanResult nodes id) 0 net leaves e there none h.0 h.1
+            (λ ls. at_once (ls 0)) (λ ls t ys p x. (follows.results (inputs_at ls (ls 0) t) ys p).1 x));
+      }

@@ -1,0 +1,165 @@
+-- The circuits of nodes of one child.
+use Rattle.std.proofs.Common.{◌≡◌, ℕ, zero, suc, ◌+◌, List, [], ◌∷◌, ◌++◌, map, length, Option, Some, None, Bool, true, false, slice_get, All, nat_eq, cond, refl, ap, ◌∙◌, subst, arith}
+use Rattle.std.specs.Prelude.{filter_map, slice_index, if◌then◌else◌}
+use Rattle.std.specs.List.{cons_option}
+use Rattle.std.proofs.lemmas.Option.{slice_get_within}
+use Rattle.gl_bits.proofs.Options.{some_same}
+use Rattle.gl_bits.specs.Kinds.{IsKind, width_of}
+use Rattle.gl_bits.specs.declared.kind.Kind.{Kind}
+use Rattle.gl_bits.specs.Results.{Row}
+use Rattle.gl_algebra.specs.declared.figures.Figures.{Figures}
+use Rattle.gl_algebra.specs.declared.node.ColOp.{ColOp}
+use Rattle.gl_algebra.specs.declared.node.Operand.{Operand}
+use Rattle.gl_algebra.specs.declared.node.PlanAgg.{PlanAgg}
+use Rattle.gl_algebra.specs.declared.node.PlanNode.{PlanNode}
+use Rattle.gl_algebra.specs.declared.node.PlanNode.TheVariants.{Compute, Select, Project, Aggregate}
+use Rattle.gl_algebra.specs.Columns.{kind_of_op, kind_of_operand}
+use Rattle.gl_algebra.specs.FigureTable.{delayed, settled, aggregate_figures, delay_of_aggs, figures_of}
+use Rattle.gl_algebra.specs.Fits.{IsPlan}
+use Rattle.gl_algebra.specs.Results.{IsPlanResult, computed, selected, projected}
+use Rattle.gl_algebra.specs.Shapes.{Shape, kinds_of, shape_of}
+use Rattle.gl_algebra.proofs.FigureLemmas.{figures_are_sound, delayed_by_none}
+use Rattle.gl_algebra.proofs.KindLemmas.{columns_have_kinds}
+use Rattle.gl_algebra.proofs.SoundLemmas.{delayed_sound}
+use Rattle.gl_algebra.proofs.TableLemmas.{nodes_follow_tables}
+use Rattle.gl_net.specs.Net.{Net}
+use Rattle.gl_net.proofs.Determined.{keeps_then}
+use Rattle.gl_rows.specs.Costs.{computed_widths, cost_of_items, cost_of_rows, projected_widths}
+use Rattle.gl_totals.specs.Costs.{cost_of_aggs}
+use Rattle.gl_totals.specs.Totals.{total_row, total_widths}
+use Rattle.gl_wire.specs.declared.emitted.Emitted.{Emitted}
+use Rattle.gl_wire.specs.declared.wire.Wire.{Wire}
+use Rattle.gl_wire.specs.Blocks.{IsBehind}
+use Rattle.gl_wire.specs.Pace.{KeepsPace}
+use Rattle.gl_wire.specs.Serves.{Serves}
+use Rattle.gl_wire.specs.Shapes.{Steady, AtEnds, Mapped, Totalled, keep_where}
+use Rattle.gl_wire.proofs.EndLemmas.{ends_serve}
+use Rattle.gl_wire.proofs.PaceLemmas.{steady_pace, ends_pace}
+use Rattle.gl_wire.proofs.SettledLemmas.{settled_serves}
+use Rattle.gl_wire.proofs.SteadyLemmas.{steady_serves}
+use Rattle.gl_wiring.specs.Leaves.{widths_of}
+use Rattle.gl_wiring.specs.Put.{IsPut, counted}
+use Rattle.gl_wiring.proofs.CanLemmas.{first_within}
+use Rattle.gl_wiring.proofs.CostLemmas.{cost_behind, items_counted, rows_counted, selected_counted}
+use Rattle.gl_wiring.proofs.GivesLemmas.{behind}
+use Rattle.gl_wiring.proofs.TotalCosts.{aggs_counted}
+
+-- a step that drops nothing
+mapped_all : (f : Row → Row) (xs : List Row) → filter_map (λ row. Some (f row)) xs ≡ map f xs
+mapped_all f [] = refl
+mapped_all f (x ∷ xs) = ap (λ (l : List Row). f x ∷ l) (mapped_all f xs)
+
+-- the rows whose column is 1
+kept_rows : (column : ℕ) (xs : List Row) → filter_map (keep_where column) xs ≡ selected column xs
+kept_rows column [] = refl
+kept_rows column (x ∷ xs) = by (nat_eq (slice_index x column) 1) (kept_rows column xs)
+  where
+    by : (b : Bool) → filter_map (keep_where column) xs ≡ selected column xs
+        → cons_option (if b then Some x else None) (filter_map (keep_where column) xs) ≡ cond b (x ∷ selected column xs) (selected column xs)
+    by true h = ap (λ (l : List Row). x ∷ l) h
+    by false h = h
+
+-- the width of a column of a kind
+pub width_at : (kinds : List Kind) (column : ℕ) (kind : Kind) → slice_get kinds column ≡ Some kind → slice_get (widths_of kinds) column ≡ Some (width_of kind)
+width_at [] column kind at = absurd cc
+width_at (k ∷ kinds) zero kind at = ap (λ (x : Kind). Some (width_of x)) (some_same k kind at)
+width_at (k ∷ kinds) (suc column) kind at = width_at kinds column kind at
+
+module _ (nodes : List PlanNode) (id : ℕ) (old mid new : Net) (leaves : List Wire) (below e : Emitted) (plan : IsPlan nodes) where
+  pub compute_put : (child : ℕ) (ops : List ColOp) → slice_get nodes id ≡ Some (Compute child ops) → IsPut nodes child old mid leaves below
+      → (let kinds = kinds_of nodes child in IsBehind mid new (Steady 1 (λ row. Some (computed kinds ops row))) (computed_widths kinds ops)
+      (cost_of_rows (computed_widths kinds ops) (length ops)) below e)
+      → IsPut nodes id old new leaves e
+  compute_put child ops at h b =
+      let follows = nodes_follow_tables nodes id (Compute child ops) plan at in
+      let f : Figures = figures_of nodes child in
+      let kinds = kinds_of nodes child in
+      let step : Row → Option Row = λ row. Some (computed kinds ops row) in
+      let within = first_within nodes id (Compute child ops) plan at child [] refl in
+      let sound = figures_are_sound nodes child plan within in
+      let own : All IsKind (kinds ++ map (kind_of_op kinds) ops) =
+      subst (λ (s : Shape). All IsKind s.kinds) follows.shape (columns_have_kinds nodes id plan (slice_get_within nodes id (Compute child ops) at)) in
+      record {
+        keeps = keeps_then old mid new h.keeps b.keeps;
+        cost = cost_behind nodes id _ _ _ old mid new (counted nodes child) _
+            (record { weight' = follows.weight; lean' = omega (arith, follows.lean); store' = follows.store })
+            h.cost b.cost (rows_counted (kinds ++ map (kind_of_op kinds) ops) (length ops) own);
+        gives = rw (follows.shape, follows.figures) (behind (shape_of nodes child) _ f (settled (delayed 1 f)) (IsPlanResult nodes child)
+            (IsPlanResult nodes id) mid new leaves below e _ _ _ (Mapped step)
+            h.gives b refl (record { gt = omega arith; ge = omega arith })
+            (λ x y s. settled_serves f (delayed 1 f) (Mapped step) x y (delayed_sound 1 f sound) (steady_serves 1 step x y f s))
+            (λ x y ls s. steady_pace 1 (computed kinds ops) x y s (shape_of nodes child).pace f.a ls)
+            (λ i xs ys p r m. (follows.results i ys p).1 (record { rows = xs; of_source = r; changed = m ∙ mapped_all (computed kinds ops) xs })));
+      }
+
+  pub select_put : (child column : ℕ) → slice_get nodes id ≡ Some (Select child column) → IsPut nodes child old mid leaves below
+      → IsBehind mid new (Steady 1 (keep_where column)) (widths_of (kinds_of nodes child)) (cost_of_rows (widths_of (kinds_of nodes child)) 0) below e
+      → IsPut nodes id old new leaves e
+  select_put child column at h b =
+      let follows = nodes_follow_tables nodes id (Select child column) plan at in
+      let f : Figures = figures_of nodes child in
+      let kinds = kinds_of nodes child in
+      let within = first_within nodes id (Select child column) plan at child [] refl in
+      let sound = figures_are_sound nodes child plan within in
+      record {
+        keeps = keeps_then old mid new h.keeps b.keeps;
+        cost = cost_behind nodes id _ _ _ old mid new (counted nodes child) _
+            (record { weight' = follows.weight; lean' = omega (arith, follows.lean); store' = follows.store })
+            h.cost b.cost (selected_counted kinds (columns_have_kinds nodes child plan within));
+        gives = rw (follows.shape, follows.figures) (behind (shape_of nodes child) _ f (settled (delayed 1 f)) (IsPlanResult nodes child)
+            (IsPlanResult nodes id) mid new leaves below e _ _ _ (Mapped (keep_where column))
+            h.gives b refl (record { gt = omega arith; ge = omega arith })
+            (λ x y s. settled_serves f (delayed 1 f) (Mapped (keep_where column)) x y (delayed_sound 1 f sound) (steady_serves 1 (keep_where column) x y f s))
+            (λ x y ls s p. tt)
+            (λ i xs ys p r m. (follows.results i ys p).1 (record { rows = xs; of_source = r; changed = m ∙ kept_rows column xs })));
+      }
+
+  pub project_put : (child : ℕ) (items : List Operand) → slice_get nodes id ≡ Some (Project child items) → IsPut nodes child old mid leaves below
+      → (let kinds = kinds_of nodes child in IsBehind mid new (Steady 0 (λ row. Some (projected items row))) (projected_widths kinds items)
+      (cost_of_items (projected_widths kinds items)) below e)
+      → IsPut nodes id old new leaves e
+  project_put child items at h b =
+      let follows = nodes_follow_tables nodes id (Project child items) plan at in
+      let f : Figures = figures_of nodes child in
+      let kinds = kinds_of nodes child in
+      let step : Row → Option Row = λ row. Some (projected items row) in
+      let within = first_within nodes id (Project child items) plan at child [] refl in
+      let sound = figures_are_sound nodes child plan within in
+      record {
+        keeps = keeps_then old mid new h.keeps b.keeps;
+        cost = cost_behind nodes id _ _ _ old mid new (counted nodes child) _
+            (record { weight' = follows.weight; lean' = omega (arith, follows.lean); store' = follows.store })
+            h.cost b.cost (items_counted (map (kind_of_operand kinds) items));
+        gives = rw (follows.shape, follows.figures) (behind (shape_of nodes child) _ f (settled f) (IsPlanResult nodes child)
+            (IsPlanResult nodes id) mid new leaves below e _ _ _ (Mapped step)
+            h.gives b refl (record { gt = omega arith; ge = omega arith })
+            (λ x y s. settled_serves f f (Mapped step) x y sound
+            (subst (λ (g : Figures). Serves f g (Mapped step) x y) (delayed_by_none f) (steady_serves 0 step x y f s)))
+            (λ x y ls s p. let n : f.a + 0 ≡ f.a = omega arith in
+            subst (λ (a : ℕ). KeepsPace (shape_of nodes child).pace a ls y) n (steady_pace 0 (projected items) x y s (shape_of nodes child).pace f.a ls p))
+            (λ i xs ys p r m. (follows.results i ys p).1 (record { rows = xs; of_source = r; changed = m ∙ mapped_all (projected items) xs })));
+      }
+
+  pub aggregate_put : (child : ℕ) (aggs : List PlanAgg) → slice_get nodes id ≡ Some (Aggregate child aggs) → IsPut nodes child old mid leaves below
+      → (let kinds = kinds_of nodes child in IsBehind mid new (AtEnds (delay_of_aggs kinds aggs) (total_row kinds aggs)) (total_widths kinds aggs)
+      (cost_of_aggs kinds aggs) below e)
+      → IsPut nodes id old new leaves e
+  aggregate_put child aggs at h b =
+      let follows = nodes_follow_tables nodes id (Aggregate child aggs) plan at in
+      let f : Figures = figures_of nodes child in
+      let kinds = kinds_of nodes child in
+      let m = delay_of_aggs kinds aggs in
+      let within = first_within nodes id (Aggregate child aggs) plan at child [] refl in
+      let suits = (plan.fits id (Aggregate child aggs) at).suits in
+      record {
+        keeps = keeps_then old mid new h.keeps b.keeps;
+        cost = cost_behind nodes id _ _ _ old mid new (counted nodes child) _
+            (record { weight' = follows.weight; lean' = omega (arith, follows.lean); store' = follows.store })
+            h.cost b.cost (aggs_counted kinds (columns_have_kinds nodes child plan within) aggs suits);
+        gives = rw (follows.shape, follows.figures) (behind (shape_of nodes child) _ f (aggregate_figures m f) (IsPlanResult nodes child)
+            (IsPlanResult nodes id) mid new leaves below e _ _ _ (Totalled (total_row kinds aggs))
+            h.gives b refl (record { gt = omega arith; ge = omega arith })
+            (λ x y s. ends_serve m (total_row kinds aggs) x y f s)
+            (λ x y ls s p. ends_pace m (total_row kinds aggs) x y s)
+            (λ i xs ys p r t. (follows.results i ys p).1 (record { rows = xs; of_source = r; changed = t })));
+      }

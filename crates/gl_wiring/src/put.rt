@@ -1,0 +1,208 @@
+//! The circuit of a node.
+
+ghost use Rattle.std.specs.Prelude.{IfOk, length};
+ghost use Rattle.gl_wiring.specs.Put.{CanPut, IsPut};
+ghost use Rattle.gl_wiring.specs.Groups.{IsGroupNode};
+ghost use Rattle.gl_wiring.specs.Windows.{IsWindow};
+ghost use Rattle.gl_wiring.specs.Copies.{AreBodies, CanCopy, IsOverCopies};
+
+use crate::arms::{
+    aggregate_node, beside_node, compute_node, leaf_of, project_node, select_node, union_node,
+};
+use crate::groups::GroupOf;
+use crate::windows::{Copies, WindowOf};
+use gl_algebra::{Figures, Plan, PlanId, PlanNode};
+use gl_bits::Memory;
+use gl_net::NetBuilder;
+use gl_wire::{Emitted, Wire};
+use std::alloc::Global;
+use std::slice::from_ref;
+
+/// Adds the circuit of a node behind those of its children, once for each use of a node, and gives its wire and its lines.
+///
+/// The figures are those of all nodes, as `gl_figures` writes them. The leaves are the wires of the streams, by the streams' numbers;
+/// a body's input is the wire at place 0. Want of memory is the one other answer; what the builder then holds is not said.
+#[cycle(put)]
+#[tactic(auto, using(crate::proofs::CanLemmas::put_columns))]
+pub fn put_node(
+    alloc: Global,
+    net: &mut NetBuilder,
+    plan: &Plan,
+    figures: &[Figures],
+    id: PlanId,
+    leaves: &[Wire],
+) -> Result<Emitted, Memory>
+    requires { CanPut plan.now figures.now id net.old leaves.now }
+    ensures { IfOk result (λ e. IsPut plan.now id net.old net.new leaves.now e) }
+{
+    match plan.node(id) {
+        PlanNode::Stream(number, _) => {
+            let e = leaf_of(alloc, leaves, usize::from(*number))?;
+            Ok(e)
+        }
+        PlanNode::Body(_) => {
+            let e = leaf_of(alloc, leaves, 0)?;
+            Ok(e)
+        }
+        PlanNode::Compute { child, ops } => {
+            let below = put_node(alloc, net, plan, figures, *child, leaves)?;
+            compute_node(alloc, net, plan, id, *child, ops, below)
+        }
+        PlanNode::Select { child, column } => {
+            let below = put_node(alloc, net, plan, figures, *child, leaves)?;
+            select_node(alloc, net, plan, id, *child, *column, below)
+        }
+        PlanNode::Project { child, items } => {
+            let below = put_node(alloc, net, plan, figures, *child, leaves)?;
+            project_node(alloc, net, plan, id, *child, items, below)
+        }
+        PlanNode::Aggregate { child, aggs } => {
+            let below = put_node(alloc, net, plan, figures, *child, leaves)?;
+            aggregate_node(alloc, net, plan, id, *child, aggs, below)
+        }
+        PlanNode::Union { left, right } => {
+            let first = put_node(alloc, net, plan, figures, *left, leaves)?;
+            let second = put_node(alloc, net, plan, figures, *right, leaves)?;
+            union_node(alloc, net, plan, figures, id, *left, *right, first, second)
+        }
+        PlanNode::Beside { left, right } => {
+            let first = put_node(alloc, net, plan, figures, *left, leaves)?;
+            let second = put_node(alloc, net, plan, figures, *right, leaves)?;
+            beside_node(alloc, net, plan, figures, id, *left, *right, first, second)
+        }
+        PlanNode::Window { .. } | PlanNode::Group { .. } => {
+            put_over(alloc, net, plan, figures, id, leaves)
+        }
+    }
+}
+
+// Adds the circuit of a window or of a group.
+#[cycle(put)]
+#[tactic(auto)]
+fn put_over(
+    alloc: Global,
+    net: &mut NetBuilder,
+    plan: &Plan,
+    figures: &[Figures],
+    id: PlanId,
+    leaves: &[Wire],
+) -> Result<Emitted, Memory>
+    requires over { IsOverCopies plan.now id }
+    requires can { CanPut plan.now figures.now id net.old leaves.now }
+    ensures { IfOk result (λ e. IsPut plan.now id net.old net.new leaves.now e) }
+{
+    match plan.node(id) {
+        PlanNode::Window {
+            source,
+            body,
+            size,
+            advance,
+        } => {
+            let window = WindowOf {
+                id,
+                source: *source,
+                body: *body,
+                size: *size,
+                advance: *advance,
+            };
+            put_window(alloc, net, plan, figures, window, leaves)
+        }
+        PlanNode::Group {
+            source,
+            body,
+            key,
+            groups,
+        } => {
+            let group = GroupOf {
+                id,
+                source: *source,
+                body: *body,
+                key: *key,
+                groups: *groups,
+            };
+            put_group(alloc, net, plan, figures, group, leaves)
+        }
+        _ => unreachable!(),
+    }
+}
+
+// Adds the circuit of a window: its source, the front, the body behind each of the front's wires, and the back.
+#[cycle(put)]
+#[tactic(auto, using(crate::proofs::CanLemmas::put_columns))]
+fn put_window(
+    alloc: Global,
+    net: &mut NetBuilder,
+    plan: &Plan,
+    figures: &[Figures],
+    window: WindowOf,
+    leaves: &[Wire],
+) -> Result<Emitted, Memory>
+    requires node { IsWindow plan.now window }
+    requires can { CanPut plan.now figures.now window.id net.old leaves.now }
+    ensures { IfOk result (λ e. IsPut plan.now window.id net.old net.new leaves.now e) }
+{
+    let _ = plan.len();
+    let below = put_node(alloc, net, plan, figures, window.source, leaves)?;
+    let front = window.front(alloc, net, plan, figures, below)?;
+    let copies = put_copies(
+        alloc,
+        net,
+        plan,
+        figures,
+        window.body,
+        front.wires.as_slice(),
+    )?;
+    window.back(alloc, net, plan, figures, &front, copies.as_slice())
+}
+
+// Adds the circuit of a group in the same way.
+#[cycle(put)]
+#[tactic(auto, using(crate::proofs::CanLemmas::put_columns))]
+fn put_group(
+    alloc: Global,
+    net: &mut NetBuilder,
+    plan: &Plan,
+    figures: &[Figures],
+    group: GroupOf,
+    leaves: &[Wire],
+) -> Result<Emitted, Memory>
+    requires node { IsGroupNode plan.now group }
+    requires can { CanPut plan.now figures.now group.id net.old leaves.now }
+    ensures { IfOk result (λ e. IsPut plan.now group.id net.old net.new leaves.now e) }
+{
+    let _ = plan.len();
+    let below = put_node(alloc, net, plan, figures, group.source, leaves)?;
+    let front = group.front(alloc, net, plan, figures, below)?;
+    let copies = put_copies(
+        alloc,
+        net,
+        plan,
+        figures,
+        group.body,
+        front.wires.as_slice(),
+    )?;
+    group.back(alloc, net, plan, figures, &front, copies.as_slice())
+}
+
+// Adds a body's circuit behind each of these wires.
+#[cycle(put)]
+#[tactic(auto)]
+fn put_copies(
+    alloc: Global,
+    net: &mut NetBuilder,
+    plan: &Plan,
+    figures: &[Figures],
+    body: PlanId,
+    wires: &[Wire],
+) -> Result<Copies, Memory>
+    requires { CanCopy plan.now figures.now body net.old wires.now }
+    ensures { IfOk result (λ copies.
+        AreBodies plan.now body net.old net.new wires.now (length wires.now) copies) }
+{
+    let mut copies = Copies::new(alloc);
+    for wire in wires {
+        let copy = put_node(alloc, net, plan, figures, body, from_ref(wire))?;
+        copies.push(copy)?;
+    }
+    Ok(copies)
+}
