@@ -3,7 +3,7 @@ use Rattle.std.specs.Prelude.{ℕ, ◌≡◌, List}
 use Rattle.gl_schema.specs.declared.schema.Schema.{Schema}
 use Rattle.gl_query.specs.declared.tree.Statement.{Statement}
 use Rattle.gl_elaborate.specs.Plans.{plan_of}
-use Rattle.gl_planner.specs.Planned.{IsWithinLimits}
+use Rattle.gl_elaborate_plan.specs.Planned.{IsWithinLimits}
 use Rattle.gl_explain.specs.Lines.{plan_text}
 
 -- its plan is within the limits, and these are the bytes of both

@@ -14,10 +14,10 @@ use Rattle.gl_wire.specs.Gates.{same_at}
 use Rattle.gl_wire.specs.Wire.{AreBuses, line_at}
 use Rattle.gl_wire.proofs.ColumnLemmas.{AreBuses-none, AreBuses-push, buses_kept, bit_kept}
 use Rattle.gl_wire.proofs.GateLemmas.{choose_line}
-use Rattle.gl_registers.specs.Held.{held_at}
-use Rattle.gl_registers.specs.Lines.{AreBits, line_of}
-use Rattle.gl_registers.proofs.CounterLemmas.{held_by}
-use Rattle.gl_registers.proofs.LineLemmas.{line_of-get, line_of-old}
+use Rattle.gl_wire_registers.specs.Held.{held_at}
+use Rattle.gl_wire_registers.specs.Lines.{AreBits, line_of}
+use Rattle.gl_wire_registers.proofs.CounterLemmas.{held_by}
+use Rattle.gl_wire_registers.proofs.LineLemmas.{line_of-get, line_of-old}
 use Rattle.gl_groups.specs.declared.slots.Found.{Found}
 use Rattle.gl_groups.specs.declared.slots.Slot.{Slot}
 use Rattle.gl_groups.specs.declared.slots.SlotLines.{SlotLines}

@@ -9,10 +9,10 @@ use Rattle.gl_wire.specs.declared.wire.Wire.{Wire}
 use Rattle.gl_wire.specs.Stages.{IsLaterLine}
 use Rattle.gl_wire.specs.Wire.{carried, line_at, row_at, tuple_at, widths}
 use Rattle.gl_wire.proofs.ColumnLemmas.{bus_kept, wire_kept}
-use Rattle.gl_registers.specs.Held.{counted_down, held_at}
-use Rattle.gl_registers.specs.Lines.{carried_of, line_of}
-use Rattle.gl_registers.specs.Rows.{AddsWires}
-use Rattle.gl_registers.proofs.LineLemmas.{line_of-first}
+use Rattle.gl_wire_registers.specs.Held.{counted_down, held_at}
+use Rattle.gl_wire_registers.specs.Lines.{carried_of, line_of}
+use Rattle.gl_wire_registers.specs.Rows.{AddsWires}
+use Rattle.gl_wire_registers.proofs.LineLemmas.{line_of-first}
 use Rattle.gl_groups.specs.declared.front.Ending.{Ending}
 use Rattle.gl_groups.specs.declared.front.Lookup.{Lookup}
 use Rattle.gl_groups.specs.declared.parts.Flush.{Flush}

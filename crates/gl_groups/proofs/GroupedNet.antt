@@ -14,11 +14,11 @@ use Rattle.gl_wire.specs.Spills.{SameLines, both_lines}
 use Rattle.gl_wire.specs.Wire.{Carried, IsWire, carried, line_at}
 use Rattle.gl_wire.proofs.ColumnLemmas.{bus_kept, wire_kept, bit_kept}
 use Rattle.gl_wire.proofs.FaultLemmas.{lines_kept}
-use Rattle.gl_copies.specs.Lift.{tuple_of_any}
-use Rattle.gl_copies.proofs.NumberLemmas.{all_turns}
-use Rattle.gl_copies.specs.Rotates.{lines_of_all}
-use Rattle.gl_registers.specs.Lines.{carried_of}
-use Rattle.gl_registers.specs.Timers.{IsClose, IsCloseLine}
+use Rattle.gl_wire_copies.specs.Lift.{tuple_of_any}
+use Rattle.gl_wire_copies.proofs.NumberLemmas.{all_turns}
+use Rattle.gl_wire_copies.specs.Rotates.{lines_of_all}
+use Rattle.gl_wire_registers.specs.Lines.{carried_of}
+use Rattle.gl_wire_registers.specs.Timers.{IsClose, IsCloseLine}
 use Rattle.gl_groups.specs.declared.front.Front.{Front}
 use Rattle.gl_groups.specs.declared.grouping.Fronted.{Fronted}
 use Rattle.gl_groups.specs.declared.grouping.Grouping.{Grouping}
@@ -28,7 +28,7 @@ use Rattle.gl_groups.specs.Fronts.{AddsFront, IsFront}
 use Rattle.gl_groups.specs.Grouped.{Fronts, IsBacked, IsFronted, columns_with_key, key_width}
 use Rattle.gl_groups.specs.Groupings.{AwaitsFlush, IsGrouping, close_cycles, close_delay, key_of, line_of_further, with_keys}
 use Rattle.gl_groups.specs.Joins.{AreKeyBuses, JoinsAll, width_of_keys}
-use Rattle.gl_registers.specs.Joins.{columns_of, gives_of, told_of}
+use Rattle.gl_wire_registers.specs.Joins.{columns_of, gives_of, told_of}
 use Rattle.gl_groups.specs.Slots.{AreSlots}
 use Rattle.gl_groups.proofs.Setting.{Setting}
 use Rattle.gl_groups.proofs.FurtherLemmas.{further_came}

@@ -16,17 +16,17 @@ use Rattle.gl_wire.specs.Wire.{AreBuses, Carried, IsWire, carried, line_at, row_
 use Rattle.gl_wire.proofs.ColumnLemmas.{bus_kept, buses_kept}
 use Rattle.gl_wire.proofs.FaultLemmas.{lines_kept}
 use Rattle.gl_wire.proofs.StageLemmas.{delayed_same}
-use Rattle.gl_copies.specs.Lift.{first_of, tuple_of_any}
-use Rattle.gl_copies.specs.Rotates.{lines_of_all}
-use Rattle.gl_registers.specs.Backs.{AreWires, JoinsCopies}
-use Rattle.gl_registers.specs.Held.{held_at}
-use Rattle.gl_registers.specs.Lines.{carried_of}
-use Rattle.gl_registers.proofs.RowLemmas.{carried_of-get}
-use Rattle.gl_registers.proofs.JoinLemmas.{or_more, copies_kept, columns_at}
+use Rattle.gl_wire_copies.specs.Lift.{first_of, tuple_of_any}
+use Rattle.gl_wire_copies.specs.Rotates.{lines_of_all}
+use Rattle.gl_wire_registers.specs.Backs.{AreWires, JoinsCopies}
+use Rattle.gl_wire_registers.specs.Held.{held_at}
+use Rattle.gl_wire_registers.specs.Lines.{carried_of}
+use Rattle.gl_wire_registers.proofs.RowLemmas.{carried_of-get}
+use Rattle.gl_wire_registers.proofs.JoinLemmas.{or_more, copies_kept, columns_at}
 use Rattle.gl_groups.specs.Chain.{held_of}
 use Rattle.gl_groups.specs.Groupings.{in_front, with_keys}
 use Rattle.gl_groups.specs.Joins.{AreKeyBuses, AreKeyed, JoinsAll, JoinsFaults, keyed_wire, width_of_keys}
-use Rattle.gl_registers.specs.Joins.{AreCopies, JoinsLines, columns_of, gives_of, told_of, wires_of}
+use Rattle.gl_wire_registers.specs.Joins.{AreCopies, JoinsLines, columns_of, gives_of, told_of, wires_of}
 use Rattle.gl_groups.proofs.ChainLemmas.{held_of-get}
 
 -- ---- lines

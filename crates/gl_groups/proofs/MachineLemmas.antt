@@ -7,7 +7,7 @@ use Rattle.std.proofs.lemmas.Bool.Decides.{eqb_tells}
 use Rattle.std.proofs.Math.Bool.{and-true, and-false}
 use Rattle.gl_bits.specs.Results.{Row}
 use Rattle.gl_bits.proofs.Bools.{same_test}
-use Rattle.gl_registers.specs.Held.{counted_down}
+use Rattle.gl_wire_registers.specs.Held.{counted_down}
 use Rattle.gl_groups.specs.Seeking.{Sought, asked, has, kept, matches, takes}
 use Rattle.gl_groups.specs.Slots.{Slots, is_further, keys_now, of_slot, same_key, slot_ends, slot_now, slot_takes, slots_next, with_tuple}
 use Rattle.gl_groups.specs.Values.{Cycle, Mirrors, Steps, Values, at_of, due_of, end_of, sought_of, tail_of, valid_of}

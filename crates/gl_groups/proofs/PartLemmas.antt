@@ -15,12 +15,12 @@ use Rattle.gl_wire.specs.Costs.{Costs, nodes_alone}
 use Rattle.gl_wire.specs.Wire.{AreBuses, line_at, row_at, widths}
 use Rattle.gl_wire.proofs.ColumnLemmas.{buses_kept, row_at-value}
 use Rattle.gl_wire.proofs.GateLemmas.{choose_line}
-use Rattle.gl_registers.specs.Counters.{IsCounter}
-use Rattle.gl_registers.specs.Held.{counted_down, held_at}
-use Rattle.gl_registers.specs.declared.lines.LineOp.TheVariants.{Both, Either}
-use Rattle.gl_registers.specs.Lines.{AddsLines, line_of, pairs, with_line}
-use Rattle.gl_registers.specs.Numbers.{IsNumberOr}
-use Rattle.gl_registers.specs.Rows.{HoldsRow}
+use Rattle.gl_wire_registers.specs.Counters.{IsCounter}
+use Rattle.gl_wire_registers.specs.Held.{counted_down, held_at}
+use Rattle.gl_wire_registers.specs.declared.lines.LineOp.TheVariants.{Both, Either}
+use Rattle.gl_wire_registers.specs.Lines.{AddsLines, line_of, pairs, with_line}
+use Rattle.gl_wire_registers.specs.Numbers.{IsNumberOr}
+use Rattle.gl_wire_registers.specs.Rows.{HoldsRow}
 use Rattle.gl_groups.specs.declared.parts.Turns.{Turns}
 use Rattle.gl_groups.specs.Fronts.{AddsEnding, AddsLookup, column_of}
 use Rattle.gl_groups.specs.Parts.{AddsTurns, IsTurns, TakesOf, turned_at, turned_to}

@@ -2,7 +2,7 @@
 use Rattle.std.specs.Prelude.{ℕ, ◌+◌, ◌-◌, ◌*◌, ◌≤◌}
 use Rattle.gl_bits.specs.Results.{Row}
 use Rattle.gl_wire.specs.Wire.{Carried}
-use Rattle.gl_copies.specs.Timed.{Timed}
+use Rattle.gl_wire_copies.specs.Timed.{Timed}
 use Rattle.gl_groups.specs.Slots.{AreSlots}
 
 pub record Setting : Type 0 where

@@ -8,8 +8,8 @@ use Rattle.gl_net.specs.Net.{Net, Run, IsRun, IsBit, IsBus, Keeps}
 use Rattle.gl_wire.specs.declared.wire.Wire.{Wire}
 use Rattle.gl_wire.specs.Costs.{Costs}
 use Rattle.gl_wire.specs.Wire.{AreBuses, IsWire, carried, line_at, row_at, widths}
-use Rattle.gl_registers.specs.Held.{counted_down, held_at, with_registers}
-use Rattle.gl_registers.specs.Lines.{AreBits, carried_of, line_of}
+use Rattle.gl_wire_registers.specs.Held.{counted_down, held_at, with_registers}
+use Rattle.gl_wire_registers.specs.Lines.{AreBits, carried_of, line_of}
 use Rattle.gl_groups.specs.declared.front.Ending.{Ending}
 use Rattle.gl_groups.specs.declared.front.Front.{Front}
 use Rattle.gl_groups.specs.declared.front.Lookup.{Lookup}

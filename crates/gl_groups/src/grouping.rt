@@ -6,14 +6,14 @@ ghost use Rattle.gl_wire.specs.Faults.{AreLines};
 ghost use Rattle.gl_wire.specs.Wire.{IsWire};
 ghost use Rattle.gl_groups.specs.Grouped.{Fronts, IsBacked, IsFronted};
 ghost use Rattle.gl_groups.specs.Groupings.{IsGrouping, close_cycles};
-ghost use Rattle.gl_registers.specs.Joins.{AreCopies};
+ghost use Rattle.gl_wire_registers.specs.Joins.{AreCopies};
 
 use crate::front::put_front;
 use crate::joins::join_all;
 use gl_algebra::Figures;
 use gl_bits::Memory;
 use gl_net::{Bit, Buses, NetBuilder};
-use gl_registers::{Wires, close_line};
+use gl_wire_registers::{Wires, close_line};
 use gl_wire::Emitted;
 use std::alloc::Global;
 

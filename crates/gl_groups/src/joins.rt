@@ -4,11 +4,11 @@ ghost use Rattle.std.specs.Prelude.{◌≡◌, ◌≤◌, ◌∷◌, IfOk, lengt
 ghost use Rattle.gl_net.specs.Net.{IsBit};
 ghost use Rattle.gl_wire.specs.Faults.{AreLines};
 ghost use Rattle.gl_groups.specs.Joins.{AreKeyBuses, AreKeyed, JoinsAll, JoinsFaults, keyed_wire};
-ghost use Rattle.gl_registers.specs.Joins.{AreCopies, HaveLines};
+ghost use Rattle.gl_wire_registers.specs.Joins.{AreCopies, HaveLines};
 
 use gl_bits::Memory;
 use gl_net::{Bit, Bus, Buses, NetBuilder};
-use gl_registers::{Wires, join_copies, join_lines};
+use gl_wire_registers::{Wires, join_copies, join_lines};
 use gl_wire::{Emitted, Faults, Wire, both_faults};
 use std::alloc::Global;
 

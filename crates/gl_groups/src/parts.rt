@@ -2,12 +2,12 @@
 
 ghost use Rattle.std.specs.Prelude.{◌≡◌, ◌<◌, ◌≤◌, IfOk, length};
 ghost use Rattle.gl_net.specs.Net.{IsBit, IsBus};
-ghost use Rattle.gl_registers.specs.Lines.{AddsLine, AddsLines, AreBits};
+ghost use Rattle.gl_wire_registers.specs.Lines.{AddsLine, AddsLines, AreBits};
 ghost use Rattle.gl_groups.specs.Parts.{AddsFlush, AddsTail, AddsTurns, TakesOf, turned_at, turned_to};
 
 use gl_bits::Memory;
 use gl_net::{Bit, Bus, NetBuilder};
-use gl_registers::{Bits, LineOp, count_down, latch, number_or, pairwise, when_equal, with_all};
+use gl_wire_registers::{Bits, LineOp, count_down, latch, number_or, pairwise, when_equal, with_all};
 use gl_wire::{both, but_not, either};
 use std::alloc::Global;
 
@@ -133,7 +133,7 @@ pub fn turn_lines(
 }
 
 /// For each slot whether it takes the row: one with its key a tuple without the end, and the one that ends what came with the end.
-#[tactic(auto, using(gl_registers::proofs::LineLemmas::bits_kept))]
+#[tactic(auto, using(gl_wire_registers::proofs::LineLemmas::bits_kept))]
 pub fn take_rows(
     alloc: Global,
     net: &mut NetBuilder,

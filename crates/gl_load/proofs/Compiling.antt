@@ -20,15 +20,15 @@ use Rattle.gl_query_judge.proofs.Judged.{one_meaning}
 use Rattle.gl_figures.specs.declared.Limit.{Limit}
 use Rattle.gl_elaborate.specs.Figures.{query_figures}
 use Rattle.gl_elaborate.specs.Plans.{placed, plan_of, stream_node}
-use Rattle.gl_planner.specs.Planned.{IsWithinLimits}
-use Rattle.gl_planner.proofs.LimitLemmas.{one_limit}
-use Rattle.gl_compiler.specs.declared.compiling.Compiled.{Compiled}
+use Rattle.gl_elaborate_plan.specs.Planned.{IsWithinLimits}
+use Rattle.gl_elaborate_plan.proofs.LimitLemmas.{one_limit}
+use Rattle.gl_compiler_text.specs.declared.compiling.Compiled.{Compiled}
 use Rattle.gl_query_compiler.specs.declared.fault.CompileFault.{CompileFault}
 use Rattle.gl_query_compiler.specs.declared.fault.CompileFault.TheVariants as compile
-use Rattle.gl_compiler.specs.Built.{gap_of, latency_of}
+use Rattle.gl_compiler_text.specs.Built.{gap_of, latency_of}
 use Rattle.gl_query_judge.specs.Limits.{IsOverLimit}
 use Rattle.gl_query_compiler.specs.Queries.{IsQuery, IsQueryRefused}
-use Rattle.gl_compiler.specs.Meets.{Meets, result_columns}
+use Rattle.gl_compiler_text.specs.Meets.{Meets, result_columns}
 use Rattle.gl_load.specs.Query.{load_schema, query_text}
 use Rattle.gl_load.specs.Loads.{IsCompiledLoad}
 use Rattle.gl_load.proofs.Constants.{load_tree, query_faultless, query_has}

@@ -19,7 +19,7 @@ use Rattle.gl_bits.specs.Limits.{most_weight}
 use Rattle.gl_elaborate.specs.Levels.{level_of}
 use Rattle.gl_elaborate.specs.Figures.{query_figures}
 use Rattle.gl_elaborate.specs.Plans.{placed, stream_node}
-use Rattle.gl_planner.specs.Planned.{IsWithinLimits}
+use Rattle.gl_elaborate_plan.specs.Planned.{IsWithinLimits}
 use Rattle.gl_load.specs.Query.{load_schema}
 use Rattle.gl_load.proofs.Constants.{load_tree}
 

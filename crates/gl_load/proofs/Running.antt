@@ -7,10 +7,10 @@ use Rattle.gl_schema.specs.Schemas.{kinds_of}
 use Rattle.gl_schema.specs.Beats.{Beat, AreBeats, KeepsGap}
 use Rattle.gl_verilog_orders.specs.declared.start.Start.TheVariants.{Zero}
 use Rattle.gl_figures.specs.declared.Printed.{Printed}
-use Rattle.gl_compiler.specs.declared.compiling.Compiled.{Compiled}
+use Rattle.gl_compiler_text.specs.declared.compiling.Compiled.{Compiled}
 use Rattle.gl_runner.specs.declared.executing.Outcome.TheVariants.{Done}
-use Rattle.gl_compiler.specs.Built.{gap_of}
-use Rattle.gl_compiler.specs.Meets.{Meets, result_columns}
+use Rattle.gl_compiler_text.specs.Built.{gap_of}
+use Rattle.gl_compiler_text.specs.Meets.{Meets, result_columns}
 use Rattle.gl_runner.specs.Prints.{CanRun, OfEachRun, Ran, Writes}
 use Rattle.gl_load.specs.Query.{load_schema}
 use Rattle.gl_load.proofs.Constants.{schema_spelled}

@@ -7,8 +7,8 @@ use Rattle.gl_schema.specs.Schemas.{IsSchema, kinds_of}
 use Rattle.gl_schema.specs.Beats.{Beat, AreBeats, KeepsGap}
 use Rattle.gl_query.specs.declared.tree.Statement.{Statement}
 use Rattle.gl_verilog_orders.specs.declared.start.Start.{Start}
-use Rattle.gl_compiler.specs.Meets.{Meets, result_columns}
-use Rattle.gl_compiler.proofs.Ports.{ports_fit, widths_are}
+use Rattle.gl_compiler_text.specs.Meets.{Meets, result_columns}
+use Rattle.gl_compiler_text.proofs.Ports.{ports_fit, widths_are}
 use Rattle.gl_runner.specs.Prints.{CanRun}
 
 pub can_run : (schema : Schema) (statement : Statement) (latency gap : ℕ) (text : List ℕ) (kinds : List Kind) (beats : List Beat) (start : Start)

@@ -6,10 +6,10 @@ use Rattle.gl_schema.specs.Schemas.{kinds_of}
 use Rattle.gl_schema.specs.Beats.{Beat}
 use Rattle.gl_query.specs.declared.tree.Statement.{Statement}
 use Rattle.gl_verilog_orders.specs.declared.start.Start.TheVariants.{Zero}
-use Rattle.gl_compiler.specs.declared.compiling.Compiled.{Compiled}
-use Rattle.gl_compiler.specs.Built.{gap_of, latency_of}
+use Rattle.gl_compiler_text.specs.declared.compiling.Compiled.{Compiled}
+use Rattle.gl_compiler_text.specs.Built.{gap_of, latency_of}
 use Rattle.gl_query_compiler.specs.Queries.{IsQuery}
-use Rattle.gl_compiler.specs.Meets.{Meets, result_columns}
+use Rattle.gl_compiler_text.specs.Meets.{Meets, result_columns}
 use Rattle.gl_runner.specs.Prints.{AreLinesOf, OfEachRun}
 use Rattle.gl_load.specs.Query.{load_schema, query_text}
 use Rattle.gl_load.specs.Tuples.{load_beats}

@@ -10,7 +10,7 @@ use crate::summary::summary_of;
 use crate::text_sink::TextSink;
 use crate::tuples::load_beats;
 use gl_bits::Memory;
-use gl_compiler::Compiled;
+use gl_compiler_text::Compiled;
 use crate::{query_text, schema_text};
 use gl_query_compiler::{CompileFault, compile_query};
 use gl_runner::{Outcome, execute};

@@ -10,15 +10,15 @@ use Rattle.gl_query.specs.declared.tree.Statement.{Statement}
 use Rattle.gl_query.specs.Shapes.{query_shape}
 use Rattle.gl_query.proofs.Real.{real_columns}
 use Rattle.gl_query_judge.specs.Judged.{IsAcceptedText}
-use Rattle.gl_compiler.specs.declared.compiling.Compiled.{Compiled}
+use Rattle.gl_compiler_text.specs.declared.compiling.Compiled.{Compiled}
 use Rattle.gl_algebra.specs.Added.{placed_at}
 use Rattle.gl_algebra.specs.Small.{AreFigures}
 use Rattle.gl_elaborate.specs.Plans.{plan_of}
-use Rattle.gl_compiler.specs.Compiles.{HasCost, IsCompiled}
-use Rattle.gl_compiler.specs.Meets.{Meets, result_columns}
-use Rattle.gl_compiler.specs.Built.{copies_of, gap_of, latency_of}
+use Rattle.gl_compiler_text.specs.Compiles.{HasCost, IsCompiled}
+use Rattle.gl_compiler_text.specs.Meets.{Meets, result_columns}
+use Rattle.gl_compiler_text.specs.Built.{copies_of, gap_of, latency_of}
 use Rattle.gl_query_compiler.specs.Queries.{IsQuery, TellsCauses}
-use Rattle.gl_compiler.proofs.KnownOf.{all_kinds}
+use Rattle.gl_compiler_text.proofs.KnownOf.{all_kinds}
 use Rattle.gl_query_compiler.proofs.Refusing.{tells_none}
 
 -- a query of the text over the schema is compiled

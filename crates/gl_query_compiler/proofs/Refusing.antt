@@ -12,16 +12,16 @@ use Rattle.gl_query_judge.proofs.Judged.{one_meaning, one_fault, accepted_goes}
 use Rattle.gl_algebra.specs.Added.{Placed}
 use Rattle.gl_figures.specs.declared.Limit.{Limit}
 use Rattle.gl_elaborate.specs.Plans.{plan_of}
-use Rattle.gl_planner.specs.declared.planning.PlanFault.{PlanFault}
-use Rattle.gl_planner.specs.declared.planning.PlanFault.TheVariants as plan
-use Rattle.gl_planner.specs.Planned.{IsWithinLimits, PassesLimit, PassesOr}
-use Rattle.gl_planner.proofs.LimitLemmas.{one_limit}
-use Rattle.gl_compiler.specs.declared.compiling.Compiled.{Compiled}
+use Rattle.gl_elaborate_plan.specs.declared.planning.PlanFault.{PlanFault}
+use Rattle.gl_elaborate_plan.specs.declared.planning.PlanFault.TheVariants as plan
+use Rattle.gl_elaborate_plan.specs.Planned.{IsWithinLimits, PassesLimit, PassesOr}
+use Rattle.gl_elaborate_plan.proofs.LimitLemmas.{one_limit}
+use Rattle.gl_compiler_text.specs.declared.compiling.Compiled.{Compiled}
 use Rattle.gl_query_judge.specs.Limits.{IsOverLimit}
 use Rattle.gl_query_compiler.specs.declared.fault.CompileFault.{CompileFault}
 use Rattle.gl_query_compiler.specs.declared.fault.CompileFault.TheVariants as compile
 use Rattle.gl_query_compiler.specs.Queries.{IsQuery, IsQueryRefused, IfRefused, IsTold, TellsCauses, fault_of_plan, fault_of_query}
-use Rattle.gl_compiler.proofs.Shaped.{plans_alike}
+use Rattle.gl_compiler_text.proofs.Shaped.{plans_alike}
 
 -- a fault is answered as it is
 told_as : (f : QueryFault) → f ≢ fault.Memory → fault_of_query f ≡ compile.Query f

@@ -7,7 +7,7 @@ use Rattle.gl_schema.specs.declared.fault.SchemaFault.TheVariants as schema
 use Rattle.gl_schema.specs.SchemaText.{IsSchemaText}
 use Rattle.gl_schema.specs.SchemaFaults.{Fails, IsFirstFault, schema_of}
 use Rattle.gl_schema.proofs.Readings.{not_both, one_schema}
-use Rattle.gl_compiler.specs.declared.compiling.Compiled.{Compiled}
+use Rattle.gl_compiler_text.specs.declared.compiling.Compiled.{Compiled}
 use Rattle.gl_query_compiler.specs.declared.fault.CompileFault.{CompileFault}
 use Rattle.gl_query_compiler.specs.declared.fault.CompileFault.TheVariants as compile
 use Rattle.gl_query_compiler.specs.Queries.{IsQueryRefused, TellsCauses}

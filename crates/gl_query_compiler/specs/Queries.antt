@@ -8,10 +8,10 @@ use Rattle.gl_query.specs.Trees.{statement_tree}
 use Rattle.gl_query_reader.specs.Grammar.{HasStatement}
 use Rattle.gl_query_judge.specs.Judged.{IsQueryFault}
 use Rattle.gl_query_judge.specs.Limits.{IsOverLimit}
-use Rattle.gl_planner.specs.declared.planning.PlanFault.{PlanFault}
-use Rattle.gl_planner.specs.declared.planning.PlanFault.TheVariants as plan
-use Rattle.gl_compiler.specs.declared.compiling.Compiled.{Compiled}
-use Rattle.gl_compiler.specs.Built.{IsBuilt}
+use Rattle.gl_elaborate_plan.specs.declared.planning.PlanFault.{PlanFault}
+use Rattle.gl_elaborate_plan.specs.declared.planning.PlanFault.TheVariants as plan
+use Rattle.gl_compiler_text.specs.declared.compiling.Compiled.{Compiled}
+use Rattle.gl_compiler_text.specs.Built.{IsBuilt}
 use Rattle.gl_query_compiler.specs.declared.fault.CompileFault.{CompileFault}
 use Rattle.gl_query_compiler.specs.declared.fault.CompileFault.TheVariants as compile
 

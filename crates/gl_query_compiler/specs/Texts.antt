@@ -5,8 +5,8 @@ use Rattle.gl_schema.specs.declared.fault.SchemaFault.{SchemaFault}
 use Rattle.gl_schema.specs.declared.fault.SchemaFault.TheVariants as schema
 use Rattle.gl_schema.specs.SchemaText.{IsSchemaText}
 use Rattle.gl_schema.specs.SchemaFaults.{IsFirstFault}
-use Rattle.gl_compiler.specs.declared.compiling.Compiled.{Compiled}
-use Rattle.gl_compiler.specs.Compiles.{IsCompiled}
+use Rattle.gl_compiler_text.specs.declared.compiling.Compiled.{Compiled}
+use Rattle.gl_compiler_text.specs.Compiles.{IsCompiled}
 use Rattle.gl_query_compiler.specs.declared.fault.CompileFault.{CompileFault}
 use Rattle.gl_query_compiler.specs.declared.fault.CompileFault.TheVariants as fault
 use Rattle.gl_query_compiler.specs.Queries.{IfRefused, IsQuery, IsQueryRefused, IsTold}

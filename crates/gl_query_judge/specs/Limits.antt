@@ -4,7 +4,7 @@ use Rattle.gl_schema.specs.declared.schema.Schema.{Schema}
 use Rattle.gl_query.specs.declared.tree.Statement.{Statement}
 use Rattle.gl_figures.specs.declared.Limit.{Limit}
 use Rattle.gl_elaborate.specs.Plans.{plan_of}
-use Rattle.gl_planner.specs.Planned.{PassesLimit}
+use Rattle.gl_elaborate_plan.specs.Planned.{PassesLimit}
 use Rattle.gl_query_judge.specs.Judged.{IsAcceptedText}
 
 -- the text has a statement that is accepted, and its plan passes this limit

@@ -1,8 +1,8 @@
 -- What is answered with the text that is left.
 use Rattle.std.proofs.Common.{◌≡◌, ℕ, List, [], ◌++◌, sym, ap, subst, ◌∙◌}
-use Rattle.gl_notes.specs.declared.status.Status.{Status}
-use Rattle.gl_notes.specs.Refusals.{Puts}
-use Rattle.gl_judging.specs.Causes.{Change}
+use Rattle.gl_top_notes.specs.declared.status.Status.{Status}
+use Rattle.gl_top_notes.specs.Refusals.{Puts}
+use Rattle.gl_top_judging.specs.Causes.{Change}
 use Rattle.gl_top.specs.Verdicts.{IsAnswer}
 
 pub kept_text : (old new got text : List ℕ) → old ≡ [] → got ≡ text → new ≡ old ++ got → text ≡ new

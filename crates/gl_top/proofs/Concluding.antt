@@ -3,17 +3,17 @@ use Rattle.std.proofs.Common.{◌≡◌, ◌≢◌, ◌⊎◌, ℕ, List, [], Op
 use Rattle.gl_outside.specs.Counts.{Rose}
 use Rattle.gl_schema.specs.declared.schema.Schema.{Schema}
 use Rattle.gl_query.specs.declared.tree.Statement.{Statement}
-use Rattle.gl_notes.specs.declared.notes.Refusal.{Refusal}
-use Rattle.gl_notes.specs.declared.notes.Refusal.TheVariants as refusal
-use Rattle.gl_notes.specs.declared.status.Status.{Status}
-use Rattle.gl_notes.specs.declared.status.Status.TheVariants as status
+use Rattle.gl_top_notes.specs.declared.notes.Refusal.{Refusal}
+use Rattle.gl_top_notes.specs.declared.notes.Refusal.TheVariants as refusal
+use Rattle.gl_top_notes.specs.declared.status.Status.{Status}
+use Rattle.gl_top_notes.specs.declared.status.Status.TheVariants as status
 use Rattle.gl_outside.specs.Told.{Told}
-use Rattle.gl_forms.specs.declared.command.Command.{Command}
-use Rattle.gl_forms.specs.declared.command.Command.TheVariants.{Compile, Figures, Explain, Run, Sim, Load}
-use Rattle.gl_forms.specs.declared.command.Part.{Part}
-use Rattle.gl_forms.specs.declared.command.Part.TheVariants as part
-use Rattle.gl_forms.specs.Forms.{IsForm, command_of, extra_of}
-use Rattle.gl_forms.proofs.Named.{form_of, named_form}
+use Rattle.gl_top_words.specs.declared.command.Command.{Command}
+use Rattle.gl_top_words.specs.declared.command.Command.TheVariants.{Compile, Figures, Explain, Run, Sim, Load}
+use Rattle.gl_top_words.specs.declared.command.Part.{Part}
+use Rattle.gl_top_words.specs.declared.command.Part.TheVariants as part
+use Rattle.gl_top_words.specs.Forms.{IsForm, command_of, extra_of}
+use Rattle.gl_top_words.proofs.Named.{form_of, named_form}
 use Rattle.gl_outside.specs.States.{IsCalm, Took}
 use Rattle.gl_verilog_orders.specs.declared.start.Start.TheVariants.{Zero}
 use Rattle.gl_tuples.specs.declared.beats.Beat.{Beat}
@@ -23,12 +23,12 @@ use Rattle.gl_runner.specs.declared.tracing.Ending.{Ending}
 use Rattle.gl_runner.specs.declared.tracing.Ending.TheVariants as end
 use Rattle.gl_runner.specs.Prints.{HasRunOver}
 use Rattle.gl_runner.specs.Traces.{OfRunsOf, Traced, decimal_kinds}
-use Rattle.gl_judging.specs.Passing.{FilePasses}
-use Rattle.gl_notes.specs.Refusals.{Puts, Notes, status_of, note_of, no_end_line, write_line}
-use Rattle.gl_judging.specs.Causes.{Change, HasCause, IsNext, IsRefused}
+use Rattle.gl_top_judging.specs.Passing.{FilePasses}
+use Rattle.gl_top_notes.specs.Refusals.{Puts, Notes, status_of, note_of, no_end_line, write_line}
+use Rattle.gl_top_judging.specs.Causes.{Change, HasCause, IsNext, IsRefused}
 use Rattle.gl_top.specs.Shown.{Shows}
 use Rattle.gl_top.specs.Verdicts.{AllPass, OfFile, Three, Completes, Whole, NoMemory, Endless, IsAnswer, Ran, Broke', Traced', Shown, Cut, Ended, IsEndless, IsGiven, OfLoad, OfTexts, IsTelling, TellsEnding, Yields, Same, ToRead, ToWrite, ToMemory, IsFaultless, Says, TellsRefusal}
-use Rattle.gl_judging.proofs.Texts.{next_form}
+use Rattle.gl_top_judging.proofs.Texts.{next_form}
 use Rattle.gl_top.proofs.Deciding.{Stops, formed, load_goes, one_refusal, stops, passes_goes, two_go}
 
 noted_write : (own answered : Status) (line : List ℕ) (notes : Puts) → own ≡ status.WriteFault → Notes own line notes answered → answered ≡ status.WriteFault

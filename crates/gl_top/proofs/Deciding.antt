@@ -20,28 +20,28 @@ use Rattle.gl_tuples.specs.declared.fault.TupleFault.{TupleFault}
 use Rattle.gl_tuple_reader.specs.Filing.{beats_of, records_of}
 use Rattle.gl_verilog.specs.Module.{Module}
 use Rattle.gl_verilog.specs.Text.{HasModule}
-use Rattle.gl_verilog_written.specs.declared.fault.VerilogFault.{VerilogFault}
-use Rattle.gl_compiler.specs.declared.compiling.Compiled.{Compiled}
-use Rattle.gl_compiler.specs.Built.{gap_of}
+use Rattle.gl_verilog_syntax.specs.declared.fault.VerilogFault.{VerilogFault}
+use Rattle.gl_compiler_text.specs.declared.compiling.Compiled.{Compiled}
+use Rattle.gl_compiler_text.specs.Built.{gap_of}
 use Rattle.gl_query_judge.specs.Limits.{IsOverLimit}
 use Rattle.gl_query_compiler.specs.Queries.{IsQuery}
 use Rattle.gl_query_compiler.specs.declared.fault.CompileFault.{CompileFault}
 use Rattle.gl_query_compiler.specs.declared.fault.CompileFault.TheVariants as compile
 use Rattle.gl_query_compiler.proofs.Refusing.{over_goes, query_accepted, tells_of}
-use Rattle.gl_compiler.proofs.Shaped.{shapes_alike}
-use Rattle.gl_forms.specs.declared.command.Command.TheVariants as command
-use Rattle.gl_forms.specs.declared.command.Part.{Part}
-use Rattle.gl_forms.specs.declared.command.Part.TheVariants as part
-use Rattle.gl_notes.specs.declared.notes.Refusal.{Refusal}
-use Rattle.gl_notes.specs.declared.notes.Refusal.TheVariants as refusal
-use Rattle.gl_forms.specs.Forms.{IsCommand, IsForm, IsLoadOf, IsNamed, command_of, name_of}
-use Rattle.gl_texts.specs.Texts.{SchemaPasses}
-use Rattle.gl_judging.specs.Passing.{QueryPasses, TuplesPass, ModulePasses, FilePasses, kept_beats}
-use Rattle.gl_judging.specs.Causes.{PassBeforeTuples, OfRun, OfSim, ToRun, ToSim, IsModuleFault, IsRefused}
+use Rattle.gl_compiler_text.proofs.Shaped.{shapes_alike}
+use Rattle.gl_top_words.specs.declared.command.Command.TheVariants as command
+use Rattle.gl_top_words.specs.declared.command.Part.{Part}
+use Rattle.gl_top_words.specs.declared.command.Part.TheVariants as part
+use Rattle.gl_top_notes.specs.declared.notes.Refusal.{Refusal}
+use Rattle.gl_top_notes.specs.declared.notes.Refusal.TheVariants as refusal
+use Rattle.gl_top_words.specs.Forms.{IsCommand, IsForm, IsLoadOf, IsNamed, command_of, name_of}
+use Rattle.gl_top_texts.specs.Texts.{SchemaPasses}
+use Rattle.gl_top_judging.specs.Passing.{QueryPasses, TuplesPass, ModulePasses, FilePasses, kept_beats}
+use Rattle.gl_top_judging.specs.Causes.{PassBeforeTuples, OfRun, OfSim, ToRun, ToSim, IsModuleFault, IsRefused}
 use Rattle.gl_top.specs.Verdicts.{AllPass, IsTelling, Loads, OfFile, Three, Two}
-use Rattle.gl_forms.proofs.Named.{form_of, load_names_none, named_form, one_command, sim_names_no_query}
-use Rattle.gl_judging.proofs.Modules.{module_goes, one_module_fault}
-use Rattle.gl_judging.proofs.Texts.{run_names_tuples, sim_names_module, sim_names_tuples}
+use Rattle.gl_top_words.proofs.Named.{form_of, load_names_none, named_form, one_command, sim_names_no_query}
+use Rattle.gl_top_judging.proofs.Modules.{module_goes, one_module_fault}
+use Rattle.gl_top_judging.proofs.Texts.{run_names_tuples, sim_names_module, sim_names_tuples}
 
 -- a text of at most 64 MiB with a property
 abbrev pub Fine : Told → (List ℕ → Type 0) → Type 0

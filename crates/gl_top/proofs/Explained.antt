@@ -3,17 +3,17 @@ use Rattle.std.proofs.Common.{◌≡◌, ℕ, List, [], refl}
 use Rattle.gl_outside.specs.States.{IsCalm}
 use Rattle.gl_outside.specs.Told.{Told}
 use Rattle.gl_schema.specs.declared.schema.Schema.{Schema}
-use Rattle.gl_forms.specs.declared.command.Command.TheVariants.{Explain}
-use Rattle.gl_forms.specs.declared.command.Part.TheVariants as part
-use Rattle.gl_forms.specs.Forms.{IsCommand}
-use Rattle.gl_notes.specs.declared.notes.Refusal.{Refusal}
-use Rattle.gl_notes.specs.declared.notes.Refusal.TheVariants as refusal
-use Rattle.gl_texts.specs.Texts.{HasText, SchemaPasses}
-use Rattle.gl_judging.specs.Causes.{Change, HasCause}
+use Rattle.gl_top_words.specs.declared.command.Command.TheVariants.{Explain}
+use Rattle.gl_top_words.specs.declared.command.Part.TheVariants as part
+use Rattle.gl_top_words.specs.Forms.{IsCommand}
+use Rattle.gl_top_notes.specs.declared.notes.Refusal.{Refusal}
+use Rattle.gl_top_notes.specs.declared.notes.Refusal.TheVariants as refusal
+use Rattle.gl_top_texts.specs.Texts.{HasText, SchemaPasses}
+use Rattle.gl_top_judging.specs.Causes.{Change, HasCause}
 use Rattle.gl_query_compiler.specs.Queries.{IsQuery}
-use Rattle.gl_query_explainer.specs.Explaining.{IsExplained, IsExplainRefused}
+use Rattle.gl_top_explain.specs.Explaining.{IsExplained, IsExplainRefused}
 use Rattle.gl_top.specs.Shown.{IsShownOf}
-use Rattle.gl_judging.proofs.Texts.{bad_query, explain_names_query, over_limit, query_passes}
+use Rattle.gl_top_judging.proofs.Texts.{bad_query, explain_names_query, over_limit, query_passes}
 
 -- what is explained is compiled
 is_query : (s : Schema) (v bytes : List ℕ) (e : IsExplained s v bytes) → IsQuery s v e.statement

@@ -8,15 +8,15 @@ use Rattle.gl_verilog_orders.specs.declared.start.Start.{Start}
 use Rattle.gl_figures.specs.declared.Printed.{Printed}
 use Rattle.gl_tuples.specs.declared.beats.Beat as files
 use Rattle.gl_tuples.specs.Gaps.{AreFileBeats, plain_beats}
-use Rattle.gl_compiler.specs.declared.compiling.Compiled.{Compiled}
-use Rattle.gl_compiler.specs.Built.{gap_of}
-use Rattle.gl_compiler.specs.Meets.{Meets, result_columns}
+use Rattle.gl_compiler_text.specs.declared.compiling.Compiled.{Compiled}
+use Rattle.gl_compiler_text.specs.Built.{gap_of}
+use Rattle.gl_compiler_text.specs.Meets.{Meets, result_columns}
 use Rattle.gl_outside.specs.States.{SinkState}
 use Rattle.gl_runner.specs.declared.executing.Outcome.{Outcome}
 use Rattle.gl_runner.specs.Prints.{CanRun, OfEachRun, Ran}
 use Rattle.gl_load.proofs.Runs.{can_run}
 use Rattle.gl_top.specs.Verdicts.{RanLines}
-use Rattle.gl_judging.specs.Passing.{IsCompiled}
+use Rattle.gl_top_judging.specs.Passing.{IsCompiled}
 
 -- the text of a compiled query can be run over beats that keep the gap
 pub can_run_all : (c : Compiled) (beats : List files.Beat) (text : List ℕ) (schema : Schema) (kinds : List Kind) (printed : Printed) (start : Start) → IsCompiled c → AreFileBeats c.schema beats → KeepsGap (gap_of c.schema c.statement) (plain_beats beats)

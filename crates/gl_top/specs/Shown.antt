@@ -5,13 +5,13 @@ use Rattle.gl_schema.specs.declared.schema.Schema.{Schema}
 use Rattle.gl_query.specs.declared.tree.Statement.{Statement}
 use Rattle.gl_elaborate.specs.Plans.{plan_of}
 use Rattle.gl_explain.specs.Lines.{plan_text}
-use Rattle.gl_compiler.specs.Built.{latency_of, gap_of}
-use Rattle.gl_compiler.specs.Meets.{Meets}
-use Rattle.gl_forms.specs.declared.command.Command.{Command}
-use Rattle.gl_forms.specs.declared.command.Command.TheVariants.{Compile, Figures, Explain, Run, Sim, Load}
-use Rattle.gl_forms.specs.Forms.{IsCommand}
-use Rattle.gl_judging.specs.Figuring.{IsFigured}
-use Rattle.gl_judging.specs.Passing.{QueryPasses}
+use Rattle.gl_compiler_text.specs.Built.{latency_of, gap_of}
+use Rattle.gl_compiler_text.specs.Meets.{Meets}
+use Rattle.gl_top_words.specs.declared.command.Command.{Command}
+use Rattle.gl_top_words.specs.declared.command.Command.TheVariants.{Compile, Figures, Explain, Run, Sim, Load}
+use Rattle.gl_top_words.specs.Forms.{IsCommand}
+use Rattle.gl_top_judging.specs.Figuring.{IsFigured}
+use Rattle.gl_top_judging.specs.Passing.{QueryPasses}
 
 -- what a command other than `run`, `sim` and `load` writes of a statement, and the text that it leaves: the Verilog text, which meets the statement; the
 -- figures that are printed for it and what it costs; or the statement and its plan

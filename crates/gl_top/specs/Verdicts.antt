@@ -11,8 +11,8 @@ use Rattle.gl_verilog_orders.specs.declared.start.Start.{Start}
 use Rattle.gl_verilog_orders.specs.declared.start.Start.TheVariants.{Zero}
 use Rattle.gl_tuples.specs.declared.beats.Beat.{Beat}
 use Rattle.gl_tuples.specs.Gaps.{plain_beats}
-use Rattle.gl_compiler.specs.Built.{latency_of, gap_of}
-use Rattle.gl_compiler.specs.Meets.{Meets, result_columns}
+use Rattle.gl_compiler_text.specs.Built.{latency_of, gap_of}
+use Rattle.gl_compiler_text.specs.Meets.{Meets, result_columns}
 use Rattle.gl_runner.specs.declared.executing.Outcome.{Outcome}
 use Rattle.gl_runner.specs.Prints.{HasRunOver, OfEachRun, Writes, WritesFront}
 use Rattle.gl_runner.specs.Prints as prints
@@ -20,23 +20,23 @@ use Rattle.gl_runner.specs.declared.tracing.Ending.{Ending}
 use Rattle.gl_runner.specs.declared.tracing.Ending.TheVariants as end
 use Rattle.gl_runner.specs.Traces.{OfRunsOf, Traced, TracesOut, decimal_kinds}
 use Rattle.gl_verilog.specs.Module.{Module}
-use Rattle.gl_verilog_written.specs.declared.fault.VerilogFault.{VerilogFault}
-use Rattle.gl_forms.specs.declared.command.Part.{Part}
-use Rattle.gl_notes.specs.declared.notes.Refusal.{Refusal}
-use Rattle.gl_notes.specs.declared.status.Status.{Status}
-use Rattle.gl_notes.specs.declared.status.Status.TheVariants.{Done, WriteFault, ReadFault, Memory}
-use Rattle.gl_notes.specs.declared.status.Status.TheVariants as status
-use Rattle.gl_notes.specs.declared.notes.Refusal.TheVariants as refusal
+use Rattle.gl_verilog_syntax.specs.declared.fault.VerilogFault.{VerilogFault}
+use Rattle.gl_top_words.specs.declared.command.Part.{Part}
+use Rattle.gl_top_notes.specs.declared.notes.Refusal.{Refusal}
+use Rattle.gl_top_notes.specs.declared.status.Status.{Status}
+use Rattle.gl_top_notes.specs.declared.status.Status.TheVariants.{Done, WriteFault, ReadFault, Memory}
+use Rattle.gl_top_notes.specs.declared.status.Status.TheVariants as status
+use Rattle.gl_top_notes.specs.declared.notes.Refusal.TheVariants as refusal
 use Rattle.gl_schema.specs.declared.fault.SchemaFault.{SchemaFault}
 use Rattle.gl_query.specs.declared.fault.QueryFault.{QueryFault}
 use Rattle.gl_tuples.specs.declared.fault.TupleFault.{TupleFault}
-use Rattle.gl_forms.specs.declared.command.Command.TheVariants.{Run}
-use Rattle.gl_forms.specs.Forms.{IsForm, IsLoadOf, IsNamed, command_of, extra_of, name_of, start_of}
+use Rattle.gl_top_words.specs.declared.command.Command.TheVariants.{Run}
+use Rattle.gl_top_words.specs.Forms.{IsForm, IsLoadOf, IsNamed, command_of, extra_of, name_of, start_of}
 use Rattle.gl_load.specs.Loads.{IsLoad}
 use Rattle.gl_top.specs.Shown.{IsShownOf}
-use Rattle.gl_judging.specs.Passing.{QueryPasses, TuplesPass, FilePasses}
-use Rattle.gl_judging.specs.Causes.{Change, HasCause, IsTooLong, IsBadSchema, IsBadQuery, IsOver, IsBadVerilog, IsRefused, AreBadTuples}
-use Rattle.gl_notes.specs.Refusals.{Puts, Notes, status_of, note_of, no_end_line, write_line}
+use Rattle.gl_top_judging.specs.Passing.{QueryPasses, TuplesPass, FilePasses}
+use Rattle.gl_top_judging.specs.Causes.{Change, HasCause, IsTooLong, IsBadSchema, IsBadQuery, IsOver, IsBadVerilog, IsRefused, AreBadTuples}
+use Rattle.gl_top_notes.specs.Refusals.{Puts, Notes, status_of, note_of, no_end_line, write_line}
 
 -- the lines of the run of this text over these beats from this start were written, or a front of them
 abbrev pub WritesLines : Schema → Statement → List Beat → Start → List ℕ → Puts → Type 0

@@ -1,18 +1,18 @@
 //! What `explain` shows of the text of a query.
 
 ghost use Rattle.std.specs.Prelude.{◌≡◌, [], IfOk};
-ghost use Rattle.gl_forms.specs.declared.command.Command.TheVariants.{Explain};
-ghost use Rattle.gl_forms.specs.Forms.{IsCommand};
-ghost use Rattle.gl_judging.specs.Causes.{Leaves};
-ghost use Rattle.gl_texts.specs.Texts.{SchemaPasses};
+ghost use Rattle.gl_top_words.specs.declared.command.Command.TheVariants.{Explain};
+ghost use Rattle.gl_top_words.specs.Forms.{IsCommand};
+ghost use Rattle.gl_top_judging.specs.Causes.{Leaves};
+ghost use Rattle.gl_top_texts.specs.Texts.{SchemaPasses};
 ghost use Rattle.gl_top.specs.Shown.{IsShownOf};
 
-use gl_forms::Part;
-use gl_judging::{judge_schema, text_of};
-use gl_matches::Taken;
-use gl_notes::Refusal;
+use gl_top_words::Part;
+use gl_top_judging::{judge_schema, text_of};
+use gl_top_matches::Taken;
+use gl_top_notes::Refusal;
 use gl_outside::Shelf;
-use gl_query_explainer::explain_query;
+use gl_top_explain::explain_query;
 use gl_schema::Schema;
 use std::alloc::Global;
 

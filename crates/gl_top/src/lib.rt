@@ -1,9 +1,9 @@
 //! All that the program does, over any shelf and any sinks.
 //!
-//! Here belongs what each command does with the texts that gl_judging gives: `compile`, `figures`,
+//! Here belongs what each command does with the texts that gl_top_judging gives: `compile`, `figures`,
 //! `explain`, `run` and `load` on the text that a query is compiled to, `sim` on a given Verilog text.
-//! The words' forms are those of gl_forms, what they say is taken apart by gl_matches, statuses and
-//! notes are those of gl_notes.
+//! The words' forms are those of gl_top_words, what they say is taken apart by gl_top_matches, statuses and
+//! notes are those of gl_top_notes.
 #![tactic(auto)]
 
 mod explaining;
@@ -11,6 +11,6 @@ mod loading;
 pub mod running;
 mod tracing;
 
-pub use gl_forms::Part;
-pub use gl_notes::Status;
+pub use gl_top_words::Part;
+pub use gl_top_notes::Status;
 pub use running::run;

@@ -2,16 +2,16 @@
 
 ghost use Rattle.std.specs.Prelude.{◌≡◌, ◌≤◌, []};
 ghost use Rattle.gl_outside.specs.States.{IsCalm};
-ghost use Rattle.gl_forms.specs.declared.command.Command.TheVariants.{Load};
-ghost use Rattle.gl_forms.specs.Forms.{IsCommand, IsLoadOf};
-ghost use Rattle.gl_judging.specs.Causes.{Change};
-ghost use Rattle.gl_notes.specs.Refusals.{puts};
+ghost use Rattle.gl_top_words.specs.declared.command.Command.TheVariants.{Load};
+ghost use Rattle.gl_top_words.specs.Forms.{IsCommand, IsLoadOf};
+ghost use Rattle.gl_top_judging.specs.Causes.{Change};
+ghost use Rattle.gl_top_notes.specs.Refusals.{puts};
 ghost use Rattle.gl_top.specs.Verdicts.{IsAnswer};
 
 use crate::running::show_text;
 use gl_load::load;
-use gl_matches::Taken;
-use gl_notes::{Refusal, Status, tell};
+use gl_top_matches::Taken;
+use gl_top_notes::{Refusal, Status, tell};
 use gl_outside::Sink;
 use std::alloc::Global;
 

@@ -2,16 +2,16 @@
 
 ghost use Rattle.std.specs.Prelude.{◌≡◌, []};
 ghost use Rattle.gl_outside.specs.States.{IsCalm};
-ghost use Rattle.gl_forms.specs.declared.command.Command.TheVariants.{Sim};
-ghost use Rattle.gl_forms.specs.Forms.{IsCommand};
-ghost use Rattle.gl_judging.specs.Causes.{Change, change};
-ghost use Rattle.gl_judging.specs.Passing.{CanTrace, IsTraceable};
-ghost use Rattle.gl_notes.specs.Refusals.{puts};
+ghost use Rattle.gl_top_words.specs.declared.command.Command.TheVariants.{Sim};
+ghost use Rattle.gl_top_words.specs.Forms.{IsCommand};
+ghost use Rattle.gl_top_judging.specs.Causes.{Change, change};
+ghost use Rattle.gl_top_judging.specs.Passing.{CanTrace, IsTraceable};
+ghost use Rattle.gl_top_notes.specs.Refusals.{puts};
 ghost use Rattle.gl_top.specs.Verdicts.{IsAnswer};
 
-use gl_judging::{Fitted, Simulation, judge_sim};
-use gl_matches::Taken;
-use gl_notes::{Refusal, Status, tell, tell_no_end, tell_write_fault};
+use gl_top_judging::{Fitted, Simulation, judge_sim};
+use gl_top_matches::Taken;
+use gl_top_notes::{Refusal, Status, tell, tell_no_end, tell_write_fault};
 use gl_outside::{Shelf, Sink};
 use gl_runner::{Ending, trace};
 use gl_verilog_orders::Start;

@@ -16,7 +16,7 @@
 
 ghost use Rattle.std.specs.Prelude.{◌≡◌, IfOk};
 
-use gl_forms::copied;
+use gl_top_words::copied;
 use gl_outside::{Memory, MemoryShelf, MemorySink, Words};
 use gl_top::run;
 use std::alloc::Global;

@@ -2,16 +2,16 @@
 use Rattle.std.proofs.Common.{◌≡◌, ℕ, Option, Vec, Global, refl}
 use Rattle.std.specs.Prelude.{map}
 use Rattle.gl_verilog_grammar.specs.Machine as machine
-use Rattle.gl_verilog_written.specs.declared.token.Word.{Word}
-use Rattle.gl_verilog_written.specs.declared.written.PrefixOp.{PrefixOp}
-use Rattle.gl_verilog_written.specs.declared.written.InfixOp.{InfixOp}
-use Rattle.gl_verilog_written.specs.declared.written.WrittenExpr.{WrittenExpr}
-use Rattle.gl_verilog_written.specs.declared.written.WrittenStatement.{WrittenStatement}
+use Rattle.gl_verilog_syntax.specs.declared.token.Word.{Word}
+use Rattle.gl_verilog_syntax.specs.declared.written.PrefixOp.{PrefixOp}
+use Rattle.gl_verilog_syntax.specs.declared.written.InfixOp.{InfixOp}
+use Rattle.gl_verilog_syntax.specs.declared.written.WrittenExpr.{WrittenExpr}
+use Rattle.gl_verilog_syntax.specs.declared.written.WrittenStatement.{WrittenStatement}
 use Rattle.gl_verilog_grammar.specs.declared.frames.Frame.TheVariants as frame_is
 use Rattle.gl_verilog_grammar.specs.declared.stage.Sort.{Sort}
 use Rattle.gl_verilog_grammar.specs.declared.stage.Owner.{Owner}
 use Rattle.gl_verilog_grammar.specs.declared.stage.Stage.TheVariants as stage_is
-use Rattle.gl_verilog_written.specs.View.{prefix_of, infix_of, expr_of, statement_of, name_of, names_of, range_of}
+use Rattle.gl_verilog_syntax.specs.View.{prefix_of, infix_of, expr_of, statement_of, name_of, names_of, range_of}
 use Rattle.gl_verilog_grammar.specs.View.{frame_of, sort_of, owner_of, stage_of}
 
 pub stage-WantModule : stage_of stage_is.WantModule ≡ machine.WantModule

@@ -2,14 +2,14 @@
 
 ghost use Rattle.std.specs.Prelude.{◌≡◌, true, map, option_map, IfOk};
 ghost use Rattle.gl_verilog_grammar.specs.Stages as machine;
-ghost use Rattle.gl_verilog_written.specs.View.{expr_of, name_of};
+ghost use Rattle.gl_verilog_syntax.specs.View.{expr_of, name_of};
 ghost use Rattle.gl_verilog_grammar.specs.View.{frame_of, frames_of, role_is, closed_of};
 
 use crate::frames::{Frame, reduce};
 use crate::stacks::with_last;
 use crate::stage::Role;
 use gl_bits::boxes::{OneBox, one_box};
-use gl_verilog_written::{Word, WrittenExpr};
+use gl_verilog_syntax::{Word, WrittenExpr};
 use std::alloc::{AllocError, Global};
 use std::mem;
 
@@ -53,7 +53,7 @@ fn further<'a>(
     Ok(Closed::FurtherParts { at, parts })
 }
 
-#[tactic(auto, using(gl_verilog_written::proofs::Views::exprs, crate::proofs::Stack::pushes), unfolding(crate::specs::View::closed_of))]
+#[tactic(auto, using(gl_verilog_syntax::proofs::Views::exprs, crate::proofs::Stack::pushes), unfolding(crate::specs::View::closed_of))]
 fn whole<'a>(
     at: usize,
     parts: Vec<WrittenExpr<'a>>,
@@ -66,7 +66,7 @@ fn whole<'a>(
     Ok(Closed::AnOperand(WrittenExpr::Braces { at, parts }))
 }
 
-#[tactic(auto, using(gl_verilog_written::proofs::Views::exprs), unfolding(crate::specs::View::closed_of))]
+#[tactic(auto, using(gl_verilog_syntax::proofs::Views::exprs), unfolding(crate::specs::View::closed_of))]
 fn in_parens<'a>(alloc: Global, operand: WrittenExpr<'a>) -> Result<Closed<'a>, AllocError>
     ensures { IfOk result (λ c. closed_of c ≡ machine.closed machine.IsParen machine.InParens
         (expr_of operand.entry)) }
@@ -75,7 +75,7 @@ fn in_parens<'a>(alloc: Global, operand: WrittenExpr<'a>) -> Result<Closed<'a>, 
     Ok(Closed::AnOperand(WrittenExpr::Parens(boxed)))
 }
 
-#[tactic(auto, using(gl_verilog_written::proofs::Views::exprs), unfolding(crate::specs::View::frame_of, crate::specs::View::closed_of))]
+#[tactic(auto, using(gl_verilog_syntax::proofs::Views::exprs), unfolding(crate::specs::View::frame_of, crate::specs::View::closed_of))]
 fn at_paren<'a>(
     alloc: Global,
     frame: &Frame<'a>,
@@ -94,7 +94,7 @@ fn at_paren<'a>(
     }
 }
 
-#[tactic(auto, using(gl_verilog_written::proofs::Views::exprs), unfolding(crate::specs::View::closed_of))]
+#[tactic(auto, using(gl_verilog_syntax::proofs::Views::exprs), unfolding(crate::specs::View::closed_of))]
 fn word_of<'a>(
     alloc: Global,
     name: Word<'a>,
@@ -110,7 +110,7 @@ fn word_of<'a>(
     }))
 }
 
-#[tactic(auto, using(gl_verilog_written::proofs::Views::exprs), unfolding(crate::specs::View::frame_of, crate::specs::View::closed_of))]
+#[tactic(auto, using(gl_verilog_syntax::proofs::Views::exprs), unfolding(crate::specs::View::frame_of, crate::specs::View::closed_of))]
 fn at_bracket<'a>(
     alloc: Global,
     frame: &Frame<'a>,
@@ -285,7 +285,7 @@ pub(crate) fn close_top<'a>(
 }
 
 // A name alone may be indexed.
-#[tactic(auto, unfolding(gl_verilog_written::specs::View::expr_of))]
+#[tactic(auto, unfolding(gl_verilog_syntax::specs::View::expr_of))]
 pub(crate) fn alone<'a>(operand: &WrittenExpr<'a>) -> Option<Word<'a>>
     ensures { option_map name_of result ≡ machine.alone (expr_of operand.now) }
 {

@@ -1,7 +1,7 @@
 //! Reading expressions.
 ghost use Rattle.gl_verilog.specs.Written.{looseness};
 ghost use Rattle.gl_verilog_grammar.specs.Machine as machine;
-ghost use Rattle.gl_verilog_written.specs.View.{token_of, infix_of, expr_of, statement_of, name_of};
+ghost use Rattle.gl_verilog_syntax.specs.View.{token_of, infix_of, expr_of, statement_of, name_of};
 ghost use Rattle.gl_verilog_grammar.specs.View.{frames_of, view, closed_of, role_is, Moves};
 
 use crate::closing::{Closed, alone, close_top};
@@ -10,7 +10,7 @@ use crate::matching::is_mark;
 use crate::reading::Reading;
 use crate::stacks::put;
 use crate::stage::{Role, Stage, role_of};
-use gl_verilog_written::{
+use gl_verilog_syntax::{
     InfixOp, PrefixOp, Sign, Token, Word, WrittenExpr, WrittenItem, WrittenStatement,
 };
 use std::alloc::AllocError;
@@ -41,7 +41,7 @@ impl<'a> Reading<'a> {
         Ok(false)
     }
 
-    #[tactic(auto, using(crate::proofs::Views::stages, gl_verilog_written::proofs::Views::exprs))]
+    #[tactic(auto, using(crate::proofs::Views::stages, gl_verilog_syntax::proofs::Views::exprs))]
     pub(crate) fn want_operand(&mut self, at: usize, token: Token<'a>) -> Result<bool, AllocError>
         ensures { Moves result (machine.want_operand (view self.old) (token_of token.entry))
             (view self.new) }
@@ -106,7 +106,7 @@ impl<'a> Reading<'a> {
     }
 
     // What was open on top is closed.
-    #[tactic(auto, using(crate::proofs::Views::stages, crate::proofs::Views::frames, gl_verilog_written::proofs::Views::items, gl_verilog_written::proofs::Views::exprs), unfolding(crate::specs::View::view, crate::specs::View::closed_of))]
+    #[tactic(auto, using(crate::proofs::Views::stages, crate::proofs::Views::frames, gl_verilog_syntax::proofs::Views::items, gl_verilog_syntax::proofs::Views::exprs), unfolding(crate::specs::View::view, crate::specs::View::closed_of))]
     fn after_close(&mut self, closed: Closed<'a>) -> Result<bool, AllocError>
         ensures { Moves result (machine.after_close (view self.old)
             (frames_of self.old.frames.items, closed_of closed.entry)) (view self.new) }
@@ -231,7 +231,7 @@ impl<'a> Reading<'a> {
         }
     }
 
-    #[tactic(auto, using(crate::proofs::Views::stages, gl_verilog_written::proofs::Views::exprs))]
+    #[tactic(auto, using(crate::proofs::Views::stages, gl_verilog_syntax::proofs::Views::exprs))]
     pub(crate) fn at_place(
         &mut self,
         name: Word<'a>,

@@ -3,12 +3,12 @@
 ghost use Rattle.std.specs.Prelude.{◌≡◌, ◌<◌, length, map, option_map, true, false, vec_len, IfOk, MatchBool, Some, None};
 ghost use Rattle.gl_verilog_grammar.specs.Stages as machine;
 ghost use Rattle.gl_verilog.specs.Written.{looseness};
-ghost use Rattle.gl_verilog_written.specs.View.{infix_of, expr_of, statement_of};
+ghost use Rattle.gl_verilog_syntax.specs.View.{infix_of, expr_of, statement_of};
 ghost use Rattle.gl_verilog_grammar.specs.View.{frame_of, frames_of, stated_of};
 
 use crate::stacks::{put, with_last};
 use crate::trees::{chosen, else_of, infixed, prefixed, then_of};
-use gl_verilog_written::{InfixOp, PrefixOp, Word, WrittenExpr, WrittenItem, WrittenStatement};
+use gl_verilog_syntax::{InfixOp, PrefixOp, Word, WrittenExpr, WrittenItem, WrittenStatement};
 use std::alloc::{AllocError, Global};
 use std::mem;
 
@@ -273,7 +273,7 @@ pub(crate) fn take_else<'a>(
 }
 
 // The statements of a block.
-#[tactic(auto, using(gl_verilog_written::proofs::Views::exprs, crate::proofs::Stack::pushes), unfolding(crate::specs::View::frame_of))]
+#[tactic(auto, using(gl_verilog_syntax::proofs::Views::exprs, crate::proofs::Stack::pushes), unfolding(crate::specs::View::frame_of))]
 pub(crate) fn block_of<'a>(frame: Frame<'a>) -> Option<WrittenStatement<'a>>
     ensures { option_map statement_of result ≡ machine.block_of (frame_of frame.entry) }
 {
@@ -306,7 +306,7 @@ fn in_list<'a>(
     Ok(Stated::InList(done))
 }
 
-#[tactic(auto, using(gl_verilog_written::proofs::Views::items), unfolding(crate::specs::View::frame_of, crate::specs::View::stated_of))]
+#[tactic(auto, using(gl_verilog_syntax::proofs::Views::items), unfolding(crate::specs::View::frame_of, crate::specs::View::stated_of))]
 fn end_body<'a>(frame: &Frame<'a>, statement: WrittenStatement<'a>) -> Stated<'a>
     requires { machine.is_block (frame_of frame.now) ≡ false }
     ensures { stated_of result ≡ machine.stated (frame_of frame.now)

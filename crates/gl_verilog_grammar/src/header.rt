@@ -3,14 +3,14 @@
 ghost use Rattle.std.specs.Prelude.{option_and_then};
 ghost use Rattle.gl_verilog.specs.Tokens.{OpenBracket};
 ghost use Rattle.gl_verilog_grammar.specs.Machine as machine;
-ghost use Rattle.gl_verilog_written.specs.View.{token_of, name_of, names_of, range_of};
+ghost use Rattle.gl_verilog_syntax.specs.View.{token_of, name_of, names_of, range_of};
 ghost use Rattle.gl_verilog_grammar.specs.View.{sort_of, owner_of, view, Moves};
 
 use crate::matching::{is_mark, name_in};
 use crate::reading::Reading;
 use crate::stacks::{put, with_last};
 use crate::stage::{Owner, Sort, Stage, item_of_names, memory_stage, word_stage};
-use gl_verilog_written::{Sign, Token, Word, WrittenPort};
+use gl_verilog_syntax::{Sign, Token, Word, WrittenPort};
 use std::alloc::AllocError;
 
 impl<'a> Reading<'a> {
@@ -28,7 +28,7 @@ impl<'a> Reading<'a> {
         }
     }
 
-    #[tactic(auto, using(crate::proofs::Views::stages, gl_verilog_written::proofs::Views::items, crate::proofs::Stack::pushes), unfolding(crate::specs::View::view))]
+    #[tactic(auto, using(crate::proofs::Views::stages, gl_verilog_syntax::proofs::Views::items, crate::proofs::Stack::pushes), unfolding(crate::specs::View::view))]
     pub(crate) fn named(
         &mut self,
         owner: Owner,

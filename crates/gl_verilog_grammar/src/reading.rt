@@ -2,7 +2,7 @@
 
 ghost use Rattle.std.specs.Prelude.{◌≡◌, ◌<◌, option_map, true, IfOk, IfErr, MatchResult, Some, None};
 ghost use Rattle.gl_verilog_grammar.specs.Machine as machine;
-ghost use Rattle.gl_verilog_written.specs.View.{token_of, tokens_in, expr_of, name_of, range_of, item_of, module_of};
+ghost use Rattle.gl_verilog_syntax.specs.View.{token_of, tokens_in, expr_of, name_of, range_of, item_of, module_of};
 ghost use Rattle.gl_verilog_grammar.specs.Counting.{IsWithin};
 ghost use Rattle.gl_verilog_grammar.specs.Answers.{Goes, StopsAt, IsRead, stand, read_all};
 ghost use Rattle.gl_verilog_grammar.specs.View.{frame_of, stage_of, view, Moves};
@@ -15,7 +15,7 @@ use crate::stage::{
     Stage, assigned_stage, behind_port, clock_stage, high_stage, item_stage, last_stage, low_stage,
     port_stage,
 };
-use gl_verilog_written::{
+use gl_verilog_syntax::{
     Keyword, Lexeme, Sign, Token, VerilogFault, Word, WrittenExpr, WrittenItem, WrittenModule,
     WrittenPort,
 };
@@ -155,7 +155,7 @@ impl<'a> Reading<'a> {
 }
 
 impl<'a> Reading<'a> {
-    #[tactic(auto, using(gl_verilog_written::proofs::Views::items))]
+    #[tactic(auto, using(gl_verilog_syntax::proofs::Views::items))]
     fn memory_end(
         &mut self,
         range: Option<Word<'a>>,
@@ -171,7 +171,7 @@ impl<'a> Reading<'a> {
         self.item_if(stands, WrittenItem::MemoryOf { range, name, last })
     }
 
-    #[tactic(auto, using(gl_verilog_written::proofs::Views::exprs))]
+    #[tactic(auto, using(gl_verilog_syntax::proofs::Views::exprs))]
     fn part_end(
         &mut self,
         name: Word<'a>,

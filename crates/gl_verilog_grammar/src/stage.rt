@@ -2,11 +2,11 @@
 
 ghost use Rattle.std.specs.Prelude.{◌≡◌, option_map};
 ghost use Rattle.gl_verilog_grammar.specs.Stages as machine;
-ghost use Rattle.gl_verilog_written.specs.View.{keyword_of, sign_of, token_of, name_of, names_of, range_of, item_of};
+ghost use Rattle.gl_verilog_syntax.specs.View.{keyword_of, sign_of, token_of, name_of, names_of, range_of, item_of};
 ghost use Rattle.gl_verilog_grammar.specs.View.{sort_of, owner_of, stage_of, role_is};
 
 use crate::matching::{digits_in, is_mark, is_word, name_in};
-use gl_verilog_written::{
+use gl_verilog_syntax::{
     Direction, InfixOp, Keyword, Sign, Token, Word, WrittenExpr, WrittenItem, WrittenStatement,
 };
 
@@ -113,7 +113,7 @@ pub(crate) fn role_of(sign: Sign) -> Role
     }
 }
 
-#[tactic(auto, unfolding(gl_verilog_written::specs::View::item_of))]
+#[tactic(auto, unfolding(gl_verilog_syntax::specs::View::item_of))]
 pub(crate) fn item_of_names<'a>(
     sort: Sort,
     range: Option<Word<'a>>,

@@ -1,6 +1,6 @@
 //! Reading items and statements.
 ghost use Rattle.gl_verilog_grammar.specs.Machine as machine;
-ghost use Rattle.gl_verilog_written.specs.View.{token_of, statement_of, name_of};
+ghost use Rattle.gl_verilog_syntax.specs.View.{token_of, statement_of, name_of};
 ghost use Rattle.gl_verilog_grammar.specs.View.{frames_of, view, Moves};
 
 use crate::frames::{Frame, Stated, block_of, end_ifs, end_statement, take_else};
@@ -8,7 +8,7 @@ use crate::matching::{is_mark, is_word};
 use crate::reading::Reading;
 use crate::stacks::put;
 use crate::stage::{Stage, item_stage};
-use gl_verilog_written::{Keyword, Sign, Token, Word, WrittenStatement};
+use gl_verilog_syntax::{Keyword, Sign, Token, Word, WrittenStatement};
 use std::alloc::AllocError;
 use std::mem;
 

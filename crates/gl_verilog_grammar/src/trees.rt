@@ -2,13 +2,13 @@
 
 ghost use Rattle.std.specs.Prelude.{◌≡◌, IfOk};
 ghost use Rattle.gl_verilog_grammar.specs.Stages as machine;
-ghost use Rattle.gl_verilog_written.specs.View.{infix_of, prefix_of, expr_of, statement_of};
+ghost use Rattle.gl_verilog_syntax.specs.View.{infix_of, prefix_of, expr_of, statement_of};
 
 use gl_bits::boxes::{OneBox, TwoBoxes, one_box, two_boxes};
-use gl_verilog_written::{InfixOp, PrefixOp, WrittenExpr, WrittenStatement};
+use gl_verilog_syntax::{InfixOp, PrefixOp, WrittenExpr, WrittenStatement};
 use std::alloc::{AllocError, Global};
 
-#[tactic(auto, unfolding(gl_verilog_written::specs::View::expr_of))]
+#[tactic(auto, unfolding(gl_verilog_syntax::specs::View::expr_of))]
 pub(crate) fn prefixed<'a>(
     alloc: Global,
     op: PrefixOp,
@@ -22,7 +22,7 @@ pub(crate) fn prefixed<'a>(
     Ok(WrittenExpr::Prefix { op, at, arg: boxed })
 }
 
-#[tactic(auto, unfolding(gl_verilog_written::specs::View::expr_of))]
+#[tactic(auto, unfolding(gl_verilog_syntax::specs::View::expr_of))]
 pub(crate) fn infixed<'a>(
     alloc: Global,
     op: InfixOp,
@@ -46,7 +46,7 @@ pub(crate) fn infixed<'a>(
     })
 }
 
-#[tactic(auto, unfolding(gl_verilog_written::specs::View::expr_of))]
+#[tactic(auto, unfolding(gl_verilog_syntax::specs::View::expr_of))]
 pub(crate) fn chosen<'a>(
     alloc: Global,
     at: usize,
@@ -72,7 +72,7 @@ pub(crate) fn chosen<'a>(
     })
 }
 
-#[tactic(auto, unfolding(gl_verilog_written::specs::View::statement_of))]
+#[tactic(auto, unfolding(gl_verilog_syntax::specs::View::statement_of))]
 pub(crate) fn then_of<'a>(
     alloc: Global,
     at: usize,
@@ -90,7 +90,7 @@ pub(crate) fn then_of<'a>(
     })
 }
 
-#[tactic(auto, unfolding(gl_verilog_written::specs::View::statement_of))]
+#[tactic(auto, unfolding(gl_verilog_syntax::specs::View::statement_of))]
 pub(crate) fn else_of<'a>(
     alloc: Global,
     at: usize,

@@ -11,7 +11,7 @@ ghost use Rattle.gl_verilog_faults.specs.Faults.{IsBroken};
 ghost use Rattle.gl_verilog_reader.specs.Reading.{fault_as, ByRules, Shows, IsFaultIn, IsJudged};
 ghost use Rattle.gl_verilog_reader.specs.Sources.{IsSource};
 ghost use Rattle.gl_verilog_tokens.specs.Placed.{places_in};
-ghost use Rattle.gl_verilog_written.specs.View.{module_of, tokens_in};
+ghost use Rattle.gl_verilog_syntax.specs.View.{module_of, tokens_in};
 
 pub mod source;
 
@@ -19,8 +19,8 @@ use gl_verilog::Module;
 use gl_verilog_elaborator::{Rule, Stop, elaborate};
 use gl_verilog_grammar::read_tokens;
 use gl_verilog_tokens::lexemes;
-pub use gl_verilog_written::VerilogFault;
-use gl_verilog_written::{Lexeme, WrittenModule};
+pub use gl_verilog_syntax::VerilogFault;
+use gl_verilog_syntax::{Lexeme, WrittenModule};
 pub use source::Source;
 use source::{located, place_of};
 use std::alloc::Global;

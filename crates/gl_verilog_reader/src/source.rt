@@ -7,11 +7,11 @@ ghost use Rattle.gl_verilog.specs.Written.{spell_direction, spell_ports, spell_r
 ghost use Rattle.gl_verilog_faults.specs.Demands.{name_token};
 ghost use Rattle.gl_verilog_reader.specs.Sources.{IsAt, IsLocated, port_tokens};
 ghost use Rattle.gl_verilog_tokens.specs.Placed.{places_in};
-ghost use Rattle.gl_verilog_written.specs.View.{direction_of, module_of, port_of, range_of, tokens_in};
+ghost use Rattle.gl_verilog_syntax.specs.View.{direction_of, module_of, port_of, range_of, tokens_in};
 
 use gl_bits::Listed;
 use gl_verilog::Module;
-use gl_verilog_written::{Direction, Lexeme, Word, WrittenModule, WrittenPort};
+use gl_verilog_syntax::{Direction, Lexeme, Word, WrittenModule, WrittenPort};
 use std::alloc::{AllocError, Global};
 
 /// A module that was read, and where in its text its name and its ports stand: the bytes, from 0.
@@ -56,7 +56,7 @@ fn tokens_of_range(range: Option<Word>) -> usize
 }
 
 // How many tokens a port has before its name.
-#[tactic(auto, unfolding(gl_verilog_written::specs::View::port_of))]
+#[tactic(auto, unfolding(gl_verilog_syntax::specs::View::port_of))]
 fn tokens_before(port: &WrittenPort) -> usize
     ensures { result ≡ name_token (port_of port.now) }
 {

@@ -2,7 +2,7 @@
 
 ghost use Rattle.std.specs.Prelude.{◌≡◌, ◌≤◌, ◌<◌, ◌+◌, ◌++◌, ◌∷◌, [], length, slice_index, IfOk, OnOk};
 ghost use Rattle.gl_verilog.specs.Tokens as tokens;
-ghost use Rattle.gl_verilog_written.specs.View.{tokens_in, name_of};
+ghost use Rattle.gl_verilog_syntax.specs.View.{tokens_in, name_of};
 ghost use Rattle.gl_verilog_tokens.specs.Lexed.{piece, mode_of, IsInside};
 ghost use Rattle.gl_verilog_tokens.specs.Placed.{places_in, ArePlaces, IsNext, opened};
 
@@ -10,7 +10,7 @@ use crate::classes::{
     Class, Follow, class_of, follow_of, goes_on, is_digit_of, radix_of, sign_token,
 };
 use crate::pieces::{number_token, put, put_quoted, sized_token, word_at, word_token};
-use gl_verilog_written::{Lexeme, Token, Word};
+use gl_verilog_syntax::{Lexeme, Token, Word};
 use std::alloc::{AllocError, Global};
 
 /// Where the reader stands. A place in it is that of a token's first byte.

@@ -12,11 +12,11 @@ use Rattle.gl_wire.specs.declared.wire.Wire.{Wire}
 use Rattle.gl_wire.specs.Gates.{IsGate}
 use Rattle.gl_wire.specs.Wire.{carried, line_at, row_at, tuple_at, widths}
 use Rattle.gl_windows.specs.Front.{Front, IsFront, start, states, closes, oldest}
-use Rattle.gl_registers.specs.Held.{held_at, counted_down, turned}
-use Rattle.gl_registers.specs.declared.lines.LineOp.TheVariants.{Both, Either}
-use Rattle.gl_registers.specs.Lines.{line_of, carried_of, pointed, pairs, with_line, AddsLines}
-use Rattle.gl_registers.specs.Counters.{IsPointer}
-use Rattle.gl_registers.specs.Rows.{AddsWires, HoldsRow}
+use Rattle.gl_wire_registers.specs.Held.{held_at, counted_down, turned}
+use Rattle.gl_wire_registers.specs.declared.lines.LineOp.TheVariants.{Both, Either}
+use Rattle.gl_wire_registers.specs.Lines.{line_of, carried_of, pointed, pairs, with_line, AddsLines}
+use Rattle.gl_wire_registers.specs.Counters.{IsPointer}
+use Rattle.gl_wire_registers.specs.Rows.{AddsWires, HoldsRow}
 use Rattle.gl_windows.specs.Turns.{AddsRotation, Rotating}
 use Rattle.gl_windows.specs.Rotations.{AreFronts}
 use Rattle.gl_windows.specs.Parts.{IsOpening, IsFlush, IsTrigger, IsTail, TakesOf, AddsOpening, AddsFlush, AddsTrigger, AddsTail}

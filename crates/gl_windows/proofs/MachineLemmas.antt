@@ -8,10 +8,10 @@ use Rattle.std.proofs.Math.Bool.{and-true, and-false}
 use Rattle.gl_bits.specs.Results.{Row}
 use Rattle.gl_bits.proofs.Bools.{or_none, same_test, eq_turned}
 use Rattle.gl_windows.specs.Front.{Front, opening, one_opened, one_nearer, closing, closed_by, counted, next, taken}
-use Rattle.gl_registers.specs.Held.{counted_down, turned}
-use Rattle.gl_registers.specs.Lines.{any_to}
+use Rattle.gl_wire_registers.specs.Held.{counted_down, turned}
+use Rattle.gl_wire_registers.specs.Lines.{any_to}
 use Rattle.gl_windows.specs.Values.{Values, opens_of, trigger_of, mid_of, end_of, valid_of, Steps, Mirrors}
-use Rattle.gl_registers.proofs.LineLemmas.{any_at}
+use Rattle.gl_wire_registers.proofs.LineLemmas.{any_at}
 
 pub turned_next : (count n : ℕ) → 1 ≤ count → turned (count - 1) true (n % count) ≡ suc n % count
 turned_next count n some = elim (cases_lt (n % count + 1) count) [

@@ -5,7 +5,7 @@ use Rattle.gl_net.specs.declared.node.Bus.{Bus}
 use Rattle.gl_net.specs.declared.node.Bit.{Bit}
 use Rattle.gl_net.specs.Net.{Run}
 use Rattle.gl_wire.specs.Wire.{line_at}
-use Rattle.gl_registers.specs.Held.{held_at, counted_down}
+use Rattle.gl_wire_registers.specs.Held.{held_at, counted_down}
 use Rattle.gl_windows.specs.Parts.{IsTail, IsTrigger}
 
 pub left_is : (run : Run) (valid eos due : Bit) (size advance rows again : ℕ) (left : Bus) (last may trigger : Bit) → rows ≡ size - 1 → again ≡ advance - 1

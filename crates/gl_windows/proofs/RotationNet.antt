@@ -13,15 +13,15 @@ use Rattle.gl_wire.specs.Spills.{SameLines, both_lines}
 use Rattle.gl_wire.specs.Wire.{IsWire, carried, line_at}
 use Rattle.gl_wire.proofs.ColumnLemmas.{wire_kept, bit_kept}
 use Rattle.gl_wire.proofs.FaultLemmas.{lines_kept}
-use Rattle.gl_copies.specs.Lift.{tuple_of_any}
-use Rattle.gl_copies.specs.Rotates.{flush_of, lines_of_all}
-use Rattle.gl_registers.specs.Lines.{carried_of}
-use Rattle.gl_registers.specs.Timers.{IsClose, IsCloseLine}
+use Rattle.gl_wire_copies.specs.Lift.{tuple_of_any}
+use Rattle.gl_wire_copies.specs.Rotates.{flush_of, lines_of_all}
+use Rattle.gl_wire_registers.specs.Lines.{carried_of}
+use Rattle.gl_wire_registers.specs.Timers.{IsClose, IsCloseLine}
 use Rattle.gl_windows.specs.declared.rotation.Fronted.{Fronted}
 use Rattle.gl_windows.specs.declared.rotation.Rotation.{Rotation}
 use Rattle.gl_windows.specs.Front.{IsFront}
 use Rattle.gl_windows.specs.Rotations.{AreFronts, Fronts, IsBacked, IsFronted, IsRotation}
-use Rattle.gl_registers.specs.Joins.{columns_of, cost_of_back, gives_of, JoinsAll, told_of}
+use Rattle.gl_wire_registers.specs.Joins.{columns_of, cost_of_back, gives_of, JoinsAll, told_of}
 use Rattle.gl_windows.proofs.WindowLemmas.{rotations_serve}
 
 -- wires of a front and a line of ends behind it

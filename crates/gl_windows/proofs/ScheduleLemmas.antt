@@ -4,13 +4,13 @@ use Rattle.std.specs.Prelude.{if◌then◌else◌, nat_eq}
 use Rattle.std.proofs.lemmas.Bool.{cases_lt}
 use Rattle.gl_bits.specs.Results.{Row}
 use Rattle.gl_wire.specs.Apart.{Carries, an_end}
-use Rattle.gl_copies.specs.Lift.{Visits, Schedules}
+use Rattle.gl_wire_copies.specs.Lift.{Visits, Schedules}
 use Rattle.gl_windows.specs.Front.{Front, closing, taken, mid, closes, oldest, who_ends}
 use Rattle.gl_windows.proofs.Setting.{Setting}
 use Rattle.gl_windows.proofs.SliceLemmas.{mod_apart}
-use Rattle.gl_copies.proofs.NumberLemmas.{mul_below}
+use Rattle.gl_wire_copies.proofs.NumberLemmas.{mul_below}
 use Rattle.gl_algebra.specs.declared.figures.Figures.{Figures}
-use Rattle.gl_copies.proofs.TurnLemmas.{turn_of, turns_schedule}
+use Rattle.gl_wire_copies.proofs.TurnLemmas.{turn_of, turns_schedule}
 use Rattle.gl_windows.proofs.CopyLemmas.{within}
 use Rattle.gl_windows.proofs.SourceLemmas.{Turn, Source, comes, in_turn, source}
 

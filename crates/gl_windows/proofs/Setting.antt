@@ -1,7 +1,7 @@
 -- What is given where a front of windows is reasoned about: the machine behind a source, and what the source keeps to in time.
 use Rattle.std.specs.Prelude.{ℕ, ◌+◌, ◌-◌, ◌*◌, ◌≤◌}
 use Rattle.gl_wire.specs.Wire.{Carried}
-use Rattle.gl_copies.specs.Timed.{Timed}
+use Rattle.gl_wire_copies.specs.Timed.{Timed}
 use Rattle.gl_windows.specs.Front.{IsFront}
 
 pub record Setting : Type 0 where

@@ -5,8 +5,8 @@ use Rattle.std.proofs.lemmas.Bool.{cases_lt, eqb-true, and_parts}
 use Rattle.gl_bits.specs.Results.{Row}
 use Rattle.gl_wire.specs.Apart.{Carries, a_tuple, an_end}
 use Rattle.gl_wire.specs.Wire.{rows}
-use Rattle.gl_copies.specs.Lift.{Visits, visits}
-use Rattle.gl_copies.specs.Timed.{NoEnd, Rested}
+use Rattle.gl_wire_copies.specs.Lift.{Visits, visits}
+use Rattle.gl_wire_copies.specs.Timed.{NoEnd, Rested}
 use Rattle.gl_windows.specs.Front.{Front, opening, closing, states, mid, closes, who_ends}
 use Rattle.gl_windows.proofs.Setting.{Setting}
 use Rattle.gl_windows.proofs.CopyLemmas.{Step, step_at}

@@ -10,21 +10,21 @@ use Rattle.gl_net.specs.declared.node.Bit.{Bit}
 use Rattle.gl_net.specs.Net.{Net, Run, IsRun, IsBus, IsBit, Value}
 use Rattle.gl_net.proofs.Determined.{keeps_then}
 use Rattle.gl_wire.specs.Wire.{line_at}
-use Rattle.gl_registers.specs.Held.{held_at, turned}
-use Rattle.gl_registers.specs.declared.lines.LineOp.{LineOp}
-use Rattle.gl_registers.specs.declared.lines.LineOp.TheVariants.{Both, Either, ButNot}
-use Rattle.gl_registers.specs.Lines.{line_of, any_to, AreBits, AddsLine, AddsLines, pairs, pointed, any_line, to_bit, to_bus}
-use Rattle.gl_registers.specs.Counters.{IsNextPointer}
+use Rattle.gl_wire_registers.specs.Held.{held_at, turned}
+use Rattle.gl_wire_registers.specs.declared.lines.LineOp.{LineOp}
+use Rattle.gl_wire_registers.specs.declared.lines.LineOp.TheVariants.{Both, Either, ButNot}
+use Rattle.gl_wire_registers.specs.Lines.{line_of, any_to, AreBits, AddsLine, AddsLines, pairs, pointed, any_line, to_bit, to_bus}
+use Rattle.gl_wire_registers.specs.Counters.{IsNextPointer}
 use Rattle.gl_windows.specs.Turns.{Turns, Rotating, AddsRotation}
 use Rattle.gl_windows.specs.declared.turns.Turn.{Turn}
 use Rattle.gl_wire.proofs.StageLemmas.{line_later}
 use Rattle.std.proofs.lemmas.Option.{slice_get-map}
 use Rattle.gl_net.proofs.Lists.{get_push_cases}
 use Rattle.gl_bits.proofs.AllLists.{get_below, get_front, get_last, length_map, get_there, get_unmapped}
-use Rattle.gl_registers.specs.Registers.{word_widths, Opens, MayDrive, DrivesAll}
-use Rattle.gl_registers.proofs.CounterLemmas.{pointer_by}
-use Rattle.gl_registers.proofs.RegisterLemmas.{widths_more, get_take, closed_up, length_taken}
-use Rattle.gl_registers.proofs.LineLemmas.{bits_kept, line_of-get, line_of-first}
+use Rattle.gl_wire_registers.specs.Registers.{word_widths, Opens, MayDrive, DrivesAll}
+use Rattle.gl_wire_registers.proofs.CounterLemmas.{pointer_by}
+use Rattle.gl_wire_registers.proofs.RegisterLemmas.{widths_more, get_take, closed_up, length_taken}
+use Rattle.gl_wire_registers.proofs.LineLemmas.{bits_kept, line_of-get, line_of-first}
 
 pairs_by : (op : LineOp) (a b : Net) (n count : ℕ) (xs ys bs : List Bit) → AddsLines a b n 1 bs (pairs op xs ys) → n ≡ count → AddsLines a b count 1 bs (pairs op xs ys)
 pairs_by op a b n count xs ys bs h e = subst (λ (m : ℕ). AddsLines a b m 1 bs (pairs op xs ys)) e h

@@ -4,7 +4,7 @@ use Rattle.std.specs.List.{sum}
 use Rattle.gl_algebra.specs.Weights.{weight_of_copies}
 use Rattle.gl_wire.specs.Costs.{Cost}
 use Rattle.gl_wire.specs.Counted.{AreNarrow}
-use Rattle.gl_registers.specs.Joins.{cost_of_back}
+use Rattle.gl_wire_registers.specs.Joins.{cost_of_back}
 
 -- a front of so many copies over a source of these columns, and the line of ends, which comes so many cycles behind a timer
 abbrev pub cost_of_front : ℕ → ℕ → List ℕ → Cost

@@ -4,8 +4,8 @@ use Rattle.gl_net.specs.declared.node.Bit.{Bit}
 use Rattle.gl_net.specs.Net.{Net, Run, IsRun, IsBit, Keeps}
 use Rattle.gl_wire.specs.Costs.{Costs, nodes_alone}
 use Rattle.gl_wire.specs.Wire.{line_at}
-use Rattle.gl_registers.specs.Held.{held_at, counted_down, with_registers}
-use Rattle.gl_registers.specs.Lines.{line_of, AreBits}
+use Rattle.gl_wire_registers.specs.Held.{held_at, counted_down, with_registers}
+use Rattle.gl_wire_registers.specs.Lines.{line_of, AreBits}
 use Rattle.gl_windows.specs.declared.parts.Opening.{Opening}
 use Rattle.gl_windows.specs.declared.parts.Flush.{Flush}
 use Rattle.gl_windows.specs.declared.parts.Trigger.{Trigger}

@@ -4,8 +4,8 @@ use Rattle.gl_net.specs.declared.node.Bus.{Bus}
 use Rattle.gl_net.specs.declared.node.Bit.{Bit}
 use Rattle.gl_net.specs.Net.{Net, Run, IsRun, IsBus, Keeps}
 use Rattle.gl_wire.specs.Costs.{Costs, nodes_alone}
-use Rattle.gl_registers.specs.Held.{held_at, turned, with_registers}
-use Rattle.gl_registers.specs.Lines.{line_of, any_to, pointed, AreBits}
+use Rattle.gl_wire_registers.specs.Held.{held_at, turned, with_registers}
+use Rattle.gl_wire_registers.specs.Lines.{line_of, any_to, pointed, AreBits}
 use Rattle.gl_windows.specs.declared.turns.Turn.{Turn}
 use Rattle.gl_windows.specs.declared.turns.OpenCopies.{OpenCopies}
 

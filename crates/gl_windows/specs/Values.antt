@@ -2,8 +2,8 @@
 use Rattle.std.specs.Prelude.{◌≡◌, ℕ, ◌+◌, ◌-◌, ◌<◌, ◌%◌, Some, None, Bool, true, if◌then◌else◌, nat_eq, not, ◌&&◌, ◌||◌}
 use Rattle.gl_bits.specs.Results.{Row}
 use Rattle.gl_windows.specs.Front.{Front}
-use Rattle.gl_registers.specs.Held.{counted_down, turned}
-use Rattle.gl_registers.specs.Lines.{any_to}
+use Rattle.gl_wire_registers.specs.Held.{counted_down, turned}
+use Rattle.gl_wire_registers.specs.Lines.{any_to}
 
 pub record Values : Type 0 where
   pub until : ℕ

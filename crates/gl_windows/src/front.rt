@@ -8,12 +8,12 @@ use crate::parts::{count_flush, count_left, count_openings, keep_tail, take_rows
 use crate::turns::rotate;
 use gl_bits::Memory;
 use gl_net::NetBuilder;
-use gl_registers::{Wires, copy_wires, hold_all, pointer};
+use gl_wire_registers::{Wires, copy_wires, hold_all, pointer};
 use gl_wire::Wire;
 use std::alloc::Global;
 
 /// The wires of the copies of windows of `size` rows, one from each `advance`-th row on, whose ends are `stride` cycles apart in a flush.
-#[tactic(auto, using(gl_registers::proofs::LineLemmas::bits_kept, gl_wire::proofs::ColumnLemmas::buses_kept))]
+#[tactic(auto, using(gl_wire_registers::proofs::LineLemmas::bits_kept, gl_wire::proofs::ColumnLemmas::buses_kept))]
 pub fn put_front(
     alloc: Global,
     net: &mut NetBuilder,

@@ -2,12 +2,12 @@
 
 ghost use Rattle.std.specs.Prelude.{◌≡◌, ◌≤◌, IfOk, length};
 ghost use Rattle.gl_net.specs.Net.{IsBit};
-ghost use Rattle.gl_registers.specs.Lines.{AreBits};
+ghost use Rattle.gl_wire_registers.specs.Lines.{AreBits};
 ghost use Rattle.gl_windows.specs.Parts.{AddsFlush, AddsOpening, AddsTail, AddsTrigger, TakesOf};
 
 use gl_bits::Memory;
 use gl_net::{Bit, Bus, NetBuilder};
-use gl_registers::{Bits, LineOp, count_down, latch, pairwise, when_equal, with_all};
+use gl_wire_registers::{Bits, LineOp, count_down, latch, pairwise, when_equal, with_all};
 use gl_wire::{both, but_not, either};
 use std::alloc::Global;
 
@@ -130,7 +130,7 @@ pub fn keep_tail(net: &mut NetBuilder, valid: Bit, eos: Bit, idle: Bit) -> Resul
 }
 
 /// For each copy whether it takes the row: each open one a tuple without the end, and the one that ends what came with the end.
-#[tactic(auto, using(gl_registers::proofs::LineLemmas::bits_kept))]
+#[tactic(auto, using(gl_wire_registers::proofs::LineLemmas::bits_kept))]
 pub fn take_rows(
     alloc: Global,
     net: &mut NetBuilder,

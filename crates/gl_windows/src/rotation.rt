@@ -2,17 +2,17 @@
 
 ghost use Rattle.std.specs.Prelude.{◌≡◌, IfOk, length};
 ghost use Rattle.gl_algebra.specs.FigureTable.{stride_of};
-ghost use Rattle.gl_copies.specs.Rotates.{flush_of};
+ghost use Rattle.gl_wire_copies.specs.Rotates.{flush_of};
 ghost use Rattle.gl_wire.specs.Faults.{AreLines};
 ghost use Rattle.gl_wire.specs.Wire.{IsWire};
 ghost use Rattle.gl_windows.specs.Rotations.{Fronts, IsBacked, IsFronted, IsRotation};
-ghost use Rattle.gl_registers.specs.Joins.{AreCopies};
+ghost use Rattle.gl_wire_registers.specs.Joins.{AreCopies};
 
 use crate::front::put_front;
 use gl_algebra::Figures;
 use gl_bits::Memory;
 use gl_net::{Bit, NetBuilder};
-use gl_registers::{Wires, close_line, join_all};
+use gl_wire_registers::{Wires, close_line, join_all};
 use gl_wire::Emitted;
 use std::alloc::Global;
 

@@ -2,12 +2,12 @@
 
 ghost use Rattle.std.specs.Prelude.{◌≡◌, ◌∷◌, ◌++◌, ◌≤◌, [], IfOk, length, replicate};
 ghost use Rattle.gl_net.specs.Net.{IsBit, IsBus};
-ghost use Rattle.gl_registers.specs.Lines.{AreBits};
+ghost use Rattle.gl_wire_registers.specs.Lines.{AreBits};
 ghost use Rattle.gl_windows.specs.Turns.{AddsRotation, Turns};
 
 use gl_bits::{Memory, Word};
 use gl_net::{Bit, Bus, NetBuilder};
-use gl_registers::{
+use gl_wire_registers::{
     Bits, LineOp, any, buses_with, decode, drive_all, lines_of, next_pointer, open_all, pairwise,
     word,
 };
@@ -40,7 +40,7 @@ pub struct OpenCopies {
 }
 
 /// Opens the copy at the pointer `opened` where `opens` is 1, and ends the oldest one, if it is open, where `trigger` is 1.
-#[tactic(auto, using(gl_registers::proofs::LineLemmas::bits_kept))]
+#[tactic(auto, using(gl_wire_registers::proofs::LineLemmas::bits_kept))]
 pub fn take_turn(
     alloc: Global,
     net: &mut NetBuilder,

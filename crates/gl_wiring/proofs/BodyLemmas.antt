@@ -10,10 +10,10 @@ use Rattle.gl_algebra.specs.Shapes.{kinds_of, shape_of}
 use Rattle.gl_algebra.proofs.ReadLemmas.{body_reads}
 use Rattle.gl_net.specs.Net.{Net, Run, IsRun, Keeps}
 use Rattle.gl_net.proofs.Determined.{keeps_then}
-use Rattle.gl_copies.specs.Bodies.{OfBody, alone}
-use Rattle.gl_registers.specs.Joins.{gives_of, told_by, told_of, wires_of}
-use Rattle.gl_registers.specs.Lines.{carried_of}
-use Rattle.gl_registers.proofs.RowLemmas.{carried_of-get}
+use Rattle.gl_wire_copies.specs.Bodies.{OfBody, alone}
+use Rattle.gl_wire_registers.specs.Joins.{gives_of, told_by, told_of, wires_of}
+use Rattle.gl_wire_registers.specs.Lines.{carried_of}
+use Rattle.gl_wire_registers.proofs.RowLemmas.{carried_of-get}
 use Rattle.gl_wire.specs.declared.emitted.Emitted.{Emitted}
 use Rattle.gl_wire.specs.declared.wire.Wire.{Wire}
 use Rattle.gl_wire.specs.Apart.{CarriesApart}

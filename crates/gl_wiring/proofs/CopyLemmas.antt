@@ -16,7 +16,7 @@ use Rattle.gl_algebra.proofs.ListLemmas.{earlier, last, place_in_append}
 use Rattle.gl_net.specs.Net.{Net, Run, Keeps}
 use Rattle.gl_net.proofs.Determined.{keeps_then}
 use Rattle.gl_net.proofs.Growth.{same_keeps}
-use Rattle.gl_registers.specs.Joins.{AreCopies, columns_of}
+use Rattle.gl_wire_registers.specs.Joins.{AreCopies, columns_of}
 use Rattle.gl_wire.specs.declared.emitted.Emitted.{Emitted}
 use Rattle.gl_wire.specs.declared.wire.Wire.{Wire}
 use Rattle.gl_wire.specs.Beats.{beats_of}

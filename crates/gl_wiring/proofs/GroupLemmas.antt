@@ -23,14 +23,14 @@ use Rattle.gl_net.specs.Net.{Net}
 use Rattle.gl_net.proofs.Determined.{keeps_then}
 use Rattle.gl_wire.specs.Counted.{AreNarrow}
 use Rattle.gl_rows.proofs.MadeLemmas.{as_many}
-use Rattle.gl_copies.specs.Bodies.{OfBody, alone}
-use Rattle.gl_copies.specs.Rotates.{lines_of_all}
+use Rattle.gl_wire_copies.specs.Bodies.{OfBody, alone}
+use Rattle.gl_wire_copies.specs.Rotates.{lines_of_all}
 use Rattle.gl_groups.specs.declared.grouping.Fronted.{Fronted}
 use Rattle.gl_groups.specs.Costs.{cost_of_back, cost_of_front}
 use Rattle.gl_groups.specs.Grouped.{IsBacked, IsFronted, key_width}
 use Rattle.gl_groups.specs.Groupings.{IsGrouping, key_of, line_of_further}
 use Rattle.gl_groups.proofs.GroupLemmas.{groups_group, groups_then}
-use Rattle.gl_registers.specs.Joins.{columns_of, told_of}
+use Rattle.gl_wire_registers.specs.Joins.{columns_of, told_of}
 use Rattle.gl_wire.specs.declared.emitted.Emitted.{Emitted}
 use Rattle.gl_wire.specs.declared.wire.Wire.{Wire}
 use Rattle.gl_wire.specs.Apart.{CarriesApart}

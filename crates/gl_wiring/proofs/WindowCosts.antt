@@ -15,7 +15,7 @@ use Rattle.gl_algebra.specs.Weights.{weight_of, weight_of_copies}
 use Rattle.gl_algebra.proofs.TableLemmas.{nodes_follow_tables}
 use Rattle.gl_net.specs.Net.{Net}
 use Rattle.gl_windows.specs.Costs.{IsCounted, cost_of_front, cost_of_rotation, counted_for}
-use Rattle.gl_registers.specs.Joins.{cost_of_back}
+use Rattle.gl_wire_registers.specs.Joins.{cost_of_back}
 use Rattle.gl_windows.proofs.CostLemmas.{rotations_are_counted}
 use Rattle.gl_wire.specs.Costs.{Cost, CostsAtMost}
 use Rattle.gl_wire.proofs.CountLemmas.{narrow_kinds}

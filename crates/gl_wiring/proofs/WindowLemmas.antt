@@ -24,8 +24,8 @@ use Rattle.gl_wire.specs.Counted.{AreNarrow}
 use Rattle.gl_windows.specs.declared.rotation.Fronted.{Fronted}
 use Rattle.gl_windows.specs.Costs.{cost_of_front}
 use Rattle.gl_windows.specs.Rotations.{IsBacked, IsFronted, IsRotation}
-use Rattle.gl_copies.specs.Bodies.{OfBody, alone}
-use Rattle.gl_registers.specs.Joins.{columns_of, cost_of_back, told_of}
+use Rattle.gl_wire_copies.specs.Bodies.{OfBody, alone}
+use Rattle.gl_wire_registers.specs.Joins.{columns_of, cost_of_back, told_of}
 use Rattle.gl_windows.proofs.WindowLemmas.{windows_rotate}
 use Rattle.gl_wire.specs.declared.emitted.Emitted.{Emitted}
 use Rattle.gl_wire.specs.declared.wire.Wire.{Wire}
@@ -38,7 +38,7 @@ use Rattle.gl_wire.specs.Wire.{carried, widths}
 use Rattle.gl_wire.proofs.DelayLemmas.{spaced_closer}
 use Rattle.gl_wire.proofs.ServingLemmas.{serving_as, serving_lines, serving_then}
 use Rattle.gl_wire.proofs.CountLemmas.{narrow_kinds}
-use Rattle.gl_copies.specs.Rotates.{lines_of_all}
+use Rattle.gl_wire_copies.specs.Rotates.{lines_of_all}
 use Rattle.gl_wiring.specs.declared.windows.WindowOf.{WindowOf}
 use Rattle.gl_wiring.specs.Leaves.{leaf, widths_of}
 use Rattle.gl_wiring.specs.Put.{CanPut, GivesAs, HasColumns, IsPut}

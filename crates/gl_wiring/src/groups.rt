@@ -5,7 +5,7 @@ ghost use Rattle.gl_algebra.specs.Small.{AreFigures};
 ghost use Rattle.gl_net.specs.Net.{Net};
 ghost use Rattle.gl_groups.specs.Grouped.{Fronts};
 ghost use Rattle.gl_groups.specs.Groupings.{IsGrouping};
-ghost use Rattle.gl_registers.specs.Joins.{AreCopies};
+ghost use Rattle.gl_wire_registers.specs.Joins.{AreCopies};
 ghost use Rattle.gl_wire.specs.declared.wire.Wire.{Wire as WireOf};
 ghost use Rattle.gl_wiring.specs.Put.{HasColumns, IsPut};
 ghost use Rattle.gl_wiring.specs.Groups.{AreBehindSlots, IsGroupFront, IsGroupNode, grouping_of};

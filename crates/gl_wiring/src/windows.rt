@@ -7,7 +7,7 @@ ghost use Rattle.gl_algebra.specs.Small.{AreFigures};
 ghost use Rattle.gl_net.specs.Net.{Net};
 ghost use Rattle.gl_wire.specs.Counted.{AreNarrow};
 ghost use Rattle.gl_windows.specs.Rotations.{Fronts, IsRotation};
-ghost use Rattle.gl_registers.specs.Joins.{AreCopies};
+ghost use Rattle.gl_wire_registers.specs.Joins.{AreCopies};
 ghost use Rattle.gl_wire.specs.declared.wire.Wire.{Wire as WireOf};
 ghost use Rattle.gl_wire.specs.Faults.{AreLines};
 ghost use Rattle.gl_wire.specs.Wire.{IsWire, widths};

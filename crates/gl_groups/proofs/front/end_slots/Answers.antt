@@ -1,5 +1,5 @@
 use Rattle.gl_net.proofs.Determined.{keeps_then}
-use Rattle.gl_registers.proofs.LineLemmas.{bits_kept}
+use Rattle.gl_wire_registers.proofs.LineLemmas.{bits_kept}
 use Rattle.gl_groups.proofs.PartLemmas.{ending_is}
 use Rattle.gl_groups.proofs.front.end_slots.Goals as goal
 

@@ -1,5 +1,5 @@
 use Rattle.gl_wire.proofs.ColumnLemmas.{bus_kept, bit_kept}
-use Rattle.gl_registers.proofs.LineLemmas.{lines_more}
+use Rattle.gl_wire_registers.proofs.LineLemmas.{lines_more}
 use Rattle.gl_groups.specs.Parts.{turned_at, turned_to}
 use Rattle.gl_groups.proofs.PartLemmas.{turned_here}
 use Rattle.gl_groups.proofs.parts.turn_lines.Goals as goal

@@ -1,4 +1,4 @@
-use Rattle.gl_registers.specs.Lines.{AddsLines}
+use Rattle.gl_wire_registers.specs.Lines.{AddsLines}
 use Rattle.gl_groups.specs.Parts.{turned_to}
 use Rattle.gl_groups.proofs.parts.turn_lines.Given as goal
 

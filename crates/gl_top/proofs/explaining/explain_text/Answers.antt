@@ -1,6 +1,6 @@
 use Rattle.std.proofs.Common.{List, ℕ, subst}
-use Rattle.gl_judging.specs.Causes.{change}
-use Rattle.gl_query_explainer.specs.Explaining.{IsExplained, IsExplainRefused}
+use Rattle.gl_top_judging.specs.Causes.{change}
+use Rattle.gl_top_explain.specs.Explaining.{IsExplained, IsExplainRefused}
 use Rattle.gl_top.proofs.Explained.{explain_cause, shown_of}
 use Rattle.gl_top.proofs.explaining.explain_text.Goals as goal
 

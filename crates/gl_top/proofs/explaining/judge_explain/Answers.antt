@@ -1,7 +1,7 @@
-use Rattle.gl_forms.specs.declared.command.Part.TheVariants.{Query}
-use Rattle.gl_forms.proofs.Named.{schema_named}
-use Rattle.gl_judging.proofs.Changes.{leaves_later}
-use Rattle.gl_judging.proofs.Texts.{explain_names_query}
+use Rattle.gl_top_words.specs.declared.command.Part.TheVariants.{Query}
+use Rattle.gl_top_words.proofs.Named.{schema_named}
+use Rattle.gl_top_judging.proofs.Changes.{leaves_later}
+use Rattle.gl_top_judging.proofs.Texts.{explain_names_query}
 use Rattle.gl_top.proofs.explaining.judge_explain.Goals as goal
 
 pub returns-in-Ok-clause-leaves : goal.returns-in-Ok-clause-leaves

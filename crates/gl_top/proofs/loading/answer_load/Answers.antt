@@ -1,5 +1,5 @@
 use Rattle.std.proofs.Common.{◌≡◌, ℕ, Option, None, Some, sym, ◌∙◌}
-use Rattle.gl_forms.proofs.Named.{load_given}
+use Rattle.gl_top_words.proofs.Named.{load_given}
 use Rattle.gl_top.proofs.loading.answer_load.Goals as goal
 
 pub load_many-requires-clause-many : goal.load_many-requires-clause-many

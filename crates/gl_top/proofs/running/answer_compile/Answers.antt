@@ -1,7 +1,7 @@
 use Rattle.std.proofs.Common.{inl, refl, arith}
 use Rattle.gl_outside.proofs.Takes.{took_none}
-use Rattle.gl_forms.specs.declared.command.Command.TheVariants.{Compile}
-use Rattle.gl_judging.specs.Causes.{change}
+use Rattle.gl_top_words.specs.declared.command.Command.TheVariants.{Compile}
+use Rattle.gl_top_judging.specs.Causes.{change}
 use Rattle.gl_top.specs.Verdicts.{Ended, OfTexts}
 use Rattle.gl_top.proofs.running.answer_compile.Goals as goal
 

@@ -1,6 +1,6 @@
 use Rattle.std.proofs.Common.{List, ℕ, [], inl, refl, subst, sym}
 use Rattle.gl_outside.proofs.Takes.{took_none}
-use Rattle.gl_judging.specs.Causes.{change}
+use Rattle.gl_top_judging.specs.Causes.{change}
 use Rattle.gl_top.specs.Shown.{IsShownOf}
 use Rattle.gl_top.specs.Verdicts.{Ended, OfTexts}
 use Rattle.gl_top.proofs.running.answer_explain.Goals as goal

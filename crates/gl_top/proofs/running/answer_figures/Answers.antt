@@ -1,7 +1,7 @@
-use Rattle.gl_forms.specs.declared.command.Command.TheVariants.{Figures}
+use Rattle.gl_top_words.specs.declared.command.Command.TheVariants.{Figures}
 use Rattle.std.proofs.Common.{inl, refl, arith}
 use Rattle.gl_outside.proofs.Takes.{took_none}
-use Rattle.gl_judging.specs.Causes.{change}
+use Rattle.gl_top_judging.specs.Causes.{change}
 use Rattle.gl_top.specs.Verdicts.{Ended}
 use Rattle.gl_top.proofs.running.answer_figures.Goals as goal
 

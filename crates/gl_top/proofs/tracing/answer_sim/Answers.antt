@@ -1,6 +1,6 @@
 use Rattle.std.proofs.Common.{inl, refl}
 use Rattle.gl_outside.proofs.Takes.{took_none}
-use Rattle.gl_judging.specs.Causes.{change}
+use Rattle.gl_top_judging.specs.Causes.{change}
 use Rattle.gl_top.specs.Verdicts.{Ended}
 use Rattle.gl_top.proofs.tracing.answer_sim.Goals as goal
 

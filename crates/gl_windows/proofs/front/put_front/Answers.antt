@@ -1,6 +1,6 @@
 use Rattle.gl_net.proofs.Determined.{keeps_then}
 use Rattle.gl_wire.proofs.ColumnLemmas.{buses_kept}
-use Rattle.gl_registers.proofs.LineLemmas.{bits_kept}
+use Rattle.gl_wire_registers.proofs.LineLemmas.{bits_kept}
 use Rattle.gl_windows.proofs.FrontNet.{fronts_are}
 use Rattle.gl_windows.proofs.front.put_front.Goals as goal
 

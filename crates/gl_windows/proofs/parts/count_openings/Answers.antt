@@ -1,7 +1,7 @@
 use Rattle.std.proofs.Common.{ℕ, ap, arith, ◌∙◌}
 use Rattle.gl_net.proofs.Determined.{keeps_then}
 use Rattle.gl_wire.specs.Wire.{line_at}
-use Rattle.gl_registers.specs.Held.{counted_down, held_at}
+use Rattle.gl_wire_registers.specs.Held.{counted_down, held_at}
 use Rattle.gl_windows.proofs.parts.count_openings.Goals as goal
 
 pub returns : goal.returns

@@ -3,8 +3,8 @@ use Rattle.std.specs.Prelude.{map, slice_index_or, slice_get}
 use Rattle.gl_bits.specs.Words.{Word}
 use Rattle.gl_net.specs.declared.node.Bit.{Bit}
 use Rattle.gl_net.specs.declared.node.Bus.{Bus}
-use Rattle.gl_registers.specs.Lines.{AreBits, to_bit, to_bus}
-use Rattle.gl_registers.specs.Registers.{Opens, MayDrive, DrivesAll}
+use Rattle.gl_wire_registers.specs.Lines.{AreBits, to_bit, to_bus}
+use Rattle.gl_wire_registers.specs.Registers.{Opens, MayDrive, DrivesAll}
 use Rattle.gl_windows.specs.Turns.{Turns, AddsRotation}
 use Rattle.gl_windows.proofs.TurnLemmas.{oldest_at, flags_are, oldest_is, may_drive, rotation_adds}
 use Rattle.gl_windows.proofs.turns.rotate.Goals as goal

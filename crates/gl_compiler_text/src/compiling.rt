@@ -1,0 +1,202 @@
+//! Compiling a statement.
+
+ghost use Rattle.std.specs.Prelude.{◌≡◌, IfOk, MatchResult};
+ghost use Rattle.gl_schema.specs.Schemas.{column_names, kinds_of};
+ghost use Rattle.gl_query.specs.Checked.{IsChecked};
+ghost use Rattle.gl_query.specs.Names.{StatementHasNames};
+ghost use Rattle.gl_query.specs.Shapes.{statement_shape};
+ghost use Rattle.gl_elaborate.specs.Plans.{plan_of};
+ghost use Rattle.gl_elaborate_plan.specs.Planned.{IsPlanned, PassesOr};
+ghost use Rattle.gl_compiler_text.specs.Meets.{Meets, result_columns};
+ghost use Rattle.gl_compiler_text.specs.Built.{latency_of, gap_of};
+ghost use Rattle.gl_compiler_text.specs.Compiles.{HasCost, IsCompiled};
+
+use crate::naming::{kinds, names, result_columns};
+use gl_algebra::{Figures, Plan, PlanId};
+use gl_bits::{Kind, Listed, Memory};
+use gl_net::{Cost, cost_of};
+use gl_figures::Printed;
+use gl_elaborate_plan::{PlanFault, Planned, plan_statement};
+use gl_query::Statement;
+use gl_query::columns::copy_of_name;
+use gl_query_check::Checked;
+use gl_schema::{Column, Schema};
+use gl_verilog_writer::write_module;
+use gl_wiring::{ResultNames, wire_plan};
+use std::alloc::Global;
+
+/// The text of a module, and what it costs.
+#[derive(Drop)]
+struct Emission {
+    text: Vec<u8>,
+    cost: Cost,
+}
+
+/// A compiled query: the text of its module, its figures and its cost, and what it was made of.
+#[derive(Drop)]
+pub struct Compiled {
+    text: Vec<u8>,
+    printed: Printed,
+    cost: Cost,
+    schema: Schema,
+    statement: Statement,
+    kinds: Listed<Kind>,
+    plan: Plan,
+    root: PlanId,
+    figures: Vec<Figures>,
+}
+
+impl Compiled {
+    /// The text of the module.
+    pub fn text(&self) -> &[u8]
+        ensures { result.now ≡ self.now.text.items }
+    {
+        &self.text
+    }
+
+    /// Latency, gap and copies.
+    pub fn printed(&self) -> Printed
+        ensures { result ≡ self.now.printed }
+    {
+        self.printed
+    }
+
+    /// The bits of registers and of memories that the text declares.
+    pub fn cost(&self) -> Cost
+        ensures { result ≡ self.now.cost }
+    {
+        self.cost
+    }
+
+    /// The nodes of the statement's plan.
+    pub fn plan(&self) -> &Plan
+        ensures { result.now ≡ self.now.plan }
+    {
+        &self.plan
+    }
+
+    /// The node of the whole statement.
+    pub fn root(&self) -> PlanId
+        ensures { result ≡ self.now.root }
+    {
+        self.root
+    }
+
+    /// The figures of each node, in cycles and tuples.
+    pub fn figures(&self) -> &[Figures]
+        ensures { result.now ≡ self.now.figures.items }
+    {
+        &self.figures
+    }
+
+    /// The schema.
+    pub fn schema(&self) -> &Schema
+        ensures { result.now ≡ self.now.schema }
+    {
+        &self.schema
+    }
+
+    /// The statement.
+    pub fn statement(&self) -> &Statement
+        ensures { result.now ≡ self.now.statement }
+    {
+        &self.statement
+    }
+
+    /// The kinds of the result's columns, in order.
+    pub fn kinds(&self) -> &[Kind]
+        ensures { result.now ≡ self.now.kinds }
+    {
+        self.kinds.as_slice()
+    }
+}
+
+// The names of a statement's result, whose columns these are.
+fn names_of(alloc: Global, statement: &Statement, columns: &[Column]) -> Result<ResultNames, Memory>
+    ensures into { IfOk result (λ names. names.into ≡ statement.now.name.text) }
+    ensures columns { IfOk result (λ names. names.columns ≡ column_names columns.now) }
+{
+    Ok(ResultNames {
+        into: copy_of_name(alloc, statement.name.text.as_slice())?,
+        columns: names(alloc, columns)?,
+    })
+}
+
+// The text of the module of a plan.
+fn text_of(
+    alloc: Global,
+    checked: &Checked,
+    planned: &Planned,
+    columns: &[Column],
+) -> Result<Emission, Memory>
+    requires checked { IsChecked checked.now.schema checked.now.statement }
+    requires names { StatementHasNames (statement_shape checked.now.statement) }
+    requires planned { IsPlanned checked.now.schema checked.now.statement planned.now }
+    requires columns { columns.now
+        ≡ result_columns checked.now.schema checked.now.statement }
+    ensures meets { let s = checked.now.schema in let q = checked.now.statement in
+        IfOk result (λ made. Meets s q (latency_of s q) (gap_of s q) made.text.items) }
+    ensures cost { IfOk result (λ made. HasCost checked.now.schema checked.now.statement
+        made.text.items made.cost) }
+{
+    let names = names_of(alloc, &checked.statement, columns)?;
+    let net = wire_plan(
+        alloc,
+        &checked.schema,
+        &planned.plan,
+        planned.root,
+        &planned.figures,
+        &names,
+    )?;
+    let mut text = Vec::new(alloc);
+    write_module(&net, &mut text)?;
+    Ok(Emission {
+        text,
+        cost: cost_of(&net),
+    })
+}
+
+// What a statement is compiled to: the text of its module, and the kinds of its columns.
+fn built(
+    alloc: Global,
+    checked: &Checked,
+    planned: &Planned,
+) -> Result<(Emission, Listed<Kind>), Memory>
+    requires checked { IsChecked checked.now.schema checked.now.statement }
+    requires names { StatementHasNames (statement_shape checked.now.statement) }
+    requires planned { IsPlanned checked.now.schema checked.now.statement planned.now }
+    ensures meets { let s = checked.now.schema in let q = checked.now.statement in
+        IfOk result (λ made. Meets s q (latency_of s q) (gap_of s q) made.0.text.items) }
+    ensures cost { IfOk result (λ made. HasCost checked.now.schema checked.now.statement
+        made.0.text.items made.0.cost) }
+    ensures kinds { IfOk result (λ made.
+        made.1 ≡ kinds_of (result_columns checked.now.schema checked.now.statement)) }
+{
+    let columns = result_columns(alloc, &checked.schema, &checked.statement)?;
+    let text = text_of(alloc, checked, planned, columns.as_slice())?;
+    let kinds = kinds(alloc, columns.as_slice())?;
+    Ok((text, kinds))
+}
+
+/// Compiles a checked statement whose names are names. `Limit` comes exactly where its plan passes this limit.
+pub fn compile_checked(alloc: Global, checked: Checked) -> Result<Compiled, PlanFault>
+    requires checked { IsChecked checked.schema checked.statement }
+    requires names { StatementHasNames (statement_shape checked.statement) }
+    ensures { let at = plan_of checked.schema checked.statement in
+        MatchResult result (IsCompiled checked.schema checked.statement) (PassesOr at) }
+{
+    let planned = plan_statement(alloc, &checked)?;
+    let (made, kinds) = built(alloc, &checked, &planned)?;
+    let Checked { schema, statement } = checked;
+    Ok(Compiled {
+        text: made.text,
+        printed: planned.printed,
+        cost: made.cost,
+        schema,
+        statement,
+        kinds,
+        plan: planned.plan,
+        root: planned.root,
+        figures: planned.figures,
+    })
+}

@@ -1,0 +1,114 @@
+//! Planning a statement.
+
+ghost use Rattle.std.specs.Prelude.{◌≡◌, ◌<◌, length, IfErr, IfOk, MatchResult, OnOk};
+ghost use Rattle.gl_query.specs.Checked.{IsChecked};
+ghost use Rattle.gl_algebra.specs.Added.{placed_at};
+ghost use Rattle.gl_algebra.specs.Small.{AreFigures};
+ghost use Rattle.gl_figures.specs.Answered.{IsPrinted};
+ghost use Rattle.gl_elaborate.specs.Plans.{plan_of};
+ghost use Rattle.gl_elaborate_plan.specs.declared.planning.PlanFault.TheVariants as fault;
+ghost use Rattle.gl_elaborate_plan.specs.Planned.{AreAllSmall, IsPlanned, IsWithinLimits, PassesOr};
+
+use gl_algebra::table::input_figures;
+use gl_algebra::{Figures, Plan, PlanId};
+use gl_bits::Memory as NoMemory;
+use gl_elaborate::elaborate;
+use gl_figures::{Limit, Printed, figures, weigh};
+use gl_query_check::Checked;
+use std::alloc::Global;
+use thiserror::Error;
+
+/// Why a statement has no plan within the limits.
+#[derive(Debug, Drop, Error)]
+pub enum PlanFault {
+    /// Its plan passes this limit.
+    #[error("the plan passes a limit")]
+    Limit(Limit),
+    /// Want of memory.
+    #[error("out of memory")]
+    Memory,
+}
+
+impl From<NoMemory> for PlanFault {
+    ghost from_gives = { λ _ e. e ≡ fault.Memory };
+
+    fn from(_: NoMemory) -> PlanFault {
+        PlanFault::Memory
+    }
+}
+
+/// The plan of a statement.
+#[derive(Drop)]
+pub struct Planned {
+    /// Its nodes.
+    pub plan: Plan,
+    /// The node of the whole query.
+    pub root: PlanId,
+    /// The figures of each node, in cycles and tuples.
+    pub figures: Vec<Figures>,
+    /// What is printed of the whole: latency and gap in cycles, and copies of bodies.
+    pub printed: Printed,
+}
+
+// A place for the figures of each node.
+fn places(alloc: Global, many: usize) -> Result<Vec<Figures>, NoMemory>
+    ensures { IfOk result (λ v. length v.items ≡ many) }
+{
+    Ok(vec![in alloc; input_figures(); many]?)
+}
+
+// A place for the weight of each node.
+fn zeros(alloc: Global, many: usize) -> Result<Vec<u64>, NoMemory>
+    ensures { IfOk result (λ v. length v.items ≡ many) }
+{
+    Ok(vec![in alloc; 0u64; many]?)
+}
+
+// The figures of each node of a plan with this root.
+fn figured(alloc: Global, plan: &Plan, root: PlanId) -> Result<Vec<Figures>, PlanFault>
+    ensures figures { IfOk result (λ v. AreFigures plan.now v.items) }
+    ensures small { OnOk result (AreAllSmall plan.now) }
+    ensures fault { IfErr result (PassesOr (placed_at plan.now root)) }
+{
+    let _ = root;
+    let mut own = places(alloc, plan.len())?;
+    match figures(plan, &mut own) {
+        Ok(()) => Ok(own),
+        Err(limit) => Err(PlanFault::Limit(limit)),
+    }
+}
+
+// What is printed of a plan, where it is within the limits.
+fn weighed(alloc: Global, plan: &Plan, root: PlanId, own: &[Figures]) -> Result<Printed, PlanFault>
+    requires figures { AreFigures plan.now own.now }
+    requires root { root < length plan.now }
+    requires small { AreAllSmall plan.now }
+    ensures printed { IfOk result (IsPrinted plan.now root) }
+    ensures within { OnOk result (IsWithinLimits (placed_at plan.now root)) }
+    ensures fault { IfErr result (PassesOr (placed_at plan.now root)) }
+{
+    let mut weights = zeros(alloc, plan.len())?;
+    match weigh(plan, root, own, &mut weights) {
+        Ok(printed) => Ok(printed),
+        Err(limit) => Err(PlanFault::Limit(limit)),
+    }
+}
+
+/// The plan of a checked statement, with its figures and what is printed of it.
+///
+/// A limit comes exactly where the plan passes it, latency before weight.
+pub fn plan_statement(alloc: Global, checked: &Checked) -> Result<Planned, PlanFault>
+    requires { IsChecked checked.now.schema checked.now.statement }
+    ensures { let at = plan_of checked.now.schema checked.now.statement in
+        MatchResult result (IsPlanned checked.now.schema checked.now.statement) (PassesOr at) }
+{
+    let (plan, root) = elaborate(alloc, checked)?;
+    let figures = figured(alloc, &plan, root)?;
+    let printed = weighed(alloc, &plan, root, &figures)?;
+    Ok(Planned {
+        plan,
+        root,
+        figures,
+        printed,
+    })
+}

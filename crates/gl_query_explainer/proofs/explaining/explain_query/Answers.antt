@@ -1,5 +1,0 @@
-use Rattle.gl_query_explainer.proofs.Refused.{explain_refused}
-use Rattle.gl_query_explainer.proofs.explaining.explain_query.Goals as goal
-
-pub returns-in-Err-clause-refused : goal.returns-in-Err-clause-refused
-returns-in-Err-clause-refused c = rw c.fault_refusal.ensures (explain_refused c.args.schema.now c.args.query.now c.in-Err.fault c.in-Err.ensures.fault)

@@ -1,0 +1,54 @@
+//! The text of a query, explained.
+
+ghost use Rattle.std.specs.Prelude.{◌≡◌, IfErr, IfOk};
+ghost use Rattle.gl_schema.specs.Schemas.{IsSchema};
+ghost use Rattle.gl_top_explain.specs.Explaining as told;
+ghost use Rattle.gl_top_explain.specs.Explaining.{IsExplained, IsExplainRefused};
+
+use gl_explain::explain;
+use gl_top_notes::Refusal;
+use gl_elaborate_plan::PlanFault;
+use gl_query::QueryFault;
+use gl_query_judge::judge_query;
+use gl_schema::Schema;
+use std::alloc::Global;
+
+// The fault of a query's text as a refusal.
+fn fault_refusal(fault: QueryFault) -> Refusal
+    ensures { result ≡ told.fault_refusal fault }
+{
+    match fault {
+        QueryFault::Memory => Refusal::Memory,
+        fault => Refusal::Query(fault),
+    }
+}
+
+// What a plan passes as a refusal.
+fn plan_refusal(fault: PlanFault) -> Refusal
+    ensures { result ≡ told.plan_refusal fault }
+{
+    match fault {
+        PlanFault::Limit(limit) => Refusal::Limit(limit),
+        PlanFault::Memory => Refusal::Memory,
+    }
+}
+
+/// The statement of a query's text over a schema in its canonical form, and its plan, as text.
+///
+/// `Query` is the first fault of the text, and comes exactly where it has one; `Limit` comes exactly
+/// where its statement is accepted and its plan passes this limit. `Memory` alone may come in place of
+/// either, and no other refusal comes.
+pub fn explain_query(alloc: Global, schema: &Schema, query: &[u8]) -> Result<Vec<u8>, Refusal>
+    requires { IsSchema schema.now }
+    ensures explained { IfOk result (λ v. IsExplained schema.now query.now v.items) }
+    ensures refused { IfErr result (IsExplainRefused schema.now query.now) }
+{
+    let checked = match judge_query(alloc, schema, query) {
+        Ok(checked) => checked,
+        Err(fault) => return Err(fault_refusal(fault)),
+    };
+    match explain(alloc, &checked) {
+        Ok(text) => Ok(text),
+        Err(fault) => Err(plan_refusal(fault)),
+    }
+}

@@ -1,0 +1,202 @@
+-- What a text that was read says of its part.
+use Rattle.std.proofs.Common.{◌≡◌, ◌⊎◌, ℕ, true, false, List, Option, Some, None, Result, Ok, Err, inl, inr, refl, sym, ap, subst, ◌∙◌, arith}
+use Rattle.std.specs.Prelude.{is_some}
+use Rattle.gl_top_words.proofs.Named as forms
+use Rattle.gl_outside.specs.States.{ShelfState, IsCalm}
+use Rattle.gl_outside.specs.Told.{Told}
+use Rattle.gl_schema.specs.declared.schema.Schema.{Schema}
+use Rattle.gl_query.specs.declared.tree.Statement.{Statement}
+use Rattle.gl_query.specs.declared.fault.QueryFault.{QueryFault}
+use Rattle.gl_tuples.specs.declared.beats.Beat.{Beat}
+use Rattle.gl_tuples.specs.declared.fault.TupleFault.{TupleFault}
+use Rattle.gl_tuples.specs.declared.fault.TupleFault.TheVariants as tuples
+use Rattle.gl_tuple_reader.specs.Entries.{Fails}
+use Rattle.gl_tuple_reader.specs.Filing.{beats_of, records_of}
+use Rattle.gl_tuple_reader.specs.FileBeats.{AreBeatsOf}
+use Rattle.gl_tuples.specs.Gaps.{first_close, close_answer}
+use Rattle.gl_verilog.specs.Module.{Module}
+use Rattle.gl_query_compiler.specs.declared.fault.CompileFault.{CompileFault}
+use Rattle.gl_query_compiler.specs.declared.fault.CompileFault.TheVariants as compile
+use Rattle.gl_query_judge.specs.Judged.{IsQueryFault}
+use Rattle.gl_figures.specs.declared.Limit.{Limit}
+use Rattle.gl_compiler_text.specs.Built.{gap_of}
+use Rattle.gl_query_judge.specs.Limits.{IsOverLimit}
+use Rattle.gl_query_compiler.specs.Queries.{IsQuery, IsQueryRefused}
+use Rattle.gl_top_words.specs.declared.command.Part.{Part}
+use Rattle.gl_top_words.specs.declared.command.Part.TheVariants as part
+use Rattle.gl_top_words.specs.declared.command.Command.{Command}
+use Rattle.gl_top_words.specs.declared.command.Command.TheVariants.{Explain, Run, Sim}
+use Rattle.gl_top_words.specs.Forms.{IsCommand, IsForm, IsNamed, command_of}
+use Rattle.gl_top_notes.specs.declared.notes.Refusal.{Refusal}
+use Rattle.gl_top_notes.specs.declared.notes.Refusal.TheVariants as refusal
+use Rattle.gl_top_texts.specs.Texts.{HasText, SchemaPasses, IsUnfetched, LeavesText, HasNoSchema, LeavesSchema}
+use Rattle.gl_top_texts.proofs.Fetched.{has_text}
+use Rattle.gl_top_judging.specs.Passing.{QueryPasses, ModulePasses, FilePasses, kept_beats}
+use Rattle.gl_top_judging.specs.Causes.{OfRun, OfSim, IsNext, AreBadTuples, ToRun, ToSim, Change, change, HasCause, Leaves, query_refusal, tuples_refusal}
+
+-- the texts of a command that its words name
+pub run_names_query : (words : List (List ℕ)) → IsCommand words Run → IsNamed words part.Query
+run_names_query words is = record { command = Run; is = is; names = (1, omega arith, refl) }
+
+pub run_names_tuples : (words : List (List ℕ)) → IsCommand words Run → IsNamed words part.Tuples
+run_names_tuples words is = record { command = Run; is = is; names = (2, omega arith, refl) }
+
+pub sim_names_module : (words : List (List ℕ)) → IsCommand words Sim → IsNamed words part.Module
+sim_names_module words is = record { command = Sim; is = is; names = (1, omega arith, refl) }
+
+pub sim_names_tuples : (words : List (List ℕ)) → IsCommand words Sim → IsNamed words part.Tuples
+sim_names_tuples words is = record { command = Sim; is = is; names = (2, omega arith, refl) }
+
+pub explain_names_query : (words : List (List ℕ)) → IsCommand words Explain → IsNamed words part.Query
+explain_names_query words is = record { command = Explain; is = is; names = (1, omega arith, refl) }
+
+-- where a text is judged the words name it
+pub next_named : (told : List ℕ → Told) (words : List (List ℕ)) (p : Part) → IsNext told words p → IsNamed words p
+next_named told words part.Schema next = next
+next_named told words part.Query next = next.0
+next_named told words part.Module next = sim_names_module words next.0
+next_named told words part.Tuples (OfRun runs s st passes) = run_names_tuples words runs
+next_named told words part.Tuples (OfSim s m passes) = sim_names_tuples words passes.sims
+
+-- so they are of a form
+pub next_form : (told : List ℕ → Told) (words : List (List ℕ)) (p : Part) → IsNext told words p → IsForm words
+next_form told words p next = forms.named_form words p (next_named told words p next)
+
+-- words of no form
+pub no_form : (words : List (List ℕ)) → command_of words ≡ None → IsForm words → ⊥
+no_form words none form = absurd (let z : false ≡ true = sym (ap (λ (o : Option Command). is_some o) none) ∙ form in cc)
+
+-- the cause of a text that was not fetched
+unfetched_cause : (words : List (List ℕ)) (c : Change) (p : Part) (r : Refusal) → IsNext c.old.told words p → IsUnfetched words p c.old c.new r → HasCause words c r
+unfetched_cause words c p refusal.Usage next h = absurd h
+unfetched_cause words c p (refusal.Missing q) next h = subst (λ (x : Part). HasCause words c (refusal.Missing x)) (sym h.0) (record { next = next; lacking = h.1 }, h.2)
+unfetched_cause words c p (refusal.ReadFault q) next h = subst (λ (x : Part). HasCause words c (refusal.ReadFault x)) (sym h.0) (next, h.1)
+unfetched_cause words c p (refusal.TooLong q) next h = subst (λ (x : Part). HasCause words c (refusal.TooLong x)) (sym h.0) (record { next = next; long = h.1 }, h.2)
+unfetched_cause words c p (refusal.Schema f) next h = absurd h
+unfetched_cause words c p (refusal.Query f) next h = absurd h
+unfetched_cause words c p (refusal.Limit l) next h = absurd h
+unfetched_cause words c p (refusal.Verilog f) next h = absurd h
+unfetched_cause words c p (refusal.Tuples f) next h = absurd h
+unfetched_cause words c p refusal.Memory next h = h
+
+pub text_leaves : {T : Type 0} (words : List (List ℕ)) (a b : ShelfState) (p : Part) (r : Result T Refusal) → IsNext a.told words p → LeavesText words p a b r → Leaves words a b r
+text_leaves words a b p (Ok x) next h = h
+text_leaves words a b p (Err f) next h = unfetched_cause words (change a b) p f next h
+
+-- of a schema that was not read
+no_schema_cause : (words : List (List ℕ)) (c : Change) (r : Refusal) → IsNamed words part.Schema → HasNoSchema words c.old c.new r → HasCause words c r
+no_schema_cause words c (refusal.Schema f) named h = (record { named = named; text = h.0 }, h.1)
+no_schema_cause words c refusal.Usage named h = absurd h
+no_schema_cause words c (refusal.Missing q) named h = unfetched_cause words c part.Schema (refusal.Missing q) named h
+no_schema_cause words c (refusal.ReadFault q) named h = unfetched_cause words c part.Schema (refusal.ReadFault q) named h
+no_schema_cause words c (refusal.TooLong q) named h = unfetched_cause words c part.Schema (refusal.TooLong q) named h
+no_schema_cause words c (refusal.Query f) named h = absurd h
+no_schema_cause words c (refusal.Limit l) named h = absurd h
+no_schema_cause words c (refusal.Verilog f) named h = absurd h
+no_schema_cause words c (refusal.Tuples f) named h = absurd h
+no_schema_cause words c refusal.Memory named h = h
+
+pub schema_leaves : {T : Type 0} (words : List (List ℕ)) (a b : ShelfState) (r : Result T Refusal) → IsNamed words part.Schema → LeavesSchema words a b r → Leaves words a b r
+schema_leaves words a b (Ok x) named h = h
+schema_leaves words a b (Err f) named h = no_schema_cause words (change a b) f named h
+
+-- of a query that is refused
+pub bad_query : (words : List (List ℕ)) (c : Change) (v : List ℕ) (s : Schema) (f : QueryFault) → IsCalm c.old c.new → IsNamed words part.Query → SchemaPasses c.old.told words s → HasText c.old.told words part.Query (λ text. v ≡ text) → IsQueryFault s v f → HasCause words c (query_refusal (compile.Query f))
+bad_query words c v s f calm named before h is = (record { named = named; schema = s; before = before; text = has_text c.old.told words part.Query (λ text. IsQueryFault s text f) v h is }, calm)
+
+pub over_limit : (words : List (List ℕ)) (c : Change) (v : List ℕ) (s : Schema) (l : Limit) → IsCalm c.old c.new → IsNamed words part.Query → SchemaPasses c.old.told words s → HasText c.old.told words part.Query (λ text. v ≡ text) → IsOverLimit s v l → HasCause words c (query_refusal (compile.Limit l))
+over_limit words c v s l calm named before h is = (record { named = named; schema = s; before = before; text = has_text c.old.told words part.Query (λ text. IsOverLimit s text l) v h is }, calm)
+
+pub query_cause : (words : List (List ℕ)) (c : Change) (v : List ℕ) (s : Schema) (fault : CompileFault) → IsCalm c.old c.new → IsNamed words part.Query → SchemaPasses c.old.told words s → HasText c.old.told words part.Query (λ text. v ≡ text) → IsQueryRefused s v fault → HasCause words c (query_refusal fault)
+query_cause words c v s compile.Memory calm named before h is = calm
+query_cause words c v s (compile.Schema f) calm named before h is = absurd is
+query_cause words c v s (compile.Query f) calm named before h is = bad_query words c v s f calm named before h is
+query_cause words c v s (compile.Limit l) calm named before h is = over_limit words c v s l calm named before h is
+
+pub query_passes : (told : List ℕ → Told) (words : List (List ℕ)) (v : List ℕ) (s t : Schema) (statement : Statement) → t ≡ s → IsNamed words part.Query → SchemaPasses told words s → HasText told words part.Query (λ text. v ≡ text) → IsQuery s v statement → QueryPasses told words t statement
+query_passes told words v s t statement e named before h built =
+    subst (λ (x : Schema). QueryPasses told words x statement) (sym e)
+    (record { named = named; before = before; text = has_text told words part.Query (λ text. IsQuery s text statement) v h built })
+
+-- of a tuple file that is refused
+are_bad : (words : List (List ℕ)) (c : Change) (v : List ℕ) (s : Schema) (statement : Statement) (fault : TupleFault) → IsCommand words Run → QueryPasses c.old.told words s statement → HasText c.old.told words part.Tuples (λ text. v ≡ text)
+    → kept_beats s (gap_of s statement) v ≡ Err fault → AreBadTuples c.old.told words fault
+are_bad words c v s statement fault runs before h f = ToRun runs s statement before (has_text c.old.told words part.Tuples (λ text. kept_beats s (gap_of s statement) text ≡ Err fault) v h f)
+
+-- a fault is told as it is, unless memory ran out
+tuples_told : (fault : TupleFault) (read : Result (List Beat) TupleFault) → Fails fault read → (tuples_refusal fault ≡ refusal.Memory) ⊎ ((tuples_refusal fault ≡ refusal.Tuples fault) × (read ≡ Err fault))
+tuples_told tuples.Memory read f = inl refl
+tuples_told (tuples.NotUtf8 n) read f = inr (refl, f)
+tuples_told (tuples.BadCycle n) read f = inr (refl, f)
+tuples_told (tuples.CycleFalls n) read f = inr (refl, f)
+tuples_told (tuples.CycleTooLarge n) read f = inr (refl, f)
+tuples_told (tuples.UnknownStream n) read f = inr (refl, f)
+tuples_told (tuples.FieldCount n) read f = inr (refl, f)
+tuples_told (tuples.BadValue n) read f = inr (refl, f)
+tuples_told (tuples.StreamTwice n) read f = inr (refl, f)
+tuples_told (tuples.AfterEnd n) read f = inr (refl, f)
+tuples_told (tuples.TooClose n) read f = inr (refl, f)
+
+bad_cause : (words : List (List ℕ)) (c : Change) (fault : TupleFault) (read : Result (List Beat) TupleFault) → IsCalm c.old c.new → (read ≡ Err fault → AreBadTuples c.old.told words fault) → Fails fault read → HasCause words c (tuples_refusal fault)
+bad_cause words c fault read calm bad f = elim (tuples_told fault read f) [
+  | inl e ↦ rw e calm
+  | inr h ↦ rw h.0 (bad h.1, calm)
+]
+
+pub tuples_cause : (words : List (List ℕ)) (c : Change) (v : List ℕ) (s : Schema) (statement : Statement) (fault : TupleFault) → IsCommand words Run → IsCalm c.old c.new → QueryPasses c.old.told words s statement → HasText c.old.told words part.Tuples (λ text. v ≡ text)
+    → Fails fault (kept_beats s (gap_of s statement) v) → HasCause words c (tuples_refusal fault)
+tuples_cause words c v s st fault runs calm before h f = bad_cause words c fault (kept_beats s (gap_of s st) v) calm (are_bad words c v s st fault runs before h) f
+
+-- of one that is to be simulated
+are_bad_file : (words : List (List ℕ)) (c : Change) (v : List ℕ) (s : Schema) (m : Module) (fault : TupleFault) → ModulePasses c.old.told words s m → HasText c.old.told words part.Tuples (λ text. v ≡ text)
+    → beats_of s (records_of v) ≡ Err fault → AreBadTuples c.old.told words fault
+are_bad_file words c v s m fault before h f = ToSim s m before (has_text c.old.told words part.Tuples (λ text. beats_of s (records_of text) ≡ Err fault) v h f)
+
+pub file_cause : (words : List (List ℕ)) (c : Change) (v : List ℕ) (s : Schema) (m : Module) (fault : TupleFault) → IsCalm c.old c.new → ModulePasses c.old.told words s m → HasText c.old.told words part.Tuples (λ text. v ≡ text)
+    → Fails fault (beats_of s (records_of v)) → HasCause words c (tuples_refusal fault)
+file_cause words c v s m fault calm before h f = bad_cause words c fault (beats_of s (records_of v)) calm (are_bad_file words c v s m fault before h) f
+
+pub file_passes : (told : List ℕ → Told) (words : List (List ℕ)) (v : List ℕ) (s : Schema) (m : Module) (beats : List Beat) → ModulePasses told words s m → HasText told words part.Tuples (λ text. v ≡ text)
+    → AreBeatsOf s (records_of v) beats → beats_of s (records_of v) ≡ Ok beats → FilePasses told words s m beats
+file_passes told words v s m beats before h are read = record {
+  before = before;
+  fine = are.fine;
+  text = has_text told words part.Tuples (λ text. beats_of s (records_of text) ≡ Ok beats) v h read;
+}
+
+-- beats that keep the gap
+pub kept_ok : (s : Schema) (gap : ℕ) (v : List ℕ) (beats : List Beat) → beats_of s (records_of v) ≡ Ok beats → Ok tt ≡ close_answer (first_close gap beats) → kept_beats s gap v ≡ Ok beats
+unfolding kept_beats
+kept_ok s gap v beats read close = rw (read, ← close) refl
+
+-- beats that do not
+close_fault : (o : Option ℕ) (fault : TupleFault) → Err fault ≡ close_answer o → (number : ℕ) × (o ≡ Some number) × (fault ≡ tuples.TooClose number)
+close_fault None fault e = absurd cc
+close_fault (Some n) fault e = (n, refl, cc)
+
+close_is : (s : Schema) (gap : ℕ) (v : List ℕ) (beats : List Beat) (n : ℕ) → beats_of s (records_of v) ≡ Ok beats → first_close gap beats ≡ Some n → kept_beats s gap v ≡ Err (tuples.TooClose n)
+unfolding kept_beats
+close_is s gap v beats n read close = rw (read, close) refl
+
+pub kept_close : (s : Schema) (gap : ℕ) (v : List ℕ) (beats : List Beat) (fault : TupleFault) → beats_of s (records_of v) ≡ Ok beats → Err fault ≡ close_answer (first_close gap beats) → Fails fault (kept_beats s gap v)
+kept_close s gap v beats fault read close =
+    let p = close_fault (first_close gap beats) fault close in
+    subst (λ (f : TupleFault). Fails f (kept_beats s gap v)) (sym p.2) (close_is s gap v beats p.0 read p.1)
+
+-- no beats at all
+unkept : (s : Schema) (gap : ℕ) (v : List ℕ) (fault : TupleFault) → beats_of s (records_of v) ≡ Err fault → kept_beats s gap v ≡ Err fault
+unfolding kept_beats
+unkept s gap v fault e = rw e refl
+
+pub kept_bad : (s : Schema) (gap : ℕ) (v : List ℕ) (fault : TupleFault) → Fails fault (beats_of s (records_of v)) → Fails fault (kept_beats s gap v)
+kept_bad s gap v tuples.Memory f = tt
+kept_bad s gap v (tuples.NotUtf8 n) f = unkept s gap v (tuples.NotUtf8 n) f
+kept_bad s gap v (tuples.BadCycle n) f = unkept s gap v (tuples.BadCycle n) f
+kept_bad s gap v (tuples.CycleFalls n) f = unkept s gap v (tuples.CycleFalls n) f
+kept_bad s gap v (tuples.CycleTooLarge n) f = unkept s gap v (tuples.CycleTooLarge n) f
+kept_bad s gap v (tuples.UnknownStream n) f = unkept s gap v (tuples.UnknownStream n) f
+kept_bad s gap v (tuples.FieldCount n) f = unkept s gap v (tuples.FieldCount n) f
+kept_bad s gap v (tuples.BadValue n) f = unkept s gap v (tuples.BadValue n) f
+kept_bad s gap v (tuples.StreamTwice n) f = unkept s gap v (tuples.StreamTwice n) f
+kept_bad s gap v (tuples.AfterEnd n) f = unkept s gap v (tuples.AfterEnd n) f
+kept_bad s gap v (tuples.TooClose n) f = unkept s gap v (tuples.TooClose n) f

@@ -1,0 +1,11 @@
+use Rattle.gl_top_words.specs.declared.command.Part.TheVariants.{Module}
+use Rattle.gl_top_words.proofs.Named.{schema_named}
+use Rattle.gl_top_judging.proofs.Changes.{leaves_later}
+use Rattle.gl_top_judging.proofs.Texts.{sim_names_module}
+use Rattle.gl_top_judging.proofs.simulating.judge_sim.Goals as goal
+
+pub returns-in-Ok-clause-leaves : goal.returns-in-Ok-clause-leaves
+returns-in-Ok-clause-leaves g c = leaves_later _ _ _ _ c.judge_behind_schema.result c.judge_schema.ensures.stays c.in-Ok.ensures.leaves c.judge_behind_schema.ensures.leaves
+
+pub judge_schema-requires-clause-named : goal.judge_schema-requires-clause-named
+judge_schema-requires-clause-named g c = schema_named c.args.words.now Module (sim_names_module c.args.words.now c.requires.sims)

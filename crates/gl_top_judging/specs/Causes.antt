@@ -1,0 +1,143 @@
+-- Why the program ends before anything is written.
+use Rattle.std.specs.Prelude.{◌≡◌, ◌⊎◌, ℕ, ◌<◌, List, length, Result, Ok, Err}
+use Rattle.gl_outside.specs.States.{ShelfState, IsCalm, Missed, Faulted}
+use Rattle.gl_outside.specs.Told.{Told, IsLacking, IfTold}
+use Rattle.gl_schema.specs.declared.schema.Schema.{Schema}
+use Rattle.gl_schema.specs.declared.fault.SchemaFault as faults
+use Rattle.gl_schema.specs.SchemaFaults.{schema_of}
+use Rattle.gl_query.specs.declared.fault.QueryFault.{QueryFault}
+use Rattle.gl_query.specs.declared.tree.Statement.{Statement}
+use Rattle.gl_tuples.specs.declared.fault.TupleFault.{TupleFault}
+use Rattle.gl_tuples.specs.declared.fault.TupleFault.TheVariants as tuples
+use Rattle.gl_query_compiler.specs.declared.fault.CompileFault.{CompileFault}
+use Rattle.gl_query_compiler.specs.declared.fault.CompileFault.TheVariants as compile
+use Rattle.gl_query_judge.specs.Judged.{IsQueryFault}
+use Rattle.gl_figures.specs.declared.Limit.{Limit}
+use Rattle.gl_compiler_text.specs.Built.{gap_of}
+use Rattle.gl_query_judge.specs.Limits.{IsOverLimit}
+use Rattle.gl_verilog.specs.Module.{Module}
+use Rattle.gl_verilog_syntax.specs.declared.fault.VerilogFault.{VerilogFault}
+use Rattle.gl_verilog_syntax.specs.declared.fault.VerilogFault.TheVariants as verilog
+use Rattle.gl_verilog_reader.specs.Reading.{IsFaultIn}
+use Rattle.gl_verilog_fit.specs.Places.{IsPortFault}
+use Rattle.gl_top_words.specs.declared.command.Part.{Part}
+use Rattle.gl_top_words.specs.declared.command.Part.TheVariants as part
+use Rattle.gl_top_notes.specs.declared.notes.Refusal.{Refusal}
+use Rattle.gl_top_notes.specs.declared.notes.Refusal.TheVariants as refusal
+use Rattle.gl_top_words.specs.declared.command.Command.TheVariants.{Run, Sim}
+use Rattle.gl_top_words.specs.Forms.{IsCommand, IsForm, IsNamed, name_of}
+use Rattle.gl_tuple_reader.specs.Filing.{beats_of, records_of}
+use Rattle.gl_top_texts.specs.Texts.{HasText, SchemaPasses}
+use Rattle.gl_top_judging.specs.Passing.{QueryPasses, ModulePasses, kept_beats}
+
+-- the texts before the tuple file pass: a query's to run it, a module's to simulate it
+pub data PassBeforeTuples (told : List ℕ → Told) (words : List (List ℕ)) : Type 0 where
+  OfRun : (runs : IsCommand words Run) (schema : Schema) (statement : Statement) (passes : QueryPasses told words schema statement) → PassBeforeTuples told words
+  OfSim : (schema : Schema) (m : Module) (passes : ModulePasses told words schema m) → PassBeforeTuples told words
+
+-- the words name this text, and every text before it passes
+abbrev pub IsNext : (List ℕ → Told) → List (List ℕ) → Part → Type 0
+IsNext told words part.Schema = IsNamed words part.Schema
+IsNext told words part.Query = IsNamed words part.Query × (schema : Schema) × SchemaPasses told words schema
+IsNext told words part.Module = IsCommand words Sim × (schema : Schema) × SchemaPasses told words schema
+IsNext told words part.Tuples = PassBeforeTuples told words
+
+-- the text of a part is the first that does not pass: no text has its name
+pub record IsMissing (told : List ℕ → Told) (words : List (List ℕ)) (part : Part) : Type 0 where
+  pub next : IsNext told words part
+  pub lacking : IsLacking (told (name_of words part))
+
+-- it is too long
+pub record IsTooLong (told : List ℕ → Told) (words : List (List ℕ)) (part : Part) : Type 0 where
+  pub next : IsNext told words part
+  pub long : IfTold (told (name_of words part)) (λ text. 67108864 < length text)
+
+-- it has no schema, and this is the first fault
+pub record IsBadSchema (told : List ℕ → Told) (words : List (List ℕ)) (fault : faults.SchemaFault) : Type 0 where
+  pub named : IsNamed words part.Schema
+  pub text : HasText told words part.Schema (λ text. schema_of text ≡ Err fault)
+
+-- it has no statement, or one that is not accepted over the schema, and this is the first fault
+pub record IsBadQuery (told : List ℕ → Told) (words : List (List ℕ)) (fault : QueryFault) : Type 0 where
+  pub named : IsNamed words part.Query
+  pub schema : Schema
+  pub before : SchemaPasses told words schema
+  pub text : HasText told words part.Query (λ text. IsQueryFault schema text fault)
+
+-- it has a statement that is accepted over the schema, and its plan passes this limit
+pub record IsOver (told : List ℕ → Told) (words : List (List ℕ)) (limit : Limit) : Type 0 where
+  pub named : IsNamed words part.Query
+  pub schema : Schema
+  pub before : SchemaPasses told words schema
+  pub text : HasText told words part.Query (λ text. IsOverLimit schema text limit)
+
+-- the first fault of a Verilog text over a schema: why it has no module or, where it has one, why this does not fit
+abbrev pub IsModuleFault : Schema → List ℕ → VerilogFault → Type 0
+IsModuleFault schema text verilog.Memory = ⊥
+IsModuleFault schema text (verilog.BadPort at) = IsPortFault text schema at
+IsModuleFault schema text fault = IsFaultIn text fault
+
+abbrev pub IsModuleFaultOrMemory : Schema → List ℕ → VerilogFault → Type 0
+IsModuleFaultOrMemory schema text fault = IsModuleFault schema text fault ⊎ (fault ≡ verilog.Memory)
+
+-- this is the first fault of the Verilog text
+pub record IsBadVerilog (told : List ℕ → Told) (words : List (List ℕ)) (fault : VerilogFault) : Type 0 where
+  pub sims : IsCommand words Sim
+  pub schema : Schema
+  pub before : SchemaPasses told words schema
+  pub text : HasText told words part.Module (λ text. IsModuleFault schema text fault)
+
+-- it is no tuple file of the schema, or, to run, its beats do not keep the gap, and this is the first fault
+pub data AreBadTuples (told : List ℕ → Told) (words : List (List ℕ)) (fault : TupleFault) : Type 0 where
+  ToRun : (runs : IsCommand words Run) (schema : Schema) (statement : Statement) (before : QueryPasses told words schema statement)
+      (text : HasText told words part.Tuples (λ text. kept_beats schema (gap_of schema statement) text ≡ Err fault)) → AreBadTuples told words fault
+  ToSim : (schema : Schema) (m : Module) (before : ModulePasses told words schema m)
+      (text : HasText told words part.Tuples (λ text. beats_of schema (records_of text) ≡ Err fault)) → AreBadTuples told words fault
+
+-- what the words and the texts say of a refusal; a failed read and want of memory are not theirs
+abbrev pub IsRefused : (List ℕ → Told) → List (List ℕ) → Refusal → Type 0
+IsRefused told words refusal.Usage = IsForm words → ⊥
+IsRefused told words (refusal.Missing part) = IsMissing told words part
+IsRefused told words (refusal.ReadFault part) = ⊥
+IsRefused told words (refusal.TooLong part) = IsTooLong told words part
+IsRefused told words (refusal.Schema fault) = IsBadSchema told words fault
+IsRefused told words (refusal.Query fault) = IsBadQuery told words fault
+IsRefused told words (refusal.Limit limit) = IsOver told words limit
+IsRefused told words (refusal.Verilog fault) = IsBadVerilog told words fault
+IsRefused told words (refusal.Tuples fault) = AreBadTuples told words fault
+IsRefused told words refusal.Memory = ⊥
+
+-- a shelf before and after a call
+pub record Change : Type 0 where
+  pub old : ShelfState
+  pub new : ShelfState
+
+abbrev pub change : ShelfState → ShelfState → Change
+change old new = record { old = old; new = new }
+
+-- the cause of a refusal: where the shelf was not the cause, it refused nothing; want of memory is free
+abbrev pub HasCause : List (List ℕ) → Change → Refusal → Type 0
+HasCause words c (refusal.Missing part) = IsMissing c.old.told words part × Missed c.old c.new (name_of words part)
+HasCause words c (refusal.ReadFault part) = IsNext c.old.told words part × Faulted c.old c.new (name_of words part)
+HasCause words c refusal.Memory = IsCalm c.old c.new
+HasCause words c r = IsRefused c.old.told words r × IsCalm c.old c.new
+
+-- what judging leaves: the shelf refused nothing, or there is a refusal with its cause
+abbrev pub Leaves : {T : Type 0} → List (List ℕ) → ShelfState → ShelfState → Result T Refusal → Type 0
+Leaves words old new (Ok x) = IsCalm old new
+Leaves words old new (Err r) = HasCause words (change old new) r
+
+-- a fault of a lower call as a refusal: want of memory is its own
+abbrev pub query_refusal : CompileFault → Refusal
+query_refusal compile.Memory = refusal.Memory
+query_refusal (compile.Query fault) = refusal.Query fault
+query_refusal (compile.Schema fault) = refusal.Schema fault
+query_refusal (compile.Limit limit) = refusal.Limit limit
+
+abbrev pub verilog_refusal : VerilogFault → Refusal
+verilog_refusal verilog.Memory = refusal.Memory
+verilog_refusal fault = refusal.Verilog fault
+
+abbrev pub tuples_refusal : TupleFault → Refusal
+tuples_refusal tuples.Memory = refusal.Memory
+tuples_refusal fault = refusal.Tuples fault

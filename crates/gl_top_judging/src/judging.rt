@@ -1,0 +1,225 @@
+//! Judging the texts: each is read and judged before the next is read.
+
+ghost use Rattle.std.specs.Prelude.{◌≡◌, IfOk};
+ghost use Rattle.gl_schema.specs.Schemas.{IsSchema};
+ghost use Rattle.gl_schema.specs.Beats.{KeepsGap};
+ghost use Rattle.gl_tuple_reader.specs.Entries.{Gives};
+ghost use Rattle.gl_tuples.specs.Gaps.{AreFileBeats, plain_beats};
+ghost use Rattle.gl_top_words.specs.declared.command.Command.TheVariants.{Run};
+ghost use Rattle.gl_top_words.specs.Forms.{IsCommand, IsNamed};
+ghost use Rattle.gl_top_judging.specs.Causes as causes;
+ghost use Rattle.gl_top_judging.specs.Causes.{IsNext, Leaves};
+ghost use Rattle.gl_outside.specs.States.{Stays};
+ghost use Rattle.gl_top_judging.specs.Passing.{QueryPasses, TuplesPass, IsCompiled, IsReady, kept_beats};
+ghost use Rattle.gl_top_texts.specs.Texts.{HasText, SchemaPasses};
+
+use gl_compiler_text::Compiled;
+use gl_top_words::Part;
+use gl_top_matches::Taken;
+use gl_top_notes::Refusal;
+use gl_outside::Shelf;
+use gl_query_compiler::{CompileFault, compile_query};
+use gl_schema::Schema;
+use gl_top_texts::{fetch, fetch_schema};
+use gl_tuple_reader::read_tuples;
+use gl_tuples::{Beats, TupleFault};
+use std::alloc::Global;
+
+/// What the three texts give: the compiled query, and the beats of the tuple file.
+#[derive(Drop)]
+pub struct Job {
+    /// The compiled query.
+    pub compiled: Compiled,
+    /// The beats.
+    pub beats: Beats,
+}
+
+// A fault of a lower call as a refusal.
+fn query_refusal(fault: CompileFault) -> Refusal
+    ensures { result ≡ causes.query_refusal fault }
+{
+    match fault {
+        CompileFault::Memory => Refusal::Memory,
+        CompileFault::Query(fault) => Refusal::Query(fault),
+        CompileFault::Limit(limit) => Refusal::Limit(limit),
+        CompileFault::Schema(fault) => Refusal::Schema(fault),
+    }
+}
+
+/// A fault of a tuple file as a refusal.
+pub fn tuples_refusal(fault: TupleFault) -> Refusal
+    ensures { result ≡ causes.tuples_refusal fault }
+{
+    match fault {
+        TupleFault::Memory => Refusal::Memory,
+        fault => Refusal::Tuples(fault),
+    }
+}
+
+/// Fetches the text of a part, where each text before it passes.
+pub fn text_of<S: Shelf>(
+    alloc: Global,
+    shelf: &mut S,
+    words: &Taken<'_>,
+    part: Part,
+) -> Result<Vec<u8>, Refusal>
+    requires next { IsNext (S.state shelf.old).told words.now part }
+    requires names { (S.state shelf.old).names ≡ words.now }
+    ensures stays { Stays (S.state shelf.old) (S.state shelf.new) }
+    ensures text { let told = (S.state shelf.old).told in
+        IfOk result (λ v. HasText told words.now part (λ text. v.items ≡ text)) }
+    ensures leaves { Leaves words.now (S.state shelf.old) (S.state shelf.new) result }
+{
+    fetch(alloc, shelf, words, part)
+}
+
+/// Reads and judges the schema.
+pub fn judge_schema<S: Shelf>(
+    alloc: Global,
+    shelf: &mut S,
+    words: &Taken<'_>,
+) -> Result<Schema, Refusal>
+    requires named { IsNamed words.now Part.Schema }
+    requires names { (S.state shelf.old).names ≡ words.now }
+    ensures stays { Stays (S.state shelf.old) (S.state shelf.new) }
+    ensures passes { let told = (S.state shelf.old).told in
+        IfOk result (λ schema. SchemaPasses told words.now schema) }
+    ensures leaves { Leaves words.now (S.state shelf.old) (S.state shelf.new) result }
+{
+    fetch_schema(alloc, shelf, words)
+}
+
+// Reads and judges the query.
+fn judge_query<S: Shelf>(
+    alloc: Global,
+    shelf: &mut S,
+    words: &Taken<'_>,
+    schema: Schema,
+) -> Result<Compiled, Refusal>
+    requires named { IsNamed words.now Part.Query }
+    requires passes { SchemaPasses (S.state shelf.old).told words.now schema }
+    requires names { (S.state shelf.old).names ≡ words.now }
+    ensures stays { Stays (S.state shelf.old) (S.state shelf.new) }
+    ensures passes { let told = (S.state shelf.old).told in
+        IfOk result (λ c. QueryPasses told words.now c.schema c.statement) }
+    ensures compiled { IfOk result IsCompiled }
+    ensures leaves { Leaves words.now (S.state shelf.old) (S.state shelf.new) result }
+{
+    let text = text_of(alloc, shelf, words, Part::Query)?;
+    match compile_query(alloc, schema, &text) {
+        Ok(compiled) => Ok(compiled),
+        Err(fault) => Err(query_refusal(fault)),
+    }
+}
+
+// The beats of a text, if they keep the gap.
+fn beats_of(alloc: Global, schema: &Schema, gap: u32, text: &[u8]) -> Result<Beats, TupleFault>
+    requires { IsSchema schema.now }
+    ensures exact { Gives result (kept_beats schema.now gap text.now) }
+    ensures fine { IfOk result (λ beats. AreFileBeats schema.now beats) }
+    ensures gap { IfOk result (λ beats. KeepsGap gap (plain_beats beats)) }
+{
+    let beats = match read_tuples(alloc, schema, text) {
+        Ok(beats) => beats,
+        Err(fault) => return Err(fault),
+    };
+    match beats.keep(gap) {
+        Ok(()) => Ok(beats),
+        Err(fault) => Err(fault),
+    }
+}
+
+// Reads and judges the tuple file.
+fn judge_tuples<S: Shelf>(
+    alloc: Global,
+    shelf: &mut S,
+    words: &Taken<'_>,
+    compiled: &Compiled,
+) -> Result<Beats, Refusal>
+    requires runs { IsCommand words.now Run }
+    requires passes { let told = (S.state shelf.old).told in
+        QueryPasses told words.now compiled.now.schema compiled.now.statement }
+    requires compiled { IsCompiled compiled.now }
+    requires names { (S.state shelf.old).names ≡ words.now }
+    ensures passes { let told = (S.state shelf.old).told in let c = compiled.now in
+        IfOk result (λ beats. TuplesPass told words.now c.schema c.statement beats) }
+    ensures leaves { Leaves words.now (S.state shelf.old) (S.state shelf.new) result }
+{
+    let text = text_of(alloc, shelf, words, Part::Tuples)?;
+    match beats_of(alloc, compiled.schema(), compiled.printed().gap, &text) {
+        Ok(beats) => Ok(beats),
+        Err(fault) => Err(tuples_refusal(fault)),
+    }
+}
+
+// Judges the tuple file, behind the schema and the query.
+fn judge_file<S: Shelf>(
+    alloc: Global,
+    shelf: &mut S,
+    words: &Taken<'_>,
+    compiled: Compiled,
+) -> Result<Job, Refusal>
+    requires runs { IsCommand words.now Run }
+    requires passes { let told = (S.state shelf.old).told in
+        QueryPasses told words.now compiled.schema compiled.statement }
+    requires compiled { IsCompiled compiled }
+    requires names { (S.state shelf.old).names ≡ words.now }
+    ensures ready { IfOk result (λ job. IsReady (S.state shelf.old).told words.now job) }
+    ensures leaves { Leaves words.now (S.state shelf.old) (S.state shelf.new) result }
+{
+    match judge_tuples(alloc, shelf, words, &compiled) {
+        Ok(beats) => Ok(Job { compiled, beats }),
+        Err(refusal) => Err(refusal),
+    }
+}
+
+// Judges the query and the tuple file, behind the schema.
+fn judge_rest<S: Shelf>(
+    alloc: Global,
+    shelf: &mut S,
+    words: &Taken<'_>,
+    schema: Schema,
+) -> Result<Job, Refusal>
+    requires runs { IsCommand words.now Run }
+    requires passes { SchemaPasses (S.state shelf.old).told words.now schema }
+    requires names { (S.state shelf.old).names ≡ words.now }
+    ensures ready { IfOk result (λ job. IsReady (S.state shelf.old).told words.now job) }
+    ensures leaves { Leaves words.now (S.state shelf.old) (S.state shelf.new) result }
+{
+    match judge_query(alloc, shelf, words, schema) {
+        Ok(compiled) => judge_file(alloc, shelf, words, compiled),
+        Err(refusal) => Err(refusal),
+    }
+}
+
+/// Judges the three texts of `run S Q T`.
+pub fn judge_run<S: Shelf>(alloc: Global, shelf: &mut S, words: &Taken<'_>) -> Result<Job, Refusal>
+    requires runs { IsCommand words.now Run }
+    requires names { (S.state shelf.old).names ≡ words.now }
+    ensures ready { IfOk result (λ job. IsReady (S.state shelf.old).told words.now job) }
+    ensures leaves { Leaves words.now (S.state shelf.old) (S.state shelf.new) result }
+{
+    match judge_schema(alloc, shelf, words) {
+        Ok(schema) => judge_rest(alloc, shelf, words, schema),
+        Err(refusal) => Err(refusal),
+    }
+}
+
+/// Judges the two texts of a command that compiles.
+pub fn judge_compile<S: Shelf>(
+    alloc: Global,
+    shelf: &mut S,
+    words: &Taken<'_>,
+) -> Result<Compiled, Refusal>
+    requires named { IsNamed words.now Part.Query }
+    requires names { (S.state shelf.old).names ≡ words.now }
+    ensures passes { let told = (S.state shelf.old).told in
+        IfOk result (λ c. QueryPasses told words.now c.schema c.statement) }
+    ensures compiled { IfOk result IsCompiled }
+    ensures leaves { Leaves words.now (S.state shelf.old) (S.state shelf.new) result }
+{
+    match judge_schema(alloc, shelf, words) {
+        Ok(schema) => judge_query(alloc, shelf, words, schema),
+        Err(refusal) => Err(refusal),
+    }
+}

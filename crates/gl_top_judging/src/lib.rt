@@ -1,0 +1,15 @@
+//! What the texts come to that the words of the command line name: each is read and judged before
+//! the next is read.
+//!
+//! Here belong the order in which texts are judged, what each gives or why it is refused, and what
+//! `figures` shows of a query. What is done with it, and what `explain` shows, belongs to gl_top, and
+//! the line that tells a refusal to gl_top_notes.
+#![tactic(auto)]
+
+pub mod figuring;
+pub mod judging;
+pub mod simulating;
+
+pub use figuring::figures_text;
+pub use judging::{Job, judge_compile, judge_run, judge_schema, text_of};
+pub use simulating::{Fitted, Simulation, judge_sim};

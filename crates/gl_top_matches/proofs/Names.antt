@@ -1,0 +1,30 @@
+-- What clap makes of names alone.
+use Rattle.std.proofs.Common.{◌≡◌, false, [], ◌∷◌, None, refl}
+use Rattle.clap.specs.Words.{Text}
+use Rattle.clap.specs.Simple.{Shape, built}
+use Rattle.clap.specs.Walk.{nothing_held}
+use Rattle.gl_top_words.specs.Forms.{is_dashed}
+use Rattle.gl_top_matches.specs.Apps.{one_name, two_names}
+use Rattle.gl_top_matches.proofs.Ends.{Given, IsAlone, given}
+use Rattle.gl_top_matches.proofs.Steps.{name, stop}
+
+one_alone : IsAlone one_name
+one_alone = record { takes_is = λ command ws. refl; rows_are = λ command ws. refl }
+
+two_alone : IsAlone two_names
+two_alone = record { takes_is = λ command ws. refl; rows_are = λ command ws. refl }
+
+abbrev one : Shape
+one = (built one_name).top
+
+abbrev two : Shape
+two = (built two_names).top
+
+-- `load N`
+pub load_names : (n : Text) → is_dashed n ≡ false → Given one_name (n ∷ []) (n ∷ []) None
+load_names n pn = given one_name (n ∷ []) (n ∷ []) None _ one_alone (name one nothing_held _ 1 2 _ n [] pn refl refl (stop one _)) refl (refl, refl, refl, refl)
+
+-- `compile S Q`, `figures S Q` and `explain S Q`
+pub query_names : (s q : Text) → is_dashed s ≡ false → is_dashed q ≡ false → Given two_names (s ∷ q ∷ []) (s ∷ q ∷ []) None
+query_names s q ps pq = given two_names (s ∷ q ∷ []) (s ∷ q ∷ []) None _ two_alone
+    (name two nothing_held _ 1 2 _ s (q ∷ []) ps refl refl (name two _ _ 2 3 _ q [] pq refl refl (stop two _))) refl (refl, refl, refl, refl)

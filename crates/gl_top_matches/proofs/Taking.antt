@@ -1,0 +1,320 @@
+-- What clap has of the words of a command is what the forms say of them.
+use Rattle.std.proofs.Common.{◌≡◌, ◌∙◌, ◌⊎◌, inl, inr, ℕ, Bool, true, false, ◌≤◌, List, [], ◌∷◌, ◌++◌, length, drop, Option, Some, None, refl, sym, ap, subst, codes, arith, ne_eqb}
+use Rattle.std.specs.Prelude.{bytes_eq, is_some, nat_le, slice_get, unwrap_or, not, ◌==◌, if◌then◌else◌}
+use Rattle.std.specs.List.{list_all}
+use Rattle.std.proofs.lemmas.Bool.{eqb-true, leb-true}
+use Rattle.gl_bits.proofs.Bools.{and_left, and_right, bytes_same}
+use Rattle.gl_schema.specs.Names.{is_digit}
+use Rattle.gl_tuples.specs.Values.{are_digits, is_number, number_in, number_of}
+use Rattle.gl_verilog_orders.specs.declared.start.Start.TheVariants.{Zero}
+use Rattle.clap.specs.Words.{App, HasMatchesOf, Text, first_of, found_of, is_simple, matches_of, rows_of, takes}
+use Rattle.clap.specs.declared.parser.matches.ArgMatches.{ArgMatches}
+use Rattle.clap.proofs.WalkLemmas.{first_value-rows}
+use Rattle.gl_top_words.specs.declared.command.Command.{Command}
+use Rattle.gl_top_words.specs.declared.command.Command.TheVariants.{Compile, Figures, Explain, Run, Sim, Load}
+use Rattle.gl_top_words.specs.Forms.{IsCommand, extra_at, extra_in, extra_of, first_word, is_command, is_dashed, load_at, load_in, load_of, many_names, name_of, names_in, names_of, option_front, option_word, start_at, start_in, start_of, takes_values, values_in, values_of, word_of}
+use Rattle.gl_top_words.proofs.Named.{is_one}
+use Rattle.gl_top_matches.specs.Apps.{Tells, app_for}
+use Rattle.gl_top_matches.specs.Said.{IsSaid, extra_by, start_by}
+use Rattle.gl_top_matches.proofs.Ends.{Given}
+use Rattle.gl_top_matches.proofs.Laid.{AreNames, Placed, bare, parted, placed, three}
+use Rattle.gl_top_matches.proofs.Names.{load_names, query_names}
+use Rattle.gl_top_matches.proofs.Runs.{run_app, run_bare, run_apart_0, run_apart_1, run_apart_2, run_apart_3, run_joined_0, run_joined_1, run_joined_2, run_joined_3}
+use Rattle.gl_top_matches.proofs.Sims.{sim_app, sim_apart_0, sim_apart_1, sim_apart_2, sim_apart_3, sim_joined_0, sim_joined_1, sim_joined_2, sim_joined_3}
+
+-- ---- what names and a value make of the words
+
+abbrev values : Option Text → List (Option Text)
+values None = []
+values (Some v) = Some v ∷ []
+
+start_same : (value : Option Text) → unwrap_or (start_in (values value)) Zero ≡ start_by value
+start_same None = refl
+start_same (Some v) = refl
+
+extra_same : (value : Option Text) → unwrap_or (extra_in (values value)) 0 ≡ extra_by value
+extra_same None = refl
+extra_same (Some v) = refl
+
+abbrev at : List Text → ℕ → Text
+at names k = unwrap_or (slice_get names k) []
+
+said_of : (words names : List Text) (value : Option Text) → names_of words ≡ names → values_of words ≡ values value
+    → load_in names ≡ load_at (number_of (at names 0)) → IsSaid words (at names 0) (at names 1) (at names 2) value
+unfolding name_of start_of extra_of load_of
+said_of words names value named valued load = record {
+  schema = ap (λ (l : List Text). at l 0) named;
+  query = ap (λ (l : List Text). at l 1) named;
+  tuples = ap (λ (l : List Text). at l 2) named;
+  start = ap (λ (l : List (Option Text)). unwrap_or (start_in l) Zero) valued ∙ start_same value;
+  extra = ap (λ (l : List (Option Text)). unwrap_or (extra_in l) 0) valued ∙ extra_same value;
+  load = ap load_in named ∙ load;
+}
+
+-- clap takes the words, and has what they say
+pub record IsRead (words : List Text) (c : Command) : Type 0 where
+  pub takes : takes (app_for c) words ≡ true
+  pub names : List Text
+  pub value : Option Text
+  pub said : IsSaid words (at names 0) (at names 1) (at names 2) value
+  pub first : first_of (codes "first") (matches_of (app_for c) words) ≡ slice_get names 0
+  pub second : first_of (codes "second") (matches_of (app_for c) words) ≡ slice_get names 1
+  pub third : first_of (codes "third") (matches_of (app_for c) words) ≡ slice_get names 2
+  pub last : first_of (codes "value") (matches_of (app_for c) words) ≡ value
+
+read_of : (words ws names : List Text) (c : Command) (value : Option Text) (command : Text) → words ≡ command ∷ ws → Given (app_for c) ws names value
+    → names_of words ≡ names → values_of words ≡ values value → load_in names ≡ load_at (number_of (at names 0)) → IsRead words c
+read_of words ws names c value command same given named valued load = record {
+  takes = ap (takes (app_for c)) same ∙ given.takes command;
+  names = names;
+  value = value;
+  said = said_of words names value named valued load;
+  first = ap (λ (l : List Text). first_of (codes "first") (matches_of (app_for c) l)) same ∙ given.first command;
+  second = ap (λ (l : List Text). first_of (codes "second") (matches_of (app_for c) l)) same ∙ given.second command;
+  third = ap (λ (l : List Text). first_of (codes "third") (matches_of (app_for c) l)) same ∙ given.third command;
+  last = ap (λ (l : List Text). first_of (codes "value") (matches_of (app_for c) l)) same ∙ given.last command;
+}
+
+-- ---- the command's own word
+
+word_is : (words : List Text) (c : Command) → is_command words c ≡ true → first_word words ≡ word_of c
+unfolding is_command
+word_is words c is = bytes_same (first_word words) (word_of c) (and_left _ _ (and_left _ _ (and_left _ _ is)))
+
+many_are : (words : List Text) (c : Command) → is_command words c ≡ true → length (names_of words) ≡ many_names c
+unfolding is_command
+many_are words c is = eqb-true (length (names_of words)) (many_names c) (and_right _ _ (and_left _ _ (and_left _ _ is)))
+
+values_are : (words : List Text) (c : Command) → is_command words c ≡ true → takes_values c (values_of words) ≡ true
+unfolding is_command
+values_are words c is = and_right _ _ is
+
+some_word : (c : Command) → length (word_of c) ≡ 0 → ⊥
+some_word Compile e = omega (arith, e)
+some_word Figures e = omega (arith, e)
+some_word Explain e = omega (arith, e)
+some_word Run e = omega (arith, e)
+some_word Sim e = omega (arith, e)
+some_word Load e = omega (arith, e)
+
+behind_word : (words : List Text) (c : Command) → first_word words ≡ word_of c → words ≡ word_of c ∷ drop 1 words
+behind_word [] c e = absurd (some_word c (ap length (sym e)))
+behind_word (w ∷ ws) c e = ap (λ (x : Text). x ∷ ws) e
+
+option_is : (words : List Text) (word : Text) → first_word words ≡ word → option_word words ≡ (if bytes_eq word (codes "sim") then codes "--extra" else codes "--start")
+unfolding option_word
+option_is words word e = ap (λ (w : Text). if bytes_eq w (codes "sim") then codes "--extra" else codes "--start") e
+
+names_with : (words : List Text) (o : Text) → option_word words ≡ o → names_of words ≡ names_in o false (drop 1 words)
+unfolding names_of
+names_with words o e = ap (λ (x : Text). names_in x false (drop 1 words)) e
+
+values_with : (words : List Text) (o : Text) → option_word words ≡ o → values_of words ≡ values_in o false (drop 1 words)
+unfolding values_of
+values_with words o e = ap (λ (x : Text). values_in x false (drop 1 words)) e
+
+-- ---- names alone
+
+none_taken : (vs : List (Option Text)) → takes_values Compile vs ≡ true → vs ≡ []
+none_taken [] h = refl
+none_taken (v ∷ vs) h = absurd cc
+
+load_by : (words ws : List Text) → words ≡ codes "load" ∷ ws → AreNames ws → length ws ≡ 1 → names_of words ≡ ws → values_of words ≡ [] → IsRead words Load
+load_by words [] same n e named valued = absurd (omega (arith, e))
+load_by words (m ∷ []) same n e named valued = read_of words (m ∷ []) (m ∷ []) Load None (codes "load") same (load_names m n.0) named valued refl
+load_by words (m ∷ u ∷ ws) same n e named valued = absurd (omega (arith, e))
+
+two : (P : List Text → Type 0) → ((s q : Text) → is_dashed s ≡ false → is_dashed q ≡ false → P (s ∷ q ∷ [])) → (ws : List Text) → AreNames ws → length ws ≡ 2 → P ws
+two P p [] n e = absurd (omega (arith, e))
+two P p (s ∷ []) n e = absurd (omega (arith, e))
+two P p (s ∷ q ∷ []) n e = p s q n.0 n.1.0
+two P p (s ∷ q ∷ u ∷ ws) n e = absurd (omega (arith, e))
+
+-- the words have names alone
+pub record AreBare (words : List Text) (c : Command) (ws : List Text) : Type 0 where
+  pub same : words ≡ word_of c ∷ ws
+  pub plain : AreNames ws
+  pub named : names_of words ≡ ws
+  pub valued : values_of words ≡ []
+  pub many : length ws ≡ many_names c
+
+bare_words : (words : List Text) (c : Command) → is_command words c ≡ true → values_of words ≡ [] → AreBare words c (drop 1 words)
+bare_words words c is none =
+    let word = word_is words c is in
+    let o = option_word words in
+    let laid = bare o (drop 1 words) (sym (values_with words o refl) ∙ none) in
+    let named = names_with words o refl ∙ laid.1 in
+    record {
+      same = behind_word words c word;
+      plain = laid.0;
+      named = named;
+      valued = none;
+      many = ap length (sym named) ∙ many_are words c is;
+    }
+
+-- ---- numbers are no options
+
+number_is : (v : Text) → is_some (number_of v) ≡ true → is_number v ≡ true
+unfolding number_of
+number_is v h = by (is_number v) h
+  where
+    by : (b : Bool) → is_some (if b then Some (number_in v) else None) ≡ true → b ≡ true
+    by true e = refl
+    by false e = absurd cc
+
+number_plain : (v : Text) → is_some (number_of v) ≡ true → is_dashed v ≡ false
+unfolding is_number are_digits
+number_plain [] h = refl
+number_plain (x ∷ xs) h =
+    let digits : list_all is_digit (x ∷ xs) ≡ true = and_right (not (length (x ∷ xs) == 0)) (list_all is_digit (x ∷ xs)) (number_is (x ∷ xs) h) in
+    let digit : is_digit x ≡ true = and_left (is_digit x) (list_all is_digit xs) digits in
+    let least : 48 ≤ x = leb-true 48 x (and_left (nat_le 48 x) (nat_le x 57) digit) in
+    ne_eqb x 45 (λ e. omega (arith, e, least))
+
+start_number : (o : Option ℕ) → is_some (start_at o) ≡ true → is_some o ≡ true
+start_number None h = absurd cc
+start_number (Some n) h = refl
+
+extra_number : (o : Option ℕ) → is_some (extra_at o) ≡ true → is_some o ≡ true
+extra_number None h = absurd cc
+extra_number (Some n) h = refl
+
+-- no value, or one that is no option
+abbrev pub MayHave : List (Option Text) → Type 0
+MayHave vs = (vs ≡ []) ⊎ ((v : Text) × (vs ≡ Some v ∷ []) × (is_dashed v ≡ false))
+
+run_values : (vs : List (Option Text)) → takes_values Run vs ≡ true → MayHave vs
+run_values [] h = inl refl
+run_values (None ∷ vs) h = absurd cc
+run_values (Some v ∷ []) h = inr (v, refl, number_plain v (start_number (number_of v) h))
+run_values (Some v ∷ u ∷ vs) h = absurd cc
+
+sim_values : (vs : List (Option Text)) → takes_values Sim vs ≡ true → (v : Text) × (vs ≡ Some v ∷ []) × (is_dashed v ≡ false)
+sim_values [] h = absurd cc
+sim_values (None ∷ vs) h = absurd cc
+sim_values (Some v ∷ []) h = (v, refl, number_plain v (extra_number (number_of v) h))
+sim_values (Some v ∷ u ∷ vs) h = absurd cc
+
+-- ---- three names and a value
+
+abbrev start_front : Text
+start_front = codes "--start"
+
+abbrev extra_front : Text
+extra_front = codes "--extra"
+
+run_apart : (v : Text) → is_dashed v ≡ false → (before behind : List Text) → AreNames before → AreNames behind → length (before ++ behind) ≡ 3
+    → Given run_app (before ++ (start_front ∷ v ∷ behind)) (before ++ behind) (Some v)
+run_apart v p = parted (λ a b. Given run_app (a ++ (start_front ∷ v ∷ b)) (a ++ b) (Some v)) (run_apart_0 v p) (run_apart_1 v p) (run_apart_2 v p) (run_apart_3 v p)
+
+run_joined : (v : Text) → (before behind : List Text) → AreNames before → AreNames behind → length (before ++ behind) ≡ 3
+    → Given run_app (before ++ ((option_front start_front ++ v) ∷ behind)) (before ++ behind) (Some v)
+run_joined v = parted (λ a b. Given run_app (a ++ ((option_front start_front ++ v) ∷ b)) (a ++ b) (Some v)) (run_joined_0 v) (run_joined_1 v) (run_joined_2 v) (run_joined_3 v)
+
+sim_apart : (v : Text) → is_dashed v ≡ false → (before behind : List Text) → AreNames before → AreNames behind → length (before ++ behind) ≡ 3
+    → Given sim_app (before ++ (extra_front ∷ v ∷ behind)) (before ++ behind) (Some v)
+sim_apart v p = parted (λ a b. Given sim_app (a ++ (extra_front ∷ v ∷ b)) (a ++ b) (Some v)) (sim_apart_0 v p) (sim_apart_1 v p) (sim_apart_2 v p) (sim_apart_3 v p)
+
+sim_joined : (v : Text) → (before behind : List Text) → AreNames before → AreNames behind → length (before ++ behind) ≡ 3
+    → Given sim_app (before ++ ((option_front extra_front ++ v) ∷ behind)) (before ++ behind) (Some v)
+sim_joined v = parted (λ a b. Given sim_app (a ++ ((option_front extra_front ++ v) ∷ b)) (a ++ b) (Some v)) (sim_joined_0 v) (sim_joined_1 v) (sim_joined_2 v) (sim_joined_3 v)
+
+run_given : (v : Text) → is_dashed v ≡ false → (ws : List Text) (p : Placed start_front v ws) → length (p.before ++ p.behind) ≡ 3 → Given run_app ws (p.before ++ p.behind) (Some v)
+run_given v plain ws p many = elim p.is [
+  | inl e ↦ subst (λ (l : List Text). Given run_app l (p.before ++ p.behind) (Some v)) (sym e) (run_apart v plain p.before p.behind p.names_before p.names_behind many)
+  | inr e ↦ subst (λ (l : List Text). Given run_app l (p.before ++ p.behind) (Some v)) (sym e) (run_joined v p.before p.behind p.names_before p.names_behind many)
+]
+
+sim_given : (v : Text) → is_dashed v ≡ false → (ws : List Text) (p : Placed extra_front v ws) → length (p.before ++ p.behind) ≡ 3 → Given sim_app ws (p.before ++ p.behind) (Some v)
+sim_given v plain ws p many = elim p.is [
+  | inl e ↦ subst (λ (l : List Text). Given sim_app l (p.before ++ p.behind) (Some v)) (sym e) (sim_apart v plain p.before p.behind p.names_before p.names_behind many)
+  | inr e ↦ subst (λ (l : List Text). Given sim_app l (p.before ++ p.behind) (Some v)) (sym e) (sim_joined v p.before p.behind p.names_before p.names_behind many)
+]
+
+-- the first of three names is a first name
+first_there : (names : List Text) → length names ≡ 3 → load_in names ≡ load_at (number_of (at names 0))
+first_there [] e = absurd (omega (arith, e))
+first_there (s ∷ names) e = refl
+
+run_read : (words : List Text) → is_command words Run ≡ true → IsRead words Run
+run_read words is = elim (run_values (values_of words) (values_are words Run is)) [
+  | inl none ↦
+      let b = bare_words words Run is none in
+      three (λ ws. words ≡ codes "run" ∷ ws → names_of words ≡ ws → IsRead words Run)
+      (λ s q t ps pq pt same named. read_of words (s ∷ q ∷ t ∷ []) (s ∷ q ∷ t ∷ []) Run None (codes "run") same (run_bare s q t ps pq pt) named none refl)
+      (drop 1 words) b.plain b.many b.same b.named
+  | inr h ↦
+      let word = word_is words Run is in
+      let option = option_is words (codes "run") word in
+      let p = placed start_front h.0 refl (drop 1 words) (sym (values_with words start_front option) ∙ h.1) in
+      let named = names_with words start_front option ∙ p.names in
+      let many = ap length (sym named) ∙ many_are words Run is in
+      read_of words (drop 1 words) (p.before ++ p.behind) Run (Some h.0) (codes "run") (behind_word words Run word)
+      (run_given h.0 h.2 (drop 1 words) p many) named h.1 (first_there (p.before ++ p.behind) many)
+]
+
+sim_read : (words : List Text) → is_command words Sim ≡ true → IsRead words Sim
+sim_read words is =
+    let h = sim_values (values_of words) (values_are words Sim is) in
+    let word = word_is words Sim is in
+    let option = option_is words (codes "sim") word in
+    let p = placed extra_front h.0 refl (drop 1 words) (sym (values_with words extra_front option) ∙ h.1) in
+    let named = names_with words extra_front option ∙ p.names in
+    let many = ap length (sym named) ∙ many_are words Sim is in
+    read_of words (drop 1 words) (p.before ++ p.behind) Sim (Some h.0) (codes "sim") (behind_word words Sim word)
+    (sim_given h.0 h.2 (drop 1 words) p many) named h.1 (first_there (p.before ++ p.behind) many)
+
+-- ---- all commands
+
+read_by : (words : List Text) (c : Command) → is_command words c ≡ true → IsRead words c
+read_by words Compile is =
+    let b = bare_words words Compile is (none_taken (values_of words) (values_are words Compile is)) in
+    two (λ ws. words ≡ codes "compile" ∷ ws → names_of words ≡ ws → IsRead words Compile)
+    (λ s q ps pq same named. read_of words (s ∷ q ∷ []) (s ∷ q ∷ []) Compile None (codes "compile") same (query_names s q ps pq) named b.valued refl)
+    (drop 1 words) b.plain b.many b.same b.named
+read_by words Figures is =
+    let b = bare_words words Figures is (none_taken (values_of words) (values_are words Figures is)) in
+    two (λ ws. words ≡ codes "figures" ∷ ws → names_of words ≡ ws → IsRead words Figures)
+    (λ s q ps pq same named. read_of words (s ∷ q ∷ []) (s ∷ q ∷ []) Figures None (codes "figures") same (query_names s q ps pq) named b.valued refl)
+    (drop 1 words) b.plain b.many b.same b.named
+read_by words Explain is =
+    let b = bare_words words Explain is (none_taken (values_of words) (values_are words Explain is)) in
+    two (λ ws. words ≡ codes "explain" ∷ ws → names_of words ≡ ws → IsRead words Explain)
+    (λ s q ps pq same named. read_of words (s ∷ q ∷ []) (s ∷ q ∷ []) Explain None (codes "explain") same (query_names s q ps pq) named b.valued refl)
+    (drop 1 words) b.plain b.many b.same b.named
+read_by words Run is = run_read words is
+read_by words Sim is = sim_read words is
+read_by words Load is =
+    let b = bare_words words Load is (none_taken (values_of words) (values_are words Load is)) in
+    load_by words (drop 1 words) b.same b.plain b.many b.named b.valued
+
+pub read : (words : List Text) (c : Command) → IsCommand words c → IsRead words c
+read words c is = read_by words c (is_one words c is)
+
+-- ---- what clap answers
+
+simple : (c : Command) → is_simple (app_for c) ≡ true
+simple Compile = refl
+simple Figures = refl
+simple Explain = refl
+simple Run = refl
+simple Sim = refl
+simple Load = refl
+
+-- no other refusal than want of memory
+pub takes_all : (words given : List Text) (c : Command) (app : App) → app ≡ app_for c → given ≡ words → IsCommand words c → takes app given ≡ true
+takes_all words given c app app_is given_is is = ap (λ (a : App). takes a given) app_is ∙ ap (takes (app_for c)) given_is ∙ (read words c is).takes
+
+said_by : (words names : List Text) (value : Option Text) (a b c d : Option Text) → IsSaid words (at names 0) (at names 1) (at names 2) value
+    → a ≡ slice_get names 0 → b ≡ slice_get names 1 → c ≡ slice_get names 2 → d ≡ value → IsSaid words (unwrap_or a []) (unwrap_or b []) (unwrap_or c []) d
+said_by words names value a b c d said e f g h = rw (e, f, g, h) said
+
+pub tells : (words given : List Text) (c : Command) (app : App) (m : ArgMatches) → app ≡ app_for c → given ≡ words → IsCommand words c
+    → HasMatchesOf app given m → Tells words m
+tells words given c app m app_is given_is is has =
+    let r = read words c is in
+    let rows : rows_of (found_of m) ≡ matches_of (app_for c) words =
+    (has (ap is_simple app_is ∙ simple c)).0 ∙ ap (λ (a : App). matches_of a given) app_is ∙ ap (matches_of (app_for c)) given_is in
+    let found = λ (id : Text). first_value-rows (found_of m) id ∙ ap (first_of id) rows in
+    said_by words r.names r.value _ _ _ _ r.said (found (codes "first") ∙ r.first) (found (codes "second") ∙ r.second) (found (codes "third") ∙ r.third)
+    (found (codes "value") ∙ r.last)

@@ -1,0 +1,23 @@
+-- The numbers of the statuses.
+use Rattle.std.specs.Prelude.{ℕ, Result, Ok, Err}
+use Rattle.gl_top_notes.specs.declared.status.Status.{Status}
+use Rattle.gl_top_notes.specs.declared.status.Status.TheVariants.{Done, Usage, Missing, ReadFault, WriteFault, Schema, Query, Tuples, Verilog, Limit, Memory, NoEnd}
+
+abbrev pub code_of : Status → ℕ
+code_of Done = 0
+code_of Usage = 1
+code_of Missing = 2
+code_of ReadFault = 3
+code_of WriteFault = 4
+code_of Schema = 5
+code_of Query = 6
+code_of Tuples = 7
+code_of Verilog = 8
+code_of Limit = 9
+code_of Memory = 10
+code_of NoEnd = 11
+
+-- how the program ends; where memory was short before it began, as where it is short in it
+abbrev pub ended_as : {E : Type 0} → Result Status E → Status
+ended_as (Ok status) = status
+ended_as (Err e) = Memory

@@ -1,0 +1,202 @@
+-- What words of a form name.
+use Rattle.std.proofs.Common.{◌≡◌, ℕ, zero, suc, ◌<◌, Bool, true, false, List, [], ◌∷◌, length, drop, Option, Some, None, refl, sym, ap, subst, ◌∙◌, arith}
+use Rattle.std.specs.Prelude.{is_some, slice_get, unwrap_or, Contains, bytes_eq, if◌then◌else◌}
+use Rattle.std.proofs.lemmas.Bool.{eqb-true}
+use Rattle.gl_bits.proofs.Bools.{and_left, and_right}
+use Rattle.gl_bits.proofs.Options.{some_there}
+use Rattle.gl_outside.proofs.Places.{found_is}
+use Rattle.gl_verilog_orders.specs.declared.start.Start.{Start}
+use Rattle.gl_verilog_orders.specs.declared.start.Start.TheVariants.{Zero}
+use Rattle.gl_top_words.specs.declared.command.Part.{Part}
+use Rattle.gl_top_words.specs.declared.command.Part.TheVariants.{Schema, Query, Module, Tuples}
+use Rattle.gl_top_words.specs.declared.command.Command.{Command}
+use Rattle.gl_top_words.specs.declared.command.Command.TheVariants.{Compile, Figures, Explain, Run, Sim, Load}
+use Rattle.gl_top_words.specs.Forms.{IsCommand, IsForm, IsLoadOf, IsNamed, command_of, extra_in, extra_of, is_command, is_dashed, load_in, load_of, many_names, name_of, names_in, names_of, option_word, parts_of, place_of, start_in, start_of, values_of}
+
+-- ---- a name is one of the words
+
+-- what is in a list is in one that has a word more
+behind : (w : List ℕ) (ws : List (List ℕ)) (x : List ℕ) → Contains ws x → Contains (w ∷ ws) x
+behind w ws x c = (suc c.0, omega (arith, c.1), c.2)
+
+in_rest : (words : List (List ℕ)) (x : List ℕ) → Contains (drop 1 words) x → Contains words x
+in_rest [] x c = c
+in_rest (w ∷ ws) x c = behind w ws x c
+
+-- a name of the words from a word on, where it is one of those behind it
+name_here : (o w : List ℕ) (ws : List (List ℕ)) (x : List ℕ)
+    → ((v : Bool) (k : ℕ) → slice_get (names_in o v ws) k ≡ Some x → Contains ws x)
+    → (k : ℕ) → slice_get (names_in o false (w ∷ ws)) k ≡ Some x → Contains (w ∷ ws) x
+name_here o w ws x rest k e = by (bytes_eq w o) (is_dashed w) refl refl
+  where
+    at : (j : ℕ) → slice_get (w ∷ names_in o false ws) j ≡ Some x → Contains (w ∷ ws) x
+    at zero f = found_is (w ∷ ws) 0 x f
+    at (suc j) f = behind w ws x (rest false j f)
+
+    by : (s d : Bool) → bytes_eq w o ≡ s → is_dashed w ≡ d → Contains (w ∷ ws) x
+    by true d p q = behind w ws x (rest true k (rw p at e))
+    by false true p q = behind w ws x (rest false k (rw (p, q) at e))
+    by false false p q = at k (rw (p, q) at e)
+
+is_word : (o : List ℕ) (ws : List (List ℕ)) (x : List ℕ) (v : Bool) (k : ℕ) → slice_get (names_in o v ws) k ≡ Some x → Contains ws x
+is_word o [] x true k e = absurd cc
+is_word o [] x false k e = absurd cc
+is_word o (w ∷ ws) x true k e = behind w ws x (is_word o ws x false k e)
+is_word o (w ∷ ws) x false k e = name_here o w ws x (is_word o ws x) k e
+
+some_at : (xs : List (List ℕ)) (k : ℕ) → k < length xs → slice_get xs k ≡ Some (unwrap_or (slice_get xs k) [])
+some_at [] k lt = absurd (omega arith)
+some_at (x ∷ xs) zero lt = refl
+some_at (x ∷ xs) (suc k) lt = some_at xs k (omega arith)
+
+-- ---- words of a form
+
+-- they are a command
+pub data Commanded (words : List (List ℕ)) (o : Option Command) : Type 0 where
+  Of : (c : Command) (is : is_command words c ≡ true) (same : o ≡ Some c) → Commanded words o
+  Formless : (none : o ≡ None) → Commanded words o
+
+pub commanded : (words : List (List ℕ)) → Commanded words (command_of words)
+unfolding command_of
+commanded words = by (is_command words Compile) (is_command words Figures) (is_command words Explain) (is_command words Run) (is_command words Sim) (is_command words Load)
+    refl refl refl refl refl refl
+  where
+    by : (a f b c s l : Bool) → is_command words Compile ≡ a → is_command words Figures ≡ f → is_command words Explain ≡ b
+        → is_command words Run ≡ c → is_command words Sim ≡ s → is_command words Load ≡ l
+        → Commanded words (if is_command words Compile then Some Compile
+        else if is_command words Figures then Some Figures
+        else if is_command words Explain then Some Explain
+        else if is_command words Run then Some Run
+        else if is_command words Sim then Some Sim
+        else if is_command words Load then Some Load
+        else None)
+    by true f b c s l p g q r t o = Of Compile p (rw p refl)
+    by false true b c s l p g q r t o = Of Figures g (rw (p, g) refl)
+    by false false true c s l p g q r t o = Of Explain q (rw (p, g, q) refl)
+    by false false false true s l p g q r t o = Of Run r (rw (p, g, q, r) refl)
+    by false false false false true l p g q r t o = Of Sim t (rw (p, g, q, r, t) refl)
+    by false false false false false true p g q r t o = Of Load o (rw (p, g, q, r, t, o) refl)
+    by false false false false false false p g q r t o = Formless (rw (p, g, q, r, t, o) refl)
+
+pub form_of : (words : List (List ℕ)) (c : Command) → IsCommand words c → IsForm words
+form_of words c is = rw is refl
+
+-- the words of a command are those of no other
+pub is_one : (words : List (List ℕ)) (c : Command) → IsCommand words c → is_command words c ≡ true
+is_one words c is = by (commanded words)
+  where
+    by : Commanded words (command_of words) → is_command words c ≡ true
+    by (Of d holds same) =
+        let e : ◌≡◌ {A = Option Command} (Some d) (Some c) = sym same ∙ is in
+        let r : d ≡ c = cc in
+        subst (λ (x : Command). is_command words x ≡ true) r holds
+    by (Formless none) = absurd (let e : ◌≡◌ {A = Option Command} None (Some c) = sym none ∙ is in cc)
+
+-- they are of one command
+pub one_command : (words : List (List ℕ)) (c d : Command) → IsCommand words c → IsCommand words d → c ≡ d
+one_command words c d is is' = let e : ◌≡◌ {A = Option Command} (Some c) (Some d) = sym is ∙ is' in cc
+
+-- ---- the texts that they name
+
+names_are : (words : List (List ℕ)) (c : Command) → is_command words c ≡ true → length (names_of words) ≡ many_names c
+unfolding is_command
+names_are words c is = eqb-true (length (names_of words)) (many_names c) (and_right _ _ (and_left _ _ (and_left _ _ is)))
+
+-- each text has a name in its place
+place_two : (p : Part) → Contains (Schema ∷ Query ∷ []) p → place_of p < 2
+place_two Schema h = omega arith
+place_two Query h = omega arith
+place_two Module h = omega arith
+place_two Tuples (zero, l, e) = absurd cc
+place_two Tuples (suc zero, l, e) = absurd cc
+place_two Tuples (suc (suc k), l, e) = absurd (omega (arith, l))
+
+place_three : (p : Part) → place_of p < 3
+place_three Schema = omega arith
+place_three Query = omega arith
+place_three Module = omega arith
+place_three Tuples = omega arith
+
+place_within : (c : Command) (p : Part) → Contains (parts_of c) p → place_of p < many_names c
+place_within Compile p h = place_two p h
+place_within Figures p h = place_two p h
+place_within Explain p h = place_two p h
+place_within Run p h = place_three p
+place_within Sim p h = place_three p
+place_within Load p h = absurd (omega (arith, h.1))
+
+-- the name of a text that the words name is one of the words
+pub named : (words : List (List ℕ)) (p : Part) → IsNamed words p → Contains words (name_of words p)
+unfolding name_of names_of
+named words p is =
+    let many = names_are words is.command (is_one words is.command is.is) in
+    let lt = place_within is.command p is.names in
+    in_rest words _ (is_word (option_word words) (drop 1 words) _ false (place_of p) (some_at (names_of words) (place_of p) (omega (arith, many, lt))))
+
+-- a command that names a text names a schema
+first_part : (c : Command) (p : Part) → Contains (parts_of c) p → Contains (parts_of c) Schema
+first_part Compile p h = (0, omega arith, refl)
+first_part Figures p h = (0, omega arith, refl)
+first_part Explain p h = (0, omega arith, refl)
+first_part Run p h = (0, omega arith, refl)
+first_part Sim p h = (0, omega arith, refl)
+first_part Load p h = absurd (omega (arith, h.1))
+
+pub schema_named : (words : List (List ℕ)) (p : Part) → IsNamed words p → IsNamed words Schema
+schema_named words p is = record { command = is.command; is = is.is; names = first_part is.command p is.names }
+
+pub named_form : (words : List (List ℕ)) (p : Part) → IsNamed words p → IsForm words
+named_form words p is = form_of words is.command is.is
+
+-- words of a command name its texts alone
+parts_are : (words : List (List ℕ)) (c : Command) (p : Part) → IsCommand words c → IsNamed words p → Contains (parts_of c) p
+parts_are words c p is h = subst (λ (d : Command). Contains (parts_of d) p) (one_command words h.command c h.is is) h.names
+
+pub load_names_none : (words : List (List ℕ)) (p : Part) → IsCommand words Load → IsNamed words p → ⊥
+load_names_none words p is h = let c = parts_are words Load p is h in omega (arith, c.1)
+
+no_query : Contains (parts_of Sim) Query → ⊥
+no_query (zero, l, e) = absurd cc
+no_query (suc zero, l, e) = absurd cc
+no_query (suc (suc zero), l, e) = absurd cc
+no_query (suc (suc (suc k)), l, e) = absurd (omega (arith, l))
+
+pub sim_names_no_query : (words : List (List ℕ)) → IsCommand words Sim → IsNamed words Query → ⊥
+sim_names_no_query words is h = no_query (parts_are words Sim Query is h)
+
+-- ---- the tuples of a load
+
+load_takes : (words : List (List ℕ)) → is_command words Load ≡ true → is_some (load_in (names_of words)) ≡ true
+unfolding is_command
+load_takes words is = and_right _ _ (and_left _ _ is)
+
+-- the words of a load say how many
+pub load_given : (words : List (List ℕ)) → IsCommand words Load → (n : ℕ) × IsLoadOf words n
+unfolding load_of
+load_given words is =
+    let there = some_there (load_in (names_of words)) (load_takes words (is_one words Load is)) in
+    (there.0, record { loads = is; many = there.1 })
+
+-- ---- the start of a run
+
+run_takes : (words : List (List ℕ)) → is_command words Run ≡ true → is_some (start_in (values_of words)) ≡ true
+unfolding is_command
+run_takes words is = and_right _ _ is
+
+pub start_given : (words : List (List ℕ)) → IsCommand words Run → start_in (values_of words) ≡ Some (start_of words)
+unfolding start_of
+start_given words is =
+    let there = some_there (start_in (values_of words)) (run_takes words (is_one words Run is)) in
+    there.1 ∙ ap (λ (o : Option Start). Some (unwrap_or o Zero)) (sym there.1)
+
+-- ---- the cycles that are waited for the end
+
+sim_takes : (words : List (List ℕ)) → is_command words Sim ≡ true → is_some (extra_in (values_of words)) ≡ true
+unfolding is_command
+sim_takes words is = and_right _ _ is
+
+pub extra_given : (words : List (List ℕ)) → IsCommand words Sim → extra_in (values_of words) ≡ Some (extra_of words)
+unfolding extra_of
+extra_given words is =
+    let there = some_there (extra_in (values_of words)) (sim_takes words (is_one words Sim is)) in
+    there.1 ∙ ap (λ (o : Option ℕ). Some (unwrap_or o 0)) (sym there.1)

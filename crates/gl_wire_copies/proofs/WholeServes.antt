@@ -1,0 +1,245 @@
+-- A front that rotates, copies that serve a closing body, and the back of one cycle: what the whole serves, with its lines.
+use Rattle.std.proofs.Common.{◌≡◌, ℕ, zero, suc, ◌+◌, ◌-◌, ◌*◌, ◌<◌, ◌≤◌, List, [], ◌∷◌, ◌++◌, length, map, Option, Some, None, Bool, true, false, ◌||◌, refl, sym, ap, ◌∙◌, subst, arith, inl, inr, ◌⊎◌, length-append}
+use Rattle.std.specs.Prelude.{option_to_list, if◌then◌else◌}
+use Rattle.std.proofs.lemmas.Bool.{cases_lt, or_cases, or_left, or_right}
+use Rattle.std.proofs.lemmas.List.{append-nil}
+use Rattle.gl_algebra.specs.declared.figures.Figures.{Figures}
+use Rattle.gl_algebra.specs.FigureTable.{IsSound, stride_of}
+use Rattle.gl_bits.specs.Results.{Row, Results, AreJoined}
+use Rattle.gl_wire.specs.Apart.{Carries, an_end}
+use Rattle.gl_wire.specs.Beats.{Beats, beats_of, Spaced, Ends}
+use Rattle.gl_wire.specs.Wire.{Carried, pending, stream, rows}
+use Rattle.gl_wire.specs.Serves.{HasEnd, Fits, Served}
+use Rattle.gl_wire.specs.Shapes.{IsDelayed}
+use Rattle.gl_wire.specs.Spills.{Lines, ServedWithLines}
+use Rattle.gl_wire.proofs.FurtherLemmas.{end_of, is_end_of}
+use Rattle.gl_wire.proofs.RowsLemmas.{rows-part, rows-one, rows-quiet, pending-rows}
+use Rattle.gl_wire_copies.specs.Lift.{Visits, visits, with_visit, tuple_of_any, all_of, Joined, LiftedWithLines}
+use Rattle.gl_wire_copies.specs.Timed.{Begins, at_first, after_end, Origin, Timed}
+use Rattle.gl_wire_copies.specs.Rotates.{Rotates, OverCopies, lines_of_all, turns_of, delay_of_whole}
+use Rattle.gl_wire_copies.proofs.AnyLemmas.{any_false, any_true, some_line, first_true}
+use Rattle.gl_wire_copies.proofs.LiftLemmas.{joined, Apart}
+use Rattle.gl_wire_copies.proofs.TimeLemmas.{next_stream}
+use Rattle.gl_wire_copies.proofs.WholeFits.{whole_is}
+use Rattle.gl_wire_copies.proofs.WholeTime.{IsWhole}
+
+module _ (f s h : Figures) (count g1 g2 : ℕ) (few many : ℕ → ℕ) {Part : Type 0} (of : ℕ × List Row → Part) (parts : List Row → List Part) (figs : OverCopies f s h count g1 g2 few many)
+    (sound_f : IsSound f) (sound_s : IsSound s) (beats : Beats) (spaced : Spaced h beats) (a : Carried) (fits : Fits f beats a) (timed : Timed g1 g2 a)
+    (who : Visits) (ins outs : ℕ → Carried) (rot : Rotates s count g1 few many of parts a who ins) (b : Carried) (whole : IsWhole s h count beats a who outs b)
+    (OfPart : Part → Results) (lines : ℕ → Lines) (lifted : LiftedWithLines s (λ u xs. OfPart (of (u, xs))) count who lines ins outs) where
+  abbrev turns : ℕ
+  turns = turns_of count s
+
+  abbrev delay : ℕ
+  delay = delay_of_whole count s
+
+  abbrev any_spill : List (ℕ × List Row) → Bool
+  any_spill [] = false
+  any_spill (v ∷ vs) = lifted.spill v.0 || any_spill vs
+
+  are_joined : (vs : List (ℕ × List Row)) (ys : List Row) → Joined (λ u xs zs. OfPart (of (u, xs)) zs (lifted.spill u)) vs ys → AreJoined OfPart (map of vs) ys (any_spill vs)
+  are_joined [] ys j = (j, refl)
+  are_joined (v ∷ vs) ys (zs, ws, one, rest, is) = (zs, ws, lifted.spill v.0, any_spill vs, one, are_joined vs ws rest, is, refl)
+
+  from_low : (d : ℕ) → a.ends d ≡ true → rot.from d ≤ d + turns + 2
+  from_low d p = by (rot.begins d p)
+    where
+      by : Begins (count * stride_of s) a (rot.from d) d → rot.from d ≤ d + turns + 2
+      by (at_first z none) = omega (arith, z)
+      by (after_end u e l z none) = let y = timed.after u d e (an_end p) l in omega (arith, y, z, figs.flush)
+
+  after_stream : (d v k : ℕ) → a.ends d ≡ true → who v ≡ Some k → d + turns + 2 ≤ v → d + turns + 2 + s.le + 1 ≤ v + s.a
+  after_stream d v k p w l =
+      let o = rot.origin v k w in
+      let y = timed.after d o.of p o.carries (omega (arith, o.high, l)) in
+      omega (arith, y, o.low, figs.flush, whole.turned, sound_s.tuples_last, sound_s.end_last)
+
+  abbrev Whole : ℕ → ℕ → Type 0
+  Whole c n = Apart s (λ u xs ys. OfPart (of (u, xs)) ys (lifted.spill u)) count who ins outs rot.schedules.apart lifted.lifted.near lifted.lifted.visit c n
+
+  around : (d : ℕ) (p : a.ends d ≡ true) → Whole (rot.from d) (d + turns + 2 - rot.from d)
+  around d p = record {
+    before = λ v k w l. before v k w l (rot.begins d p);
+    after = λ v k w l. let y = after_stream d v k p w (omega (arith, l, from_low d p)) in omega (arith, y, from_low d p);
+  }
+    where
+      before : (v k : ℕ) → who v ≡ Some k → v < rot.from d → Begins (count * stride_of s) a (rot.from d) d → v + (s.le + 1) ≤ rot.from d + s.a
+      before v k w l (at_first z none) = absurd (omega (arith, z, l))
+      before v k w l (after_end u e n z none) =
+          let o = rot.origin v k w in
+          elim (cases_lt u o.of) [
+            | inl y ↦ absurd (let x = timed.after u o.of e o.carries y in omega (arith, x, z, figs.flush, o.low, l))
+            | inr y ↦ omega (arith, y, o.high, z, whole.turned, sound_s.tuples_last, sound_s.end_last)
+          ]
+
+  -- the whole's stream is all that came from the first to the last visit
+  whole_stream : (d : ℕ) → a.ends d ≡ true → stream b (d + delay) ≡ rows (all_of outs count) (rot.from d + s.a) (d + turns + 2 - rot.from d + (s.le - s.a))
+  whole_stream d p =
+      let n : (suc (rot.from d + s.a)) + (d + turns + 2 - rot.from d + (s.le - s.a)) ≡ d + delay = omega (arith, from_low d p, sound_s.tuples_last, sound_s.end_last) in
+      ap (λ z. pending b (d + delay) ++ option_to_list z) (last_none (b.tuple (d + delay)) refl)
+      ∙ append-nil (pending b (d + delay))
+      ∙ ap (pending b) (sym n)
+      ∙ pending-rows b (d + turns + 2 - rot.from d + (s.le - s.a)) (suc (rot.from d + s.a)) (λ c l q. calm c l (omega (arith, q, n)) (b.ends c) refl (rot.begins d p))
+      ∙ ap (λ z. z ++ rows b (suc (rot.from d + s.a)) (d + turns + 2 - rot.from d + (s.le - s.a))) (first (rot.begins d p))
+      ∙ whole.rows_of (d + turns + 2 - rot.from d + (s.le - s.a)) (rot.from d + s.a)
+    where
+      last_none : (x : Option Row) → b.tuple (d + delay) ≡ x → b.tuple (d + delay) ≡ None
+      last_none None e = e
+      last_none (Some r) e = let z = whole.cause_of (d + delay) r e in absurd (let y = after_stream d z.v z.k p z.visit (omega (arith, z.high)) in omega (arith, y, z.low))
+
+      calm : (c : ℕ) → suc (rot.from d + s.a) ≤ c → c < d + delay → (e : Bool) → b.ends c ≡ e → Begins (count * stride_of s) a (rot.from d) d → b.ends c ≡ false
+      calm c l q false e g = e
+      calm c l q true e (at_first z none) = let x = whole.from_end c e in absurd (none x.0 (omega (arith, x.1, q)) x.2)
+      calm c l q true e (after_end u y n z none) = let x = whole.from_end c e in elim (cases_lt u x.0) [
+        | inl w ↦ absurd (none x.0 w (omega (arith, x.1, q)) x.2)
+        | inr w ↦ absurd (omega (arith, x.1, w, z, l, whole.turned, sound_s.tuples_last, sound_s.end_last))
+      ]
+
+      early : (c : ℕ) → c < s.a + 1 → (x : Option Row) → b.tuple c ≡ x → b.tuple c ≡ None
+      early c l None e = e
+      early c l (Some r) e = absurd (let z = whole.cause_of c r e in omega (arith, z.low, l))
+
+      no_end_early : (c : ℕ) → c < s.a + 1 → (x : Bool) → b.ends c ≡ x → b.ends c ≡ false
+      no_end_early c l false e = e
+      no_end_early c l true e = absurd (let x = whole.from_end c e in omega (arith, x.1, l, sound_s.tuples_last, sound_s.end_last))
+
+      first : Begins (count * stride_of s) a (rot.from d) d → pending b (suc (rot.from d + s.a)) ≡ []
+      first (at_first z none) =
+          let e : suc (rot.from d + s.a) ≡ 0 + (s.a + 1) = omega (arith, z) in
+          ap (pending b) e ∙ pending-rows b (s.a + 1) 0 (λ c l q. no_end_early c (omega (arith, q)) (b.ends c) refl)
+          ∙ rows-quiet b (s.a + 1) 0 (λ c l q. early c (omega (arith, q)) (b.tuple c) refl)
+      first (after_end u y n z none) =
+          let e : suc (rot.from d + s.a) ≡ suc (u + delay) = omega (arith, z, whole.turned, sound_s.tuples_last, sound_s.end_last) in
+          let x : b.ends (u + delay) ≡ true = whole.end_of u ∙ y in
+          ap (pending b) e ∙ ap (λ (q : Bool). if q then [] else pending b (u + delay) ++ option_to_list (b.tuple (u + delay))) x
+
+  abbrev spill_of : ℕ → Bool
+  spill_of d = any_spill (visits who ins (rot.from d) (d + turns + 2 - rot.from d))
+
+  result_of : (d : ℕ) → a.ends d ≡ true → AreJoined OfPart (parts (stream a d)) (stream b (d + delay)) (spill_of d)
+  result_of d p =
+      let j = joined s (λ u xs ys. OfPart (of (u, xs)) ys (lifted.spill u)) count who ins outs rot.schedules.apart lifted.lifted.near lifted.lifted.visit (d + turns + 2 - rot.from d) (d + turns + 2 - rot.from d) (rot.from d) (omega arith) (omega (arith, sound_s.tuples_last, sound_s.end_last)) (around d p) in
+      let r = are_joined (visits who ins (rot.from d) (d + turns + 2 - rot.from d)) (rows (all_of outs count) (rot.from d + s.a) (d + turns + 2 - rot.from d + (s.le - s.a))) j in
+      subst (λ ys. AreJoined OfPart (parts (stream a d)) ys (spill_of d)) (sym (whole_stream d p)) (subst (λ ps. AreJoined OfPart ps (rows (all_of outs count) (rot.from d + s.a) (d + turns + 2 - rot.from d + (s.le - s.a))) (spill_of d)) (rot.parted d p) r)
+
+  at_delay : (t d e : ℕ) → beats t ≡ Some true → HasEnd f a t d → HasEnd h b t e → e ≡ d + delay
+  at_delay t d e p hd he =
+      let o = whole.fit.end t p in
+      let here : HasEnd h b t (d + delay) = record { is = whole.end_of d ∙ hd.is; low = omega (arith, hd.low, figs.a, sound_s.tuples_last, sound_s.end_last); high = omega (arith, hd.high, figs.le) } in
+      o.only e he ∙ sym (o.only (d + delay) here)
+
+  whole_served : Served f h (λ t xs ys. AreJoined OfPart (parts xs) ys (spill_of (end_of f beats a fits t))) beats a b
+  whole_served = record {
+    fits = whole.fit;
+    results = λ t d e p hd he.
+        let r = result_of d hd.is in
+        let same : d ≡ end_of f beats a fits t = sym (is_end_of f beats a fits t d p hd) in
+        let at : d + delay ≡ e = sym (at_delay t d e p hd he) in
+        subst (λ z. AreJoined OfPart (parts (stream a d)) (stream b e) (spill_of z)) same (subst (λ z. AreJoined OfPart (parts (stream a d)) (stream b z) (spill_of d)) at r);
+    later = λ t d e p hd he. omega (arith, at_delay t d e p hd he);
+  }
+
+  -- ---- the lines
+
+  spilling : (n c : ℕ) → any_spill (visits who ins c n) ≡ true → (v : ℕ) × (k : ℕ) × (who v ≡ Some k) × (lifted.spill v ≡ true)
+  spilling zero c h = absurd (cc)
+  spilling (suc n) c h = by (who c) refl h (λ e. spilling n (suc c) e)
+    where
+      by : (o : Option ℕ) → who c ≡ o → any_spill (with_visit o c (λ k. stream (ins k) c) (visits who ins (suc c) n)) ≡ true → (any_spill (visits who ins (suc c) n) ≡ true → (v : ℕ) × (k : ℕ) × (who v ≡ Some k) × (lifted.spill v ≡ true)) → (v : ℕ) × (k : ℕ) × (who v ≡ Some k) × (lifted.spill v ≡ true)
+      by None p q ih = ih q
+      by (Some k) p q ih = elim (or_cases (lifted.spill c) (any_spill (visits who ins (suc c) n)) q) [ inl e ↦ (c, k, p, e) | inr e ↦ ih e ]
+
+  spilt : (n c v k : ℕ) → who v ≡ Some k → c ≤ v → v < c + n → lifted.spill v ≡ true → any_spill (visits who ins c n) ≡ true
+  spilt zero c v k w l q e = absurd (omega (arith, l, q))
+  spilt (suc n) c v k w l q e = by (who c) refl (cases_lt c v) (λ x. spilt n (suc c) v k w x (omega (arith, q)) e)
+    where
+      by : (o : Option ℕ) → who c ≡ o → ((c < v) ⊎ (v ≤ c)) → (suc c ≤ v → any_spill (visits who ins (suc c) n) ≡ true) → any_spill (with_visit o c (λ i. stream (ins i) c) (visits who ins (suc c) n)) ≡ true
+      by None p (inl x) ih = ih x
+      by None p (inr x) ih = absurd (let g : v ≡ c = omega (arith, l, x) in let y = ap who g in cc (y, w, p))
+      by (Some j) p (inl x) ih = or_right (lifted.spill c) (any_spill (visits who ins (suc c) n)) (ih x)
+      by (Some j) p (inr x) ih = let g : v ≡ c = omega (arith, l, x) in or_left (lifted.spill c) (any_spill (visits who ins (suc c) n)) (ap lifted.spill (sym g) ∙ e)
+
+  -- where the beats end, the first end at or after what came
+  next_end : Ends beats → (x : ℕ) → Carries a x → (d : ℕ) × (x ≤ d) × (a.ends d ≡ true) × ((j : ℕ) → x ≤ j → j < d → a.ends j ≡ false)
+  next_end en x k = next_stream f h beats a sound_f (omega (arith, sound_f.tuples_gap, figs.keeps)) (omega (arith, figs.ge, figs.flush)) spaced fits en x k
+
+  -- a visit belongs to the stream of the first end after what let it end
+  in_stream : (v k d : ℕ) → who v ≡ Some k → (o : Origin turns g1 (stride_of s) a v) → o.of ≤ d → a.ends d ≡ true → ((j : ℕ) → o.of ≤ j → j < d → a.ends j ≡ false) → (rot.from d ≤ v) × (v < d + turns + 2)
+  in_stream v k d w o l p none = (low (rot.begins d p), omega (arith, o.high, l))
+    where
+      low : Begins (count * stride_of s) a (rot.from d) d → rot.from d ≤ v
+      low (at_first z g) = omega (arith, z)
+      low (after_end u e n z g) = elim (cases_lt u o.of) [
+        | inl y ↦ (let x = timed.after u o.of e o.carries y in omega (arith, x, z, o.low, figs.flush))
+        | inr y ↦ absurd (let x = none u y n in cc (x, e))
+      ]
+
+  beat_end : (r : Carried) (c : ℕ) → r.ends c ≡ true → beats_of r c ≡ Some true
+  beat_end r c e = rw e refl
+
+  -- where the beats end, each copy's do
+  copies_end : Ends beats → (k : ℕ) → k < count → Ends (beats_of (ins k))
+  copies_end en k l = record { ends = λ t e p. by t ((ins k).ends t) refl ((ins k).tuple t) refl e p }
+    where
+      later : (t : ℕ) (r : Row) → (ins k).ends t ≡ false → (ins k).tuple t ≡ Some r → (u : ℕ) × (t ≤ u) × (beats_of (ins k) u ≡ Some true)
+      later t r n h =
+          let x = rot.caused k t r l h n in
+          let e = next_end en x.0 x.2 in
+          let hi : ℕ = e.0 + turns + 2 in
+          elim (first_true (ins k).ends (e.0 + turns + 2 - t) t) [
+            | inl (i, y, z, p, g) ↦ (i, y, beat_end (ins k) i p)
+            | inr g ↦ absurd (
+                let at : t + (e.0 + turns + 2 - t) ≡ e.0 + turns + 2 = omega (arith, x.1, e.1) in
+                let full = rot.empties e.0 k e.2 l in
+                let grown = pending-rows (ins k) (e.0 + turns + 2 - t) t g in
+                let one = rows-one (ins k) t r h in
+                let part = rows-part (ins k) t (e.0 + turns + 2 - t) t 1 (omega arith) (omega (arith, x.1, e.1)) in
+                let len : length (pending (ins k) (e.0 + turns + 2)) ≡ length (pending (ins k) t) + length (rows (ins k) t (e.0 + turns + 2 - t)) = ap (λ z. length (pending (ins k) z)) (sym at) ∙ ap length grown ∙ length-append (pending (ins k) t) (rows (ins k) t (e.0 + turns + 2 - t)) in
+                let zero_len : length (pending (ins k) (e.0 + turns + 2)) ≡ 0 = ap length full in
+                omega (arith, len, zero_len, one, part))
+          ]
+
+      by : (t : ℕ) (x : Bool) → (ins k).ends t ≡ x → (o : Option Row) → (ins k).tuple t ≡ o → (e : Bool) → beats_of (ins k) t ≡ Some e → (u : ℕ) × (t ≤ u) × (beats_of (ins k) u ≡ Some true)
+      by t true n o h e p = (t, omega arith, beat_end (ins k) t n)
+      by t false n (Some r) h e p = later t r n h
+      by t false n None h e p = absurd (let z : beats_of (ins k) t ≡ None = rw (n, h) refl in cc (z, p))
+
+  lines_of_whole : ServedWithLines f h (λ xs ys p. AreJoined OfPart (parts xs) ys p) (lines_of_all lines count) beats a b
+  lines_of_whole = record {
+    spill = λ t. spill_of (end_of f beats a fits t);
+    served = whole_served;
+    low = λ c. any_false (λ k. (lines k).passed c) count (λ k l. lifted.low k c l);
+    told = λ en t p e.
+        let v = spilling (end_of f beats a fits t + turns + 2 - rot.from (end_of f beats a fits t)) (rot.from (end_of f beats a fits t)) e in
+        let x = lifted.told (copies_end en) v.0 v.1 v.2 v.3 in
+        (x.1, any_true (λ k. (lines k).further x.1) count x.0 x.2 x.3);
+    so = λ en c e.
+        let k = some_line (λ i. (lines i).further c) count e in
+        let v = lifted.so (copies_end en) k.0 c k.1 k.2 in
+        let o = rot.origin v.0 k.0 v.1 in
+        let d = next_end en o.of o.carries in
+        let i = in_stream v.0 k.0 d.0 v.1 o d.1 d.2 d.3 in
+        let q = fits.ends d.0 d.2 in
+        let same = is_end_of f beats a fits q.beat d.0 q.is (record { is = d.2; low = q.low; high = q.high }) in
+        let at : spill_of (end_of f beats a fits q.beat) ≡ spill_of d.0 = ap spill_of same in
+        (q.beat, q.is, at ∙ spilt (d.0 + turns + 2 - rot.from d.0) (rot.from d.0) v.0 k.0 v.1 i.0 (omega (arith, i.0, i.1)) v.2);
+    late = λ en c e.
+        let k = some_line (λ i. (lines i).further c) count e in
+        let v = lifted.late (copies_end en) k.0 c k.1 k.2 in
+        let o = rot.origin v.0 k.0 v.1 in
+        let d = next_end en o.of o.carries in
+        (d.0 + delay, omega (arith, v.2, o.high, d.1), whole.end_of d.0 ∙ d.2);
+  }
+
+-- the law of a whole: a front that rotates over a source that is in time, copies that are lifted, and a back of one cycle with the end
+-- that much later, serve what the body makes of each part, joined
+pub whole_lines : (f s h : Figures) (count g1 g2 : ℕ) (few many : ℕ → ℕ) {Part : Type 0} (of : ℕ × List Row → Part) (parts : List Row → List Part) → OverCopies f s h count g1 g2 few many
+    → IsSound f → IsSound s → IsSound h → 1 ≤ count → (beats : Beats) → Spaced h beats → (a : Carried) → Fits f beats a → Timed g1 g2 a
+    → (who : Visits) (ins outs : ℕ → Carried) → Rotates s count g1 few many of parts a who ins
+    → (OfPart : Part → Results) (lines : ℕ → Lines) → LiftedWithLines s (λ u xs. OfPart (of (u, xs))) count who lines ins outs
+    → (b : Carried) (close : ℕ → Bool) → IsDelayed 1 (record { tuple = tuple_of_any outs count; ends = close }) b
+    → ((c : ℕ) → c < s.le + turns_of count s + 2 → close c ≡ false) → ((c : ℕ) → close (c + (s.le + turns_of count s + 2)) ≡ a.ends c)
+    → ServedWithLines f h (λ xs ys p. AreJoined OfPart (parts xs) ys p) (lines_of_all lines count) beats a b
+whole_lines f s h count g1 g2 few many of parts figs sound_f sound_s sound some beats spaced a fits timed who ins outs rot OfPart lines lifted b close back first closes =
+    lines_of_whole f s h count g1 g2 few many of parts figs sound_f sound_s beats spaced a fits timed who ins outs rot b
+    (whole_is f s h count g1 g2 few many of parts figs sound_f sound_s sound some beats spaced a fits timed who ins outs rot lifted.lifted.near lifted.lifted.few b close back first closes) OfPart lines lifted

@@ -1,0 +1,46 @@
+//! A timer in place of a long row of registers, for a line that is seldom 1.
+
+ghost use Rattle.std.specs.Prelude.{IfOk};
+ghost use Rattle.gl_net.specs.Net.{IsBit};
+ghost use Rattle.gl_wire_registers.specs.Timers.{IsCloseLine, IsLaterBy, IsTimer};
+
+use crate::counters::{count_down, latch};
+use crate::numbers::{always, when_equal};
+use gl_bits::Memory;
+use gl_net::{Bit, NetBuilder};
+use gl_wire::later_bit;
+
+/// A line that is 1 one cycle and so many more after the line `set` was 1, unless that was 1 again in between.
+pub fn timer(net: &mut NetBuilder, set: Bit, cycles: u32) -> Result<Bit, Memory>
+    requires { IsBit net.old set }
+    ensures { IfOk result (IsTimer net.old net.new set cycles) }
+{
+    let one = always(net)?;
+    let left = count_down(net, set, one, 32, 0, u128::from(cycles), 0)?;
+    let over = when_equal(net, one, left, 0)?;
+    let on = latch(net, set, over)?;
+    let fired = when_equal(net, on, left, 0)?;
+    Ok(fired)
+}
+
+/// A line so many cycles behind another, which is 0 before.
+pub fn later_by(net: &mut NetBuilder, line: Bit, cycles: u32) -> Result<Bit, Memory>
+    requires { IsBit net.old line }
+    ensures { IfOk result (IsLaterBy net.old net.new cycles line) }
+{
+    let mut last = line;
+    for _cycle in 0..cycles {
+        last = later_bit(net, last)?;
+    }
+    Ok(last)
+}
+
+/// The line of ends, one cycle and so many and so many more later, where ends are farther apart than the timer runs.
+pub fn close_line(net: &mut NetBuilder, ends: Bit, cycles: u32, more: u32) -> Result<Bit, Memory>
+    requires { IsBit net.old ends }
+    ensures { IfOk result (IsCloseLine net.old net.new cycles more ends) }
+{
+    let fired = timer(net, ends, cycles)?;
+    let close = later_by(net, fired, more)?;
+    Ok(close)
+}
