@@ -7,9 +7,9 @@ ghost use Rattle.gl_elaborate.specs.Trees.{term};
 ghost use Rattle.gl_elaborate.specs.Plans.{levelled, levelled_at, with_filter};
 ghost use Rattle.gl_elaborate.specs.Fitting.{FitsNext, IsStep, LevelledFit};
 
+use crate::{Tree, are_flat, is_flat, level_over, ops_of, reduce_all, reduce_some};
 use gl_algebra::{Plan, PlanId, PlanNode};
 use gl_bits::Memory;
-use crate::{Tree, are_flat, is_flat, level_over, ops_of, reduce_all, reduce_some};
 use std::alloc::Global;
 
 /// Adds a node that fits.

@@ -15,12 +15,12 @@ ghost use Rattle.gl_elaborate.specs.Plans.{column_under, condition_of, filter_of
 ghost use Rattle.gl_elaborate.specs.Fitting.{CanPlaceRows, FilterTerm, ProjectFits, RowsFit, SelectFits};
 
 use crate::levels::{levelled, put};
+use crate::{Tree, operand_of, tree_of};
 use gl_algebra::{Operand, Operands, Plan, PlanId, PlanNode};
 use gl_bits::{Kind, Listed, Memory};
 use gl_query::kinds::kind_alone;
 use gl_query::{Expr, Item, Pick};
 use gl_schema::Column;
-use crate::{Tree, operand_of, tree_of};
 use std::alloc::Global;
 
 // Adds the trees of items.

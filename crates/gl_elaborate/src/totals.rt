@@ -16,12 +16,12 @@ ghost use Rattle.gl_elaborate.specs.Plans.{agg_over, aggs_of, arguments_of, argu
 ghost use Rattle.gl_elaborate.specs.Fitting.{CanPlaceTotal, TotalsFit};
 
 use crate::levels::{levelled, put};
+use crate::{Tree, operand_of, tree_of};
 use gl_algebra::{Operand, Plan, PlanAgg, PlanAggs, PlanId, PlanNode, Weights};
 use gl_bits::{Kind, Listed, Memory, Word};
 use gl_query::kinds::{kind_alone, kind_of};
 use gl_query::{Agg, AggItem, Expr, Num};
 use gl_schema::Column;
-use crate::{Tree, operand_of, tree_of};
 use std::alloc::Global;
 
 // Adds the tree of an expression.

@@ -10,8 +10,8 @@ use crate::parts::{count_flush, count_turns, keep_tail, take_rows, turn_lines};
 use crate::slots::put_slots;
 use gl_bits::Memory;
 use gl_net::{Bit, Bus, Buses, NetBuilder};
-use gl_wire_registers::{Bits, LineOp, Wires, copy_wires, hold_all, pairwise};
 use gl_wire::{Wire, later_bit};
+use gl_wire_registers::{Bits, LineOp, Wires, copy_wires, hold_all, pairwise};
 use std::alloc::Global;
 
 /// The row that came last, and the key that is looked for.

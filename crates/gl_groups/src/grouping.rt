@@ -13,8 +13,8 @@ use crate::joins::join_all;
 use gl_algebra::Figures;
 use gl_bits::Memory;
 use gl_net::{Bit, Buses, NetBuilder};
-use gl_wire_registers::{Wires, close_line};
 use gl_wire::Emitted;
+use gl_wire_registers::{Wires, close_line};
 use std::alloc::Global;
 
 /// Groups of a stream's rows by the key in one of its columns, over a copy of a body for each group.

@@ -8,8 +8,8 @@ ghost use Rattle.gl_wire_registers.specs.Joins.{AreCopies, HaveLines};
 
 use gl_bits::Memory;
 use gl_net::{Bit, Bus, Buses, NetBuilder};
-use gl_wire_registers::{Wires, join_copies, join_lines};
 use gl_wire::{Emitted, Faults, Wire, both_faults};
+use gl_wire_registers::{Wires, join_copies, join_lines};
 use std::alloc::Global;
 
 // A bus in front of others.

@@ -7,8 +7,10 @@ ghost use Rattle.gl_groups.specs.Parts.{AddsFlush, AddsTail, AddsTurns, TakesOf,
 
 use gl_bits::Memory;
 use gl_net::{Bit, Bus, NetBuilder};
-use gl_wire_registers::{Bits, LineOp, count_down, latch, number_or, pairwise, when_equal, with_all};
 use gl_wire::{both, but_not, either};
+use gl_wire_registers::{
+    Bits, LineOp, count_down, latch, number_or, pairwise, when_equal, with_all,
+};
 use std::alloc::Global;
 
 /// The flush after an end, up to what comes next.

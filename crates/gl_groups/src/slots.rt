@@ -6,8 +6,8 @@ ghost use Rattle.gl_groups.specs.Chain.{AddsFound, AddsKey, AddsSlot, AddsSlots,
 
 use gl_bits::Memory;
 use gl_net::{Bit, Bus, Buses, NetBuilder};
-use gl_wire_registers::{Bits, word};
 use gl_wire::{both, but_not, either, same};
+use gl_wire_registers::{Bits, word};
 use std::alloc::Global;
 
 /// Whether a slot's key is the one that is looked for.

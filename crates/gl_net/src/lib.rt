@@ -12,6 +12,6 @@ pub mod netlist;
 pub mod node;
 
 pub use builder::NetBuilder;
+pub use counting::{Cost, cost_of};
 pub use netlist::Netlist;
 pub use node::{BinaryOp, Bit, Bus, Buses, Direction, MemoryDrive, Node, Port, Store};
-pub use counting::{Cost, cost_of};

@@ -7,13 +7,13 @@ ghost use Rattle.gl_top_judging.specs.Causes.{Leaves};
 ghost use Rattle.gl_top_texts.specs.Texts.{SchemaPasses};
 ghost use Rattle.gl_top.specs.Shown.{IsShownOf};
 
-use gl_top_words::Part;
+use gl_outside::Shelf;
+use gl_schema::Schema;
+use gl_top_explain::explain_query;
 use gl_top_judging::{judge_schema, text_of};
 use gl_top_matches::Taken;
 use gl_top_notes::Refusal;
-use gl_outside::Shelf;
-use gl_top_explain::explain_query;
-use gl_schema::Schema;
+use gl_top_words::Part;
 use std::alloc::Global;
 
 // Fetches the query and explains it.

@@ -11,6 +11,6 @@ mod loading;
 pub mod running;
 mod tracing;
 
-pub use gl_top_words::Part;
 pub use gl_top_notes::Status;
+pub use gl_top_words::Part;
 pub use running::run;

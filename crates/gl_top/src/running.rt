@@ -19,12 +19,12 @@ use crate::explaining::judge_explain;
 use crate::loading::answer_load;
 use crate::tracing::answer_sim;
 use gl_compiler_text::Compiled;
-use gl_top_words::{Command, command_of};
+use gl_outside::{Shelf, Sink, Words, write_all_of};
+use gl_runner::{Outcome, execute};
 use gl_top_judging::{Job, figures_text, judge_compile, judge_run};
 use gl_top_matches::{Taken, take};
 use gl_top_notes::{Refusal, Status, tell, tell_memory, tell_usage, tell_write_fault};
-use gl_outside::{Shelf, Sink, Words, write_all_of};
-use gl_runner::{Outcome, execute};
+use gl_top_words::{Command, command_of};
 use std::alloc::Global;
 
 // Runs the compiled text over the beats, and writes the lines of the run.

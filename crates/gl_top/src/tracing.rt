@@ -9,11 +9,11 @@ ghost use Rattle.gl_top_judging.specs.Passing.{CanTrace, IsTraceable};
 ghost use Rattle.gl_top_notes.specs.Refusals.{puts};
 ghost use Rattle.gl_top.specs.Verdicts.{IsAnswer};
 
+use gl_outside::{Shelf, Sink};
+use gl_runner::{Ending, trace};
 use gl_top_judging::{Fitted, Simulation, judge_sim};
 use gl_top_matches::Taken;
 use gl_top_notes::{Refusal, Status, tell, tell_no_end, tell_write_fault};
-use gl_outside::{Shelf, Sink};
-use gl_runner::{Ending, trace};
 use gl_verilog_orders::Start;
 use gl_verilog_ports::laws::inputs_are_ports;
 use std::alloc::Global;

@@ -5,12 +5,12 @@ ghost use Rattle.gl_schema.specs.Schemas.{IsSchema};
 ghost use Rattle.gl_top_explain.specs.Explaining as told;
 ghost use Rattle.gl_top_explain.specs.Explaining.{IsExplained, IsExplainRefused};
 
-use gl_explain::explain;
-use gl_top_notes::Refusal;
 use gl_elaborate_plan::PlanFault;
+use gl_explain::explain;
 use gl_query::QueryFault;
 use gl_query_judge::judge_query;
 use gl_schema::Schema;
+use gl_top_notes::Refusal;
 use std::alloc::Global;
 
 // The fault of a query's text as a refusal.

@@ -14,13 +14,13 @@ ghost use Rattle.gl_top_judging.specs.Passing.{QueryPasses, TuplesPass, IsCompil
 ghost use Rattle.gl_top_texts.specs.Texts.{HasText, SchemaPasses};
 
 use gl_compiler_text::Compiled;
-use gl_top_words::Part;
-use gl_top_matches::Taken;
-use gl_top_notes::Refusal;
 use gl_outside::Shelf;
 use gl_query_compiler::{CompileFault, compile_query};
 use gl_schema::Schema;
+use gl_top_matches::Taken;
+use gl_top_notes::Refusal;
 use gl_top_texts::{fetch, fetch_schema};
+use gl_top_words::Part;
 use gl_tuple_reader::read_tuples;
 use gl_tuples::{Beats, TupleFault};
 use std::alloc::Global;

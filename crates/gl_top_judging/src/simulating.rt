@@ -12,11 +12,11 @@ ghost use Rattle.gl_top_texts.specs.Texts.{SchemaPasses};
 ghost use Rattle.gl_top_judging.specs.Passing.{IsFitted, IsFittedText, IsTraceable};
 
 use crate::judging::{judge_schema, text_of, tuples_refusal};
-use gl_top_words::Part;
-use gl_top_matches::Taken;
-use gl_top_notes::Refusal;
 use gl_outside::Shelf;
 use gl_schema::Schema;
+use gl_top_matches::Taken;
+use gl_top_notes::Refusal;
+use gl_top_words::Part;
 use gl_tuple_reader::read_tuples;
 use gl_tuples::Beats;
 use gl_verilog::Module;

@@ -7,8 +7,8 @@ ghost use Rattle.gl_top_matches.specs.Apps.{Tells, app_for, name_rule, one_name,
 
 use clap::error::ErrorKind;
 use clap::{Arg, ArgMatches};
-use gl_top_words::Command;
 use gl_outside::{Memory, Words};
+use gl_top_words::Command;
 use std::alloc::{AllocError, Global};
 
 // The command with a name more.

@@ -7,8 +7,8 @@ ghost use Rattle.gl_top_words.specs.Forms.{IsCommand};
 
 use crate::commands::matches_of;
 use clap::ArgMatches;
-use gl_top_words::{Command, Part, extra_at, load_at, start_at};
 use gl_outside::{Memory, Words};
+use gl_top_words::{Command, Part, extra_at, load_at, start_at};
 use gl_verilog_orders::Start;
 use std::alloc::Global;
 use std::marker::Model;

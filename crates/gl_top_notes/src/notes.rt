@@ -13,11 +13,11 @@ use crate::faults::{
 };
 use crate::status::Status;
 use gl_figures::Limit;
-use gl_top_words::Part;
-use gl_top_matches::Taken;
 use gl_outside::{Sink, WriteFault, write_all_of};
 use gl_query::QueryFault;
 use gl_schema::SchemaFault;
+use gl_top_matches::Taken;
+use gl_top_words::Part;
 use gl_tuples::TupleFault;
 use gl_verilog_syntax::VerilogFault;
 use itoa::Buffer;

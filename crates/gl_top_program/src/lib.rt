@@ -9,11 +9,11 @@ ghost use Rattle.std.specs.Process.{exit_status};
 ghost use Rattle.gl_top_notes.specs.Statuses.{code_of};
 ghost use Rattle.gl_top_notes.specs.declared.status.Status.{Status};
 
-use gl_top_arguments::words_in;
-use gl_top_words::copied;
-use gl_top_notes::{Status, exit_code};
 use gl_outside::{FileShelf, Memory, StreamSink};
 use gl_top::run;
+use gl_top_arguments::words_in;
+use gl_top_notes::{Status, exit_code};
+use gl_top_words::copied;
 use std::env;
 use std::process::ExitCode;
 

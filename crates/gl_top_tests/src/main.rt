@@ -16,9 +16,9 @@
 
 ghost use Rattle.std.specs.Prelude.{◌≡◌, IfOk};
 
-use gl_top_words::copied;
 use gl_outside::{Memory, MemoryShelf, MemorySink, Words};
 use gl_top::run;
+use gl_top_words::copied;
 use std::alloc::Global;
 use std::io;
 

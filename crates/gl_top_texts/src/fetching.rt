@@ -6,11 +6,11 @@ ghost use Rattle.gl_top_words.specs.Forms.{IsNamed};
 ghost use Rattle.gl_top_texts.specs.Texts as texts;
 ghost use Rattle.gl_top_texts.specs.Texts.{HasText, LeavesSchema, LeavesText, SchemaPasses};
 
-use gl_top_words::Part;
-use gl_top_matches::Taken;
-use gl_top_notes::Refusal;
 use gl_outside::{ReadFault, Shelf, read_all};
 use gl_schema::{Schema, SchemaFault, read_schema};
+use gl_top_matches::Taken;
+use gl_top_notes::Refusal;
+use gl_top_words::Part;
 use std::alloc::Global;
 
 // A fault of a text of the shelf as a refusal.

@@ -10,7 +10,7 @@ mod runnable;
 mod valid;
 mod widths;
 
+pub use costing::{Cost, cost_of};
 pub use order::order_of;
 pub use runnable::is_runnable;
 pub use valid::is_valid;
-pub use costing::{Cost, cost_of};

@@ -8,8 +8,8 @@ use crate::parts::{count_flush, count_left, count_openings, keep_tail, take_rows
 use crate::turns::rotate;
 use gl_bits::Memory;
 use gl_net::NetBuilder;
-use gl_wire_registers::{Wires, copy_wires, hold_all, pointer};
 use gl_wire::Wire;
+use gl_wire_registers::{Wires, copy_wires, hold_all, pointer};
 use std::alloc::Global;
 
 /// The wires of the copies of windows of `size` rows, one from each `advance`-th row on, whose ends are `stride` cycles apart in a flush.

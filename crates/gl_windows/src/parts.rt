@@ -7,8 +7,8 @@ ghost use Rattle.gl_windows.specs.Parts.{AddsFlush, AddsOpening, AddsTail, AddsT
 
 use gl_bits::Memory;
 use gl_net::{Bit, Bus, NetBuilder};
-use gl_wire_registers::{Bits, LineOp, count_down, latch, pairwise, when_equal, with_all};
 use gl_wire::{both, but_not, either};
+use gl_wire_registers::{Bits, LineOp, count_down, latch, pairwise, when_equal, with_all};
 use std::alloc::Global;
 
 /// When a copy opens.

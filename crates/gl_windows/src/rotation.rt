@@ -12,8 +12,8 @@ use crate::front::put_front;
 use gl_algebra::Figures;
 use gl_bits::Memory;
 use gl_net::{Bit, NetBuilder};
-use gl_wire_registers::{Wires, close_line, join_all};
 use gl_wire::Emitted;
+use gl_wire_registers::{Wires, close_line, join_all};
 use std::alloc::Global;
 
 /// Windows of `size` rows, one from each `advance`-th row on, over so many copies of a body.

@@ -8,10 +8,10 @@ ghost use Rattle.gl_wiring.specs.Wired.{CanWire, IsWired};
 use crate::leaves::put_leaves;
 use crate::names::{ResultNames, module_name};
 use crate::output::put_result;
+use crate::put_node;
 use gl_algebra::{Figures, Plan, PlanId};
 use gl_bits::Memory;
 use gl_net::{NetBuilder, Netlist};
-use crate::put_node;
 use gl_schema::Schema;
 use std::alloc::Global;
 
