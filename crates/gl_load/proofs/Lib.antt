@@ -1,6 +1,5 @@
 mod Lines
 mod Beating
-pub mod Runs
 mod Running
 mod Compiling
 pub mod Constants

@@ -18,7 +18,7 @@ use Rattle.gl_load.specs.Steps.{Kept, kept_state}
 use Rattle.gl_load.specs.Tuples.{load_beats}
 use Rattle.gl_load.specs.Tallies.{summary_of}
 use Rattle.gl_load.specs.Loads.{AreRunLines, IsCompiledLoad, IsLoad}
-use Rattle.gl_load.proofs.Runs.{can_run}
+use Rattle.gl_compiler.proofs.Runs.{can_run}
 
 -- its text can be run over beats that come in each cycle
 pub can_run_load : (c : Compiled) (beats : List Beat) (text : List ℕ) (schema : Schema) (kinds : List Kind) (printed : Printed) → IsCompiledLoad c → AreBeats load_schema beats → KeepsGap 1 beats

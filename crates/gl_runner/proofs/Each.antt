@@ -1,8 +1,7 @@
--- From the run that was followed to each run of the text's module.
-use Rattle.std.proofs.Common.{◌≡◌, ℕ, inl, inr, true, false, List, Option, Ok, refl, sym, subst, map}
+-- From the run that was followed to each run of the module.
+use Rattle.std.proofs.Common.{◌≡◌, ℕ, inl, inr, true, false, List, Option, Ok, refl, sym, subst}
 use Rattle.std.specs.Prelude.{IsOk}
 use Rattle.gl_bits.specs.declared.kind.Kind.{Kind}
-use Rattle.gl_bits.specs.Kinds.{width_of}
 use Rattle.gl_schema.specs.declared.schema.Schema.{Schema}
 use Rattle.gl_schema.specs.Beats.{Beat, AreBeats}
 use Rattle.gl_schema.specs.Ports.{PortValues, IsStimulus}
@@ -10,25 +9,21 @@ use Rattle.gl_schema.specs.Seen.{shown, seen, lines}
 use Rattle.gl_verilog.specs.Module.{Module, Nets, Memories}
 use Rattle.gl_verilog.specs.declared.module.Module.{Module as Rust}
 use Rattle.gl_verilog.specs.Run.{IsRun, port_of, input_values}
-use Rattle.gl_verilog.specs.Text.{HasModule}
 use Rattle.gl_verilog_orders.specs.Laws.{EventRunsAreRuns}
 use Rattle.gl_verilog.specs.View.{module_of}
 use Rattle.gl_sim.specs.Simulation.{Simulation, IsAt}
 use Rattle.gl_sim.specs.Starts.{StartsFrom}
 use Rattle.gl_verilog_orders.specs.declared.start.Start.{Start}
 use Rattle.gl_outside.specs.States.{SinkState}
-use Rattle.gl_runner.specs.declared.executing.Outcome.{Outcome}
-use Rattle.gl_runner.specs.declared.executing.Outcome.TheVariants.{Done, WriteFault, Memory}
 use Rattle.gl_runner.specs.declared.tracing.Ending.{Ending}
 use Rattle.gl_runner.specs.declared.tracing.Ending.TheVariants as ending
-use Rattle.gl_runner.specs.Cycles.{CanFollow, IsFollowed, OfFollowed, OfTimely, outcome_of}
-use Rattle.gl_runner.specs.Prints.{CanRun, EndsWithin, HasRunOver, IsRunOver, OfEachRun, Ran, Writes, WritesFront}
+use Rattle.gl_runner.specs.Cycles.{IsFollowed, OfFollowed, OfTimely, outcome_of}
+use Rattle.gl_runner.specs.Prints.{EndsWithin, HasRunOver, Ran, Writes, WritesFront}
 use Rattle.gl_runner.specs.Traces.{OfRunsOf, RunsOut, Traced, TracesFront, TracesOut, TracesToEnd}
 use Rattle.gl_testbench.specs.Runs.{HasStartedRuns}
 use Rattle.gl_verilog_ports.specs.declared.fitting.Ports.{Ports}
 use Rattle.gl_verilog_ports.specs.Fit.{fit_of}
-use Rattle.gl_verilog_ports.specs.Profile.{HasInputPorts, result_names, result_widths}
-use Rattle.gl_verilog_ports.proofs.Fits.{fits_ok}
+use Rattle.gl_verilog_ports.specs.Profile.{result_names}
 
 -- what holds of each run of one sort holds of each of the other, so the trace is one of these too
 pub traced_from : (OfOne OfOther : (List (List ℕ) → PortValues → Type 0) → Type 0) (kinds : List Kind) (beats : List Beat) (extra : ℕ) (old new : SinkState) (r : Ending) → ((P : List (List ℕ) → PortValues → Type 0) → OfOne P → OfOther P) → Traced OfOne kinds beats extra old new r → Traced OfOther kinds beats extra old new r
@@ -41,23 +36,6 @@ traced_from OfOne OfOther kinds beats extra old new ending.Memory f h = h
 pub from_reset : (s s' : Simulation) (schema : Schema) (beats : List Beat) (P : List (List ℕ) → PortValues → Type 0) → s'.design ≡ s.design
     → ((value : ℕ → Nets) (word : ℕ → Memories) → IsFollowed s schema beats value word 0 → IsFollowed s' schema beats value word 1) → OfFollowed s' schema beats 1 P → OfFollowed s schema beats 0 P
 from_reset s s' schema beats P same followed h = λ value word f. subst (λ (d : Rust). P (result_names (module_of d)) (port_of (module_of d) value)) same (h value word (followed value word f))
-
--- a text has one module
-abbrev pub HasOne : List ℕ → Type 0
-HasOne text = (m n : Module) → HasModule text m → HasModule text n → m ≡ n
-
--- the module that was read is the one that can run
-pub can_follow : (text : List ℕ) (schema : Schema) (kinds : List Kind) (beats : List Beat) (latency : ℕ) (start : Start) (d : Rust) → HasOne text → HasInputPorts (module_of d)
-    → CanRun text schema kinds beats latency start → HasModule text (module_of d) → AreBeats schema beats → CanFollow (module_of d) schema kinds beats
-can_follow text schema kinds beats latency start d one inputs can has are =
-    let mine : can.design ≡ module_of d = one can.design (module_of d) can.has has in
-    record {
-      valid = has.valid;
-      inputs = inputs;
-      fits = fits_ok (module_of d) schema has.valid.names inputs (subst (λ (m : Module). IsOk (fit_of m schema)) mine can.fits);
-      widths = subst (λ (m : Module). result_widths m ≡ map width_of kinds) mine can.widths;
-      beats' = are;
-    }
 
 -- each run from the start is one that the simulator is before the first cycle of
 pub of_runs : (schema : Schema) (beats : List Beat) (start : Start) (d : Rust) (s : Simulation) (P : List (List ℕ) → PortValues → Type 0) → EventRunsAreRuns (module_of d) → s.design ≡ d
@@ -109,21 +87,3 @@ ran_timely m schema kinds beats latency start old new ending.Done h = (h.0, λ v
 ran_timely m schema kinds beats latency start old new (ending.NoEnd cycle) h = (h.0, λ value word over e. not_out beats (result_names m) (port_of m value) latency cycle (h.1 value word over).out e)
 ran_timely m schema kinds beats latency start old new ending.WriteFault h = (h.0, λ value word over e. writes_front kinds beats latency (result_names m) (port_of m value) old.taken new.taken (h.1 value word over) e)
 ran_timely m schema kinds beats latency start old new ending.Memory h = h
-
--- each run of the text's module ends in time
-pub of_each_run : (text : List ℕ) (schema : Schema) (kinds : List Kind) (beats : List Beat) (latency : ℕ) (start : Start) (d : Rust) (Q : List (List ℕ) → PortValues → Type 0) → HasOne text → CanRun text schema kinds beats latency start → HasModule text (module_of d)
-    → OfTimely latency (module_of d) schema beats start Q → OfEachRun text schema beats start Q
-of_each_run text schema kinds beats latency start d Q one can has h = λ m value word its run.
-    let this : m ≡ module_of d = one m (module_of d) its has in
-    let mine : module_of d ≡ can.design = one (module_of d) can.design has can.has in
-    let over : IsRunOver (module_of d) schema beats start value word = subst (λ (x : Module). IsRunOver x schema beats start value word) this run in
-    let ends : EndsWithin latency beats (result_names (module_of d)) (port_of (module_of d) value) =
-    subst (λ (x : Module). EndsWithin latency beats (result_names x) (port_of x value)) (sym mine) (can.ends value word (subst (λ (x : Module). IsRunOver x schema beats start value word) mine over)) in
-    subst (λ (x : Module). Q (result_names x) (port_of x value)) (sym this) (h value word over ends)
-
--- how the run of the text's module ended is how each run of the text did
-pub ran_each : (text : List ℕ) (schema : Schema) (kinds : List Kind) (beats : List Beat) (latency : ℕ) (start : Start) (d : Rust) (old new : SinkState) (r : Outcome) → HasOne text → CanRun text schema kinds beats latency start → HasModule text (module_of d)
-    → Ran (OfTimely latency (module_of d) schema beats start) kinds beats old new r → Ran (OfEachRun text schema beats start) kinds beats old new r
-ran_each text schema kinds beats latency start d old new Done one can has h = (h.0, of_each_run text schema kinds beats latency start d (λ outs port. Writes kinds beats outs port old.taken new.taken) one can has h.1)
-ran_each text schema kinds beats latency start d old new WriteFault one can has h = (h.0, of_each_run text schema kinds beats latency start d (λ outs port. WritesFront kinds beats outs port old.taken new.taken) one can has h.1)
-ran_each text schema kinds beats latency start d old new Memory one can has h = h

@@ -1,14 +1,12 @@
-//! Running the text of a module.
+//! Running a module that comes to its end in time.
 
 ghost use Rattle.std.specs.Prelude.{◌≡◌, ◌≤◌, ◌^◌, length};
 ghost use Rattle.std.specs.List.{AllByRecursion};
 ghost use Rattle.gl_bits.specs.Kinds.{IsKind};
-ghost use Rattle.gl_schema.specs.Beats.{AreBeats};
-ghost use Rattle.gl_schema.specs.Schemas.{IsSchema};
 ghost use Rattle.gl_tuples.specs.Gaps.{plain_beats};
 ghost use Rattle.gl_verilog.specs.View.{module_of};
 ghost use Rattle.gl_runner.specs.Cycles.{CanFollow, OfTimely, outcome_of};
-ghost use Rattle.gl_runner.specs.Prints.{CanRun, OfEachRun, Ran};
+ghost use Rattle.gl_runner.specs.Prints.{Ran};
 
 use crate::following::{Task, follow_module};
 use crate::tracing::Ending;
@@ -18,10 +16,7 @@ use gl_schema::Schema;
 use gl_testbench::shows_of;
 use gl_tuples::Beats;
 use gl_verilog::Module;
-use gl_verilog_grammar::laws::one_module;
 use gl_verilog_orders::Start;
-use gl_verilog_ports::laws::inputs_are_ports;
-use gl_verilog_reader::{VerilogFault, read_module};
 use std::alloc::Global;
 
 /// How a run ended.
@@ -79,42 +74,4 @@ pub fn execute_module<K: Sink>(
         extra: latency,
     };
     outcome_of(follow_module(alloc, design, shows, &task, out))
-}
-
-// The outcome where a text that has a module was not read: nothing but want of memory does that.
-fn unread(fault: VerilogFault) -> Outcome
-    requires { fault ≡ VerilogFault.Memory }
-    ensures { result ≡ Outcome.Memory }
-{
-    let _ = fault;
-    Outcome::Memory
-}
-
-/// Runs the text of a module over beats, and writes the lines of the result, as `execute_module`
-/// does.
-pub fn execute<K: Sink>(
-    alloc: Global,
-    text: &[u8],
-    schema: &Schema,
-    kinds: &[Kind],
-    beats: &Beats,
-    latency: u64,
-    start: Start,
-    out: &mut K,
-) -> Outcome
-    requires schema { IsSchema schema.now }
-    requires beats { AreBeats schema.now (plain_beats beats.now) }
-    requires many { length kinds.now ≤ 32 }
-    requires kinds { AllByRecursion IsKind kinds.now }
-    requires runs { CanRun text.now schema.now kinds.now (plain_beats beats.now) latency start }
-    ensures { Ran (OfEachRun text.now schema.now (plain_beats beats.now) start)
-        kinds.now (plain_beats beats.now) (K.state out.old) (K.state out.new) result }
-{
-    one_module();
-    inputs_are_ports();
-    let design = match read_module(alloc, text) {
-        Ok(design) => design,
-        Err(fault) => return unread(fault),
-    };
-    execute_module(alloc, design, schema, kinds, beats, latency, start, out)
 }

@@ -1,8 +1,8 @@
-//! Running a module over the beats of a file, and writing the lines of what it shows: the text of a
-//! compiled query (`execute`), or a module that is handed in (`trace`).
+//! Running a module over the beats of a file, and writing the lines of what it shows: to an end that comes
+//! in time (`execute_module`), or to one that is waited for (`trace`).
 //!
 //! Here belongs the loop over the cycles of a file, where it ends, and the lines of each cycle. What
-//! the ports carry belongs to gl_testbench, one cycle of a module to gl_sim.
+//! the ports carry belongs to gl_testbench, one cycle of a module to gl_sim, and texts to gl_compiler.
 #![tactic(auto)]
 
 pub mod executing;
@@ -11,5 +11,5 @@ mod lines;
 pub mod looking;
 pub mod tracing;
 
-pub use executing::{Outcome, execute, execute_module};
+pub use executing::{Outcome, execute_module};
 pub use tracing::{Ending, trace};

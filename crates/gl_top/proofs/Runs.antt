@@ -14,7 +14,7 @@ use Rattle.gl_compiler_text.specs.Meets.{Meets, result_columns}
 use Rattle.gl_outside.specs.States.{SinkState}
 use Rattle.gl_runner.specs.declared.executing.Outcome.{Outcome}
 use Rattle.gl_runner.specs.Prints.{CanRun, OfEachRun, Ran}
-use Rattle.gl_load.proofs.Runs.{can_run}
+use Rattle.gl_compiler.proofs.Runs.{can_run}
 use Rattle.gl_top.specs.Verdicts.{RanLines}
 use Rattle.gl_top_judging.specs.Passing.{IsCompiled}
 

@@ -18,9 +18,9 @@ ghost use Rattle.gl_top.specs.Verdicts.{IsFaultless, RanLines, Says, TellsRefusa
 use crate::explaining::judge_explain;
 use crate::loading::answer_load;
 use crate::tracing::answer_sim;
+use gl_compiler::{Outcome, execute};
 use gl_compiler_text::Compiled;
 use gl_outside::{Shelf, Sink, Words, write_all_of};
-use gl_runner::{Outcome, execute};
 use gl_top_judging::{Job, figures_text, judge_compile, judge_run};
 use gl_top_matches::{Taken, take};
 use gl_top_notes::{Refusal, Status, tell, tell_memory, tell_usage, tell_write_fault};

@@ -1,7 +1,7 @@
 use Rattle.gl_tuples.specs.Gaps.{plain_beats}
 use Rattle.gl_verilog.specs.View.{module_of}
-use Rattle.gl_runner.proofs.Each.{can_follow, ran_each}
-use Rattle.gl_runner.proofs.executing.execute.Goals as goal
+use Rattle.gl_compiler.proofs.Each.{can_follow, ran_each}
+use Rattle.gl_compiler.proofs.executing.execute.Goals as goal
 
 -- the text has a module, so the one fault is want of memory
 pub unread-requires : goal.unread-requires

@@ -1,0 +1,46 @@
+//! Running a compiled query.
+
+ghost use Rattle.std.specs.Prelude.{◌≡◌};
+ghost use Rattle.gl_schema.specs.Beats.{AreBeats, KeepsGap};
+ghost use Rattle.gl_schema.specs.Schemas.{kinds_of};
+ghost use Rattle.gl_tuples.specs.Gaps.{plain_beats};
+ghost use Rattle.gl_compiler_text.specs.Meets.{result_columns};
+ghost use Rattle.gl_runner.specs.Prints.{OfEachRun, Ran};
+ghost use Rattle.gl_compiler.specs.Runnable.{IsRunnable};
+
+use crate::executing::execute;
+use gl_compiler_text::Compiled;
+use gl_outside::Sink;
+use gl_runner::Outcome;
+use gl_tuples::Beats;
+use gl_verilog_orders::Start;
+use std::alloc::Global;
+
+/// Runs the text of a compiled query over beats of its schema that keep its gap, in cycles, and writes
+/// the lines of the result.
+pub fn run_compiled<K: Sink>(
+    alloc: Global,
+    compiled: &Compiled,
+    beats: &Beats,
+    start: Start,
+    out: &mut K,
+) -> Outcome
+    requires compiled { IsRunnable compiled.now }
+    requires beats { AreBeats compiled.now.schema (plain_beats beats.now) }
+    requires gap { KeepsGap compiled.now.printed.gap (plain_beats beats.now) }
+    ensures { let c = compiled.now in
+        Ran (OfEachRun c.text.items c.schema (plain_beats beats.now) start)
+        (kinds_of (result_columns c.schema c.statement)) (plain_beats beats.now)
+        (K.state out.old) (K.state out.new) result }
+{
+    execute(
+        alloc,
+        compiled.text(),
+        compiled.schema(),
+        compiled.kinds(),
+        beats,
+        compiled.printed().latency,
+        start,
+        out,
+    )
+}
