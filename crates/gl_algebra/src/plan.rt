@@ -99,6 +99,7 @@ impl Plan {
         ensures number { result ≡ number }
         ensures plan { IsPlan self.now }
     {
+        // Clauses alone speak of it.
         let _ = &self.nodes;
         PlanId::of(number)
     }

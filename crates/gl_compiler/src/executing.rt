@@ -24,6 +24,7 @@ fn unread(fault: VerilogFault) -> Outcome
     requires { fault ≡ VerilogFault.Memory }
     ensures { result ≡ Outcome.Memory }
 {
+    // Clauses alone speak of it.
     let _ = fault;
     Outcome::Memory
 }

@@ -70,6 +70,7 @@ fn figured(alloc: Global, plan: &Plan, root: PlanId) -> Result<Vec<Figures>, Pla
     ensures small { OnOk result (AreAllSmall plan.now) }
     ensures fault { IfErr result (PassesOr (placed_at plan.now root)) }
 {
+    // Clauses alone speak of it.
     let _ = root;
     let mut own = places(alloc, plan.len())?;
     match figures(plan, &mut own) {

@@ -44,6 +44,7 @@ fn copies_at(plan: &Plan, copies: &[u64], number: usize, id: PlanId) -> u128
     requires known { HasValues (copies_of plan.now) copies.now number }
     ensures { result ≡ capped (copies_of plan.now id) }
 {
+    // Clauses alone speak of it.
     let _ = plan;
     let _ = number;
     copies[id.number()] as u128

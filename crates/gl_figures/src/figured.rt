@@ -38,6 +38,7 @@ pub(crate) fn figures_at(plan: &Plan, figures: &[Figures], number: usize, id: Pl
     requires known { HasFigures plan.now figures.now number }
     ensures { result ≡ figures_of plan.now id }
 {
+    // Clauses alone speak of it.
     let _ = plan;
     let _ = number;
     figures[id.number()]

@@ -27,6 +27,7 @@ pub fn weigh(
     ensures err { IfErr result (λ limit. IsHeavy plan.now root limit) }
     ensures weights { AreWeights plan.now into.new }
 {
+    // What `len` ensures of it is what the goals below ask for.
     let _ = plan.len();
     count_copies(plan, into);
     let copies = into[root.number()];

@@ -95,6 +95,7 @@ fn weight_at(plan: &Plan, weights: &[u64], number: usize, id: PlanId) -> u128
     requires known { HasValues (weight_of plan.now) weights.now number }
     ensures { result ≡ capped (weight_of plan.now id) }
 {
+    // Clauses alone speak of it.
     let _ = plan;
     let _ = number;
     weights[id.number()] as u128
@@ -150,6 +151,7 @@ fn own_weight(
         PlanNode::Select { .. } => 4 * own,
         PlanNode::Project { .. } => 4 * own,
         PlanNode::Aggregate { child, aggs } => {
+            // What `len` ensures of it is what the goals below ask for.
             let _ = aggs.len();
             let kinds = plan.kinds(*child);
             let delay = delay_of_aggs(kinds, aggs.as_slice());

@@ -32,6 +32,7 @@ pub struct Loaded {
 fn unread(fault: SchemaFault) -> Memory
     requires { fault ≡ SchemaFault.Memory }
 {
+    // Clauses alone speak of it.
     let _ = fault;
     Memory
 }

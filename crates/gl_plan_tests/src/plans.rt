@@ -30,6 +30,7 @@ fn put(plan: &mut Plan, node: PlanNode) -> Result<PlanId, Memory>
     ensures made { IfOk result (λ id. HasShape plan.new id (shape_from (shape_of plan.old) node)) }
     ensures kept { OnOk result (KeepsShapes plan.old plan.new) }
 {
+    // What `len` ensures of it is what the goals below ask for.
     let _ = plan.len();
     Ok(plan.add(node)?)
 }

@@ -56,6 +56,7 @@ pub(crate) fn figures_at(plan: &Plan, figures: &[Figures], id: PlanId) -> Figure
     ensures value { result ≡ figures_of plan.now id }
     ensures small { AreSmall result }
 {
+    // Clauses alone speak of it.
     let _ = plan;
     sized(figures[id.number()])
 }
@@ -75,6 +76,7 @@ pub(crate) fn compute_node(
     ensures { (old : Net) (leaves : List WireOf) → IsPut plan.now child old net.old leaves below
         → IfOk result (λ e. IsPut plan.now id old net.new leaves e) }
 {
+    // What `len` ensures of it is what the goals below ask for.
     let _ = plan.len();
     let e = put_compute(alloc, net, below, plan.kinds(child), ops.as_slice())?;
     Ok(e)

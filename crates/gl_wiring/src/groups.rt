@@ -42,6 +42,7 @@ impl GroupOf {
         ensures value { result ≡ grouping_of plan.now self.now }
         ensures is { IsGrouping result }
     {
+        // What `len` ensures of it is what the goals below ask for.
         let _ = plan.len();
         let _ = figures_at(plan, figures, self.id);
         let body = figures_at(plan, figures, self.body);

@@ -30,6 +30,7 @@ fn put_plan(
     ensures extends { OnOk result (Extends net.old net.new) }
     ensures plan { OnOk result (IsPlanNet schema.now plan.now root names.now.columns net.new) }
 {
+    // What `len` ensures of it is what the goals below ask for.
     let _ = plan.len();
     let leaves = put_leaves(alloc, net, schema)?;
     let e = put_node(alloc, net, plan, figures, root, &leaves)?;

@@ -141,6 +141,7 @@ fn put_window(
     requires can { CanPut plan.now figures.now window.id net.old leaves.now }
     ensures { IfOk result (λ e. IsPut plan.now window.id net.old net.new leaves.now e) }
 {
+    // What `len` ensures of it is what the goals below ask for.
     let _ = plan.len();
     let below = put_node(alloc, net, plan, figures, window.source, leaves)?;
     let front = window.front(alloc, net, plan, figures, below)?;

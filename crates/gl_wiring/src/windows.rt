@@ -81,6 +81,7 @@ impl WindowOf {
         ensures value { result ≡ rotation_of plan.now self.now }
         ensures is { IsRotation result }
     {
+        // What `len` ensures of it is what the goals below ask for.
         let _ = plan.len();
         let _ = figures_at(plan, figures, self.id);
         let body = figures_at(plan, figures, self.body);
