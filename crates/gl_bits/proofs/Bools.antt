@@ -1,6 +1,6 @@
 -- Plain facts about truth values, numbers and texts that are compared, and numbers of one bit.
 use Rattle.std.proofs.Common.{◌≡◌, ◌≢◌, ℕ, ◌^◌, ◌<◌, ◌⊎◌, inl, inr, Bool, true, false, not, List, refl, sym, ap, ◌∙◌, arith, eq-eqb, ne_eqb}
-use Rattle.std.specs.Prelude.{◌&&◌, ◌||◌, bytes_eq, nat_eq}
+use Rattle.std.specs.Prelude.{◌&&◌, ◌||◌, bytes_eq, nat_eq, if◌then◌else◌}
 use Rattle.std.proofs.lemmas.Bool.Decides.{eqb_tells}
 use Rattle.std.proofs.lemmas.Slice.Eq.{bytes_eq-Decides}
 use Rattle.gl_bits.specs.Words.{bit, choose_of}
@@ -134,6 +134,9 @@ bytes_own xs = (bytes_eq-Decides xs xs).1 refl
 pub bytes_other : (xs ys : List ℕ) → (xs ≡ ys → ⊥) → bytes_eq xs ys ≡ false
 bytes_other xs ys h = else_false (bytes_eq xs ys) (λ e. h (bytes_same xs ys e))
 
+pub bytes_turned : (xs ys : List ℕ) → bytes_eq xs ys ≡ false → bytes_eq ys xs ≡ false
+bytes_turned xs ys h = bytes_other ys xs (λ e. not_both (bytes_eq xs ys) ((bytes_eq-Decides xs ys).1 (sym e)) h)
+
 -- ---- bits
 
 pub bit_fits : (b : Bool) → bit b < 2 ^ 1
@@ -146,6 +149,10 @@ bit_is true = refl
 bit_is false = refl
 
 -- ---- choices
+
+pub guard_true : (a b : Bool) → (if a then false else b) ≡ true → (a ≡ false) × (b ≡ true)
+guard_true true b h = absurd cc
+guard_true false b h = (refl, h)
 
 pub choose_yes : (test x y : ℕ) → test ≡ 1 → choose_of test x y ≡ x
 unfolding choose_of

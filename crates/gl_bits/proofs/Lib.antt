@@ -1,6 +1,7 @@
 pub mod Bools
 pub mod Options
 pub mod AllLists
+pub mod Machines
 pub mod KindLemmas
 pub mod Unique
 pub mod Wrapping

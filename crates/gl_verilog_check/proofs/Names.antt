@@ -2,7 +2,7 @@
 use Rattle.std.proofs.Common.{◌≡◌, ℕ, Bool, true, false, not, ◌&&◌, ◌||◌, List, [], ◌∷◌, ◌++◌, map, refl, sym, ap, subst, ◌∙◌, Bor}
 use Rattle.std.specs.Prelude.{bytes_eq, if◌then◌else◌}
 use Rattle.std.specs.List.{AllByRecursion, list_any}
-use Rattle.gl_bits.proofs.Bools.{and_left, and_right, and_both, neither, neither_left, neither_right, not_true, not_false, not_both, bytes_own, bytes_other}
+use Rattle.gl_bits.proofs.Bools.{and_left, and_right, and_both, neither, neither_left, neither_right, not_true, not_false, bytes_turned}
 use Rattle.gl_verilog.specs.Module.{Declaration}
 use Rattle.gl_verilog.specs.Valid.{Differs, AreDistinct}
 use Rattle.gl_verilog_check.specs.Tests.{are_new}
@@ -23,19 +23,16 @@ parts_push p (y ∷ xs) x h k =
     neither (p y) (list_any p (xs ++ x ∷ [])) (neither_left (p y) (list_any p xs) h)
     (parts_push p xs x (neither_right (p y) (list_any p xs) h) k)
 
-turned : (x y : List ℕ) → bytes_eq x y ≡ false → bytes_eq y x ≡ false
-turned x y h = bytes_other y x (λ e. not_both (bytes_eq x y) (subst (λ (z : List ℕ). bytes_eq x z ≡ true) (sym e) (bytes_own x)) h)
-
 apart_parts : (names : List (List ℕ)) (d : Declaration) (ds : List Declaration) → AreApart (names ++ d.name ∷ []) ds → Differs d ds × AreApart names ds
 apart_parts names d [] h = (tt, tt)
 apart_parts names d (e ∷ es) h =
     let p = push_parts (bytes_eq e.name) names d.name h.0 in
     let r = apart_parts names d es h.1 in
-    ((turned e.name d.name p.1, r.0), (p.0, r.1))
+    ((bytes_turned e.name d.name p.1, r.0), (p.0, r.1))
 
 parts_apart : (names : List (List ℕ)) (d : Declaration) (ds : List Declaration) → Differs d ds → AreApart names ds → AreApart (names ++ d.name ∷ []) ds
 parts_apart names d [] h k = tt
-parts_apart names d (e ∷ es) h k = (parts_push (bytes_eq e.name) names d.name k.0 (turned d.name e.name h.0), parts_apart names d es h.1 k.1)
+parts_apart names d (e ∷ es) h k = (parts_push (bytes_eq e.name) names d.name k.0 (bytes_turned d.name e.name h.0), parts_apart names d es h.1 k.1)
 
 new_parts : (names : List (List ℕ)) (ds : List Declaration) → are_new names ds ≡ true → AreDistinct ds × AreApart names ds
 new_parts names [] h = (tt, tt)

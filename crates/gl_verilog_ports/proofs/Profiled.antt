@@ -5,7 +5,7 @@ use Rattle.std.specs.List.{AllByRecursion, IsDistinct}
 use Rattle.std.proofs.lemmas.List.{append-nil, map-append}
 use Rattle.std.proofs.lemmas.Slice.Eq.{bytes_eq-Decides}
 use Rattle.gl_bits.proofs.AllLists.{all_append, all_at, all_back, all_front, get_unmapped, length_map}
-use Rattle.gl_bits.proofs.Bools.{bytes_other, not_both}
+use Rattle.gl_bits.proofs.Bools.{bytes_turned}
 use Rattle.gl_bits.specs.declared.kind.Kind as bits
 use Rattle.gl_bits.specs.declared.kind.Kind.TheVariants.{Unsigned, Text}
 use Rattle.gl_bits.specs.Kinds.{IsKind, width_of}
@@ -48,9 +48,6 @@ others_front : (xs : List (List ℕ)) (y : List ℕ) (ys : List (List ℕ)) → 
 unfolding IsDistinct
 others_front [] y ys h = tt
 others_front (x ∷ xs) y ys h = ((all_back (λ n. bytes_eq x n ≡ false) xs (y ∷ ys) h.0).0, others_front xs y ys h.1)
-
-turned : (x y : List ℕ) → bytes_eq x y ≡ false → bytes_eq y x ≡ false
-turned x y h = bytes_other y x (λ e. not_both (bytes_eq x y) ((bytes_eq-Decides x y).1 (sym e)) h)
 
 -- ---- a port by its name
 
@@ -152,7 +149,7 @@ begins_out n = refl
 
 columns_seen : (cs : List Column) → AllByRecursion (λ n. bytes_eq out_valid n ≡ false) (port_names (column_outputs cs)) → AllByRecursion (λ n. bytes_eq n out_eos ≡ false) (port_names (column_outputs cs)) → Seen (column_outputs cs)
 columns_seen [] v e = tt
-columns_seen (c ∷ cs) v e = (rw (begins_out c.name, turned out_valid (out_column c.name) v.0, e.0) refl, columns_seen cs v.1 e.1)
+columns_seen (c ∷ cs) v e = (rw (begins_out c.name, bytes_turned out_valid (out_column c.name) v.0, e.0) refl, columns_seen cs v.1 e.1)
 
 -- ---- the columns
 
