@@ -1,4 +1,7 @@
 mod Lines
+mod Fields
+mod Telling
+mod Counting
 mod Beating
 pub mod Runs
 mod Running
