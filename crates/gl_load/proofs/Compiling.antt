@@ -30,7 +30,7 @@ use Rattle.gl_query_judge.specs.Limits.{IsOverLimit}
 use Rattle.gl_query_compiler.specs.Queries.{IsQuery, IsQueryRefused}
 use Rattle.gl_compiler_text.specs.Meets.{Meets, result_columns}
 use Rattle.gl_load.specs.Query.{load_schema, query_text}
-use Rattle.gl_load.specs.Loads.{IsCompiledLoad}
+use Rattle.gl_load.specs.Steps.{IsCompiledLoad}
 use Rattle.gl_load.proofs.Constants.{load_tree, query_faultless, query_has}
 use Rattle.gl_load.proofs.Planning.{load_plan, plan_within, query_gap}
 
@@ -44,7 +44,7 @@ unread (schema.Twice at) h = absurd cc
 unread (schema.TooMany at) h = absurd cc
 
 -- each statement of the query's text has the query and the plan of the load, and takes a tuple in each cycle
-query_is : (s : Statement) → HasStatement query_text (statement_tree s) → query_shape s.query ≡ query_alike load_tree.query
+pub query_is : (s : Statement) → HasStatement query_text (statement_tree s) → query_shape s.query ≡ query_alike load_tree.query
 query_is s has = sym (query_same s.query) ∙ ap (λ (x : StatementTree). query_alike x.query) (one_meaning query_text (statement_tree s) load_tree has query_has)
 
 plan_is : (s : Statement) → HasStatement query_text (statement_tree s) → plan_of load_schema s ≡ load_plan

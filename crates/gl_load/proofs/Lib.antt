@@ -1,4 +1,7 @@
 mod Lines
+mod Fields
+mod Telling
+mod Counting
 mod Beating
 mod Running
 mod Compiling

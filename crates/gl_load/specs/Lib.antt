@@ -1,4 +1,5 @@
 pub mod Tuples
+pub mod Told
 pub mod Tallies
 pub mod Steps
 pub mod Loads

@@ -1,7 +1,9 @@
--- What is told of a run: how many lines of results it has, what they count, the last of them, and when the end came.
-use Rattle.std.specs.Prelude.{ℕ, ◌+◌, ◌^◌, List, [], ◌∷◌, ◌++◌, Option, Some, None, take, drop, codes, decimal, nat_lt, ◌==◌, if◌then◌else◌}
+-- What the code tells of a run by the bytes of its lines.
+-- A middle layer, proved equal to `Told` for the lines of a run: no promise rests on it.
+use Rattle.std.specs.Prelude.{ℕ, ◌+◌, ◌^◌, List, [], ◌∷◌, Option, Some, None, take, drop, nat_lt, ◌==◌, if◌then◌else◌}
 use Rattle.std.specs.List.{fold, position}
 use Rattle.gl_tuples.specs.Values.{number_of}
+use Rattle.gl_load.specs.Told.{five_lines}
 
 -- ---- lines and their fields
 
@@ -65,17 +67,6 @@ with_line t line = with_count (record t { end = first_field line }) line (count_
 unfoldable pub tally_of : List ℕ → Tally
 tally_of text = fold with_line no_lines (lines_of text)
 
--- ---- the summary
-
-abbrev pub line : List ℕ → List ℕ → List ℕ
-line head rest = head ++ rest ++ codes "\n"
-
--- of n tuples, whose run has these lines
+-- what is told of n tuples whose run has these lines
 unfoldable pub summary_of : ℕ → List ℕ → List ℕ
-summary_of n text =
-    let t = tally_of text in
-    line (codes "tuples ") (decimal n)
-    ++ line (codes "results ") (decimal t.results)
-    ++ line (codes "counted ") (decimal t.counted)
-    ++ line (codes "last ") t.last
-    ++ line (codes "end ") t.end
+summary_of n text = let t = tally_of text in five_lines n t.results t.counted t.last t.end

@@ -4,7 +4,8 @@ ghost use Rattle.std.specs.Prelude.{◌≡◌, ◌↔◌, ◌≤◌, IfOk, IsOk}
 ghost use Rattle.gl_schema.specs.Beats.{AreBeats, KeepsGap};
 ghost use Rattle.gl_tuples.specs.Gaps.{plain_beats};
 ghost use Rattle.gl_load.specs.Query.{load_schema};
-ghost use Rattle.gl_load.specs.Loads.{AreRunLines, IsCompiledLoad, IsLoad};
+ghost use Rattle.gl_load.specs.Loads.{IsLoad};
+ghost use Rattle.gl_load.specs.Steps.{AreRunLines, IsCompiledLoad};
 
 use crate::summary::summary_of;
 use crate::text_sink::TextSink;
@@ -16,6 +17,7 @@ use gl_compiler_text::Compiled;
 use gl_query_compiler::{CompileFault, compile_query};
 use gl_schema::{Schema, SchemaFault, read_schema};
 use gl_tuples::Beats;
+use gl_verilog_grammar::laws::one_module;
 use gl_verilog_orders::Start;
 use std::alloc::Global;
 
@@ -104,6 +106,7 @@ pub fn load(alloc: Global, count: u32) -> Result<Loaded, Memory>
     requires some { 1 ≤ count }
     ensures { IfOk result (λ l. IsLoad count l.summary.items l.compiled.text.items) }
 {
+    one_module();
     let schema = read_load(alloc)?;
     let compiled = compile_load(alloc, schema)?;
     let beats = load_beats(alloc, count)?;

@@ -1,7 +1,8 @@
 //! The five lines that tell of a run.
 
 ghost use Rattle.std.specs.Prelude.{◌≡◌, ◌++◌, decimal, IfOk, OnOk};
-ghost use Rattle.gl_load.specs.Tallies as spec;
+ghost use Rattle.gl_load.specs.Tallies as tallies;
+ghost use Rattle.gl_load.specs.Told as spec;
 
 use crate::tally::tally_of;
 use gl_bits::Memory;
@@ -28,9 +29,9 @@ fn put_number(text: &mut Vec<u8>, head: &[u8], number: u128) -> Result<(), Memor
 }
 
 /// What is told of a run of so many tuples that has these lines.
-#[tactic(auto, unfolding(crate::specs::Tallies::summary_of))]
+#[tactic(auto, unfolding(crate::specs::Tallies::summary_of, crate::specs::Told::five_lines))]
 pub(crate) fn summary_of(alloc: Global, count: u32, lines: &[u8]) -> Result<Vec<u8>, Memory>
-    ensures { IfOk result (λ text. text.items ≡ spec.summary_of count lines.now) }
+    ensures { IfOk result (λ text. text.items ≡ tallies.summary_of count lines.now) }
 {
     let tally = tally_of(lines);
     let mut text = Vec::new(alloc);

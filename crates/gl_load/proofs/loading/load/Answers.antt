@@ -1,7 +1,7 @@
 use Rattle.std.proofs.Common.{List, sym, subst}
 use Rattle.gl_schema.specs.Beats.{Beat, AreBeats, KeepsGap}
 use Rattle.gl_load.specs.Query.{load_schema}
-use Rattle.gl_load.specs.Loads.{AreRunLines}
+use Rattle.gl_load.specs.Steps.{AreRunLines}
 use Rattle.gl_load.proofs.Beating.{are_beats, keep_gap}
 use Rattle.gl_load.proofs.Running.{loaded}
 use Rattle.gl_load.proofs.loading.load.Goals as goal
@@ -14,6 +14,6 @@ run-requires-clause-gap c = subst (KeepsGap 1) (sym c.in_ok-beats.ensures) (keep
 
 pub returns : goal.returns
 returns c = loaded c.args.count c.in_ok-compiled.compiled c.bytes.result.now c.in_ok-lines.lines.bytes c.in_ok-summary.summary.items
-    c.in_ok-compiled.ensures
+    c.requires.some (c.one_module.ensures c.in_ok-compiled.compiled.text.items) c.in_ok-compiled.ensures
     (subst (λ (beats : List Beat). AreRunLines c.in_ok-compiled.compiled beats c.in_ok-lines.lines.bytes) c.in_ok-beats.ensures c.in_ok-lines.ensures)
     c.bytes.ensures c.in_ok-summary.ensures

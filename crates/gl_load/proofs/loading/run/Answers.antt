@@ -6,8 +6,7 @@ use Rattle.gl_tuples.specs.Gaps.{plain_beats}
 use Rattle.gl_verilog_orders.specs.declared.start.Start.TheVariants.{Zero}
 use Rattle.gl_runner.specs.declared.executing.Outcome.{Outcome}
 use Rattle.gl_runner.specs.Prints.{OfEachRun, Ran}
-use Rattle.gl_load.specs.Loads.{AreRunLines}
-use Rattle.gl_load.specs.Steps.{Kept, kept_state}
+use Rattle.gl_load.specs.Steps.{AreRunLines, Kept, kept_state}
 use Rattle.gl_load.proofs.Constants.{schema_spelled}
 use Rattle.gl_load.proofs.Running.{can_run_load, ran_load, where_ended}
 use Rattle.gl_load.proofs.loading.run.Goals as goal
