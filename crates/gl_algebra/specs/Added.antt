@@ -39,6 +39,7 @@ unfoldable pub added : List PlanNode → PlanNode → Placed
 added nodes node = record { nodes = with_node nodes node; root = place_of nodes node }
 
 -- what stands beside a plan's nodes after a node is added: its own kinds last where the plan lacked it
-pub record HasKinds (nodes : List PlanNode) (node : PlanNode) (kinds : List (List Kind)) (own : List Kind) (all : List (List Kind)) : Type 0 where
+pub record HasKinds (nodes : List PlanNode) (node : PlanNode) (kinds : List (List Kind)) (own : List Kind)
+    (all : List (List Kind)) : Type 0 where
   pub known : has_node nodes node ≡ true → all ≡ kinds
   pub fresh : has_node nodes node ≡ false → all ≡ kinds ++ own ∷ []

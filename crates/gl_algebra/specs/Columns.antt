@@ -1,4 +1,5 @@
--- The kinds of columns: of operands, of operations, of aggregates, and when they fit the columns that they are applied to.
+-- The kinds of columns: of operands, of operations, of aggregates, and when they fit the columns that they are applied
+-- to.
 use Rattle.std.specs.Prelude.{ℕ, ◌≡◌, ◌<◌, ◌≤◌, List, length, slice_index_or, All, ⊤}
 use Rattle.gl_bits.specs.Limits.{most_weights}
 use Rattle.gl_bits.specs.Words.{Word, IsWord}
@@ -69,7 +70,8 @@ SortFits Logic kind = kind ≡ bit_kind
 -- an operation whose operands are there and have the kinds that it takes
 abbrev pub OpFits : List Kind → ColOp → Type 0
 OpFits kinds (Not operand) = OperandFits kinds operand × (kind_of_operand kinds operand ≡ bit_kind)
-OpFits kinds (Cast operand kind) = OperandFits kinds operand × IsKind kind × CastFits (kind_of_operand kinds operand) kind
+OpFits kinds (Cast operand kind) =
+    OperandFits kinds operand × IsKind kind × CastFits (kind_of_operand kinds operand) kind
 OpFits kinds (Binary operator left right) =
     OperandFits kinds left × OperandFits kinds right
     × (kind_of_operand kinds left ≡ kind_of_operand kinds right)

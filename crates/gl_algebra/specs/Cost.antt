@@ -42,7 +42,8 @@ store_of_spacer gap f lines = if needs_spacer gap f then 64 * lines * ring (f.ne
 
 -- a node's own part in memories, from those of bodies
 abbrev pub own_store : (ℕ → Shape) → (ℕ → Figures) → (ℕ → ℕ) → ℕ → PlanNode → ℕ
-own_store shapes figures stores lines (Union left right) = 64 * lines * (ring (figures left).ne + ring (figures right).ne)
+own_store shapes figures stores lines (Union left right) =
+    64 * lines * (ring (figures left).ne + ring (figures right).ne)
 own_store shapes figures stores lines node =
     copies_in node * of_body stores node + part_of_spacer store_of_spacer shapes figures node
 

@@ -12,8 +12,8 @@ use Rattle.gl_algebra.specs.Nodewise.{nodewise}
 use Rattle.gl_algebra.specs.Shapes.{Shape, shape_of}
 use Rattle.gl_algebra.specs.Views.{copies_of_window}
 
--- sound figures: intervals end after they begin, those of two beats never overlap, and after a beat with the end there is room
--- for a tuple and the gap is no less than after a beat without it
+-- sound figures: intervals end after they begin, those of two beats never overlap, and after a beat with the end there
+-- is room for a tuple and the gap is no less than after a beat without it
 pub record IsSound (f : Figures) : Type 0 where
   pub tuples_last : f.a ≤ f.lt
   pub end_last : f.lt ≤ f.le

@@ -26,7 +26,8 @@ SpacersKeepSound = (gap : ℕ) (f : Figures) → 1 ≤ gap → IsSound f → IsS
 
 -- the figures of each node of a plan are sound
 abbrev pub FiguresAreSound : Type 0
-FiguresAreSound = (nodes : List PlanNode) (number : ℕ) → IsPlan nodes → number < length nodes → IsSound (figures_of nodes number)
+FiguresAreSound =
+    (nodes : List PlanNode) (number : ℕ) → IsPlan nodes → number < length nodes → IsSound (figures_of nodes number)
 
 -- a closing node gives nothing before the end
 abbrev pub ClosingNodesWait : Type 0
@@ -62,11 +63,13 @@ abbrev pub BodiesReadTheirInput : Type 0
 BodiesReadTheirInput = (nodes : List PlanNode) (number : ℕ) → IsPlan nodes → number < length nodes
     → (kinds : List Kind) → All (λ leaf. leaf ≡ Body kinds) (shape_of nodes number).leaves
     → (inputs others : Inputs) → inputs.body ≡ others.body
-    → (out : List Row) (spill : Bool) → IsPlanResult nodes number inputs out spill → IsPlanResult nodes number others out spill
+    → (out : List Row) (spill : Bool) → IsPlanResult nodes number inputs out spill
+    → IsPlanResult nodes number others out spill
 
 -- the columns of each node of a plan have kinds of columns
 abbrev pub ColumnsHaveKinds : Type 0
-ColumnsHaveKinds = (nodes : List PlanNode) (number : ℕ) → IsPlan nodes → number < length nodes → All IsKind (kinds_of nodes number)
+ColumnsHaveKinds =
+    (nodes : List PlanNode) (number : ℕ) → IsPlan nodes → number < length nodes → All IsKind (kinds_of nodes number)
 
 -- whether a node is a union
 abbrev pub is_union : PlanNode → Bool
@@ -82,9 +85,11 @@ has_union nodes = nodewise has_union_from false nodes
 
 -- a node without a union has one result at most for inputs
 abbrev pub ResultsAreUnique : Type 0
-ResultsAreUnique = (nodes : List PlanNode) (number : ℕ) → IsPlan nodes → number < length nodes → has_union nodes number ≡ false
+ResultsAreUnique =
+    (nodes : List PlanNode) (number : ℕ) → IsPlan nodes → number < length nodes → has_union nodes number ≡ false
     → (inputs : Inputs) (out out' : List Row) (spill spill' : Bool)
-    → IsPlanResult nodes number inputs out spill → IsPlanResult nodes number inputs out' spill' → AreSame out out' spill spill'
+    → IsPlanResult nodes number inputs out spill → IsPlanResult nodes number inputs out' spill'
+    → AreSame out out' spill spill'
 
 -- what a plan has for a node follows the node's row of each table
 pub record FollowsTables (nodes : List PlanNode) (number : ℕ) (node : PlanNode) : Type 0 where
@@ -98,7 +103,8 @@ pub record FollowsTables (nodes : List PlanNode) (number : ℕ) (node : PlanNode
       ↔ meaning_from (shape_of nodes) (IsPlanResult nodes) node inputs out spill
 
 abbrev pub NodesFollowTables : Type 0
-NodesFollowTables = (nodes : List PlanNode) (number : ℕ) (node : PlanNode) → IsPlan nodes → slice_get nodes number ≡ Some node
+NodesFollowTables =
+    (nodes : List PlanNode) (number : ℕ) (node : PlanNode) → IsPlan nodes → slice_get nodes number ≡ Some node
     → FollowsTables nodes number node
 
 -- nodes that are added change nothing of the nodes before them
@@ -111,4 +117,5 @@ pub record IsKept (nodes more : List PlanNode) (number : ℕ) : Type 0 where
       ↔ IsPlanResult nodes number inputs out spill
 
 abbrev pub EarlierNodesAreKept : Type 0
-EarlierNodesAreKept = (nodes more : List PlanNode) (number : ℕ) → IsPlan nodes → number < length nodes → IsKept nodes more number
+EarlierNodesAreKept =
+    (nodes more : List PlanNode) (number : ℕ) → IsPlan nodes → number < length nodes → IsKept nodes more number

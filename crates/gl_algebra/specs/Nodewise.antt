@@ -1,4 +1,5 @@
--- Values of nodes, each of which follows from the values of the nodes that it names. These stand before it in the plan's list.
+-- Values of nodes, each of which follows from the values of the nodes that it names. These stand before it in the
+-- plan's list.
 use Rattle.std.specs.Prelude.{ℕ, zero, suc, List, ◌++◌, Option, Some, None, option_to_list, slice_get}
 use Rattle.gl_algebra.specs.declared.node.PlanNode.{PlanNode}
 use Rattle.gl_algebra.specs.Views.{children_of, body_of}

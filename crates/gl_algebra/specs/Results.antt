@@ -1,5 +1,5 @@
--- What a plan means over lists of rows: the results that each node may have, and whether rows were left out of its groups.
--- After the operators of Mueller, Teubner and Alonso, Streams on Wires, PVLDB 2(1), 2009.
+-- What a plan means over lists of rows: the results that each node may have, and whether rows were left out of its
+-- groups. After the operators of Mueller, Teubner and Alonso, Streams on Wires, PVLDB 2(1), 2009.
 use Rattle.std.specs.Prelude.{ℕ, false, List, [], ◌∷◌, ◌++◌, map, filter, nat_eq, slice_index}
 use Rattle.gl_bits.specs.Kinds.{width_of}
 use Rattle.gl_bits.specs.Lists.{slices, groups, has_further, IsInterleaving}
@@ -43,7 +43,8 @@ total_of kinds rows (Max operand) =
 total_of kinds rows (Avg operand) =
     average_of (kind_of_operand kinds operand) (map (λ row. value_of_operand row operand) rows)
 total_of kinds rows (Wsum operand weights) =
-    weighted_sum (width_of (kind_of_operand kinds operand)) (bits_of weights) (map (λ row. value_of_operand row operand) rows)
+    weighted_sum (width_of (kind_of_operand kinds operand)) (bits_of weights)
+    (map (λ row. value_of_operand row operand) rows)
 
 -- what the nodes of one child make of its rows, whose columns have these kinds
 abbrev pub computed : List Kind → List ColOp → Row → Row
@@ -65,7 +66,8 @@ meaning_from shapes meanings (Node.Body kinds) inputs = IsInput inputs.body
 meaning_from shapes meanings (Node.Compute child ops) inputs =
     IsChanged (meanings child inputs) (map (computed (shapes child).kinds ops))
 meaning_from shapes meanings (Node.Select child column) inputs = IsChanged (meanings child inputs) (selected column)
-meaning_from shapes meanings (Node.Project child items) inputs = IsChanged (meanings child inputs) (map (projected items))
+meaning_from shapes meanings (Node.Project child items) inputs =
+    IsChanged (meanings child inputs) (map (projected items))
 meaning_from shapes meanings (Node.Aggregate child aggs) inputs =
     IsChanged (meanings child inputs) (totalled (shapes child).kinds aggs)
 meaning_from shapes meanings (Node.Union left right) inputs =
@@ -73,7 +75,8 @@ meaning_from shapes meanings (Node.Union left right) inputs =
 meaning_from shapes meanings (Node.Beside left right) inputs =
     IsOfBoth (meanings left inputs) (meanings right inputs) AreBeside
 meaning_from shapes meanings (Node.Window source body size advance) inputs =
-    IsOfParts (meanings source inputs) (slices size advance) (λ slice. meanings body (given inputs slice)) (λ rows. false)
+    IsOfParts (meanings source inputs) (slices size advance) (λ slice. meanings body (given inputs slice))
+    (λ rows. false)
 meaning_from shapes meanings (Node.Group source body key count) inputs =
     IsOfParts (meanings source inputs) (groups count (λ row. slice_index row key))
     (IsOfGroup (λ rows. meanings body (given inputs rows))) (has_further count (λ row. slice_index row key))

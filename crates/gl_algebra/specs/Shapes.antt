@@ -1,4 +1,5 @@
--- What other nodes need to know of a node: its columns, whether it waits for the end, how steadily its rows come, and its leaves.
+-- What other nodes need to know of a node: its columns, whether it waits for the end, how steadily its rows come, and
+-- its leaves.
 use Rattle.std.specs.Prelude.{ℕ, ◌≡◌, ◌<◌, length, Bool, true, false, ◌&&◌, List, [], ◌∷◌, ◌++◌, map}
 use Rattle.gl_bits.specs.declared.kind.Kind.{Kind}
 use Rattle.gl_algebra.specs.declared.node.PlanNode.{PlanNode}
@@ -46,7 +47,12 @@ shape_from shapes (Union left right) =
     record { kinds = l.kinds; closing = l.closing && r.closing; pace = unsteady; leaves = l.leaves ++ r.leaves }
 shape_from shapes (Beside left right) =
     let l = shapes left in let r = shapes right in
-    record { kinds = l.kinds ++ r.kinds; closing = l.closing && r.closing; pace = l.pace; leaves = l.leaves ++ r.leaves }
+    record {
+      kinds = l.kinds ++ r.kinds;
+      closing = l.closing && r.closing;
+      pace = l.pace;
+      leaves = l.leaves ++ r.leaves;
+    }
 shape_from shapes (Window source body size advance) =
     record (shapes source) { kinds = (shapes body).kinds; pace = unsteady }
 shape_from shapes (Group source body key groups) =

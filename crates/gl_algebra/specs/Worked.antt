@@ -70,7 +70,8 @@ sums_by_symbol = Stream 0 trade_kinds ∷ Body trade_kinds ∷ Aggregate 1 (Sum 
 
 -- the prices of two streams
 abbrev pub prices_of_both : List PlanNode
-prices_of_both = Stream 0 trade_kinds ∷ Project 0 (Column 1 ∷ []) ∷ Stream 1 trade_kinds ∷ Project 2 (Column 1 ∷ []) ∷ Union 1 3 ∷ []
+prices_of_both =
+    Stream 0 trade_kinds ∷ Project 0 (Column 1 ∷ []) ∷ Stream 1 trade_kinds ∷ Project 2 (Column 1 ∷ []) ∷ Union 1 3 ∷ []
 
 -- a root's latency, gap and copies
 pub record Has (nodes : List PlanNode) (root latency gap copies : ℕ) : Type 0 where

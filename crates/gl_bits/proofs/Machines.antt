@@ -1,5 +1,5 @@
 -- A machine that takes tokens one after the other, whatever its states and its tokens are: each step goes on from a state, or there is none.
-use Rattle.std.proofs.Common.{◌≡◌, List, [], ◌∷◌, ◌++◌, Option, Some, None, refl, sym, ap, subst, ◌∙◌}
+use Rattle.std.proofs.Common.{◌≡◌, List, [], ◌∷◌, ◌++◌, Option, Some, None, refl, sym, ap, ◌∙◌}
 use Rattle.gl_bits.proofs.Options.{some_same, not_some}
 
 -- the state behind a list of tokens is the one to which the steps lead

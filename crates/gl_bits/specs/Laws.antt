@@ -9,7 +9,9 @@ NoSlicesOfNothing A = (size advance : ℕ) → slices {A = A} size advance [] �
 
 -- slice j is the part from place j * advance where that is below the length, and there is no other
 abbrev pub SlicesAreParts : Type 0 → Type 0
-SlicesAreParts A = (size advance : ℕ) (xs : List A) (j : ℕ) → 1 ≤ advance → slice_get (slices size advance xs) j ≡ slice_at size advance xs j
+SlicesAreParts A =
+    (size advance : ℕ) (xs : List A) (j : ℕ) → 1 ≤ advance
+    → slice_get (slices size advance xs) j ≡ slice_at size advance xs j
 
 -- the element at a place stands in one of the slices
 pub record IsInSlice {A : Type 0} (size advance : ℕ) (xs : List A) (i : ℕ) : Type 0 where
@@ -22,13 +24,16 @@ pub record IsInSlice {A : Type 0} (size advance : ℕ) (xs : List A) (i : ℕ) :
 
 -- where slices leave no gap between them, every element is in one
 abbrev pub SlicesMissNothing : Type 0 → Type 0
-SlicesMissNothing A = (size advance : ℕ) (xs : List A) (i : ℕ) → 1 ≤ advance → advance ≤ size → i < length xs → IsInSlice size advance xs i
+SlicesMissNothing A =
+    (size advance : ℕ) (xs : List A) (i : ℕ) → 1 ≤ advance → advance ≤ size → i < length xs
+    → IsInSlice size advance xs i
 
 -- the keys of the groups are the first n, and each group has the rows with its key, in their order
 pub record HaveFirstKeys {A : Type 0} (n : ℕ) (key_of : A → ℕ) (xs : List A) : Type 0 where
   pub keys : map (λ (g : Group A). g.key) (groups n key_of xs) ≡ take n (keys_of key_of xs)
   pub rows : map (λ (g : Group A). g.rows) (groups n key_of xs) ≡ map (rows_with key_of xs) (take n (keys_of key_of xs))
-  pub whole : sum_by (λ (g : Group A). length g.rows) (groups n key_of xs) ≡ length (filter (λ x. list_any (nat_eq (key_of x)) (take n (keys_of key_of xs))) xs)
+  pub whole : sum_by (λ (g : Group A). length g.rows) (groups n key_of xs) ≡ length
+      (filter (λ x. list_any (nat_eq (key_of x)) (take n (keys_of key_of xs))) xs)
 
 abbrev pub GroupsHaveFirstKeys : Type 0 → Type 0
 GroupsHaveFirstKeys A = (n : ℕ) (key_of : A → ℕ) (xs : List A) → HaveFirstKeys n key_of xs

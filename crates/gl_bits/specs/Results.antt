@@ -1,5 +1,5 @@
--- Results of queries and of plans: rows, and whether rows of further keys were left out; and how results are made of results.
--- After the operators of Mueller, Teubner and Alonso, Streams on Wires, PVLDB 2(1), 2009.
+-- Results of queries and of plans: rows, and whether rows of further keys were left out; and how results are made of
+-- results. After the operators of Mueller, Teubner and Alonso, Streams on Wires, PVLDB 2(1), 2009.
 use Rattle.std.specs.Prelude.{ℕ, ◌≡◌, Bool, false, ◌||◌, List, [], ◌∷◌, ◌++◌, map, length}
 use Rattle.gl_bits.specs.Lists.{Group}
 
@@ -28,7 +28,8 @@ pub record IsChanged (Source : Results) (change : List Row → List Row) (out : 
   pub changed : out ≡ change rows
 
 -- what two results make together
-pub record IsOfBoth (Left Right : Results) (Join : List Row → List Row → List Row → Type 0) (out : List Row) (spill : Bool) : Type 0 where
+pub record IsOfBoth (Left Right : Results) (Join : List Row → List Row → List Row → Type 0) (out : List Row)
+    (spill : Bool) : Type 0 where
   pub left : List Row
   pub right : List Row
   pub left_spill : Bool

@@ -7,7 +7,8 @@ use Rattle.gl_bits.specs.declared.lists.Group.{Group}
 
 -- the groups of the first keys in a column
 abbrev pub keyed_groups : ℕ → ℕ → List (List ℕ) → List Group
-keyed_groups n column xs = map (λ (g : GroupOf (List ℕ)). record { key = g.key; rows = g.rows }) (groups n (λ r. slice_index r column) xs)
+keyed_groups n column xs =
+    map (λ (g : GroupOf (List ℕ)). record { key = g.key; rows = g.rows }) (groups n (λ r. slice_index r column) xs)
 
 -- the rows of one key in a column
 abbrev pub table_group : ℕ → List (List ℕ) → ℕ → Group
@@ -15,4 +16,5 @@ table_group column xs key = record { key = key; rows = rows_with (λ r. slice_in
 
 -- a key behind others, unless it is among them or they are as many as wanted
 unfoldable pub with_key : ℕ → List ℕ → ℕ → List ℕ
-with_key most keys key = if nat_lt (length keys) most && not (list_any (nat_eq key) keys) then keys ++ key ∷ [] else keys
+with_key most keys key =
+    if nat_lt (length keys) most && not (list_any (nat_eq key) keys) then keys ++ key ∷ [] else keys

@@ -1,6 +1,5 @@
 //! Running a compiled query.
 
-ghost use Rattle.std.specs.Prelude.{◌≡◌};
 ghost use Rattle.gl_schema.specs.Beats.{AreBeats, KeepsGap};
 ghost use Rattle.gl_schema.specs.Schemas.{kinds_of};
 ghost use Rattle.gl_tuples.specs.Gaps.{plain_beats};

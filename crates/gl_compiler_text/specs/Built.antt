@@ -19,8 +19,8 @@ pub record IsBuilt (schema : Schema) (statement : Statement) : Type 0 where
 abbrev pub statement_figures : Schema → Statement → Figures
 statement_figures schema statement = query_figures schema.streams (query_shape statement.query)
 
--- the cycles from the last beat to the end of the result, which comes one cycle behind the query's, and from one beat to
--- the next
+-- the cycles from the last beat to the end of the result, which comes one cycle behind the query's, and from one beat
+-- to the next
 abbrev pub latency_of : Schema → Statement → ℕ
 latency_of schema statement = (statement_figures schema statement).le + 1
 

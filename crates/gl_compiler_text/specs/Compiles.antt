@@ -15,7 +15,8 @@ use Rattle.gl_compiler_text.specs.declared.compiling.Compiled.{Compiled}
 use Rattle.gl_compiler_text.specs.Meets.{Meets, result_columns}
 use Rattle.gl_compiler_text.specs.Built.{IsBuilt, copies_of, gap_of, latency_of}
 
--- the bits of registers and of memories that the text's module declares, which are no more than the statement's plan counts
+-- the bits of registers and of memories that the text's module declares, which are no more than the statement's plan
+-- counts
 pub record HasCost (schema : Schema) (statement : Statement) (text : List ℕ) (cost : Cost) : Type 0 where
   pub design : Module
   pub has : HasModule text design

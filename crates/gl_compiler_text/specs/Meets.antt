@@ -1,6 +1,6 @@
--- What a compiled text is: a module of the statement's name with the ports of the schema and of the result, every run of
--- which, in any order of events, over any beats that keep the gap and from any start, is right for the statement, and whose
--- overflow line says what has come by each cycle.
+-- What a compiled text is: a module of the statement's name with the ports of the schema and of the result, every run
+-- of which, in any order of events, over any beats that keep the gap and from any start, is right for the statement,
+-- and whose overflow line says what has come by each cycle.
 use Rattle.std.specs.Prelude.{◌≡◌, ℕ, ◌++◌, List, codes}
 use Rattle.gl_schema.specs.declared.schema.Column.{Column}
 use Rattle.gl_schema.specs.declared.schema.Schema.{Schema}
@@ -38,9 +38,9 @@ WhereDriven m schema gap P = (beats : List Beat) (value : ℕ → Nets) (word : 
     → Drives m schema gap beats value word → P beats (result_names m) (port_of m value)
 
 -- the text has a module of the statement's name, whose ports are in order the clock, the inputs of the schema and the
--- outputs of the result; there is a run of it from any start over any beats of the schema, and whatever drives it, what is
--- seen is right for the statement, within the latency, and the overflow line never falls, and is 1 only where what has come
--- has a result that spills
+-- outputs of the result; there is a run of it from any start over any beats of the schema, and whatever drives it, what
+-- is seen is right for the statement, within the latency, and the overflow line never falls, and is 1 only where what
+-- has come has a result that spills
 pub record Meets (schema : Schema) (statement : Statement) (latency gap : ℕ) (text : List ℕ) : Type 0 where
   pub accepted : IsAccepted schema statement
   pub design : Module

@@ -14,8 +14,8 @@ pub record HasSpill (means : Meaning) (inputs : Inputs) : Type 0 where
   pub rows : List (List ℕ)
   pub spills : means inputs rows true
 
--- in file cycles: the line never falls, and where it is 1, what the streams have brought by then, taken as whole streams, has a result
--- that spills
+-- in file cycles: the line never falls, and where it is 1, what the streams have brought by then, taken as whole
+-- streams, has a result that spills
 pub record TellsGroup (means : Meaning) (beats : List Beat) (outs : List (List ℕ)) (port : PortValues) : Type 0 where
   pub lasts : (n : ℕ) → IsTrue (shown port outs n).group → IsTrue (shown port outs (suc n)).group
   pub so : (n : ℕ) → IsTrue (shown port outs n).group → HasSpill means (inputs_of (beats_to n beats))

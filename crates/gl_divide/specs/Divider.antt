@@ -15,7 +15,8 @@ pub record IsHighest (old new : Net) (bus : Bus) (out : Bit) : Type 0 where
   pub keeps : Keeps old new
   pub cost : Costs old new (nodes_alone 1)
   pub bit : IsBit new out
-  pub line : (run : Run) → IsRun new run → (t : ℕ) → line_at run out (suc t) ≡ highest bus.width (run.at (suc t) bus.node)
+  pub line : (run : Run) → IsRun new run → (t : ℕ)
+      → line_at run out (suc t) ≡ highest bus.width (run.at (suc t) bus.node)
 
 -- a line that is 0, behind reset, where another is 1
 pub record IsTurned (old new : Net) (source out : Bit) : Type 0 where
@@ -49,9 +50,11 @@ pub record IsDigit (old new : Net) (rest bottom : Bus) (next : Bit) (d : Digit) 
   pub bus : IsBus new d.left
   pub same_width : d.left.width ≡ rest.width
   pub line : (run : Run) → IsRun new run → (t : ℕ) → run.at (suc t) rest.node < run.at (suc t) bottom.node
-      → line_at run d.fits (suc t) ≡ fits (run.at (suc t) rest.node) (run.at (suc t) bottom.node) (line_at run next (suc t))
+      → line_at run d.fits (suc t) ≡ fits (run.at (suc t) rest.node) (run.at (suc t) bottom.node)
+      (line_at run next (suc t))
   pub value : (run : Run) → IsRun new run → (t : ℕ) → run.at (suc t) rest.node < run.at (suc t) bottom.node
-      → run.at (suc t) d.left.node ≡ left (run.at (suc t) rest.node) (run.at (suc t) bottom.node) (line_at run next (suc t))
+      → run.at (suc t) d.left.node ≡ left (run.at (suc t) rest.node) (run.at (suc t) bottom.node)
+      (line_at run next (suc t))
 
 -- the buses and the line of a stage are in the netlist, for a top and a bottom of these widths
 pub record IsStage (net : Net) (top_width bottom_width : ℕ) (s : Stage) : Type 0 where
@@ -65,7 +68,8 @@ pub record IsStage (net : Net) (top_width bottom_width : ℕ) (s : Stage) : Type
 
 -- the division at a stage in a cycle
 abbrev pub division_at : Run → ℕ → Stage → Division
-division_at run t s = record { digits = run.at t s.digits.node; rest = run.at t s.rest.node; bottom = run.at t s.bottom.node }
+division_at run t s =
+    record { digits = run.at t s.digits.node; rest = run.at t s.rest.node; bottom = run.at t s.bottom.node }
 
 -- what a further stage costs
 abbrev pub cost_of_step : ℕ → ℕ → Cost
@@ -100,10 +104,11 @@ pub record IsBehindDigits (old new : Net) (n : ℕ) (top bottom : Bus) (go : Bit
   pub stage : IsStage new top.width bottom.width s
   pub line : (run : Run) → IsRun new run → IsLineBehind run (suc n) go s.go
   pub division : (run : Run) → IsRun new run → (t : ℕ) → run.at (suc t) bottom.node ≢ 0
-      → division_at run (suc t + suc n) s ≡ digits_on top.width n (undivided (run.at (suc t) top.node) (run.at (suc t) bottom.node))
+      → division_at run (suc t + suc n) s ≡ digits_on top.width n
+      (undivided (run.at (suc t) top.node) (run.at (suc t) bottom.node))
 
--- a divider: for each cycle whose bottom is not 0 the quotient, as many cycles later as the top has bits and one more; what tells that it
--- is ready is so many cycles behind what asks for it, however close these are, and low otherwise
+-- a divider: for each cycle whose bottom is not 0 the quotient, as many cycles later as the top has bits and one more;
+-- what tells that it is ready is so many cycles behind what asks for it, however close these are, and low otherwise
 pub record IsDivider (old new : Net) (top bottom : Bus) (go : Bit) (q : Quotient) : Type 0 where
   pub keeps : Keeps old new
   pub cost : CostsAtMost old new (cost_of_stages top.width top.width bottom.width)

@@ -18,8 +18,8 @@ fits rest bottom next = nat_le bottom (2 * rest + bit next)
 unfoldable pub left : ℕ → ℕ → Bool → ℕ
 left rest bottom next = if fits rest bottom next then 2 * rest + bit next - bottom else 2 * rest + bit next
 
--- a division under way: the digits of the top that are to come, with those of the quotient behind them; what is left of the digits
--- that are gone; and the bottom
+-- a division under way: the digits of the top that are to come, with those of the quotient behind them; what is left of
+-- the digits that are gone; and the bottom
 pub record Division : Type 0 where
   pub digits : ℕ
   pub rest : ℕ

@@ -27,6 +27,7 @@ pub fn shifted(net: &mut NetBuilder, bus: Bus, line: Bit) -> Result<Bus, Memory>
         return Ok(line.bus());
     }
     let low = net.cut(bus, bus.width - 2, 0)?;
+    // Named, since a goal speaks of the value.
     let joined = net.join(low, line.bus())?;
     Ok(joined)
 }

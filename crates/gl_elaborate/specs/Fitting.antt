@@ -29,7 +29,8 @@ LevelsFit zero base at items filter = Unit {0}
 LevelsFit (suc depth) base at items filter =
     let level = level_of (with_filter items filter) in
     FitsNext at.nodes (node.Compute at.root level)
-    × LevelsFit depth (base + length level) (added at.nodes (node.Compute at.root level)) (map (reduced base level) items) (option_map (reduced base level) filter)
+    × LevelsFit depth (base + length level) (added at.nodes (node.Compute at.root level))
+    (map (reduced base level) items) (option_map (reduced base level) filter)
 
 abbrev pub LevelledFit : ℕ → Placed → List Term → Option Term → Type 0
 LevelledFit base at items filter = LevelsFit (depth_of_all (with_filter items filter)) base at items filter
@@ -42,16 +43,19 @@ abbrev pub ProjectFits : Placed → List Term → Type 0
 ProjectFits at items = FitsNext at.nodes (node.Project at.root (map operand_of items))
 
 -- the nodes of a select
-pub record RowsFit (columns : List NamedColumn) (pick : PickShape) (filter : Option ExprShape) (at : Placed) : Type 0 where
+pub record RowsFit (columns : List NamedColumn) (pick : PickShape) (filter : Option ExprShape) (at : Placed)
+    : Type 0 where
   pub of_levels : LevelledFit (length columns) at (picked_terms columns pick) (filter_of columns filter)
   pub of_select :
-      let over = levelled (length columns) at (picked_terms columns pick) (filter_of columns filter) in SelectFits over.at over.filter
+      let over = levelled (length columns) at (picked_terms columns pick) (filter_of columns filter)
+      in SelectFits over.at over.filter
   pub of_project :
       let over = levelled (length columns) at (picked_terms columns pick) (filter_of columns filter) in
       ProjectFits (selected over.at over.filter) over.items
 
 -- one level done: the same levels come of what is left, whose nodes fit and whose columns have room
-pub record IsStep (base : ℕ) (at : Placed) (items : List Term) (filter : Option Term) (base' : ℕ) (at' : Placed) (items' : List Term) (filter' : Option Term) : Type 0 where
+pub record IsStep (base : ℕ) (at : Placed) (items : List Term) (filter : Option Term) (base' : ℕ) (at' : Placed)
+    (items' : List Term) (filter' : Option Term) : Type 0 where
   pub same : levelled base' at' items' filter' ≡ levelled base at items filter
   pub fit : LevelledFit base' at' items' filter'
   pub room : base' + ops_in_all (with_filter items' filter') < 65536
@@ -68,29 +72,34 @@ pub record TotalsFit (columns : List NamedColumn) (items : List AggItemShape) (a
 abbrev pub PlacedFit : (List ℕ → PlanNode) → List Stream → QueryShape → List PlanNode → Type 0
 PlacedFit read sources (shape.Read name) nodes = FitsNext nodes (read name)
 PlacedFit read sources (shape.Rows pick filter source) nodes =
-    PlacedFit read sources source nodes × RowsFit (columns_of sources source) pick filter (placed read sources source nodes)
+    PlacedFit read sources source nodes × RowsFit (columns_of sources source) pick filter
+    (placed read sources source nodes)
 PlacedFit read sources (shape.Total aggs source) nodes =
     PlacedFit read sources source nodes × TotalsFit (columns_of sources source) aggs (placed read sources source nodes)
 PlacedFit read sources (shape.Each var source size advance body) nodes =
     let columns = columns_of sources source in
     let from = placed read sources source nodes in
     let inside = placed (λ name. node.Body (kinds_of columns)) (variable var columns) body from.nodes in
-    PlacedFit read sources source nodes × PlacedFit (λ name. node.Body (kinds_of columns)) (variable var columns) body from.nodes
+    PlacedFit read sources source nodes × PlacedFit (λ name. node.Body (kinds_of columns)) (variable var columns)
+    body from.nodes
     × FitsNext inside.nodes (node.Window from.root inside.root size advance)
 PlacedFit read sources (shape.PerGroup var source key groups body) nodes =
     let columns = columns_of sources source in
     let from = placed read sources source nodes in
     let inside = placed (λ name. node.Body (kinds_of columns)) (variable var columns) body from.nodes in
-    PlacedFit read sources source nodes × PlacedFit (λ name. node.Body (kinds_of columns)) (variable var columns) body from.nodes
+    PlacedFit read sources source nodes × PlacedFit (λ name. node.Body (kinds_of columns)) (variable var columns)
+    body from.nodes
     × FitsNext inside.nodes (node.Group from.root inside.root (column_number columns key) groups)
 PlacedFit read sources (shape.Union l r) nodes =
     let left = placed read sources l nodes in
     let right = placed read sources r left.nodes in
-    PlacedFit read sources l nodes × PlacedFit read sources r left.nodes × FitsNext right.nodes (node.Union left.root right.root)
+    PlacedFit read sources l nodes × PlacedFit read sources r left.nodes
+    × FitsNext right.nodes (node.Union left.root right.root)
 PlacedFit read sources (shape.Concat l r) nodes =
     let left = placed read sources l nodes in
     let right = placed read sources r left.nodes in
-    PlacedFit read sources l nodes × PlacedFit read sources r left.nodes × FitsNext right.nodes (node.Beside left.root right.root)
+    PlacedFit read sources l nodes × PlacedFit read sources r left.nodes
+    × FitsNext right.nodes (node.Beside left.root right.root)
 
 -- a filter's term is one
 abbrev pub FilterTerm : List NamedColumn → Option ExprShape → Type 0
@@ -113,10 +122,12 @@ pub record CanPlaceTotal (columns : List NamedColumn) (items : List AggItemShape
 -- what code that places a query needs
 abbrev pub CanPlace : List Stream → QueryShape → Type 0
 CanPlace sources (shape.Read name) = length sources ≤ 8
-CanPlace sources (shape.Rows pick filter source) = CanPlace sources source × CanPlaceRows (columns_of sources source) pick filter
+CanPlace sources (shape.Rows pick filter source) =
+    CanPlace sources source × CanPlaceRows (columns_of sources source) pick filter
 CanPlace sources (shape.Total aggs source) = CanPlace sources source × CanPlaceTotal (columns_of sources source) aggs
 CanPlace sources (shape.Each var source size advance body) =
-    CanPlace sources source × CanPlace (variable var (columns_of sources source)) body × (size ≤ 65536) × (advance ≤ 65536)
+    CanPlace sources source × CanPlace (variable var (columns_of sources source)) body × (size ≤ 65536)
+    × (advance ≤ 65536)
 CanPlace sources (shape.PerGroup var source key groups body) =
     CanPlace sources source × CanPlace (variable var (columns_of sources source)) body
     × (column_number (columns_of sources source) key ≤ 255) × (groups ≤ 256)

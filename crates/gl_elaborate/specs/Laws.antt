@@ -28,8 +28,8 @@ AreLongRows schema rows = (number : ℕ) (s : Stream) → slice_get schema.strea
 abbrev pub query_inputs : Inputs → beats.Inputs
 query_inputs inputs = record { rows = inputs.streams }
 
--- the plan of a statement over a schema: each node fits where it is added, and the root has the query's shape, its figures, and
--- no result that is not one of the statement
+-- the plan of a statement over a schema: each node fits where it is added, and the root has the query's shape, its
+-- figures, and no result that is not one of the statement
 pub record IsRightPlan (schema : Schema) (statement : Statement) : Type 0 where
   pub fit : PlacedFit (stream_node schema.streams) schema.streams (query_shape statement.query) []
   pub plan : IsPlan (plan_of schema statement).nodes

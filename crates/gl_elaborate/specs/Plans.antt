@@ -24,7 +24,8 @@ use Rattle.gl_algebra.specs.Added.{Placed, added, placed_at}
 use Rattle.gl_elaborate.specs.Terms.{Term, Column, Literal, Not, Cast, Binary, term_of, depth_of_all}
 use Rattle.gl_elaborate.specs.Levels.{level_of, reduced, operand_of}
 
--- what the levels give over a node: the last of their nodes, and terms that are left of the items and of the filter, if there is one
+-- what the levels give over a node: the last of their nodes, and terms that are left of the items and of the filter, if
+-- there is one
 pub record Levelled : Type 0 where
   pub at : Placed
   pub items : List Term
@@ -115,7 +116,8 @@ agg_over columns (shape.Sum e) terms = agg.Sum (first_of terms)
 agg_over columns (shape.Min e) terms = agg.Min (first_of terms)
 agg_over columns (shape.Max e) terms = agg.Max (first_of terms)
 agg_over columns (shape.Avg e) terms = agg.Avg (first_of terms)
-agg_over columns (shape.Wsum e weights) terms = agg.Wsum (first_of terms) (weights_of (kind_of columns (kind_alone e) e) weights)
+agg_over columns (shape.Wsum e weights) terms =
+    agg.Wsum (first_of terms) (weights_of (kind_of columns (kind_alone e) e) weights)
 
 -- the terms of the arguments behind it
 abbrev pub behind : AggShape → List Term → List Term
@@ -142,7 +144,8 @@ abbrev pub placed : (List ℕ → PlanNode) → List Stream → QueryShape → L
 placed read sources (shape.Read name) nodes = added nodes (read name)
 placed read sources (shape.Rows pick filter source) nodes =
     rows_over (columns_of sources source) pick filter (placed read sources source nodes)
-placed read sources (shape.Total aggs source) nodes = totals_over (columns_of sources source) aggs (placed read sources source nodes)
+placed read sources (shape.Total aggs source) nodes =
+    totals_over (columns_of sources source) aggs (placed read sources source nodes)
 placed read sources (shape.Each var source size advance body) nodes =
     let columns = columns_of sources source in
     let from = placed read sources source nodes in

@@ -33,7 +33,8 @@ term_of columns place (shape.Letters text) = literal place (text_word (bytes_in 
 term_of columns place (shape.Not e) = Not (term_of columns (Unsigned 1) e)
 term_of columns place (shape.Cast kind e) = Cast (term_of columns (kind_alone e) e) kind
 term_of columns place (shape.Binary op l r) =
-    Binary op (term_of columns (operand_place columns op place l r) l) (term_of columns (operand_place columns op place r l) r)
+    Binary op (term_of columns (operand_place columns op place l r) l)
+    (term_of columns (operand_place columns op place r l) r)
 
 -- its kind over columns of these kinds
 abbrev pub term_kind : List Kind → Term → Kind
@@ -58,7 +59,8 @@ IsTerm kinds (Literal word kind) = IsWord word × IsKind kind × (word.width ≡
 IsTerm kinds (Not t) = IsTerm kinds t × (term_kind kinds t ≡ bit_kind)
 IsTerm kinds (Cast t kind) = IsTerm kinds t × IsKind kind × CastFits (term_kind kinds t) kind
 IsTerm kinds (Binary op l r) =
-    IsTerm kinds l × IsTerm kinds r × (term_kind kinds l ≡ term_kind kinds r) × SortFits (sort_of op) (term_kind kinds l)
+    IsTerm kinds l × IsTerm kinds r × (term_kind kinds l ≡ term_kind kinds r)
+    × SortFits (sort_of op) (term_kind kinds l)
 
 -- a column or literal has depth 0, every operation one more than its deepest operand
 abbrev pub depth_of : Term → ℕ

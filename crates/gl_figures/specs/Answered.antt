@@ -14,7 +14,8 @@ use Rattle.gl_figures.specs.Known.{capped}
 abbrev pub AreSmallBefore : List PlanNode → ℕ → Type 0
 AreSmallBefore nodes number = (child : ℕ) → child < number → AreSmall (figures_of nodes child)
 
--- the first node with a figure of 2^32 or more; the places before it have their nodes' figures, and those from it on are as before
+-- the first node with a figure of 2^32 or more; the places before it have their nodes' figures, and those from it on
+-- are as before
 pub record IsLate (nodes : List PlanNode) (old new : List Figures) (limit : Limit) : Type 0 where
   pub node : ℕ
   pub is : limit ≡ Latency node

@@ -19,9 +19,11 @@ pub record AddsFound (old new : Net) (used : Bit) (key : Bus) (free : Bit) (valu
   pub kept_bit : IsBit new r.kept
   pub found_bit : IsBit new r.found
   pub cost : Costs old new (nodes_alone 3)
-  pub kept : (run : Run) → IsRun new run → (t : ℕ) → line_at run r.kept t ≡ (line_at run used t && not (line_at run free t))
+  pub kept : (run : Run) → IsRun new run → (t : ℕ)
+      → line_at run r.kept t ≡ (line_at run used t && not (line_at run free t))
   pub found : (run : Run) → IsRun new run → (t : ℕ)
-      → line_at run r.found t ≡ ((line_at run used t && not (line_at run free t)) && nat_eq (held_at 0 run value t) (held_at 0 run key t))
+      → line_at run r.found t ≡ ((line_at run used t && not (line_at run free t)) && nat_eq (held_at 0 run value t)
+      (held_at 0 run key t))
 
 -- what becomes of the key
 pub record AddsTaken (old new : Net) (ask kept found : Bit) (r : Taken) : Type 0 where
@@ -31,10 +33,13 @@ pub record AddsTaken (old new : Net) (ask kept found : Bit) (r : Taken) : Type 0
   pub matches_bit : IsBit new r.matches
   pub passes_bit : IsBit new r.passes
   pub cost : Costs old new (nodes_alone 4)
-  pub takes : (run : Run) → IsRun new run → (t : ℕ) → line_at run r.takes t ≡ (line_at run ask t && not (line_at run kept t))
+  pub takes : (run : Run) → IsRun new run → (t : ℕ)
+      → line_at run r.takes t ≡ (line_at run ask t && not (line_at run kept t))
   pub has : (run : Run) → IsRun new run → (t : ℕ) → line_at run r.has t ≡ (line_at run kept t || line_at run r.takes t)
-  pub matches : (run : Run) → IsRun new run → (t : ℕ) → line_at run r.matches t ≡ (line_at run found t || line_at run r.takes t)
-  pub passes : (run : Run) → IsRun new run → (t : ℕ) → line_at run r.passes t ≡ (line_at run ask t && not (line_at run r.matches t))
+  pub matches : (run : Run) → IsRun new run → (t : ℕ)
+      → line_at run r.matches t ≡ (line_at run found t || line_at run r.takes t)
+  pub passes : (run : Run) → IsRun new run → (t : ℕ)
+      → line_at run r.passes t ≡ (line_at run ask t && not (line_at run r.matches t))
 
 -- the lines of one slot in a cycle
 abbrev pub kept_line : Run → Bit → Bit → ℕ → Bool
@@ -45,15 +50,18 @@ takes_line run used free ask t = line_at run ask t && not (kept_line run used fr
 
 abbrev pub matches_line : Run → Bit → Bus → Bit → Bit → Bus → ℕ → Bool
 matches_line run used key free ask value t =
-    (kept_line run used free t && nat_eq (held_at 0 run value t) (held_at 0 run key t)) || takes_line run used free ask t
+    (kept_line run used free t && nat_eq (held_at 0 run value t) (held_at 0 run key t))
+    || takes_line run used free ask t
 
 -- a slot's key in a register
 pub record IsKey (run : Run) (free ask : Bit) (value : Bus) (s : Slot) : Type 0 where
   pub has : (t : ℕ) → line_at run s.has t ≡ (kept_line run s.used free t || takes_line run s.used free ask t)
   pub matches : (t : ℕ) → line_at run s.matches t ≡ matches_line run s.used s.key free ask value t
-  pub passes : (t : ℕ) → line_at run s.passes t ≡ (line_at run ask t && not (matches_line run s.used s.key free ask value t))
+  pub passes : (t : ℕ) → line_at run s.passes t
+      ≡ (line_at run ask t && not (matches_line run s.used s.key free ask value t))
   pub key : (t : ℕ)
-      → held_at 0 run s.key (suc t) ≡ (if takes_line run s.used free ask t then held_at 0 run value t else held_at 0 run s.key t)
+      → held_at 0 run s.key (suc t) ≡ (if takes_line run s.used free ask t then held_at 0 run value t
+      else held_at 0 run s.key t)
 
 pub record AddsKey (old new : Net) (flag free ask : Bit) (value : Bus) (s : Slot) : Type 0 where
   pub keeps : Keeps old new
@@ -101,7 +109,8 @@ sought_at run free ask value r t = record {
 pub record AreSlotLines (run : Run) (free ask : Bit) (value : Bus) (n : ℕ) (r : SlotLines) : Type 0 where
   pub used : (k t : ℕ) → k < n → line_of run r.used k (suc t) ≡ has (sought_at run free ask value r t) k
   pub key : (k t : ℕ) → k < n
-      → held_of run r.keys k (suc t) ≡ (if takes (sought_at run free ask value r t) k then held_at 0 run value t else held_of run r.keys k t)
+      → held_of run r.keys k (suc t) ≡ (if takes (sought_at run free ask value r t) k then held_at 0 run value t
+      else held_of run r.keys k t)
   pub has : (k t : ℕ) → k < n → line_of run r.has k t ≡ has (sought_at run free ask value r t) k
   pub matches : (k t : ℕ) → k < n → line_of run r.matches k t ≡ matches (sought_at run free ask value r t) k
   pub passes : (t : ℕ) → line_at run r.passes t ≡ asked (sought_at run free ask value r t) n

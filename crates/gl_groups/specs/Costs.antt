@@ -5,7 +5,8 @@ use Rattle.gl_algebra.specs.Weights.{weight_of_copies}
 use Rattle.gl_wire.specs.Costs.{Cost}
 use Rattle.gl_wire.specs.Counted.{AreNarrow}
 
--- a front of so many slots over a source of these columns, with the key in one of them, and the line of ends behind a timer
+-- a front of so many slots over a source of these columns, with the key in one of them, and the line of ends behind a
+-- timer
 abbrev pub cost_of_front : ℕ → ℕ → List ℕ → Cost
 cost_of_front slots key source = record {
   nodes = slots * 19 + length source * 2 + 61;

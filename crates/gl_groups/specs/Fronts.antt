@@ -24,10 +24,12 @@ column_of key row = slice_index row key
 -- the row that came last, and the key that is looked for: that of the row that comes, or else of that one
 pub record IsLookup (run : Run) (source : Wire) (key : ℕ) (r : Lookup) : Type 0 where
   pub row : (t : ℕ)
-      → row_at run (suc (suc t)) r.row ≡ (if line_at run source.valid (suc t) then row_at run (suc t) source.columns else row_at run (suc t) r.row)
+      → row_at run (suc (suc t)) r.row ≡ (if line_at run source.valid (suc t) then row_at run (suc t) source.columns
+      else row_at run (suc t) r.row)
   pub value : (t : ℕ)
       → held_at 0 run r.value (suc t)
-      ≡ column_of key (if line_at run source.valid (suc t) then row_at run (suc t) source.columns else row_at run (suc t) r.row)
+      ≡ column_of key (if line_at run source.valid (suc t) then row_at run (suc t) source.columns
+      else row_at run (suc t) r.row)
 
 pub record AddsLookup (old new : Net) (source : Wire) (key : ℕ) (r : Lookup) : Type 0 where
   pub keeps : Keeps old new
@@ -41,10 +43,12 @@ pub record AddsLookup (old new : Net) (source : Wire) (key : ℕ) (r : Lookup) :
 -- the slots that end: with an end the first one, in a flush the one whose turn it is, if it is used
 pub record IsEnding (run : Run) (eos due : Bit) (count : ℕ) (has : List Bit) (r : Ending) : Type 0 where
   pub next : (t : ℕ)
-      → held_at count run r.rest (suc t) ≡ counted_down (count - 1) 0 (line_at run eos t) (line_at run due t) (held_at count run r.rest t)
+      → held_at count run r.rest (suc t) ≡ counted_down (count - 1) 0 (line_at run eos t) (line_at run due t)
+      (held_at count run r.rest t)
   pub end : (k t : ℕ) → k < count
       → line_of run r.ends k t
-      ≡ (((line_at run eos t || line_at run due t) && nat_eq (if line_at run eos t then count else held_at count run r.rest t) (count - k)) && line_of run has k t)
+      ≡ (((line_at run eos t || line_at run due t) && nat_eq
+      (if line_at run eos t then count else held_at count run r.rest t) (count - k)) && line_of run has k t)
 
 pub record AddsEnding (old new : Net) (eos due : Bit) (count : ℕ) (has : List Bit) (r : Ending) : Type 0 where
   pub keeps : Keeps old new
@@ -64,8 +68,10 @@ pub record AddsFront (old new : Net) (key count stride : ℕ) (source : Wire) (r
   pub cost : Costs old new (with_registers (count * 19 + length (widths source.columns) * 2 + 41)
       (count * (slice_index (widths source.columns) key + 3) + sum (widths source.columns) + 67))
   pub as_many : length r.wires ≡ count
-  pub wires : (k : ℕ) (w : Wire) → slice_get r.wires k ≡ Some w → IsWire new w × (widths w.columns ≡ widths source.columns)
+  pub wires : (k : ℕ) (w : Wire) → slice_get r.wires k ≡ Some w → IsWire new w
+      × (widths w.columns ≡ widths source.columns)
   pub keys_count : length r.keys ≡ count
-  pub keys : (k : ℕ) (b : Bus) → slice_get r.keys k ≡ Some b → IsBus new b × (b.width ≡ slice_index (widths source.columns) key)
+  pub keys : (k : ℕ) (b : Bus) → slice_get r.keys k ≡ Some b → IsBus new b
+      × (b.width ≡ slice_index (widths source.columns) key)
   pub further : IsBit new r.further
   pub law : (run : Run) → IsRun new run → IsFront run key count stride source r

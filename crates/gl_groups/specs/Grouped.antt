@@ -32,15 +32,18 @@ pub record Fronts (net : Net) (r : Grouping) (f : Fronted) : Type 0 where
   pub lines : AreLines net f.source.faults
   pub key : r.key < length f.source.wire.columns
   pub as_many : length f.wires ≡ r.slots
-  pub wires : (k : ℕ) (w : Wire) → slice_get f.wires k ≡ Some w → IsWire net w × (widths w.columns ≡ widths f.source.wire.columns)
+  pub wires : (k : ℕ) (w : Wire) → slice_get f.wires k ≡ Some w → IsWire net w
+      × (widths w.columns ≡ widths f.source.wire.columns)
   pub keys_count : length f.keys ≡ r.slots
   pub keys : (k : ℕ) (b : Bus) → slice_get f.keys k ≡ Some b → IsBus net b × (b.width ≡ key_width r f.source)
   pub further : IsBit net f.further
   pub close : IsBit net f.close
   pub front : (run : Run) → IsRun net run
       → AreSlots r.slots (key_of r) (stride_of r.body) (carried run f.source.wire) (carried_of run f.wires)
-  pub shown : (run : Run) → IsRun net run → AreKeys r.slots (key_of r) (stride_of r.body) (carried run f.source.wire) (held_of run f.keys)
-  -- after reset it is 1 exactly in the cycle after one in which a tuple came whose key is not among its stream's first keys
+  pub shown : (run : Run) → IsRun net run → AreKeys r.slots (key_of r) (stride_of r.body) (carried run f.source.wire)
+      (held_of run f.keys)
+  -- after reset it is 1 exactly in the cycle after one in which a tuple came whose key is not among its stream's first
+  -- keys
   pub told : (run : Run) → IsRun net run → AwaitsFlush r (carried run f.source.wire) → (c : ℕ)
       → line_at run f.further c ≡ came_further r.slots (key_of r) (carried run f.source.wire) c
   pub closes : (run : Run) → IsRun net run
@@ -66,7 +69,9 @@ pub record IsBacked (old new : Net) (r : Grouping) (f : Fronted) (copies : List 
   pub lines : AreLines new e.faults
   pub told : (run : Run) → IsRun new run
       → SameLines (lines_of run e.faults)
-      (both_lines (lines_of run f.source.faults) (both_lines (lines_of_all (told_of run copies) r.slots) (line_of_further (line_at run f.further))))
+      (both_lines (lines_of run f.source.faults)
+      (both_lines (lines_of_all (told_of run copies) r.slots) (line_of_further (line_at run f.further))))
   pub serves : (run : Run) → IsRun new run → (source : Figures) → IsSound source
-      → ServesGroups r source (carried run f.source.wire) (carried_of run f.wires) (gives_of run copies) (told_of run copies) (line_at run f.further)
+      → ServesGroups r source (carried run f.source.wire) (carried_of run f.wires) (gives_of run copies)
+      (told_of run copies) (line_at run f.further)
       (carried run e.wire)

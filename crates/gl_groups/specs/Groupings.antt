@@ -66,9 +66,9 @@ abbrev pub OfGroups : ℕ → (Row → ℕ) → (List Row → Results) → Relat
 OfGroups count key Body xs ys p =
     (q : Bool) × AreJoined (IsOfGroup Body) (groups count key xs) ys q × (p ≡ (q || has_further count key xs))
 
--- wherever each copy gives a body's results over the beats of its own wire, the whole gives those of all groups, joined, over all beats
--- that are spaced by the whole's figures, of a source that fits its own and carries far enough apart; the lines are those of the copies,
--- and the front's own
+-- wherever each copy gives a body's results over the beats of its own wire, the whole gives those of all groups,
+-- joined, over all beats that are spaced by the whole's figures, of a source that fits its own and carries far enough
+-- apart; the lines are those of the copies, and the front's own
 abbrev pub ServesGroups
     : Grouping → Figures → Carried → (ℕ → Carried) → (ℕ → Carried) → (ℕ → Lines) → (ℕ → Bool) → Carried → Type 0
 ServesGroups r f a ins outs lines further b =

@@ -41,16 +41,19 @@ pub record AreKeyed (copies : List Emitted) (keys : List Bus) (n : ℕ) (ws : Li
 -- the lines of a source, of all copies, and that of further keys
 abbrev pub all_lines : Run → Faults → Bit → List Emitted → Lines
 all_lines run source further copies =
-    both_lines (lines_of run source) (both_lines (lines_of_all (told_of run copies) (length copies)) (line_of_further (line_at run further)))
+    both_lines (lines_of run source) (both_lines (lines_of_all (told_of run copies) (length copies))
+    (line_of_further (line_at run further)))
 
-pub record JoinsFaults (old new : Net) (source : Faults) (further : Bit) (copies : List Emitted) (faults : Faults) : Type 0 where
+pub record JoinsFaults (old new : Net) (source : Faults) (further : Bit) (copies : List Emitted) (faults : Faults)
+    : Type 0 where
   pub keeps : Keeps old new
   pub cost : CostsAtMost old new (nodes_alone (length copies * 2 + 2))
   pub are : AreLines new faults
   pub told : (run : Run) → IsRun new run → SameLines (lines_of run faults) (all_lines run source further copies)
 
 -- a wire behind copies, with the keys in front, and all lines
-pub record JoinsAll (old new : Net) (source : Faults) (further close : Bit) (keys : List Bus) (copies : List Emitted) (e : Emitted) : Type 0 where
+pub record JoinsAll (old new : Net) (source : Faults) (further close : Bit) (keys : List Bus) (copies : List Emitted)
+    (e : Emitted) : Type 0 where
   pub keeps : Keeps old new
   pub cost : CostsAtMost old new (cost_of_back (length copies) (width_of_keys keys ∷ columns_of copies))
   pub wire : IsWire new e.wire
@@ -58,4 +61,7 @@ pub record JoinsAll (old new : Net) (source : Faults) (further close : Bit) (key
   pub lines : AreLines new e.faults
   pub told : (run : Run) → IsRun new run → SameLines (lines_of run e.faults) (all_lines run source further copies)
   pub delayed : (run : Run) → IsRun new run
-      → IsDelayed 1 (record { tuple = tuple_of_any (with_keys (held_of run keys) (gives_of run copies)) (length copies); ends = line_at run close }) (carried run e.wire)
+      → IsDelayed 1 (record {
+        tuple = tuple_of_any (with_keys (held_of run keys) (gives_of run copies)) (length copies);
+        ends = line_at run close;
+      }) (carried run e.wire)

@@ -1,4 +1,5 @@
--- The laws of groups: front, copies and back serve, whatever netlist they stand in; and the groups of a plan have their numbers.
+-- The laws of groups: front, copies and back serve, whatever netlist they stand in; and the groups of a plan have their
+-- numbers.
 use Rattle.std.specs.Prelude.{◌≡◌, ℕ, ◌≤◌, Bool}
 use Rattle.gl_algebra.specs.declared.figures.Figures.{Figures}
 use Rattle.gl_algebra.specs.FigureTable.{AreSmall, IsSound, groups_over, stride_of}
@@ -11,8 +12,8 @@ use Rattle.gl_groups.specs.declared.grouping.Grouping.{Grouping}
 use Rattle.gl_groups.specs.Groupings.{AreKeys, AwaitsFlush, IsGrouping, ServesGroups, close_cycles, close_delay, key_of, with_keys}
 use Rattle.gl_groups.specs.Slots.{AreSlots, came_further}
 
--- wires behind the machine of slots, the keys of the slots that are used, the line of further keys, a line of ends that comes late, and
--- a wire one cycle behind all copies, with the key of its slot in front of what a copy gives
+-- wires behind the machine of slots, the keys of the slots that are used, the line of further keys, a line of ends that
+-- comes late, and a wire one cycle behind all copies, with the key of its slot in front of what a copy gives
 abbrev pub GroupingsServe : Type 0
 GroupingsServe =
     (r : Grouping) (f : Figures) (a b : Carried) (keys : ℕ → ℕ → ℕ) (ins outs : ℕ → Carried)

@@ -13,11 +13,13 @@ use Rattle.gl_groups.specs.declared.parts.Turns.{Turns}
 
 -- the flush after an end, up to what comes next: in which cycles a slot has its turn
 pub record IsFlush (run : Run) (valid eos : Bit) (stride : ℕ) (f : Flush) : Type 0 where
-  pub next : (t : ℕ) → line_at run f.flush (suc t) ≡ (line_at run eos t || (line_at run f.flush t && not (line_at run valid t)))
+  pub next : (t : ℕ) → line_at run f.flush (suc t)
+      ≡ (line_at run eos t || (line_at run f.flush t && not (line_at run valid t)))
   pub idle : (t : ℕ) → line_at run f.idle t ≡ (line_at run f.flush t && not (line_at run valid t || line_at run eos t))
   pub free : (t : ℕ) → line_at run f.free t ≡ (line_at run f.flush t && (line_at run valid t || line_at run eos t))
   pub next_wait : (t : ℕ)
-      → held_at 0 run f.wait (suc t) ≡ counted_down (stride - 1) (stride - 1) (line_at run eos t) (line_at run f.idle t) (held_at 0 run f.wait t)
+      → held_at 0 run f.wait (suc t) ≡ counted_down (stride - 1) (stride - 1) (line_at run eos t) (line_at run f.idle t)
+      (held_at 0 run f.wait t)
   pub due : (t : ℕ) → line_at run f.due t ≡ (line_at run f.idle t && nat_eq (held_at 0 run f.wait t) 0)
 
 pub record AddsFlush (old new : Net) (valid eos : Bit) (stride : ℕ) (f : Flush) : Type 0 where
@@ -31,8 +33,10 @@ pub record AddsFlush (old new : Net) (valid eos : Bit) (stride : ℕ) (f : Flush
 -- which slot has its turn: with an end the first one
 pub record IsTurns (run : Run) (eos due : Bit) (count : ℕ) (r : Turns) : Type 0 where
   pub next : (t : ℕ)
-      → held_at count run r.rest (suc t) ≡ counted_down (count - 1) 0 (line_at run eos t) (line_at run due t) (held_at count run r.rest t)
-  pub at : (t : ℕ) → held_at 0 run r.at (suc t) ≡ (if line_at run eos (suc t) then count else held_at count run r.rest (suc t))
+      → held_at count run r.rest (suc t) ≡ counted_down (count - 1) 0 (line_at run eos t) (line_at run due t)
+      (held_at count run r.rest t)
+  pub at : (t : ℕ) → held_at 0 run r.at (suc t)
+      ≡ (if line_at run eos (suc t) then count else held_at count run r.rest (suc t))
   pub trigger : (t : ℕ) → line_at run r.trigger t ≡ (line_at run eos t || line_at run due t)
 
 pub record AddsTurns (old new : Net) (eos due : Bit) (count : ℕ) (r : Turns) : Type 0 where
@@ -46,9 +50,11 @@ pub record AddsTurns (old new : Net) (eos due : Bit) (count : ℕ) (r : Turns) :
 -- whether the slot that ends takes the row that came with the end
 pub record IsTail (run : Run) (valid eos idle : Bit) (r : Tail) : Type 0 where
   pub next : (t : ℕ)
-      → line_at run r.held (suc t) ≡ ((line_at run eos t && line_at run valid t) || (line_at run r.held t && not (line_at run eos t)))
+      → line_at run r.held (suc t) ≡ ((line_at run eos t && line_at run valid t)
+      || (line_at run r.held t && not (line_at run eos t)))
   pub tail : (t : ℕ)
-      → line_at run r.tail t ≡ ((line_at run eos t && line_at run valid t) || (line_at run idle t && line_at run r.held t))
+      → line_at run r.tail t ≡ ((line_at run eos t && line_at run valid t)
+      || (line_at run idle t && line_at run r.held t))
 
 pub record AddsTail (old new : Net) (valid eos idle : Bit) (r : Tail) : Type 0 where
   pub keeps : Keeps old new
@@ -63,11 +69,13 @@ turned_at count x p k run t = line_at run x t && nat_eq (held_at 0 run p t) (cou
 unfoldable pub turned_to : ℕ → Bit → Bus → Run → ℕ → ℕ → Bool
 turned_to count x p run k t = line_at run x t && nat_eq (held_at 0 run p t) (count - k)
 
--- for each slot whether it takes the row: one with its key a tuple without the end, the one that ends what came with the end
+-- for each slot whether it takes the row: one with its key a tuple without the end, the one that ends what came with
+-- the end
 pub record TakesOf (old new : Net) (valid eos tail : Bit) (matches ends bs : List Bit) : Type 0 where
   pub keeps : Keeps old new
   pub count : length bs ≡ length matches
   pub bits : AreBits new bs
   pub cost : Costs old new (nodes_alone (length matches * 3 + 1))
   pub line : (run : Run) → IsRun new run → (k t : ℕ) → k < length matches
-      → line_of run bs k t ≡ (line_of run matches k t && ((line_of run ends k t && line_at run tail t) || (line_at run valid t && not (line_at run eos t))))
+      → line_of run bs k t ≡ (line_of run matches k t
+      && ((line_of run ends k t && line_at run tail t) || (line_at run valid t && not (line_at run eos t))))

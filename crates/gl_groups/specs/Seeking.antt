@@ -1,7 +1,8 @@
 -- A key goes from slot to slot: the first slot that has it or is not used keeps it.
 use Rattle.std.specs.Prelude.{ℕ, zero, suc, Bool, not, ◌&&◌, ◌||◌, nat_eq}
 
--- the slots in a cycle: whether a slot is used, and its key; whether all are set free; whether a key comes, and which one is looked for
+-- the slots in a cycle: whether a slot is used, and its key; whether all are set free; whether a key comes, and which
+-- one is looked for
 pub record Sought : Type 0 where
   pub used : ℕ → Bool
   pub key : ℕ → ℕ

@@ -7,8 +7,8 @@ use Rattle.gl_bits.specs.Results.{Row}
 use Rattle.gl_wire.specs.Wire.{Carried, stream}
 use Rattle.gl_wire_copies.specs.Lift.{Visits}
 
--- the registers: the keys of the slots that are used (they stay until the next tuple or end comes), whether an end was the last
--- that came, the slot whose turn is next and the cycles before it, the tuple that came with the end
+-- the registers: the keys of the slots that are used (they stay until the next tuple or end comes), whether an end was
+-- the last that came, the slot whose turn is next and the cycles before it, the tuple that came with the end
 pub record Slots : Type 0 where
   pub keys : List ℕ
   pub flush : Bool
@@ -61,7 +61,8 @@ abbrev pub slot_takes : (Row → ℕ) → Bool → Option Row → List ℕ → S
 slot_takes key true o ks s k = if nat_lt 0 (length ks) && nat_eq k 0 then of_slot key ks k o else None
 slot_takes key false (Some r) ks s k = of_slot key ks k (Some r)
 slot_takes key false None ks s k =
-    if ((s.flush && nat_eq s.wait 0) && nat_lt s.turn (length ks)) && nat_eq k s.turn then of_slot key ks k s.held else None
+    if ((s.flush && nat_eq s.wait 0) && nat_lt s.turn (length ks)) && nat_eq k s.turn then of_slot key ks k s.held
+    else None
 
 -- one cycle later
 abbrev pub slots_next : ℕ → Bool → Option Row → List ℕ → Slots → Slots
@@ -85,7 +86,8 @@ abbrev pub keys_at : ℕ → (Row → ℕ) → ℕ → Carried → ℕ → List 
 keys_at count key stride a c = keys_now count key (a.ends c) (a.tuple c) (slots_at count key stride a c)
 
 abbrev pub slot_ends_at : ℕ → (Row → ℕ) → ℕ → Carried → ℕ → Bool
-slot_ends_at count key stride a c = slot_ends (a.ends c) (a.tuple c) (keys_at count key stride a c) (slots_at count key stride a c)
+slot_ends_at count key stride a c =
+    slot_ends (a.ends c) (a.tuple c) (keys_at count key stride a c) (slots_at count key stride a c)
 
 abbrev pub slot_at : ℕ → (Row → ℕ) → ℕ → Carried → ℕ → ℕ
 slot_at count key stride a c = slot_now (a.ends c) (slots_at count key stride a c)
@@ -93,14 +95,16 @@ slot_at count key stride a c = slot_now (a.ends c) (slots_at count key stride a 
 -- which slot takes an end
 abbrev pub who_slots : ℕ → (Row → ℕ) → ℕ → Carried → Visits
 who_slots count key stride a zero = None
-who_slots count key stride a (suc c) = if slot_ends_at count key stride a c then Some (slot_at count key stride a c) else None
+who_slots count key stride a (suc c) =
+    if slot_ends_at count key stride a c then Some (slot_at count key stride a c) else None
 
 -- wires behind such a machine, one cycle later
 pub record AreSlots (count : ℕ) (key : Row → ℕ) (stride : ℕ) (a : Carried) (ins : ℕ → Carried) : Type 0 where
   pub no_tuple : (k : ℕ) → k < count → (ins k).tuple 0 ≡ None
   pub no_end : (k : ℕ) → k < count → (ins k).ends 0 ≡ false
   pub tuples : (k c : ℕ) → k < count
-      → (ins k).tuple (suc c) ≡ slot_takes key (a.ends c) (a.tuple c) (keys_at count key stride a c) (slots_at count key stride a c) k
+      → (ins k).tuple (suc c) ≡ slot_takes key (a.ends c) (a.tuple c) (keys_at count key stride a c)
+      (slots_at count key stride a c) k
   pub ends : (k c : ℕ) → k < count
       → (ins k).ends (suc c) ≡ (slot_ends_at count key stride a c && nat_eq k (slot_at count key stride a c))
 

@@ -29,7 +29,8 @@ due_of c p = idle_of c p && nat_eq p.wait 0
 
 -- the slots, which something that comes after an end sets free
 abbrev pub sought_of : Cycle → Values → Sought
-sought_of c p = record { used = p.used; key = p.key; free = p.flush && (c.valid || c.end); ask = c.valid; value = c.value }
+sought_of c p =
+    record { used = p.used; key = p.key; free = p.flush && (c.valid || c.end); ask = c.valid; value = c.value }
 
 abbrev pub at_of : ℕ → Cycle → Values → ℕ
 at_of count c p = if c.end then count else p.rest

@@ -39,7 +39,8 @@ copy_end count stride a k (suc c) = slot_ends_at count first stride a c && nat_e
 
 -- the key that stands in a visit's slot in the visit's cycle
 abbrev pub key_in : ℕ → ℕ → Carried → ℕ → ℕ
-key_in count stride a c = key_or (slice_get (slots_at count first stride a c).keys (slot_or (who_slots count first stride a c)))
+key_in count stride a c =
+    key_or (slice_get (slots_at count first stride a c).keys (slot_or (who_slots count first stride a c)))
 
 -- the cycles, the keys and the streams of the visits in the first n cycles
 abbrev pub visits_in : ℕ → ℕ → Carried → ℕ → List (ℕ × ℕ × List Row)
@@ -52,20 +53,22 @@ visits_in count stride a n =
 abbrev pub further_in : ℕ → ℕ → Carried → ℕ → ℕ → List ℕ
 further_in count stride a c zero = []
 further_in count stride a c (suc n) =
-    if further_line count first stride a c then c ∷ further_in count stride a (suc c) n else further_in count stride a (suc c) n
+    if further_line count first stride a c then c ∷ further_in count stride a (suc c) n
+    else further_in count stride a (suc c) n
 
 -- keys 5, 7, 5, 9 and then the end alone; later keys 9 and 5, the second one with the end; then an end without rows
 abbrev pub three_streams : Carried
 three_streams =
     wire_with
-    (None ∷ Some (row_with 5 1) ∷ Some (row_with 7 2) ∷ Some (row_with 5 3) ∷ Some (row_with 9 4) ∷ None ∷ None ∷ None ∷ None ∷ None ∷ None
+    (None ∷ Some (row_with 5 1) ∷ Some (row_with 7 2) ∷ Some (row_with 5 3) ∷ Some (row_with 9 4) ∷ None ∷ None ∷ None
+    ∷ None ∷ None ∷ None
     ∷ None ∷ Some (row_with 9 6) ∷ Some (row_with 5 7) ∷ [])
     (5 ∷ 13 ∷ 20 ∷ [])
 
 -- three streams over two slots that have their turns 3 cycles apart
 pub record WorkedGroups : Type 0 where
-  -- two groups end from the cycle after the end on, and the next stream finds both slots free; the last tuple of a stream comes with
-  -- the turn of its slot
+  -- two groups end from the cycle after the end on, and the next stream finds both slots free; the last tuple of a
+  -- stream comes with the turn of its slot
   pub visits : visits_in 2 3 three_streams 26 ≡
       (6, 5, row_with 5 1 ∷ row_with 5 3 ∷ [])
       ∷ (9, 7, row_with 7 2 ∷ [])

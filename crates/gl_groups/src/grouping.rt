@@ -102,6 +102,7 @@ impl Grouping {
         ensures { IfOk result (IsBacked net.old net.new self.now front.now copies.now) }
     {
         let keys = front.keys.as_slice();
+        // Named, since a goal speaks of the value.
         let whole = join_all(
             alloc,
             net,

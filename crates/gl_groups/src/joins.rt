@@ -66,6 +66,7 @@ pub fn join_faults(
         passed: None,
         further: Some(further),
     };
+    // Named, since a goal speaks of the value.
     let all = both_faults(net, faults, own)?;
     Ok(all)
 }

@@ -109,6 +109,7 @@ fn at_slot(net: &mut NetBuilder, line: Bit, at: Bus, count: u32, slot: u32) -> R
     requires below { slot < count }
     ensures { IfOk result (λ b. AddsLine net.old net.new 3 b (turned_at count line at slot)) }
 {
+    // Named, since a goal speaks of the value.
     let bit = when_equal(net, line, at, u128::from(count - slot))?;
     Ok(bit)
 }

@@ -16,7 +16,8 @@ abbrev pub column : List ℕ → Kind → NamedColumn
 column name kind = record { name = name; kind = kind }
 
 abbrev pub load_columns : List NamedColumn
-load_columns = column (codes "symbol") (Text 4) ∷ column (codes "price") (Unsigned 32) ∷ column (codes "volume") (Unsigned 32) ∷ []
+load_columns =
+    column (codes "symbol") (Text 4) ∷ column (codes "price") (Unsigned 32) ∷ column (codes "volume") (Unsigned 32) ∷ []
 
 abbrev pub load_schema : Schema
 load_schema = record { streams = record { name = codes "trades"; columns = load_columns } ∷ [] }
@@ -46,7 +47,9 @@ load_items =
 
 abbrev pub load_written : Statement
 load_written = record {
-  query = Select (Items load_items) (Stream (name (codes "trades") 62)) (Some (record { at = 70; size = number 600 75; advance = number 60 87 }))
+  query =
+      Select (Items load_items) (Stream (name (codes "trades") 62))
+      (Some (record { at = 70; size = number 600 75; advance = number 60 87 }))
       (Some (Binary Eq 111 (Column (name (codes "symbol") 104)) (Letters (codes "UBSN") 113))) None;
   name = name (codes "load") 125;
   closed = false;

@@ -35,7 +35,8 @@ kept_state s = record { taken = Some s.bytes; faults = s.faults }
 pub record IsCompiledLoad (c : Compiled) : Type 0 where
   pub schema : c.schema ≡ load_schema
   pub query' : IsQuery load_schema query_text c.statement
-  pub meets : Meets load_schema c.statement (latency_of load_schema c.statement) (gap_of load_schema c.statement) c.text.items
+  pub meets : Meets load_schema c.statement (latency_of load_schema c.statement) (gap_of load_schema c.statement)
+      c.text.items
   pub gap : gap_of load_schema c.statement ≡ 1
   pub columns : c.kinds ≡ kinds_of (result_columns load_schema c.statement)
   pub many : length c.kinds ≤ 32
@@ -46,4 +47,5 @@ pub record IsCompiledLoad (c : Compiled) : Type 0 where
 -- the bytes are the lines of each run of its text over these beats, from registers and words of 0
 abbrev pub AreRunLines : Compiled → List Beat → List ℕ → Type 0
 AreRunLines c beats bytes = OfEachRun c.text.items load_schema beats Zero
-    (λ outs port. (lines : List ℕ) × AreLinesOf (kinds_of (result_columns load_schema c.statement)) beats outs port lines × (bytes ≡ lines))
+    (λ outs port. (lines : List ℕ) × AreLinesOf (kinds_of (result_columns load_schema c.statement))
+    beats outs port lines × (bytes ≡ lines))

@@ -1,4 +1,5 @@
--- What is told of a run of the load: how many results it has, what they count, the last of them, and when its end is seen.
+-- What is told of a run of the load: how many results it has, what they count, the last of them, and when its end is
+-- seen.
 use Rattle.std.specs.Prelude.{ℕ, List, [], ◌++◌, length, map, Option, Some, None, codes, decimal, slice_index}
 use Rattle.std.specs.List.{fold, sum}
 use Rattle.gl_bits.specs.declared.kind.Kind.{Kind}

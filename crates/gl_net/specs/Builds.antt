@@ -26,13 +26,17 @@ abbrev pub IsNot : Net → Bus → Bus → Type 0
 IsNot net x b = (run : Run) → IsRun net run → (t : ℕ) → run.at t b.node ≡ not_of x.width (run.at t x.node)
 
 abbrev pub IsBinary : Net → BinaryOp → Bus → Bus → Bus → Type 0
-IsBinary net op x y b = (run : Run) → IsRun net run → (t : ℕ) → run.at t b.node ≡ binary_of op x.width (run.at t x.node) (run.at t y.node)
+IsBinary net op x y b =
+    (run : Run) → IsRun net run → (t : ℕ) → run.at t b.node ≡ binary_of op x.width (run.at t x.node) (run.at t y.node)
 
 abbrev pub IsChoice : Net → Bit → Bus → Bus → Bus → Type 0
-IsChoice net test x y b = (run : Run) → IsRun net run → (t : ℕ) → run.at t b.node ≡ choose_of (run.at t test.node) (run.at t x.node) (run.at t y.node)
+IsChoice net test x y b =
+    (run : Run) → IsRun net run → (t : ℕ) → run.at t b.node ≡ choose_of (run.at t test.node) (run.at t x.node)
+    (run.at t y.node)
 
 abbrev pub IsJoined : Net → Bus → Bus → Bus → Type 0
-IsJoined net x y b = (run : Run) → IsRun net run → (t : ℕ) → run.at t b.node ≡ join_of y.width (run.at t x.node) (run.at t y.node)
+IsJoined net x y b =
+    (run : Run) → IsRun net run → (t : ℕ) → run.at t b.node ≡ join_of y.width (run.at t x.node) (run.at t y.node)
 
 abbrev pub IsCut : Net → Bus → ℕ → ℕ → Bus → Type 0
 IsCut net x high low b = (run : Run) → IsRun net run → (t : ℕ) → run.at t b.node ≡ cut_of high low (run.at t x.node)
@@ -60,13 +64,15 @@ Follows net b next = (run : Run) → IsRun net run → (t : ℕ) → run.at (suc
 
 -- and in cycle 1, where it has no reset value
 abbrev pub FollowsFirst : Net → Net → Bus → Bus → Type 0
-FollowsFirst old new b next = is_free old b.node ≡ true → (run : Run) → IsRun new run → run.at 1 b.node ≡ run.at 0 next.node
+FollowsFirst old new b next =
+    is_free old b.node ≡ true → (run : Run) → IsRun new run → run.at 1 b.node ≡ run.at 0 next.node
 
 -- the memory takes the value at the address at the edge of each cycle in which the bit is 1
 abbrev pub Takes : Net → Store → Bit → Bus → Bus → Type 0
 Takes net s write address value =
     (run : Run) → IsRun net run → (t k : ℕ)
-    → run.word (suc t) s.node k ≡ stored_of (run.at t write.node) (run.at t address.node) (run.at t value.node) k (run.word t s.node k)
+    → run.word (suc t) s.node k ≡ stored_of (run.at t write.node) (run.at t address.node) (run.at t value.node) k
+    (run.word t s.node k)
 
 abbrev pub AddsRegister : Net → Net → ℕ → Type 0
 AddsRegister old new width = register_bits_of new ≡ register_bits_of old + width
@@ -78,7 +84,8 @@ AddsMemory old new address_bits width = memory_bits_of new ≡ memory_bits_of ol
 
 -- a port more, behind the others
 abbrev pub PutsPort : Net → Net → Direction → List ℕ → ℕ → Type 0
-PutsPort old new direction name node = new.ports ≡ old.ports ++ record { direction = direction; name = name; node = node } ∷ []
+PutsPort old new direction name node =
+    new.ports ≡ old.ports ++ record { direction = direction; name = name; node = node } ∷ []
 
 -- ---- the lists inside
 
@@ -96,7 +103,9 @@ IsOpenMemory nodes at = (a : ℕ) × (w : ℕ) × (slice_get nodes at ≡ Some (
 -- it gives way to the same with what drives it
 abbrev pub PutsNext : List Node → List Node → ℕ → Bus → Type 0
 PutsNext old new at next =
-    (w : ℕ) (reset : Option ℕ) → slice_get old at ≡ Some (Register w reset None) → new ≡ slice_set old at (Register w reset (Some next))
+    (w : ℕ) (reset : Option ℕ) → slice_get old at ≡ Some (Register w reset None)
+    → new ≡ slice_set old at (Register w reset (Some next))
 
 abbrev pub PutsDrive : List Node → List Node → ℕ → MemoryDrive → Type 0
-PutsDrive old new at drive = (a w : ℕ) → slice_get old at ≡ Some (Memory a w None) → new ≡ slice_set old at (Memory a w (Some drive))
+PutsDrive old new at drive =
+    (a w : ℕ) → slice_get old at ≡ Some (Memory a w None) → new ≡ slice_set old at (Memory a w (Some drive))

@@ -1,5 +1,6 @@
--- What a netlist needs to be finished: names of the Verilog subset, one for each port, and a drive for all that takes one.
--- Names after IEEE 1364-2005, clause 3.7 (simple identifiers), without the keywords that the subset uses (annex B).
+-- What a netlist needs to be finished: names of the Verilog subset, one for each port, and a drive for all that takes
+-- one. Names after IEEE 1364-2005, clause 3.7 (simple identifiers), without the keywords that the subset uses (annex
+-- B).
 use Rattle.std.specs.Prelude.{◌≡◌, ◌≢◌, ℕ, ◌≤◌, Bool, true, false, ◌||◌, ◌&&◌, List, [], ◌∷◌, length, Some, None, slice_get, nat_eq, nat_le, codes, IsTrue, IsSomeAnd}
 use Rattle.std.specs.List.{list_any, list_all}
 use Rattle.std.specs.Str.{bytes_eq}
@@ -24,7 +25,8 @@ begins_with_letter (c ∷ cs) = is_letter c
 -- the keywords of the Verilog subset
 abbrev pub keywords : List (List ℕ)
 keywords =
-    codes "module" ∷ codes "endmodule" ∷ codes "input" ∷ codes "output" ∷ codes "wire" ∷ codes "reg" ∷ codes "assign" ∷ codes "always"
+    codes "module" ∷ codes "endmodule" ∷ codes "input" ∷ codes "output" ∷ codes "wire" ∷ codes "reg" ∷ codes "assign"
+    ∷ codes "always"
     ∷ codes "posedge" ∷ codes "begin" ∷ codes "end" ∷ codes "if" ∷ codes "else" ∷ []
 
 -- a letter, and then letters and digits, at most 128 in all, that are no keyword
@@ -57,7 +59,8 @@ pub record IsFinished (net : Net) : Type 0 where
   pub module_name : IsSomeAnd net.name IsName
   pub port_names : (place : ℕ) (p : Port) → slice_get net.ports place ≡ Some p → IsName p.name
   pub no_clock : (place : ℕ) (p : Port) → slice_get net.ports place ≡ Some p → p.name ≢ clock_name
-  pub distinct : (i j : ℕ) (p q : Port) → slice_get net.ports i ≡ Some p → slice_get net.ports j ≡ Some q → p.name ≡ q.name → i ≡ j
+  pub distinct : (i j : ℕ) (p q : Port) → slice_get net.ports i ≡ Some p → slice_get net.ports j ≡ Some q
+      → p.name ≡ q.name → i ≡ j
   pub reset : needs_reset net ≡ true → HasReset net
 
 -- a finished netlist

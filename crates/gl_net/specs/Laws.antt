@@ -20,10 +20,14 @@ Same r s t n (Words bits w) = (k : ℕ) → r.word t n k ≡ s.word t n k
 pub record SameOutside (net : Net) (r s : Run) : Type 0 where
   pub line : (t : ℕ) → r.rst t ≡ s.rst t
   pub inputs : (n place w : ℕ) → slice_get net.nodes n ≡ Some (Input place w) → (t : ℕ) → r.at t n ≡ s.at t n
-  pub registers : (n w : ℕ) (reset : Option ℕ) (next : Option Bus) → slice_get net.nodes n ≡ Some (Register w reset next) → r.at 0 n ≡ s.at 0 n
-  pub memories : (n bits w : ℕ) (drive : Option MemoryDrive) → slice_get net.nodes n ≡ Some (Memory bits w drive) → (k : ℕ) → r.word 0 n k ≡ s.word 0 n k
-  pub open_registers : (n w : ℕ) (reset : Option ℕ) → slice_get net.nodes n ≡ Some (Register w reset None) → (t : ℕ) → r.at t n ≡ s.at t n
-  pub open_memories : (n bits w : ℕ) → slice_get net.nodes n ≡ Some (Memory bits w None) → (t k : ℕ) → r.word t n k ≡ s.word t n k
+  pub registers : (n w : ℕ) (reset : Option ℕ) (next : Option Bus)
+      → slice_get net.nodes n ≡ Some (Register w reset next) → r.at 0 n ≡ s.at 0 n
+  pub memories : (n bits w : ℕ) (drive : Option MemoryDrive) → slice_get net.nodes n ≡ Some (Memory bits w drive)
+      → (k : ℕ) → r.word 0 n k ≡ s.word 0 n k
+  pub open_registers : (n w : ℕ) (reset : Option ℕ) → slice_get net.nodes n ≡ Some (Register w reset None) → (t : ℕ)
+      → r.at t n ≡ s.at t n
+  pub open_memories : (n bits w : ℕ) → slice_get net.nodes n ≡ Some (Memory bits w None) → (t k : ℕ)
+      → r.word t n k ≡ s.word t n k
 
 -- a run of the netlist with the block and one of the netlist without it have the same values at the nodes of the latter
 abbrev pub EarlierValuesStay : Type 0

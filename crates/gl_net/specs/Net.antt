@@ -21,7 +21,8 @@ pub record Net : Type 0 where
   pub ports : List Port
   pub name : Option (List ℕ)
 
--- a run: what each node carries in each cycle, the word at each address of each memory in each cycle, and the reset line
+-- a run: what each node carries in each cycle, the word at each address of each memory in each cycle, and the reset
+-- line
 pub record Run : Type 0 where
   pub at : ℕ → ℕ → ℕ
   pub word : ℕ → ℕ → ℕ → ℕ
@@ -74,22 +75,26 @@ shape_of (MemoryRead store x) = Value store.width
 unfoldable pub stored_of : (write address value k word : ℕ) → ℕ
 stored_of write address value k word = if nat_eq write 1 && nat_eq address k then value else word
 
--- what a node says of the cycles of a run; a register that is not driven yet says what its reset gives, and a memory nothing
+-- what a node says of the cycles of a run; a register that is not driven yet says what its reset gives, and a memory
+-- nothing
 abbrev pub Holds : Run → ℕ → Node → Type 0
 Holds run n (Input port w) = Unit {0}
 Holds run n (Constant word) = (t : ℕ) → run.at t n ≡ word.bits
 Holds run n (Not x) = (t : ℕ) → run.at t n ≡ not_of x.width (run.at t x.node)
 Holds run n (Binary op x y) = (t : ℕ) → run.at t n ≡ binary_of op x.width (run.at t x.node) (run.at t y.node)
-Holds run n (Choose test x y) = (t : ℕ) → run.at t n ≡ choose_of (run.at t test.node) (run.at t x.node) (run.at t y.node)
+Holds run n (Choose test x y) =
+    (t : ℕ) → run.at t n ≡ choose_of (run.at t test.node) (run.at t x.node) (run.at t y.node)
 Holds run n (Join x y) = (t : ℕ) → run.at t n ≡ join_of y.width (run.at t x.node) (run.at t y.node)
 Holds run n (Cut x high low) = (t : ℕ) → run.at t n ≡ cut_of high low (run.at t x.node)
 Holds run n (Register w None None) = Unit {0}
 Holds run n (Register w None (Some next)) = (t : ℕ) → run.at (suc t) n ≡ run.at t next.node
 Holds run n (Register w (Some reset) None) = (t : ℕ) → run.rst t ≡ true → run.at (suc t) n ≡ reset
-Holds run n (Register w (Some reset) (Some next)) = (t : ℕ) → run.at (suc t) n ≡ (if run.rst t then reset else run.at t next.node)
+Holds run n (Register w (Some reset) (Some next)) =
+    (t : ℕ) → run.at (suc t) n ≡ (if run.rst t then reset else run.at t next.node)
 Holds run n (Memory bits w None) = Unit {0}
 Holds run n (Memory bits w (Some drive)) =
-    (t k : ℕ) → run.word (suc t) n k ≡ stored_of (run.at t drive.write.node) (run.at t drive.address.node) (run.at t drive.value.node) k (run.word t n k)
+    (t k : ℕ) → run.word (suc t) n k ≡ stored_of (run.at t drive.write.node) (run.at t drive.address.node)
+    (run.at t drive.value.node) k (run.word t n k)
 Holds run n (MemoryRead store x) = (t : ℕ) → run.at t n ≡ run.word t store.node (run.at t x.node)
 
 -- a value, and each word of a memory, is below 2 ^ width
@@ -157,7 +162,8 @@ pub record IsStore (net : Net) (s : Store) : Type 0 where
   pub bits : IsAddressWidth s.address_bits
   pub width : IsWidth s.width
 
--- what stays wherever nodes, drives, ports or a name are added: every run is one of the old netlist, so no earlier value changes
+-- what stays wherever nodes, drives, ports or a name are added: every run is one of the old netlist, so no earlier
+-- value changes
 pub record Grows (old new : Net) : Type 0 where
   pub runs : (run : Run) → IsRun new run → IsRun old run
   pub shapes : (n : ℕ) (shape : Shape) → shape_in old.nodes n ≡ Some shape → shape_in new.nodes n ≡ Some shape

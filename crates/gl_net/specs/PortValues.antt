@@ -7,7 +7,8 @@ use Rattle.gl_net.specs.Net.{Net, Run, Shape, Value, Words, shape_in}
 
 -- the value in a cycle of the port of a name, None where the netlist lacks it
 abbrev pub port_values : Net → Run → ℕ → List ℕ → Option ℕ
-port_values net run t name = option_map (λ (p : Port). run.at t p.node) (find (λ (p : Port). bytes_eq p.name name) net.ports)
+port_values net run t name =
+    option_map (λ (p : Port). run.at t p.node) (find (λ (p : Port). bytes_eq p.name name) net.ports)
 
 abbrev pub leads_in : Direction → Bool
 leads_in In = true
@@ -15,7 +16,9 @@ leads_in Out = false
 
 -- the input port of a name, None where the netlist lacks it
 abbrev pub input_port : Net → List ℕ → Option Port
-input_port net name = option_and_then (λ (p : Port). if leads_in p.direction then Some p else None) (find (λ (p : Port). bytes_eq p.name name) net.ports)
+input_port net name =
+    option_and_then (λ (p : Port). if leads_in p.direction then Some p else None)
+    (find (λ (p : Port). bytes_eq p.name name) net.ports)
 
 -- the value in a cycle of the input port of a name, None where the netlist has no such input
 abbrev pub input_values : Net → Run → ℕ → List ℕ → Option ℕ

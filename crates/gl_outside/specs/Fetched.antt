@@ -12,7 +12,8 @@ FitsRoom room Missing = Unit {0}
 FitsRoom room Failed = Unit {0}
 FitsRoom room Memory = Unit {0}
 
--- what the answer says of the text, where it is told: these bytes stand in it from a place on, it has none there, or there is no text
+-- what the answer says of the text, where it is told: these bytes stand in it from a place on, it has none there, or
+-- there is no text
 abbrev pub Says : Told → ℕ → List ℕ → Fetch → Type 0
 Says told at into (Got n) = IfTold told (λ text. take n into ≡ slice_range text at (at + n))
 Says told at into End = IfTold told (λ text. length text ≤ at)

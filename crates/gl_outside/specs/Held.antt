@@ -46,7 +46,8 @@ asked h name (Holds text) = h
 
 -- what is seen of such a shelf, with so many faults
 abbrev pub held_state : ℕ → Held → ShelfState
-held_state faults h = record { names = h.names; told = told_of h.texts; misses = h.misses; faults = faults; last = h.last }
+held_state faults h =
+    record { names = h.names; told = told_of h.texts; misses = h.misses; faults = faults; last = h.last }
 
 -- a shelf in memory: its texts, the numbers of the calls that fail, the calls so far, and the faults
 pub record MemoryShelfState : Type 0 where
@@ -71,7 +72,8 @@ served s name at room = if next_fails s.failing s.calls then Failed else given (
 
 -- the shelf behind it: a failed call is counted once and its name kept
 abbrev pub failed : MemoryShelfState → List ℕ → MemoryShelfState
-failed s name = record s { held = record s.held { last = Some name }; calls = next_count s.calls; faults = next_count s.faults }
+failed s name =
+    record s { held = record s.held { last = Some name }; calls = next_count s.calls; faults = next_count s.faults }
 
 abbrev pub behind_call : MemoryShelfState → List ℕ → MemoryShelfState
 behind_call s name = if next_fails s.failing s.calls then failed s name

@@ -9,8 +9,8 @@ use Rattle.gl_outside.specs.declared.reading.ReadFault.TheVariants as read
 use Rattle.gl_outside.specs.declared.sink.Put.{Put}
 use Rattle.gl_outside.specs.declared.sink.Put.TheVariants as put
 
--- of a shelf: the names that it is made for, what it tells of the text of a name, how often a text was missing, how often a call
--- failed, and the one of its names that last missed or failed
+-- of a shelf: the names that it is made for, what it tells of the text of a name, how often a text was missing, how
+-- often a call failed, and the one of its names that last missed or failed
 pub record ShelfState : Type 0 where
   pub names : List (List ℕ)
   pub told : List ℕ → Told

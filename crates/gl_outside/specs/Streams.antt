@@ -18,7 +18,8 @@ stream_state s = record { taken = None; faults = s.faults }
 abbrev pub GrowsByFront : Option (List ℕ) → Option (List ℕ) → List ℕ → Type 0
 GrowsByFront old new piece = (n : ℕ) × Appends old new (take n piece)
 
--- what writing and flushing does to known bytes: they grow by so many of the piece, or by a front of it where either failed
+-- what writing and flushing does to known bytes: they grow by so many of the piece, or by a front of it where either
+-- failed
 abbrev pub WritesThrough : {E : Type 0} → Option (List ℕ) → Option (List ℕ) → List ℕ → Result ℕ E → Type 0
 WritesThrough old new piece (Ok n) = Appends old new (take n piece)
 WritesThrough old new piece (Err e) = GrowsByFront old new piece

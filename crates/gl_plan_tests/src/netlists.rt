@@ -76,6 +76,7 @@ fn pick_larger(net: &mut NetBuilder, bus: Bus, zero: Word) -> Result<Bus, Memory
     let low = net.join(high, cut)?;
     let below = net.binary(BinaryOp::Lt, low, bus)?;
     let not_below = net.not(below)?;
+    // Named, since a goal speaks of the value.
     let larger = net.choose(not_below.bit(), low, bus)?;
     Ok(larger)
 }

@@ -100,20 +100,25 @@ columns_under scope q = columns_of scope.sources q
 -- a query is accepted in a scope
 abbrev pub IsAcceptedOver : Scope → QueryShape → Type 0
 IsAcceptedOver scope (shape.Read name) = IsTrue (has_stream scope.sources name)
-IsAcceptedOver scope (shape.Rows pick filter source) = IsAcceptedOver scope source × IsRows (columns_under scope source) pick filter
+IsAcceptedOver scope (shape.Rows pick filter source) =
+    IsAcceptedOver scope source × IsRows (columns_under scope source) pick filter
 IsAcceptedOver scope (shape.Total aggs source) =
-    IsAcceptedOver scope source × IsTotal (columns_under scope source) aggs (columns_under scope (shape.Total aggs source))
+    IsAcceptedOver scope source × IsTotal (columns_under scope source) aggs
+    (columns_under scope (shape.Total aggs source))
 IsAcceptedOver scope (shape.Each var source size advance body) =
     IsAcceptedOver scope source × IsWindow size advance
     × IsAcceptedOver (body_scope var (columns_under scope source)) body × IsTrue (is_closing body)
 IsAcceptedOver scope (shape.PerGroup var source key groups body) =
     IsAcceptedOver scope source
-    × IsGrouping (columns_under scope source) key groups (columns_under scope (shape.PerGroup var source key groups body))
+    × IsGrouping (columns_under scope source) key groups
+    (columns_under scope (shape.PerGroup var source key groups body))
     × IsAcceptedOver (body_scope var (columns_under scope source)) body × IsTrue (is_closing body)
 IsAcceptedOver scope (shape.Union l r) =
-    IsAcceptedOver scope l × IsAcceptedOver scope r × (kinds_of (columns_under scope l) ≡ kinds_of (columns_under scope r))
+    IsAcceptedOver scope l × IsAcceptedOver scope r
+    × (kinds_of (columns_under scope l) ≡ kinds_of (columns_under scope r))
 IsAcceptedOver scope (shape.Concat l r) =
-    IsAcceptedOver scope l × IsAcceptedOver scope r × KeepPace l r × AreResultColumns (columns_under scope (shape.Concat l r))
+    IsAcceptedOver scope l × IsAcceptedOver scope r × KeepPace l r
+    × AreResultColumns (columns_under scope (shape.Concat l r))
 
 -- a statement is accepted over a schema
 abbrev pub IsAccepted : Schema → Statement → Type 0

@@ -40,9 +40,11 @@ abbrev pub columns_of : List Stream → QueryShape → List Column
 columns_of sources (shape.Read name) = source_columns sources name
 columns_of sources (shape.Rows pick filter source) = picked_columns (columns_of sources source) pick
 columns_of sources (shape.Total aggs source) = map (agg_column (columns_of sources source)) aggs
-columns_of sources (shape.Each var source size advance body) = columns_of (variable var (columns_of sources source)) body
+columns_of sources (shape.Each var source size advance body) =
+    columns_of (variable var (columns_of sources source)) body
 columns_of sources (shape.PerGroup var source key groups body) =
-    record { name = key; kind = column_kind (columns_of sources source) key } ∷ columns_of (variable var (columns_of sources source)) body
+    record { name = key; kind = column_kind (columns_of sources source) key } ∷ columns_of
+    (variable var (columns_of sources source)) body
 columns_of sources (shape.Union l r) = columns_of sources l
 columns_of sources (shape.Concat l r) = columns_of sources l ++ columns_of sources r
 

@@ -1,4 +1,5 @@
--- The first rule of acceptance that a statement breaks, with its place: the sources of a query come first, then its own parts.
+-- The first rule of acceptance that a statement breaks, with its place: the sources of a query come first, then its own
+-- parts.
 use Rattle.std.specs.Prelude.{ℕ, ◌*◌, ◌^◌, Bool, true, false, not, ◌&&◌, List, [], ◌∷◌, ◌++◌, length, Option, Some, None, bytes_eq, nat_le, nat_lt, nat_eq, slice_get, if◌then◌else◌}
 use Rattle.std.specs.List.{list_all, list_any}
 use Rattle.gl_bits.specs.Limits.{most_columns, most_copies, most_groups, most_rows, most_weights}
@@ -78,7 +79,8 @@ same_pace (Some Once) (Some Once) = true
 same_pace (Some (Step a)) (Some (Step b)) = bytes_eq a b
 same_pace p q = false
 
--- ---- expressions: operands from left to right, but a loose left one behind a right one that is not, and then the operator
+-- ---- expressions: operands from left to right, but a loose left one behind a right one that is not, and then the
+-- operator
 
 -- a number as a text is of another kind
 abbrev pub number_fault : Kind → Num → Option QueryFault
@@ -96,21 +98,25 @@ operator_fault Logic left right at = unless (is_bit left && is_bit right) (NotCo
 
 -- the operands' faults, the right one's first where only the left one is loose
 abbrev pub of_operands : Bool → Bool → Option QueryFault → Option QueryFault → Option QueryFault
-of_operands left_loose right_loose left right = if left_loose && not right_loose then or_else right left else or_else left right
+of_operands left_loose right_loose left right =
+    if left_loose && not right_loose then or_else right left else or_else left right
 
 abbrev pub expr_fault : List NamedColumn → Kind → ExprTree → Option QueryFault
 expr_fault columns place (Column name) = unless (has_column columns name.text) (UnknownColumn name.at)
 expr_fault columns place (Number n) = number_fault place n
 expr_fault columns place (Letters text at) = letters_fault place text at
 expr_fault columns place (Not e at) =
-    or_else (expr_fault columns (Unsigned 1) e) (unless (is_bit (kind_of columns (Unsigned 1) (expr_alike e))) (NotCondition at))
+    or_else (expr_fault columns (Unsigned 1) e)
+    (unless (is_bit (kind_of columns (Unsigned 1) (expr_alike e))) (NotCondition at))
 expr_fault columns place (Cast e kind at) =
     let alone = kind_alone (expr_alike e) in
-    or_else (expr_fault columns alone e) (unless (can_cast (kind_of columns alone (expr_alike e)) kind) (KindsDiffer at))
+    or_else (expr_fault columns alone e) (unless (can_cast (kind_of columns alone (expr_alike e)) kind)
+    (KindsDiffer at))
 expr_fault columns place (Binary op l r at) =
     let left = operand_place columns op place (expr_alike l) (expr_alike r) in
     let right = operand_place columns op place (expr_alike r) (expr_alike l) in
-    or_else (of_operands (is_loose columns (expr_alike l)) (is_loose columns (expr_alike r)) (expr_fault columns left l) (expr_fault columns right r))
+    or_else (of_operands (is_loose columns (expr_alike l)) (is_loose columns (expr_alike r)) (expr_fault columns left l)
+    (expr_fault columns right r))
     (operator_fault (sort_of op) (kind_of columns left (expr_alike l)) (kind_of columns right (expr_alike r)) at)
 
 -- an expression of an item or an argument
@@ -132,7 +138,8 @@ first_place (Binary op l r at) = first_place l
 abbrev pub filter_fault : List NamedColumn → Option ExprTree → Option QueryFault
 filter_fault columns None = None
 filter_fault columns (Some e) =
-    or_else (expr_fault columns (Unsigned 1) e) (unless (is_bit (kind_of columns (Unsigned 1) (expr_alike e))) (NotCondition (first_place e)))
+    or_else (expr_fault columns (Unsigned 1) e)
+    (unless (is_bit (kind_of columns (Unsigned 1) (expr_alike e))) (NotCondition (first_place e)))
 
 -- ---- what is under a name: of each the 33rd's place, its own fault, and its name where an earlier one has it
 
@@ -145,7 +152,8 @@ named_fault name own earlier (i ∷ items) =
     (named_fault name own (earlier ++ i ∷ []) items)))
 
 abbrev pub items_fault : List NamedColumn → List ItemTree → List ItemTree → Option QueryFault
-items_fault columns earlier items = named_fault (λ (i : ItemTree). i.name) (λ (i : ItemTree). whole_fault columns i.expr) earlier items
+items_fault columns earlier items =
+    named_fault (λ (i : ItemTree). i.name) (λ (i : ItemTree). whole_fault columns i.expr) earlier items
 
 abbrev pub pick_fault : List NamedColumn → PickTree → Option QueryFault
 pick_fault columns All = None
@@ -154,7 +162,8 @@ pick_fault columns (Items items) = items_fault columns [] items
 -- ---- aggregates: the argument, its kind, the 65th weight, and the first weight that is too wide
 
 abbrev pub summed_fault : List NamedColumn → ExprTree → Name → Option QueryFault
-summed_fault columns e name = or_else (whole_fault columns e) (unless (is_unsigned (whole_kind columns e)) (KindsDiffer name.at))
+summed_fault columns e name =
+    or_else (whole_fault columns e) (unless (is_unsigned (whole_kind columns e)) (KindsDiffer name.at))
 
 abbrev pub too_many : Option Num → Option QueryFault
 too_many None = None
@@ -171,10 +180,12 @@ agg_fault columns (Min e) name = whole_fault columns e
 agg_fault columns (Max e) name = whole_fault columns e
 agg_fault columns (Avg e) name = summed_fault columns e name
 agg_fault columns (Wsum e weights) name =
-    or_else (summed_fault columns e name) (or_else (too_many (slice_get weights most_weights)) (weights_fault (whole_kind columns e) weights))
+    or_else (summed_fault columns e name) (or_else (too_many (slice_get weights most_weights))
+    (weights_fault (whole_kind columns e) weights))
 
 abbrev pub aggs_fault : List NamedColumn → List AggItemTree → List AggItemTree → Option QueryFault
-aggs_fault columns earlier items = named_fault (λ (i : AggItemTree). i.name) (λ (i : AggItemTree). agg_fault columns i.agg i.name) earlier items
+aggs_fault columns earlier items =
+    named_fault (λ (i : AggItemTree). i.name) (λ (i : AggItemTree). agg_fault columns i.agg i.name) earlier items
 
 -- ---- queries
 
@@ -182,28 +193,33 @@ aggs_fault columns earlier items = named_fault (λ (i : AggItemTree). i.name) (�
 abbrev pub window_fault : Num → Num → Option QueryFault
 window_fault size advance =
     or_else (unless (is_within size.value most_rows) (OutOfRange size.at))
-    (or_else (unless (is_within advance.value most_rows) (OutOfRange advance.at)) (unless (nat_le size.value (most_copies * advance.value)) (OutOfRange size.at)))
+    (or_else (unless (is_within advance.value most_rows) (OutOfRange advance.at))
+    (unless (nat_le size.value (most_copies * advance.value)) (OutOfRange size.at)))
 
 -- the key's name and the count of columns, behind all faults of the body
 abbrev pub key_fault : Name → List NamedColumn → Option QueryFault
 key_fault key columns =
-    or_else (unless (not (list_any (bytes_eq key.text) (column_names columns))) (TwiceNamed key.at)) (unless (nat_lt (length columns) most_columns) (OutOfRange key.at))
+    or_else (unless (not (list_any (bytes_eq key.text) (column_names columns))) (TwiceNamed key.at))
+    (unless (nat_lt (length columns) most_columns) (OutOfRange key.at))
 
 abbrev pub beside_fault : QueryShape → QueryShape → List NamedColumn → ℕ → Option QueryFault
 beside_fault l r columns at =
     or_else (unless (same_pace (pace_of l) (pace_of r)) (PaceDiffers at))
-    (or_else (unless (are_distinct (column_names columns)) (TwiceNamed at)) (unless (nat_le (length columns) most_columns) (OutOfRange at)))
+    (or_else (unless (are_distinct (column_names columns)) (TwiceNamed at))
+    (unless (nat_le (length columns) most_columns) (OutOfRange at)))
 
 abbrev pub query_fault : Scope → QueryTree → Option QueryFault
 query_fault scope (Read name) = unless (has_stream scope.sources name.text) (UnknownStream name.at)
 query_fault scope (Rows pick filter source) =
     let columns = columns_under scope (query_alike source) in
     or_else (query_fault scope source) (or_else (pick_fault columns pick) (filter_fault columns filter))
-query_fault scope (Total aggs source) = or_else (query_fault scope source) (aggs_fault (columns_under scope (query_alike source)) [] aggs)
+query_fault scope (Total aggs source) =
+    or_else (query_fault scope source) (aggs_fault (columns_under scope (query_alike source)) [] aggs)
 query_fault scope (Each var source size advance body at) =
     let inside = body_scope var.text (columns_under scope (query_alike source)) in
     or_else (query_fault scope source)
-    (or_else (window_fault size advance) (or_else (query_fault inside body) (unless (is_closing (query_alike body)) (NotClosing at))))
+    (or_else (window_fault size advance) (or_else (query_fault inside body)
+    (unless (is_closing (query_alike body)) (NotClosing at))))
 query_fault scope (PerGroup var source key groups body at) =
     let columns = columns_under scope (query_alike source) in
     let inside = body_scope var.text columns in
@@ -211,13 +227,16 @@ query_fault scope (PerGroup var source key groups body at) =
     (or_else (unless (has_column columns key.text) (UnknownColumn key.at))
     (or_else (unless (is_within groups.value most_groups) (OutOfRange groups.at))
     (or_else (query_fault inside body)
-    (or_else (unless (is_closing (query_alike body)) (NotClosing at)) (key_fault key (columns_under inside (query_alike body)))))))
+    (or_else (unless (is_closing (query_alike body)) (NotClosing at))
+    (key_fault key (columns_under inside (query_alike body)))))))
 query_fault scope (Union l r at) =
     or_else (query_fault scope l) (or_else (query_fault scope r)
-    (unless (same_kinds (kinds_of (columns_under scope (query_alike l))) (kinds_of (columns_under scope (query_alike r)))) (ColumnsDiffer at)))
+    (unless (same_kinds (kinds_of (columns_under scope (query_alike l)))
+    (kinds_of (columns_under scope (query_alike r)))) (ColumnsDiffer at)))
 query_fault scope (Concat l r at) =
     or_else (query_fault scope l)
-    (or_else (query_fault scope r) (beside_fault (query_alike l) (query_alike r) (columns_under scope (query_alike (Concat l r at))) at))
+    (or_else (query_fault scope r) (beside_fault (query_alike l) (query_alike r)
+    (columns_under scope (query_alike (Concat l r at))) at))
 
 -- the first rule that a statement breaks over a schema
 abbrev pub first_fault : Schema → StatementTree → Option QueryFault

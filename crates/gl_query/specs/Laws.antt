@@ -30,7 +30,9 @@ HasNoUnion (shape.Concat l r) = HasNoUnion l × HasNoUnion r
 
 -- without UNION there is at most one result
 abbrev pub HasOneResult : Type 0
-HasOneResult = (q : QueryShape) → HasNoUnion q → (env : Env) (out out' : List Row) (spill spill' : Bool) → IsResultIn q env out spill → IsResultIn q env out' spill' → AreSame out out' spill spill'
+HasOneResult =
+    (q : QueryShape) → HasNoUnion q → (env : Env) (out out' : List Row) (spill spill' : Bool)
+    → IsResultIn q env out spill → IsResultIn q env out' spill' → AreSame out out' spill spill'
 
 -- a result of a query in an environment
 pub record HasResult (q : QueryShape) (env : Env) : Type 0 where
@@ -53,7 +55,8 @@ HoldsIn P env = (name : List ℕ) → AllByRecursion (P (source_columns (streams
 -- and of the rows of each result of an accepted query
 abbrev pub HoldsOfResults : (List Column → Row → Type 0) → Type 0
 HoldsOfResults P = (q : QueryShape) (env : Env) (out : List Row) (spill : Bool)
-    → IsAcceptedOver (scope_of env) q → HoldsIn P env → IsResultIn q env out spill → AllByRecursion (P (columns_in env q)) out
+    → IsAcceptedOver (scope_of env) q → HoldsIn P env → IsResultIn q env out spill
+    → AllByRecursion (P (columns_in env q)) out
 
 -- a row has as many numbers as there are columns
 abbrev pub IsLongAs : List Column → Row → Type 0
@@ -75,7 +78,8 @@ TreesAreAlike = (s : Statement) → statement_alike (statement_tree s) ≡ state
 abbrev pub AreKinds : List Column → Type 0
 AreKinds columns = AllByRecursion (λ (c : Column). IsKind c.kind) columns
 
--- columns of a result: at least one where each select has an item, at most 32, no two of one name, of kinds that are kinds
+-- columns of a result: at least one where each select has an item, at most 32, no two of one name, of kinds that are
+-- kinds
 pub record HasRealColumns (schema : Schema) (q : QueryShape) : Type 0 where
   pub some' : HasItems q → 1 ≤ length (columns_of schema.streams q)
   pub result : AreResultColumns (columns_of schema.streams q)
@@ -83,7 +87,9 @@ pub record HasRealColumns (schema : Schema) (q : QueryShape) : Type 0 where
 
 -- an accepted query has such columns
 abbrev pub AcceptedHaveRealColumns : Type 0
-AcceptedHaveRealColumns = (schema : Schema) (q : QueryShape) → IsSchema schema → IsAcceptedOver (schema_scope schema) q → HasRealColumns schema q
+AcceptedHaveRealColumns =
+    (schema : Schema) (q : QueryShape) → IsSchema schema → IsAcceptedOver (schema_scope schema) q
+    → HasRealColumns schema q
 
 -- a statement has no first fault exactly where it is accepted
 abbrev pub FirstFaultsAreExact : Type 0

@@ -1,5 +1,5 @@
--- The results of a query: a relation between the rows of its sources, the rows of a result, and whether rows of further keys were
--- left out. After the operators of Mueller, Teubner and Alonso, Streams on Wires, PVLDB 2(1), 2009.
+-- The results of a query: a relation between the rows of its sources, the rows of a result, and whether rows of further
+-- keys were left out. After the operators of Mueller, Teubner and Alonso, Streams on Wires, PVLDB 2(1), 2009.
 use Rattle.std.specs.Prelude.{ℕ, ◌+◌, Bool, true, false, List, [], ◌∷◌, map, filter, find, Option, Some, None, unwrap_or, option_map, bytes_eq, nat_eq, slice_index}
 use Rattle.gl_bits.specs.declared.kind.Kind.TheVariants.{Unsigned}
 use Rattle.gl_bits.specs.Kinds.{width_of}
@@ -38,11 +38,13 @@ values_of columns e rows = map (value_of columns (kind_alone e) e) rows
 -- an aggregate over rows
 abbrev pub agg_value : List Column → List Row → AggShape → ℕ
 agg_value columns rows shape.Count = count_of rows
-agg_value columns rows (shape.Sum e) = sum_total (width_of (kind_of columns (kind_alone e) e)) (values_of columns e rows)
+agg_value columns rows (shape.Sum e) =
+    sum_total (width_of (kind_of columns (kind_alone e) e)) (values_of columns e rows)
 agg_value columns rows (shape.Min e) = least_of (kind_of columns (kind_alone e) e) (values_of columns e rows)
 agg_value columns rows (shape.Max e) = greatest_of (kind_of columns (kind_alone e) e) (values_of columns e rows)
 agg_value columns rows (shape.Avg e) = average_of (kind_of columns (kind_alone e) e) (values_of columns e rows)
-agg_value columns rows (shape.Wsum e weights) = weighted_sum (width_of (kind_of columns (kind_alone e) e)) weights (values_of columns e rows)
+agg_value columns rows (shape.Wsum e weights) =
+    weighted_sum (width_of (kind_of columns (kind_alone e) e)) weights (values_of columns e rows)
 
 -- the one row of aggregates
 abbrev pub total_row : List Column → List AggItemShape → List Row → Row
@@ -64,7 +66,8 @@ streams_of env = map (λ (s : Source). s.stream) env
 
 -- the rows of a source by its name
 abbrev pub rows_of : Env → List ℕ → List Row
-rows_of env name = unwrap_or (option_map (λ (s : Source). s.rows) (find (λ (s : Source). bytes_eq name s.stream.name) env)) []
+rows_of env name =
+    unwrap_or (option_map (λ (s : Source). s.rows) (find (λ (s : Source). bytes_eq name s.stream.name) env)) []
 
 -- the columns of a query in an environment
 abbrev pub columns_in : Env → QueryShape → List Column
@@ -95,11 +98,13 @@ IsResultIn (shape.Total aggs source) env =
     IsChanged (IsResultIn source env) (λ rows. total_row columns aggs rows ∷ [])
 IsResultIn (shape.Each var source size advance body) env =
     let columns = columns_in env source in
-    IsOfParts (IsResultIn source env) (slices size advance) (λ rows. IsResultIn body (only var columns rows)) (λ rows. false)
+    IsOfParts (IsResultIn source env) (slices size advance) (λ rows. IsResultIn body (only var columns rows))
+    (λ rows. false)
 IsResultIn (shape.PerGroup var source key n body) env =
     let columns = columns_in env source in
     let key_of : Row → ℕ = λ row. slice_index row (column_number columns key) in
-    IsOfParts (IsResultIn source env) (groups n key_of) (IsOfGroup (λ rows. IsResultIn body (only var columns rows))) (has_further n key_of)
+    IsOfParts (IsResultIn source env) (groups n key_of) (IsOfGroup (λ rows. IsResultIn body (only var columns rows)))
+    (has_further n key_of)
 IsResultIn (shape.Union l r) env = IsOfBoth (IsResultIn l env) (IsResultIn r env) IsInterleaving
 IsResultIn (shape.Concat l r) env = IsOfBoth (IsResultIn l env) (IsResultIn r env) AreBeside
 

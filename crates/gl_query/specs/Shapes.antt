@@ -91,10 +91,13 @@ pick_shape (pick.Items items) = Items (map item_shape items)
 
 abbrev pub query_shape : Query → QueryShape
 query_shape (query.Read name) = Read name.text
-query_shape (query.Rows' pick filter p source) = Rows (pick_shape pick) (option_map expr_shape filter) (query_shape source)
+query_shape (query.Rows' pick filter p source) =
+    Rows (pick_shape pick) (option_map expr_shape filter) (query_shape source)
 query_shape (query.Total' aggs p source) = Total (map agg_item_shape aggs) (query_shape source)
-query_shape (query.Each' var p source size advance q body at) = Each var.text (query_shape source) size.value advance.value (query_shape body)
-query_shape (query.PerGroup' var p source key groups q body at) = PerGroup var.text (query_shape source) key.text groups.value (query_shape body)
+query_shape (query.Each' var p source size advance q body at) =
+    Each var.text (query_shape source) size.value advance.value (query_shape body)
+query_shape (query.PerGroup' var p source key groups q body at) =
+    PerGroup var.text (query_shape source) key.text groups.value (query_shape body)
 query_shape (query.Union' p l q r at) = Union (query_shape l) (query_shape r)
 query_shape (query.Concat' p l q r at) = Concat (query_shape l) (query_shape r)
 

@@ -90,8 +90,10 @@ abbrev pub query_tree : Query → QueryTree
 query_tree (query.Read name) = Read name
 query_tree (query.Rows' pick filter p source) = Rows (pick_tree pick) (filter_tree filter) (query_tree source)
 query_tree (query.Total' aggs p source) = Total (map agg_item_tree aggs) (query_tree source)
-query_tree (query.Each' var p source size advance q body at) = Each var (query_tree source) size advance (query_tree body) at
-query_tree (query.PerGroup' var p source key groups q body at) = PerGroup var (query_tree source) key groups (query_tree body) at
+query_tree (query.Each' var p source size advance q body at) =
+    Each var (query_tree source) size advance (query_tree body) at
+query_tree (query.PerGroup' var p source key groups q body at) =
+    PerGroup var (query_tree source) key groups (query_tree body) at
 query_tree (query.Union' p l q r at) = Union (query_tree l) (query_tree r) at
 query_tree (query.Concat' p l q r at) = Concat (query_tree l) (query_tree r) at
 

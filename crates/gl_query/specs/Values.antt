@@ -23,7 +23,8 @@ column_number columns name = position_or_len (λ c. bytes_eq name c.name) column
 
 -- its kind
 abbrev pub column_kind : List Column → List ℕ → Kind
-column_kind columns name = unwrap_or (option_map (λ c. c.kind) (slice_get columns (column_number columns name))) (Unsigned 1)
+column_kind columns name =
+    unwrap_or (option_map (λ c. c.kind) (slice_get columns (column_number columns name))) (Unsigned 1)
 
 -- ---- kinds
 
@@ -107,10 +108,12 @@ HasKind columns place (shape.Column name) = IsTrue (has_column columns name)
 HasKind columns place (shape.Number n) = IsNumberOf place n
 HasKind columns place (shape.Letters text) = IsLettersOf place text
 HasKind columns place (shape.Not e) = HasKind columns (Unsigned 1) e × (kind_of columns (Unsigned 1) e ≡ Unsigned 1)
-HasKind columns place (shape.Cast kind e) = HasKind columns (kind_alone e) e × CanCast (kind_of columns (kind_alone e) e) kind
+HasKind columns place (shape.Cast kind e) =
+    HasKind columns (kind_alone e) e × CanCast (kind_of columns (kind_alone e) e) kind
 HasKind columns place (shape.Binary op l r) =
     HasKind columns (operand_place columns op place l r) l × HasKind columns (operand_place columns op place r l) r
-    × CanApply (sort_of op) (kind_of columns (operand_place columns op place l r) l) (kind_of columns (operand_place columns op place r l) r)
+    × CanApply (sort_of op) (kind_of columns (operand_place columns op place l r) l)
+    (kind_of columns (operand_place columns op place r l) r)
 
 -- ---- values
 
@@ -132,7 +135,9 @@ value_of columns place (shape.Column name) row = slice_index row (column_number 
 value_of columns place (shape.Number n) row = n
 value_of columns place (shape.Letters text) row = text_word (bytes_in place) text
 value_of columns place (shape.Not e) row = not_of 1 (value_of columns (Unsigned 1) e row)
-value_of columns place (shape.Cast kind e) row = cast_of (kind_of columns (kind_alone e) e) kind (value_of columns (kind_alone e) e row)
+value_of columns place (shape.Cast kind e) row =
+    cast_of (kind_of columns (kind_alone e) e) kind (value_of columns (kind_alone e) e row)
 value_of columns place (shape.Binary op l r) row =
     operate op (kind_of columns (operand_place columns op place l r) l)
-    (value_of columns (operand_place columns op place l r) l row) (value_of columns (operand_place columns op place r l) r row)
+    (value_of columns (operand_place columns op place l r) l row)
+    (value_of columns (operand_place columns op place r l) r row)

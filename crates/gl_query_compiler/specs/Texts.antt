@@ -23,8 +23,8 @@ pub record OfSchema (text : List ℕ) (P : Schema → Type 0) : Type 0 where
   pub is : IsSchemaText text schema
   pub so : P schema
 
--- why texts are not compiled: the first fault of the schema's text, or why the query is refused over the schema; want of
--- memory is free
+-- why texts are not compiled: the first fault of the schema's text, or why the query is refused over the schema; want
+-- of memory is free
 abbrev pub IsTextRefused : List ℕ → List ℕ → CompileFault → Type 0
 IsTextRefused text query (fault.Schema f) = IsFirstFault text f
 IsTextRefused text query (fault.Query f) = OfSchema text (λ schema. IsQueryRefused schema query (fault.Query f))

@@ -44,7 +44,9 @@ pub record HasOneFault (schema : Schema) (text : List ℕ) (f : QueryFault) : Ty
   pub refused : (statement : Statement) → IsAcceptedText schema text statement → ⊥
 
 abbrev pub TextsHaveOneFault : Type 0
-TextsHaveOneFault = (schema : Schema) (text : List ℕ) (f : QueryFault) → IsSchema schema → IsQueryFault schema text f → HasOneFault schema text f
+TextsHaveOneFault =
+    (schema : Schema) (text : List ℕ) (f : QueryFault) → IsSchema schema → IsQueryFault schema text f
+    → HasOneFault schema text f
 
 -- 1 to 32 columns, no two of one name, of kinds that are kinds
 pub record HasResultColumns (schema : Schema) (statement : Statement) : Type 0 where
@@ -53,4 +55,6 @@ pub record HasResultColumns (schema : Schema) (statement : Statement) : Type 0 w
   pub kinds : AreKinds (columns_of schema.streams (query_shape statement.query))
 
 abbrev pub AcceptedTextsHaveColumns : Type 0
-AcceptedTextsHaveColumns = (schema : Schema) (text : List ℕ) (statement : Statement) → IsSchema schema → IsAcceptedText schema text statement → HasResultColumns schema statement
+AcceptedTextsHaveColumns =
+    (schema : Schema) (text : List ℕ) (statement : Statement) → IsSchema schema → IsAcceptedText schema text statement
+    → HasResultColumns schema statement

@@ -32,7 +32,9 @@ expr_of (shape.Number n) = Number (num_of n)
 expr_of (shape.Letters text) = Letters text 0
 expr_of (shape.Not e) = Not 0 (fitted (nat_lt (level (expr_of e)) 4) (expr_of e))
 expr_of (shape.Cast kind e) = Cast 0 0 (expr_of e) (name_of (kind_text kind)) kind
-expr_of (shape.Binary o l r) = Binary o 0 (fitted (nat_le (level (expr_of l)) (left_looseness o)) (expr_of l)) (fitted (nat_lt (level (expr_of r)) (looseness o)) (expr_of r))
+expr_of (shape.Binary o l r) =
+    Binary o 0 (fitted (nat_le (level (expr_of l)) (left_looseness o)) (expr_of l))
+    (fitted (nat_lt (level (expr_of r)) (looseness o)) (expr_of r))
 
 abbrev pub agg_of : AggShape → Agg
 agg_of shape.Count = Count 0 0
@@ -78,10 +80,13 @@ grouping_of key groups = record { at = 0; key = name_of key; groups = num_of gro
 
 abbrev pub query_of : QueryShape → Query
 query_of (shape.Read name) = Stream (name_of name)
-query_of (shape.Rows pick filter source) = Select (pick_of pick) (source_of (query_of source)) None (option_map expr_of filter) None
+query_of (shape.Rows pick filter source) =
+    Select (pick_of pick) (source_of (query_of source)) None (option_map expr_of filter) None
 query_of (shape.Total aggs source) = Select (Items (map agg_item_of aggs)) (source_of (query_of source)) None None None
-query_of (shape.Each var source size advance body) = Windows 0 (name_of var) (source_of (query_of source)) (window_of size advance) 0 (query_of body)
-query_of (shape.PerGroup var source key groups body) = Groups 0 (name_of var) (source_of (query_of source)) (grouping_of key groups) 0 (query_of body)
+query_of (shape.Each var source size advance body) =
+    Windows 0 (name_of var) (source_of (query_of source)) (window_of size advance) 0 (query_of body)
+query_of (shape.PerGroup var source key groups body) =
+    Groups 0 (name_of var) (source_of (query_of source)) (grouping_of key groups) 0 (query_of body)
 query_of (shape.Union l r) = Join' Union 0 (query_of l) (term_of (query_of r))
 query_of (shape.Concat l r) = Join' Concat 0 (query_of l) (term_of (query_of r))
 

@@ -28,4 +28,5 @@ PassesNoLimit text = keeps_limits none_counted (bare_tokens (tokens_of text)) �
 
 -- what is read from the canonical text of a statement is that statement, but for its places
 abbrev pub CanonicalTextsAreRead : Type 0
-CanonicalTextsAreRead = (s : StatementShape) → IsPrintable s → PassesNoLimit (canonical_text s) → HasAlike (canonical_text s) s
+CanonicalTextsAreRead =
+    (s : StatementShape) → IsPrintable s → PassesNoLimit (canonical_text s) → HasAlike (canonical_text s) s

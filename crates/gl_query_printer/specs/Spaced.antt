@@ -103,7 +103,8 @@ unfoldable pub is_opening : Token → Bool
 is_opening (token.Open at) = true
 is_opening t = false
 
--- a space stands before a token, but none behind `(` and `[`, at the text's beginning, or between an aggregate's name and its bracket
+-- a space stands before a token, but none behind `(` and `[`, at the text's beginning, or between an aggregate's name
+-- and its bracket
 abbrev pub needs_space : Behind → Token → Bool
 needs_space Opening t = false
 needs_space Aggregate t = not (is_opening t) && not (is_closing t)

@@ -18,10 +18,11 @@ use Rattle.gl_query_reader.specs.declared.written.Grouping.{Grouping}
 use Rattle.gl_query_reader.specs.Written.{Expr, Column, Brackets, Cast, Not, Binary, Agg, Fold', Wsum, Item, Pick, All, Items, Query, Stream, InBrackets, Select, Groups, Join', Statement}
 use Rattle.gl_query_reader.specs.States.{State, Frame, Head, BodyHead, GroupsHead, Unnamed, SelectHead, EachHead, WindowsHead, GroupsHead', SelectGroups, EachGroups, UnnamedExpr, UnnamedAgg, LeftOf, NotOf, BracketOf, InCast, InItem, InFold, InWsum, InFilter, JoinOf, InQuery, InSource, InBody, WantKind, WantWeightsOpen, WantWeight, HaveWeight, WantWsumClose, WantAs, WantItemName, HaveItem, WantSource, HaveSource, HaveEachSource, WantSize, WantSizeNumber, WantAdvance, WantAdvanceNumber, WantTuples, WantWindowClose, WantKey, WantGroups, WantGroupsNumber, WantBody, HaveTerm, WantName, HaveName, WantEnd}
 use Rattle.gl_query_reader.specs.Machine.{Reduced, reduced, have_term, after_expr, after_source, after_window, after_groups, body_of, under_name, is_operator, step, finish}
-use Rattle.gl_query_reader.proofs.Steps.{steps, state, steps-one, steps-append}
+use Rattle.gl_query_reader.proofs.Steps.{steps, state, is-machine}
 use Rattle.gl_query_reader.proofs.ReadExpressions.{wanting, having, reduced-not, reduced-binary, looseness-le}
 use Rattle.gl_query_reader.proofs.ReadQueries.{Follows, close-follows, into-follows, have-source, have-whole, term-alone}
 use Rattle.gl_query_reader.proofs.Said.{InExpr, InTerm, Fits}
+use Rattle.gl_bits.proofs.Machines.{machine-append}
 
 abbrev pub some_name : Name
 some_name = record { text = codes "a"; at = 0 }
@@ -45,10 +46,10 @@ pub record Ends (s : State) : Type 0 where
   pub done : finish there ≡ Some written
 
 pub by_token : (s s' : State) (t : Token) → step s t ≡ Some s' → Ends s' → Ends s
-by_token s s' t e x = record { more = t ∷ x.more; there = x.there; written = x.written; steps = steps-one s s' t x.more e ∙ x.steps; done = x.done }
+by_token s s' t e x = record { more = t ∷ x.more; there = x.there; written = x.written; steps = is-machine.goes s s' t x.more e ∙ x.steps; done = x.done }
 
 pub by_tokens : (s s' : State) (ts : List Token) → steps s ts ≡ Some s' → Ends s' → Ends s
-by_tokens s s' ts e x = record { more = ts ++ x.more; there = x.there; written = x.written; steps = steps-append ts x.more s s' e ∙ x.steps; done = x.done }
+by_tokens s s' ts e x = record { more = ts ++ x.more; there = x.there; written = x.written; steps = machine-append step steps is-machine ts x.more s s' e ∙ x.steps; done = x.done }
 
 -- ---- behind a term
 

@@ -15,27 +15,20 @@ use Rattle.gl_query_reader.specs.Limits.{none_counted, after, counted, is_past, 
 use Rattle.gl_query.specs.Trees.{StatementTree, statement_tree}
 use Rattle.gl_query_reader.specs.Reading.{run, or_syntax, with_items, answered, Answers}
 use Rattle.gl_query_reader.specs.Grammar.{bare_tokens, Derives, CanBegin, Stops, IsSyntaxFault, IsDepthFault, IsItemsFault, IsErrOrMemory, Verdict}
-use Rattle.gl_query_reader.proofs.Steps.{steps, steps-one, run-steps, guard_true}
+use Rattle.gl_query_reader.proofs.Steps.{steps, run-steps, is-machine}
 use Rattle.gl_query_reader.proofs.ReadQueries.{final, finishes, reads_statement}
 use Rattle.gl_query_reader.proofs.Sound.{derives, sound_step}
 use Rattle.gl_query_reader.proofs.BeginsAll.{begins}
 use Rattle.gl_query_reader.proofs.Meets.{answer_for, read_to, bare-push}
 use Rattle.gl_bits.proofs.Options.{then_some}
 use Rattle.gl_query_reader.proofs.Loop.{run-syntax}
-
--- tokens that lead to a state lead to one at each of their fronts
-pub steps-front : (a b : List Token) (s y : State) → steps s (a ++ b) ≡ Some y → (x : State) × (steps s a ≡ Some x) × (steps x b ≡ Some y)
-unfolding steps
-steps-front [] b s y e = (s, refl, e)
-steps-front (t ∷ a) b s y e =
-    let g = then_some (λ x. steps x (a ++ b)) (step s t) y e in
-    let h = steps-front a b g.0 y g.2 in
-    (h.0, steps-one s g.0 t a g.1 ∙ h.1, h.2)
+use Rattle.gl_bits.proofs.Bools.{guard_true}
+use Rattle.gl_bits.proofs.Machines.{machine-front, machine-parts}
 
 -- what begins a statement is read
 reads_front : (ts : List Token) → CanBegin ts → (s : State) × (steps start ts ≡ Some s)
 reads_front ts b =
-    let g = steps-front ts b.0 start (final b.1) (ap (steps start) (sym b.2.spelled) ∙ reads_statement b.1 b.2.grammar) in
+    let g = machine-front step steps is-machine ts b.0 start (final b.1) (ap (steps start) (sym b.2.spelled) ∙ reads_statement b.1 b.2.grammar) in
     (g.0, g.1)
 
 -- reading goes on behind tokens that pass no limit
@@ -92,13 +85,12 @@ counted-push n [] t = refl
 counted-push n (x ∷ ts) t = counted-push (after n x) ts t
 
 one_step : (s y : State) (t : Token) → steps s (t ∷ []) ≡ Some y → (x : State) × (step s t ≡ Some x)
-unfolding steps
-one_step s y t e = let g = then_some (λ x. steps x []) (step s t) y e in (g.0, g.1)
+one_step s y t e = let p = machine-parts step steps is-machine s y t [] e in (p.0, p.1)
 
 pub depth_answer : (text : List ℕ) (at : ℕ) → IsDepthFault text at → answer_for text ≡ Err (fault.TooDeep at)
 depth_answer text at h =
     let r = reads_front (bare_tokens h.read ++ h.deep.token ∷ []) (subst (λ (x : List Token). CanBegin x) (bare-push h.read h.deep) h.begins) in
-    let f = steps-front (bare_tokens h.read) (h.deep.token ∷ []) start r.0 r.1 in
+    let f = machine-front step steps is-machine (bare_tokens h.read) (h.deep.token ∷ []) start r.0 r.1 in
     let o = one_step f.0 r.0 h.deep.token f.2 in
     let p : is_past (after (counted none_counted (bare_tokens h.read)) h.deep.token) ≡ true = ap is_past (sym (counted-push none_counted (bare_tokens h.read) h.deep.token)) ∙ ap (λ (x : List Token). is_past (counted none_counted x)) (sym (bare-push h.read h.deep)) ∙ h.past in
     ap (λ (ls : List Lexeme). answered (run (length text) none_counted start ls)) h.parts

@@ -1,6 +1,6 @@
 -- An expression keeps the limits exactly where the counts of its tokens do.
 use Rattle.std.proofs.Common.{◌≡◌, ℕ, ◌+◌, ◌-◌, ◌≤◌, Bool, true, false, List, [], ◌∷◌, ◌++◌, max, refl, sym, subst, arith, append_assoc}
-use Rattle.std.specs.Prelude.{◌||◌, nat_lt, if◌then◌else◌}
+use Rattle.std.specs.Prelude.{◌||◌, nat_lt}
 use Rattle.std.proofs.lemmas.Bool.{le-ltb, ltb-false, or_parts, or_from}
 use Rattle.gl_query_tokens.specs.declared.token.Plain.TheVariants as plain
 use Rattle.gl_query_tokens.specs.declared.token.Token.{Token}
@@ -9,6 +9,7 @@ use Rattle.gl_query_reader.specs.declared.limits.Counts.{Counts}
 use Rattle.gl_query_reader.specs.Limits.{IsSmall, after, is_past, keeps_limits}
 use Rattle.gl_query_reader.specs.Sizes.{expr_depth, operators_of}
 use Rattle.gl_query_reader.specs.Written.{Expr, Column, Number, Letters, Brackets, Cast, Not, Binary, spell}
+use Rattle.gl_bits.proofs.Bools.{guard_true}
 
 abbrev pub counts : ℕ → ℕ → ℕ → Bool → Counts
 counts b o j d = record { brackets = b; operators = o; joins = j; operand = d }
@@ -27,14 +28,10 @@ not_past : (n : Counts) → IsSmall n → is_past n ≡ false
 not_past n f = or_from (nat_lt 32 n.brackets || nat_lt 256 n.operators) (nat_lt 64 n.joins)
     (or_from (nat_lt 32 n.brackets) (nat_lt 256 n.operators) (le-ltb 32 n.brackets f.brackets) (le-ltb 256 n.operators f.operators)) (le-ltb 64 n.joins f.joins)
 
-past_so : (c k : Bool) → (if c then false else k) ≡ true → (c ≡ false) × (k ≡ true)
-past_so true k h = absurd cc
-past_so false k h = (refl, h)
-
 -- one more token
 pub over : {n : Counts} {t : Token} {ts : List Token} → Keeps n (t ∷ ts) → IsSmall (after n t) × Keeps (after n t) ts
 over {n} {t} {ts} h =
-    let p = past_so (is_past (after n t)) (keeps_limits (after n t) ts) h.so in
+    let p = guard_true (is_past (after n t)) (keeps_limits (after n t) ts) h.so in
     (small_when (after n t) p.0, record { so = p.1 })
 
 pub under : {n : Counts} {t : Token} {ts : List Token} → IsSmall (after n t) → Keeps (after n t) ts → Keeps n (t ∷ ts)

@@ -7,7 +7,7 @@ use Rattle.gl_query_tokens.specs.declared.token.Lexeme.{Lexeme}
 use Rattle.gl_query_reader.specs.declared.limits.Counts.{Counts}
 use Rattle.gl_query_reader.specs.declared.parsing.ReadFault.TheVariants.{Syntax, TooDeep}
 use Rattle.gl_query_reader.specs.States.{State}
-use Rattle.gl_query_reader.specs.Machine.{step, finish}
+use Rattle.gl_query_reader.specs.Machine.{step, finish, finish_at}
 use Rattle.gl_query_reader.specs.Limits.{after, is_past}
 use Rattle.gl_query_reader.specs.Reading.{run, or_syntax, checked}
 
@@ -30,8 +30,8 @@ run-too_deep len n s l ls st le = at_step (step s l.token) st
     at_step None h = absurd (false≢true h)
     at_step (Some s') h = rw le refl
 
-pub run-end : (len : ℕ) (n : Counts) (s : State) → run len n s [] ≡ or_syntax (finish s) len
-unfolding run
+pub run-end : (len : ℕ) (n : Counts) (s : State) → run len n s [] ≡ or_syntax (finish_at s.control) len
+unfolding run finish
 run-end len n s = refl
 
 pub ruleset loop_steps = (left-push, run-goes_on, run-syntax, run-too_deep, run-end)

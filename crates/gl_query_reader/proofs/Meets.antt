@@ -19,12 +19,13 @@ use Rattle.gl_query.specs.Trees.{StatementTree, statement_tree}
 use Rattle.gl_query_reader.specs.Mixed.{mixed_in}
 use Rattle.gl_query_reader.specs.Reading.{run, or_syntax, checked, with_items, answered, Answers}
 use Rattle.gl_query_reader.specs.Grammar.{bare_tokens, Derives, CanBegin, HasStatement, IsOrMemory, Stops, IsFault, IsVerdict}
-use Rattle.gl_query_reader.proofs.Steps.{steps, steps-append, run-steps}
+use Rattle.gl_query_reader.proofs.Steps.{steps, run-steps, is-machine}
 use Rattle.gl_query_reader.proofs.ReadQueries.{final, finishes, reads_statement}
 use Rattle.gl_query_reader.proofs.Said.{Read}
 use Rattle.gl_query_reader.proofs.Sound.{derives, sound_step, sound_steps, read_start}
 use Rattle.gl_query_reader.proofs.BeginsAll.{begins}
 use Rattle.gl_bits.proofs.Options.{then_some}
+use Rattle.gl_bits.proofs.Machines.{machine-append}
 
 -- tokens that were read to a state, within the limits
 pub record Came (n : Counts) (s : State) (read : List Lexeme) (s' : State) : Type 0 where
@@ -106,7 +107,7 @@ unfolding steps
 goes_on pre t s e cannot b =
     let all : steps start (spell_statement b.1) ≡ Some (final b.1) = reads_statement b.1 b.2.grammar in
     let same : spell_statement b.1 ≡ pre ++ (t ∷ b.0) = b.2.spelled ∙ append_assoc pre (t ∷ []) b.0 in
-    let rest : steps s (t ∷ b.0) ≡ Some (final b.1) = sym (steps-append pre (t ∷ b.0) start s e) ∙ ap (steps start) (sym same) ∙ all in
+    let rest : steps s (t ∷ b.0) ≡ Some (final b.1) = sym (machine-append step steps is-machine pre (t ∷ b.0) start s e) ∙ ap (steps start) (sym same) ∙ all in
     let g = then_some (λ x. steps x b.0) (step s t) (final b.1) rest in
     none_is ⊥ (step s t) g.0 cannot g.1
 

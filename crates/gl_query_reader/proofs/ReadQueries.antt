@@ -12,7 +12,7 @@ use Rattle.gl_query_reader.specs.Written.{Expr, Pick, Query, Stream, InBrackets,
 use Rattle.gl_query_reader.specs.States.{State, Frame, InFilter, JoinOf, InQuery, InSource, InBody, Head, SelectHead, EachHead, WindowsHead, GroupsHead', WantTerm, WantSource, HaveSource, HaveEachSource, HaveTerm, WantName, HaveName, WantEnd, start}
 use Rattle.gl_query_reader.specs.Machine.{Joined, reduced, joined, after_source, after_query, have_term, is_operator, step, finish}
 use Rattle.gl_query_reader.specs.Grammar.{Derives}
-use Rattle.gl_query_reader.proofs.Steps.{steps, state, steps-one}
+use Rattle.gl_query_reader.proofs.Steps.{steps, state, is-machine}
 use Rattle.gl_query_reader.proofs.ReadExpressions.{waits, last_of, pair, wanting, having, reads_expr, reduced-whole, level-lt}
 use Rattle.gl_query_reader.proofs.ReadItems.{wanting_item, reads_pick}
 use Rattle.gl_bits.proofs.Options.{some_same}
@@ -171,7 +171,7 @@ closes : (q : Query) (f : Frame) (fs : List Frame) (s : State) (rest : List Toke
     → steps (state WantTerm (f ∷ fs)) (spell_query q ++ token.Plain plain.Close ∷ rest) ≡ steps s rest
 closes q f fs s rest r g n e =
     r.as_query g (f ∷ fs) (token.Plain plain.Close ∷ rest) n
-    ∙ steps-one (ended q (f ∷ fs)) s (token.Plain plain.Close) rest (end_query q (f ∷ fs) (token.Plain plain.Close) g n close-follows ∙ e)
+    ∙ is-machine.goes (ended q (f ∷ fs)) s (token.Plain plain.Close) rest (end_query q (f ∷ fs) (token.Plain plain.Close) g n close-follows ∙ e)
 
 reads_brackets : (at : ℕ) (q : Query) (fs : List Frame) (rest : List Token) → IsRead q → IsQuery q → steps (state WantTerm fs) (spell_query (InBrackets at q) ++ rest) ≡ steps (state (HaveTerm (InBrackets at q)) fs) rest
 reads_brackets at q fs rest r g =
@@ -218,7 +218,7 @@ reads_join : (join : Join) (at : ℕ) (l r : Query) (fs : List Frame) (rest : Li
 reads_join join at l r fs rest a b g h n =
     ap (steps (state WantTerm fs)) (append_assoc (spell_query l) (token.Join join at ∷ spell_query r) rest)
     ∙ a.as_query g fs (token.Join join at ∷ (spell_query r ++ rest)) n
-    ∙ steps-one (ended l fs) (state WantTerm (JoinOf l join at ∷ fs)) (token.Join join at) (spell_query r ++ rest) (end_query l fs (token.Join join at) g n (join-follows join at))
+    ∙ is-machine.goes (ended l fs) (state WantTerm (JoinOf l join at ∷ fs)) (token.Join join at) (spell_query r ++ rest) (end_query l fs (token.Join join at) g n (join-follows join at))
     ∙ b.as_term h (JoinOf l join at ∷ fs) rest
 
 -- a term, a query and a source are read, and then what follows them
@@ -269,7 +269,7 @@ into-name q name true = refl
 pub reads_statement : (w : Statement) → IsQuery w.query → steps start (spell_statement w) ≡ Some (final w)
 reads_statement w g =
     (reads w.query).as_query g [] (token.Plain plain.Into ∷ token.Name w.name ∷ spell_end w.closed) tt
-    ∙ steps-one (ended w.query []) (state (WantName w.query) []) (token.Plain plain.Into) (token.Name w.name ∷ spell_end w.closed) (end_query w.query [] (token.Plain plain.Into) g tt into-follows)
+    ∙ is-machine.goes (ended w.query []) (state (WantName w.query) []) (token.Plain plain.Into) (token.Name w.name ∷ spell_end w.closed) (end_query w.query [] (token.Plain plain.Into) g tt into-follows)
     ∙ into-name w.query w.name w.closed
 
 finish-final : (q : Query) (name : Name) (closed : Bool) → finish (final_at q name closed) ≡ Some (record { query = q; name = name; closed = closed })

@@ -6,8 +6,8 @@ use Rattle.gl_query_tokens.specs.declared.token.Token.{Token}
 use Rattle.gl_query_tokens.specs.declared.token.Token.TheVariants as token
 use Rattle.gl_query_reader.specs.declared.limits.Counts.{Counts}
 
--- round brackets that are open; operators, NOT and CAST of the whole expression so far; UNION and CONCAT so far; and whether an
--- operand may begin here
+-- round brackets that are open; operators, NOT and CAST of the whole expression so far; UNION and CONCAT so far; and
+-- whether an operand may begin here
 abbrev pub none_counted : Counts
 none_counted = record { brackets = 0; operators = 0; joins = 0; operand = false }
 

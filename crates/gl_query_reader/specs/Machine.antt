@@ -45,6 +45,14 @@ applied (LeftOf l o at) e = Binary o at l e
 applied (NotOf at) e = Not at e
 applied f e = e
 
+abbrev pub last_binds : ℕ → List Frame → Bool
+last_binds p [] = false
+last_binds p (f ∷ fs) = binds p f
+
+abbrev pub apply_last : List Frame → Expr → Reduced
+apply_last [] e = ([], e)
+apply_last (f ∷ fs) e = (fs, applied f e)
+
 -- an expression with the operators before it that bind at least as tight
 unfoldable pub reduced : ℕ → List Frame → Expr → Reduced
 reduced p [] e = ([], e)
@@ -69,8 +77,12 @@ want_operand fs t = None
 abbrev pub want_cast_open : List Frame → ℕ → Token → Option State
 want_cast_open fs at t = option_and_then (λ n. goes WantOperand (InCast at n ∷ fs)) (open_in t)
 
+abbrev pub with_kind : List Frame → ℕ → ℕ → Expr → Name → Option State
+with_kind fs at open' e word =
+    option_and_then (λ kind. goes (WantCastClose at open' e word kind) fs) (kind_named word.text)
+
 abbrev pub want_kind : List Frame → ℕ → ℕ → Expr → Token → Option State
-want_kind fs at open' e t = option_and_then (λ word. option_and_then (λ kind. goes (WantCastClose at open' e word kind) fs) (kind_named word.text)) (name_in t)
+want_kind fs at open' e t = option_and_then (λ word. with_kind fs at open' e word) (name_in t)
 
 abbrev pub want_cast_close : List Frame → ℕ → ℕ → Expr → Name → Kind → Token → Option State
 want_cast_close fs at open' e word kind t = expected plain.Close (HaveExpr (Cast at open' e word kind)) fs t
@@ -84,6 +96,10 @@ Joined = List Frame × Query
 abbrev pub is_join : Frame → Bool
 is_join (JoinOf l join at) = true
 is_join f = false
+
+abbrev pub last_joins : List Frame → Bool
+last_joins [] = false
+last_joins (f ∷ fs) = is_join f
 
 abbrev pub join_with : Frame → Query → Query
 join_with (JoinOf l join at) q = Join' join at l q
@@ -169,7 +185,8 @@ abbrev pub want_wsum_open : List Frame → List Item → ℕ → Token → Optio
 want_wsum_open fs items at t = option_and_then (λ n. goes WantOperand (InWsum items at n ∷ fs)) (open_in t)
 
 abbrev pub want_weight : List Frame → List Item → ℕ → ℕ → Expr → List Num → Token → Option State
-want_weight fs items at open' e ns t = option_and_then (λ n. goes (HaveWeight items at open' e (ns ++ n ∷ [])) fs) (number_in t)
+want_weight fs items at open' e ns t =
+    option_and_then (λ n. goes (HaveWeight items at open' e (ns ++ n ∷ [])) fs) (number_in t)
 
 abbrev pub have_weight : List Frame → List Item → ℕ → ℕ → Expr → List Num → Token → Option State
 have_weight fs items at open' e ns t = if is_plain plain.Comma t then goes (WantWeight items at open' e ns) fs else
@@ -199,7 +216,8 @@ after_item fs items e t = if is_plain plain.As t then goes (WantItemName items (
     option_and_then (λ name. have_item fs (items ++ Bare name ∷ []) t) (bare e)
 
 abbrev pub after_filter : List Frame → Pick → Query → Option Window → Expr → Token → Option State
-after_filter fs pick source window e t = if is_plain plain.Group t then goes (WantBy pick source window (Some e)) fs else
+after_filter fs pick source window e t =
+    if is_plain plain.Group t then goes (WantBy pick source window (Some e)) fs else
     have_term fs (Select pick source window (Some e) None) t
 
 abbrev pub after_brackets : List Frame → ℕ → Expr → Token → Option State
@@ -258,7 +276,8 @@ have_source fs pick source window t = if is_plain plain.LeftSquare t then begin_
     if is_plain plain.Group t then goes (WantBy pick source window None) fs else end_source fs pick source window t
 
 abbrev pub have_each_source : List Frame → ℕ → Name → Query → Token → Option State
-have_each_source fs at var source t = if is_plain plain.LeftSquare t then goes (WantSize (EachHead at var) source) fs else
+have_each_source fs at var source t =
+    if is_plain plain.LeftSquare t then goes (WantSize (EachHead at var) source) fs else
     option_and_then (λ n. goes (WantKey (EachGroups at var source) n) fs) (by_in t)
 
 abbrev pub want_size : List Frame → Head → Query → Token → Option State
@@ -268,14 +287,16 @@ abbrev pub want_size_number : List Frame → Head → Query → ℕ → Token �
 want_size_number fs head source at t = option_and_then (λ n. goes (WantAdvance head source at n) fs) (number_in t)
 
 abbrev pub want_advance_number : List Frame → Head → Query → ℕ → Num → Token → Option State
-want_advance_number fs head source at size t = option_and_then (λ n. goes (WantTuples head source (record { at = at; size = size; advance = n })) fs) (number_in t)
+want_advance_number fs head source at size t =
+    option_and_then (λ n. goes (WantTuples head source (record { at = at; size = size; advance = n })) fs) (number_in t)
 
 abbrev pub after_window : Head → Query → Window → Control
 after_window (SelectHead pick) source window = HaveSource pick source (Some window)
 after_window (EachHead at var) source window = WantBody (WindowsHead at var source window)
 
 abbrev pub want_by : List Frame → Pick → Query → Option Window → Option Expr → Token → Option State
-want_by fs pick source window filter t = option_and_then (λ n. goes (WantKey (SelectGroups pick source window filter) n) fs) (by_in t)
+want_by fs pick source window filter t =
+    option_and_then (λ n. goes (WantKey (SelectGroups pick source window filter) n) fs) (by_in t)
 
 abbrev pub want_key : List Frame → GroupsHead → ℕ → Token → Option State
 want_key fs head at t = option_and_then (λ key. goes (WantGroups head at key) fs) (name_in t)
@@ -285,7 +306,8 @@ after_groups (SelectGroups pick source window filter) g = HaveTerm (Select pick 
 after_groups (EachGroups at var source) g = WantBody (GroupsHead' at var source g)
 
 abbrev pub want_groups_number : List Frame → GroupsHead → ℕ → Name → Token → Option State
-want_groups_number fs head at key t = option_and_then (λ n. goes (after_groups head (record { at = at; key = key; groups = n })) fs) (number_in t)
+want_groups_number fs head at key t =
+    option_and_then (λ n. goes (after_groups head (record { at = at; key = key; groups = n })) fs) (number_in t)
 
 -- ---- terms and the statement
 

@@ -78,12 +78,14 @@ items_in (written.Items items) = items
 -- GROUP BY makes a body for each group
 abbrev pub grouped : written.Pick → Option ExprTree → Option Grouping → QueryTree → QueryTree
 grouped p filter None source = by_pick p filter source
-grouped p filter (Some g) source = PerGroup (it g.at) (filtered filter source) g.key g.groups (Total (agg_items (items_in p)) (Read (it g.at))) g.at
+grouped p filter (Some g) source =
+    PerGroup (it g.at) (filtered filter source) g.key g.groups (Total (agg_items (items_in p)) (Read (it g.at))) g.at
 
 -- a window makes a body for each window: it binds first, then WHERE, then GROUP BY
 abbrev pub select_meaning : written.Pick → Option Window → Option ExprTree → Option Grouping → QueryTree → QueryTree
 select_meaning p None filter g source = grouped p filter g source
-select_meaning p (Some w) filter g source = Each (it w.at) source w.size w.advance (grouped p filter g (Read (it w.at))) w.at
+select_meaning p (Some w) filter g source =
+    Each (it w.at) source w.size w.advance (grouped p filter g (Read (it w.at))) w.at
 
 abbrev pub join_meaning : Join → QueryTree → QueryTree → ℕ → QueryTree
 join_meaning join.Union l r at = Union l r at
@@ -92,9 +94,12 @@ join_meaning join.Concat l r at = Concat l r at
 abbrev pub query_meaning : written.Query → QueryTree
 query_meaning (written.Stream name) = Read name
 query_meaning (written.InBrackets at q) = query_meaning q
-query_meaning (written.Select p source window filter grouping) = select_meaning p window (option_map expr_meaning filter) grouping (query_meaning source)
-query_meaning (written.Windows at var source window open' body) = Each var (query_meaning source) window.size window.advance (query_meaning body) at
-query_meaning (written.Groups at var source grouping open' body) = PerGroup var (query_meaning source) grouping.key grouping.groups (query_meaning body) at
+query_meaning (written.Select p source window filter grouping) =
+    select_meaning p window (option_map expr_meaning filter) grouping (query_meaning source)
+query_meaning (written.Windows at var source window open' body) =
+    Each var (query_meaning source) window.size window.advance (query_meaning body) at
+query_meaning (written.Groups at var source grouping open' body) =
+    PerGroup var (query_meaning source) grouping.key grouping.groups (query_meaning body) at
 query_meaning (written.Join' j at l r) = join_meaning j (query_meaning l) (query_meaning r) at
 
 abbrev pub statement_meaning : written.Statement → StatementTree

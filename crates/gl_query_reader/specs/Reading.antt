@@ -10,10 +10,10 @@ use Rattle.gl_query_reader.specs.declared.parsing.ReadFault.{ReadFault}
 use Rattle.gl_query_reader.specs.declared.parsing.ReadFault.TheVariants.{Syntax, TooDeep, Memory}
 use Rattle.gl_query_reader.specs.declared.written.WrittenStatement.{WrittenStatement}
 use Rattle.gl_query_reader.specs.Written.{Statement}
-use Rattle.gl_query_reader.specs.States.{State}
+use Rattle.gl_query_reader.specs.States.{Frame, State}
 use Rattle.gl_query_reader.specs.Machine.{step, finish}
 use Rattle.gl_query_reader.specs.Limits.{after, is_past}
-use Rattle.gl_query_reader.specs.declared.state.State as declared
+use Rattle.gl_query_reader.specs.declared.state.Control.{Control}
 use Rattle.gl_query_reader.specs.Trees.{statement_of, state_of}
 use Rattle.gl_query_reader.specs.Meaning.{statement_meaning}
 use Rattle.gl_query.specs.Trees.{StatementTree, statement_tree}
@@ -43,12 +43,12 @@ abbrev pub Gives : Result WrittenStatement ReadFault → Result Statement ReadFa
 Gives (Ok s) read = read ≡ Ok (statement_of s)
 Gives (Err e) read = Fails e read
 
--- a token leads to a state, or shows a fault
-abbrev pub StepGives : ℕ → Option State → Bool → Result declared.State ReadFault → Type 0
-StepGives at next past (Ok s) = (next ≡ Some (state_of s)) × (past ≡ false)
-StepGives at next past (Err (Syntax a)) = (a ≡ at) × (next ≡ None)
-StepGives at next past (Err (TooDeep a)) = (a ≡ at) × (is_some next ≡ true) × (past ≡ true)
-StepGives at next past (Err Memory) = Unit {0}
+-- a token leads to a place in these frames, or shows a fault
+abbrev pub StepGives : ℕ → Option State → Bool → List Frame → Result Control ReadFault → Type 0
+StepGives at next past fs (Ok c) = (next ≡ Some (state_of c fs)) × (past ≡ false)
+StepGives at next past fs (Err (Syntax a)) = (a ≡ at) × (next ≡ None)
+StepGives at next past fs (Err (TooDeep a)) = (a ≡ at) × (is_some next ≡ true) × (past ≡ true)
+StepGives at next past fs (Err Memory) = Unit {0}
 
 -- what is answered of a statement that is written
 abbrev pub with_items : Option ℕ → Statement → Result StatementTree QueryFault

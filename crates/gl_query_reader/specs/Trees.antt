@@ -42,7 +42,6 @@ use Rattle.gl_query_reader.specs.declared.state.GroupsControl.{GroupsControl}
 use Rattle.gl_query_reader.specs.declared.state.GroupsControl.TheVariants as groups_control
 use Rattle.gl_query_reader.specs.declared.state.QueryControl.{QueryControl}
 use Rattle.gl_query_reader.specs.declared.state.QueryControl.TheVariants as query_control
-use Rattle.gl_query_reader.specs.declared.state.State.{State}
 use Rattle.gl_query_reader.specs.States as states
 
 -- the tree of a written expression
@@ -115,7 +114,8 @@ abbrev pub body_head_of : BodyHead → states.BodyHead
 body_head_of h = over_head_of h.over h.at h.var (query_of h.source)
 
 abbrev pub groups_head_of : GroupsHead → states.GroupsHead
-groups_head_of (groups_head.Select from filter) = states.SelectGroups (pick_of from.pick) (query_of from.source) from.window (filter_of filter)
+groups_head_of (groups_head.Select from filter) =
+    states.SelectGroups (pick_of from.pick) (query_of from.source) from.window (filter_of filter)
 groups_head_of (groups_head.Each at var source) = states.EachGroups at var (query_of source)
 
 abbrev pub unnamed_of : Unnamed → states.Unnamed
@@ -166,19 +166,24 @@ agg_control_of (agg_control.WantWsumClose h ns) = states.WantWsumClose (items_of
 
 abbrev pub source_control_of : SourceControl → states.Control
 source_control_of (source_control.WantSource head) = states.WantSource (head_of head)
-source_control_of (source_control.HaveSource from) = states.HaveSource (pick_of from.pick) (query_of from.source) from.window
+source_control_of (source_control.HaveSource from) =
+    states.HaveSource (pick_of from.pick) (query_of from.source) from.window
 source_control_of (source_control.HaveEachSource at var source) = states.HaveEachSource at var (query_of source)
 
 abbrev pub window_control_of : WindowControl → states.Control
 window_control_of (window_control.WantSize h) = states.WantSize (head_of h.head) (query_of h.source)
 window_control_of (window_control.WantSizeNumber h at) = states.WantSizeNumber (head_of h.head) (query_of h.source) at
-window_control_of (window_control.WantAdvance h at size) = states.WantAdvance (head_of h.head) (query_of h.source) at size
-window_control_of (window_control.WantAdvanceNumber h at size) = states.WantAdvanceNumber (head_of h.head) (query_of h.source) at size
+window_control_of (window_control.WantAdvance h at size) =
+    states.WantAdvance (head_of h.head) (query_of h.source) at size
+window_control_of (window_control.WantAdvanceNumber h at size) =
+    states.WantAdvanceNumber (head_of h.head) (query_of h.source) at size
 window_control_of (window_control.WantTuples h window) = states.WantTuples (head_of h.head) (query_of h.source) window
-window_control_of (window_control.WantWindowClose h window) = states.WantWindowClose (head_of h.head) (query_of h.source) window
+window_control_of (window_control.WantWindowClose h window) =
+    states.WantWindowClose (head_of h.head) (query_of h.source) window
 
 abbrev pub groups_control_of : GroupsControl → states.Control
-groups_control_of (groups_control.WantBy from filter) = states.WantBy (pick_of from.pick) (query_of from.source) from.window (filter_of filter)
+groups_control_of (groups_control.WantBy from filter) =
+    states.WantBy (pick_of from.pick) (query_of from.source) from.window (filter_of filter)
 groups_control_of (groups_control.WantKey head at) = states.WantKey (groups_head_of head) at
 groups_control_of (groups_control.WantGroups head at key) = states.WantGroups (groups_head_of head) at key
 groups_control_of (groups_control.WantGroupsNumber head at key) = states.WantGroupsNumber (groups_head_of head) at key
@@ -202,9 +207,9 @@ control_of (control.Window c) = window_control_of c
 control_of (control.Groups c) = groups_control_of c
 control_of (control.Query c) = query_control_of c
 
-abbrev pub state_of : State → states.State
-state_of s = record { control = control_of s.control; frames = frames_of s.frames.items }
+abbrev pub state_of : Control → List states.Frame → states.State
+state_of c fs = record { control = control_of c; frames = fs }
 
--- what a call leads to
-abbrev pub next_of : Option State → Option states.State
-next_of o = option_map state_of o
+-- what a call leads to, in these frames
+abbrev pub leads : Option Control → List states.Frame → Option states.State
+leads o fs = option_map (λ c. state_of c fs) o

@@ -45,7 +45,8 @@ pub data Pick : Type 0 where
 pub data Query : Type 0 where
   Stream : (name : Name) → Query
   InBrackets : (at : ℕ) (q : Query) → Query
-  Select : (pick : Pick) (source : Query) (window : Option Window) (filter : Option Expr) (grouping : Option Grouping) → Query
+  Select : (pick : Pick) (source : Query) (window : Option Window) (filter : Option Expr) (grouping : Option Grouping)
+      → Query
   Windows : (at : ℕ) (var : Name) (source : Query) (window : Window) (open' : ℕ) (body : Query) → Query
   Groups : (at : ℕ) (var : Name) (source : Query) (grouping : Grouping) (open' : ℕ) (body : Query) → Query
   Join' : (join : Join) (at : ℕ) (l r : Query) → Query
@@ -164,7 +165,9 @@ spell (Column name) = token.Name name ∷ []
 spell (Number n) = token.Number n ∷ []
 spell (Letters text at) = token.Letters text at ∷ []
 spell (Brackets at e) = token.Open at ∷ (spell e ++ token.Plain plain.Close ∷ [])
-spell (Cast at open' e word kind) = token.Cast at ∷ token.Open open' ∷ (spell e ++ token.Plain plain.As ∷ token.Name word ∷ token.Plain plain.Close ∷ [])
+spell (Cast at open' e word kind) =
+    token.Cast at ∷ token.Open open' ∷ (spell e ++ token.Plain plain.As ∷ token.Name word ∷ token.Plain plain.Close
+    ∷ [])
 spell (Not at e) = token.Not at ∷ spell e
 spell (Binary o at l r) = spell l ++ token.Operator o at ∷ spell r
 
@@ -177,7 +180,9 @@ spell_numbers (n ∷ m ∷ ns) = token.Number n ∷ token.Plain plain.Comma ∷ 
 abbrev pub spell_agg : Agg → List Token
 spell_agg (Count at open') = token.Count at ∷ token.Open open' ∷ token.Plain plain.Close ∷ []
 spell_agg (Fold' fold at open' e) = token.Fold fold at ∷ token.Open open' ∷ (spell e ++ token.Plain plain.Close ∷ [])
-spell_agg (Wsum at open' e ns) = token.Wsum at ∷ token.Open open' ∷ (spell e ++ token.Plain plain.Comma ∷ token.Plain plain.LeftSquare ∷ (spell_numbers ns ++ token.Plain plain.RightSquare ∷ token.Plain plain.Close ∷ []))
+spell_agg (Wsum at open' e ns) =
+    token.Wsum at ∷ token.Open open' ∷ (spell e ++ token.Plain plain.Comma ∷ token.Plain plain.LeftSquare
+    ∷ (spell_numbers ns ++ token.Plain plain.RightSquare ∷ token.Plain plain.Close ∷ []))
 
 abbrev pub spell_item : Item → List Token
 spell_item (Bare name) = token.Name name ∷ []
@@ -196,7 +201,9 @@ spell_pick (Items items) = spell_items items
 
 -- `[ SIZE n ADVANCE m TUPLES ]`
 abbrev pub spell_window : Window → List Token
-spell_window w = token.Plain plain.LeftSquare ∷ token.Size w.at ∷ token.Number w.size ∷ token.Plain plain.Advance ∷ token.Number w.advance ∷ token.Plain plain.Tuples ∷ token.Plain plain.RightSquare ∷ []
+spell_window w =
+    token.Plain plain.LeftSquare ∷ token.Size w.at ∷ token.Number w.size ∷ token.Plain plain.Advance
+    ∷ token.Number w.advance ∷ token.Plain plain.Tuples ∷ token.Plain plain.RightSquare ∷ []
 
 abbrev pub spell_if_window : Option Window → List Token
 spell_if_window None = []
@@ -217,9 +224,17 @@ spell_if_grouping (Some g) = token.Plain plain.Group ∷ spell_grouping g
 abbrev pub spell_query : Query → List Token
 spell_query (Stream name) = token.Name name ∷ []
 spell_query (InBrackets at q) = token.Open at ∷ (spell_query q ++ token.Plain plain.Close ∷ [])
-spell_query (Select pick source window filter grouping) = token.Plain plain.Select ∷ (spell_pick pick ++ token.Plain plain.From ∷ (spell_query source ++ (spell_if_window window ++ (spell_filter filter ++ spell_if_grouping grouping))))
-spell_query (Windows at var source window open' body) = token.Each at ∷ token.Name var ∷ token.Plain plain.In ∷ (spell_query source ++ (spell_window window ++ token.Open open' ∷ (spell_query body ++ token.Plain plain.Close ∷ [])))
-spell_query (Groups at var source grouping open' body) = token.Each at ∷ token.Name var ∷ token.Plain plain.In ∷ (spell_query source ++ (spell_grouping grouping ++ token.Open open' ∷ (spell_query body ++ token.Plain plain.Close ∷ [])))
+spell_query (Select pick source window filter grouping) =
+    token.Plain plain.Select ∷ (spell_pick pick ++ token.Plain plain.From
+    ∷ (spell_query source ++ (spell_if_window window ++ (spell_filter filter ++ spell_if_grouping grouping))))
+spell_query (Windows at var source window open' body) =
+    token.Each at ∷ token.Name var ∷ token.Plain plain.In
+    ∷ (spell_query source ++ (spell_window window ++ token.Open open'
+    ∷ (spell_query body ++ token.Plain plain.Close ∷ [])))
+spell_query (Groups at var source grouping open' body) =
+    token.Each at ∷ token.Name var ∷ token.Plain plain.In
+    ∷ (spell_query source ++ (spell_grouping grouping ++ token.Open open'
+    ∷ (spell_query body ++ token.Plain plain.Close ∷ [])))
 spell_query (Join' join at l r) = spell_query l ++ token.Join join at ∷ spell_query r
 
 abbrev pub spell_end : Bool → List Token

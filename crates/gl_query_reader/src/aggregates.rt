@@ -1,13 +1,14 @@
 //! The aggregates of a select.
 
-ghost use Rattle.std.specs.Prelude.{◌≡◌, ◌∷◌, ◌++◌, [], IfOk, OnOk};
+ghost use Rattle.std.specs.Prelude.{◌≡◌, ◌∷◌, ◌++◌, [], List, IfOk};
 ghost use Rattle.gl_query_reader.specs.Written.{Wsum};
 ghost use Rattle.gl_query_reader.specs.States as states;
 ghost use Rattle.gl_query_reader.specs.Machine as machine;
-ghost use Rattle.gl_query_reader.specs.Trees.{expr_of, items_of, agg_control_of, frames_of, control_of, next_of};
+ghost use Rattle.gl_query_reader.specs.Trees.{expr_of, items_of, agg_control_of, frames_of, control_of, leads};
 
-use crate::parts::{expect, give_up, goes, goes_in, refuse};
-use crate::state::{AggControl, Control, ExprControl, Frame, ItemControl, State, WsumHead};
+use crate::keeping::{Beside, keep_beside};
+use crate::parts::{expect, operand_in, refuse};
+use crate::state::{AggControl, Control, Frame, ItemControl, WsumHead};
 use crate::written::{WrittenAgg, WrittenItems};
 use gl_query::{Num, Nums};
 use gl_query_tokens::sorts::{is_plain, number_in, open_in};
@@ -15,38 +16,29 @@ use gl_query_tokens::{Fold, Plain, Token};
 use std::alloc::{AllocError, Global};
 
 // `(` behind COUNT.
-fn want_count_open(
-    frames: Vec<Frame>,
-    items: WrittenItems,
-    at: u64,
-    token: &Token,
-) -> Result<Option<State>, AllocError>
-    ensures { IfOk result (λ o. next_of o
-        ≡ machine.want_count_open (frames_of frames.items) (items_of items) at token.now) }
+fn want_count_open(items: WrittenItems, at: u64, token: &Token) -> Option<Control>
+    ensures { (fs : List states.Frame) →
+        leads result fs ≡ machine.want_count_open fs (items_of items) at token.now }
 {
     match open_in(token) {
-        Some(open) => goes(
-            Control::Agg(AggControl::WantCountClose { items, at, open }),
-            frames,
-        ),
-        None => refuse((frames, items)),
+        Some(open) => Some(Control::Agg(AggControl::WantCountClose { items, at, open })),
+        None => refuse(items),
     }
 }
 
 // `(` behind SUM, MIN, MAX or AVG.
 fn want_fold_open(
-    frames: Vec<Frame>,
+    frames: &mut Vec<Frame>,
     items: WrittenItems,
     fold: Fold,
     at: u64,
     token: &Token,
-) -> Result<Option<State>, AllocError>
-    ensures { IfOk result (λ o. next_of o
-        ≡ machine.want_fold_open (frames_of frames.items) (items_of items) fold at token.now) }
+) -> Result<Option<Control>, AllocError>
+    ensures { IfOk result (λ o. leads o (frames_of frames.new.items)
+        ≡ machine.want_fold_open (frames_of frames.old.items) (items_of items) fold at token.now) }
 {
     match open_in(token) {
-        Some(open) => goes_in(
-            Control::Expr(ExprControl::WantOperand),
+        Some(open) => operand_in(
             frames,
             Frame::InFold {
                 items,
@@ -55,87 +47,63 @@ fn want_fold_open(
                 open,
             },
         ),
-        None => refuse((frames, items)),
+        None => Ok(refuse(items)),
     }
 }
 
 // `(` behind WSUM.
 fn want_wsum_open(
-    frames: Vec<Frame>,
+    frames: &mut Vec<Frame>,
     items: WrittenItems,
     at: u64,
     token: &Token,
-) -> Result<Option<State>, AllocError>
-    ensures { IfOk result (λ o. next_of o
-        ≡ machine.want_wsum_open (frames_of frames.items) (items_of items) at token.now) }
+) -> Result<Option<Control>, AllocError>
+    ensures { IfOk result (λ o. leads o (frames_of frames.new.items)
+        ≡ machine.want_wsum_open (frames_of frames.old.items) (items_of items) at token.now) }
 {
     match open_in(token) {
-        Some(open) => goes_in(
-            Control::Expr(ExprControl::WantOperand),
-            frames,
-            Frame::InWsum { items, at, open },
-        ),
-        None => refuse((frames, items)),
+        Some(open) => operand_in(frames, Frame::InWsum { items, at, open }),
+        None => Ok(refuse(items)),
     }
 }
 
-fn add_weight(weights: &mut Nums, weight: Num) -> Result<(), AllocError>
-    ensures { OnOk result (weights.new ≡ weights.old ++ weight ∷ []) }
+fn with_weight(weights: Nums, weight: Num) -> Result<Nums, AllocError>
+    ensures { IfOk result (λ more. more ≡ weights ++ weight ∷ []) }
 {
-    match weights.push(weight) {
-        Ok(()) => Ok(()),
+    let mut more = weights;
+    match more.push(weight) {
+        Ok(()) => Ok(more),
         Err(_) => Err(AllocError),
     }
 }
 
 // A weight.
-fn want_weight(
-    frames: Vec<Frame>,
-    head: WsumHead,
-    weights: Nums,
-    token: &Token,
-) -> Result<Option<State>, AllocError>
-    ensures { IfOk result (λ o. next_of o
-        ≡ machine.want_weight (frames_of frames.items) (items_of head.items) head.at head.open
-        (expr_of head.arg) weights token.now) }
+fn want_weight(head: WsumHead, weights: Nums, token: &Token) -> Result<Option<Control>, AllocError>
+    ensures { IfOk result (λ o. (fs : List states.Frame) → leads o fs
+        ≡ machine.want_weight fs (items_of head.items) head.at head.open (expr_of head.arg) weights
+        token.now) }
 {
     let Some(number) = number_in(token) else {
-        return refuse((frames, head, weights));
+        return Ok(refuse((head, weights)));
     };
-    let mut weights = weights;
-    match add_weight(&mut weights, number) {
-        Ok(()) => goes(
-            Control::Agg(AggControl::HaveWeight { head, weights }),
-            frames,
-        ),
-        Err(_) => give_up((frames, head, weights)),
-    }
+    let Beside {
+        kept: head,
+        made: weights,
+    } = keep_beside(head, with_weight(weights, number))?;
+    Ok(Some(Control::Agg(AggControl::HaveWeight { head, weights })))
 }
 
 // `,` or `]` behind a weight.
-fn have_weight(
-    frames: Vec<Frame>,
-    head: WsumHead,
-    weights: Nums,
-    token: &Token,
-) -> Result<Option<State>, AllocError>
-    ensures { IfOk result (λ o. next_of o
-        ≡ machine.have_weight (frames_of frames.items) (items_of head.items) head.at head.open
-        (expr_of head.arg) weights token.now) }
+fn have_weight(head: WsumHead, weights: Nums, token: &Token) -> Option<Control>
+    ensures { (fs : List states.Frame) → leads result fs
+        ≡ machine.have_weight fs (items_of head.items) head.at head.open (expr_of head.arg) weights
+        token.now }
 {
     if is_plain(token, Plain::Comma) {
-        return goes(
-            Control::Agg(AggControl::WantWeight { head, weights }),
-            frames,
-        );
+        return Some(Control::Agg(AggControl::WantWeight { head, weights }));
     }
-    if is_plain(token, Plain::RightSquare) {
-        return goes(
-            Control::Agg(AggControl::WantWsumClose { head, weights }),
-            frames,
-        );
-    }
-    refuse((frames, head, weights))
+    let next = Control::Agg(AggControl::WantWsumClose { head, weights });
+    expect(token, Plain::RightSquare, next)
 }
 
 // WSUM with its weights.
@@ -158,22 +126,22 @@ fn weighted(head: WsumHead, weights: Nums) -> Control
     Control::Item(ItemControl::WantAs { items, agg })
 }
 
-/// The state behind a token in an aggregate.
+/// The place behind a token in an aggregate.
 pub fn step_agg(
     alloc: Global,
     control: AggControl,
-    frames: Vec<Frame>,
+    frames: &mut Vec<Frame>,
     token: &Token,
-) -> Result<Option<State>, AllocError>
-    ensures { IfOk result (λ o. next_of o
-        ≡ machine.step_at (agg_control_of control) (frames_of frames.items) token.now) }
+) -> Result<Option<Control>, AllocError>
+    ensures { IfOk result (λ o. leads o (frames_of frames.new.items)
+        ≡ machine.step_at (agg_control_of control) (frames_of frames.old.items) token.now) }
 {
     match control {
-        AggControl::WantCountOpen { items, at } => want_count_open(frames, items, at, token),
+        AggControl::WantCountOpen { items, at } => Ok(want_count_open(items, at, token)),
         AggControl::WantCountClose { items, at, open } => {
             let agg = WrittenAgg::Count { at, open };
             let next = Control::Item(ItemControl::WantAs { items, agg });
-            expect(token, Plain::Close, next, frames)
+            Ok(expect(token, Plain::Close, next))
         }
         AggControl::WantFoldOpen { items, fold, at } => want_fold_open(
             frames, items, fold, at, token,
@@ -182,12 +150,12 @@ pub fn step_agg(
         AggControl::WantWeightsOpen(head) => {
             let weights = Nums::new(alloc);
             let next = Control::Agg(AggControl::WantWeight { head, weights });
-            expect(token, Plain::LeftSquare, next, frames)
+            Ok(expect(token, Plain::LeftSquare, next))
         }
-        AggControl::WantWeight { head, weights } => want_weight(frames, head, weights, token),
-        AggControl::HaveWeight { head, weights } => have_weight(frames, head, weights, token),
+        AggControl::WantWeight { head, weights } => want_weight(head, weights, token),
+        AggControl::HaveWeight { head, weights } => Ok(have_weight(head, weights, token)),
         AggControl::WantWsumClose { head, weights } => {
-            expect(token, Plain::Close, weighted(head, weights), frames)
+            Ok(expect(token, Plain::Close, weighted(head, weights)))
         }
     }
 }

@@ -1,16 +1,15 @@
 //! Expressions.
 
-ghost use Rattle.std.specs.Prelude.{◌≡◌, IfOk};
+ghost use Rattle.std.specs.Prelude.{◌≡◌, List, IfOk};
 ghost use Rattle.gl_query_reader.specs.Written.{Cast, Column, Letters};
 ghost use Rattle.gl_query_reader.specs.States as states;
 ghost use Rattle.gl_query_reader.specs.Machine as machine;
-ghost use Rattle.gl_query_reader.specs.Trees.{expr_of, expr_control_of, frames_of, next_of};
+ghost use Rattle.gl_query_reader.specs.Trees.{expr_of, expr_control_of, frames_of, leads};
 
 use crate::following::after_expr;
-use crate::keeping::{Beside, keep_beside};
-use crate::operators::{Around, left_looseness, looseness, reduced, room};
-use crate::parts::{cloned, cloned_text, give_up, goes, goes_in, name_of, refuse};
-use crate::state::{CastHead, Control, ExprControl, Frame, State};
+use crate::operators::{left_looseness, looseness, reduced, room};
+use crate::parts::{cloned, cloned_text, keep_named, operand_in, refuse};
+use crate::state::{CastHead, Control, ExprControl, Frame};
 use crate::written::WrittenExpr;
 use gl_bits::Kind;
 use gl_bits::boxes::{OneBox, one_box};
@@ -21,160 +20,129 @@ use gl_schema::kind_named;
 use std::alloc::{AllocError, Global};
 
 // An operator behind an expression.
-fn with_operator(op: Op, at: u64, around: Around) -> Result<Option<State>, AllocError>
-    ensures { IfOk result (λ o. next_of o
-        ≡ machine.with_operator op at (frames_of around.frames.items, expr_of around.expr)) }
+fn with_operator(
+    op: Op,
+    at: u64,
+    frames: &mut Vec<Frame>,
+    left: WrittenExpr,
+) -> Result<Option<Control>, AllocError>
+    ensures { IfOk result (λ o. leads o (frames_of frames.new.items)
+        ≡ machine.with_operator op at (frames_of frames.old.items, expr_of left)) }
 {
-    let Around { frames, expr } = around;
-    if looseness(op) >= room(&frames) {
-        return refuse((frames, expr));
+    if looseness(op) >= room(frames.as_slice()) {
+        return Ok(refuse(left));
     }
-    goes_in(
-        Control::Expr(ExprControl::WantOperand),
-        frames,
-        Frame::LeftOf { left: expr, op, at },
-    )
+    operand_in(frames, Frame::LeftOf { left, op, at })
 }
 
 // NOT stands where an operand of AND and OR may.
-fn with_not(at: u64, frames: Vec<Frame>) -> Result<Option<State>, AllocError>
-    ensures { IfOk result (λ o. next_of o ≡ machine.with_not at (frames_of frames.items)) }
+fn with_not(at: u64, frames: &mut Vec<Frame>) -> Result<Option<Control>, AllocError>
+    ensures { IfOk result (λ o. leads o (frames_of frames.new.items)
+        ≡ machine.with_not at (frames_of frames.old.items)) }
 {
-    if room(&frames) <= 4 {
-        return refuse(frames);
+    if room(frames.as_slice()) <= 4 {
+        return Ok(None);
     }
-    goes_in(
-        Control::Expr(ExprControl::WantOperand),
-        frames,
-        Frame::NotOf { at },
-    )
+    operand_in(frames, Frame::NotOf { at })
 }
 
 /// An operand, or what opens one.
 pub fn want_operand(
     alloc: Global,
-    frames: Vec<Frame>,
+    frames: &mut Vec<Frame>,
     token: &Token,
-) -> Result<Option<State>, AllocError>
-    ensures { IfOk result (λ o. next_of o
-        ≡ machine.want_operand (frames_of frames.items) token.now) }
+) -> Result<Option<Control>, AllocError>
+    ensures { IfOk result (λ o. leads o (frames_of frames.new.items)
+        ≡ machine.want_operand (frames_of frames.old.items) token.now) }
 {
     match token {
-        Token::Name(name) => have_column(alloc, name, frames),
-        Token::Number(number) => have(WrittenExpr::Number(*number), frames),
-        Token::Letters { text, at } => have_letters(alloc, text, *at, frames),
-        Token::Open { at } => {
-            goes_in(
-                Control::Expr(ExprControl::WantOperand),
-                frames,
-                Frame::InBrackets { at: *at },
-            )
-        }
-        Token::Cast { at } => goes(Control::Expr(ExprControl::WantCastOpen { at: *at }), frames),
+        Token::Name(name) => have_column(alloc, name),
+        Token::Number(number) => Ok(have(WrittenExpr::Number(*number))),
+        Token::Letters { text, at } => have_letters(alloc, text, *at),
+        Token::Open { at } => operand_in(frames, Frame::InBrackets { at: *at }),
+        Token::Cast { at } => Ok(Some(Control::Expr(ExprControl::WantCastOpen { at: *at }))),
         Token::Not { at } => with_not(*at, frames),
-        _ => refuse(frames),
+        _ => Ok(None),
     }
 }
 
 // Behind an expression.
-fn have(last: WrittenExpr, frames: Vec<Frame>) -> Result<Option<State>, AllocError>
-    ensures { IfOk result (λ o. next_of o
-        ≡ states.goes (states.HaveExpr (expr_of last)) (frames_of frames.items)) }
+fn have(last: WrittenExpr) -> Option<Control>
+    ensures { (fs : List states.Frame) →
+        leads result fs ≡ states.goes (states.HaveExpr (expr_of last)) fs }
 {
-    goes(Control::Expr(ExprControl::HaveExpr { last }), frames)
+    Some(Control::Expr(ExprControl::HaveExpr { last }))
 }
 
 // Behind a column.
-fn have_column(alloc: Global, name: &Name, frames: Vec<Frame>) -> Result<Option<State>, AllocError>
-    ensures { IfOk result (λ o. next_of o
-        ≡ states.goes (states.HaveExpr (Column name.now)) (frames_of frames.items)) }
+fn have_column(alloc: Global, name: &Name) -> Result<Option<Control>, AllocError>
+    ensures { IfOk result (λ o. (fs : List states.Frame) →
+        leads o fs ≡ states.goes (states.HaveExpr (Column name.now)) fs) }
 {
-    let Beside {
-        kept: frames,
-        made: name,
-    } = keep_beside(frames, cloned(alloc, name))?;
-    have(WrittenExpr::Column(name), frames)
+    Ok(have(WrittenExpr::Column(cloned(alloc, name)?)))
 }
 
 // Behind a text.
-fn have_letters(
-    alloc: Global,
-    text: &TextBytes,
-    at: u64,
-    frames: Vec<Frame>,
-) -> Result<Option<State>, AllocError>
-    ensures { IfOk result (λ o. next_of o
-        ≡ states.goes (states.HaveExpr (Letters text.now at)) (frames_of frames.items)) }
+fn have_letters(alloc: Global, text: &TextBytes, at: u64) -> Result<Option<Control>, AllocError>
+    ensures { IfOk result (λ o. (fs : List states.Frame) →
+        leads o fs ≡ states.goes (states.HaveExpr (Letters text.now at)) fs) }
 {
-    let Beside {
-        kept: frames,
-        made: text,
-    } = keep_beside(frames, cloned_text(alloc, text))?;
-    have(WrittenExpr::Letters { text, at }, frames)
+    let text = cloned_text(alloc, text)?;
+    Ok(have(WrittenExpr::Letters { text, at }))
 }
 
 // `(` behind CAST.
-fn want_cast_open(frames: Vec<Frame>, at: u64, token: &Token) -> Result<Option<State>, AllocError>
-    ensures { IfOk result (λ o. next_of o
-        ≡ machine.want_cast_open (frames_of frames.items) at token.now) }
+fn want_cast_open(
+    frames: &mut Vec<Frame>,
+    at: u64,
+    token: &Token,
+) -> Result<Option<Control>, AllocError>
+    ensures { IfOk result (λ o. leads o (frames_of frames.new.items)
+        ≡ machine.want_cast_open (frames_of frames.old.items) at token.now) }
 {
     match open_in(token) {
-        Some(open) => goes_in(
-            Control::Expr(ExprControl::WantOperand),
-            frames,
-            Frame::InCast { at, open },
-        ),
-        None => refuse(frames),
+        Some(open) => operand_in(frames, Frame::InCast { at, open }),
+        None => Ok(None),
     }
 }
 
 // The word of a kind.
-fn want_kind(
-    alloc: Global,
-    frames: Vec<Frame>,
-    head: CastHead,
-    token: &Token,
-) -> Result<Option<State>, AllocError>
-    ensures { IfOk result (λ o. next_of o
-        ≡ machine.want_kind (frames_of frames.items) head.at head.open (expr_of head.inner)
-        token.now) }
+fn want_kind(alloc: Global, head: CastHead, token: &Token) -> Result<Option<Control>, AllocError>
+    ensures { IfOk result (λ o. (fs : List states.Frame) → leads o fs
+        ≡ machine.want_kind fs head.at head.open (expr_of head.inner) token.now) }
 {
-    let Ok(found) = name_of(alloc, token) else {
-        return give_up((frames, head));
-    };
-    let Some(word) = found else {
-        return refuse((frames, head));
-    };
+    match keep_named(alloc, head, token)? {
+        Some(found) => Ok(with_kind(found.kept, found.made)),
+        None => Ok(None),
+    }
+}
+
+// A word that may name a kind.
+fn with_kind(head: CastHead, word: Name) -> Option<Control>
+    ensures { (fs : List states.Frame) → leads result fs
+        ≡ machine.with_kind fs head.at head.open (expr_of head.inner) word }
+{
     match kind_named(word.text.as_slice()) {
-        Some(kind) => goes(
-            Control::Expr(ExprControl::WantCastClose { head, word, kind }),
-            frames,
-        ),
-        None => refuse((frames, head, word)),
+        Some(kind) => Some(Control::Expr(ExprControl::WantCastClose { head, word, kind })),
+        None => refuse((head, word)),
     }
 }
 
 // `)` behind a kind.
 fn want_cast_close(
     alloc: Global,
-    frames: Vec<Frame>,
     head: CastHead,
     word: Name,
     kind: Kind,
     token: &Token,
-) -> Result<Option<State>, AllocError>
-    ensures { IfOk result (λ o. next_of o
-        ≡ machine.want_cast_close (frames_of frames.items) head.at head.open (expr_of head.inner)
-        word kind token.now) }
+) -> Result<Option<Control>, AllocError>
+    ensures { IfOk result (λ o. (fs : List states.Frame) → leads o fs
+        ≡ machine.want_cast_close fs head.at head.open (expr_of head.inner) word kind token.now) }
 {
     if !is_plain(token, Plain::Close) {
-        return refuse((frames, head, word));
+        return Ok(refuse((head, word)));
     }
-    let Beside {
-        kept: frames,
-        made: last,
-    } = keep_beside(frames, cast(alloc, head, word, kind))?;
-    have(last, frames)
+    Ok(have(cast(alloc, head, word, kind)?))
 }
 
 fn cast(alloc: Global, head: CastHead, word: Name, kind: Kind) -> Result<WrittenExpr, AllocError>
@@ -204,56 +172,56 @@ fn is_operator(token: &Token) -> bool
 // An operator behind an expression.
 fn have_operator(
     alloc: Global,
-    frames: Vec<Frame>,
+    frames: &mut Vec<Frame>,
     last: WrittenExpr,
     token: &Token,
-) -> Result<Option<State>, AllocError>
-    ensures { IfOk result (λ o. next_of o
-        ≡ machine.have_operator (frames_of frames.items) (expr_of last) token.now) }
+) -> Result<Option<Control>, AllocError>
+    ensures { IfOk result (λ o. leads o (frames_of frames.new.items)
+        ≡ machine.have_operator (frames_of frames.old.items) (expr_of last) token.now) }
 {
     match token {
-        Token::Operator { op, at } => with_operator(
-            *op,
-            *at,
-            reduced(alloc, frames, last, left_looseness(*op))?,
-        ),
-        _ => refuse((frames, last)),
+        Token::Operator { op, at } => {
+            let left = reduced(alloc, frames, last, left_looseness(*op))?;
+            with_operator(*op, *at, frames, left)
+        }
+        _ => Ok(refuse(last)),
     }
 }
 
 // An operator behind an expression, or what ends it.
 fn have_expr(
     alloc: Global,
-    frames: Vec<Frame>,
+    frames: &mut Vec<Frame>,
     last: WrittenExpr,
     token: &Token,
-) -> Result<Option<State>, AllocError>
-    ensures { IfOk result (λ o. next_of o
-        ≡ machine.have_expr (frames_of frames.items) (expr_of last) token.now) }
+) -> Result<Option<Control>, AllocError>
+    ensures { IfOk result (λ o. leads o (frames_of frames.new.items)
+        ≡ machine.have_expr (frames_of frames.old.items) (expr_of last) token.now) }
 {
     if is_operator(token) {
         return have_operator(alloc, frames, last, token);
     }
-    after_expr(alloc, reduced(alloc, frames, last, 6)?, token)
+    let expr = reduced(alloc, frames, last, 6)?;
+    after_expr(alloc, frames, expr, token)
 }
 
-/// The state behind a token in an expression.
+/// The place behind a token in an expression.
 pub fn step_expr(
     alloc: Global,
     control: ExprControl,
-    frames: Vec<Frame>,
+    frames: &mut Vec<Frame>,
     token: &Token,
-) -> Result<Option<State>, AllocError>
-    ensures { IfOk result (λ o. next_of o
-        ≡ machine.step_at (expr_control_of control) (frames_of frames.items) token.now) }
+) -> Result<Option<Control>, AllocError>
+    ensures { IfOk result (λ o. leads o (frames_of frames.new.items)
+        ≡ machine.step_at (expr_control_of control) (frames_of frames.old.items) token.now) }
 {
     match control {
         ExprControl::WantOperand => want_operand(alloc, frames, token),
         ExprControl::HaveExpr { last } => have_expr(alloc, frames, last, token),
         ExprControl::WantCastOpen { at } => want_cast_open(frames, at, token),
-        ExprControl::WantKind(head) => want_kind(alloc, frames, head, token),
-        ExprControl::WantCastClose { head, word, kind } => want_cast_close(
-            alloc, frames, head, word, kind, token,
-        ),
+        ExprControl::WantKind(head) => want_kind(alloc, head, token),
+        ExprControl::WantCastClose { head, word, kind } => {
+            want_cast_close(alloc, head, word, kind, token)
+        }
     }
 }

@@ -1,16 +1,15 @@
 //! What may stand behind an expression.
 
-ghost use Rattle.std.specs.Prelude.{◌≡◌, ◌∷◌, IfOk};
+ghost use Rattle.std.specs.Prelude.{◌≡◌, ◌∷◌, List, IfOk};
+ghost use Rattle.gl_query_reader.specs.States as states;
 ghost use Rattle.gl_query_reader.specs.Machine as machine;
-ghost use Rattle.gl_query_reader.specs.Trees.{expr_of, items_of, pick_of, query_of, frame_of, frames_of, next_of};
+ghost use Rattle.gl_query_reader.specs.Trees.{expr_of, items_of, pick_of, query_of, frame_of, frames_of, leads};
 
 use crate::items::{have_item, with_item};
-use crate::keeping::Beside;
-use crate::operators::Around;
-use crate::parts::{expect, goes, refuse};
+use crate::parts::{expect, refuse};
 use crate::state::{
     AggControl, CastHead, Control, ExprControl, Frame, GroupsControl, ItemControl, SelectFrom,
-    State, Unnamed, WsumHead,
+    Unnamed, WsumHead,
 };
 use crate::terms::end_select;
 use crate::written::{WrittenAgg, WrittenExpr, WrittenItem, WrittenItems};
@@ -35,51 +34,38 @@ fn bare(expr: WrittenExpr) -> Option<Name>
 
 // Behind the expression of an item.
 fn after_item(
-    frames: Vec<Frame>,
     items: WrittenItems,
     expr: WrittenExpr,
     token: &Token,
-) -> Result<Option<State>, AllocError>
-    ensures { IfOk result (λ o. next_of o
-        ≡ machine.after_item (frames_of frames.items) (items_of items) (expr_of expr) token.now) }
+) -> Result<Option<Control>, AllocError>
+    ensures { IfOk result (λ o. (fs : List states.Frame) → leads o fs
+        ≡ machine.after_item fs (items_of items) (expr_of expr) token.now) }
 {
     if is_plain(token, Plain::As) {
-        return goes(
-            Control::Item(ItemControl::WantItemName {
-                items,
-                unnamed: Unnamed::Expr(expr),
-            }),
-            frames,
-        );
+        let unnamed = Unnamed::Expr(expr);
+        return Ok(Some(Control::Item(ItemControl::WantItemName { items, unnamed })));
     }
-    let Some(name) = bare(expr) else {
-        return refuse((frames, items));
-    };
-    let Beside {
-        kept: frames,
-        made: items,
-    } = with_item(frames, items, WrittenItem::Bare(name))?;
-    have_item(frames, items, token)
+    match bare(expr) {
+        Some(name) => Ok(have_item(with_item(items, WrittenItem::Bare(name))?, token)),
+        None => Ok(refuse(items)),
+    }
 }
 
 // Behind the expression of a filter.
 fn after_filter(
     alloc: Global,
-    frames: Vec<Frame>,
+    frames: &mut Vec<Frame>,
     from: SelectFrom,
     expr: WrittenExpr,
     token: &Token,
-) -> Result<Option<State>, AllocError>
-    ensures { IfOk result (λ o. next_of o
-        ≡ machine.after_filter (frames_of frames.items) (pick_of from.pick) (query_of from.source)
-        from.window (expr_of expr) token.now) }
+) -> Result<Option<Control>, AllocError>
+    ensures { IfOk result (λ o. leads o (frames_of frames.new.items)
+        ≡ machine.after_filter (frames_of frames.old.items) (pick_of from.pick)
+        (query_of from.source) from.window (expr_of expr) token.now) }
 {
     let filter = Some(expr);
     if is_plain(token, Plain::Group) {
-        return goes(
-            Control::Groups(GroupsControl::WantBy { from, filter }),
-            frames,
-        );
+        return Ok(Some(Control::Groups(GroupsControl::WantBy { from, filter })));
     }
     end_select(alloc, frames, from, filter, token)
 }
@@ -87,62 +73,48 @@ fn after_filter(
 // Behind an expression in brackets.
 fn after_brackets(
     alloc: Global,
-    frames: Vec<Frame>,
     at: u64,
     expr: WrittenExpr,
     token: &Token,
-) -> Result<Option<State>, AllocError>
-    ensures { IfOk result (λ o. next_of o
-        ≡ machine.after_brackets (frames_of frames.items) at (expr_of expr) token.now) }
+) -> Result<Option<Control>, AllocError>
+    ensures { IfOk result (λ o. (fs : List states.Frame) → leads o fs
+        ≡ machine.after_brackets fs at (expr_of expr) token.now) }
 {
     if !is_plain(token, Plain::Close) {
-        return refuse((frames, expr));
+        return Ok(refuse(expr));
     }
     let OneBox {
-        kept: frames,
+        kept: at,
         boxed: inner,
-    } = one_box(alloc, frames, expr)?;
-    goes(
-        Control::Expr(ExprControl::HaveExpr {
-            last: WrittenExpr::Brackets { at, inner },
-        }),
-        frames,
-    )
+    } = one_box(alloc, at, expr)?;
+    let last = WrittenExpr::Brackets { at, inner };
+    Ok(Some(Control::Expr(ExprControl::HaveExpr { last })))
 }
 
 // Behind the expression of a CAST.
-fn after_cast(
-    frames: Vec<Frame>,
-    at: u64,
-    open: u64,
-    expr: WrittenExpr,
-    token: &Token,
-) -> Result<Option<State>, AllocError>
-    ensures { IfOk result (λ o. next_of o
-        ≡ machine.after_cast (frames_of frames.items) at «open» (expr_of expr) token.now) }
+fn after_cast(at: u64, open: u64, expr: WrittenExpr, token: &Token) -> Option<Control>
+    ensures { (fs : List states.Frame) → leads result fs
+        ≡ machine.after_cast fs at «open» (expr_of expr) token.now }
 {
     let head = CastHead {
         at,
         open,
         inner: expr,
     };
-    let next = Control::Expr(ExprControl::WantKind(head));
-    expect(token, Plain::As, next, frames)
+    expect(token, Plain::As, Control::Expr(ExprControl::WantKind(head)))
 }
 
 // Behind the argument of SUM, MIN, MAX or AVG.
 fn after_fold(
-    frames: Vec<Frame>,
     items: WrittenItems,
     fold: Fold,
     at: u64,
     open: u64,
     expr: WrittenExpr,
     token: &Token,
-) -> Result<Option<State>, AllocError>
-    ensures { IfOk result (λ o. next_of o
-        ≡ machine.after_fold (frames_of frames.items) (items_of items) fold at «open»
-        (expr_of expr) token.now) }
+) -> Option<Control>
+    ensures { (fs : List states.Frame) → leads result fs
+        ≡ machine.after_fold fs (items_of items) fold at «open» (expr_of expr) token.now }
 {
     let agg = WrittenAgg::Fold {
         fold,
@@ -150,22 +122,23 @@ fn after_fold(
         open,
         arg: expr,
     };
-    let next = Control::Item(ItemControl::WantAs { items, agg });
-    expect(token, Plain::Close, next, frames)
+    expect(
+        token,
+        Plain::Close,
+        Control::Item(ItemControl::WantAs { items, agg }),
+    )
 }
 
 // Behind the argument of WSUM.
 fn after_wsum(
-    frames: Vec<Frame>,
     items: WrittenItems,
     at: u64,
     open: u64,
     expr: WrittenExpr,
     token: &Token,
-) -> Result<Option<State>, AllocError>
-    ensures { IfOk result (λ o. next_of o
-        ≡ machine.after_wsum (frames_of frames.items) (items_of items) at «open» (expr_of expr)
-        token.now) }
+) -> Option<Control>
+    ensures { (fs : List states.Frame) → leads result fs
+        ≡ machine.after_wsum fs (items_of items) at «open» (expr_of expr) token.now }
 {
     let head = WsumHead {
         items,
@@ -173,45 +146,53 @@ fn after_wsum(
         open,
         arg: expr,
     };
-    let next = Control::Agg(AggControl::WantWeightsOpen(head));
-    expect(token, Plain::Comma, next, frames)
+    expect(
+        token,
+        Plain::Comma,
+        Control::Agg(AggControl::WantWeightsOpen(head)),
+    )
 }
 
-/// What ends an expression, by what it stands in.
+/// What ends an expression.
 #[tactic(auto, using(crate::proofs::Stack::reductions))]
-pub fn after_expr(alloc: Global, around: Around, token: &Token) -> Result<Option<State>, AllocError>
-    ensures { IfOk result (λ o. next_of o
-        ≡ machine.after_expr (frames_of around.frames.items) (expr_of around.expr) token.now) }
+pub fn after_expr(
+    alloc: Global,
+    frames: &mut Vec<Frame>,
+    expr: WrittenExpr,
+    token: &Token,
+) -> Result<Option<Control>, AllocError>
+    ensures { IfOk result (λ o. leads o (frames_of frames.new.items)
+        ≡ machine.after_expr (frames_of frames.old.items) (expr_of expr) token.now) }
 {
-    let Around { mut frames, expr } = around;
     match frames.pop() {
         Some(frame) => after_expr_in(alloc, frame, frames, expr, token),
-        None => refuse((frames, expr)),
+        None => Ok(refuse(expr)),
     }
 }
 
+// What ends an expression, by what it stands in.
 fn after_expr_in(
     alloc: Global,
     frame: Frame,
-    frames: Vec<Frame>,
+    frames: &mut Vec<Frame>,
     expr: WrittenExpr,
     token: &Token,
-) -> Result<Option<State>, AllocError>
-    ensures { IfOk result (λ o. next_of o
-        ≡ machine.after_expr (frame_of frame ∷ frames_of frames.items) (expr_of expr) token.now) }
+) -> Result<Option<Control>, AllocError>
+    ensures { IfOk result (λ o. leads o (frames_of frames.new.items) ≡ machine.after_expr
+        (frame_of frame ∷ frames_of frames.old.items) (expr_of expr) token.now) }
 {
     match frame {
-        Frame::InBrackets { at } => after_brackets(alloc, frames, at, expr, token),
-        Frame::InCast { at, open } => after_cast(frames, at, open, expr, token),
-        Frame::InItem { items } => after_item(frames, items, expr, token),
+        Frame::InBrackets { at } => after_brackets(alloc, at, expr, token),
+        Frame::InCast { at, open } => Ok(after_cast(at, open, expr, token)),
+        Frame::InItem { items } => after_item(items, expr, token),
         Frame::InFold {
             items,
             fold,
             at,
             open,
-        } => after_fold(frames, items, fold, at, open, expr, token),
-        Frame::InWsum { items, at, open } => after_wsum(frames, items, at, open, expr, token),
+        } => Ok(after_fold(items, fold, at, open, expr, token)),
+        Frame::InWsum { items, at, open } => Ok(after_wsum(items, at, open, expr, token)),
         Frame::InFilter(from) => after_filter(alloc, frames, from, expr, token),
-        other => refuse((other, frames, expr)),
+        other => Ok(refuse((other, expr))),
     }
 }

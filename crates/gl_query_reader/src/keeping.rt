@@ -53,32 +53,13 @@ pub fn put<T: Drop>(list: &mut Vec<T>, value: T) -> Result<(), AllocError>
     Ok(())
 }
 
-/// A list with one more value at its end.
-pub fn pushed<T: Drop, U: Drop>(
-    kept: T,
-    list: Vec<U>,
-    value: U,
-) -> Result<Beside<T, Vec<U>>, AllocError>
-    ensures kept { IfOk result (λ b. b.kept ≡ kept) }
-    ensures made { IfOk result (λ b. b.made.items ≡ list.items ++ value ∷ []) }
-{
-    let mut made = list;
-    put(&mut made, value)?;
-    Ok(Beside { kept, made })
-}
-
 /// A list of a tree with one more value at its end.
-pub fn listed<T: Drop, U: Drop>(
-    kept: T,
-    list: Listed<U>,
-    value: U,
-) -> Result<Beside<T, Listed<U>>, AllocError>
-    ensures kept { IfOk result (λ b. b.kept ≡ kept) }
-    ensures made { IfOk result (λ b. b.made ≡ list ++ value ∷ []) }
+pub fn listed<T: Drop>(list: Listed<T>, value: T) -> Result<Listed<T>, AllocError>
+    ensures { IfOk result (λ more. more ≡ list ++ value ∷ []) }
 {
-    let mut made = list;
-    match made.push(value) {
-        Ok(()) => Ok(Beside { kept, made }),
+    let mut more = list;
+    match more.push(value) {
+        Ok(()) => Ok(more),
         Err(_) => Err(AllocError),
     }
 }

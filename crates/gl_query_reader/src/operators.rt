@@ -1,23 +1,15 @@
 //! Operators and what binds them.
 
-ghost use Rattle.std.specs.Prelude.{◌≡◌, ◌∷◌, IfOk};
+ghost use Rattle.std.specs.Prelude.{◌≡◌, ◌<◌, true, length, vec_len, IfOk};
 ghost use Rattle.gl_query_reader.specs.Written.{Binary, Not, looseness, left_looseness};
 ghost use Rattle.gl_query_reader.specs.Machine as machine;
 ghost use Rattle.gl_query_reader.specs.Trees.{expr_of, frame_of, frames_of};
 
-use crate::keeping::{Beside, keep_beside, pushed};
 use crate::state::Frame;
 use crate::written::WrittenExpr;
 use gl_bits::boxes::{OneBox, TwoBoxes, one_box, two_boxes};
 use gl_query::Op;
 use std::alloc::{AllocError, Global};
-
-/// An expression and the frames around it.
-#[derive(Drop)]
-pub struct Around {
-    pub frames: Vec<Frame>,
-    pub expr: WrittenExpr,
-}
 
 /// How loosely an operator binds.
 pub fn looseness(op: Op) -> u8
@@ -108,13 +100,31 @@ fn negated(alloc: Global, at: u64, expr: WrittenExpr) -> Result<WrittenExpr, All
     Ok(WrittenExpr::Not { at, inner })
 }
 
-// An operator with its operands.
-fn applied(alloc: Global, frame: Frame, expr: WrittenExpr) -> Result<WrittenExpr, AllocError>
-    ensures { IfOk result (λ e. expr_of e ≡ machine.applied (frame_of frame) (expr_of expr)) }
+// Whether the innermost frame is an operator that binds at least as tight.
+fn last_binds(frames: &[Frame], most: u8) -> bool
+    ensures is { result ≡ machine.last_binds most (frames_of frames.now) }
+    ensures some { result ≡ true → 0 < length frames.now }
 {
-    match frame {
-        Frame::LeftOf { left, op, at } => binary(alloc, op, at, left, expr),
-        Frame::NotOf { at } => negated(alloc, at, expr),
+    match frames.last() {
+        Some(frame) => binds(frame, most),
+        None => false,
+    }
+}
+
+// Takes the innermost operator, and gives it its last operand.
+#[tactic(auto, using(crate::proofs::Stack::reductions))]
+fn apply_last(
+    alloc: Global,
+    frames: &mut Vec<Frame>,
+    expr: WrittenExpr,
+) -> Result<WrittenExpr, AllocError>
+    ensures is { IfOk result (λ e. machine.apply_last (frames_of frames.old.items) (expr_of expr)
+        ≡ (frames_of frames.new.items, expr_of e)) }
+    ensures shorter { 0 < vec_len frames.old → vec_len frames.new < vec_len frames.old }
+{
+    match frames.pop() {
+        Some(Frame::LeftOf { left, op, at }) => binary(alloc, op, at, left, expr),
+        Some(Frame::NotOf { at }) => negated(alloc, at, expr),
         other => {
             drop(other);
             Ok(expr)
@@ -126,35 +136,16 @@ fn applied(alloc: Global, frame: Frame, expr: WrittenExpr) -> Result<WrittenExpr
 #[tactic(auto, using(crate::proofs::Stack::reductions))]
 pub fn reduced(
     alloc: Global,
-    frames: Vec<Frame>,
+    frames: &mut Vec<Frame>,
     expr: WrittenExpr,
     most: u8,
-) -> Result<Around, AllocError>
-    ensures { IfOk result (λ r. machine.reduced most (frames_of frames.items) (expr_of expr)
-        ≡ (frames_of r.frames.items, expr_of r.expr)) }
+) -> Result<WrittenExpr, AllocError>
+    ensures { IfOk result (λ e. machine.reduced most (frames_of frames.old.items) (expr_of expr)
+        ≡ (frames_of frames.new.items, expr_of e)) }
 {
-    let mut frames = frames;
     let mut expr = expr;
-    while let Some(frame) = frames.pop() {
-        if !binds(&frame, most) {
-            return stopped(frames, frame, expr);
-        }
-        let next = keep_beside(frames, applied(alloc, frame, expr))?;
-        frames = next.kept;
-        expr = next.made;
+    while last_binds(frames.as_slice(), most) {
+        expr = apply_last(alloc, frames, expr)?;
     }
-    Ok(Around { frames, expr })
-}
-
-// An expression in these frames and one more.
-#[tactic(auto, using(crate::proofs::Stack::reductions))]
-fn stopped(frames: Vec<Frame>, frame: Frame, expr: WrittenExpr) -> Result<Around, AllocError>
-    ensures { IfOk result (λ r. (frames_of r.frames.items ≡ frame_of frame ∷ frames_of frames.items)
-        × (expr_of r.expr ≡ expr_of expr)) }
-{
-    let Beside {
-        kept: expr,
-        made: frames,
-    } = pushed(expr, frames, frame)?;
-    Ok(Around { frames, expr })
+    Ok(expr)
 }

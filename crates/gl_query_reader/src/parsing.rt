@@ -4,7 +4,7 @@ ghost use Rattle.std.specs.Prelude.{◌≡◌, ◌<◌, IfOk, option_map};
 ghost use Rattle.gl_query_reader.specs.States as states;
 ghost use Rattle.gl_query_reader.specs.Machine as machine;
 ghost use Rattle.gl_query_reader.specs.Limits.{none_counted, is_past};
-ghost use Rattle.gl_query_reader.specs.Trees.{state_of, statement_of, next_of};
+ghost use Rattle.gl_query_reader.specs.Trees.{statement_of, frames_of, control_of, state_of, leads};
 ghost use Rattle.gl_query_reader.specs.Reading.{Gives, StepGives, run};
 ghost use Rattle.gl_query_reader.specs.declared.parsing.ReadFault.TheVariants.{Memory};
 
@@ -15,7 +15,7 @@ use crate::items::step_item;
 use crate::limits::Counts;
 use crate::queries::step_query;
 use crate::sources::step_source;
-use crate::state::{Control, QueryControl, State};
+use crate::state::{Control, Frame, QueryControl};
 use crate::windows::step_window;
 use crate::written::WrittenStatement;
 use gl_query_tokens::{Lexeme, Token};
@@ -37,62 +37,64 @@ impl From<AllocError> for ReadFault {
     }
 }
 
-impl State {
-    /// The state behind a token that can stand there.
-    #[tactic(auto, unfolding(crate::specs::Machine::step))]
-    pub fn step(self, alloc: Global, token: &Token) -> Result<Option<State>, AllocError>
-        ensures { IfOk result (λ o. next_of o ≡ machine.step (state_of self) token.now) }
-    {
-        let State { control, frames } = self;
-        match control {
-            Control::Expr(control) => step_expr(alloc, control, frames, token),
-            Control::Item(control) => step_item(alloc, control, frames, token),
-            Control::Agg(control) => step_agg(alloc, control, frames, token),
-            Control::Source(control) => step_source(alloc, control, frames, token),
-            Control::Window(control) => step_window(control, frames, token),
-            Control::Groups(control) => step_groups(alloc, control, frames, token),
-            Control::Query(control) => step_query(alloc, control, frames, token),
-        }
+// The place behind a token that can stand there.
+#[tactic(auto, unfolding(crate::specs::Machine::step))]
+fn step(
+    alloc: Global,
+    control: Control,
+    frames: &mut Vec<Frame>,
+    token: &Token,
+) -> Result<Option<Control>, AllocError>
+    ensures { IfOk result (λ o. leads o (frames_of frames.new.items)
+        ≡ machine.step (state_of control (frames_of frames.old.items)) token.now) }
+{
+    match control {
+        Control::Expr(control) => step_expr(alloc, control, frames, token),
+        Control::Item(control) => step_item(alloc, control, frames, token),
+        Control::Agg(control) => step_agg(alloc, control, frames, token),
+        Control::Source(control) => step_source(alloc, control, frames, token),
+        Control::Window(control) => Ok(step_window(control, token)),
+        Control::Groups(control) => step_groups(alloc, control, token),
+        Control::Query(control) => step_query(alloc, control, frames, token),
     }
+}
 
-    /// The statement, where it may end here.
-    #[tactic(auto, unfolding(crate::specs::Machine::finish))]
-    pub fn finish(self) -> Option<WrittenStatement>
-        ensures { option_map statement_of result ≡ machine.finish (state_of self) }
-    {
-        let State { control, frames: _ } = self;
-        match control {
-            Control::Query(QueryControl::HaveName { query, name }) => Some(WrittenStatement {
-                query,
-                name,
-                closed: false,
-            }),
-            Control::Query(QueryControl::WantEnd { query, name }) => Some(WrittenStatement {
-                query,
-                name,
-                closed: true,
-            }),
-            other => {
-                drop(other);
-                None
-            }
+// The statement, where it may end here.
+fn finish(control: Control) -> Option<WrittenStatement>
+    ensures { option_map statement_of result ≡ machine.finish_at (control_of control) }
+{
+    match control {
+        Control::Query(QueryControl::HaveName { query, name }) => Some(WrittenStatement {
+            query,
+            name,
+            closed: false,
+        }),
+        Control::Query(QueryControl::WantEnd { query, name }) => Some(WrittenStatement {
+            query,
+            name,
+            closed: true,
+        }),
+        other => {
+            drop(other);
+            None
         }
     }
 }
 
-// The state behind a token, where it can stand there and no limit is passed.
-fn next_state(
+// The place behind a token, where it can stand there and no limit is passed.
+fn next_control(
     alloc: Global,
-    state: State,
+    control: Control,
+    frames: &mut Vec<Frame>,
     lexeme: &Lexeme,
     counts: Counts,
-) -> Result<State, ReadFault>
-    ensures { StepGives lexeme.now.at (machine.step (state_of state) lexeme.now.token)
-        (is_past counts)
-        result }
+) -> Result<Control, ReadFault>
+    ensures { StepGives lexeme.now.at
+        (machine.step (state_of control (frames_of frames.old.items)) lexeme.now.token)
+        (is_past counts) (frames_of frames.new.items) result }
 {
-    match state.step(alloc, &lexeme.token) {
-        Ok(Some(next)) => {
+    match step(alloc, control, frames, &lexeme.token)? {
+        Some(next) => {
             if counts.is_past() {
                 drop(next);
                 Err(ReadFault::TooDeep(lexeme.at))
@@ -100,8 +102,7 @@ fn next_state(
                 Ok(next)
             }
         }
-        Ok(None) => Err(ReadFault::Syntax(lexeme.at)),
-        Err(_) => Err(ReadFault::Memory),
+        None => Err(ReadFault::Syntax(lexeme.at)),
     }
 }
 
@@ -113,17 +114,12 @@ pub fn parsed(alloc: Global, lexemes: Vec<Lexeme>, len: u64) -> Result<WrittenSt
 {
     let mut left = lexemes;
     left.reverse();
-    let mut state = State {
-        control: Control::Query(QueryControl::WantTerm),
-        frames: Vec::new(alloc),
-    };
+    let mut control = Control::Query(QueryControl::WantTerm);
+    let mut frames = Vec::new(alloc);
     let mut counts = Counts::new();
     while let Some(lexeme) = left.pop() {
         counts = counts.after(&lexeme.token);
-        state = match next_state(alloc, state, &lexeme, counts) {
-            Ok(next) => next,
-            Err(fault) => return Err(fault),
-        };
+        control = next_control(alloc, control, &mut frames, &lexeme, counts)?;
     }
-    state.finish().ok_or(ReadFault::Syntax(len))
+    finish(control).ok_or(ReadFault::Syntax(len))
 }

@@ -1,13 +1,13 @@
 //! Small parts of the reader's steps.
 
-ghost use Rattle.std.specs.Prelude.{◌≡◌, ◌∷◌, IfOk, None};
+ghost use Rattle.std.specs.Prelude.{◌≡◌, ◌∷◌, List, IfOk, Some, None, MatchOption};
 ghost use Rattle.gl_query_tokens.specs.Sorts.{name_in};
 ghost use Rattle.gl_query_reader.specs.States as states;
 ghost use Rattle.gl_query_reader.specs.States.{expected};
-ghost use Rattle.gl_query_reader.specs.Trees.{frame_of, frames_of, control_of, next_of};
+ghost use Rattle.gl_query_reader.specs.Trees.{frame_of, frames_of, control_of, leads};
 
-use crate::keeping::{Beside, pushed};
-use crate::state::{Control, Frame, State};
+use crate::keeping::{Beside, keep_beside, put};
+use crate::state::{Control, ExprControl, Frame, QueryControl};
 use gl_query::{Name, TextBytes};
 use gl_query_tokens::sorts::is_plain;
 use gl_query_tokens::{Plain, Token};
@@ -15,61 +15,43 @@ use gl_schema::NameText;
 use std::alloc::{AllocError, Global};
 
 /// Lets go what was read: the token cannot stand there.
-pub fn refuse<T: Drop>(parts: T) -> Result<Option<State>, AllocError>
-    ensures { IfOk result (λ o. next_of o ≡ None) }
+pub fn refuse<T: Drop>(parts: T) -> Option<Control>
+    ensures { result ≡ None }
 {
     drop(parts);
-    Ok(None)
+    None
 }
 
-/// Lets go what was read: memory ran out.
-pub fn give_up<T: Drop>(parts: T) -> Result<Option<State>, AllocError>
-    ensures { IfOk result (λ o. ⊥) }
-{
-    drop(parts);
-    Err(AllocError)
-}
-
-/// The state of a place in these frames.
-pub fn goes(control: Control, frames: Vec<Frame>) -> Result<Option<State>, AllocError>
-    ensures { IfOk result (λ o. next_of o
-        ≡ states.goes (control_of control) (frames_of frames.items)) }
-{
-    Ok(Some(State { control, frames }))
-}
-
-/// The state that a keyword or a sign leads to.
-pub fn expect(
-    token: &Token,
-    wanted: Plain,
-    next: Control,
-    frames: Vec<Frame>,
-) -> Result<Option<State>, AllocError>
-    ensures { IfOk result (λ o. next_of o
-        ≡ expected wanted (control_of next) (frames_of frames.items) token.now) }
+/// The place that a keyword or a sign leads to.
+pub fn expect(token: &Token, wanted: Plain, next: Control) -> Option<Control>
+    ensures { (fs : List states.Frame) →
+        leads result fs ≡ expected wanted (control_of next) fs token.now }
 {
     if is_plain(token, wanted) {
-        goes(next, frames)
+        Some(next)
     } else {
-        refuse((next, frames))
+        refuse(next)
     }
 }
 
-/// The state of a place in these frames and one more.
+/// The place of an operand in one more frame.
 #[tactic(auto, using(crate::proofs::Stack::reductions))]
-pub fn goes_in(
-    control: Control,
-    frames: Vec<Frame>,
-    frame: Frame,
-) -> Result<Option<State>, AllocError>
-    ensures { IfOk result (λ o. next_of o
-        ≡ states.goes (control_of control) (frame_of frame ∷ frames_of frames.items)) }
+pub fn operand_in(frames: &mut Vec<Frame>, frame: Frame) -> Result<Option<Control>, AllocError>
+    ensures { IfOk result (λ o. leads o (frames_of frames.new.items)
+        ≡ states.goes states.WantOperand (frame_of frame ∷ frames_of frames.old.items)) }
 {
-    let Beside {
-        kept: control,
-        made: frames,
-    } = pushed(control, frames, frame)?;
-    goes(control, frames)
+    put(frames, frame)?;
+    Ok(Some(Control::Expr(ExprControl::WantOperand)))
+}
+
+/// The place of a term in one more frame.
+#[tactic(auto, using(crate::proofs::Stack::reductions))]
+pub fn term_in(frames: &mut Vec<Frame>, frame: Frame) -> Result<Option<Control>, AllocError>
+    ensures { IfOk result (λ o. leads o (frames_of frames.new.items)
+        ≡ states.goes states.WantTerm (frame_of frame ∷ frames_of frames.old.items)) }
+{
+    put(frames, frame)?;
+    Ok(Some(Control::Query(QueryControl::WantTerm)))
 }
 
 /// A copy of a name.
@@ -87,12 +69,31 @@ pub fn cloned_text(alloc: Global, text: &TextBytes) -> Result<TextBytes, AllocEr
     Ok(TextBytes::from_vec(Vec::from_slice(alloc, text.as_slice())?))
 }
 
-/// The name that a token is.
-pub fn name_of(alloc: Global, token: &Token) -> Result<Option<Name>, AllocError>
+// The name that a token is.
+fn name_of(alloc: Global, token: &Token) -> Result<Option<Name>, AllocError>
     ensures { IfOk result (λ o. o ≡ name_in token.now) }
 {
     match token {
         Token::Name(name) => Ok(Some(cloned(alloc, name)?)),
         _ => Ok(None),
+    }
+}
+
+/// The name that a token is, beside what its caller keeps; where it is none, that is let go.
+pub fn keep_named<T: Drop>(
+    alloc: Global,
+    kept: T,
+    token: &Token,
+) -> Result<Option<Beside<T, Name>>, AllocError>
+    ensures { IfOk result (λ o. MatchOption o (name_in token.now ≡ None)
+        (λ b. (b.kept ≡ kept) × (name_in token.now ≡ Some b.made))) }
+{
+    let Beside { kept, made } = keep_beside(kept, name_of(alloc, token))?;
+    match made {
+        Some(made) => Ok(Some(Beside { kept, made })),
+        None => {
+            drop(kept);
+            Ok(None)
+        }
     }
 }

@@ -1,15 +1,16 @@
 //! Sources, and what may stand behind them.
 
-ghost use Rattle.std.specs.Prelude.{◌≡◌, IfOk};
+ghost use Rattle.std.specs.Prelude.{◌≡◌, List, IfOk};
 ghost use Rattle.gl_query_reader.specs.Written.{Stream};
 ghost use Rattle.gl_query_reader.specs.States as states;
 ghost use Rattle.gl_query_reader.specs.Machine as machine;
-ghost use Rattle.gl_query_reader.specs.Trees.{pick_of, query_of, head_of, source_control_of, frames_of, next_of};
+ghost use Rattle.gl_query_reader.specs.Trees.{pick_of, query_of, head_of, source_control_of, frames_of, leads};
 
-use crate::parts::{cloned, give_up, goes, goes_in, refuse};
+use crate::keeping::{Beside, keep_beside};
+use crate::parts::{cloned, operand_in, refuse, term_in};
 use crate::state::{
-    Control, ExprControl, Frame, GroupsControl, GroupsHead, Head, QueryControl, SelectFrom,
-    SourceControl, State, WindowControl, WindowHead,
+    Control, Frame, GroupsControl, GroupsHead, Head, SelectFrom, SourceControl, WindowControl,
+    WindowHead,
 };
 use crate::terms::{after_source, end_select};
 use crate::written::WrittenQuery;
@@ -21,48 +22,36 @@ use std::alloc::{AllocError, Global};
 // A name or `(`.
 fn want_source(
     alloc: Global,
-    frames: Vec<Frame>,
+    frames: &mut Vec<Frame>,
     head: Head,
     token: &Token,
-) -> Result<Option<State>, AllocError>
-    ensures { IfOk result (λ o. next_of o
-        ≡ machine.want_source (frames_of frames.items) (head_of head) token.now) }
+) -> Result<Option<Control>, AllocError>
+    ensures { IfOk result (λ o. leads o (frames_of frames.new.items)
+        ≡ machine.want_source (frames_of frames.old.items) (head_of head) token.now) }
 {
     match token {
-        Token::Name(name) => want_stream(alloc, frames, head, name),
-        Token::Open { at } => {
-            goes_in(
-                Control::Query(QueryControl::WantTerm),
-                frames,
-                Frame::InSource { head, at: *at },
-            )
-        }
-        _ => refuse((frames, head)),
+        Token::Name(name) => want_stream(alloc, head, name),
+        Token::Open { at } => term_in(frames, Frame::InSource { head, at: *at }),
+        _ => Ok(refuse(head)),
     }
 }
 
 // A stream as a source.
-fn want_stream(
-    alloc: Global,
-    frames: Vec<Frame>,
-    head: Head,
-    name: &Name,
-) -> Result<Option<State>, AllocError>
-    ensures { IfOk result (λ o. next_of o
-        ≡ states.goes (machine.after_source (head_of head) (Stream name.now))
-        (frames_of frames.items)) }
+fn want_stream(alloc: Global, head: Head, name: &Name) -> Result<Option<Control>, AllocError>
+    ensures { IfOk result (λ o. (fs : List states.Frame) → leads o fs
+        ≡ states.goes (machine.after_source (head_of head) (Stream name.now)) fs) }
 {
-    match cloned(alloc, name) {
-        Ok(name) => goes(after_source(head, WrittenQuery::Stream(name)), frames),
-        Err(_) => give_up((frames, head)),
-    }
+    let Beside {
+        kept: head,
+        made: name,
+    } = keep_beside(head, cloned(alloc, name))?;
+    Ok(Some(after_source(head, WrittenQuery::Stream(name))))
 }
 
 // A window stands at most once.
-fn begin_window(frames: Vec<Frame>, from: SelectFrom) -> Result<Option<State>, AllocError>
-    ensures { IfOk result (λ o. next_of o
-        ≡ machine.begin_window (frames_of frames.items) (pick_of from.pick) (query_of from.source)
-        from.window) }
+fn begin_window(from: SelectFrom) -> Option<Control>
+    ensures { (fs : List states.Frame) → leads result fs
+        ≡ machine.begin_window fs (pick_of from.pick) (query_of from.source) from.window }
 {
     let SelectFrom {
         pick,
@@ -74,82 +63,67 @@ fn begin_window(frames: Vec<Frame>, from: SelectFrom) -> Result<Option<State>, A
         source,
     };
     match window {
-        Some(_) => refuse((frames, head)),
-        None => goes(Control::Window(WindowControl::WantSize(head)), frames),
+        Some(_) => refuse(head),
+        None => Some(Control::Window(WindowControl::WantSize(head))),
     }
 }
 
 // What may stand behind the source of a select.
 fn have_source(
     alloc: Global,
-    frames: Vec<Frame>,
+    frames: &mut Vec<Frame>,
     from: SelectFrom,
     token: &Token,
-) -> Result<Option<State>, AllocError>
-    ensures { IfOk result (λ o. next_of o
-        ≡ machine.have_source (frames_of frames.items) (pick_of from.pick) (query_of from.source)
-        from.window token.now) }
+) -> Result<Option<Control>, AllocError>
+    ensures { IfOk result (λ o. leads o (frames_of frames.new.items)
+        ≡ machine.have_source (frames_of frames.old.items) (pick_of from.pick)
+        (query_of from.source) from.window token.now) }
 {
     if is_plain(token, Plain::LeftSquare) {
-        return begin_window(frames, from);
+        return Ok(begin_window(from));
     }
     if is_plain(token, Plain::Where) {
-        let next = Control::Expr(ExprControl::WantOperand);
-        return goes_in(next, frames, Frame::InFilter(from));
+        return operand_in(frames, Frame::InFilter(from));
     }
+    let filter = None;
     if is_plain(token, Plain::Group) {
-        let filter = None;
-        return goes(
-            Control::Groups(GroupsControl::WantBy { from, filter }),
-            frames,
-        );
+        return Ok(Some(Control::Groups(GroupsControl::WantBy { from, filter })));
     }
-    end_select(alloc, frames, from, None, token)
+    end_select(alloc, frames, from, filter, token)
 }
 
 // `[` or BY behind the source of an EACH.
-fn have_each_source(
-    frames: Vec<Frame>,
-    at: u64,
-    var: Name,
-    source: WrittenQuery,
-    token: &Token,
-) -> Result<Option<State>, AllocError>
-    ensures { IfOk result (λ o. next_of o
-        ≡ machine.have_each_source (frames_of frames.items) at var (query_of source) token.now) }
+fn have_each_source(at: u64, var: Name, source: WrittenQuery, token: &Token) -> Option<Control>
+    ensures { (fs : List states.Frame) → leads result fs
+        ≡ machine.have_each_source fs at var (query_of source) token.now }
 {
     if is_plain(token, Plain::LeftSquare) {
         let head = Head::Each { at, var };
         let head = WindowHead { head, source };
-        return goes(Control::Window(WindowControl::WantSize(head)), frames);
+        return Some(Control::Window(WindowControl::WantSize(head)));
     }
+    let head = GroupsHead::Each { at, var, source };
     match by_in(token) {
-        Some(by) => goes(
-            Control::Groups(GroupsControl::WantKey {
-                head: GroupsHead::Each { at, var, source },
-                at: by,
-            }),
-            frames,
-        ),
-        None => refuse((frames, var, source)),
+        Some(at) => Some(Control::Groups(GroupsControl::WantKey { head, at })),
+        None => refuse(head),
     }
 }
 
-/// The state behind a token at a source.
+/// The place behind a token at a source.
 pub fn step_source(
     alloc: Global,
     control: SourceControl,
-    frames: Vec<Frame>,
+    frames: &mut Vec<Frame>,
     token: &Token,
-) -> Result<Option<State>, AllocError>
-    ensures { IfOk result (λ o. next_of o
-        ≡ machine.step_at (source_control_of control) (frames_of frames.items) token.now) }
+) -> Result<Option<Control>, AllocError>
+    ensures { IfOk result (λ o. leads o (frames_of frames.new.items)
+        ≡ machine.step_at (source_control_of control) (frames_of frames.old.items) token.now) }
 {
     match control {
         SourceControl::WantSource { head } => want_source(alloc, frames, head, token),
         SourceControl::HaveSource(from) => have_source(alloc, frames, from, token),
-        SourceControl::HaveEachSource { at, var, source } => have_each_source(
-            frames, at, var, source, token,
-        ),
+        SourceControl::HaveEachSource { at, var, source } => {
+            Ok(have_each_source(at, var, source, token))
+        }
     }
 }

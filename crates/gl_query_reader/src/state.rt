@@ -78,7 +78,7 @@ pub enum Unnamed {
     Agg(WrittenAgg),
 }
 
-/// What is open around the place where the reader stands.
+/// What is open around the place where the reader stands. The innermost frame stands last.
 #[derive(Drop)]
 pub enum Frame {
     // These wait for an expression.
@@ -334,11 +334,4 @@ pub enum Control {
     Window(WindowControl),
     Groups(GroupsControl),
     Query(QueryControl),
-}
-
-/// What was read so far. The innermost frame stands last.
-#[derive(Drop)]
-pub struct State {
-    pub control: Control,
-    pub frames: Vec<Frame>,
 }

@@ -1,27 +1,18 @@
 //! Terms and what joins them.
 
-ghost use Rattle.std.specs.Prelude.{◌≡◌, ◌∷◌, IfOk, None};
+ghost use Rattle.std.specs.Prelude.{◌≡◌, ◌∷◌, List, IfOk, None};
 ghost use Rattle.gl_query_reader.specs.Written.{InBrackets, Join', Select};
 ghost use Rattle.gl_query_reader.specs.States as states;
 ghost use Rattle.gl_query_reader.specs.Machine as machine;
-ghost use Rattle.gl_query_reader.specs.Trees.{pick_of, query_of, filter_of, head_of, body_head_of, frame_of, frames_of, control_of, next_of};
+ghost use Rattle.gl_query_reader.specs.Trees.{pick_of, query_of, filter_of, head_of, body_head_of, frame_of, frames_of, control_of, leads};
 
-use crate::keeping::{Beside, keep_beside, pushed};
-use crate::parts::{goes, goes_in, refuse};
-use crate::state::{
-    BodyHead, Control, Frame, Head, QueryControl, SelectFrom, SourceControl, State,
-};
+use crate::keeping::{Beside, keep_beside};
+use crate::parts::{refuse, term_in};
+use crate::state::{BodyHead, Control, Frame, Head, QueryControl, SelectFrom, SourceControl};
 use crate::written::{Grouping, WrittenEach, WrittenExpr, WrittenQuery, WrittenSelect};
 use gl_bits::boxes::{OneBox, TwoBoxes, one_box, two_boxes};
 use gl_query_tokens::{Join, Plain, Token};
 use std::alloc::{AllocError, Global};
-
-/// A query and the frames around it.
-#[derive(Drop)]
-pub struct Within {
-    pub frames: Vec<Frame>,
-    pub query: WrittenQuery,
-}
 
 fn is_join(frame: &Frame) -> bool
     ensures { result ≡ machine.is_join (frame_of frame.now) }
@@ -64,44 +55,33 @@ fn join_with(alloc: Global, frame: Frame, term: WrittenQuery) -> Result<WrittenQ
     }
 }
 
-// A term joins what stands before it.
-#[tactic(auto, using(crate::proofs::Stack::reductions))]
-fn joined(alloc: Global, mut frames: Vec<Frame>, term: WrittenQuery) -> Result<Within, AllocError>
-    ensures { IfOk result (λ r. machine.joined (frames_of frames.items) (query_of term)
-        ≡ (frames_of r.frames.items, query_of r.query)) }
+// Whether the innermost frame waits for the right side of a join.
+fn last_joins(frames: &[Frame]) -> bool
+    ensures { result ≡ machine.last_joins (frames_of frames.now) }
 {
-    match frames.pop() {
-        Some(frame) => joined_in(alloc, frame, frames, term),
-        None => Ok(Within {
-            frames,
-            query: term,
-        }),
+    match frames.last() {
+        Some(frame) => is_join(frame),
+        None => false,
     }
 }
 
+// A term joins what stands before it.
 #[tactic(auto, using(crate::proofs::Stack::reductions))]
-fn joined_in(
+fn joined(
     alloc: Global,
-    frame: Frame,
-    frames: Vec<Frame>,
+    frames: &mut Vec<Frame>,
     term: WrittenQuery,
-) -> Result<Within, AllocError>
-    ensures { IfOk result (λ r. machine.joined (frame_of frame
-        ∷ frames_of frames.items) (query_of term)
-        ≡ (frames_of r.frames.items, query_of r.query)) }
+) -> Result<WrittenQuery, AllocError>
+    ensures { IfOk result (λ q. machine.joined (frames_of frames.old.items) (query_of term)
+        ≡ (frames_of frames.new.items, query_of q)) }
 {
-    if is_join(&frame) {
-        let Beside {
-            kept: frames,
-            made: query,
-        } = keep_beside(frames, join_with(alloc, frame, term))?;
-        return Ok(Within { frames, query });
+    if !last_joins(frames.as_slice()) {
+        return Ok(term);
     }
-    let Beside {
-        kept: query,
-        made: frames,
-    } = pushed(term, frames, frame)?;
-    Ok(Within { frames, query })
+    match frames.pop() {
+        Some(frame) => join_with(alloc, frame, term),
+        None => Ok(term),
+    }
 }
 
 // An EACH with its body.
@@ -196,78 +176,56 @@ fn in_brackets(alloc: Global, at: u64, query: WrittenQuery) -> Result<WrittenQue
 #[tactic(auto, using(crate::proofs::Stack::reductions))]
 fn close_query(
     alloc: Global,
-    mut frames: Vec<Frame>,
+    frames: &mut Vec<Frame>,
     query: WrittenQuery,
-) -> Result<Option<State>, AllocError>
-    ensures { IfOk result (λ o. next_of o
-        ≡ machine.close_query (frames_of frames.items) (query_of query)) }
+) -> Result<Option<Control>, AllocError>
+    ensures { IfOk result (λ o. leads o (frames_of frames.new.items)
+        ≡ machine.close_query (frames_of frames.old.items) (query_of query)) }
 {
     match frames.pop() {
-        Some(frame) => close_query_in(alloc, frame, frames, query),
-        None => refuse((frames, query)),
+        Some(frame) => close_query_in(alloc, frame, query),
+        None => Ok(refuse(query)),
     }
 }
 
+// `)` behind a query, by what it stands in.
 fn close_query_in(
     alloc: Global,
     frame: Frame,
-    frames: Vec<Frame>,
     query: WrittenQuery,
-) -> Result<Option<State>, AllocError>
-    ensures { IfOk result (λ o. next_of o
-        ≡ machine.close_query (frame_of frame ∷ frames_of frames.items) (query_of query)) }
+) -> Result<Option<Control>, AllocError>
+    ensures { IfOk result (λ o. (fs : List states.Frame) → leads o fs
+        ≡ machine.close_query (frame_of frame ∷ fs) (query_of query)) }
 {
     match frame {
-        Frame::InQuery { at } => have_brackets(alloc, at, frames, query),
-        Frame::InSource { head, at } => close_source(alloc, head, at, frames, query),
-        Frame::InBody { head, open } => have_body(alloc, head, open, frames, query),
-        other => refuse((other, frames, query)),
+        Frame::InQuery { at } => have_brackets(alloc, at, query),
+        Frame::InSource { head, at } => close_source(alloc, head, at, query),
+        Frame::InBody { head, open } => have_body(alloc, head, open, query),
+        other => Ok(refuse((other, query))),
     }
 }
 
-// Behind a term.
-fn have(term: WrittenQuery, frames: Vec<Frame>) -> Result<Option<State>, AllocError>
-    ensures { IfOk result (λ o. next_of o
-        ≡ states.goes (states.HaveTerm (query_of term)) (frames_of frames.items)) }
+// `)` behind a query in brackets.
+fn have_brackets(alloc: Global, at: u64, query: WrittenQuery) -> Result<Option<Control>, AllocError>
+    ensures { IfOk result (λ o. (fs : List states.Frame) →
+        leads o fs ≡ states.goes (states.HaveTerm (InBrackets at (query_of query))) fs) }
 {
-    goes(Control::Query(QueryControl::HaveTerm { term }), frames)
+    let term = in_brackets(alloc, at, query)?;
+    Ok(Some(Control::Query(QueryControl::HaveTerm { term })))
 }
 
-// Behind a query in brackets.
-fn have_brackets(
-    alloc: Global,
-    at: u64,
-    frames: Vec<Frame>,
-    query: WrittenQuery,
-) -> Result<Option<State>, AllocError>
-    ensures { IfOk result (λ o. next_of o
-        ≡ states.goes (states.HaveTerm (InBrackets at (query_of query)))
-        (frames_of frames.items)) }
-{
-    let Beside {
-        kept: frames,
-        made: term,
-    } = keep_beside(frames, in_brackets(alloc, at, query))?;
-    have(term, frames)
-}
-
-// Behind a body.
+// `)` behind a body.
 fn have_body(
     alloc: Global,
     head: BodyHead,
     open: u64,
-    frames: Vec<Frame>,
     query: WrittenQuery,
-) -> Result<Option<State>, AllocError>
-    ensures { IfOk result (λ o. next_of o
-        ≡ states.goes (states.HaveTerm (machine.body_of (body_head_of head) «open»
-        (query_of query))) (frames_of frames.items)) }
+) -> Result<Option<Control>, AllocError>
+    ensures { IfOk result (λ o. (fs : List states.Frame) → leads o fs ≡ states.goes
+        (states.HaveTerm (machine.body_of (body_head_of head) «open» (query_of query))) fs) }
 {
-    let Beside {
-        kept: frames,
-        made: term,
-    } = keep_beside(frames, body_of(alloc, head, open, query))?;
-    have(term, frames)
+    let term = body_of(alloc, head, open, query)?;
+    Ok(Some(Control::Query(QueryControl::HaveTerm { term })))
 }
 
 // `)` behind a source.
@@ -275,95 +233,98 @@ fn close_source(
     alloc: Global,
     head: Head,
     at: u64,
-    frames: Vec<Frame>,
     query: WrittenQuery,
-) -> Result<Option<State>, AllocError>
-    ensures { IfOk result (λ o. next_of o
-        ≡ states.goes (machine.after_source (head_of head) (InBrackets at (query_of query)))
-        (frames_of frames.items)) }
+) -> Result<Option<Control>, AllocError>
+    ensures { IfOk result (λ o. (fs : List states.Frame) → leads o fs
+        ≡ states.goes (machine.after_source (head_of head) (InBrackets at (query_of query))) fs) }
 {
     let Beside {
-        kept: (head, frames),
+        kept: head,
         made: source,
-    } = keep_beside((head, frames), in_brackets(alloc, at, query))?;
-    goes(after_source(head, source), frames)
+    } = keep_beside(head, in_brackets(alloc, at, query))?;
+    Ok(Some(after_source(head, source)))
 }
 
 // INTO behind a query.
-fn end_query(frames: Vec<Frame>, query: WrittenQuery) -> Result<Option<State>, AllocError>
-    ensures { IfOk result (λ o. next_of o
-        ≡ machine.end_query (frames_of frames.items) (query_of query)) }
+fn end_query(frames: &[Frame], query: WrittenQuery) -> Option<Control>
+    ensures { leads result (frames_of frames.now)
+        ≡ machine.end_query (frames_of frames.now) (query_of query) }
 {
     if !frames.is_empty() {
-        return refuse((frames, query));
+        return refuse(query);
     }
-    goes(Control::Query(QueryControl::WantName { query }), frames)
+    Some(Control::Query(QueryControl::WantName { query }))
 }
 
 fn after_whole(
     alloc: Global,
-    frames: Vec<Frame>,
+    frames: &mut Vec<Frame>,
     query: WrittenQuery,
     plain: Plain,
-) -> Result<Option<State>, AllocError>
-    ensures { IfOk result (λ o. next_of o
-        ≡ machine.after_whole (frames_of frames.items) (query_of query) plain) }
+) -> Result<Option<Control>, AllocError>
+    ensures { IfOk result (λ o. leads o (frames_of frames.new.items)
+        ≡ machine.after_whole (frames_of frames.old.items) (query_of query) plain) }
 {
     match plain {
         Plain::Close => close_query(alloc, frames, query),
-        Plain::Into => end_query(frames, query),
-        _ => refuse((frames, query)),
+        Plain::Into => Ok(end_query(frames.as_slice(), query)),
+        _ => Ok(refuse(query)),
     }
 }
 
 // What stands behind a query.
-fn after_query(alloc: Global, within: Within, token: &Token) -> Result<Option<State>, AllocError>
-    ensures { IfOk result (λ o. next_of o
-        ≡ machine.after_query (frames_of within.frames.items) (query_of within.query) token.now) }
+fn after_query(
+    alloc: Global,
+    frames: &mut Vec<Frame>,
+    query: WrittenQuery,
+    token: &Token,
+) -> Result<Option<Control>, AllocError>
+    ensures { IfOk result (λ o. leads o (frames_of frames.new.items)
+        ≡ machine.after_query (frames_of frames.old.items) (query_of query) token.now) }
 {
-    let Within { frames, query } = within;
     match token {
         Token::Join { join, at } => {
-            let frame = Frame::JoinOf {
-                left: query,
-                join: *join,
-                at: *at,
-            };
-            goes_in(Control::Query(QueryControl::WantTerm), frames, frame)
+            let (join, at) = (*join, *at);
+            term_in(
+                frames,
+                Frame::JoinOf {
+                    left: query,
+                    join,
+                    at,
+                },
+            )
         }
         Token::Plain(plain) => after_whole(alloc, frames, query, *plain),
-        _ => refuse((frames, query)),
+        _ => Ok(refuse(query)),
     }
 }
 
 /// What stands behind a term.
 pub fn have_term(
     alloc: Global,
-    frames: Vec<Frame>,
+    frames: &mut Vec<Frame>,
     term: WrittenQuery,
     token: &Token,
-) -> Result<Option<State>, AllocError>
-    ensures { IfOk result (λ o. next_of o
-        ≡ machine.have_term (frames_of frames.items) (query_of term) token.now) }
+) -> Result<Option<Control>, AllocError>
+    ensures { IfOk result (λ o. leads o (frames_of frames.new.items)
+        ≡ machine.have_term (frames_of frames.old.items) (query_of term) token.now) }
 {
-    after_query(alloc, joined(alloc, frames, term)?, token)
+    let query = joined(alloc, frames, term)?;
+    after_query(alloc, frames, query, token)
 }
 
 /// What stands behind a select without groups.
 pub fn end_select(
     alloc: Global,
-    frames: Vec<Frame>,
+    frames: &mut Vec<Frame>,
     from: SelectFrom,
     filter: Option<WrittenExpr>,
     token: &Token,
-) -> Result<Option<State>, AllocError>
-    ensures { IfOk result (λ o. next_of o
-        ≡ machine.have_term (frames_of frames.items) (Select (pick_of from.pick)
+) -> Result<Option<Control>, AllocError>
+    ensures { IfOk result (λ o. leads o (frames_of frames.new.items)
+        ≡ machine.have_term (frames_of frames.old.items) (Select (pick_of from.pick)
         (query_of from.source) from.window (filter_of filter) None) token.now) }
 {
-    let Beside {
-        kept: frames,
-        made: term,
-    } = keep_beside(frames, selected(alloc, from, filter, None))?;
+    let term = selected(alloc, from, filter, None)?;
     have_term(alloc, frames, term, token)
 }

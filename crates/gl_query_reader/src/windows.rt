@@ -1,78 +1,53 @@
 //! Windows behind a source.
 
-ghost use Rattle.std.specs.Prelude.{◌≡◌, IfOk};
+ghost use Rattle.std.specs.Prelude.{◌≡◌, List};
+ghost use Rattle.gl_query_reader.specs.States as states;
 ghost use Rattle.gl_query_reader.specs.Machine as machine;
-ghost use Rattle.gl_query_reader.specs.Trees.{query_of, head_of, window_control_of, frames_of, control_of, next_of};
+ghost use Rattle.gl_query_reader.specs.Trees.{query_of, head_of, window_control_of, control_of, leads};
 
-use crate::parts::{expect, goes, refuse};
+use crate::parts::{expect, refuse};
 use crate::state::{
-    BodyHead, Control, Frame, Head, QueryControl, SelectFrom, SourceControl, State, WindowControl,
-    WindowHead,
+    BodyHead, Control, Head, QueryControl, SelectFrom, SourceControl, WindowControl, WindowHead,
 };
 use crate::written::{Over, Window};
 use gl_query::Num;
 use gl_query_tokens::sorts::{number_in, size_in};
 use gl_query_tokens::{Plain, Token};
-use std::alloc::AllocError;
 
 // SIZE.
-fn want_size(
-    frames: Vec<Frame>,
-    head: WindowHead,
-    token: &Token,
-) -> Result<Option<State>, AllocError>
-    ensures { IfOk result (λ o. next_of o
-        ≡ machine.want_size (frames_of frames.items) (head_of head.head) (query_of head.source)
-        token.now) }
+fn want_size(head: WindowHead, token: &Token) -> Option<Control>
+    ensures { (fs : List states.Frame) → leads result fs
+        ≡ machine.want_size fs (head_of head.head) (query_of head.source) token.now }
 {
     match size_in(token) {
-        Some(at) => goes(
-            Control::Window(WindowControl::WantSizeNumber { head, at }),
-            frames,
-        ),
-        None => refuse((frames, head)),
+        Some(at) => Some(Control::Window(WindowControl::WantSizeNumber { head, at })),
+        None => refuse(head),
     }
 }
 
 // The number behind SIZE.
-fn want_size_number(
-    frames: Vec<Frame>,
-    head: WindowHead,
-    at: u64,
-    token: &Token,
-) -> Result<Option<State>, AllocError>
-    ensures { IfOk result (λ o. next_of o
-        ≡ machine.want_size_number (frames_of frames.items) (head_of head.head)
-        (query_of head.source) at token.now) }
+fn want_size_number(head: WindowHead, at: u64, token: &Token) -> Option<Control>
+    ensures { (fs : List states.Frame) → leads result fs
+        ≡ machine.want_size_number fs (head_of head.head) (query_of head.source) at token.now }
 {
     match number_in(token) {
-        Some(size) => goes(
-            Control::Window(WindowControl::WantAdvance { head, at, size }),
-            frames,
-        ),
-        None => refuse((frames, head)),
+        Some(size) => Some(Control::Window(WindowControl::WantAdvance { head, at, size })),
+        None => refuse(head),
     }
 }
 
 // The number behind ADVANCE.
-fn want_advance_number(
-    frames: Vec<Frame>,
-    head: WindowHead,
-    at: u64,
-    size: Num,
-    token: &Token,
-) -> Result<Option<State>, AllocError>
-    ensures { IfOk result (λ o. next_of o
-        ≡ machine.want_advance_number (frames_of frames.items) (head_of head.head)
-        (query_of head.source) at size token.now) }
+fn want_advance_number(head: WindowHead, at: u64, size: Num, token: &Token) -> Option<Control>
+    ensures { (fs : List states.Frame) → leads result fs
+        ≡ machine.want_advance_number fs (head_of head.head) (query_of head.source) at size
+        token.now }
 {
     match number_in(token) {
         Some(advance) => {
             let window = Window { at, size, advance };
-            let next = Control::Window(WindowControl::WantTuples { head, window });
-            goes(next, frames)
+            Some(Control::Window(WindowControl::WantTuples { head, window }))
         }
-        None => refuse((frames, head)),
+        None => refuse(head),
     }
 }
 
@@ -99,36 +74,27 @@ fn after_window(head: WindowHead, window: Window) -> Control
     }
 }
 
-/// The state behind a token in a window.
-pub fn step_window(
-    control: WindowControl,
-    frames: Vec<Frame>,
-    token: &Token,
-) -> Result<Option<State>, AllocError>
-    ensures { IfOk result (λ o. next_of o
-        ≡ machine.step_at (window_control_of control) (frames_of frames.items) token.now) }
+/// The place behind a token in a window.
+pub fn step_window(control: WindowControl, token: &Token) -> Option<Control>
+    ensures { (fs : List states.Frame) → leads result fs
+        ≡ machine.step_at (window_control_of control) fs token.now }
 {
     match control {
-        WindowControl::WantSize(head) => want_size(frames, head, token),
-        WindowControl::WantSizeNumber { head, at } => want_size_number(frames, head, at, token),
+        WindowControl::WantSize(head) => want_size(head, token),
+        WindowControl::WantSizeNumber { head, at } => want_size_number(head, at, token),
         WindowControl::WantAdvance { head, at, size } => {
             let next = Control::Window(WindowControl::WantAdvanceNumber { head, at, size });
-            expect(token, Plain::Advance, next, frames)
+            expect(token, Plain::Advance, next)
         }
         WindowControl::WantAdvanceNumber { head, at, size } => {
-            want_advance_number(frames, head, at, size, token)
+            want_advance_number(head, at, size, token)
         }
         WindowControl::WantTuples { head, window } => {
             let next = Control::Window(WindowControl::WantWindowClose { head, window });
-            expect(token, Plain::Tuples, next, frames)
+            expect(token, Plain::Tuples, next)
         }
         WindowControl::WantWindowClose { head, window } => {
-            expect(
-                token,
-                Plain::RightSquare,
-                after_window(head, window),
-                frames,
-            )
+            expect(token, Plain::RightSquare, after_window(head, window))
         }
     }
 }

@@ -25,7 +25,9 @@ abbrev pub is_half : ℕ → Bool
 is_half b = (b == 60) || (b == 62) || (b == 45)
 
 unfoldable pub class_of : ℕ → Class
-class_of b = if is_word_byte b then Letter else if is_blank b then Blank else if b == 39 then Quote else if is_half b then Half else Alone
+class_of b =
+    if is_word_byte b then Letter else if is_blank b then Blank else if b == 39 then Quote else if is_half b then Half
+    else Alone
 
 -- the sign of one byte, where there is one
 unfoldable pub sign_token : ℕ → ℕ → Token

@@ -72,4 +72,6 @@ number_token (Some n) at = token.Number (record { value = n; at = at })
 
 -- the token of a run of letters, digits and underscores that begins at a place
 unfoldable pub word_token : List ℕ → ℕ → Token
-word_token w at = unwrap_or (keyword_of w at) (if is_name w then token.Name (record { text = w; at = at }) else number_token (number_of w) at)
+word_token w at =
+    unwrap_or (keyword_of w at) (if is_name w then token.Name (record { text = w; at = at })
+    else number_token (number_of w) at)

@@ -8,7 +8,8 @@ use Rattle.gl_wire.specs.Costs.{Cost}
 unfoldable pub address_bits : ℕ → ℕ
 address_bits depth = least_exponent depth 1 depth
 
--- a queue for columns of these widths: two addresses and a flag, and one memory a column, whose words are a power of two
+-- a queue for columns of these widths: two addresses and a flag, and one memory a column, whose words are a power of
+-- two
 abbrev pub cost_of_queue : ℕ → List ℕ → Cost
 cost_of_queue depth columns = record {
   nodes = 22 + 2 * length columns;

@@ -18,15 +18,21 @@ pub record IsKept (old new : Net) (valid : Bit) (column kept : Bus) : Type 0 whe
   pub bus : IsBus new kept
   pub same_width : kept.width ≡ column.width
   pub value : (run : Run) → IsRun new run → (t : ℕ)
-      → run.at (suc (suc t)) kept.node ≡ (if line_at run valid (suc t) then run.at (suc t) column.node else run.at (suc t) kept.node)
+      → run.at (suc (suc t)) kept.node ≡ (if line_at run valid (suc t) then run.at (suc t) column.node
+      else run.at (suc t) kept.node)
 
 pub record AreKept (old new : Net) (valid : Bit) (columns kept : List Bus) : Type 0 where
   pub keeps : Keeps old new
-  pub cost : Costs old new (record { nodes = 2 * length (widths columns); registers = sum (widths columns); memories = 0 })
+  pub cost : Costs old new (record {
+    nodes = 2 * length (widths columns);
+    registers = sum (widths columns);
+    memories = 0;
+  })
   pub buses : AreBuses new kept
   pub same_widths : widths kept ≡ widths columns
   pub row : (run : Run) → IsRun new run → (t : ℕ)
-      → row_at run (suc (suc t)) kept ≡ (if line_at run valid (suc t) then row_at run (suc t) columns else row_at run (suc t) kept)
+      → row_at run (suc (suc t)) kept ≡ (if line_at run valid (suc t) then row_at run (suc t) columns
+      else row_at run (suc t) kept)
 
 -- flags that wait for both ends
 pub record AreWaitingBoth (run : Run) (left_end right_end now : Bit) : Type 0 where

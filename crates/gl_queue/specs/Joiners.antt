@@ -49,7 +49,9 @@ pub record IsJoinerIn (run : Run) (p q : Figures) (a b o : Emitted) : Type 0 whe
 
 -- it serves the rows side by side
 pub record IsJoinerOf (old new : Net) (p q : Figures) (a b o : Emitted) : Type 0 where
-  pub behind : IsBehind2 old new (joins_when p q (is_fixed p && is_fixed q)) (joined_pace p q (is_fixed p && is_fixed q))
+  pub behind : IsBehind2 old new (joins_when p q (is_fixed p && is_fixed q))
+      (joined_pace p q (is_fixed p && is_fixed q))
       p q (beside_figures p q) (never2 AreBeside)
-      (widths a.wire.columns ++ widths b.wire.columns) (cost_of_joiner p q (widths a.wire.columns ++ widths b.wire.columns)) a b o
+      (widths a.wire.columns ++ widths b.wire.columns)
+      (cost_of_joiner p q (widths a.wire.columns ++ widths b.wire.columns)) a b o
   pub joins : (run : Run) → IsRun new run → IsJoinerIn run p q a b o

@@ -1,4 +1,5 @@
--- A joiner of two sides that bring one row with each end: it holds the row of each side, and gives both side by side once both are there.
+-- A joiner of two sides that bring one row with each end: it holds the row of each side, and gives both side by side
+-- once both are there.
 use Rattle.std.specs.Prelude.{◌≡◌, ℕ, suc, ◌++◌, Some, None, Bool, false, not, ◌&&◌, ◌||◌, if◌then◌else◌}
 use Rattle.gl_algebra.specs.declared.figures.Figures.{Figures}
 use Rattle.gl_algebra.specs.FigureTable.{IsSound, at_end}

@@ -38,5 +38,6 @@ only_passed passed = record { passed = passed; further = λ c. false }
 -- a union over two queues serves the interleavings, with no condition on its inputs but that both sides begin together
 abbrev pub UnionServes : Type 0
 UnionServes =
-    (p q : Figures) (passed : ℕ → Bool) (a b o : Carried) → IsSound p → IsSound q → p.a ≡ q.a → IsMerging p.ne q.ne passed a b o
+    (p q : Figures) (passed : ℕ → Bool) (a b o : Carried) → IsSound p → IsSound q → p.a ≡ q.a
+    → IsMerging p.ne q.ne passed a b o
     → ServesWhen2 always p q (merged p q) (never2 IsInterleaving) (only_passed passed) a b o

@@ -28,7 +28,11 @@ pub record IsStored (old new : Net) (bits : ℕ) (push : Bit) (tail head column 
 -- a memory for each of some columns
 pub record AreStored (old new : Net) (bits : ℕ) (push : Bit) (tail head : Bus) (columns outs : List Bus) : Type 0 where
   pub keeps : Keeps old new
-  pub cost : Costs old new (record { nodes = 2 * length (widths columns); registers = 0; memories = 2 ^ bits * sum (widths columns) })
+  pub cost : Costs old new (record {
+    nodes = 2 * length (widths columns);
+    registers = 0;
+    memories = 2 ^ bits * sum (widths columns);
+  })
   pub buses : AreBuses new outs
   pub same_widths : widths outs ≡ widths columns
   pub held : (run : Run) → IsRun new run → AreHeld run push tail head columns outs

@@ -16,9 +16,11 @@ pub record Held : Type 0 where
 -- a union works in a cycle
 pub record Works (h : Held) (a b o : Carried) (c : ℕ) : Type 0 where
   pub out : o.tuple c ≡ first_of (oldest (h.left c)) (oldest (h.right c))
-  pub leaves : o.ends c ≡ (h.wait_a c && h.wait_b c) && not (is_some (oldest (h.left c))) && not (is_some (oldest (h.right c)))
+  pub leaves : o.ends c ≡ (h.wait_a c && h.wait_b c) && not (is_some (oldest (h.left c))) && not
+      (is_some (oldest (h.right c)))
   pub left : h.left (suc c) ≡ behind (h.left c) ++ option_to_list (a.tuple c)
-  pub right : h.right (suc c) ≡ (if not (is_some (oldest (h.left c))) then behind (h.right c) else h.right c) ++ option_to_list (b.tuple c)
+  pub right : h.right (suc c) ≡ (if not (is_some (oldest (h.left c))) then behind (h.right c) else h.right c)
+      ++ option_to_list (b.tuple c)
   pub wait_a : h.wait_a (suc c) ≡ a.ends c || (h.wait_a c && not (o.ends c))
   pub wait_b : h.wait_b (suc c) ≡ b.ends c || (h.wait_b c && not (o.ends c))
 
@@ -40,8 +42,10 @@ most_of k e = k.most_a e + k.most_b e
 pub record Roomy (k : Bounds) (beats : Beats) : Type 0 where
   pub low : (e : Bool) → k.first ≤ k.late e
   pub late : (t u : ℕ) (e d : Bool) → beats t ≡ Some e → beats u ≡ Some d → t < u → t + k.late e < u + k.first
-  pub rows : (t u : ℕ) (e d : Bool) → beats t ≡ Some e → beats u ≡ Some d → t < u → t + k.late e + most_of k e ≤ u + k.first
-  pub ends : (t u : ℕ) (d : Bool) → beats t ≡ Some true → beats u ≡ Some d → t < u → t + k.late true + most_of k true + 1 ≤ u + k.first
+  pub rows : (t u : ℕ) (e d : Bool) → beats t ≡ Some e → beats u ≡ Some d → t < u
+      → t + k.late e + most_of k e ≤ u + k.first
+  pub ends : (t u : ℕ) (d : Bool) → beats t ≡ Some true → beats u ≡ Some d → t < u
+      → t + k.late true + most_of k true + 1 ≤ u + k.first
 
 pub record Quiet (h : Held) (c : ℕ) : Type 0 where
   pub a : h.wait_a c ≡ false

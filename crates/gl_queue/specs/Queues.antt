@@ -17,4 +17,5 @@ pub record IsQueueOf (old new : Net) (depth : ℕ) (push hold : Bit) (columns : 
   pub passed : IsBit new q.passed
   pub buses : AreBuses new q.columns
   pub same_widths : widths q.columns ≡ widths columns
-  pub queue : (run : Run) → IsRun new run → IsQueue depth (tuple_at run push columns) (λ c. not (line_at run hold c)) (tuple_at run q.some q.columns) (line_at run q.passed)
+  pub queue : (run : Run) → IsRun new run → IsQueue depth (tuple_at run push columns) (λ c. not (line_at run hold c))
+      (tuple_at run q.some q.columns) (line_at run q.passed)

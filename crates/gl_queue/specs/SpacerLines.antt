@@ -1,4 +1,5 @@
--- A spacer as lines and buses of a netlist carry it: its queue's columns are the wire's, with the valid line and the end in front.
+-- A spacer as lines and buses of a netlist carry it: its queue's columns are the wire's, with the valid line and the
+-- end in front.
 use Rattle.std.specs.Prelude.{◌≡◌, ℕ, zero, suc, ◌-◌, List, [], ◌∷◌, Some, None, false, not, ◌&&◌, if◌then◌else◌, nat_eq}
 use Rattle.gl_bits.specs.Results.{Row}
 use Rattle.gl_net.specs.declared.node.Bus.{Bus}
@@ -41,7 +42,8 @@ pub record IsCountdown (old new : Net) (number : ℕ) (timer : Bus) (hold start 
   pub cost : Costs old new (nodes_alone 6)
   pub bus : IsBus new next
   pub width : next.width ≡ 32
-  pub value : (run : Run) → IsRun new run → ((t : ℕ) → line_at run hold t ≡ not (nat_eq (count_at run timer t) 0)) → (t : ℕ)
+  pub value : (run : Run) → IsRun new run → ((t : ℕ) → line_at run hold t ≡ not (nat_eq (count_at run timer t) 0))
+      → (t : ℕ)
       → run.at (suc t) next.node ≡ (if line_at run start (suc t) then number - 1 else run.at (suc t) timer.node - 1)
 
 -- a queue from which an entry leaves where its timer is 0, and then sets it
@@ -69,4 +71,5 @@ pub record IsSpacedOf (old new : Net) (depth g : ℕ) (a : Wire) (o : Merged) : 
   pub wire : IsWire new o.wire
   pub same_widths : widths o.wire.columns ≡ widths a.columns
   pub passed : IsBit new o.passed
-  pub spacing : (run : Run) → IsRun new run → IsSpacer g depth (line_at run o.passed) (carried run a) (carried run o.wire)
+  pub spacing : (run : Run) → IsRun new run
+      → IsSpacer g depth (line_at run o.passed) (carried run a) (carried run o.wire)

@@ -54,4 +54,5 @@ IsSpaced g f a o = (beats : Beats) → Spaced (spacer_figures g f) beats → Fit
 
 abbrev pub SpacerSpaces : Type 0
 SpacerSpaces =
-    (g : ℕ) (f : Figures) (passed : ℕ → Bool) (a o : Carried) → 1 ≤ g → IsSound f → IsSpacer g (f.ne + 1) passed a o → IsSpaced g f a o
+    (g : ℕ) (f : Figures) (passed : ℕ → Bool) (a o : Carried) → 1 ≤ g → IsSound f → IsSpacer g (f.ne + 1) passed a o
+    → IsSpaced g f a o

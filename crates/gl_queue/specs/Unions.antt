@@ -24,7 +24,8 @@ cost_of_union p q columns = record {
   memories = (ring p.ne + ring q.ne) * sum columns;
 }
 
--- what it is in a run: two queues behind the sides, of which the faster one waits for the other, and the line that either is passed
+-- what it is in a run: two queues behind the sides, of which the faster one waits for the other, and the line that
+-- either is passed
 pub record IsUnionIn (run : Run) (p q : Figures) (a b o : Emitted) : Type 0 where
   pub first : Carried
   pub second : Carried
@@ -32,11 +33,13 @@ pub record IsUnionIn (run : Run) (p q : Figures) (a b o : Emitted) : Type 0 wher
   pub left_waits : IsDelayed (wait_of p q) (carried run a.wire) first
   pub right_waits : IsDelayed (wait_of q p) (carried run b.wire) second
   pub merging : IsMerging p.ne q.ne passed first second (carried run o.wire)
-  pub told : SameLines (lines_of run o.faults) (both_lines (both_lines (lines_of run a.faults) (lines_of run b.faults)) (only_passed passed))
+  pub told : SameLines (lines_of run o.faults)
+      (both_lines (both_lines (lines_of run a.faults) (lines_of run b.faults)) (only_passed passed))
 
 -- it serves the interleavings, whatever comes; the left row goes first, and the end leaves alone
 pub record IsUnionOf (old new : Net) (p q : Figures) (a b o : Emitted) : Type 0 where
   pub behind : IsBehind2 old new always any_pace p q (union_figures p q) (never2 IsInterleaving)
       (widths a.wire.columns) (cost_of_union p q (widths a.wire.columns)) a b o
   pub merges : (run : Run) → IsRun new run → IsUnionIn run p q a b o
-  pub alone : (run : Run) → IsRun new run → (c : ℕ) → (carried run o.wire).ends c ≡ true → (carried run o.wire).tuple c ≡ None
+  pub alone : (run : Run) → IsRun new run → (c : ℕ) → (carried run o.wire).ends c ≡ true
+      → (carried run o.wire).tuple c ≡ None

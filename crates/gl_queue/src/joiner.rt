@@ -109,6 +109,7 @@ pub fn put_joined(
     let first = put_row(alloc, net, left.valid, left.columns.as_slice())?;
     let second = put_row(alloc, net, right.valid, right.columns.as_slice())?;
     let columns = all_columns(first, second.as_slice())?;
+    // Named, since a goal speaks of the value.
     let wire = stage(alloc, net, now, now, columns.as_slice())?;
     Ok(wire)
 }

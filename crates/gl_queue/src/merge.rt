@@ -79,6 +79,7 @@ fn put_rows(
     requires hold { IsBit net.old hold }
     ensures { IfOk result (IsQueueOf net.old net.new depth wire.now.valid hold wire.now.columns) }
 {
+    // Named, since a goal speaks of the value.
     let queue = put_queue(alloc, net, depth, wire.valid, hold, wire.columns.as_slice())?;
     Ok(queue)
 }

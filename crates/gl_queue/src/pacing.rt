@@ -42,6 +42,7 @@ pub fn put_countdown(
     let full = net.constant(word(number.saturating_sub(1) as u64, 32))?;
     let less = net.binary(BinaryOp::Sub, timer, one)?;
     let down = net.choose(hold, less, zero)?;
+    // Named, since a goal speaks of the value.
     let next = net.choose(start, full, down)?;
     Ok(next)
 }

@@ -54,6 +54,7 @@ pub fn put_column(
 {
     let store = net.memory(bits, column.width)?;
     net.drive_memory(store, push, tail, column)?;
+    // Named, since a goal speaks of the value.
     let out = net.read(store, head)?;
     Ok(out)
 }

@@ -1,5 +1,5 @@
--- When an evaluation runs out of nothing but memory: rows that fit their columns, and expressions that have a word over them.
--- A middle layer, proved equal to gl_query (`Results`): no promise rests on it.
+-- When an evaluation runs out of nothing but memory: rows that fit their columns, and expressions that have a word over
+-- them. A middle layer, proved equal to gl_query (`Results`): no promise rests on it.
 use Rattle.std.specs.Prelude.{◌≡◌, ℕ, List, Result, IfErr}
 use Rattle.std.specs.List.{AllByRecursion}
 use Rattle.gl_bits.specs.declared.kind.Kind.{Kind}

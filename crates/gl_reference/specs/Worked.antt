@@ -10,7 +10,9 @@ use Rattle.gl_query.specs.Accepted.{Scope, IsAcceptedOver}
 
 -- a symbol, a price and a volume
 abbrev pub trade : List Column
-trade = record { name = codes "symbol"; kind = Text 4 } ∷ record { name = codes "price"; kind = Unsigned 32 } ∷ record { name = codes "volume"; kind = Unsigned 32 } ∷ []
+trade =
+    record { name = codes "symbol"; kind = Text 4 } ∷ record { name = codes "price"; kind = Unsigned 32 }
+    ∷ record { name = codes "volume"; kind = Unsigned 32 } ∷ []
 
 abbrev pub streams : List Stream
 streams = record { name = codes "trades"; columns = trade } ∷ record { name = codes "other"; columns = trade } ∷ []
@@ -53,10 +55,11 @@ is_ubsn = Binary op.Eq symbol (Letters (codes "UBSN"))
 pub record AreAccepted : Type 0 where
   pub filtered : IsAcceptedOver scope (where_is is_ubsn trades)
   pub counted : IsAcceptedOver scope (Each (codes "it") trades 4 2 (total Count (where_is is_ubsn it)))
-  pub summed : IsAcceptedOver scope (Concat (select price trades) (Rows (Items (record { expr = Binary op.Add price volume; name = codes "pv" } ∷ [])) None trades))
+  pub summed : IsAcceptedOver scope (Concat (select price trades)
+      (Rows (Items (record { expr = Binary op.Add price volume; name = codes "pv" } ∷ [])) None trades))
 
--- none of these is: a text as a number, a number that is too wide, a filter that is no bit, unlike columns, unlike paces, a body
--- that does not close, too many windows open at once
+-- none of these is: a text as a number, a number that is too wide, a filter that is no bit, unlike columns, unlike
+-- paces, a body that does not close, too many windows open at once
 pub record AreRefused : Type 0 where
   pub mixed : IsAcceptedOver scope (where_is (Binary op.Eq symbol (Number 5)) trades) → ⊥
   pub wide : IsAcceptedOver scope (where_is (Binary op.Lt price (Number 4294967296)) trades) → ⊥

@@ -18,7 +18,8 @@ projected_widths kinds items = map width_of (map (kind_of_operand kinds) items)
 
 -- a stage behind columns of these widths, and so many operations before it
 abbrev pub cost_of_rows : List ℕ → ℕ → Cost
-cost_of_rows columns operations = record { nodes = 4 * (length columns + 2 + operations); registers = sum columns + 2; memories = 0 }
+cost_of_rows columns operations =
+    record { nodes = 4 * (length columns + 2 + operations); registers = sum columns + 2; memories = 0 }
 
 -- no stage
 abbrev pub cost_of_items : List ℕ → Cost

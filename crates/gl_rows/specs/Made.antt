@@ -28,7 +28,8 @@ pub record Carries (old new : Net) (most width : ℕ) (value : Run → ℕ → �
   pub carries : (run : Run) → IsRun new run → (t : ℕ) → run.at t b.node ≡ value run t
 
 -- a bus for each item, of its kind, which carries its value of the row, and at most so many nodes for each
-pub record AreMade {Item : Type 0} (old new : Net) (most : ℕ) (columns : List Bus) (kind_of : Item → Kind) (value_of : Row → Item → ℕ)
+pub record AreMade {Item : Type 0} (old new : Net) (most : ℕ) (columns : List Bus) (kind_of : Item → Kind)
+    (value_of : Row → Item → ℕ)
     (items : List Item) (bs : List Bus) : Type 0 where
   pub keeps : Keeps old new
   pub cost : CostsAtMost old new (nodes_alone (most * length items))
@@ -39,10 +40,12 @@ pub record AreMade {Item : Type 0} (old new : Net) (most : ℕ) (columns : List 
 -- the value of an operand, for a node at most
 abbrev pub IsOperand : Net → Net → List Bus → List Kind → Operand → Bus → Type 0
 IsOperand old new columns kinds operand b =
-    Carries old new 1 (width_of (kind_of_operand kinds operand)) (λ run t. value_of_operand (row_at run t columns) operand) b
+    Carries old new 1 (width_of (kind_of_operand kinds operand))
+    (λ run t. value_of_operand (row_at run t columns) operand) b
 
 abbrev pub AreOperands : Net → Net → List Bus → List Kind → List Operand → List Bus → Type 0
-AreOperands old new columns kinds operands bs = AreMade old new 1 columns (kind_of_operand kinds) value_of_operand operands bs
+AreOperands old new columns kinds operands bs =
+    AreMade old new 1 columns (kind_of_operand kinds) value_of_operand operands bs
 
 -- the value of an operation, for three nodes at most: two literals and a gate
 abbrev pub IsOperation : Net → Net → List Bus → List Kind → ColOp → Bus → Type 0
@@ -59,7 +62,8 @@ IsCast old new from to bus b = Carries old new 2 (width_of to) (λ run t. value_
 -- what an operator gives of two buses of a kind
 abbrev pub IsOperated : Net → Net → Op → Kind → Bus → Bus → Bus → Type 0
 IsOperated old new op kind left right b =
-    Carries old new 1 (width_of (result_kind (sort_of op) kind)) (λ run t. operate op kind (run.at t left.node) (run.at t right.node)) b
+    Carries old new 1 (width_of (result_kind (sort_of op) kind))
+    (λ run t. operate op kind (run.at t left.node) (run.at t right.node)) b
 
 -- the lowest bits of a bus, or all of them with zero bits above
 abbrev pub AreLow : Net → Net → ℕ → Bus → Bus → Type 0
@@ -67,4 +71,5 @@ AreLow old new width bus b = Carries old new 2 width (λ run t. run.at t bus.nod
 
 -- the highest bits of a bus, or all of them with zero bits below
 abbrev pub AreHigh : Net → Net → ℕ → Bus → Bus → Type 0
-AreHigh old new width bus b = Carries old new 2 width (λ run t. run.at t bus.node / 2 ^ (bus.width - width) * 2 ^ (width - bus.width)) b
+AreHigh old new width bus b =
+    Carries old new 2 width (λ run t. run.at t bus.node / 2 ^ (bus.width - width) * 2 ^ (width - bus.width)) b

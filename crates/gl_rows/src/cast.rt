@@ -25,6 +25,7 @@ fn put_zeros(net: &mut NetBuilder, width: u8) -> Result<Bus, Memory>
     requires { IsWidth width }
     ensures { IfOk result (Carries net.old net.new 1 width (λ run t. 0)) }
 {
+    // Named, since a goal speaks of the value.
     let zeros = net.constant(zero_word(width))?;
     Ok(zeros)
 }

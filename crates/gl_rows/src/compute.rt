@@ -93,6 +93,7 @@ impl Operator for ComputeRow<'_> {
     }
 
     fn emit(&self, alloc: Global, net: &mut NetBuilder, below: Emitted) -> Result<Emitted, Memory> {
+        // Named, since a goal speaks of the value.
         let put = put_compute(alloc, net, below, self.kinds, self.ops)?;
         Ok(put)
     }

@@ -28,6 +28,7 @@ pub fn put_operand(net: &mut NetBuilder, source: Source, operand: Operand) -> Re
     match operand {
         Operand::Column(column) => Ok(source.columns[column as usize]),
         Operand::Literal(word, _) => {
+            // Named, since a goal speaks of the value.
             let bus = net.constant(word)?;
             Ok(bus)
         }

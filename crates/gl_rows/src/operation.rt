@@ -56,6 +56,7 @@ pub fn put_operator(net: &mut NetBuilder, op: Op, left: Bus, right: Bus) -> Resu
         let bus = net.binary(gate_of(op), right, left)?;
         return Ok(bus);
     }
+    // Named, since a goal speaks of the value.
     let bus = net.binary(gate_of(op), left, right)?;
     Ok(bus)
 }

@@ -72,6 +72,7 @@ impl Operator for ProjectRow<'_> {
     }
 
     fn emit(&self, alloc: Global, net: &mut NetBuilder, below: Emitted) -> Result<Emitted, Memory> {
+        // Named, since a goal speaks of the value.
         let put = put_project(alloc, net, below, self.kinds, self.items)?;
         Ok(put)
     }

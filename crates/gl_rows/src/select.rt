@@ -65,6 +65,7 @@ impl Operator for SelectRow {
     }
 
     fn emit(&self, alloc: Global, net: &mut NetBuilder, below: Emitted) -> Result<Emitted, Memory> {
+        // Named, since a goal speaks of the value.
         let put = put_select(alloc, net, below, self.column)?;
         Ok(put)
     }

@@ -16,7 +16,8 @@ pub record IsReady (net : Net) : Type 0 where
   pub reset : ℕ
   pub left : ℕ
   pub right : ℕ
-  pub ports : net.ports ≡ input_at (codes "rst") reset ∷ input_at (codes "left") left ∷ input_at (codes "right") right ∷ []
+  pub ports : net.ports ≡ input_at (codes "rst") reset ∷ input_at (codes "left") left ∷ input_at (codes "right") right
+      ∷ []
   pub bit : shape_in net.nodes reset ≡ Some (Value 1)
   pub driven : (n : ℕ) → open_at net n ≡ None
 

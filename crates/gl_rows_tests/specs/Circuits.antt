@@ -20,5 +20,6 @@ pub record IsSourceOf (net : Net) (first second : ℕ) (e : Emitted) : Type 0 wh
   pub eos : ℕ
   pub a : ℕ
   pub b : ℕ
-  pub ports : net.ports ≡ input_at (codes "rst") rst ∷ input_at (codes "valid") valid ∷ input_at (codes "eos") eos ∷ input_at (codes "a") a ∷ input_at (codes "b") b ∷ []
+  pub ports : net.ports ≡ input_at (codes "rst") rst ∷ input_at (codes "valid") valid ∷ input_at (codes "eos") eos
+      ∷ input_at (codes "a") a ∷ input_at (codes "b") b ∷ []
   pub reset : shape_in net.nodes rst ≡ Some (Value 1)

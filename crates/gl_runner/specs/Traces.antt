@@ -1,5 +1,5 @@
--- What tracing a module over beats writes: the lines of its run, all values in decimal, up to its end, or through the cycles that are
--- waited for.
+-- What tracing a module over beats writes: the lines of its run, all values in decimal, up to its end, or through the
+-- cycles that are waited for.
 use Rattle.std.specs.Prelude.{◌≡◌, ◌⊎◌, ℕ, ◌+◌, ◌≤◌, List, Option, map, IsFalse}
 use Rattle.gl_bits.specs.declared.kind.Kind.{Kind}
 use Rattle.gl_bits.specs.declared.kind.Kind.TheVariants.{Unsigned}
@@ -23,9 +23,11 @@ decimal_kinds m = map Unsigned (result_widths m)
 
 -- the end is seen in none of the cycles from the last beat's to so many after it
 abbrev pub HasNoEnd : List Beat → List (List ℕ) → PortValues → ℕ → Type 0
-HasNoEnd beats outs port extra = (k : ℕ) → last_cycle beats ≤ k → k ≤ last_cycle beats + extra → IsFalse (shown port outs k).end
+HasNoEnd beats outs port extra =
+    (k : ℕ) → last_cycle beats ≤ k → k ≤ last_cycle beats + extra → IsFalse (shown port outs k).end
 
--- the last cycle that is run: the first from the last beat's on in which the end is seen, if it comes in time; else the last that is waited for
+-- the last cycle that is run: the first from the last beat's on in which the end is seen, if it comes in time; else the
+-- last that is waited for
 pub record EndsIn (beats : List Beat) (outs : List (List ℕ)) (port : PortValues) (extra n : ℕ) : Type 0 where
   pub is : IsEnd beats outs port n
   pub in_time : n ≤ last_cycle beats + extra
@@ -41,28 +43,37 @@ IsLastRun beats outs port extra n = EndsIn beats outs port extra n ⊎ RunsOut b
 abbrev pub WritesTo : List Kind → List (List ℕ) → PortValues → ℕ → Option (List ℕ) → Option (List ℕ) → Type 0
 WritesTo kinds outs port n old new = Appends old new (lines kinds (seen port outs n))
 
-pub record TracesFront (kinds : List Kind) (beats : List Beat) (extra : ℕ) (outs : List (List ℕ)) (port : PortValues) (old new : Option (List ℕ)) : Type 0 where
+pub record TracesFront (kinds : List Kind) (beats : List Beat) (extra : ℕ) (outs : List (List ℕ)) (port : PortValues)
+    (old new : Option (List ℕ)) : Type 0 where
   pub last : ℕ
   pub is : IsLastRun beats outs port extra last
   pub taken : AppendsFront old new (lines kinds (seen port outs last))
 
-pub record TracesToEnd (kinds : List Kind) (beats : List Beat) (extra : ℕ) (outs : List (List ℕ)) (port : PortValues) (old new : Option (List ℕ)) : Type 0 where
+pub record TracesToEnd (kinds : List Kind) (beats : List Beat) (extra : ℕ) (outs : List (List ℕ)) (port : PortValues)
+    (old new : Option (List ℕ)) : Type 0 where
   pub last : ℕ
   pub ends : EndsIn beats outs port extra last
   pub taken : WritesTo kinds outs port last old new
 
-pub record TracesOut (kinds : List Kind) (beats : List Beat) (extra cycle : ℕ) (outs : List (List ℕ)) (port : PortValues) (old new : Option (List ℕ)) : Type 0 where
+pub record TracesOut (kinds : List Kind) (beats : List Beat) (extra cycle : ℕ) (outs : List (List ℕ))
+    (port : PortValues) (old new : Option (List ℕ)) : Type 0 where
   pub out : RunsOut beats outs port extra cycle
   pub taken : WritesTo kinds outs port cycle old new
 
 -- a fact about each run of a module from this start over these beats
 abbrev pub OfRunsOf : Module → Schema → List Beat → Start → (List (List ℕ) → PortValues → Type 0) → Type 0
-OfRunsOf m schema beats start P = (value : ℕ → Nets) (word : ℕ → Memories) → IsRunOver m schema beats start value word → P (result_names m) (port_of m value)
+OfRunsOf m schema beats start P =
+    (value : ℕ → Nets) (word : ℕ → Memories) → IsRunOver m schema beats start value word
+    → P (result_names m) (port_of m value)
 
--- of each run: its lines up to the end were written; or the end comes in none of the cycles that are waited for, and the lines of all were
--- written; or the sink failed behind a front of these; or memory ran out and nothing was put
-abbrev pub Traced : ((List (List ℕ) → PortValues → Type 0) → Type 0) → List Kind → List Beat → ℕ → SinkState → SinkState → Ending → Type 0
-Traced OfRuns kinds beats extra old new Done = (new.faults ≡ old.faults) × OfRuns (λ outs port. TracesToEnd kinds beats extra outs port old.taken new.taken)
-Traced OfRuns kinds beats extra old new (NoEnd cycle) = (new.faults ≡ old.faults) × OfRuns (λ outs port. TracesOut kinds beats extra cycle outs port old.taken new.taken)
-Traced OfRuns kinds beats extra old new WriteFault = Rose old.faults new.faults × OfRuns (λ outs port. TracesFront kinds beats extra outs port old.taken new.taken)
+-- of each run: its lines up to the end were written; or the end comes in none of the cycles that are waited for, and
+-- the lines of all were written; or the sink failed behind a front of these; or memory ran out and nothing was put
+abbrev pub Traced : ((List (List ℕ) → PortValues → Type 0) → Type 0) → List Kind → List Beat → ℕ → SinkState → SinkState
+    → Ending → Type 0
+Traced OfRuns kinds beats extra old new Done =
+    (new.faults ≡ old.faults) × OfRuns (λ outs port. TracesToEnd kinds beats extra outs port old.taken new.taken)
+Traced OfRuns kinds beats extra old new (NoEnd cycle) =
+    (new.faults ≡ old.faults) × OfRuns (λ outs port. TracesOut kinds beats extra cycle outs port old.taken new.taken)
+Traced OfRuns kinds beats extra old new WriteFault =
+    Rose old.faults new.faults × OfRuns (λ outs port. TracesFront kinds beats extra outs port old.taken new.taken)
 Traced OfRuns kinds beats extra old new Memory = new ≡ old

@@ -24,7 +24,8 @@ text_read [] = None
 text_read (a ∷ []) = None
 text_read (a ∷ b ∷ []) = None
 text_read (a ∷ b ∷ c ∷ []) = None
-text_read (a ∷ b ∷ c ∷ d ∷ digits) = if (a == 116) && (b == 101) && (c == 120) && (d == 116) then sized Text 8 (small_number digits) else None
+text_read (a ∷ b ∷ c ∷ d ∷ digits) =
+    if (a == 116) && (b == 101) && (c == 120) && (d == 116) then sized Text 8 (small_number digits) else None
 
 abbrev pub kind_read : List ℕ → Option Kind
 kind_read [] = None

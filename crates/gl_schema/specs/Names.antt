@@ -32,9 +32,13 @@ has_loose_underscore (a ∷ b ∷ bs) = ((a == 95) && (b == 95)) || has_loose_un
 
 -- the keywords of the query language in lower case
 unfoldable pub keywords : List (List ℕ)
-keywords = codes "select" ∷ codes "from" ∷ codes "where" ∷ codes "group" ∷ codes "by" ∷ codes "groups" ∷ codes "each" ∷ codes "in"
-    ∷ codes "size" ∷ codes "advance" ∷ codes "tuples" ∷ codes "time" ∷ codes "union" ∷ codes "concat" ∷ codes "into" ∷ codes "as"
-    ∷ codes "and" ∷ codes "or" ∷ codes "not" ∷ codes "cast" ∷ codes "count" ∷ codes "sum" ∷ codes "min" ∷ codes "max" ∷ codes "avg"
+keywords =
+    codes "select" ∷ codes "from" ∷ codes "where" ∷ codes "group" ∷ codes "by" ∷ codes "groups" ∷ codes "each"
+    ∷ codes "in"
+    ∷ codes "size" ∷ codes "advance" ∷ codes "tuples" ∷ codes "time" ∷ codes "union" ∷ codes "concat" ∷ codes "into"
+    ∷ codes "as"
+    ∷ codes "and" ∷ codes "or" ∷ codes "not" ∷ codes "cast" ∷ codes "count" ∷ codes "sum" ∷ codes "min" ∷ codes "max"
+    ∷ codes "avg"
     ∷ codes "wsum" ∷ []
 
 -- words with a meaning of their own in a tuple file or on a module's ports
@@ -45,9 +49,12 @@ reserved = codes "end" ∷ codes "tick" ∷ codes "valid" ∷ codes "eos" ∷ []
 unfoldable pub is_taken : List ℕ → Bool
 is_taken bytes = list_any (bytes_eq bytes) keywords || list_any (bytes_eq bytes) reserved
 
--- a small letter, then small letters, digits and single underscores, none last: at most 32 bytes, and no word with another meaning
+-- a small letter, then small letters, digits and single underscores, none last: at most 32 bytes, and no word with
+-- another meaning
 unfoldable pub is_name : List ℕ → Bool
-is_name bytes = nat_le (length bytes) most_bytes && begins_with_letter bytes && has_name_bytes bytes && not (has_loose_underscore bytes)
+is_name bytes =
+    nat_le (length bytes) most_bytes && begins_with_letter bytes && has_name_bytes bytes && not
+    (has_loose_underscore bytes)
     && not (is_taken bytes)
 
 abbrev pub IsName : List ℕ → Type 0

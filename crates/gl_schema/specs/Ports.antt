@@ -1,4 +1,5 @@
--- What beats put on the input ports of a module. Simulation cycle 0 is reset, and file cycle n is simulation cycle n + 1.
+-- What beats put on the input ports of a module. Simulation cycle 0 is reset, and file cycle n is simulation cycle n +
+-- 1.
 use Rattle.std.specs.Prelude.{◌≡◌, ℕ, zero, suc, List, [], ◌∷◌, ◌++◌, map, Option, None, codes, is_some, unwrap_or, IfSome}
 use Rattle.std.specs.List.{AllByRecursion}
 use Rattle.gl_bits.specs.Words.{bit}
@@ -65,7 +66,8 @@ streams_pins (s ∷ ss) (r ∷ rs) = stream_pins s r ++ streams_pins ss rs
 -- all input ports but the clock, with their values in a simulation cycle: in reset rst alone is 1
 abbrev pub pins : Schema → List Beat → ℕ → List Pin
 pins schema beats zero = pin rst 1 ∷ (streams_pins schema.streams [] ++ pin eos 0 ∷ [])
-pins schema beats (suc n) = pin rst 0 ∷ (streams_pins schema.streams (rows_at beats n) ++ pin eos (bit (ends_at beats n)) ∷ [])
+pins schema beats (suc n) =
+    pin rst 0 ∷ (streams_pins schema.streams (rows_at beats n) ++ pin eos (bit (ends_at beats n)) ∷ [])
 
 -- their names
 abbrev pub pin_names : List Pin → List (List ℕ)

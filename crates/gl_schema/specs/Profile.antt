@@ -49,7 +49,8 @@ column_outputs columns = map (λ c. output (out_column c.name) (width_of c.kind)
 
 -- all outputs of a result: whether a row leaves, its columns, the end, and the two fault lines
 abbrev pub output_ports : List Column → List ProfilePort
-output_ports columns = output out_valid 1 ∷ (column_outputs columns ++ output out_eos 1 ∷ output fault_group 1 ∷ output fault_queue 1 ∷ [])
+output_ports columns =
+    output out_valid 1 ∷ (column_outputs columns ++ output out_eos 1 ∷ output fault_group 1 ∷ output fault_queue 1 ∷ [])
 
 -- all ports but the clock
 abbrev pub profile : Schema → List Column → List ProfilePort

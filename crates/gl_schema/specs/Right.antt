@@ -13,9 +13,10 @@ Meaning = Inputs → List (List ℕ) → Bool → Type 0
 abbrev pub IsTold : (Inputs → List (List ℕ) → Bool → Bool) → Meaning
 IsTold test inputs rows spill = IsTrue (test inputs rows spill)
 
--- in file cycles: the end is seen once, in the latency after the last beat, no row is later, no queue overflows, and the rows
--- with the group line at the end are a result of what the beats bring
-pub record IsRight (means : Meaning) (latency : ℕ) (beats : List Beat) (outs : List (List ℕ)) (port : PortValues) : Type 0 where
+-- in file cycles: the end is seen once, in the latency after the last beat, no row is later, no queue overflows, and
+-- the rows with the group line at the end are a result of what the beats bring
+pub record IsRight (means : Meaning) (latency : ℕ) (beats : List Beat) (outs : List (List ℕ)) (port : PortValues)
+    : Type 0 where
   pub ended : ℕ
   pub soonest : last_cycle beats ≤ ended
   pub in_time : ended ≤ last_cycle beats + latency
@@ -30,7 +31,8 @@ abbrev pub end_in : Shown → Option ℕ
 end_in s = if s.end then Some s.cycle else None
 
 -- the same, told of the file cycles 0 to n: the end is seen in one of them, and so on
-pub record IsRightTo (means : Meaning) (latency : ℕ) (beats : List Beat) (outs : List (List ℕ)) (port : PortValues) (n : ℕ) : Type 0 where
+pub record IsRightTo (means : Meaning) (latency : ℕ) (beats : List Beat) (outs : List (List ℕ)) (port : PortValues)
+    (n : ℕ) : Type 0 where
   pub ended : ℕ
   pub soonest : last_cycle beats ≤ ended
   pub in_time : ended ≤ last_cycle beats + latency

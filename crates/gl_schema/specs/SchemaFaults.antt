@@ -33,15 +33,20 @@ goes_to r next = Ok (record r { place = next })
 
 -- `stream` begins a stream, but no ninth one
 abbrev pub stream_next : Reading → ℕ → List ℕ → Result Reading SchemaFault
-stream_next r at w = if not (bytes_eq w (codes "stream")) then Err (Syntax at) else if nat_le most_streams (length r.streams) then Err (TooMany at) else goes_to r place.Name
+stream_next r at w =
+    if not (bytes_eq w (codes "stream")) then Err (Syntax at) else if nat_le most_streams (length r.streams)
+    then Err (TooMany at) else goes_to r place.Name
 
 -- in a stream's place a name that no stream has
 abbrev pub name_next : Reading → ℕ → List ℕ → Result Reading SchemaFault
-name_next r at w = if not (is_name w) then Err (BadName at) else if has_stream r.streams w then Err (Twice at) else goes_to r (place.Opening w)
+name_next r at w =
+    if not (is_name w) then Err (BadName at) else if has_stream r.streams w then Err (Twice at)
+    else goes_to r (place.Opening w)
 
 -- in a column's place a name that no column of the stream has, but no 33rd one
 abbrev pub column_next : Reading → Stream → ℕ → List ℕ → Result Reading SchemaFault
-column_next r s at w = if not (is_name w) then Err (BadName at) else if nat_le most_columns (length s.columns) then Err (TooMany at)
+column_next r s at w =
+    if not (is_name w) then Err (BadName at) else if nat_le most_columns (length s.columns) then Err (TooMany at)
     else if has_column s.columns w then Err (Twice at) else goes_to r (place.Kind s w)
 
 -- a stream with one more column
@@ -74,7 +79,8 @@ sign_at place.Name r at b = Err (Syntax at)
 sign_at (place.Opening name) r at b = only 40 at b (goes_to r (place.Column (record { name = name; columns = [] })))
 sign_at (place.Column s) r at b = Err (Syntax at)
 sign_at (place.Kind s name) r at b = Err (Syntax at)
-sign_at (place.Comma s) r at b = if b == 44 then goes_to r (place.Column s) else only 41 at b (goes_to r (place.Close s))
+sign_at (place.Comma s) r at b =
+    if b == 44 then goes_to r (place.Column s) else only 41 at b (goes_to r (place.Close s))
 sign_at (place.Close s) r at b = only 59 at b (Ok (record { streams = r.streams ++ s ∷ []; place = place.Stream }))
 
 -- the next token: where reading stands behind it, or the fault that it shows

@@ -100,7 +100,9 @@ row_line kinds cycle (Some row) = line_of cycle kinds row
 
 -- the lines of one cycle: overflow where it is told for the first time, then the result, then the end
 abbrev pub cycle_lines : List Kind → Bool → Shown → List ℕ
-cycle_lines kinds told s = (if s.group && not told then overflow_line s.cycle else []) ++ row_line kinds s.cycle s.row ++ (if s.end then end_line s.cycle else [])
+cycle_lines kinds told s =
+    (if s.group && not told then overflow_line s.cycle else []) ++ row_line kinds s.cycle s.row
+    ++ (if s.end then end_line s.cycle else [])
 
 -- the lines of cycles, where the overflow was told before or not
 abbrev pub lines_after : Bool → List Kind → List Shown → List ℕ

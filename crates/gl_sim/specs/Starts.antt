@@ -49,10 +49,12 @@ zero_bank d = replicate (words_in d.kind) 0
 
 -- a run that begins with these registers and words
 abbrev pub StartsFrom : Start → Module → (ℕ → Nets) → (ℕ → Memories) → Type 0
-StartsFrom start m value word = SameState m.declarations (register_at start m.declarations) (word_at start m.declarations) (value 0) (word 0)
+StartsFrom start m value word =
+    SameState m.declarations (register_at start m.declarations) (word_at start m.declarations) (value 0) (word 0)
 
 -- one declaration drawn: two numbers for its register, or for each of its words
-pub record DrawsOne (ds : List Declaration) (n : ℕ) (d : Declaration) (state state' : ℕ) (values values' : List ℕ) (banks banks' : List (List ℕ)) : Type 0 where
+pub record DrawsOne (ds : List Declaration) (n : ℕ) (d : Declaration) (state state' : ℕ) (values values' : List ℕ)
+    (banks banks' : List (List ℕ)) : Type 0 where
   pub moved : state' ≡ draw state (draws_for d.kind)
   pub store : IsStore ds values' banks'
   pub register : IsRegister d.kind → slice_index values' n ≡ word_drawn state 0 d.width
@@ -64,8 +66,10 @@ pub record DrawsOne (ds : List Declaration) (n : ℕ) (d : Declaration) (state s
 pub record IsDrawnTo (ds : List Declaration) (seed n state : ℕ) (values : List ℕ) (banks : List (List ℕ)) : Type 0 where
   pub moved : state ≡ draw seed (draws_before ds n)
   pub store : IsStore ds values banks
-  pub registers : (k : ℕ) (d : Declaration) → k < n → slice_get ds k ≡ Some d → IsRegister d.kind → slice_index values k ≡ register_at (Drawn seed) ds k
-  pub words : (k : ℕ) (d : Declaration) (at : ℕ) → k < n → slice_get ds k ≡ Some d → at < words_in d.kind → memories_of banks k at ≡ word_at (Drawn seed) ds k at
+  pub registers : (k : ℕ) (d : Declaration) → k < n → slice_get ds k ≡ Some d → IsRegister d.kind
+      → slice_index values k ≡ register_at (Drawn seed) ds k
+  pub words : (k : ℕ) (d : Declaration) (at : ℕ) → k < n → slice_get ds k ≡ Some d → at < words_in d.kind
+      → memories_of banks k at ≡ word_at (Drawn seed) ds k at
 
 -- a run from a start whose inputs are these rows, one for each cycle
 pub record RunsWith (start : Start) (m : Module) (rows : ℕ → List ℕ) : Type 0 where

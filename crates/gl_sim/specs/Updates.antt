@@ -16,7 +16,8 @@ put_of (u ∷ us) k at = later_or (put_of us k at) (put_by u k at)
 
 -- each update is in its memory
 abbrev pub AreInside : List (List ℕ) → List Update → Type 0
-AreInside banks us = AllByRecursion (λ u. (u.memory < length banks) × (u.address < length (slice_index_or banks u.memory []))) us
+AreInside banks us =
+    AllByRecursion (λ u. (u.memory < length banks) × (u.address < length (slice_index_or banks u.memory []))) us
 
 -- the writes that stand in a statement
 abbrev pub writes_in : Statement → ℕ
@@ -30,6 +31,8 @@ writes_in (If test yes' no') = writes_in yes' + writes_in no'
 abbrev pub CanExecute : List ℕ → List (List ℕ) → Statement → Type 0
 CanExecute vs bs Nothing = Unit {0}
 CanExecute vs bs (Put register value) = (register < length vs) × CanEvaluate vs bs value
-CanExecute vs bs (Write memory address value) = (memory < length bs) × (value_of (nets_of vs) (memories_of bs) address < length (slice_index_or bs memory [])) × (value_of (nets_of vs) (memories_of bs) address < 2 ^ 64) × CanEvaluate vs bs address × CanEvaluate vs bs value
+CanExecute vs bs (Write memory address value) =
+    (memory < length bs) × (value_of (nets_of vs) (memories_of bs) address < length (slice_index_or bs memory []))
+    × (value_of (nets_of vs) (memories_of bs) address < 2 ^ 64) × CanEvaluate vs bs address × CanEvaluate vs bs value
 CanExecute vs bs (Both first second) = CanExecute vs bs first × CanExecute vs bs second
 CanExecute vs bs (If test yes' no') = CanEvaluate vs bs test × CanExecute vs bs yes' × CanExecute vs bs no'

@@ -19,16 +19,21 @@ first_known p other = p
 -- the column of stream k that a port of this name carries, the columns counted from c
 abbrev pub column_pin : List ℕ → List ℕ → ℕ → ℕ → List Column → Pin
 column_pin name stream k c [] = pin_is.Unknown
-column_pin name stream k c (x ∷ xs) = if bytes_eq (in_column stream x.name) name then pin_is.Column k c else column_pin name stream k (c + 1) xs
+column_pin name stream k c (x ∷ xs) =
+    if bytes_eq (in_column stream x.name) name then pin_is.Column k c else column_pin name stream k (c + 1) xs
 
 -- what it carries of the streams, counted from k
 abbrev pub stream_pin : List ℕ → ℕ → List Stream → Pin
 stream_pin name k [] = pin_is.Unknown
-stream_pin name k (s ∷ ss) = if bytes_eq (in_valid s.name) name then pin_is.Valid k else first_known (column_pin name s.name k 0 s.columns) (stream_pin name (k + 1) ss)
+stream_pin name k (s ∷ ss) =
+    if bytes_eq (in_valid s.name) name then pin_is.Valid k
+    else first_known (column_pin name s.name k 0 s.columns) (stream_pin name (k + 1) ss)
 
 -- what the input port of a name carries
 abbrev pub pin_named : Schema → List ℕ → Pin
-pin_named schema name = if bytes_eq rst name then pin_is.Reset else first_known (stream_pin name 0 schema.streams) (if bytes_eq eos name then pin_is.End else pin_is.Unknown)
+pin_named schema name =
+    if bytes_eq rst name then pin_is.Reset else first_known (stream_pin name 0 schema.streams)
+    (if bytes_eq eos name then pin_is.End else pin_is.Unknown)
 
 -- the name of the declaration with this number
 abbrev pub name_at : List Declaration → ℕ → List ℕ

@@ -10,7 +10,8 @@ use Rattle.gl_verilog_orders.specs.Events.{IsEventRun}
 use Rattle.gl_verilog_orders.specs.declared.start.Start.{Start}
 use Rattle.gl_sim.specs.Starts.{register_at, word_at}
 
--- a run of the module in some order of events with these beats on its inputs, which begins with these registers and words
+-- a run of the module in some order of events with these beats on its inputs, which begins with these registers and
+-- words
 pub record RunsOver (m : Module) (schema : Schema) (beats : List Beat) (start : Nets) (words : Memories) : Type 0 where
   pub value : ℕ → Nets
   pub word : ℕ → Memories
@@ -20,8 +21,12 @@ pub record RunsOver (m : Module) (schema : Schema) (beats : List Beat) (start : 
 
 -- there is one from any registers and words over any beats of the schema
 abbrev pub HasRunsOver : Module → Schema → Type 0
-HasRunsOver m schema = (beats : List Beat) (start : Nets) (words : Memories) → AreBeats schema beats → Fit m.declarations start words → RunsOver m schema beats start words
+HasRunsOver m schema =
+    (beats : List Beat) (start : Nets) (words : Memories) → AreBeats schema beats → Fit m.declarations start words
+    → RunsOver m schema beats start words
 
 -- and from any start, all of 0 or drawn
 abbrev pub HasStartedRuns : Module → Schema → Type 0
-HasStartedRuns m schema = (beats : List Beat) (start : Start) → AreBeats schema beats → RunsOver m schema beats (register_at start m.declarations) (word_at start m.declarations)
+HasStartedRuns m schema =
+    (beats : List Beat) (start : Start) → AreBeats schema beats
+    → RunsOver m schema beats (register_at start m.declarations) (word_at start m.declarations)

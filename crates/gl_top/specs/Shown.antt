@@ -13,12 +13,16 @@ use Rattle.gl_top_words.specs.Forms.{IsCommand}
 use Rattle.gl_top_judging.specs.Figuring.{IsFigured}
 use Rattle.gl_top_judging.specs.Passing.{QueryPasses}
 
--- what a command other than `run`, `sim` and `load` writes of a statement, and the text that it leaves: the Verilog text, which meets the statement; the
--- figures that are printed for it and what it costs; or the statement and its plan
+-- what a command other than `run`, `sim` and `load` writes of a statement, and the text that it leaves: the Verilog
+-- text, which meets the statement; the figures that are printed for it and what it costs; or the statement and its plan
 abbrev pub Shows : Command → Schema → Statement → List ℕ → List ℕ → Type 0
-Shows Compile schema statement bytes text = (bytes ≡ text) × Meets schema statement (latency_of schema statement) (gap_of schema statement) text
-Shows Figures schema statement bytes text = IsFigured schema statement bytes text × Meets schema statement (latency_of schema statement) (gap_of schema statement) text
-Shows Explain schema statement bytes text = (bytes ≡ plan_text schema statement (plan_of schema statement)) × (text ≡ [])
+Shows Compile schema statement bytes text =
+    (bytes ≡ text) × Meets schema statement (latency_of schema statement) (gap_of schema statement) text
+Shows Figures schema statement bytes text =
+    IsFigured schema statement bytes text × Meets schema statement (latency_of schema statement)
+    (gap_of schema statement) text
+Shows Explain schema statement bytes text =
+    (bytes ≡ plan_text schema statement (plan_of schema statement)) × (text ≡ [])
 Shows Run schema statement bytes text = ⊥
 Shows Sim schema statement bytes text = ⊥
 Shows Load schema statement bytes text = ⊥

@@ -40,22 +40,32 @@ use Rattle.gl_top_notes.specs.Refusals.{Puts, Notes, status_of, note_of, no_end_
 
 -- the lines of the run of this text over these beats from this start were written, or a front of them
 abbrev pub WritesLines : Schema → Statement → List Beat → Start → List ℕ → Puts → Type 0
-WritesLines schema statement beats start text out = OfEachRun text schema (plain_beats beats) start (λ outs port. Writes (kinds_of (result_columns schema statement)) (plain_beats beats) outs port out.old.taken out.new.taken)
+WritesLines schema statement beats start text out =
+    OfEachRun text schema (plain_beats beats) start
+    (λ outs port. Writes (kinds_of (result_columns schema statement)) (plain_beats beats)
+    outs port out.old.taken out.new.taken)
 
 abbrev pub WritesLinesFront : Schema → Statement → List Beat → Start → List ℕ → Puts → Type 0
-WritesLinesFront schema statement beats start text out = OfEachRun text schema (plain_beats beats) start (λ outs port. WritesFront (kinds_of (result_columns schema statement)) (plain_beats beats) outs port out.old.taken out.new.taken)
+WritesLinesFront schema statement beats start text out =
+    OfEachRun text schema (plain_beats beats) start
+    (λ outs port. WritesFront (kinds_of (result_columns schema statement)) (plain_beats beats)
+    outs port out.old.taken out.new.taken)
 
 -- how the run of the text over these beats ended
 abbrev pub RanLines : Schema → Statement → List Beat → Start → List ℕ → SinkState → SinkState → Outcome → Type 0
-RanLines schema statement beats start text old new outcome = prints.Ran (OfEachRun text schema (plain_beats beats) start) (kinds_of (result_columns schema statement)) (plain_beats beats) old new outcome
+RanLines schema statement beats start text old new outcome =
+    prints.Ran (OfEachRun text schema (plain_beats beats) start) (kinds_of (result_columns schema statement))
+    (plain_beats beats) old new outcome
 
 -- the texts pass, and the text that was emitted for them meets the statement
-pub record IsEmitted (told : List ℕ → Told) (words : List (List ℕ)) (schema : Schema) (statement : Statement) (beats : List Beat) (text : List ℕ) : Type 0 where
+pub record IsEmitted (told : List ℕ → Told) (words : List (List ℕ)) (schema : Schema) (statement : Statement)
+    (beats : List Beat) (text : List ℕ) : Type 0 where
   pub passes : TuplesPass told words schema statement beats
   pub meets : Meets schema statement (latency_of schema statement) (gap_of schema statement) text
 
 -- the lines of the run were written and nothing was noted; no text was missing, and nothing failed
-pub record IsDone (words : List (List ℕ)) (c : Change) (out notes : Puts) (text : List ℕ) (status : Status) : Type 0 where
+pub record IsDone (words : List (List ℕ)) (c : Change) (out notes : Puts) (text : List ℕ) (status : Status)
+    : Type 0 where
   pub schema : Schema
   pub statement : Statement
   pub beats : List Beat
@@ -67,7 +77,8 @@ pub record IsDone (words : List (List ℕ)) (c : Change) (out notes : Puts) (tex
   pub done : status ≡ Done
 
 -- the output failed, and that was noted
-pub record IsBroken (words : List (List ℕ)) (c : Change) (out notes : Puts) (text : List ℕ) (status : Status) : Type 0 where
+pub record IsBroken (words : List (List ℕ)) (c : Change) (out notes : Puts) (text : List ℕ) (status : Status)
+    : Type 0 where
   pub schema : Schema
   pub statement : Statement
   pub beats : List Beat
@@ -84,15 +95,18 @@ TellsEnding (end.NoEnd cycle) notes answered = Notes status.NoEnd (no_end_line c
 TellsEnding end.WriteFault notes answered = Notes WriteFault write_line notes answered
 TellsEnding end.Memory notes answered = ⊥
 
--- a module was traced over the beats of a file, from all zero, and it has a run over them; no text was missing, and none is left
-pub record IsTraced (words : List (List ℕ)) (c : Change) (out notes : Puts) (text : List ℕ) (status : Status) : Type 0 where
+-- a module was traced over the beats of a file, from all zero, and it has a run over them; no text was missing, and
+-- none is left
+pub record IsTraced (words : List (List ℕ)) (c : Change) (out notes : Puts) (text : List ℕ) (status : Status)
+    : Type 0 where
   pub schema : Schema
   pub design : Module
   pub beats : List Beat
   pub passes : FilePasses c.old.told words schema design beats
   pub run : HasRunOver design schema (plain_beats beats) Zero
   pub ending : Ending
-  pub traced : Traced (OfRunsOf design schema (plain_beats beats) Zero) (decimal_kinds design) (plain_beats beats) (extra_of words) out.old out.new ending
+  pub traced : Traced (OfRunsOf design schema (plain_beats beats) Zero) (decimal_kinds design) (plain_beats beats)
+      (extra_of words) out.old out.new ending
   pub tells : TellsEnding ending notes status
   pub calm : IsCalm c.old c.new
   pub left : text ≡ []
@@ -103,13 +117,15 @@ pub record IsLoaded (words : List (List ℕ)) (bytes text : List ℕ) : Type 0 w
   pub is : IsLoadOf words count
   pub load : IsLoad count bytes text
 
--- what is written, and the text that is left: what a command shows of the texts that it names, or what is told of a load
+-- what is written, and the text that is left: what a command shows of the texts that it names, or what is told of a
+-- load
 pub data IsGiven (told : List ℕ → Told) (words : List (List ℕ)) (bytes text : List ℕ) : Type 0 where
   OfTexts : (shown : IsShownOf told words bytes text) → IsGiven told words bytes text
   OfLoad : (loaded : IsLoaded words bytes text) → IsGiven told words bytes text
 
 -- it was written whole and nothing was noted; no text was missing, and nothing failed
-pub record IsShown (words : List (List ℕ)) (c : Change) (out notes : Puts) (text : List ℕ) (status : Status) : Type 0 where
+pub record IsShown (words : List (List ℕ)) (c : Change) (out notes : Puts) (text : List ℕ) (status : Status)
+    : Type 0 where
   pub bytes : List ℕ
   pub given : IsGiven c.old.told words bytes text
   pub wrote : Took out.old out.new bytes
@@ -118,7 +134,8 @@ pub record IsShown (words : List (List ℕ)) (c : Change) (out notes : Puts) (te
   pub done : status ≡ Done
 
 -- the output failed behind a front of it, and that was noted
-pub record IsCut (words : List (List ℕ)) (c : Change) (out notes : Puts) (text : List ℕ) (status : Status) : Type 0 where
+pub record IsCut (words : List (List ℕ)) (c : Change) (out notes : Puts) (text : List ℕ) (status : Status)
+    : Type 0 where
   pub bytes : List ℕ
   pub given : IsGiven c.old.told words bytes text
   pub wrote : Broke out.old out.new bytes
@@ -127,10 +144,13 @@ pub record IsCut (words : List (List ℕ)) (c : Change) (out notes : Puts) (text
 
 -- no text was emitted, or one that meets the statement
 abbrev pub IsNoneOrEmitted : (List ℕ → Told) → List (List ℕ) → List ℕ → Type 0
-IsNoneOrEmitted told words text = (text ≡ []) ⊎ ((schema : Schema) × (statement : Statement) × (beats : List Beat) × IsEmitted told words schema statement beats text)
+IsNoneOrEmitted told words text =
+    (text ≡ []) ⊎ ((schema : Schema) × (statement : Statement) × (beats : List Beat)
+    × IsEmitted told words schema statement beats text)
 
 -- there was a refusal with its cause; nothing was written, and it was noted
-pub record IsEnded (words : List (List ℕ)) (c : Change) (out notes : Puts) (text : List ℕ) (status : Status) : Type 0 where
+pub record IsEnded (words : List (List ℕ)) (c : Change) (out notes : Puts) (text : List ℕ) (status : Status)
+    : Type 0 where
   pub refusal : Refusal
   pub cause : HasCause words c refusal
   pub untouched : Took out.old out.new []
@@ -138,7 +158,8 @@ pub record IsEnded (words : List (List ℕ)) (c : Change) (out notes : Puts) (te
   pub left : IsNoneOrEmitted c.old.told words text
 
 -- one of these is so
-pub data IsAnswer (words : List (List ℕ)) (c : Change) (out notes : Puts) (text : List ℕ) (status : Status) : Type 0 where
+pub data IsAnswer (words : List (List ℕ)) (c : Change) (out notes : Puts) (text : List ℕ) (status : Status)
+    : Type 0 where
   Ran : (done : IsDone words c out notes text status) → IsAnswer words c out notes text status
   Broke' : (broken : IsBroken words c out notes text status) → IsAnswer words c out notes text status
   Traced' : (traced : IsTraced words c out notes text status) → IsAnswer words c out notes text status
@@ -148,9 +169,12 @@ pub data IsAnswer (words : List (List ℕ)) (c : Change) (out notes : Puts) (tex
 
 -- the texts that a command asks for pass: to run and to simulate, the tuple file too; a load asks for none
 pub data AllPass (told : List ℕ → Told) (words : List (List ℕ)) : Type 0 where
-  Two : (schema : Schema) (statement : Statement) (passes : QueryPasses told words schema statement) (others : command_of words ≢ Some Run) → AllPass told words
-  Three : (schema : Schema) (statement : Statement) (beats : List Beat) (pass : TuplesPass told words schema statement beats) → AllPass told words
-  OfFile : (schema : Schema) (design : Module) (beats : List Beat) (pass : FilePasses told words schema design beats) → AllPass told words
+  Two : (schema : Schema) (statement : Statement) (passes : QueryPasses told words schema statement)
+      (others : command_of words ≢ Some Run) → AllPass told words
+  Three : (schema : Schema) (statement : Statement) (beats : List Beat)
+      (pass : TuplesPass told words schema statement beats) → AllPass told words
+  OfFile : (schema : Schema) (design : Module) (beats : List Beat) (pass : FilePasses told words schema design beats)
+      → AllPass told words
   Loads : (count : ℕ) (is : IsLoadOf words count) → AllPass told words
 
 -- the shelf tells the texts that the words name
@@ -176,8 +200,8 @@ TellsRefusal words c notes answered =
     (r : Refusal) → IsTelling c.old.told words → IsRefused c.old.told words r → answered ≡ status_of r
     → Took notes.old notes.new (note_of words r)
 
--- the module of a simulation has a run, and in none of its runs the end is seen in time; the lines of all its cycles were written, and the
--- last of these was noted; no text was missing, and nothing failed
+-- the module of a simulation has a run, and in none of its runs the end is seen in time; the lines of all its cycles
+-- were written, and the last of these was noted; no text was missing, and nothing failed
 pub record IsEndless (words : List (List ℕ)) (c : Change) (out notes : Puts) : Type 0 where
   pub schema : Schema
   pub design : Module
@@ -185,20 +209,25 @@ pub record IsEndless (words : List (List ℕ)) (c : Change) (out notes : Puts) :
   pub passes : FilePasses c.old.told words schema design beats
   pub run : HasRunOver design schema (plain_beats beats) Zero
   pub cycle : ℕ
-  pub traced : OfRunsOf design schema (plain_beats beats) Zero (λ outs port. TracesOut (decimal_kinds design) (plain_beats beats) (extra_of words) cycle outs port out.old.taken out.new.taken)
+  pub traced : OfRunsOf design schema (plain_beats beats) Zero
+      (λ outs port. TracesOut (decimal_kinds design) (plain_beats beats) (extra_of words)
+      cycle outs port out.old.taken out.new.taken)
   pub noted : Took notes.old notes.new (no_end_line cycle)
   pub calm : IsCalm c.old c.new
   pub whole : out.new.faults ≡ out.old.faults
 
--- how the work ends where nothing is refused and nothing fails: whole, unless memory runs out or a simulation has no end in time
+-- how the work ends where nothing is refused and nothing fails: whole, unless memory runs out or a simulation has no
+-- end in time
 pub data Completes (words : List (List ℕ)) (c : Change) (out notes : Puts) (answered : Status) : Type 0 where
   Whole : (is : answered ≡ Done) → Completes words c out notes answered
   NoMemory : (is : answered ≡ Memory) → Completes words c out notes answered
-  Endless : (is : answered ≡ status.NoEnd) (endless : IsEndless words c out notes) → Completes words c out notes answered
+  Endless : (is : answered ≡ status.NoEnd) (endless : IsEndless words c out notes)
+      → Completes words c out notes answered
 
 -- what each status says
 abbrev pub Says : List (List ℕ) → Change → Puts → Puts → Status → Type 0
-Says words c out notes status.Done = IsCalm c.old c.new × (out.new.faults ≡ out.old.faults) × Took notes.old notes.new []
+Says words c out notes status.Done =
+    IsCalm c.old c.new × (out.new.faults ≡ out.old.faults) × Took notes.old notes.new []
 Says words c out notes status.Usage = IsForm words → ⊥
 Says words c out notes status.Missing = (part : Part) × HasCause words c (refusal.Missing part)
 Says words c out notes status.ReadFault = (part : Part) × HasCause words c (refusal.ReadFault part)
@@ -206,7 +235,8 @@ Says words c out notes status.WriteFault = Rose out.old.faults out.new.faults �
 Says words c out notes status.Schema = (fault : SchemaFault) × IsBadSchema c.old.told words fault
 Says words c out notes status.Query = (fault : QueryFault) × IsBadQuery c.old.told words fault
 Says words c out notes status.Tuples = (fault : TupleFault) × AreBadTuples c.old.told words fault
-Says words c out notes status.Limit = ((part : Part) × IsTooLong c.old.told words part) ⊎ ((limit : Limit) × IsOver c.old.told words limit)
+Says words c out notes status.Limit =
+    ((part : Part) × IsTooLong c.old.told words part) ⊎ ((limit : Limit) × IsOver c.old.told words limit)
 Says words c out notes status.Memory = Unit {0}
 Says words c out notes status.Verilog = (fault : VerilogFault) × IsBadVerilog c.old.told words fault
 Says words c out notes status.NoEnd = IsEndless words c out notes

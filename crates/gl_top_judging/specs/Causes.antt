@@ -32,7 +32,8 @@ use Rattle.gl_top_judging.specs.Passing.{QueryPasses, ModulePasses, kept_beats}
 
 -- the texts before the tuple file pass: a query's to run it, a module's to simulate it
 pub data PassBeforeTuples (told : List ℕ → Told) (words : List (List ℕ)) : Type 0 where
-  OfRun : (runs : IsCommand words Run) (schema : Schema) (statement : Statement) (passes : QueryPasses told words schema statement) → PassBeforeTuples told words
+  OfRun : (runs : IsCommand words Run) (schema : Schema) (statement : Statement)
+      (passes : QueryPasses told words schema statement) → PassBeforeTuples told words
   OfSim : (schema : Schema) (m : Module) (passes : ModulePasses told words schema m) → PassBeforeTuples told words
 
 -- the words name this text, and every text before it passes
@@ -89,10 +90,13 @@ pub record IsBadVerilog (told : List ℕ → Told) (words : List (List ℕ)) (fa
 
 -- it is no tuple file of the schema, or, to run, its beats do not keep the gap, and this is the first fault
 pub data AreBadTuples (told : List ℕ → Told) (words : List (List ℕ)) (fault : TupleFault) : Type 0 where
-  ToRun : (runs : IsCommand words Run) (schema : Schema) (statement : Statement) (before : QueryPasses told words schema statement)
-      (text : HasText told words part.Tuples (λ text. kept_beats schema (gap_of schema statement) text ≡ Err fault)) → AreBadTuples told words fault
+  ToRun : (runs : IsCommand words Run) (schema : Schema) (statement : Statement)
+      (before : QueryPasses told words schema statement)
+      (text : HasText told words part.Tuples (λ text. kept_beats schema (gap_of schema statement) text ≡ Err fault))
+      → AreBadTuples told words fault
   ToSim : (schema : Schema) (m : Module) (before : ModulePasses told words schema m)
-      (text : HasText told words part.Tuples (λ text. beats_of schema (records_of text) ≡ Err fault)) → AreBadTuples told words fault
+      (text : HasText told words part.Tuples (λ text. beats_of schema (records_of text) ≡ Err fault))
+      → AreBadTuples told words fault
 
 -- what the words and the texts say of a refusal; a failed read and want of memory are not theirs
 abbrev pub IsRefused : (List ℕ → Told) → List (List ℕ) → Refusal → Type 0

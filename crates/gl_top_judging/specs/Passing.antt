@@ -30,25 +30,30 @@ use Rattle.gl_top_words.specs.declared.command.Command.TheVariants.{Run, Sim}
 use Rattle.gl_top_words.specs.Forms.{IsCommand, IsNamed}
 use Rattle.gl_top_texts.specs.Texts.{HasText, SchemaPasses}
 
--- the words name a query, and its text is that of this statement, which is accepted over the schema, and whose plan is within the limits
-pub record QueryPasses (told : List ℕ → Told) (words : List (List ℕ)) (schema : Schema) (statement : Statement) : Type 0 where
+-- the words name a query, and its text is that of this statement, which is accepted over the schema, and whose plan is
+-- within the limits
+pub record QueryPasses (told : List ℕ → Told) (words : List (List ℕ)) (schema : Schema) (statement : Statement)
+    : Type 0 where
   pub named : IsNamed words part.Query
   pub before : SchemaPasses told words schema
   pub text : HasText told words part.Query (λ text. IsQuery schema text statement)
 
 -- the beats of a text, where they keep the gap; else the first fault
 unfoldable pub kept_beats : Schema → ℕ → List ℕ → Result (List Beat) TupleFault
-kept_beats schema gap text = beats_of schema (records_of text) >>= λ beats. (close_answer (first_close gap beats) >>= λ _. Ok beats)
+kept_beats schema gap text =
+    beats_of schema (records_of text) >>= λ beats. (close_answer (first_close gap beats) >>= λ _. Ok beats)
 
 -- the words are of `run`, and the tuple file is that of these beats, which keep the statement's gap
-pub record TuplesPass (told : List ℕ → Told) (words : List (List ℕ)) (schema : Schema) (statement : Statement) (beats : List Beat) : Type 0 where
+pub record TuplesPass (told : List ℕ → Told) (words : List (List ℕ)) (schema : Schema) (statement : Statement)
+    (beats : List Beat) : Type 0 where
   pub runs : IsCommand words Run
   pub before : QueryPasses told words schema statement
   pub fine : AreFileBeats schema beats
   pub gap : KeepsGap (gap_of schema statement) (plain_beats beats)
   pub text : HasText told words part.Tuples (λ text. kept_beats schema (gap_of schema statement) text ≡ Ok beats)
 
--- the words are of `sim`, and the Verilog text is that of this module, whose ports are those of the schema and of a result
+-- the words are of `sim`, and the Verilog text is that of this module, whose ports are those of the schema and of a
+-- result
 pub record ModulePasses (told : List ℕ → Told) (words : List (List ℕ)) (schema : Schema) (m : Module) : Type 0 where
   pub sims : IsCommand words Sim
   pub before : SchemaPasses told words schema
@@ -58,7 +63,8 @@ pub record ModulePasses (told : List ℕ → Told) (words : List (List ℕ)) (sc
   pub text : HasText told words part.Module (λ text. HasModule text m)
 
 -- and the tuple file is that of these beats, of which no gap is asked
-pub record FilePasses (told : List ℕ → Told) (words : List (List ℕ)) (schema : Schema) (m : Module) (beats : List Beat) : Type 0 where
+pub record FilePasses (told : List ℕ → Told) (words : List (List ℕ)) (schema : Schema) (m : Module) (beats : List Beat)
+    : Type 0 where
   pub before : ModulePasses told words schema m
   pub fine : AreFileBeats schema beats
   pub text : HasText told words part.Tuples (λ text. beats_of schema (records_of text) ≡ Ok beats)

@@ -181,7 +181,8 @@ note_of words (Schema fault) = kind_line (codes "schema: ") (schema_kind fault) 
 note_of words (Query fault) = kind_line (codes "query: ") (query_kind fault) (codes " at ") (query_place fault)
 note_of words (Limit passed) = limit_line passed
 note_of words (Verilog fault) = verilog_line fault
-note_of words (Tuples fault) = kind_line (codes "tuples: ") (tuples_kind fault) (codes " at record ") (tuples_record fault)
+note_of words (Tuples fault) =
+    kind_line (codes "tuples: ") (tuples_kind fault) (codes " at record ") (tuples_record fault)
 note_of words Memory = memory_line
 
 -- a sink before and after a call
@@ -194,4 +195,5 @@ puts old new = record { old = old; new = new }
 
 -- the line was written under this status, or the sink failed at it
 abbrev pub Notes : Status → List ℕ → Puts → Status → Type 0
-Notes own bytes p answered = ((answered ≡ own) × Took p.old p.new bytes) ⊎ ((answered ≡ status.WriteFault) × Broke p.old p.new bytes)
+Notes own bytes p answered =
+    ((answered ≡ own) × Took p.old p.new bytes) ⊎ ((answered ≡ status.WriteFault) × Broke p.old p.new bytes)

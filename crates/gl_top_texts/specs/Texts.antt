@@ -1,5 +1,5 @@
--- What it is for a text of the words to be there, and for the schema to pass, and what fetching them leaves. What is said of a text holds
--- where the shelf tells it.
+-- What it is for a text of the words to be there, and for the schema to pass, and what fetching them leaves. What is
+-- said of a text holds where the shelf tells it.
 use Rattle.std.specs.Prelude.{◌≡◌, ℕ, ◌<◌, ◌≤◌, List, length, Result, Ok, Err}
 use Rattle.gl_outside.specs.States.{ShelfState, IsCalm, Missed, Faulted}
 use Rattle.gl_outside.specs.Told.{Told, IsLacking, IfTold}
@@ -40,9 +40,11 @@ schema_refusal fault = refusal.Schema fault
 
 -- why the text of a part was not fetched; want of memory is free
 abbrev pub IsUnfetched : List (List ℕ) → Part → ShelfState → ShelfState → Refusal → Type 0
-IsUnfetched words part old new (refusal.Missing p) = (p ≡ part) × IsLacking (old.told (name_of words part)) × Missed old new (name_of words part)
+IsUnfetched words part old new (refusal.Missing p) =
+    (p ≡ part) × IsLacking (old.told (name_of words part)) × Missed old new (name_of words part)
 IsUnfetched words part old new (refusal.ReadFault p) = (p ≡ part) × Faulted old new (name_of words part)
-IsUnfetched words part old new (refusal.TooLong p) = (p ≡ part) × IfTold (old.told (name_of words part)) (λ text. 67108864 < length text) × IsCalm old new
+IsUnfetched words part old new (refusal.TooLong p) =
+    (p ≡ part) × IfTold (old.told (name_of words part)) (λ text. 67108864 < length text) × IsCalm old new
 IsUnfetched words part old new refusal.Memory = IsCalm old new
 IsUnfetched words part old new r = ⊥
 
@@ -53,7 +55,8 @@ LeavesText words part old new (Err r) = IsUnfetched words part old new r
 
 -- why there is no schema: its text has this first fault, or was not fetched
 abbrev pub HasNoSchema : List (List ℕ) → ShelfState → ShelfState → Refusal → Type 0
-HasNoSchema words old new (refusal.Schema fault) = HasText old.told words part.Schema (λ text. schema_of text ≡ Err fault) × IsCalm old new
+HasNoSchema words old new (refusal.Schema fault) =
+    HasText old.told words part.Schema (λ text. schema_of text ≡ Err fault) × IsCalm old new
 HasNoSchema words old new r = IsUnfetched words part.Schema old new r
 
 abbrev pub LeavesSchema : {T : Type 0} → List (List ℕ) → ShelfState → ShelfState → Result T Refusal → Type 0

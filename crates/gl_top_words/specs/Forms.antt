@@ -1,5 +1,5 @@
--- The forms of command lines: a command, names, and options, which may stand anywhere behind the command. The names are those of texts,
--- but for one command the number of tuples.
+-- The forms of command lines: a command, names, and options, which may stand anywhere behind the command. The names are
+-- those of texts, but for one command the number of tuples.
 use Rattle.std.specs.Prelude.{◌≡◌, ℕ, zero, suc, ◌^◌, Bool, true, false, ◌&&◌, ◌==◌, nat_le, nat_lt, List, [], ◌∷◌, ◌++◌, length, codes, bytes_eq, slice_get, unwrap_or, drop, Contains, Option, Some, None, is_some, IsTrue, if◌then◌else◌}
 use Rattle.std.specs.List.{starts_with}
 use Rattle.gl_verilog_orders.specs.declared.start.Start.{Start}
@@ -38,14 +38,16 @@ names_in option false (w ∷ ws) =
     else if is_dashed w then names_in option false ws
     else w ∷ names_in option false ws
 
--- the values that the option is given, in order; None for a dashed word that is no option, and where no word follows the option
+-- the values that the option is given, in order; None for a dashed word that is no option, and where no word follows
+-- the option
 abbrev pub values_in : List ℕ → Bool → List (List ℕ) → List (Option (List ℕ))
 values_in option true [] = None ∷ []
 values_in option false [] = []
 values_in option true (w ∷ ws) = Some w ∷ values_in option false ws
 values_in option false (w ∷ ws) =
     if bytes_eq w option then values_in option true ws
-    else if starts_with ◌==◌ w (option_front option) then Some (drop (length (option_front option)) w) ∷ values_in option false ws
+    else if starts_with ◌==◌ w (option_front option)
+    then Some (drop (length (option_front option)) w) ∷ values_in option false ws
     else if is_dashed w then None ∷ values_in option false ws
     else values_in option false ws
 
@@ -142,7 +144,9 @@ takes_names Load names = is_some (load_in names)
 takes_names c names = true
 
 unfoldable pub is_command : List (List ℕ) → Command → Bool
-is_command words c = bytes_eq (first_word words) (word_of c) && (length (names_of words) == many_names c) && takes_names c (names_of words) && takes_values c (values_of words)
+is_command words c =
+    bytes_eq (first_word words) (word_of c) && (length (names_of words) == many_names c) && takes_names c
+    (names_of words) && takes_values c (values_of words)
 
 -- the command of some words
 unfoldable pub command_of : List (List ℕ) → Option Command

@@ -58,7 +58,8 @@ pub record WorkedForms : Type 0 where
   pub last : RunsFrom (run (s ∷ q ∷ t ∷ codes "--start" ∷ codes "5" ∷ [])) (from.Drawn 5)
   pub joined_zero : RunsFrom (run (codes "--start=0" ∷ s ∷ q ∷ t ∷ [])) from.Zero
   pub zero_apart : RunsFrom (run (s ∷ q ∷ t ∷ codes "--start" ∷ codes "0" ∷ [])) from.Zero
-  pub greatest : RunsFrom (run (s ∷ q ∷ t ∷ codes "--start=18446744073709551615" ∷ [])) (from.Drawn 18446744073709551615)
+  pub greatest : RunsFrom (run (s ∷ q ∷ t ∷ codes "--start=18446744073709551615" ∷ []))
+      (from.Drawn 18446744073709551615)
   pub too_great : IsFormless (run (s ∷ q ∷ t ∷ codes "--start=18446744073709551616" ∷ []))
   pub without_value : IsFormless (run (s ∷ q ∷ t ∷ codes "--start" ∷ []))
   pub no_number : IsFormless (run (s ∷ q ∷ t ∷ codes "--start" ∷ codes "x" ∷ []))
@@ -69,7 +70,8 @@ pub record WorkedForms : Type 0 where
   pub a_name_too_many : IsFormless (run (s ∷ q ∷ t ∷ codes "U" ∷ []))
   pub start_of_no_run : IsFormless (codes "compile" ∷ s ∷ q ∷ codes "--start" ∷ codes "5" ∷ [])
   pub extra_of_no_sim : IsFormless (run (s ∷ q ∷ t ∷ codes "--extra" ∷ codes "5" ∷ []))
-  pub sim_last : Waits (sim (codes "s.txt" ∷ codes "v.v" ∷ codes "t.csv" ∷ codes "--extra" ∷ codes "5" ∷ [])) (codes "s.txt" ∷ codes "v.v" ∷ codes "t.csv" ∷ []) 5
+  pub sim_last : Waits (sim (codes "s.txt" ∷ codes "v.v" ∷ codes "t.csv" ∷ codes "--extra" ∷ codes "5" ∷ []))
+      (codes "s.txt" ∷ codes "v.v" ∷ codes "t.csv" ∷ []) 5
   pub sim_joined : Waits (sim (codes "--extra=0" ∷ s ∷ v ∷ t ∷ [])) (s ∷ v ∷ t ∷ []) 0
   pub sim_most : Waits (sim (s ∷ codes "--extra" ∷ codes "1000000" ∷ v ∷ t ∷ [])) (s ∷ v ∷ t ∷ []) 1000000
   pub sim_too_many : IsFormless (sim (s ∷ v ∷ t ∷ codes "--extra" ∷ codes "1000001" ∷ []))

@@ -18,7 +18,8 @@ pub record IsFraction (old new : Net) (valid eos : Bit) (value : Bus) (f : Fract
   pub bottom_width : f.bottom.width ≡ 32
   pub sum : (run : Run) → IsRun new run → (t : ℕ)
       → run.at (suc t) f.top.node ≡ sum_total (value.width + 32) (values_at run valid eos value (suc t))
-  pub number : (run : Run) → IsRun new run → (t : ℕ) → run.at (suc t) f.bottom.node ≡ count_of (values_at run valid eos value (suc t))
+  pub number : (run : Run) → IsRun new run → (t : ℕ)
+      → run.at (suc t) f.bottom.node ≡ count_of (values_at run valid eos value (suc t))
 
 -- the same fraction, or 0 by 1 where the bottom is 0
 pub record IsGuarded (old new : Net) (given f : Fraction) : Type 0 where
@@ -29,6 +30,8 @@ pub record IsGuarded (old new : Net) (given f : Fraction) : Type 0 where
   pub bottom : IsBus new f.bottom
   pub bottom_width : f.bottom.width ≡ given.bottom.width
   pub tops : (run : Run) → IsRun new run → (t : ℕ)
-      → run.at (suc t) f.top.node ≡ (if nat_eq (run.at (suc t) given.bottom.node) 0 then 0 else run.at (suc t) given.top.node)
+      → run.at (suc t) f.top.node ≡ (if nat_eq (run.at (suc t) given.bottom.node) 0 then 0
+      else run.at (suc t) given.top.node)
   pub bottoms : (run : Run) → IsRun new run → (t : ℕ)
-      → run.at (suc t) f.bottom.node ≡ (if nat_eq (run.at (suc t) given.bottom.node) 0 then 1 else run.at (suc t) given.bottom.node)
+      → run.at (suc t) f.bottom.node ≡ (if nat_eq (run.at (suc t) given.bottom.node) 0 then 1
+      else run.at (suc t) given.bottom.node)

@@ -14,4 +14,5 @@ abbrev pub AggregatesAreCounted : Type 0
 AggregatesAreCounted =
     (shapes : ℕ → Shape) (figures : ℕ → Figures) (child : ℕ) (aggs : List PlanAgg)
     → All IsKind (shapes child).kinds → All (AggFits (shapes child).kinds) aggs
-    → IsCountedAt shapes figures (Aggregate child aggs) (total_widths (shapes child).kinds aggs) (cost_of_aggs (shapes child).kinds aggs)
+    → IsCountedAt shapes figures (Aggregate child aggs) (total_widths (shapes child).kinds aggs)
+    (cost_of_aggs (shapes child).kinds aggs)

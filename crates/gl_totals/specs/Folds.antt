@@ -32,7 +32,8 @@ is_better Greatest kind state x = is_below kind state x
 -- a bus of one bit that carries that
 abbrev pub IsBetter : Net → Net → Bus → Best → Bus → Type 0
 IsBetter old new state best out =
-    Carries old new 1 1 (λ run t. bit (is_better best.extreme best.kind (run.at t state.node) (run.at t best.value.node))) out
+    Carries old new 1 1 (λ run t. bit (is_better best.extreme best.kind (run.at t state.node)
+    (run.at t best.value.node))) out
 
 -- what is compared is in the netlist, for a state of this width
 pub record BestFits (net : Net) (width : ℕ) (best : Best) : Type 0 where
@@ -52,7 +53,8 @@ StepFits net width Set = ⊤
 abbrev pub next_of : Step → Run → ℕ → ℕ → ℕ → ℕ
 next_of (Add value) run width t state = sum_of width state (run.at t value.node)
 next_of (Keep best) run width t state =
-    if line_at run best.some t then better best.extreme best.kind state (run.at t best.value.node) else run.at t best.value.node
+    if line_at run best.some t then better best.extreme best.kind state (run.at t best.value.node)
+    else run.at t best.value.node
 next_of Shift run width t state = with_bit width state false
 next_of Set run width t state = 1
 
@@ -68,9 +70,11 @@ pub record IsNext (old new : Net) (state : Bus) (step : Step) (out : Bus) : Type
 -- from the first cycle behind reset on a state, and what it is with the cycle's row; it begins anew behind an end
 pub record IsFolded (run : Run) (width first : ℕ) (step : Step) (valid eos : Bit) (before now : Bus) : Type 0 where
   pub start : run.at 1 before.node ≡ first
-  pub next : (t : ℕ) → run.at (suc (suc t)) before.node ≡ (if line_at run eos (suc t) then first else run.at (suc t) now.node)
+  pub next : (t : ℕ) → run.at (suc (suc t)) before.node
+      ≡ (if line_at run eos (suc t) then first else run.at (suc t) now.node)
   pub with_row : (t : ℕ) → run.at (suc t) now.node
-      ≡ (if line_at run valid (suc t) then next_of step run width (suc t) (run.at (suc t) before.node) else run.at (suc t) before.node)
+      ≡ (if line_at run valid (suc t) then next_of step run width (suc t) (run.at (suc t) before.node)
+      else run.at (suc t) before.node)
 
 pub record IsFold (old new : Net) (width first : ℕ) (step : Step) (valid eos : Bit) (f : Fold) : Type 0 where
   pub keeps : Keeps old new

@@ -12,7 +12,8 @@ value_in run valid x t = if line_at run valid t then run.at t x.node ∷ [] else
 -- the values before this cycle
 abbrev pub values_before : Run → Bit → Bit → Bus → ℕ → List ℕ
 values_before run valid eos x zero = []
-values_before run valid eos x (suc t) = if line_at run eos t then [] else values_before run valid eos x t ++ value_in run valid x t
+values_before run valid eos x (suc t) =
+    if line_at run eos t then [] else values_before run valid eos x t ++ value_in run valid x t
 
 -- and this cycle's own
 abbrev pub values_at : Run → Bit → Bit → Bus → ℕ → List ℕ

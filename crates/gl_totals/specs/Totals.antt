@@ -27,12 +27,14 @@ extreme_of Least kind xs = least_of kind xs
 extreme_of Greatest kind xs = greatest_of kind xs
 
 -- a bus that carries, so many cycles later, a total of the values of the open stream
-pub record IsTotalOf (old new : Net) (most : Cost) (width cycles : ℕ) (valid eos : Bit) (x : Bus) (total : List ℕ → ℕ) (out : Bus) : Type 0 where
+pub record IsTotalOf (old new : Net) (most : Cost) (width cycles : ℕ) (valid eos : Bit) (x : Bus) (total : List ℕ → ℕ)
+    (out : Bus) : Type 0 where
   pub keeps : Keeps old new
   pub cost : CostsAtMost old new most
   pub bus : IsBus new out
   pub same_width : out.width ≡ width
-  pub carries : (run : Run) → IsRun new run → (t : ℕ) → run.at (suc t + cycles) out.node ≡ total (values_at run valid eos x (suc t))
+  pub carries : (run : Run) → IsRun new run → (t : ℕ)
+      → run.at (suc t + cycles) out.node ≡ total (values_at run valid eos x (suc t))
 
 -- the lines and columns of a stream are in the netlist
 pub record IsStream (net : Net) (s : Stream) : Type 0 where

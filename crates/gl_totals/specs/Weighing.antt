@@ -1,4 +1,5 @@
--- Weights, and which of them is that of the next value: a word with one bit, which moves up with each value, tells its place.
+-- Weights, and which of them is that of the next value: a word with one bit, which moves up with each value, tells its
+-- place.
 use Rattle.std.specs.Prelude.{◌≡◌, ℕ, ◌+◌, ◌*◌, ◌/◌, ◌%◌, ◌^◌, List, [], ◌∷◌, length, nat_eq, if◌then◌else◌}
 use Rattle.gl_bits.specs.Words.{Word}
 use Rattle.gl_net.specs.declared.node.Bus.{Bus}

@@ -66,6 +66,7 @@ pub fn put_average(net: &mut NetBuilder, valid: Bit, eos: Bit, value: Bus) -> Re
     let fraction = put_fraction(net, valid, eos, value)?;
     let guarded = put_guarded(net, fraction)?;
     let quotient = divide(net, guarded.top, guarded.bottom, eos)?;
+    // Named, since a goal speaks of the value.
     let out = low_bits(net, quotient.value, value.width)?;
     Ok(out)
 }

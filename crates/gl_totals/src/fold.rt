@@ -93,6 +93,7 @@ fn put_kept(net: &mut NetBuilder, state: Bus, best: Best) -> Result<Bus, Memory>
 {
     let better = put_better(net, state, best)?;
     let keep = but_not(net, best.some, better.bit())?;
+    // Named, since a goal speaks of the value.
     let out = net.choose(keep, state, best.value)?;
     Ok(out)
 }

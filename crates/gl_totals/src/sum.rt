@@ -36,6 +36,7 @@ pub fn put_count(net: &mut NetBuilder, valid: Bit, eos: Bit) -> Result<Bus, Memo
         valid eos value count_of) }
 {
     let one = net.constant(small_word(true, 32))?;
+    // Named, since a goal speaks of the value.
     let count = put_sum(net, valid, eos, one)?;
     Ok(count)
 }

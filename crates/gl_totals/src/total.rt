@@ -40,6 +40,7 @@ fn put_sum_of(net: &mut NetBuilder, stream: Stream, operand: Operand) -> Result<
     ensures { IfOk result (IsAggOf net.old net.new 0 0 stream.entry (Sum operand)) }
 {
     let value = put_operand(net, stream.source, operand)?;
+    // Named, since a goal speaks of the value.
     let sum = put_sum(net, stream.valid, stream.eos, value)?;
     Ok(sum)
 }

@@ -83,6 +83,7 @@ impl Operator for Totals<'_> {
     }
 
     fn emit(&self, alloc: Global, net: &mut NetBuilder, below: Emitted) -> Result<Emitted, Memory> {
+        // Named, since a goal speaks of the value.
         let put = put_totals(alloc, net, below, self.kinds, self.aggs)?;
         Ok(put)
     }

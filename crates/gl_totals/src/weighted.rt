@@ -33,6 +33,7 @@ fn put_picked(
     let behind = put_picked(net, others, place, from + 1, width)?;
     let here = net.cut(place, from, from)?;
     let weight = net.constant(*first)?;
+    // Named, since a goal speaks of the value.
     let out = net.choose(here.bit(), weight, behind)?;
     Ok(out)
 }

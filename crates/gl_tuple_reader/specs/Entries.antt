@@ -1,4 +1,5 @@
--- What a record of a tuple file says: its cycle, and a row of a stream or the end. The first broken rule comes in this order.
+-- What a record of a tuple file says: its cycle, and a row of a stream or the end. The first broken rule comes in this
+-- order.
 use Rattle.std.specs.Prelude.{◌≡◌, ℕ, zero, suc, ◌+◌, Bool, not, List, [], ◌∷◌, length, drop, Option, Some, None, Result, Ok, Err, codes, bytes_eq, nat_lt, ◌==◌, slice_get, position, option_map, if◌then◌else◌}
 use Rattle.std.specs.List.{list_all}
 use Rattle.gl_bits.specs.Words.{Word}
@@ -67,7 +68,9 @@ row_found number (Some row) = Ok row
 
 -- the row of the fields behind the stream's name, as many as its columns
 unfoldable pub row_of : ℕ → List Column → List (List ℕ) → Result (List Word) TupleFault
-row_of number columns fields = if not (length fields == 2 + length columns) then Err (FieldCount number) else row_found number (words_of columns (drop 2 fields))
+row_of number columns fields =
+    if not (length fields == 2 + length columns) then Err (FieldCount number)
+    else row_found number (words_of columns (drop 2 fields))
 
 -- the stream of a name
 unfoldable pub stream_named : Schema → List ℕ → Option ℕ

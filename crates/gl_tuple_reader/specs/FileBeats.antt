@@ -28,7 +28,8 @@ names schema k name = not (bytes_eq name (codes "end")) && is_number k (stream_n
 
 abbrev pub row_named : Schema → ℕ → List (List ℕ) → Option (List ℕ) → Option (List Word)
 row_named schema k fields None = None
-row_named schema k fields (Some name) = if names schema k name then words_of (columns_at schema.streams k) (drop 2 fields) else None
+row_named schema k fields (Some name) =
+    if names schema k name then words_of (columns_at schema.streams k) (drop 2 fields) else None
 
 -- the row that a record brings to stream k, which its second field names
 unfoldable pub row_for : Schema → ℕ → List (List ℕ) → Option (List Word)
@@ -42,7 +43,8 @@ either (Some x) o = Some x
 -- the row that comes to stream k in a cycle, of the first record that brings one
 abbrev pub row_of_records : Schema → ℕ → ℕ → List (List (List ℕ)) → Option (List Word)
 row_of_records schema cycle k [] = None
-row_of_records schema cycle k (r ∷ rs) = either (if in_cycle cycle r then row_for schema k r else None) (row_of_records schema cycle k rs)
+row_of_records schema cycle k (r ∷ rs) =
+    either (if in_cycle cycle r then row_for schema k r else None) (row_of_records schema cycle k rs)
 
 -- a record is not later than a cycle
 abbrev pub IsBy : ℕ → List (List ℕ) → Type 0
@@ -52,9 +54,10 @@ IsBy cycle fields = IfSome (cycle_said fields) (λ c. c ≤ cycle)
 unfoldable pub says_end : List (List ℕ) → Bool
 says_end fields = option_map_or (λ name. bytes_eq name (codes "end")) (slice_get fields 1) false
 
--- a record brings a row: it names a stream, has a value for each of its columns and nothing behind them, and no row of the stream came
--- before in its cycle
-pub record BringsRow (schema : Schema) (before : List (List (List ℕ))) (cycle : ℕ) (fields : List (List ℕ)) : Type 0 where
+-- a record brings a row: it names a stream, has a value for each of its columns and nothing behind them, and no row of
+-- the stream came before in its cycle
+pub record BringsRow (schema : Schema) (before : List (List (List ℕ))) (cycle : ℕ) (fields : List (List ℕ))
+    : Type 0 where
   pub name : List ℕ
   pub second : slice_get fields 1 ≡ Some name
   pub stream : ℕ
@@ -69,7 +72,8 @@ abbrev pub Brings : Schema → List (List (List ℕ)) → ℕ → List (List ℕ
 Brings schema before cycle fields true = length fields ≡ 2
 Brings schema before cycle fields false = BringsRow schema before cycle fields
 
--- a record may stand behind these: it is text, its cycle is at most 10,000,000 and not below one before, and no end came before
+-- a record may stand behind these: it is text, its cycle is at most 10,000,000 and not below one before, and no end
+-- came before
 pub record MayFollow (schema : Schema) (before : List (List (List ℕ))) (fields : List (List ℕ)) : Type 0 where
   pub text : IsTrue (are_utf8 fields)
   pub cycle : ℕ
@@ -81,7 +85,9 @@ pub record MayFollow (schema : Schema) (before : List (List (List ℕ))) (fields
 
 -- the rules of a tuple file: each record may stand behind those before it
 abbrev pub KeepRules : Schema → List (List (List ℕ)) → Type 0
-KeepRules schema rs = (before : List (List (List ℕ))) (r : List (List ℕ)) (after : List (List (List ℕ))) → rs ≡ before ++ r ∷ after → MayFollow schema before r
+KeepRules schema rs =
+    (before : List (List (List ℕ))) (r : List (List ℕ)) (after : List (List (List ℕ))) → rs ≡ before ++ r ∷ after
+    → MayFollow schema before r
 
 -- the number of the first record of a cycle, where they are counted from n
 abbrev pub number_from : ℕ → ℕ → List (List (List ℕ)) → Option ℕ
@@ -103,8 +109,8 @@ row_among rows k = unwrap_or (slice_get rows k) None
 abbrev pub row_at : List Beat → ℕ → ℕ → Option (List Word)
 row_at beats cycle k = option_bind (find (λ b. b.cycle == cycle) beats) (λ b. row_among b.rows k)
 
--- beats of the schema, one for each cycle of a record, with the records' rows; the last alone has the end; and the records keep the
--- rules
+-- beats of the schema, one for each cycle of a record, with the records' rows; the last alone has the end; and the
+-- records keep the rules
 pub record AreBeatsOf (schema : Schema) (rs : List (List (List ℕ))) (beats : List Beat) : Type 0 where
   pub fine : AreFileBeats schema beats
   pub numbers : (cycle : ℕ) → number_at beats cycle ≡ number_of_records cycle rs

@@ -22,7 +22,8 @@ HasRows streams current = IfSome current (λ b. length b.rows ≡ streams)
 
 -- a beat without rows
 abbrev pub empty_beat : ℕ → ℕ → ℕ → Beat
-empty_beat streams cycle number = record { cycle = cycle; number = number; rows = replicate streams None; tick = false; end = false }
+empty_beat streams cycle number =
+    record { cycle = cycle; number = number; rows = replicate streams None; tick = false; end = false }
 
 -- no end came before
 abbrev pub open_checked : ℕ → Option Beat → Result (Unit {0}) TupleFault
@@ -41,7 +42,9 @@ has_row rows k = is_some (unwrap_or (slice_get rows k) None)
 -- a beat with what a record brings
 abbrev pub beat_with : ℕ → Beat → Entry → Result Beat TupleFault
 beat_with number beat End = Ok (record beat { end = true })
-beat_with number beat (Tuple k row) = if has_row beat.rows k then Err (StreamTwice number) else Ok (record beat { rows = slice_set beat.rows k (Some row) })
+beat_with number beat (Tuple k row) =
+    if has_row beat.rows k then Err (StreamTwice number)
+    else Ok (record beat { rows = slice_set beat.rows k (Some row) })
 
 -- the beats that are whole in front of a cycle, and the beat of the cycle
 abbrev pub whole_before : ℕ → List Beat → Option Beat → List Beat
@@ -59,8 +62,11 @@ added streams f number cycle entry = beat_with number (beat_of streams cycle num
 
 -- a record is added, or breaks a rule
 unfoldable pub next_filing : Schema → Filing → List (List ℕ) → Result Filing TupleFault
-next_filing schema f fields = text_checked (f.records + 1) fields >>= λ _. open_checked (f.records + 1) f.current >>= λ _. cycle_of (f.records + 1) fields
-    >>= λ cycle. cycle_checked (f.records + 1) cycle f.current >>= λ _. entry_of (f.records + 1) schema fields >>= λ entry. added (length schema.streams) f (f.records + 1) cycle entry
+next_filing schema f fields =
+    text_checked (f.records + 1) fields >>= λ _. open_checked (f.records + 1) f.current >>= λ _. cycle_of
+    (f.records + 1) fields
+    >>= λ cycle. cycle_checked (f.records + 1) cycle f.current >>= λ _. entry_of (f.records + 1)
+    schema fields >>= λ entry. added (length schema.streams) f (f.records + 1) cycle entry
 
 -- records in order
 abbrev pub filing_after : Schema → List (List (List ℕ)) → Filing → Result Filing TupleFault

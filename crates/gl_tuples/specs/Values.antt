@@ -42,4 +42,6 @@ fitting width (Some n) = if nat_lt n (2 ^ width) then Some (record { bits = n; w
 -- the word of a field in a column of a kind: a number below 2 ^ width, or a plain text of at most that many bytes
 unfoldable pub word_of : Kind → List ℕ → Option Word
 word_of (Unsigned width) field = fitting width (number_of field)
-word_of (Text n) field = if nat_le (length field) n && is_plain field then Some (record { bits = text_word n field; width = 8 * n }) else None
+word_of (Text n) field =
+    if nat_le (length field) n && is_plain field then Some (record { bits = text_word n field; width = 8 * n })
+    else None

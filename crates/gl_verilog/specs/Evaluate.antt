@@ -16,12 +16,19 @@ memories_of banks = λ k at. slice_index (slice_index_or banks k []) at
 abbrev pub CanEvaluate : List ℕ → List (List ℕ) → Expr → Type 0
 CanEvaluate vs bs (Net n) = n < length vs
 CanEvaluate vs bs (Literal value width) = Unit {0}
-CanEvaluate vs bs (Invert width arg) = (width ≤ 128) × (value_of (nets_of vs) (memories_of bs) arg < 2 ^ width) × CanEvaluate vs bs arg
-CanEvaluate vs bs (Binary op width left right) = (width ≤ 128) × (value_of (nets_of vs) (memories_of bs) left < 2 ^ width) × (value_of (nets_of vs) (memories_of bs) right < 2 ^ width) × CanEvaluate vs bs left × CanEvaluate vs bs right
+CanEvaluate vs bs (Invert width arg) =
+    (width ≤ 128) × (value_of (nets_of vs) (memories_of bs) arg < 2 ^ width) × CanEvaluate vs bs arg
+CanEvaluate vs bs (Binary op width left right) =
+    (width ≤ 128) × (value_of (nets_of vs) (memories_of bs) left < 2 ^ width)
+    × (value_of (nets_of vs) (memories_of bs) right < 2 ^ width) × CanEvaluate vs bs left × CanEvaluate vs bs right
 CanEvaluate vs bs (Choose test yes' no') = CanEvaluate vs bs test × CanEvaluate vs bs yes' × CanEvaluate vs bs no'
-CanEvaluate vs bs (Join low_width high low) = (low_width < 128) × (value_of (nets_of vs) (memories_of bs) high * 2 ^ low_width + value_of (nets_of vs) (memories_of bs) low < 2 ^ 128) × CanEvaluate vs bs high × CanEvaluate vs bs low
+CanEvaluate vs bs (Join low_width high low) =
+    (low_width < 128) × (value_of (nets_of vs) (memories_of bs) high * 2 ^ low_width + value_of (nets_of vs)
+    (memories_of bs) low < 2 ^ 128) × CanEvaluate vs bs high × CanEvaluate vs bs low
 CanEvaluate vs bs (Select high low n) = (n < length vs) × (low ≤ high) × (high < 128)
-CanEvaluate vs bs (Read memory address) = (memory < length bs) × (value_of (nets_of vs) (memories_of bs) address < length (slice_index_or bs memory [])) × (value_of (nets_of vs) (memories_of bs) address < 2 ^ 64) × CanEvaluate vs bs address
+CanEvaluate vs bs (Read memory address) =
+    (memory < length bs) × (value_of (nets_of vs) (memories_of bs) address < length (slice_index_or bs memory []))
+    × (value_of (nets_of vs) (memories_of bs) address < 2 ^ 64) × CanEvaluate vs bs address
 
 -- the lists hold a value for each declaration, which fits its width, and each word of each memory
 pub record IsStore (ds : List Declaration) (values : List ℕ) (banks : List (List ℕ)) : Type 0 where

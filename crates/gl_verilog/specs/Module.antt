@@ -125,7 +125,8 @@ assigned v m (If test yes' no') r = taken (value_of v m test) (assigned v m yes'
 abbrev pub written : Nets → Memories → Statement → ℕ → ℕ → Option ℕ
 written v m Nothing k at = None
 written v m (Put register value) k at = None
-written v m (Write memory address value) k at = if nat_eq memory k then (if nat_eq (value_of v m address) at then Some (value_of v m value) else None) else None
+written v m (Write memory address value) k at =
+    if nat_eq memory k then (if nat_eq (value_of v m address) at then Some (value_of v m value) else None) else None
 written v m (Both first second) k at = later_or (written v m second k at) (written v m first k at)
 written v m (If test yes' no') k at = taken (value_of v m test) (written v m yes' k at) (written v m no' k at)
 

@@ -54,23 +54,29 @@ decimal_number digits = number_in 10 digits
 abbrev pub resolve_expr : List Declaration → WrittenExpr → Option Expr
 resolve_expr ds (Named name) = option_map Net (number_read ds name)
 resolve_expr ds (Constant size radix digits) = Some (Literal (number_in radix digits) (decimal_number size))
-resolve_expr ds (BitOf name place) = option_map (Select (decimal_number place) (decimal_number place)) (number_read ds name)
-resolve_expr ds (PartOf name high low) = option_map (Select (decimal_number high) (decimal_number low)) (number_read ds name)
+resolve_expr ds (BitOf name place) =
+    option_map (Select (decimal_number place) (decimal_number place)) (number_read ds name)
+resolve_expr ds (PartOf name high low) =
+    option_map (Select (decimal_number high) (decimal_number low)) (number_read ds name)
 resolve_expr ds (WordOf name address) = both Read (number_read ds name) (resolve_expr ds address)
 resolve_expr ds (Braces parts) = resolve_expr ds parts
 resolve_expr ds (Parts first rest) = both (joined ds) (resolve_expr ds first) (resolve_expr ds rest)
 resolve_expr ds (Parens inner) = resolve_expr ds inner
 resolve_expr ds (Prefix op arg) = option_map (prefixed ds op) (resolve_expr ds arg)
 resolve_expr ds (Infix op left right) = both (infixed ds op) (resolve_expr ds left) (resolve_expr ds right)
-resolve_expr ds (Conditional test yes' no') = three Choose (resolve_expr ds test) (resolve_expr ds yes') (resolve_expr ds no')
+resolve_expr ds (Conditional test yes' no') =
+    three Choose (resolve_expr ds test) (resolve_expr ds yes') (resolve_expr ds no')
 
 -- ---- statements
 
 abbrev pub resolve_statement : List Declaration → WrittenStatement → Option Statement
 resolve_statement ds (Update target value) = both Put (number_of ds target) (resolve_expr ds value)
-resolve_statement ds (UpdateWord target address value) = three Write (number_of ds target) (resolve_expr ds address) (resolve_expr ds value)
-resolve_statement ds (IfThen test yes') = both (λ c x. If c x Nothing) (resolve_expr ds test) (resolve_statement ds yes')
-resolve_statement ds (IfElse test yes' no') = three If (resolve_expr ds test) (resolve_statement ds yes') (resolve_statement ds no')
+resolve_statement ds (UpdateWord target address value) =
+    three Write (number_of ds target) (resolve_expr ds address) (resolve_expr ds value)
+resolve_statement ds (IfThen test yes') =
+    both (λ c x. If c x Nothing) (resolve_expr ds test) (resolve_statement ds yes')
+resolve_statement ds (IfElse test yes' no') =
+    three If (resolve_expr ds test) (resolve_statement ds yes') (resolve_statement ds no')
 resolve_statement ds (Block statements) = resolve_statement ds statements
 resolve_statement ds (Listed first rest) = both Both (resolve_statement ds first) (resolve_statement ds rest)
 resolve_statement ds Ended = Some Nothing
@@ -132,18 +138,30 @@ is_so test ds name = option_map_or test (declared_in ds name) false
 
 -- a block is clocked by `clk`, which is declared before it and is no memory
 abbrev pub clocked : List Declaration → List ℕ → Option ℕ
-clocked ds clock = if bytes_eq clock (codes "clk") then (if is_so is_memory ds clock then None else number_of ds clock) else None
+clocked ds clock =
+    if bytes_eq clock (codes "clk") then (if is_so is_memory ds clock then None else number_of ds clock) else None
 
 abbrev pub resolve_items : List Declaration → List WrittenItem → Option Resolved
 resolve_items ds [] = Some (record { declarations = ds; assignments = []; blocks = [] })
 resolve_items ds (Wires range names ∷ is) = resolve_items (ds ++ map (declare Wire range) names) is
 resolve_items ds (Registers range names ∷ is) = resolve_items (ds ++ map (declare Register range) names) is
-resolve_items ds (MemoryOf range name last ∷ is) = option_and_then (λ j. resolve_items (ds ++ declare (Memory j) range name ∷ []) is) (address_bits_of (decimal_number last + 1))
-resolve_items ds (Assign target value ∷ is) = three with_assignment (number_of ds target) (resolve_expr ds value) (resolve_items ds is)
-resolve_items ds (Always clock body ∷ is) = three with_block (clocked ds clock) (resolve_statement ds body) (resolve_items ds is)
+resolve_items ds (MemoryOf range name last ∷ is) =
+    option_and_then (λ j. resolve_items (ds ++ declare (Memory j) range name ∷ []) is)
+    (address_bits_of (decimal_number last + 1))
+resolve_items ds (Assign target value ∷ is) =
+    three with_assignment (number_of ds target) (resolve_expr ds value) (resolve_items ds is)
+resolve_items ds (Always clock body ∷ is) =
+    three with_block (clocked ds clock) (resolve_statement ds body) (resolve_items ds is)
 
 abbrev pub module_from : WrittenModule → Resolved → Module
-module_from w r = record { name = w.name; ports = length w.ports; declarations = r.declarations; assignments = r.assignments; blocks = r.blocks }
+module_from w r =
+    record {
+      name = w.name;
+      ports = length w.ports;
+      declarations = r.declarations;
+      assignments = r.assignments;
+      blocks = r.blocks;
+    }
 
 -- the module that is meant; None where a name is not declared before it is used, the clock stands in an expression, a
 -- block has another clock than `clk` or a memory for it, or a memory has not 2^j words

@@ -17,13 +17,17 @@ IsSettled assignments v m = AllByRecursion (λ a. v a.target ≡ value_of v m a.
 
 -- each net, and each word of a memory, is below 2 ^ its width
 abbrev pub Fit : List Declaration → Nets → Memories → Type 0
-Fit declarations v m = (n : ℕ) (d : Declaration) → slice_get declarations n ≡ Some d → (v n < 2 ^ d.width) × ((at : ℕ) → m n at < 2 ^ d.width)
+Fit declarations v m =
+    (n : ℕ) (d : Declaration) → slice_get declarations n ≡ Some d → (v n < 2 ^ d.width)
+    × ((at : ℕ) → m n at < 2 ^ d.width)
 
 -- `value t` is what the nets hold in cycle t, `word t` what the memories hold; the start and the inputs are arbitrary
 pub record IsRun (m : Module) (value : ℕ → Nets) (word : ℕ → Memories) : Type 0 where
   pub settled : (t : ℕ) → IsSettled m.assignments (value t) (word t)
-  pub registers : (t n : ℕ) (d : Declaration) → slice_get m.declarations n ≡ Some d → IsRegister d.kind → value (t + 1) n ≡ unwrap_or (assigned_by (value t) (word t) m.blocks n) (value t n)
-  pub memories : (t k at : ℕ) → word (t + 1) k at ≡ unwrap_or (written_by (value t) (word t) m.blocks k at) (word t k at)
+  pub registers : (t n : ℕ) (d : Declaration) → slice_get m.declarations n ≡ Some d → IsRegister d.kind
+      → value (t + 1) n ≡ unwrap_or (assigned_by (value t) (word t) m.blocks n) (value t n)
+  pub memories : (t k at : ℕ) → word (t + 1) k at ≡ unwrap_or (written_by (value t) (word t) m.blocks k at)
+      (word t k at)
   pub fits : (t : ℕ) → Fit m.declarations (value t) (word t)
 
 -- the value of a port by its name in a cycle; None where the module has no such port
@@ -40,7 +44,9 @@ is_input_at ds n = option_map_or (λ d. is_input d.kind) (slice_get ds n) false
 
 -- the number of the input port of a name; None where the module has no input port of that name
 abbrev pub input_number : Module → List ℕ → Option ℕ
-input_number m name = option_and_then (λ n. if is_input_at m.declarations n then Some n else None) (number_of (take m.ports m.declarations) name)
+input_number m name =
+    option_and_then (λ n. if is_input_at m.declarations n then Some n else None)
+    (number_of (take m.ports m.declarations) name)
 
 -- the value of an input port by its name in a cycle; None where the module has no input port of that name
 abbrev pub input_values : Module → (ℕ → Nets) → ℕ → List ℕ → Option ℕ

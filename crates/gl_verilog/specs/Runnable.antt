@@ -12,13 +12,15 @@ pub record IsRunnable (m : Module) : Type 0 where
   pub sizes : AllByRecursion HasSize m.declarations
   pub assignments : AllByRecursion (KeepsWidth m.declarations) m.assignments
   pub blocks : AllByRecursion (KeepsWidthsIn m.declarations) m.blocks
-  pub driven : (n : ℕ) (d : Declaration) → slice_get m.declarations n ≡ Some d → IsDriven d.kind → IsUndriven m.assignments n → ⊥
+  pub driven : (n : ℕ) (d : Declaration) → slice_get m.declarations n ≡ Some d → IsDriven d.kind
+      → IsUndriven m.assignments n → ⊥
   pub ordered : CanBeOrdered m.assignments
 
 -- the numbers of the input ports but the clock, in their order, counted from n
 abbrev pub inputs_from : ℕ → List Declaration → List ℕ
 inputs_from n [] = []
-inputs_from n (d ∷ ds) = if (is_input d.kind && not (is_clock d)) then n ∷ inputs_from (n + 1) ds else inputs_from (n + 1) ds
+inputs_from n (d ∷ ds) =
+    if (is_input d.kind && not (is_clock d)) then n ∷ inputs_from (n + 1) ds else inputs_from (n + 1) ds
 
 abbrev pub inputs_of : Module → List ℕ
 inputs_of m = inputs_from 0 m.declarations
@@ -38,7 +40,8 @@ pub record SameState (ds : List Declaration) (v : Nets) (m : Memories) (v' : Net
 
 -- two cycles have the same on each input port but the clock
 abbrev pub SameInputs : List Declaration → Nets → Nets → Type 0
-SameInputs ds v v' = (n : ℕ) (d : Declaration) → slice_get ds n ≡ Some d → d.kind ≡ Input → is_clock d ≡ false → v n ≡ v' n
+SameInputs ds v v' =
+    (n : ℕ) (d : Declaration) → slice_get ds n ≡ Some d → d.kind ≡ Input → is_clock d ≡ false → v n ≡ v' n
 
 -- two cycles have the same on each net and register but the clock
 abbrev pub SameNets : List Declaration → Nets → Nets → Type 0
@@ -46,15 +49,27 @@ SameNets ds v v' = (n : ℕ) (d : Declaration) → slice_get ds n ≡ Some d →
 
 -- given its inputs, registers and words, a cycle settles in one way at most
 abbrev pub SettlesOneWay : Module → Type 0
-SettlesOneWay m = (v v' : Nets) (words words' : Memories) → Fit m.declarations v words → IsSettled m.assignments v words → IsSettled m.assignments v' words' → SameInputs m.declarations v v' → SameState m.declarations v words v' words' → SameNets m.declarations v v'
+SettlesOneWay m =
+    (v v' : Nets) (words words' : Memories) → Fit m.declarations v words → IsSettled m.assignments v words
+    → IsSettled m.assignments v' words' → SameInputs m.declarations v v' → SameState m.declarations v words v' words'
+    → SameNets m.declarations v v'
 
--- two runs with the same start, and the same inputs in the cycles up to one, have the same nets, registers and words up to it
+-- two runs with the same start, and the same inputs in the cycles up to one, have the same nets, registers and words up
+-- to it
 abbrev pub RunsAreCausal : Module → Type 0
-RunsAreCausal m = (value value' : ℕ → Nets) (word word' : ℕ → Memories) → IsRun m value word → IsRun m value' word' → SameState m.declarations (value 0) (word 0) (value' 0) (word' 0) → (c : ℕ) → ((t : ℕ) → t ≤ c → SameInputs m.declarations (value t) (value' t)) → (t : ℕ) → t ≤ c → SameNets m.declarations (value t) (value' t) × SameState m.declarations (value t) (word t) (value' t) (word' t)
+RunsAreCausal m =
+    (value value' : ℕ → Nets) (word word' : ℕ → Memories) → IsRun m value word → IsRun m value' word'
+    → SameState m.declarations (value 0) (word 0) (value' 0) (word' 0) → (c : ℕ)
+    → ((t : ℕ) → t ≤ c → SameInputs m.declarations (value t) (value' t)) → (t : ℕ) → t ≤ c
+    → SameNets m.declarations (value t) (value' t) × SameState m.declarations (value t) (word t) (value' t) (word' t)
 
 -- two runs with the same start and the same inputs have the same nets, registers and words in every cycle
 abbrev pub RunsAgree : Module → Type 0
-RunsAgree m = (value value' : ℕ → Nets) (word word' : ℕ → Memories) → IsRun m value word → IsRun m value' word' → SameState m.declarations (value 0) (word 0) (value' 0) (word' 0) → ((t : ℕ) → SameInputs m.declarations (value t) (value' t)) → (t : ℕ) → SameNets m.declarations (value t) (value' t) × SameState m.declarations (value t) (word t) (value' t) (word' t)
+RunsAgree m =
+    (value value' : ℕ → Nets) (word word' : ℕ → Memories) → IsRun m value word → IsRun m value' word'
+    → SameState m.declarations (value 0) (word 0) (value' 0) (word' 0)
+    → ((t : ℕ) → SameInputs m.declarations (value t) (value' t)) → (t : ℕ)
+    → SameNets m.declarations (value t) (value' t) × SameState m.declarations (value t) (word t) (value' t) (word' t)
 
 -- a cycle that holds these inputs, registers and words, and is settled
 pub record Settles (m : Module) (v : Nets) (words : Memories) : Type 0 where
@@ -78,7 +93,9 @@ pub record RunsFrom (m : Module) (start : Nets) (words : Memories) (inputs : ℕ
 
 -- there is a run from any start and any inputs that fit
 abbrev pub HasRuns : Module → Type 0
-HasRuns m = (start : Nets) (words : Memories) (inputs : ℕ → Nets) → Fit m.declarations start words → ((t : ℕ) → Fit m.declarations (inputs t) words) → RunsFrom m start words inputs
+HasRuns m =
+    (start : Nets) (words : Memories) (inputs : ℕ → Nets) → Fit m.declarations start words
+    → ((t : ℕ) → Fit m.declarations (inputs t) words) → RunsFrom m start words inputs
 
 -- a statement assigns no value to the register
 abbrev pub LeavesAlone : ℕ → Statement → Type 0
@@ -90,4 +107,7 @@ LeavesAlone r (If test yes' no') = LeavesAlone r yes' × LeavesAlone r no'
 
 -- a register that no block assigns keeps its start in every run
 abbrev pub KeepsStart : Module → Type 0
-KeepsStart m = (value : ℕ → Nets) (word : ℕ → Memories) → IsRun m value word → (r : ℕ) (d : Declaration) → slice_get m.declarations r ≡ Some d → IsRegister d.kind → AllByRecursion (LeavesAlone r) m.blocks → (t : ℕ) → value t r ≡ value 0 r
+KeepsStart m =
+    (value : ℕ → Nets) (word : ℕ → Memories) → IsRun m value word → (r : ℕ) (d : Declaration)
+    → slice_get m.declarations r ≡ Some d → IsRegister d.kind → AllByRecursion (LeavesAlone r) m.blocks → (t : ℕ)
+    → value t r ≡ value 0 r

@@ -35,7 +35,8 @@ assigns (If test yes' no') r = assigns yes' r || assigns no' r
 
 -- no two statements of one `begin .. end` list assign the register
 abbrev pub AssignsOnce : ℕ → Statement → Type 0
-AssignsOnce r (Both first second) = (assigns first r && assigns second r ≡ false) × AssignsOnce r first × AssignsOnce r second
+AssignsOnce r (Both first second) =
+    (assigns first r && assigns second r ≡ false) × AssignsOnce r first × AssignsOnce r second
 AssignsOnce r (If test yes' no') = AssignsOnce r yes' × AssignsOnce r no'
 AssignsOnce r s = Unit {0}
 

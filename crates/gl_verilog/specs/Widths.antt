@@ -1,5 +1,5 @@
--- The widths of expressions, and the expressions, statements and assignments that keep them: the operands of an operator
--- have one width, so no rule of extension arises. After IEEE 1364-2005, clause 5.4 (expression bit lengths).
+-- The widths of expressions, and the expressions, statements and assignments that keep them: the operands of an
+-- operator have one width, so no rule of extension arises. After IEEE 1364-2005, clause 5.4 (expression bit lengths).
 use Rattle.std.specs.Prelude.{◌≡◌, ℕ, ◌+◌, ◌-◌, ◌^◌, ◌<◌, ◌≤◌, Bool, false, List, IsSomeAnd, slice_get, codes, IsTrue}
 use Rattle.std.specs.Option.{option_map_or}
 use Rattle.std.specs.Str.{bytes_eq}
@@ -70,20 +70,31 @@ abbrev pub KeepsWidths : List Declaration → Expr → Type 0
 KeepsWidths ds (Net n) = IsSomeAnd (slice_get ds n) IsReadable
 KeepsWidths ds (Literal value width) = IsWidth width × (value < 2 ^ width)
 KeepsWidths ds (Invert width arg) = (width_of ds arg ≡ width) × KeepsWidths ds arg
-KeepsWidths ds (Binary op width left right) = (width_of ds left ≡ width) × (width_of ds right ≡ width) × KeepsWidths ds left × KeepsWidths ds right
-KeepsWidths ds (Choose test yes' no') = (width_of ds test ≡ 1) × (width_of ds no' ≡ width_of ds yes') × KeepsWidths ds test × KeepsWidths ds yes' × KeepsWidths ds no'
-KeepsWidths ds (Join low_width high low) = (width_of ds low ≡ low_width) × (width_of ds high + low_width ≤ 128) × KeepsWidths ds high × KeepsWidths ds low
-KeepsWidths ds (Select high low n) = IsSomeAnd (slice_get ds n) (λ d. IsReadable d × IsTrue d.is_vector × (high < d.width)) × (low ≤ high)
-KeepsWidths ds (Read memory address) = IsSomeAnd (slice_get ds memory) (λ d. IsMemory d.kind (width_of ds address)) × KeepsWidths ds address
+KeepsWidths ds (Binary op width left right) =
+    (width_of ds left ≡ width) × (width_of ds right ≡ width) × KeepsWidths ds left × KeepsWidths ds right
+KeepsWidths ds (Choose test yes' no') =
+    (width_of ds test ≡ 1) × (width_of ds no' ≡ width_of ds yes') × KeepsWidths ds test × KeepsWidths ds yes'
+    × KeepsWidths ds no'
+KeepsWidths ds (Join low_width high low) =
+    (width_of ds low ≡ low_width) × (width_of ds high + low_width ≤ 128) × KeepsWidths ds high × KeepsWidths ds low
+KeepsWidths ds (Select high low n) =
+    IsSomeAnd (slice_get ds n) (λ d. IsReadable d × IsTrue d.is_vector × (high < d.width)) × (low ≤ high)
+KeepsWidths ds (Read memory address) =
+    IsSomeAnd (slice_get ds memory) (λ d. IsMemory d.kind (width_of ds address)) × KeepsWidths ds address
 
 -- what is assigned to a net has its width, and an assignment drives it
 abbrev pub KeepsWidth : List Declaration → Assignment → Type 0
-KeepsWidth ds a = IsSomeAnd (slice_get ds a.target) (λ d. IsDriven d.kind × (width_of ds a.value ≡ d.width)) × KeepsWidths ds a.value
+KeepsWidth ds a =
+    IsSomeAnd (slice_get ds a.target) (λ d. IsDriven d.kind × (width_of ds a.value ≡ d.width)) × KeepsWidths ds a.value
 
 -- what a register or a word takes has its width, an address as many bits as the memory's, and a test one bit
 abbrev pub KeepsWidthsIn : List Declaration → Statement → Type 0
 KeepsWidthsIn ds Nothing = Unit {0}
-KeepsWidthsIn ds (Put register value) = IsSomeAnd (slice_get ds register) (λ d. IsRegister d.kind × (width_of ds value ≡ d.width)) × KeepsWidths ds value
-KeepsWidthsIn ds (Write memory address value) = IsSomeAnd (slice_get ds memory) (λ d. IsMemory d.kind (width_of ds address) × (width_of ds value ≡ d.width)) × KeepsWidths ds address × KeepsWidths ds value
+KeepsWidthsIn ds (Put register value) =
+    IsSomeAnd (slice_get ds register) (λ d. IsRegister d.kind × (width_of ds value ≡ d.width)) × KeepsWidths ds value
+KeepsWidthsIn ds (Write memory address value) =
+    IsSomeAnd (slice_get ds memory) (λ d. IsMemory d.kind (width_of ds address) × (width_of ds value ≡ d.width))
+    × KeepsWidths ds address × KeepsWidths ds value
 KeepsWidthsIn ds (Both first second) = KeepsWidthsIn ds first × KeepsWidthsIn ds second
-KeepsWidthsIn ds (If test yes' no') = (width_of ds test ≡ 1) × KeepsWidths ds test × KeepsWidthsIn ds yes' × KeepsWidthsIn ds no'
+KeepsWidthsIn ds (If test yes' no') =
+    (width_of ds test ≡ 1) × KeepsWidths ds test × KeepsWidthsIn ds yes' × KeepsWidthsIn ds no'

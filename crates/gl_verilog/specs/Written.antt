@@ -83,8 +83,10 @@ IsGrouped (Braces parts) = IsGrouped parts
 IsGrouped (Parts first rest) = (level first ≤ 11) × IsGrouped first × IsGrouped rest
 IsGrouped (Parens inner) = (level inner ≤ 11) × IsGrouped inner
 IsGrouped (Prefix op arg) = (level arg ≤ 1) × IsGrouped arg
-IsGrouped (Infix op left right) = (level left ≤ looseness op) × (level right < looseness op) × IsGrouped left × IsGrouped right
-IsGrouped (Conditional test yes' no') = (level test ≤ 10) × (level yes' ≤ 11) × (level no' ≤ 11) × IsGrouped test × IsGrouped yes' × IsGrouped no'
+IsGrouped (Infix op left right) =
+    (level left ≤ looseness op) × (level right < looseness op) × IsGrouped left × IsGrouped right
+IsGrouped (Conditional test yes' no') =
+    (level test ≤ 10) × (level yes' ≤ 11) × (level no' ≤ 11) × IsGrouped test × IsGrouped yes' × IsGrouped no'
 
 -- a whole expression
 abbrev pub IsExpr : WrittenExpr → Type 0
@@ -114,14 +116,16 @@ abbrev pub spell_expr : WrittenExpr → List Token
 spell_expr (Named name) = Name name ∷ []
 spell_expr (Constant size radix digits) = Sized size radix digits ∷ []
 spell_expr (BitOf name place) = Name name ∷ Mark OpenBracket ∷ Number place ∷ Mark CloseBracket ∷ []
-spell_expr (PartOf name high low) = Name name ∷ Mark OpenBracket ∷ Number high ∷ Mark Colon ∷ Number low ∷ Mark CloseBracket ∷ []
+spell_expr (PartOf name high low) =
+    Name name ∷ Mark OpenBracket ∷ Number high ∷ Mark Colon ∷ Number low ∷ Mark CloseBracket ∷ []
 spell_expr (WordOf name address) = Name name ∷ Mark OpenBracket ∷ (spell_expr address ++ Mark CloseBracket ∷ [])
 spell_expr (Braces parts) = Mark OpenBrace ∷ (spell_expr parts ++ Mark CloseBrace ∷ [])
 spell_expr (Parts first rest) = spell_expr first ++ Mark Comma ∷ spell_expr rest
 spell_expr (Parens inner) = Mark OpenParen ∷ (spell_expr inner ++ Mark CloseParen ∷ [])
 spell_expr (Prefix op arg) = prefix_token op ∷ spell_expr arg
 spell_expr (Infix op left right) = spell_expr left ++ infix_token op ∷ spell_expr right
-spell_expr (Conditional test yes' no') = spell_expr test ++ Mark Question ∷ (spell_expr yes' ++ Mark Colon ∷ spell_expr no')
+spell_expr (Conditional test yes' no') =
+    spell_expr test ++ Mark Question ∷ (spell_expr yes' ++ Mark Colon ∷ spell_expr no')
 
 -- ---- statements
 
@@ -160,7 +164,8 @@ abbrev pub IsStatementAt : Place → WrittenStatement → Type 0
 IsStatementAt Single (Update target value) = IsExpr value
 IsStatementAt Single (UpdateWord target address value) = IsExpr address × IsExpr value
 IsStatementAt Single (IfThen test yes') = IsExpr test × IsStatementAt Single yes'
-IsStatementAt Single (IfElse test yes' no') = IsExpr test × (ends_open yes' ≡ false) × IsStatementAt Single yes' × IsStatementAt Single no'
+IsStatementAt Single (IfElse test yes' no') =
+    IsExpr test × (ends_open yes' ≡ false) × IsStatementAt Single yes' × IsStatementAt Single no'
 IsStatementAt Single (Block statements) = IsStatementAt InBlock statements
 IsStatementAt Single (Listed first rest) = ⊥
 IsStatementAt Single Ended = ⊥
@@ -177,9 +182,14 @@ IsStatement s = IsStatementAt Single s
 
 abbrev pub spell_statement : WrittenStatement → List Token
 spell_statement (Update target value) = Name target ∷ Mark LessEquals ∷ (spell_expr value ++ Mark Semicolon ∷ [])
-spell_statement (UpdateWord target address value) = Name target ∷ Mark OpenBracket ∷ (spell_expr address ++ Mark CloseBracket ∷ Mark LessEquals ∷ (spell_expr value ++ Mark Semicolon ∷ []))
-spell_statement (IfThen test yes') = Reserved IfWord ∷ Mark OpenParen ∷ (spell_expr test ++ Mark CloseParen ∷ spell_statement yes')
-spell_statement (IfElse test yes' no') = Reserved IfWord ∷ Mark OpenParen ∷ (spell_expr test ++ Mark CloseParen ∷ (spell_statement yes' ++ Reserved ElseWord ∷ spell_statement no'))
+spell_statement (UpdateWord target address value) =
+    Name target ∷ Mark OpenBracket ∷ (spell_expr address ++ Mark CloseBracket ∷ Mark LessEquals
+    ∷ (spell_expr value ++ Mark Semicolon ∷ []))
+spell_statement (IfThen test yes') =
+    Reserved IfWord ∷ Mark OpenParen ∷ (spell_expr test ++ Mark CloseParen ∷ spell_statement yes')
+spell_statement (IfElse test yes' no') =
+    Reserved IfWord ∷ Mark OpenParen ∷ (spell_expr test ++ Mark CloseParen
+    ∷ (spell_statement yes' ++ Reserved ElseWord ∷ spell_statement no'))
 spell_statement (Block statements) = Reserved BeginWord ∷ (spell_statement statements ++ Reserved EndWord ∷ [])
 spell_statement (Listed first rest) = spell_statement first ++ spell_statement rest
 spell_statement Ended = []
@@ -252,17 +262,25 @@ spell_names (n ∷ ns) = Name n ∷ spell_more_names ns
 
 abbrev pub spell_item : WrittenItem → List Token
 spell_item (Wires range names) = Reserved WireWord ∷ (spell_range range ++ (spell_names names ++ Mark Semicolon ∷ []))
-spell_item (Registers range names) = Reserved RegWord ∷ (spell_range range ++ (spell_names names ++ Mark Semicolon ∷ []))
-spell_item (MemoryOf range name last) = Reserved RegWord ∷ (spell_range range ++ Name name ∷ Mark OpenBracket ∷ Number zero_digit ∷ Mark Colon ∷ Number last ∷ Mark CloseBracket ∷ Mark Semicolon ∷ [])
-spell_item (Assign target value) = Reserved AssignWord ∷ Name target ∷ Mark Equals ∷ (spell_expr value ++ Mark Semicolon ∷ [])
-spell_item (Always clock body) = Reserved AlwaysWord ∷ Mark At ∷ Mark OpenParen ∷ Reserved PosedgeWord ∷ Name clock ∷ Mark CloseParen ∷ spell_statement body
+spell_item (Registers range names) =
+    Reserved RegWord ∷ (spell_range range ++ (spell_names names ++ Mark Semicolon ∷ []))
+spell_item (MemoryOf range name last) =
+    Reserved RegWord ∷ (spell_range range ++ Name name ∷ Mark OpenBracket ∷ Number zero_digit ∷ Mark Colon ∷ Number last
+    ∷ Mark CloseBracket ∷ Mark Semicolon ∷ [])
+spell_item (Assign target value) =
+    Reserved AssignWord ∷ Name target ∷ Mark Equals ∷ (spell_expr value ++ Mark Semicolon ∷ [])
+spell_item (Always clock body) =
+    Reserved AlwaysWord ∷ Mark At ∷ Mark OpenParen ∷ Reserved PosedgeWord ∷ Name clock ∷ Mark CloseParen
+    ∷ spell_statement body
 
 abbrev pub spell_items : List WrittenItem → List Token
 spell_items [] = []
 spell_items (i ∷ is) = spell_item i ++ spell_items is
 
 abbrev pub spell : WrittenModule → List Token
-spell m = Reserved ModuleWord ∷ Name m.name ∷ Mark OpenParen ∷ (spell_ports m.ports ++ Mark CloseParen ∷ Mark Semicolon ∷ (spell_items m.items ++ Reserved EndModuleWord ∷ []))
+spell m =
+    Reserved ModuleWord ∷ Name m.name ∷ Mark OpenParen
+    ∷ (spell_ports m.ports ++ Mark CloseParen ∷ Mark Semicolon ∷ (spell_items m.items ++ Reserved EndModuleWord ∷ []))
 
 -- one or more
 abbrev pub IsNonempty : {A : Type 0} → List A → Type 0

@@ -34,7 +34,9 @@ net_width d = only (not (is_memory d.kind) && not (is_clock d)) d.width
 
 -- the width of a part of a vector
 abbrev pub part_width : ℕ → ℕ → Declaration → Option ℕ
-part_width high low d = only (not (is_memory d.kind) && not (is_clock d) && d.is_vector && nat_lt high d.width && nat_le low high) (high + 1 - low)
+part_width high low d =
+    only (not (is_memory d.kind) && not (is_clock d) && d.is_vector && nat_lt high d.width && nat_le low high)
+    (high + 1 - low)
 
 abbrev pub has_address : Kind → ℕ → Bool
 has_address (Memory bits) address = nat_eq bits address
@@ -64,11 +66,16 @@ abbrev pub kept : List Declaration → Expr → Option ℕ
 kept ds (Net n) = option_and_then net_width (slice_get ds n)
 kept ds (Literal value width) = literal_width value width
 kept ds (Invert width arg) = option_and_then (invert_width width) (kept ds arg)
-kept ds (Binary op width left right) = option_and_then (λ x. option_and_then (λ y. both_width op width x y) (kept ds right)) (kept ds left)
-kept ds (Choose test yes' no') = option_and_then (λ t. option_and_then (λ a. option_and_then (λ b. choose_width t a b) (kept ds no')) (kept ds yes')) (kept ds test)
-kept ds (Join low_width high low) = option_and_then (λ h. option_and_then (λ l. join_width low_width h l) (kept ds low)) (kept ds high)
+kept ds (Binary op width left right) =
+    option_and_then (λ x. option_and_then (λ y. both_width op width x y) (kept ds right)) (kept ds left)
+kept ds (Choose test yes' no') =
+    option_and_then (λ t. option_and_then (λ a. option_and_then (λ b. choose_width t a b) (kept ds no')) (kept ds yes'))
+    (kept ds test)
+kept ds (Join low_width high low) =
+    option_and_then (λ h. option_and_then (λ l. join_width low_width h l) (kept ds low)) (kept ds high)
 kept ds (Select high low n) = option_and_then (part_width high low) (slice_get ds n)
-kept ds (Read memory address) = option_and_then (λ w. option_and_then (word_width w) (slice_get ds memory)) (kept ds address)
+kept ds (Read memory address) =
+    option_and_then (λ w. option_and_then (word_width w) (slice_get ds memory)) (kept ds address)
 
 abbrev pub is_driven : Kind → Bool
 is_driven OutputWire = true
@@ -89,7 +96,8 @@ only_taken may w d = only (may && nat_eq w d.width) w
 
 -- the width of an assignment to a net
 abbrev pub assigned_width : List Declaration → Assignment → Option ℕ
-assigned_width ds a = option_and_then (λ w. option_and_then (takes is_driven w) (slice_get ds a.target)) (kept ds a.value)
+assigned_width ds a =
+    option_and_then (λ w. option_and_then (takes is_driven w) (slice_get ds a.target)) (kept ds a.value)
 
 -- the width of what a register takes
 abbrev pub put_width : List Declaration → ℕ → Expr → Option ℕ
@@ -101,7 +109,9 @@ takes_word address w d = only (has_address d.kind address && nat_eq w d.width) w
 
 -- the width of what a word of a memory takes
 abbrev pub write_width : List Declaration → ℕ → Expr → Expr → Option ℕ
-write_width ds memory address value = option_and_then (λ a. option_and_then (λ w. option_and_then (takes_word a w) (slice_get ds memory)) (kept ds value)) (kept ds address)
+write_width ds memory address value =
+    option_and_then (λ a. option_and_then (λ w. option_and_then (takes_word a w) (slice_get ds memory)) (kept ds value))
+    (kept ds address)
 
 -- the number is there, and is 1
 abbrev pub is_one : Option ℕ → Bool

@@ -52,5 +52,6 @@ left marks (a ∷ rest) = keep (waits marks a.target) a (left marks rest)
 pub record IsPlacing (assignments : List Assignment) (marks : List Bool) (order : List ℕ) : Type 0 where
   pub in_range : AllByRecursion (λ k. k < length assignments) order
   pub same : IsPermutation assignments (picked assignments order ++ left marks assignments)
-  pub ordered : (rest : List Assignment) → IsPermutation (left marks assignments) rest → IsOrdered rest → IsOrdered (picked assignments order ++ rest)
+  pub ordered : (rest : List Assignment) → IsPermutation (left marks assignments) rest → IsOrdered rest
+      → IsOrdered (picked assignments order ++ rest)
   pub driven : (n : ℕ) → slice_get marks n ≡ Some true → IsUndriven assignments n → ⊥

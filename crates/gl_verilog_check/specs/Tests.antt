@@ -21,13 +21,16 @@ abbrev pub assigns_once : ℕ → Statement → Option Bool
 assigns_once r Nothing = Some false
 assigns_once r (Put register value) = Some (nat_eq register r)
 assigns_once r (Write memory address value) = Some false
-assigns_once r (Both first second) = option_and_then (λ a. option_and_then (one_of a) (assigns_once r second)) (assigns_once r first)
-assigns_once r (If test yes' no') = option_and_then (λ a. option_map (λ b. a || b) (assigns_once r no')) (assigns_once r yes')
+assigns_once r (Both first second) =
+    option_and_then (λ a. option_and_then (one_of a) (assigns_once r second)) (assigns_once r first)
+assigns_once r (If test yes' no') =
+    option_and_then (λ a. option_map (λ b. a || b) (assigns_once r no')) (assigns_once r yes')
 
 -- how many blocks assign a register, where no two of one list do
 abbrev pub blocks_once : ℕ → List Statement → Option ℕ
 blocks_once r [] = Some 0
-blocks_once r (b ∷ bs) = option_and_then (λ a. option_map (λ n. (if a then 1 else 0) + n) (blocks_once r bs)) (assigns_once r b)
+blocks_once r (b ∷ bs) =
+    option_and_then (λ a. option_map (λ n. (if a then 1 else 0) + n) (blocks_once r bs)) (assigns_once r b)
 
 -- a count as far as one is told from more
 abbrev pub at_most_two : ℕ → ℕ

@@ -144,6 +144,7 @@ pub fn is_runnable(alloc: Global, design: &Module) -> Result<bool, Memory>
     let declarations = design.declarations.as_slice();
     let assignments = design.assignments.as_slice();
     let blocks = design.blocks.as_slice();
+    // Named, since a goal speaks of the value.
     let runs = parts_run(alloc, declarations, assignments, blocks)?;
     Ok(runs)
 }

@@ -212,6 +212,7 @@ fn parts_are_valid(
     if !runs {
         return Ok(false);
     }
+    // Named, since a goal speaks of the value.
     let assigned = have_drivers(alloc, declarations, blocks)?;
     Ok(assigned)
 }

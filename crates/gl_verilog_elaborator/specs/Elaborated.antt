@@ -27,7 +27,8 @@ is_new s name = not (is_among name (map (λ d. d.name) s.declarations))
 
 -- a declaration more, at a token
 abbrev pub declared : Scope → ℕ → Declaration → Result Scope Broken
-declared s k d = asks TwiceDeclared k (is_new s d.name) (asks TooWide k (nat_le d.width 128) (Ok (with_declaration s k d)))
+declared s k d =
+    asks TwiceDeclared k (is_new s d.name) (asks TooWide k (nat_le d.width 128) (Ok (with_declaration s k d)))
 
 -- the bits of a range; one bit without a range
 abbrev pub range_bits : Range → ℕ
@@ -36,12 +37,14 @@ range_bits (Some high) = decimal_number high + 1
 
 -- the width of a name that is new, at a token
 abbrev pub new_width : Scope → ℕ → Range → List ℕ → Result ℕ Broken
-new_width s k range name = asks TwiceDeclared k (is_new s name) (asks TooWide k (nat_le (range_bits range) 128) (Ok (range_bits range)))
+new_width s k range name =
+    asks TwiceDeclared k (is_new s name) (asks TooWide k (nat_le (range_bits range) 128) (Ok (range_bits range)))
 
 -- names with a comma between each two
 abbrev pub declared_all : Kind → Range → Scope → ℕ → List (List ℕ) → Result Scope Broken
 declared_all kind range s k [] = Ok s
-declared_all kind range s k (n ∷ ns) = then' (declared s k (declare kind range n)) (λ s'. declared_all kind range s' (k + 2) ns)
+declared_all kind range s k (n ∷ ns) =
+    then' (declared s k (declare kind range n)) (λ s'. declared_all kind range s' (k + 2) ns)
 
 -- the tokens of a range, and of a direction
 abbrev pub range_size : Range → ℕ
@@ -69,12 +72,13 @@ ported s end = record { scope = s; end = end }
 
 abbrev pub declared_ports : Scope → ℕ → List WrittenPort → Result Ported Broken
 declared_ports s k [] = Ok (ported s k)
-declared_ports s k (p ∷ ps) = then' (declared s (port_token k p) (declare_port p)) (λ s'. declared_ports s' (port_token k p + 2) ps)
+declared_ports s k (p ∷ ps) =
+    then' (declared s (port_token k p) (declare_port p)) (λ s'. declared_ports s' (port_token k p + 2) ps)
 
 -- ---- items
 
--- what was elaborated so far: declarations, assignments with the tokens of their targets, blocks, what has a driver, and the
--- number of the next token
+-- what was elaborated so far: declarations, assignments with the tokens of their targets, blocks, what has a driver,
+-- and the number of the next token
 pub record Elaborated : Type 0 where
   pub scope : Scope
   pub assignments : List Assignment
@@ -113,27 +117,33 @@ with_block e s = record e { blocks = e.blocks ++ s.statement ∷ []; drivers = b
 
 abbrev pub elaborated_names : Kind → Range → Elaborated → List (List ℕ) → Result Elaborated Broken
 elaborated_names kind range e names =
-    then' (declared_all kind range e.scope (e.end + 1 + range_size range) names) (λ s. Ok (with_scope e s (e.end + 1 + range_size range + 2 * length names)))
+    then' (declared_all kind range e.scope (e.end + 1 + range_size range) names)
+    (λ s. Ok (with_scope e s (e.end + 1 + range_size range + 2 * length names)))
 
 -- a memory at a token, where it has 2^j words
 abbrev pub declared_memory : Scope → ℕ → Range → List ℕ → List ℕ → Result Scope Broken
 declared_memory s k range name last =
     asks TwiceDeclared k (is_new s name) (asks TooWide k (nat_le (declare (Memory 0) range name).width 128)
-    (then' (or_breaks BadMemory k (address_bits_of (decimal_number last + 1))) (λ j. Ok (with_declaration s k (declare (Memory j) range name)))))
+    (then' (or_breaks BadMemory k (address_bits_of (decimal_number last + 1)))
+    (λ j. Ok (with_declaration s k (declare (Memory j) range name)))))
 
 abbrev pub elaborated_memory : Elaborated → Range → List ℕ → List ℕ → Result Elaborated Broken
 elaborated_memory e range name last =
-    then' (declared_memory e.scope (e.end + 1 + range_size range) range name last) (λ s. Ok (with_scope e s (e.end + 1 + range_size range + 7)))
+    then' (declared_memory e.scope (e.end + 1 + range_size range) range name last)
+    (λ s. Ok (with_scope e s (e.end + 1 + range_size range + 7)))
 
 -- the number of an assignment's target, at a token, for a value of this width
 abbrev pub assignment_target : List Declaration → Drivers → ℕ → List ℕ → ℕ → Result ℕ Broken
 assignment_target ds v k target width =
-    then' (named ds k target) (λ d. asks BadTarget k (is_wire_kind d.kind) (asks TwiceDriven k (not (is_among target v.done))
+    then' (named ds k target) (λ d. asks BadTarget k (is_wire_kind d.kind)
+    (asks TwiceDriven k (not (is_among target v.done))
     (asks WidthsDiffer k (nat_eq d.width width) (Ok d.number))))
 
 -- a block's clock, at a token
 abbrev pub tested_clock : List Declaration → ℕ → List ℕ → Result (Unit {0}) Broken
-tested_clock ds k clock = then' (named ds k clock) (λ d. asks ClockRead k (is_clock_name clock) (asks BadMemory k (not (is_memory_kind d.kind)) (Ok tt)))
+tested_clock ds k clock =
+    then' (named ds k clock) (λ d. asks ClockRead k (is_clock_name clock)
+    (asks BadMemory k (not (is_memory_kind d.kind)) (Ok tt)))
 
 -- a block's statement, at a token
 abbrev pub put_block : Elaborated → ℕ → WrittenStatement → Result Elaborated Broken
@@ -143,7 +153,8 @@ abbrev pub elaborated_assignment : Elaborated → List ℕ → WrittenExpr → R
 elaborated_assignment e target value =
     then' (judged_expr e.scope.declarations (e.end + 3) value) (λ t.
     then' (named e.scope.declarations (e.end + 1) target) (λ d. asks BadTarget (e.end + 1) (is_wire_kind d.kind)
-    (asks TwiceDriven (e.end + 1) (not (is_among target e.drivers.done)) (asks WidthsDiffer (e.end + 1) (nat_eq d.width t.width)
+    (asks TwiceDriven (e.end + 1) (not (is_among target e.drivers.done))
+    (asks WidthsDiffer (e.end + 1) (nat_eq d.width t.width)
     (Ok (with_assignment e (e.end + 1) target d.number t))))))
 
 abbrev pub elaborated_block : Elaborated → List ℕ → WrittenStatement → Result Elaborated Broken
@@ -184,9 +195,17 @@ all_driven done (d ∷ ds) (t ∷ ts) e = asks NeverDriven t (has_driver done d)
 -- all but the loops
 abbrev pub elaborated : WrittenModule → Result Elaborated Broken
 elaborated w =
-    then' (declared_ports empty_scope 3 w.ports) (λ p. then' (elaborated_items (begun p.scope (p.end + 1)) w.items) (λ e.
+    then' (declared_ports empty_scope 3 w.ports)
+    (λ p. then' (elaborated_items (begun p.scope (p.end + 1)) w.items) (λ e.
     all_driven e.drivers.done e.scope.declarations e.scope.tokens e))
 
 -- the module of what was elaborated
 abbrev pub module_with : List ℕ → ℕ → Elaborated → Module
-module_with name ports e = record { name = name; ports = ports; declarations = e.scope.declarations; assignments = e.assignments; blocks = e.blocks }
+module_with name ports e =
+    record {
+      name = name;
+      ports = ports;
+      declarations = e.scope.declarations;
+      assignments = e.assignments;
+      blocks = e.blocks;
+    }

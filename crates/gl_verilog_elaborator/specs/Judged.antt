@@ -1,4 +1,5 @@
--- How a written module is judged and resolved by one pass from left to right, with an exit at the first demand that is not met.
+-- How a written module is judged and resolved by one pass from left to right, with an exit at the first demand that is
+-- not met.
 use Rattle.std.specs.Prelude.{ℕ, ◌+◌, ◌-◌, ◌^◌, Bool, true, false, not, ◌&&◌, ◌||◌, List, [], ◌∷◌, ◌++◌, drop, length, fold, Option, Some, None, option_map, option_and_then, Result, Ok, Err, slice_get, nat_eq, nat_le, nat_lt, if◌then◌else◌}
 use Rattle.gl_verilog.specs.Tokens.{number_in}
 use Rattle.gl_verilog.specs.Module.{Declaration, Kind, BinaryOp, Add, Sub, Mul, And, Xor, Or, Eq, Ne, Lt, Le, Gt, Ge, Expr, Net, Literal, Invert, Binary, Choose, Join, Select, Read, Statement, Nothing, Put, Write, Both, If, number_of}
@@ -70,24 +71,29 @@ abbrev pub closed : Typed → Typed
 closed t = typed t.expr t.width (t.end + 1)
 
 abbrev pub judged_net : List Declaration → ℕ → List ℕ → Result Typed Broken
-judged_net ds k name = then' (read ds k name) (λ d. asks BadMemory k (not (is_memory_kind d.kind)) (Ok (typed (Net d.number) d.width (k + 1))))
+judged_net ds k name =
+    then' (read ds k name) (λ d. asks BadMemory k (not (is_memory_kind d.kind))
+    (Ok (typed (Net d.number) d.width (k + 1))))
 
 abbrev pub judged_literal : ℕ → List ℕ → ℕ → List ℕ → Result Typed Broken
 judged_literal k size radix digits =
     asks WidthsDiffer k (nat_le 1 (decimal_number size) && nat_lt (number_in radix digits) (2 ^ decimal_number size))
-    (asks TooWide k (nat_le (decimal_number size) 128) (Ok (typed (Literal (number_in radix digits) (decimal_number size)) (decimal_number size) (k + 1))))
+    (asks TooWide k (nat_le (decimal_number size) 128)
+    (Ok (typed (Literal (number_in radix digits) (decimal_number size)) (decimal_number size) (k + 1))))
 
 abbrev pub judged_select : List Declaration → ℕ → List ℕ → ℕ → ℕ → ℕ → Result Typed Broken
 judged_select ds k name high low end =
     then' (read ds k name) (λ d. asks BadMemory k (not (is_memory_kind d.kind))
-    (asks WidthsDiffer k (d.is_vector && (nat_le low high && nat_lt high d.width)) (Ok (typed (Select high low d.number) (high + 1 - low) end))))
+    (asks WidthsDiffer k (d.is_vector && (nat_le low high && nat_lt high d.width))
+    (Ok (typed (Select high low d.number) (high + 1 - low) end))))
 
 -- a memory that is indexed, and its word
 abbrev pub judged_memory : List Declaration → ℕ → List ℕ → Result Known Broken
 judged_memory ds k name = then' (read ds k name) (λ d. asks BadMemory k (is_memory_kind d.kind) (Ok d))
 
 abbrev pub judged_word : ℕ → Known → Typed → Result Typed Broken
-judged_word k d a = asks BadMemory k (nat_eq (address_kind d.kind) a.width) (Ok (typed (Read d.number a.expr) d.width (a.end + 1)))
+judged_word k d a =
+    asks BadMemory k (nat_eq (address_kind d.kind) a.width) (Ok (typed (Read d.number a.expr) d.width (a.end + 1)))
 
 abbrev pub judged_braces : ℕ → Typed → Result Typed Broken
 judged_braces k t = asks TooWide k (nat_le t.width 128) (Ok (closed t))
@@ -125,7 +131,9 @@ judged_infix op a b =
     (Ok (typed (Binary (op_meant op) a.width a.expr b.expr) (infix_width op a.width) b.end))
 
 abbrev pub judged_choice : Typed → Typed → Typed → Result Typed Broken
-judged_choice t a b = asks WidthsDiffer t.end (nat_eq t.width 1 && nat_eq a.width b.width) (Ok (typed (Choose t.expr a.expr b.expr) a.width b.end))
+judged_choice t a b =
+    asks WidthsDiffer t.end (nat_eq t.width 1 && nat_eq a.width b.width)
+    (Ok (typed (Choose t.expr a.expr b.expr) a.width b.end))
 
 -- an expression whose first token has the number k
 abbrev pub judged_expr : List Declaration → ℕ → WrittenExpr → Result Typed Broken
@@ -133,19 +141,24 @@ judged_expr ds k (Named name) = judged_net ds k name
 judged_expr ds k (Constant size radix digits) = judged_literal k size radix digits
 judged_expr ds k (BitOf name place) = judged_select ds k name (decimal_number place) (decimal_number place) (k + 4)
 judged_expr ds k (PartOf name high low) = judged_select ds k name (decimal_number high) (decimal_number low) (k + 6)
-judged_expr ds k (WordOf name address) = then' (judged_memory ds k name) (λ d. then' (judged_expr ds (k + 2) address) (judged_word k d))
+judged_expr ds k (WordOf name address) =
+    then' (judged_memory ds k name) (λ d. then' (judged_expr ds (k + 2) address) (judged_word k d))
 judged_expr ds k (Braces parts) = then' (judged_expr ds (k + 1) parts) (judged_braces k)
-judged_expr ds k (Parts first rest) = then' (judged_expr ds k first) (λ a. then' (judged_expr ds (a.end + 1) rest) (λ b. Ok (joined a b)))
+judged_expr ds k (Parts first rest) =
+    then' (judged_expr ds k first) (λ a. then' (judged_expr ds (a.end + 1) rest) (λ b. Ok (joined a b)))
 judged_expr ds k (Parens inner) = then' (judged_expr ds (k + 1) inner) (λ t. Ok (closed t))
 judged_expr ds k (Prefix op arg) = then' (judged_expr ds (k + 1) arg) (judged_prefix k op)
-judged_expr ds k (Infix op left right) = then' (judged_expr ds k left) (λ a. then' (judged_expr ds (a.end + 1) right) (judged_infix op a))
+judged_expr ds k (Infix op left right) =
+    then' (judged_expr ds k left) (λ a. then' (judged_expr ds (a.end + 1) right) (judged_infix op a))
 judged_expr ds k (Conditional test yes' no') =
-    then' (judged_expr ds k test) (λ t. then' (judged_expr ds (t.end + 1) yes') (λ a. then' (judged_expr ds (a.end + 1) no') (judged_choice t a)))
+    then' (judged_expr ds k test) (λ t. then' (judged_expr ds (t.end + 1) yes')
+    (λ a. then' (judged_expr ds (a.end + 1) no') (judged_choice t a)))
 
 -- the parts in braces, one after another; the first has the number k
 abbrev pub judged_parts : List Declaration → ℕ → List WrittenExpr → Result (List Typed) Broken
 judged_parts ds k [] = Ok []
-judged_parts ds k (p ∷ ps) = then' (judged_expr ds k p) (λ t. then' (judged_parts ds (t.end + 1) ps) (λ ts. Ok (t ∷ ts)))
+judged_parts ds k (p ∷ ps) =
+    then' (judged_expr ds k p) (λ t. then' (judged_parts ds (t.end + 1) ps) (λ ts. Ok (t ∷ ts)))
 
 -- the bits of parts together
 abbrev pub widths_of : List Typed → ℕ
@@ -159,8 +172,8 @@ joined_on (t ∷ ts) last = joined t (joined_on ts last)
 
 -- ---- statements
 
--- the names that have a driver: of earlier items, of this block too, of earlier statements of the lists that are open (sets); and
--- those of this block, in the order of the text
+-- the names that have a driver: of earlier items, of this block too, of earlier statements of the lists that are open
+-- (sets); and those of this block, in the order of the text
 pub record Drivers : Type 0 where
   pub done : List (List ℕ)
   pub all : List (List ℕ)
@@ -197,20 +210,26 @@ stated statement end drivers = record { statement = statement; end = end; driver
 -- the number of a register that a block drives, at a token, for a value of this width
 abbrev pub put_target : List Declaration → Drivers → ℕ → List ℕ → ℕ → Result ℕ Broken
 put_target ds v k target width =
-    then' (named ds k target) (λ d. asks BadTarget k (is_clocked_kind d.kind) (asks BadMemory k (not (is_memory_kind d.kind))
-    (asks TwiceDriven k (not (is_among target v.done) && not (is_among target v.beside)) (asks WidthsDiffer k (nat_eq d.width width) (Ok d.number)))))
+    then' (named ds k target) (λ d. asks BadTarget k (is_clocked_kind d.kind)
+    (asks BadMemory k (not (is_memory_kind d.kind))
+    (asks TwiceDriven k (not (is_among target v.done) && not (is_among target v.beside))
+    (asks WidthsDiffer k (nat_eq d.width width) (Ok d.number)))))
 
 -- the same of a memory, for an address of this width
 abbrev pub write_target : List Declaration → Drivers → ℕ → List ℕ → ℕ → ℕ → Result ℕ Broken
 write_target ds v k target address width =
-    then' (named ds k target) (λ d. asks BadTarget k (is_clocked_kind d.kind) (asks BadMemory k (is_memory_kind d.kind && nat_eq (address_kind d.kind) address)
+    then' (named ds k target) (λ d. asks BadTarget k (is_clocked_kind d.kind)
+    (asks BadMemory k (is_memory_kind d.kind && nat_eq (address_kind d.kind) address)
     (asks TwiceDriven k (not (is_among target v.all)) (asks WidthsDiffer k (nat_eq d.width width) (Ok d.number)))))
 
 abbrev pub judged_put : List Declaration → Drivers → ℕ → List ℕ → Typed → Result Stated Broken
-judged_put ds v k target t = then' (put_target ds v k target t.width) (λ n. Ok (stated (Put n t.expr) (t.end + 1) (driven v target)))
+judged_put ds v k target t =
+    then' (put_target ds v k target t.width) (λ n. Ok (stated (Put n t.expr) (t.end + 1) (driven v target)))
 
 abbrev pub judged_write : List Declaration → Drivers → ℕ → List ℕ → Typed → Typed → Result Stated Broken
-judged_write ds v k target a t = then' (write_target ds v k target a.width t.width) (λ n. Ok (stated (Write n a.expr t.expr) (t.end + 1) (driven v target)))
+judged_write ds v k target a t =
+    then' (write_target ds v k target a.width t.width)
+    (λ n. Ok (stated (Write n a.expr t.expr) (t.end + 1) (driven v target)))
 
 -- the condition of an `if`, which has the number k
 abbrev pub judged_test : List Declaration → ℕ → WrittenExpr → Result Typed Broken
@@ -220,11 +239,14 @@ judged_test ds k test = then' (judged_expr ds (k + 2) test) (λ t. asks WidthsDi
 abbrev pub judged_in : List Declaration → Drivers → ℕ → WrittenStatement → Result Stated Broken
 judged_in ds v k (Update target value) = then' (judged_expr ds (k + 2) value) (judged_put ds v k target)
 judged_in ds v k (UpdateWord target address value) =
-    then' (judged_expr ds (k + 2) address) (λ a. then' (judged_expr ds (a.end + 2) value) (judged_write ds v k target a))
+    then' (judged_expr ds (k + 2) address) (λ a. then' (judged_expr ds (a.end + 2) value)
+    (judged_write ds v k target a))
 judged_in ds v k (IfThen test yes') =
-    then' (judged_test ds k test) (λ t. then' (judged_in ds v (t.end + 1) yes') (λ a. Ok (stated (If t.expr a.statement Nothing) a.end a.drivers)))
+    then' (judged_test ds k test) (λ t. then' (judged_in ds v (t.end + 1) yes')
+    (λ a. Ok (stated (If t.expr a.statement Nothing) a.end a.drivers)))
 judged_in ds v k (IfElse test yes' no') =
-    then' (judged_test ds k test) (λ t. then' (judged_in ds v (t.end + 1) yes') (λ a. then' (judged_in ds a.drivers (a.end + 1) no')
+    then' (judged_test ds k test) (λ t. then' (judged_in ds v (t.end + 1) yes')
+    (λ a. then' (judged_in ds a.drivers (a.end + 1) no')
     (λ b. Ok (stated (If t.expr a.statement b.statement) b.end b.drivers))))
 judged_in ds v k (Block statements) =
     then' (judged_in ds v (k + 1) statements) (λ a. Ok (stated a.statement (a.end + 1) (left_list v.beside a.drivers)))

@@ -21,7 +21,8 @@ pub record IsMeant (w : WrittenModule) (m : spec.Module) : Type 0 where
   pub resolved : resolve w ≡ Some m
   pub valid : IsValid m
 
--- exactly the valid module that is meant, where there is one; else the first rule that is broken, at its token; want of memory aside
+-- exactly the valid module that is meant, where there is one; else the first rule that is broken, at its token; want of
+-- memory aside
 abbrev pub IsElaboration : WrittenModule → Result Module Stop → Type 0
 IsElaboration w (Ok m) = IsMeant w (module_of m)
 IsElaboration w (Err e) = is_broken e ≡ true → IsBroken w (broken_of e).rule (broken_of e).token

@@ -41,7 +41,8 @@ broken_of (stop_is.Broken rule token) = record { rule = rule_of rule; token = to
 
 -- a value is what is judged; and what is broken is what is judged to be, want of memory aside
 abbrev pub Gives : {A B : Type 0} → (A → B) → Result B judged.Broken → Result A Stop → Type 0
-Gives view said result = MatchResult result (λ x. said ≡ Ok (view x)) (λ e. is_broken e ≡ true → said ≡ Err (broken_of e))
+Gives view said result =
+    MatchResult result (λ x. said ≡ Ok (view x)) (λ e. is_broken e ≡ true → said ≡ Err (broken_of e))
 
 -- ---- what is declared
 
@@ -71,7 +72,13 @@ abbrev pub names_in : List (Bor (List ℕ)) → List (List ℕ)
 names_in names = map (λ n. n.now) names
 
 abbrev pub drivers_of : Drivers → judged.Drivers
-drivers_of d = record { done = names_in d.done.keys; all = names_in d.all.keys; beside = names_in d.beside.keys; before = names_in d.before.items }
+drivers_of d =
+    record {
+      done = names_in d.done.keys;
+      all = names_in d.all.keys;
+      beside = names_in d.beside.keys;
+      before = names_in d.before.items;
+    }
 
 abbrev pub stated_of : Drivers → Stated → judged.Stated
 stated_of d s = judged.stated (meant.statement_of s.statement) s.end (drivers_of d)

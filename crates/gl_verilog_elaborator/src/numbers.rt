@@ -83,6 +83,7 @@ fn take_digit(alloc: Global, limbs: Vec<u32>, radix: u8, b: u8) -> Result<Vec<u3
     if b == b'_' {
         return Ok(limbs);
     }
+    // Named, since a goal speaks of the value.
     let grown = grow(alloc, &limbs, radix, digit_of(b))?;
     Ok(grown)
 }

@@ -1,8 +1,8 @@
 -- What a token counts for, and the counts behind the first tokens of a text: the limits, for a front of a text too.
 use Rattle.std.specs.Prelude.{ℕ, ◌+◌, ◌-◌, Bool, true, false, ◌||◌, List, [], ◌∷◌, nat_lt, if◌then◌else◌}
 
--- opens or closes a bracket or `begin`; is an operator; a whole expression begins behind it (`=`, `<=`), perhaps with a bracket; is an
--- `if`; begins an item or ends the last one; counts for nothing
+-- opens or closes a bracket or `begin`; is an operator; a whole expression begins behind it (`=`, `<=`), perhaps with a
+-- bracket; is an `if`; begins an item or ends the last one; counts for nothing
 pub data Role : Type 0 where
   Opens : Role
   Closes : Role

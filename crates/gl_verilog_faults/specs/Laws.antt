@@ -28,7 +28,8 @@ DemandsAreNeeded = (w : WrittenModule) → MeansValid w → AreMet (demands_of w
 
 -- a written module means a valid one, or it breaks a rule
 abbrev pub AreValidOrBroken : Type 0
-AreValidOrBroken = (w : WrittenModule) → IsWritten w → MeansValid w ⊎ ((rule : Rule) × (token : ℕ) × IsBroken w rule token)
+AreValidOrBroken =
+    (w : WrittenModule) → IsWritten w → MeansValid w ⊎ ((rule : Rule) × (token : ℕ) × IsBroken w rule token)
 
 -- a module keeps the limits where the counts of its tokens do
 abbrev pub LimitsAreCounted : Type 0

@@ -14,4 +14,6 @@ TellsPort text schema e = ⊥
 
 -- each fault of a module that was read is told where its text shows it
 abbrev pub PortFaultsAreTold : Type 0
-PortFaultsAreTold = (text : List ℕ) (source : Source) (schema : Schema) (e : VerilogFault) → IsSource text source → fit_at source schema ≡ Err e → TellsPort text schema e
+PortFaultsAreTold =
+    (text : List ℕ) (source : Source) (schema : Schema) (e : VerilogFault) → IsSource text source
+    → fit_at source schema ≡ Err e → TellsPort text schema e

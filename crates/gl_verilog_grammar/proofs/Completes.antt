@@ -4,7 +4,7 @@ use Rattle.std.proofs.lemmas.Bool.{le-leb}
 use Rattle.gl_verilog.specs.Tokens.{Token, Reserved, Name, Number, Mark, ModuleWord, EndModuleWord, InputWord, PosedgeWord, EndWord, OpenParen, CloseParen, CloseBracket, CloseBrace, Semicolon, Colon, At, Equals, LessEquals}
 use Rattle.gl_verilog.specs.Written.{WrittenExpr, Named, BitOf, PartOf, WordOf, Parens, Prefix, Infix, Conditional, InfixOp, looseness, WrittenStatement, Update, UpdateWord, IfThen, IfElse, Range, Wires, Registers, MemoryOf, Assign, Always, In, zero_digit}
 use Rattle.gl_verilog_grammar.specs.Machine.{Frame, InParens, InBraces, InIndex, PrefixOf, InfixOf, TestOf, ColonOf, AssignTo, UpdateTo, AddressFor, UpdateWordTo, IfTest, ThenOf, ElseOf, InBegin, BodyOf, Sort, WireSort, RegisterSort, Owner, OfPort, OfItem, Stage, WantModule, WantTitle, WantPorts, WantPort, Declaring, WantHigh, WantColon, WantZero, WantClose, WantName, AfterPort, AfterPorts, AfterName, WantMore, WantFirst, WantMemoryColon, WantLast, WantMemoryClose, WantMemoryEnd, WantItem, WantAssigned, WantEquals, WantAt, WantEdge, WantPosedge, WantClock, WantEdgeEnd, WantStatement, AfterTarget, WantArrow, WantTest, HaveStatement, WantOperand, HaveOperand, AtIndex, AtPlace, WantLow, AtPart, Complete, State, Open, IsColon, IsBrace, IsParen, IsBracket, IsSemicolon, close_top, after_close, reduce, at_end, settled, step}
-use Rattle.gl_verilog_grammar.proofs.Steps.{steps, steps-nil, steps-one}
+use Rattle.gl_verilog_grammar.proofs.Steps.{steps, is-machine}
 use Rattle.gl_verilog_grammar.proofs.OpenTexts.{OnStatement, OnExpr, loose-range}
 use Rattle.gl_verilog_grammar.proofs.Told.{fine_at}
 
@@ -12,7 +12,7 @@ abbrev pub Finishes : State → Type 0
 Finishes s = (more : List Token) × (s' : State) × (steps s more ≡ Some s') × (s'.stage ≡ Complete)
 
 goes : (s s1 : State) (t : Token) → step s t ≡ Some s1 → Finishes s1 → Finishes s
-goes s s1 t e f = (t ∷ f.0, f.1, steps-one s s1 t f.0 e ∙ f.2, f.3)
+goes s s1 t e f = (t ∷ f.0, f.1, is-machine.goes s s1 t f.0 e ∙ f.2, f.3)
 
 abbrev at : State → Stage → State
 at s stage = record s { stage = stage }
@@ -22,7 +22,7 @@ abbrev a_name : List ℕ
 a_name = 97 ∷ []
 
 done : (s : State) → Finishes (at s Complete)
-done s = ([], at s Complete, steps-nil (at s Complete), refl)
+done s = ([], at s Complete, is-machine.none_left (at s Complete), refl)
 
 item : (s : State) → Finishes (at s WantItem)
 unfolding step

@@ -4,8 +4,9 @@ use Rattle.std.proofs.lemmas.Bool.{le-leb, lt-leb}
 use Rattle.gl_verilog.specs.Tokens.{Token, Name, Number, Sized, Mark, OpenParen, CloseParen, OpenBracket, CloseBracket, OpenBrace, CloseBrace, Comma, Colon, Question}
 use Rattle.gl_verilog.specs.Written.{PrefixOp, BitNot, LogicalNot, InfixOp, Times, Added, Subtracted, Below, AtMost, Above, AtLeast, Equal, NotEqual, BitAnd, BitXor, BitOr, LogicalAnd, LogicalOr, WrittenExpr, Named, Constant, BitOf, PartOf, WordOf, Braces, Parts, Parens, Prefix, Infix, Conditional, looseness, level, IsGrouped, prefix_token, infix_token, spell_expr}
 use Rattle.gl_verilog_grammar.specs.Machine.{State, Frame, InParens, InBraces, InIndex, PrefixOf, InfixOf, TestOf, ColonOf, AssignTo, UpdateTo, AddressFor, UpdateWordTo, IfTest, ThenOf, ElseOf, InBegin, BodyOf, AtIndex, AtPlace, WantLow, AtPart, step, reduce, parts_of, Open}
-use Rattle.gl_verilog_grammar.proofs.Steps.{steps, steps-one, steps-same, wanting, having}
+use Rattle.gl_verilog_grammar.proofs.Steps.{steps, wanting, having, is-machine}
 use Rattle.gl_verilog_grammar.proofs.OpenTexts.{loose-range}
+use Rattle.gl_bits.proofs.Machines.{machine-same}
 
 -- what is still open at an expression's end, and its last operand
 abbrev pub waits : WrittenExpr → List Frame → List Frame
@@ -157,16 +158,16 @@ part-close s fs n h l = refl
 -- an expression in an index begins as one in brackets
 index-begins : (e : WrittenExpr) (s : State) (fs : List Frame) (n : List ℕ) (rest : List Token) → level e ≤ 11 → IsGrouped e → steps (indexing s fs n) (spell_expr e ++ rest) ≡ steps (wanting s (InIndex n ∷ fs)) (spell_expr e ++ rest)
 unfolding step
-index-begins (Named m) s fs n rest lv g = steps-same _ _ _ rest refl
-index-begins (Constant a r d) s fs n rest lv g = steps-same _ _ _ rest refl
-index-begins (BitOf m i) s fs n rest lv g = steps-same _ _ _ _ refl
-index-begins (PartOf m h l) s fs n rest lv g = steps-same _ _ _ _ refl
-index-begins (WordOf m a) s fs n rest lv g = steps-same _ _ _ _ refl
-index-begins (Braces a) s fs n rest lv g = steps-same _ _ _ _ refl
+index-begins (Named m) s fs n rest lv g = machine-same step steps is-machine _ _ _ rest refl
+index-begins (Constant a r d) s fs n rest lv g = machine-same step steps is-machine _ _ _ rest refl
+index-begins (BitOf m i) s fs n rest lv g = machine-same step steps is-machine _ _ _ _ refl
+index-begins (PartOf m h l) s fs n rest lv g = machine-same step steps is-machine _ _ _ _ refl
+index-begins (WordOf m a) s fs n rest lv g = machine-same step steps is-machine _ _ _ _ refl
+index-begins (Braces a) s fs n rest lv g = machine-same step steps is-machine _ _ _ _ refl
 index-begins (Parts a b) s fs n rest lv g = absurd (omega (arith, lv))
-index-begins (Parens a) s fs n rest lv g = steps-same _ _ _ _ refl
-index-begins (Prefix BitNot a) s fs n rest lv g = steps-same _ _ _ _ refl
-index-begins (Prefix LogicalNot a) s fs n rest lv g = steps-same _ _ _ _ refl
+index-begins (Parens a) s fs n rest lv g = machine-same step steps is-machine _ _ _ _ refl
+index-begins (Prefix BitNot a) s fs n rest lv g = machine-same step steps is-machine _ _ _ _ refl
+index-begins (Prefix LogicalNot a) s fs n rest lv g = machine-same step steps is-machine _ _ _ _ refl
 index-begins (Infix op l r) s fs n rest lv g =
     ap (steps (indexing s fs n)) (append_assoc (spell_expr l) (infix_token op ∷ spell_expr r) rest)
     ∙ index-begins l s fs n (infix_token op ∷ (spell_expr r ++ rest)) (omega (arith, g.0, loose-le op)) g.2
@@ -274,35 +275,35 @@ pub record IsRead (e : WrittenExpr) : Type 0 where
 closes : (e : WrittenExpr) → level e ≤ 11 → IsReadAlone e → IsReadInBraces e
 closes e lv alone s fs done rest g =
     alone s (InBraces done ∷ fs) (Mark CloseBrace ∷ rest) lv g tt
-    ∙ steps-one _ _ (Mark CloseBrace) rest (close-brace s (waits e (InBraces done ∷ fs)) fs done (last_of e) e (reduce-waits e 11 (InBraces done ∷ fs) g lv ∙ reduce-braces done fs e))
+    ∙ is-machine.goes _ _ (Mark CloseBrace) rest (close-brace s (waits e (InBraces done ∷ fs)) fs done (last_of e) e (reduce-waits e 11 (InBraces done ∷ fs) g lv ∙ reduce-braces done fs e))
 
 both_ways : (e : WrittenExpr) → level e ≤ 11 → IsReadAlone e → IsRead e
 both_ways e lv alone = record { alone = alone; in_braces = closes e lv alone }
 
 pub reads : (e : WrittenExpr) → IsRead e
-reads (Named n) = both_ways (Named n) (omega arith) (λ s fs rest lv g b. steps-one _ _ (Name n) rest (want-name s fs n))
-reads (Constant a r c) = both_ways (Constant a r c) (omega arith) (λ s fs rest lv g b. steps-one _ _ (Sized a r c) rest (want-sized s fs r a c))
+reads (Named n) = both_ways (Named n) (omega arith) (λ s fs rest lv g b. is-machine.goes _ _ (Name n) rest (want-name s fs n))
+reads (Constant a r c) = both_ways (Constant a r c) (omega arith) (λ s fs rest lv g b. is-machine.goes _ _ (Sized a r c) rest (want-sized s fs r a c))
 reads (BitOf n p) = both_ways (BitOf n p) (omega arith) (λ s fs rest lv g b.
-    steps-one _ _ (Name n) (Mark OpenBracket ∷ Number p ∷ Mark CloseBracket ∷ rest) (want-name s fs n)
-    ∙ steps-one _ _ (Mark OpenBracket) (Number p ∷ Mark CloseBracket ∷ rest) (have-index s fs n)
-    ∙ steps-one _ _ (Number p) (Mark CloseBracket ∷ rest) (index-number s fs n p)
-    ∙ steps-one _ _ (Mark CloseBracket) rest (place-close s fs n p))
+    is-machine.goes _ _ (Name n) (Mark OpenBracket ∷ Number p ∷ Mark CloseBracket ∷ rest) (want-name s fs n)
+    ∙ is-machine.goes _ _ (Mark OpenBracket) (Number p ∷ Mark CloseBracket ∷ rest) (have-index s fs n)
+    ∙ is-machine.goes _ _ (Number p) (Mark CloseBracket ∷ rest) (index-number s fs n p)
+    ∙ is-machine.goes _ _ (Mark CloseBracket) rest (place-close s fs n p))
 reads (PartOf n h l) = both_ways (PartOf n h l) (omega arith) (λ s fs rest lv g b.
-    steps-one _ _ (Name n) (Mark OpenBracket ∷ Number h ∷ Mark Colon ∷ Number l ∷ Mark CloseBracket ∷ rest) (want-name s fs n)
-    ∙ steps-one _ _ (Mark OpenBracket) (Number h ∷ Mark Colon ∷ Number l ∷ Mark CloseBracket ∷ rest) (have-index s fs n)
-    ∙ steps-one _ _ (Number h) (Mark Colon ∷ Number l ∷ Mark CloseBracket ∷ rest) (index-number s fs n h)
-    ∙ steps-one _ _ (Mark Colon) (Number l ∷ Mark CloseBracket ∷ rest) (place-colon s fs n h)
-    ∙ steps-one _ _ (Number l) (Mark CloseBracket ∷ rest) (low-number s fs n h l)
-    ∙ steps-one _ _ (Mark CloseBracket) rest (part-close s fs n h l))
+    is-machine.goes _ _ (Name n) (Mark OpenBracket ∷ Number h ∷ Mark Colon ∷ Number l ∷ Mark CloseBracket ∷ rest) (want-name s fs n)
+    ∙ is-machine.goes _ _ (Mark OpenBracket) (Number h ∷ Mark Colon ∷ Number l ∷ Mark CloseBracket ∷ rest) (have-index s fs n)
+    ∙ is-machine.goes _ _ (Number h) (Mark Colon ∷ Number l ∷ Mark CloseBracket ∷ rest) (index-number s fs n h)
+    ∙ is-machine.goes _ _ (Mark Colon) (Number l ∷ Mark CloseBracket ∷ rest) (place-colon s fs n h)
+    ∙ is-machine.goes _ _ (Number l) (Mark CloseBracket ∷ rest) (low-number s fs n h l)
+    ∙ is-machine.goes _ _ (Mark CloseBracket) rest (part-close s fs n h l))
 reads (WordOf n a) = both_ways (WordOf n a) (omega arith) (λ s fs rest lv g b.
-    steps-one _ _ (Name n) (Mark OpenBracket ∷ ((spell_expr a ++ Mark CloseBracket ∷ []) ++ rest)) (want-name s fs n)
-    ∙ steps-one _ _ (Mark OpenBracket) ((spell_expr a ++ Mark CloseBracket ∷ []) ++ rest) (have-index s fs n)
+    is-machine.goes _ _ (Name n) (Mark OpenBracket ∷ ((spell_expr a ++ Mark CloseBracket ∷ []) ++ rest)) (want-name s fs n)
+    ∙ is-machine.goes _ _ (Mark OpenBracket) ((spell_expr a ++ Mark CloseBracket ∷ []) ++ rest) (have-index s fs n)
     ∙ ap (steps (indexing s fs n)) (append_assoc (spell_expr a) (Mark CloseBracket ∷ []) rest)
     ∙ index-begins a s fs n (Mark CloseBracket ∷ rest) g.0 g.1
     ∙ (reads a).alone s (InIndex n ∷ fs) (Mark CloseBracket ∷ rest) g.0 g.1 tt
-    ∙ steps-one _ _ (Mark CloseBracket) rest (close-index s (waits a (InIndex n ∷ fs)) fs n (last_of a) a (reduce-waits a 11 (InIndex n ∷ fs) g.1 g.0 ∙ reduce-index n fs a)))
+    ∙ is-machine.goes _ _ (Mark CloseBracket) rest (close-index s (waits a (InIndex n ∷ fs)) fs n (last_of a) a (reduce-waits a 11 (InIndex n ∷ fs) g.1 g.0 ∙ reduce-index n fs a)))
 reads (Braces a) = both_ways (Braces a) (omega arith) (λ s fs rest lv g b.
-    steps-one _ _ (Mark OpenBrace) ((spell_expr a ++ Mark CloseBrace ∷ []) ++ rest) (want-brace s fs)
+    is-machine.goes _ _ (Mark OpenBrace) ((spell_expr a ++ Mark CloseBrace ∷ []) ++ rest) (want-brace s fs)
     ∙ ap (steps (wanting s (InBraces [] ∷ fs))) (append_assoc (spell_expr a) (Mark CloseBrace ∷ []) rest)
     ∙ (reads a).in_braces s fs [] rest g)
 reads (Parts a c) = record {
@@ -310,29 +311,29 @@ reads (Parts a c) = record {
   in_braces = λ s fs done rest g.
       ap (steps (wanting s (InBraces done ∷ fs))) (append_assoc (spell_expr a) (Mark Comma ∷ spell_expr c) (Mark CloseBrace ∷ rest))
       ∙ (reads a).alone s (InBraces done ∷ fs) (Mark Comma ∷ (spell_expr c ++ Mark CloseBrace ∷ rest)) g.0 g.1 tt
-      ∙ steps-one _ _ (Mark Comma) (spell_expr c ++ Mark CloseBrace ∷ rest) (at-comma s (waits a (InBraces done ∷ fs)) fs done (last_of a) a (reduce-waits a 11 (InBraces done ∷ fs) g.1 g.0 ∙ reduce-braces done fs a))
+      ∙ is-machine.goes _ _ (Mark Comma) (spell_expr c ++ Mark CloseBrace ∷ rest) (at-comma s (waits a (InBraces done ∷ fs)) fs done (last_of a) a (reduce-waits a 11 (InBraces done ∷ fs) g.1 g.0 ∙ reduce-braces done fs a))
       ∙ (reads c).in_braces s fs (done ++ a ∷ []) rest g.2
       ∙ ap (λ (x : WrittenExpr). steps (having s fs (Braces x)) rest) (parts_of-append done a c);
 }
 reads (Parens a) = both_ways (Parens a) (omega arith) (λ s fs rest lv g b.
-    steps-one _ _ (Mark OpenParen) ((spell_expr a ++ Mark CloseParen ∷ []) ++ rest) (want-paren s fs)
+    is-machine.goes _ _ (Mark OpenParen) ((spell_expr a ++ Mark CloseParen ∷ []) ++ rest) (want-paren s fs)
     ∙ ap (steps (wanting s (InParens ∷ fs))) (append_assoc (spell_expr a) (Mark CloseParen ∷ []) rest)
     ∙ (reads a).alone s (InParens ∷ fs) (Mark CloseParen ∷ rest) g.0 g.1 tt
-    ∙ steps-one _ _ (Mark CloseParen) rest (close-paren s (waits a (InParens ∷ fs)) fs (last_of a) a (reduce-waits a 11 (InParens ∷ fs) g.1 g.0 ∙ reduce-parens fs a)))
+    ∙ is-machine.goes _ _ (Mark CloseParen) rest (close-paren s (waits a (InParens ∷ fs)) fs (last_of a) a (reduce-waits a 11 (InParens ∷ fs) g.1 g.0 ∙ reduce-parens fs a)))
 reads (Prefix op a) = both_ways (Prefix op a) (omega arith) (λ s fs rest lv g b.
-    steps-one _ _ (prefix_token op) (spell_expr a ++ rest) (want-prefix s fs op)
+    is-machine.goes _ _ (prefix_token op) (spell_expr a ++ rest) (want-prefix s fs op)
     ∙ (reads a).alone s (PrefixOf op ∷ fs) rest (omega (arith, g.0)) g.1 g.0)
 reads (Infix op l r) = both_ways (Infix op l r) (omega (arith, loose-range op)) (λ s fs rest lv g b.
     let range = loose-range op in
     ap (steps (wanting s fs)) (append_assoc (spell_expr l) (infix_token op ∷ spell_expr r) rest)
     ∙ (reads l).alone s fs (infix_token op ∷ (spell_expr r ++ rest)) (omega (arith, g.0)) g.2 (blocks-le (looseness op) (level l) fs g.0 b)
-    ∙ steps-one _ _ (infix_token op) (spell_expr r ++ rest) (at-infix op s (waits l fs) fs (last_of l) l (reduce-waits l (looseness op) fs g.2 g.0 ∙ reduce-blocked (looseness op) fs l range.0 range.1 b))
+    ∙ is-machine.goes _ _ (infix_token op) (spell_expr r ++ rest) (at-infix op s (waits l fs) fs (last_of l) l (reduce-waits l (looseness op) fs g.2 g.0 ∙ reduce-blocked (looseness op) fs l range.0 range.1 b))
     ∙ (reads r).alone s (InfixOf op l ∷ fs) rest (omega (arith, g.1)) g.3 g.1)
 reads (Conditional c x y) = both_ways (Conditional c x y) (omega arith) (λ s fs rest lv g b.
     ap (steps (wanting s fs)) (append_assoc (spell_expr c) (Mark Question ∷ (spell_expr x ++ Mark Colon ∷ spell_expr y)) rest)
     ∙ (reads c).alone s fs (Mark Question ∷ ((spell_expr x ++ Mark Colon ∷ spell_expr y) ++ rest)) (omega (arith, g.0)) g.3 (blocks-le 11 (level c) fs (omega (arith, g.0)) b)
-    ∙ steps-one _ _ (Mark Question) ((spell_expr x ++ Mark Colon ∷ spell_expr y) ++ rest) (at-question s (waits c fs) fs (last_of c) c (reduce-waits c 10 fs g.3 g.0 ∙ reduce-blocked 10 fs c (omega arith) (omega arith) (blocks-le 11 10 fs (omega arith) b)))
+    ∙ is-machine.goes _ _ (Mark Question) ((spell_expr x ++ Mark Colon ∷ spell_expr y) ++ rest) (at-question s (waits c fs) fs (last_of c) c (reduce-waits c 10 fs g.3 g.0 ∙ reduce-blocked 10 fs c (omega arith) (omega arith) (blocks-le 11 10 fs (omega arith) b)))
     ∙ ap (steps (wanting s (TestOf c ∷ fs))) (append_assoc (spell_expr x) (Mark Colon ∷ spell_expr y) rest)
     ∙ (reads x).alone s (TestOf c ∷ fs) (Mark Colon ∷ (spell_expr y ++ rest)) g.1 g.4 tt
-    ∙ steps-one _ _ (Mark Colon) (spell_expr y ++ rest) (at-colon s (waits x (TestOf c ∷ fs)) fs c (last_of x) x (reduce-waits x 11 (TestOf c ∷ fs) g.4 g.1 ∙ reduce-test c fs x))
+    ∙ is-machine.goes _ _ (Mark Colon) (spell_expr y ++ rest) (at-colon s (waits x (TestOf c ∷ fs)) fs c (last_of x) x (reduce-waits x 11 (TestOf c ∷ fs) g.4 g.1 ∙ reduce-test c fs x))
     ∙ (reads y).alone s (ColonOf c x ∷ fs) rest g.2 g.5 tt)

@@ -5,12 +5,13 @@ use Rattle.std.proofs.lemmas.List.{append-nil}
 use Rattle.gl_verilog.specs.Tokens.{Token, Reserved, Name, Number, Mark, ModuleWord, EndModuleWord, WireWord, RegWord, AssignWord, AlwaysWord, PosedgeWord, OpenParen, CloseParen, OpenBracket, CloseBracket, Semicolon, Comma, Colon, At, Equals}
 use Rattle.gl_verilog.specs.Written.{WrittenExpr, IsExpr, spell_expr, WrittenStatement, spell_statement, Direction, In, InWire, Out, OutWire, OutReg, Range, WrittenPort, WrittenItem, Wires, Registers, MemoryOf, Assign, Always, WrittenModule, spell_range, spell_port, spell_ports, spell_more_ports, spell_more_names, spell_item, spell_items, spell, IsNonempty, IsItem, IsWritten, zero_digit}
 use Rattle.gl_verilog_grammar.specs.Machine.{State, Frame, AssignTo, BodyOf, Sort, WireSort, RegisterSort, Stage, WantPort, AfterPort, AfterName, WantItem, Complete, step, reduce, item_of, at_end, start, finish}
-use Rattle.gl_verilog_grammar.proofs.Steps.{steps, steps-one, steps-same, wanting, having}
+use Rattle.gl_verilog_grammar.proofs.Steps.{steps, wanting, having, is-machine}
 use Rattle.gl_verilog_grammar.proofs.ReadExpressions.{waits, last_of, opened, reduce-waits, reads}
 use Rattle.gl_verilog_grammar.proofs.ReadStatements.{holds, final_of, settled_at, end-holds, stating, stated, reads_statement}
 use Rattle.gl_verilog.specs.Module.{Module}
 use Rattle.gl_verilog.specs.Resolve.{resolve}
 use Rattle.gl_verilog.specs.Text.{HasModule}
+use Rattle.gl_bits.proofs.Machines.{machine-same}
 
 -- outside of expressions and blocks
 abbrev pub between : List ℕ → List WrittenPort → List WrittenItem → Stage → State
@@ -119,12 +120,12 @@ always-ends n ps is clock fs0 st0 st h = (rw h refl, rw h refl, rw h refl, rw h 
 
 items-begin : (items : List WrittenItem) (x y : State) (rest : List Token) → step x (Reserved WireWord) ≡ step y (Reserved WireWord) → step x (Reserved RegWord) ≡ step y (Reserved RegWord) → step x (Reserved AssignWord) ≡ step y (Reserved AssignWord) → step x (Reserved AlwaysWord) ≡ step y (Reserved AlwaysWord) → step x (Reserved EndModuleWord) ≡ step y (Reserved EndModuleWord)
     → steps x (spell_items items ++ Reserved EndModuleWord ∷ rest) ≡ steps y (spell_items items ++ Reserved EndModuleWord ∷ rest)
-items-begin [] x y rest w r a b e = steps-same x y (Reserved EndModuleWord) rest e
-items-begin (Wires range names ∷ is) x y rest w r a b e = steps-same x y (Reserved WireWord) _ w
-items-begin (Registers range names ∷ is) x y rest w r a b e = steps-same x y (Reserved RegWord) _ r
-items-begin (MemoryOf range m last ∷ is) x y rest w r a b e = steps-same x y (Reserved RegWord) _ r
-items-begin (Assign target value ∷ is) x y rest w r a b e = steps-same x y (Reserved AssignWord) _ a
-items-begin (Always clock body ∷ is) x y rest w r a b e = steps-same x y (Reserved AlwaysWord) _ b
+items-begin [] x y rest w r a b e = machine-same step steps is-machine x y (Reserved EndModuleWord) rest e
+items-begin (Wires range names ∷ is) x y rest w r a b e = machine-same step steps is-machine x y (Reserved WireWord) _ w
+items-begin (Registers range names ∷ is) x y rest w r a b e = machine-same step steps is-machine x y (Reserved RegWord) _ r
+items-begin (MemoryOf range m last ∷ is) x y rest w r a b e = machine-same step steps is-machine x y (Reserved RegWord) _ r
+items-begin (Assign target value ∷ is) x y rest w r a b e = machine-same step steps is-machine x y (Reserved AssignWord) _ a
+items-begin (Always clock body ∷ is) x y rest w r a b e = machine-same step steps is-machine x y (Reserved AlwaysWord) _ b
 
 -- names of wires, and of registers
 read-wires : (r : Range) (names : List (List ℕ)) (n : List ℕ) (ps : List WrittenPort) (is : List WrittenItem) (rest : List Token) → IsNonempty names → steps (between n ps is WantItem) (spell_item (Wires r names) ++ rest) ≡ steps (between n ps (is ++ Wires r names ∷ []) WantItem) rest
@@ -156,7 +157,7 @@ read-assign target e n ps is rest g =
     assign-begins n ps is target ((spell_expr e ++ Mark Semicolon ∷ []) ++ rest)
     ∙ ap (steps (wanting (between n ps is WantItem) (AssignTo target ∷ []))) (append_assoc (spell_expr e) (Mark Semicolon ∷ []) rest)
     ∙ (reads e).alone (between n ps is WantItem) (AssignTo target ∷ []) (Mark Semicolon ∷ rest) g.0 g.1 tt
-    ∙ steps-one _ _ (Mark Semicolon) rest (assign-ends n ps is target (waits e (AssignTo target ∷ [])) (last_of e) e (reduce-waits e 11 (AssignTo target ∷ []) g.1 g.0 ∙ reduce-assign target [] e))
+    ∙ is-machine.goes _ _ (Mark Semicolon) rest (assign-ends n ps is target (waits e (AssignTo target ∷ [])) (last_of e) e (reduce-waits e 11 (AssignTo target ∷ []) g.1 g.0 ∙ reduce-assign target [] e))
 
 -- an item is read, and then the items behind it
 read-item : (it : WrittenItem) (items : List WrittenItem) (n : List ℕ) (ps : List WrittenPort) (is : List WrittenItem) (rest : List Token) → IsItem it

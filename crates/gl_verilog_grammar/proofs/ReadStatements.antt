@@ -3,8 +3,9 @@ use Rattle.std.proofs.Common.{◌≡◌, ℕ, ◌+◌, ◌-◌, false, List, [],
 use Rattle.gl_verilog.specs.Tokens.{Token, Reserved, Name, Mark, BeginWord, EndWord, IfWord, ElseWord, OpenParen, CloseParen, OpenBracket, CloseBracket, Semicolon, LessEquals}
 use Rattle.gl_verilog.specs.Written.{WrittenExpr, IsExpr, spell_expr, WrittenStatement, Update, UpdateWord, IfThen, IfElse, Block, Listed, Ended, ends_open, Single, InBlock, IsStatementAt, spell_statement, listed}
 use Rattle.gl_verilog_grammar.specs.Machine.{State, Frame, UpdateTo, AddressFor, UpdateWordTo, IfTest, ThenOf, ElseOf, InBegin, WantStatement, AfterTarget, WantArrow, WantTest, HaveStatement, step, reduce, at_else, at_end, Open}
-use Rattle.gl_verilog_grammar.proofs.Steps.{steps, steps-one, steps-same, wanting, having}
+use Rattle.gl_verilog_grammar.proofs.Steps.{steps, wanting, having, is-machine}
 use Rattle.gl_verilog_grammar.proofs.ReadExpressions.{waits, last_of, opened, reduce-waits, reads}
+use Rattle.gl_bits.proofs.Machines.{machine-same}
 
 -- what is still open at a statement's end, and its last part
 abbrev pub holds : WrittenStatement → List Frame → List Frame
@@ -149,28 +150,28 @@ read-update : (s : State) (fs : List Frame) (n : List ℕ) (e : WrittenExpr) (re
     → steps (wanting s (UpdateTo n ∷ fs)) (spell_expr e ++ Mark Semicolon ∷ rest) ≡ steps (stated s fs (Update n e)) rest
 read-update s fs n e rest g =
     (reads e).alone s (UpdateTo n ∷ fs) (Mark Semicolon ∷ rest) g.0 g.1 tt
-    ∙ steps-one _ _ (Mark Semicolon) rest (end-update s (waits e (UpdateTo n ∷ fs)) fs n (last_of e) e (reduce-waits e 11 (UpdateTo n ∷ fs) g.1 g.0 ∙ reduce-update n fs e))
+    ∙ is-machine.goes _ _ (Mark Semicolon) rest (end-update s (waits e (UpdateTo n ∷ fs)) fs n (last_of e) e (reduce-waits e 11 (UpdateTo n ∷ fs) g.1 g.0 ∙ reduce-update n fs e))
 
 read-address : (s : State) (fs : List Frame) (n : List ℕ) (e : WrittenExpr) (rest : List Token) → IsExpr e
     → steps (wanting s (AddressFor n ∷ fs)) (spell_expr e ++ Mark CloseBracket ∷ rest) ≡ steps (arrowing s fs n e) rest
 read-address s fs n e rest g =
     (reads e).alone s (AddressFor n ∷ fs) (Mark CloseBracket ∷ rest) g.0 g.1 tt
-    ∙ steps-one _ _ (Mark CloseBracket) rest (end-address s (waits e (AddressFor n ∷ fs)) fs n (last_of e) e (reduce-waits e 11 (AddressFor n ∷ fs) g.1 g.0 ∙ reduce-address n fs e))
+    ∙ is-machine.goes _ _ (Mark CloseBracket) rest (end-address s (waits e (AddressFor n ∷ fs)) fs n (last_of e) e (reduce-waits e 11 (AddressFor n ∷ fs) g.1 g.0 ∙ reduce-address n fs e))
 
 read-word : (s : State) (fs : List Frame) (n : List ℕ) (a e : WrittenExpr) (rest : List Token) → IsExpr e
     → steps (wanting s (UpdateWordTo n a ∷ fs)) (spell_expr e ++ Mark Semicolon ∷ rest) ≡ steps (stated s fs (UpdateWord n a e)) rest
 read-word s fs n a e rest g =
     (reads e).alone s (UpdateWordTo n a ∷ fs) (Mark Semicolon ∷ rest) g.0 g.1 tt
-    ∙ steps-one _ _ (Mark Semicolon) rest (end-word s (waits e (UpdateWordTo n a ∷ fs)) fs n a (last_of e) e (reduce-waits e 11 (UpdateWordTo n a ∷ fs) g.1 g.0 ∙ reduce-word n a fs e))
+    ∙ is-machine.goes _ _ (Mark Semicolon) rest (end-word s (waits e (UpdateWordTo n a ∷ fs)) fs n a (last_of e) e (reduce-waits e 11 (UpdateWordTo n a ∷ fs) g.1 g.0 ∙ reduce-word n a fs e))
 
 -- `if`, its brackets and its condition
 read-test : (s : State) (fs : List Frame) (e : WrittenExpr) (rest : List Token) → IsExpr e
     → steps (stating s fs) (Reserved IfWord ∷ Mark OpenParen ∷ (spell_expr e ++ Mark CloseParen ∷ rest)) ≡ steps (stating s (ThenOf e ∷ fs)) rest
 read-test s fs e rest g =
-    steps-one _ _ (Reserved IfWord) (Mark OpenParen ∷ (spell_expr e ++ Mark CloseParen ∷ rest)) (state-if s fs)
-    ∙ steps-one _ _ (Mark OpenParen) (spell_expr e ++ Mark CloseParen ∷ rest) (test-open s fs)
+    is-machine.goes _ _ (Reserved IfWord) (Mark OpenParen ∷ (spell_expr e ++ Mark CloseParen ∷ rest)) (state-if s fs)
+    ∙ is-machine.goes _ _ (Mark OpenParen) (spell_expr e ++ Mark CloseParen ∷ rest) (test-open s fs)
     ∙ (reads e).alone s (IfTest ∷ fs) (Mark CloseParen ∷ rest) g.0 g.1 tt
-    ∙ steps-one _ _ (Mark CloseParen) rest (end-test s (waits e (IfTest ∷ fs)) fs (last_of e) e (reduce-waits e 11 (IfTest ∷ fs) g.1 g.0 ∙ reduce-iftest fs e))
+    ∙ is-machine.goes _ _ (Mark CloseParen) rest (end-test s (waits e (IfTest ∷ fs)) fs (last_of e) e (reduce-waits e 11 (IfTest ∷ fs) g.1 g.0 ∙ reduce-iftest fs e))
 
 -- ---- lists of statements
 
@@ -185,17 +186,17 @@ behind s fs0 fs done st0 st h = (rw h refl, rw h refl, rw h refl, λ n. rw h ref
 
 first-same : (st : WrittenStatement) (x y : State) (rest : List Token) → IsStatementAt Single st → step x (Reserved BeginWord) ≡ step y (Reserved BeginWord) → step x (Reserved IfWord) ≡ step y (Reserved IfWord) → ((n : List ℕ) → step x (Name n) ≡ step y (Name n))
     → steps x (spell_statement st ++ rest) ≡ steps y (spell_statement st ++ rest)
-first-same (Update n e) x y rest g b f m = steps-same x y (Name n) _ (m n)
-first-same (UpdateWord n a e) x y rest g b f m = steps-same x y (Name n) _ (m n)
-first-same (IfThen c a) x y rest g b f m = steps-same x y (Reserved IfWord) _ f
-first-same (IfElse c a d) x y rest g b f m = steps-same x y (Reserved IfWord) _ f
-first-same (Block l) x y rest g b f m = steps-same x y (Reserved BeginWord) _ b
+first-same (Update n e) x y rest g b f m = machine-same step steps is-machine x y (Name n) _ (m n)
+first-same (UpdateWord n a e) x y rest g b f m = machine-same step steps is-machine x y (Name n) _ (m n)
+first-same (IfThen c a) x y rest g b f m = machine-same step steps is-machine x y (Reserved IfWord) _ f
+first-same (IfElse c a d) x y rest g b f m = machine-same step steps is-machine x y (Reserved IfWord) _ f
+first-same (Block l) x y rest g b f m = machine-same step steps is-machine x y (Reserved BeginWord) _ b
 first-same (Listed a c) x y rest g b f m = absurd g
 first-same Ended x y rest g b f m = absurd g
 
 goes_on : (l : WrittenStatement) (s : State) (fs0 fs : List Frame) (done : List WrittenStatement) (st0 st : WrittenStatement) (rest : List Token) → IsStatementAt InBlock l → at_end fs0 st0 ≡ settled_at (InBegin done ∷ fs) st
     → steps (stated s fs0 st0) (spell_statement l ++ Reserved EndWord ∷ rest) ≡ steps (stating s (InBegin (done ++ st ∷ []) ∷ fs)) (spell_statement l ++ Reserved EndWord ∷ rest)
-goes_on Ended s fs0 fs done st0 st rest g h = steps-same _ _ (Reserved EndWord) rest (behind s fs0 fs done st0 st h).0
+goes_on Ended s fs0 fs done st0 st rest g h = machine-same step steps is-machine _ _ (Reserved EndWord) rest (behind s fs0 fs done st0 st h).0
 goes_on (Listed a b) s fs0 fs done st0 st rest g h =
     let same = behind s fs0 fs done st0 st h in
     ap (steps (stated s fs0 st0)) (append_assoc (spell_statement a) (spell_statement b) (Reserved EndWord ∷ rest))
@@ -237,19 +238,19 @@ pub record IsReadAs (st : WrittenStatement) : Type 0 where
 pub reads_statement : (st : WrittenStatement) → IsReadAs st
 reads_statement (Update n e) = record {
   single = λ s fs rest g.
-      steps-one _ _ (Name n) (Mark LessEquals ∷ ((spell_expr e ++ Mark Semicolon ∷ []) ++ rest)) (state-name s fs n)
-      ∙ steps-one _ _ (Mark LessEquals) ((spell_expr e ++ Mark Semicolon ∷ []) ++ rest) (target-arrow s fs n)
+      is-machine.goes _ _ (Name n) (Mark LessEquals ∷ ((spell_expr e ++ Mark Semicolon ∷ []) ++ rest)) (state-name s fs n)
+      ∙ is-machine.goes _ _ (Mark LessEquals) ((spell_expr e ++ Mark Semicolon ∷ []) ++ rest) (target-arrow s fs n)
       ∙ ap (steps (wanting s (UpdateTo n ∷ fs))) (append_assoc (spell_expr e) (Mark Semicolon ∷ []) rest)
       ∙ read-update s fs n e rest g;
   in_block = λ s fs done rest g. absurd g;
 }
 reads_statement (UpdateWord n a e) = record {
   single = λ s fs rest g.
-      steps-one _ _ (Name n) (Mark OpenBracket ∷ ((spell_expr a ++ Mark CloseBracket ∷ Mark LessEquals ∷ (spell_expr e ++ Mark Semicolon ∷ [])) ++ rest)) (state-name s fs n)
-      ∙ steps-one _ _ (Mark OpenBracket) ((spell_expr a ++ Mark CloseBracket ∷ Mark LessEquals ∷ (spell_expr e ++ Mark Semicolon ∷ [])) ++ rest) (target-index s fs n)
+      is-machine.goes _ _ (Name n) (Mark OpenBracket ∷ ((spell_expr a ++ Mark CloseBracket ∷ Mark LessEquals ∷ (spell_expr e ++ Mark Semicolon ∷ [])) ++ rest)) (state-name s fs n)
+      ∙ is-machine.goes _ _ (Mark OpenBracket) ((spell_expr a ++ Mark CloseBracket ∷ Mark LessEquals ∷ (spell_expr e ++ Mark Semicolon ∷ [])) ++ rest) (target-index s fs n)
       ∙ ap (steps (wanting s (AddressFor n ∷ fs))) (append_assoc (spell_expr a) (Mark CloseBracket ∷ Mark LessEquals ∷ (spell_expr e ++ Mark Semicolon ∷ [])) rest)
       ∙ read-address s fs n a (Mark LessEquals ∷ ((spell_expr e ++ Mark Semicolon ∷ []) ++ rest)) g.0
-      ∙ steps-one _ _ (Mark LessEquals) ((spell_expr e ++ Mark Semicolon ∷ []) ++ rest) (word-arrow s fs n a)
+      ∙ is-machine.goes _ _ (Mark LessEquals) ((spell_expr e ++ Mark Semicolon ∷ []) ++ rest) (word-arrow s fs n a)
       ∙ ap (steps (wanting s (UpdateWordTo n a ∷ fs))) (append_assoc (spell_expr e) (Mark Semicolon ∷ []) rest)
       ∙ read-word s fs n a e rest g.1;
   in_block = λ s fs done rest g. absurd g;
@@ -267,13 +268,13 @@ reads_statement (IfElse c a b) = record {
       ∙ read-test s fs c ((spell_statement a ++ Reserved ElseWord ∷ spell_statement b) ++ rest) g.0
       ∙ ap (steps (stating s (ThenOf c ∷ fs))) (append_assoc (spell_statement a) (Reserved ElseWord ∷ spell_statement b) rest)
       ∙ (reads_statement a).single s (ThenOf c ∷ fs) (Reserved ElseWord ∷ (spell_statement b ++ rest)) g.2
-      ∙ steps-one _ _ (Reserved ElseWord) (spell_statement b ++ rest) (take-else s (holds a (ThenOf c ∷ fs)) (ElseOf c a ∷ fs) (final_of a) (else-holds a (ThenOf c ∷ fs) g.1 ∙ else-then c fs a))
+      ∙ is-machine.goes _ _ (Reserved ElseWord) (spell_statement b ++ rest) (take-else s (holds a (ThenOf c ∷ fs)) (ElseOf c a ∷ fs) (final_of a) (else-holds a (ThenOf c ∷ fs) g.1 ∙ else-then c fs a))
       ∙ (reads_statement b).single s (ElseOf c a ∷ fs) rest g.3;
   in_block = λ s fs done rest g. absurd g;
 }
 reads_statement (Block l) = record {
   single = λ s fs rest g.
-      steps-one _ _ (Reserved BeginWord) ((spell_statement l ++ Reserved EndWord ∷ []) ++ rest) (state-begin s fs)
+      is-machine.goes _ _ (Reserved BeginWord) ((spell_statement l ++ Reserved EndWord ∷ []) ++ rest) (state-begin s fs)
       ∙ ap (steps (stating s (InBegin [] ∷ fs))) (append_assoc (spell_statement l) (Reserved EndWord ∷ []) rest)
       ∙ (reads_statement l).in_block s fs [] rest g;
   in_block = λ s fs done rest g. absurd g;
@@ -290,6 +291,6 @@ reads_statement (Listed a b) = record {
 reads_statement Ended = record {
   single = λ s fs rest g. absurd g;
   in_block = λ s fs done rest g.
-      steps-one _ _ (Reserved EndWord) rest (state-end s fs done)
+      is-machine.goes _ _ (Reserved EndWord) rest (state-end s fs done)
       ∙ ap (λ (l : WrittenStatement). steps (stated s fs (Block l)) rest) (onto-ended done);
 }

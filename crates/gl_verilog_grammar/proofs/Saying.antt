@@ -1,6 +1,5 @@
 -- What the reader answers is the page: the module, or the first token that cannot stand there or passes a limit.
 use Rattle.std.proofs.Common.{◌≡◌, ℕ, ◌+◌, Bool, true, false, List, [], ◌∷◌, ◌++◌, length, Option, Some, None, Result, Ok, Err, refl, sym, ap, subst, ◌∙◌, arith, append_assoc}
-use Rattle.std.specs.Prelude.{if◌then◌else◌}
 use Rattle.std.proofs.lemmas.List.{append-nil}
 use Rattle.gl_verilog.specs.Tokens.{Token}
 use Rattle.gl_verilog.specs.Written.{WrittenModule, IsWritten, spell}
@@ -11,26 +10,24 @@ use Rattle.gl_verilog_faults.specs.Marks.{State as Place, Header, marks, behind,
 use Rattle.gl_verilog_faults.specs.Faults.{KeepsFront}
 use Rattle.gl_verilog_grammar.specs.Reading.{Fault, Syntax, TooDeep, or_fault, if_past, then_read, read_from}
 use Rattle.gl_verilog_grammar.specs.Answers.{IsSyntaxAt, IsDeepAt}
-use Rattle.gl_verilog_grammar.proofs.Steps.{steps, steps-nil}
+use Rattle.gl_verilog_grammar.proofs.Steps.{steps, is-machine}
 use Rattle.gl_verilog_faults.proofs.Exact.{keeps_spelled}
-use Rattle.gl_verilog_grammar.proofs.Tells.{begins_when, reads_when, spelt_when, spelt_stage, steps_push, push_none}
+use Rattle.gl_verilog_grammar.proofs.Tells.{begins_when, reads_when, spelt_when, spelt_stage, push_none}
+use Rattle.gl_bits.proofs.Bools.{guard_true}
+use Rattle.gl_bits.proofs.Machines.{machine-push}
 
 -- the counts behind roles
 abbrev pub counted : Counts → List Role → Counts
 counted n [] = n
 counted n (r ∷ rs) = counted (after n r) rs
 
-if_both : (c k : Bool) → (if c then false else k) ≡ true → (c ≡ false) × (k ≡ true)
-if_both true k h = absurd cc
-if_both false k h = (refl, h)
-
 keeps_push : (n : Counts) (rs : List Role) (r : Role) → keeps_limits n rs ≡ true → is_past (after (counted n rs) r) ≡ false → keeps_limits n (rs ++ r ∷ []) ≡ true
 keeps_push n [] r h p = rw p refl
-keeps_push n (x ∷ rs) r h p = let q = if_both (is_past (after n x)) (keeps_limits (after n x) rs) h in rw q.0 (keeps_push (after n x) rs r q.1 p)
+keeps_push n (x ∷ rs) r h p = let q = guard_true (is_past (after n x)) (keeps_limits (after n x) rs) h in rw q.0 (keeps_push (after n x) rs r q.1 p)
 
 past_push : (n : Counts) (rs : List Role) (r : Role) → keeps_limits n rs ≡ true → is_past (after (counted n rs) r) ≡ true → keeps_limits n (rs ++ r ∷ []) ≡ false
 past_push n [] r h p = rw p refl
-past_push n (x ∷ rs) r h p = let q = if_both (is_past (after n x)) (keeps_limits (after n x) rs) h in rw q.0 (past_push (after n x) rs r q.1 p)
+past_push n (x ∷ rs) r h p = let q = guard_true (is_past (after n x)) (keeps_limits (after n x) rs) h in rw q.0 (past_push (after n x) rs r q.1 p)
 
 marks_push : (s : Place) (ts : List Token) (t : Token) → marks s (ts ++ t ∷ []) ≡ marks s ts ++ role_at (behind s ts) t ∷ []
 marks_push s [] t = refl
@@ -71,7 +68,7 @@ knows_more read at s s' q n t k e p =
     let p' : is_past (after (counted none_counted (marks Header read)) (role_at (behind Header read) t)) ≡ false = rw (k.counts, role) p in
     record {
       here = (let a : at ≡ length read = k.here in let b : length (read ++ t ∷ []) ≡ length read + 1 = length_push read t in omega arith);
-      came = steps_push read t s s' k.came e;
+      came = machine-push step steps is-machine read t start s s' k.came e;
       place = behind_push Header read t ∙ ap (λ (x : Place). next x t) k.place;
       counts = ap (counted none_counted) (marks_push Header read t) ∙ counted_push none_counted (marks Header read) (role_at (behind Header read) t) ∙ ap (λ (x : Counts). after x (role_at (behind Header read) t)) k.counts ∙ ap (after n) role;
       limits = subst (λ (x : List Role). keeps_limits none_counted x ≡ true) (sym (marks_push Header read t)) (keeps_push none_counted (marks Header read) (role_at (behind Header read) t) k.limits p');
@@ -88,7 +85,7 @@ deep_at read left at s s' q n t k e p =
       parts = refl;
       limits = k.limits;
       past = subst (λ (x : List Role). keeps_limits none_counted x ≡ false) (sym (marks_push Header read t)) (past_push none_counted (marks Header read) (role_at (behind Header read) t) k.limits p');
-      begins = begins_when (read ++ t ∷ []) s' (steps_push read t s s' k.came e);
+      begins = begins_when (read ++ t ∷ []) s' (machine-push step steps is-machine read t start s s' k.came e);
       place = k.here;
     }
 
@@ -113,4 +110,4 @@ says (t ∷ ts) read at s q n k = by_step (step s t) refl (λ s' e p. subst (λ 
 
 -- THE READER answers the page
 pub reader_says : (tokens : List Token) → Says tokens (read_from 0 start Header none_counted tokens)
-reader_says tokens = says tokens [] 0 start Header none_counted (record { here = refl; came = steps-nil start; place = refl; counts = refl; limits = refl })
+reader_says tokens = says tokens [] 0 start Header none_counted (record { here = refl; came = is-machine.none_left start; place = refl; counts = refl; limits = refl })

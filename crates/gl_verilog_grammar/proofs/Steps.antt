@@ -1,29 +1,20 @@
 -- Tokens one after the other.
-use Rattle.std.proofs.Common.{◌≡◌, List, [], ◌∷◌, Option, Some, None, refl}
+use Rattle.std.proofs.Common.{List, [], ◌∷◌, Option, Some, refl}
 use Rattle.gl_verilog.specs.Tokens.{Token}
 use Rattle.gl_verilog.specs.Written.{WrittenExpr}
 use Rattle.gl_verilog_grammar.specs.Machine.{State, WantOperand, HaveOperand, Frame, step}
+use Rattle.gl_bits.proofs.Machines.{IsMachine}
+use Rattle.std.specs.Prelude.{option_and_then}
 
-abbrev pub kept : Option State → (State → Option State) → Option State
-kept None next = None
-kept (Some s) next = next s
-
+-- the state behind tokens that can stand there
 unfoldable pub steps : State → List Token → Option State
 steps s [] = Some s
-steps s (t ∷ ts) = kept (step s t) (λ s'. steps s' ts)
+steps s (t ∷ ts) = option_and_then (λ s'. steps s' ts) (step s t)
 
-pub steps-nil : (s : State) → steps s [] ≡ Some s
+-- the steps are those of a machine
+pub is-machine : IsMachine step steps
 unfolding steps
-steps-nil s = refl
-
-pub steps-one : (s s' : State) (t : Token) (ts : List Token) → step s t ≡ Some s' → steps s (t ∷ ts) ≡ steps s' ts
-unfolding steps
-steps-one s s' t ts e = rw e refl
-
--- two states that take a token in the same way
-pub steps-same : (s s' : State) (t : Token) (ts : List Token) → step s t ≡ step s' t → steps s (t ∷ ts) ≡ steps s' (t ∷ ts)
-unfolding steps
-steps-same s s' t ts e = rw e refl
+is-machine = record { none_left = λ s. refl; goes = λ s x t ts e. rw e refl; stops = λ s t ts e. rw e refl }
 
 -- ---- states inside an expression
 

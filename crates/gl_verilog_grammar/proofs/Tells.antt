@@ -5,41 +5,19 @@ use Rattle.gl_verilog.specs.Tokens.{Token}
 use Rattle.gl_verilog.specs.Written.{WrittenModule, IsWritten, spell}
 use Rattle.gl_verilog_grammar.specs.Machine.{State, Stage, Complete, start, step, complete, finish}
 use Rattle.gl_verilog_faults.specs.Faults.{CanBegin}
-use Rattle.gl_verilog_grammar.proofs.Steps.{steps, steps-nil, kept}
+use Rattle.gl_verilog_grammar.proofs.Steps.{steps, is-machine}
 use Rattle.gl_verilog_grammar.proofs.ReadModules.{between, read_again}
 use Rattle.gl_verilog_grammar.proofs.Told.{told_at, fine_at, Means, means}
 use Rattle.gl_verilog_grammar.proofs.Sound.{stepped, base-ends}
 use Rattle.gl_verilog_grammar.proofs.Completes.{Finishes, finishes}
 use Rattle.gl_verilog_faults.proofs.Total.{CanTell, CanTellAll, IsSpelt, HasVerdict, total}
-use Rattle.gl_bits.proofs.Options.{not_some}
-
-kept_parts : (o : Option State) (next : State → Option State) (y : State) → kept o next ≡ Some y → (x : State) × (o ≡ Some x) × (next x ≡ Some y)
-kept_parts None next y e = absurd cc
-kept_parts (Some x) next y e = (x, refl, e)
-
-steps_parts : (s : State) (t : Token) (ts : List Token) (y : State) → steps s (t ∷ ts) ≡ Some y → (x : State) × (step s t ≡ Some x) × (steps x ts ≡ Some y)
-unfolding steps
-steps_parts s t ts y e = kept_parts (step s t) (λ x. steps x ts) y e
-
-steps_cons : (s : State) (t : Token) (ts : List Token) (x : State) → step s t ≡ Some x → steps s (t ∷ ts) ≡ steps x ts
-unfolding steps
-steps_cons s t ts x e = rw e refl
-
-nil_same : (s y : State) → steps s [] ≡ Some y → s ≡ y
-unfolding steps
-nil_same s y e = cc
-
-split : (a b : List Token) (s y : State) → steps s (a ++ b) ≡ Some y → (x : State) × (steps s a ≡ Some x) × (steps x b ≡ Some y)
-split [] b s y e = (s, steps-nil s, e)
-split (t ∷ a) b s y e =
-    let p = steps_parts s t (a ++ b) y e in
-    let q = split a b p.0 y p.2 in
-    (q.0, steps_cons s t a p.0 p.1 ∙ q.1, q.2)
+use Rattle.gl_bits.proofs.Options.{not_some, some_same}
+use Rattle.gl_bits.proofs.Machines.{machine-append, machine-front, machine-parts}
 
 means_all : (ts : List Token) (s y : State) (done : List Token) → Means s done → steps s ts ≡ Some y → Means y (done ++ ts)
-means_all [] s y done m e = subst (Means y) (sym (append-nil done)) (subst (λ (x : State). Means x done) (nil_same s y e) m)
+means_all [] s y done m e = subst (Means y) (sym (append-nil done)) (subst (λ (x : State). Means x done) (some_same s y (sym (is-machine.none_left s) ∙ e)) m)
 means_all (t ∷ ts) s y done m e =
-    let p = steps_parts s t ts y e in
+    let p = machine-parts step steps is-machine s y t ts e in
     subst (Means y) (append_assoc done (t ∷ []) ts) (means_all ts p.0 y (done ++ t ∷ []) (stepped t s p.0 done m p.1) p.2)
 
 starts : Means start []
@@ -62,7 +40,7 @@ begins_when read s e =
 pub reads_when : (read : List Token) → CanBegin read → (s : State) × (steps start read ≡ Some s)
 reads_when read b =
     let e : steps start (read ++ b.1) ≡ Some (between b.0.name b.0.ports b.0.items Complete) = subst (λ (x : List Token). steps start x ≡ Some (between b.0.name b.0.ports b.0.items Complete)) b.3 (read_again b.0 b.2) in
-    let p = split read b.1 start (between b.0.name b.0.ports b.0.items Complete) e in
+    let p = machine-front step steps is-machine read b.1 start (between b.0.name b.0.ports b.0.items Complete) e in
     (p.0, p.1)
 
 tell_by : (read : List Token) (o : Option State) → steps start read ≡ o → CanBegin read ⊎ (CanBegin read → ⊥)
@@ -119,14 +97,7 @@ spelt_when ts s e f w =
     let same : s ≡ between w.0.name w.0.ports w.0.items Complete = state_same s (between w.0.name w.0.ports w.0.items Complete) (sym e ∙ r) in
     not_some w.0 (sym f ∙ ap finish same)
 
-join_by : (a b : List Token) (s x : State) → steps s a ≡ Some x → steps s (a ++ b) ≡ steps x b
-join_by [] b s x e = ap (λ (y : State). steps y b) (nil_same s x e)
-join_by (t ∷ a) b s x e = let p = steps_parts s t a x e in steps_cons s t (a ++ b) p.0 p.1 ∙ join_by a b p.0 x p.2
-
-pub steps_push : (read : List Token) (t : Token) (s s' : State) → steps start read ≡ Some s → step s t ≡ Some s' → steps start (read ++ t ∷ []) ≡ Some s'
-steps_push read t s s' e f = join_by read (t ∷ []) start s e ∙ steps_cons s t [] s' f ∙ steps-nil s'
-
 pub push_none : (read : List Token) (t : Token) (s : State) → steps start read ≡ Some s → step s t ≡ None → (x : State) → steps start (read ++ t ∷ []) ≡ Some x → ⊥
 push_none read t s e f x h =
-    let p = steps_parts s t [] x (sym (join_by read (t ∷ []) start s e) ∙ h) in
+    let p = machine-parts step steps is-machine s x t [] (sym (machine-append step steps is-machine read (t ∷ []) start s e) ∙ h) in
     not_some p.0 (sym f ∙ p.1)

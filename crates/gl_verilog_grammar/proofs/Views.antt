@@ -1,5 +1,5 @@
 -- What each value stands for, by its variant.
-use Rattle.std.proofs.Common.{◌≡◌, ℕ, Option, Vec, Global, refl}
+use Rattle.std.proofs.Common.{◌≡◌, ℕ, Option, Vec, Box, Global, refl}
 use Rattle.std.specs.Prelude.{map}
 use Rattle.gl_verilog_grammar.specs.Machine as machine
 use Rattle.gl_verilog_syntax.specs.declared.token.Word.{Word}
@@ -10,57 +10,151 @@ use Rattle.gl_verilog_syntax.specs.declared.written.WrittenStatement.{WrittenSta
 use Rattle.gl_verilog_grammar.specs.declared.frames.Frame.TheVariants as frame_is
 use Rattle.gl_verilog_grammar.specs.declared.stage.Sort.{Sort}
 use Rattle.gl_verilog_grammar.specs.declared.stage.Owner.{Owner}
+use Rattle.gl_verilog_grammar.specs.declared.stage.Plain.{Plain}
+use Rattle.gl_verilog_grammar.specs.declared.stage.Plain.TheVariants as plain_is
 use Rattle.gl_verilog_grammar.specs.declared.stage.Stage.TheVariants as stage_is
 use Rattle.gl_verilog_syntax.specs.View.{prefix_of, infix_of, expr_of, statement_of, name_of, names_of, range_of}
-use Rattle.gl_verilog_grammar.specs.View.{frame_of, sort_of, owner_of, stage_of}
+use Rattle.gl_verilog_grammar.specs.View.{frame_of, sort_of, owner_of, plain_of, stage_of}
 
-pub stage-WantModule : stage_of stage_is.WantModule ≡ machine.WantModule
-unfolding stage_of
-stage-WantModule = refl
+pub plain-WantModule : plain_of plain_is.WantModule ≡ machine.WantModule
+unfolding plain_of
+plain-WantModule = refl
 
-pub stage-WantTitle : stage_of stage_is.WantTitle ≡ machine.WantTitle
-unfolding stage_of
-stage-WantTitle = refl
+pub plain-WantTitle : plain_of plain_is.WantTitle ≡ machine.WantTitle
+unfolding plain_of
+plain-WantTitle = refl
 
-pub stage-WantPorts : stage_of stage_is.WantPorts ≡ machine.WantPorts
-unfolding stage_of
-stage-WantPorts = refl
+pub plain-WantPorts : plain_of plain_is.WantPorts ≡ machine.WantPorts
+unfolding plain_of
+plain-WantPorts = refl
 
-pub stage-WantPort : stage_of stage_is.WantPort ≡ machine.WantPort
-unfolding stage_of
-stage-WantPort = refl
+pub plain-WantPort : plain_of plain_is.WantPort ≡ machine.WantPort
+unfolding plain_of
+plain-WantPort = refl
 
-pub stage-Declaring : (owner : Owner) → stage_of (stage_is.Declaring owner) ≡ machine.Declaring (owner_of owner)
-unfolding stage_of
-stage-Declaring owner = refl
+pub plain-Declaring : (owner : Owner) → plain_of (plain_is.Declaring owner) ≡ machine.Declaring (owner_of owner)
+unfolding plain_of
+plain-Declaring owner = refl
 
-pub stage-WantHigh : (owner : Owner) → stage_of (stage_is.WantHigh owner) ≡ machine.WantHigh (owner_of owner)
-unfolding stage_of
-stage-WantHigh owner = refl
+pub plain-WantHigh : (owner : Owner) → plain_of (plain_is.WantHigh owner) ≡ machine.WantHigh (owner_of owner)
+unfolding plain_of
+plain-WantHigh owner = refl
 
-pub stage-WantColon : (owner : Owner) (high : Word) → stage_of (stage_is.WantColon owner high) ≡ machine.WantColon (owner_of owner) (name_of high)
-unfolding stage_of
-stage-WantColon owner high = refl
+pub plain-WantColon : (owner : Owner) (high : Word) → plain_of (plain_is.WantColon owner high) ≡ machine.WantColon (owner_of owner) (name_of high)
+unfolding plain_of
+plain-WantColon owner high = refl
 
-pub stage-WantZero : (owner : Owner) (high : Word) → stage_of (stage_is.WantZero owner high) ≡ machine.WantZero (owner_of owner) (name_of high)
-unfolding stage_of
-stage-WantZero owner high = refl
+pub plain-WantZero : (owner : Owner) (high : Word) → plain_of (plain_is.WantZero owner high) ≡ machine.WantZero (owner_of owner) (name_of high)
+unfolding plain_of
+plain-WantZero owner high = refl
 
-pub stage-WantClose : (owner : Owner) (high : Word) → stage_of (stage_is.WantClose owner high) ≡ machine.WantClose (owner_of owner) (name_of high)
-unfolding stage_of
-stage-WantClose owner high = refl
+pub plain-WantClose : (owner : Owner) (high : Word) → plain_of (plain_is.WantClose owner high) ≡ machine.WantClose (owner_of owner) (name_of high)
+unfolding plain_of
+plain-WantClose owner high = refl
 
-pub stage-WantName : (owner : Owner) (range : Option Word) → stage_of (stage_is.WantName owner range) ≡ machine.WantName (owner_of owner) (range_of range)
-unfolding stage_of
-stage-WantName owner range = refl
+pub plain-WantName : (owner : Owner) (range : Option Word) → plain_of (plain_is.WantName owner range) ≡ machine.WantName (owner_of owner) (range_of range)
+unfolding plain_of
+plain-WantName owner range = refl
 
-pub stage-AfterPort : stage_of stage_is.AfterPort ≡ machine.AfterPort
-unfolding stage_of
-stage-AfterPort = refl
+pub plain-AfterPort : plain_of plain_is.AfterPort ≡ machine.AfterPort
+unfolding plain_of
+plain-AfterPort = refl
 
-pub stage-AfterPorts : stage_of stage_is.AfterPorts ≡ machine.AfterPorts
+pub plain-AfterPorts : plain_of plain_is.AfterPorts ≡ machine.AfterPorts
+unfolding plain_of
+plain-AfterPorts = refl
+
+pub plain-WantFirst : (range : Option Word) (name : Word) → plain_of (plain_is.WantFirst range name) ≡ machine.WantFirst (range_of range) (name_of name)
+unfolding plain_of
+plain-WantFirst range name = refl
+
+pub plain-WantMemoryColon : (range : Option Word) (name : Word) → plain_of (plain_is.WantMemoryColon range name) ≡ machine.WantMemoryColon (range_of range) (name_of name)
+unfolding plain_of
+plain-WantMemoryColon range name = refl
+
+pub plain-WantLast : (range : Option Word) (name : Word) → plain_of (plain_is.WantLast range name) ≡ machine.WantLast (range_of range) (name_of name)
+unfolding plain_of
+plain-WantLast range name = refl
+
+pub plain-WantMemoryClose : (range : Option Word) (name : Word) (last : Word) → plain_of (plain_is.WantMemoryClose range name last) ≡ machine.WantMemoryClose (range_of range) (name_of name) (name_of last)
+unfolding plain_of
+plain-WantMemoryClose range name last = refl
+
+pub plain-WantMemoryEnd : (range : Option Word) (name : Word) (last : Word) → plain_of (plain_is.WantMemoryEnd range name last) ≡ machine.WantMemoryEnd (range_of range) (name_of name) (name_of last)
+unfolding plain_of
+plain-WantMemoryEnd range name last = refl
+
+pub plain-WantItem : plain_of plain_is.WantItem ≡ machine.WantItem
+unfolding plain_of
+plain-WantItem = refl
+
+pub plain-WantAssigned : plain_of plain_is.WantAssigned ≡ machine.WantAssigned
+unfolding plain_of
+plain-WantAssigned = refl
+
+pub plain-WantEquals : (target : Word) → plain_of (plain_is.WantEquals target) ≡ machine.WantEquals (name_of target)
+unfolding plain_of
+plain-WantEquals target = refl
+
+pub plain-WantAt : plain_of plain_is.WantAt ≡ machine.WantAt
+unfolding plain_of
+plain-WantAt = refl
+
+pub plain-WantEdge : plain_of plain_is.WantEdge ≡ machine.WantEdge
+unfolding plain_of
+plain-WantEdge = refl
+
+pub plain-WantPosedge : plain_of plain_is.WantPosedge ≡ machine.WantPosedge
+unfolding plain_of
+plain-WantPosedge = refl
+
+pub plain-WantClock : plain_of plain_is.WantClock ≡ machine.WantClock
+unfolding plain_of
+plain-WantClock = refl
+
+pub plain-WantEdgeEnd : (clock : Word) → plain_of (plain_is.WantEdgeEnd clock) ≡ machine.WantEdgeEnd (name_of clock)
+unfolding plain_of
+plain-WantEdgeEnd clock = refl
+
+pub plain-WantStatement : plain_of plain_is.WantStatement ≡ machine.WantStatement
+unfolding plain_of
+plain-WantStatement = refl
+
+pub plain-AfterTarget : (target : Word) → plain_of (plain_is.AfterTarget target) ≡ machine.AfterTarget (name_of target)
+unfolding plain_of
+plain-AfterTarget target = refl
+
+pub plain-WantTest : (at : ℕ) → plain_of (plain_is.WantTest at) ≡ machine.WantTest
+unfolding plain_of
+plain-WantTest at = refl
+
+pub plain-WantOperand : plain_of plain_is.WantOperand ≡ machine.WantOperand
+unfolding plain_of
+plain-WantOperand = refl
+
+pub plain-AtIndex : (name : Word) → plain_of (plain_is.AtIndex name) ≡ machine.AtIndex (name_of name)
+unfolding plain_of
+plain-AtIndex name = refl
+
+pub plain-AtPlace : (name : Word) (place : Word) → plain_of (plain_is.AtPlace name place) ≡ machine.AtPlace (name_of name) (name_of place)
+unfolding plain_of
+plain-AtPlace name place = refl
+
+pub plain-WantLow : (name : Word) (high : Word) → plain_of (plain_is.WantLow name high) ≡ machine.WantLow (name_of name) (name_of high)
+unfolding plain_of
+plain-WantLow name high = refl
+
+pub plain-AtPart : (name : Word) (high : Word) (low : Word) → plain_of (plain_is.AtPart name high low) ≡ machine.AtPart (name_of name) (name_of high) (name_of low)
+unfolding plain_of
+plain-AtPart name high low = refl
+
+pub plain-Complete : plain_of plain_is.Complete ≡ machine.Complete
+unfolding plain_of
+plain-Complete = refl
+
+pub stage-Plain : (plain : Plain) → stage_of (stage_is.Plain plain) ≡ plain_of plain
 unfolding stage_of
-stage-AfterPorts = refl
+stage-Plain plain = refl
 
 pub stage-AfterName : (sort : Sort) (range : Option Word) (names : Vec Word Global) → stage_of (stage_is.AfterName sort range names) ≡ machine.AfterName (sort_of sort) (range_of range) (names_of names.items)
 unfolding stage_of
@@ -70,105 +164,17 @@ pub stage-WantMore : (sort : Sort) (range : Option Word) (names : Vec Word Globa
 unfolding stage_of
 stage-WantMore sort range names = refl
 
-pub stage-WantFirst : (range : Option Word) (name : Word) → stage_of (stage_is.WantFirst range name) ≡ machine.WantFirst (range_of range) (name_of name)
-unfolding stage_of
-stage-WantFirst range name = refl
-
-pub stage-WantMemoryColon : (range : Option Word) (name : Word) → stage_of (stage_is.WantMemoryColon range name) ≡ machine.WantMemoryColon (range_of range) (name_of name)
-unfolding stage_of
-stage-WantMemoryColon range name = refl
-
-pub stage-WantLast : (range : Option Word) (name : Word) → stage_of (stage_is.WantLast range name) ≡ machine.WantLast (range_of range) (name_of name)
-unfolding stage_of
-stage-WantLast range name = refl
-
-pub stage-WantMemoryClose : (range : Option Word) (name : Word) (last : Word) → stage_of (stage_is.WantMemoryClose range name last) ≡ machine.WantMemoryClose (range_of range) (name_of name) (name_of last)
-unfolding stage_of
-stage-WantMemoryClose range name last = refl
-
-pub stage-WantMemoryEnd : (range : Option Word) (name : Word) (last : Word) → stage_of (stage_is.WantMemoryEnd range name last) ≡ machine.WantMemoryEnd (range_of range) (name_of name) (name_of last)
-unfolding stage_of
-stage-WantMemoryEnd range name last = refl
-
-pub stage-WantItem : stage_of stage_is.WantItem ≡ machine.WantItem
-unfolding stage_of
-stage-WantItem = refl
-
-pub stage-WantAssigned : stage_of stage_is.WantAssigned ≡ machine.WantAssigned
-unfolding stage_of
-stage-WantAssigned = refl
-
-pub stage-WantEquals : (target : Word) → stage_of (stage_is.WantEquals target) ≡ machine.WantEquals (name_of target)
-unfolding stage_of
-stage-WantEquals target = refl
-
-pub stage-WantAt : stage_of stage_is.WantAt ≡ machine.WantAt
-unfolding stage_of
-stage-WantAt = refl
-
-pub stage-WantEdge : stage_of stage_is.WantEdge ≡ machine.WantEdge
-unfolding stage_of
-stage-WantEdge = refl
-
-pub stage-WantPosedge : stage_of stage_is.WantPosedge ≡ machine.WantPosedge
-unfolding stage_of
-stage-WantPosedge = refl
-
-pub stage-WantClock : stage_of stage_is.WantClock ≡ machine.WantClock
-unfolding stage_of
-stage-WantClock = refl
-
-pub stage-WantEdgeEnd : (clock : Word) → stage_of (stage_is.WantEdgeEnd clock) ≡ machine.WantEdgeEnd (name_of clock)
-unfolding stage_of
-stage-WantEdgeEnd clock = refl
-
-pub stage-WantStatement : stage_of stage_is.WantStatement ≡ machine.WantStatement
-unfolding stage_of
-stage-WantStatement = refl
-
-pub stage-AfterTarget : (target : Word) → stage_of (stage_is.AfterTarget target) ≡ machine.AfterTarget (name_of target)
-unfolding stage_of
-stage-AfterTarget target = refl
-
-pub stage-WantArrow : (target : Word) (address : WrittenExpr) → stage_of (stage_is.WantArrow target address) ≡ machine.WantArrow (name_of target) (expr_of address)
+pub stage-WantArrow : (target : Word) (address : Box WrittenExpr Global) → stage_of (stage_is.WantArrow target address) ≡ machine.WantArrow (name_of target) (expr_of address.value)
 unfolding stage_of
 stage-WantArrow target address = refl
 
-pub stage-WantTest : (at : ℕ) → stage_of (stage_is.WantTest at) ≡ machine.WantTest
-unfolding stage_of
-stage-WantTest at = refl
-
-pub stage-HaveStatement : (statement : WrittenStatement) → stage_of (stage_is.HaveStatement statement) ≡ machine.HaveStatement (statement_of statement)
+pub stage-HaveStatement : (statement : Box WrittenStatement Global) → stage_of (stage_is.HaveStatement statement) ≡ machine.HaveStatement (statement_of statement.value)
 unfolding stage_of
 stage-HaveStatement statement = refl
 
-pub stage-WantOperand : stage_of stage_is.WantOperand ≡ machine.WantOperand
-unfolding stage_of
-stage-WantOperand = refl
-
-pub stage-HaveOperand : (operand : WrittenExpr) → stage_of (stage_is.HaveOperand operand) ≡ machine.HaveOperand (expr_of operand)
+pub stage-HaveOperand : (operand : Box WrittenExpr Global) → stage_of (stage_is.HaveOperand operand) ≡ machine.HaveOperand (expr_of operand.value)
 unfolding stage_of
 stage-HaveOperand operand = refl
-
-pub stage-AtIndex : (name : Word) → stage_of (stage_is.AtIndex name) ≡ machine.AtIndex (name_of name)
-unfolding stage_of
-stage-AtIndex name = refl
-
-pub stage-AtPlace : (name : Word) (place : Word) → stage_of (stage_is.AtPlace name place) ≡ machine.AtPlace (name_of name) (name_of place)
-unfolding stage_of
-stage-AtPlace name place = refl
-
-pub stage-WantLow : (name : Word) (high : Word) → stage_of (stage_is.WantLow name high) ≡ machine.WantLow (name_of name) (name_of high)
-unfolding stage_of
-stage-WantLow name high = refl
-
-pub stage-AtPart : (name : Word) (high : Word) (low : Word) → stage_of (stage_is.AtPart name high low) ≡ machine.AtPart (name_of name) (name_of high) (name_of low)
-unfolding stage_of
-stage-AtPart name high low = refl
-
-pub stage-Complete : stage_of stage_is.Complete ≡ machine.Complete
-unfolding stage_of
-stage-Complete = refl
 
 pub frame-InParens : frame_of frame_is.InParens ≡ machine.InParens
 unfolding frame_of
@@ -186,15 +192,15 @@ pub frame-PrefixOf : (op : PrefixOp) (at : ℕ) → frame_of (frame_is.PrefixOf 
 unfolding frame_of
 frame-PrefixOf op at = refl
 
-pub frame-InfixOf : (op : InfixOp) (at : ℕ) (left : WrittenExpr) → frame_of (frame_is.InfixOf op at left) ≡ machine.InfixOf (infix_of op) (expr_of left)
+pub frame-InfixOf : (op : InfixOp) (at : ℕ) (left : Box WrittenExpr Global) → frame_of (frame_is.InfixOf op at left) ≡ machine.InfixOf (infix_of op) (expr_of left.value)
 unfolding frame_of
 frame-InfixOf op at left = refl
 
-pub frame-TestOf : (at : ℕ) (test : WrittenExpr) → frame_of (frame_is.TestOf at test) ≡ machine.TestOf (expr_of test)
+pub frame-TestOf : (at : ℕ) (test : Box WrittenExpr Global) → frame_of (frame_is.TestOf at test) ≡ machine.TestOf (expr_of test.value)
 unfolding frame_of
 frame-TestOf at test = refl
 
-pub frame-ColonOf : (at : ℕ) (test : WrittenExpr) (yes' : WrittenExpr) → frame_of (frame_is.ColonOf at test yes') ≡ machine.ColonOf (expr_of test) (expr_of yes')
+pub frame-ColonOf : (at : ℕ) (test : Box WrittenExpr Global) (yes' : Box WrittenExpr Global) → frame_of (frame_is.ColonOf at test yes') ≡ machine.ColonOf (expr_of test.value) (expr_of yes'.value)
 unfolding frame_of
 frame-ColonOf at test yes' = refl
 
@@ -210,7 +216,7 @@ pub frame-AddressFor : (target : Word) → frame_of (frame_is.AddressFor target)
 unfolding frame_of
 frame-AddressFor target = refl
 
-pub frame-UpdateWordTo : (target : Word) (address : WrittenExpr) → frame_of (frame_is.UpdateWordTo target address) ≡ machine.UpdateWordTo (name_of target) (expr_of address)
+pub frame-UpdateWordTo : (target : Word) (address : Box WrittenExpr Global) → frame_of (frame_is.UpdateWordTo target address) ≡ machine.UpdateWordTo (name_of target) (expr_of address.value)
 unfolding frame_of
 frame-UpdateWordTo target address = refl
 
@@ -218,11 +224,11 @@ pub frame-IfTest : (at : ℕ) → frame_of (frame_is.IfTest at) ≡ machine.IfTe
 unfolding frame_of
 frame-IfTest at = refl
 
-pub frame-ThenOf : (at : ℕ) (test : WrittenExpr) → frame_of (frame_is.ThenOf at test) ≡ machine.ThenOf (expr_of test)
+pub frame-ThenOf : (at : ℕ) (test : Box WrittenExpr Global) → frame_of (frame_is.ThenOf at test) ≡ machine.ThenOf (expr_of test.value)
 unfolding frame_of
 frame-ThenOf at test = refl
 
-pub frame-ElseOf : (at : ℕ) (test : WrittenExpr) (yes' : WrittenStatement) → frame_of (frame_is.ElseOf at test yes') ≡ machine.ElseOf (expr_of test) (statement_of yes')
+pub frame-ElseOf : (at : ℕ) (test : Box WrittenExpr Global) (yes' : Box WrittenStatement Global) → frame_of (frame_is.ElseOf at test yes') ≡ machine.ElseOf (expr_of test.value) (statement_of yes'.value)
 unfolding frame_of
 frame-ElseOf at test yes' = refl
 
@@ -234,6 +240,8 @@ pub frame-BodyOf : (clock : Word) → frame_of (frame_is.BodyOf clock) ≡ machi
 unfolding frame_of
 frame-BodyOf clock = refl
 
-pub ruleset stages = (stage-WantModule, stage-WantTitle, stage-WantPorts, stage-WantPort, stage-Declaring, stage-WantHigh, stage-WantColon, stage-WantZero, stage-WantClose, stage-WantName, stage-AfterPort, stage-AfterPorts, stage-AfterName, stage-WantMore, stage-WantFirst, stage-WantMemoryColon, stage-WantLast, stage-WantMemoryClose, stage-WantMemoryEnd, stage-WantItem, stage-WantAssigned, stage-WantEquals, stage-WantAt, stage-WantEdge, stage-WantPosedge, stage-WantClock, stage-WantEdgeEnd, stage-WantStatement, stage-AfterTarget, stage-WantArrow, stage-WantTest, stage-HaveStatement, stage-WantOperand, stage-HaveOperand, stage-AtIndex, stage-AtPlace, stage-WantLow, stage-AtPart, stage-Complete)
+pub ruleset plains = (plain-WantModule, plain-WantTitle, plain-WantPorts, plain-WantPort, plain-Declaring, plain-WantHigh, plain-WantColon, plain-WantZero, plain-WantClose, plain-WantName, plain-AfterPort, plain-AfterPorts, plain-WantFirst, plain-WantMemoryColon, plain-WantLast, plain-WantMemoryClose, plain-WantMemoryEnd, plain-WantItem, plain-WantAssigned, plain-WantEquals, plain-WantAt, plain-WantEdge, plain-WantPosedge, plain-WantClock, plain-WantEdgeEnd, plain-WantStatement, plain-AfterTarget, plain-WantTest, plain-WantOperand, plain-AtIndex, plain-AtPlace, plain-WantLow, plain-AtPart, plain-Complete)
+
+pub ruleset stages = (plain-WantModule, plain-WantTitle, plain-WantPorts, plain-WantPort, plain-Declaring, plain-WantHigh, plain-WantColon, plain-WantZero, plain-WantClose, plain-WantName, plain-AfterPort, plain-AfterPorts, plain-WantFirst, plain-WantMemoryColon, plain-WantLast, plain-WantMemoryClose, plain-WantMemoryEnd, plain-WantItem, plain-WantAssigned, plain-WantEquals, plain-WantAt, plain-WantEdge, plain-WantPosedge, plain-WantClock, plain-WantEdgeEnd, plain-WantStatement, plain-AfterTarget, plain-WantTest, plain-WantOperand, plain-AtIndex, plain-AtPlace, plain-WantLow, plain-AtPart, plain-Complete, stage-Plain, stage-AfterName, stage-WantMore, stage-WantArrow, stage-HaveStatement, stage-HaveOperand)
 
 pub ruleset frames = (frame-InParens, frame-InBraces, frame-InIndex, frame-PrefixOf, frame-InfixOf, frame-TestOf, frame-ColonOf, frame-AssignTo, frame-UpdateTo, frame-AddressFor, frame-UpdateWordTo, frame-IfTest, frame-ThenOf, frame-ElseOf, frame-InBegin, frame-BodyOf)

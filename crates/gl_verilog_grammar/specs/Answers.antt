@@ -45,7 +45,8 @@ pub record IsDeepAt (tokens : List Token) (k : ℕ) : Type 0 where
   pub begins : CanBegin (read ++ deep ∷ [])
   pub place : k ≡ length read
 
--- a fault of these tokens, at this place, which is that of the token with this number; want of memory says nothing of them
+-- a fault of these tokens, at this place, which is that of the token with this number; want of memory says nothing of
+-- them
 abbrev pub IsFaultOf : VerilogFault → List Token → ℕ → ℕ → Type 0
 IsFaultOf fault.Memory tokens place k = Unit {0}
 IsFaultOf (fault.Syntax at) tokens place k = (at ≡ place) × IsSyntaxAt tokens k

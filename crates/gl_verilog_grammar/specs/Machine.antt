@@ -3,7 +3,7 @@
 use Rattle.std.specs.Prelude.{ℕ, Bool, true, false, List, [], ◌∷◌, ◌++◌, Option, Some, None, option_map, option_and_then, if◌then◌else◌}
 use Rattle.gl_verilog.specs.Tokens.{Token, Reserved, Name, Number, Sized, Mark, IfWord, BeginWord, EndWord, ElseWord, OpenParen, CloseParen, OpenBracket, CloseBracket, OpenBrace, Semicolon, Comma, Colon, Equals, Tilde, Exclamation, LessEquals}
 use Rattle.gl_verilog.specs.Written.{BitNot, LogicalNot, InfixOp, looseness, WrittenExpr, Named, Constant, BitOf, PartOf, WrittenStatement, Range, WrittenPort, WrittenItem, MemoryOf, WrittenModule}
-pub use Rattle.gl_verilog_grammar.specs.Stages.{Frame, InParens, InBraces, InIndex, PrefixOf, InfixOf, TestOf, ColonOf, AssignTo, UpdateTo, AddressFor, UpdateWordTo, IfTest, ThenOf, ElseOf, InBegin, BodyOf, Sort, WireSort, RegisterSort, Owner, OfPort, OfItem, Stage, WantModule, WantTitle, WantPorts, WantPort, Declaring, WantHigh, WantColon, WantZero, WantClose, WantName, AfterPort, AfterPorts, AfterName, WantMore, WantFirst, WantMemoryColon, WantLast, WantMemoryClose, WantMemoryEnd, WantItem, WantAssigned, WantEquals, WantAt, WantEdge, WantPosedge, WantClock, WantEdgeEnd, WantStatement, AfterTarget, WantArrow, WantTest, HaveStatement, WantOperand, HaveOperand, AtIndex, AtPlace, WantLow, AtPart, Complete, is_plain, sign_number, word_number, is_mark, is_word, name_in, digits_in, is_zero, expect, either, with_word, item_stage, memory_stage, next_stage, item_of, Open, is_if, if_of, else_at, block_of, Stated, InList, AsBody, Nowhere, stated, binds, applied, parts_of, Role, IsInfix, IsQuestion, IsColon, IsComma, IsBrace, IsParen, IsBracket, IsSemicolon, IsIndex, IsOther, role_of, Closed, AnOperand, ATest, AnAddress, AnItem, AStatement, Further, Unclosed, closed, close_top, alone}
+pub use Rattle.gl_verilog_grammar.specs.Stages.{Frame, InParens, InBraces, InIndex, PrefixOf, InfixOf, TestOf, ColonOf, AssignTo, UpdateTo, AddressFor, UpdateWordTo, IfTest, ThenOf, ElseOf, InBegin, BodyOf, Sort, WireSort, RegisterSort, Owner, OfPort, OfItem, Stage, WantModule, WantTitle, WantPorts, WantPort, Declaring, WantHigh, WantColon, WantZero, WantClose, WantName, AfterPort, AfterPorts, AfterName, WantMore, WantFirst, WantMemoryColon, WantLast, WantMemoryClose, WantMemoryEnd, WantItem, WantAssigned, WantEquals, WantAt, WantEdge, WantPosedge, WantClock, WantEdgeEnd, WantStatement, AfterTarget, WantArrow, WantTest, HaveStatement, WantOperand, HaveOperand, AtIndex, AtPlace, WantLow, AtPart, Complete, sign_number, word_number, is_mark, is_word, name_in, digits_in, is_zero, expect, either, with_word, item_stage, memory_stage, next_stage, item_of, Open, is_if, if_of, else_at, block_of, Stated, InList, AsBody, Nowhere, stated, binds, applied, parts_of, Role, IsInfix, IsQuestion, IsColon, IsComma, IsBrace, IsParen, IsBracket, IsSemicolon, IsIndex, IsOther, role_of, Closed, AnOperand, ATest, AnAddress, AnItem, AStatement, Further, Unclosed, closed, close_top, alone}
 unfoldable pub use Rattle.gl_verilog_grammar.specs.Stages.{at_else, at_end, reduce}
 
 -- what was read: the name, the ports and the items that are complete, the stage, and what is open
@@ -39,7 +39,8 @@ abbrev pub titled : State → List ℕ → Option State
 titled s n = Some (record s { name = n; stage = WantPorts })
 
 abbrev pub named : Owner → Range → List ℕ → State → Option State
-named (OfPort d) range n s = Some (record s { ports = s.ports ++ record { direction = d; range = range; name = n } ∷ []; stage = AfterPort })
+named (OfPort d) range n s =
+    Some (record s { ports = s.ports ++ record { direction = d; range = range; name = n } ∷ []; stage = AfterPort })
 named (OfItem sort) range n s = goto s (AfterName sort range (n ∷ []))
 
 abbrev pub named_in : Owner → Range → State → Token → Option State
@@ -101,7 +102,8 @@ want_statement s (Name n) = goto s (AfterTarget n)
 want_statement s t = at_word s t
 
 abbrev pub after_target : List ℕ → State → Token → Option State
-after_target target s t = if is_mark LessEquals t then push s (UpdateTo target) else push_if (is_mark OpenBracket t) (AddressFor target) s
+after_target target s t =
+    if is_mark LessEquals t then push s (UpdateTo target) else push_if (is_mark OpenBracket t) (AddressFor target) s
 
 abbrev pub after_else : State → Option (List Frame) → Option State
 after_else s None = None
@@ -121,7 +123,8 @@ abbrev pub settled : State → Open WrittenStatement → Token → Option State
 settled s r t = after_statement s r.0 r.1 t
 
 abbrev pub have_statement : WrittenStatement → State → Token → Option State
-have_statement st s t = if is_word ElseWord t then after_else s (at_else s.frames st) else settled s (at_end s.frames st) t
+have_statement st s t =
+    if is_word ElseWord t then after_else s (at_else s.frames st) else settled s (at_end s.frames st) t
 
 -- ---- expressions
 
@@ -189,7 +192,8 @@ close_if true e s = close s e
 close_if false e s = None
 
 abbrev pub at_place : List ℕ → List ℕ → State → Token → Option State
-at_place n place s t = if is_mark Colon t then goto s (WantLow n place) else close_if (is_mark CloseBracket t) (BitOf n place) s
+at_place n place s t =
+    if is_mark Colon t then goto s (WantLow n place) else close_if (is_mark CloseBracket t) (BitOf n place) s
 
 -- ---- one token, and all of them
 

@@ -27,4 +27,6 @@ then_read at (Some x) f = f x
 -- the written module of the tokens, or the first fault from the left, by the number of its token
 unfoldable pub read_from : ℕ → State → Place → Counts → List Token → Result WrittenModule Fault
 read_from at s q n [] = or_fault (finish s) (Syntax at)
-read_from at s q n (t ∷ ts) = then_read at (step s t) (λ s'. if_past (is_past (after n (role_at q t))) at (read_from (at + 1) s' (next q t) (after n (role_at q t)) ts))
+read_from at s q n (t ∷ ts) =
+    then_read at (step s t) (λ s'. if_past (is_past (after n (role_at q t))) at
+    (read_from (at + 1) s' (next q t) (after n (role_at q t)) ts))

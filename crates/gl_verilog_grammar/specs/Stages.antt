@@ -1,4 +1,5 @@
--- Where the reading of a module stands, what is open on a stack, top first, and what a token or an operand makes of both.
+-- Where the reading of a module stands, what is open on a stack, top first, and what a token or an operand makes of
+-- both.
 use Rattle.std.specs.Prelude.{ℕ, ◌+◌, Bool, true, false, List, [], ◌∷◌, ◌++◌, Option, Some, None, option_map, nat_eq, nat_le, if◌then◌else◌}
 use Rattle.std.specs.Str.{bytes_eq}
 use Rattle.gl_verilog.specs.Tokens.{Token, Reserved, Name, Number, Mark, Keyword, ModuleWord, EndModuleWord, InputWord, OutputWord, WireWord, RegWord, AssignWord, AlwaysWord, PosedgeWord, BeginWord, EndWord, IfWord, ElseWord, Sign, OpenParen, CloseParen, OpenBracket, CloseBracket, OpenBrace, CloseBrace, Semicolon, Comma, Colon, Question, At, Equals, Tilde, Exclamation, Star, Plus, Minus, Less, Greater, Ampersand, Caret, Bar, LessEquals, GreaterEquals, EqualsEquals, ExclamationEquals, AmpersandAmpersand, BarBar}
@@ -74,15 +75,6 @@ pub data Stage : Type 0 where
   WantLow : (name high : List ℕ) → Stage
   AtPart : (name high low : List ℕ) → Stage
   Complete : Stage
-
--- whether a stage holds words alone
-abbrev pub is_plain : Stage → Bool
-is_plain (AfterName sort range names) = false
-is_plain (WantMore sort range names) = false
-is_plain (WantArrow target address) = false
-is_plain (HaveStatement s) = false
-is_plain (HaveOperand e) = false
-is_plain stage = true
 
 -- ---- tests of tokens
 
@@ -189,7 +181,9 @@ memory_stage sort range names = None
 abbrev pub next_stage : Stage → Token → Option Stage
 next_stage WantModule t = expect (is_word ModuleWord t) WantTitle
 next_stage WantPorts t = expect (is_mark OpenParen t) WantPort
-next_stage WantPort t = either (expect (is_word InputWord t) (Declaring (OfPort In))) (expect (is_word OutputWord t) (Declaring (OfPort Out)))
+next_stage WantPort t =
+    either (expect (is_word InputWord t) (Declaring (OfPort In)))
+    (expect (is_word OutputWord t) (Declaring (OfPort Out)))
 next_stage (WantHigh o) t = option_map (WantColon o) (digits_in t)
 next_stage (WantColon o high) t = expect (is_mark Colon t) (WantZero o high)
 next_stage (WantZero o high) t = expect (is_zero t) (WantClose o high)

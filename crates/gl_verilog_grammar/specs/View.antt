@@ -12,6 +12,8 @@ use Rattle.gl_verilog_grammar.specs.declared.stage.Sort.{Sort}
 use Rattle.gl_verilog_grammar.specs.declared.stage.Sort.TheVariants as sort_is
 use Rattle.gl_verilog_grammar.specs.declared.stage.Owner.{Owner}
 use Rattle.gl_verilog_grammar.specs.declared.stage.Owner.TheVariants as owner_is
+use Rattle.gl_verilog_grammar.specs.declared.stage.Plain.{Plain}
+use Rattle.gl_verilog_grammar.specs.declared.stage.Plain.TheVariants as plain_is
 use Rattle.gl_verilog_grammar.specs.declared.stage.Stage.{Stage}
 use Rattle.gl_verilog_grammar.specs.declared.stage.Stage.TheVariants as stage_is
 use Rattle.gl_verilog_grammar.specs.declared.stage.Role.{Role}
@@ -36,32 +38,34 @@ frame_of frame_is.InParens = machine.InParens
 frame_of (frame_is.InBraces at parts) = machine.InBraces (map expr_of parts.items)
 frame_of (frame_is.InIndex name) = machine.InIndex (name_of name)
 frame_of (frame_is.PrefixOf op at) = machine.PrefixOf (prefix_of op)
-frame_of (frame_is.InfixOf op at left) = machine.InfixOf (infix_of op) (expr_of left)
-frame_of (frame_is.TestOf at test) = machine.TestOf (expr_of test)
-frame_of (frame_is.ColonOf at test yes') = machine.ColonOf (expr_of test) (expr_of yes')
+frame_of (frame_is.InfixOf op at left) = machine.InfixOf (infix_of op) (expr_of left.value)
+frame_of (frame_is.TestOf at test) = machine.TestOf (expr_of test.value)
+frame_of (frame_is.ColonOf at test yes') = machine.ColonOf (expr_of test.value) (expr_of yes'.value)
 frame_of (frame_is.AssignTo target) = machine.AssignTo (name_of target)
 frame_of (frame_is.UpdateTo target) = machine.UpdateTo (name_of target)
 frame_of (frame_is.AddressFor target) = machine.AddressFor (name_of target)
-frame_of (frame_is.UpdateWordTo target address) = machine.UpdateWordTo (name_of target) (expr_of address)
+frame_of (frame_is.UpdateWordTo target address) = machine.UpdateWordTo (name_of target) (expr_of address.value)
 frame_of (frame_is.IfTest at) = machine.IfTest
-frame_of (frame_is.ThenOf at test) = machine.ThenOf (expr_of test)
-frame_of (frame_is.ElseOf at test yes') = machine.ElseOf (expr_of test) (statement_of yes')
+frame_of (frame_is.ThenOf at test) = machine.ThenOf (expr_of test.value)
+frame_of (frame_is.ElseOf at test yes') = machine.ElseOf (expr_of test.value) (statement_of yes'.value)
 frame_of (frame_is.InBegin done) = machine.InBegin (map statement_of done.items)
 frame_of (frame_is.BodyOf clock) = machine.BodyOf (name_of clock)
 
 unfoldable pub stated_of : Stated → machine.Stated
 stated_of (stated_is.InList done) = machine.InList (map statement_of done.items)
-stated_of (stated_is.AsBody item) = machine.AsBody (item_of item)
+stated_of (stated_is.AsBody clock body) = machine.AsBody (written.Always (name_of clock) (statement_of body.value))
 stated_of stated_is.Nowhere = machine.Nowhere
 
 unfoldable pub closed_of : Closed → machine.Closed
-closed_of (closed_is.AnOperand operand) = machine.AnOperand (expr_of operand)
-closed_of (closed_is.ATest at test) = machine.ATest (expr_of test)
-closed_of (closed_is.AnAddress target address) = machine.AnAddress (name_of target) (expr_of address)
-closed_of (closed_is.AnAssignment target value) = machine.AnItem (written.Assign (name_of target) (expr_of value))
-closed_of (closed_is.AnUpdate target value) = machine.AStatement (written.Update (name_of target) (expr_of value))
-closed_of (closed_is.AWordUpdate target address value) = machine.AStatement (written.UpdateWord (name_of target) (expr_of address) (expr_of value))
-closed_of (closed_is.AnotherPart at test yes') = machine.Further (machine.ColonOf (expr_of test) (expr_of yes'))
+closed_of (closed_is.AnOperand operand) = machine.AnOperand (expr_of operand.value)
+closed_of (closed_is.ATest at test) = machine.ATest (expr_of test.value)
+closed_of (closed_is.AnAddress target address) = machine.AnAddress (name_of target) (expr_of address.value)
+closed_of (closed_is.AnAssignment target value) = machine.AnItem (written.Assign (name_of target) (expr_of value.value))
+closed_of (closed_is.AnUpdate target value) = machine.AStatement (written.Update (name_of target) (expr_of value.value))
+closed_of (closed_is.AWordUpdate target address value) =
+    machine.AStatement (written.UpdateWord (name_of target) (expr_of address.value) (expr_of value.value))
+closed_of (closed_is.AnotherPart at test yes') =
+    machine.Further (machine.ColonOf (expr_of test.value) (expr_of yes'.value))
 closed_of (closed_is.FurtherParts at parts) = machine.Further (machine.InBraces (map expr_of parts.items))
 closed_of closed_is.Unclosed = machine.Unclosed
 
@@ -76,46 +80,51 @@ abbrev pub owner_of : Owner → machine.Owner
 owner_of (owner_is.OfPort direction) = machine.OfPort (direction_of direction)
 owner_of (owner_is.OfItem sort) = machine.OfItem (sort_of sort)
 
+unfoldable pub plain_of : Plain → machine.Stage
+plain_of plain_is.WantModule = machine.WantModule
+plain_of plain_is.WantTitle = machine.WantTitle
+plain_of plain_is.WantPorts = machine.WantPorts
+plain_of plain_is.WantPort = machine.WantPort
+plain_of (plain_is.Declaring owner) = machine.Declaring (owner_of owner)
+plain_of (plain_is.WantHigh owner) = machine.WantHigh (owner_of owner)
+plain_of (plain_is.WantColon owner high) = machine.WantColon (owner_of owner) (name_of high)
+plain_of (plain_is.WantZero owner high) = machine.WantZero (owner_of owner) (name_of high)
+plain_of (plain_is.WantClose owner high) = machine.WantClose (owner_of owner) (name_of high)
+plain_of (plain_is.WantName owner range) = machine.WantName (owner_of owner) (range_of range)
+plain_of plain_is.AfterPort = machine.AfterPort
+plain_of plain_is.AfterPorts = machine.AfterPorts
+plain_of (plain_is.WantFirst range name) = machine.WantFirst (range_of range) (name_of name)
+plain_of (plain_is.WantMemoryColon range name) = machine.WantMemoryColon (range_of range) (name_of name)
+plain_of (plain_is.WantLast range name) = machine.WantLast (range_of range) (name_of name)
+plain_of (plain_is.WantMemoryClose range name last) =
+    machine.WantMemoryClose (range_of range) (name_of name) (name_of last)
+plain_of (plain_is.WantMemoryEnd range name last) = machine.WantMemoryEnd (range_of range) (name_of name) (name_of last)
+plain_of plain_is.WantItem = machine.WantItem
+plain_of plain_is.WantAssigned = machine.WantAssigned
+plain_of (plain_is.WantEquals target) = machine.WantEquals (name_of target)
+plain_of plain_is.WantAt = machine.WantAt
+plain_of plain_is.WantEdge = machine.WantEdge
+plain_of plain_is.WantPosedge = machine.WantPosedge
+plain_of plain_is.WantClock = machine.WantClock
+plain_of (plain_is.WantEdgeEnd clock) = machine.WantEdgeEnd (name_of clock)
+plain_of plain_is.WantStatement = machine.WantStatement
+plain_of (plain_is.AfterTarget target) = machine.AfterTarget (name_of target)
+plain_of (plain_is.WantTest at) = machine.WantTest
+plain_of plain_is.WantOperand = machine.WantOperand
+plain_of (plain_is.AtIndex name) = machine.AtIndex (name_of name)
+plain_of (plain_is.AtPlace name place) = machine.AtPlace (name_of name) (name_of place)
+plain_of (plain_is.WantLow name high) = machine.WantLow (name_of name) (name_of high)
+plain_of (plain_is.AtPart name high low) = machine.AtPart (name_of name) (name_of high) (name_of low)
+plain_of plain_is.Complete = machine.Complete
+
 unfoldable pub stage_of : Stage → machine.Stage
-stage_of stage_is.WantModule = machine.WantModule
-stage_of stage_is.WantTitle = machine.WantTitle
-stage_of stage_is.WantPorts = machine.WantPorts
-stage_of stage_is.WantPort = machine.WantPort
-stage_of (stage_is.Declaring owner) = machine.Declaring (owner_of owner)
-stage_of (stage_is.WantHigh owner) = machine.WantHigh (owner_of owner)
-stage_of (stage_is.WantColon owner high) = machine.WantColon (owner_of owner) (name_of high)
-stage_of (stage_is.WantZero owner high) = machine.WantZero (owner_of owner) (name_of high)
-stage_of (stage_is.WantClose owner high) = machine.WantClose (owner_of owner) (name_of high)
-stage_of (stage_is.WantName owner range) = machine.WantName (owner_of owner) (range_of range)
-stage_of stage_is.AfterPort = machine.AfterPort
-stage_of stage_is.AfterPorts = machine.AfterPorts
-stage_of (stage_is.AfterName sort range names) = machine.AfterName (sort_of sort) (range_of range) (names_of names.items)
+stage_of (stage_is.Plain plain) = plain_of plain
+stage_of (stage_is.AfterName sort range names) =
+    machine.AfterName (sort_of sort) (range_of range) (names_of names.items)
 stage_of (stage_is.WantMore sort range names) = machine.WantMore (sort_of sort) (range_of range) (names_of names.items)
-stage_of (stage_is.WantFirst range name) = machine.WantFirst (range_of range) (name_of name)
-stage_of (stage_is.WantMemoryColon range name) = machine.WantMemoryColon (range_of range) (name_of name)
-stage_of (stage_is.WantLast range name) = machine.WantLast (range_of range) (name_of name)
-stage_of (stage_is.WantMemoryClose range name last) = machine.WantMemoryClose (range_of range) (name_of name) (name_of last)
-stage_of (stage_is.WantMemoryEnd range name last) = machine.WantMemoryEnd (range_of range) (name_of name) (name_of last)
-stage_of stage_is.WantItem = machine.WantItem
-stage_of stage_is.WantAssigned = machine.WantAssigned
-stage_of (stage_is.WantEquals target) = machine.WantEquals (name_of target)
-stage_of stage_is.WantAt = machine.WantAt
-stage_of stage_is.WantEdge = machine.WantEdge
-stage_of stage_is.WantPosedge = machine.WantPosedge
-stage_of stage_is.WantClock = machine.WantClock
-stage_of (stage_is.WantEdgeEnd clock) = machine.WantEdgeEnd (name_of clock)
-stage_of stage_is.WantStatement = machine.WantStatement
-stage_of (stage_is.AfterTarget target) = machine.AfterTarget (name_of target)
-stage_of (stage_is.WantArrow target address) = machine.WantArrow (name_of target) (expr_of address)
-stage_of (stage_is.WantTest at) = machine.WantTest
-stage_of (stage_is.HaveStatement statement) = machine.HaveStatement (statement_of statement)
-stage_of stage_is.WantOperand = machine.WantOperand
-stage_of (stage_is.HaveOperand operand) = machine.HaveOperand (expr_of operand)
-stage_of (stage_is.AtIndex name) = machine.AtIndex (name_of name)
-stage_of (stage_is.AtPlace name place) = machine.AtPlace (name_of name) (name_of place)
-stage_of (stage_is.WantLow name high) = machine.WantLow (name_of name) (name_of high)
-stage_of (stage_is.AtPart name high low) = machine.AtPart (name_of name) (name_of high) (name_of low)
-stage_of stage_is.Complete = machine.Complete
+stage_of (stage_is.WantArrow target address) = machine.WantArrow (name_of target) (expr_of address.value)
+stage_of (stage_is.HaveStatement statement) = machine.HaveStatement (statement_of statement.value)
+stage_of (stage_is.HaveOperand operand) = machine.HaveOperand (expr_of operand.value)
 
 unfoldable pub view : Reading → machine.State
 view r = record {

@@ -6,9 +6,8 @@ ghost use Rattle.gl_verilog_syntax.specs.View.{expr_of, name_of};
 ghost use Rattle.gl_verilog_grammar.specs.View.{frame_of, frames_of, role_is, closed_of};
 
 use crate::frames::{Frame, reduce};
-use crate::stacks::with_last;
+use crate::stacks::{boxed, with_last};
 use crate::stage::Role;
-use gl_bits::boxes::{OneBox, one_box};
 use gl_verilog_syntax::{Word, WrittenExpr};
 use std::alloc::{AllocError, Global};
 use std::mem;
@@ -18,20 +17,20 @@ use std::mem;
 /// other part of a conditional, further parts.
 #[derive(Drop)]
 pub enum Closed<'a> {
-    AnOperand(WrittenExpr<'a>),
-    ATest(usize, WrittenExpr<'a>),
-    AnAddress(Word<'a>, WrittenExpr<'a>),
-    AnAssignment(Word<'a>, WrittenExpr<'a>),
-    AnUpdate(Word<'a>, WrittenExpr<'a>),
+    AnOperand(Box<WrittenExpr<'a>>),
+    ATest(usize, Box<WrittenExpr<'a>>),
+    AnAddress(Word<'a>, Box<WrittenExpr<'a>>),
+    AnAssignment(Word<'a>, Box<WrittenExpr<'a>>),
+    AnUpdate(Word<'a>, Box<WrittenExpr<'a>>),
     AWordUpdate {
         target: Word<'a>,
-        address: WrittenExpr<'a>,
-        value: WrittenExpr<'a>,
+        address: Box<WrittenExpr<'a>>,
+        value: Box<WrittenExpr<'a>>,
     },
     AnotherPart {
         at: usize,
-        test: WrittenExpr<'a>,
-        yes: WrittenExpr<'a>,
+        test: Box<WrittenExpr<'a>>,
+        yes: Box<WrittenExpr<'a>>,
     },
     FurtherParts {
         at: usize,
@@ -44,45 +43,47 @@ pub enum Closed<'a> {
 fn further<'a>(
     at: usize,
     parts: Vec<WrittenExpr<'a>>,
-    operand: WrittenExpr<'a>,
+    operand: Box<WrittenExpr<'a>>,
 ) -> Result<Closed<'a>, AllocError>
     ensures { IfOk result (λ c. closed_of c ≡ machine.closed machine.IsComma
-        (machine.InBraces (map expr_of parts.entry.items)) (expr_of operand.entry)) }
+        (machine.InBraces (map expr_of parts.entry.items)) (expr_of operand.entry.value)) }
 {
-    let parts = with_last(parts, operand)?;
+    let parts = with_last(parts, Box::into_inner(operand))?;
     Ok(Closed::FurtherParts { at, parts })
 }
 
 #[tactic(auto, using(gl_verilog_syntax::proofs::Views::exprs, crate::proofs::Stack::pushes), unfolding(crate::specs::View::closed_of))]
 fn whole<'a>(
+    alloc: Global,
     at: usize,
     parts: Vec<WrittenExpr<'a>>,
-    operand: WrittenExpr<'a>,
+    operand: Box<WrittenExpr<'a>>,
 ) -> Result<Closed<'a>, AllocError>
     ensures { IfOk result (λ c. closed_of c ≡ machine.closed machine.IsBrace
-        (machine.InBraces (map expr_of parts.entry.items)) (expr_of operand.entry)) }
+        (machine.InBraces (map expr_of parts.entry.items)) (expr_of operand.entry.value)) }
 {
-    let parts = with_last(parts, operand)?;
-    Ok(Closed::AnOperand(WrittenExpr::Braces { at, parts }))
+    let parts = with_last(parts, Box::into_inner(operand))?;
+    let braces = boxed(alloc, WrittenExpr::Braces { at, parts })?;
+    Ok(Closed::AnOperand(braces))
 }
 
 #[tactic(auto, using(gl_verilog_syntax::proofs::Views::exprs), unfolding(crate::specs::View::closed_of))]
-fn in_parens<'a>(alloc: Global, operand: WrittenExpr<'a>) -> Result<Closed<'a>, AllocError>
+fn in_parens<'a>(alloc: Global, operand: Box<WrittenExpr<'a>>) -> Result<Closed<'a>, AllocError>
     ensures { IfOk result (λ c. closed_of c ≡ machine.closed machine.IsParen machine.InParens
-        (expr_of operand.entry)) }
+        (expr_of operand.entry.value)) }
 {
-    let OneBox { kept: _, boxed } = one_box(alloc, (), operand)?;
-    Ok(Closed::AnOperand(WrittenExpr::Parens(boxed)))
+    let parens = boxed(alloc, WrittenExpr::Parens(operand))?;
+    Ok(Closed::AnOperand(parens))
 }
 
 #[tactic(auto, using(gl_verilog_syntax::proofs::Views::exprs), unfolding(crate::specs::View::frame_of, crate::specs::View::closed_of))]
 fn at_paren<'a>(
     alloc: Global,
     frame: &Frame<'a>,
-    operand: WrittenExpr<'a>,
+    operand: Box<WrittenExpr<'a>>,
 ) -> Result<Closed<'a>, AllocError>
     ensures { IfOk result (λ c. closed_of c ≡ machine.closed machine.IsParen (frame_of frame.now)
-        (expr_of operand.entry)) }
+        (expr_of operand.entry.value)) }
 {
     match frame {
         Frame::InParens => in_parens(alloc, operand),
@@ -98,26 +99,24 @@ fn at_paren<'a>(
 fn word_of<'a>(
     alloc: Global,
     name: Word<'a>,
-    operand: WrittenExpr<'a>,
+    operand: Box<WrittenExpr<'a>>,
 ) -> Result<Closed<'a>, AllocError>
     ensures { IfOk result (λ c. closed_of c ≡ machine.closed machine.IsBracket
-        (machine.InIndex (name_of name.entry)) (expr_of operand.entry)) }
+        (machine.InIndex (name_of name.entry)) (expr_of operand.entry.value)) }
 {
-    let OneBox { kept, boxed } = one_box(alloc, name, operand)?;
-    Ok(Closed::AnOperand(WrittenExpr::WordOf {
-        name: kept,
-        address: boxed,
-    }))
+    let address = operand;
+    let word = boxed(alloc, WrittenExpr::WordOf { name, address })?;
+    Ok(Closed::AnOperand(word))
 }
 
 #[tactic(auto, using(gl_verilog_syntax::proofs::Views::exprs), unfolding(crate::specs::View::frame_of, crate::specs::View::closed_of))]
 fn at_bracket<'a>(
     alloc: Global,
     frame: &Frame<'a>,
-    operand: WrittenExpr<'a>,
+    operand: Box<WrittenExpr<'a>>,
 ) -> Result<Closed<'a>, AllocError>
     ensures { IfOk result (λ c. closed_of c ≡ machine.closed machine.IsBracket
-        (frame_of frame.now) (expr_of operand.entry)) }
+        (frame_of frame.now) (expr_of operand.entry.value)) }
 {
     match frame {
         Frame::InIndex(name) => word_of(alloc, *name, operand),
@@ -130,10 +129,10 @@ fn at_bracket<'a>(
 }
 
 #[tactic(auto, unfolding(crate::specs::View::frame_of, crate::specs::View::closed_of))]
-fn at_semicolon<'a>(frame: &Frame<'a>, operand: WrittenExpr<'a>) -> Closed<'a>
+fn at_semicolon<'a>(frame: &Frame<'a>, operand: Box<WrittenExpr<'a>>) -> Closed<'a>
     requires { machine.is_bare (frame_of frame.now) ≡ true }
     ensures { closed_of result ≡ machine.closed machine.IsSemicolon (frame_of frame.now)
-        (expr_of operand.entry) }
+        (expr_of operand.entry.value) }
 {
     match frame {
         Frame::AssignTo(target) => Closed::AnAssignment(*target, operand),
@@ -147,17 +146,18 @@ fn at_semicolon<'a>(frame: &Frame<'a>, operand: WrittenExpr<'a>) -> Closed<'a>
 
 #[tactic(auto, unfolding(crate::specs::View::closed_of))]
 fn in_braces<'a>(
+    alloc: Global,
     role: Role,
     at: usize,
     parts: Vec<WrittenExpr<'a>>,
-    operand: WrittenExpr<'a>,
+    operand: Box<WrittenExpr<'a>>,
 ) -> Result<Closed<'a>, AllocError>
     ensures { IfOk result (λ c. closed_of c ≡ machine.closed (role_is role)
-        (machine.InBraces (map expr_of parts.entry.items)) (expr_of operand.entry)) }
+        (machine.InBraces (map expr_of parts.entry.items)) (expr_of operand.entry.value)) }
 {
     match role {
         Role::IsComma => further(at, parts, operand),
-        Role::IsBrace => whole(at, parts, operand),
+        Role::IsBrace => whole(alloc, at, parts, operand),
         _ => {
             mem::drop(parts);
             mem::drop(operand);
@@ -170,11 +170,11 @@ fn in_braces<'a>(
 fn in_question<'a>(
     role: Role,
     at: usize,
-    test: WrittenExpr<'a>,
-    operand: WrittenExpr<'a>,
+    test: Box<WrittenExpr<'a>>,
+    operand: Box<WrittenExpr<'a>>,
 ) -> Closed<'a>
     ensures { closed_of result ≡ machine.closed (role_is role)
-        (machine.TestOf (expr_of test.entry)) (expr_of operand.entry) }
+        (machine.TestOf (expr_of test.entry.value)) (expr_of operand.entry.value) }
 {
     match role {
         Role::IsColon => Closed::AnotherPart {
@@ -194,11 +194,11 @@ fn in_question<'a>(
 fn in_word_update<'a>(
     role: Role,
     target: Word<'a>,
-    address: WrittenExpr<'a>,
-    operand: WrittenExpr<'a>,
+    address: Box<WrittenExpr<'a>>,
+    operand: Box<WrittenExpr<'a>>,
 ) -> Closed<'a>
     ensures { closed_of result ≡ machine.closed (role_is role) (machine.UpdateWordTo
-        (name_of target.entry) (expr_of address.entry)) (expr_of operand.entry) }
+        (name_of target.entry) (expr_of address.entry.value)) (expr_of operand.entry.value) }
 {
     match role {
         Role::IsSemicolon => Closed::AWordUpdate {
@@ -220,11 +220,11 @@ fn in_bare<'a>(
     alloc: Global,
     role: Role,
     frame: &Frame<'a>,
-    operand: WrittenExpr<'a>,
+    operand: Box<WrittenExpr<'a>>,
 ) -> Result<Closed<'a>, AllocError>
     requires { machine.is_bare (frame_of frame.now) ≡ true }
     ensures { IfOk result (λ c. closed_of c ≡ machine.closed (role_is role) (frame_of frame.now)
-        (expr_of operand.entry)) }
+        (expr_of operand.entry.value)) }
 {
     match role {
         Role::IsParen => at_paren(alloc, frame, operand),
@@ -243,13 +243,13 @@ fn close_frame<'a>(
     alloc: Global,
     role: Role,
     frame: Frame<'a>,
-    operand: WrittenExpr<'a>,
+    operand: Box<WrittenExpr<'a>>,
 ) -> Result<Closed<'a>, AllocError>
     ensures { IfOk result (λ c. closed_of c ≡ machine.closed (role_is role) (frame_of frame.entry)
-        (expr_of operand.entry)) }
+        (expr_of operand.entry.value)) }
 {
     match frame {
-        Frame::InBraces { at, parts } => in_braces(role, at, parts, operand),
+        Frame::InBraces { at, parts } => in_braces(alloc, role, at, parts, operand),
         Frame::TestOf { at, test } => Ok(in_question(role, at, test, operand)),
         Frame::UpdateWordTo { target, address } => Ok(in_word_update(
             role, target, address, operand,
@@ -268,10 +268,10 @@ pub(crate) fn close_top<'a>(
     alloc: Global,
     frames: &mut Vec<Frame<'a>>,
     role: Role,
-    operand: WrittenExpr<'a>,
+    operand: Box<WrittenExpr<'a>>,
 ) -> Result<Closed<'a>, AllocError>
     ensures { IfOk result (λ c. machine.close_top (role_is role)
-        (machine.reduce 11 (frames_of frames.old.items) (expr_of operand.entry))
+        (machine.reduce 11 (frames_of frames.old.items) (expr_of operand.entry.value))
         ≡ (frames_of frames.new.items, closed_of c)) }
 {
     let operand = reduce(alloc, frames, operand, 11)?;

@@ -1,15 +1,16 @@
 //! Reading expressions.
-ghost use Rattle.gl_verilog.specs.Written.{looseness};
+ghost use Rattle.std.specs.Prelude.{Some};
+ghost use Rattle.gl_verilog.specs.Written.{looseness, Assign, Update, UpdateWord};
 ghost use Rattle.gl_verilog_grammar.specs.Machine as machine;
-ghost use Rattle.gl_verilog_syntax.specs.View.{token_of, infix_of, expr_of, statement_of, name_of};
+ghost use Rattle.gl_verilog_syntax.specs.View.{token_of, infix_of, expr_of, name_of};
 ghost use Rattle.gl_verilog_grammar.specs.View.{frames_of, view, closed_of, role_is, Moves};
 
 use crate::closing::{Closed, alone, close_top};
 use crate::frames::{Frame, looseness_of, reduce};
 use crate::matching::is_mark;
 use crate::reading::Reading;
-use crate::stacks::put;
-use crate::stage::{Role, Stage, role_of};
+use crate::stacks::{boxed, put};
+use crate::stage::{Plain, Role, Stage, role_of};
 use gl_verilog_syntax::{
     InfixOp, PrefixOp, Sign, Token, Word, WrittenExpr, WrittenItem, WrittenStatement,
 };
@@ -47,16 +48,16 @@ impl<'a> Reading<'a> {
             (view self.new) }
     {
         match token {
-            Token::Name(name) => self.goto(Stage::HaveOperand(WrittenExpr::Named(name))),
+            Token::Name(name) => self.close_leaf(WrittenExpr::Named(name)),
             Token::Sized {
                 size,
                 radix,
                 digits,
-            } => self.goto(Stage::HaveOperand(WrittenExpr::Constant {
+            } => self.close_leaf(WrittenExpr::Constant {
                 size,
                 radix,
                 digits,
-            })),
+            }),
             _ => self.at_opening(at, token),
         }
     }
@@ -65,21 +66,21 @@ impl<'a> Reading<'a> {
     fn at_infix(
         &mut self,
         op: InfixOp,
-        operand: WrittenExpr<'a>,
+        operand: Box<WrittenExpr<'a>>,
         at: usize,
     ) -> Result<bool, AllocError>
         ensures { Moves result (machine.at_infix (view self.old) (infix_of op)
             (machine.reduce (looseness (infix_of op)) (frames_of self.old.frames.items)
-            (expr_of operand.entry))) (view self.new) }
+            (expr_of operand.entry.value))) (view self.new) }
     {
         let left = reduce(self.alloc, &mut self.frames, operand, looseness_of(op))?;
         self.push(Frame::InfixOf { op, at, left })
     }
 
     #[tactic(auto, using(crate::proofs::Views::frames), unfolding(crate::specs::View::view))]
-    fn at_question(&mut self, operand: WrittenExpr<'a>, at: usize) -> Result<bool, AllocError>
+    fn at_question(&mut self, operand: Box<WrittenExpr<'a>>, at: usize) -> Result<bool, AllocError>
         ensures { Moves result (machine.at_question (view self.old)
-            (machine.reduce 10 (frames_of self.old.frames.items) (expr_of operand.entry)))
+            (machine.reduce 10 (frames_of self.old.frames.items) (expr_of operand.entry.value)))
             (view self.new) }
     {
         let test = reduce(self.alloc, &mut self.frames, operand, 10)?;
@@ -88,25 +89,63 @@ impl<'a> Reading<'a> {
 
     // The condition of an `if` is complete.
     #[tactic(auto, using(crate::proofs::Views::stages, crate::proofs::Views::frames, crate::proofs::Stack::pushes), unfolding(crate::specs::View::view))]
-    fn end_test(&mut self, at: usize, test: WrittenExpr<'a>) -> Result<bool, AllocError>
+    fn end_test(&mut self, at: usize, test: Box<WrittenExpr<'a>>) -> Result<bool, AllocError>
         ensures { Moves result (machine.after_close (view self.old)
-            (frames_of self.old.frames.items, machine.ATest (expr_of test.entry))) (view self.new) }
+            (frames_of self.old.frames.items, machine.ATest (expr_of test.entry.value)))
+            (view self.new) }
     {
         put(&mut self.frames, Frame::ThenOf { at, test })?;
-        self.goto(Stage::WantStatement)
+        self.at(Plain::WantStatement)
     }
 
-    // A statement that takes a value is complete.
-    #[tactic(auto, using(crate::proofs::Views::stages))]
-    fn update(&mut self, statement: WrittenStatement<'a>) -> Result<bool, AllocError>
-        ensures { Moves result (machine.goto (view self.old)
-            (machine.HaveStatement (statement_of statement.entry))) (view self.new) }
+    // An assignment is complete.
+    #[tactic(auto, using(gl_verilog_syntax::proofs::Views::items))]
+    fn assign(&mut self, target: Word<'a>, value: Box<WrittenExpr<'a>>) -> Result<bool, AllocError>
+        ensures { Moves result (Some (machine.with_item (view self.old)
+            (Assign (name_of target.entry) (expr_of value.entry.value)))) (view self.new) }
     {
+        let value = Box::into_inner(value);
+        self.put_item(WrittenItem::Assign { target, value })
+    }
+
+    // A register takes a value.
+    #[tactic(auto, using(crate::proofs::Views::stages, gl_verilog_syntax::proofs::Views::exprs))]
+    fn update(&mut self, target: Word<'a>, value: Box<WrittenExpr<'a>>) -> Result<bool, AllocError>
+        ensures { Moves result (machine.goto (view self.old) (machine.HaveStatement
+            (Update (name_of target.entry) (expr_of value.entry.value)))) (view self.new) }
+    {
+        let value = Box::into_inner(value);
+        let statement = boxed(self.alloc, WrittenStatement::Update { target, value })?;
+        self.goto(Stage::HaveStatement(statement))
+    }
+
+    // A word of a memory takes a value.
+    #[tactic(auto, using(crate::proofs::Views::stages, gl_verilog_syntax::proofs::Views::exprs))]
+    fn update_word(
+        &mut self,
+        target: Word<'a>,
+        address: Box<WrittenExpr<'a>>,
+        value: Box<WrittenExpr<'a>>,
+    ) -> Result<bool, AllocError>
+        ensures { Moves result (machine.goto (view self.old) (machine.HaveStatement
+            (UpdateWord (name_of target.entry) (expr_of address.entry.value)
+            (expr_of value.entry.value)))) (view self.new) }
+    {
+        let address = Box::into_inner(address);
+        let value = Box::into_inner(value);
+        let statement = boxed(
+            self.alloc,
+            WrittenStatement::UpdateWord {
+                target,
+                address,
+                value,
+            },
+        )?;
         self.goto(Stage::HaveStatement(statement))
     }
 
     // What was open on top is closed.
-    #[tactic(auto, using(crate::proofs::Views::stages, crate::proofs::Views::frames, gl_verilog_syntax::proofs::Views::items, gl_verilog_syntax::proofs::Views::exprs), unfolding(crate::specs::View::view, crate::specs::View::closed_of))]
+    #[tactic(auto, using(crate::proofs::Views::stages, crate::proofs::Views::frames), unfolding(crate::specs::View::view, crate::specs::View::closed_of))]
     fn after_close(&mut self, closed: Closed<'a>) -> Result<bool, AllocError>
         ensures { Moves result (machine.after_close (view self.old)
             (frames_of self.old.frames.items, closed_of closed.entry)) (view self.new) }
@@ -115,23 +154,13 @@ impl<'a> Reading<'a> {
             Closed::AnOperand(operand) => self.close(operand),
             Closed::ATest(at, test) => self.end_test(at, test),
             Closed::AnAddress(target, address) => self.goto(Stage::WantArrow(target, address)),
-            Closed::AnAssignment(target, value) => self.put_item(WrittenItem::Assign {
-                target,
-                value,
-            }),
-            Closed::AnUpdate(target, value) => self.update(WrittenStatement::Update {
-                target,
-                value,
-            }),
+            Closed::AnAssignment(target, value) => self.assign(target, value),
+            Closed::AnUpdate(target, value) => self.update(target, value),
             Closed::AWordUpdate {
                 target,
                 address,
                 value,
-            } => self.update(WrittenStatement::UpdateWord {
-                target,
-                address,
-                value,
-            }),
+            } => self.update_word(target, address, value),
             Closed::AnotherPart { at, test, yes } => self.push(Frame::ColonOf { at, test, yes }),
             Closed::FurtherParts { at, parts } => self.push(Frame::InBraces { at, parts }),
             Closed::Unclosed => {
@@ -143,10 +172,10 @@ impl<'a> Reading<'a> {
 
     // A sign behind a whole expression.
     #[tactic(auto, unfolding(crate::specs::View::view))]
-    fn at_close(&mut self, role: Role, operand: WrittenExpr<'a>) -> Result<bool, AllocError>
+    fn at_close(&mut self, role: Role, operand: Box<WrittenExpr<'a>>) -> Result<bool, AllocError>
         ensures { Moves result (machine.after_close (view self.old)
             (machine.close_top (role_is role)
-            (machine.reduce 11 (frames_of self.old.frames.items) (expr_of operand.entry))))
+            (machine.reduce 11 (frames_of self.old.frames.items) (expr_of operand.entry.value))))
             (view self.new) }
     {
         let closed = close_top(self.alloc, &mut self.frames, role, operand)?;
@@ -154,14 +183,14 @@ impl<'a> Reading<'a> {
     }
 
     #[tactic(auto, using(crate::proofs::Views::stages))]
-    fn indexed(&mut self, operand: WrittenExpr<'a>) -> Result<bool, AllocError>
-        ensures { Moves result (machine.indexed (view self.old) (expr_of operand.entry))
+    fn indexed(&mut self, operand: Box<WrittenExpr<'a>>) -> Result<bool, AllocError>
+        ensures { Moves result (machine.indexed (view self.old) (expr_of operand.entry.value))
             (view self.new) }
     {
-        let name = alone(&operand);
+        let name = alone(operand.as_ref());
         mem::drop(operand);
         match name {
-            Some(name) => { self.goto(Stage::AtIndex(name)) }
+            Some(name) => { self.at(Plain::AtIndex(name)) }
             None => Ok(false),
         }
     }
@@ -169,11 +198,11 @@ impl<'a> Reading<'a> {
     #[tactic(auto, unfolding(crate::specs::View::view))]
     fn have_operand(
         &mut self,
-        operand: WrittenExpr<'a>,
+        operand: Box<WrittenExpr<'a>>,
         at: usize,
         role: Role,
     ) -> Result<bool, AllocError>
-        ensures { Moves result (machine.have_operand_by (role_is role) (expr_of operand.entry)
+        ensures { Moves result (machine.have_operand_by (role_is role) (expr_of operand.entry.value)
             (view self.old)) (view self.new) }
     {
         match role {
@@ -195,11 +224,11 @@ impl<'a> Reading<'a> {
 
     pub(crate) fn have_token(
         &mut self,
-        operand: WrittenExpr<'a>,
+        operand: Box<WrittenExpr<'a>>,
         at: usize,
         token: Token<'a>,
     ) -> Result<bool, AllocError>
-        ensures { Moves result (machine.have_operand (expr_of operand.entry) (view self.old)
+        ensures { Moves result (machine.have_operand (expr_of operand.entry.value) (view self.old)
             (token_of token.entry)) (view self.new) }
     {
         match token {
@@ -223,7 +252,7 @@ impl<'a> Reading<'a> {
             (token_of token.entry)) (view self.new) }
     {
         match token {
-            Token::Number(place) => self.goto(Stage::AtPlace(name, place)),
+            Token::Number(place) => self.at(Plain::AtPlace(name, place)),
             _ => {
                 put(&mut self.frames, Frame::InIndex(name))?;
                 self.want_operand(at, token)
@@ -242,9 +271,11 @@ impl<'a> Reading<'a> {
             (view self.old) (token_of token.entry)) (view self.new) }
     {
         if is_mark(token, Sign::Colon) {
-            return self.goto(Stage::WantLow(name, place));
+            return self.at(Plain::WantLow(name, place));
         }
-        let stands = is_mark(token, Sign::CloseBracket);
-        self.close_if(stands, WrittenExpr::BitOf { name, place })
+        if is_mark(token, Sign::CloseBracket) {
+            return self.close_leaf(WrittenExpr::BitOf { name, place });
+        }
+        Ok(false)
     }
 }

@@ -1,6 +1,6 @@
 //! What is open while a module is read, the top of the stack last.
 
-ghost use Rattle.std.specs.Prelude.{◌≡◌, ◌<◌, length, map, option_map, true, false, vec_len, IfOk, MatchBool, Some, None};
+ghost use Rattle.std.specs.Prelude.{◌≡◌, ◌<◌, length, map, true, false, vec_len, IfOk, MatchBool, Some, None};
 ghost use Rattle.gl_verilog_grammar.specs.Stages as machine;
 ghost use Rattle.gl_verilog.specs.Written.{looseness};
 ghost use Rattle.gl_verilog_syntax.specs.View.{infix_of, expr_of, statement_of};
@@ -8,7 +8,7 @@ ghost use Rattle.gl_verilog_grammar.specs.View.{frame_of, frames_of, stated_of};
 
 use crate::stacks::{put, with_last};
 use crate::trees::{chosen, else_of, infixed, prefixed, then_of};
-use gl_verilog_syntax::{InfixOp, PrefixOp, Word, WrittenExpr, WrittenItem, WrittenStatement};
+use gl_verilog_syntax::{InfixOp, PrefixOp, Word, WrittenExpr, WrittenStatement};
 use std::alloc::{AllocError, Global};
 use std::mem;
 
@@ -29,33 +29,33 @@ pub enum Frame<'a> {
     InfixOf {
         op: InfixOp,
         at: usize,
-        left: WrittenExpr<'a>,
+        left: Box<WrittenExpr<'a>>,
     },
     TestOf {
         at: usize,
-        test: WrittenExpr<'a>,
+        test: Box<WrittenExpr<'a>>,
     },
     ColonOf {
         at: usize,
-        test: WrittenExpr<'a>,
-        yes: WrittenExpr<'a>,
+        test: Box<WrittenExpr<'a>>,
+        yes: Box<WrittenExpr<'a>>,
     },
     AssignTo(Word<'a>),
     UpdateTo(Word<'a>),
     AddressFor(Word<'a>),
     UpdateWordTo {
         target: Word<'a>,
-        address: WrittenExpr<'a>,
+        address: Box<WrittenExpr<'a>>,
     },
     IfTest(usize),
     ThenOf {
         at: usize,
-        test: WrittenExpr<'a>,
+        test: Box<WrittenExpr<'a>>,
     },
     ElseOf {
         at: usize,
-        test: WrittenExpr<'a>,
-        yes: WrittenStatement<'a>,
+        test: Box<WrittenExpr<'a>>,
+        yes: Box<WrittenStatement<'a>>,
     },
     InBegin(Vec<WrittenStatement<'a>>),
     BodyOf(Word<'a>),
@@ -107,10 +107,10 @@ pub(crate) fn top_binds(frames: &[Frame], level: u8) -> bool
 fn apply_top<'a>(
     alloc: Global,
     frames: &mut Vec<Frame<'a>>,
-    operand: WrittenExpr<'a>,
-) -> Result<WrittenExpr<'a>, AllocError>
+    operand: Box<WrittenExpr<'a>>,
+) -> Result<Box<WrittenExpr<'a>>, AllocError>
     ensures is { IfOk result (λ e. machine.apply_top (frames_of frames.old.items)
-        (expr_of operand.entry) ≡ (frames_of frames.new.items, expr_of e)) }
+        (expr_of operand.entry.value) ≡ (frames_of frames.new.items, expr_of e.value)) }
     ensures shorter { 0 < vec_len frames.old → vec_len frames.new < vec_len frames.old }
 {
     let top = frames.pop();
@@ -133,11 +133,11 @@ fn apply_top<'a>(
 pub(crate) fn reduce<'a>(
     alloc: Global,
     frames: &mut Vec<Frame<'a>>,
-    operand: WrittenExpr<'a>,
+    operand: Box<WrittenExpr<'a>>,
     level: u8,
-) -> Result<WrittenExpr<'a>, AllocError>
+) -> Result<Box<WrittenExpr<'a>>, AllocError>
     ensures { IfOk result (λ e. machine.reduce level (frames_of frames.old.items)
-        (expr_of operand.entry) ≡ (frames_of frames.new.items, expr_of e)) }
+        (expr_of operand.entry.value) ≡ (frames_of frames.new.items, expr_of e.value)) }
 {
     let mut operand = operand;
     while top_binds(frames.as_slice(), level) {
@@ -170,10 +170,11 @@ fn top_is_if(frames: &[Frame]) -> bool
 fn end_top<'a>(
     alloc: Global,
     frames: &mut Vec<Frame<'a>>,
-    statement: WrittenStatement<'a>,
-) -> Result<WrittenStatement<'a>, AllocError>
+    statement: Box<WrittenStatement<'a>>,
+) -> Result<Box<WrittenStatement<'a>>, AllocError>
     ensures is { IfOk result (λ s. machine.end_top (frames_of frames.old.items)
-        (statement_of statement.entry) ≡ (frames_of frames.new.items, statement_of s)) }
+        (statement_of statement.entry.value)
+        ≡ (frames_of frames.new.items, statement_of s.value)) }
     ensures shorter { 0 < vec_len frames.old → vec_len frames.new < vec_len frames.old }
 {
     match frames.pop() {
@@ -191,10 +192,11 @@ fn end_top<'a>(
 pub(crate) fn end_ifs<'a>(
     alloc: Global,
     frames: &mut Vec<Frame<'a>>,
-    statement: WrittenStatement<'a>,
-) -> Result<WrittenStatement<'a>, AllocError>
+    statement: Box<WrittenStatement<'a>>,
+) -> Result<Box<WrittenStatement<'a>>, AllocError>
     ensures { IfOk result (λ s. machine.at_end (frames_of frames.old.items)
-        (statement_of statement.entry) ≡ (frames_of frames.new.items, statement_of s)) }
+        (statement_of statement.entry.value)
+        ≡ (frames_of frames.new.items, statement_of s.value)) }
 {
     let mut statement = statement;
     while top_is_if(frames.as_slice()) {
@@ -226,12 +228,12 @@ fn top_is_else(frames: &[Frame]) -> bool
 #[tactic(auto, using(crate::proofs::Stack::elses), unfolding(crate::specs::View::frame_of))]
 fn else_on_top<'a>(
     frames: &mut Vec<Frame<'a>>,
-    statement: WrittenStatement<'a>,
+    statement: Box<WrittenStatement<'a>>,
 ) -> Result<bool, AllocError>
     ensures { IfOk result (λ stands. MatchBool stands
-        (machine.else_on_top (frames_of frames.old.items) (statement_of statement.entry)
+        (machine.else_on_top (frames_of frames.old.items) (statement_of statement.entry.value)
         ≡ Some (frames_of frames.new.items)) (machine.else_on_top (frames_of frames.old.items)
-        (statement_of statement.entry) ≡ None)) }
+        (statement_of statement.entry.value) ≡ None)) }
 {
     match frames.pop() {
         Some(Frame::ThenOf { at, test }) => {
@@ -258,12 +260,12 @@ fn else_on_top<'a>(
 pub(crate) fn take_else<'a>(
     alloc: Global,
     frames: &mut Vec<Frame<'a>>,
-    statement: WrittenStatement<'a>,
+    statement: Box<WrittenStatement<'a>>,
 ) -> Result<bool, AllocError>
     ensures { IfOk result (λ stands. MatchBool stands
-        (machine.at_else (frames_of frames.old.items) (statement_of statement.entry)
+        (machine.at_else (frames_of frames.old.items) (statement_of statement.entry.value)
         ≡ Some (frames_of frames.new.items)) (machine.at_else (frames_of frames.old.items)
-        (statement_of statement.entry) ≡ None)) }
+        (statement_of statement.entry.value) ≡ None)) }
 {
     let mut statement = statement;
     while top_is_else(frames.as_slice()) {
@@ -272,51 +274,35 @@ pub(crate) fn take_else<'a>(
     else_on_top(frames, statement)
 }
 
-// The statements of a block.
-#[tactic(auto, using(gl_verilog_syntax::proofs::Views::exprs, crate::proofs::Stack::pushes), unfolding(crate::specs::View::frame_of))]
-pub(crate) fn block_of<'a>(frame: Frame<'a>) -> Option<WrittenStatement<'a>>
-    ensures { option_map statement_of result ≡ machine.block_of (frame_of frame.entry) }
-{
-    match frame {
-        Frame::InBegin(done) => Some(WrittenStatement::Block(done)),
-        other => {
-            mem::drop(other);
-            None
-        }
-    }
-}
-
 /// What a whole statement goes to: the list of its block, or the item that it is the body of.
 #[derive(Drop)]
 pub enum Stated<'a> {
     InList(Vec<WrittenStatement<'a>>),
-    AsBody(WrittenItem<'a>),
+    AsBody(Word<'a>, Box<WrittenStatement<'a>>),
     Nowhere,
 }
 
 #[tactic(auto, using(crate::proofs::Stack::pushes), unfolding(crate::specs::View::stated_of))]
 fn in_list<'a>(
     done: Vec<WrittenStatement<'a>>,
-    statement: WrittenStatement<'a>,
+    statement: Box<WrittenStatement<'a>>,
 ) -> Result<Stated<'a>, AllocError>
     ensures { IfOk result (λ s. stated_of s ≡ machine.stated
-        (machine.InBegin (map statement_of done.entry.items)) (statement_of statement.entry)) }
+        (machine.InBegin (map statement_of done.entry.items))
+        (statement_of statement.entry.value)) }
 {
-    let done = with_last(done, statement)?;
+    let done = with_last(done, Box::into_inner(statement))?;
     Ok(Stated::InList(done))
 }
 
-#[tactic(auto, using(gl_verilog_syntax::proofs::Views::items), unfolding(crate::specs::View::frame_of, crate::specs::View::stated_of))]
-fn end_body<'a>(frame: &Frame<'a>, statement: WrittenStatement<'a>) -> Stated<'a>
+#[tactic(auto, unfolding(crate::specs::View::frame_of, crate::specs::View::stated_of))]
+fn end_body<'a>(frame: &Frame<'a>, statement: Box<WrittenStatement<'a>>) -> Stated<'a>
     requires { machine.is_block (frame_of frame.now) ≡ false }
     ensures { stated_of result ≡ machine.stated (frame_of frame.now)
-        (statement_of statement.entry) }
+        (statement_of statement.entry.value) }
 {
     match frame {
-        Frame::BodyOf(clock) => Stated::AsBody(WrittenItem::Always {
-            clock: *clock,
-            body: statement,
-        }),
+        Frame::BodyOf(clock) => Stated::AsBody(*clock, statement),
         _ => {
             mem::drop(statement);
             Stated::Nowhere
@@ -327,10 +313,10 @@ fn end_body<'a>(frame: &Frame<'a>, statement: WrittenStatement<'a>) -> Stated<'a
 #[tactic(auto, unfolding(crate::specs::View::frame_of))]
 pub(crate) fn end_statement<'a>(
     frame: Frame<'a>,
-    statement: WrittenStatement<'a>,
+    statement: Box<WrittenStatement<'a>>,
 ) -> Result<Stated<'a>, AllocError>
     ensures { IfOk result (λ s. stated_of s ≡ machine.stated (frame_of frame.entry)
-        (statement_of statement.entry)) }
+        (statement_of statement.entry.value)) }
 {
     match frame {
         Frame::InBegin(done) => in_list(done, statement),

@@ -7,11 +7,13 @@ ghost use Rattle.gl_verilog_syntax.specs.View.{token_of, name_of, names_of, rang
 ghost use Rattle.gl_verilog_grammar.specs.View.{sort_of, owner_of, view, Moves};
 
 use crate::matching::{is_mark, name_in};
+use crate::next::{expect, memory_stage, word_stage};
 use crate::reading::Reading;
 use crate::stacks::{put, with_last};
-use crate::stage::{Owner, Sort, Stage, item_of_names, memory_stage, word_stage};
+use crate::stage::{Owner, Plain, Sort, Stage, item_of_names};
 use gl_verilog_syntax::{Sign, Token, Word, WrittenPort};
 use std::alloc::AllocError;
+use std::mem;
 
 impl<'a> Reading<'a> {
     #[tactic(auto, using(crate::proofs::Views::stages), unfolding(crate::specs::View::view))]
@@ -22,7 +24,7 @@ impl<'a> Reading<'a> {
         match name_in(token) {
             Some(name) => {
                 self.name = name;
-                self.goto(Stage::WantPorts)
+                self.at(Plain::WantPorts)
             }
             None => Ok(false),
         }
@@ -48,7 +50,7 @@ impl<'a> Reading<'a> {
                         name,
                     },
                 )?;
-                self.goto(Stage::AfterPort)
+                self.at(Plain::AfterPort)
             }
             Owner::OfItem(sort) => {
                 let names = with_last(Vec::new(self.alloc), name)?;
@@ -74,7 +76,7 @@ impl<'a> Reading<'a> {
             (machine.is_mark OpenBracket (token_of token.entry))
             (machine.WantHigh (owner_of owner))) (view self.old)) (view self.new) }
     {
-        self.expect(is_mark(token, Sign::OpenBracket), Stage::WantHigh(owner))
+        self.go(expect(is_mark(token, Sign::OpenBracket), Plain::WantHigh(owner)))
     }
 
     pub(crate) fn want_name(
@@ -107,12 +109,15 @@ impl<'a> Reading<'a> {
             return self.goto(Stage::WantMore(sort, range, names));
         }
         if is_mark(token, Sign::OpenBracket) {
-            return self.go(memory_stage(sort, range, names.as_slice()));
+            let next = memory_stage(sort, range, names.as_slice());
+            mem::drop(names);
+            return self.go(next);
         }
-        self.item_if(
-            is_mark(token, Sign::Semicolon),
-            item_of_names(sort, range, names),
-        )
+        if is_mark(token, Sign::Semicolon) {
+            return self.put_item(item_of_names(sort, range, names));
+        }
+        mem::drop(names);
+        Ok(false)
     }
 
     #[tactic(auto, using(crate::proofs::Views::stages, crate::proofs::Stack::pushes))]
@@ -131,7 +136,10 @@ impl<'a> Reading<'a> {
                 let names = with_last(names, name)?;
                 self.goto(Stage::AfterName(sort, range, names))
             }
-            None => Ok(false),
+            None => {
+                mem::drop(names);
+                Ok(false)
+            }
         }
     }
 }

@@ -12,6 +12,7 @@ pub mod frames;
 pub mod header;
 pub mod laws;
 pub mod matching;
+pub mod next;
 pub mod reading;
 pub mod stacks;
 pub mod stage;

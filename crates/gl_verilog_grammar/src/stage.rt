@@ -2,12 +2,11 @@
 
 ghost use Rattle.std.specs.Prelude.{◌≡◌, option_map};
 ghost use Rattle.gl_verilog_grammar.specs.Stages as machine;
-ghost use Rattle.gl_verilog_syntax.specs.View.{keyword_of, sign_of, token_of, name_of, names_of, range_of, item_of};
-ghost use Rattle.gl_verilog_grammar.specs.View.{sort_of, owner_of, stage_of, role_is};
+ghost use Rattle.gl_verilog_syntax.specs.View.{keyword_of, sign_of, names_of, range_of, item_of};
+ghost use Rattle.gl_verilog_grammar.specs.View.{sort_of, owner_of, role_is};
 
-use crate::matching::{digits_in, is_mark, is_word, name_in};
 use gl_verilog_syntax::{
-    Direction, InfixOp, Keyword, Sign, Token, Word, WrittenExpr, WrittenItem, WrittenStatement,
+    Direction, InfixOp, Keyword, Sign, Word, WrittenExpr, WrittenItem, WrittenStatement,
 };
 
 /// What a list of names declares.
@@ -24,9 +23,9 @@ pub enum Owner {
     OfItem(Sort),
 }
 
-/// What was read last, or is wanted next.
-#[derive(Drop)]
-pub enum Stage<'a> {
+/// What was read last, or is wanted next, where words alone are held.
+#[derive(Clone, Copy)]
+pub enum Plain<'a> {
     WantModule,
     WantTitle,
     WantPorts,
@@ -39,8 +38,6 @@ pub enum Stage<'a> {
     WantName(Owner, Option<Word<'a>>),
     AfterPort,
     AfterPorts,
-    AfterName(Sort, Option<Word<'a>>, Vec<Word<'a>>),
-    WantMore(Sort, Option<Word<'a>>, Vec<Word<'a>>),
     WantFirst(Option<Word<'a>>, Word<'a>),
     WantMemoryColon(Option<Word<'a>>, Word<'a>),
     WantLast(Option<Word<'a>>, Word<'a>),
@@ -56,16 +53,24 @@ pub enum Stage<'a> {
     WantEdgeEnd(Word<'a>),
     WantStatement,
     AfterTarget(Word<'a>),
-    WantArrow(Word<'a>, WrittenExpr<'a>),
     WantTest(usize),
-    HaveStatement(WrittenStatement<'a>),
     WantOperand,
-    HaveOperand(WrittenExpr<'a>),
     AtIndex(Word<'a>),
     AtPlace(Word<'a>, Word<'a>),
     WantLow(Word<'a>, Word<'a>),
     AtPart(Word<'a>, Word<'a>, Word<'a>),
     Complete,
+}
+
+/// What was read last, or is wanted next.
+#[derive(Drop)]
+pub enum Stage<'a> {
+    Plain(Plain<'a>),
+    AfterName(Sort, Option<Word<'a>>, Vec<Word<'a>>),
+    WantMore(Sort, Option<Word<'a>>, Vec<Word<'a>>),
+    WantArrow(Word<'a>, Box<WrittenExpr<'a>>),
+    HaveStatement(Box<WrittenStatement<'a>>),
+    HaveOperand(Box<WrittenExpr<'a>>),
 }
 
 /// What a sign does behind an operand.
@@ -137,142 +142,5 @@ pub(crate) fn with_word(owner: Owner, word: Keyword) -> Option<Owner>
         (Owner::OfPort(Direction::Out), Keyword::Wire) => Some(Owner::OfPort(Direction::OutWire)),
         (Owner::OfPort(Direction::Out), Keyword::Reg) => Some(Owner::OfPort(Direction::OutReg)),
         _ => None,
-    }
-}
-
-// The stage behind `wire` or `reg`, where one may stand behind a direction.
-#[tactic(auto, using(crate::proofs::Views::stages))]
-pub(crate) fn word_stage<'a>(owner: Owner, word: Keyword) -> Option<Stage<'a>>
-    ensures { option_map stage_of result ≡ option_map machine.Declaring
-        (machine.with_word (owner_of owner) (keyword_of word)) }
-{
-    match with_word(owner, word) {
-        Some(owner) => Some(Stage::Declaring(owner)),
-        None => None,
-    }
-}
-
-#[tactic(auto, using(crate::proofs::Views::stages))]
-pub(crate) fn port_stage<'a>(token: Token<'a>) -> Option<Stage<'a>>
-    ensures { option_map stage_of result ≡ machine.next_stage machine.WantPort
-        (token_of token.entry) }
-{
-    if is_word(token, Keyword::Input) {
-        return Some(Stage::Declaring(Owner::OfPort(Direction::In)));
-    }
-    if is_word(token, Keyword::Output) {
-        return Some(Stage::Declaring(Owner::OfPort(Direction::Out)));
-    }
-    None
-}
-
-#[tactic(auto, using(crate::proofs::Views::stages))]
-pub(crate) fn behind_port<'a>(token: Token<'a>) -> Option<Stage<'a>>
-    ensures { option_map stage_of result ≡ machine.next_stage machine.AfterPort
-        (token_of token.entry) }
-{
-    if is_mark(token, Sign::Comma) {
-        return Some(Stage::WantPort);
-    }
-    if is_mark(token, Sign::CloseParen) {
-        return Some(Stage::AfterPorts);
-    }
-    None
-}
-
-#[tactic(auto, using(crate::proofs::Views::stages))]
-pub(crate) fn item_stage<'a>(token: Token<'a>) -> Option<Stage<'a>>
-    ensures { option_map stage_of result ≡ machine.item_stage (token_of token.entry) }
-{
-    if is_word(token, Keyword::Wire) {
-        return Some(Stage::Declaring(Owner::OfItem(Sort::WireSort)));
-    }
-    if is_word(token, Keyword::Reg) {
-        return Some(Stage::Declaring(Owner::OfItem(Sort::RegisterSort)));
-    }
-    if is_word(token, Keyword::Assign) {
-        return Some(Stage::WantAssigned);
-    }
-    if is_word(token, Keyword::Always) {
-        return Some(Stage::WantAt);
-    }
-    if is_word(token, Keyword::EndModule) {
-        return Some(Stage::Complete);
-    }
-    None
-}
-
-// A register alone may be a memory.
-#[tactic(auto, using(crate::proofs::Views::stages))]
-pub(crate) fn memory_stage<'a>(
-    sort: Sort,
-    range: Option<Word<'a>>,
-    names: &[Word<'a>],
-) -> Option<Stage<'a>>
-    ensures { option_map stage_of result ≡ machine.memory_stage (sort_of sort)
-        (range_of range.entry) (names_of names.now) }
-{
-    match (sort, names) {
-        (Sort::RegisterSort, [name]) => Some(Stage::WantFirst(range, *name)),
-        _ => None,
-    }
-}
-
-#[tactic(auto, using(crate::proofs::Views::stages))]
-pub(crate) fn high_stage<'a>(owner: Owner, token: Token<'a>) -> Option<Stage<'a>>
-    ensures { option_map stage_of result ≡ machine.next_stage (machine.WantHigh (owner_of owner))
-        (token_of token.entry) }
-{
-    match digits_in(token) {
-        Some(high) => Some(Stage::WantColon(owner, high)),
-        None => None,
-    }
-}
-
-#[tactic(auto, using(crate::proofs::Views::stages))]
-pub(crate) fn last_stage<'a>(
-    range: Option<Word<'a>>,
-    name: Word<'a>,
-    token: Token<'a>,
-) -> Option<Stage<'a>>
-    ensures { option_map stage_of result ≡ machine.next_stage
-        (machine.WantLast (range_of range.entry) (name_of name.entry)) (token_of token.entry) }
-{
-    match digits_in(token) {
-        Some(last) => Some(Stage::WantMemoryClose(range, name, last)),
-        None => None,
-    }
-}
-
-#[tactic(auto, using(crate::proofs::Views::stages))]
-pub(crate) fn assigned_stage<'a>(token: Token<'a>) -> Option<Stage<'a>>
-    ensures { option_map stage_of result ≡ machine.next_stage machine.WantAssigned
-        (token_of token.entry) }
-{
-    match name_in(token) {
-        Some(target) => Some(Stage::WantEquals(target)),
-        None => None,
-    }
-}
-
-#[tactic(auto, using(crate::proofs::Views::stages))]
-pub(crate) fn clock_stage<'a>(token: Token<'a>) -> Option<Stage<'a>>
-    ensures { option_map stage_of result ≡ machine.next_stage machine.WantClock
-        (token_of token.entry) }
-{
-    match name_in(token) {
-        Some(clock) => Some(Stage::WantEdgeEnd(clock)),
-        None => None,
-    }
-}
-
-#[tactic(auto, using(crate::proofs::Views::stages))]
-pub(crate) fn low_stage<'a>(name: Word<'a>, high: Word<'a>, token: Token<'a>) -> Option<Stage<'a>>
-    ensures { option_map stage_of result ≡ machine.next_stage
-        (machine.WantLow (name_of name.entry) (name_of high.entry)) (token_of token.entry) }
-{
-    match digits_in(token) {
-        Some(low) => Some(Stage::AtPart(name, high, low)),
-        None => None,
     }
 }

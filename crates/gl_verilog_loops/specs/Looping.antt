@@ -63,7 +63,8 @@ abbrev pub levelled : List ℕ → List Assignment → List ℕ → Option (List
 levelled ranks [] found = Some found
 levelled ranks (a ∷ rest) found =
     if nat_lt (rank_of ranks a.target) (highest ranks a.value) then None
-    else levelled ranks rest (if nat_le (rank_of ranks a.target) (highest ranks a.value) then with_net found a.target else found)
+    else levelled ranks rest (if nat_le (rank_of ranks a.target) (highest ranks a.value) then with_net found a.target
+    else found)
 
 -- a net may depend on itself, where some that may are told
 abbrev pub is_suspect : Option (List ℕ) → ℕ → Bool

@@ -16,23 +16,28 @@ inputs schema = input clk 1 ∷ input_ports schema
 
 -- an input of this name and of so many bits is among these
 abbrev pub is_among : List ProfilePort → List ℕ → ℕ → Bool
-is_among ports name width = unwrap_or (option_map (λ (p : ProfilePort). nat_eq p.width width) (find (λ (p : ProfilePort). bytes_eq p.name name) ports)) false
+is_among ports name width =
+    unwrap_or (option_map (λ (p : ProfilePort). nat_eq p.width width)
+    (find (λ (p : ProfilePort). bytes_eq p.name name) ports)) false
 
 abbrev pub is_asked : Schema → Declaration → Bool
 is_asked schema d = is_among (inputs schema) d.name d.width
 
 -- whether a name is that of a line: of the result, its end, or a fault
 abbrev pub is_line_name : List ℕ → Bool
-is_line_name name = bytes_eq name out_valid || (bytes_eq name out_eos || (bytes_eq name fault_group || bytes_eq name fault_queue))
+is_line_name name =
+    bytes_eq name out_valid || (bytes_eq name out_eos || (bytes_eq name fault_group || bytes_eq name fault_queue))
 
 abbrev pub is_line : Declaration → Bool
 is_line d = is_output d.kind && nat_eq d.width 1
 
--- whether a port behind so many columns of the result is one that no module may have: an input that is neither the clock nor the schema's,
--- or has other bits; a line that is no output of one bit; a column behind 32 others, or of more than 64 bits
+-- whether a port behind so many columns of the result is one that no module may have: an input that is neither the
+-- clock nor the schema's, or has other bits; a line that is no output of one bit; a column behind 32 others, or of more
+-- than 64 bits
 abbrev pub is_bad : Schema → ℕ → Declaration → Bool
 is_bad schema columns d =
-    (is_input d.kind && not (is_asked schema d)) || ((is_line_name d.name && not (is_line d)) || (shows_column d && (nat_le 32 columns || nat_lt 64 d.width)))
+    (is_input d.kind && not (is_asked schema d))
+    || ((is_line_name d.name && not (is_line d)) || (shows_column d && (nat_le 32 columns || nat_lt 64 d.width)))
 
 -- the columns up to a port, it included
 abbrev pub with_port : ℕ → Declaration → ℕ
@@ -41,19 +46,23 @@ with_port columns d = if shows_column d then columns + 1 else columns
 -- the first such port by its number, where the first of these has number n and stands behind so many columns
 abbrev pub first_bad : Schema → ℕ → ℕ → List Declaration → Option ℕ
 first_bad schema n columns [] = None
-first_bad schema n columns (d ∷ ds) = if is_bad schema columns d then Some n else first_bad schema (n + 1) (with_port columns d) ds
+first_bad schema n columns (d ∷ ds) =
+    if is_bad schema columns d then Some n else first_bad schema (n + 1) (with_port columns d) ds
 
 -- the number of the input of a name, and of the output
 abbrev pub input_at : List Declaration → List ℕ → Option ℕ
 input_at [] name = None
-input_at (d ∷ ds) name = if is_input d.kind && bytes_eq d.name name then Some 0 else option_map (λ n. n + 1) (input_at ds name)
+input_at (d ∷ ds) name =
+    if is_input d.kind && bytes_eq d.name name then Some 0 else option_map (λ n. n + 1) (input_at ds name)
 
 abbrev pub output_at : List Declaration → List ℕ → Option ℕ
 output_at [] name = None
-output_at (d ∷ ds) name = if is_output d.kind && bytes_eq d.name name then Some 0 else option_map (λ n. n + 1) (output_at ds name)
+output_at (d ∷ ds) name =
+    if is_output d.kind && bytes_eq d.name name then Some 0 else option_map (λ n. n + 1) (output_at ds name)
 
 -- the ports, where the clock and the lines of the result and of its end are there
-abbrev pub with_needed : Option ℕ → Option ℕ → Option ℕ → Option ℕ → Option ℕ → Option ℕ → Option ℕ → Result Ports Misfit
+abbrev pub with_needed : Option ℕ → Option ℕ → Option ℕ → Option ℕ → Option ℕ → Option ℕ → Option ℕ
+    → Result Ports Misfit
 with_needed (Some c) (Some v) (Some e) reset input_end group queue =
     Ok (record { clock = c; reset = reset; input_end = input_end; valid = v; end = e; group = group; queue = queue })
 with_needed (Some c) (Some v) None reset input_end group queue = Err Lacks

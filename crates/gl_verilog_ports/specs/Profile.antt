@@ -23,7 +23,9 @@ is_output _ = false
 
 -- the port shows a column of the result: an output whose name begins with `out__`, other than valid and the end
 abbrev pub shows_column : Declaration → Bool
-shows_column d = is_output d.kind && bytes_eq (take 5 d.name) (codes "out__") && not (bytes_eq d.name out_valid) && not (bytes_eq d.name out_eos)
+shows_column d =
+    is_output d.kind && bytes_eq (take 5 d.name) (codes "out__") && not (bytes_eq d.name out_valid) && not
+    (bytes_eq d.name out_eos)
 
 -- the columns of the result, in the order of the ports
 abbrev pub result_ports : Module → List Declaration
@@ -57,11 +59,12 @@ pub record HasClock (m : Module) : Type 0 where
   pub input : port.kind ≡ Input
   pub bit : port.width ≡ 1
 
--- the clock is there, and every other input is one of the schema's, with its bits; the result's lines are there, and a fault line where
--- it is there is a line; at most 32 columns of at most 64 bits
+-- the clock is there, and every other input is one of the schema's, with its bits; the result's lines are there, and a
+-- fault line where it is there is a line; at most 32 columns of at most 64 bits
 pub record FitsSchema (m : Module) (schema : Schema) : Type 0 where
   pub clock : HasClock m
-  pub inputs : (n : ℕ) (d : Declaration) → slice_get m.declarations n ≡ Some d → d.kind ≡ Input → is_clock d ≡ false → input_width schema d.name ≡ Some d.width
+  pub inputs : (n : ℕ) (d : Declaration) → slice_get m.declarations n ≡ Some d → d.kind ≡ Input → is_clock d ≡ false
+      → input_width schema d.name ≡ Some d.width
   pub valid : HasLine m out_valid
   pub end : HasLine m out_eos
   pub group : IfSome (port_named m fault_group) IsLine
@@ -71,11 +74,14 @@ pub record FitsSchema (m : Module) (schema : Schema) : Type 0 where
 
 -- each input of the module stands among its ports
 abbrev pub HasInputPorts : Module → Type 0
-HasInputPorts m = (n : ℕ) (d : Declaration) → slice_get m.declarations n ≡ Some d → is_input d.kind ≡ true → slice_get (ports_of m) n ≡ Some d
+HasInputPorts m =
+    (n : ℕ) (d : Declaration) → slice_get m.declarations n ≡ Some d → is_input d.kind ≡ true
+    → slice_get (ports_of m) n ≡ Some d
 
 -- each input of the module is the clock
 abbrev pub HasOnlyClock : Module → Type 0
-HasOnlyClock m = (n : ℕ) (d : Declaration) → slice_get m.declarations n ≡ Some d → is_input d.kind ≡ true → is_clock d ≡ true
+HasOnlyClock m =
+    (n : ℕ) (d : Declaration) → slice_get m.declarations n ≡ Some d → is_input d.kind ≡ true → is_clock d ≡ true
 
 -- ---- the whole profile
 
@@ -87,6 +93,7 @@ declared_kind Out = OutputWire
 abbrev pub declared : ProfilePort → Declaration
 declared p = record { name = p.name; width = p.width; is_vector = not (p.width == 1); kind = declared_kind p.direction }
 
--- the ports of the module are, in this order, the clock and the profile of this schema and of a result with these columns
+-- the ports of the module are, in this order, the clock and the profile of this schema and of a result with these
+-- columns
 abbrev pub HasProfile : Module → Schema → List Column → Type 0
 HasProfile m schema columns = ports_of m ≡ map declared (input clk 1 ∷ profile schema columns)

@@ -17,18 +17,25 @@ behind (x ∷ front) (y ∷ name) = if x == y then behind front name else None
 
 -- the name of a stream's valid line, and of a column
 abbrev pub is_valid_name : List ℕ → List ℕ → Bool
-is_valid_name stream name = option_map_or (λ rest. option_map_or (λ last. bytes_eq (codes "__valid") last) (behind stream rest) false) (behind (codes "in__") name) false
+is_valid_name stream name =
+    option_map_or (λ rest. option_map_or (λ last. bytes_eq (codes "__valid") last) (behind stream rest) false)
+    (behind (codes "in__") name) false
 
 abbrev pub is_column_name : List ℕ → List ℕ → List ℕ → Bool
-is_column_name stream column name = option_map_or (λ rest. option_map_or (λ more. option_map_or (λ last. bytes_eq column last) (behind (codes "__") more) false) (behind stream rest) false) (behind (codes "in__") name) false
+is_column_name stream column name =
+    option_map_or (λ rest. option_map_or (λ more. option_map_or (λ last. bytes_eq column last)
+    (behind (codes "__") more) false) (behind stream rest) false) (behind (codes "in__") name) false
 
 -- of the first port of a name, whether it has so many bits; None where none has the name
 abbrev pub among_columns : List ℕ → List Column → List ℕ → ℕ → Option Bool
 among_columns stream [] name width = None
-among_columns stream (c ∷ cs) name width = if is_column_name stream c.name name then Some (nat_eq (width_of c.kind) width) else among_columns stream cs name width
+among_columns stream (c ∷ cs) name width =
+    if is_column_name stream c.name name then Some (nat_eq (width_of c.kind) width)
+    else among_columns stream cs name width
 
 abbrev pub among_stream : Stream → List ℕ → ℕ → Option Bool
-among_stream s name width = if is_valid_name s.name name then Some (nat_eq 1 width) else among_columns s.name s.columns name width
+among_stream s name width =
+    if is_valid_name s.name name then Some (nat_eq 1 width) else among_columns s.name s.columns name width
 
 abbrev pub among_streams : List Stream → List ℕ → ℕ → Option Bool
 among_streams [] name width = None
@@ -39,4 +46,5 @@ is_end name width = if bytes_eq eos name then nat_eq 1 width else false
 
 abbrev pub is_asked : Schema → List ℕ → ℕ → Bool
 is_asked schema name width =
-    if bytes_eq clk name then nat_eq 1 width else if bytes_eq rst name then nat_eq 1 width else unwrap_or (among_streams schema.streams name width) (is_end name width)
+    if bytes_eq clk name then nat_eq 1 width else if bytes_eq rst name then nat_eq 1 width
+    else unwrap_or (among_streams schema.streams name width) (is_end name width)

@@ -1,4 +1,5 @@
--- Worked headers over a stream `s` with a column `v` of eight bits: which ports were found, or which one shows that they do not fit.
+-- Worked headers over a stream `s` with a column `v` of eight bits: which ports were found, or which one shows that
+-- they do not fit.
 use Rattle.std.specs.Prelude.{◌≡◌, ℕ, zero, suc, true, List, [], ◌∷◌, ◌++◌, length, Some, None, Result, Ok, Err, codes}
 use Rattle.gl_bits.specs.declared.kind.Kind.TheVariants.{Unsigned}
 use Rattle.gl_schema.specs.declared.schema.Schema.{Schema}
@@ -9,7 +10,8 @@ use Rattle.gl_verilog_ports.specs.declared.fitting.Misfit.TheVariants.{Port, Lac
 use Rattle.gl_verilog_ports.specs.Fit.{input_at, fit_of}
 
 abbrev pub schema : Schema
-schema = record { streams = record { name = codes "s"; columns = record { name = codes "v"; kind = Unsigned 8 } ∷ [] } ∷ [] }
+schema =
+    record { streams = record { name = codes "s"; columns = record { name = codes "v"; kind = Unsigned 8 } ∷ [] } ∷ [] }
 
 abbrev pub port : Kind → List ℕ → ℕ → Declaration
 port kind name width = record { name = name; width = width; is_vector = true; kind = kind }
@@ -51,27 +53,41 @@ plain end = Ok (record { clock = 0; reset = None; input_end = None; valid = 1; e
 -- every port of the profile
 abbrev pub whole : List Declaration
 whole =
-    input (codes "rst") 1 ∷ input (codes "clk") 1 ∷ input (codes "in__s__valid") 1 ∷ input (codes "in__s__v") 8 ∷ input (codes "eos") 1
-    ∷ output (codes "fault__queue") 1 ∷ output (codes "out__n") 8 ∷ output (codes "out__eos") 1 ∷ port OutputRegister (codes "out__valid") 1
+    input (codes "rst") 1 ∷ input (codes "clk") 1 ∷ input (codes "in__s__valid") 1 ∷ input (codes "in__s__v") 8 ∷ input
+    (codes "eos") 1
+    ∷ output (codes "fault__queue") 1 ∷ output (codes "out__n") 8 ∷ output (codes "out__eos") 1 ∷ port OutputRegister
+    (codes "out__valid") 1
     ∷ output (codes "fault__group") 1 ∷ output (codes "debug") 100 ∷ []
 
 pub record WorkedPorts : Type 0 where
-  pub all : fit whole ≡ Ok (record { clock = 1; reset = Some 0; input_end = Some 4; valid = 8; end = 7; group = Some 9; queue = Some 5 })
+  pub all : fit whole ≡ Ok (record {
+    clock = 1;
+    reset = Some 0;
+    input_end = Some 4;
+    valid = 8;
+    end = 7;
+    group = Some 9;
+    queue = Some 5;
+  })
   pub fewest : fit (showing []) ≡ plain 2
   -- inputs
-  pub valid_alone : fit (taking (input (codes "in__s__valid") 1 ∷ [])) ≡ Ok (record { clock = 0; reset = None; input_end = None; valid = 2; end = 3; group = None; queue = None })
+  pub valid_alone : fit (taking (input (codes "in__s__valid") 1 ∷ [])) ≡ Ok
+      (record { clock = 0; reset = None; input_end = None; valid = 2; end = 3; group = None; queue = None })
   pub wider_input : fit (taking (input (codes "in__s__valid") 1 ∷ input (codes "in__s__v") 9 ∷ [])) ≡ Err (Port 2)
   pub unknown_input : fit (taking (input (codes "in__s__w") 8 ∷ [])) ≡ Err (Port 1)
   pub unknown_stream : fit (taking (input (codes "in__r__valid") 1 ∷ [])) ≡ Err (Port 1)
   pub wide_reset : fit (taking (input (codes "rst") 2 ∷ [])) ≡ Err (Port 1)
-  pub wide_clock : fit (input (codes "clk") 4 ∷ output (codes "out__valid") 1 ∷ output (codes "out__eos") 1 ∷ []) ≡ Err (Port 0)
+  pub wide_clock : fit (input (codes "clk") 4 ∷ output (codes "out__valid") 1 ∷ output (codes "out__eos") 1 ∷ []) ≡ Err
+      (Port 0)
   -- an output that is called as an input is no port of the profile
   pub output_as_input : fit (showing (output (codes "in__s__v") 3 ∷ [])) ≡ plain 3
   pub no_such_input : input_at (showing (output (codes "in__s__v") 3 ∷ [])) (codes "in__s__v") ≡ None
   pub output_as_reset : fit (showing (output (codes "rst") 1 ∷ output (codes "eos") 1 ∷ [])) ≡ plain 4
   -- lines
-  pub wide_valid : fit (input (codes "clk") 1 ∷ output (codes "out__valid") 2 ∷ output (codes "out__eos") 1 ∷ []) ≡ Err (Port 1)
-  pub end_as_input : fit (input (codes "clk") 1 ∷ output (codes "out__valid") 1 ∷ input (codes "out__eos") 1 ∷ []) ≡ Err (Port 2)
+  pub wide_valid : fit (input (codes "clk") 1 ∷ output (codes "out__valid") 2 ∷ output (codes "out__eos") 1 ∷ []) ≡ Err
+      (Port 1)
+  pub end_as_input : fit (input (codes "clk") 1 ∷ output (codes "out__valid") 1 ∷ input (codes "out__eos") 1 ∷ []) ≡ Err
+      (Port 2)
   pub wide_fault : fit (showing (output (codes "fault__queue") 2 ∷ [])) ≡ Err (Port 2)
   -- columns
   pub columns_32 : fit (showing (columns 32)) ≡ plain 34
@@ -82,7 +98,8 @@ pub record WorkedPorts : Type 0 where
   pub earlier : fit (showing (output (codes "out__n") 65 ∷ input (codes "x") 1 ∷ [])) ≡ Err (Port 2)
   -- what is lacking is told behind all ports
   pub no_clock : fit (output (codes "out__valid") 1 ∷ output (codes "out__eos") 1 ∷ []) ≡ Err Lacks
-  pub output_as_clock : fit (output (codes "clk") 1 ∷ output (codes "out__valid") 1 ∷ output (codes "out__eos") 1 ∷ []) ≡ Err Lacks
+  pub output_as_clock : fit (output (codes "clk") 1 ∷ output (codes "out__valid") 1 ∷ output (codes "out__eos") 1 ∷ [])
+      ≡ Err Lacks
   pub no_valid : fit (input (codes "clk") 1 ∷ output (codes "out__eos") 1 ∷ []) ≡ Err Lacks
   pub no_end : fit (input (codes "clk") 1 ∷ output (codes "out__valid") 1 ∷ []) ≡ Err Lacks
   pub bad_before_lacking : fit (output (codes "out__valid") 1 ∷ input (codes "x") 1 ∷ []) ≡ Err (Port 1)

@@ -24,8 +24,8 @@ pub record IsLocated (places : List ℕ) (w : WrittenModule) (s : Source) : Type
   pub name : IsAt places 1 s.name_at
   pub ports : AllZip (IsAt places) (port_tokens 3 w.ports) s.ports_at
 
--- the module of a text; its name and each port's name stand at these places. The name stands behind `module`, the ports behind the name and
--- a bracket
+-- the module of a text; its name and each port's name stand at these places. The name stands behind `module`, the ports
+-- behind the name and a bracket
 pub record IsSource (text : List ℕ) (s : Source) : Type 0 where
   pub written : WrittenModule
   pub spelled : tokens_of text ≡ spell written

@@ -39,4 +39,6 @@ count text q = length (tokens_of (take q text))
 
 -- each of these is the place of the token of its number, as far as a front of the text tells
 abbrev pub AreSoFar : List ℕ → ℕ → List ℕ → Type 0
-AreSoFar text at places = (k p : ℕ) → slice_get places k ≡ Some p → (p ≤ at) × (count text p ≤ k) × ((q : ℕ) → p < q → q ≤ at → k < count text q)
+AreSoFar text at places =
+    (k p : ℕ) → slice_get places k ≡ Some p → (p ≤ at) × (count text p ≤ k)
+    × ((q : ℕ) → p < q → q ≤ at → k < count text q)

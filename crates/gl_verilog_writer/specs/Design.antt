@@ -77,7 +77,8 @@ takes family ports (Input place w) = Some (Named (port_name ports place))
 takes family ports (Constant word) = Some (literal word.bits word.width)
 takes family ports (Not x) = Some (Prefix BitNot (named family x.node))
 takes family ports (Binary op x y) = Some (Infix (infix_of op) (named family x.node) (named family y.node))
-takes family ports (Choose test x y) = Some (Conditional (named family test.node) (named family x.node) (named family y.node))
+takes family ports (Choose test x y) =
+    Some (Conditional (named family test.node) (named family x.node) (named family y.node))
 takes family ports (Join x y) = Some (Braces (Parts (named family x.node) (named family y.node)))
 takes family ports (Cut x high low) = Some (PartOf (net_name family x.node) (decimal high) (decimal low))
 takes family ports (MemoryRead store x) = Some (WordOf (net_name family store.node) (named family x.node))
@@ -88,9 +89,11 @@ takes family ports (Memory bits w drive) = None
 abbrev pub does : ℕ → ℕ → Node → Option WrittenStatement
 does family n (Register w None (Some next)) = Some (Update (net_name family n) (named family next.node))
 does family n (Register w (Some value) (Some next)) =
-    Some (IfElse (Named (codes "rst")) (Update (net_name family n) (literal value w)) (Update (net_name family n) (named family next.node)))
+    Some (IfElse (Named (codes "rst")) (Update (net_name family n) (literal value w))
+    (Update (net_name family n) (named family next.node)))
 does family n (Memory bits w (Some drive)) =
-    Some (IfThen (named family drive.write.node) (UpdateWord (net_name family n) (named family drive.address.node) (named family drive.value.node)))
+    Some (IfThen (named family drive.write.node)
+    (UpdateWord (net_name family n) (named family drive.address.node) (named family drive.value.node)))
 does family n x = None
 
 -- ---- the module
@@ -130,7 +133,8 @@ abbrev pub range_of : ℕ → Range
 range_of width = if width == 1 then None else vector width
 
 abbrev pub written_port : List Node → Port → WrittenPort
-written_port nodes p = record { direction = leads p.direction; range = range_of (bits_of (shape_in nodes p.node)); name = p.name }
+written_port nodes p =
+    record { direction = leads p.direction; range = range_of (bits_of (shape_in nodes p.node)); name = p.name }
 
 abbrev pub clock_port : WrittenPort
 clock_port = record { direction = written.InWire; range = None; name = codes "clk" }
@@ -138,7 +142,8 @@ clock_port = record { direction = written.InWire; range = None; name = codes "cl
 -- all declarations, all assignments, the outputs, and all blocks
 abbrev pub items_of : ℕ → List Node → List Port → List WrittenItem
 items_of family nodes ports =
-    numbered (declaring family) 0 nodes ++ numbered (assigning family ports) 0 nodes ++ numbered (showing family) 0 ports ++ numbered (clocking family) 0 nodes
+    numbered (declaring family) 0 nodes ++ numbered (assigning family ports) 0 nodes ++ numbered (showing family)
+    0 ports ++ numbered (clocking family) 0 nodes
 
 abbrev pub written_of : Net → WrittenModule
 written_of net = record {

@@ -26,17 +26,19 @@ declaration_of net p =
 abbrev pub clock : Declaration
 clock = record { name = codes "clk"; width = 1; is_vector = false; kind = Input }
 
--- a run of the module is one of the netlist: its ports, the clock aside, show in each cycle what the netlist's do, and so do
--- its input ports alone
+-- a run of the module is one of the netlist: its ports, the clock aside, show in each cycle what the netlist's do, and
+-- so do its input ports alone
 pub record IsRunOf (net : Net) (m : Module) (value : ℕ → Nets) : Type 0 where
   pub run : Run
   pub trace : IsTrace net run
-  pub ports : (t : ℕ) (name : List ℕ) → bytes_eq name (codes "clk") ≡ false → port_of m value t name ≡ port_values net run t name
-  pub inputs : (t : ℕ) (name : List ℕ) → bytes_eq name (codes "clk") ≡ false → input_values m value t name ≡ circuit.input_values net run t name
+  pub ports : (t : ℕ) (name : List ℕ) → bytes_eq name (codes "clk") ≡ false
+      → port_of m value t name ≡ port_values net run t name
+  pub inputs : (t : ℕ) (name : List ℕ) → bytes_eq name (codes "clk") ≡ false
+      → input_values m value t name ≡ circuit.input_values net run t name
 
--- the text has a module of the netlist's name and ports, whose assignments stand in an order in which each reads only what is driven
--- before it; it declares the netlist's register bits and memory bits, and each of its runs, from any start and with any inputs,
--- is one of the netlist
+-- the text has a module of the netlist's name and ports, whose assignments stand in an order in which each reads only
+-- what is driven before it; it declares the netlist's register bits and memory bits, and each of its runs, from any
+-- start and with any inputs, is one of the netlist
 pub record IsTextOf (net : Net) (text : List ℕ) : Type 0 where
   pub design : Module
   pub has : HasModule text design

@@ -40,9 +40,11 @@ expr_text (Conditional test yes' no') = expr_text test ++ codes " ? " ++ expr_te
 -- a statement
 abbrev pub statement_text : WrittenStatement → List ℕ
 statement_text (Update target value) = target ++ codes " <= " ++ expr_text value ++ codes ";\n"
-statement_text (UpdateWord target address value) = target ++ codes "[" ++ expr_text address ++ codes "] <= " ++ expr_text value ++ codes ";\n"
+statement_text (UpdateWord target address value) =
+    target ++ codes "[" ++ expr_text address ++ codes "] <= " ++ expr_text value ++ codes ";\n"
 statement_text (IfThen test yes') = codes "if (" ++ expr_text test ++ codes ") " ++ statement_text yes'
-statement_text (IfElse test yes' no') = codes "if (" ++ expr_text test ++ codes ") " ++ statement_text yes' ++ codes "else " ++ statement_text no'
+statement_text (IfElse test yes' no') =
+    codes "if (" ++ expr_text test ++ codes ") " ++ statement_text yes' ++ codes "else " ++ statement_text no'
 statement_text (Block statements) = codes "begin " ++ statement_text statements ++ codes "end\n"
 statement_text (Listed first rest) = statement_text first ++ statement_text rest
 statement_text Ended = []

@@ -4,7 +4,8 @@ use Rattle.std.specs.List.{sum_by}
 use Rattle.gl_net.specs.declared.node.Port.{Port}
 use Rattle.gl_net.specs.Net.{Net}
 
--- a port has a line in the head, and an output an assignment that shows its node: the name twice, and 60 bytes around it
+-- a port has a line in the head, and an output an assignment that shows its node: the name twice, and 60 bytes around
+-- it
 abbrev pub port_bytes : Port → ℕ
 port_bytes p = 60 + 2 * length p.name
 

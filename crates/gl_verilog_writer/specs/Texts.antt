@@ -57,7 +57,8 @@ next_ports_text nodes ports = more_ports_text (map (written_port nodes) ports)
 -- the head is put behind what there was, whatever items follow
 abbrev pub PutsHead : (old new name : List ℕ) → List Node → List Port → Type 0
 PutsHead old new name nodes ports =
-    (items : List WrittenItem) → new ≡ old ++ head_text (record { name = name; ports = clock_port ∷ map (written_port nodes) ports; items = items })
+    (items : List WrittenItem) → new ≡ old ++ head_text
+    (record { name = name; ports = clock_port ∷ map (written_port nodes) ports; items = items })
 
 abbrev pub shown_text : ℕ → Port → List ℕ
 shown_text family port = option_map_or item_text (shows family port.direction port.name port.node) []
@@ -78,7 +79,9 @@ blocks_text family nodes = items_text (numbered (clocking family) 0 nodes)
 
 -- one part after the other
 abbrev pub parts_text : ℕ → List Node → List Port → List ℕ
-parts_text family nodes ports = declarations_text family nodes ++ sets_text family nodes ports ++ shows_text family ports ++ blocks_text family nodes
+parts_text family nodes ports =
+    declarations_text family nodes ++ sets_text family nodes ports ++ shows_text family ports
+    ++ blocks_text family nodes
 
 abbrev pub body_text : ℕ → List Node → List Port → List ℕ
 body_text family nodes ports = items_text (items_of family nodes ports)

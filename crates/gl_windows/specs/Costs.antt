@@ -6,7 +6,8 @@ use Rattle.gl_wire.specs.Costs.{Cost}
 use Rattle.gl_wire.specs.Counted.{AreNarrow}
 use Rattle.gl_wire_registers.specs.Joins.{cost_of_back}
 
--- a front of so many copies over a source of these columns, and the line of ends, which comes so many cycles behind a timer
+-- a front of so many copies over a source of these columns, and the line of ends, which comes so many cycles behind a
+-- timer
 abbrev pub cost_of_front : ℕ → ℕ → List ℕ → Cost
 cost_of_front copies delay source = record {
   nodes = copies * 16 + length source * 2 + delay + 90;
@@ -39,4 +40,5 @@ counted_for copies delay source own = weight_of_copies copies 0 (length source +
 abbrev pub RotationsAreCounted : Type 0
 RotationsAreCounted =
     (copies delay : ℕ) (source own : List ℕ) → AreNarrow source → AreNarrow own
-    → IsCounted (cost_of_rotation copies delay source own) (counted_for copies delay source own) (counted_for copies delay source own)
+    → IsCounted (cost_of_rotation copies delay source own) (counted_for copies delay source own)
+    (counted_for copies delay source own)

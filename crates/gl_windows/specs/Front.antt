@@ -5,8 +5,8 @@ use Rattle.gl_wire.specs.Wire.{Carried}
 use Rattle.gl_wire_copies.specs.Lift.{Visits}
 
 -- the registers: tuples before the next window opens; tuples up to and with the one that completes the oldest window;
--- the windows opened and closed so far (a circuit keeps the remainders by the copies); a flag for each copy; whether an end was
--- the last that came; the cycles before the next open copy takes its end; the tuple that came with the end
+-- the windows opened and closed so far (a circuit keeps the remainders by the copies); a flag for each copy; whether an
+-- end was the last that came; the cycles before the next open copy takes its end; the tuple that came with the end
 pub record Front : Type 0 where
   pub until : ℕ
   pub left : ℕ
@@ -18,11 +18,22 @@ pub record Front : Type 0 where
   pub held : Option Row
 
 abbrev pub start : ℕ → Front
-start size = record { until = 0; left = size; opened = 0; closed = 0; is_open = λ k. false; flush = false; wait = 0; held = None }
+start size =
+    record {
+      until = 0;
+      left = size;
+      opened = 0;
+      closed = 0;
+      is_open = λ k. false;
+      flush = false;
+      wait = 0;
+      held = None;
+    }
 
 -- a window opens
 abbrev pub one_opened : ℕ → ℕ → Front → Front
-one_opened advance count s = record s { until = advance - 1; opened = suc s.opened; is_open = λ k. s.is_open k || nat_eq k (s.opened % count) }
+one_opened advance count s =
+    record s { until = advance - 1; opened = suc s.opened; is_open = λ k. s.is_open k || nat_eq k (s.opened % count) }
 
 abbrev pub one_nearer : Front → Front
 one_nearer s = record s { until = s.until - 1 }
@@ -42,7 +53,9 @@ closing count false None t = (t.flush && nat_eq t.wait 0) && t.is_open (t.closed
 abbrev pub taken : ℕ → Bool → Option Row → Front → ℕ → Option Row
 taken count true o t k = if t.is_open (t.closed % count) && nat_eq k (t.closed % count) then o else None
 taken count false (Some r) t k = if t.is_open k then Some r else None
-taken count false None t k = if ((t.flush && nat_eq t.wait 0) && t.is_open (t.closed % count)) && nat_eq k (t.closed % count) then t.held else None
+taken count false None t k =
+    if ((t.flush && nat_eq t.wait 0) && t.is_open (t.closed % count)) && nat_eq k (t.closed % count) then t.held
+    else None
 
 abbrev pub one_closed : ℕ → Front → Front
 one_closed count t = record t { closed = suc t.closed; is_open = λ k. t.is_open k && not (nat_eq k (t.closed % count)) }
@@ -54,8 +67,10 @@ closed_by count true t = one_closed count t
 -- the other counters
 abbrev pub counted : ℕ → ℕ → ℕ → Bool → Option Row → Front → Front
 counted size advance stride true o t = record t { until = 0; left = size; flush = true; wait = stride - 1; held = o }
-counted size advance stride false (Some r) t = record t { left = if nat_eq t.left 1 then advance else (t.left - 1); flush = false }
-counted size advance stride false None t = record t { wait = if t.flush then (if nat_eq t.wait 0 then stride - 1 else (t.wait - 1)) else t.wait }
+counted size advance stride false (Some r) t =
+    record t { left = if nat_eq t.left 1 then advance else (t.left - 1); flush = false }
+counted size advance stride false None t =
+    record t { wait = if t.flush then (if nat_eq t.wait 0 then stride - 1 else (t.wait - 1)) else t.wait }
 
 abbrev pub next : ℕ → ℕ → ℕ → ℕ → Bool → Option Row → Front → Front
 next size advance count stride e o s =
@@ -65,7 +80,8 @@ next size advance count stride e o s =
 -- the registers in each cycle
 abbrev pub states : ℕ → ℕ → ℕ → ℕ → Carried → ℕ → Front
 states size advance count stride a zero = start size
-states size advance count stride a (suc c) = next size advance count stride (a.ends c) (a.tuple c) (states size advance count stride a c)
+states size advance count stride a (suc c) =
+    next size advance count stride (a.ends c) (a.tuple c) (states size advance count stride a c)
 
 -- and with what this cycle opens
 abbrev pub mid : ℕ → ℕ → ℕ → ℕ → Carried → ℕ → Front

@@ -1,4 +1,5 @@
--- The laws of windows: front, copies and back serve, whatever netlist they stand in; and the windows of a plan have a rotation.
+-- The laws of windows: front, copies and back serve, whatever netlist they stand in; and the windows of a plan have a
+-- rotation.
 use Rattle.std.specs.Prelude.{◌≡◌, ℕ, ◌≤◌, Bool}
 use Rattle.gl_algebra.specs.declared.figures.Figures.{Figures}
 use Rattle.gl_algebra.specs.FigureTable.{AreSmall, IsSound, stride_of, windows_over}

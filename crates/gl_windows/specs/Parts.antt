@@ -13,7 +13,8 @@ use Rattle.gl_windows.specs.declared.parts.Tail.{Tail}
 
 -- when a copy opens: at a tuple, where none is to come before
 pub record IsOpening (run : Run) (valid eos : Bit) (advance : ℕ) (o : Opening) : Type 0 where
-  pub next : (t : ℕ) → held_at 0 run o.until (suc t) ≡ counted_down 0 (advance - 1) (line_at run eos t) (line_at run valid t) (held_at 0 run o.until t)
+  pub next : (t : ℕ) → held_at 0 run o.until (suc t) ≡ counted_down 0 (advance - 1) (line_at run eos t)
+      (line_at run valid t) (held_at 0 run o.until t)
   pub opens : (t : ℕ) → line_at run o.opens t ≡ (line_at run valid t && nat_eq (held_at 0 run o.until t) 0)
 
 pub record AddsOpening (old new : Net) (valid eos : Bit) (advance : ℕ) (o : Opening) : Type 0 where
@@ -24,10 +25,12 @@ pub record AddsOpening (old new : Net) (valid eos : Bit) (advance : ℕ) (o : Op
 
 -- the flush after an end, up to the next tuple: in which cycles a copy has its turn
 pub record IsFlush (run : Run) (valid eos : Bit) (stride : ℕ) (f : Flush) : Type 0 where
-  pub next : (t : ℕ) → line_at run f.flush (suc t) ≡ (line_at run eos t || (line_at run f.flush t && not (line_at run valid t)))
+  pub next : (t : ℕ) → line_at run f.flush (suc t)
+      ≡ (line_at run eos t || (line_at run f.flush t && not (line_at run valid t)))
   pub idle : (t : ℕ) → line_at run f.idle t ≡ (line_at run f.flush t && not (line_at run valid t))
   pub next_wait : (t : ℕ)
-      → held_at 0 run f.wait (suc t) ≡ counted_down (stride - 1) (stride - 1) (line_at run eos t) (line_at run f.idle t) (held_at 0 run f.wait t)
+      → held_at 0 run f.wait (suc t) ≡ counted_down (stride - 1) (stride - 1) (line_at run eos t) (line_at run f.idle t)
+      (held_at 0 run f.wait t)
   pub due : (t : ℕ) → line_at run f.due t ≡ (line_at run f.idle t && nat_eq (held_at 0 run f.wait t) 0)
 
 pub record AddsFlush (old new : Net) (valid eos : Bit) (stride : ℕ) (f : Flush) : Type 0 where
@@ -40,9 +43,11 @@ pub record AddsFlush (old new : Net) (valid eos : Bit) (stride : ℕ) (f : Flush
 -- when the oldest copy ends, if it is open: with the end, with its last tuple, or in its turn
 pub record IsTrigger (run : Run) (valid eos due : Bit) (size advance : ℕ) (r : Trigger) : Type 0 where
   pub next : (t : ℕ)
-      → held_at (size - 1) run r.left (suc t) ≡ counted_down (size - 1) (advance - 1) (line_at run eos t) (line_at run valid t) (held_at (size - 1) run r.left t)
+      → held_at (size - 1) run r.left (suc t) ≡ counted_down (size - 1) (advance - 1) (line_at run eos t)
+      (line_at run valid t) (held_at (size - 1) run r.left t)
   pub trigger : (t : ℕ)
-      → line_at run r.trigger t ≡ (line_at run eos t || ((line_at run valid t && nat_eq (held_at (size - 1) run r.left t) 0) || line_at run due t))
+      → line_at run r.trigger t ≡ (line_at run eos t
+      || ((line_at run valid t && nat_eq (held_at (size - 1) run r.left t) 0) || line_at run due t))
 
 pub record AddsTrigger (old new : Net) (valid eos due : Bit) (size advance : ℕ) (r : Trigger) : Type 0 where
   pub keeps : Keeps old new
@@ -52,9 +57,11 @@ pub record AddsTrigger (old new : Net) (valid eos due : Bit) (size advance : ℕ
 
 -- whether the copy that ends takes the row that came with the end
 pub record IsTail (run : Run) (valid eos idle : Bit) (r : Tail) : Type 0 where
-  pub next : (t : ℕ) → line_at run r.held (suc t) ≡ ((line_at run eos t && line_at run valid t) || (line_at run r.held t && not (line_at run eos t)))
+  pub next : (t : ℕ) → line_at run r.held (suc t)
+      ≡ ((line_at run eos t && line_at run valid t) || (line_at run r.held t && not (line_at run eos t)))
   pub tail : (t : ℕ)
-      → line_at run r.tail t ≡ ((line_at run eos t && line_at run valid t) || ((line_at run idle t && line_at run r.held t) && not (line_at run eos t)))
+      → line_at run r.tail t ≡ ((line_at run eos t && line_at run valid t)
+      || ((line_at run idle t && line_at run r.held t) && not (line_at run eos t)))
 
 pub record AddsTail (old new : Net) (valid eos idle : Bit) (r : Tail) : Type 0 where
   pub keeps : Keeps old new
@@ -62,11 +69,13 @@ pub record AddsTail (old new : Net) (valid eos idle : Bit) (r : Tail) : Type 0 w
   pub cost : Costs old new (with_registers 7 1)
   pub law : (run : Run) → IsRun new run → IsTail run valid eos idle r
 
--- for each copy whether it takes the row: each open one a tuple without the end, the one that ends what came with the end
+-- for each copy whether it takes the row: each open one a tuple without the end, the one that ends what came with the
+-- end
 pub record TakesOf (old new : Net) (valid eos tail : Bit) (mids ends bs : List Bit) : Type 0 where
   pub keeps : Keeps old new
   pub count : length bs ≡ length mids
   pub bits : AreBits new bs
   pub cost : Costs old new (nodes_alone (length mids * 3 + 1))
   pub line : (run : Run) → IsRun new run → (k t : ℕ) → k < length mids
-      → line_of run bs k t ≡ ((line_of run mids k t && (line_at run valid t && not (line_at run eos t))) || (line_of run ends k t && line_at run tail t))
+      → line_of run bs k t ≡ ((line_of run mids k t && (line_at run valid t && not (line_at run eos t)))
+      || (line_of run ends k t && line_at run tail t))

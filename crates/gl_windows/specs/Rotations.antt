@@ -1,4 +1,5 @@
--- A rotation of windows over copies of a body, in a netlist: the front before the copies, the back behind them, and what both serve.
+-- A rotation of windows over copies of a body, in a netlist: the front before the copies, the back behind them, and
+-- what both serve.
 use Rattle.std.specs.Prelude.{◌≡◌, ℕ, ◌+◌, ◌*◌, ◌^◌, ◌<◌, ◌≤◌, List, length, Some, slice_get}
 use Rattle.std.specs.List.{sum}
 use Rattle.gl_algebra.specs.declared.figures.Figures.{Figures}
@@ -28,7 +29,8 @@ use Rattle.gl_wire_registers.specs.Joins.{columns_of, cost_of_back, gives_of, to
 use Rattle.gl_wire_copies.specs.Bodies.{OfBody}
 use Rattle.gl_windows.specs.Front.{IsFront}
 
--- numbers of a rotation: there are copies for all windows that can be open at once, the body waits for the end, and a flush can be timed
+-- numbers of a rotation: there are copies for all windows that can be open at once, the body waits for the end, and a
+-- flush can be timed
 pub record IsRotation (r : Rotation) : Type 0 where
   pub rows : 1 ≤ r.size
   pub step : 1 ≤ r.advance
@@ -41,7 +43,8 @@ pub record IsRotation (r : Rotation) : Type 0 where
 -- wires behind the machine of a front
 pub record AreFronts (old new : Net) (size advance count stride : ℕ) (source : Wire) (ws : List Wire) : Type 0 where
   pub keeps : Keeps old new
-  pub cost : Costs old new (with_registers (count * 16 + length (widths source.columns) * 2 + 70) (count * 3 + sum (widths source.columns) + 162))
+  pub cost : Costs old new (with_registers (count * 16 + length (widths source.columns) * 2 + 70)
+      (count * 3 + sum (widths source.columns) + 162))
   pub as_many : length ws ≡ count
   pub wires : (k : ℕ) (w : Wire) → slice_get ws k ≡ Some w → IsWire new w × (widths w.columns ≡ widths source.columns)
   pub front : (run : Run) → IsRun new run → IsFront size advance count stride (carried run source) (carried_of run ws)
@@ -56,7 +59,8 @@ pub record Fronts (net : Net) (r : Rotation) (f : Fronted) : Type 0 where
   pub source : IsWire net f.source.wire
   pub lines : AreLines net f.source.faults
   pub as_many : length f.wires ≡ r.copies
-  pub wires : (k : ℕ) (w : Wire) → slice_get f.wires k ≡ Some w → IsWire net w × (widths w.columns ≡ widths f.source.wire.columns)
+  pub wires : (k : ℕ) (w : Wire) → slice_get f.wires k ≡ Some w → IsWire net w
+      × (widths w.columns ≡ widths f.source.wire.columns)
   pub close : IsBit net f.close
   pub front : (run : Run) → IsRun net run
       → IsFront r.size r.advance r.copies (stride_of r.body) (carried run f.source.wire) (carried_of run f.wires)
@@ -70,15 +74,17 @@ pub record IsFronted (old new : Net) (r : Rotation) (source : Emitted) (f : Fron
   pub same : f.source ≡ source
   pub fronts : Fronts new r f
 
--- wherever each copy gives a body's results over the beats of its own wire, the whole gives those of all windows, joined, over all beats
--- that are spaced by the whole's figures, of a source that fits its own and carries far enough apart
+-- wherever each copy gives a body's results over the beats of its own wire, the whole gives those of all windows,
+-- joined, over all beats that are spaced by the whole's figures, of a source that fits its own and carries far enough
+-- apart
 abbrev pub ServesWindows : Rotation → Figures → Carried → (ℕ → Carried) → (ℕ → Carried) → (ℕ → Lines) → Carried → Type 0
 ServesWindows r f a ins outs lines b =
     (nodes : List PlanNode) (body : ℕ) (beats : Beats) → Spaced (windows_over r.copies f r.body) beats → Fits f beats a
     → CarriesApart (window_gap r.body) a
     → ((k : ℕ) → k < r.copies → Spaced r.body (beats_of (ins k))
     → Serving r.body (λ u. OfBody nodes body (stream (ins k) u)) (lines k) (beats_of (ins k)) (outs k))
-    → ServedWithLines f (windows_over r.copies f r.body) (λ xs ys p. AreJoined (OfBody nodes body) (slices r.size r.advance xs) ys p)
+    → ServedWithLines f (windows_over r.copies f r.body)
+    (λ xs ys p. AreJoined (OfBody nodes body) (slices r.size r.advance xs) ys p)
     (lines_of_all lines r.copies) beats a b
 
 -- a back behind the copies of a front: what it costs, its lines, and what the whole serves
@@ -89,6 +95,8 @@ pub record IsBacked (old new : Net) (r : Rotation) (f : Fronted) (copies : List 
   pub same_widths : widths e.wire.columns ≡ columns_of copies
   pub lines : AreLines new e.faults
   pub told : (run : Run) → IsRun new run
-      → SameLines (lines_of run e.faults) (both_lines (lines_of run f.source.faults) (lines_of_all (told_of run copies) r.copies))
+      → SameLines (lines_of run e.faults) (both_lines (lines_of run f.source.faults)
+      (lines_of_all (told_of run copies) r.copies))
   pub serves : (run : Run) → IsRun new run → (source : Figures) → IsSound source
-      → ServesWindows r source (carried run f.source.wire) (carried_of run f.wires) (gives_of run copies) (told_of run copies) (carried run e.wire)
+      → ServesWindows r source (carried run f.source.wire) (carried_of run f.wires) (gives_of run copies)
+      (told_of run copies) (carried run e.wire)

@@ -10,7 +10,8 @@ use Rattle.gl_windows.specs.declared.turns.Turn.{Turn}
 use Rattle.gl_windows.specs.declared.turns.OpenCopies.{OpenCopies}
 
 -- what the lines that open and end copies tell, and the next pointer to the oldest one
-pub record Turns (old new : Net) (count : ℕ) (opens : Bit) (opened : Bus) (trigger : Bit) (flags : List Bit) (oldest : Bus) (r : Turn) : Type 0 where
+pub record Turns (old new : Net) (count : ℕ) (opens : Bit) (opened : Bus) (trigger : Bit) (flags : List Bit)
+    (oldest : Bus) (r : Turn) : Type 0 where
   pub keeps : Keeps old new
   pub mids : AreBits new r.mids
   pub ends : AreBits new r.ends
@@ -21,23 +22,31 @@ pub record Turns (old new : Net) (count : ℕ) (opens : Bit) (opened : Bus) (tri
   pub next : IsBus new r.next
   pub next_width : r.next.width ≡ 32
   pub cost : Costs old new (nodes_alone (count * 10 + 8))
-  pub mid : (run : Run) → IsRun new run → (k t : ℕ) → k < count → line_of run r.mids k t ≡ (line_of run flags k t || pointed opens opened run k t)
-  pub end : (run : Run) → IsRun new run → (k t : ℕ) → k < count → line_of run r.ends k t ≡ (pointed trigger oldest run k t && line_of run r.mids k t)
-  pub stays : (run : Run) → IsRun new run → (k t : ℕ) → k < count → line_of run r.kept k t ≡ (line_of run r.mids k t && not (line_of run r.ends k t))
+  pub mid : (run : Run) → IsRun new run → (k t : ℕ) → k < count
+      → line_of run r.mids k t ≡ (line_of run flags k t || pointed opens opened run k t)
+  pub end : (run : Run) → IsRun new run → (k t : ℕ) → k < count
+      → line_of run r.ends k t ≡ (pointed trigger oldest run k t && line_of run r.mids k t)
+  pub stays : (run : Run) → IsRun new run → (k t : ℕ) → k < count
+      → line_of run r.kept k t ≡ (line_of run r.mids k t && not (line_of run r.ends k t))
   pub turn : (run : Run) → IsRun new run → (t : ℕ) → run.at (suc t) oldest.node ≤ count - 1
-      → run.at (suc t) r.next.node ≡ turned (count - 1) (any_to count (λ k. line_of run r.ends k (suc t))) (run.at (suc t) oldest.node)
+      → run.at (suc t) r.next.node ≡ turned (count - 1) (any_to count (λ k. line_of run r.ends k (suc t)))
+      (run.at (suc t) oldest.node)
 
 -- the same with the flags and the pointer in registers
 pub record Rotating (run : Run) (count : ℕ) (opens : Bit) (opened : Bus) (trigger : Bit) (r : OpenCopies) : Type 0 where
   pub mid : (k t : ℕ) → k < count → line_of run r.mids k t ≡ (line_of run r.flags k t || pointed opens opened run k t)
-  pub end : (k t : ℕ) → k < count → line_of run r.ends k t ≡ (pointed trigger r.oldest run k t && line_of run r.mids k t)
-  pub flag : (k t : ℕ) → k < count → line_of run r.flags k (suc t) ≡ (line_of run r.mids k t && not (line_of run r.ends k t))
+  pub end : (k t : ℕ) → k < count → line_of run r.ends k t
+      ≡ (pointed trigger r.oldest run k t && line_of run r.mids k t)
+  pub flag : (k t : ℕ) → k < count → line_of run r.flags k (suc t)
+      ≡ (line_of run r.mids k t && not (line_of run r.ends k t))
   pub flag_first : (k : ℕ) → k < count → line_of run r.flags k 0 ≡ false
   pub below : (t : ℕ) → held_at 0 run r.oldest t ≤ count - 1
-  pub oldest : (t : ℕ) → held_at 0 run r.oldest (suc t) ≡ turned (count - 1) (any_to count (λ k. line_of run r.ends k t)) (held_at 0 run r.oldest t)
+  pub oldest : (t : ℕ) → held_at 0 run r.oldest (suc t) ≡ turned (count - 1)
+      (any_to count (λ k. line_of run r.ends k t)) (held_at 0 run r.oldest t)
 
 -- such copies more
-pub record AddsRotation (old new : Net) (count : ℕ) (opens : Bit) (opened : Bus) (trigger : Bit) (r : OpenCopies) : Type 0 where
+pub record AddsRotation (old new : Net) (count : ℕ) (opens : Bit) (opened : Bus) (trigger : Bit) (r : OpenCopies)
+    : Type 0 where
   pub keeps : Keeps old new
   pub mids : AreBits new r.mids
   pub ends : AreBits new r.ends

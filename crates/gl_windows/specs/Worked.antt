@@ -24,22 +24,26 @@ wire_with tuples ends = record { tuple = tuples_in tuples; ends = ends_in ends }
 -- what the wire of a copy carries
 abbrev pub copy_tuple : ℕ → ℕ → ℕ → ℕ → Carried → ℕ → ℕ → Option Row
 copy_tuple size advance count stride a k zero = None
-copy_tuple size advance count stride a k (suc c) = taken count (a.ends c) (a.tuple c) (mid size advance count stride a c) k
+copy_tuple size advance count stride a k (suc c) =
+    taken count (a.ends c) (a.tuple c) (mid size advance count stride a c) k
 
 abbrev pub copy_end : ℕ → ℕ → ℕ → ℕ → Carried → ℕ → ℕ → Bool
 copy_end size advance count stride a k zero = false
-copy_end size advance count stride a k (suc c) = closes size advance count stride a c && nat_eq k (oldest size advance count stride a c)
+copy_end size advance count stride a k (suc c) =
+    closes size advance count stride a c && nat_eq k (oldest size advance count stride a c)
 
 -- the cycles and the streams of the visits in the first n cycles
 abbrev pub visits_in : ℕ → ℕ → ℕ → ℕ → Carried → ℕ → List (ℕ × List Row)
 visits_in size advance count stride a n =
     visits (who_ends size advance count stride a)
-    (λ k. record { tuple = copy_tuple size advance count stride a k; ends = copy_end size advance count stride a k }) 0 n
+    (λ k. record { tuple = copy_tuple size advance count stride a k; ends = copy_end size advance count stride a k })
+    0 n
 
 -- five tuples and then the end alone; much later one tuple with the end
 abbrev pub two_streams : Carried
 two_streams =
-    wire_with (None ∷ Some 1 ∷ Some 2 ∷ Some 3 ∷ Some 4 ∷ Some 5 ∷ None ∷ None ∷ None ∷ None ∷ None ∷ None ∷ None ∷ None ∷ Some 9 ∷ [])
+    wire_with (None ∷ Some 1 ∷ Some 2 ∷ Some 3 ∷ Some 4 ∷ Some 5 ∷ None ∷ None ∷ None ∷ None ∷ None ∷ None ∷ None ∷ None
+    ∷ Some 9 ∷ [])
     (6 ∷ 14 ∷ [])
 
 -- five tuples, the last one with the end
@@ -47,8 +51,8 @@ abbrev pub one_stream : Carried
 one_stream = wire_with (None ∷ Some 1 ∷ Some 2 ∷ Some 3 ∷ Some 4 ∷ Some 5 ∷ []) (5 ∷ [])
 
 pub record WorkedWindows : Type 0 where
-  -- windows of 4 rows, one from each second row on, over two copies that have their turns 3 cycles apart: the first one is full with
-  -- tuple 4; two are open at the end and end in their turns; the next stream begins anew
+  -- windows of 4 rows, one from each second row on, over two copies that have their turns 3 cycles apart: the first one
+  -- is full with tuple 4; two are open at the end and end in their turns; the next stream begins anew
   pub overlap : visits_in 4 2 2 3 two_streams 18 ≡
       (5, (1 ∷ []) ∷ (2 ∷ []) ∷ (3 ∷ []) ∷ (4 ∷ []) ∷ [])
       ∷ (7, (3 ∷ []) ∷ (4 ∷ []) ∷ (5 ∷ []) ∷ [])

@@ -40,6 +40,7 @@ pub fn put_front(
     let open = rotate(alloc, net, opening.opens, opened, trigger.trigger, count)?;
     let takes = take_rows(alloc, net, v, e, tail.tail, &open.mids, &open.ends)?;
     let row = hold_all(alloc, net, v, &wire.columns)?;
+    // Named, since a goal speaks of the value.
     let wires = copy_wires(alloc, net, &takes, &open.ends, &row)?;
     Ok(wires)
 }

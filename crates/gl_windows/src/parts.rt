@@ -151,6 +151,7 @@ pub fn take_rows(
     let alone = but_not(net, valid, eos)?;
     let each = with_all(alloc, net, LineOp::Both, mids, alone)?;
     let last = with_all(alloc, net, LineOp::Both, ends, tail)?;
+    // Named, since a goal speaks of the value.
     let takes = pairwise(alloc, net, LineOp::Either, &each, &last)?;
     Ok(takes)
 }

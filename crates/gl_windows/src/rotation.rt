@@ -102,6 +102,7 @@ impl Rotation {
         requires count { length copies.now ≡ self.now.copies }
         ensures { IfOk result (IsBacked net.old net.new self.now front.now copies.now) }
     {
+        // Named, since a goal speaks of the value.
         let whole = join_all(alloc, net, front.source.faults, front.close, copies)?;
         Ok(whole)
     }

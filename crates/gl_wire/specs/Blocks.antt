@@ -9,7 +9,8 @@ use Rattle.gl_wire.specs.Spills.{Condition, Lines, Relation, Relation2, SameLine
 use Rattle.gl_wire.specs.Wire.{Carried, IsWire, carried, widths}
 
 -- a block behind a wire, with the lines that there are: its wire has this shape in every run
-pub record IsBehind (old new : Net) (Shape : Carried → Carried → Type 0) (columns : List ℕ) (most : Cost) (a b : Emitted) : Type 0 where
+pub record IsBehind (old new : Net) (Shape : Carried → Carried → Type 0) (columns : List ℕ) (most : Cost)
+    (a b : Emitted) : Type 0 where
   pub keeps : Keeps old new
   pub cost : CostsAtMost old new most
   pub wire : IsWire new b.wire
@@ -18,7 +19,8 @@ pub record IsBehind (old new : Net) (Shape : Carried → Carried → Type 0) (co
   pub shape : (run : Run) → IsRun new run → Shape (carried run a.wire) (carried run b.wire)
 
 -- a block behind a wire, with lines of its own
-pub record IsBehindLines (old new : Net) (f g : Figures) (means : Relation) (columns : List ℕ) (most : Cost) (a b : Emitted) : Type 0 where
+pub record IsBehindLines (old new : Net) (f g : Figures) (means : Relation) (columns : List ℕ) (most : Cost)
+    (a b : Emitted) : Type 0 where
   pub keeps : Keeps old new
   pub cost : CostsAtMost old new most
   pub wire : IsWire new b.wire

@@ -20,4 +20,5 @@ pub record IsCounted (cost : Cost) (weight lean store : ℕ) : Type 0 where
 abbrev pub IsCountedAt : (ℕ → Shape) → (ℕ → Figures) → PlanNode → List ℕ → Cost → Type 0
 IsCountedAt shapes figures node columns cost =
     IsCounted cost (own_weight shapes figures (λ body. 0) (length columns + 2) node)
-    (own_lean shapes figures (λ body. 0) (length columns + 2) node) (own_store shapes figures (λ body. 0) (length columns + 2) node)
+    (own_lean shapes figures (λ body. 0) (length columns + 2) node)
+    (own_store shapes figures (λ body. 0) (length columns + 2) node)

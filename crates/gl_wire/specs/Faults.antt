@@ -41,4 +41,5 @@ pub record AreBoth (old new : Net) (left right faults : Faults) : Type 0 where
   pub keeps : Keeps old new
   pub cost : CostsAtMost old new (nodes_alone 2)
   pub are : AreLines new faults
-  pub lines : (run : Run) → IsRun new run → SameLines (lines_of run faults) (both_lines (lines_of run left) (lines_of run right))
+  pub lines : (run : Run) → IsRun new run → SameLines (lines_of run faults)
+      (both_lines (lines_of run left) (lines_of run right))

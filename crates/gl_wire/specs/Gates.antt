@@ -1,5 +1,5 @@
--- Gates on lines. A line counts as 0 in the reset cycle, so that each equation here holds in every cycle; there is no gate `not`, whose
--- line would be 0 there.
+-- Gates on lines. A line counts as 0 in the reset cycle, so that each equation here holds in every cycle; there is no
+-- gate `not`, whose line would be 0 there.
 use Rattle.std.specs.Prelude.{◌≡◌, ℕ, zero, suc, Bool, false, nat_eq}
 use Rattle.gl_net.specs.declared.node.Bus.{Bus}
 use Rattle.gl_net.specs.declared.node.Bit.{Bit}

@@ -1,4 +1,5 @@
--- Laws of serving that speak of no meaning in general; the others are lemmas, since a clause cannot range over meanings.
+-- Laws of serving that speak of no meaning in general; the others are lemmas, since a clause cannot range over
+-- meanings.
 use Rattle.std.specs.Prelude.{◌≡◌, ℕ, ◌+◌, ◌-◌, ◌≤◌, List, Option, false}
 use Rattle.gl_bits.specs.Results.{Row}
 use Rattle.gl_algebra.specs.declared.figures.Figures.{Figures}
@@ -15,7 +16,8 @@ use Rattle.gl_wire.specs.Wire.{Carried}
 -- a steady block serves the rows computed or dropped one by one, with its delay
 abbrev pub SteadyServes : Type 0
 SteadyServes =
-    (m : ℕ) (step : Row → Option Row) (a b : Carried) (f : Figures) → Steady m step a b → Serves f (delayed m f) (Mapped step) a b
+    (m : ℕ) (step : Row → Option Row) (a b : Carried) (f : Figures) → Steady m step a b
+    → Serves f (delayed m f) (Mapped step) a b
 
 -- a block that gives one row at each end serves the total, with its delay
 abbrev pub EndsServe : Type 0

@@ -9,4 +9,5 @@ use Rattle.gl_wire.specs.Wire.{carried}
 -- in every run, a wire serves a meaning of what stands before it, for all sound figures
 abbrev pub ServesIn : Net → (Figures → Figures) → Meaning → Emitted → Emitted → Type 0
 ServesIn net figures means a b =
-    (run : Run) → IsRun net run → (f : Figures) → IsSound f → Serves f (figures f) means (carried run a.wire) (carried run b.wire)
+    (run : Run) → IsRun net run → (f : Figures) → IsSound f
+    → Serves f (figures f) means (carried run a.wire) (carried run b.wire)

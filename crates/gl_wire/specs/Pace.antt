@@ -1,4 +1,5 @@
--- Pace: in which cycles tuples come, against those of another wire or against the wire's own ends. It speaks of a run and of no beats.
+-- Pace: in which cycles tuples come, against those of another wire or against the wire's own ends. It speaks of a run
+-- and of no beats.
 use Rattle.std.specs.Prelude.{◌≡◌, ℕ, ◌+◌, ◌<◌, false, is_some}
 use Rattle.gl_algebra.specs.Shapes.{Pace, unsteady, once, with_stream, with_body}
 use Rattle.gl_wire.specs.Wire.{Carried}
@@ -13,7 +14,8 @@ pub record InStep (a : ℕ) (leaf b : Carried) : Type 0 where
 abbrev pub WithEnds : Carried → Type 0
 WithEnds b = (c : ℕ) → is_some (b.tuple c) ≡ b.ends c
 
--- the wire of a node of this pace, whose tuples come so many cycles behind those of its leaves; a body's input is leaf 0
+-- the wire of a node of this pace, whose tuples come so many cycles behind those of its leaves; a body's input is leaf
+-- 0
 abbrev pub KeepsPace : Pace → ℕ → (ℕ → Carried) → Carried → Type 0
 KeepsPace unsteady a leaves b = Unit {0}
 KeepsPace once a leaves b = WithEnds b

@@ -1,5 +1,5 @@
--- What a block of operators promises: that its output wire carries results in time.
--- It is the latency and the issue rate by which Mueller, Teubner and Alonso, PVLDB 2(1), 2009, judge circuits, for many streams in a row.
+-- What a block of operators promises: that its output wire carries results in time. It is the latency and the issue
+-- rate by which Mueller, Teubner and Alonso, PVLDB 2(1), 2009, judge circuits, for many streams in a row.
 use Rattle.std.specs.Prelude.{◌≡◌, ℕ, suc, ◌+◌, ◌-◌, ◌<◌, ◌≤◌, List, length, Some, None, Bool, true}
 use Rattle.gl_algebra.specs.declared.figures.Figures.{Figures}
 use Rattle.gl_bits.specs.Results.{Row}
@@ -34,7 +34,8 @@ pub record EndCaused (f : Figures) (beats : Beats) (c : ℕ) : Type 0 where
   pub low : beat + f.a ≤ c
   pub high : c ≤ beat + f.le
 
--- a wire fits its figures: each tuple and end in the interval of a beat, not too many tuples in one, one end for each beat with the end
+-- a wire fits its figures: each tuple and end in the interval of a beat, not too many tuples in one, one end for each
+-- beat with the end
 pub record Fits (f : Figures) (beats : Beats) (s : Carried) : Type 0 where
   pub tuples : (c : ℕ) (r : Row) → s.tuple c ≡ Some r → Caused f beats c
   pub ends : (c : ℕ) → s.ends c ≡ true → EndCaused f beats c
@@ -45,8 +46,8 @@ pub record Fits (f : Figures) (beats : Beats) (s : Carried) : Type 0 where
 abbrev pub Meaning : Type 1
 Meaning = List Row → List Row → Type 0
 
--- over these beats, the output fits, each of its streams is right for the input stream of the same beat, and ends no earlier;
--- what is right may depend on the beat
+-- over these beats, the output fits, each of its streams is right for the input stream of the same beat, and ends no
+-- earlier; what is right may depend on the beat
 pub record Served (f g : Figures) (means : ℕ → Meaning) (beats : Beats) (a b : Carried) : Type 0 where
   pub fits : Fits g beats b
   pub results : (t d e : ℕ) → beats t ≡ Some true → HasEnd f a t d → HasEnd g b t e → means t (stream a d) (stream b e)
@@ -63,6 +64,7 @@ Meaning2 = List Row → List Row → List Row → Type 0
 -- the law over these beats for a block of two inputs
 pub record Served2 (f g k : Figures) (means : ℕ → Meaning2) (beats : Beats) (a b c : Carried) : Type 0 where
   pub fits : Fits k beats c
-  pub results : (t d e o : ℕ) → beats t ≡ Some true → HasEnd f a t d → HasEnd g b t e → HasEnd k c t o → means t (stream a d) (stream b e) (stream c o)
+  pub results : (t d e o : ℕ) → beats t ≡ Some true → HasEnd f a t d → HasEnd g b t e → HasEnd k c t o
+      → means t (stream a d) (stream b e) (stream c o)
   pub later : (t d o : ℕ) → beats t ≡ Some true → HasEnd f a t d → HasEnd k c t o → d ≤ o
   pub later2 : (t e o : ℕ) → beats t ≡ Some true → HasEnd g b t e → HasEnd k c t o → e ≤ o

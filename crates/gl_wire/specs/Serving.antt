@@ -1,4 +1,5 @@
--- What a wire gives over fixed beats. An induction over a plan goes by this: a block behind wires that serve is a wire that serves.
+-- What a wire gives over fixed beats. An induction over a plan goes by this: a block behind wires that serve is a wire
+-- that serves.
 use Rattle.std.specs.Prelude.{◌≡◌, ℕ, ◌≤◌, List, Some, Bool, true, false, ◌||◌}
 use Rattle.gl_algebra.specs.declared.figures.Figures.{Figures}
 use Rattle.gl_bits.specs.Results.{Row, Results}
@@ -8,7 +9,8 @@ use Rattle.gl_wire.specs.Wire.{Carried, stream}
 use Rattle.gl_wire.specs.Serves.{HasEnd, Fits, Meaning}
 use Rattle.gl_wire.specs.Spills.{Lines, Relation, Relation2}
 
--- over these beats the wire fits its figures, and for a choice of spill each of its streams is a result of the beat and the lines are true
+-- over these beats the wire fits its figures, and for a choice of spill each of its streams is a result of the beat and
+-- the lines are true
 pub record Serving (f : Figures) (means : ℕ → Results) (lines : Lines) (beats : Beats) (b : Carried) : Type 0 where
   pub fits : Fits f beats b
   pub spill : ℕ → Bool

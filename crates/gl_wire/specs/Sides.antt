@@ -1,4 +1,5 @@
--- One input of a block, by the beat whose interval is open: what queues, spacers and joiners need of it. No soundness, no overlap.
+-- One input of a block, by the beat whose interval is open: what queues, spacers and joiners need of it. No soundness,
+-- no overlap.
 use Rattle.std.specs.Prelude.{◌≡◌, ℕ, ◌+◌, ◌<◌, ◌≤◌, length, Some, None, Bool, true, false}
 use Rattle.gl_bits.specs.Results.{Row}
 use Rattle.gl_wire.specs.Beats.{Beats}
@@ -25,9 +26,11 @@ pub record ItsEnd (first last : ℕ) (beats : Beats) (s : Carried) (t : ℕ) : T
 
 -- a side: each tuple and end belongs to the open beat and comes in time, and a beat brings no more than it may
 pub record Side (first : ℕ) (last most : Bool → ℕ) (beats : Beats) (s : Carried) : Type 0 where
-  pub tuple : (c t k : ℕ) (e : Bool) (r : Row) → IsOpen first beats c t e → t + first ≤ k → k < c → s.tuple k ≡ Some r → k ≤ t + last e
+  pub tuple : (c t k : ℕ) (e : Bool) (r : Row) → IsOpen first beats c t e → t + first ≤ k → k < c → s.tuple k ≡ Some r
+      → k ≤ t + last e
   pub end : (c t k : ℕ) (e : Bool) → IsOpen first beats c t e → t + first ≤ k → k < c → s.ends k ≡ true → e ≡ true
   pub no_tuple : (c k : ℕ) → IsIdle first beats c → k < c → s.tuple k ≡ None
   pub no_end : (c k : ℕ) → IsIdle first beats c → k < c → s.ends k ≡ false
-  pub fewer : (c t k : ℕ) (e : Bool) → IsOpen first beats c t e → t + first + k ≤ c → length (rows s (t + first) k) ≤ most e
+  pub fewer : (c t k : ℕ) (e : Bool) → IsOpen first beats c t e → t + first + k ≤ c
+      → length (rows s (t + first) k) ≤ most e
   pub its_end : (t : ℕ) → beats t ≡ Some true → ItsEnd first (last true) beats s t

@@ -40,8 +40,10 @@ pub record SameLines (p q : Lines) : Type 0 where
   pub passed : (c : ℕ) → p.passed c ≡ q.passed c
   pub further : (c : ℕ) → p.further c ≡ q.further c
 
--- over these beats: a choice of spill for the stream of each beat with the end, for which the results are right and the lines true
-pub record ServedWithLines (f g : Figures) (means : Relation) (lines : Lines) (beats : Beats) (a b : Carried) : Type 0 where
+-- over these beats: a choice of spill for the stream of each beat with the end, for which the results are right and the
+-- lines true
+pub record ServedWithLines (f g : Figures) (means : Relation) (lines : Lines) (beats : Beats) (a b : Carried)
+    : Type 0 where
   pub spill : ℕ → Bool
   pub served : Served f g (λ t xs ys. means xs ys (spill t)) beats a b
   -- no queue is passed
@@ -59,7 +61,8 @@ ServesWithLines f g means lines a b =
     (beats : Beats) → Spaced g beats → Fits f beats a → ServedWithLines f g means lines beats a b
 
 -- the law over these beats for a block of two inputs, clause by clause as for one
-pub record ServedWithLines2 (f g h : Figures) (means : Relation2) (lines : Lines) (beats : Beats) (a b o : Carried) : Type 0 where
+pub record ServedWithLines2 (f g h : Figures) (means : Relation2) (lines : Lines) (beats : Beats) (a b o : Carried)
+    : Type 0 where
   pub spill : ℕ → Bool
   pub served : Served2 f g h (λ t xs ys zs. means xs ys zs (spill t)) beats a b o
   pub low : (c : ℕ) → lines.passed c ≡ false
@@ -76,6 +79,8 @@ abbrev pub always : Condition
 always beats a b = Unit {0}
 
 -- a block of two inputs serves a meaning where they meet the condition
-abbrev pub ServesWhen2 : Condition → Figures → Figures → Figures → Relation2 → Lines → Carried → Carried → Carried → Type 0
+abbrev pub ServesWhen2 : Condition → Figures → Figures → Figures → Relation2 → Lines → Carried → Carried → Carried
+    → Type 0
 ServesWhen2 Cond f g h means lines a b o =
-    (beats : Beats) → Spaced h beats → Fits f beats a → Fits g beats b → Cond beats a b → ServedWithLines2 f g h means lines beats a b o
+    (beats : Beats) → Spaced h beats → Fits f beats a → Fits g beats b → Cond beats a b
+    → ServedWithLines2 f g h means lines beats a b o

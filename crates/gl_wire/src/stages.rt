@@ -79,6 +79,7 @@ pub fn later_wire(alloc: Global, net: &mut NetBuilder, wire: &Wire) -> Result<Wi
     requires { IsWire net.old wire.now }
     ensures { IfOk result (IsPad net.old net.new 1 wire.now) }
 {
+    // Named, since a goal speaks of the value.
     let later = stage(alloc, net, wire.valid, wire.eos, wire.columns.as_slice())?;
     Ok(later)
 }

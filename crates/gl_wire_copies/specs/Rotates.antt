@@ -1,4 +1,5 @@
--- What every front of copies promises, of windows and of groups alike, and the figures of a whole of front, copies and back.
+-- What every front of copies promises, of windows and of groups alike, and the figures of a whole of front, copies and
+-- back.
 use Rattle.std.specs.Prelude.{◌≡◌, ℕ, zero, suc, ◌+◌, ◌-◌, ◌*◌, ◌<◌, ◌≤◌, List, [], length, map, Some, Bool, true, false, ◌||◌}
 use Rattle.gl_algebra.specs.declared.figures.Figures.{Figures}
 use Rattle.gl_algebra.specs.FigureTable.{stride_of}
@@ -22,7 +23,8 @@ abbrev pub delay_of_whole : ℕ → Figures → ℕ
 delay_of_whole count body = body.le + turns_of count body + 3
 
 -- a front over copies of a body, which cuts each stream of its source into parts
-pub record Rotates (body : Figures) (count g1 : ℕ) (few many : ℕ → ℕ) {Part : Type 0} (of : ℕ × List Row → Part) (parts : List Row → List Part)
+pub record Rotates (body : Figures) (count g1 : ℕ) (few many : ℕ → ℕ) {Part : Type 0} (of : ℕ × List Row → Part)
+    (parts : List Row → List Part)
     (a : Carried) (who : Visits) (ins : ℕ → Carried) : Type 0 where
   -- it schedules visits, each of which something of the source lets end
   pub schedules : Schedules body count who ins
@@ -36,9 +38,11 @@ pub record Rotates (body : Figures) (count g1 : ℕ) (few many : ℕ → ℕ) {P
   pub few_visits : (x n : ℕ) → Rested (flush_of count body) a x → NoEnd a x (x + n)
       → length (visits who ins (suc x) n) ≤ few (length (rows a x n))
   pub many_visits : (x u n : ℕ) → Rested (flush_of count body) a x → x ≤ u → u < x + n → NoEnd a x u → a.ends u ≡ true
-      → ((y : ℕ) → u < y → y < x + n → Carries a y → ⊥) → length (visits who ins (suc x) n) ≤ many (length (rows a x (suc (u - x))))
+      → ((y : ℕ) → u < y → y < x + n → Carries a y → ⊥)
+      → length (visits who ins (suc x) n) ≤ many (length (rows a x (suc (u - x))))
   -- a copy's tuple without an end came one cycle before, and after a flush no copy has begun a stream
-  pub caused : (k c : ℕ) (r : Row) → k < count → (ins k).tuple c ≡ Some r → (ins k).ends c ≡ false → (x : ℕ) × (c ≡ suc x) × Carries a x
+  pub caused : (k c : ℕ) (r : Row) → k < count → (ins k).tuple c ≡ Some r → (ins k).ends c ≡ false → (x : ℕ)
+      × (c ≡ suc x) × Carries a x
   pub empties : (u k : ℕ) → a.ends u ≡ true → k < count → pending (ins k) (u + turns_of count body + 2) ≡ []
 
 -- the figures h of a whole over a source's f: in time for the flush, and with room for the tuples of all visits
@@ -62,4 +66,8 @@ any_of line (suc n) = any_of line n || line n
 
 -- the lines of all copies
 abbrev pub lines_of_all : (ℕ → Lines) → ℕ → Lines
-lines_of_all lines count = record { passed = λ c. any_of (λ k. (lines k).passed c) count; further = λ c. any_of (λ k. (lines k).further c) count }
+lines_of_all lines count =
+    record {
+      passed = λ c. any_of (λ k. (lines k).passed c) count;
+      further = λ c. any_of (λ k. (lines k).further c) count;
+    }

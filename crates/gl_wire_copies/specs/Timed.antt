@@ -8,10 +8,12 @@ pub record Timed (g1 g2 : ℕ) (a : Carried) : Type 0 where
   pub apart : CarriesApart g1 a
   pub after : (u d : ℕ) → a.ends u ≡ true → Carries a d → u < d → u + g2 ≤ d
 
--- where the visits of the stream that ends in a cycle begin: at the start, or where the flush of the stream before is over
+-- where the visits of the stream that ends in a cycle begin: at the start, or where the flush of the stream before is
+-- over
 pub data Begins (flush : ℕ) (a : Carried) (lo c : ℕ) : Type 0 where
   at_first : lo ≡ 0 → ((x : ℕ) → x < c → a.ends x ≡ true → ⊥) → Begins flush a lo c
-  after_end : (u : ℕ) → a.ends u ≡ true → u < c → lo ≡ u + flush + 2 → ((x : ℕ) → u < x → x < c → a.ends x ≡ true → ⊥) → Begins flush a lo c
+  after_end : (u : ℕ) → a.ends u ≡ true → u < c → lo ≡ u + flush + 2 → ((x : ℕ) → u < x → x < c → a.ends x ≡ true → ⊥)
+      → Begins flush a lo c
 
 -- what lets a visit end: something came the cycle before, or it is the visit's turn of a flush
 pub record Origin (turns g1 stride : ℕ) (a : Carried) (v : ℕ) : Type 0 where

@@ -20,7 +20,8 @@ pub record ChoosesRow (old new : Net) (test : Bit) (first second bs : List Bus) 
   pub same_widths : widths bs ≡ widths first
   pub cost : Costs old new (nodes_alone (length first))
   pub row : (run : Run) → IsRun new run → (t : ℕ)
-      → row_at run (suc t) bs ≡ (if line_at run test (suc t) then row_at run (suc t) first else row_at run (suc t) second)
+      → row_at run (suc t) bs ≡ (if line_at run test (suc t) then row_at run (suc t) first
+      else row_at run (suc t) second)
 
 -- each is a wire with columns of these widths
 pub record AreWires (net : Net) (ws : List Wire) (columns : List ℕ) : Type 0 where
@@ -34,7 +35,8 @@ pub record Merges (old new : Net) (ws : List Wire) (n : ℕ) (columns : List ℕ
   pub buses : AreBuses new m.columns
   pub same_widths : widths m.columns ≡ columns
   pub cost : Costs old new (nodes_alone (n * (length columns + 1) + 1))
-  pub tuple : (run : Run) → IsRun new run → (t : ℕ) → tuple_at run m.valid m.columns t ≡ tuple_of_any (carried_of run ws) n t
+  pub tuple : (run : Run) → IsRun new run → (t : ℕ)
+      → tuple_at run m.valid m.columns t ≡ tuple_of_any (carried_of run ws) n t
 
 -- a wire that carries, a cycle later, the tuples of all copies, and the ends of a line
 pub record JoinsCopies (old new : Net) (ws : List Wire) (close : Bit) (columns : List ℕ) (w : Wire) : Type 0 where
@@ -43,4 +45,5 @@ pub record JoinsCopies (old new : Net) (ws : List Wire) (close : Bit) (columns :
   pub same_widths : widths w.columns ≡ columns
   pub cost : Costs old new (with_registers (length ws * (length columns + 1) + length columns + 3) (sum columns + 2))
   pub delayed : (run : Run) → IsRun new run
-      → IsDelayed 1 (record { tuple = tuple_of_any (carried_of run ws) (length ws); ends = line_at run close }) (carried run w)
+      → IsDelayed 1 (record { tuple = tuple_of_any (carried_of run ws) (length ws); ends = line_at run close })
+      (carried run w)

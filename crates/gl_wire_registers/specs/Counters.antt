@@ -24,7 +24,8 @@ pub record IsCounter (old new : Net) (clear tick : Bit) (bits start cleared agai
   pub bus : IsBus new out
   pub width : out.width ≡ bits
   pub next : (run : Run) → IsRun new run → (t : ℕ)
-      → held_at start run out (suc t) ≡ counted_down cleared again (line_at run clear t) (line_at run tick t) (held_at start run out t)
+      → held_at start run out (suc t) ≡ counted_down cleared again (line_at run clear t) (line_at run tick t)
+      (held_at start run out t)
 
 -- the next value of a pointer, where it is not past the last one
 pub record IsNextPointer (old new : Net) (pointer : Bus) (tick : Bit) (last : ℕ) (out : Bus) : Type 0 where
@@ -42,7 +43,8 @@ pub record IsPointer (old new : Net) (tick : Bit) (bits last : ℕ) (out : Bus) 
   pub bus : IsBus new out
   pub width : out.width ≡ bits
   pub next : (run : Run) → IsRun new run → (t : ℕ)
-      → (held_at 0 run out t ≤ last) × (held_at 0 run out (suc t) ≡ turned last (line_at run tick t) (held_at 0 run out t))
+      → (held_at 0 run out t ≤ last) × (held_at 0 run out (suc t) ≡ turned last (line_at run tick t)
+      (held_at 0 run out t))
 
 -- a line that one line sets and another one clears
 pub record IsLatch (old new : Net) (set clear out : Bit) : Type 0 where
@@ -59,4 +61,5 @@ pub record IsHold (old new : Net) (load : Bit) (source out : Bus) : Type 0 where
   pub bus : IsBus new out
   pub width : out.width ≡ source.width
   pub value : (run : Run) → IsRun new run → (t : ℕ)
-      → run.at (suc (suc t)) out.node ≡ choose_of (run.at (suc t) load.node) (run.at (suc t) source.node) (run.at (suc t) out.node)
+      → run.at (suc (suc t)) out.node ≡ choose_of (run.at (suc t) load.node) (run.at (suc t) source.node)
+      (run.at (suc t) out.node)

@@ -58,7 +58,8 @@ pub record JoinsLines (old new : Net) (source : Faults) (copies : List Emitted) 
   pub keeps : Keeps old new
   pub cost : CostsAtMost old new (nodes_alone (n * 2))
   pub are : AreLines new faults
-  pub told : (run : Run) → IsRun new run → SameLines (lines_of run faults) (both_lines (lines_of run source) (lines_of_all (told_of run copies) n))
+  pub told : (run : Run) → IsRun new run → SameLines (lines_of run faults)
+      (both_lines (lines_of run source) (lines_of_all (told_of run copies) n))
 
 -- a wire behind copies, and all their lines
 pub record JoinsAll (old new : Net) (source : Faults) (close : Bit) (copies : List Emitted) (e : Emitted) : Type 0 where
@@ -68,6 +69,8 @@ pub record JoinsAll (old new : Net) (source : Faults) (close : Bit) (copies : Li
   pub same_widths : widths e.wire.columns ≡ columns_of copies
   pub lines : AreLines new e.faults
   pub told : (run : Run) → IsRun new run
-      → SameLines (lines_of run e.faults) (both_lines (lines_of run source) (lines_of_all (told_of run copies) (length copies)))
+      → SameLines (lines_of run e.faults) (both_lines (lines_of run source)
+      (lines_of_all (told_of run copies) (length copies)))
   pub delayed : (run : Run) → IsRun new run
-      → IsDelayed 1 (record { tuple = tuple_of_any (gives_of run copies) (length copies); ends = line_at run close }) (carried run e.wire)
+      → IsDelayed 1 (record { tuple = tuple_of_any (gives_of run copies) (length copies); ends = line_at run close })
+      (carried run e.wire)

@@ -13,7 +13,8 @@ pub record IsWhenEqual (old new : Net) (source : Bit) (register : Bus) (number :
   pub keeps : Keeps old new
   pub cost : Costs old new (nodes_alone 3)
   pub bit : IsBit new out
-  pub line : (run : Run) → IsRun new run → (reset t : ℕ) → line_at run out t ≡ (line_at run source t && nat_eq (held_at reset run register t) number)
+  pub line : (run : Run) → IsRun new run → (reset t : ℕ)
+      → line_at run out t ≡ (line_at run source t && nat_eq (held_at reset run register t) number)
 
 -- a line that is 1 in no cycle
 pub record IsNever (old new : Net) (out : Bit) : Type 0 where
@@ -35,7 +36,8 @@ pub record IsNumberOr (old new : Net) (line : Bit) (number : ℕ) (other out : B
   pub cost : Costs old new (nodes_alone 2)
   pub bus : IsBus new out
   pub width : out.width ≡ other.width
-  pub value : (run : Run) → IsRun new run → (t : ℕ) → run.at (suc t) out.node ≡ (if line_at run line (suc t) then number else run.at (suc t) other.node)
+  pub value : (run : Run) → IsRun new run → (t : ℕ)
+      → run.at (suc t) out.node ≡ (if line_at run line (suc t) then number else run.at (suc t) other.node)
 
 -- a number where a bus carries a certain one, and else another bus
 pub record IsNumberAt (old new : Net) (source : Bus) (at number : ℕ) (other out : Bus) : Type 0 where
@@ -52,4 +54,5 @@ pub record IsWithOne (old new : Net) (op : BinaryOp) (source out : Bus) : Type 0
   pub cost : Costs old new (nodes_alone 2)
   pub bus : IsBus new out
   pub width : out.width ≡ binary_width op source.width
-  pub value : (run : Run) → IsRun new run → (t : ℕ) → run.at t out.node ≡ binary_of op source.width (run.at t source.node) 1
+  pub value : (run : Run) → IsRun new run → (t : ℕ)
+      → run.at t out.node ≡ binary_of op source.width (run.at t source.node) 1

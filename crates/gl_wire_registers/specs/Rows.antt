@@ -17,7 +17,8 @@ pub record HoldsRow (old new : Net) (load : Bit) (columns bs : List Bus) : Type 
   pub same_widths : widths bs ≡ widths columns
   pub cost : Costs old new (with_registers (length (widths columns) * 2) (sum (widths columns)))
   pub row : (run : Run) → IsRun new run → (t : ℕ)
-      → row_at run (suc (suc t)) bs ≡ (if line_at run load (suc t) then row_at run (suc t) columns else row_at run (suc t) bs)
+      → row_at run (suc (suc t)) bs ≡ (if line_at run load (suc t) then row_at run (suc t) columns
+      else row_at run (suc t) bs)
 
 -- a wire that carries two lines a cycle later, beside the row
 pub record AddsWire (old new : Net) (source close : Bit) (row : List Bus) (w : Wire) : Type 0 where

@@ -81,6 +81,7 @@ pub fn join_copies(
     ensures { IfOk result (JoinsCopies net.old net.new wires.now close (widths columns.now)) }
 {
     let merged = merge_all(alloc, net, wires, columns)?;
+    // Named, since a goal speaks of the value.
     let joined = stage(alloc, net, merged.valid, close, merged.columns.as_slice())?;
     Ok(joined)
 }

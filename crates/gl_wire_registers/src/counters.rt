@@ -19,6 +19,7 @@ pub fn next_count(net: &mut NetBuilder, counter: Bus, tick: Bit, again: u128) ->
 {
     let less = with_one(net, BinaryOp::Sub, counter)?;
     let ticked = number_at(net, counter, 0, again, less)?;
+    // Named, since a goal speaks of the value.
     let kept = net.choose(tick, ticked, counter)?;
     Ok(kept)
 }

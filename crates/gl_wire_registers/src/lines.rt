@@ -90,6 +90,7 @@ fn at_copy(net: &mut NetBuilder, line: Bit, pointer: Bus, copy: u32) -> Result<B
     requires width { pointer.width ≡ 32 }
     ensures { IfOk result (λ b. AddsLine net.old net.new 3 b (pointed_at line pointer copy)) }
 {
+    // Named, since a goal speaks of the value.
     let bit = when_equal(net, line, pointer, u128::from(copy))?;
     Ok(bit)
 }

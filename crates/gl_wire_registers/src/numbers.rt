@@ -33,6 +33,7 @@ pub fn when_equal(
 {
     let number = net.constant(word(number, register.width))?;
     let same = net.binary(BinaryOp::Eq, register, number)?;
+    // Named, since a goal speaks of the value.
     let bit = both(net, line, same.bit())?;
     Ok(bit)
 }

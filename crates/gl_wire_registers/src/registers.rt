@@ -11,6 +11,7 @@ use std::alloc::Global;
 fn open_one(net: &mut NetBuilder, reset: Word) -> Result<Bus, Memory>
     ensures { IfOk result (OpensOne net.old net.new reset) }
 {
+    // Named, since a goal speaks of the value.
     let register = net.register(reset.width(), Some(reset))?;
     Ok(register)
 }

@@ -102,6 +102,7 @@ pub fn hold_all(
     requires columns { AreBuses net.old columns.now }
     ensures { IfOk result (HoldsRow net.old net.new load columns.now) }
 {
+    // Named, since a goal speaks of the value.
     let row = hold_each(alloc, net, load, columns.as_slice())?;
     Ok(row)
 }

@@ -19,6 +19,7 @@ pub fn timer(net: &mut NetBuilder, set: Bit, cycles: u32) -> Result<Bit, Memory>
     let left = count_down(net, set, one, 32, 0, u128::from(cycles), 0)?;
     let over = when_equal(net, one, left, 0)?;
     let on = latch(net, set, over)?;
+    // Named, since a goal speaks of the value.
     let fired = when_equal(net, on, left, 0)?;
     Ok(fired)
 }

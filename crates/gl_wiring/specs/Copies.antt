@@ -1,5 +1,5 @@
--- Copies of a body behind a front, of windows and of groups alike: the source, spaced where its tuples may come too fast, and a circuit of
--- the body behind each wire of the front.
+-- Copies of a body behind a front, of windows and of groups alike: the source, spaced where its tuples may come too
+-- fast, and a circuit of the body behind each wire of the front.
 use Rattle.std.specs.Prelude.{◌≡◌, ℕ, ◌+◌, ◌-◌, ◌*◌, ◌≤◌, Bool, true, List, [], ◌∷◌, length, Some, is_some, slice_get, option_map}
 use Rattle.gl_algebra.specs.declared.figures.Figures.{Figures}
 use Rattle.gl_algebra.specs.declared.node.PlanNode.{PlanNode}
@@ -48,7 +48,8 @@ cost_of_spaced gap f columns =
 pub record IsSpacedFor (old new : Net) (gap : ℕ) (f : Figures) (a b : Emitted) : Type 0 where
   pub behind : IsBehindLines old new f (spaced gap f) (never Same)
       (widths a.wire.columns) (cost_of_spaced gap f (widths a.wire.columns)) a b
-  pub apart : (run : Run) → IsRun new run → (g : Figures) → LeavesRoom gap (spaced gap f) g → (beats : Beats) → Spaced g beats
+  pub apart : (run : Run) → IsRun new run → (g : Figures) → LeavesRoom gap (spaced gap f) g → (beats : Beats)
+      → Spaced g beats
       → Fits f beats (carried run a.wire) → CarriesApart gap (carried run b.wire)
 
 -- a node's shape, its pace left out
@@ -56,7 +57,8 @@ abbrev pub paceless : Shape → Shape
 paceless s = record s { pace = unsteady }
 
 -- a body can be put behind each of these wires
-pub record CanCopy (nodes : List PlanNode) (figures : List Figures) (body : ℕ) (net : Net) (wires : List Wire) : Type 0 where
+pub record CanCopy (nodes : List PlanNode) (figures : List Figures) (body : ℕ) (net : Net) (wires : List Wire)
+    : Type 0 where
   pub each : (k : ℕ) (wire : Wire) → slice_get wires k ≡ Some wire → CanPut nodes figures body net (wire ∷ [])
 
 -- so many circuits of a node

@@ -51,7 +51,8 @@ pub record Extends (old new : Net) : Type 0 where
   pub runs : (run : Run) → IsRun new run → IsRun old run
   pub buses : (b : Bus) → IsBus old b → IsBus new b
   pub undriven : (n : ℕ) → open_at new n ≡ open_at old n
-  pub ports : (direction : Direction) (name : List ℕ) (n : ℕ) → IsPort old direction name n → IsPort new direction name n
+  pub ports : (direction : Direction) (name : List ℕ) (n : ℕ) → IsPort old direction name n
+      → IsPort new direction name n
   pub module_name : new.name ≡ old.name
 
 -- nothing but input nodes is added, and no bit of a register or a memory
@@ -65,7 +66,8 @@ abbrev pub AreInputs : Net → List ℕ → List Column → List Bus → Type 0
 AreInputs net stream [] [] = Unit {0}
 AreInputs net stream [] (b ∷ bs) = ⊥
 AreInputs net stream (c ∷ cs) [] = ⊥
-AreInputs net stream (c ∷ cs) (b ∷ bs) = (IsPort net In (in_column stream c.name) b.node × IsBus net b) × AreInputs net stream cs bs
+AreInputs net stream (c ∷ cs) (b ∷ bs) =
+    (IsPort net In (in_column stream c.name) b.node × IsBus net b) × AreInputs net stream cs bs
 
 abbrev pub HasInputs : Net → Stream → List Bus → Type 0
 HasInputs net s buses = AreInputs net s.name s.columns buses

@@ -1,5 +1,5 @@
--- Groups of a plan in a netlist: the source, spaced where its tuples may come too fast, the front, a circuit of the body behind each wire
--- of the front, and the back.
+-- Groups of a plan in a netlist: the source, spaced where its tuples may come too fast, the front, a circuit of the
+-- body behind each wire of the front, and the back.
 use Rattle.std.specs.Prelude.{◌≡◌, ℕ, ◌+◌, List, length, Some, slice_get}
 use Rattle.gl_algebra.specs.declared.figures.Figures.{Figures}
 use Rattle.gl_algebra.specs.declared.node.PlanNode.{PlanNode}
@@ -56,7 +56,8 @@ pub record IsGroupFront (nodes : List PlanNode) (g : GroupOf) (old new : Net) (l
     (front : Fronted) : Type 0 where
   pub keeps : Keeps old new
   pub cost : CostsAtMost old new (cost_to_slots nodes g)
-  pub gives : GivesAs (paceless (shape_of nodes g.source)) (spaced_source nodes g) (IsPlanResult nodes g.source) new leaves
+  pub gives : GivesAs (paceless (shape_of nodes g.source)) (spaced_source nodes g) (IsPlanResult nodes g.source)
+      new leaves
       front.source
   pub apart : (run : Run) → IsRun new run → (beats : Beats) → Spaced (group_whole nodes g) beats
       → LeavesFit run leaves beats → CarriesApart (group_gap (figures_of nodes g.body)) (carried run front.source.wire)

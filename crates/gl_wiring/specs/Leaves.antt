@@ -51,4 +51,5 @@ HaveLeaves net leaves (node ∷ nodes) = HasLeaf net leaves node × HaveLeaves n
 
 -- each leaf's wire carries a tuple or an end with a beat, in the beat's own cycle
 pub record LeavesFit (run : Run) (leaves : List Wire) (beats : Beats) : Type 0 where
-  pub each : (place : ℕ) (wire : Wire) → slice_get leaves place ≡ Some wire → Fits input_figures beats (carried run wire)
+  pub each : (place : ℕ) (wire : Wire) → slice_get leaves place ≡ Some wire
+      → Fits input_figures beats (carried run wire)

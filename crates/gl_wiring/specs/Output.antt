@@ -1,4 +1,5 @@
--- The output of a plan's circuit: a stage behind its wire, two lines that never fall behind its lines, and ports that show them.
+-- The output of a plan's circuit: a stage behind its wire, two lines that never fall behind its lines, and ports that
+-- show them.
 use Rattle.std.specs.Prelude.{ℕ, ◌+◌, Bool, List, [], ◌∷◌, ◌++◌, length}
 use Rattle.std.specs.List.{AllZip, sum}
 use Rattle.gl_bits.specs.declared.kind.Kind.{Kind}
@@ -30,7 +31,8 @@ named_outputs (w ∷ widths) (n ∷ names) = output (out_column n) w ∷ named_o
 -- the outputs of a result whose columns have these bits and names
 abbrev pub output_ports : List ℕ → List (List ℕ) → List PortShape
 output_ports widths names =
-    output out_valid 1 ∷ (named_outputs widths names ++ output out_eos 1 ∷ output fault_group 1 ∷ output fault_queue 1 ∷ [])
+    output out_valid 1 ∷ (named_outputs widths names ++ output out_eos 1 ∷ output fault_group 1 ∷ output fault_queue 1
+    ∷ [])
 
 -- the inputs of a schema
 abbrev pub input_ports : Schema → List PortShape
@@ -70,7 +72,8 @@ pub record Shows (net : Net) (names : List (List ℕ)) (wire : Wire) (group queu
   pub group' : IsPort net Out fault_group group.node
   pub queue' : IsPort net Out fault_queue queue.node
 
--- a stage behind the wire of a circuit, a line behind its line of further groups, and one a cycle later behind that of its queues
+-- a stage behind the wire of a circuit, a line behind its line of further groups, and one a cycle later behind that of
+-- its queues
 pub record IsOutput (net : Net) (names : List (List ℕ)) (e : Emitted) : Type 0 where
   pub wire : Wire
   pub group : Bit

@@ -36,7 +36,8 @@ ServesIn nodes id leaves e run =
     (lines_of run e.faults) beats (carried run e.wire)
 
 -- the circuit of the root between the wires of the streams and an output
-pub record IsPlanNet (schema : Schema) (nodes : List PlanNode) (root : ℕ) (names : List (List ℕ)) (net : Net) : Type 0 where
+pub record IsPlanNet (schema : Schema) (nodes : List PlanNode) (root : ℕ) (names : List (List ℕ)) (net : Net)
+    : Type 0 where
   pub plan : IsPlan nodes
   pub leaves : List Wire
   pub e : Emitted

@@ -1,4 +1,5 @@
--- What the circuit of a plan's node is: its wire gives the node's results over all beats that are spaced by the node's figures.
+-- What the circuit of a plan's node is: its wire gives the node's results over all beats that are spaced by the node's
+-- figures.
 use Rattle.std.specs.Prelude.{◌≡◌, ℕ, ◌*◌, ◌<◌, List, length}
 use Rattle.gl_algebra.specs.declared.figures.Figures.{Figures}
 use Rattle.gl_algebra.specs.declared.node.PlanNode.{PlanNode}
@@ -21,10 +22,12 @@ use Rattle.gl_wiring.specs.Leaves.{HaveLeaves, LeavesFit, leaf, widths_of}
 
 -- what a plan counts for the circuit of a node: nodes, bits of registers, bits of memories
 abbrev pub counted : List PlanNode → ℕ → Cost
-counted nodes id = record { nodes = weight_of nodes id; registers = 64 * lean_of nodes id; memories = store_of nodes id }
+counted nodes id =
+    record { nodes = weight_of nodes id; registers = 64 * lean_of nodes id; memories = store_of nodes id }
 
 -- a node can be put: the figures are those of all nodes, and each of its leaves has a wire
-pub record CanPut (nodes : List PlanNode) (figures : List Figures) (id : ℕ) (net : Net) (leaves : List Wire) : Type 0 where
+pub record CanPut (nodes : List PlanNode) (figures : List Figures) (id : ℕ) (net : Net) (leaves : List Wire)
+    : Type 0 where
   pub within : id < length nodes
   pub figured : AreFigures nodes figures
   pub leaved : HaveLeaves net leaves (shape_of nodes id).leaves
@@ -35,20 +38,24 @@ pub record HasColumns (nodes : List PlanNode) (id : ℕ) (net : Net) (e : Emitte
   pub same_widths : widths e.wire.columns ≡ widths_of (kinds_of nodes id)
   pub lines : AreLines net e.faults
 
--- a wire and lines that give these results of the leaves' streams in every run, as a node of this shape and with these figures
-pub record GivesAs (shape : Shape) (f : Figures) (means : Meaning) (net : Net) (leaves : List Wire) (e : Emitted) : Type 0 where
+-- a wire and lines that give these results of the leaves' streams in every run, as a node of this shape and with these
+-- figures
+pub record GivesAs (shape : Shape) (f : Figures) (means : Meaning) (net : Net) (leaves : List Wire) (e : Emitted)
+    : Type 0 where
   pub wire : IsWire net e.wire
   pub same_widths : widths e.wire.columns ≡ widths_of shape.kinds
   pub lines : AreLines net e.faults
   pub paced : (run : Run) → IsRun net run → KeepsPace shape.pace f.a (leaf run leaves) (carried run e.wire)
   pub serving : (run : Run) → IsRun net run → (beats : Beats) → Spaced f beats → LeavesFit run leaves beats
-      → Serving f (λ t. means (inputs_at (leaf run leaves) (leaf run leaves 0) t)) (lines_of run e.faults) beats (carried run e.wire)
+      → Serving f (λ t. means (inputs_at (leaf run leaves) (leaf run leaves 0) t)) (lines_of run e.faults) beats
+      (carried run e.wire)
 
 -- a wire and lines that give a node's results
 abbrev pub Gives : List PlanNode → ℕ → Net → List Wire → Emitted → Type 0
 Gives nodes id net leaves e = GivesAs (shape_of nodes id) (figures_of nodes id) (IsPlanResult nodes id) net leaves e
 
--- the circuit of a node: it gives the node's results, what stood before is kept, and no more is added than the plan counts
+-- the circuit of a node: it gives the node's results, what stood before is kept, and no more is added than the plan
+-- counts
 pub record IsPut (nodes : List PlanNode) (id : ℕ) (old new : Net) (leaves : List Wire) (e : Emitted) : Type 0 where
   pub keeps : Keeps old new
   pub cost : CostsAtMost old new (counted nodes id)

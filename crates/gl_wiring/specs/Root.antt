@@ -21,8 +21,8 @@ pub record OneStream (beats : Beats) (last : ℕ) : Type 0 where
   pub only : (t : ℕ) → beats t ≡ Some true → t ≡ last
   pub until : (t : ℕ) (e : Bool) → beats t ≡ Some e → t ≤ last
 
--- what an output shows over one stream whose last beat comes in this cycle: the end once and in time, no row behind it, all rows a
--- result with the group line at the end, which never falls and then keeps its value, and no queue passed
+-- what an output shows over one stream whose last beat comes in this cycle: the end once and in time, no row behind it,
+-- all rows a result with the group line at the end, which never falls and then keeps its value, and no queue passed
 pub record ShowsRight (f : Figures) (means : Results) (last : ℕ) (o : Carried) (group queue : ℕ → Bool) : Type 0 where
   pub ended : ℕ
   pub soonest : last ≤ ended

@@ -1,5 +1,5 @@
--- Windows of a plan in a netlist: the source, spaced where its tuples may come too fast, the front, a circuit of the body behind each
--- wire of the front, and the back.
+-- Windows of a plan in a netlist: the source, spaced where its tuples may come too fast, the front, a circuit of the
+-- body behind each wire of the front, and the back.
 use Rattle.std.specs.Prelude.{◌≡◌, ℕ, ◌+◌, List, length, Some, slice_get}
 use Rattle.gl_algebra.specs.declared.figures.Figures.{Figures}
 use Rattle.gl_algebra.specs.declared.node.PlanNode.{PlanNode}
@@ -64,7 +64,8 @@ pub record IsFrontOf (nodes : List PlanNode) (w : WindowOf) (old new : Net) (lea
     (front : Fronted) : Type 0 where
   pub keeps : Keeps old new
   pub cost : CostsAtMost old new (cost_to_front nodes w)
-  pub gives : GivesAs (paceless (shape_of nodes w.source)) (source_figures nodes w) (IsPlanResult nodes w.source) new leaves
+  pub gives : GivesAs (paceless (shape_of nodes w.source)) (source_figures nodes w) (IsPlanResult nodes w.source)
+      new leaves
       front.source
   pub apart : (run : Run) → IsRun new run → (beats : Beats) → Spaced (whole_figures nodes w) beats
       → LeavesFit run leaves beats → CarriesApart (window_gap (figures_of nodes w.body)) (carried run front.source.wire)

@@ -39,7 +39,8 @@ pub record KeepsGroup (outs : List (List ℕ)) (port : PortValues) : Type 0 wher
 -- this holds of each run of the netlist that has beats of the schema on its input ports which keep the gap
 abbrev pub OverBeats : Schema → ℕ → (List Beat → PortValues → Type 0) → Net → Type 0
 OverBeats schema gap P net =
-    (run : Run) (all : List Beat) → IsTrace net run → AreBeats schema all → KeepsGap gap all → IsStimulus schema all (input_values net run)
+    (run : Run) (all : List Beat) → IsTrace net run → AreBeats schema all → KeepsGap gap all
+    → IsStimulus schema all (input_values net run)
     → P all (port_values net run)
 
 -- names of a result and its columns: as many as this, no two the same
@@ -50,15 +51,16 @@ pub record AreResultNames (many : ℕ) (names : ResultNames) : Type 0 where
   pub distinct : IsDistinct bytes_eq names.columns
 
 -- a plan that can be wired: its leaves are streams of the schema
-pub record CanWire (schema : Schema) (nodes : List PlanNode) (root : ℕ) (figures : List Figures) (names : ResultNames) : Type 0 where
+pub record CanWire (schema : Schema) (nodes : List PlanNode) (root : ℕ) (figures : List Figures) (names : ResultNames)
+    : Type 0 where
   pub schema' : IsSchema schema
   pub within : root < length nodes
   pub leaves : AreStreamLeaves schema.streams (shape_of nodes root).leaves
   pub figured : AreFigures nodes figures
   pub named : AreResultNames (length (kinds_of nodes root)) names
 
--- its netlist: the ports of the schema and of the result, at most what the plan counts with its output, and over beats that keep the
--- gap a right run, within the latency, whose group line never falls
+-- its netlist: the ports of the schema and of the result, at most what the plan counts with its output, and over beats
+-- that keep the gap a right run, within the latency, whose group line never falls
 pub record IsWired (schema : Schema) (nodes : List PlanNode) (root : ℕ) (names : ResultNames) (net : Net) : Type 0 where
   pub name : net.name ≡ Some (codes "q__" ++ names.into)
   pub ports : port_shapes net ≡ plan_ports schema (kinds_of nodes root) names.columns

@@ -78,6 +78,7 @@ pub(crate) fn compute_node(
 {
     // What `len` ensures of it is what the goals below ask for.
     let _ = plan.len();
+    // Named, since a goal speaks of the value.
     let e = put_compute(alloc, net, below, plan.kinds(child), ops.as_slice())?;
     Ok(e)
 }

@@ -73,6 +73,7 @@ impl GroupOf {
         let grouping = self.grouping(plan, figures);
         let source = figures_at(plan, figures, self.source);
         let apart = put_apart(alloc, net, source, grouping.body.gt, below)?;
+        // Named, since a goal speaks of the value.
         let front = grouping.front(alloc, net, apart)?;
         Ok(front)
     }

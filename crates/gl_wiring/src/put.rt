@@ -37,6 +37,7 @@ pub fn put_node(
 {
     match plan.node(id) {
         PlanNode::Stream(number, _) => {
+            // Named, since a goal speaks of the value.
             let e = leaf_of(alloc, leaves, usize::from(*number))?;
             Ok(e)
         }

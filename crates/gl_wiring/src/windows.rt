@@ -66,6 +66,7 @@ pub(crate) fn put_apart(
 {
     if needs_spacer(gap, &source) {
         let spacer = Spacer { source, gap };
+        // Named, since a goal speaks of the value.
         let e = spacer.emit(alloc, net, below)?;
         Ok(e)
     } else {

@@ -20,6 +20,7 @@ impl NetBuilder {
         ensures value { IfOk result (IsConstant self.new word) }
         ensures err { OnErr result (self.new ≡ self.old) }
     {
+        // Named, since a goal speaks of the value.
         let bus = self.add(Node::Constant(word), word.width())?;
         Ok(bus)
     }
