@@ -3,8 +3,8 @@ use Rattle.std.proofs.Common.{◌≡◌, ◌≢◌, ◌⊎◌, ℕ, List, [], Op
 use Rattle.gl_outside.specs.Counts.{Rose}
 use Rattle.gl_schema.specs.declared.schema.Schema.{Schema}
 use Rattle.gl_query.specs.declared.tree.Statement.{Statement}
-use Rattle.gl_top_notes.specs.declared.notes.Refusal.{Refusal}
-use Rattle.gl_top_notes.specs.declared.notes.Refusal.TheVariants as refusal
+use Rattle.gl_top_notes.specs.declared.refusal.Refusal.{Refusal}
+use Rattle.gl_top_notes.specs.declared.refusal.Refusal.TheVariants as refusal
 use Rattle.gl_top_notes.specs.declared.status.Status.{Status}
 use Rattle.gl_top_notes.specs.declared.status.Status.TheVariants as status
 use Rattle.gl_outside.specs.Told.{Told}

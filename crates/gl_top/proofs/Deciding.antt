@@ -32,8 +32,8 @@ use Rattle.gl_compiler_text.proofs.Shaped.{shapes_alike}
 use Rattle.gl_top_words.specs.declared.command.Command.TheVariants as command
 use Rattle.gl_top_words.specs.declared.command.Part.{Part}
 use Rattle.gl_top_words.specs.declared.command.Part.TheVariants as part
-use Rattle.gl_top_notes.specs.declared.notes.Refusal.{Refusal}
-use Rattle.gl_top_notes.specs.declared.notes.Refusal.TheVariants as refusal
+use Rattle.gl_top_notes.specs.declared.refusal.Refusal.{Refusal}
+use Rattle.gl_top_notes.specs.declared.refusal.Refusal.TheVariants as refusal
 use Rattle.gl_top_words.specs.Forms.{IsCommand, IsForm, IsLoadOf, IsNamed, command_of, name_of}
 use Rattle.gl_top_texts.specs.Texts.{SchemaPasses}
 use Rattle.gl_top_judging.specs.Passing.{QueryPasses, TuplesPass, ModulePasses, FilePasses, kept_beats}

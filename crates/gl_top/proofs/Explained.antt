@@ -6,8 +6,8 @@ use Rattle.gl_schema.specs.declared.schema.Schema.{Schema}
 use Rattle.gl_top_words.specs.declared.command.Command.TheVariants.{Explain}
 use Rattle.gl_top_words.specs.declared.command.Part.TheVariants as part
 use Rattle.gl_top_words.specs.Forms.{IsCommand}
-use Rattle.gl_top_notes.specs.declared.notes.Refusal.{Refusal}
-use Rattle.gl_top_notes.specs.declared.notes.Refusal.TheVariants as refusal
+use Rattle.gl_top_notes.specs.declared.refusal.Refusal.{Refusal}
+use Rattle.gl_top_notes.specs.declared.refusal.Refusal.TheVariants as refusal
 use Rattle.gl_top_texts.specs.Texts.{HasText, SchemaPasses}
 use Rattle.gl_top_judging.specs.Causes.{Change, HasCause}
 use Rattle.gl_query_compiler.specs.Queries.{IsQuery}

@@ -22,11 +22,11 @@ use Rattle.gl_runner.specs.Traces.{OfRunsOf, Traced, TracesOut, decimal_kinds}
 use Rattle.gl_verilog.specs.Module.{Module}
 use Rattle.gl_verilog_syntax.specs.declared.fault.VerilogFault.{VerilogFault}
 use Rattle.gl_top_words.specs.declared.command.Part.{Part}
-use Rattle.gl_top_notes.specs.declared.notes.Refusal.{Refusal}
+use Rattle.gl_top_notes.specs.declared.refusal.Refusal.{Refusal}
 use Rattle.gl_top_notes.specs.declared.status.Status.{Status}
 use Rattle.gl_top_notes.specs.declared.status.Status.TheVariants.{Done, WriteFault, ReadFault, Memory}
 use Rattle.gl_top_notes.specs.declared.status.Status.TheVariants as status
-use Rattle.gl_top_notes.specs.declared.notes.Refusal.TheVariants as refusal
+use Rattle.gl_top_notes.specs.declared.refusal.Refusal.TheVariants as refusal
 use Rattle.gl_schema.specs.declared.fault.SchemaFault.{SchemaFault}
 use Rattle.gl_query.specs.declared.fault.QueryFault.{QueryFault}
 use Rattle.gl_tuples.specs.declared.fault.TupleFault.{TupleFault}

@@ -10,9 +10,9 @@ ghost use Rattle.gl_top.specs.Shown.{IsShownOf};
 use gl_outside::Shelf;
 use gl_schema::Schema;
 use gl_top_explain::explain_query;
-use gl_top_judging::{judge_schema, text_of};
 use gl_top_matches::Taken;
 use gl_top_notes::Refusal;
+use gl_top_texts::{fetch, fetch_schema};
 use gl_top_words::Part;
 use std::alloc::Global;
 
@@ -30,7 +30,7 @@ fn explain_text<S: Shelf>(
         IfOk result (λ v. IsShownOf told words.now v.items []) }
     ensures leaves { Leaves words.now (S.state shelf.old) (S.state shelf.new) result }
 {
-    let text = text_of(alloc, shelf, words, Part::Query)?;
+    let text = fetch(alloc, shelf, words, Part::Query)?;
     match explain_query(alloc, schema, &text) {
         Ok(shown) => Ok(shown),
         Err(refusal) => Err(refusal),
@@ -49,8 +49,6 @@ pub(crate) fn judge_explain<S: Shelf>(
         IfOk result (λ v. IsShownOf told words.now v.items []) }
     ensures leaves { Leaves words.now (S.state shelf.old) (S.state shelf.new) result }
 {
-    match judge_schema(alloc, shelf, words) {
-        Ok(schema) => explain_text(alloc, shelf, words, &schema),
-        Err(refusal) => Err(refusal),
-    }
+    let schema = fetch_schema(alloc, shelf, words)?;
+    explain_text(alloc, shelf, words, &schema)
 }

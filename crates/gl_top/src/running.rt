@@ -5,7 +5,7 @@ ghost use Rattle.gl_outside.specs.States.{IsCalm, Took};
 ghost use Rattle.gl_schema.specs.Beats.{KeepsGap};
 ghost use Rattle.gl_tuples.specs.Gaps.{AreFileBeats, plain_beats};
 ghost use Rattle.gl_compiler_text.specs.Built.{gap_of};
-ghost use Rattle.gl_top_notes.specs.declared.notes.Refusal.{Refusal as Refused};
+ghost use Rattle.gl_top_notes.specs.declared.refusal.Refusal.{Refusal as Refused};
 ghost use Rattle.gl_top_words.specs.declared.command.Command.TheVariants.{Compile, Explain, Figures, Run};
 ghost use Rattle.gl_top_words.specs.Forms as forms;
 ghost use Rattle.gl_top_words.specs.Forms.{IsCommand, IsForm};

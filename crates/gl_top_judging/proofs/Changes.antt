@@ -1,11 +1,12 @@
 -- Changes of a shelf, one after the other.
-use Rattle.std.proofs.Common.{◌≡◌, ℕ, List, Result, Ok, Err, subst}
+use Rattle.std.proofs.Common.{◌≡◌, ℕ, List, Result, Ok, Err, sym, subst}
+use Rattle.std.specs.Result.{IsErrAnd}
 use mathlib.Core.Path.{fun_ext}
 use Rattle.gl_outside.specs.Told.{Told}
 use Rattle.gl_outside.specs.States.{ShelfState, Stays, IsCalm}
 use Rattle.gl_outside.proofs.Counting.{calm_then, missed_then, faulted_then}
-use Rattle.gl_top_notes.specs.declared.notes.Refusal.{Refusal}
-use Rattle.gl_top_notes.specs.declared.notes.Refusal.TheVariants.{Usage, Missing, ReadFault, TooLong, Schema, Query, Limit, Verilog, Tuples, Memory}
+use Rattle.gl_top_notes.specs.declared.refusal.Refusal.{Refusal}
+use Rattle.gl_top_notes.specs.declared.refusal.Refusal.TheVariants.{Usage, Missing, ReadFault, TooLong, Schema, Query, Limit, Verilog, Tuples, Memory}
 use Rattle.gl_top_judging.specs.Causes.{change, IsNext, IsRefused, HasCause, Leaves}
 
 -- the texts stay, and what is said of them
@@ -28,3 +29,8 @@ cause_later words a b c Memory k q h = calm_then a b c q h
 pub leaves_later : {T : Type 0} (words : List (List ℕ)) (a b c : ShelfState) (r : Result T Refusal) → Stays a b → IsCalm a b → Leaves words b c r → Leaves words a c r
 leaves_later words a b c (Ok x) k q h = calm_then a b c q h
 leaves_later words a b c (Err f) k q h = cause_later words a b c f k q h
+
+-- what a refusal that is handed on leaves
+pub handed_on : {T : Type 0} (words : List (List ℕ)) (a b : ShelfState) (r : Result T Refusal) (f : Refusal) → IsErrAnd r (λ g. g ≡ f) → HasCause words (change a b) f → Leaves words a b r
+handed_on words a b (Ok x) f h cause = absurd h
+handed_on words a b (Err g) f h cause = (let same : g ≡ f = h in subst (HasCause words (change a b)) (sym same) cause)

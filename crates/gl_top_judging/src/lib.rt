@@ -11,5 +11,5 @@ pub mod judging;
 pub mod simulating;
 
 pub use figuring::figures_text;
-pub use judging::{Job, judge_compile, judge_run, judge_schema, text_of};
+pub use judging::{Job, judge_compile, judge_run};
 pub use simulating::{Fitted, Simulation, judge_sim};

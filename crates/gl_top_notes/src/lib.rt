@@ -6,7 +6,9 @@
 
 mod faults;
 pub mod notes;
+pub mod refusal;
 pub mod status;
 
-pub use notes::{Refusal, tell, tell_memory, tell_no_end, tell_usage, tell_write_fault};
+pub use notes::{tell, tell_memory, tell_no_end, tell_usage, tell_write_fault};
+pub use refusal::Refusal;
 pub use status::{Status, exit_code};

@@ -11,41 +11,14 @@ use crate::faults::{
     query_kind, query_place, schema_kind, schema_place, tuples_kind, tuples_record, verilog_kind,
     verilog_place,
 };
+use crate::refusal::{Refusal, status_of};
 use crate::status::Status;
 use gl_figures::Limit;
 use gl_outside::{Sink, WriteFault, write_all_of};
-use gl_query::QueryFault;
-use gl_schema::SchemaFault;
 use gl_top_matches::Taken;
 use gl_top_words::Part;
-use gl_tuples::TupleFault;
 use gl_verilog_syntax::VerilogFault;
 use itoa::Buffer;
-
-/// Why the program ends before anything is written.
-#[derive(Drop, Debug)]
-pub enum Refusal {
-    /// The words are of no form.
-    Usage,
-    /// The shelf has no text of the name.
-    Missing(Part),
-    /// The shelf failed at the text.
-    ReadFault(Part),
-    /// The text is too long.
-    TooLong(Part),
-    /// The schema is refused.
-    Schema(SchemaFault),
-    /// The query is refused.
-    Query(QueryFault),
-    /// The query's plan passes a limit.
-    Limit(Limit),
-    /// The Verilog text is refused.
-    Verilog(VerilogFault),
-    /// The tuple file is refused.
-    Tuples(TupleFault),
-    /// Want of memory.
-    Memory,
-}
 
 // The line of all forms.
 const USAGE: &[u8] =
@@ -190,23 +163,6 @@ fn put_note<N: Sink>(notes: &mut N, words: &Taken<'_>, refusal: &Refusal) -> Res
             tuples_record(fault),
         ),
         Refusal::Memory => put_memory(notes),
-    }
-}
-
-fn status_of(refusal: &Refusal) -> Status
-    ensures { result ≡ told.status_of refusal.now }
-{
-    match refusal {
-        Refusal::Usage => Status::Usage,
-        Refusal::Missing(_) => Status::Missing,
-        Refusal::ReadFault(_) => Status::ReadFault,
-        Refusal::TooLong(_) => Status::Limit,
-        Refusal::Schema(_) => Status::Schema,
-        Refusal::Query(_) => Status::Query,
-        Refusal::Limit(_) => Status::Limit,
-        Refusal::Verilog(_) => Status::Verilog,
-        Refusal::Tuples(_) => Status::Tuples,
-        Refusal::Memory => Status::Memory,
     }
 }
 

@@ -2,7 +2,7 @@ use Rattle.std.proofs.Common.{[], refl, sym, subst, inr}
 use Rattle.gl_outside.specs.States.{SinkState, Took}
 use Rattle.gl_outside.proofs.Takes.{took_none}
 use Rattle.gl_top.specs.Verdicts.{Ran, Broke', Ended}
-use Rattle.gl_top_notes.specs.declared.notes.Refusal.TheVariants as refusal
+use Rattle.gl_top_notes.specs.declared.refusal.Refusal.TheVariants as refusal
 use Rattle.gl_top.proofs.running.finish_run.Goals as goal
 
 pub returns-in-Done : goal.returns-in-Done

@@ -6,7 +6,7 @@ use Rattle.gl_tuples.specs.Gaps.{plain_beats}
 use Rattle.gl_verilog.specs.View.{module_of}
 use Rattle.gl_runner.specs.declared.tracing.Ending.TheVariants as end
 use Rattle.gl_runner.specs.Traces.{OfRunsOf, Traced, decimal_kinds}
-use Rattle.gl_top_notes.specs.declared.notes.Refusal.TheVariants as refusal
+use Rattle.gl_top_notes.specs.declared.refusal.Refusal.TheVariants as refusal
 use Rattle.gl_top.specs.Verdicts.{Traced', Ended}
 use Rattle.gl_top.proofs.tracing.finish_trace.Goals as goal
 
