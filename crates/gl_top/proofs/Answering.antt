@@ -3,10 +3,15 @@ use Rattle.std.proofs.Common.{◌≡◌, ℕ, List, [], ◌++◌, sym, ap, subst
 use Rattle.gl_top_notes.specs.declared.status.Status.{Status}
 use Rattle.gl_top_notes.specs.Refusals.{Puts}
 use Rattle.gl_top_judging.specs.Causes.{Change}
+use Rattle.gl_top.specs.Calls.{Call}
 use Rattle.gl_top.specs.Verdicts.{IsAnswer}
 
 pub kept_text : (old new got text : List ℕ) → old ≡ [] → got ≡ text → new ≡ old ++ got → text ≡ new
 kept_text old new got text none e is = sym (is ∙ ap (λ (x : List ℕ). x ++ got) none ∙ e)
 
-pub answer_text : (words : List (List ℕ)) (c : Change) (out notes : Puts) (t u : List ℕ) (status : Status) → t ≡ u → IsAnswer words c out notes t status → IsAnswer words c out notes u status
-answer_text words c out notes t u status e a = subst (λ (x : List ℕ). IsAnswer words c out notes x status) e a
+-- the call that leaves another text
+abbrev pub leaving : List (List ℕ) → Change → Puts → Puts → Status → List ℕ → Call
+leaving words shelf out notes status text = record { words = words; shelf = shelf; out = out; notes = notes; text = text; status = status }
+
+pub answer_text : (words : List (List ℕ)) (c : Change) (out notes : Puts) (t u : List ℕ) (status : Status) → t ≡ u → IsAnswer (leaving words c out notes status t) → IsAnswer (leaving words c out notes status u)
+answer_text words c out notes t u status e a = subst (λ (x : List ℕ). IsAnswer (leaving words c out notes status x)) e a

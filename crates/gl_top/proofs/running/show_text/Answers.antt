@@ -1,6 +1,6 @@
 use Rattle.std.proofs.Common.{inl, ◌∙◌}
 use Rattle.gl_outside.proofs.Takes.{took_none}
-use Rattle.gl_top.specs.Verdicts.{Ended}
+use Rattle.gl_top.specs.Verdicts.{Refused}
 use Rattle.gl_top_notes.specs.declared.refusal.Refusal.TheVariants as refusal
 use Rattle.gl_top.proofs.Answering.{answer_text, kept_text}
 use Rattle.gl_top.proofs.running.show_text.Goals as goal
@@ -11,7 +11,7 @@ returns-in-Ok g c = λ ch given calm.
     answer_text _ _ _ _ _ _ _ kept (c.show.ensures c.args.words.now ch c.args.compiled.now.text.items given calm)
 
 pub returns-in-Err : goal.returns-in-Err
-returns-in-Err g c = λ ch given calm. Ended (record {
+returns-in-Err g c = λ ch given calm. Refused (record {
   refusal = refusal.Memory;
   cause = calm;
   untouched = took_none _;
