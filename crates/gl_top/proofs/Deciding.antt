@@ -89,7 +89,7 @@ with_both Lacks P Q told p q f = absurd p
 with_both (Holds text) P Q told p q f = f text p.1 q.1
 
 -- a weaker property
-weaker : (t : Told) (P Q : List ℕ → Type 0) → ((text : List ℕ) → P text → Q text) → Fine t P → Fine t Q
+pub weaker : (t : Told) (P Q : List ℕ → Type 0) → ((text : List ℕ) → P text → Q text) → Fine t P → Fine t Q
 weaker Untold P Q f h = tt
 weaker Lacks P Q f h = h
 weaker (Holds text) P Q f h = (h.0, f text h.1)

@@ -11,8 +11,8 @@ ghost use Rattle.gl_top.specs.Verdicts.{IsAnswer};
 use crate::running::show_text;
 use gl_load::load;
 use gl_outside::Sink;
-use gl_top_matches::Taken;
 use gl_top_notes::{Refusal, Status, tell};
+use gl_top_words::Taken;
 use std::alloc::Global;
 
 // Loads so many tuples, keeps the text that was run, and writes what is told of it.

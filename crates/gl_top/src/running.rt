@@ -1,11 +1,11 @@
 //! From words to a status.
 
-ghost use Rattle.std.specs.Prelude.{◌≡◌, ◌≢◌, [], ℕ, List};
+ghost use Rattle.std.specs.Prelude.{◌≡◌, ◌≢◌, []};
 ghost use Rattle.gl_outside.specs.States.{IsCalm, Took};
 ghost use Rattle.gl_schema.specs.Beats.{KeepsGap};
 ghost use Rattle.gl_tuples.specs.Gaps.{AreFileBeats, plain_beats};
 ghost use Rattle.gl_compiler_text.specs.Built.{gap_of};
-ghost use Rattle.gl_top_words.specs.declared.command.Command.TheVariants.{Compile, Explain, Figures, Run};
+ghost use Rattle.gl_top_words.specs.declared.command.Command.TheVariants.{Compile, Figures, Run};
 ghost use Rattle.gl_top_words.specs.Forms as forms;
 ghost use Rattle.gl_top_words.specs.Forms.{IsCommand};
 ghost use Rattle.gl_top_judging.specs.Causes.{Change};
@@ -14,16 +14,16 @@ ghost use Rattle.gl_top.specs.Calls.{call_of, call_over};
 ghost use Rattle.gl_top.specs.Verdicts.{IsAnswer, IsComplete, IsGiven, RanLines, Says};
 ghost use Rattle.gl_top.specs.Verdicts.{TellsFaults, TellsForm, TellsRefusal};
 
-use crate::explaining::judge_explain;
 use crate::loading::answer_load;
 use crate::tracing::answer_sim;
 use gl_compiler_text::Compiled;
-use gl_outside::{Shelf, Sink, Words, write_all_of};
+use gl_outside::{Shelf, Sink, Words};
 use gl_runner::{Outcome, execute};
+use gl_top_explain::answer_explain;
 use gl_top_judging::{Job, figures_text, judge_compile, judge_run};
-use gl_top_matches::{Taken, take};
-use gl_top_notes::{Refusal, Status, tell, tell_memory, tell_usage, tell_write_fault};
-use gl_top_words::{Command, command_of};
+use gl_top_matches::take;
+use gl_top_notes::{Refusal, Status, show, tell, tell_memory, tell_usage, tell_write_fault};
+use gl_top_words::{Command, Taken, command_of};
 use std::alloc::Global;
 
 // Runs the compiled text over the beats, and writes the lines of the run.
@@ -111,38 +111,6 @@ fn answer_run<S: Shelf, K: Sink, N: Sink>(
 {
     match judge_run(alloc, shelf, words) {
         Ok(job) => finish(alloc, words, &job, out, notes, text),
-        Err(refusal) => tell(notes, words, &refusal),
-    }
-}
-
-// Writes what a command shows.
-fn show<K: Sink, N: Sink>(bytes: &[u8], out: &mut K, notes: &mut N) -> Status
-    ensures { (words : List (List ℕ)) (c : Change) (text : List ℕ)
-        → IsGiven c.old.told words bytes.now text → IsCalm c.old c.new
-        → IsAnswer (call_over K.state N.state words c out.old out.new notes.old notes.new
-        text result) }
-{
-    match write_all_of(out, bytes) {
-        Ok(()) => Status::Done,
-        Err(_) => tell_write_fault(notes),
-    }
-}
-
-// Judges the texts of `explain S Q`, and writes what is explained.
-fn answer_explain<S: Shelf, K: Sink, N: Sink>(
-    alloc: Global,
-    words: &Taken<'_>,
-    shelf: &mut S,
-    out: &mut K,
-    notes: &mut N,
-) -> Status
-    requires explains { IsCommand words.now Explain }
-    requires names { (S.state shelf.old).names ≡ words.now }
-    ensures { IsAnswer (call_of S.state K.state N.state words.now shelf.old shelf.new
-        out.old out.new notes.old notes.new [] result) }
-{
-    match judge_explain(alloc, shelf, words) {
-        Ok(bytes) => show(&bytes, out, notes),
         Err(refusal) => tell(notes, words, &refusal),
     }
 }

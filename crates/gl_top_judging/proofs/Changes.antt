@@ -1,17 +1,12 @@
 -- Changes of a shelf, one after the other.
 use Rattle.std.proofs.Common.{◌≡◌, ℕ, List, Result, Ok, Err, sym, subst}
 use Rattle.std.specs.Result.{IsErrAnd}
-use mathlib.Core.Path.{fun_ext}
-use Rattle.gl_outside.specs.Told.{Told}
 use Rattle.gl_outside.specs.States.{ShelfState, Stays, IsCalm}
 use Rattle.gl_outside.proofs.Counting.{calm_then, missed_then, faulted_then}
 use Rattle.gl_top_notes.specs.declared.refusal.Refusal.{Refusal}
 use Rattle.gl_top_notes.specs.declared.refusal.Refusal.TheVariants.{Usage, Missing, ReadFault, TooLong, Schema, Query, Limit, Verilog, Tuples, Memory}
+use Rattle.gl_top_texts.proofs.Later.{same_told}
 use Rattle.gl_top_judging.specs.Causes.{change, IsNext, IsRefused, HasCause, Leaves}
-
--- the texts stay, and what is said of them
-same_told : (P : (List ℕ → Told) → Type 0) (a b : List ℕ → Told) → ((n : List ℕ) → b n ≡ a n) → P b → P a
-same_told P a b e p = let same : b ≡ a = fun_ext e in subst P same p
 
 -- what a later call refuses, where the earlier ones refused nothing
 cause_later : (words : List (List ℕ)) (a b c : ShelfState) (r : Refusal) → Stays a b → IsCalm a b → HasCause words (change b c) r → HasCause words (change a c) r

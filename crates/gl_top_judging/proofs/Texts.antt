@@ -25,7 +25,7 @@ use Rattle.gl_query_compiler.specs.Queries.{IsQuery, IsQueryRefused}
 use Rattle.gl_top_words.specs.declared.command.Part.{Part}
 use Rattle.gl_top_words.specs.declared.command.Part.TheVariants as part
 use Rattle.gl_top_words.specs.declared.command.Command.{Command}
-use Rattle.gl_top_words.specs.declared.command.Command.TheVariants.{Explain, Run, Sim}
+use Rattle.gl_top_words.specs.declared.command.Command.TheVariants.{Run, Sim}
 use Rattle.gl_top_words.specs.Forms.{IsCommand, IsForm, IsNamed, command_of}
 use Rattle.gl_top_notes.specs.declared.refusal.Refusal.{Refusal}
 use Rattle.gl_top_notes.specs.declared.refusal.Refusal.TheVariants as refusal
@@ -47,9 +47,6 @@ sim_names_module words is = record { command = Sim; is = is; names = (1, omega a
 
 pub sim_names_tuples : (words : List (List ℕ)) → IsCommand words Sim → IsNamed words part.Tuples
 sim_names_tuples words is = record { command = Sim; is = is; names = (2, omega arith, refl) }
-
-pub explain_names_query : (words : List (List ℕ)) → IsCommand words Explain → IsNamed words part.Query
-explain_names_query words is = record { command = Explain; is = is; names = (1, omega arith, refl) }
 
 -- where a text is judged the words name it
 pub next_named : (told : List ℕ → Told) (words : List (List ℕ)) (p : Part) → IsNext told words p → IsNamed words p

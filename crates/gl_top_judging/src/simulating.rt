@@ -12,10 +12,9 @@ ghost use Rattle.gl_top_judging.specs.Passing.{IsFitted, IsFittedText, IsTraceab
 
 use gl_outside::Shelf;
 use gl_schema::Schema;
-use gl_top_matches::Taken;
 use gl_top_notes::Refusal;
 use gl_top_texts::{fetch, fetch_schema};
-use gl_top_words::Part;
+use gl_top_words::{Part, Taken};
 use gl_tuple_reader::read_tuples;
 use gl_tuples::Beats;
 use gl_verilog::Module;

@@ -1,11 +1,12 @@
 //! The one line that tells why the program ends as it does.
 
-ghost use Rattle.std.specs.Prelude.{◌≡◌, decimal};
+ghost use Rattle.std.specs.Prelude.{decimal};
 ghost use Rattle.gl_outside.specs.States.{Wrote};
 ghost use Rattle.gl_top_words.specs.Forms as forms;
 ghost use Rattle.gl_top_notes.specs.Refusals as told;
 ghost use Rattle.gl_top_notes.specs.Refusals.{line, kind_line, limit_line, no_end_line, note_of, verilog_line};
 ghost use Rattle.gl_top_notes.specs.Refusals.{usage_line, memory_line, write_line, puts, Notes};
+ghost use Rattle.gl_top_notes.specs.Written.{IsWritten};
 
 use crate::faults::{
     query_kind, query_place, schema_kind, schema_place, tuples_kind, tuples_record, verilog_kind,
@@ -15,8 +16,7 @@ use crate::refusal::{Refusal, status_of};
 use crate::status::Status;
 use gl_figures::Limit;
 use gl_outside::{Sink, WriteFault, write_all_of};
-use gl_top_matches::Taken;
-use gl_top_words::Part;
+use gl_top_words::{Part, Taken};
 use gl_verilog_syntax::VerilogFault;
 use itoa::Buffer;
 
@@ -219,5 +219,16 @@ pub fn tell_no_end<N: Sink>(notes: &mut N, cycle: u64) -> Status
     match put_no_end(notes, cycle) {
         Ok(()) => Status::NoEnd,
         Err(_) => Status::WriteFault,
+    }
+}
+
+/// Writes what a command shows, and answers the status; where the output fails, that is noted.
+pub fn show<K: Sink, N: Sink>(bytes: &[u8], out: &mut K, notes: &mut N) -> Status
+    ensures { IsWritten bytes.now (puts (K.state out.old) (K.state out.new))
+        (puts (N.state notes.old) (N.state notes.new)) result }
+{
+    match write_all_of(out, bytes) {
+        Ok(()) => Status::Done,
+        Err(_) => tell_write_fault(notes),
     }
 }

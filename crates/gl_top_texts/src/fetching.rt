@@ -8,9 +8,8 @@ ghost use Rattle.gl_top_texts.specs.Texts.{HasText, LeavesSchema, LeavesText, Sc
 
 use gl_outside::{ReadFault, Shelf, read_all};
 use gl_schema::{Schema, read_schema};
-use gl_top_matches::Taken;
 use gl_top_notes::Refusal;
-use gl_top_words::Part;
+use gl_top_words::{Part, Taken};
 use std::alloc::Global;
 
 // A fault of a text of the shelf as a refusal, which names the part: so no `From` can say it.
