@@ -3,8 +3,8 @@ use Rattle.std.proofs.Common.{◌≡◌, ◌≢◌, ◌⊎◌, ℕ, List, [], Op
 use Rattle.gl_outside.specs.Counts.{Rose}
 use Rattle.gl_schema.specs.declared.schema.Schema.{Schema}
 use Rattle.gl_query.specs.declared.tree.Statement.{Statement}
-use Rattle.gl_top_notes.specs.declared.notes.Refusal.{Refusal}
-use Rattle.gl_top_notes.specs.declared.notes.Refusal.TheVariants as refusal
+use Rattle.gl_top_notes.specs.declared.refusal.Refusal.{Refusal}
+use Rattle.gl_top_notes.specs.declared.refusal.Refusal.TheVariants as refusal
 use Rattle.gl_top_notes.specs.declared.status.Status.{Status}
 use Rattle.gl_top_notes.specs.declared.status.Status.TheVariants as status
 use Rattle.gl_outside.specs.Told.{Told}
@@ -22,12 +22,14 @@ use Rattle.gl_verilog.specs.Module.{Module}
 use Rattle.gl_runner.specs.declared.tracing.Ending.{Ending}
 use Rattle.gl_runner.specs.declared.tracing.Ending.TheVariants as end
 use Rattle.gl_runner.specs.Prints.{HasRunOver}
-use Rattle.gl_runner.specs.Traces.{OfRunsOf, Traced, decimal_kinds}
+use Rattle.gl_runner.specs.Traces.{OfRunsOf, decimal_kinds}
+use Rattle.gl_runner.specs.Traces as traces
 use Rattle.gl_top_judging.specs.Passing.{FilePasses}
 use Rattle.gl_top_notes.specs.Refusals.{Puts, Notes, status_of, note_of, no_end_line, write_line}
 use Rattle.gl_top_judging.specs.Causes.{Change, HasCause, IsNext, IsRefused}
 use Rattle.gl_top.specs.Shown.{Shows}
-use Rattle.gl_top.specs.Verdicts.{AllPass, OfFile, Three, Completes, Whole, NoMemory, Endless, IsAnswer, Ran, Broke', Traced', Shown, Cut, Ended, IsEndless, IsGiven, OfLoad, OfTexts, IsTelling, TellsEnding, Yields, Same, ToRead, ToWrite, ToMemory, IsFaultless, Says, TellsRefusal}
+use Rattle.gl_top.specs.Calls.{Call}
+use Rattle.gl_top.specs.Verdicts.{AllPass, OfFile, Three, Completes, Whole, NoMemory, Endless, IsAnswer, RanWhole, RanCut, Traced, Wrote, WroteCut, Refused, IsEndless, IsComplete, IsGiven, OfLoad, OfTexts, IsTelling, TellsEnding, TellsFaults, TellsForm, Yields, Same, ToRead, ToWrite, ToMemory, IsFaultless, Says, SaysBy, TellsRefusal}
 use Rattle.gl_top_judging.proofs.Texts.{next_form}
 use Rattle.gl_top.proofs.Deciding.{Stops, formed, load_goes, one_refusal, stops, passes_goes, two_go}
 
@@ -75,21 +77,21 @@ judged told words (refusal.Tuples f) h = tt
 judged told words refusal.Memory h = h
 
 -- what a refusal says
-of_refusal : (words : List (List ℕ)) (c : Change) (out notes : Puts) (r : Refusal) → HasCause words c r → Says words c out notes (status_of r)
-of_refusal words c out notes refusal.Usage h = h.0
-of_refusal words c out notes (refusal.Missing p) h = (p, h)
-of_refusal words c out notes (refusal.ReadFault p) h = (p, h)
-of_refusal words c out notes (refusal.TooLong p) h = inl (p, h.0)
-of_refusal words c out notes (refusal.Schema f) h = (f, h.0)
-of_refusal words c out notes (refusal.Query f) h = (f, h.0)
-of_refusal words c out notes (refusal.Limit l) h = inr (l, h.0)
-of_refusal words c out notes (refusal.Verilog f) h = (f, h.0)
-of_refusal words c out notes (refusal.Tuples f) h = (f, h.0)
-of_refusal words c out notes refusal.Memory h = tt
+of_refusal : (call : Call) (r : Refusal) → HasCause call.words call.shelf r → SaysBy (status_of r) call
+of_refusal call refusal.Usage h = h.0
+of_refusal call (refusal.Missing p) h = (p, h)
+of_refusal call (refusal.ReadFault p) h = (p, h)
+of_refusal call (refusal.TooLong p) h = inl (p, h.0)
+of_refusal call (refusal.Schema f) h = (f, h.0)
+of_refusal call (refusal.Query f) h = (f, h.0)
+of_refusal call (refusal.Limit l) h = inr (l, h.0)
+of_refusal call (refusal.Verilog f) h = (f, h.0)
+of_refusal call (refusal.Tuples f) h = (f, h.0)
+of_refusal call refusal.Memory h = tt
 
-says_noted : (words : List (List ℕ)) (c : Change) (out notes : Puts) (own answered : Status) (line : List ℕ) → Says words c out notes own → Notes own line notes answered → Says words c out notes answered
-says_noted words c out notes own answered line h (inl n) = subst (Says words c out notes) (sym n.0) h
-says_noted words c out notes own answered line h (inr n) = subst (Says words c out notes) (sym n.0) (inr n.1.cause)
+says_noted : (call : Call) (own : Status) (line : List ℕ) → SaysBy own call → Notes own line call.notes call.status → Says call
+says_noted call own line h (inl n) = subst (λ (s : Status). SaysBy s call) (sym n.0) h
+says_noted call own line h (inr n) = subst (λ (s : Status). SaysBy s call) (sym n.0) (inr n.1.cause)
 
 -- ---- of a trace
 
@@ -101,12 +103,12 @@ ending_status (end.NoEnd cycle) notes answered (inr n) = inr (inl n.0)
 ending_status end.WriteFault notes answered h = inr (inl (noted_write status.WriteFault answered write_line notes refl h))
 ending_status end.Memory notes answered h = absurd h
 
-module _ (words : List (List ℕ)) (c : Change) (out notes : Puts) (schema : Schema) (design : Module) (beats : List Beat) (passes : FilePasses c.old.told words schema design beats)
-    (run : HasRunOver design schema (plain_beats beats) Zero) (calm : IsCalm c.old c.new) where
+module _ (call : Call) (schema : Schema) (design : Module) (beats : List Beat) (passes : FilePasses call.shelf.old.told call.words schema design beats)
+    (run : HasRunOver design schema (plain_beats beats) Zero) (calm : IsCalm call.shelf.old call.shelf.new) where
   abbrev IsSo : Ending → Type 0
-  IsSo ending = Traced (OfRunsOf design schema (plain_beats beats) Zero) (decimal_kinds design) (plain_beats beats) (extra_of words) out.old out.new ending
+  IsSo ending = traces.Traced (OfRunsOf design schema (plain_beats beats) Zero) (decimal_kinds design) (plain_beats beats) (extra_of call.words) call.out.old call.out.new ending
 
-  endless : (cycle : ℕ) → IsSo (end.NoEnd cycle) → Took notes.old notes.new (no_end_line cycle) → IsEndless words c out notes
+  endless : (cycle : ℕ) → IsSo (end.NoEnd cycle) → Took call.notes.old call.notes.new (no_end_line cycle) → IsEndless call
   endless cycle h took = record {
     schema = schema;
     design = design;
@@ -120,29 +122,29 @@ module _ (words : List (List ℕ)) (c : Change) (out notes : Puts) (schema : Sch
     whole = h.0;
   }
 
-  trace_says : (answered : Status) (ending : Ending) → IsSo ending → TellsEnding ending notes answered → Says words c out notes answered
-  trace_says answered end.Done h t = subst (Says words c out notes) (sym t.0) (calm, h.0, t.1)
-  trace_says answered (end.NoEnd cycle) h (inl n) = subst (Says words c out notes) (sym n.0) (endless cycle h n.1)
-  trace_says answered (end.NoEnd cycle) h (inr n) = subst (Says words c out notes) (sym n.0) (inr n.1.cause)
-  trace_says answered end.WriteFault h t = says_noted words c out notes status.WriteFault answered write_line (inl h.0) t
-  trace_says answered end.Memory h t = absurd t
+  trace_says : (ending : Ending) → IsSo ending → TellsEnding ending call.notes call.status → Says call
+  trace_says end.Done h t = subst (λ (s : Status). SaysBy s call) (sym t.0) (calm, h.0, t.1)
+  trace_says (end.NoEnd cycle) h (inl n) = subst (λ (s : Status). SaysBy s call) (sym n.0) (endless cycle h n.1)
+  trace_says (end.NoEnd cycle) h (inr n) = subst (λ (s : Status). SaysBy s call) (sym n.0) (inr n.1.cause)
+  trace_says end.WriteFault h t = says_noted call status.WriteFault write_line (inl h.0) t
+  trace_says end.Memory h t = absurd t
 
-  trace_completes : (answered : Status) (ending : Ending) → IsFaultless c out notes → IsSo ending → TellsEnding ending notes answered → Completes words c out notes answered
-  trace_completes answered end.Done fine h t = Whole t.0
-  trace_completes answered (end.NoEnd cycle) fine h (inl n) = Endless n.0 (endless cycle h n.1)
-  trace_completes answered (end.NoEnd cycle) fine h (inr n) = absurd (fine.notes' n.1.cause)
-  trace_completes answered end.WriteFault fine h t = absurd (fine.out' h.0)
-  trace_completes answered end.Memory fine h t = absurd t
+  trace_completes : (ending : Ending) → IsFaultless call → IsSo ending → TellsEnding ending call.notes call.status → Completes call
+  trace_completes end.Done fine h t = Whole t.0
+  trace_completes (end.NoEnd cycle) fine h (inl n) = Endless n.0 (endless cycle h n.1)
+  trace_completes (end.NoEnd cycle) fine h (inr n) = absurd (fine.notes n.1.cause)
+  trace_completes end.WriteFault fine h t = absurd (fine.out h.0)
+  trace_completes end.Memory fine h t = absurd t
 
 -- ---- of each answer
 
-pub when_says : (words : List (List ℕ)) (c : Change) (out notes : Puts) (text : List ℕ) (answered : Status) → IsAnswer words c out notes text answered → Says words c out notes answered
-when_says words c out notes text answered (Ran d) = subst (Says words c out notes) (sym d.done) (d.calm, d.whole, d.silent)
-when_says words c out notes text answered (Broke' b) = says_noted words c out notes status.WriteFault answered write_line (inl b.cause) b.noted
-when_says words c out notes text answered (Traced' d) = trace_says words c out notes d.schema d.design d.beats d.passes d.run d.calm answered d.ending d.traced d.tells
-when_says words c out notes text answered (Shown d) = subst (Says words c out notes) (sym d.done) (d.calm, d.wrote.calm, d.silent)
-when_says words c out notes text answered (Cut b) = says_noted words c out notes status.WriteFault answered write_line (inl b.wrote.cause) b.noted
-when_says words c out notes text answered (Ended d) = says_noted words c out notes (status_of d.refusal) answered (note_of words d.refusal) (of_refusal words c out notes d.refusal d.cause) d.noted
+pub when_says : (call : Call) → IsAnswer call → Says call
+when_says call (RanWhole d) = subst (λ (s : Status). SaysBy s call) (sym d.done) (d.calm, d.whole, d.silent)
+when_says call (RanCut d) = says_noted call status.WriteFault write_line (inl d.cause) d.noted
+when_says call (Traced d) = trace_says call d.schema d.design d.beats d.passes d.run d.calm d.ending d.traced d.tells
+when_says call (Wrote d) = subst (λ (s : Status). SaysBy s call) (sym d.done) (d.calm, d.wrote.calm, d.silent)
+when_says call (WroteCut d) = says_noted call status.WriteFault write_line (inl d.wrote.cause) d.noted
+when_says call (Refused d) = says_noted call (status_of d.refusal) (note_of call.words d.refusal) (of_refusal call d.refusal d.cause) d.noted
 
 -- with the status of what the words and the texts are refused for, its line is noted
 told_by : (words : List (List ℕ)) (c : Change) (notes : Puts) (answered : Status) (r : Refusal) → IsTelling c.old.told words → IsRefused c.old.told words r → answered ≡ status_of r
@@ -164,23 +166,22 @@ ending_other told words r ending notes answered is e h = elim (ending_status end
 broken_other : (told : List ℕ → Told) (words : List (List ℕ)) (r : Refusal) (notes : Puts) (answered : Status) → IsRefused told words r → answered ≡ status_of r → Notes status.WriteFault write_line notes answered → ⊥
 broken_other told words r notes answered is e n = subst IsJudged (sym e ∙ noted_write status.WriteFault answered write_line notes refl n) (judged told words r is)
 
-pub when_told : (words : List (List ℕ)) (c : Change) (out notes : Puts) (text : List ℕ) (answered : Status) → IsAnswer words c out notes text answered → TellsRefusal words c notes answered
-when_told words c out notes text answered (Ran d) r tells is e = absurd (subst IsJudged (sym e ∙ d.done) (judged c.old.told words r is))
-when_told words c out notes text answered (Broke' b) r tells is e = absurd (broken_other c.old.told words r notes answered is e b.noted)
-when_told words c out notes text answered (Traced' d) r tells is e = absurd (ending_other c.old.told words r d.ending notes answered is e d.tells)
-when_told words c out notes text answered (Shown d) r tells is e = absurd (subst IsJudged (sym e ∙ d.done) (judged c.old.told words r is))
-when_told words c out notes text answered (Cut b) r tells is e = absurd (broken_other c.old.told words r notes answered is e b.noted)
-when_told words c out notes text answered (Ended d) r tells is e = told_by words c notes answered r tells is e d.refusal (caused words c d.refusal d.cause) d.noted
+pub when_told : (call : Call) → IsAnswer call → TellsRefusal call
+when_told call (RanWhole d) r tells is e = absurd (subst IsJudged (sym e ∙ d.done) (judged call.shelf.old.told call.words r is))
+when_told call (RanCut d) r tells is e = absurd (broken_other call.shelf.old.told call.words r call.notes call.status is e d.noted)
+when_told call (Traced d) r tells is e = absurd (ending_other call.shelf.old.told call.words r d.ending call.notes call.status is e d.tells)
+when_told call (Wrote d) r tells is e = absurd (subst IsJudged (sym e ∙ d.done) (judged call.shelf.old.told call.words r is))
+when_told call (WroteCut d) r tells is e = absurd (broken_other call.shelf.old.told call.words r call.notes call.status is e d.noted)
+when_told call (Refused d) r tells is e = told_by call.words call.shelf call.notes call.status r tells is e d.refusal (caused call.words call.shelf d.refusal d.cause) d.noted
 
 -- nothing is written but by a run
-pub when_untouched : (words : List (List ℕ)) (c : Change) (out notes : Puts) (text : List ℕ) (answered : Status) → IsAnswer words c out notes text answered
-    → answered ≢ status.Done → answered ≢ status.WriteFault → answered ≢ status.NoEnd → Took out.old out.new []
-when_untouched words c out notes text answered (Ran d) nd nw ne = absurd (nd d.done)
-when_untouched words c out notes text answered (Broke' b) nd nw ne = absurd (nw (noted_write status.WriteFault answered write_line notes refl b.noted))
-when_untouched words c out notes text answered (Traced' d) nd nw ne = elim (ending_status d.ending notes answered d.tells) [ inl e ↦ absurd (nd e) | inr (inl e) ↦ absurd (nw e) | inr (inr e) ↦ absurd (ne e) ]
-when_untouched words c out notes text answered (Shown d) nd nw ne = absurd (nd d.done)
-when_untouched words c out notes text answered (Cut b) nd nw ne = absurd (nw (noted_write status.WriteFault answered write_line notes refl b.noted))
-when_untouched words c out notes text answered (Ended d) nd nw ne = d.untouched
+pub when_untouched : (call : Call) → IsAnswer call → call.status ≢ status.Done → call.status ≢ status.WriteFault → call.status ≢ status.NoEnd → Took call.out.old call.out.new []
+when_untouched call (RanWhole d) nd nw ne = absurd (nd d.done)
+when_untouched call (RanCut d) nd nw ne = absurd (nw (noted_write status.WriteFault call.status write_line call.notes refl d.noted))
+when_untouched call (Traced d) nd nw ne = elim (ending_status d.ending call.notes call.status d.tells) [ inl e ↦ absurd (nd e) | inr (inl e) ↦ absurd (nw e) | inr (inr e) ↦ absurd (ne e) ]
+when_untouched call (Wrote d) nd nw ne = absurd (nd d.done)
+when_untouched call (WroteCut d) nd nw ne = absurd (nw (noted_write status.WriteFault call.status write_line call.notes refl d.noted))
+when_untouched call (Refused d) nd nw ne = d.untouched
 
 -- a command that shows something does not run
 runs_none : (c : Command) (schema : Schema) (statement : Statement) (bytes text : List ℕ) → Shows c schema statement bytes text → (o : Option Command) → o ≡ Some c → o ≢ Some Run
@@ -191,61 +192,57 @@ runs_none Run schema statement bytes text h o e r = h
 runs_none Sim schema statement bytes text h o e r = h
 runs_none Load schema statement bytes text h o e r = h
 
--- what is answered, where a refusal was noted or not
-yields : (own answered : Status) (c : Change) (notes : Puts) (line : List ℕ) → Notes own line notes answered → Yields own c notes answered
-yields own answered c notes line (inl n) = Same n.0
-yields own answered c notes line (inr n) = ToWrite n.0 n.1.cause
-
-by_cause : (words : List (List ℕ)) (c : Change) (notes : Puts) (answered : Status) (r : Refusal) → IsTelling c.old.told words → IsRefused c.old.told words r → (s : Refusal) → IsCaused words c s → Notes (status_of s) (note_of words s) notes answered
-    → Yields (status_of r) c notes answered
-by_cause words c notes answered r tells is s cause (inr n) = ToWrite n.0 n.1.cause
-by_cause words c notes answered r tells is s (Judged h) (inl n) = Same (n.0 ∙ ap status_of (one_refusal c.old.told words s r tells h is))
-by_cause words c notes answered r tells is s (Unread p next rose own) (inl n) = ToRead (n.0 ∙ own) rose
-by_cause words c notes answered r tells is s (Short own) (inl n) = ToMemory (n.0 ∙ own)
+-- what the status yields to, where a refusal was noted
+by_cause : (call : Call) (r : Refusal) → IsTelling call.shelf.old.told call.words → IsRefused call.shelf.old.told call.words r → (s : Refusal) → IsCaused call.words call.shelf s
+    → Notes (status_of s) (note_of call.words s) call.notes call.status → Yields (status_of r) call
+by_cause call r tells is s cause (inr n) = ToWrite n.0 n.1.cause
+by_cause call r tells is s (Judged h) (inl n) = Same (n.0 ∙ ap status_of (one_refusal call.shelf.old.told call.words s r tells h is))
+by_cause call r tells is s (Unread p next rose own) (inl n) = ToRead (n.0 ∙ own) rose
+by_cause call r tells is s (Short own) (inl n) = ToMemory (n.0 ∙ own)
 
 -- what is shown was not refused
 shown_goes : (told : List ℕ → Told) (words : List (List ℕ)) (bytes text : List ℕ) (a : Refusal) → IsTelling told words → IsGiven told words bytes text → Stops told words a → ⊥
 shown_goes told words bytes text a tells (OfLoad d) h = load_goes told words d.count a d.is h
 shown_goes told words bytes text a tells (OfTexts d) h = two_go told words d.schema d.statement a tells d.passes (runs_none d.command d.schema d.statement bytes text d.shows (command_of words) d.is) h
 
-pub when_refused : (words : List (List ℕ)) (c : Change) (out notes : Puts) (text : List ℕ) (answered : Status) → IsAnswer words c out notes text answered → (r : Refusal) → IsTelling c.old.told words → IsRefused c.old.told words r → Yields (status_of r) c notes answered
-when_refused words c out notes text answered (Ran d) r tells h = absurd (passes_goes c.old.told words r tells (Three d.schema d.statement d.beats d.emitted.passes) (stops c.old.told words r h))
-when_refused words c out notes text answered (Broke' b) r tells h = absurd (passes_goes c.old.told words r tells (Three b.schema b.statement b.beats b.emitted.passes) (stops c.old.told words r h))
-when_refused words c out notes text answered (Traced' d) r tells h = absurd (passes_goes c.old.told words r tells (OfFile d.schema d.design d.beats d.passes) (stops c.old.told words r h))
-when_refused words c out notes text answered (Shown d) r tells h = absurd (shown_goes c.old.told words d.bytes text r tells d.given (stops c.old.told words r h))
-when_refused words c out notes text answered (Cut b) r tells h = absurd (shown_goes c.old.told words b.bytes text r tells b.given (stops c.old.told words r h))
-when_refused words c out notes text answered (Ended d) r tells h = by_cause words c notes answered r tells h d.refusal (caused words c d.refusal d.cause) d.noted
+pub when_refused : (call : Call) → IsAnswer call → TellsFaults call
+when_refused call (RanWhole d) r tells h = absurd (passes_goes call.shelf.old.told call.words r tells (Three d.schema d.statement d.beats d.emitted.passes) (stops call.shelf.old.told call.words r h))
+when_refused call (RanCut d) r tells h = absurd (passes_goes call.shelf.old.told call.words r tells (Three d.schema d.statement d.beats d.emitted.passes) (stops call.shelf.old.told call.words r h))
+when_refused call (Traced d) r tells h = absurd (passes_goes call.shelf.old.told call.words r tells (OfFile d.schema d.design d.beats d.passes) (stops call.shelf.old.told call.words r h))
+when_refused call (Wrote d) r tells h = absurd (shown_goes call.shelf.old.told call.words d.bytes call.text r tells d.given (stops call.shelf.old.told call.words r h))
+when_refused call (WroteCut d) r tells h = absurd (shown_goes call.shelf.old.told call.words d.bytes call.text r tells d.given (stops call.shelf.old.told call.words r h))
+when_refused call (Refused d) r tells h = by_cause call r tells h d.refusal (caused call.words call.shelf d.refusal d.cause) d.noted
 
-by_calm : (words : List (List ℕ)) (c : Change) (out notes : Puts) (answered : Status) → IsTelling c.old.told words → AllPass c.old.told words → IsFaultless c out notes
-    → (s : Refusal) → IsCaused words c s → Notes (status_of s) (note_of words s) notes answered → Completes words c out notes answered
-by_calm words c out notes answered tells pass calm s cause (inr n) = absurd (calm.notes' n.1.cause)
-by_calm words c out notes answered tells pass calm s (Judged h) (inl n) = absurd (passes_goes c.old.told words s tells pass (stops c.old.told words s h))
-by_calm words c out notes answered tells pass calm s (Unread p next rose own) (inl n) = absurd (calm.shelf rose)
-by_calm words c out notes answered tells pass calm s (Short own) (inl n) = NoMemory (n.0 ∙ own)
+by_calm : (call : Call) → IsTelling call.shelf.old.told call.words → AllPass call.shelf.old.told call.words → IsFaultless call → (s : Refusal) → IsCaused call.words call.shelf s
+    → Notes (status_of s) (note_of call.words s) call.notes call.status → Completes call
+by_calm call tells pass calm s cause (inr n) = absurd (calm.notes n.1.cause)
+by_calm call tells pass calm s (Judged h) (inl n) = absurd (passes_goes call.shelf.old.told call.words s tells pass (stops call.shelf.old.told call.words s h))
+by_calm call tells pass calm s (Unread p next rose own) (inl n) = absurd (calm.shelf rose)
+by_calm call tells pass calm s (Short own) (inl n) = NoMemory (n.0 ∙ own)
 
-pub when_calm : (words : List (List ℕ)) (c : Change) (out notes : Puts) (text : List ℕ) (answered : Status) → IsAnswer words c out notes text answered → IsTelling c.old.told words → AllPass c.old.told words → IsFaultless c out notes → Completes words c out notes answered
-when_calm words c out notes text answered (Ran d) tells p calm = Whole d.done
-when_calm words c out notes text answered (Shown d) tells p calm = Whole d.done
-when_calm words c out notes text answered (Traced' d) tells p calm = trace_completes words c out notes d.schema d.design d.beats d.passes d.run d.calm answered d.ending calm d.traced d.tells
-when_calm words c out notes text answered (Cut b) tells p calm = absurd (calm.out' b.wrote.cause)
-when_calm words c out notes text answered (Broke' b) tells p calm = absurd (calm.out' b.cause)
-when_calm words c out notes text answered (Ended d) tells p calm = by_calm words c out notes answered tells p calm d.refusal (caused words c d.refusal d.cause) d.noted
+pub when_calm : (call : Call) → IsAnswer call → IsComplete call
+when_calm call (RanWhole d) tells p calm = Whole d.done
+when_calm call (Wrote d) tells p calm = Whole d.done
+when_calm call (Traced d) tells p calm = trace_completes call d.schema d.design d.beats d.passes d.run d.calm d.ending calm d.traced d.tells
+when_calm call (WroteCut d) tells p calm = absurd (calm.out d.wrote.cause)
+when_calm call (RanCut d) tells p calm = absurd (calm.out d.cause)
+when_calm call (Refused d) tells p calm = by_calm call tells p calm d.refusal (caused call.words call.shelf d.refusal d.cause) d.noted
 
 -- words of no form
-by_form : (words : List (List ℕ)) (c : Change) (notes : Puts) (answered : Status) → (IsForm words → ⊥) → (s : Refusal) → IsCaused words c s → Notes (status_of s) (note_of words s) notes answered → Yields status.Usage c notes answered
-by_form words c notes answered none s cause (inr n) = ToWrite n.0 n.1.cause
-by_form words c notes answered none s (Judged h) (inl n) = elim (formed c.old.told words s (stops c.old.told words s h)) [ inl e ↦ Same (n.0 ∙ ap status_of e) | inr form ↦ absurd (none form) ]
-by_form words c notes answered none s (Unread p next rose own) (inl n) = absurd (none (next_form c.old.told words p next))
-by_form words c notes answered none s (Short own) (inl n) = ToMemory (n.0 ∙ own)
+by_form : (call : Call) → (IsForm call.words → ⊥) → (s : Refusal) → IsCaused call.words call.shelf s → Notes (status_of s) (note_of call.words s) call.notes call.status → Yields status.Usage call
+by_form call none s cause (inr n) = ToWrite n.0 n.1.cause
+by_form call none s (Judged h) (inl n) = elim (formed call.shelf.old.told call.words s (stops call.shelf.old.told call.words s h)) [ inl e ↦ Same (n.0 ∙ ap status_of e) | inr form ↦ absurd (none form) ]
+by_form call none s (Unread p next rose own) (inl n) = absurd (none (next_form call.shelf.old.told call.words p next))
+by_form call none s (Short own) (inl n) = ToMemory (n.0 ∙ own)
 
 given_form : (told : List ℕ → Told) (words : List (List ℕ)) (bytes text : List ℕ) → IsGiven told words bytes text → IsForm words
 given_form told words bytes text (OfTexts d) = named_form words part.Query d.passes.named
 given_form told words bytes text (OfLoad d) = form_of words Load d.is.loads
 
-pub when_formless : (words : List (List ℕ)) (c : Change) (out notes : Puts) (text : List ℕ) (answered : Status) → IsAnswer words c out notes text answered → (IsForm words → ⊥) → Yields status.Usage c notes answered
-when_formless words c out notes text answered (Ran d) none = absurd (none (form_of words Run d.emitted.passes.runs))
-when_formless words c out notes text answered (Broke' b) none = absurd (none (form_of words Run b.emitted.passes.runs))
-when_formless words c out notes text answered (Traced' d) none = absurd (none (form_of words Sim d.passes.before.sims))
-when_formless words c out notes text answered (Shown d) none = absurd (none (given_form c.old.told words d.bytes text d.given))
-when_formless words c out notes text answered (Cut b) none = absurd (none (given_form c.old.told words b.bytes text b.given))
-when_formless words c out notes text answered (Ended d) none = by_form words c notes answered none d.refusal (caused words c d.refusal d.cause) d.noted
+pub when_formless : (call : Call) → IsAnswer call → TellsForm call
+when_formless call (RanWhole d) none = absurd (none (form_of call.words Run d.emitted.passes.runs))
+when_formless call (RanCut d) none = absurd (none (form_of call.words Run d.emitted.passes.runs))
+when_formless call (Traced d) none = absurd (none (form_of call.words Sim d.passes.before.sims))
+when_formless call (Wrote d) none = absurd (none (given_form call.shelf.old.told call.words d.bytes call.text d.given))
+when_formless call (WroteCut d) none = absurd (none (given_form call.shelf.old.told call.words d.bytes call.text d.given))
+when_formless call (Refused d) none = by_form call none d.refusal (caused call.words call.shelf d.refusal d.cause) d.noted

@@ -32,8 +32,8 @@ use Rattle.gl_compiler_text.proofs.Shaped.{shapes_alike}
 use Rattle.gl_top_words.specs.declared.command.Command.TheVariants as command
 use Rattle.gl_top_words.specs.declared.command.Part.{Part}
 use Rattle.gl_top_words.specs.declared.command.Part.TheVariants as part
-use Rattle.gl_top_notes.specs.declared.notes.Refusal.{Refusal}
-use Rattle.gl_top_notes.specs.declared.notes.Refusal.TheVariants as refusal
+use Rattle.gl_top_notes.specs.declared.refusal.Refusal.{Refusal}
+use Rattle.gl_top_notes.specs.declared.refusal.Refusal.TheVariants as refusal
 use Rattle.gl_top_words.specs.Forms.{IsCommand, IsForm, IsLoadOf, IsNamed, command_of, name_of}
 use Rattle.gl_top_texts.specs.Texts.{SchemaPasses}
 use Rattle.gl_top_judging.specs.Passing.{QueryPasses, TuplesPass, ModulePasses, FilePasses, kept_beats}
@@ -89,7 +89,7 @@ with_both Lacks P Q told p q f = absurd p
 with_both (Holds text) P Q told p q f = f text p.1 q.1
 
 -- a weaker property
-weaker : (t : Told) (P Q : List ℕ → Type 0) → ((text : List ℕ) → P text → Q text) → Fine t P → Fine t Q
+pub weaker : (t : Told) (P Q : List ℕ → Type 0) → ((text : List ℕ) → P text → Q text) → Fine t P → Fine t Q
 weaker Untold P Q f h = tt
 weaker Lacks P Q f h = h
 weaker (Holds text) P Q f h = (h.0, f text h.1)

@@ -1,43 +1,58 @@
--- What is explained of a text, and why it is not.
-use Rattle.std.proofs.Common.{◌≡◌, ℕ, List, [], refl}
-use Rattle.gl_outside.specs.States.{IsCalm}
+-- What `explain` answers.
+use Rattle.std.proofs.Common.{ℕ, List, [], inl, refl, sym, subst}
 use Rattle.gl_outside.specs.Told.{Told}
+use Rattle.gl_outside.specs.States.{ShelfState}
 use Rattle.gl_schema.specs.declared.schema.Schema.{Schema}
+use Rattle.gl_query_judge.specs.Judged.{IsAcceptedText}
+use Rattle.gl_query_compiler.specs.Queries.{IsQuery}
 use Rattle.gl_top_words.specs.declared.command.Command.TheVariants.{Explain}
 use Rattle.gl_top_words.specs.declared.command.Part.TheVariants as part
-use Rattle.gl_top_words.specs.Forms.{IsCommand}
-use Rattle.gl_top_notes.specs.declared.notes.Refusal.{Refusal}
-use Rattle.gl_top_notes.specs.declared.notes.Refusal.TheVariants as refusal
-use Rattle.gl_top_texts.specs.Texts.{HasText, SchemaPasses}
-use Rattle.gl_top_judging.specs.Causes.{Change, HasCause}
-use Rattle.gl_query_compiler.specs.Queries.{IsQuery}
-use Rattle.gl_top_explain.specs.Explaining.{IsExplained, IsExplainRefused}
+use Rattle.gl_top_words.specs.Forms.{IsCommand, name_of}
+use Rattle.gl_top_words.proofs.Named.{schema_named}
+use Rattle.gl_top_notes.specs.declared.refusal.Refusal.{Refusal}
+use Rattle.gl_top_notes.specs.declared.status.Status.{Status}
+use Rattle.gl_top_notes.specs.Refusals.{Puts}
+use Rattle.gl_top_texts.specs.Texts.{SchemaPasses}
+use Rattle.gl_top_explain.specs.Ending.{IsPlanText, IsUnexplained, Unfetched, OfFault, OfLimit, NoMemory, HasNoPlan, AtSchema, AtQuery, EndsExplain, Explained}
+use Rattle.gl_top_explain.specs.Ending as explain
+use Rattle.gl_top_explain.proofs.Plans.{explain_names_query}
+use Rattle.gl_top_judging.specs.Causes.{HasCause, change}
+use Rattle.gl_top_judging.proofs.Texts.{no_schema_cause, unfetched_cause}
 use Rattle.gl_top.specs.Shown.{IsShownOf}
-use Rattle.gl_top_judging.proofs.Texts.{bad_query, explain_names_query, over_limit, query_passes}
+use Rattle.gl_top.specs.Verdicts.{IsAnswer, OfTexts, Refused}
+use Rattle.gl_top.proofs.Answering.{leaving, written}
+use Rattle.gl_top.proofs.Deciding.{weaker}
 
 -- what is explained is compiled
-is_query : (s : Schema) (v bytes : List ℕ) (e : IsExplained s v bytes) → IsQuery s v e.statement
-is_query s v bytes e = record { has = e.is.has; built = record { accepted = e.is.accepted; within = e.within } }
-
--- what a text that was read says of the words
-pub shown_of : (told : List ℕ → Told) (words : List (List ℕ)) (v : List ℕ) (s : Schema) (bytes : List ℕ) → IsCommand words Explain → SchemaPasses told words s → HasText told words part.Query (λ text. v ≡ text) → IsExplained s v bytes → IsShownOf told words bytes []
-shown_of told words v s bytes is before h e = record {
+shown_of : (told : List ℕ → Told) (words : List (List ℕ)) (bytes : List ℕ) → IsCommand words Explain → IsPlanText told words bytes → IsShownOf told words bytes []
+shown_of told words bytes is p = record {
   command = Explain;
   is = is;
-  schema = s;
-  statement = e.statement;
-  passes = query_passes told words v s s e.statement refl (explain_names_query words is) before h (is_query s v bytes e);
-  shows = (e.shown, refl);
+  schema = p.schema;
+  statement = p.statement;
+  passes = record {
+    named = explain_names_query words is;
+    before = p.before;
+    text =
+        weaker (told (name_of words part.Query)) (λ text. IsAcceptedText p.schema text p.statement) (λ text. IsQuery p.schema text p.statement)
+        (λ text a. record { has = a.has; built = record { accepted = a.accepted; within = p.within } }) p.text;
+  };
+  shows = (p.shown, refl);
 }
 
-pub explain_cause : (words : List (List ℕ)) (c : Change) (v : List ℕ) (s : Schema) (r : Refusal) → IsCommand words Explain → IsCalm c.old c.new → SchemaPasses c.old.told words s → HasText c.old.told words part.Query (λ text. v ≡ text) → IsExplainRefused s v r → HasCause words c r
-explain_cause words c v s (refusal.Query f) is calm before h e = bad_query words c v s f calm (explain_names_query words is) before h e
-explain_cause words c v s (refusal.Limit l) is calm before h e = over_limit words c v s l calm (explain_names_query words is) before h e
-explain_cause words c v s refusal.Memory is calm before h e = calm
-explain_cause words c v s refusal.Usage is calm before h e = absurd e
-explain_cause words c v s (refusal.Missing p) is calm before h e = absurd e
-explain_cause words c v s (refusal.ReadFault p) is calm before h e = absurd e
-explain_cause words c v s (refusal.TooLong p) is calm before h e = absurd e
-explain_cause words c v s (refusal.Schema f) is calm before h e = absurd e
-explain_cause words c v s (refusal.Verilog f) is calm before h e = absurd e
-explain_cause words c v s (refusal.Tuples f) is calm before h e = absurd e
+unexplained_cause : (words : List (List ℕ)) (s : Schema) (a b : ShelfState) (r : Refusal) → IsCommand words Explain → SchemaPasses a.told words s → IsUnexplained words s a b r → HasCause words (change a b) r
+unexplained_cause words s a b r is before (Unfetched h) = unfetched_cause words (change a b) part.Query r (explain_names_query words is, s, before) h
+unexplained_cause words s a b r is before (OfFault f e text calm) =
+    subst (HasCause words (change a b)) (sym e) (record { named = explain_names_query words is; schema = s; before = before; text = text }, calm)
+unexplained_cause words s a b r is before (OfLimit l e text calm) =
+    subst (HasCause words (change a b)) (sym e) (record { named = explain_names_query words is; schema = s; before = before; text = text }, calm)
+unexplained_cause words s a b r is before (NoMemory e calm) = subst (HasCause words (change a b)) (sym e) calm
+
+no_plan_cause : (words : List (List ℕ)) (a b : ShelfState) (r : Refusal) → IsCommand words Explain → HasNoPlan words a b r → HasCause words (change a b) r
+no_plan_cause words a b r is (AtSchema h) = no_schema_cause words (change a b) r (schema_named words part.Query (explain_names_query words is)) h
+no_plan_cause words a b r is (AtQuery s before h) = unexplained_cause words s a b r is before h
+
+pub explain_answer : (words : List (List ℕ)) (a b : ShelfState) (out notes : Puts) (status : Status) → IsCommand words Explain → EndsExplain words a b out notes status → IsAnswer (leaving words (change a b) out notes status [])
+explain_answer words a b out notes status is (Explained bytes plan calm w) = written words (change a b) out notes bytes [] status (OfTexts (shown_of a.told words bytes is plan)) calm w
+explain_answer words a b out notes status is (explain.Refused r cause untouched noted) =
+    Refused (record { refusal = r; cause = no_plan_cause words a b r is cause; untouched = untouched; noted = noted; left = inl refl })

@@ -18,38 +18,42 @@ use Rattle.gl_runner.specs.Prints.{HasRunOver, OfEachRun, Writes, WritesFront}
 use Rattle.gl_runner.specs.Prints as prints
 use Rattle.gl_runner.specs.declared.tracing.Ending.{Ending}
 use Rattle.gl_runner.specs.declared.tracing.Ending.TheVariants as end
-use Rattle.gl_runner.specs.Traces.{OfRunsOf, Traced, TracesOut, decimal_kinds}
+use Rattle.gl_runner.specs.Traces.{OfRunsOf, TracesOut, decimal_kinds}
+use Rattle.gl_runner.specs.Traces as traces
 use Rattle.gl_verilog.specs.Module.{Module}
 use Rattle.gl_verilog_syntax.specs.declared.fault.VerilogFault.{VerilogFault}
 use Rattle.gl_top_words.specs.declared.command.Part.{Part}
-use Rattle.gl_top_notes.specs.declared.notes.Refusal.{Refusal}
+use Rattle.gl_top_notes.specs.declared.refusal.Refusal.{Refusal}
 use Rattle.gl_top_notes.specs.declared.status.Status.{Status}
 use Rattle.gl_top_notes.specs.declared.status.Status.TheVariants.{Done, WriteFault, ReadFault, Memory}
 use Rattle.gl_top_notes.specs.declared.status.Status.TheVariants as status
-use Rattle.gl_top_notes.specs.declared.notes.Refusal.TheVariants as refusal
+use Rattle.gl_top_notes.specs.declared.refusal.Refusal.TheVariants as refusal
 use Rattle.gl_schema.specs.declared.fault.SchemaFault.{SchemaFault}
 use Rattle.gl_query.specs.declared.fault.QueryFault.{QueryFault}
 use Rattle.gl_tuples.specs.declared.fault.TupleFault.{TupleFault}
 use Rattle.gl_top_words.specs.declared.command.Command.TheVariants.{Run}
 use Rattle.gl_top_words.specs.Forms.{IsForm, IsLoadOf, IsNamed, command_of, extra_of, name_of, start_of}
 use Rattle.gl_load.specs.Loads.{IsLoad}
+use Rattle.gl_top.specs.Calls.{Call}
 use Rattle.gl_top.specs.Shown.{IsShownOf}
 use Rattle.gl_top_judging.specs.Passing.{QueryPasses, TuplesPass, FilePasses}
-use Rattle.gl_top_judging.specs.Causes.{Change, HasCause, IsTooLong, IsBadSchema, IsBadQuery, IsOver, IsBadVerilog, IsRefused, AreBadTuples}
+use Rattle.gl_top_judging.specs.Causes.{HasCause, IsTooLong, IsBadSchema, IsBadQuery, IsOver, IsBadVerilog, IsRefused, AreBadTuples}
 use Rattle.gl_top_notes.specs.Refusals.{Puts, Notes, status_of, note_of, no_end_line, write_line}
+
+-- ---- what was written
 
 -- the lines of the run of this text over these beats from this start were written, or a front of them
 abbrev pub WritesLines : Schema → Statement → List Beat → Start → List ℕ → Puts → Type 0
 WritesLines schema statement beats start text out =
     OfEachRun text schema (plain_beats beats) start
-    (λ outs port. Writes (kinds_of (result_columns schema statement)) (plain_beats beats)
-    outs port out.old.taken out.new.taken)
+    (λ outs port. Writes (kinds_of (result_columns schema statement)) (plain_beats beats) outs port
+    out.old.taken out.new.taken)
 
 abbrev pub WritesLinesFront : Schema → Statement → List Beat → Start → List ℕ → Puts → Type 0
 WritesLinesFront schema statement beats start text out =
     OfEachRun text schema (plain_beats beats) start
-    (λ outs port. WritesFront (kinds_of (result_columns schema statement)) (plain_beats beats)
-    outs port out.old.taken out.new.taken)
+    (λ outs port. WritesFront (kinds_of (result_columns schema statement)) (plain_beats beats) outs port
+    out.old.taken out.new.taken)
 
 -- how the run of the text over these beats ended
 abbrev pub RanLines : Schema → Statement → List Beat → Start → List ℕ → SinkState → SinkState → Outcome → Type 0
@@ -63,30 +67,17 @@ pub record IsEmitted (told : List ℕ → Told) (words : List (List ℕ)) (schem
   pub passes : TuplesPass told words schema statement beats
   pub meets : Meets schema statement (latency_of schema statement) (gap_of schema statement) text
 
--- the lines of the run were written and nothing was noted; no text was missing, and nothing failed
-pub record IsDone (words : List (List ℕ)) (c : Change) (out notes : Puts) (text : List ℕ) (status : Status)
-    : Type 0 where
-  pub schema : Schema
-  pub statement : Statement
-  pub beats : List Beat
-  pub emitted : IsEmitted c.old.told words schema statement beats text
-  pub wrote : WritesLines schema statement beats (start_of words) text out
-  pub silent : Took notes.old notes.new []
-  pub calm : IsCalm c.old c.new
-  pub whole : out.new.faults ≡ out.old.faults
-  pub done : status ≡ Done
+-- the words load so many tuples; the bytes tell of the run over them, and the text is the one that was run
+pub record IsLoaded (words : List (List ℕ)) (bytes text : List ℕ) : Type 0 where
+  pub count : ℕ
+  pub is : IsLoadOf words count
+  pub load : IsLoad count bytes text
 
--- the output failed, and that was noted
-pub record IsBroken (words : List (List ℕ)) (c : Change) (out notes : Puts) (text : List ℕ) (status : Status)
-    : Type 0 where
-  pub schema : Schema
-  pub statement : Statement
-  pub beats : List Beat
-  pub emitted : IsEmitted c.old.told words schema statement beats text
-  pub wrote : WritesLinesFront schema statement beats (start_of words) text out
-  pub calm : IsCalm c.old c.new
-  pub cause : Rose out.old.faults out.new.faults
-  pub noted : Notes WriteFault write_line notes status
+-- what is written, and the text that is left: what a command shows of the texts that it names, or what is told of
+-- a load
+pub data IsGiven (told : List ℕ → Told) (words : List (List ℕ)) (bytes text : List ℕ) : Type 0 where
+  OfTexts : (shown : IsShownOf told words bytes text) → IsGiven told words bytes text
+  OfLoad : (loaded : IsLoaded words bytes text) → IsGiven told words bytes text
 
 -- what is noted of a trace that ended so, and the status; want of memory is a refusal
 abbrev pub TellsEnding : Ending → Puts → Status → Type 0
@@ -95,77 +86,128 @@ TellsEnding (end.NoEnd cycle) notes answered = Notes status.NoEnd (no_end_line c
 TellsEnding end.WriteFault notes answered = Notes WriteFault write_line notes answered
 TellsEnding end.Memory notes answered = ⊥
 
--- a module was traced over the beats of a file, from all zero, and it has a run over them; no text was missing, and
--- none is left
-pub record IsTraced (words : List (List ℕ)) (c : Change) (out notes : Puts) (text : List ℕ) (status : Status)
-    : Type 0 where
-  pub schema : Schema
-  pub design : Module
-  pub beats : List Beat
-  pub passes : FilePasses c.old.told words schema design beats
-  pub run : HasRunOver design schema (plain_beats beats) Zero
-  pub ending : Ending
-  pub traced : Traced (OfRunsOf design schema (plain_beats beats) Zero) (decimal_kinds design) (plain_beats beats)
-      (extra_of words) out.old out.new ending
-  pub tells : TellsEnding ending notes status
-  pub calm : IsCalm c.old c.new
-  pub left : text ≡ []
-
--- the words load so many tuples; the bytes tell of the run over them, and the text is the one that was run
-pub record IsLoaded (words : List (List ℕ)) (bytes text : List ℕ) : Type 0 where
-  pub count : ℕ
-  pub is : IsLoadOf words count
-  pub load : IsLoad count bytes text
-
--- what is written, and the text that is left: what a command shows of the texts that it names, or what is told of a
--- load
-pub data IsGiven (told : List ℕ → Told) (words : List (List ℕ)) (bytes text : List ℕ) : Type 0 where
-  OfTexts : (shown : IsShownOf told words bytes text) → IsGiven told words bytes text
-  OfLoad : (loaded : IsLoaded words bytes text) → IsGiven told words bytes text
-
--- it was written whole and nothing was noted; no text was missing, and nothing failed
-pub record IsShown (words : List (List ℕ)) (c : Change) (out notes : Puts) (text : List ℕ) (status : Status)
-    : Type 0 where
-  pub bytes : List ℕ
-  pub given : IsGiven c.old.told words bytes text
-  pub wrote : Took out.old out.new bytes
-  pub silent : Took notes.old notes.new []
-  pub calm : IsCalm c.old c.new
-  pub done : status ≡ Done
-
--- the output failed behind a front of it, and that was noted
-pub record IsCut (words : List (List ℕ)) (c : Change) (out notes : Puts) (text : List ℕ) (status : Status)
-    : Type 0 where
-  pub bytes : List ℕ
-  pub given : IsGiven c.old.told words bytes text
-  pub wrote : Broke out.old out.new bytes
-  pub calm : IsCalm c.old c.new
-  pub noted : Notes WriteFault write_line notes status
-
 -- no text was emitted, or one that meets the statement
 abbrev pub IsNoneOrEmitted : (List ℕ → Told) → List (List ℕ) → List ℕ → Type 0
 IsNoneOrEmitted told words text =
     (text ≡ []) ⊎ ((schema : Schema) × (statement : Statement) × (beats : List Beat)
     × IsEmitted told words schema statement beats text)
 
+-- ---- how a call ended
+
+-- the lines of the run were written and nothing was noted; no text was missing, and nothing failed
+pub record HasRunWhole (call : Call) : Type 0 where
+  pub schema : Schema
+  pub statement : Statement
+  pub beats : List Beat
+  pub emitted : IsEmitted call.shelf.old.told call.words schema statement beats call.text
+  pub wrote : WritesLines schema statement beats (start_of call.words) call.text call.out
+  pub silent : Took call.notes.old call.notes.new []
+  pub calm : IsCalm call.shelf.old call.shelf.new
+  pub whole : call.out.new.faults ≡ call.out.old.faults
+  pub done : call.status ≡ Done
+
+-- the output failed behind a front of these lines, and that was noted
+pub record HasRunInPart (call : Call) : Type 0 where
+  pub schema : Schema
+  pub statement : Statement
+  pub beats : List Beat
+  pub emitted : IsEmitted call.shelf.old.told call.words schema statement beats call.text
+  pub wrote : WritesLinesFront schema statement beats (start_of call.words) call.text call.out
+  pub calm : IsCalm call.shelf.old call.shelf.new
+  pub cause : Rose call.out.old.faults call.out.new.faults
+  pub noted : Notes WriteFault write_line call.notes call.status
+
+-- a module was traced over the beats of a file, from all zero, and it has a run over them; no text was missing, and
+-- none is left
+pub record HasTraced (call : Call) : Type 0 where
+  pub schema : Schema
+  pub design : Module
+  pub beats : List Beat
+  pub passes : FilePasses call.shelf.old.told call.words schema design beats
+  pub run : HasRunOver design schema (plain_beats beats) Zero
+  pub ending : Ending
+  pub traced : traces.Traced (OfRunsOf design schema (plain_beats beats) Zero) (decimal_kinds design)
+      (plain_beats beats) (extra_of call.words) call.out.old call.out.new ending
+  pub tells : TellsEnding ending call.notes call.status
+  pub calm : IsCalm call.shelf.old call.shelf.new
+  pub left : call.text ≡ []
+
+-- what is given was written whole and nothing was noted; no text was missing, and nothing failed
+pub record HasWrittenWhole (call : Call) : Type 0 where
+  pub bytes : List ℕ
+  pub given : IsGiven call.shelf.old.told call.words bytes call.text
+  pub wrote : Took call.out.old call.out.new bytes
+  pub silent : Took call.notes.old call.notes.new []
+  pub calm : IsCalm call.shelf.old call.shelf.new
+  pub done : call.status ≡ Done
+
+-- the output failed behind a front of it, and that was noted
+pub record HasWrittenInPart (call : Call) : Type 0 where
+  pub bytes : List ℕ
+  pub given : IsGiven call.shelf.old.told call.words bytes call.text
+  pub wrote : Broke call.out.old call.out.new bytes
+  pub calm : IsCalm call.shelf.old call.shelf.new
+  pub noted : Notes WriteFault write_line call.notes call.status
+
 -- there was a refusal with its cause; nothing was written, and it was noted
-pub record IsEnded (words : List (List ℕ)) (c : Change) (out notes : Puts) (text : List ℕ) (status : Status)
-    : Type 0 where
+pub record HasRefused (call : Call) : Type 0 where
   pub refusal : Refusal
-  pub cause : HasCause words c refusal
-  pub untouched : Took out.old out.new []
-  pub noted : Notes (status_of refusal) (note_of words refusal) notes status
-  pub left : IsNoneOrEmitted c.old.told words text
+  pub cause : HasCause call.words call.shelf refusal
+  pub untouched : Took call.out.old call.out.new []
+  pub noted : Notes (status_of refusal) (note_of call.words refusal) call.notes call.status
+  pub left : IsNoneOrEmitted call.shelf.old.told call.words call.text
 
 -- one of these is so
-pub data IsAnswer (words : List (List ℕ)) (c : Change) (out notes : Puts) (text : List ℕ) (status : Status)
-    : Type 0 where
-  Ran : (done : IsDone words c out notes text status) → IsAnswer words c out notes text status
-  Broke' : (broken : IsBroken words c out notes text status) → IsAnswer words c out notes text status
-  Traced' : (traced : IsTraced words c out notes text status) → IsAnswer words c out notes text status
-  Shown : (shown : IsShown words c out notes text status) → IsAnswer words c out notes text status
-  Cut : (cut : IsCut words c out notes text status) → IsAnswer words c out notes text status
-  Ended : (ended : IsEnded words c out notes text status) → IsAnswer words c out notes text status
+pub data IsAnswer (call : Call) : Type 0 where
+  RanWhole : (run : HasRunWhole call) → IsAnswer call
+  RanCut : (run : HasRunInPart call) → IsAnswer call
+  Traced : (trace : HasTraced call) → IsAnswer call
+  Wrote : (written : HasWrittenWhole call) → IsAnswer call
+  WroteCut : (written : HasWrittenInPart call) → IsAnswer call
+  Refused : (refused : HasRefused call) → IsAnswer call
+
+-- ---- what each status says
+
+-- the module of a simulation has a run, and in none of its runs the end is seen in time; the lines of all its cycles
+-- were written, and the last of these was noted; no text was missing, and nothing failed
+pub record IsEndless (call : Call) : Type 0 where
+  pub schema : Schema
+  pub design : Module
+  pub beats : List Beat
+  pub passes : FilePasses call.shelf.old.told call.words schema design beats
+  pub run : HasRunOver design schema (plain_beats beats) Zero
+  pub cycle : ℕ
+  pub traced : OfRunsOf design schema (plain_beats beats) Zero
+      (λ outs port. TracesOut (decimal_kinds design) (plain_beats beats) (extra_of call.words) cycle outs port
+      call.out.old.taken call.out.new.taken)
+  pub noted : Took call.notes.old call.notes.new (no_end_line cycle)
+  pub calm : IsCalm call.shelf.old call.shelf.new
+  pub whole : call.out.new.faults ≡ call.out.old.faults
+
+-- what a status says of the call that answers it
+abbrev pub SaysBy : Status → Call → Type 0
+SaysBy status.Done call =
+    IsCalm call.shelf.old call.shelf.new × (call.out.new.faults ≡ call.out.old.faults)
+    × Took call.notes.old call.notes.new []
+SaysBy status.Usage call = IsForm call.words → ⊥
+SaysBy status.Missing call = (part : Part) × HasCause call.words call.shelf (refusal.Missing part)
+SaysBy status.ReadFault call = (part : Part) × HasCause call.words call.shelf (refusal.ReadFault part)
+SaysBy status.WriteFault call =
+    Rose call.out.old.faults call.out.new.faults ⊎ Rose call.notes.old.faults call.notes.new.faults
+SaysBy status.Schema call = (fault : SchemaFault) × IsBadSchema call.shelf.old.told call.words fault
+SaysBy status.Query call = (fault : QueryFault) × IsBadQuery call.shelf.old.told call.words fault
+SaysBy status.Tuples call = (fault : TupleFault) × AreBadTuples call.shelf.old.told call.words fault
+SaysBy status.Limit call =
+    ((part : Part) × IsTooLong call.shelf.old.told call.words part)
+    ⊎ ((limit : Limit) × IsOver call.shelf.old.told call.words limit)
+SaysBy status.Memory call = Unit {0}
+SaysBy status.Verilog call = (fault : VerilogFault) × IsBadVerilog call.shelf.old.told call.words fault
+SaysBy status.NoEnd call = IsEndless call
+
+abbrev pub Says : Call → Type 0
+Says call = SaysBy call.status call
+
+-- ---- what is told, and what is completed
 
 -- the texts that a command asks for pass: to run and to simulate, the tuple file too; a load asks for none
 pub data AllPass (told : List ℕ → Told) (words : List (List ℕ)) : Type 0 where
@@ -173,70 +215,52 @@ pub data AllPass (told : List ℕ → Told) (words : List (List ℕ)) : Type 0 w
       (others : command_of words ≢ Some Run) → AllPass told words
   Three : (schema : Schema) (statement : Statement) (beats : List Beat)
       (pass : TuplesPass told words schema statement beats) → AllPass told words
-  OfFile : (schema : Schema) (design : Module) (beats : List Beat) (pass : FilePasses told words schema design beats)
-      → AllPass told words
+  OfFile : (schema : Schema) (design : Module) (beats : List Beat)
+      (pass : FilePasses told words schema design beats) → AllPass told words
   Loads : (count : ℕ) (is : IsLoadOf words count) → AllPass told words
 
 -- the shelf tells the texts that the words name
 abbrev pub IsTelling : (List ℕ → Told) → List (List ℕ) → Type 0
 IsTelling told words = (part : Part) → IsNamed words part → told (name_of words part) ≢ Untold
 
--- this status, or one that it yields to: the shelf failed, the sink of the notes failed, or memory ran out
-pub data Yields (own : Status) (c : Change) (notes : Puts) (status : Status) : Type 0 where
-  Same : (same : status ≡ own) → Yields own c notes status
-  ToRead : (is : status ≡ ReadFault) (rose : Rose c.old.faults c.new.faults) → Yields own c notes status
-  ToWrite : (is : status ≡ WriteFault) (rose : Rose notes.old.faults notes.new.faults) → Yields own c notes status
-  ToMemory : (is : status ≡ Memory) → Yields own c notes status
+-- this is the status, or one that it yields to: the shelf failed, the sink of the notes failed, or memory ran out
+pub data Yields (own : Status) (call : Call) : Type 0 where
+  Same : (same : call.status ≡ own) → Yields own call
+  ToRead : (is : call.status ≡ ReadFault) (rose : Rose call.shelf.old.faults call.shelf.new.faults) → Yields own call
+  ToWrite : (is : call.status ≡ WriteFault) (rose : Rose call.notes.old.faults call.notes.new.faults) → Yields own call
+  ToMemory : (is : call.status ≡ Memory) → Yields own call
 
--- no count of faults rose
-pub record IsFaultless (c : Change) (out notes : Puts) : Type 0 where
-  pub shelf : Rose c.old.faults c.new.faults → ⊥
-  pub out' : Rose out.old.faults out.new.faults → ⊥
-  pub notes' : Rose notes.old.faults notes.new.faults → ⊥
+-- words of no form are told as such, or the status is one that this yields to
+abbrev pub TellsForm : Call → Type 0
+TellsForm call = (IsForm call.words → ⊥) → Yields status.Usage call
+
+-- and what the words and the texts are refused for is told
+abbrev pub TellsFaults : Call → Type 0
+TellsFaults call =
+    (r : Refusal) → IsTelling call.shelf.old.told call.words → IsRefused call.shelf.old.told call.words r
+    → Yields (status_of r) call
 
 -- where the words and the texts are refused so, and the status is that of this refusal, its line is what was noted
-abbrev pub TellsRefusal : List (List ℕ) → Change → Puts → Status → Type 0
-TellsRefusal words c notes answered =
-    (r : Refusal) → IsTelling c.old.told words → IsRefused c.old.told words r → answered ≡ status_of r
-    → Took notes.old notes.new (note_of words r)
+abbrev pub TellsRefusal : Call → Type 0
+TellsRefusal call =
+    (r : Refusal) → IsTelling call.shelf.old.told call.words → IsRefused call.shelf.old.told call.words r
+    → call.status ≡ status_of r → Took call.notes.old call.notes.new (note_of call.words r)
 
--- the module of a simulation has a run, and in none of its runs the end is seen in time; the lines of all its cycles
--- were written, and the last of these was noted; no text was missing, and nothing failed
-pub record IsEndless (words : List (List ℕ)) (c : Change) (out notes : Puts) : Type 0 where
-  pub schema : Schema
-  pub design : Module
-  pub beats : List Beat
-  pub passes : FilePasses c.old.told words schema design beats
-  pub run : HasRunOver design schema (plain_beats beats) Zero
-  pub cycle : ℕ
-  pub traced : OfRunsOf design schema (plain_beats beats) Zero
-      (λ outs port. TracesOut (decimal_kinds design) (plain_beats beats) (extra_of words)
-      cycle outs port out.old.taken out.new.taken)
-  pub noted : Took notes.old notes.new (no_end_line cycle)
-  pub calm : IsCalm c.old c.new
-  pub whole : out.new.faults ≡ out.old.faults
+-- no count of faults rose
+pub record IsFaultless (call : Call) : Type 0 where
+  pub shelf : Rose call.shelf.old.faults call.shelf.new.faults → ⊥
+  pub out : Rose call.out.old.faults call.out.new.faults → ⊥
+  pub notes : Rose call.notes.old.faults call.notes.new.faults → ⊥
 
 -- how the work ends where nothing is refused and nothing fails: whole, unless memory runs out or a simulation has no
 -- end in time
-pub data Completes (words : List (List ℕ)) (c : Change) (out notes : Puts) (answered : Status) : Type 0 where
-  Whole : (is : answered ≡ Done) → Completes words c out notes answered
-  NoMemory : (is : answered ≡ Memory) → Completes words c out notes answered
-  Endless : (is : answered ≡ status.NoEnd) (endless : IsEndless words c out notes)
-      → Completes words c out notes answered
+pub data Completes (call : Call) : Type 0 where
+  Whole : (is : call.status ≡ Done) → Completes call
+  NoMemory : (is : call.status ≡ Memory) → Completes call
+  Endless : (is : call.status ≡ status.NoEnd) (endless : IsEndless call) → Completes call
 
--- what each status says
-abbrev pub Says : List (List ℕ) → Change → Puts → Puts → Status → Type 0
-Says words c out notes status.Done =
-    IsCalm c.old c.new × (out.new.faults ≡ out.old.faults) × Took notes.old notes.new []
-Says words c out notes status.Usage = IsForm words → ⊥
-Says words c out notes status.Missing = (part : Part) × HasCause words c (refusal.Missing part)
-Says words c out notes status.ReadFault = (part : Part) × HasCause words c (refusal.ReadFault part)
-Says words c out notes status.WriteFault = Rose out.old.faults out.new.faults ⊎ Rose notes.old.faults notes.new.faults
-Says words c out notes status.Schema = (fault : SchemaFault) × IsBadSchema c.old.told words fault
-Says words c out notes status.Query = (fault : QueryFault) × IsBadQuery c.old.told words fault
-Says words c out notes status.Tuples = (fault : TupleFault) × AreBadTuples c.old.told words fault
-Says words c out notes status.Limit =
-    ((part : Part) × IsTooLong c.old.told words part) ⊎ ((limit : Limit) × IsOver c.old.told words limit)
-Says words c out notes status.Memory = Unit {0}
-Says words c out notes status.Verilog = (fault : VerilogFault) × IsBadVerilog c.old.told words fault
-Says words c out notes status.NoEnd = IsEndless words c out notes
+-- where the texts are told and pass and no count of faults rises, it ends so
+abbrev pub IsComplete : Call → Type 0
+IsComplete call =
+    IsTelling call.shelf.old.told call.words → AllPass call.shelf.old.told call.words → IsFaultless call
+    → Completes call

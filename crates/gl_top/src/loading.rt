@@ -5,14 +5,14 @@ ghost use Rattle.gl_outside.specs.States.{IsCalm};
 ghost use Rattle.gl_top_words.specs.declared.command.Command.TheVariants.{Load};
 ghost use Rattle.gl_top_words.specs.Forms.{IsCommand, IsLoadOf};
 ghost use Rattle.gl_top_judging.specs.Causes.{Change};
-ghost use Rattle.gl_top_notes.specs.Refusals.{puts};
+ghost use Rattle.gl_top.specs.Calls.{call_over};
 ghost use Rattle.gl_top.specs.Verdicts.{IsAnswer};
 
 use crate::running::show_text;
 use gl_load::load;
 use gl_outside::Sink;
-use gl_top_matches::Taken;
 use gl_top_notes::{Refusal, Status, tell};
+use gl_top_words::Taken;
 use std::alloc::Global;
 
 // Loads so many tuples, keeps the text that was run, and writes what is told of it.
@@ -28,8 +28,8 @@ fn load_many<K: Sink, N: Sink>(
     requires some { 1 ≤ count }
     requires empty { text.old.items ≡ [] }
     ensures { (c : Change) → IsCalm c.old c.new
-        → IsAnswer words.now c (puts (K.state out.old) (K.state out.new))
-        (puts (N.state notes.old) (N.state notes.new)) text.new.items result }
+        → IsAnswer (call_over K.state N.state words.now c out.old out.new notes.old notes.new
+        text.new.items result) }
 {
     match load(alloc, count) {
         Ok(loaded) => show_text(words, &loaded.compiled, &loaded.summary, out, notes, text),
@@ -48,8 +48,8 @@ pub(crate) fn answer_load<K: Sink, N: Sink>(
     requires loads { IsCommand words.now Load }
     requires empty { text.old.items ≡ [] }
     ensures { (c : Change) → IsCalm c.old c.new
-        → IsAnswer words.now c (puts (K.state out.old) (K.state out.new))
-        (puts (N.state notes.old) (N.state notes.new)) text.new.items result }
+        → IsAnswer (call_over K.state N.state words.now c out.old out.new notes.old notes.new
+        text.new.items result) }
 {
     match words.load() {
         Some(count) => load_many(alloc, words, count, out, notes, text),

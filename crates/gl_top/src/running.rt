@@ -1,30 +1,29 @@
 //! From words to a status.
 
-ghost use Rattle.std.specs.Prelude.{◌≡◌, ◌≢◌, [], ℕ, List};
+ghost use Rattle.std.specs.Prelude.{◌≡◌, ◌≢◌, []};
 ghost use Rattle.gl_outside.specs.States.{IsCalm, Took};
 ghost use Rattle.gl_schema.specs.Beats.{KeepsGap};
 ghost use Rattle.gl_tuples.specs.Gaps.{AreFileBeats, plain_beats};
 ghost use Rattle.gl_compiler_text.specs.Built.{gap_of};
-ghost use Rattle.gl_top_notes.specs.declared.notes.Refusal.{Refusal as Refused};
-ghost use Rattle.gl_top_words.specs.declared.command.Command.TheVariants.{Compile, Explain, Figures, Run};
+ghost use Rattle.gl_top_words.specs.declared.command.Command.TheVariants.{Compile, Figures, Run};
 ghost use Rattle.gl_top_words.specs.Forms as forms;
-ghost use Rattle.gl_top_words.specs.Forms.{IsCommand, IsForm};
-ghost use Rattle.gl_top_judging.specs.Causes.{Change, change, IsRefused};
+ghost use Rattle.gl_top_words.specs.Forms.{IsCommand};
+ghost use Rattle.gl_top_judging.specs.Causes.{Change};
 ghost use Rattle.gl_top_judging.specs.Passing.{IsCompiled, IsReady, QueryPasses};
-ghost use Rattle.gl_top_notes.specs.Refusals.{puts, status_of};
-ghost use Rattle.gl_top.specs.Verdicts.{AllPass, Completes, IsAnswer, IsGiven, IsTelling};
-ghost use Rattle.gl_top.specs.Verdicts.{IsFaultless, RanLines, Says, TellsRefusal, Yields};
+ghost use Rattle.gl_top.specs.Calls.{call_of, call_over};
+ghost use Rattle.gl_top.specs.Verdicts.{IsAnswer, IsComplete, IsGiven, RanLines, Says};
+ghost use Rattle.gl_top.specs.Verdicts.{TellsFaults, TellsForm, TellsRefusal};
 
-use crate::explaining::judge_explain;
 use crate::loading::answer_load;
 use crate::tracing::answer_sim;
 use gl_compiler::{Outcome, execute};
 use gl_compiler_text::Compiled;
-use gl_outside::{Shelf, Sink, Words, write_all_of};
+use gl_outside::{Shelf, Sink, Words};
+use gl_top_explain::answer_explain;
 use gl_top_judging::{Job, figures_text, judge_compile, judge_run};
-use gl_top_matches::{Taken, take};
-use gl_top_notes::{Refusal, Status, tell, tell_memory, tell_usage, tell_write_fault};
-use gl_top_words::{Command, command_of};
+use gl_top_matches::take;
+use gl_top_notes::{Refusal, Status, show, tell, tell_memory, tell_usage, tell_write_fault};
+use gl_top_words::{Command, Taken, command_of};
 use std::alloc::Global;
 
 // Runs the compiled text over the beats, and writes the lines of the run.
@@ -61,8 +60,8 @@ fn finish_run<K: Sink, N: Sink>(
     requires gap { let c = job.now.compiled in
         KeepsGap (gap_of c.schema c.statement) (plain_beats job.now.beats) }
     ensures { (c : Change) → IsReady c.old.told words.now job.now → IsCalm c.old c.new
-        → IsAnswer words.now c (puts (K.state out.old) (K.state out.new))
-        (puts (N.state notes.old) (N.state notes.new)) job.now.compiled.text.items result }
+        → IsAnswer (call_over K.state N.state words.now c out.old out.new notes.old notes.new
+        job.now.compiled.text.items result) }
 {
     match write_lines(alloc, words, job, out) {
         Outcome::Done => Status::Done,
@@ -86,8 +85,8 @@ fn finish<K: Sink, N: Sink>(
         KeepsGap (gap_of c.schema c.statement) (plain_beats job.now.beats) }
     requires empty { text.old.items ≡ [] }
     ensures { (c : Change) → IsReady c.old.told words.now job.now → IsCalm c.old c.new
-        → IsAnswer words.now c (puts (K.state out.old) (K.state out.new))
-        (puts (N.state notes.old) (N.state notes.new)) text.new.items result }
+        → IsAnswer (call_over K.state N.state words.now c out.old out.new notes.old notes.new
+        text.new.items result) }
 {
     match text.extend_from_slice(job.compiled.text()) {
         Ok(()) => finish_run(alloc, words, job, out, notes),
@@ -107,47 +106,11 @@ fn answer_run<S: Shelf, K: Sink, N: Sink>(
     requires runs { IsCommand words.now Run }
     requires names { (S.state shelf.old).names ≡ words.now }
     requires empty { text.old.items ≡ [] }
-    ensures { let seen = change (S.state shelf.old) (S.state shelf.new) in
-        let made = puts (K.state out.old) (K.state out.new) in
-        let noted = puts (N.state notes.old) (N.state notes.new) in
-        IsAnswer words.now seen made noted text.new.items result }
+    ensures { IsAnswer (call_of S.state K.state N.state words.now shelf.old shelf.new
+        out.old out.new notes.old notes.new text.new.items result) }
 {
     match judge_run(alloc, shelf, words) {
         Ok(job) => finish(alloc, words, &job, out, notes, text),
-        Err(refusal) => tell(notes, words, &refusal),
-    }
-}
-
-// Writes what a command shows.
-fn show<K: Sink, N: Sink>(bytes: &[u8], out: &mut K, notes: &mut N) -> Status
-    ensures { (words : List (List ℕ)) (c : Change) (text : List ℕ)
-        → IsGiven c.old.told words bytes.now text → IsCalm c.old c.new
-        → IsAnswer words c (puts (K.state out.old) (K.state out.new))
-        (puts (N.state notes.old) (N.state notes.new)) text result }
-{
-    match write_all_of(out, bytes) {
-        Ok(()) => Status::Done,
-        Err(_) => tell_write_fault(notes),
-    }
-}
-
-// Judges the texts of `explain S Q`, and writes what is explained.
-fn answer_explain<S: Shelf, K: Sink, N: Sink>(
-    alloc: Global,
-    words: &Taken<'_>,
-    shelf: &mut S,
-    out: &mut K,
-    notes: &mut N,
-) -> Status
-    requires explains { IsCommand words.now Explain }
-    requires names { (S.state shelf.old).names ≡ words.now }
-    ensures { let seen = change (S.state shelf.old) (S.state shelf.new) in
-        let made = puts (K.state out.old) (K.state out.new) in
-        let noted = puts (N.state notes.old) (N.state notes.new) in
-        IsAnswer words.now seen made noted [] result }
-{
-    match judge_explain(alloc, shelf, words) {
-        Ok(bytes) => show(&bytes, out, notes),
         Err(refusal) => tell(notes, words, &refusal),
     }
 }
@@ -165,8 +128,8 @@ pub(crate) fn show_text<K: Sink, N: Sink>(
     ensures { (c : Change)
         → IsGiven c.old.told words.now bytes.now compiled.now.text.items
         → IsCalm c.old c.new
-        → IsAnswer words.now c (puts (K.state out.old) (K.state out.new))
-        (puts (N.state notes.old) (N.state notes.new)) text.new.items result }
+        → IsAnswer (call_over K.state N.state words.now c out.old out.new notes.old notes.new
+        text.new.items result) }
 {
     match text.extend_from_slice(compiled.text()) {
         Ok(()) => show(bytes, out, notes),
@@ -186,10 +149,8 @@ fn answer_compile<S: Shelf, K: Sink, N: Sink>(
     requires compiles { IsCommand words.now Compile }
     requires names { (S.state shelf.old).names ≡ words.now }
     requires empty { text.old.items ≡ [] }
-    ensures { let seen = change (S.state shelf.old) (S.state shelf.new) in
-        let made = puts (K.state out.old) (K.state out.new) in
-        let noted = puts (N.state notes.old) (N.state notes.new) in
-        IsAnswer words.now seen made noted text.new.items result }
+    ensures { IsAnswer (call_of S.state K.state N.state words.now shelf.old shelf.new
+        out.old out.new notes.old notes.new text.new.items result) }
 {
     match judge_compile(alloc, shelf, words) {
         Ok(compiled) => show_text(words, &compiled, compiled.text(), out, notes, text),
@@ -211,8 +172,8 @@ fn show_figures<K: Sink, N: Sink>(
     requires empty { text.old.items ≡ [] }
     ensures { let c = compiled.now in (seen : Change)
         → QueryPasses seen.old.told words.now c.schema c.statement → IsCalm seen.old seen.new
-        → IsAnswer words.now seen (puts (K.state out.old) (K.state out.new))
-        (puts (N.state notes.old) (N.state notes.new)) text.new.items result }
+        → IsAnswer (call_over K.state N.state words.now seen out.old out.new notes.old notes.new
+        text.new.items result) }
 {
     match figures_text(alloc, compiled) {
         Ok(bytes) => show_text(words, compiled, &bytes, out, notes, text),
@@ -232,10 +193,8 @@ fn answer_figures<S: Shelf, K: Sink, N: Sink>(
     requires figures { IsCommand words.now Figures }
     requires names { (S.state shelf.old).names ≡ words.now }
     requires empty { text.old.items ≡ [] }
-    ensures { let seen = change (S.state shelf.old) (S.state shelf.new) in
-        let made = puts (K.state out.old) (K.state out.new) in
-        let noted = puts (N.state notes.old) (N.state notes.new) in
-        IsAnswer words.now seen made noted text.new.items result }
+    ensures { IsAnswer (call_of S.state K.state N.state words.now shelf.old shelf.new
+        out.old out.new notes.old notes.new text.new.items result) }
 {
     match judge_compile(alloc, shelf, words) {
         Ok(compiled) => show_figures(alloc, words, &compiled, out, notes, text),
@@ -256,10 +215,8 @@ fn answer_command<S: Shelf, K: Sink, N: Sink>(
     requires command { IsCommand words.now command }
     requires names { (S.state shelf.old).names ≡ words.now }
     requires empty { text.old.items ≡ [] }
-    ensures { let seen = change (S.state shelf.old) (S.state shelf.new) in
-        let made = puts (K.state out.old) (K.state out.new) in
-        let noted = puts (N.state notes.old) (N.state notes.new) in
-        IsAnswer words.now seen made noted text.new.items result }
+    ensures { IsAnswer (call_of S.state K.state N.state words.now shelf.old shelf.new
+        out.old out.new notes.old notes.new text.new.items result) }
 {
     match command {
         Command::Compile => answer_compile(alloc, words, shelf, out, notes, text),
@@ -282,10 +239,8 @@ fn answer<S: Shelf, K: Sink, N: Sink>(
 ) -> Status
     requires names { (S.state shelf.old).names ≡ words.now }
     requires empty { text.old.items ≡ [] }
-    ensures { let seen = change (S.state shelf.old) (S.state shelf.new) in
-        let made = puts (K.state out.old) (K.state out.new) in
-        let noted = puts (N.state notes.old) (N.state notes.new) in
-        IsAnswer words.now seen made noted text.new.items result }
+    ensures { IsAnswer (call_of S.state K.state N.state words.now shelf.old shelf.new
+        out.old out.new notes.old notes.new text.new.items result) }
 {
     match command_of(words) {
         Some(command) => match take(alloc, words, command) {
@@ -319,43 +274,26 @@ pub fn run<S: Shelf, K: Sink, N: Sink>(
     requires names { (S.state shelf.old).names ≡ words.now }
     requires empty { text.old.items ≡ [] }
     // How it ends and why, what was written, what was noted, and what text is left.
-    ensures answer { let seen = change (S.state shelf.old) (S.state shelf.new) in
-        let made = puts (K.state out.old) (K.state out.new) in
-        let noted = puts (N.state notes.old) (N.state notes.new) in
-        IsAnswer words.now seen made noted text.new.items result }
-
+    ensures answer { IsAnswer (call_of S.state K.state N.state words.now shelf.old shelf.new
+        out.old out.new notes.old notes.new text.new.items result) }
     // What each status says.
-    ensures says { let seen = change (S.state shelf.old) (S.state shelf.new) in
-        let made = puts (K.state out.old) (K.state out.new) in
-        let noted = puts (N.state notes.old) (N.state notes.new) in
-        Says words.now seen made noted result }
-
+    ensures says { Says (call_of S.state K.state N.state words.now shelf.old shelf.new
+        out.old out.new notes.old notes.new text.new.items result) }
     // With the status of a refusal that holds, what is noted is its line.
-    ensures told { let seen = change (S.state shelf.old) (S.state shelf.new) in
-        let noted = puts (N.state notes.old) (N.state notes.new) in
-        TellsRefusal words.now seen noted result }
-
+    ensures told { TellsRefusal (call_of S.state K.state N.state words.now shelf.old shelf.new
+        out.old out.new notes.old notes.new text.new.items result) }
     // Nothing is written but by what was asked for.
     ensures untouched { result ≢ Status.Done → result ≢ Status.WriteFault
         → result ≢ Status.NoEnd → Took (K.state out.old) (K.state out.new) [] }
-
     // Words of no form, and texts that are refused, are told as such, unless something fails first.
-    ensures formless { let seen = change (S.state shelf.old) (S.state shelf.new) in
-        let noted = puts (N.state notes.old) (N.state notes.new) in
-        (IsForm words.now → ⊥) → Yields Status.Usage seen noted result }
-    ensures exact { let seen = change (S.state shelf.old) (S.state shelf.new) in
-        let noted = puts (N.state notes.old) (N.state notes.new) in
-        (refusal : Refused) → IsTelling seen.old.told words.now
-        → IsRefused seen.old.told words.now refusal
-        → Yields (status_of refusal) seen noted result }
-
+    ensures formless { TellsForm (call_of S.state K.state N.state words.now shelf.old shelf.new
+        out.old out.new notes.old notes.new text.new.items result) }
+    ensures exact { TellsFaults (call_of S.state K.state N.state words.now shelf.old shelf.new
+        out.old out.new notes.old notes.new text.new.items result) }
     // Where the texts pass and no count of faults rises, the work is done, unless memory runs out, or
     // a simulation has no end in time.
-    ensures complete { let seen = change (S.state shelf.old) (S.state shelf.new) in
-        let made = puts (K.state out.old) (K.state out.new) in
-        let noted = puts (N.state notes.old) (N.state notes.new) in
-        IsTelling seen.old.told words.now → AllPass seen.old.told words.now
-        → IsFaultless seen made noted → Completes words.now seen made noted result }
+    ensures complete { IsComplete (call_of S.state K.state N.state words.now shelf.old shelf.new
+        out.old out.new notes.old notes.new text.new.items result) }
 {
     answer(alloc, words, shelf, out, notes, text)
 }

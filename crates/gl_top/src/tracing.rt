@@ -4,16 +4,16 @@ ghost use Rattle.std.specs.Prelude.{◌≡◌, []};
 ghost use Rattle.gl_outside.specs.States.{IsCalm};
 ghost use Rattle.gl_top_words.specs.declared.command.Command.TheVariants.{Sim};
 ghost use Rattle.gl_top_words.specs.Forms.{IsCommand};
-ghost use Rattle.gl_top_judging.specs.Causes.{Change, change};
+ghost use Rattle.gl_top_judging.specs.Causes.{Change};
 ghost use Rattle.gl_top_judging.specs.Passing.{CanTrace, IsTraceable};
-ghost use Rattle.gl_top_notes.specs.Refusals.{puts};
+ghost use Rattle.gl_top.specs.Calls.{call_of, call_over};
 ghost use Rattle.gl_top.specs.Verdicts.{IsAnswer};
 
 use gl_outside::{Shelf, Sink};
 use gl_runner::{Ending, trace};
 use gl_top_judging::{Fitted, Simulation, judge_sim};
-use gl_top_matches::Taken;
 use gl_top_notes::{Refusal, Status, tell, tell_no_end, tell_write_fault};
+use gl_top_words::Taken;
 use gl_verilog_orders::Start;
 use gl_verilog_ports::laws::inputs_are_ports;
 use std::alloc::Global;
@@ -29,8 +29,8 @@ fn finish_trace<K: Sink, N: Sink>(
 ) -> Status
     requires { CanTrace simulation }
     ensures { (c : Change) → IsTraceable c.old.told words.now simulation → IsCalm c.old c.new
-        → IsAnswer words.now c (puts (K.state out.old) (K.state out.new))
-        (puts (N.state notes.old) (N.state notes.new)) [] result }
+        → IsAnswer (call_over K.state N.state words.now c out.old out.new notes.old notes.new
+        [] result) }
 {
     let Simulation {
         schema,
@@ -67,10 +67,8 @@ pub(crate) fn answer_sim<S: Shelf, K: Sink, N: Sink>(
 ) -> Status
     requires sims { IsCommand words.now Sim }
     requires names { (S.state shelf.old).names ≡ words.now }
-    ensures { let seen = change (S.state shelf.old) (S.state shelf.new) in
-        let made = puts (K.state out.old) (K.state out.new) in
-        let noted = puts (N.state notes.old) (N.state notes.new) in
-        IsAnswer words.now seen made noted [] result }
+    ensures { IsAnswer (call_of S.state K.state N.state words.now shelf.old shelf.new
+        out.old out.new notes.old notes.new [] result) }
 {
     match judge_sim(alloc, shelf, words) {
         Ok(simulation) => finish_trace(alloc, words, simulation, out, notes),

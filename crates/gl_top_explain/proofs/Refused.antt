@@ -4,11 +4,12 @@ use Rattle.gl_schema.specs.declared.schema.Schema.{Schema}
 use Rattle.gl_query.specs.declared.fault.QueryFault.{QueryFault}
 use Rattle.gl_query.specs.declared.fault.QueryFault.TheVariants as fault
 use Rattle.gl_query_judge.specs.Judged.{IsFaultOrMemory}
-use Rattle.gl_top_notes.specs.declared.notes.Refusal.TheVariants as refusal
-use Rattle.gl_top_explain.specs.Explaining.{IsExplainRefused, fault_refusal}
+use Rattle.gl_top_notes.specs.declared.refusal.Refusal.TheVariants as refusal
+use Rattle.gl_top_notes.specs.Refusals.{query_refusal}
+use Rattle.gl_top_explain.specs.Explaining.{IsExplainRefused}
 
 -- a fault is told as it is
-told_as : (f : QueryFault) → f ≢ fault.Memory → fault_refusal f ≡ refusal.Query f
+told_as : (f : QueryFault) → f ≢ fault.Memory → query_refusal f ≡ refusal.Query f
 told_as fault.Memory real = absurd (real refl)
 told_as (fault.Syntax at) real = refl
 told_as (fault.UnknownStream at) real = refl
@@ -24,6 +25,6 @@ told_as (fault.NotClosing at) real = refl
 told_as (fault.OutOfRange at) real = refl
 told_as (fault.TooDeep at) real = refl
 
-pub explain_refused : (schema : Schema) (text : List ℕ) (f : QueryFault) → IsFaultOrMemory schema text f → IsExplainRefused schema text (fault_refusal f)
+pub explain_refused : (schema : Schema) (text : List ℕ) (f : QueryFault) → IsFaultOrMemory schema text f → IsExplainRefused schema text (query_refusal f)
 explain_refused schema text f (inl is) = rw (told_as f is.real) is
 explain_refused schema text f (inr e) = rw e tt

@@ -4,15 +4,13 @@ use Rattle.gl_schema.specs.declared.schema.Schema.{Schema}
 use Rattle.gl_query.specs.declared.tree.Statement.{Statement}
 use Rattle.gl_query_judge.specs.Judged.{IsAcceptedText, IsQueryFault}
 use Rattle.gl_query_judge.specs.Limits.{IsOverLimit}
-use Rattle.gl_query.specs.declared.fault.QueryFault.{QueryFault}
-use Rattle.gl_query.specs.declared.fault.QueryFault.TheVariants as query
 use Rattle.gl_elaborate_plan.specs.declared.planning.PlanFault.{PlanFault}
 use Rattle.gl_elaborate_plan.specs.declared.planning.PlanFault.TheVariants as plan
 use Rattle.gl_elaborate.specs.Plans.{plan_of}
 use Rattle.gl_elaborate_plan.specs.Planned.{IsWithinLimits}
 use Rattle.gl_explain.specs.Lines.{plan_text}
-use Rattle.gl_top_notes.specs.declared.notes.Refusal.{Refusal}
-use Rattle.gl_top_notes.specs.declared.notes.Refusal.TheVariants as refusal
+use Rattle.gl_top_notes.specs.declared.refusal.Refusal.{Refusal}
+use Rattle.gl_top_notes.specs.declared.refusal.Refusal.TheVariants as refusal
 
 -- the text's accepted statement, and its plan, which is within the limits
 pub record IsExplained (schema : Schema) (text bytes : List ℕ) : Type 0 where
@@ -34,11 +32,7 @@ IsExplainRefused schema text (refusal.Verilog fault) = ⊥
 IsExplainRefused schema text (refusal.Tuples fault) = ⊥
 IsExplainRefused schema text refusal.Memory = Unit {0}
 
--- a fault of a lower call as a refusal: want of memory is its own
-abbrev pub fault_refusal : QueryFault → Refusal
-fault_refusal query.Memory = refusal.Memory
-fault_refusal fault = refusal.Query fault
-
+-- what a plan passes, as a refusal: want of memory is its own
 abbrev pub plan_refusal : PlanFault → Refusal
 plan_refusal (plan.Limit limit) = refusal.Limit limit
 plan_refusal plan.Memory = refusal.Memory

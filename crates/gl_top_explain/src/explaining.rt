@@ -7,23 +7,13 @@ ghost use Rattle.gl_top_explain.specs.Explaining.{IsExplained, IsExplainRefused}
 
 use gl_elaborate_plan::PlanFault;
 use gl_explain::explain;
-use gl_query::QueryFault;
 use gl_query_judge::judge_query;
 use gl_schema::Schema;
 use gl_top_notes::Refusal;
 use std::alloc::Global;
 
-// The fault of a query's text as a refusal.
-fn fault_refusal(fault: QueryFault) -> Refusal
-    ensures { result ≡ told.fault_refusal fault }
-{
-    match fault {
-        QueryFault::Memory => Refusal::Memory,
-        fault => Refusal::Query(fault),
-    }
-}
-
-// What a plan passes as a refusal.
+// What a plan passes, as a refusal. (A `From` would stand in gl_top_notes, which is to stand on no
+// planner, or in gl_elaborate_plan, which knows of no refusal.)
 fn plan_refusal(fault: PlanFault) -> Refusal
     ensures { result ≡ told.plan_refusal fault }
 {
@@ -43,10 +33,7 @@ pub fn explain_query(alloc: Global, schema: &Schema, query: &[u8]) -> Result<Vec
     ensures explained { IfOk result (λ v. IsExplained schema.now query.now v.items) }
     ensures refused { IfErr result (IsExplainRefused schema.now query.now) }
 {
-    let checked = match judge_query(alloc, schema, query) {
-        Ok(checked) => checked,
-        Err(fault) => return Err(fault_refusal(fault)),
-    };
+    let checked = judge_query(alloc, schema, query)?;
     match explain(alloc, &checked) {
         Ok(text) => Ok(text),
         Err(fault) => Err(plan_refusal(fault)),

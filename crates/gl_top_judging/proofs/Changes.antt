@@ -1,16 +1,12 @@
 -- Changes of a shelf, one after the other.
-use Rattle.std.proofs.Common.{◌≡◌, ℕ, List, Result, Ok, Err, subst}
-use mathlib.Core.Path.{fun_ext}
-use Rattle.gl_outside.specs.Told.{Told}
+use Rattle.std.proofs.Common.{◌≡◌, ℕ, List, Result, Ok, Err, sym, subst}
+use Rattle.std.specs.Result.{IsErrAnd}
 use Rattle.gl_outside.specs.States.{ShelfState, Stays, IsCalm}
 use Rattle.gl_outside.proofs.Counting.{calm_then, missed_then, faulted_then}
-use Rattle.gl_top_notes.specs.declared.notes.Refusal.{Refusal}
-use Rattle.gl_top_notes.specs.declared.notes.Refusal.TheVariants.{Usage, Missing, ReadFault, TooLong, Schema, Query, Limit, Verilog, Tuples, Memory}
+use Rattle.gl_top_notes.specs.declared.refusal.Refusal.{Refusal}
+use Rattle.gl_top_notes.specs.declared.refusal.Refusal.TheVariants.{Usage, Missing, ReadFault, TooLong, Schema, Query, Limit, Verilog, Tuples, Memory}
+use Rattle.gl_top_texts.proofs.Later.{same_told}
 use Rattle.gl_top_judging.specs.Causes.{change, IsNext, IsRefused, HasCause, Leaves}
-
--- the texts stay, and what is said of them
-same_told : (P : (List ℕ → Told) → Type 0) (a b : List ℕ → Told) → ((n : List ℕ) → b n ≡ a n) → P b → P a
-same_told P a b e p = let same : b ≡ a = fun_ext e in subst P same p
 
 -- what a later call refuses, where the earlier ones refused nothing
 cause_later : (words : List (List ℕ)) (a b c : ShelfState) (r : Refusal) → Stays a b → IsCalm a b → HasCause words (change b c) r → HasCause words (change a c) r
@@ -28,3 +24,8 @@ cause_later words a b c Memory k q h = calm_then a b c q h
 pub leaves_later : {T : Type 0} (words : List (List ℕ)) (a b c : ShelfState) (r : Result T Refusal) → Stays a b → IsCalm a b → Leaves words b c r → Leaves words a c r
 leaves_later words a b c (Ok x) k q h = calm_then a b c q h
 leaves_later words a b c (Err f) k q h = cause_later words a b c f k q h
+
+-- what a refusal that is handed on leaves
+pub handed_on : {T : Type 0} (words : List (List ℕ)) (a b : ShelfState) (r : Result T Refusal) (f : Refusal) → IsErrAnd r (λ g. g ≡ f) → HasCause words (change a b) f → Leaves words a b r
+handed_on words a b (Ok x) f h cause = absurd h
+handed_on words a b (Err g) f h cause = (let same : g ≡ f = h in subst (HasCause words (change a b)) (sym same) cause)

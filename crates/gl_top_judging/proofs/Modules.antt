@@ -30,11 +30,12 @@ use Rattle.gl_verilog_fit.proofs.Placed as placed
 use Rattle.gl_top_words.specs.declared.command.Command.TheVariants.{Sim}
 use Rattle.gl_top_words.specs.declared.command.Part.TheVariants as part
 use Rattle.gl_top_words.specs.Forms.{IsCommand}
-use Rattle.gl_top_notes.specs.declared.notes.Refusal.TheVariants as refusal
+use Rattle.gl_top_notes.specs.declared.refusal.Refusal.TheVariants as refusal
+use Rattle.gl_top_notes.specs.Refusals.{verilog_refusal}
 use Rattle.gl_top_judging.specs.declared.simulating.Fitted.{Fitted}
 use Rattle.gl_top_texts.specs.Texts.{HasText, SchemaPasses}
 use Rattle.gl_top_judging.specs.Passing.{IsFitted, IsFittedText}
-use Rattle.gl_top_judging.specs.Causes.{Change, HasCause, IsModuleFault, IsModuleFaultOrMemory, verilog_refusal}
+use Rattle.gl_top_judging.specs.Causes.{Change, HasCause, IsModuleFault, IsModuleFaultOrMemory}
 use Rattle.gl_top_texts.proofs.Fetched.{has_text}
 
 -- ---- what is answered for a text

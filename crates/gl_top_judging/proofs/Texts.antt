@@ -2,7 +2,7 @@
 use Rattle.std.proofs.Common.{◌≡◌, ◌⊎◌, ℕ, true, false, List, Option, Some, None, Result, Ok, Err, inl, inr, refl, sym, ap, subst, ◌∙◌, arith}
 use Rattle.std.specs.Prelude.{is_some}
 use Rattle.gl_top_words.proofs.Named as forms
-use Rattle.gl_outside.specs.States.{ShelfState, IsCalm}
+use Rattle.gl_outside.specs.States.{IsCalm}
 use Rattle.gl_outside.specs.Told.{Told}
 use Rattle.gl_schema.specs.declared.schema.Schema.{Schema}
 use Rattle.gl_query.specs.declared.tree.Statement.{Statement}
@@ -25,14 +25,15 @@ use Rattle.gl_query_compiler.specs.Queries.{IsQuery, IsQueryRefused}
 use Rattle.gl_top_words.specs.declared.command.Part.{Part}
 use Rattle.gl_top_words.specs.declared.command.Part.TheVariants as part
 use Rattle.gl_top_words.specs.declared.command.Command.{Command}
-use Rattle.gl_top_words.specs.declared.command.Command.TheVariants.{Explain, Run, Sim}
+use Rattle.gl_top_words.specs.declared.command.Command.TheVariants.{Run, Sim}
 use Rattle.gl_top_words.specs.Forms.{IsCommand, IsForm, IsNamed, command_of}
-use Rattle.gl_top_notes.specs.declared.notes.Refusal.{Refusal}
-use Rattle.gl_top_notes.specs.declared.notes.Refusal.TheVariants as refusal
-use Rattle.gl_top_texts.specs.Texts.{HasText, SchemaPasses, IsUnfetched, LeavesText, HasNoSchema, LeavesSchema}
+use Rattle.gl_top_notes.specs.declared.refusal.Refusal.{Refusal}
+use Rattle.gl_top_notes.specs.declared.refusal.Refusal.TheVariants as refusal
+use Rattle.gl_top_notes.specs.Refusals.{tuples_refusal}
+use Rattle.gl_top_texts.specs.Texts.{HasText, SchemaPasses, IsUnfetched, HasNoSchema}
 use Rattle.gl_top_texts.proofs.Fetched.{has_text}
 use Rattle.gl_top_judging.specs.Passing.{QueryPasses, ModulePasses, FilePasses, kept_beats}
-use Rattle.gl_top_judging.specs.Causes.{OfRun, OfSim, IsNext, AreBadTuples, ToRun, ToSim, Change, change, HasCause, Leaves, query_refusal, tuples_refusal}
+use Rattle.gl_top_judging.specs.Causes.{OfRun, OfSim, IsNext, AreBadTuples, ToRun, ToSim, Change, HasCause, compile_refusal}
 
 -- the texts of a command that its words name
 pub run_names_query : (words : List (List ℕ)) → IsCommand words Run → IsNamed words part.Query
@@ -46,9 +47,6 @@ sim_names_module words is = record { command = Sim; is = is; names = (1, omega a
 
 pub sim_names_tuples : (words : List (List ℕ)) → IsCommand words Sim → IsNamed words part.Tuples
 sim_names_tuples words is = record { command = Sim; is = is; names = (2, omega arith, refl) }
-
-pub explain_names_query : (words : List (List ℕ)) → IsCommand words Explain → IsNamed words part.Query
-explain_names_query words is = record { command = Explain; is = is; names = (1, omega arith, refl) }
 
 -- where a text is judged the words name it
 pub next_named : (told : List ℕ → Told) (words : List (List ℕ)) (p : Part) → IsNext told words p → IsNamed words p
@@ -67,7 +65,7 @@ pub no_form : (words : List (List ℕ)) → command_of words ≡ None → IsForm
 no_form words none form = absurd (let z : false ≡ true = sym (ap (λ (o : Option Command). is_some o) none) ∙ form in cc)
 
 -- the cause of a text that was not fetched
-unfetched_cause : (words : List (List ℕ)) (c : Change) (p : Part) (r : Refusal) → IsNext c.old.told words p → IsUnfetched words p c.old c.new r → HasCause words c r
+pub unfetched_cause : (words : List (List ℕ)) (c : Change) (p : Part) (r : Refusal) → IsNext c.old.told words p → IsUnfetched words p c.old c.new r → HasCause words c r
 unfetched_cause words c p refusal.Usage next h = absurd h
 unfetched_cause words c p (refusal.Missing q) next h = subst (λ (x : Part). HasCause words c (refusal.Missing x)) (sym h.0) (record { next = next; lacking = h.1 }, h.2)
 unfetched_cause words c p (refusal.ReadFault q) next h = subst (λ (x : Part). HasCause words c (refusal.ReadFault x)) (sym h.0) (next, h.1)
@@ -79,12 +77,8 @@ unfetched_cause words c p (refusal.Verilog f) next h = absurd h
 unfetched_cause words c p (refusal.Tuples f) next h = absurd h
 unfetched_cause words c p refusal.Memory next h = h
 
-pub text_leaves : {T : Type 0} (words : List (List ℕ)) (a b : ShelfState) (p : Part) (r : Result T Refusal) → IsNext a.told words p → LeavesText words p a b r → Leaves words a b r
-text_leaves words a b p (Ok x) next h = h
-text_leaves words a b p (Err f) next h = unfetched_cause words (change a b) p f next h
-
 -- of a schema that was not read
-no_schema_cause : (words : List (List ℕ)) (c : Change) (r : Refusal) → IsNamed words part.Schema → HasNoSchema words c.old c.new r → HasCause words c r
+pub no_schema_cause : (words : List (List ℕ)) (c : Change) (r : Refusal) → IsNamed words part.Schema → HasNoSchema words c.old c.new r → HasCause words c r
 no_schema_cause words c (refusal.Schema f) named h = (record { named = named; text = h.0 }, h.1)
 no_schema_cause words c refusal.Usage named h = absurd h
 no_schema_cause words c (refusal.Missing q) named h = unfetched_cause words c part.Schema (refusal.Missing q) named h
@@ -96,18 +90,14 @@ no_schema_cause words c (refusal.Verilog f) named h = absurd h
 no_schema_cause words c (refusal.Tuples f) named h = absurd h
 no_schema_cause words c refusal.Memory named h = h
 
-pub schema_leaves : {T : Type 0} (words : List (List ℕ)) (a b : ShelfState) (r : Result T Refusal) → IsNamed words part.Schema → LeavesSchema words a b r → Leaves words a b r
-schema_leaves words a b (Ok x) named h = h
-schema_leaves words a b (Err f) named h = no_schema_cause words (change a b) f named h
-
 -- of a query that is refused
-pub bad_query : (words : List (List ℕ)) (c : Change) (v : List ℕ) (s : Schema) (f : QueryFault) → IsCalm c.old c.new → IsNamed words part.Query → SchemaPasses c.old.told words s → HasText c.old.told words part.Query (λ text. v ≡ text) → IsQueryFault s v f → HasCause words c (query_refusal (compile.Query f))
+pub bad_query : (words : List (List ℕ)) (c : Change) (v : List ℕ) (s : Schema) (f : QueryFault) → IsCalm c.old c.new → IsNamed words part.Query → SchemaPasses c.old.told words s → HasText c.old.told words part.Query (λ text. v ≡ text) → IsQueryFault s v f → HasCause words c (compile_refusal (compile.Query f))
 bad_query words c v s f calm named before h is = (record { named = named; schema = s; before = before; text = has_text c.old.told words part.Query (λ text. IsQueryFault s text f) v h is }, calm)
 
-pub over_limit : (words : List (List ℕ)) (c : Change) (v : List ℕ) (s : Schema) (l : Limit) → IsCalm c.old c.new → IsNamed words part.Query → SchemaPasses c.old.told words s → HasText c.old.told words part.Query (λ text. v ≡ text) → IsOverLimit s v l → HasCause words c (query_refusal (compile.Limit l))
+pub over_limit : (words : List (List ℕ)) (c : Change) (v : List ℕ) (s : Schema) (l : Limit) → IsCalm c.old c.new → IsNamed words part.Query → SchemaPasses c.old.told words s → HasText c.old.told words part.Query (λ text. v ≡ text) → IsOverLimit s v l → HasCause words c (compile_refusal (compile.Limit l))
 over_limit words c v s l calm named before h is = (record { named = named; schema = s; before = before; text = has_text c.old.told words part.Query (λ text. IsOverLimit s text l) v h is }, calm)
 
-pub query_cause : (words : List (List ℕ)) (c : Change) (v : List ℕ) (s : Schema) (fault : CompileFault) → IsCalm c.old c.new → IsNamed words part.Query → SchemaPasses c.old.told words s → HasText c.old.told words part.Query (λ text. v ≡ text) → IsQueryRefused s v fault → HasCause words c (query_refusal fault)
+pub query_cause : (words : List (List ℕ)) (c : Change) (v : List ℕ) (s : Schema) (fault : CompileFault) → IsCalm c.old c.new → IsNamed words part.Query → SchemaPasses c.old.told words s → HasText c.old.told words part.Query (λ text. v ≡ text) → IsQueryRefused s v fault → HasCause words c (compile_refusal fault)
 query_cause words c v s compile.Memory calm named before h is = calm
 query_cause words c v s (compile.Schema f) calm named before h is = absurd is
 query_cause words c v s (compile.Query f) calm named before h is = bad_query words c v s f calm named before h is

@@ -8,7 +8,6 @@ use Rattle.gl_schema.specs.SchemaFaults.{schema_of}
 use Rattle.gl_query.specs.declared.fault.QueryFault.{QueryFault}
 use Rattle.gl_query.specs.declared.tree.Statement.{Statement}
 use Rattle.gl_tuples.specs.declared.fault.TupleFault.{TupleFault}
-use Rattle.gl_tuples.specs.declared.fault.TupleFault.TheVariants as tuples
 use Rattle.gl_query_compiler.specs.declared.fault.CompileFault.{CompileFault}
 use Rattle.gl_query_compiler.specs.declared.fault.CompileFault.TheVariants as compile
 use Rattle.gl_query_judge.specs.Judged.{IsQueryFault}
@@ -22,8 +21,8 @@ use Rattle.gl_verilog_reader.specs.Reading.{IsFaultIn}
 use Rattle.gl_verilog_fit.specs.Places.{IsPortFault}
 use Rattle.gl_top_words.specs.declared.command.Part.{Part}
 use Rattle.gl_top_words.specs.declared.command.Part.TheVariants as part
-use Rattle.gl_top_notes.specs.declared.notes.Refusal.{Refusal}
-use Rattle.gl_top_notes.specs.declared.notes.Refusal.TheVariants as refusal
+use Rattle.gl_top_notes.specs.declared.refusal.Refusal.{Refusal}
+use Rattle.gl_top_notes.specs.declared.refusal.Refusal.TheVariants as refusal
 use Rattle.gl_top_words.specs.declared.command.Command.TheVariants.{Run, Sim}
 use Rattle.gl_top_words.specs.Forms.{IsCommand, IsForm, IsNamed, name_of}
 use Rattle.gl_tuple_reader.specs.Filing.{beats_of, records_of}
@@ -131,17 +130,9 @@ abbrev pub Leaves : {T : Type 0} → List (List ℕ) → ShelfState → ShelfSta
 Leaves words old new (Ok x) = IsCalm old new
 Leaves words old new (Err r) = HasCause words (change old new) r
 
--- a fault of a lower call as a refusal: want of memory is its own
-abbrev pub query_refusal : CompileFault → Refusal
-query_refusal compile.Memory = refusal.Memory
-query_refusal (compile.Query fault) = refusal.Query fault
-query_refusal (compile.Schema fault) = refusal.Schema fault
-query_refusal (compile.Limit limit) = refusal.Limit limit
-
-abbrev pub verilog_refusal : VerilogFault → Refusal
-verilog_refusal verilog.Memory = refusal.Memory
-verilog_refusal fault = refusal.Verilog fault
-
-abbrev pub tuples_refusal : TupleFault → Refusal
-tuples_refusal tuples.Memory = refusal.Memory
-tuples_refusal fault = refusal.Tuples fault
+-- why a query is not compiled, as a refusal: want of memory is its own
+abbrev pub compile_refusal : CompileFault → Refusal
+compile_refusal compile.Memory = refusal.Memory
+compile_refusal (compile.Query fault) = refusal.Query fault
+compile_refusal (compile.Schema fault) = refusal.Schema fault
+compile_refusal (compile.Limit limit) = refusal.Limit limit

@@ -8,19 +8,18 @@ ghost use Rattle.gl_tuples.specs.Gaps.{AreFileBeats, plain_beats};
 ghost use Rattle.gl_top_words.specs.declared.command.Command.TheVariants.{Run};
 ghost use Rattle.gl_top_words.specs.Forms.{IsCommand, IsNamed};
 ghost use Rattle.gl_top_judging.specs.Causes as causes;
-ghost use Rattle.gl_top_judging.specs.Causes.{IsNext, Leaves};
+ghost use Rattle.gl_top_judging.specs.Causes.{Leaves};
 ghost use Rattle.gl_outside.specs.States.{Stays};
 ghost use Rattle.gl_top_judging.specs.Passing.{QueryPasses, TuplesPass, IsCompiled, IsReady, kept_beats};
-ghost use Rattle.gl_top_texts.specs.Texts.{HasText, SchemaPasses};
+ghost use Rattle.gl_top_texts.specs.Texts.{SchemaPasses};
 
 use gl_compiler_text::Compiled;
 use gl_outside::Shelf;
 use gl_query_compiler::{CompileFault, compile_query};
 use gl_schema::Schema;
-use gl_top_matches::Taken;
 use gl_top_notes::Refusal;
 use gl_top_texts::{fetch, fetch_schema};
-use gl_top_words::Part;
+use gl_top_words::{Part, Taken};
 use gl_tuple_reader::read_tuples;
 use gl_tuples::{Beats, TupleFault};
 use std::alloc::Global;
@@ -34,9 +33,10 @@ pub struct Job {
     pub beats: Beats,
 }
 
-// A fault of a lower call as a refusal.
-fn query_refusal(fault: CompileFault) -> Refusal
-    ensures { result ≡ causes.query_refusal fault }
+// Why a query is not compiled, as a refusal. (A `From` would stand in gl_top_notes, which is to stand
+// on no compiler, or in gl_query_compiler, which knows of no refusal.)
+fn compile_refusal(fault: CompileFault) -> Refusal
+    ensures { result ≡ causes.compile_refusal fault }
 {
     match fault {
         CompileFault::Memory => Refusal::Memory,
@@ -44,49 +44,6 @@ fn query_refusal(fault: CompileFault) -> Refusal
         CompileFault::Limit(limit) => Refusal::Limit(limit),
         CompileFault::Schema(fault) => Refusal::Schema(fault),
     }
-}
-
-/// A fault of a tuple file as a refusal.
-pub fn tuples_refusal(fault: TupleFault) -> Refusal
-    ensures { result ≡ causes.tuples_refusal fault }
-{
-    match fault {
-        TupleFault::Memory => Refusal::Memory,
-        fault => Refusal::Tuples(fault),
-    }
-}
-
-/// Fetches the text of a part, where each text before it passes.
-pub fn text_of<S: Shelf>(
-    alloc: Global,
-    shelf: &mut S,
-    words: &Taken<'_>,
-    part: Part,
-) -> Result<Vec<u8>, Refusal>
-    requires next { IsNext (S.state shelf.old).told words.now part }
-    requires names { (S.state shelf.old).names ≡ words.now }
-    ensures stays { Stays (S.state shelf.old) (S.state shelf.new) }
-    ensures text { let told = (S.state shelf.old).told in
-        IfOk result (λ v. HasText told words.now part (λ text. v.items ≡ text)) }
-    ensures leaves { Leaves words.now (S.state shelf.old) (S.state shelf.new) result }
-{
-    fetch(alloc, shelf, words, part)
-}
-
-/// Reads and judges the schema.
-pub fn judge_schema<S: Shelf>(
-    alloc: Global,
-    shelf: &mut S,
-    words: &Taken<'_>,
-) -> Result<Schema, Refusal>
-    requires named { IsNamed words.now Part.Schema }
-    requires names { (S.state shelf.old).names ≡ words.now }
-    ensures stays { Stays (S.state shelf.old) (S.state shelf.new) }
-    ensures passes { let told = (S.state shelf.old).told in
-        IfOk result (λ schema. SchemaPasses told words.now schema) }
-    ensures leaves { Leaves words.now (S.state shelf.old) (S.state shelf.new) result }
-{
-    fetch_schema(alloc, shelf, words)
 }
 
 // Reads and judges the query.
@@ -105,10 +62,10 @@ fn judge_query<S: Shelf>(
     ensures compiled { IfOk result IsCompiled }
     ensures leaves { Leaves words.now (S.state shelf.old) (S.state shelf.new) result }
 {
-    let text = text_of(alloc, shelf, words, Part::Query)?;
+    let text = fetch(alloc, shelf, words, Part::Query)?;
     match compile_query(alloc, schema, &text) {
         Ok(compiled) => Ok(compiled),
-        Err(fault) => Err(query_refusal(fault)),
+        Err(fault) => Err(compile_refusal(fault)),
     }
 }
 
@@ -119,14 +76,9 @@ fn beats_of(alloc: Global, schema: &Schema, gap: u32, text: &[u8]) -> Result<Bea
     ensures fine { IfOk result (λ beats. AreFileBeats schema.now beats) }
     ensures gap { IfOk result (λ beats. KeepsGap gap (plain_beats beats)) }
 {
-    let beats = match read_tuples(alloc, schema, text) {
-        Ok(beats) => beats,
-        Err(fault) => return Err(fault),
-    };
-    match beats.keep(gap) {
-        Ok(()) => Ok(beats),
-        Err(fault) => Err(fault),
-    }
+    let beats = read_tuples(alloc, schema, text)?;
+    beats.keep(gap)?;
+    Ok(beats)
 }
 
 // Reads and judges the tuple file.
@@ -145,11 +97,8 @@ fn judge_tuples<S: Shelf>(
         IfOk result (λ beats. TuplesPass told words.now c.schema c.statement beats) }
     ensures leaves { Leaves words.now (S.state shelf.old) (S.state shelf.new) result }
 {
-    let text = text_of(alloc, shelf, words, Part::Tuples)?;
-    match beats_of(alloc, compiled.schema(), compiled.printed().gap, &text) {
-        Ok(beats) => Ok(beats),
-        Err(fault) => Err(tuples_refusal(fault)),
-    }
+    let text = fetch(alloc, shelf, words, Part::Tuples)?;
+    Ok(beats_of(alloc, compiled.schema(), compiled.printed().gap, &text)?)
 }
 
 // Judges the tuple file, behind the schema and the query.
@@ -167,10 +116,8 @@ fn judge_file<S: Shelf>(
     ensures ready { IfOk result (λ job. IsReady (S.state shelf.old).told words.now job) }
     ensures leaves { Leaves words.now (S.state shelf.old) (S.state shelf.new) result }
 {
-    match judge_tuples(alloc, shelf, words, &compiled) {
-        Ok(beats) => Ok(Job { compiled, beats }),
-        Err(refusal) => Err(refusal),
-    }
+    let beats = judge_tuples(alloc, shelf, words, &compiled)?;
+    Ok(Job { compiled, beats })
 }
 
 // Judges the query and the tuple file, behind the schema.
@@ -186,10 +133,8 @@ fn judge_rest<S: Shelf>(
     ensures ready { IfOk result (λ job. IsReady (S.state shelf.old).told words.now job) }
     ensures leaves { Leaves words.now (S.state shelf.old) (S.state shelf.new) result }
 {
-    match judge_query(alloc, shelf, words, schema) {
-        Ok(compiled) => judge_file(alloc, shelf, words, compiled),
-        Err(refusal) => Err(refusal),
-    }
+    let compiled = judge_query(alloc, shelf, words, schema)?;
+    judge_file(alloc, shelf, words, compiled)
 }
 
 /// Judges the three texts of `run S Q T`.
@@ -199,10 +144,8 @@ pub fn judge_run<S: Shelf>(alloc: Global, shelf: &mut S, words: &Taken<'_>) -> R
     ensures ready { IfOk result (λ job. IsReady (S.state shelf.old).told words.now job) }
     ensures leaves { Leaves words.now (S.state shelf.old) (S.state shelf.new) result }
 {
-    match judge_schema(alloc, shelf, words) {
-        Ok(schema) => judge_rest(alloc, shelf, words, schema),
-        Err(refusal) => Err(refusal),
-    }
+    let schema = fetch_schema(alloc, shelf, words)?;
+    judge_rest(alloc, shelf, words, schema)
 }
 
 /// Judges the two texts of a command that compiles.
@@ -218,8 +161,6 @@ pub fn judge_compile<S: Shelf>(
     ensures compiled { IfOk result IsCompiled }
     ensures leaves { Leaves words.now (S.state shelf.old) (S.state shelf.new) result }
 {
-    match judge_schema(alloc, shelf, words) {
-        Ok(schema) => judge_query(alloc, shelf, words, schema),
-        Err(refusal) => Err(refusal),
-    }
+    let schema = fetch_schema(alloc, shelf, words)?;
+    judge_query(alloc, shelf, words, schema)
 }

@@ -2,8 +2,8 @@
 //! the next is read.
 //!
 //! Here belong the order in which texts are judged, what each gives or why it is refused, and what
-//! `figures` shows of a query. What is done with it, and what `explain` shows, belongs to gl_top, and
-//! the line that tells a refusal to gl_top_notes.
+//! `figures` shows of a query. What is done with it belongs to gl_top, what `explain` shows to
+//! gl_top_explain, and the line that tells a refusal to gl_top_notes.
 #![tactic(auto)]
 
 pub mod figuring;
@@ -11,5 +11,5 @@ pub mod judging;
 pub mod simulating;
 
 pub use figuring::figures_text;
-pub use judging::{Job, judge_compile, judge_run, judge_schema, text_of};
+pub use judging::{Job, judge_compile, judge_run};
 pub use simulating::{Fitted, Simulation, judge_sim};

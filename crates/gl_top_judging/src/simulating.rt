@@ -5,18 +5,16 @@ ghost use Rattle.gl_outside.specs.States.{Stays};
 ghost use Rattle.gl_verilog.specs.View.{module_of};
 ghost use Rattle.gl_top_words.specs.declared.command.Command.TheVariants.{Sim};
 ghost use Rattle.gl_top_words.specs.Forms.{IsCommand};
-ghost use Rattle.gl_top_judging.specs.Causes as causes;
 ghost use Rattle.gl_top_judging.specs.Causes.{IsModuleFaultOrMemory, Leaves};
 ghost use Rattle.gl_top_judging.specs.Passing.{ModulePasses, FilePasses};
 ghost use Rattle.gl_top_texts.specs.Texts.{SchemaPasses};
 ghost use Rattle.gl_top_judging.specs.Passing.{IsFitted, IsFittedText, IsTraceable};
 
-use crate::judging::{judge_schema, text_of, tuples_refusal};
 use gl_outside::Shelf;
 use gl_schema::Schema;
-use gl_top_matches::Taken;
 use gl_top_notes::Refusal;
-use gl_top_words::Part;
+use gl_top_texts::{fetch, fetch_schema};
+use gl_top_words::{Part, Taken};
 use gl_tuple_reader::read_tuples;
 use gl_tuples::Beats;
 use gl_verilog::Module;
@@ -44,15 +42,6 @@ pub struct Simulation {
     pub fitted: Fitted,
     /// The beats.
     pub beats: Beats,
-}
-
-fn verilog_refusal(fault: VerilogFault) -> Refusal
-    ensures { result ≡ causes.verilog_refusal fault }
-{
-    match fault {
-        VerilogFault::Memory => Refusal::Memory,
-        fault => Refusal::Verilog(fault),
-    }
 }
 
 // The module of a text, where it fits the schema.
@@ -83,11 +72,8 @@ fn judge_module<S: Shelf>(
         IfOk result (IsFitted told words.now schema.now) }
     ensures leaves { Leaves words.now (S.state shelf.old) (S.state shelf.new) result }
 {
-    let text = text_of(alloc, shelf, words, Part::Module)?;
-    match fitted_of(alloc, schema, &text) {
-        Ok(fitted) => Ok(fitted),
-        Err(fault) => Err(verilog_refusal(fault)),
-    }
+    let text = fetch(alloc, shelf, words, Part::Module)?;
+    Ok(fitted_of(alloc, schema, &text)?)
 }
 
 // Reads and judges the tuple file, of which no gap is asked.
@@ -105,11 +91,8 @@ fn judge_beats<S: Shelf>(
         IfOk result (FilePasses told words.now schema.now (module_of design.now)) }
     ensures leaves { Leaves words.now (S.state shelf.old) (S.state shelf.new) result }
 {
-    let text = text_of(alloc, shelf, words, Part::Tuples)?;
-    match read_tuples(alloc, schema, &text) {
-        Ok(beats) => Ok(beats),
-        Err(fault) => Err(tuples_refusal(fault)),
-    }
+    let text = fetch(alloc, shelf, words, Part::Tuples)?;
+    Ok(read_tuples(alloc, schema, &text)?)
 }
 
 // Judges the tuple file, behind the schema and the Verilog text.
@@ -125,14 +108,12 @@ fn judge_behind_module<S: Shelf>(
     ensures ready { IfOk result (IsTraceable (S.state shelf.old).told words.now) }
     ensures leaves { Leaves words.now (S.state shelf.old) (S.state shelf.new) result }
 {
-    match judge_beats(alloc, shelf, words, &schema, &fitted.design) {
-        Ok(beats) => Ok(Simulation {
-            schema,
-            fitted,
-            beats,
-        }),
-        Err(refusal) => Err(refusal),
-    }
+    let beats = judge_beats(alloc, shelf, words, &schema, &fitted.design)?;
+    Ok(Simulation {
+        schema,
+        fitted,
+        beats,
+    })
 }
 
 // Judges the Verilog text and the tuple file, behind the schema.
@@ -148,10 +129,8 @@ fn judge_behind_schema<S: Shelf>(
     ensures ready { IfOk result (IsTraceable (S.state shelf.old).told words.now) }
     ensures leaves { Leaves words.now (S.state shelf.old) (S.state shelf.new) result }
 {
-    match judge_module(alloc, shelf, words, &schema) {
-        Ok(fitted) => judge_behind_module(alloc, shelf, words, schema, fitted),
-        Err(refusal) => Err(refusal),
-    }
+    let fitted = judge_module(alloc, shelf, words, &schema)?;
+    judge_behind_module(alloc, shelf, words, schema, fitted)
 }
 
 /// Judges the three texts of `sim S V T`.
@@ -165,8 +144,6 @@ pub fn judge_sim<S: Shelf>(
     ensures ready { IfOk result (IsTraceable (S.state shelf.old).told words.now) }
     ensures leaves { Leaves words.now (S.state shelf.old) (S.state shelf.new) result }
 {
-    match judge_schema(alloc, shelf, words) {
-        Ok(schema) => judge_behind_schema(alloc, shelf, words, schema),
-        Err(refusal) => Err(refusal),
-    }
+    let schema = fetch_schema(alloc, shelf, words)?;
+    judge_behind_schema(alloc, shelf, words, schema)
 }

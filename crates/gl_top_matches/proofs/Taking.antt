@@ -15,7 +15,7 @@ use Rattle.gl_top_words.specs.declared.command.Command.TheVariants.{Compile, Fig
 use Rattle.gl_top_words.specs.Forms.{IsCommand, extra_at, extra_in, extra_of, first_word, is_command, is_dashed, load_at, load_in, load_of, many_names, name_of, names_in, names_of, option_front, option_word, start_at, start_in, start_of, takes_values, values_in, values_of, word_of}
 use Rattle.gl_top_words.proofs.Named.{is_one}
 use Rattle.gl_top_matches.specs.Apps.{Tells, app_for}
-use Rattle.gl_top_matches.specs.Said.{IsSaid, extra_by, start_by}
+use Rattle.gl_top_words.specs.Said.{IsSaid, extra_by, start_by}
 use Rattle.gl_top_matches.proofs.Ends.{Given}
 use Rattle.gl_top_matches.proofs.Laid.{AreNames, Placed, bare, parted, placed, three}
 use Rattle.gl_top_matches.proofs.Names.{load_names, query_names}

@@ -4,7 +4,7 @@ use Rattle.clap.specs.Words.{App, Rule, Text, first_value, found_of, new_app, ne
 use Rattle.clap.specs.declared.parser.matches.ArgMatches.{ArgMatches}
 use Rattle.gl_top_words.specs.declared.command.Command.{Command}
 use Rattle.gl_top_words.specs.declared.command.Command.TheVariants.{Compile, Figures, Explain, Run, Sim, Load}
-use Rattle.gl_top_matches.specs.Said.{IsSaid}
+use Rattle.gl_top_words.specs.Said.{IsSaid}
 
 abbrev pub name_rule : Text → Rule
 name_rule id = record (new_rule id) { required = true }

@@ -7,4 +7,4 @@
 pub mod commands;
 pub mod taken;
 
-pub use taken::{Taken, take};
+pub use taken::take;

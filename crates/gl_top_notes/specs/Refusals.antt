@@ -10,13 +10,30 @@ use Rattle.gl_tuples.specs.declared.fault.TupleFault.{TupleFault}
 use Rattle.gl_tuples.specs.declared.fault.TupleFault.TheVariants as tuples
 use Rattle.gl_outside.specs.States.{SinkState, Took, Broke}
 use Rattle.gl_top_words.specs.declared.command.Part.TheVariants as part
-use Rattle.gl_top_notes.specs.declared.notes.Refusal.{Refusal}
-use Rattle.gl_top_notes.specs.declared.notes.Refusal.TheVariants.{Usage, Missing, ReadFault, TooLong, Schema, Query, Limit, Verilog, Tuples, Memory}
+use Rattle.gl_top_notes.specs.declared.refusal.Refusal.{Refusal}
+use Rattle.gl_top_notes.specs.declared.refusal.Refusal.TheVariants.{Usage, Missing, ReadFault, TooLong, Schema, Query, Limit, Verilog, Tuples, Memory}
 use Rattle.gl_figures.specs.declared.Limit as figures
 use Rattle.gl_figures.specs.declared.Limit.TheVariants as limit
 use Rattle.gl_top_notes.specs.declared.status.Status.{Status}
 use Rattle.gl_top_notes.specs.declared.status.Status.TheVariants as status
 use Rattle.gl_top_words.specs.Forms.{name_of}
+
+-- a fault of a text as a refusal: want of memory is its own
+abbrev pub schema_refusal : SchemaFault → Refusal
+schema_refusal schema.Memory = Memory
+schema_refusal fault = Schema fault
+
+abbrev pub query_refusal : QueryFault → Refusal
+query_refusal query.Memory = Memory
+query_refusal fault = Query fault
+
+abbrev pub verilog_refusal : VerilogFault → Refusal
+verilog_refusal verilog.Memory = Memory
+verilog_refusal fault = Verilog fault
+
+abbrev pub tuples_refusal : TupleFault → Refusal
+tuples_refusal tuples.Memory = Memory
+tuples_refusal fault = Tuples fault
 
 -- each refusal has one status
 abbrev pub status_of : Refusal → Status

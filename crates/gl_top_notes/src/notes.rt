@@ -1,51 +1,24 @@
 //! The one line that tells why the program ends as it does.
 
-ghost use Rattle.std.specs.Prelude.{◌≡◌, decimal};
+ghost use Rattle.std.specs.Prelude.{decimal};
 ghost use Rattle.gl_outside.specs.States.{Wrote};
 ghost use Rattle.gl_top_words.specs.Forms as forms;
 ghost use Rattle.gl_top_notes.specs.Refusals as told;
 ghost use Rattle.gl_top_notes.specs.Refusals.{line, kind_line, limit_line, no_end_line, note_of, verilog_line};
 ghost use Rattle.gl_top_notes.specs.Refusals.{usage_line, memory_line, write_line, puts, Notes};
+ghost use Rattle.gl_top_notes.specs.Written.{IsWritten};
 
 use crate::faults::{
     query_kind, query_place, schema_kind, schema_place, tuples_kind, tuples_record, verilog_kind,
     verilog_place,
 };
+use crate::refusal::{Refusal, status_of};
 use crate::status::Status;
 use gl_figures::Limit;
 use gl_outside::{Sink, WriteFault, write_all_of};
-use gl_query::QueryFault;
-use gl_schema::SchemaFault;
-use gl_top_matches::Taken;
-use gl_top_words::Part;
-use gl_tuples::TupleFault;
+use gl_top_words::{Part, Taken};
 use gl_verilog_syntax::VerilogFault;
 use itoa::Buffer;
-
-/// Why the program ends before anything is written.
-#[derive(Drop, Debug)]
-pub enum Refusal {
-    /// The words are of no form.
-    Usage,
-    /// The shelf has no text of the name.
-    Missing(Part),
-    /// The shelf failed at the text.
-    ReadFault(Part),
-    /// The text is too long.
-    TooLong(Part),
-    /// The schema is refused.
-    Schema(SchemaFault),
-    /// The query is refused.
-    Query(QueryFault),
-    /// The query's plan passes a limit.
-    Limit(Limit),
-    /// The Verilog text is refused.
-    Verilog(VerilogFault),
-    /// The tuple file is refused.
-    Tuples(TupleFault),
-    /// Want of memory.
-    Memory,
-}
 
 // The line of all forms.
 const USAGE: &[u8] =
@@ -193,23 +166,6 @@ fn put_note<N: Sink>(notes: &mut N, words: &Taken<'_>, refusal: &Refusal) -> Res
     }
 }
 
-fn status_of(refusal: &Refusal) -> Status
-    ensures { result ≡ told.status_of refusal.now }
-{
-    match refusal {
-        Refusal::Usage => Status::Usage,
-        Refusal::Missing(_) => Status::Missing,
-        Refusal::ReadFault(_) => Status::ReadFault,
-        Refusal::TooLong(_) => Status::Limit,
-        Refusal::Schema(_) => Status::Schema,
-        Refusal::Query(_) => Status::Query,
-        Refusal::Limit(_) => Status::Limit,
-        Refusal::Verilog(_) => Status::Verilog,
-        Refusal::Tuples(_) => Status::Tuples,
-        Refusal::Memory => Status::Memory,
-    }
-}
-
 /// Writes the line of a refusal, and answers its status: that of a failed write, if the line could
 /// not be written.
 pub fn tell<N: Sink>(notes: &mut N, words: &Taken<'_>, refusal: &Refusal) -> Status
@@ -263,5 +219,16 @@ pub fn tell_no_end<N: Sink>(notes: &mut N, cycle: u64) -> Status
     match put_no_end(notes, cycle) {
         Ok(()) => Status::NoEnd,
         Err(_) => Status::WriteFault,
+    }
+}
+
+/// Writes what a command shows, and answers the status; where the output fails, that is noted.
+pub fn show<K: Sink, N: Sink>(bytes: &[u8], out: &mut K, notes: &mut N) -> Status
+    ensures { IsWritten bytes.now (puts (K.state out.old) (K.state out.new))
+        (puts (N.state notes.old) (N.state notes.new)) result }
+{
+    match write_all_of(out, bytes) {
+        Ok(()) => Status::Done,
+        Err(_) => tell_write_fault(notes),
     }
 }

@@ -14,9 +14,10 @@ use Rattle.gl_schema.specs.SchemaText.{IsSchemaText}
 use Rattle.gl_top_words.specs.declared.command.Part.{Part}
 use Rattle.gl_top_words.specs.declared.command.Part.TheVariants as part
 use Rattle.gl_top_words.specs.Forms.{IsNamed, name_of}
-use Rattle.gl_top_notes.specs.declared.notes.Refusal.{Refusal}
-use Rattle.gl_top_notes.specs.declared.notes.Refusal.TheVariants as refusal
-use Rattle.gl_top_texts.specs.Texts.{HasText, SchemaPasses, IsUnfetched, HasNoSchema, read_refusal, schema_refusal}
+use Rattle.gl_top_notes.specs.declared.refusal.Refusal.{Refusal}
+use Rattle.gl_top_notes.specs.declared.refusal.Refusal.TheVariants as refusal
+use Rattle.gl_top_notes.specs.Refusals.{schema_refusal}
+use Rattle.gl_top_texts.specs.Texts.{HasText, SchemaPasses, IsUnfetched, HasNoSchema, read_refusal}
 
 -- what was read is the text that is told
 pub read_is : (t : Told) (v : List ℕ) → IfTold t (λ text. v ≡ text) → length v ≤ 67108864 → IfTold t (λ text. (length text ≤ 67108864) × (v ≡ text))

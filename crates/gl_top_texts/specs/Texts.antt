@@ -6,16 +6,14 @@ use Rattle.gl_outside.specs.Told.{Told, IsLacking, IfTold}
 use Rattle.gl_outside.specs.declared.reading.ReadFault as reads
 use Rattle.gl_outside.specs.declared.reading.ReadFault.TheVariants as read
 use Rattle.gl_schema.specs.declared.schema.Schema.{Schema}
-use Rattle.gl_schema.specs.declared.fault.SchemaFault as faults
-use Rattle.gl_schema.specs.declared.fault.SchemaFault.TheVariants as schema
 use Rattle.gl_schema.specs.Schemas.{IsSchema}
 use Rattle.gl_schema.specs.SchemaFaults.{schema_of}
 use Rattle.gl_schema.specs.SchemaText.{IsSchemaText}
 use Rattle.gl_top_words.specs.declared.command.Part.{Part}
 use Rattle.gl_top_words.specs.declared.command.Part.TheVariants as part
 use Rattle.gl_top_words.specs.Forms.{IsNamed, name_of}
-use Rattle.gl_top_notes.specs.declared.notes.Refusal.{Refusal}
-use Rattle.gl_top_notes.specs.declared.notes.Refusal.TheVariants as refusal
+use Rattle.gl_top_notes.specs.declared.refusal.Refusal.{Refusal}
+use Rattle.gl_top_notes.specs.declared.refusal.Refusal.TheVariants as refusal
 
 -- the shelf has the text, it has at most 64 MiB, and the fact holds of it
 abbrev pub HasText : (List ℕ → Told) → List (List ℕ) → Part → (List ℕ → Type 0) → Type 0
@@ -27,16 +25,12 @@ pub record SchemaPasses (told : List ℕ → Told) (words : List (List ℕ)) (sc
   pub fine : IsSchema schema
   pub text : HasText told words part.Schema (λ text. IsSchemaText text schema)
 
--- a fault of a lower call as a refusal: want of memory is its own
+-- a fault of the shelf's text as a refusal of its part: want of memory is its own
 abbrev pub read_refusal : Part → reads.ReadFault → Refusal
 read_refusal part read.Missing = refusal.Missing part
 read_refusal part read.Failed = refusal.ReadFault part
 read_refusal part read.TooLong = refusal.TooLong part
 read_refusal part read.Memory = refusal.Memory
-
-abbrev pub schema_refusal : faults.SchemaFault → Refusal
-schema_refusal schema.Memory = refusal.Memory
-schema_refusal fault = refusal.Schema fault
 
 -- why the text of a part was not fetched; want of memory is free
 abbrev pub IsUnfetched : List (List ℕ) → Part → ShelfState → ShelfState → Refusal → Type 0

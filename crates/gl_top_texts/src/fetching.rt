@@ -7,13 +7,12 @@ ghost use Rattle.gl_top_texts.specs.Texts as texts;
 ghost use Rattle.gl_top_texts.specs.Texts.{HasText, LeavesSchema, LeavesText, SchemaPasses};
 
 use gl_outside::{ReadFault, Shelf, read_all};
-use gl_schema::{Schema, SchemaFault, read_schema};
-use gl_top_matches::Taken;
+use gl_schema::{Schema, read_schema};
 use gl_top_notes::Refusal;
-use gl_top_words::Part;
+use gl_top_words::{Part, Taken};
 use std::alloc::Global;
 
-// A fault of a text of the shelf as a refusal.
+// A fault of a text of the shelf as a refusal, which names the part: so no `From` can say it.
 fn read_refusal(part: Part, fault: ReadFault) -> Refusal
     ensures { result ≡ texts.read_refusal part fault }
 {
@@ -22,15 +21,6 @@ fn read_refusal(part: Part, fault: ReadFault) -> Refusal
         ReadFault::Failed => Refusal::ReadFault(part),
         ReadFault::TooLong => Refusal::TooLong(part),
         ReadFault::Memory => Refusal::Memory,
-    }
-}
-
-fn schema_refusal(fault: SchemaFault) -> Refusal
-    ensures { result ≡ texts.schema_refusal fault }
-{
-    match fault {
-        SchemaFault::Memory => Refusal::Memory,
-        fault => Refusal::Schema(fault),
     }
 }
 
@@ -73,8 +63,5 @@ pub fn fetch_schema<S: Shelf>(
     ensures leaves { LeavesSchema words.now (S.state shelf.old) (S.state shelf.new) result }
 {
     let text = fetch(alloc, shelf, words, Part::Schema)?;
-    match read_schema(alloc, &text) {
-        Ok(schema) => Ok(schema),
-        Err(fault) => Err(schema_refusal(fault)),
-    }
+    Ok(read_schema(alloc, &text)?)
 }

@@ -1,3 +1,4 @@
 pub mod Forms
 pub mod Steps
 pub mod Worked
+pub mod Said

@@ -9,7 +9,9 @@ pub mod command;
 pub mod copying;
 pub mod laws;
 pub mod reading;
+pub mod taken;
 
 pub use command::{Command, Part};
 pub use copying::copied;
 pub use reading::{command_of, extra_at, load_at, start_at};
+pub use taken::Taken;

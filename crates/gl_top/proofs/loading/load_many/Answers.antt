@@ -1,8 +1,8 @@
 use Rattle.std.proofs.Common.{List, ℕ, inl, sym, subst}
 use Rattle.gl_outside.proofs.Takes.{took_none}
 use Rattle.gl_load.specs.Loads.{IsLoad}
-use Rattle.gl_top_notes.specs.declared.notes.Refusal.TheVariants as refusal
-use Rattle.gl_top.specs.Verdicts.{Ended, OfLoad}
+use Rattle.gl_top_notes.specs.declared.refusal.Refusal.TheVariants as refusal
+use Rattle.gl_top.specs.Verdicts.{Refused, OfLoad}
 use Rattle.gl_top.proofs.loading.load_many.Goals as goal
 
 pub returns-in-Ok : goal.returns-in-Ok
@@ -17,7 +17,7 @@ returns-in-Ok g c = λ ch calm.
     calm
 
 pub returns-in-Err : goal.returns-in-Err
-returns-in-Err g c = λ ch calm. Ended (record {
+returns-in-Err g c = λ ch calm. Refused (record {
   refusal = refusal.Memory;
   cause = calm;
   untouched = took_none _;

@@ -1,13 +1,13 @@
 use Rattle.std.proofs.Common.{inl, sym, ◌∙◌}
 use Rattle.gl_outside.proofs.Counting.{calm_none}
 use Rattle.gl_outside.proofs.Takes.{took_none}
-use Rattle.gl_top_notes.specs.declared.notes.Refusal.TheVariants as refusal
-use Rattle.gl_top.specs.Verdicts.{Ended}
+use Rattle.gl_top_notes.specs.declared.refusal.Refusal.TheVariants as refusal
+use Rattle.gl_top.specs.Verdicts.{Refused}
 use Rattle.gl_top_judging.proofs.Texts.{no_form}
 use Rattle.gl_top.proofs.running.answer.Goals as goal
 
 pub returns-in-None : goal.returns-in-None
-returns-in-None g c = Ended (record {
+returns-in-None g c = Refused (record {
   refusal = refusal.Usage;
   cause = (no_form c.args.words.now (sym c.command_of.ensures ∙ c.in-None.is), calm_none _);
   untouched = took_none _;
@@ -16,7 +16,7 @@ returns-in-None g c = Ended (record {
 })
 
 pub returns-in-Err : goal.returns-in-Err
-returns-in-Err g c = Ended (record {
+returns-in-Err g c = Refused (record {
   refusal = refusal.Memory;
   cause = calm_none _;
   untouched = took_none _;

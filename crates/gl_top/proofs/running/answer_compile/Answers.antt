@@ -2,7 +2,7 @@ use Rattle.std.proofs.Common.{inl, refl, arith}
 use Rattle.gl_outside.proofs.Takes.{took_none}
 use Rattle.gl_top_words.specs.declared.command.Command.TheVariants.{Compile}
 use Rattle.gl_top_judging.specs.Causes.{change}
-use Rattle.gl_top.specs.Verdicts.{Ended, OfTexts}
+use Rattle.gl_top.specs.Verdicts.{Refused, OfTexts}
 use Rattle.gl_top.proofs.running.answer_compile.Goals as goal
 
 pub returns-in-Ok : goal.returns-in-Ok
@@ -18,7 +18,7 @@ returns-in-Ok g c = c.show_text.ensures (change _ _)
     c.in-Ok.ensures.leaves
 
 pub returns-in-Err : goal.returns-in-Err
-returns-in-Err g c = Ended (record {
+returns-in-Err g c = Refused (record {
   refusal = c.in-Err.refusal;
   cause = c.in-Err.ensures.leaves;
   untouched = took_none _;

@@ -2,14 +2,14 @@ use Rattle.gl_top_words.specs.declared.command.Command.TheVariants.{Figures}
 use Rattle.std.proofs.Common.{inl, refl, arith}
 use Rattle.gl_outside.proofs.Takes.{took_none}
 use Rattle.gl_top_judging.specs.Causes.{change}
-use Rattle.gl_top.specs.Verdicts.{Ended}
+use Rattle.gl_top.specs.Verdicts.{Refused}
 use Rattle.gl_top.proofs.running.answer_figures.Goals as goal
 
 pub returns-in-Ok : goal.returns-in-Ok
 returns-in-Ok g c = c.show_figures.ensures (change _ _) c.in-Ok.ensures.passes c.in-Ok.ensures.leaves
 
 pub returns-in-Err : goal.returns-in-Err
-returns-in-Err g c = Ended (record {
+returns-in-Err g c = Refused (record {
   refusal = c.in-Err.refusal;
   cause = c.in-Err.ensures.leaves;
   untouched = took_none _;

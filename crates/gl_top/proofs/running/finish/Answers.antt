@@ -1,7 +1,7 @@
 use Rattle.std.proofs.Common.{inl, ◌∙◌}
 use Rattle.gl_outside.proofs.Takes.{took_none}
-use Rattle.gl_top.specs.Verdicts.{Ended}
-use Rattle.gl_top_notes.specs.declared.notes.Refusal.TheVariants as refusal
+use Rattle.gl_top.specs.Verdicts.{Refused}
+use Rattle.gl_top_notes.specs.declared.refusal.Refusal.TheVariants as refusal
 use Rattle.gl_top.proofs.Answering.{answer_text, kept_text}
 use Rattle.gl_top.proofs.running.finish.Goals as goal
 
@@ -11,7 +11,7 @@ returns-in-Ok g c = λ ch ready calm.
     answer_text _ _ _ _ _ _ _ kept (c.finish_run.ensures ch ready calm)
 
 pub returns-in-Err : goal.returns-in-Err
-returns-in-Err g c = λ ch ready calm. Ended (record {
+returns-in-Err g c = λ ch ready calm. Refused (record {
   refusal = refusal.Memory;
   cause = calm;
   untouched = took_none _;

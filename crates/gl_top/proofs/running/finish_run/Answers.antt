@@ -1,12 +1,12 @@
 use Rattle.std.proofs.Common.{[], refl, sym, subst, inr}
 use Rattle.gl_outside.specs.States.{SinkState, Took}
 use Rattle.gl_outside.proofs.Takes.{took_none}
-use Rattle.gl_top.specs.Verdicts.{Ran, Broke', Ended}
-use Rattle.gl_top_notes.specs.declared.notes.Refusal.TheVariants as refusal
+use Rattle.gl_top.specs.Verdicts.{RanWhole, RanCut, Refused}
+use Rattle.gl_top_notes.specs.declared.refusal.Refusal.TheVariants as refusal
 use Rattle.gl_top.proofs.running.finish_run.Goals as goal
 
 pub returns-in-Done : goal.returns-in-Done
-returns-in-Done g c = λ ch ready calm. Ran (record {
+returns-in-Done g c = λ ch ready calm. RanWhole (record {
   schema = c.args.job.now.compiled.schema;
   statement = c.args.job.now.compiled.statement;
   beats = c.args.job.now.beats;
@@ -19,7 +19,7 @@ returns-in-Done g c = λ ch ready calm. Ran (record {
 })
 
 pub returns-in-WriteFault : goal.returns-in-WriteFault
-returns-in-WriteFault g c = λ ch ready calm. Broke' (record {
+returns-in-WriteFault g c = λ ch ready calm. RanCut (record {
   schema = c.args.job.now.compiled.schema;
   statement = c.args.job.now.compiled.statement;
   beats = c.args.job.now.beats;
@@ -31,7 +31,7 @@ returns-in-WriteFault g c = λ ch ready calm. Broke' (record {
 })
 
 pub returns-in-Memory : goal.returns-in-Memory
-returns-in-Memory g c = λ ch ready calm. Ended (record {
+returns-in-Memory g c = λ ch ready calm. Refused (record {
   refusal = refusal.Memory;
   cause = calm;
   untouched = let P : SinkState → Type 0 = λ s. Took (g.K.Sink.state c.args.out.now) s [] in subst P (sym c.in-Memory.ensures) (took_none _);

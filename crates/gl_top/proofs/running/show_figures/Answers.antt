@@ -1,8 +1,8 @@
 use Rattle.std.proofs.Common.{inl, ◌∙◌}
 use Rattle.gl_outside.proofs.Takes.{took_none}
 use Rattle.gl_top_words.specs.declared.command.Command.TheVariants.{Figures}
-use Rattle.gl_top_notes.specs.declared.notes.Refusal.TheVariants as refusal
-use Rattle.gl_top.specs.Verdicts.{Ended, OfTexts}
+use Rattle.gl_top_notes.specs.declared.refusal.Refusal.TheVariants as refusal
+use Rattle.gl_top.specs.Verdicts.{Refused, OfTexts}
 use Rattle.gl_top.proofs.running.show_figures.Goals as goal
 
 pub returns-in-Ok : goal.returns-in-Ok
@@ -31,7 +31,7 @@ returns-in-Ok g c = λ seen passes calm.
     calm
 
 pub returns-in-Err : goal.returns-in-Err
-returns-in-Err g c = λ seen passes calm. Ended (record {
+returns-in-Err g c = λ seen passes calm. Refused (record {
   refusal = refusal.Memory;
   cause = calm;
   untouched = took_none _;

@@ -5,9 +5,10 @@ use Rattle.gl_verilog_orders.specs.declared.start.Start.TheVariants.{Zero}
 use Rattle.gl_tuples.specs.Gaps.{plain_beats}
 use Rattle.gl_verilog.specs.View.{module_of}
 use Rattle.gl_runner.specs.declared.tracing.Ending.TheVariants as end
-use Rattle.gl_runner.specs.Traces.{OfRunsOf, Traced, decimal_kinds}
-use Rattle.gl_top_notes.specs.declared.notes.Refusal.TheVariants as refusal
-use Rattle.gl_top.specs.Verdicts.{Traced', Ended}
+use Rattle.gl_runner.specs.Traces.{OfRunsOf, decimal_kinds}
+use Rattle.gl_runner.specs.Traces as traces
+use Rattle.gl_top_notes.specs.declared.refusal.Refusal.TheVariants as refusal
+use Rattle.gl_top.specs.Verdicts.{Traced, Refused}
 use Rattle.gl_top.proofs.tracing.finish_trace.Goals as goal
 
 pub trace-requires-clause-valid : goal.trace-requires-clause-valid
@@ -20,8 +21,8 @@ pub returns-in-Done : goal.returns-in-Done
 returns-in-Done g c = λ ch ready calm.
     let s = c.args.simulation in
     let m = module_of s.fitted.design in
-    let of_extra : ℕ → Type 0 = λ n. Traced (OfRunsOf m s.schema (plain_beats s.beats) Zero) (decimal_kinds m) (plain_beats s.beats) n (g.K.Sink.state c.args.out.now) (g.K.Sink.state c.trace.new.out) end.Done in
-    Traced' (record {
+    let of_extra : ℕ → Type 0 = λ n. traces.Traced (OfRunsOf m s.schema (plain_beats s.beats) Zero) (decimal_kinds m) (plain_beats s.beats) n (g.K.Sink.state c.args.out.now) (g.K.Sink.state c.trace.new.out) end.Done in
+    Traced (record {
       schema = s.schema;
       design = m;
       beats = s.beats;
@@ -38,8 +39,8 @@ pub returns-in-NoEnd : goal.returns-in-NoEnd
 returns-in-NoEnd g c = λ ch ready calm.
     let s = c.args.simulation in
     let m = module_of s.fitted.design in
-    let of_extra : ℕ → Type 0 = λ n. Traced (OfRunsOf m s.schema (plain_beats s.beats) Zero) (decimal_kinds m) (plain_beats s.beats) n (g.K.Sink.state c.args.out.now) (g.K.Sink.state c.trace.new.out) (end.NoEnd c.in-NoEnd.cycle) in
-    Traced' (record {
+    let of_extra : ℕ → Type 0 = λ n. traces.Traced (OfRunsOf m s.schema (plain_beats s.beats) Zero) (decimal_kinds m) (plain_beats s.beats) n (g.K.Sink.state c.args.out.now) (g.K.Sink.state c.trace.new.out) (end.NoEnd c.in-NoEnd.cycle) in
+    Traced (record {
       schema = s.schema;
       design = m;
       beats = s.beats;
@@ -56,8 +57,8 @@ pub returns-in-WriteFault : goal.returns-in-WriteFault
 returns-in-WriteFault g c = λ ch ready calm.
     let s = c.args.simulation in
     let m = module_of s.fitted.design in
-    let of_extra : ℕ → Type 0 = λ n. Traced (OfRunsOf m s.schema (plain_beats s.beats) Zero) (decimal_kinds m) (plain_beats s.beats) n (g.K.Sink.state c.args.out.now) (g.K.Sink.state c.trace.new.out) end.WriteFault in
-    Traced' (record {
+    let of_extra : ℕ → Type 0 = λ n. traces.Traced (OfRunsOf m s.schema (plain_beats s.beats) Zero) (decimal_kinds m) (plain_beats s.beats) n (g.K.Sink.state c.args.out.now) (g.K.Sink.state c.trace.new.out) end.WriteFault in
+    Traced (record {
       schema = s.schema;
       design = m;
       beats = s.beats;
@@ -71,7 +72,7 @@ returns-in-WriteFault g c = λ ch ready calm.
     })
 
 pub returns : goal.returns
-returns g c = λ ch ready calm. Ended (record {
+returns g c = λ ch ready calm. Refused (record {
   refusal = refusal.Memory;
   cause = calm;
   untouched = let P : SinkState → Type 0 = λ s. Took (g.K.Sink.state c.args.out.now) s [] in subst P (sym c.in-Memory.ensures.lines) (took_none _);
