@@ -20,7 +20,8 @@ use Rattle.gl_compiler_text.specs.declared.compiling.Compiled.{Compiled}
 use Rattle.gl_query_judge.specs.Limits.{IsOverLimit}
 use Rattle.gl_query_compiler.specs.declared.fault.CompileFault.{CompileFault}
 use Rattle.gl_query_compiler.specs.declared.fault.CompileFault.TheVariants as compile
-use Rattle.gl_query_compiler.specs.Queries.{IsQuery, IsQueryRefused, IfRefused, IsTold, TellsCauses, fault_of_plan, fault_of_query}
+use Rattle.gl_query_compiler.specs.Queries.{IsQuery, IsQueryRefused, IfRefused, IsTold, TellsCauses}
+use Rattle.gl_query_compiler.specs.Faults.{fault_of_plan, fault_of_query}
 use Rattle.gl_compiler_text.proofs.Shaped.{plans_alike}
 
 -- a fault is answered as it is

@@ -11,7 +11,8 @@ use Rattle.gl_compiler_text.specs.declared.compiling.Compiled.{Compiled}
 use Rattle.gl_query_compiler.specs.declared.fault.CompileFault.{CompileFault}
 use Rattle.gl_query_compiler.specs.declared.fault.CompileFault.TheVariants as compile
 use Rattle.gl_query_compiler.specs.Queries.{IsQueryRefused, TellsCauses}
-use Rattle.gl_query_compiler.specs.Texts.{IsTextRefused, TellsTextCauses, fault_of_schema}
+use Rattle.gl_query_compiler.specs.Texts.{IsTextRefused, TellsTextCauses}
+use Rattle.gl_query_compiler.specs.Faults.{fault_of_schema}
 
 -- ---- over the schema of the text
 

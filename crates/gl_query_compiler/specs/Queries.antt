@@ -2,14 +2,10 @@
 use Rattle.std.specs.Prelude.{◌≡◌, ◌⊎◌, ℕ, List, Result, Err}
 use Rattle.gl_schema.specs.declared.schema.Schema.{Schema}
 use Rattle.gl_query.specs.declared.tree.Statement.{Statement}
-use Rattle.gl_query.specs.declared.fault.QueryFault.{QueryFault}
-use Rattle.gl_query.specs.declared.fault.QueryFault.TheVariants as fault
 use Rattle.gl_query.specs.Trees.{statement_tree}
 use Rattle.gl_query_reader.specs.Grammar.{HasStatement}
 use Rattle.gl_query_judge.specs.Judged.{IsQueryFault}
 use Rattle.gl_query_judge.specs.Limits.{IsOverLimit}
-use Rattle.gl_elaborate_plan.specs.declared.planning.PlanFault.{PlanFault}
-use Rattle.gl_elaborate_plan.specs.declared.planning.PlanFault.TheVariants as plan
 use Rattle.gl_compiler_text.specs.declared.compiling.Compiled.{Compiled}
 use Rattle.gl_compiler_text.specs.Built.{IsBuilt}
 use Rattle.gl_query_compiler.specs.declared.fault.CompileFault.{CompileFault}
@@ -39,13 +35,3 @@ IsTold r f = (r ≡ Err f) ⊎ (r ≡ Err compile.Memory)
 -- each cause of a refusal is what was answered, unless memory ran out
 abbrev pub TellsCauses : Schema → List ℕ → Result Compiled CompileFault → Type 0
 TellsCauses schema text r = (f : CompileFault) → IfRefused f (IsQueryRefused schema text f → IsTold r f)
-
--- the fault of a query's text, as the compiler answers it
-abbrev pub fault_of_query : QueryFault → CompileFault
-fault_of_query fault.Memory = compile.Memory
-fault_of_query f = compile.Query f
-
--- and that of a statement's plan
-abbrev pub fault_of_plan : PlanFault → CompileFault
-fault_of_plan (plan.Limit l) = compile.Limit l
-fault_of_plan plan.Memory = compile.Memory

@@ -1,8 +1,6 @@
 -- What is compiled of the texts of a schema and of a query, and why others are not.
 use Rattle.std.specs.Prelude.{ℕ, List, Result}
 use Rattle.gl_schema.specs.declared.schema.Schema.{Schema}
-use Rattle.gl_schema.specs.declared.fault.SchemaFault.{SchemaFault}
-use Rattle.gl_schema.specs.declared.fault.SchemaFault.TheVariants as schema
 use Rattle.gl_schema.specs.SchemaText.{IsSchemaText}
 use Rattle.gl_schema.specs.SchemaFaults.{IsFirstFault}
 use Rattle.gl_compiler_text.specs.declared.compiling.Compiled.{Compiled}
@@ -34,8 +32,3 @@ IsTextRefused text query fault.Memory = Unit {0}
 -- each cause of a refusal is what was answered, unless memory ran out
 abbrev pub TellsTextCauses : List ℕ → List ℕ → Result Compiled CompileFault → Type 0
 TellsTextCauses text query r = (f : CompileFault) → IfRefused f (IsTextRefused text query f → IsTold r f)
-
--- the fault of a schema's text, as the compiler answers it
-abbrev pub fault_of_schema : SchemaFault → CompileFault
-fault_of_schema schema.Memory = fault.Memory
-fault_of_schema f = fault.Schema f

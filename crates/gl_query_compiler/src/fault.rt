@@ -1,5 +1,9 @@
 //! Why texts are not compiled.
 
+ghost use Rattle.std.specs.Prelude.{◌≡◌};
+ghost use Rattle.gl_query_compiler.specs.Faults.{fault_of_plan, fault_of_query, fault_of_schema};
+
+use gl_elaborate_plan::PlanFault;
 use gl_figures::Limit;
 use gl_query::QueryFault;
 use gl_schema::SchemaFault;
@@ -20,4 +24,37 @@ pub enum CompileFault {
     /// Want of memory.
     #[error("out of memory")]
     Memory,
+}
+
+impl From<SchemaFault> for CompileFault {
+    ghost from_gives = { λ fault f. f ≡ fault_of_schema fault };
+
+    fn from(fault: SchemaFault) -> CompileFault {
+        match fault {
+            SchemaFault::Memory => CompileFault::Memory,
+            fault => CompileFault::Schema(fault),
+        }
+    }
+}
+
+impl From<QueryFault> for CompileFault {
+    ghost from_gives = { λ fault f. f ≡ fault_of_query fault };
+
+    fn from(fault: QueryFault) -> CompileFault {
+        match fault {
+            QueryFault::Memory => CompileFault::Memory,
+            fault => CompileFault::Query(fault),
+        }
+    }
+}
+
+impl From<PlanFault> for CompileFault {
+    ghost from_gives = { λ fault f. f ≡ fault_of_plan fault };
+
+    fn from(fault: PlanFault) -> CompileFault {
+        match fault {
+            PlanFault::Limit(limit) => CompileFault::Limit(limit),
+            PlanFault::Memory => CompileFault::Memory,
+        }
+    }
 }

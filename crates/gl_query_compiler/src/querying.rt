@@ -11,15 +11,13 @@ ghost use Rattle.gl_elaborate.specs.Plans.{plan_of};
 ghost use Rattle.gl_compiler_text.specs.Meets.{Meets, result_columns};
 ghost use Rattle.gl_compiler_text.specs.Built.{latency_of, gap_of, copies_of};
 ghost use Rattle.gl_compiler_text.specs.Compiles.{HasCost};
-ghost use Rattle.gl_query_compiler.specs.Queries.{IsQuery, IsQueryRefused, IfRefused, TellsCauses, fault_of_plan, fault_of_query};
-ghost use Rattle.gl_query_compiler.specs.Texts.{IsCompiledText, IsTextRefused, TellsTextCauses, fault_of_schema};
+ghost use Rattle.gl_query_compiler.specs.Queries.{IsQuery, IsQueryRefused, IfRefused, TellsCauses};
+ghost use Rattle.gl_query_compiler.specs.Texts.{IsCompiledText, IsTextRefused, TellsTextCauses};
 
 use crate::fault::CompileFault;
 use gl_compiler_text::{Compiled, compile_checked};
-use gl_elaborate_plan::PlanFault;
-use gl_query::QueryFault;
 use gl_query_judge::judge_query;
-use gl_schema::{Schema, SchemaFault, read_schema};
+use gl_schema::{Schema, read_schema};
 use std::alloc::Global;
 
 /// Compiles the text of a query over a schema.
@@ -48,44 +46,8 @@ pub fn compile_query(alloc: Global, schema: Schema, query: &[u8]) -> Result<Comp
         → IsQuery schema query.now statement → ⊥)) }
     ensures told { TellsCauses schema query.now result }
 {
-    let checked = match judge_query(alloc, &schema, query) {
-        Ok(checked) => checked,
-        Err(fault) => return Err(query_fault(fault)),
-    };
-    match compile_checked(alloc, checked) {
-        Ok(compiled) => Ok(compiled),
-        Err(fault) => Err(plan_fault(fault)),
-    }
-}
-
-// The fault of a schema's text.
-fn schema_fault(fault: SchemaFault) -> CompileFault
-    ensures { result ≡ fault_of_schema fault }
-{
-    match fault {
-        SchemaFault::Memory => CompileFault::Memory,
-        fault => CompileFault::Schema(fault),
-    }
-}
-
-// The fault of a query's text.
-fn query_fault(fault: QueryFault) -> CompileFault
-    ensures { result ≡ fault_of_query fault }
-{
-    match fault {
-        QueryFault::Memory => CompileFault::Memory,
-        fault => CompileFault::Query(fault),
-    }
-}
-
-// The fault of a statement's plan.
-fn plan_fault(fault: PlanFault) -> CompileFault
-    ensures { result ≡ fault_of_plan fault }
-{
-    match fault {
-        PlanFault::Limit(limit) => CompileFault::Limit(limit),
-        PlanFault::Memory => CompileFault::Memory,
-    }
+    let checked = judge_query(alloc, &schema, query)?;
+    Ok(compile_checked(alloc, checked)?)
 }
 
 /// Compiles the text of a query over the text of a schema.
@@ -97,8 +59,6 @@ pub fn compile(alloc: Global, schema: &[u8], query: &[u8]) -> Result<Compiled, C
     ensures cause { IfErr result (IsTextRefused schema.now query.now) }
     ensures told { TellsTextCauses schema.now query.now result }
 {
-    match read_schema(alloc, schema) {
-        Ok(schema) => compile_query(alloc, schema, query),
-        Err(fault) => Err(schema_fault(fault)),
-    }
+    let schema = read_schema(alloc, schema)?;
+    compile_query(alloc, schema, query)
 }

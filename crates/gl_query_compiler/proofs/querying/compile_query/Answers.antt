@@ -1,4 +1,5 @@
 use Rattle.std.proofs.Common.{subst}
+use Rattle.std.proofs.lemmas.Result.{err_from_is_err_and}
 use Rattle.gl_query.specs.Names.{StatementHasNames}
 use Rattle.gl_query.specs.Trees.{statement_tree}
 use Rattle.gl_query.proofs.Alike.{statement_same}
@@ -9,91 +10,96 @@ use Rattle.gl_query_compiler.proofs.querying.compile_query.Goals as goal
 
 -- the text is refused
 
-pub returns-in-Err-clause-cause : goal.returns-in-Err-clause-cause
-returns-in-Err-clause-cause c = rw c.query_fault.ensures (refusal c.args.schema c.args.query.now c.in-Err.fault c.in-Err.ensures.fault)
+pub returns-in_err-checked-clause-cause : goal.returns-in_err-checked-clause-cause
+returns-in_err-checked-clause-cause c =
+    let p = err_from_is_err_and c.from_residual.result c.from_residual.ensures.1 in
+    rw (p.1, p.2) (refusal c.args.schema c.args.query.now _ c.in_err-checked.ensures.fault)
 
-pub returns-in-Err-clause-refused : goal.returns-in-Err-clause-refused
-returns-in-Err-clause-refused c =
-    refused_goes c.args.schema c.args.query.now c.query_fault.result c.requires (rw c.query_fault.ensures (refusal c.args.schema c.args.query.now c.in-Err.fault c.in-Err.ensures.fault))
+pub returns-in_err-checked-clause-refused : goal.returns-in_err-checked-clause-refused
+returns-in_err-checked-clause-refused c =
+    let p = err_from_is_err_and c.from_residual.result c.from_residual.ensures.1 in
+    rw (p.1, p.2) (refused_goes c.args.schema c.args.query.now _ c.requires (refusal c.args.schema c.args.query.now _ c.in_err-checked.ensures.fault))
 
-pub returns-in-Err-clause-told : goal.returns-in-Err-clause-told
-returns-in-Err-clause-told c =
-    tells_of c.args.schema c.args.query.now c.query_fault.result c.requires (rw c.query_fault.ensures (refusal c.args.schema c.args.query.now c.in-Err.fault c.in-Err.ensures.fault))
+pub returns-in_err-checked-clause-told : goal.returns-in_err-checked-clause-told
+returns-in_err-checked-clause-told c =
+    let p = err_from_is_err_and c.from_residual.result c.from_residual.ensures.1 in
+    rw (p.1, p.2) (tells_of c.args.schema c.args.query.now _ c.requires (refusal c.args.schema c.args.query.now _ c.in_err-checked.ensures.fault))
 
 -- its statement is compiled
 
 pub compile_checked-requires-clause-names : goal.compile_checked-requires-clause-names
 compile_checked-requires-clause-names c =
-    subst StatementHasNames (statement_same c.in-Ok.checked.statement) (regular c.args.query.now (statement_tree c.in-Ok.checked.statement) c.in-Ok.ensures.accepted.has).names
+    subst StatementHasNames (statement_same c.in_ok-checked.checked.statement) (regular c.args.query.now (statement_tree c.in_ok-checked.checked.statement) c.in_ok-checked.ensures.accepted.has).names
 
-pub returns-in-Ok-compile_checked-clause-schema : goal.returns-in-Ok-compile_checked-clause-schema
-returns-in-Ok-compile_checked-clause-schema c =
-    (made c.args.schema c.in-Ok.checked.schema c.args.query.now c.in-Ok.checked.statement c.in-Ok-compile_checked.compiled c.requires c.in-Ok.ensures.schema c.in-Ok.ensures.accepted c.in-Ok-compile_checked.ensures).schema'
+pub returns-clause-schema : goal.returns-clause-schema
+returns-clause-schema c =
+    (made c.args.schema c.in_ok-checked.checked.schema c.args.query.now c.in_ok-checked.checked.statement c.in_ok-compile_checked.field-0 c.requires c.in_ok-checked.ensures.schema c.in_ok-checked.ensures.accepted c.in_ok-compile_checked.ensures).schema'
 
-pub returns-in-Ok-compile_checked-clause-built : goal.returns-in-Ok-compile_checked-clause-built
-returns-in-Ok-compile_checked-clause-built c =
-    (made c.args.schema c.in-Ok.checked.schema c.args.query.now c.in-Ok.checked.statement c.in-Ok-compile_checked.compiled c.requires c.in-Ok.ensures.schema c.in-Ok.ensures.accepted c.in-Ok-compile_checked.ensures).built
+pub returns-clause-built : goal.returns-clause-built
+returns-clause-built c =
+    (made c.args.schema c.in_ok-checked.checked.schema c.args.query.now c.in_ok-checked.checked.statement c.in_ok-compile_checked.field-0 c.requires c.in_ok-checked.ensures.schema c.in_ok-checked.ensures.accepted c.in_ok-compile_checked.ensures).built
 
-pub returns-in-Ok-compile_checked-clause-many : goal.returns-in-Ok-compile_checked-clause-many
-returns-in-Ok-compile_checked-clause-many c =
-    (made c.args.schema c.in-Ok.checked.schema c.args.query.now c.in-Ok.checked.statement c.in-Ok-compile_checked.compiled c.requires c.in-Ok.ensures.schema c.in-Ok.ensures.accepted c.in-Ok-compile_checked.ensures).many
+pub returns-clause-many : goal.returns-clause-many
+returns-clause-many c =
+    (made c.args.schema c.in_ok-checked.checked.schema c.args.query.now c.in_ok-checked.checked.statement c.in_ok-compile_checked.field-0 c.requires c.in_ok-checked.ensures.schema c.in_ok-checked.ensures.accepted c.in_ok-compile_checked.ensures).many
 
-pub returns-in-Ok-compile_checked-clause-kinds : goal.returns-in-Ok-compile_checked-clause-kinds
-returns-in-Ok-compile_checked-clause-kinds c =
-    (made c.args.schema c.in-Ok.checked.schema c.args.query.now c.in-Ok.checked.statement c.in-Ok-compile_checked.compiled c.requires c.in-Ok.ensures.schema c.in-Ok.ensures.accepted c.in-Ok-compile_checked.ensures).kinds'
+pub returns-clause-kinds : goal.returns-clause-kinds
+returns-clause-kinds c =
+    (made c.args.schema c.in_ok-checked.checked.schema c.args.query.now c.in_ok-checked.checked.statement c.in_ok-compile_checked.field-0 c.requires c.in_ok-checked.ensures.schema c.in_ok-checked.ensures.accepted c.in_ok-compile_checked.ensures).kinds'
 
-pub returns-in-Ok-compile_checked-clause-columns : goal.returns-in-Ok-compile_checked-clause-columns
-returns-in-Ok-compile_checked-clause-columns c =
-    (made c.args.schema c.in-Ok.checked.schema c.args.query.now c.in-Ok.checked.statement c.in-Ok-compile_checked.compiled c.requires c.in-Ok.ensures.schema c.in-Ok.ensures.accepted c.in-Ok-compile_checked.ensures).columns
+pub returns-clause-columns : goal.returns-clause-columns
+returns-clause-columns c =
+    (made c.args.schema c.in_ok-checked.checked.schema c.args.query.now c.in_ok-checked.checked.statement c.in_ok-compile_checked.field-0 c.requires c.in_ok-checked.ensures.schema c.in_ok-checked.ensures.accepted c.in_ok-compile_checked.ensures).columns
 
-pub returns-in-Ok-compile_checked-clause-latency : goal.returns-in-Ok-compile_checked-clause-latency
-returns-in-Ok-compile_checked-clause-latency c =
-    (made c.args.schema c.in-Ok.checked.schema c.args.query.now c.in-Ok.checked.statement c.in-Ok-compile_checked.compiled c.requires c.in-Ok.ensures.schema c.in-Ok.ensures.accepted c.in-Ok-compile_checked.ensures).latency
+pub returns-clause-latency : goal.returns-clause-latency
+returns-clause-latency c =
+    (made c.args.schema c.in_ok-checked.checked.schema c.args.query.now c.in_ok-checked.checked.statement c.in_ok-compile_checked.field-0 c.requires c.in_ok-checked.ensures.schema c.in_ok-checked.ensures.accepted c.in_ok-compile_checked.ensures).latency
 
-pub returns-in-Ok-compile_checked-clause-gap : goal.returns-in-Ok-compile_checked-clause-gap
-returns-in-Ok-compile_checked-clause-gap c =
-    (made c.args.schema c.in-Ok.checked.schema c.args.query.now c.in-Ok.checked.statement c.in-Ok-compile_checked.compiled c.requires c.in-Ok.ensures.schema c.in-Ok.ensures.accepted c.in-Ok-compile_checked.ensures).gap
+pub returns-clause-gap : goal.returns-clause-gap
+returns-clause-gap c =
+    (made c.args.schema c.in_ok-checked.checked.schema c.args.query.now c.in_ok-checked.checked.statement c.in_ok-compile_checked.field-0 c.requires c.in_ok-checked.ensures.schema c.in_ok-checked.ensures.accepted c.in_ok-compile_checked.ensures).gap
 
-pub returns-in-Ok-compile_checked-clause-copies : goal.returns-in-Ok-compile_checked-clause-copies
-returns-in-Ok-compile_checked-clause-copies c =
-    (made c.args.schema c.in-Ok.checked.schema c.args.query.now c.in-Ok.checked.statement c.in-Ok-compile_checked.compiled c.requires c.in-Ok.ensures.schema c.in-Ok.ensures.accepted c.in-Ok-compile_checked.ensures).copies
+pub returns-clause-copies : goal.returns-clause-copies
+returns-clause-copies c =
+    (made c.args.schema c.in_ok-checked.checked.schema c.args.query.now c.in_ok-checked.checked.statement c.in_ok-compile_checked.field-0 c.requires c.in_ok-checked.ensures.schema c.in_ok-checked.ensures.accepted c.in_ok-compile_checked.ensures).copies
 
-pub returns-in-Ok-compile_checked-clause-short : goal.returns-in-Ok-compile_checked-clause-short
-returns-in-Ok-compile_checked-clause-short c =
-    (made c.args.schema c.in-Ok.checked.schema c.args.query.now c.in-Ok.checked.statement c.in-Ok-compile_checked.compiled c.requires c.in-Ok.ensures.schema c.in-Ok.ensures.accepted c.in-Ok-compile_checked.ensures).short
+pub returns-clause-short : goal.returns-clause-short
+returns-clause-short c =
+    (made c.args.schema c.in_ok-checked.checked.schema c.args.query.now c.in_ok-checked.checked.statement c.in_ok-compile_checked.field-0 c.requires c.in_ok-checked.ensures.schema c.in_ok-checked.ensures.accepted c.in_ok-compile_checked.ensures).short
 
-pub returns-in-Ok-compile_checked-clause-plan : goal.returns-in-Ok-compile_checked-clause-plan
-returns-in-Ok-compile_checked-clause-plan c =
-    (made c.args.schema c.in-Ok.checked.schema c.args.query.now c.in-Ok.checked.statement c.in-Ok-compile_checked.compiled c.requires c.in-Ok.ensures.schema c.in-Ok.ensures.accepted c.in-Ok-compile_checked.ensures).plan
+pub returns-clause-plan : goal.returns-clause-plan
+returns-clause-plan c =
+    (made c.args.schema c.in_ok-checked.checked.schema c.args.query.now c.in_ok-checked.checked.statement c.in_ok-compile_checked.field-0 c.requires c.in_ok-checked.ensures.schema c.in_ok-checked.ensures.accepted c.in_ok-compile_checked.ensures).plan
 
-pub returns-in-Ok-compile_checked-clause-figures : goal.returns-in-Ok-compile_checked-clause-figures
-returns-in-Ok-compile_checked-clause-figures c =
-    (made c.args.schema c.in-Ok.checked.schema c.args.query.now c.in-Ok.checked.statement c.in-Ok-compile_checked.compiled c.requires c.in-Ok.ensures.schema c.in-Ok.ensures.accepted c.in-Ok-compile_checked.ensures).figures
+pub returns-clause-figures : goal.returns-clause-figures
+returns-clause-figures c =
+    (made c.args.schema c.in_ok-checked.checked.schema c.args.query.now c.in_ok-checked.checked.statement c.in_ok-compile_checked.field-0 c.requires c.in_ok-checked.ensures.schema c.in_ok-checked.ensures.accepted c.in_ok-compile_checked.ensures).figures
 
-pub returns-in-Ok-compile_checked-clause-cost : goal.returns-in-Ok-compile_checked-clause-cost
-returns-in-Ok-compile_checked-clause-cost c =
-    (made c.args.schema c.in-Ok.checked.schema c.args.query.now c.in-Ok.checked.statement c.in-Ok-compile_checked.compiled c.requires c.in-Ok.ensures.schema c.in-Ok.ensures.accepted c.in-Ok-compile_checked.ensures).cost
+pub returns-clause-cost : goal.returns-clause-cost
+returns-clause-cost c =
+    (made c.args.schema c.in_ok-checked.checked.schema c.args.query.now c.in_ok-checked.checked.statement c.in_ok-compile_checked.field-0 c.requires c.in_ok-checked.ensures.schema c.in_ok-checked.ensures.accepted c.in_ok-compile_checked.ensures).cost
 
-pub returns-in-Ok-compile_checked-clause-meets : goal.returns-in-Ok-compile_checked-clause-meets
-returns-in-Ok-compile_checked-clause-meets c =
-    (made c.args.schema c.in-Ok.checked.schema c.args.query.now c.in-Ok.checked.statement c.in-Ok-compile_checked.compiled c.requires c.in-Ok.ensures.schema c.in-Ok.ensures.accepted c.in-Ok-compile_checked.ensures).meets
-
-pub returns-in-Ok-compile_checked-clause-told : goal.returns-in-Ok-compile_checked-clause-told
-returns-in-Ok-compile_checked-clause-told c =
-    (made c.args.schema c.in-Ok.checked.schema c.args.query.now c.in-Ok.checked.statement c.in-Ok-compile_checked.compiled c.requires c.in-Ok.ensures.schema c.in-Ok.ensures.accepted c.in-Ok-compile_checked.ensures).told
-
--- it is not
-
-pub returns-clause-cause : goal.returns-clause-cause
-returns-clause-cause c =
-    plan_cause c.in-Ok.checked.schema c.args.schema c.args.query.now c.in-Ok.checked.statement c.in-Err-compile_checked.fault c.plan_fault.result c.in-Ok.ensures.schema c.plan_fault.ensures c.in-Ok.ensures.accepted c.in-Err-compile_checked.ensures
-
-pub returns-clause-refused : goal.returns-clause-refused
-returns-clause-refused c =
-    refused_goes c.args.schema c.args.query.now c.plan_fault.result c.requires
-    (plan_cause c.in-Ok.checked.schema c.args.schema c.args.query.now c.in-Ok.checked.statement c.in-Err-compile_checked.fault c.plan_fault.result c.in-Ok.ensures.schema c.plan_fault.ensures c.in-Ok.ensures.accepted c.in-Err-compile_checked.ensures)
+pub returns-clause-meets : goal.returns-clause-meets
+returns-clause-meets c =
+    (made c.args.schema c.in_ok-checked.checked.schema c.args.query.now c.in_ok-checked.checked.statement c.in_ok-compile_checked.field-0 c.requires c.in_ok-checked.ensures.schema c.in_ok-checked.ensures.accepted c.in_ok-compile_checked.ensures).meets
 
 pub returns-clause-told : goal.returns-clause-told
 returns-clause-told c =
-    tells_of c.args.schema c.args.query.now c.plan_fault.result c.requires
-    (plan_cause c.in-Ok.checked.schema c.args.schema c.args.query.now c.in-Ok.checked.statement c.in-Err-compile_checked.fault c.plan_fault.result c.in-Ok.ensures.schema c.plan_fault.ensures c.in-Ok.ensures.accepted c.in-Err-compile_checked.ensures)
+    (made c.args.schema c.in_ok-checked.checked.schema c.args.query.now c.in_ok-checked.checked.statement c.in_ok-compile_checked.field-0 c.requires c.in_ok-checked.ensures.schema c.in_ok-checked.ensures.accepted c.in_ok-compile_checked.ensures).told
+
+-- it is not
+
+pub returns-in_err-compile_checked-clause-cause : goal.returns-in_err-compile_checked-clause-cause
+returns-in_err-compile_checked-clause-cause c =
+    let p = err_from_is_err_and c.from_residual-in_err-compile_checked.result c.from_residual-in_err-compile_checked.ensures.1 in
+    rw p.1 (plan_cause c.in_ok-checked.checked.schema c.args.schema c.args.query.now c.in_ok-checked.checked.statement c.in_err-compile_checked.field-0.0 p.0 c.in_ok-checked.ensures.schema p.2 c.in_ok-checked.ensures.accepted c.in_err-compile_checked.ensures)
+
+pub returns-in_err-compile_checked-clause-refused : goal.returns-in_err-compile_checked-clause-refused
+returns-in_err-compile_checked-clause-refused c =
+    let p = err_from_is_err_and c.from_residual-in_err-compile_checked.result c.from_residual-in_err-compile_checked.ensures.1 in
+    rw p.1 (refused_goes c.args.schema c.args.query.now p.0 c.requires (plan_cause c.in_ok-checked.checked.schema c.args.schema c.args.query.now c.in_ok-checked.checked.statement c.in_err-compile_checked.field-0.0 p.0 c.in_ok-checked.ensures.schema p.2 c.in_ok-checked.ensures.accepted c.in_err-compile_checked.ensures))
+
+pub returns-in_err-compile_checked-clause-told : goal.returns-in_err-compile_checked-clause-told
+returns-in_err-compile_checked-clause-told c =
+    let p = err_from_is_err_and c.from_residual-in_err-compile_checked.result c.from_residual-in_err-compile_checked.ensures.1 in
+    rw p.1 (tells_of c.args.schema c.args.query.now p.0 c.requires (plan_cause c.in_ok-checked.checked.schema c.args.schema c.args.query.now c.in_ok-checked.checked.statement c.in_err-compile_checked.field-0.0 p.0 c.in_ok-checked.ensures.schema p.2 c.in_ok-checked.ensures.accepted c.in_err-compile_checked.ensures))
