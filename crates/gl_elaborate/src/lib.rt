@@ -1,8 +1,8 @@
 //! The plan of a statement: its source first, then its body, then its own nodes, each added to a plan that
 //! has the node already where it is equal to an earlier one.
 //!
-//! Here belongs how queries become plans, and that the plan is right for the query. What is true of
-//! expressions alone is said in gl_elaborate, what is true of any plan in gl_algebra.
+//! Here belongs how queries become plans, their expressions levels of operations over numbered columns,
+//! and that the plan is right for the query. What is true of any plan is said in gl_algebra.
 #![tactic(auto)]
 
 pub mod elaborating;
