@@ -88,7 +88,7 @@ module _ (front : Setting) where
     within = λ c p. (turn front c p).less;
     in_one = λ x y p q m e. let z = (turns_apart x y (turn front x p) (turn front y q) m).0 e in omega (arith, z, ge_is);
     any = λ x y p q m. let z = (turns_apart x y (turn front x p) (turn front y q) m).1 in omega (arith, z, interval);
-    then_comes = λ x y p k m. let z = then_comes x y (turn front x p) k m in omega (arith, z, ge_is);
+    then_comes = λ k x y r l p e h n m. let z = then_comes x y (turn front x p) (a_tuple r (tuple_turn k y r l h n).1) m in omega (arith, z, ge_is);
     comes_then = λ x y k calm q m. let z = comes_then x y k calm (turn front y q) m in omega (arith, z, gt_near);
     apart = λ x y k j m. let z = front.timed.apart x y k j m in omega (arith, z, gt_near);
   })

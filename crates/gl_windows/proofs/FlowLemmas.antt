@@ -15,7 +15,7 @@ use Rattle.gl_wire_copies.proofs.NumberLemmas.{mul_below}
 use Rattle.gl_windows.proofs.CopyLemmas.{Step, Copies, copies_opened, within, copies_next, ended_stream, did, did_none, did_one}
 
 module _ (front : Setting) where
-  open front use {size, advance, count, stride, a, ins}
+  open front use {size, advance, count, most, stride, a, ins}
 
   abbrev who : Visits
   who = who_ends size advance count stride a
@@ -42,17 +42,17 @@ module _ (front : Setting) where
     pub opened : t.opened ≡ base + q
     pub closed : t.closed ≡ base + d
     pub low : d ≤ q
-    pub room : q ≤ d + count
+    pub room : q ≤ d + most
     pub until : n + t.until ≡ q * advance
     pub less : t.until < advance
     pub left : length xs + t.left ≡ d * advance + size
     pub some : 1 ≤ t.left
     pub copies : Copies front c t base xs
 
-  flow_room : (d q n u l : ℕ) → n + u ≡ q * advance → u < advance → n ≤ l → l ≤ d * advance + size → q ≤ d + count
+  flow_room : (d q n u l : ℕ) → n + u ≡ q * advance → u < advance → n ≤ l → l ≤ d * advance + size → q ≤ d + most
   flow_room d q n u l e less m k =
-      let far : q * advance < (d + count + 1) * advance = omega (arith, e, less, m, k, front.cover) in
-      let z : q < d + count + 1 = mul_below q (d + count + 1) advance far in omega (arith, z)
+      let far : q * advance < (d + most + 1) * advance = omega (arith, e, less, m, k, front.cover) in
+      let z : q < d + most + 1 = mul_below q (d + most + 1) advance far in omega (arith, z)
 
   pub flow_mid : (c : ℕ) (s : Front) (lo base q d : ℕ) (xs : List Row) → Flow c s lo base q d xs → (i : Option Row)
       → (m : ℕ) × Mid c (opening advance count i s) base m d (length (xs ++ option_to_list i)) xs
@@ -78,8 +78,8 @@ module _ (front : Setting) where
       by : (b : Bool) → nat_eq s.until 0 ≡ b → (m : ℕ) × Mid c (if b then one_opened advance count s else one_nearer s) base m d (length (xs ++ option_to_list (Some r))) xs
       by true p =
           let z : s.until ≡ 0 = eqb-true s.until 0 p in
-          let near : q * advance < (d + count) * advance = omega (arith, h.until, z, h.left, h.some, front.cover) in
-          let room : q < d + count = mul_below q (d + count) advance near in
+          let near : q * advance < (d + most) * advance = omega (arith, h.until, z, h.left, h.some, front.cover) in
+          let room : q < d + most = mul_below q (d + most) advance near in
           let base_of : s.opened - base ≡ q = omega (arith, h.opened) in
           let full : length xs ≤ (s.opened - base) * advance = rw base_of (omega (arith, h.until, z)) in (
             suc q,
@@ -92,7 +92,7 @@ module _ (front : Setting) where
               less = omega (arith, front.step_some);
               left = h.left;
               some = h.some;
-              copies = copies_opened front c s base xs h.copies (omega (arith, h.opened, h.closed, h.low)) (omega (arith, h.opened, h.closed, room)) full;
+              copies = copies_opened front c s base xs h.copies (omega (arith, h.opened, h.closed, h.low)) (omega (arith, h.opened, h.closed, room, front.enough)) full;
             },
           )
       by false p =
@@ -152,7 +152,7 @@ module _ (front : Setting) where
           ]
 
       copies : (b : Bool) → closing count false (Some r) t ≡ b → (b ≡ true → t.closed < t.opened) → Copies front (suc c) (closed_by count b t) base (xs ++ r ∷ [])
-      copies b p there = copies_next front c false (Some r) (Some r) s step base xs m.1.copies (omega (arith, m.1.opened, m.1.closed, m.1.low)) (omega (arith, m.1.opened, m.1.closed, m.1.room)) b p there (λ w l n x. given w l n) none place
+      copies b p there = copies_next front c false (Some r) (Some r) s step base xs m.1.copies (omega (arith, m.1.opened, m.1.closed, m.1.low)) (omega (arith, m.1.opened, m.1.closed, m.1.room, front.enough)) b p there (λ w l n x. given w l n) none place
 
       by : (x : Bool) → nat_eq t.left 1 ≡ x → Flowing (suc c) (counted size advance stride false (Some r) (closed_by count (nat_eq t.left 1 && t.is_open (t.closed % count)) t)) lo base
       by true p =
@@ -232,7 +232,7 @@ module _ (front : Setting) where
       let all : length xs ≤ length xs = omega arith in
       let mid = flow_mid c s lo base q d xs h None in
       let low : s.closed ≤ s.opened = omega (arith, h.opened, h.closed, h.low) in
-      let room : s.opened ≤ s.closed + count = omega (arith, mid.1.opened, mid.1.closed, mid.1.room) in
+      let room : s.opened ≤ s.closed + count = omega (arith, mid.1.opened, mid.1.closed, mid.1.room, front.enough) in
       subst (λ z. Flowing (suc c) (counted size advance stride false None (closed_by count z s)) lo base) (sym stays) (record {
         q = q;
         d = d;

@@ -17,7 +17,7 @@ use Rattle.gl_windows.proofs.CopyLemmas.{Step, Copies, within, copies_next, ende
 use Rattle.gl_windows.proofs.FlowLemmas.{Flow, Mid, flow_mid}
 
 module _ (front : Setting) where
-  open front use {size, advance, count, stride, a, ins}
+  open front use {size, advance, count, most, stride, a, ins}
 
   abbrev who : Visits
   who = who_ends size advance count stride a
@@ -34,11 +34,11 @@ module _ (front : Setting) where
     pub opened : s.opened ≡ base + q
     pub closed : s.closed ≡ base + d
     pub low : d ≤ q
-    pub room : q ≤ d + count
+    pub room : q ≤ d + most
     pub time : c + s.wait ≡ u + i * stride
     pub once : 1 ≤ i
     pub small : s.wait < stride
-    pub soon : d < q → q + i ≤ d + count
+    pub soon : d < q → q + i ≤ d + most
     pub turn : d < q → s.closed ≡ (mid size advance count stride a u).closed + i
     pub short : length (xs ++ option_to_list s.held) ≤ d * advance + size
     pub place : (j : ℕ) → j < q → j * advance < length (xs ++ option_to_list s.held)
@@ -47,7 +47,7 @@ module _ (front : Setting) where
     pub copies : Copies front c s base xs
     pub from : lo ≤ suc c
     pub done : did front lo c ≡ firsts size advance d (xs ++ option_to_list s.held)
-    pub over : (x k : ℕ) → u + count * stride + 1 ≤ x → x ≤ c → who x ≡ Some k → ⊥
+    pub over : (x k : ℕ) → u + most * stride + 1 ≤ x → x ≤ c → who x ≡ Some k → ⊥
 
   pub record Flushing (c : ℕ) (s : Front) (lo base q u : ℕ) : Type 0 where
     pub d : ℕ
@@ -55,8 +55,8 @@ module _ (front : Setting) where
     pub xs : List Row
     pub is : Flush c s lo base q d i u xs
 
-  one_stride : stride ≤ count * stride
-  one_stride = let z : 1 * stride ≤ count * stride = mul-le-mul_right stride front.copies_some in omega (arith, z)
+  one_stride : stride ≤ most * stride
+  one_stride = let z : 1 * stride ≤ most * stride = mul-le-mul_right stride front.most_some in omega (arith, z)
 
   -- the end, with or without a tuple
   pub flow_end : (c : ℕ) (s : Front) (lo base q d : ℕ) (xs : List Row) (h : Flow front c s lo base q d xs) (o : Option Row) → Step front c true o s → Flushing (suc c) (next size advance count stride true o s) lo base (flow_mid front c s lo base q d xs h o).0 c
@@ -177,7 +177,7 @@ module _ (front : Setting) where
 
       copies : (b : Bool) → closing count true o t ≡ b → (b ≡ true → t.closed < t.opened) → Copies front (suc c) (closed_by count b t) base xs
       copies b p there =
-          let room : t.opened ≤ t.closed + count = omega (arith, m.1.opened, m.1.closed, m.1.room) in
+          let room : t.opened ≤ t.closed + count = omega (arith, m.1.opened, m.1.closed, m.1.room, front.enough) in
           subst (Copies front (suc c) (closed_by count b t) base) (append-nil xs)
           (copies_next front c true o None s step base xs m.1.copies (omega (arith, m.1.opened, m.1.closed, m.1.low)) room b p there
           (λ w l n x. empty b p w (λ y. ne_eqb _ _ (λ q. elim (cases_lt t.closed w) [ inl z ↦ mod_apart count t.closed w z (omega (arith, n, room)) (sym q) | inr z ↦ x y (omega (arith, l, z)) ])))
@@ -197,7 +197,7 @@ module _ (front : Setting) where
     low_now = omega (arith, h.opened, h.closed, h.low)
 
     room_now : s.opened ≤ s.closed + count
-    room_now = omega (arith, h.opened, h.closed, h.room)
+    room_now = omega (arith, h.opened, h.closed, h.room, front.enough)
 
     flush_place : (w : ℕ) → w < s.opened → (w - base) * advance ≤ length xs
     flush_place w l = elim (cases_lt w base) [
@@ -223,7 +223,7 @@ module _ (front : Setting) where
     still_empty : pending a (suc c) ≡ []
     still_empty = rw (step.is_end, step.is_tuple, h.empty) refl
 
-    still_over : who (suc c) ≡ None → (x k : ℕ) → u + count * stride + 1 ≤ x → x ≤ suc c → who x ≡ Some k → ⊥
+    still_over : who (suc c) ≡ None → (x k : ℕ) → u + most * stride + 1 ≤ x → x ≤ suc c → who x ≡ Some k → ⊥
     still_over seen x k l n y = elim (cases_lt c x) [
       | inl z ↦ (let e : x ≡ suc c = omega (arith, n, z) in let f = ap who e in cc (f, seen, y))
       | inr z ↦ h.over x k l z y
@@ -313,7 +313,7 @@ module _ (front : Setting) where
             from = omega (arith, h.from);
             done = did_one front lo c (s.closed % count) h.from seen ∙ ap (λ z. z ++ stream (ins (s.closed % count)) (suc c) ∷ []) h.done ∙ ap (λ z. firsts size advance d (xs ++ option_to_list s.held) ++ z ∷ []) shown;
             over = λ x k l n y. elim (cases_lt c x) [
-              | inl z ↦ (let r : suc i * stride ≤ count * stride = mul-le-mul_right stride (omega (arith, h.soon there, there)) in omega (arith, r, h.time, zero_wait, l, n, front.stride_some))
+              | inl z ↦ (let r : suc i * stride ≤ most * stride = mul-le-mul_right stride (omega (arith, h.soon there, there)) in omega (arith, r, h.time, zero_wait, l, n, front.stride_some))
               | inr z ↦ h.over x k l z y
             ];
           };
@@ -340,19 +340,19 @@ module _ (front : Setting) where
             waiting (and_left _ _ (and_right _ _ p)) i (omega arith) (s.wait - 1) (omega (arith, h.small)) (omega (arith, h.time, some)) (λ n. refl) (rw p refl)
 
   -- the flush is over
-  pub flush_done : (c : ℕ) (s : Front) (lo base q d i u : ℕ) (xs : List Row) → Flush c s lo base q d i u xs → u + (count - 1) * stride + 1 ≤ c → d ≡ q
+  pub flush_done : (c : ℕ) (s : Front) (lo base q d i u : ℕ) (xs : List Row) → Flush c s lo base q d i u xs → u + (most - 1) * stride + 1 ≤ c → d ≡ q
   flush_done c s lo base q d i u xs h far = elim (cases_lt d q) [
     | inl l ↦
-        let r : suc i * stride ≤ count * stride = mul-le-mul_right stride (omega (arith, h.soon l, l)) in
-        let one : (count - 1) * stride + stride ≡ count * stride = (let e : suc (count - 1) ≡ count = omega (arith, front.copies_some) in let f : (count - 1) * stride + stride ≡ suc (count - 1) * stride = omega arith in f ∙ ap (λ z. z * stride) e) in
+        let r : suc i * stride ≤ most * stride = mul-le-mul_right stride (omega (arith, h.soon l, l)) in
+        let one : (most - 1) * stride + stride ≡ most * stride = (let e : suc (most - 1) ≡ most = omega (arith, front.most_some) in let f : (most - 1) * stride + stride ≡ suc (most - 1) * stride = omega arith in f ∙ ap (λ z. z * stride) e) in
         absurd (omega (arith, r, h.time, far, one))
     | inr l ↦ omega (arith, l, h.low)
   ]
 
   -- and another stream begins
-  pub fresh : (c : ℕ) (s : Front) (lo base q d i u : ℕ) (xs : List Row) → Flush c s lo base q d i u xs → u + (count * stride + 1) ≤ c → Flow front c s (u + count * stride + 2) (base + q) 0 0 []
+  pub fresh : (c : ℕ) (s : Front) (lo base q d i u : ℕ) (xs : List Row) → Flush c s lo base q d i u xs → u + (most * stride + 1) ≤ c → Flow front c s (u + most * stride + 2) (base + q) 0 0 []
   fresh c s lo base q d i u xs h far =
-      let one : (count - 1) * stride ≤ count * stride = mul-le-mul_right stride (omega arith) in
+      let one : (most - 1) * stride ≤ most * stride = mul-le-mul_right stride (omega arith) in
       let done : d ≡ q = flush_done c s lo base q d i u xs h (omega (arith, far, one)) in
       record {
         is = h.empty;
@@ -369,6 +369,6 @@ module _ (front : Setting) where
           off = h.copies.off;
         };
         from = omega (arith, far);
-        done = ap (map of_visit) (visits_none of_visit who ins (suc c - (u + count * stride + 2)) (u + count * stride + 2) (λ x k l m. h.over x k (omega (arith, l)) (omega (arith, m, far))));
+        done = ap (map of_visit) (visits_none of_visit who ins (suc c - (u + most * stride + 2)) (u + most * stride + 2) (λ x k l m. h.over x k (omega (arith, l)) (omega (arith, m, far))));
         calm = λ l. absurd (omega (arith, l));
       }

@@ -21,7 +21,7 @@ use Rattle.gl_windows.proofs.FlowLemmas.{Flowing, flow_mid, flow_tuple, flow_idl
 use Rattle.gl_windows.proofs.FlushLemmas.{Flushing, flow_end, flush_idle, flush_done, fresh}
 
 module _ (front : Setting) where
-  open front use {size, advance, count, stride, a, ins}
+  open front use {size, advance, count, most, stride, a, ins}
 
   abbrev who : Visits
   who = who_ends size advance count stride a
@@ -29,8 +29,8 @@ module _ (front : Setting) where
   -- ---- at every cycle
 
   pub data Phase (c : ℕ) (s : Front) : Type 0 where
-    flows : (lo base : ℕ) → Flowing front c s lo base → Begins (count * stride) a lo c → Phase c s
-    flushes : (lo base q u : ℕ) → Flushing front c s lo base q u → Begins (count * stride) a lo u → Phase c s
+    flows : (lo base : ℕ) → Flowing front c s lo base → Begins (most * stride) a lo c → Phase c s
+    flushes : (lo base q u : ℕ) → Flushing front c s lo base q u → Begins (most * stride) a lo u → Phase c s
 
   -- a stream that flows, from one cycle to a later one with no end before it
   flow_next : (c : ℕ) (s : Front) (lo base : ℕ) (e : Bool) (o : Option Row) → e ≡ false → Step front c e o s → Flowing front c s lo base → Flowing front (suc c) (next size advance count stride e o s) lo base
@@ -61,30 +61,31 @@ module _ (front : Setting) where
       (idle_next (suc u + n) lo base q u (states size advance count stride a (suc u + n)) (a.ends (suc u + n)) (a.tuple (suc u + n)) (h (suc u + n) (omega arith) (omega arith)) (step_at front (suc u + n)) g)
 
   -- after a flush another stream flows
-  flows_again : (c lo base q u : ℕ) (s : Front) (f : Flushing front c s lo base q u) → u + (count * stride + 1) ≤ c → Flowing front c s (u + count * stride + 2) (base + q)
+  flows_again : (c lo base q u : ℕ) (s : Front) (f : Flushing front c s lo base q u) → u + (most * stride + 1) ≤ c → Flowing front c s (u + most * stride + 2) (base + q)
   flows_again c lo base q u s f far = record { q = 0; d = 0; xs = []; is = fresh front c s lo base q f.d f.i u f.xs f.is far }
 
-  begun_at : (c lo base q u : ℕ) (s : Front) (f : Flushing front c s lo base q u) → Begins (count * stride) a (u + count * stride + 2) c
+  begun_at : (c lo base q u : ℕ) (s : Front) (f : Flushing front c s lo base q u) → Begins (most * stride) a (u + most * stride + 2) c
   begun_at c lo base q u s f = after_end u f.is.end f.is.past refl (λ x l m h. f.is.quiet x l m (an_end h))
 
-  far_enough : (c lo base q u : ℕ) (s : Front) (f : Flushing front c s lo base q u) → Carries a c → u + (count * stride + 1) ≤ c
-  far_enough c lo base q u s f k = omega (arith, front.timed.after u c f.is.end k f.is.past, front.wide)
+  far_enough : (c lo base q u : ℕ) (s : Front) (f : Flushing front c s lo base q u) → Carries a c → u + (most * stride + 1) ≤ c
+  far_enough c lo base q u s f k = front.rested u c f.is.end k f.is.past
 
-  flowing_end : (c : ℕ) (s : Front) (lo base : ℕ) (f : Flowing front c s lo base) (o : Option Row) → Step front c true o s → Flushing front (suc c) (next size advance count stride true o s) lo base (flow_mid front c s lo base f.q f.d f.xs f.is o).0 c
+  pub flowing_end : (c : ℕ) (s : Front) (lo base : ℕ) (f : Flowing front c s lo base) (o : Option Row) → Step front c true o s → Flushing front (suc c) (next size advance count stride true o s) lo base (flow_mid front c s lo base f.q f.d f.xs f.is o).0 c
   flowing_end c s lo base f o step = flow_end front c s lo base f.q f.d f.xs f.is o step
 
   phase_next : (c : ℕ) (s : Front) (e : Bool) (o : Option Row) → Step front c e o s → Phase c s → Phase (suc c) (next size advance count stride e o s)
   phase_next c s true o step (flows lo base f b) = flushes lo base _ c (flowing_end c s lo base f o step) b
   phase_next c s true o step (flushes lo base q u f b) =
-      flushes (u + count * stride + 2) (base + q) _ c (flowing_end c s (u + count * stride + 2) (base + q) (flows_again c lo base q u s f (far_enough c lo base q u s f (an_end step.is_end))) o step) (begun_at c lo base q u s f)
-  phase_next c s false (Some r) step (flows lo base f b) = flows lo base (flow_next c s lo base false (Some r) refl step f) (begins_more (count * stride) a lo c step.is_end b)
+      flushes (u + most * stride + 2) (base + q) _ c (flowing_end c s (u + most * stride + 2) (base + q) (flows_again c lo base q u s f (far_enough c lo base q u s f (an_end step.is_end))) o step) (begun_at c lo base q u s f)
+  phase_next c s false (Some r) step (flows lo base f b) = flows lo base (flow_next c s lo base false (Some r) refl step f) (begins_more (most * stride) a lo c step.is_end b)
   phase_next c s false (Some r) step (flushes lo base q u f b) =
-      flows (u + count * stride + 2) (base + q) (flow_next c s (u + count * stride + 2) (base + q) false (Some r) refl step (flows_again c lo base q u s f (far_enough c lo base q u s f (a_tuple r step.is_tuple)))) (begins_more (count * stride) a (u + count * stride + 2) c step.is_end (begun_at c lo base q u s f))
-  phase_next c s false None step (flows lo base f b) = flows lo base (flow_next c s lo base false None refl step f) (begins_more (count * stride) a lo c step.is_end b)
+      flows (u + most * stride + 2) (base + q) (flow_next c s (u + most * stride + 2) (base + q) false (Some r) refl step (flows_again c lo base q u s f (far_enough c lo base q u s f (a_tuple r step.is_tuple)))) (begins_more (most * stride) a (u + most * stride + 2) c step.is_end (begun_at c lo base q u s f))
+  phase_next c s false None step (flows lo base f b) = flows lo base (flow_next c s lo base false None refl step f) (begins_more (most * stride) a lo c step.is_end b)
   phase_next c s false None step (flushes lo base q u f b) = flushes lo base q u (flush_idle front c s lo base q f.d f.i u f.xs f.is step) b
 
-  first_phase : Phase 0 (start size)
-  first_phase = flows 0 0 (record {
+  -- the first stream, before anything comes
+  pub first_flow : Flowing front 0 (start size) 0 0
+  first_flow = record {
     q = 0;
     d = 0;
     xs = [];
@@ -106,7 +107,10 @@ module _ (front : Setting) where
       done = refl;
       calm = λ l. refl;
     };
-  }) (at_first refl (λ x l h. omega (arith, l)))
+  }
+
+  first_phase : Phase 0 (start size)
+  first_phase = flows 0 0 first_flow (at_first refl (λ x l h. omega (arith, l)))
 
   pub phase : (c : ℕ) → Phase c (states size advance count stride a c)
   phase zero = first_phase
@@ -117,42 +121,42 @@ module _ (front : Setting) where
     pub lo : ℕ
     pub base : ℕ
     pub q : ℕ
-    pub begins : Begins (count * stride) a lo u
+    pub begins : Begins (most * stride) a lo u
     pub flushing_after : Flushing front (suc u) (states size advance count stride a (suc u)) lo base q u
 
-  end_next : (c : ℕ) (s : Front) (e : Bool) (o : Option Row) → e ≡ true → Step front c e o s → Phase c s → (lo : ℕ) × (base : ℕ) × (q : ℕ) × Flushing front (suc c) (next size advance count stride e o s) lo base q c × Begins (count * stride) a lo c
+  end_next : (c : ℕ) (s : Front) (e : Bool) (o : Option Row) → e ≡ true → Step front c e o s → Phase c s → (lo : ℕ) × (base : ℕ) × (q : ℕ) × Flushing front (suc c) (next size advance count stride e o s) lo base q c × Begins (most * stride) a lo c
   end_next c s false o p step h = absurd (cc)
   end_next c s true o p step (flows lo base f b) = (lo, base, _, flowing_end c s lo base f o step, b)
   end_next c s true o p step (flushes lo base q u f b) =
-      (u + count * stride + 2, base + q, _, flowing_end c s (u + count * stride + 2) (base + q) (flows_again c lo base q u s f (far_enough c lo base q u s f (an_end step.is_end))) o step, begun_at c lo base q u s f)
+      (u + most * stride + 2, base + q, _, flowing_end c s (u + most * stride + 2) (base + q) (flows_again c lo base q u s f (far_enough c lo base q u s f (an_end step.is_end))) o step, begun_at c lo base q u s f)
 
   pub ended : (u : ℕ) → a.ends u ≡ true → Ended u
   ended u p =
       let x = end_next u (states size advance count stride a u) (a.ends u) (a.tuple u) p (step_at front u) (phase u) in
       record { lo = x.0; base = x.1; q = x.2; begins = x.4; flushing_after = x.3 }
 
-  silent : (u n : ℕ) → a.ends u ≡ true → n ≤ front.g2 → (x : ℕ) → u < x → x < u + n → Carries a x → ⊥
-  silent u n p l x m o k = omega (arith, front.timed.after u x p k m, l, o)
+  silent : (u n : ℕ) → a.ends u ≡ true → n ≤ most * stride + 1 → (x : ℕ) → u < x → x < u + n → Carries a x → ⊥
+  silent u n p l x m o k = omega (arith, front.rested u x p k m, l, o)
 
   -- the end of a flush
-  flush_over : (u : ℕ) (p : a.ends u ≡ true) (x : Ended u) → Flushing front (suc u + (count - 1) * stride) (states size advance count stride a (suc u + (count - 1) * stride)) x.lo x.base x.q u
+  flush_over : (u : ℕ) (p : a.ends u ≡ true) (x : Ended u) → Flushing front (suc u + (most - 1) * stride) (states size advance count stride a (suc u + (most - 1) * stride)) x.lo x.base x.q u
   flush_over u p x =
-      let one : (count - 1) * stride ≤ count * stride = mul-le-mul_right stride (omega arith) in
-      flushing x.lo x.base x.q u ((count - 1) * stride) x.flushing_after (λ y l m. silent u (suc ((count - 1) * stride)) p (omega (arith, one, front.wide)) y l (omega (arith, m)))
+      let one : (most - 1) * stride ≤ most * stride = mul-le-mul_right stride (omega arith) in
+      flushing x.lo x.base x.q u ((most - 1) * stride) x.flushing_after (λ y l m. silent u (suc ((most - 1) * stride)) p (omega (arith, one)) y l (omega (arith, m)))
 
   -- the visits of one stream have its slices
   pub record Visited (u : ℕ) : Type 0 where
     pub lo : ℕ
-    pub begins : Begins (count * stride) a lo u
-    pub from : lo ≤ u + (count - 1) * stride + 2
-    pub are : map of_visit (visits who ins lo (u + (count - 1) * stride + 2 - lo)) ≡ slices size advance (stream a u)
+    pub begins : Begins (most * stride) a lo u
+    pub from : lo ≤ u + (most - 1) * stride + 2
+    pub are : map of_visit (visits who ins lo (u + (most - 1) * stride + 2 - lo)) ≡ slices size advance (stream a u)
 
   pub visited : (u : ℕ) → a.ends u ≡ true → Visited u
   visited u p =
       let x = ended u p in
       let f = flush_over u p x in
-      let done = flush_done front (suc u + (count - 1) * stride) (states size advance count stride a (suc u + (count - 1) * stride)) x.lo x.base x.q f.d f.i u f.xs f.is (omega arith) in
-      let at : suc (suc u + (count - 1) * stride) ≡ u + (count - 1) * stride + 2 = omega arith in
+      let done = flush_done front (suc u + (most - 1) * stride) (states size advance count stride a (suc u + (most - 1) * stride)) x.lo x.base x.q f.d f.i u f.xs f.is (omega arith) in
+      let at : suc (suc u + (most - 1) * stride) ≡ u + (most - 1) * stride + 2 = omega arith in
       record {
         lo = x.lo;
         begins = x.begins;
@@ -166,7 +170,7 @@ module _ (front : Setting) where
 
   -- ---- how many visits end
 
-  opening_closed : (o : Option Row) (t : Front) → (opening advance count o t).closed ≡ t.closed
+  pub opening_closed : (o : Option Row) (t : Front) → (opening advance count o t).closed ≡ t.closed
   opening_closed None t = refl
   opening_closed (Some r) t = by (nat_eq t.until 0)
     where
@@ -183,13 +187,13 @@ module _ (front : Setting) where
   by_closed true t = refl
   by_closed false t = refl
 
-  closed_next : (c : ℕ) → (states size advance count stride a (suc c)).closed ≡ (if closes size advance count stride a c then suc (states size advance count stride a c).closed else (states size advance count stride a c).closed)
+  pub closed_next : (c : ℕ) → (states size advance count stride a (suc c)).closed ≡ (if closes size advance count stride a c then suc (states size advance count stride a c).closed else (states size advance count stride a c).closed)
   closed_next c =
       counted_closed (a.ends c) (a.tuple c) (closed_by count (closes size advance count stride a c) (mid size advance count stride a c))
       ∙ by_closed (closes size advance count stride a c) (mid size advance count stride a c)
       ∙ ap (λ z. if closes size advance count stride a c then suc z else z) (opening_closed (a.tuple c) (states size advance count stride a c))
 
-  closed_visits : (n c : ℕ) → (states size advance count stride a c).closed + length (visits who ins (suc c) n) ≡ (states size advance count stride a (c + n)).closed
+  pub closed_visits : (n c : ℕ) → (states size advance count stride a c).closed + length (visits who ins (suc c) n) ≡ (states size advance count stride a (c + n)).closed
   closed_visits zero c = let e : c ≡ c + zero = omega arith in omega (arith, ap (λ z. (states size advance count stride a z).closed) e)
   closed_visits (suc n) c =
       let e : suc c + n ≡ c + suc n = omega arith in
@@ -201,22 +205,22 @@ module _ (front : Setting) where
       by true p q ih = rw p (omega (arith, q, ih))
       by false p q ih = rw p (omega (arith, q, ih))
 
-  flows_at : (x : ℕ) → Rested (count * stride) a x → Phase x (states size advance count stride a x) → (lo : ℕ) × (base : ℕ) × Flowing front x (states size advance count stride a x) lo base
+  flows_at : (x : ℕ) → Rested (most * stride) a x → Phase x (states size advance count stride a x) → (lo : ℕ) × (base : ℕ) × Flowing front x (states size advance count stride a x) lo base
   flows_at x rest (flows lo base f b) = (lo, base, f)
-  flows_at x rest (flushes lo base q u f b) = (u + count * stride + 2, base + q, flows_again x lo base q u (states size advance count stride a x) f (rest.over u f.is.end f.is.past))
+  flows_at x rest (flushes lo base q u f b) = (u + most * stride + 2, base + q, flows_again x lo base q u (states size advance count stride a x) f (rest.over u f.is.end f.is.past))
 
   ends_flowing : (c : ℕ) (s : Front) (lo base : ℕ) (e : Bool) (o : Option Row) → e ≡ true → (f : Flowing front c s lo base) → Step front c e o s → Flushing front (suc c) (next size advance count stride e o s) lo base (flow_mid front c s lo base f.q f.d f.xs f.is o).0 c
   ends_flowing c s lo base false o p f step = absurd (cc)
   ends_flowing c s lo base true o p f step = flowing_end c s lo base f o step
 
-  few_enough : (q d n0 m l : ℕ) → n0 + l ≡ d * advance + size → 1 ≤ l → q * advance < n0 + m + advance → q ≤ d + (max m 1 - 1 + count)
+  few_enough : (q d n0 m l : ℕ) → n0 + l ≡ d * advance + size → 1 ≤ l → q * advance < n0 + m + advance → q ≤ d + (max m 1 - 1 + most)
   few_enough q d n0 m l e some less =
       let k : max m 1 - 1 ≤ (max m 1 - 1) * advance = le-mul_of_pos_right (max m 1 - 1) front.step_some in
-      let far : q * advance < (d + count + 1 + (max m 1 - 1)) * advance = omega (arith, k, less, e, some, front.cover) in
-      let z = mul_below q (d + count + 1 + (max m 1 - 1)) advance far in omega (arith, z)
+      let far : q * advance < (d + most + 1 + (max m 1 - 1)) * advance = omega (arith, k, less, e, some, front.cover) in
+      let z = mul_below q (d + most + 1 + (max m 1 - 1)) advance far in omega (arith, z)
 
   -- with the end, so many and those of the copies that are open, less one
-  pub many_windows : (x u n : ℕ) → Rested (count * stride) a x → x ≤ u → u < x + n → NoEnd a x u → a.ends u ≡ true → ((y : ℕ) → u < y → y < x + n → Carries a y → ⊥) → length (visits who ins (suc x) n) ≤ max (length (rows a x (suc (u - x)))) 1 - 1 + count
+  pub many_windows : (x u n : ℕ) → Rested (most * stride) a x → x ≤ u → u < x + n → NoEnd a x u → a.ends u ≡ true → ((y : ℕ) → u < y → y < x + n → Carries a y → ⊥) → length (visits who ins (suc x) n) ≤ max (length (rows a x (suc (u - x)))) 1 - 1 + most
   many_windows x u n rest l m quiet e still =
       let at : x + (u - x) ≡ u = omega (arith, l) in
       let z = flows_at x rest (phase x) in
@@ -239,16 +243,16 @@ module _ (front : Setting) where
       let bound = few_enough mid_u.0 f0.d (length f0.xs) (length (rows a x (suc (u - x)))) (states size advance count stride a x).left f0.is.left f0.is.some (omega (arith, mid_u.1.until, mid_u.1.less, both, xs1, xs0, grown, all)) in
       omega (arith, counted_up, end_closed, f0.is.closed, k.is.low, bound)
 
-  pub empty_copies : (u k : ℕ) → a.ends u ≡ true → k < count → pending (ins k) (u + (count - 1) * stride + 2) ≡ []
+  pub empty_copies : (u k : ℕ) → a.ends u ≡ true → k < count → pending (ins k) (u + (most - 1) * stride + 2) ≡ []
   empty_copies u k p l =
       let x = ended u p in
       let f = flush_over u p x in
-      let s = states size advance count stride a (suc u + (count - 1) * stride) in
-      let done = flush_done front (suc u + (count - 1) * stride) s x.lo x.base x.q f.d f.i u f.xs f.is (omega arith) in
-      let at : suc (suc u + (count - 1) * stride) ≡ u + (count - 1) * stride + 2 = omega arith in
+      let s = states size advance count stride a (suc u + (most - 1) * stride) in
+      let done = flush_done front (suc u + (most - 1) * stride) s x.lo x.base x.q f.d f.i u f.xs f.is (omega arith) in
+      let at : suc (suc u + (most - 1) * stride) ≡ u + (most - 1) * stride + 2 = omega arith in
       let w = mod_hits count s.closed k l in
       let empty = (f.is.copies.off w.0 (omega (arith, w.1, f.is.opened, f.is.closed, done)) w.2).1 in
-      ap (λ i. pending (ins k) i) (sym at) ∙ ap (λ i. pending (ins i) (suc (suc u + (count - 1) * stride))) (sym w.3) ∙ empty
+      ap (λ i. pending (ins k) i) (sym at) ∙ ap (λ i. pending (ins i) (suc (suc u + (most - 1) * stride))) (sym w.3) ∙ empty
 
   -- ---- where its visits begin, for any cycle
 
@@ -256,12 +260,12 @@ module _ (front : Setting) where
   from_by u true p = (visited u p).lo
   from_by u false p = 0
 
-  pub from_begins : (u : ℕ) (e : Bool) (p : a.ends u ≡ e) → e ≡ true → Begins (count * stride) a (from_by u e p) u
+  pub from_begins : (u : ℕ) (e : Bool) (p : a.ends u ≡ e) → e ≡ true → Begins (most * stride) a (from_by u e p) u
   unfolding from_by
   from_begins u true p q = (visited u p).begins
   from_begins u false p q = absurd (cc)
 
-  pub from_parted : (u : ℕ) (e : Bool) (p : a.ends u ≡ e) → e ≡ true → map of_visit (visits who ins (from_by u e p) (u + (count - 1) * stride + 2 - from_by u e p)) ≡ slices size advance (stream a u)
+  pub from_parted : (u : ℕ) (e : Bool) (p : a.ends u ≡ e) → e ≡ true → map of_visit (visits who ins (from_by u e p) (u + (most - 1) * stride + 2 - from_by u e p)) ≡ slices size advance (stream a u)
   unfolding from_by
   from_parted u true p q = (visited u p).are
   from_parted u false p q = absurd (cc)

@@ -29,10 +29,10 @@ use Rattle.gl_windows.specs.Front.{IsFront, who_ends}
 use Rattle.gl_windows.specs.Laws.{RotationsServe, WindowsRotate}
 use Rattle.gl_wire_copies.specs.Bodies.{OfBody}
 use Rattle.gl_wire_copies.proofs.NumberLemmas.{all_turns}
-use Rattle.gl_windows.proofs.Setting.{Setting}
+use Rattle.gl_windows.proofs.Setting.{Setting, Spacing}
 use Rattle.gl_windows.proofs.PhaseLemmas.{many_windows, empty_copies, from_by, from_begins, from_parted}
-use Rattle.gl_windows.proofs.SourceLemmas.{Source, comes, in_turn, source, few_windows}
-use Rattle.gl_windows.proofs.ScheduleLemmas.{schedules, visit_source, tuple_source}
+use Rattle.gl_windows.proofs.SourceLemmas.{Source, comes, in_turn, source, few_windows, visit_source, tuple_source}
+use Rattle.gl_windows.proofs.ScheduleLemmas.{schedules}
 
 -- the gap after an end that a front of windows wants
 abbrev pub rest_gap : ℕ → Figures → ℕ
@@ -69,24 +69,23 @@ module _ (s : Figures) (sound : IsSound s) (size advance count : ℕ) (a : Carri
     size = size;
     advance = advance;
     count = count;
+    most = count;
     stride = stride_of s;
-    g1 = g1;
-    g2 = g2;
-    gap_end = s.ge;
     a = a;
     ins = ins;
     law = law;
     rows_some = rows_some;
     step_some = step_some;
     copies_some = copies_some;
+    most_some = copies_some;
     stride_some = stride_some;
+    enough = omega arith;
     cover = cover;
-    timed = timed;
-    wide = wide;
-    near = near;
-    strides = strides;
-    far = far;
+    rested = λ u d p k l. omega (arith, timed.after u d p k l, wide);
   }
+
+  abbrev spacing : Spacing setting
+  spacing = record { g1 = g1; g2 = g2; gap_end = s.ge; timed = timed; near = near; strides = strides; far = far }
 
   abbrev pub window_visits : ℕ → Option ℕ
   window_visits = who_ends size advance count (stride_of s) a
@@ -113,7 +112,7 @@ module _ (s : Figures) (sound : IsSound s) (size advance count : ℕ) (a : Carri
 
   pub rotates : Rotates s count g1 (λ n. n) (λ n. max n 1 - 1 + count) whole_visit (slices size advance) a window_visits ins
   rotates = record {
-    schedules = schedules setting s refl (omega arith) refl;
+    schedules = schedules setting spacing s refl (omega arith) refl;
     origin = origin;
     from = λ u. from_by setting u (a.ends u) refl;
     begins = λ u p. from_begins setting u (a.ends u) refl p;

@@ -20,10 +20,10 @@ pub record TakeTurns (f : Figures) (count : ℕ) (who : Visits) (ends_now : ℕ 
   pub ends : (k c : ℕ) → k < count → (ins k).ends (suc c) ≡ (ends_now c && nat_eq k (turn c))
   pub tuples : (k c : ℕ) (r : Row) → k < count → (ins k).tuple (suc c) ≡ Some r → (ins k).ends (suc c) ≡ false → (a.ends c ≡ false) × (a.tuple c ≡ Some r)
   pub within : (c : ℕ) → ends_now c ≡ true → turn c < count
-  -- the ends of one copy, any two ends, and an end and a tuple, are far enough apart
+  -- the ends of one copy, any two ends, and an end and a tuple of one copy, are far enough apart
   pub in_one : (x y : ℕ) → ends_now x ≡ true → ends_now y ≡ true → x < y → turn x ≡ turn y → x + f.ge ≤ y
   pub any : (x y : ℕ) → ends_now x ≡ true → ends_now y ≡ true → x < y → x + (f.le + 1) ≤ y + f.a
-  pub then_comes : (x y : ℕ) → ends_now x ≡ true → Carries a y → x < y → x + f.ge ≤ y
+  pub then_comes : (k x y : ℕ) (r : Row) → k < count → ends_now x ≡ true → turn x ≡ k → (ins k).tuple (suc y) ≡ Some r → (ins k).ends (suc y) ≡ false → x < y → x + f.ge ≤ y
   pub comes_then : (x y : ℕ) → Carries a x → a.ends x ≡ false → ends_now y ≡ true → x < y → x + f.gt ≤ y
   pub apart : (x y : ℕ) → Carries a x → Carries a y → x < y → x + f.gt ≤ y
 
@@ -51,8 +51,8 @@ module _ (f : Figures) (count : ℕ) (who : Visits) (ends_now : ℕ → Bool) (t
       let v = end_turn k x l p in let w = end_turn k y l q in
       let z = t.in_one x y v.0 w.0 m (sym v.1 ∙ w.1) in omega (arith, z)
   copy_apart k x y l true false (its_end p) (its_tuple r n q) m =
-      let v = end_turn k x l p in let w = t.tuples k y r l q n in
-      let z = t.then_comes x y v.0 (a_tuple r w.1) m in omega (arith, z)
+      let v = end_turn k x l p in
+      let z = t.then_comes k x y r l v.0 (sym v.1) q n m in omega (arith, z)
   copy_apart k x y l false true (its_tuple r n p) (its_end q) m =
       let v = t.tuples k x r l p n in let w = end_turn k y l q in
       let z = t.comes_then x y (a_tuple r v.1) v.0 w.0 m in omega (arith, z)
