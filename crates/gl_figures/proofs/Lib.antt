@@ -3,3 +3,4 @@ pub mod FiguredLemmas
 pub mod CapLemmas
 pub mod WeighedLemmas
 pub mod TradeLemmas
+pub mod SpareLemmas

@@ -1,3 +1,5 @@
 pub mod Known
 pub mod Answered
 pub mod Worked
+pub mod Spares
+pub mod WorkedSpares

@@ -1,0 +1,47 @@
+-- Windows over a body, with the spare copies and the latencies that follow from the definitions by hand.
+use Rattle.std.specs.Prelude.{ℕ, ◌≡◌, ◌+◌, Option, Some, None}
+use Rattle.gl_algebra.specs.declared.figures.Figures.{Figures}
+use Rattle.gl_algebra.specs.FigureTable.{input_figures, union_figures, window_figures, aggregate_figures, group_figures}
+use Rattle.gl_figures.specs.declared.Spare.{Spare}
+use Rattle.gl_figures.specs.Spares.{spare_figures, spare_of}
+
+-- the greatest sum of so many neighbours
+abbrev pub greatest_of : ℕ → Figures
+greatest_of neighbours =
+    aggregate_figures 1 (window_figures neighbours input_figures (aggregate_figures 1 input_figures))
+
+-- a total of the sums of one group
+abbrev pub total_of_group : Figures
+total_of_group = aggregate_figures 1 (group_figures 1 input_figures (aggregate_figures 1 input_figures))
+
+abbrev pub spares : ℕ → ℕ → ℕ → Option Spare
+spares copies gap shift = Some (record { copies = copies; gap = gap; shift = shift })
+
+-- over a stream, and how many cycles after the last beat the end leaves a circuit
+abbrev pub over_stream : ℕ → ℕ → Figures → Option Spare
+over_stream size advance body = spare_of size advance input_figures body
+
+abbrev pub latency : ℕ → ℕ → Figures → ℕ
+latency size advance body = (spare_figures size advance input_figures body).le + 1
+
+pub record WorkedSpares : Type 0 where
+  -- the body's ends are 3 cycles apart, so windows of 4 rows each fill up late enough
+  pub each : over_stream 4 4 (greatest_of 2) ≡ spares 2 1 2
+  pub each_late : latency 4 4 (greatest_of 2) ≡ 12
+  -- overlapping ones do so with a gap of 2
+  pub overlap : over_stream 4 2 (greatest_of 2) ≡ spares 3 2 1
+  pub overlap_late : latency 4 2 (greatest_of 2) ≡ 14
+  -- with rows between windows one copy is enough
+  pub apart : over_stream 2 5 (greatest_of 2) ≡ spares 1 1 2
+  pub apart_late : latency 2 5 (greatest_of 2) ≡ 12
+  -- 64 copies are the most
+  pub most : over_stream 126 2 (greatest_of 2) ≡ spares 64 2 1
+  pub most_late : latency 126 2 (greatest_of 2) ≡ 197
+  pub more : over_stream 128 2 (greatest_of 2) ≡ None
+  -- a slow body
+  pub slow : over_stream 54 2 (greatest_of 64) ≡ spares 28 33 32
+  pub slow_late : latency 54 2 (greatest_of 64) ≡ 1794
+  pub spilling : over_stream 2 2 total_of_group ≡ spares 3 1 1
+  -- a body that can take the next rows at once needs none, and of a source that merges two a beat's rows come in turn
+  pub quick : over_stream 4 2 (aggregate_figures 1 input_figures) ≡ None
+  pub merged : spare_of 4 4 (union_figures input_figures input_figures) (greatest_of 2) ≡ None

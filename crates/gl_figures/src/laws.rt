@@ -1,0 +1,14 @@
+//! The law of spare copies, and worked ones.
+
+ghost use Rattle.gl_figures.specs.Spares.{SparesSuffice};
+ghost use Rattle.gl_figures.specs.WorkedSpares.{WorkedSpares};
+
+/// Spare copies are enough, no fewer are, and beats come closer than without them.
+pub fn spares_suffice()
+    ensures { SparesSuffice }
+{}
+
+/// Spare copies and latencies of windows that were worked out by hand.
+pub fn worked_spares()
+    ensures { WorkedSpares }
+{}
