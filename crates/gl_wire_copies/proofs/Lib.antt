@@ -1,6 +1,7 @@
 pub mod LiftLemmas
 pub mod LiftSpillLemmas
 pub mod AnyLemmas
+pub mod SpillLemmas
 pub mod TimeLemmas
 pub mod WholeTime
 pub mod WholeFits

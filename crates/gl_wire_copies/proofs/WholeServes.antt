@@ -1,7 +1,7 @@
 -- A front that rotates, copies that serve a closing body, and the back of one cycle: what the whole serves, with its lines.
-use Rattle.std.proofs.Common.{◌≡◌, ℕ, zero, suc, ◌+◌, ◌-◌, ◌*◌, ◌<◌, ◌≤◌, List, [], ◌∷◌, ◌++◌, length, map, Option, Some, None, Bool, true, false, ◌||◌, refl, sym, ap, ◌∙◌, subst, arith, inl, inr, ◌⊎◌, length-append}
+use Rattle.std.proofs.Common.{◌≡◌, ℕ, suc, ◌+◌, ◌-◌, ◌*◌, ◌<◌, ◌≤◌, List, [], ◌++◌, Option, Some, None, Bool, true, false, refl, sym, ap, ◌∙◌, subst, arith, inl, inr}
 use Rattle.std.specs.Prelude.{option_to_list, if◌then◌else◌}
-use Rattle.std.proofs.lemmas.Bool.{cases_lt, or_cases, or_left, or_right}
+use Rattle.std.proofs.lemmas.Bool.{cases_lt}
 use Rattle.std.proofs.lemmas.List.{append-nil}
 use Rattle.gl_algebra.specs.declared.figures.Figures.{Figures}
 use Rattle.gl_algebra.specs.FigureTable.{IsSound, stride_of}
@@ -13,12 +13,13 @@ use Rattle.gl_wire.specs.Serves.{HasEnd, Fits, Served}
 use Rattle.gl_wire.specs.Shapes.{IsDelayed}
 use Rattle.gl_wire.specs.Spills.{Lines, ServedWithLines}
 use Rattle.gl_wire.proofs.FurtherLemmas.{end_of, is_end_of}
-use Rattle.gl_wire.proofs.RowsLemmas.{rows-part, rows-one, rows-quiet, pending-rows}
-use Rattle.gl_wire_copies.specs.Lift.{Visits, visits, with_visit, tuple_of_any, all_of, Joined, LiftedWithLines}
+use Rattle.gl_wire.proofs.RowsLemmas.{rows-quiet, pending-rows}
+use Rattle.gl_wire_copies.specs.Lift.{Visits, visits, tuple_of_any, all_of, LiftedWithLines}
 use Rattle.gl_wire_copies.specs.Timed.{Begins, at_first, after_end, Origin, Timed}
 use Rattle.gl_wire_copies.specs.Rotates.{Rotates, OverCopies, lines_of_all, turns_of, delay_of_whole}
-use Rattle.gl_wire_copies.proofs.AnyLemmas.{any_false, any_true, some_line, first_true}
+use Rattle.gl_wire_copies.proofs.AnyLemmas.{any_false, any_true, some_line}
 use Rattle.gl_wire_copies.proofs.LiftLemmas.{joined, Apart}
+use Rattle.gl_wire_copies.proofs.SpillLemmas.{any_spill, are_joined, spilling, spilt, wire_ends}
 use Rattle.gl_wire_copies.proofs.TimeLemmas.{next_stream}
 use Rattle.gl_wire_copies.proofs.WholeFits.{whole_is}
 use Rattle.gl_wire_copies.proofs.WholeTime.{IsWhole}
@@ -32,14 +33,6 @@ module _ (f s h : Figures) (count g1 g2 : ℕ) (few many : ℕ → ℕ) {Part : 
 
   abbrev delay : ℕ
   delay = delay_of_whole count s
-
-  abbrev any_spill : List (ℕ × List Row) → Bool
-  any_spill [] = false
-  any_spill (v ∷ vs) = lifted.spill v.0 || any_spill vs
-
-  are_joined : (vs : List (ℕ × List Row)) (ys : List Row) → Joined (λ u xs zs. OfPart (of (u, xs)) zs (lifted.spill u)) vs ys → AreJoined OfPart (map of vs) ys (any_spill vs)
-  are_joined [] ys j = (j, refl)
-  are_joined (v ∷ vs) ys (zs, ws, one, rest, is) = (zs, ws, lifted.spill v.0, any_spill vs, one, are_joined vs ws rest, is, refl)
 
   from_low : (d : ℕ) → a.ends d ≡ true → rot.from d ≤ d + turns + 2
   from_low d p = by (rot.begins d p)
@@ -114,12 +107,12 @@ module _ (f s h : Figures) (count g1 g2 : ℕ) (few many : ℕ → ℕ) {Part : 
           ap (pending b) e ∙ ap (λ (q : Bool). if q then [] else pending b (u + delay) ++ option_to_list (b.tuple (u + delay))) x
 
   abbrev spill_of : ℕ → Bool
-  spill_of d = any_spill (visits who ins (rot.from d) (d + turns + 2 - rot.from d))
+  spill_of d = any_spill lifted.spill (visits who ins (rot.from d) (d + turns + 2 - rot.from d))
 
   result_of : (d : ℕ) → a.ends d ≡ true → AreJoined OfPart (parts (stream a d)) (stream b (d + delay)) (spill_of d)
   result_of d p =
       let j = joined s (λ u xs ys. OfPart (of (u, xs)) ys (lifted.spill u)) count who ins outs rot.schedules.apart lifted.lifted.near lifted.lifted.visit (d + turns + 2 - rot.from d) (d + turns + 2 - rot.from d) (rot.from d) (omega arith) (omega (arith, sound_s.tuples_last, sound_s.end_last)) (around d p) in
-      let r = are_joined (visits who ins (rot.from d) (d + turns + 2 - rot.from d)) (rows (all_of outs count) (rot.from d + s.a) (d + turns + 2 - rot.from d + (s.le - s.a))) j in
+      let r = are_joined lifted.spill of OfPart (visits who ins (rot.from d) (d + turns + 2 - rot.from d)) (rows (all_of outs count) (rot.from d + s.a) (d + turns + 2 - rot.from d + (s.le - s.a))) j in
       subst (λ ys. AreJoined OfPart (parts (stream a d)) ys (spill_of d)) (sym (whole_stream d p)) (subst (λ ps. AreJoined OfPart ps (rows (all_of outs count) (rot.from d + s.a) (d + turns + 2 - rot.from d + (s.le - s.a))) (spill_of d)) (rot.parted d p) r)
 
   at_delay : (t d e : ℕ) → beats t ≡ Some true → HasEnd f a t d → HasEnd h b t e → e ≡ d + delay
@@ -141,24 +134,6 @@ module _ (f s h : Figures) (count g1 g2 : ℕ) (few many : ℕ → ℕ) {Part : 
 
   -- ---- the lines
 
-  spilling : (n c : ℕ) → any_spill (visits who ins c n) ≡ true → (v : ℕ) × (k : ℕ) × (who v ≡ Some k) × (lifted.spill v ≡ true)
-  spilling zero c h = absurd (cc)
-  spilling (suc n) c h = by (who c) refl h (λ e. spilling n (suc c) e)
-    where
-      by : (o : Option ℕ) → who c ≡ o → any_spill (with_visit o c (λ k. stream (ins k) c) (visits who ins (suc c) n)) ≡ true → (any_spill (visits who ins (suc c) n) ≡ true → (v : ℕ) × (k : ℕ) × (who v ≡ Some k) × (lifted.spill v ≡ true)) → (v : ℕ) × (k : ℕ) × (who v ≡ Some k) × (lifted.spill v ≡ true)
-      by None p q ih = ih q
-      by (Some k) p q ih = elim (or_cases (lifted.spill c) (any_spill (visits who ins (suc c) n)) q) [ inl e ↦ (c, k, p, e) | inr e ↦ ih e ]
-
-  spilt : (n c v k : ℕ) → who v ≡ Some k → c ≤ v → v < c + n → lifted.spill v ≡ true → any_spill (visits who ins c n) ≡ true
-  spilt zero c v k w l q e = absurd (omega (arith, l, q))
-  spilt (suc n) c v k w l q e = by (who c) refl (cases_lt c v) (λ x. spilt n (suc c) v k w x (omega (arith, q)) e)
-    where
-      by : (o : Option ℕ) → who c ≡ o → ((c < v) ⊎ (v ≤ c)) → (suc c ≤ v → any_spill (visits who ins (suc c) n) ≡ true) → any_spill (with_visit o c (λ i. stream (ins i) c) (visits who ins (suc c) n)) ≡ true
-      by None p (inl x) ih = ih x
-      by None p (inr x) ih = absurd (let g : v ≡ c = omega (arith, l, x) in let y = ap who g in cc (y, w, p))
-      by (Some j) p (inl x) ih = or_right (lifted.spill c) (any_spill (visits who ins (suc c) n)) (ih x)
-      by (Some j) p (inr x) ih = let g : v ≡ c = omega (arith, l, x) in or_left (lifted.spill c) (any_spill (visits who ins (suc c) n)) (ap lifted.spill (sym g) ∙ e)
-
   -- where the beats end, the first end at or after what came
   next_end : Ends beats → (x : ℕ) → Carries a x → (d : ℕ) × (x ≤ d) × (a.ends d ≡ true) × ((j : ℕ) → x ≤ j → j < d → a.ends j ≡ false)
   next_end en x k = next_stream f h beats a sound_f (omega (arith, sound_f.tuples_gap, figs.keeps)) (omega (arith, figs.ge, figs.flush)) spaced fits en x k
@@ -174,35 +149,12 @@ module _ (f s h : Figures) (count g1 g2 : ℕ) (few many : ℕ → ℕ) {Part : 
         | inr y ↦ absurd (let x = none u y n in cc (x, e))
       ]
 
-  beat_end : (r : Carried) (c : ℕ) → r.ends c ≡ true → beats_of r c ≡ Some true
-  beat_end r c e = rw e refl
-
   -- where the beats end, each copy's do
   copies_end : Ends beats → (k : ℕ) → k < count → Ends (beats_of (ins k))
-  copies_end en k l = record { ends = λ t e p. by t ((ins k).ends t) refl ((ins k).tuple t) refl e p }
-    where
-      later : (t : ℕ) (r : Row) → (ins k).ends t ≡ false → (ins k).tuple t ≡ Some r → (u : ℕ) × (t ≤ u) × (beats_of (ins k) u ≡ Some true)
-      later t r n h =
-          let x = rot.caused k t r l h n in
-          let e = next_end en x.0 x.2 in
-          let hi : ℕ = e.0 + turns + 2 in
-          elim (first_true (ins k).ends (e.0 + turns + 2 - t) t) [
-            | inl (i, y, z, p, g) ↦ (i, y, beat_end (ins k) i p)
-            | inr g ↦ absurd (
-                let at : t + (e.0 + turns + 2 - t) ≡ e.0 + turns + 2 = omega (arith, x.1, e.1) in
-                let full = rot.empties e.0 k e.2 l in
-                let grown = pending-rows (ins k) (e.0 + turns + 2 - t) t g in
-                let one = rows-one (ins k) t r h in
-                let part = rows-part (ins k) t (e.0 + turns + 2 - t) t 1 (omega arith) (omega (arith, x.1, e.1)) in
-                let len : length (pending (ins k) (e.0 + turns + 2)) ≡ length (pending (ins k) t) + length (rows (ins k) t (e.0 + turns + 2 - t)) = ap (λ z. length (pending (ins k) z)) (sym at) ∙ ap length grown ∙ length-append (pending (ins k) t) (rows (ins k) t (e.0 + turns + 2 - t)) in
-                let zero_len : length (pending (ins k) (e.0 + turns + 2)) ≡ 0 = ap length full in
-                omega (arith, len, zero_len, one, part))
-          ]
-
-      by : (t : ℕ) (x : Bool) → (ins k).ends t ≡ x → (o : Option Row) → (ins k).tuple t ≡ o → (e : Bool) → beats_of (ins k) t ≡ Some e → (u : ℕ) × (t ≤ u) × (beats_of (ins k) u ≡ Some true)
-      by t true n o h e p = (t, omega arith, beat_end (ins k) t n)
-      by t false n (Some r) h e p = later t r n h
-      by t false n None h e p = absurd (let z : beats_of (ins k) t ≡ None = rw (n, h) refl in cc (z, p))
+  copies_end en k l = wire_ends (ins k) (λ t r h n.
+      let x = rot.caused k t r l h n in
+      let e = next_end en x.0 x.2 in
+      record { at = e.0 + turns + 2; behind = omega (arith, x.1, e.1); none = rot.empties e.0 k e.2 l })
 
   lines_of_whole : ServedWithLines f h (λ xs ys p. AreJoined OfPart (parts xs) ys p) (lines_of_all lines count) beats a b
   lines_of_whole = record {
@@ -210,7 +162,7 @@ module _ (f s h : Figures) (count g1 g2 : ℕ) (few many : ℕ → ℕ) {Part : 
     served = whole_served;
     low = λ c. any_false (λ k. (lines k).passed c) count (λ k l. lifted.low k c l);
     told = λ en t p e.
-        let v = spilling (end_of f beats a fits t + turns + 2 - rot.from (end_of f beats a fits t)) (rot.from (end_of f beats a fits t)) e in
+        let v = spilling lifted.spill who ins (end_of f beats a fits t + turns + 2 - rot.from (end_of f beats a fits t)) (rot.from (end_of f beats a fits t)) e in
         let x = lifted.told (copies_end en) v.0 v.1 v.2 v.3 in
         (x.1, any_true (λ k. (lines k).further x.1) count x.0 x.2 x.3);
     so = λ en c e.
@@ -222,7 +174,7 @@ module _ (f s h : Figures) (count g1 g2 : ℕ) (few many : ℕ → ℕ) {Part : 
         let q = fits.ends d.0 d.2 in
         let same = is_end_of f beats a fits q.beat d.0 q.is (record { is = d.2; low = q.low; high = q.high }) in
         let at : spill_of (end_of f beats a fits q.beat) ≡ spill_of d.0 = ap spill_of same in
-        (q.beat, q.is, at ∙ spilt (d.0 + turns + 2 - rot.from d.0) (rot.from d.0) v.0 k.0 v.1 i.0 (omega (arith, i.0, i.1)) v.2);
+        (q.beat, q.is, at ∙ spilt lifted.spill who ins (d.0 + turns + 2 - rot.from d.0) (rot.from d.0) v.0 k.0 v.1 i.0 (omega (arith, i.0, i.1)) v.2);
     late = λ en c e.
         let k = some_line (λ i. (lines i).further c) count e in
         let v = lifted.late (copies_end en) k.0 c k.1 k.2 in
