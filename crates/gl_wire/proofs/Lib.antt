@@ -14,4 +14,5 @@ pub mod FurtherLemmas
 pub mod PaceLemmas
 pub mod ApartLemmas
 pub mod SideLemmas
+pub mod OnceLemmas
 pub mod PadLemmas

@@ -4,6 +4,7 @@ pub mod Serves
 pub mod Shapes
 pub mod Spills
 pub mod Serving
+pub mod Once
 pub mod Pace
 pub mod Apart
 pub mod Sides

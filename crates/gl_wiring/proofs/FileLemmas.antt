@@ -6,11 +6,11 @@ use Rattle.gl_algebra.specs.declared.figures.Figures.{Figures}
 use Rattle.gl_algebra.specs.FigureTable.{input_figures}
 use Rattle.gl_bits.specs.Results.{Row}
 use Rattle.gl_wire.specs.Beats.{Spaced, gap, last, most}
+use Rattle.gl_wire.specs.Once.{OneStream}
 use Rattle.gl_wire.specs.Serves.{Fits, Caused}
 use Rattle.gl_wire.specs.Wire.{Carried, stream, rows}
 use Rattle.gl_schema.specs.Beats.{Beat, AreInOrder, KeepsGap, input_of, last_cycle, beat_at, ends_at}
 use Rattle.gl_wiring.specs.Bringing.{Brings, beats_in}
-use Rattle.gl_wiring.specs.Root.{OneStream}
 use Rattle.gl_wiring.proofs.RootLemmas.{first_stream}
 use Rattle.gl_wiring.proofs.BeatLemmas.{after_none, before_none, ends_last, ends_only, file_rows, rows_from}
 

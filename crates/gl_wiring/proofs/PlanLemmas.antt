@@ -100,7 +100,7 @@ costs_within nodes root n0 n1 n2 n3 columns plan within empty none put out same 
 -- ---- right runs
 
 module _ (schema : Schema) (nodes : List PlanNode) (root : ℕ) (names : List (List ℕ)) (net : Net) (is : IsPlanNet schema nodes root names net)
-    (within : root < length nodes) (apart : AreApart net) where
+    (apart : AreApart net) where
   module _ (run : Run) (beats : List Beat) (trace : IsTrace net run) (are : AreBeats schema beats) (keeps : KeepsGap (gap_of nodes root) beats)
       (stimulus : IsStimulus schema beats (input_values net run)) where
     runs : IsRun net run
@@ -117,7 +117,7 @@ module _ (schema : Schema) (nodes : List PlanNode) (root : ℕ) (names : List (L
         (carried run is.output.wire) (line_at run is.output.group) (line_at run is.output.queue)
     shows = plan_right run is.leaves beats are.order leaf_brings
         (λ k e. no_input schema beats k are.each (no_stream net schema.streams is.leaves k is.wires e))
-        nodes root is.e (carried run is.output.wire) (line_at run is.output.group) (line_at run is.output.queue) is.plan within
+        nodes root is.e (carried run is.output.wire) (line_at run is.output.group) (line_at run is.output.queue)
         (is.serves run runs) keeps (is.output.delayed run runs) (is.output.group_line run runs) (is.output.queue_line run runs)
 
     first : (carried run is.output.wire).tuple 0 ≡ None

@@ -1,22 +1,18 @@
--- From the root's wire to what the output shows.
-use Rattle.std.proofs.Common.{◌≡◌, ℕ, zero, suc, ◌+◌, ◌-◌, ◌<◌, ◌≤◌, List, ◌++◌, Some, None, Bool, true, false, ◌||◌, refl, sym, ap, ◌∙◌, subst, arith, inl, inr}
+-- From what the root's wire gives over one stream to what the output shows.
+use Rattle.std.proofs.Common.{◌≡◌, ℕ, zero, suc, ◌+◌, ◌-◌, ◌<◌, List, ◌++◌, None, Bool, true, false, ◌||◌, refl, sym, ap, ◌∙◌, subst, arith, inl, inr}
 use Rattle.std.specs.Prelude.{option_to_list}
 use Rattle.std.proofs.lemmas.List.{append-nil}
-use Rattle.std.proofs.lemmas.Bool.{cases_lt, false_from_ne_true, or_cases}
+use Rattle.std.proofs.lemmas.Bool.{false_from_ne_true, or_cases}
 use Rattle.std.proofs.Math.Bool.{or-true}
 use Rattle.gl_algebra.specs.declared.figures.Figures.{Figures}
-use Rattle.gl_algebra.specs.FigureTable.{IsSound}
 use Rattle.gl_bits.specs.Results.{Row, Results}
 use Rattle.gl_bits.proofs.Bools.{same_when}
-use Rattle.gl_wire.specs.Beats.{Beats, Ends, Spaced}
-use Rattle.gl_wire.specs.Serves.{OneEnd, Caused}
+use Rattle.gl_wire.specs.Once.{ServingOnce}
 use Rattle.gl_wire.specs.Shapes.{IsDelayed}
 use Rattle.gl_wire.specs.Spills.{Lines}
 use Rattle.gl_wire.specs.Wire.{Carried, pending, stream, rows}
 use Rattle.gl_wire.proofs.RowsLemmas.{rows-split, pending-rows}
-use Rattle.gl_wire.specs.Serving.{Serving}
-use Rattle.gl_wire.proofs.SideLemmas.{none_unless}
-use Rattle.gl_wiring.specs.Root.{IsSticky, OneStream, ShowsRight, later_line}
+use Rattle.gl_wiring.specs.Root.{IsSticky, ShowsRight, later_line}
 
 -- a line that is never 1 is not so a cycle later
 low_later : (line : ℕ → Bool) → ((c : ℕ) → line c ≡ false) → (c : ℕ) → later_line line c ≡ false
@@ -68,80 +64,43 @@ first_stream b e quiet =
     ∙ ap (λ (l : List Row). rows b 0 e ++ l) (sym (append-nil (option_to_list (b.tuple e))))
     ∙ ap (λ (i : ℕ). rows b 0 e ++ rows b i 1) (sym n) ∙ sym (rows-split b e 1 0) ∙ ap (rows b 0) (sym m)
 
-pub root_shows : (f : Figures) (means : ℕ → Results) (lines : Lines) (beats : Beats) (b o : Carried) (group queue : ℕ → Bool) (last : ℕ)
-    → IsSound f → Spaced f beats → OneStream beats last → Serving f means lines beats b → IsDelayed 1 b o
-    → IsSticky lines.further group → IsSticky (later_line lines.passed) queue → ShowsRight f (means last) last o group queue
-root_shows f means lines beats b o group queue last sound spaced one s d g q = record {
-  ended = end.at;
-  soonest = omega (arith, end.here.low);
-  in_time = end.here.high;
-  ends = ap o.ends (next end.at) ∙ d.ends end.at ∙ end.here.is;
+pub once_shows : (f : Figures) (means : Results) (lines : Lines) (b o : Carried) (group queue : ℕ → Bool) (last : ℕ)
+    → ServingOnce f means lines last b → IsDelayed 1 b o
+    → IsSticky lines.further group → IsSticky (later_line lines.passed) queue → ShowsRight f means last o group queue
+once_shows f means lines b o group queue last s d g q = record {
+  ended = s.ended;
+  soonest = omega (arith, s.low);
+  in_time = s.high;
+  ends = ap o.ends (next s.ended) ∙ d.ends s.ended ∙ s.ends;
   once = once;
   none_later = none_later;
-  no_overflow = sticky_none (later_line lines.passed) queue q (low_later lines.passed s.low);
-  meets = subst (λ (xs : List Row). means last xs (group (suc end.at))) (sym (rows_shown b o d end.at ∙ sym (first_stream b end.at quiet)))
-      (subst (means last (stream b end.at)) (same_when (s.spill last) (group (suc end.at)) told so) (s.right last end.at one.is end.here));
+  no_overflow = sticky_none (later_line lines.passed) queue q (low_later lines.passed s.unpassed);
+  meets = subst (λ (xs : List Row). means xs (group (suc s.ended))) (sym (rows_shown b o d s.ended ∙ sym (first_stream b s.ended quiet)))
+      (subst (means (stream b s.ended)) (same_when s.spill (group (suc s.ended)) told so) s.right);
   lasts = sticky_lasts lines.further group g;
-  stays = λ c l. same_when (group c) (group (suc end.at))
+  stays = λ c l. same_when (group c) (group (suc s.ended))
       (λ h. let x = sticky_from lines.further group g c h in
-      sticky_after lines.further group g x.0 (suc end.at) (before_end x.0 x.2) x.2)
-      (λ h. let x = sticky_from lines.further group g (suc end.at) h in
-      sticky_after lines.further group g x.0 c (let y = x.1 in omega arith) x.2);
+      sticky_after lines.further group g x.0 (suc s.ended) (omega (arith, s.late x.0 x.2)) x.2)
+      (λ h. let x = sticky_from lines.further group g (suc s.ended) h in
+      sticky_after lines.further group g x.0 c (let y = x.1 in omega (arith, y, l)) x.2);
 }
   where
-    end : OneEnd f b last
-    end = s.fits.end last one.is
-
     next : (c : ℕ) → suc c ≡ c + 1
     next c = omega arith
 
-    all_end : Ends beats
-    all_end = record { ends = λ t e h. (last, one.until t e h, one.is) }
+    quiet : (c : ℕ) → c < s.ended → b.ends c ≡ false
+    quiet c l = false_from_ne_true (b.ends c) (λ h. omega (arith, s.once c h, l))
 
-    -- the only end of the root's wire
-    only_end : (c : ℕ) → b.ends c ≡ true → c ≡ end.at
-    only_end c h =
-        let i = s.fits.ends c h in
-        let t = one.only i.beat i.is in
-        end.only c (record { is = h; low = (let l = i.low in omega arith); high = (let l = i.high in omega arith) })
+    once : (c : ℕ) → o.ends c ≡ true → c ≡ suc s.ended
+    once zero h = absurd (let n = d.no_end 0 (omega arith) in cc (n, h))
+    once (suc c) h = ap suc (s.once c (sym (d.ends c) ∙ ap o.ends (sym (next c)) ∙ h))
 
-    quiet : (c : ℕ) → c < end.at → b.ends c ≡ false
-    quiet c l = false_from_ne_true (b.ends c) (λ h. let e = only_end c h in omega arith)
+    none_later : (c : ℕ) → suc s.ended < c → o.tuple c ≡ None
+    none_later zero l = absurd (omega (arith, l))
+    none_later (suc c) l = ap o.tuple (next c) ∙ d.tuples c ∙ s.none_later c (omega (arith, l))
 
-    once : (c : ℕ) → o.ends c ≡ true → c ≡ suc end.at
-    once zero h = absurd (let z : 0 < 1 = omega arith in let n = d.no_end 0 z in cc)
-    once (suc c) h = ap suc (only_end c (sym (d.ends c) ∙ ap o.ends (sym (next c)) ∙ h))
+    told : s.spill ≡ true → group (suc s.ended) ≡ true
+    told h = let x = s.told h in sticky_after lines.further group g x.0 (suc s.ended) (omega (arith, s.late x.0 x.1)) x.1
 
-    none_at : (c : ℕ) → end.at < c → (r : Row) → b.tuple c ≡ Some r → ⊥
-    none_at c l r h = by (s.fits.tuples c r h)
-      where
-        by : Caused f beats c → ⊥
-        by i = of i.end refl
-          where
-            of : (e : Bool) → i.end ≡ e → ⊥
-            of true p =
-                let t = one.only i.beat (i.is ∙ ap Some p) in
-                let m : c ≤ i.beat + f.le = rw p at i.high in
-                let z = end.after c l (omega (arith, m, t)) in cc
-            of false p =
-                let m : c ≤ i.beat + f.lt = rw p at i.high in
-                let before = one.until i.beat i.end i.is in
-                let low = end.here.low in
-                elim (cases_lt i.beat last) [
-                  | inl k ↦ (let apart = rw p at (spaced.apart i.beat last i.end true i.is one.is k) in
-                      omega (arith, apart, m, low, sound.tuples_gap, sound.tuples_last))
-                  | inr k ↦ (let same : i.beat ≡ last = omega arith in let z = ap beats same in let w = i.is in let v = one.is in cc)
-                ]
-
-    none_later : (c : ℕ) → suc end.at < c → o.tuple c ≡ None
-    none_later zero l = absurd (omega arith)
-    none_later (suc c) l = ap o.tuple (next c) ∙ d.tuples c ∙ none_unless (b.tuple c) (none_at c (omega arith))
-
-    before_end : (c : ℕ) → lines.further c ≡ true → c < suc end.at
-    before_end c h = let x = s.late all_end c h in let y = x.1 in let e = only_end x.0 x.2 in omega arith
-
-    told : s.spill last ≡ true → group (suc end.at) ≡ true
-    told h = let x = s.told all_end last one.is h in sticky_after lines.further group g x.0 (suc end.at) (before_end x.0 x.1) x.1
-
-    so : group (suc end.at) ≡ true → s.spill last ≡ true
-    so h = let x = sticky_from lines.further group g (suc end.at) h in let t = s.so all_end x.0 x.2 in ap s.spill (sym (one.only t.0 t.1)) ∙ t.2
+    so : group (suc s.ended) ≡ true → s.spill ≡ true
+    so h = let x = sticky_from lines.further group g (suc s.ended) h in s.so x.0 x.2

@@ -1,8 +1,7 @@
 -- What the output of a plan shows over one stream: the root's wire one cycle later, and two lines that never fall.
-use Rattle.std.specs.Prelude.{◌≡◌, ℕ, zero, suc, ◌+◌, ◌<◌, ◌≤◌, Some, None, Bool, true, false, ◌||◌}
+use Rattle.std.specs.Prelude.{◌≡◌, ℕ, zero, suc, ◌+◌, ◌<◌, ◌≤◌, None, Bool, true, false, ◌||◌}
 use Rattle.gl_algebra.specs.declared.figures.Figures.{Figures}
 use Rattle.gl_bits.specs.Results.{Results}
-use Rattle.gl_wire.specs.Beats.{Beats}
 use Rattle.gl_wire.specs.Wire.{Carried, rows}
 
 -- a line that is 1 from the cycle after the first one on in which the other is 1
@@ -14,12 +13,6 @@ pub record IsSticky (line sticky : ℕ → Bool) : Type 0 where
 abbrev pub later_line : (ℕ → Bool) → ℕ → Bool
 later_line line zero = false
 later_line line (suc t) = line t
-
--- one stream: its last beat alone has the end
-pub record OneStream (beats : Beats) (last : ℕ) : Type 0 where
-  pub is : beats last ≡ Some true
-  pub only : (t : ℕ) → beats t ≡ Some true → t ≡ last
-  pub until : (t : ℕ) (e : Bool) → beats t ≡ Some e → t ≤ last
 
 -- what an output shows over one stream whose last beat comes in this cycle: the end once and in time, no row behind it,
 -- all rows a result with the group line at the end, which never falls and then keeps its value, and no queue passed

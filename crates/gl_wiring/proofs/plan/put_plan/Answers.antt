@@ -10,6 +10,7 @@ use Rattle.gl_wiring.proofs.OutputLemmas.{keeps_extends, keeps_puts}
 use Rattle.gl_wiring.proofs.PlanLemmas.{IsWithin, costs_within}
 use Rattle.gl_wiring.proofs.Shapes.{all_put, puts_then}
 use Rattle.gl_wiring.proofs.StreamLemmas.{leaves_have, reset_stays, wires_stay}
+use Rattle.gl_wiring.proofs.TopLemmas.{gives_once}
 use Rattle.gl_wiring.proofs.plan.put_plan.Goals as goal
 
 pub put_node-requires : goal.put_node-requires
@@ -59,11 +60,10 @@ returns-clause-plan c =
     (subst (λ (y : List (List ℕ)). Puts n2 n3 (output_ports ws y)) c.as_slice.ensures out.ports) in
     let outputs = output_ports (widths_of (kinds_of nodes root)) names in
     record {
-      plan = plan;
       leaves = ls;
       e = e;
       wires = wires_stay n1 n3 ss ls x wires;
-      serves = λ run r. put.gives.serving run (out.extends.runs run r);
+      serves = λ run r. gives_once nodes root n2 ls e plan can.within put.gives run (out.extends.runs run r);
       output = subst (λ (y : List (List ℕ)). IsOutput n3 y e) c.as_slice.ensures out.output;
       reset = reset_stays n1 n3 x c.in_ok-leaves.ensures.reset;
       ports = all_put n0 n3 (plan_ports c.args.schema.now (kinds_of nodes root) names) c.requires.empty.ports

@@ -39,7 +39,7 @@ returns c =
       size = is.size;
       registers = is.registers;
       memories = is.memories;
-      right = plan_runs_right s nodes root names.columns net is can.within unlike;
-      group = plan_group_kept s nodes root names.columns net is can.within unlike;
+      right = plan_runs_right s nodes root names.columns net is unlike;
+      group = plan_group_kept s nodes root names.columns net is unlike;
     } in
     subst (IsWired s nodes root names) (sym c.finish.ensures) wired
