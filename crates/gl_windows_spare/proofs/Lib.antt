@@ -1,0 +1,11 @@
+pub mod CountLemmas
+pub mod SpareLemmas
+pub mod OnceLemmas
+pub mod LateLemmas
+pub mod LineLemmas
+pub mod ServeLemmas
+pub mod WorkedLemmas
+pub mod LateNet
+pub mod RotationNet
+pub mod NumberLemmas
+pub mod CostLemmas
