@@ -93,7 +93,7 @@ totals_behind old mid new a aggs source outs end is_columns all line =
           let one = one_is_single (line_at run a.wire.valid) (line_at run a.wire.eos) (line_first run a.wire.valid) (line_first run a.wire.eos) in
           totals_end run a.wire end outs m (total_row kinds aggs) (line.line run r)
           (λ t.
-          all.row run (line.keeps.runs run r) one.begins t (one.fresh t)
+          all.row run (line.keeps.runs run r) (record { begins = one.begins; led = tt }) t (one.fresh t)
           ∙ ap (λ (bs : List Bus). total_row kinds aggs (rows_now (single (line_at run a.wire.valid) (line_at run a.wire.eos)) (λ c. row_at run c bs) (suc t))) is_columns
           ∙ ap (total_row kinds aggs) (stream_single run a.wire (suc t)));
     }

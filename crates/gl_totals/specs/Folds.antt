@@ -9,7 +9,7 @@ use Rattle.gl_net.specs.declared.node.Bus.{Bus}
 use Rattle.gl_net.specs.Net.{Net, Run, IsRun, IsBus, IsBit, Keeps}
 use Rattle.gl_rows.specs.Made.{Carries}
 use Rattle.gl_totals.specs.Costs.{cost_of_fold}
-use Rattle.gl_totals.specs.Open.{lane_by}
+use Rattle.gl_totals.specs.Open.{IsLed, lane_by}
 use Rattle.gl_totals.specs.declared.fold.Best.{Best}
 use Rattle.gl_totals.specs.declared.fold.Extreme.{Extreme}
 use Rattle.gl_totals.specs.declared.fold.Extreme.TheVariants.{Least, Greatest}
@@ -78,9 +78,10 @@ pub record IsFolded (run : Run) (width first : ℕ) (step : Step) (rows : Rows) 
 
 pub record IsFold (old new : Net) (width first : ℕ) (step : Step) (rows : Rows) (f : Fold) : Type 0 where
   pub keeps : Keeps old new
-  pub cost : CostsAtMost old new (cost_of_fold width)
+  pub cost : CostsAtMost old new (cost_of_fold rows.keep width)
   pub before : IsBus new f.before
   pub before_width : f.before.width ≡ width
   pub now : IsBus new f.now
   pub now_width : f.now.width ≡ width
-  pub folded : (run : Run) → IsRun new run → IsFolded run width first step rows f.before f.now
+  pub folded : (run : Run) → IsRun new run → IsLed run rows.valid rows.keep
+      → IsFolded run width first step rows f.before f.now

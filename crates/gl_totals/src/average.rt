@@ -6,6 +6,7 @@ ghost use Rattle.gl_bits.specs.Totals.{average_of};
 ghost use Rattle.gl_net.specs.Net.{IsBit, IsBus};
 ghost use Rattle.gl_totals.specs.Averages.{IsFraction, IsGuarded};
 ghost use Rattle.gl_totals.specs.Costs.{cost_of_average};
+ghost use Rattle.gl_totals.specs.Open.{KeepFits};
 ghost use Rattle.gl_totals.specs.Totals.{IsTotalOf};
 
 use crate::fold::small_word;
@@ -43,6 +44,7 @@ pub fn put_guarded(net: &mut NetBuilder, fraction: Fraction) -> Result<Fraction,
 fn put_fraction(net: &mut NetBuilder, rows: Rows, value: Bus) -> Result<Fraction, Memory>
     requires valid { IsBit net.old rows.valid }
     requires eos { IsBit net.old rows.eos }
+    requires keep { KeepFits net.old rows.keep }
     requires value { IsBus net.old value }
     requires width { value.width ≤ 96 }
     ensures { IfOk result (IsFraction net.old net.new rows value) }
@@ -58,10 +60,11 @@ fn put_fraction(net: &mut NetBuilder, rows: Rows, value: Bus) -> Result<Fraction
 pub fn put_average(net: &mut NetBuilder, rows: Rows, value: Bus) -> Result<Bus, Memory>
     requires valid { IsBit net.old rows.valid }
     requires eos { IsBit net.old rows.eos }
+    requires keep { KeepFits net.old rows.keep }
     requires value { IsBus net.old value }
     requires width { value.width ≤ 96 }
     ensures { (kind : Kind) → value.width ≡ width_of kind
-        → IfOk result (IsTotalOf net.old net.new (cost_of_average value.width) value.width
+        → IfOk result (IsTotalOf net.old net.new (cost_of_average rows.keep value.width) value.width
         (value.width + 33) rows value (average_of kind)) }
 {
     let fraction = put_fraction(net, rows, value)?;

@@ -4,6 +4,7 @@ ghost use Rattle.std.specs.Prelude.{◌≡◌, IfOk};
 ghost use Rattle.gl_bits.specs.Kinds.{width_of};
 ghost use Rattle.gl_net.specs.Net.{IsBit, IsBus};
 ghost use Rattle.gl_totals.specs.Costs.{cost_of_extreme};
+ghost use Rattle.gl_totals.specs.Open.{KeepFits};
 ghost use Rattle.gl_totals.specs.Totals.{IsTotalOf, extreme_of};
 
 use crate::fold::{Best, Extreme, Step, put_fold, small_word};
@@ -21,10 +22,11 @@ pub fn put_extreme(
 ) -> Result<Bus, Memory>
     requires valid { IsBit net.old rows.valid }
     requires eos { IsBit net.old rows.eos }
+    requires keep { KeepFits net.old rows.keep }
     requires value { IsBus net.old value }
     requires width { value.width ≡ width_of kind }
-    ensures { IfOk result (IsTotalOf net.old net.new (cost_of_extreme value.width) value.width 0
-        rows value (extreme_of extreme kind)) }
+    ensures { IfOk result (IsTotalOf net.old net.new (cost_of_extreme rows.keep value.width)
+        value.width 0 rows value (extreme_of extreme kind)) }
 {
     let some = put_fold(net, rows, small_word(false, 1), Step::Set)?;
     let best = Best {

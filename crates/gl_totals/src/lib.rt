@@ -9,8 +9,10 @@ pub mod fold;
 pub mod laws;
 pub mod rows;
 pub mod sum;
+pub mod table;
 pub mod total;
 pub mod totals;
 pub mod weighted;
 
+pub use table::Table;
 pub use totals::{Totals, put_totals};

@@ -4,6 +4,7 @@ ghost use Rattle.std.specs.Prelude.{IfOk};
 ghost use Rattle.gl_bits.specs.Totals.{count_of, sum_total};
 ghost use Rattle.gl_net.specs.Net.{IsBit, IsBus};
 ghost use Rattle.gl_totals.specs.Costs.{cost_of_count, cost_of_fold};
+ghost use Rattle.gl_totals.specs.Open.{KeepFits};
 ghost use Rattle.gl_totals.specs.Totals.{IsTotalOf};
 
 use crate::fold::{Step, put_fold, small_word};
@@ -15,9 +16,10 @@ use gl_net::{Bus, NetBuilder};
 pub fn put_sum(net: &mut NetBuilder, rows: Rows, value: Bus) -> Result<Bus, Memory>
     requires valid { IsBit net.old rows.valid }
     requires eos { IsBit net.old rows.eos }
+    requires keep { KeepFits net.old rows.keep }
     requires value { IsBus net.old value }
-    ensures { IfOk result (IsTotalOf net.old net.new (cost_of_fold value.width) value.width 0
-        rows value (sum_total value.width)) }
+    ensures { IfOk result (IsTotalOf net.old net.new (cost_of_fold rows.keep value.width)
+        value.width 0 rows value (sum_total value.width)) }
 {
     let fold = put_fold(net, rows, small_word(false, value.width), Step::Add(value))?;
     Ok(fold.now)
@@ -27,7 +29,8 @@ pub fn put_sum(net: &mut NetBuilder, rows: Rows, value: Bus) -> Result<Bus, Memo
 pub fn put_count(net: &mut NetBuilder, rows: Rows) -> Result<Bus, Memory>
     requires valid { IsBit net.old rows.valid }
     requires eos { IsBit net.old rows.eos }
-    ensures { (value : Bus) → IfOk result (IsTotalOf net.old net.new cost_of_count 32 0
+    requires keep { KeepFits net.old rows.keep }
+    ensures { (value : Bus) → IfOk result (IsTotalOf net.old net.new (cost_of_count rows.keep) 32 0
         rows value count_of) }
 {
     let one = net.constant(small_word(true, 32))?;

@@ -5,6 +5,7 @@ ghost use Rattle.gl_bits.specs.Totals.{weighted_sum};
 ghost use Rattle.gl_bits.specs.Words.{IsWidth, bits_of};
 ghost use Rattle.gl_net.specs.Net.{IsBit, IsBus};
 ghost use Rattle.gl_totals.specs.Costs.{cost_of_weighted};
+ghost use Rattle.gl_totals.specs.Open.{KeepFits};
 ghost use Rattle.gl_totals.specs.Totals.{IsTotalOf};
 ghost use Rattle.gl_totals.specs.Weighing.{HasWidth, IsPicked};
 
@@ -49,11 +50,12 @@ pub fn put_weighted(
 ) -> Result<Bus, Memory>
     requires valid { IsBit net.old rows.valid }
     requires eos { IsBit net.old rows.eos }
+    requires keep { KeepFits net.old rows.keep }
     requires value { IsBus net.old value }
     requires many { length weights.now ≤ 128 }
     requires weights { All (HasWidth value.width) weights.now }
     ensures { IfOk result (IsTotalOf net.old net.new
-        (cost_of_weighted value.width (length weights.now)) value.width 0
+        (cost_of_weighted rows.keep value.width (length weights.now)) value.width 0
         rows value (weighted_sum value.width (bits_of weights.now))) }
 {
     if weights.is_empty() {

@@ -36,7 +36,7 @@ returns c =
       before_width = before.width ∙ c.width.ensures.value;
       now = record { there = drive.grows.shapes _ _ kept.there; width = kept.width };
       now_width = now.width ∙ stepped.same_width ∙ before.width ∙ c.width.ensures.value;
-      folded = λ run r.
+      folded = λ run r led.
           let at_next = drive.grows.runs run r in
           let at_again = next.keeps.runs run at_next in
           let at_now = again.keeps.runs run at_again in
