@@ -4,7 +4,6 @@ use Rattle.std.specs.Prelude.{◌&&◌, if◌then◌else◌, nat_eq}
 use Rattle.gl_net.specs.declared.node.Bus.{Bus}
 use Rattle.gl_net.specs.declared.node.Bit.{Bit}
 use Rattle.gl_net.specs.Net.{Run, stored_of}
-use Rattle.gl_queue.specs.RingLines.{IsHeld}
 use Rattle.gl_totals.specs.Folds.{IsFolded, next_of}
 use Rattle.gl_totals.specs.Open.{IsLed, in_memory, lane_by}
 use Rattle.gl_totals.specs.Slots.{IsPast, writes_at}
@@ -13,6 +12,7 @@ use Rattle.gl_totals.specs.declared.rows.Keep.TheVariants.{Slots}
 use Rattle.gl_wire.specs.Gates.{same_at}
 use Rattle.gl_wire.specs.Wire.{line_at}
 use Rattle.gl_wire_lanes.proofs.FoldLemmas.{ahead_is_kept}
+use Rattle.gl_wire_memories.specs.Memories.{IsHeld}
 
 -- what is stored where a line is 1
 stored_line : (run : Run) (write : Bit) (address value k word t : ℕ) (w : Bool) → line_at run write (suc t) ≡ w

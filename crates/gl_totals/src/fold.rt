@@ -12,9 +12,9 @@ use crate::rows::{self, Rows};
 use gl_bits::{Kind, Memory, Op, Word};
 use gl_divide::digit::shifted;
 use gl_net::{BinaryOp, Bit, Bus, NetBuilder};
-use gl_queue::ring::put_column;
 use gl_rows::operation::put_operator;
 use gl_wire::{both, but_not, either, same};
+use gl_wire_memories::put_memory;
 
 /// An end of the order.
 #[derive(Clone, Copy, PartialEq, Eq, Debug)]
@@ -195,7 +195,7 @@ fn put_passing(
     let write = either(net, valid, first)?;
     let meets = same(net, slot, next)?;
     let passes = both(net, meets, write)?;
-    let read = put_column(net, slot.width, write, slot, next, now)?;
+    let read = put_memory(net, slot.width, write, slot, next, now)?;
     // Named, since a goal speaks of the value.
     let out = net.choose(passes, now, read)?;
     Ok(out)

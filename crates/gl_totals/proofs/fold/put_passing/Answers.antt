@@ -13,7 +13,7 @@ returns c =
     let out = c.in_ok-out.ensures in
     record {
       keeps = keeps_then c.args.net.now c.either.new.net c.choose.new.self write.keeps (keeps_then _ c.same.new.net _ meets.keeps
-          (keeps_then _ c.both.new.net _ passes.keeps (keeps_then _ c.put_column.new.net _ read.keeps out.keeps)));
+          (keeps_then _ c.both.new.net _ passes.keeps (keeps_then _ c.put_memory.new.net _ read.keeps out.keeps)));
       cost = record {
         nodes = omega (arith, write.cost.nodes, meets.cost.nodes, passes.cost.nodes, read.cost.nodes, out.size);
         registers = omega (arith, write.cost.registers, meets.cost.registers, passes.cost.registers, read.cost.registers, out.register_bits);
