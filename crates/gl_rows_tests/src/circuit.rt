@@ -83,10 +83,10 @@ pub fn table_of(alloc: Global, first: Kind, second: Kind, table: &Table) -> Resu
     requires first { IsKind first }
     requires bits { width_of first ≡ 3 }
     requires second { IsKind second }
-    requires kinds { map width_of table.kinds.now ≡ width_of first ∷ width_of second ∷ [] }
-    requires are_kinds { All IsKind table.kinds.now }
-    requires aggs { All (AggFits table.kinds.now) table.aggs.now }
-    requires some { 1 ≤ length table.aggs.now }
+    requires kinds { map width_of table.now.kinds.now ≡ width_of first ∷ width_of second ∷ [] }
+    requires are_kinds { All IsKind table.now.kinds.now }
+    requires aggs { All (AggFits table.now.kinds.now) table.now.aggs.now }
+    requires some { 1 ≤ length table.now.aggs.now }
 {
     let mut net = NetBuilder::new(alloc);
     let source = put_source(alloc, &mut net, first.width(), second.width())?;
