@@ -7,7 +7,7 @@ use Rattle.gl_net.specs.Net.{Net, Run, IsRun, IsBit, IsBus, Keeps}
 use Rattle.gl_wire.specs.Costs.{Costs, nodes_alone}
 use Rattle.gl_wire.specs.Wire.{AreBuses, widths, line_at}
 use Rattle.gl_queue.specs.declared.ring.Places.{Places}
-use Rattle.gl_queue.specs.RingLines.{IsHeld, AreHeld, IsPointer, ArePlaces, IsPassed}
+use Rattle.gl_queue.specs.RingLines.{AreHeld, IsPointer, ArePlaces, IsPassed}
 
 -- a place that goes round
 pub record IsPlace (old new : Net) (bits : ℕ) (step : Bit) (place : Bus) : Type 0 where
@@ -16,14 +16,6 @@ pub record IsPlace (old new : Net) (bits : ℕ) (step : Bit) (place : Bus) : Typ
   pub bus : IsBus new place
   pub width : place.width ≡ bits
   pub pointer : (run : Run) → IsRun new run → IsPointer run bits step place
-
--- a memory of one column
-pub record IsStored (old new : Net) (bits : ℕ) (push : Bit) (tail head column out : Bus) : Type 0 where
-  pub keeps : Keeps old new
-  pub cost : Costs old new (record { nodes = 2; registers = 0; memories = 2 ^ bits * column.width })
-  pub bus : IsBus new out
-  pub same_width : out.width ≡ column.width
-  pub held : (run : Run) → IsRun new run → IsHeld run push tail head column out
 
 -- a memory for each of some columns
 pub record AreStored (old new : Net) (bits : ℕ) (push : Bit) (tail head : Bus) (columns outs : List Bus) : Type 0 where

@@ -3,18 +3,11 @@ use Rattle.std.specs.Prelude.{◌≡◌, ℕ, suc, ◌+◌, ◌%◌, ◌^◌, �
 use Rattle.gl_bits.specs.Results.{Row}
 use Rattle.gl_net.specs.declared.node.Bus.{Bus}
 use Rattle.gl_net.specs.declared.node.Bit.{Bit}
-use Rattle.gl_net.specs.Net.{Run, stored_of}
+use Rattle.gl_net.specs.Net.{Run}
 use Rattle.gl_wire.specs.Wire.{line_at, row_at, tuple_at}
 use Rattle.gl_queue.specs.Queue.{IsQueue}
 
--- a memory of one column: written where the line is 1, read at the head in the same cycle
-pub record IsHeld (run : Run) (push : Bit) (tail head column out : Bus) : Type 0 where
-  pub word : ℕ → ℕ → ℕ
-  pub reads : (t : ℕ) → run.at t out.node ≡ word t (run.at t head.node)
-  pub writes : (t k : ℕ) → word (suc t) k ≡ stored_of (run.at t push.node) (run.at t tail.node) (run.at t column.node) k
-      (word t k)
-
--- one for each of some columns
+-- a memory for each of some columns: written where the line is 1, read at the head in the same cycle
 pub record AreHeld (run : Run) (push : Bit) (tail head : Bus) (columns outs : List Bus) : Type 0 where
   pub words : ℕ → ℕ → Row
   pub reads : (t : ℕ) → row_at run t outs ≡ words t (run.at t head.node)

@@ -3,11 +3,12 @@
 ghost use Rattle.std.specs.Prelude.{◌≡◌, ◌<◌, ◌^◌, ◌%◌, IfOk};
 ghost use Rattle.gl_net.specs.Net.{IsBit, IsBus, IsAddressWidth};
 ghost use Rattle.gl_wire.specs.Wire.{AreBuses};
-ghost use Rattle.gl_queue.specs.Parts.{ArePlacesOf, AreStored, IsFlagOf, IsMeeting, IsPassedOf, IsPlace, IsStored};
+ghost use Rattle.gl_queue.specs.Parts.{ArePlacesOf, AreStored, IsFlagOf, IsMeeting, IsPassedOf, IsPlace};
 
 use gl_bits::{Memory, Word};
 use gl_net::{BinaryOp, Bit, Bus, Buses, NetBuilder};
 use gl_wire::{both, but_not, either, same};
+use gl_wire_memories::put_memory;
 use std::alloc::Global;
 
 /// A word of so many bits.
@@ -34,31 +35,6 @@ pub fn put_place(net: &mut NetBuilder, bits: u8, step: Bit) -> Result<Bus, Memor
     Ok(place)
 }
 
-/// A memory of one column, written where a line is 1 and read in the same cycle.
-pub fn put_column(
-    net: &mut NetBuilder,
-    bits: u8,
-    push: Bit,
-    tail: Bus,
-    head: Bus,
-    column: Bus,
-) -> Result<Bus, Memory>
-    requires bits { IsAddressWidth bits }
-    requires push { IsBit net.old push }
-    requires tail { IsBus net.old tail }
-    requires tail_width { tail.width ≡ bits }
-    requires head { IsBus net.old head }
-    requires head_width { head.width ≡ bits }
-    requires column { IsBus net.old column }
-    ensures { IfOk result (IsStored net.old net.new bits push tail head column) }
-{
-    let store = net.memory(bits, column.width)?;
-    net.drive_memory(store, push, tail, column)?;
-    // Named, since a goal speaks of the value.
-    let out = net.read(store, head)?;
-    Ok(out)
-}
-
 /// A memory for each of some columns.
 pub fn put_columns(
     alloc: Global,
@@ -80,7 +56,7 @@ pub fn put_columns(
 {
     let mut all = Buses::new(alloc);
     for bus in columns {
-        let out = put_column(net, bits, push, tail, head, *bus)?;
+        let out = put_memory(net, bits, push, tail, head, *bus)?;
         all.push(out)?;
     }
     Ok(all)

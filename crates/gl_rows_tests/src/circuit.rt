@@ -1,6 +1,7 @@
 //! Circuits of one block behind two columns at ports.
 
-ghost use Rattle.std.specs.Prelude.{◌≡◌, ◌∷◌, [], IfOk, None, ℕ};
+ghost use Rattle.std.specs.Prelude.{◌≡◌, ◌≤◌, ◌∷◌, [], All, IfOk, None, length, map, ℕ};
+ghost use Rattle.gl_algebra.specs.Columns.{AggFits};
 ghost use Rattle.gl_algebra.specs.FigureTable.{IsSound};
 ghost use Rattle.gl_bits.specs.Kinds.{IsKind, width_of};
 ghost use Rattle.gl_bits.specs.Words.{IsWidth};
@@ -12,6 +13,7 @@ use gl_bits::{Kind, Memory};
 use gl_divide::divide;
 use gl_net::{Buses, NetBuilder, Netlist};
 use gl_queue::UnionOf;
+use gl_totals::Table;
 use gl_wire::{Emitted, Faults, Operator, Wire, pad};
 use std::alloc::Global;
 
@@ -72,6 +74,32 @@ pub fn circuit_of<O: Operator>(
     Ok(Circuit {
         netlist: net.finish(),
         wire: out.wire,
+    })
+}
+
+/// A table behind columns of these two kinds, and the slot as its last column. Of the first column, which has three bits, the highest tells
+/// where streams begin, and the others whose they are.
+pub fn table_of(alloc: Global, first: Kind, second: Kind, table: &Table) -> Result<Circuit, Memory>
+    requires first { IsKind first }
+    requires bits { width_of first ≡ 3 }
+    requires second { IsKind second }
+    requires kinds { map width_of table.now.kinds.now ≡ width_of first ∷ width_of second ∷ [] }
+    requires are_kinds { All IsKind table.now.kinds.now }
+    requires aggs { All (AggFits table.now.kinds.now) table.now.aggs.now }
+    requires some { 1 ≤ length table.now.aggs.now }
+{
+    let mut net = NetBuilder::new(alloc);
+    let source = put_source(alloc, &mut net, first.width(), second.width())?;
+    let place = source.wire.columns.as_slice()[0];
+    let slot = net.cut(place, 1, 0)?;
+    let begins = net.cut(place, 2, 2)?;
+    let out = table.emit(alloc, &mut net, &source.wire, slot, begins.bit())?;
+    net.module(b"tested")?;
+    let mut wire = out.wire;
+    wire.columns.push(out.slot)?;
+    Ok(Circuit {
+        netlist: net.finish(),
+        wire,
     })
 }
 

@@ -1,19 +1,20 @@
 //! What stands in a row: two kinds, a block, and beats.
 //!
 //! A kind is `u1` to `u64`, `text1` to `text8`; for the divider the widths go to `u128`. A block is `compute OP..`, `select` (by the first
-//! column), `project OPERAND..`, `totals AGGREGATE..`, `pad CYCLES` or `divide`. An operand is the column `a` or `b`, or a literal `KIND#VALUE`; an
-//! operation `add:a,b`, `cast:a,u16`, `not:a`; an aggregate `count`, `sum:a`, `wsum:a,1,2,4`. A beat is a row `200,'ab'`, a row with the
-//! end `200,'ab'!`, the end alone `!`, or nothing `-`.
+//! column), `project OPERAND..`, `totals AGGREGATE..`, `table AGGREGATE..` (for the slots of a lane, see `table_of`), `pad CYCLES` or
+//! `divide`. An operand is the column `a` or `b`, or a literal `KIND#VALUE`; an operation `add:a,b`, `cast:a,u16`, `not:a`; an aggregate
+//! `count`, `sum:a`, `wsum:a,1,2,4`. A beat is a row `200,'ab'`, a row with the end `200,'ab'!`, columns without their row `?200,'ab'` or
+//! `?200,'ab'!`, the end alone `!`, or nothing `-`.
 
 use crate::beats::Beat;
-use crate::circuit::{Circuit, circuit_of, divider_of, padded_of};
+use crate::circuit::{Circuit, circuit_of, divider_of, padded_of, table_of};
 use crate::fits::{aggs_fit, is_kind, operands_fit, ops_fit};
 use crate::kinds::{kind_of, value_of};
 use gl_algebra::columns::{kind_of_agg, kind_of_op, kind_of_operand};
 use gl_algebra::{ColOp, Operand, PlanAgg};
 use gl_bits::{Kind, Listed, Memory, Op, Word};
 use gl_rows::{ComputeRow, ProjectRow, SelectRow};
-use gl_totals::Totals;
+use gl_totals::{Table, Totals};
 use std::alloc::Global;
 
 // No column, which fits nothing.
@@ -178,6 +179,28 @@ fn picked(alloc: Global, kinds: [Kind; 2], text: &str) -> Result<Option<Circuit>
     Ok(Some(circuit))
 }
 
+// Aggregates of the streams of slots.
+fn tabled(alloc: Global, kinds: [Kind; 2], text: &str) -> Result<Option<Circuit>, Memory> {
+    let mut aggs = Vec::new(alloc);
+    for word in text.split_whitespace() {
+        let agg = agg_of(alloc, &kinds, word)?;
+        aggs.push(agg)?;
+    }
+    let [first, second] = kinds;
+    if !is_kind(first) || !is_kind(second) || !aggs_fit(&kinds, aggs.as_slice()) {
+        return Ok(None);
+    }
+    if first.width() != 3 || aggs.is_empty() {
+        return Ok(None);
+    }
+    let table = Table {
+        kinds: &kinds,
+        aggs: aggs.as_slice(),
+    };
+    let circuit = table_of(alloc, first, second, &table)?;
+    Ok(Some(circuit))
+}
+
 // Aggregates.
 fn totalled(alloc: Global, kinds: [Kind; 2], text: &str) -> Result<Option<Circuit>, Memory> {
     let mut aggs = Vec::new(alloc);
@@ -229,6 +252,7 @@ pub fn block_of(alloc: Global, kinds: [Kind; 2], text: &str) -> Result<Option<Ci
         "select" => kept(alloc, kinds),
         "project" => picked(alloc, kinds, items),
         "totals" => totalled(alloc, kinds, items),
+        "table" => tabled(alloc, kinds, items),
         "pad" => padded(alloc, kinds, items),
         "divide" => divided(alloc, kinds),
         _ => Ok(None),
@@ -260,16 +284,20 @@ pub fn kinds_behind(alloc: Global, kinds: [Kind; 2], text: &str) -> Result<Vec<K
         let kind = kind_behind(alloc, &kinds, name, word)?;
         out.push(kind)?;
     }
+    if name == "table" {
+        out.push(Kind::Unsigned(2))?;
+    }
     Ok(out)
 }
 
 // A beat of columns of these kinds.
 fn beat_of(kinds: [Kind; 2], text: &str) -> Beat {
-    let row = text.trim_end_matches('!');
+    let bare = text.strip_prefix("?");
+    let row = bare.unwrap_or(text).trim_end_matches('!');
     let (first, second) = row.split_once(',').unwrap_or(("1", "1"));
     let [a, b] = kinds;
     Beat {
-        valid: row.contains(','),
+        valid: bare.is_none() && row.contains(','),
         end: text.ends_with('!'),
         row: [value_of(a, first), value_of(b, second)],
     }

@@ -2,7 +2,7 @@
 use Rattle.std.proofs.Common.{◌≡◌, ℕ, zero, suc, ◌+◌, ◌*◌, ◌<◌, ◌≤◌, List, [], ◌∷◌, ◌++◌, map, length, get_or, refl, sym, ap, ◌∙◌, arith}
 use Rattle.std.specs.Prelude.{sum_by}
 use Rattle.std.proofs.Math.Nat.{le-max_left, le-max_right}
-use Rattle.std.proofs.lemmas.List.{map-append}
+use Rattle.std.proofs.lemmas.List.{length-append, map-append}
 use Rattle.std.proofs.lemmas.List.Sums.{sum_by-append, sum_by-cons}
 use Rattle.gl_bits.specs.Kinds.{width_of}
 use Rattle.gl_bits.specs.declared.kind.Kind.{Kind}
@@ -16,7 +16,7 @@ use Rattle.gl_net.specs.Net.{Net}
 use Rattle.gl_net.proofs.Determined.{keeps_then}
 use Rattle.gl_net.proofs.Growth.{same_keeps}
 use Rattle.gl_wire.proofs.ColumnLemmas.{AreBuses-none, AreBuses-push, buses_kept, row_at-none, row_at-push, widths-push}
-use Rattle.gl_totals.specs.Costs.{state_of_agg}
+use Rattle.gl_totals.specs.Costs.{kept_of_agg, lag_of, operand_of_agg, slot_words, state_of_agg}
 use Rattle.gl_totals.specs.Totals.{AreAggsOf, IsAggOf, rows_at, total_row, total_widths}
 use Rattle.gl_totals.specs.declared.total.Stream.{Stream}
 
@@ -36,25 +36,32 @@ aggs_none net cycles s = record {
   cost = record { nodes = omega arith; registers = omega arith; memories = omega arith };
   buses = AreBuses-none net;
   same_widths = refl;
-  row = λ run r t. row_at-none run (suc t + cycles);
+  row = λ run r told t fresh. row_at-none run (suc t + cycles);
 }
 
 pub aggs_more : (old mid new : Net) (cycles : ℕ) (s : Stream) (aggs : List PlanAgg) (agg : PlanAgg) (bs : List Bus) (b : Bus) → AreAggsOf old mid cycles s aggs bs
     → IsAggOf mid new cycles cycles s agg b → AreAggsOf old new cycles s (aggs ++ agg ∷ []) (bs ++ b ∷ [])
 aggs_more old mid new cycles s aggs agg bs b all one =
     let kinds = s.source.kinds.now in
+    let lag = lag_of s.rows.keep in
+    let words = slot_words s.rows.keep in
+    let more : lag * length (aggs ++ agg ∷ []) ≡ lag * (length aggs + 1) = ap (λ n. lag * n) (length-append aggs (agg ∷ []) ∙ omega arith) in
+    let operands : lag * sum_by (operand_of_agg kinds) (aggs ++ agg ∷ []) ≡ lag * (sum_by (operand_of_agg kinds) aggs + operand_of_agg kinds agg) =
+    ap (λ n. lag * n) (sum_push (operand_of_agg kinds) aggs agg) in
+    let kept : words * sum_by (kept_of_agg kinds) (aggs ++ agg ∷ []) ≡ words * (sum_by (kept_of_agg kinds) aggs + kept_of_agg kinds agg) =
+    ap (λ n. words * n) (sum_push (kept_of_agg kinds) aggs agg) in
     record {
       keeps = keeps_then old mid new all.keeps one.keeps;
       cost = record {
-        nodes = omega (arith, all.cost.nodes, one.cost.nodes, sum_push (λ a. cycles + weight_of_agg kinds a) aggs agg);
-        registers = omega (arith, all.cost.registers, one.cost.registers, sum_push (λ a. state_of_agg kinds a + width_of (kind_of_agg kinds a) * cycles) aggs agg);
-        memories = omega (arith, all.cost.memories, one.cost.memories);
+        nodes = omega (arith, all.cost.nodes, one.cost.nodes, sum_push (λ a. cycles + weight_of_agg kinds a) aggs agg, more);
+        registers = omega (arith, all.cost.registers, one.cost.registers, sum_push (λ a. state_of_agg kinds a + width_of (kind_of_agg kinds a) * cycles) aggs agg, operands);
+        memories = omega (arith, all.cost.memories, one.cost.memories, kept);
       };
       buses = AreBuses-push new bs b (buses_kept mid new bs one.keeps all.buses) one.bus;
       same_widths = widths-push bs b ∙ ap (λ l. l ++ b.width ∷ []) all.same_widths ∙ ap (λ w. total_widths kinds aggs ++ w ∷ []) one.same_width
           ∙ sym (ap (map width_of) (map-append (kind_of_agg kinds) aggs (agg ∷ [])) ∙ map-append width_of (map (kind_of_agg kinds) aggs) (kind_of_agg kinds agg ∷ []));
-      row = λ run r t.
+      row = λ run r told t fresh.
           let rows = rows_at run s (suc t) in
-          row_at-push run (suc t + cycles) bs b ∙ ap (λ l. l ++ run.at (suc t + cycles) b.node ∷ []) (all.row run (one.keeps.runs run r) t)
-          ∙ ap (λ v. total_row kinds aggs rows ++ v ∷ []) (one.carries run r t) ∙ sym (map-append (total_of kinds rows) aggs (agg ∷ []));
+          row_at-push run (suc t + cycles) bs b ∙ ap (λ l. l ++ run.at (suc t + cycles) b.node ∷ []) (all.row run (one.keeps.runs run r) told t fresh)
+          ∙ ap (λ v. total_row kinds aggs rows ++ v ∷ []) (one.carries run r told t fresh) ∙ sym (map-append (total_of kinds rows) aggs (agg ∷ []));
     }

@@ -4,8 +4,9 @@ pub mod ValueLemmas
 pub mod TotalLemmas
 pub mod WeighLemmas
 pub mod FoldNet
+pub mod SlotLemmas
+pub mod KeepLemmas
 pub mod SumNet
-pub mod PairLemmas
 pub mod ExtremeNet
 pub mod WeighNet
 pub mod AverageNet
@@ -14,3 +15,6 @@ pub mod AggListNet
 pub mod KindLemmas
 pub mod TotalsBehind
 pub mod CountLemmas
+pub mod TableLemmas
+pub mod TableEnds
+pub mod TableNet

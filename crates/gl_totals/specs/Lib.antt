@@ -2,7 +2,9 @@ pub mod Open
 pub mod Costs
 pub mod Delays
 pub mod Folds
+pub mod Slots
 pub mod Totals
+pub mod Tables
 pub mod Averages
 pub mod Weighing
 pub mod Counted

@@ -1,16 +1,20 @@
-//! A register that folds the rows of the open stream, and begins anew behind each end.
+//! What folds the rows of the open stream, and begins anew with the next one.
 
 ghost use Rattle.std.specs.Prelude.{◌≡◌, ◌<◌, IfOk};
 ghost use Rattle.gl_bits.specs.Words.{IsWidth, bit};
-ghost use Rattle.gl_net.specs.Net.{IsBit, IsBus};
+ghost use Rattle.gl_net.specs.Net.{IsAddressWidth, IsBit, IsBus};
 ghost use Rattle.gl_totals.specs.Folds.{BestFits, IsBetter, IsFold, IsNext, StepFits};
+ghost use Rattle.gl_totals.specs.Open.{KeepFits, in_memory, in_register};
+ghost use Rattle.gl_totals.specs.Slots.{IsNow, IsPassing};
 ghost use Rattle.gl_totals.specs.declared.fold.Step.TheVariants.{Keep};
 
+use crate::rows::{self, Rows};
 use gl_bits::{Kind, Memory, Op, Word};
 use gl_divide::digit::shifted;
 use gl_net::{BinaryOp, Bit, Bus, NetBuilder};
 use gl_rows::operation::put_operator;
-use gl_wire::but_not;
+use gl_wire::{both, but_not, either, same};
+use gl_wire_memories::put_memory;
 
 /// An end of the order.
 #[derive(Clone, Copy, PartialEq, Eq, Debug)]
@@ -122,8 +126,8 @@ pub fn put_next(net: &mut NetBuilder, state: Bus, step: Step) -> Result<Bus, Mem
     }
 }
 
-/// The fold of the open stream's rows from a first state on.
-pub fn put_fold(
+// The same in a register, which begins anew behind each end.
+fn put_register(
     net: &mut NetBuilder,
     valid: Bit,
     eos: Bit,
@@ -133,7 +137,8 @@ pub fn put_fold(
     requires valid { IsBit net.old valid }
     requires eos { IsBit net.old eos }
     requires step { StepFits net.old first.width step }
-    ensures { IfOk result (IsFold net.old net.new first.width first.bits step valid eos) }
+    ensures { IfOk result
+        (IsFold net.old net.new first.width first.bits step (in_register valid eos)) }
 {
     let before = net.register(first.width(), Some(first))?;
     let stepped = put_next(net, before, step)?;
@@ -142,4 +147,101 @@ pub fn put_fold(
     let next = net.choose(eos, again, now)?;
     net.drive(before, next)?;
     Ok(Fold { before, now })
+}
+
+// The first state where a stream begins, and else a word; and what that is with this cycle's row.
+fn put_now(
+    net: &mut NetBuilder,
+    valid: Bit,
+    first: Bit,
+    word: Bus,
+    initial: Word,
+    step: Step,
+) -> Result<Fold, Memory>
+    requires valid { IsBit net.old valid }
+    requires first { IsBit net.old first }
+    requires word { IsBus net.old word }
+    requires width { word.width ≡ initial.width }
+    requires step { StepFits net.old initial.width step }
+    ensures { IfOk result
+        (IsNow net.old net.new valid first word initial.width initial.bits step) }
+{
+    let again = net.constant(initial)?;
+    let before = net.choose(first, again, word)?;
+    let stepped = put_next(net, before, step)?;
+    let now = net.choose(valid, stepped, before)?;
+    Ok(Fold { before, now })
+}
+
+// The words of the slots, written where a row comes or a stream begins, and the word of the slot that comes next. What is written at once
+// is passed on.
+fn put_passing(
+    net: &mut NetBuilder,
+    valid: Bit,
+    first: Bit,
+    slot: Bus,
+    next: Bus,
+    now: Bus,
+) -> Result<Bus, Memory>
+    requires valid { IsBit net.old valid }
+    requires first { IsBit net.old first }
+    requires slot { IsBus net.old slot }
+    requires next { IsBus net.old next }
+    requires bits { IsAddressWidth slot.width }
+    requires same_width { next.width ≡ slot.width }
+    requires now { IsBus net.old now }
+    ensures { IfOk result (IsPassing net.old net.new valid first slot next now) }
+{
+    let write = either(net, valid, first)?;
+    let meets = same(net, slot, next)?;
+    let passes = both(net, meets, write)?;
+    let read = put_memory(net, slot.width, write, slot, next, now)?;
+    // Named, since a goal speaks of the value.
+    let out = net.choose(passes, now, read)?;
+    Ok(out)
+}
+
+// The same in a memory with a word for each slot. A register holds the word of this cycle's slot, so that the memory may answer a cycle late.
+fn put_slots(
+    net: &mut NetBuilder,
+    valid: Bit,
+    first: Bit,
+    slot: Bus,
+    next: Bus,
+    initial: Word,
+    step: Step,
+) -> Result<Fold, Memory>
+    requires valid { IsBit net.old valid }
+    requires first { IsBit net.old first }
+    requires slot { IsBus net.old slot }
+    requires next { IsBus net.old next }
+    requires bits { IsAddressWidth slot.width }
+    requires same_width { next.width ≡ slot.width }
+    requires step { StepFits net.old initial.width step }
+    ensures { (eos : Bit) → IfOk result (IsFold net.old net.new initial.width initial.bits step
+        (in_memory valid eos first slot next)) }
+{
+    let word = net.register(initial.width(), None)?;
+    let fold = put_now(net, valid, first, word, initial, step)?;
+    let ahead = put_passing(net, valid, first, slot, next, fold.now)?;
+    net.drive(word, ahead)?;
+    Ok(fold)
+}
+
+/// The fold of the open stream's rows from a first state on, where these say that it is kept.
+pub fn put_fold(net: &mut NetBuilder, rows: Rows, first: Word, step: Step) -> Result<Fold, Memory>
+    requires valid { IsBit net.old rows.valid }
+    requires eos { IsBit net.old rows.eos }
+    requires keep { KeepFits net.old rows.keep }
+    requires step { StepFits net.old first.width step }
+    ensures { IfOk result (IsFold net.old net.new first.width first.bits step rows) }
+{
+    match rows.keep {
+        rows::Keep::Register => put_register(net, rows.valid, rows.eos, first, step),
+        rows::Keep::Slots {
+            first: begins,
+            slot,
+            next,
+        } => put_slots(net, rows.valid, begins, slot, next, first, step),
+    }
 }

@@ -14,8 +14,8 @@ loop-bus-init c =
 pub loop-bus-preserved : goal.loop-bus-preserved
 loop-bus-preserved c =
     rw (take_more c.args.columns.now c.loop-bus.bus-index (record { node = 0; width = 0 }) c.loop-bus-test.true, c.in_ok-push.ensures.ok)
-    (stored_more c.args.net.now c.loop-bus.net c.put_column.new.net c.args.bits c.args.push c.args.tail c.args.head _ _ _ _ c.loop-bus.invariant c.in_ok-out.ensures)
+    (stored_more c.args.net.now c.loop-bus.net c.put_memory.new.net c.args.bits c.args.push c.args.tail c.args.head _ _ _ _ c.loop-bus.invariant c.in_ok-out.ensures)
 
-pub put_column-requires-clause-column : goal.put_column-requires-clause-column
-put_column-requires-clause-column c =
+pub put_memory-requires-clause-value : goal.put_memory-requires-clause-value
+put_memory-requires-clause-value c =
     bus_kept c.args.net.now c.loop-bus.net _ c.loop-bus.invariant.keeps (c.requires.columns.each _ _ (slice_get-get_or _ _ _ c.loop-bus-test.true))

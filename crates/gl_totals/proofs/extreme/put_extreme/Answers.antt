@@ -1,36 +1,43 @@
-use Rattle.std.proofs.Common.{◌≡◌, ℕ, suc, ◌+◌, arith, ap, subst, ◌∙◌}
+use Rattle.std.proofs.Common.{◌≡◌, ℕ, suc, ◌+◌, ◌*◌, arith, ap, subst, ◌∙◌}
 use Rattle.gl_net.proofs.Determined.{keeps_then}
+use Rattle.gl_totals.specs.Costs.{slot_words}
 use Rattle.gl_totals.specs.Folds.{IsFolded}
 use Rattle.gl_totals.specs.declared.fold.Best.{Best}
 use Rattle.gl_totals.specs.declared.fold.Step.TheVariants.{Keep, Set}
 use Rattle.gl_totals.proofs.ExtremeNet.{extreme_now}
+use Rattle.gl_totals.proofs.KeepLemmas.{keep_kept}
 use Rattle.gl_totals.proofs.extreme.put_extreme.Goals as goal
+
+pub put_fold-requires-2-clause-keep : goal.put_fold-requires-2-clause-keep
+put_fold-requires-2-clause-keep c = keep_kept _ _ c.args.rows.keep c.in_ok-some.ensures.keeps c.requires.keep
 
 pub returns : goal.returns
 returns c =
     let value = c.args.value in
-    let valid = c.args.valid in
-    let eos = c.args.eos in
+    let rows = c.args.rows in
     let some = c.in_ok-some.ensures in
     let fold = c.in_ok-fold.ensures in
     let flag = c.in_ok-some.some in
     let f = c.in_ok-fold.fold in
     let best : Best = record { extreme = c.args.extreme; kind = c.args.kind; some = c.bit.result; value = value } in
+    let words = slot_words rows.keep in
+    let bit : words * c.small_word.result.width ≡ words * 1 = ap (λ (w : ℕ). words * w) c.small_word.ensures.width in
+    let bits : words * c.small_word-2.result.width ≡ words * value.width = ap (λ (w : ℕ). words * w) c.small_word-2.ensures.width in
     record {
       keeps = keeps_then c.args.net.now c.put_fold.new.net c.put_fold-2.new.net some.keeps fold.keeps;
       cost = record {
         nodes = omega (arith, some.cost.nodes, fold.cost.nodes);
         registers = omega (arith, some.cost.registers, fold.cost.registers, c.small_word.ensures.width, c.small_word-2.ensures.width);
-        memories = omega (arith, some.cost.memories, fold.cost.memories);
+        memories = omega (arith, some.cost.memories, fold.cost.memories, bit, bits);
       };
       bus = fold.now;
       same_width = fold.now_width ∙ c.small_word-2.ensures.width;
-      carries = λ run r t.
+      carries = λ run r told t fresh.
           let e : suc t + 0 ≡ suc t = omega arith in
           ap (λ (n : ℕ). run.at n f.now.node) e
-          ∙ extreme_now run valid eos value.width best flag.before flag.now f.before f.now c.bit.ensures
-          (subst (λ (w : ℕ). IsFolded run w 0 Set valid eos flag.before flag.now) c.small_word.ensures.width
-          (subst (λ (b : ℕ). IsFolded run c.small_word.result.width b Set valid eos flag.before flag.now) c.small_word.ensures.bits (some.folded run (fold.keeps.runs run r))))
-          (subst (λ (w : ℕ). IsFolded run w 0 (Keep best) valid eos f.before f.now) c.small_word-2.ensures.width
-          (subst (λ (b : ℕ). IsFolded run c.small_word-2.result.width b (Keep best) valid eos f.before f.now) c.small_word-2.ensures.bits (fold.folded run r))) t;
+          ∙ extreme_now run rows value.width best flag.before flag.now f.before f.now c.bit.ensures
+          (subst (λ (w : ℕ). IsFolded run w 0 Set rows flag.before flag.now) c.small_word.ensures.width
+          (subst (λ (b : ℕ). IsFolded run c.small_word.result.width b Set rows flag.before flag.now) c.small_word.ensures.bits (some.folded run (fold.keeps.runs run r) told.led)))
+          (subst (λ (w : ℕ). IsFolded run w 0 (Keep best) rows f.before f.now) c.small_word-2.ensures.width
+          (subst (λ (b : ℕ). IsFolded run c.small_word-2.result.width b (Keep best) rows f.before f.now) c.small_word-2.ensures.bits (fold.folded run r told.led))) told.begins t fresh;
     }

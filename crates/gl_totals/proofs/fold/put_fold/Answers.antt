@@ -1,56 +1,35 @@
-use Rattle.std.proofs.Common.{ℕ, suc, ap, arith, ◌∙◌}
-use Rattle.std.specs.Prelude.{if◌then◌else◌}
-use Rattle.gl_net.specs.Net.{Keeps}
-use Rattle.gl_net.proofs.Determined.{keeps_then}
-use Rattle.gl_net.proofs.Drive.{driven_keeps}
-use Rattle.gl_wire.specs.Wire.{line_at}
-use Rattle.gl_wire.proofs.ColumnLemmas.{bus_kept}
-use Rattle.gl_wire.proofs.GateLemmas.{choose_line}
-use Rattle.gl_totals.specs.Folds.{next_of}
+use Rattle.std.proofs.Common.{sym, subst}
+use Rattle.std.specs.Prelude.{IfOk}
+use Rattle.gl_totals.specs.Folds.{IsFold}
+use Rattle.gl_totals.specs.Open.{KeepFits}
+use Rattle.gl_totals.specs.declared.rows.Keep.{Keep}
 use Rattle.gl_totals.proofs.fold.put_fold.Goals as goal
 
-pub returns : goal.returns
-returns c =
-    let old = c.args.net.now in
-    let new = c.drive.new.self in
-    let before = c.in_ok-before.ensures in
-    let stepped = c.in_ok-stepped.ensures in
-    let now = c.in_ok-now.ensures in
-    let again = c.in_ok-again.ensures in
-    let next = c.in_ok-next.ensures in
-    let drive = c.in_ok-drive.ensures in
-    let behind_now : Keeps c.choose.new.self c.choose-2.new.self = keeps_then _ c.constant.new.self _ again.keeps next.keeps in
-    let middle : Keeps c.register.new.self c.choose-2.new.self = keeps_then _ c.put_next.new.net _ stepped.keeps (keeps_then _ c.choose.new.self _ now.keeps behind_now) in
-    let state = bus_kept _ _ c.in_ok-before.before middle before.bus in
-    let kept = bus_kept _ _ c.in_ok-now.now behind_now now.bus in
-    record {
-      keeps = driven_keeps old c.register.new.self c.choose-2.new.self new c.in_ok-before.before.node before.grows before.ports before.name before.others before.fresh
-          middle drive.grows drive.ports drive.name drive.others drive.driven;
-      cost = record {
-        nodes = omega (arith, before.size, stepped.cost.nodes, now.size, again.size, next.size, drive.size);
-        registers = omega (arith, before.register_bits, stepped.cost.registers, now.register_bits, again.register_bits, next.register_bits, drive.register_bits, c.width.ensures.value);
-        memories = omega (arith, before.memory_bits, stepped.cost.memories, now.memory_bits, again.memory_bits, next.memory_bits, drive.memory_bits);
-      };
-      before = record { there = drive.grows.shapes _ _ state.there; width = state.width };
-      before_width = before.width ∙ c.width.ensures.value;
-      now = record { there = drive.grows.shapes _ _ kept.there; width = kept.width };
-      now_width = now.width ∙ stepped.same_width ∙ before.width ∙ c.width.ensures.value;
-      folded = λ run r.
-          let at_next = drive.grows.runs run r in
-          let at_again = next.keeps.runs run at_next in
-          let at_now = again.keeps.runs run at_again in
-          let at_stepped = now.keeps.runs run at_now in
-          let at_before = stepped.keeps.runs run at_stepped in
-          record {
-            start = before.start run at_before;
-            next = λ t.
-                drive.value run r t ∙ next.value run at_next (suc t)
-                ∙ choose_line run c.args.eos (run.at (suc t) c.in_ok-again.again.node) (run.at (suc t) c.in_ok-now.now.node) t
-                ∙ ap (λ (n : ℕ). if line_at run c.args.eos (suc t) then n else run.at (suc t) c.in_ok-now.now.node) (again.value run at_again (suc t));
-            with_row = λ t.
-                now.value run at_now (suc t)
-                ∙ choose_line run c.args.valid (run.at (suc t) c.in_ok-stepped.stepped.node) (run.at (suc t) c.in_ok-before.before.node) t
-                ∙ ap (λ (n : ℕ). if line_at run c.args.valid (suc t) then n else run.at (suc t) c.in_ok-before.before.node)
-                (stepped.value run at_stepped t ∙ ap (λ (w : ℕ). next_of c.args.step run w (suc t) (run.at (suc t) c.in_ok-before.before.node)) (before.width ∙ c.width.ensures.value));
-          };
-    }
+pub returns-in-Register : goal.returns-in-Register
+returns-in-Register c =
+    let rows = c.args.rows in
+    let first = c.args.first in
+    subst (λ (k : Keep). IfOk c.put_register.result (IsFold c.args.net.now c.put_register.new.net first.width first.bits c.args.step
+    (record { valid = rows.valid; eos = rows.eos; keep = k }))) (sym c.in-Register.is) c.put_register.ensures
+
+pub returns-in-Slots : goal.returns-in-Slots
+returns-in-Slots c =
+    let rows = c.args.rows in
+    let first = c.args.first in
+    subst (λ (k : Keep). IfOk c.put_slots.result (IsFold c.args.net.now c.put_slots.new.net first.width first.bits c.args.step
+    (record { valid = rows.valid; eos = rows.eos; keep = k }))) (sym c.in-Slots.is) (c.put_slots.ensures rows.eos)
+
+pub put_slots-requires-clause-first : goal.put_slots-requires-clause-first
+put_slots-requires-clause-first c = (subst (KeepFits c.args.net.now) c.in-Slots.is c.requires.keep).0
+
+pub put_slots-requires-clause-slot : goal.put_slots-requires-clause-slot
+put_slots-requires-clause-slot c = (subst (KeepFits c.args.net.now) c.in-Slots.is c.requires.keep).1
+
+pub put_slots-requires-clause-next : goal.put_slots-requires-clause-next
+put_slots-requires-clause-next c = (subst (KeepFits c.args.net.now) c.in-Slots.is c.requires.keep).2
+
+pub put_slots-requires-clause-bits : goal.put_slots-requires-clause-bits
+put_slots-requires-clause-bits c = (subst (KeepFits c.args.net.now) c.in-Slots.is c.requires.keep).3
+
+pub put_slots-requires-clause-same_width : goal.put_slots-requires-clause-same_width
+put_slots-requires-clause-same_width c = (subst (KeepFits c.args.net.now) c.in-Slots.is c.requires.keep).4

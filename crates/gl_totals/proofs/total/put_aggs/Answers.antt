@@ -2,8 +2,8 @@ use Rattle.std.proofs.Common.{◌≤◌, [], take, arith, sym, subst}
 use Rattle.gl_algebra.specs.FigureTable.{delay_of_agg, delay_of_aggs}
 use Rattle.gl_algebra.specs.declared.node.PlanAgg.{PlanAgg}
 use Rattle.gl_bits.proofs.AllLists.{taken_next}
-use Rattle.gl_rows.proofs.MadeLemmas.{source_kept}
 use Rattle.gl_totals.specs.Totals.{AreAggsOf}
+use Rattle.gl_totals.proofs.KeepLemmas.{stream_kept}
 use Rattle.gl_totals.proofs.AggListNet.{aggs_more, aggs_none, delay_within}
 use Rattle.gl_totals.proofs.total.put_aggs.Goals as goal
 
@@ -11,14 +11,7 @@ pub loop-agg-init : goal.loop-agg-init
 loop-agg-init c = subst (AreAggsOf c.args.net.now c.args.net.now c.args.cycles c.args.stream []) (sym c.new-all.ensures) (aggs_none c.args.net.now c.args.cycles c.args.stream)
 
 pub put_agg-requires-clause-stream : goal.put_agg-requires-clause-stream
-put_agg-requires-clause-stream c =
-    let keeps = c.loop-agg.invariant.keeps in
-    let s = c.args.stream in
-    record {
-      valid = record { there = keeps.shapes s.valid.node _ c.requires.stream.valid.there };
-      eos = record { there = keeps.shapes s.eos.node _ c.requires.stream.eos.there };
-      source = source_kept c.args.net.now c.loop-agg.net s.source.columns.now s.source.kinds.now keeps c.requires.stream.source;
-    }
+put_agg-requires-clause-stream c = stream_kept c.args.net.now c.loop-agg.net c.args.stream c.loop-agg.invariant.keeps c.requires.stream
 
 pub put_agg-requires-clause-late : goal.put_agg-requires-clause-late
 put_agg-requires-clause-late c =

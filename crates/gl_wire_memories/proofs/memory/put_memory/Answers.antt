@@ -1,6 +1,6 @@
 use Rattle.std.proofs.Common.{arith, ◌∙◌}
 use Rattle.std.proofs.lemmas.Grind.{common_steps}
-use Rattle.gl_queue.proofs.ring.put_column.Goals as goal
+use Rattle.gl_wire_memories.proofs.memory.put_memory.Goals as goal
 
 pub returns : goal.returns
 returns c =
