@@ -36,7 +36,7 @@ aggs_none net cycles s = record {
   cost = record { nodes = omega arith; registers = omega arith; memories = omega arith };
   buses = AreBuses-none net;
   same_widths = refl;
-  row = λ run r t. row_at-none run (suc t + cycles);
+  row = λ run r begins t fresh. row_at-none run (suc t + cycles);
 }
 
 pub aggs_more : (old mid new : Net) (cycles : ℕ) (s : Stream) (aggs : List PlanAgg) (agg : PlanAgg) (bs : List Bus) (b : Bus) → AreAggsOf old mid cycles s aggs bs
@@ -53,8 +53,8 @@ aggs_more old mid new cycles s aggs agg bs b all one =
       buses = AreBuses-push new bs b (buses_kept mid new bs one.keeps all.buses) one.bus;
       same_widths = widths-push bs b ∙ ap (λ l. l ++ b.width ∷ []) all.same_widths ∙ ap (λ w. total_widths kinds aggs ++ w ∷ []) one.same_width
           ∙ sym (ap (map width_of) (map-append (kind_of_agg kinds) aggs (agg ∷ [])) ∙ map-append width_of (map (kind_of_agg kinds) aggs) (kind_of_agg kinds agg ∷ []));
-      row = λ run r t.
+      row = λ run r begins t fresh.
           let rows = rows_at run s (suc t) in
-          row_at-push run (suc t + cycles) bs b ∙ ap (λ l. l ++ run.at (suc t + cycles) b.node ∷ []) (all.row run (one.keeps.runs run r) t)
-          ∙ ap (λ v. total_row kinds aggs rows ++ v ∷ []) (one.carries run r t) ∙ sym (map-append (total_of kinds rows) aggs (agg ∷ []));
+          row_at-push run (suc t + cycles) bs b ∙ ap (λ l. l ++ run.at (suc t + cycles) b.node ∷ []) (all.row run (one.keeps.runs run r) begins t fresh)
+          ∙ ap (λ v. total_row kinds aggs rows ++ v ∷ []) (one.carries run r begins t fresh) ∙ sym (map-append (total_of kinds rows) aggs (agg ∷ []));
     }

@@ -26,7 +26,7 @@ use Rattle.gl_totals.proofs.ValueLemmas.{values_many, values_of_rows}
 
 -- a total of an operand's values
 pub agg_is : (old mid new : Net) (s : Stream) (operand : Operand) (agg : PlanAgg) (x out : Bus) (most : Cost) (width cycles : ℕ) (total : List ℕ → ℕ)
-    → IsOperand old mid s.source.columns.now s.source.kinds.now operand x → IsTotalOf mid new most width cycles s.valid s.eos x total out
+    → IsOperand old mid s.source.columns.now s.source.kinds.now operand x → IsTotalOf mid new most width cycles s.rows x total out
     → most.nodes + 1 ≤ weight_of_agg s.source.kinds.now agg → most.registers ≤ state_of_agg s.source.kinds.now agg → most.memories ≡ 0
     → width ≡ width_of (kind_of_agg s.source.kinds.now agg)
     → ((rows : List Row) → total (map (λ row. value_of_operand row operand) rows) ≡ total_of s.source.kinds.now rows agg) → IsAggOf old new 0 cycles s agg out
@@ -39,21 +39,21 @@ agg_is old mid new s operand agg x out most width cycles total value h nodes reg
   };
   bus = h.bus;
   same_width = h.same_width ∙ wide;
-  carries = λ run r t.
-      h.carries run r t
-      ∙ ap total (values_of_rows run s.valid s.eos s.source.columns.now x (λ row. value_of_operand row operand) (λ u. value.carries run (h.keeps.runs run r) (suc u)) (suc t))
+  carries = λ run r begins t fresh.
+      h.carries run r begins t fresh
+      ∙ ap total (values_of_rows run s.rows s.source.columns.now x (λ row. value_of_operand row operand) (λ u. value.carries run (h.keeps.runs run r) (suc u)) (suc t))
       ∙ same (rows_at run s (suc t));
 }
 
 -- the number of rows
-pub count_is : (old new : Net) (s : Stream) (x out : Bus) → IsTotalOf old new cost_of_count 32 0 s.valid s.eos x count_of out → IsAggOf old new 0 0 s Count out
+pub count_is : (old new : Net) (s : Stream) (x out : Bus) → IsTotalOf old new cost_of_count 32 0 s.rows x count_of out → IsAggOf old new 0 0 s Count out
 unfolding count_of
 count_is old new s x out h = record {
   keeps = h.keeps;
   cost = record { nodes = omega (arith, h.cost.nodes); registers = omega (arith, h.cost.registers); memories = omega (arith, h.cost.memories) };
   bus = h.bus;
   same_width = h.same_width;
-  carries = λ run r t. h.carries run r t ∙ ap (λ (n : ℕ). n % 2 ^ 32) (values_many run s.valid s.eos s.source.columns.now x (suc t));
+  carries = λ run r begins t fresh. h.carries run r begins t fresh ∙ ap (λ (n : ℕ). n % 2 ^ 32) (values_many run s.rows s.source.columns.now x (suc t));
 }
 
 -- some cycles later
@@ -72,16 +72,16 @@ agg_later old mid new s agg early out gone cycles le h later =
       };
       bus = later.bus;
       same_width = later.same_width ∙ h.same_width;
-      carries = λ run r t.
+      carries = λ run r begins t fresh.
           let at : suc t + cycles ≡ suc (t + gone) + (cycles - gone) = omega arith in
           let before : suc (t + gone) ≡ suc t + gone = omega arith in
           ap (λ (n : ℕ). run.at n out.node) at ∙ later.value run r (t + gone) ∙ ap (λ (n : ℕ). run.at n early.node) before
-          ∙ h.carries run (later.keeps.runs run r) t;
+          ∙ h.carries run (later.keeps.runs run r) begins t fresh;
     }
 
 -- an extreme
 pub extreme_is : (old mid new : Net) (s : Stream) (operand : Operand) (extreme : Extreme) (x out : Bus) → IsOperand old mid s.source.columns.now s.source.kinds.now operand x
-    → IsTotalOf mid new (cost_of_extreme x.width) x.width 0 s.valid s.eos x (extreme_of extreme (kind_of_operand s.source.kinds.now operand)) out
+    → IsTotalOf mid new (cost_of_extreme x.width) x.width 0 s.rows x (extreme_of extreme (kind_of_operand s.source.kinds.now operand)) out
     → IsAggOf old new 0 0 s (agg_of_extreme extreme operand) out
 extreme_is old mid new s operand Least x out value h =
     agg_is old mid new s operand (Min operand) x out (cost_of_extreme x.width) x.width 0 (least_of (kind_of_operand s.source.kinds.now operand)) value h

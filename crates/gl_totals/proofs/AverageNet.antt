@@ -17,6 +17,7 @@ use Rattle.gl_wire.specs.Gates.{same_at}
 use Rattle.gl_wire.specs.Wire.{line_at}
 use Rattle.gl_wire.proofs.GateLemmas.{choose_line}
 use Rattle.gl_totals.specs.Open.{values_at}
+use Rattle.gl_totals.specs.declared.rows.Rows.{Rows}
 use Rattle.gl_totals.proofs.ValueLemmas.{values_through}
 use Rattle.gl_bits.specs.Words.{choose_of}
 
@@ -28,12 +29,12 @@ choose_empty run line bottom none t x given n is zero same =
     ∙ ap (λ (m : ℕ). if nat_eq (run.at (suc t) bottom.node) 0 then m else given) same
 
 -- the same values in a wider word
-pub values_wider : (net : Net) (run : Run) (valid eos : Bit) (value wide : Bus) (w : ℕ) → IsBus net value → IsRun net run → value.width ≤ w
-    → ((t : ℕ) → run.at t wide.node ≡ run.at t value.node % 2 ^ w) → (t : ℕ) → values_at run valid eos wide t ≡ values_at run valid eos value t
-values_wider net run valid eos value wide w is r wider h t =
-    values_through run valid eos value wide (λ (x : ℕ). x)
+pub values_wider : (net : Net) (run : Run) (rows : Rows) (value wide : Bus) (w : ℕ) → IsBus net value → IsRun net run → value.width ≤ w
+    → ((t : ℕ) → run.at t wide.node ≡ run.at t value.node % 2 ^ w) → (t : ℕ) → values_at run rows wide t ≡ values_at run rows value t
+values_wider net run rows value wide w is r wider h t =
+    values_through run rows value wide (λ (x : ℕ). x)
     (λ u. h (suc u) ∙ mod-eq_of_lt (fits_wider (run.at (suc u) value.node) value.width w (bus_fits net value run is r (suc u)) wider)) t
-    ∙ map-id (values_at run valid eos value t)
+    ∙ map-id (values_at run rows value t)
 
 -- a quotient as an average
 pub record IsAverage (kind : Kind) (xs : List ℕ) (top bottom : ℕ) : Type 0 where

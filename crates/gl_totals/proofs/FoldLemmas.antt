@@ -1,36 +1,42 @@
--- A state that begins anew behind each end is the fold of the open stream's values.
-use Rattle.std.proofs.Common.{◌≡◌, ℕ, zero, suc, List, [], ◌∷◌, ◌++◌, Bool, true, false, refl, sym, ap, ◌∙◌}
+-- What a fold carries: a register that begins anew behind each end keeps a state, and two states that are kept are one.
+use Rattle.std.proofs.Common.{◌≡◌, ℕ, suc, Bool, ap, ◌∙◌}
 use Rattle.std.specs.Prelude.{fold, if◌then◌else◌}
-use Rattle.std.proofs.lemmas.List.{append-nil}
-use Rattle.std.proofs.lemmas.List.Sums.{fold-append}
 use Rattle.gl_net.specs.declared.node.Bus.{Bus}
 use Rattle.gl_net.specs.declared.node.Bit.{Bit}
 use Rattle.gl_net.specs.Net.{Run}
 use Rattle.gl_wire.specs.Wire.{line_at}
-use Rattle.gl_totals.specs.Open.{values_at, values_before}
+use Rattle.gl_wire_lanes.specs.Keeping.{IsKept}
+use Rattle.gl_wire_lanes.specs.Lanes.{Begins, IsFresh}
+use Rattle.gl_wire_lanes.proofs.FoldLemmas.{tables_fold}
+use Rattle.gl_wire_lanes.proofs.PairLemmas.{both_kept, pair, pair_chosen, pair_same}
+use Rattle.gl_wire_lanes.proofs.SingleLemmas.{register_is_kept}
+use Rattle.gl_totals.specs.Folds.{IsFolded, next_of}
+use Rattle.gl_totals.specs.Open.{in_register, lane_by, values_at}
+use Rattle.gl_totals.specs.declared.fold.Step.{Step}
+use Rattle.gl_totals.specs.declared.rows.Rows.{Rows}
 
-module _ {A : Type 0} (step : A → ℕ → A) (first : A) where
-  fold_value : (b : Bool) (a : A) (n : ℕ) (xs : List ℕ) → a ≡ fold step first xs → (if b then step a n else a) ≡ fold step first (xs ++ (if b then n ∷ [] else []))
-  fold_value true a n xs e = ap (λ (s : A). step s n) e ∙ sym (fold-append step first xs (n ∷ []))
-  fold_value false a n xs e = e ∙ ap (fold step first) (sym (append-nil xs))
+pub register_folded : (run : Run) (width first : ℕ) (step : Step) (valid eos : Bit) (before now : Bus) → run.at 1 before.node ≡ first
+    → ((t : ℕ) → run.at (suc (suc t)) before.node ≡ (if line_at run eos (suc t) then first else run.at (suc t) now.node))
+    → ((t : ℕ) → run.at (suc t) now.node ≡ (if line_at run valid (suc t) then next_of step run width (suc t) (run.at (suc t) before.node) else run.at (suc t) before.node))
+    → IsFolded run width first step (in_register valid eos) before now
+register_folded run width first step valid eos before now start next with_row = record {
+  kept = register_is_kept first (line_at run valid) (line_at run eos) (λ t. run.at t before.node) (λ t. run.at t now.node) (record { start = start; next = next })
+      (λ t none.
+      with_row t ∙ ap (λ (b : Bool). if b then next_of step run width (suc t) (run.at (suc t) before.node) else run.at (suc t) before.node) none);
+  with_row = with_row;
+}
 
-  fold_end : (b : Bool) (a : A) (xs : List ℕ) → a ≡ fold step first xs → (if b then first else a) ≡ fold step first (if b then [] else xs)
-  fold_end true a xs e = refl
-  fold_end false a xs e = e
-
-  module _ (run : Run) (valid eos : Bit) (x : Bus) (before now : ℕ → A) (start : before 1 ≡ first)
-      (next : (t : ℕ) → before (suc (suc t)) ≡ (if line_at run eos (suc t) then first else now (suc t)))
-      (with_row : (t : ℕ) → now (suc t) ≡ (if line_at run valid (suc t) then step (before (suc t)) (run.at (suc t) x.node) else before (suc t))) where
-    none_before : values_before run valid eos x 1 ≡ []
-    unfolding line_at
-    none_before = refl
-
-    now_by : (t : ℕ) → before (suc t) ≡ fold step first (values_before run valid eos x (suc t)) → now (suc t) ≡ fold step first (values_at run valid eos x (suc t))
-    now_by t e = with_row t ∙ fold_value (line_at run valid (suc t)) (before (suc t)) (run.at (suc t) x.node) (values_before run valid eos x (suc t)) e
-
-    pub folds_before : (t : ℕ) → before (suc t) ≡ fold step first (values_before run valid eos x (suc t))
-    folds_before zero = start ∙ ap (fold step first) (sym none_before)
-    folds_before (suc t) = next t ∙ fold_end (line_at run eos (suc t)) (now (suc t)) (values_at run valid eos x (suc t)) (now_by t (folds_before t))
-
-    pub folds_now : (t : ℕ) → now (suc t) ≡ fold step first (values_at run valid eos x (suc t))
-    folds_now t = now_by t (folds_before t)
+-- of two states of which one may depend on the other, the second
+module _ (run : Run) (rows : Rows) (x : Bus) (step : ℕ × ℕ → ℕ → ℕ × ℕ) (first second : ℕ) (one one_now two two_now : ℕ → ℕ)
+    (p : IsKept first (lane_by run rows) one one_now) (q : IsKept second (lane_by run rows) two two_now)
+    (one_row : (t : ℕ) → one_now (suc t) ≡ (if line_at run rows.valid (suc t) then (step (pair (one (suc t)) (two (suc t))) (run.at (suc t) x.node)).0 else one (suc t)))
+    (two_row : (t : ℕ) → two_now (suc t) ≡ (if line_at run rows.valid (suc t) then (step (pair (one (suc t)) (two (suc t))) (run.at (suc t) x.node)).1 else two (suc t)))
+    (begins : Begins (lane_by run rows)) where
+  pub folds_second : (t : ℕ) → IsFresh (lane_by run rows) (suc t) → two_now (suc t) ≡ (fold step (pair first second) (values_at run rows x (suc t))).1
+  folds_second t fresh =
+      ap (λ (s : ℕ × ℕ). s.1)
+      (tables_fold step (pair first second) (lane_by run rows) (λ c. run.at c x.node) (λ c. pair (one c) (two c)) (λ c. pair (one_now c) (two_now c)) begins
+      (both_kept first second (lane_by run rows) one one_now two two_now p q)
+      (λ c.
+      let state = step (pair (one (suc c)) (two (suc c))) (run.at (suc c) x.node) in
+      pair_same _ _ _ _ (one_row c) (two_row c) ∙ pair_chosen (line_at run rows.valid (suc c)) state.0 (one (suc c)) state.1 (two (suc c))) t fresh)

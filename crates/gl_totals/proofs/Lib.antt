@@ -5,7 +5,6 @@ pub mod TotalLemmas
 pub mod WeighLemmas
 pub mod FoldNet
 pub mod SumNet
-pub mod PairLemmas
 pub mod ExtremeNet
 pub mod WeighNet
 pub mod AverageNet

@@ -15,14 +15,18 @@ use Rattle.gl_wire.specs.declared.emitted.Emitted.{Emitted}
 use Rattle.gl_wire.specs.declared.wire.Wire.{Wire}
 use Rattle.gl_wire.specs.Blocks.{IsBehind}
 use Rattle.gl_wire.specs.Shapes.{AtEnds}
-use Rattle.gl_wire.specs.Wire.{Carried, carried, line_at, row_at, stream, tuple_at, wire_of}
+use Rattle.gl_wire.specs.Wire.{carried, line_at, row_at, stream, tuple_at, wire_of}
 use Rattle.gl_wire.proofs.ColumnLemmas.{buses_kept}
 use Rattle.gl_wire.proofs.StageLemmas.{line_first, tuple_by}
+use Rattle.gl_wire_lanes.specs.Lanes.{rows_now, single}
+use Rattle.gl_wire_lanes.proofs.ShareLemmas.{stream_single}
+use Rattle.gl_wire_lanes.proofs.SingleLemmas.{one_is_single}
 use Rattle.gl_divide.specs.Divider.{IsLineBehind}
+use Rattle.gl_rows.specs.declared.operand.Source.{Source}
 use Rattle.gl_totals.specs.Costs.{cost_of_aggs}
 use Rattle.gl_totals.specs.Delays.{IsBitBehind}
+use Rattle.gl_totals.specs.Open.{in_register}
 use Rattle.gl_totals.specs.Totals.{AreAggsOf, total_row, total_widths}
-use Rattle.gl_totals.specs.declared.total.Stream.{Stream}
 
 -- ---- what the wire carries
 
@@ -67,13 +71,13 @@ line_within kinds (agg ∷ aggs) f =
     let parts : m * suc (length aggs) ≡ m * length aggs + m = omega arith in
     omega (arith, spread m f (agg ∷ aggs), parts)
 
-pub totals_behind : (old mid new : Net) (a : Emitted) (aggs : List PlanAgg) (s : Stream) (outs : List Bus) (end : Bit) → s.valid ≡ a.wire.valid → s.eos ≡ a.wire.eos
-    → s.source.columns.now ≡ a.wire.columns → AreAggsOf old mid (delay_of_aggs s.source.kinds.now aggs) s aggs outs
-    → IsBitBehind mid new (delay_of_aggs s.source.kinds.now aggs) a.wire.eos end
-    → IsBehind old new (AtEnds (delay_of_aggs s.source.kinds.now aggs) (total_row s.source.kinds.now aggs)) (total_widths s.source.kinds.now aggs)
-    (cost_of_aggs s.source.kinds.now aggs) a (record { wire = wire_of end end outs; faults = a.faults })
-totals_behind old mid new a aggs s outs end is_valid is_eos is_columns all line =
-    let kinds = s.source.kinds.now in
+pub totals_behind : (old mid new : Net) (a : Emitted) (aggs : List PlanAgg) (source : Source) (outs : List Bus) (end : Bit) → source.columns.now ≡ a.wire.columns
+    → AreAggsOf old mid (delay_of_aggs source.kinds.now aggs) (record { rows = in_register a.wire.valid a.wire.eos; source = source }) aggs outs
+    → IsBitBehind mid new (delay_of_aggs source.kinds.now aggs) a.wire.eos end
+    → IsBehind old new (AtEnds (delay_of_aggs source.kinds.now aggs) (total_row source.kinds.now aggs)) (total_widths source.kinds.now aggs)
+    (cost_of_aggs source.kinds.now aggs) a (record { wire = wire_of end end outs; faults = a.faults })
+totals_behind old mid new a aggs source outs end is_columns all line =
+    let kinds = source.kinds.now in
     let m = delay_of_aggs kinds aggs in
     record {
       keeps = keeps_then old mid new all.keeps line.keeps;
@@ -86,9 +90,10 @@ totals_behind old mid new a aggs s outs end is_valid is_eos is_columns all line 
       same_widths = all.same_widths;
       faults = refl;
       shape = λ run r.
-          let same : carried run (wire_of s.valid s.eos s.source.columns.now) ≡ carried run a.wire =
-          ap (λ (v : Bit). carried run (wire_of v s.eos s.source.columns.now)) is_valid ∙ ap (λ (e : Bit). carried run (wire_of a.wire.valid e s.source.columns.now)) is_eos
-          ∙ ap (λ (bs : List Bus). carried run (wire_of a.wire.valid a.wire.eos bs)) is_columns in
+          let one = one_is_single (line_at run a.wire.valid) (line_at run a.wire.eos) (line_first run a.wire.valid) (line_first run a.wire.eos) in
           totals_end run a.wire end outs m (total_row kinds aggs) (line.line run r)
-          (λ t. all.row run (line.keeps.runs run r) t ∙ ap (λ (c : Carried). total_row kinds aggs (stream c (suc t))) same);
+          (λ t.
+          all.row run (line.keeps.runs run r) one.begins t (one.fresh t)
+          ∙ ap (λ (bs : List Bus). total_row kinds aggs (rows_now (single (line_at run a.wire.valid) (line_at run a.wire.eos)) (λ c. row_at run c bs) (suc t))) is_columns
+          ∙ ap (total_row kinds aggs) (stream_single run a.wire (suc t)));
     }

@@ -5,14 +5,15 @@ use Rattle.std.proofs.Math.Nat.{div-div-eq-div-mul, pow-suc}
 use Rattle.gl_bits.specs.Totals.{weighted_sum}
 use Rattle.gl_bits.specs.Words.{choose_of, cut_of, product_of, sum_of}
 use Rattle.gl_net.specs.declared.node.Bus.{Bus}
-use Rattle.gl_net.specs.declared.node.Bit.{Bit}
 use Rattle.gl_net.specs.Net.{Run}
 use Rattle.gl_wire.specs.Wire.{line_at}
+use Rattle.gl_wire_lanes.specs.Lanes.{Begins, IsFresh}
 use Rattle.gl_totals.specs.Folds.{IsFolded}
-use Rattle.gl_totals.specs.Open.{values_at}
+use Rattle.gl_totals.specs.Open.{lane_by, values_at}
 use Rattle.gl_totals.specs.Weighing.{picked}
 use Rattle.gl_totals.specs.declared.fold.Step.TheVariants.{Add, Shift}
-use Rattle.gl_totals.proofs.PairLemmas.{folds_second}
+use Rattle.gl_totals.specs.declared.rows.Rows.{Rows}
+use Rattle.gl_totals.proofs.FoldLemmas.{folds_second}
 use Rattle.gl_totals.proofs.WeighLemmas.{folds_weighted, weigh_step}
 
 -- the choice of one weight before the others
@@ -27,12 +28,13 @@ picked_more n ns place from =
     ap (λ (k : ℕ). if nat_eq (place / 2 ^ from % 2 ^ k) 1 then n else picked ns (place / 2 ^ (from + 1))) one
     ∙ ap (λ (k : ℕ). if nat_eq (place / 2 ^ from % 2) 1 then n else picked ns k) half
 
-module _ (run : Run) (valid eos : Bit) (width : ℕ) (ws : List ℕ) (some : 1 ≤ length ws) (value part place place_now before now : Bus)
-    (places : IsFolded run (length ws) 1 Shift valid eos place place_now)
+module _ (run : Run) (rows : Rows) (width : ℕ) (ws : List ℕ) (some : 1 ≤ length ws) (value part place place_now before now : Bus)
+    (places : IsFolded run (length ws) 1 Shift rows place place_now)
     (parts : (t : ℕ) → run.at (suc t) part.node ≡ product_of width (picked ws (run.at (suc t) place.node)) (run.at (suc t) value.node)) where
-  pub sum_first : IsFolded run width 0 (Add part) valid eos before now → (t : ℕ) → run.at (suc t) now.node ≡ weighted_sum width ws (values_at run valid eos value (suc t))
-  sum_first h t =
-      folds_second run valid eos value (weigh_step width ws) (1, 0) (λ c. run.at c place.node) (λ c. run.at c place_now.node) (λ c. run.at c before.node)
-      (λ c. run.at c now.node) places.start h.start places.next h.next places.with_row
-      (λ c. h.with_row c ∙ ap (λ (n : ℕ). if line_at run valid (suc c) then sum_of width (run.at (suc c) before.node) n else run.at (suc c) before.node) (parts c)) t
-      ∙ folds_weighted width ws some (values_at run valid eos value (suc t))
+  pub sum_first : IsFolded run width 0 (Add part) rows before now → Begins (lane_by run rows) → (t : ℕ) → IsFresh (lane_by run rows) (suc t)
+      → run.at (suc t) now.node ≡ weighted_sum width ws (values_at run rows value (suc t))
+  sum_first h begins t fresh =
+      folds_second run rows value (weigh_step width ws) 1 0 (λ c. run.at c place.node) (λ c. run.at c place_now.node) (λ c. run.at c before.node)
+      (λ c. run.at c now.node) places.kept h.kept places.with_row
+      (λ c. h.with_row c ∙ ap (λ (n : ℕ). if line_at run rows.valid (suc c) then sum_of width (run.at (suc c) before.node) n else run.at (suc c) before.node) (parts c)) begins t fresh
+      ∙ folds_weighted width ws some (values_at run rows value (suc t))

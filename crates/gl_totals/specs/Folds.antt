@@ -1,4 +1,4 @@
--- A register that folds the rows of the open stream: what it does with a row, and what it carries.
+-- What folds the rows of the open stream: what it does with a row, and what it carries.
 use Rattle.std.specs.Prelude.{◌≡◌, ℕ, suc, Bool, false, if◌then◌else◌, ⊤}
 use Rattle.gl_bits.specs.Kinds.{is_below, width_of}
 use Rattle.gl_bits.specs.Totals.{greater, lesser}
@@ -6,18 +6,20 @@ use Rattle.gl_bits.specs.Words.{bit, sum_of}
 use Rattle.gl_bits.specs.declared.kind.Kind.{Kind}
 use Rattle.gl_divide.specs.Division.{with_bit}
 use Rattle.gl_net.specs.declared.node.Bus.{Bus}
-use Rattle.gl_net.specs.declared.node.Bit.{Bit}
 use Rattle.gl_net.specs.Net.{Net, Run, IsRun, IsBus, IsBit, Keeps}
 use Rattle.gl_rows.specs.Made.{Carries}
 use Rattle.gl_totals.specs.Costs.{cost_of_fold}
+use Rattle.gl_totals.specs.Open.{lane_by}
 use Rattle.gl_totals.specs.declared.fold.Best.{Best}
 use Rattle.gl_totals.specs.declared.fold.Extreme.{Extreme}
 use Rattle.gl_totals.specs.declared.fold.Extreme.TheVariants.{Least, Greatest}
 use Rattle.gl_totals.specs.declared.fold.Fold.{Fold}
 use Rattle.gl_totals.specs.declared.fold.Step.{Step}
 use Rattle.gl_totals.specs.declared.fold.Step.TheVariants.{Add, Keep, Shift, Set}
+use Rattle.gl_totals.specs.declared.rows.Rows.{Rows}
 use Rattle.gl_wire.specs.Costs.{CostsAtMost, nodes_alone}
 use Rattle.gl_wire.specs.Wire.{line_at}
+use Rattle.gl_wire_lanes.specs.Keeping.{IsKept}
 
 -- of two words of a kind the lesser, or the greater
 abbrev pub better : Extreme → Kind → ℕ → ℕ → ℕ
@@ -67,20 +69,18 @@ pub record IsNext (old new : Net) (state : Bus) (step : Step) (out : Bus) : Type
   pub value : (run : Run) → IsRun new run → (t : ℕ)
       → run.at (suc t) out.node ≡ next_of step run state.width (suc t) (run.at (suc t) state.node)
 
--- from the first cycle behind reset on a state, and what it is with the cycle's row; it begins anew behind an end
-pub record IsFolded (run : Run) (width first : ℕ) (step : Step) (valid eos : Bit) (before now : Bus) : Type 0 where
-  pub start : run.at 1 before.node ≡ first
-  pub next : (t : ℕ) → run.at (suc (suc t)) before.node
-      ≡ (if line_at run eos (suc t) then first else run.at (suc t) now.node)
+-- a state that is kept for each stream, from a first one on, and what it is with the cycle's row
+pub record IsFolded (run : Run) (width first : ℕ) (step : Step) (rows : Rows) (before now : Bus) : Type 0 where
+  pub kept : IsKept first (lane_by run rows) (λ t. run.at t before.node) (λ t. run.at t now.node)
   pub with_row : (t : ℕ) → run.at (suc t) now.node
-      ≡ (if line_at run valid (suc t) then next_of step run width (suc t) (run.at (suc t) before.node)
+      ≡ (if line_at run rows.valid (suc t) then next_of step run width (suc t) (run.at (suc t) before.node)
       else run.at (suc t) before.node)
 
-pub record IsFold (old new : Net) (width first : ℕ) (step : Step) (valid eos : Bit) (f : Fold) : Type 0 where
+pub record IsFold (old new : Net) (width first : ℕ) (step : Step) (rows : Rows) (f : Fold) : Type 0 where
   pub keeps : Keeps old new
   pub cost : CostsAtMost old new (cost_of_fold width)
   pub before : IsBus new f.before
   pub before_width : f.before.width ≡ width
   pub now : IsBus new f.now
   pub now_width : f.now.width ≡ width
-  pub folded : (run : Run) → IsRun new run → IsFolded run width first step valid eos f.before f.now
+  pub folded : (run : Run) → IsRun new run → IsFolded run width first step rows f.before f.now

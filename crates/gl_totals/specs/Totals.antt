@@ -10,14 +10,15 @@ use Rattle.gl_algebra.specs.declared.node.PlanAgg.TheVariants.{Max, Min}
 use Rattle.gl_algebra.specs.Columns.{kind_of_agg}
 use Rattle.gl_algebra.specs.Results.{total_of}
 use Rattle.gl_net.specs.declared.node.Bus.{Bus}
-use Rattle.gl_net.specs.declared.node.Bit.{Bit}
 use Rattle.gl_net.specs.Net.{Net, Run, IsRun, IsBit, IsBus, Keeps}
 use Rattle.gl_wire.specs.Costs.{Cost, CostsAtMost}
-use Rattle.gl_wire.specs.Wire.{AreBuses, carried, row_at, stream, widths, wire_of}
+use Rattle.gl_wire.specs.Wire.{AreBuses, row_at, widths}
+use Rattle.gl_wire_lanes.specs.Lanes.{Begins, IsFresh, rows_now}
 use Rattle.gl_totals.specs.Costs.{cost_of_agg, cost_of_each}
-use Rattle.gl_totals.specs.Open.{values_at}
+use Rattle.gl_totals.specs.Open.{lane_by, values_at}
 use Rattle.gl_rows.specs.Made.{IsSource}
 use Rattle.gl_totals.specs.declared.total.Stream.{Stream}
+use Rattle.gl_totals.specs.declared.rows.Rows.{Rows}
 use Rattle.gl_totals.specs.declared.fold.Extreme.{Extreme}
 use Rattle.gl_totals.specs.declared.fold.Extreme.TheVariants.{Least, Greatest}
 
@@ -26,37 +27,39 @@ abbrev pub extreme_of : Extreme → Kind → List ℕ → ℕ
 extreme_of Least kind xs = least_of kind xs
 extreme_of Greatest kind xs = greatest_of kind xs
 
--- a bus that carries, so many cycles later, a total of the values of the open stream
-pub record IsTotalOf (old new : Net) (most : Cost) (width cycles : ℕ) (valid eos : Bit) (x : Bus) (total : List ℕ → ℕ)
+-- a bus that carries, so many cycles later, a total of the values of a cycle's stream, where it is told when that began
+pub record IsTotalOf (old new : Net) (most : Cost) (width cycles : ℕ) (rows : Rows) (x : Bus) (total : List ℕ → ℕ)
     (out : Bus) : Type 0 where
   pub keeps : Keeps old new
   pub cost : CostsAtMost old new most
   pub bus : IsBus new out
   pub same_width : out.width ≡ width
-  pub carries : (run : Run) → IsRun new run → (t : ℕ)
-      → run.at (suc t + cycles) out.node ≡ total (values_at run valid eos x (suc t))
+  pub carries : (run : Run) → IsRun new run → Begins (lane_by run rows) → (t : ℕ)
+      → IsFresh (lane_by run rows) (suc t)
+      → run.at (suc t + cycles) out.node ≡ total (values_at run rows x (suc t))
 
--- the lines and columns of a stream are in the netlist
+-- the lines and columns of streams are in the netlist
 pub record IsStream (net : Net) (s : Stream) : Type 0 where
-  pub valid : IsBit net s.valid
-  pub eos : IsBit net s.eos
+  pub valid : IsBit net s.rows.valid
+  pub eos : IsBit net s.rows.eos
   pub source : IsSource net s.source.columns.now s.source.kinds.now
 
--- the rows of the open stream in a cycle
+-- the rows of a cycle's stream, this cycle's own included
 abbrev pub rows_at : Run → Stream → ℕ → List Row
-rows_at run s t = stream (carried run (wire_of s.valid s.eos s.source.columns.now)) t
+rows_at run s t = rows_now (lane_by run s.rows) (λ c. row_at run c s.source.columns.now) t
 
 abbrev pub agg_of_extreme : Extreme → Operand → PlanAgg
 agg_of_extreme Least operand = Min operand
 agg_of_extreme Greatest operand = Max operand
 
--- a bus that carries, so many cycles later, an aggregate of the open stream, for so many stages
+-- a bus that carries, so many cycles later, an aggregate of a cycle's stream, for so many stages
 pub record IsAggOf (old new : Net) (stages cycles : ℕ) (s : Stream) (agg : PlanAgg) (out : Bus) : Type 0 where
   pub keeps : Keeps old new
   pub cost : CostsAtMost old new (cost_of_agg s.source.kinds.now stages agg)
   pub bus : IsBus new out
   pub same_width : out.width ≡ width_of (kind_of_agg s.source.kinds.now agg)
-  pub carries : (run : Run) → IsRun new run → (t : ℕ)
+  pub carries : (run : Run) → IsRun new run → Begins (lane_by run s.rows)
+      → (t : ℕ) → IsFresh (lane_by run s.rows) (suc t)
       → run.at (suc t + cycles) out.node ≡ total_of s.source.kinds.now (rows_at run s (suc t)) agg
 
 -- the row of all aggregates of some rows, and the widths of its columns
@@ -72,5 +75,5 @@ pub record AreAggsOf (old new : Net) (cycles : ℕ) (s : Stream) (aggs : List Pl
   pub cost : CostsAtMost old new (cost_of_each s.source.kinds.now cycles aggs)
   pub buses : AreBuses new outs
   pub same_widths : widths outs ≡ total_widths s.source.kinds.now aggs
-  pub row : (run : Run) → IsRun new run → (t : ℕ)
+  pub row : (run : Run) → IsRun new run → Begins (lane_by run s.rows) → (t : ℕ) → IsFresh (lane_by run s.rows) (suc t)
       → row_at run (suc t + cycles) outs ≡ total_row s.source.kinds.now aggs (rows_at run s (suc t))

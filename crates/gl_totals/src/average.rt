@@ -9,10 +9,11 @@ ghost use Rattle.gl_totals.specs.Costs.{cost_of_average};
 ghost use Rattle.gl_totals.specs.Totals.{IsTotalOf};
 
 use crate::fold::small_word;
+use crate::rows::Rows;
 use crate::sum::{put_count, put_sum};
 use gl_bits::{Kind, Memory};
 use gl_divide::divide;
-use gl_net::{Bit, Bus, NetBuilder};
+use gl_net::{Bus, NetBuilder};
 use gl_rows::cast::low_bits;
 use gl_wire::same;
 
@@ -39,33 +40,33 @@ pub fn put_guarded(net: &mut NetBuilder, fraction: Fraction) -> Result<Fraction,
 }
 
 // The sum of the values, in 32 bits more than they have, and their number.
-fn put_fraction(net: &mut NetBuilder, valid: Bit, eos: Bit, value: Bus) -> Result<Fraction, Memory>
-    requires valid { IsBit net.old valid }
-    requires eos { IsBit net.old eos }
+fn put_fraction(net: &mut NetBuilder, rows: Rows, value: Bus) -> Result<Fraction, Memory>
+    requires valid { IsBit net.old rows.valid }
+    requires eos { IsBit net.old rows.eos }
     requires value { IsBus net.old value }
     requires width { value.width ≤ 96 }
-    ensures { IfOk result (IsFraction net.old net.new valid eos value) }
+    ensures { IfOk result (IsFraction net.old net.new rows value) }
 {
     let wide = low_bits(net, value, value.width + 32)?;
-    let top = put_sum(net, valid, eos, wide)?;
-    let bottom = put_count(net, valid, eos)?;
+    let top = put_sum(net, rows, wide)?;
+    let bottom = put_count(net, rows)?;
     Ok(Fraction { top, bottom })
 }
 
 /// The sum of the values of a kind, in 32 bits more than the kind has, by their number; 0 where there is none. It comes 33 cycles later
 /// than the kind has bits.
-pub fn put_average(net: &mut NetBuilder, valid: Bit, eos: Bit, value: Bus) -> Result<Bus, Memory>
-    requires valid { IsBit net.old valid }
-    requires eos { IsBit net.old eos }
+pub fn put_average(net: &mut NetBuilder, rows: Rows, value: Bus) -> Result<Bus, Memory>
+    requires valid { IsBit net.old rows.valid }
+    requires eos { IsBit net.old rows.eos }
     requires value { IsBus net.old value }
     requires width { value.width ≤ 96 }
     ensures { (kind : Kind) → value.width ≡ width_of kind
         → IfOk result (IsTotalOf net.old net.new (cost_of_average value.width) value.width
-        (value.width + 33) valid eos value (average_of kind)) }
+        (value.width + 33) rows value (average_of kind)) }
 {
-    let fraction = put_fraction(net, valid, eos, value)?;
+    let fraction = put_fraction(net, rows, value)?;
     let guarded = put_guarded(net, fraction)?;
-    let quotient = divide(net, guarded.top, guarded.bottom, eos)?;
+    let quotient = divide(net, guarded.top, guarded.bottom, rows.eos)?;
     // Named, since a goal speaks of the value.
     let out = low_bits(net, quotient.value, value.width)?;
     Ok(out)

@@ -1,11 +1,13 @@
-//! A register that folds the rows of the open stream, and begins anew behind each end.
+//! What folds the rows of the open stream, and begins anew with the next one.
 
 ghost use Rattle.std.specs.Prelude.{◌≡◌, ◌<◌, IfOk};
 ghost use Rattle.gl_bits.specs.Words.{IsWidth, bit};
 ghost use Rattle.gl_net.specs.Net.{IsBit, IsBus};
 ghost use Rattle.gl_totals.specs.Folds.{BestFits, IsBetter, IsFold, IsNext, StepFits};
+ghost use Rattle.gl_totals.specs.Open.{in_register};
 ghost use Rattle.gl_totals.specs.declared.fold.Step.TheVariants.{Keep};
 
+use crate::rows::{self, Rows};
 use gl_bits::{Kind, Memory, Op, Word};
 use gl_divide::digit::shifted;
 use gl_net::{BinaryOp, Bit, Bus, NetBuilder};
@@ -122,8 +124,8 @@ pub fn put_next(net: &mut NetBuilder, state: Bus, step: Step) -> Result<Bus, Mem
     }
 }
 
-/// The fold of the open stream's rows from a first state on.
-pub fn put_fold(
+// The same in a register, which begins anew behind each end.
+fn put_register(
     net: &mut NetBuilder,
     valid: Bit,
     eos: Bit,
@@ -133,7 +135,8 @@ pub fn put_fold(
     requires valid { IsBit net.old valid }
     requires eos { IsBit net.old eos }
     requires step { StepFits net.old first.width step }
-    ensures { IfOk result (IsFold net.old net.new first.width first.bits step valid eos) }
+    ensures { IfOk result
+        (IsFold net.old net.new first.width first.bits step (in_register valid eos)) }
 {
     let before = net.register(first.width(), Some(first))?;
     let stepped = put_next(net, before, step)?;
@@ -142,4 +145,16 @@ pub fn put_fold(
     let next = net.choose(eos, again, now)?;
     net.drive(before, next)?;
     Ok(Fold { before, now })
+}
+
+/// The fold of the open stream's rows from a first state on, where these say that it is kept.
+pub fn put_fold(net: &mut NetBuilder, rows: Rows, first: Word, step: Step) -> Result<Fold, Memory>
+    requires valid { IsBit net.old rows.valid }
+    requires eos { IsBit net.old rows.eos }
+    requires step { StepFits net.old first.width step }
+    ensures { IfOk result (IsFold net.old net.new first.width first.bits step rows) }
+{
+    match rows.keep {
+        rows::Keep::Register => put_register(net, rows.valid, rows.eos, first, step),
+    }
 }

@@ -1,5 +1,5 @@
 //! Totals of streams: one row with each end, of counts, sums, extremes, averages and weighted sums side by side. Here belongs what keeps
-//! the open stream in registers. What each total means does not, nor how a quotient is taken.
+//! the open stream. What each total means does not, nor how a quotient is taken.
 #![tactic(auto)]
 
 pub mod average;
@@ -7,6 +7,7 @@ pub mod delay;
 pub mod extreme;
 pub mod fold;
 pub mod laws;
+pub mod rows;
 pub mod sum;
 pub mod total;
 pub mod totals;

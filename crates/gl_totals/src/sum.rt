@@ -7,36 +7,31 @@ ghost use Rattle.gl_totals.specs.Costs.{cost_of_count, cost_of_fold};
 ghost use Rattle.gl_totals.specs.Totals.{IsTotalOf};
 
 use crate::fold::{Step, put_fold, small_word};
+use crate::rows::Rows;
 use gl_bits::Memory;
-use gl_net::{Bit, Bus, NetBuilder};
+use gl_net::{Bus, NetBuilder};
 
 /// The sum of the values, this cycle's included, which wraps in their width.
-pub fn put_sum(net: &mut NetBuilder, valid: Bit, eos: Bit, value: Bus) -> Result<Bus, Memory>
-    requires valid { IsBit net.old valid }
-    requires eos { IsBit net.old eos }
+pub fn put_sum(net: &mut NetBuilder, rows: Rows, value: Bus) -> Result<Bus, Memory>
+    requires valid { IsBit net.old rows.valid }
+    requires eos { IsBit net.old rows.eos }
     requires value { IsBus net.old value }
     ensures { IfOk result (IsTotalOf net.old net.new (cost_of_fold value.width) value.width 0
-        valid eos value (sum_total value.width)) }
+        rows value (sum_total value.width)) }
 {
-    let fold = put_fold(
-        net,
-        valid,
-        eos,
-        small_word(false, value.width),
-        Step::Add(value),
-    )?;
+    let fold = put_fold(net, rows, small_word(false, value.width), Step::Add(value))?;
     Ok(fold.now)
 }
 
 /// The number of rows, this cycle's included, which wraps in 32 bits. They are counted as the values of any bus.
-pub fn put_count(net: &mut NetBuilder, valid: Bit, eos: Bit) -> Result<Bus, Memory>
-    requires valid { IsBit net.old valid }
-    requires eos { IsBit net.old eos }
+pub fn put_count(net: &mut NetBuilder, rows: Rows) -> Result<Bus, Memory>
+    requires valid { IsBit net.old rows.valid }
+    requires eos { IsBit net.old rows.eos }
     ensures { (value : Bus) → IfOk result (IsTotalOf net.old net.new cost_of_count 32 0
-        valid eos value count_of) }
+        rows value count_of) }
 {
     let one = net.constant(small_word(true, 32))?;
     // Named, since a goal speaks of the value.
-    let count = put_sum(net, valid, eos, one)?;
+    let count = put_sum(net, rows, one)?;
     Ok(count)
 }

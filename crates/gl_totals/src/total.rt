@@ -11,24 +11,23 @@ use crate::average::put_average;
 use crate::delay::delay_bus;
 use crate::extreme::put_extreme;
 use crate::fold::Extreme;
+use crate::rows::Rows;
 use crate::sum::{put_count, put_sum};
 use crate::weighted::put_weighted;
 use gl_algebra::columns::kind_of_operand;
 use gl_algebra::table::delay_of_agg;
 use gl_algebra::{Operand, PlanAgg, Weights};
 use gl_bits::Memory;
-use gl_net::{Bit, Bus, Buses, NetBuilder};
+use gl_net::{Bus, Buses, NetBuilder};
 use gl_rows::Source;
 use gl_rows::operand::put_operand;
 use std::alloc::Global;
 
-/// The lines of a stream, and its columns with their kinds.
+/// The lines of streams, and their columns with their kinds.
 #[derive(Clone, Copy)]
 pub struct Stream<'a> {
-    /// 1 in a cycle with a row.
-    pub valid: Bit,
-    /// 1 in a cycle with the end.
-    pub eos: Bit,
+    /// Its lines.
+    pub rows: Rows,
     /// The columns of the row.
     pub source: Source<'a>,
 }
@@ -41,7 +40,7 @@ fn put_sum_of(net: &mut NetBuilder, stream: Stream, operand: Operand) -> Result<
 {
     let value = put_operand(net, stream.source, operand)?;
     // Named, since a goal speaks of the value.
-    let sum = put_sum(net, stream.valid, stream.eos, value)?;
+    let sum = put_sum(net, stream.rows, value)?;
     Ok(sum)
 }
 
@@ -59,7 +58,7 @@ fn put_extreme_of(
 {
     let kind = kind_of_operand(stream.source.kinds, &operand);
     let value = put_operand(net, stream.source, operand)?;
-    let best = put_extreme(net, stream.valid, stream.eos, extreme, kind, value)?;
+    let best = put_extreme(net, stream.rows, extreme, kind, value)?;
     Ok(best)
 }
 
@@ -72,7 +71,7 @@ fn put_average_of(net: &mut NetBuilder, stream: Stream, operand: Operand) -> Res
         0 (delay_of_agg stream.entry.source.kinds.now (Avg operand) - 1) stream.entry (Avg operand)) }
 {
     let value = put_operand(net, stream.source, operand)?;
-    let average = put_average(net, stream.valid, stream.eos, value)?;
+    let average = put_average(net, stream.rows, value)?;
     Ok(average)
 }
 
@@ -88,7 +87,7 @@ fn put_weighted_of(
     ensures { IfOk result (IsAggOf net.old net.new 0 0 stream.entry (Wsum operand weights.now)) }
 {
     let value = put_operand(net, stream.source, operand)?;
-    let sum = put_weighted(net, stream.valid, stream.eos, weights.as_slice(), value)?;
+    let sum = put_weighted(net, stream.rows, weights.as_slice(), value)?;
     Ok(sum)
 }
 
@@ -101,7 +100,7 @@ fn put_early(net: &mut NetBuilder, stream: Stream, agg: &PlanAgg) -> Result<Bus,
         0 (delay_of_agg stream.entry.source.kinds.now agg.now - 1) stream.entry agg.now) }
 {
     match agg {
-        PlanAgg::Count => put_count(net, stream.valid, stream.eos),
+        PlanAgg::Count => put_count(net, stream.rows),
         PlanAgg::Sum(operand) => put_sum_of(net, stream, *operand),
         PlanAgg::Min(operand) => put_extreme_of(net, stream, Extreme::Least, *operand),
         PlanAgg::Max(operand) => put_extreme_of(net, stream, Extreme::Greatest, *operand),

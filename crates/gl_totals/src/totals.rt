@@ -11,6 +11,7 @@ ghost use Rattle.gl_wire.specs.Shapes.{AtEnds, Totalled};
 ghost use Rattle.gl_wire.specs.Wire.{IsWire, widths};
 
 use crate::delay::delay_bit;
+use crate::rows::{Keep, Rows};
 use crate::total::{Stream, put_aggs};
 use gl_algebra::table::delay_of_aggs;
 use gl_algebra::{Figures, PlanAgg};
@@ -45,8 +46,11 @@ pub fn put_totals(
 {
     let cycles = delay_of_aggs(kinds, aggs);
     let stream = Stream {
-        valid: below.wire.valid,
-        eos: below.wire.eos,
+        rows: Rows {
+            valid: below.wire.valid,
+            eos: below.wire.eos,
+            keep: Keep::Register,
+        },
         source: Source {
             columns: below.wire.columns.as_slice(),
             kinds,

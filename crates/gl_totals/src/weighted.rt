@@ -9,8 +9,9 @@ ghost use Rattle.gl_totals.specs.Totals.{IsTotalOf};
 ghost use Rattle.gl_totals.specs.Weighing.{HasWidth, IsPicked};
 
 use crate::fold::{Step, put_fold, small_word};
+use crate::rows::Rows;
 use gl_bits::{Memory, Word};
-use gl_net::{BinaryOp, Bit, Bus, NetBuilder};
+use gl_net::{BinaryOp, Bus, NetBuilder};
 
 // The weight at the place of the bit that is 1, where the first weight is that of this bit; 0 where none is.
 fn put_picked(
@@ -42,34 +43,27 @@ fn put_picked(
 /// count 0.
 pub fn put_weighted(
     net: &mut NetBuilder,
-    valid: Bit,
-    eos: Bit,
+    rows: Rows,
     weights: &[Word],
     value: Bus,
 ) -> Result<Bus, Memory>
-    requires valid { IsBit net.old valid }
-    requires eos { IsBit net.old eos }
+    requires valid { IsBit net.old rows.valid }
+    requires eos { IsBit net.old rows.eos }
     requires value { IsBus net.old value }
     requires many { length weights.now ≤ 128 }
     requires weights { All (HasWidth value.width) weights.now }
     ensures { IfOk result (IsTotalOf net.old net.new
         (cost_of_weighted value.width (length weights.now)) value.width 0
-        valid eos value (weighted_sum value.width (bits_of weights.now))) }
+        rows value (weighted_sum value.width (bits_of weights.now))) }
 {
     if weights.is_empty() {
         let none = net.constant(small_word(false, value.width))?;
         return Ok(none);
     }
     let first = small_word(true, weights.len() as u8);
-    let place = put_fold(net, valid, eos, first, Step::Shift)?;
+    let place = put_fold(net, rows, first, Step::Shift)?;
     let weight = put_picked(net, weights, place.before, 0, value.width)?;
     let part = net.binary(BinaryOp::Mul, weight, value)?;
-    let sum = put_fold(
-        net,
-        valid,
-        eos,
-        small_word(false, value.width),
-        Step::Add(part),
-    )?;
+    let sum = put_fold(net, rows, small_word(false, value.width), Step::Add(part))?;
     Ok(sum.now)
 }

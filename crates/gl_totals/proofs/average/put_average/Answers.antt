@@ -34,16 +34,16 @@ returns c = λ kind width.
       };
       bus = out.bus;
       same_width = out.same_width;
-      carries = λ run r t.
-          let xs = values_at run c.args.valid c.args.eos value (suc t) in
+      carries = λ run r begins t fresh.
+          let xs = values_at run c.args.rows value (suc t) in
           let at_quotient = out.keeps.runs run r in
           let at_guarded = quotient.keeps.runs run at_quotient in
           let at_fraction = guarded.keeps.runs run at_guarded in
           let e : suc t + (value.width + 33) ≡ suc t + (g.top.width + 1) = omega (arith, top_width) in
           let average = average_is kind xs (run.at (suc t) g.top.node) (run.at (suc t) g.bottom.node)
-          (guarded.tops run at_guarded t ∙ ap (λ (n : ℕ). if nat_eq n 0 then 0 else run.at (suc t) f.top.node) (fraction.number run at_fraction t)
-          ∙ ap (λ (n : ℕ). if nat_eq (count_of xs) 0 then 0 else n) (fraction.sum run at_fraction t ∙ ap (λ (w : ℕ). sum_total (w + 32) xs) width))
-          (guarded.bottoms run at_guarded t ∙ ap (λ (n : ℕ). if nat_eq n 0 then 1 else n) (fraction.number run at_fraction t)) in
+          (guarded.tops run at_guarded t ∙ ap (λ (n : ℕ). if nat_eq n 0 then 0 else run.at (suc t) f.top.node) (fraction.number run at_fraction begins t fresh)
+          ∙ ap (λ (n : ℕ). if nat_eq (count_of xs) 0 then 0 else n) (fraction.sum run at_fraction begins t fresh ∙ ap (λ (w : ℕ). sum_total (w + 32) xs) width))
+          (guarded.bottoms run at_guarded t ∙ ap (λ (n : ℕ). if nat_eq n 0 then 1 else n) (fraction.number run at_fraction begins t fresh)) in
           out.carries run r (suc t + (value.width + 33))
           ∙ ap (λ (w : ℕ). run.at (suc t + (value.width + 33)) c.in_ok-quotient.quotient.value.node % 2 ^ w) width
           ∙ ap (λ (n : ℕ). run.at n c.in_ok-quotient.quotient.value.node % 2 ^ width_of kind) e

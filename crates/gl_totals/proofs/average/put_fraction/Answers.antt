@@ -26,15 +26,15 @@ returns c =
       top_width = top.same_width ∙ wide.same_width;
       bottom = bottom.bus;
       bottom_width = bottom.same_width;
-      sum = λ run r t.
+      sum = λ run r begins t fresh.
           let at_top = bottom.keeps.runs run r in
           let at_wide = top.keeps.runs run at_top in
           let e : suc t ≡ suc t + 0 = omega arith in
-          ap (λ (n : ℕ). run.at n c.in_ok-top.top.node) e ∙ top.carries run at_top t
-          ∙ ap (λ (w : ℕ). sum_total w (values_at run c.args.valid c.args.eos x (suc t))) wide.same_width
+          ap (λ (n : ℕ). run.at n c.in_ok-top.top.node) e ∙ top.carries run at_top begins t fresh
+          ∙ ap (λ (w : ℕ). sum_total w (values_at run c.args.rows x (suc t))) wide.same_width
           ∙ ap (λ (l : List ℕ). sum_total (value.width + 32) l)
-          (values_wider old run c.args.valid c.args.eos value x (value.width + 32) c.requires.value (wide.keeps.runs run at_wide) (omega arith) (λ u. wide.carries run at_wide u) (suc t));
-      number = λ run r t.
+          (values_wider old run c.args.rows value x (value.width + 32) c.requires.value (wide.keeps.runs run at_wide) (omega arith) (λ u. wide.carries run at_wide u) (suc t));
+      number = λ run r begins t fresh.
           let e : suc t ≡ suc t + 0 = omega arith in
-          ap (λ (n : ℕ). run.at n c.in_ok-bottom.bottom.node) e ∙ bottom.carries run r t;
+          ap (λ (n : ℕ). run.at n c.in_ok-bottom.bottom.node) e ∙ bottom.carries run r begins t fresh;
     }

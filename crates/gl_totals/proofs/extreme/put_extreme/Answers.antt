@@ -9,8 +9,7 @@ use Rattle.gl_totals.proofs.extreme.put_extreme.Goals as goal
 pub returns : goal.returns
 returns c =
     let value = c.args.value in
-    let valid = c.args.valid in
-    let eos = c.args.eos in
+    let rows = c.args.rows in
     let some = c.in_ok-some.ensures in
     let fold = c.in_ok-fold.ensures in
     let flag = c.in_ok-some.some in
@@ -25,12 +24,12 @@ returns c =
       };
       bus = fold.now;
       same_width = fold.now_width ∙ c.small_word-2.ensures.width;
-      carries = λ run r t.
+      carries = λ run r begins t fresh.
           let e : suc t + 0 ≡ suc t = omega arith in
           ap (λ (n : ℕ). run.at n f.now.node) e
-          ∙ extreme_now run valid eos value.width best flag.before flag.now f.before f.now c.bit.ensures
-          (subst (λ (w : ℕ). IsFolded run w 0 Set valid eos flag.before flag.now) c.small_word.ensures.width
-          (subst (λ (b : ℕ). IsFolded run c.small_word.result.width b Set valid eos flag.before flag.now) c.small_word.ensures.bits (some.folded run (fold.keeps.runs run r))))
-          (subst (λ (w : ℕ). IsFolded run w 0 (Keep best) valid eos f.before f.now) c.small_word-2.ensures.width
-          (subst (λ (b : ℕ). IsFolded run c.small_word-2.result.width b (Keep best) valid eos f.before f.now) c.small_word-2.ensures.bits (fold.folded run r))) t;
+          ∙ extreme_now run rows value.width best flag.before flag.now f.before f.now c.bit.ensures
+          (subst (λ (w : ℕ). IsFolded run w 0 Set rows flag.before flag.now) c.small_word.ensures.width
+          (subst (λ (b : ℕ). IsFolded run c.small_word.result.width b Set rows flag.before flag.now) c.small_word.ensures.bits (some.folded run (fold.keeps.runs run r))))
+          (subst (λ (w : ℕ). IsFolded run w 0 (Keep best) rows f.before f.now) c.small_word-2.ensures.width
+          (subst (λ (b : ℕ). IsFolded run c.small_word-2.result.width b (Keep best) rows f.before f.now) c.small_word-2.ensures.bits (fold.folded run r))) begins t fresh;
     }

@@ -19,7 +19,7 @@ returns c = λ value.
       };
       bus = count.bus;
       same_width = count.same_width ∙ wide;
-      carries = λ run r t.
-          count.carries run r t ∙ ap (λ (w : ℕ). sum_total w (values_at run c.args.valid c.args.eos c.in_ok-one.one (suc t))) wide
-          ∙ count_now run c.args.valid c.args.eos c.in_ok-one.one value (λ u. one.value run (count.keeps.runs run r) (suc u) ∙ c.small_word.ensures.bits) t;
+      carries = λ run r begins t fresh.
+          count.carries run r begins t fresh ∙ ap (λ (w : ℕ). sum_total w (values_at run c.args.rows c.in_ok-one.one (suc t))) wide
+          ∙ count_now run c.args.rows c.in_ok-one.one value (λ u. one.value run (count.keeps.runs run r) (suc u) ∙ c.small_word.ensures.bits) t;
     }

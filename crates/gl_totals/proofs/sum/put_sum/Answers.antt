@@ -7,6 +7,7 @@ use Rattle.gl_totals.proofs.sum.put_sum.Goals as goal
 pub returns : goal.returns
 returns c =
     let value = c.args.value in
+    let rows = c.args.rows in
     let f = c.in_ok-fold.fold in
     let fold = c.in_ok-fold.ensures in
     let word = c.small_word.ensures in
@@ -15,10 +16,10 @@ returns c =
       cost = record { nodes = fold.cost.nodes; registers = omega (arith, fold.cost.registers, word.width); memories = fold.cost.memories };
       bus = fold.now;
       same_width = fold.now_width ∙ word.width;
-      carries = λ run r t.
+      carries = λ run r begins t fresh.
           let e : suc t + 0 ≡ suc t = omega arith in
           ap (λ (n : ℕ). run.at n f.now.node) e
-          ∙ sum_now run value.width c.args.valid c.args.eos value f.before f.now
-          (subst (λ (w : ℕ). IsFolded run w 0 (Add value) c.args.valid c.args.eos f.before f.now) word.width
-          (subst (λ (b : ℕ). IsFolded run c.small_word.result.width b (Add value) c.args.valid c.args.eos f.before f.now) word.bits (fold.folded run r))) t;
+          ∙ sum_now run value.width rows value f.before f.now
+          (subst (λ (w : ℕ). IsFolded run w 0 (Add value) rows f.before f.now) word.width
+          (subst (λ (b : ℕ). IsFolded run c.small_word.result.width b (Add value) rows f.before f.now) word.bits (fold.folded run r))) begins t fresh;
     }

@@ -15,8 +15,8 @@ put_agg-requires-clause-stream c =
     let keeps = c.loop-agg.invariant.keeps in
     let s = c.args.stream in
     record {
-      valid = record { there = keeps.shapes s.valid.node _ c.requires.stream.valid.there };
-      eos = record { there = keeps.shapes s.eos.node _ c.requires.stream.eos.there };
+      valid = record { there = keeps.shapes s.rows.valid.node _ c.requires.stream.valid.there };
+      eos = record { there = keeps.shapes s.rows.eos.node _ c.requires.stream.eos.there };
       source = source_kept c.args.net.now c.loop-agg.net s.source.columns.now s.source.kinds.now keeps c.requires.stream.source;
     }
 

@@ -23,9 +23,9 @@ returns c =
     let out = c.in_ok-average.average in
     let value = c.in_ok-value.ensures in
     let gone : x.width + 33 ≡ width_of kind + 34 - 1 = omega (arith, value.same_width) in
-    let total : IsTotalOf mid new (cost_of_average (width_of kind)) x.width (width_of kind + 34 - 1) s.valid s.eos x (average_of kind) out =
-    subst (λ (w : ℕ). IsTotalOf mid new (cost_of_average w) x.width (width_of kind + 34 - 1) s.valid s.eos x (average_of kind) out) value.same_width
-    (subst (λ (n : ℕ). IsTotalOf mid new (cost_of_average x.width) x.width n s.valid s.eos x (average_of kind) out) gone
+    let total : IsTotalOf mid new (cost_of_average (width_of kind)) x.width (width_of kind + 34 - 1) s.rows x (average_of kind) out =
+    subst (λ (w : ℕ). IsTotalOf mid new (cost_of_average w) x.width (width_of kind + 34 - 1) s.rows x (average_of kind) out) value.same_width
+    (subst (λ (n : ℕ). IsTotalOf mid new (cost_of_average x.width) x.width n s.rows x (average_of kind) out) gone
     (c.in_ok-average.ensures kind value.same_width)) in
     agg_is c.args.net.now mid new s c.args.operand (Avg c.args.operand) x out (cost_of_average (width_of kind)) x.width (width_of kind + 34 - 1)
     (average_of kind) value total (omega arith) (omega arith) refl value.same_width (λ rows. refl)

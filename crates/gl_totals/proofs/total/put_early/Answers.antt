@@ -16,6 +16,6 @@ returns-in-Count c =
     let old = c.args.net.now in
     let new = c.put_count.new.net in
     let s = c.args.stream in
-    let x : Bus = record { node = s.eos.node; width = 1 } in
+    let x : Bus = record { node = s.rows.eos.node; width = 1 } in
     subst (λ (agg : PlanAgg). IfOk c.put_count.result (IsAggOf old new 0 (delay_of_agg s.source.kinds.now agg - 1) s agg)) (sym c.in-Count.is)
-    (IfOk-weaker c.put_count.result (IsTotalOf old new cost_of_count 32 0 s.valid s.eos x count_of) (IsAggOf old new 0 0 s Count) (count_is old new s x) (c.put_count.ensures x))
+    (IfOk-weaker c.put_count.result (IsTotalOf old new cost_of_count 32 0 s.rows x count_of) (IsAggOf old new 0 0 s Count) (count_is old new s x) (c.put_count.ensures x))

@@ -9,5 +9,5 @@ pub returns : goal.returns
 returns c =
     let x = c.in_ok-value.value in
     extreme_is c.args.net.now c.put_operand.new.net c.put_extreme.new.net c.args.stream c.args.operand c.args.extreme x c.in_ok-best.best c.in_ok-value.ensures
-    (subst (λ (k : Kind). IsTotalOf c.put_operand.new.net c.put_extreme.new.net (cost_of_extreme x.width) x.width 0 c.args.stream.valid c.args.stream.eos x (extreme_of c.args.extreme k) c.in_ok-best.best)
+    (subst (λ (k : Kind). IsTotalOf c.put_operand.new.net c.put_extreme.new.net (cost_of_extreme x.width) x.width 0 c.args.stream.rows x (extreme_of c.args.extreme k) c.in_ok-best.best)
     c.kind_of_operand-kind.ensures c.in_ok-best.ensures)

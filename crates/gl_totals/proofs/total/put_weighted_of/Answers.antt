@@ -16,8 +16,8 @@ returns c =
     let ws = c.args.weights.now in
     let x = c.in_ok-value.value in
     let value = c.in_ok-value.ensures in
-    let total : IsTotalOf mid new (cost_of_weighted x.width (length ws)) x.width 0 s.valid s.eos x (weighted_sum x.width (bits_of ws)) c.in_ok-sum.sum =
-    subst (λ (l : List Word). IsTotalOf mid new (cost_of_weighted x.width (length l)) x.width 0 s.valid s.eos x (weighted_sum x.width (bits_of l)) c.in_ok-sum.sum)
+    let total : IsTotalOf mid new (cost_of_weighted x.width (length ws)) x.width 0 s.rows x (weighted_sum x.width (bits_of ws)) c.in_ok-sum.sum =
+    subst (λ (l : List Word). IsTotalOf mid new (cost_of_weighted x.width (length l)) x.width 0 s.rows x (weighted_sum x.width (bits_of l)) c.in_ok-sum.sum)
     c.as_slice.ensures c.in_ok-sum.ensures in
     agg_is c.args.net.now mid new s c.args.operand (Wsum c.args.operand ws) x c.in_ok-sum.sum (cost_of_weighted x.width (length ws)) x.width 0
     (weighted_sum x.width (bits_of ws)) value total (omega arith) (omega (arith, value.same_width)) refl value.same_width

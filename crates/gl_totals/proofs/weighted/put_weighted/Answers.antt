@@ -24,16 +24,15 @@ returns-then-is_empty c =
       cost = record { nodes = omega (arith, none.size); registers = omega (arith, none.register_bits); memories = omega (arith, none.memory_bits) };
       bus = none.bus;
       same_width = none.width ∙ c.small_word.ensures.width;
-      carries = λ run r t. none.value run r (suc t + 0) ∙ c.small_word.ensures.bits
-          ∙ sym (weighted_nothing width (bits_of ws) (values_at run c.args.valid c.args.eos c.args.value (suc t)) bits);
+      carries = λ run r begins t fresh. none.value run r (suc t + 0) ∙ c.small_word.ensures.bits
+          ∙ sym (weighted_nothing width (bits_of ws) (values_at run c.args.rows c.args.value (suc t)) bits);
     }
 
 pub returns : goal.returns
 returns c =
     let ws = c.args.weights.now in
     let value = c.args.value in
-    let valid = c.args.valid in
-    let eos = c.args.eos in
+    let rows = c.args.rows in
     let width = value.width in
     let place = c.in_ok-place.ensures in
     let weight = c.in_ok-weight.ensures in
@@ -55,19 +54,19 @@ returns c =
       };
       bus = sum.now;
       same_width = sum.now_width ∙ c.small_word-2.ensures.width;
-      carries = λ run r t.
+      carries = λ run r begins t fresh.
           let at_part = sum.keeps.runs run r in
           let at_weight = part.keeps.runs run at_part in
           let at_place = weight.keeps.runs run at_weight in
           let e : suc t + 0 ≡ suc t = omega arith in
           ap (λ (n : ℕ). run.at n f.now.node) e
-          ∙ sum_first run valid eos width (bits_of ws) bits value x p.before p.now f.before f.now
-          (subst (λ (w : ℕ). IsFolded run w 1 Shift valid eos p.before p.now) (c.small_word-first.ensures.width ∙ sym many)
-          (subst (λ (b : ℕ). IsFolded run c.small_word-first.result.width b Shift valid eos p.before p.now) c.small_word-first.ensures.bits (place.folded run at_place)))
+          ∙ sum_first run rows width (bits_of ws) bits value x p.before p.now f.before f.now
+          (subst (λ (w : ℕ). IsFolded run w 1 Shift rows p.before p.now) (c.small_word-first.ensures.width ∙ sym many)
+          (subst (λ (b : ℕ). IsFolded run c.small_word-first.result.width b Shift rows p.before p.now) c.small_word-first.ensures.bits (place.folded run at_place)))
           (λ u. part.value run at_part (suc u)
           ∙ ap (λ (w : ℕ). product_of w (run.at (suc u) c.in_ok-weight.weight.node) (run.at (suc u) value.node)) weight.same_width
           ∙ ap (λ (n : ℕ). product_of width n (run.at (suc u) value.node)) (weight.carries run at_weight (suc u))
           ∙ ap (λ (n : ℕ). product_of width (picked (bits_of ws) n) (run.at (suc u) value.node)) (div-one (run.at (suc u) p.before.node)))
-          (subst (λ (w : ℕ). IsFolded run w 0 (Add x) valid eos f.before f.now) c.small_word-2.ensures.width
-          (subst (λ (b : ℕ). IsFolded run c.small_word-2.result.width b (Add x) valid eos f.before f.now) c.small_word-2.ensures.bits (sum.folded run r))) t;
+          (subst (λ (w : ℕ). IsFolded run w 0 (Add x) rows f.before f.now) c.small_word-2.ensures.width
+          (subst (λ (b : ℕ). IsFolded run c.small_word-2.result.width b (Add x) rows f.before f.now) c.small_word-2.ensures.bits (sum.folded run r))) begins t fresh;
     }

@@ -7,7 +7,8 @@ use Rattle.gl_wire.specs.Wire.{line_at}
 use Rattle.gl_wire.proofs.ColumnLemmas.{bus_kept}
 use Rattle.gl_wire.proofs.GateLemmas.{choose_line}
 use Rattle.gl_totals.specs.Folds.{next_of}
-use Rattle.gl_totals.proofs.fold.put_fold.Goals as goal
+use Rattle.gl_totals.proofs.FoldLemmas.{register_folded}
+use Rattle.gl_totals.proofs.fold.put_register.Goals as goal
 
 pub returns : goal.returns
 returns c =
@@ -41,16 +42,14 @@ returns c =
           let at_now = again.keeps.runs run at_again in
           let at_stepped = now.keeps.runs run at_now in
           let at_before = stepped.keeps.runs run at_stepped in
-          record {
-            start = before.start run at_before;
-            next = λ t.
-                drive.value run r t ∙ next.value run at_next (suc t)
-                ∙ choose_line run c.args.eos (run.at (suc t) c.in_ok-again.again.node) (run.at (suc t) c.in_ok-now.now.node) t
-                ∙ ap (λ (n : ℕ). if line_at run c.args.eos (suc t) then n else run.at (suc t) c.in_ok-now.now.node) (again.value run at_again (suc t));
-            with_row = λ t.
-                now.value run at_now (suc t)
-                ∙ choose_line run c.args.valid (run.at (suc t) c.in_ok-stepped.stepped.node) (run.at (suc t) c.in_ok-before.before.node) t
-                ∙ ap (λ (n : ℕ). if line_at run c.args.valid (suc t) then n else run.at (suc t) c.in_ok-before.before.node)
-                (stepped.value run at_stepped t ∙ ap (λ (w : ℕ). next_of c.args.step run w (suc t) (run.at (suc t) c.in_ok-before.before.node)) (before.width ∙ c.width.ensures.value));
-          };
+          register_folded run c.args.first.width c.args.first.bits c.args.step c.args.valid c.args.eos c.in_ok-before.before c.in_ok-now.now (before.start run at_before)
+          (λ t.
+          drive.value run r t ∙ next.value run at_next (suc t)
+          ∙ choose_line run c.args.eos (run.at (suc t) c.in_ok-again.again.node) (run.at (suc t) c.in_ok-now.now.node) t
+          ∙ ap (λ (n : ℕ). if line_at run c.args.eos (suc t) then n else run.at (suc t) c.in_ok-now.now.node) (again.value run at_again (suc t)))
+          (λ t.
+          now.value run at_now (suc t)
+          ∙ choose_line run c.args.valid (run.at (suc t) c.in_ok-stepped.stepped.node) (run.at (suc t) c.in_ok-before.before.node) t
+          ∙ ap (λ (n : ℕ). if line_at run c.args.valid (suc t) then n else run.at (suc t) c.in_ok-before.before.node)
+          (stepped.value run at_stepped t ∙ ap (λ (w : ℕ). next_of c.args.step run w (suc t) (run.at (suc t) c.in_ok-before.before.node)) (before.width ∙ c.width.ensures.value)));
     }

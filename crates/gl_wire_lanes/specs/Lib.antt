@@ -1,0 +1,4 @@
+pub mod Lanes
+pub mod Keeping
+pub mod Shares
+pub mod Laws
