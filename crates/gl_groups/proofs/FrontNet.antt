@@ -12,13 +12,13 @@ use Rattle.gl_wire.proofs.ColumnLemmas.{bus_kept, wire_kept}
 use Rattle.gl_wire_registers.specs.Held.{counted_down, held_at}
 use Rattle.gl_wire_registers.specs.Lines.{carried_of, line_of}
 use Rattle.gl_wire_registers.specs.Rows.{AddsWires}
-use Rattle.gl_wire_registers.proofs.LineLemmas.{line_of-first}
+use Rattle.gl_wire_registers.proofs.LineLemmas.{gates_some, line_of-first}
 use Rattle.gl_groups.specs.declared.front.Ending.{Ending}
 use Rattle.gl_groups.specs.declared.front.Lookup.{Lookup}
 use Rattle.gl_groups.specs.declared.parts.Flush.{Flush}
 use Rattle.gl_groups.specs.declared.parts.Tail.{Tail}
 use Rattle.gl_groups.specs.declared.slots.SlotLines.{SlotLines}
-use Rattle.gl_groups.specs.Chain.{AddsSlots, AreSlotLines, held_of, sought_at}
+use Rattle.gl_groups.specs.SlotLines.{AddsSlots, AreSlotLines, held_of, sought_at}
 use Rattle.gl_groups.specs.Fronts.{AddsEnding, AddsFront, AddsLookup, IsEnding, IsFront, IsLookup, column_of}
 use Rattle.gl_groups.specs.Groupings.{AreKeys}
 use Rattle.gl_groups.specs.Parts.{AddsFlush, AddsTail, IsFlush, IsTail, TakesOf}
@@ -63,7 +63,7 @@ module _ (run : Run) (w : Wire) (key count stride : ℕ) (f : Flush) (h : Tail) 
   abbrev cycle : ℕ → Cycle
   cycle c = record { end = e c; valid = v c; row = x c; value = y c }
 
-  sought_is : (c : ℕ) → sought_at run f.free w.valid look.value r c ≡ sought_of (cycle c) (at c)
+  sought_is : (c : ℕ) → sought_at run r.used r.keys f.free w.valid look.value c ≡ sought_of (cycle c) (at c)
   sought_is c = ap (λ (b : Bool). record { used = λ k. line_of run r.used k c; key = λ k. held_of run r.keys k c; free = b; ask = v c; value = y c }) (is_f.free c)
 
   due_is : (c : ℕ) → line_at run f.due c ≡ due_of (cycle c) (at c)
@@ -73,7 +73,7 @@ module _ (run : Run) (w : Wire) (key count stride : ℕ) (f : Flush) (h : Tail) 
   ends_are k c l =
       is_g.end k c l
       ∙ ap (λ b. ((e c || b) && nat_eq (if e c then count else held_at count run g.rest c) (count - k)) && line_of run r.has k c) (due_is c)
-      ∙ ap (λ b. ((e c || due_of (cycle c) (at c)) && nat_eq (if e c then count else held_at count run g.rest c) (count - k)) && b) (is_r.has k c l ∙ ap (λ s. has s k) (sought_is c))
+      ∙ ap (λ b. ((e c || due_of (cycle c) (at c)) && nat_eq (if e c then count else held_at count run g.rest c) (count - k)) && b) (is_r.has k c l ∙ ap (λ s. has count s k) (sought_is c))
 
   tail_is : (c : ℕ) → line_at run h.tail c ≡ tail_of (cycle c) (at c)
   tail_is c = is_h.tail c ∙ ap (λ b. (e c && v c) || (b && line_at run h.held c)) (is_f.idle c)
@@ -81,9 +81,9 @@ module _ (run : Run) (w : Wire) (key count stride : ℕ) (f : Flush) (h : Tail) 
   takes_are : (k c : ℕ) → k < count → line_of run takers k c ≡ valid_of count (cycle c) (at c) k
   takes_are k c l =
       is_takes k c l
-      ∙ ap (λ b. b && ((line_of run g.ends k c && line_at run h.tail c) || (v c && not (e c)))) (is_r.matches k c l ∙ ap (λ s. matches s k) (sought_is c))
-      ∙ ap (λ b. matches (sought_of (cycle c) (at c)) k && ((b && line_at run h.tail c) || (v c && not (e c)))) (ends_are k c l)
-      ∙ ap (λ b. matches (sought_of (cycle c) (at c)) k && ((end_of count (cycle c) (at c) k && b) || (v c && not (e c)))) (tail_is c)
+      ∙ ap (λ b. b && ((line_of run g.ends k c && line_at run h.tail c) || (v c && not (e c)))) (is_r.matches k c l ∙ ap (λ s. matches count s k) (sought_is c))
+      ∙ ap (λ b. matches count (sought_of (cycle c) (at c)) k && ((b && line_at run h.tail c) || (v c && not (e c)))) (ends_are k c l)
+      ∙ ap (λ b. matches count (sought_of (cycle c) (at c)) k && ((end_of count (cycle c) (at c) k && b) || (v c && not (e c)))) (tail_is c)
 
   row_step : (c : ℕ) → (v c || line_at run f.flush c) ≡ true → row_at run (suc c) look.row ≡ (if v c then x c else row_at run c look.row)
   unfolding line_at
@@ -100,8 +100,8 @@ module _ (run : Run) (w : Wire) (key count stride : ℕ) (f : Flush) (h : Tail) 
 
   steps : (c : ℕ) → Steps count stride (column_of key) (cycle c) (at c) (at (suc c))
   steps c = record {
-    used = λ k l. is_r.used k c l ∙ ap (λ s. has s k) (sought_is c);
-    keys = λ k l. is_r.key k c l ∙ ap (λ s. if takes s k then y c else held_of run r.keys k c) (sought_is c);
+    used = λ k l. is_r.used k c l ∙ ap (λ s. has count s k) (sought_is c);
+    keys = λ k l. is_r.key k c l ∙ ap (λ s. if takes count s k then y c else held_of run r.keys k c) (sought_is c);
     flush = is_f.next c;
     rest = is_g.next c ∙ ap (λ b. counted_down (count - 1) 0 (e c) b (held_at count run g.rest c)) (due_is c);
     wait = is_f.next_wait c ∙ ap (λ b. counted_down (stride - 1) (stride - 1) (e c) b (held_at 0 run f.wait c)) (is_f.idle c);
@@ -152,7 +152,7 @@ module _ (run : Run) (w : Wire) (key count stride : ℕ) (f : Flush) (h : Tail) 
     unfolding tuple_at line_at
     further_told zero = refl
     further_told (suc c) =
-        later_further c ∙ is_r.passes c ∙ ap (λ z. asked z count) (sought_is c)
+        later_further c ∙ is_r.passes c ∙ ap (λ z. asked count z count) (sought_is c)
         ∙ further_is count stride (column_of key) some (s c) (at c) (mirrors c) (e c) (v c) (x c) (y c) (is_key c)
 
     pub front_is : IsFront run key count stride w (record { wires = ins; keys = r.keys; further = further })
@@ -201,7 +201,7 @@ module _ (n0 n1 n2 n3 n4 n5 n6 n7 n8 : Net) (w : Wire) (key count stride : ℕ) 
   fronts_are = record {
     keeps = keeps_then n0 n1 n8 is_f.keeps k18;
     cost = record {
-      nodes = omega (arith, is_f.cost.nodes, is_h.cost.nodes, is_look.cost.nodes, is_r.cost.nodes, is_g.cost.nodes, is_t.cost.nodes, is_w.cost.nodes, is_l.cost.nodes, is_r.matches_count, takes_count);
+      nodes = omega (arith, is_f.cost.nodes, is_h.cost.nodes, is_look.cost.nodes, is_r.cost.nodes, is_g.cost.nodes, is_t.cost.nodes, is_w.cost.nodes, is_l.cost.nodes, is_r.matches_count, takes_count, gates_some count some);
       registers = omega (arith, is_f.cost.registers, is_h.cost.registers, is_look.cost.registers, is_r.cost.registers, is_g.cost.registers, is_t.cost.registers, is_w.cost.registers, is_l.cost.registers, takes_count, slots_bits, all_bits);
       memories = omega (arith, is_f.cost.memories, is_h.cost.memories, is_look.cost.memories, is_r.cost.memories, is_g.cost.memories, is_t.cost.memories, is_w.cost.memories, is_l.cost.memories);
     };

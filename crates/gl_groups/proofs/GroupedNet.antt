@@ -22,7 +22,7 @@ use Rattle.gl_wire_registers.specs.Timers.{IsClose, IsCloseLine}
 use Rattle.gl_groups.specs.declared.front.Front.{Front}
 use Rattle.gl_groups.specs.declared.grouping.Fronted.{Fronted}
 use Rattle.gl_groups.specs.declared.grouping.Grouping.{Grouping}
-use Rattle.gl_groups.specs.Chain.{held_of}
+use Rattle.gl_groups.specs.SlotLines.{held_of}
 use Rattle.gl_groups.specs.Costs.{cost_of_back}
 use Rattle.gl_groups.specs.Fronts.{AddsFront, IsFront}
 use Rattle.gl_groups.specs.Grouped.{Fronts, IsBacked, IsFronted, columns_with_key, key_width}

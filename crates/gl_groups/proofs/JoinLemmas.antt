@@ -16,18 +16,19 @@ use Rattle.gl_wire.specs.Wire.{AreBuses, Carried, IsWire, carried, line_at, row_
 use Rattle.gl_wire.proofs.ColumnLemmas.{bus_kept, buses_kept}
 use Rattle.gl_wire.proofs.FaultLemmas.{lines_kept}
 use Rattle.gl_wire.proofs.StageLemmas.{delayed_same}
-use Rattle.gl_wire_copies.specs.Lift.{first_of, tuple_of_any}
+use Rattle.gl_wire_copies.specs.Lift.{tuple_of_any}
 use Rattle.gl_wire_copies.specs.Rotates.{lines_of_all}
 use Rattle.gl_wire_registers.specs.Backs.{AreWires, JoinsCopies}
 use Rattle.gl_wire_registers.specs.Held.{held_at}
 use Rattle.gl_wire_registers.specs.Lines.{carried_of}
 use Rattle.gl_wire_registers.proofs.RowLemmas.{carried_of-get}
+use Rattle.gl_wire_registers.proofs.BackLemmas.{merge_within, tuples_same}
 use Rattle.gl_wire_registers.proofs.JoinLemmas.{or_more, copies_kept, columns_at}
-use Rattle.gl_groups.specs.Chain.{held_of}
+use Rattle.gl_groups.specs.SlotLines.{held_of}
 use Rattle.gl_groups.specs.Groupings.{in_front, with_keys}
 use Rattle.gl_groups.specs.Joins.{AreKeyBuses, AreKeyed, JoinsAll, JoinsFaults, keyed_wire, width_of_keys}
 use Rattle.gl_wire_registers.specs.Joins.{AreCopies, JoinsLines, columns_of, gives_of, told_of, wires_of}
-use Rattle.gl_groups.proofs.ChainLemmas.{held_of-get}
+use Rattle.gl_groups.proofs.SlotNet.{held_of-get}
 
 -- ---- lines
 
@@ -82,10 +83,6 @@ keyed_tuple run w b (suc c) = by (line_at run w.valid (suc c))
     by true = refl
     by false = refl
 
-any_same : (f g : ℕ → Carried) (n c : ℕ) → ((k : ℕ) → k < n → (f k).tuple c ≡ (g k).tuple c) → tuple_of_any f n c ≡ tuple_of_any g n c
-any_same f g zero c h = refl
-any_same f g (suc n) c h = ap (λ o. first_of o ((f n).tuple c)) (any_same f g n c (λ k l. h k (omega (arith, l)))) ∙ ap (first_of (tuple_of_any g n c)) (h n (omega arith))
-
 module _ (copies : List Emitted) (keys : List Bus) (ws : List Wire) (same_count : length keys ≡ length copies) (keyed : AreKeyed copies keys (length copies) ws) where
   copy_tuple : (run : Run) (c k : ℕ) → k < length copies → (carried_of run ws k).tuple c ≡ (with_keys (held_of run keys) (gives_of run copies) k).tuple c
   copy_tuple run c k l =
@@ -99,7 +96,7 @@ module _ (copies : List Emitted) (keys : List Bus) (ws : List Wire) (same_count 
   pub joined_tuple : (run : Run) (c : ℕ) → tuple_of_any (carried_of run ws) (length ws) c ≡ tuple_of_any (with_keys (held_of run keys) (gives_of run copies)) (length copies) c
   joined_tuple run c =
       ap (λ n. tuple_of_any (carried_of run ws) n c) keyed.count
-      ∙ any_same (carried_of run ws) (with_keys (held_of run keys) (gives_of run copies)) (length copies) c (λ k l. copy_tuple run c k l)
+      ∙ tuples_same (carried_of run ws) (with_keys (held_of run keys) (gives_of run copies)) (length copies) c (λ k l. copy_tuple run c k l)
 
 first_then : (net : Net) (b : Bus) (bs : List Bus) → IsBus net b → AreBuses net bs → AreBuses net (b ∷ bs)
 first_then net b bs is h = record { each = by }
@@ -156,7 +153,7 @@ module _ (copies : List Emitted) (keys bs : List Bus) (e : Emitted) (b : Bus) (h
     joins_all old mid new source faults further close w h joined = record {
       keeps = keeps_then old mid new h.keeps j.keeps;
       cost = record {
-        nodes = omega (arith, h.cost.nodes, j.cost.nodes, ap (λ (n : ℕ). n * (length (columns_of copies) + 1 + 1)) keyed.count);
+        nodes = omega (arith, h.cost.nodes, j.cost.nodes, ap (λ (n : ℕ). n * (length (columns_of copies) + 1 + 1)) keyed.count, merge_within (length ws) (length (width_of_keys keys ∷ columns_of copies)));
         registers = omega (arith, h.cost.registers, j.cost.registers);
         memories = omega (arith, h.cost.memories, j.cost.memories);
       };

@@ -10,7 +10,7 @@ pub mod FurtherLemmas
 pub mod GroupLemmas
 pub mod SeekLemmas
 pub mod MachineLemmas
-pub mod ChainLemmas
+pub mod SlotNet
 pub mod PartLemmas
 pub mod FrontNet
 pub mod JoinLemmas

@@ -72,21 +72,21 @@ module _ (count stride : ℕ) (key : Row → ℕ) (some : 1 ≤ count) (s : Slot
       by true h = ap (λ n. joined count true n (base e v s)) (sym (h refl))
       by false h = refl
 
-  has_now : (k : ℕ) → k < count → has seen k ≡ is_some (slice_get ks k)
-  has_now k l = has_is count (base e v s) seen shown k l ∙ ap (λ zs. is_some (slice_get zs k)) (sym keys_later)
+  has_now : (k : ℕ) → k < count → has count seen k ≡ is_some (slice_get ks k)
+  has_now k l = has_is count (base e v s) seen shown few_base k l ∙ ap (λ zs. is_some (slice_get zs k)) (sym keys_later)
 
-  matches_now : (k : ℕ) → k < count → matches seen k ≡ same_key (slice_get ks k) y
-  matches_now k l = matches_is count (base e v s) seen shown k l ∙ ap (λ zs. same_key (slice_get zs k) y) (sym keys_later)
+  matches_now : (k : ℕ) → k < count → matches count seen k ≡ same_key (slice_get ks k) y
+  matches_now k l = matches_is count (base e v s) seen shown few_base k l ∙ ap (λ zs. same_key (slice_get zs k) y) (sym keys_later)
 
-  shown_next : (k : ℕ) → k < count → slice_get ks k ≡ (if has seen k then Some (if takes seen k then y else p.key k) else None)
-  shown_next k l = ap (λ zs. slice_get zs k) keys_later ∙ next_at count (base e v s) seen shown k l
+  shown_next : (k : ℕ) → k < count → slice_get ks k ≡ (if has count seen k then Some (if takes count seen k then y else p.key k) else None)
+  shown_next k l = ap (λ zs. slice_get zs k) keys_later ∙ next_at count (base e v s) seen shown few_base k l
 
   few_next : length ks ≤ count
   few_next = subst (λ (zs : List ℕ). length zs ≤ count) (sym keys_later) (later_few count (base e v s) seen shown few_base)
 
   -- a row of a further key is left over
-  pub further_is : asked seen count ≡ is_further key ks (tuple_of v x)
-  further_is = left_is count (base e v s) seen shown few_base ∙ ap (λ zs. v && not (list_any (nat_eq y) zs)) (sym keys_later) ∙ by v is_key
+  pub further_is : asked count seen count ≡ is_further key ks (tuple_of v x)
+  further_is = left_is count (base e v s) seen shown few_base some ∙ ap (λ zs. v && not (list_any (nat_eq y) zs)) (sym keys_later) ∙ by v is_key
     where
       by : (w : Bool) → (w ≡ true → y ≡ key x) → (w && not (list_any (nat_eq y) ks)) ≡ is_further key ks (tuple_of w x)
       by true h = ap (λ n. not (list_any (nat_eq n) ks)) (h refl)
@@ -113,7 +113,7 @@ module _ (count stride : ℕ) (key : Row → ℕ) (some : 1 ≤ count) (s : Slot
 
   pub end_is : (k : ℕ) → k < count → end_of count cycle p k ≡ (slot_ends e (tuple_of v x) ks s && nat_eq k (slot_now e s))
   end_is k l =
-      ap (λ b. b && has seen k) (slot_is k l) ∙ ap (λ b. (fires && nat_eq k (slot_now e s)) && b) (has_now k l ∙ get_some ks k)
+      ap (λ b. b && has count seen k) (slot_is k l) ∙ ap (λ b. (fires && nat_eq k (slot_now e s)) && b) (has_now k l ∙ get_some ks k)
       ∙ at_turn fires (slot_now e s) k (λ n. nat_lt n (length ks)) ∙ ap (λ b. b && nat_eq k (slot_now e s)) (sym ends_are)
 
   module _ (q : Values) (st : Steps count stride key cycle p q) where
@@ -192,7 +192,7 @@ module _ (count stride : ℕ) (key : Row → ℕ) (some : 1 ≤ count) (s : Slot
     mirrors_next = record {
       slots = λ k l.
           ap (λ zs. slice_get zs k) after_keys ∙ shown_next k l
-          ∙ ap (λ b. if b then Some (if takes seen k then y else p.key k) else None) (sym (st.used k l))
+          ∙ ap (λ b. if b then Some (if takes count seen k then y else p.key k) else None) (sym (st.used k l))
           ∙ ap (λ n. if q.used k then Some n else None) (sym (st.keys k l));
       few = subst (λ (zs : List ℕ). length zs ≤ count) (sym after_keys) few_next;
       flush = st.flush ∙ ap (λ b. e || (b && not v)) m.flush ∙ sym after_flush;
@@ -220,7 +220,7 @@ module _ (count stride : ℕ) (key : Row → ℕ) (some : 1 ≤ count) (s : Slot
     taken_is k l =
         by e v refl refl
         ∙ ap (λ b. if b && ((ends k e v && tail_of cycle p) || (v && not e)) then Some q.row else None) (sym (matches_now k l))
-        ∙ ap (λ b. if matches seen k && ((b && tail_of cycle p) || (v && not e)) then Some q.row else None) (sym (end_is k l))
+        ∙ ap (λ b. if matches count seen k && ((b && tail_of cycle p) || (v && not e)) then Some q.row else None) (sym (end_is k l))
       where
         turned : (a b : Bool) → (if a then (if b then Some q.row else None) else None) ≡ (if b && ((a && true) || false) then Some q.row else None)
         turned true true = refl

@@ -13,7 +13,7 @@ use Rattle.gl_wire_registers.specs.Lines.{AreBits, carried_of, line_of}
 use Rattle.gl_groups.specs.declared.front.Ending.{Ending}
 use Rattle.gl_groups.specs.declared.front.Front.{Front}
 use Rattle.gl_groups.specs.declared.front.Lookup.{Lookup}
-use Rattle.gl_groups.specs.Chain.{held_of}
+use Rattle.gl_groups.specs.SlotLines.{held_of}
 use Rattle.gl_groups.specs.Groupings.{AreKeys}
 use Rattle.gl_groups.specs.Slots.{AreSlots, further_line}
 
@@ -65,7 +65,7 @@ pub record IsFront (run : Run) (key count stride : ℕ) (source : Wire) (r : Fro
 
 pub record AddsFront (old new : Net) (key count stride : ℕ) (source : Wire) (r : Front) : Type 0 where
   pub keeps : Keeps old new
-  pub cost : Costs old new (with_registers (count * 19 + length (widths source.columns) * 2 + 41)
+  pub cost : Costs old new (with_registers (count * 20 + length (widths source.columns) * 2 + 41)
       (count * (slice_index (widths source.columns) key + 3) + sum (widths source.columns) + 67))
   pub as_many : length r.wires ≡ count
   pub wires : (k : ℕ) (w : Wire) → slice_get r.wires k ≡ Some w → IsWire new w

@@ -15,7 +15,7 @@ use Rattle.gl_wire_registers.specs.Lines.{carried_of}
 use Rattle.gl_wire_registers.specs.Timers.{IsClose}
 use Rattle.gl_groups.specs.declared.grouping.Fronted.{Fronted}
 use Rattle.gl_groups.specs.declared.grouping.Grouping.{Grouping}
-use Rattle.gl_groups.specs.Chain.{held_of}
+use Rattle.gl_groups.specs.SlotLines.{held_of}
 use Rattle.gl_groups.specs.Costs.{cost_of_back, cost_of_front}
 use Rattle.gl_groups.specs.Groupings.{AreKeys, AwaitsFlush, ServesGroups, close_cycles, close_delay, key_of, line_of_further}
 use Rattle.gl_wire_registers.specs.Joins.{columns_of, gives_of, told_of}

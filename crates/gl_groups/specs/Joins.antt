@@ -14,7 +14,7 @@ use Rattle.gl_wire.specs.Wire.{IsWire, carried, line_at, widths}
 use Rattle.gl_wire_copies.specs.Lift.{tuple_of_any}
 use Rattle.gl_wire_copies.specs.Rotates.{lines_of_all}
 use Rattle.gl_wire_registers.specs.Joins.{columns_of, gives_of, told_of}
-use Rattle.gl_groups.specs.Chain.{held_of}
+use Rattle.gl_groups.specs.SlotLines.{held_of}
 use Rattle.gl_groups.specs.Costs.{cost_of_back}
 use Rattle.gl_groups.specs.Groupings.{line_of_further, with_keys}
 

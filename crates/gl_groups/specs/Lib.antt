@@ -1,6 +1,6 @@
 pub mod Slots
 pub mod Seeking
-pub mod Chain
+pub mod SlotLines
 pub mod Parts
 pub mod Values
 pub mod Groupings

@@ -36,19 +36,19 @@ abbrev pub at_of : ℕ → Cycle → Values → ℕ
 at_of count c p = if c.end then count else p.rest
 
 abbrev pub end_of : ℕ → Cycle → Values → ℕ → Bool
-end_of count c p k = ((c.end || due_of c p) && nat_eq (at_of count c p) (count - k)) && has (sought_of c p) k
+end_of count c p k = ((c.end || due_of c p) && nat_eq (at_of count c p) (count - k)) && has count (sought_of c p) k
 
 abbrev pub tail_of : Cycle → Values → Bool
 tail_of c p = (c.end && c.valid) || (idle_of c p && p.held)
 
 -- whether a slot takes the row that came last
 abbrev pub valid_of : ℕ → Cycle → Values → ℕ → Bool
-valid_of count c p k = matches (sought_of c p) k && ((end_of count c p k && tail_of c p) || (c.valid && not c.end))
+valid_of count c p k = matches count (sought_of c p) k && ((end_of count c p k && tail_of c p) || (c.valid && not c.end))
 
 -- one cycle; the key that is looked for is that of the row that came last
 pub record Steps (count stride : ℕ) (key : Row → ℕ) (c : Cycle) (p q : Values) : Type 0 where
-  pub used : (k : ℕ) → k < count → q.used k ≡ has (sought_of c p) k
-  pub keys : (k : ℕ) → k < count → q.key k ≡ (if takes (sought_of c p) k then c.value else p.key k)
+  pub used : (k : ℕ) → k < count → q.used k ≡ has count (sought_of c p) k
+  pub keys : (k : ℕ) → k < count → q.key k ≡ (if takes count (sought_of c p) k then c.value else p.key k)
   pub flush : q.flush ≡ (c.end || (p.flush && not c.valid))
   pub rest : q.rest ≡ counted_down (count - 1) 0 c.end (due_of c p) p.rest
   pub wait : q.wait ≡ counted_down (stride - 1) (stride - 1) c.end (idle_of c p) p.wait

@@ -1,49 +1,61 @@
 //! The slots: which slot has the key that is looked for, and which one takes a further key.
 
-ghost use Rattle.std.specs.Prelude.{◌≡◌, IfOk};
+ghost use Rattle.std.specs.Prelude.{◌≡◌, IfOk, length};
 ghost use Rattle.gl_net.specs.Net.{IsBit, IsBus};
-ghost use Rattle.gl_groups.specs.Chain.{AddsFound, AddsKey, AddsSlot, AddsSlots, AddsTaken};
+ghost use Rattle.gl_wire_registers.specs.Lines.{AddsLines, AreBits};
+ghost use Rattle.gl_groups.specs.SlotLines.{AddsAsks, AddsFound, AddsKeys, AddsNexts, AddsSeek, AddsSlots, AreKeysOf, same_to};
 
 use gl_bits::Memory;
 use gl_net::{Bit, Bus, Buses, NetBuilder};
-use gl_wire::{both, but_not, either, same};
-use gl_wire_registers::{Bits, word};
+use gl_wire::{both, but_not, same};
+use gl_wire_registers::{
+    Bits, LineOp, any, buses_of, drive_all, lines_of, open_same, pairwise, with_all, word,
+};
 use std::alloc::Global;
 
-/// Whether a slot's key is the one that is looked for.
-#[derive(Clone, Copy, PartialEq, Eq, Debug)]
+/// Which slots have the key that is looked for.
+#[derive(Drop)]
 pub struct Found {
-    /// 1 where the slot is used and stays so.
-    pub kept: Bit,
-    /// 1 where it is, and has the key.
-    pub found: Bit,
+    /// The slots that are used and stay so.
+    pub kept: Bits,
+    /// Those whose key it is.
+    pub found: Bits,
+    /// 1 where a key comes that none of them has.
+    pub is_new: Bit,
 }
 
-/// What a slot makes of the key that is looked for.
-#[derive(Clone, Copy, PartialEq, Eq, Debug)]
-pub struct Taken {
-    /// 1 where it takes the key as its own.
-    pub takes: Bit,
-    /// 1 where it is used with what comes in this cycle.
-    pub has: Bit,
-    /// 1 where its key is the one that is looked for.
-    pub matches: Bit,
-    /// 1 where the key is left to the slots behind it.
+/// Which slots such a key asks.
+#[derive(Drop)]
+pub struct Asks {
+    /// The slots: the first one, and each one behind a slot that is used.
+    pub asks: Bits,
+    /// 1 where the last slot is used too.
     pub passes: Bit,
 }
 
-/// One slot.
-#[derive(Clone, Copy, PartialEq, Eq, Debug)]
-pub struct Slot {
-    /// 1 where it is used at the beginning of the cycle.
-    pub used: Bit,
-    /// Its key then.
-    pub key: Bus,
-    /// 1 where it is used with what comes in this cycle.
-    pub has: Bit,
-    /// 1 where its key is the one that is looked for.
-    pub matches: Bit,
-    /// 1 where the key is left to the slots behind it.
+/// What the slots make of the key that is looked for.
+#[derive(Drop)]
+pub struct Seek {
+    /// The slots that are used with what comes in this cycle.
+    pub has: Bits,
+    /// The slots whose key is the one that is looked for.
+    pub matches: Bits,
+    /// Their keys with what comes in this cycle.
+    pub nexts: Buses,
+    /// 1 where the key is left: it is none of the slots', and no slot is free.
+    pub passes: Bit,
+}
+
+/// Slots with their keys.
+#[derive(Drop)]
+pub struct KeyLines {
+    /// Their keys at the beginning of the cycle.
+    pub keys: Buses,
+    /// The slots that are used with what comes in this cycle.
+    pub has: Bits,
+    /// The slots whose key is the one that is looked for.
+    pub matches: Bits,
+    /// 1 where the key is left.
     pub passes: Bit,
 }
 
@@ -62,88 +74,147 @@ pub struct SlotLines {
     pub passes: Bit,
 }
 
-/// Looks whether a slot has the key, where it is not free.
-pub fn find(
-    net: &mut NetBuilder,
-    used: Bit,
-    key: Bus,
-    free: Bit,
-    value: Bus,
-) -> Result<Found, Memory>
-    requires used { IsBit net.old used }
-    requires key { IsBus net.old key }
-    requires free { IsBit net.old free }
+// For each slot whether its key is this one.
+fn same_each(alloc: Global, net: &mut NetBuilder, value: Bus, keys: &[Bus]) -> Result<Bits, Memory>
     requires value { IsBus net.old value }
-    requires widths { key.width ≡ value.width }
-    ensures { IfOk result (AddsFound net.old net.new used key free value) }
+    requires keys { AreKeysOf net.old value keys.now }
+    ensures { IfOk result (λ bs.
+        AddsLines net.old net.new (length keys.now) 1 bs (same_to value keys.now)) }
 {
-    let kept = but_not(net, used, free)?;
-    let same = same(net, value, key)?;
-    let found = both(net, kept, same)?;
-    Ok(Found { kept, found })
+    let mut all = Bits::new(alloc);
+    for key in keys {
+        let bit = same(net, value, *key)?;
+        all.push(bit)?;
+    }
+    Ok(all)
 }
 
-/// A slot that is not used takes the key that the slots before it left, and leaves it where it is not its own.
-pub fn take(net: &mut NetBuilder, ask: Bit, kept: Bit, found: Bit) -> Result<Taken, Memory>
-    requires ask { IsBit net.old ask }
-    requires kept { IsBit net.old kept }
-    requires found { IsBit net.old found }
-    ensures { IfOk result (AddsTaken net.old net.new ask kept found) }
-{
-    let takes = but_not(net, ask, kept)?;
-    let has = either(net, kept, takes)?;
-    let matches = either(net, found, takes)?;
-    let passes = but_not(net, ask, matches)?;
-    Ok(Taken {
-        takes,
-        has,
-        matches,
-        passes,
-    })
-}
-
-/// A slot's key, beside the line that tells whether it is used.
-pub fn keep_key(
+/// Looks at all slots at once: which ones have the key, where they are not set free.
+pub fn find_all(
+    alloc: Global,
     net: &mut NetBuilder,
-    used: Bit,
+    used: &Bits,
+    keys: &[Bus],
     free: Bit,
     ask: Bit,
     value: Bus,
-) -> Result<Slot, Memory>
-    requires used { IsBit net.old used }
+) -> Result<Found, Memory>
+    requires used { AreBits net.old used.now }
+    requires keys { AreKeysOf net.old value keys.now }
+    requires count { length keys.now ≡ length used.now }
     requires free { IsBit net.old free }
     requires ask { IsBit net.old ask }
     requires value { IsBus net.old value }
-    ensures { IfOk result (AddsKey net.old net.new used free ask value) }
+    ensures { IfOk result (AddsFound net.old net.new used.now keys.now free ask value) }
 {
-    let key = net.register(value.width, Some(word(0, value.width)))?;
-    let found = find(net, used, key, free, value)?;
-    let taken = take(net, ask, found.kept, found.found)?;
-    let next = net.choose(taken.takes, value, key)?;
-    net.drive(key, next)?;
-    Ok(Slot {
-        used,
-        key,
-        has: taken.has,
-        matches: taken.matches,
-        passes: taken.passes,
+    let kept = with_all(alloc, net, LineOp::ButNot, used, free)?;
+    let same = same_each(alloc, net, value, keys)?;
+    let found = pairwise(alloc, net, LineOp::Both, &kept, &same)?;
+    let one = any(net, &found)?;
+    let is_new = but_not(net, ask, one)?;
+    Ok(Found {
+        kept,
+        found,
+        is_new,
     })
 }
 
-/// A slot in its registers.
-pub fn put_slot(net: &mut NetBuilder, free: Bit, ask: Bit, value: Bus) -> Result<Slot, Memory>
+// Slots fill in order: a new key asks the first one, and each one behind a slot that is used.
+fn ask_each(alloc: Global, net: &mut NetBuilder, is_new: Bit, kept: &[Bit]) -> Result<Asks, Memory>
+    requires is_new { IsBit net.old is_new }
+    requires kept { AreBits net.old kept.now }
+    ensures { IfOk result (AddsAsks net.old net.new is_new kept.now (length kept.now)) }
+{
+    let mut asks = Bits::new(alloc);
+    let mut passes = is_new;
+    for line in kept {
+        asks.push(passes)?;
+        passes = both(net, is_new, *line)?;
+    }
+    Ok(Asks { asks, passes })
+}
+
+// For each slot its key, or the one that it takes.
+fn next_each(
+    alloc: Global,
+    net: &mut NetBuilder,
+    takes: &[Bit],
+    value: Bus,
+    keys: &[Bus],
+) -> Result<Buses, Memory>
+    requires takes { AreBits net.old takes.now }
+    requires value { IsBus net.old value }
+    requires keys { AreKeysOf net.old value keys.now }
+    requires count { length takes.now ≡ length keys.now }
+    ensures { IfOk result (AddsNexts net.old net.new takes.now value keys.now (length keys.now)) }
+{
+    let mut all = Buses::new(alloc);
+    for (i, key) in keys.iter().enumerate() {
+        let next = net.choose(takes[i], value, *key)?;
+        all.push(next)?;
+    }
+    Ok(all)
+}
+
+/// The slot that has the key matches, and else the first one that is free takes it.
+pub fn seek_key(
+    alloc: Global,
+    net: &mut NetBuilder,
+    used: &Bits,
+    keys: &[Bus],
+    free: Bit,
+    ask: Bit,
+    value: Bus,
+) -> Result<Seek, Memory>
+    requires used { AreBits net.old used.now }
+    requires keys { AreKeysOf net.old value keys.now }
+    requires count { length keys.now ≡ length used.now }
     requires free { IsBit net.old free }
     requires ask { IsBit net.old ask }
     requires value { IsBus net.old value }
-    ensures { IfOk result (AddsSlot net.old net.new free ask value) }
+    ensures { IfOk result (AddsSeek net.old net.new used.now keys.now free ask value) }
 {
-    let used = net.register(1, Some(word(0, 1)))?;
-    let slot = keep_key(net, used.bit(), free, ask, value)?;
-    net.drive(used, slot.has.bus())?;
-    Ok(slot)
+    let found = find_all(alloc, net, used, keys, free, ask, value)?;
+    let asked = ask_each(alloc, net, found.is_new, found.kept.as_slice())?;
+    let takes = pairwise(alloc, net, LineOp::ButNot, &asked.asks, &found.kept)?;
+    let has = pairwise(alloc, net, LineOp::Either, &found.kept, &takes)?;
+    let matches = pairwise(alloc, net, LineOp::Either, &found.found, &takes)?;
+    let nexts = next_each(alloc, net, takes.as_slice(), value, keys)?;
+    Ok(Seek {
+        has,
+        matches,
+        nexts,
+        passes: asked.passes,
+    })
 }
 
-/// All slots: each one looks for the key that those before it left.
+/// The slots' keys in registers, beside the lines that tell which ones are used.
+pub fn keep_keys(
+    alloc: Global,
+    net: &mut NetBuilder,
+    used: &Bits,
+    free: Bit,
+    ask: Bit,
+    value: Bus,
+) -> Result<KeyLines, Memory>
+    requires used { AreBits net.old used.now }
+    requires free { IsBit net.old free }
+    requires ask { IsBit net.old ask }
+    requires value { IsBus net.old value }
+    ensures { IfOk result (AddsKeys net.old net.new used.now free ask value) }
+{
+    let keys = open_same(alloc, net, word(0, value.width), used.len())?;
+    let seek = seek_key(alloc, net, used, keys.as_slice(), free, ask, value)?;
+    drive_all(net, keys.as_slice(), seek.nexts.as_slice())?;
+    Ok(KeyLines {
+        keys,
+        has: seek.has,
+        matches: seek.matches,
+        passes: seek.passes,
+    })
+}
+
+/// All slots in their registers, which look for the key at once.
 pub fn put_slots(
     alloc: Global,
     net: &mut NetBuilder,
@@ -157,24 +228,16 @@ pub fn put_slots(
     requires value { IsBus net.old value }
     ensures { IfOk result (AddsSlots net.old net.new free ask value count) }
 {
-    let mut used = Bits::new(alloc);
-    let mut keys = Buses::new(alloc);
-    let mut has = Bits::new(alloc);
-    let mut matches = Bits::new(alloc);
-    let mut passes = ask;
-    for _slot in 0..count {
-        let slot = put_slot(net, free, passes, value)?;
-        used.push(slot.used)?;
-        keys.push(slot.key)?;
-        has.push(slot.has)?;
-        matches.push(slot.matches)?;
-        passes = slot.passes;
-    }
+    let flags = open_same(alloc, net, word(0, 1), count as usize)?;
+    let used = Bits::from_vec(lines_of(alloc, flags.as_slice())?);
+    let slots = keep_keys(alloc, net, &used, free, ask, value)?;
+    let nexts = buses_of(alloc, slots.has.as_slice())?;
+    drive_all(net, flags.as_slice(), nexts.as_slice())?;
     Ok(SlotLines {
         used,
-        keys,
-        has,
-        matches,
-        passes,
+        keys: slots.keys,
+        has: slots.has,
+        matches: slots.matches,
+        passes: slots.passes,
     })
 }

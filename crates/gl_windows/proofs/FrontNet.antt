@@ -17,6 +17,7 @@ use Rattle.gl_wire_registers.specs.declared.lines.LineOp.TheVariants.{Both, Eith
 use Rattle.gl_wire_registers.specs.Lines.{line_of, carried_of, pointed, pairs, with_line, AddsLines}
 use Rattle.gl_wire_registers.specs.Counters.{IsPointer}
 use Rattle.gl_wire_registers.specs.Rows.{AddsWires, HoldsRow}
+use Rattle.gl_wire_registers.proofs.LineLemmas.{any_same}
 use Rattle.gl_windows.specs.Turns.{AddsRotation, Rotating}
 use Rattle.gl_windows.specs.Rotations.{AreFronts}
 use Rattle.gl_windows.specs.Parts.{IsOpening, IsFlush, IsTrigger, IsTail, TakesOf, AddsOpening, AddsFlush, AddsTrigger, AddsTail}
@@ -26,7 +27,7 @@ use Rattle.gl_windows.specs.declared.parts.Flush.{Flush}
 use Rattle.gl_windows.specs.declared.parts.Trigger.{Trigger}
 use Rattle.gl_windows.specs.declared.parts.Tail.{Tail}
 use Rattle.gl_windows.specs.declared.turns.OpenCopies.{OpenCopies}
-use Rattle.gl_windows.proofs.MachineLemmas.{mirrors_next, taken_is, end_is, any_same}
+use Rattle.gl_windows.proofs.MachineLemmas.{mirrors_next, taken_is, end_is}
 
 pub takes_of : (n0 n1 n2 n3 n4 : Net) (valid eos tail alone : Bit) (mids ends each last takes : List Bit) → IsGate n0 n1 (λ p q. p && not q) valid eos alone → length ends ≡ length mids
     → AddsLines n1 n2 (length mids) 1 each (with_line Both mids alone) → AddsLines n2 n3 (length ends) 1 last (with_line Both ends tail) → AddsLines n3 n4 (length each) 1 takes (pairs Either each last)

@@ -349,7 +349,3 @@ module _ (size advance count stride : ℕ) (hs : 1 ≤ size) (ha : 1 ≤ advance
             ∙ ap (λ (b : Bool). if b && (p.flush && p.held) then Some q.row else None)
             (ap (λ b. ((s.flush && nat_eq s.wait 0) && s.is_open (s.closed % count)) && b) (eq_turned k (s.closed % count)) ∙ sym (end_at false false he hv))
             ∙ ap (λ (b : Bool). if b then Some q.row else None) (sym (only_end (mid_of false p k) (end_of false false p k) p.flush p.held))
-
-pub any_same : (n : ℕ) (f g : ℕ → Bool) → ((k : ℕ) → k < n → f k ≡ g k) → any_to n f ≡ any_to n g
-any_same zero f g h = refl
-any_same (suc n) f g h = let a = any_same n f g (λ k l. h k (omega (arith, l))) in let b = h n (omega arith) in rw (a, b) refl

@@ -1,8 +1,7 @@
 -- The lines of a rotation, from those of its parts; and its registers.
-use Rattle.std.proofs.Common.{◌≡◌, ℕ, zero, suc, ◌+◌, ◌-◌, ◌<◌, ◌≤◌, List, [], ◌∷◌, ◌++◌, length, Some, Bool, false, refl, sym, ap, ◌∙◌, subst, arith, inl, inr, length-append, replicate, take, drop}
+use Rattle.std.proofs.Common.{◌≡◌, ℕ, zero, suc, ◌+◌, ◌-◌, ◌*◌, ◌<◌, ◌≤◌, List, [], ◌∷◌, ◌++◌, length, Some, Bool, false, refl, sym, ap, ◌∙◌, subst, arith, inl, inr, length-append, replicate, take, drop}
 use Rattle.std.specs.List.{sum}
 use Rattle.std.specs.Option.{option_map}
-use Rattle.std.proofs.lemmas.List.Sums.{sum_by-cons}
 use Rattle.std.specs.Prelude.{slice_get, slice_index_or, map, ◌&&◌, ◌||◌}
 use Rattle.gl_bits.specs.Words.{Word}
 use Rattle.gl_net.specs.declared.node.Bus.{Bus}
@@ -13,7 +12,7 @@ use Rattle.gl_wire.specs.Wire.{line_at}
 use Rattle.gl_wire_registers.specs.Held.{held_at, turned}
 use Rattle.gl_wire_registers.specs.declared.lines.LineOp.{LineOp}
 use Rattle.gl_wire_registers.specs.declared.lines.LineOp.TheVariants.{Both, Either, ButNot}
-use Rattle.gl_wire_registers.specs.Lines.{line_of, any_to, AreBits, AddsLine, AddsLines, pairs, pointed, any_line, to_bit, to_bus}
+use Rattle.gl_wire_registers.specs.Lines.{line_of, any_to, AreBits, AddsLine, AddsLines, pairs, pointed, any_line, gates_of, to_bit, to_bus}
 use Rattle.gl_wire_registers.specs.Counters.{IsNextPointer}
 use Rattle.gl_windows.specs.Turns.{Turns, Rotating, AddsRotation}
 use Rattle.gl_windows.specs.declared.turns.Turn.{Turn}
@@ -24,7 +23,8 @@ use Rattle.gl_bits.proofs.AllLists.{get_below, get_front, get_last, length_map, 
 use Rattle.gl_wire_registers.specs.Registers.{word_widths, Opens, MayDrive, DrivesAll}
 use Rattle.gl_wire_registers.proofs.CounterLemmas.{pointer_by}
 use Rattle.gl_wire_registers.proofs.RegisterLemmas.{widths_more, get_take, closed_up, length_taken}
-use Rattle.gl_wire_registers.proofs.LineLemmas.{bits_kept, line_of-get, line_of-first}
+use Rattle.gl_wire_registers.proofs.LineLemmas.{bits_kept, gates_some, line_of-get, line_of-first}
+use Rattle.gl_wire_registers.proofs.FlagLemmas.{get_replicate, length_replicate, same_bits}
 
 pairs_by : (op : LineOp) (a b : Net) (n count : ℕ) (xs ys bs : List Bit) → AddsLines a b n 1 bs (pairs op xs ys) → n ≡ count → AddsLines a b count 1 bs (pairs op xs ys)
 pairs_by op a b n count xs ys bs h e = subst (λ (m : ℕ). AddsLines a b m 1 bs (pairs op xs ys)) e h
@@ -35,9 +35,9 @@ module _ (n0 n1 n2 n3 n4 n5 n6 n7 : Net) (count : ℕ) (opens : Bit) (opened : B
     (b' : AddsLines n1 n2 (length flags) 1 mids (pairs Either flags news))
     (c : AddsLines n2 n3 count 3 chosen (pointed trigger oldest))
     (d' : AddsLines n3 n4 (length chosen) 1 ends (pairs Both chosen mids))
-    (e' : AddsLine n4 n5 (length ends + 1) closes (any_line (length ends) ends))
+    (e' : AddsLine n4 n5 (gates_of (length ends)) closes (any_line (length ends) ends))
     (g' : AddsLines n5 n6 (length mids) 1 kept (pairs ButNot mids ends))
-    (point : IsNextPointer n6 n7 oldest closes last next) (width : oldest.width ≡ 32) (last_is : last ≡ count - 1) where
+    (point : IsNextPointer n6 n7 oldest closes last next) (width : oldest.width ≡ 32) (last_is : last ≡ count - 1) (some : 1 ≤ count) where
   pub turns_of : Turns n0 n7 count opens opened trigger flags oldest (record { mids = mids; ends = ends; kept = kept; next = next })
   unfolding pairs any_line
   turns_of =
@@ -60,7 +60,7 @@ module _ (n0 n1 n2 n3 n4 n5 n6 n7 : Net) (count : ℕ) (opens : Bit) (opened : B
         kept_count = g.count;
         next = point.bus;
         next_width = point.width ∙ width;
-        cost = record { nodes = omega (arith, a.cost.nodes, b.cost.nodes, c.cost.nodes, d.cost.nodes, e'.cost.nodes, g.cost.nodes, point.cost.nodes, d.count); registers = omega (arith, a.cost.registers, b.cost.registers, c.cost.registers, d.cost.registers, e'.cost.registers, g.cost.registers, point.cost.registers); memories = omega (arith, a.cost.memories, b.cost.memories, c.cost.memories, d.cost.memories, e'.cost.memories, g.cost.memories, point.cost.memories) };
+        cost = record { nodes = omega (arith, a.cost.nodes, b.cost.nodes, c.cost.nodes, d.cost.nodes, e'.cost.nodes, g.cost.nodes, point.cost.nodes, ap gates_of d.count, gates_some count some); registers = omega (arith, a.cost.registers, b.cost.registers, c.cost.registers, d.cost.registers, e'.cost.registers, g.cost.registers, point.cost.registers); memories = omega (arith, a.cost.memories, b.cost.memories, c.cost.memories, d.cost.memories, e'.cost.memories, g.cost.memories, point.cost.memories) };
         mid = λ run r k t l. b.line run (k27.runs run r) k t l ∙ ap (λ q. line_of run flags k t || q) (a.line run (k17.runs run r) k t l);
         end = λ run r k t l. d.line run (k47.runs run r) k t l ∙ ap (λ q. q && line_of run mids k t) (c.line run (k37.runs run r) k t l);
         stays = λ run r k t l. g.line run (k67.runs run r) k t l;
@@ -68,15 +68,6 @@ module _ (n0 n1 n2 n3 n4 n5 n6 n7 : Net) (count : ℕ) (opens : Bit) (opened : B
       }
 
 -- ---- the registers
-
-get_replicate : {A : Type 0} (n : ℕ) (x : A) (k : ℕ) → k < n → slice_get (replicate n x) k ≡ Some x
-get_replicate zero x k l = absurd (omega (arith, l))
-get_replicate (suc n) x zero l = refl
-get_replicate (suc n) x (suc k) l = get_replicate n x k (omega (arith, l))
-
-length_replicate : {A : Type 0} (n : ℕ) (x : A) → length (replicate n x) ≡ n
-length_replicate zero x = refl
-length_replicate (suc n) x = ap suc (length_replicate n x)
 
 take_get : {A : Type 0} (xs : List A) (n k : ℕ) (x : A) → slice_get xs k ≡ Some x → k < n → slice_get (take n xs) k ≡ Some x
 take_get xs zero k x h l = absurd (omega (arith, l))
@@ -89,12 +80,8 @@ any_false zero f h = refl
 any_false (suc n) f h = rw (any_false n f h, h n) refl
 
 -- the bits of a flag for each copy and of a pointer
-flag_bits : (count : ℕ) (z : Word) → z.width ≡ 1 → sum (word_widths (replicate count z)) ≡ count
-flag_bits zero z h = omega arith
-flag_bits (suc count) z h = sum_by-cons (λ (y : ℕ). y) z.width (word_widths (replicate count z)) ∙ omega (arith, h, flag_bits count z h)
-
 bits_of_words : (count : ℕ) (z f : Word) → z.width ≡ 1 → f.width ≡ 32 → sum (word_widths (replicate count z ++ f ∷ [])) ≡ count + 32
-bits_of_words count z f hz hf = widths_more (replicate count z) f ∙ omega (arith, flag_bits count z hz, hf)
+bits_of_words count z f hz hf = widths_more (replicate count z) f ∙ omega (arith, same_bits count z, ap (λ n. count * n) hz, hf)
 
 module _ (n0 n1 : Net) (count : ℕ) (zero_word first : Word) (regs : List Bus) (zero_bits : zero_word.bits ≡ 0) (zero_width : zero_word.width ≡ 1) (first_bits : first.bits ≡ 0) (first_width : first.width ≡ 32)
     (o : Opens n0 n1 (replicate count zero_word ++ first ∷ []) regs) where

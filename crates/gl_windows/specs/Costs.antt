@@ -10,7 +10,7 @@ use Rattle.gl_wire_registers.specs.Joins.{cost_of_back}
 -- timer
 abbrev pub cost_of_front : ℕ → ℕ → List ℕ → Cost
 cost_of_front copies delay source = record {
-  nodes = copies * 16 + length source * 2 + delay + 90;
+  nodes = copies * 16 + length source * 2 + delay + 88;
   registers = copies * 3 + sum source + delay + 195;
   memories = 0;
 }

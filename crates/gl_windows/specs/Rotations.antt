@@ -43,7 +43,7 @@ pub record IsRotation (r : Rotation) : Type 0 where
 -- wires behind the machine of a front
 pub record AreFronts (old new : Net) (size advance count stride : ℕ) (source : Wire) (ws : List Wire) : Type 0 where
   pub keeps : Keeps old new
-  pub cost : Costs old new (with_registers (count * 16 + length (widths source.columns) * 2 + 70)
+  pub cost : Costs old new (with_registers (count * 16 + length (widths source.columns) * 2 + 68)
       (count * 3 + sum (widths source.columns) + 162))
   pub as_many : length ws ≡ count
   pub wires : (k : ℕ) (w : Wire) → slice_get ws k ≡ Some w → IsWire new w × (widths w.columns ≡ widths source.columns)

@@ -1,13 +1,15 @@
 -- One column more of a choice, and one copy more of the back.
-use Rattle.std.proofs.Common.{◌≡◌, ℕ, zero, suc, ◌+◌, List, [], ◌∷◌, ◌++◌, length, Some, None, Bool, true, false, refl, sym, ap, ◌∙◌, arith, length-append}
+use Rattle.std.proofs.Common.{◌≡◌, ℕ, zero, suc, ◌+◌, ◌*◌, ◌<◌, ◌≤◌, List, [], ◌∷◌, ◌++◌, length, Option, Some, None, Bool, true, false, refl, sym, ap, ◌∙◌, arith, length-append}
 use Rattle.std.specs.List.{sum}
 use Rattle.std.specs.Prelude.{slice_get, if◌then◌else◌, ◌||◌}
 use Rattle.gl_bits.specs.Words.{choose_of}
 use Rattle.gl_bits.specs.Results.{Row}
+use Rattle.gl_bits.proofs.AllLists.{get_front}
 use Rattle.gl_net.specs.declared.node.Bus.{Bus}
 use Rattle.gl_net.specs.declared.node.Bit.{Bit}
 use Rattle.gl_net.specs.Net.{Net, Run, IsRun, IsBus, Keeps}
 use Rattle.gl_net.proofs.Determined.{keeps_then}
+use Rattle.gl_net.proofs.Growth.{same_keeps}
 use Rattle.gl_wire.specs.declared.wire.Wire.{Wire}
 use Rattle.gl_wire.specs.Wire.{AreBuses, Carried, carried, line_at, row_at, tuple_at, widths, wire_of}
 use Rattle.gl_wire_copies.specs.Lift.{first_of, tuple_of_any}
@@ -15,14 +17,14 @@ use Rattle.gl_wire.specs.Costs.{Costs, nodes_alone}
 use Rattle.gl_wire.specs.Gates.{IsGate}
 use Rattle.gl_wire.specs.Stages.{IsPad}
 use Rattle.gl_wire.specs.Shapes.{IsDelayed}
-use Rattle.gl_wire.proofs.ColumnLemmas.{AreBuses-push, buses_kept, widths-push, row_at-push}
+use Rattle.gl_wire.proofs.ColumnLemmas.{AreBuses-push, buses_kept, widths-push, wire_kept, row_at-push}
 use Rattle.gl_wire.proofs.StageLemmas.{delayed_same}
 use Rattle.gl_wire.proofs.GateLemmas.{choose_line}
 use Rattle.gl_wire_registers.specs.Lines.{carried_of}
 use Rattle.gl_wire_registers.specs.declared.back.Merged.{Merged}
-use Rattle.gl_wire_registers.specs.Backs.{ChoosesRow, JoinsCopies, Merges}
+use Rattle.gl_wire_registers.specs.Backs.{AreWires, ChoosesRow, JoinsCopies, Merges, MergesTwo, nodes_of_merge}
 use Rattle.gl_wire_registers.specs.Numbers.{IsNever}
-use Rattle.gl_wire_registers.proofs.RowLemmas.{carried_of-get}
+use Rattle.gl_wire_registers.proofs.HalfLemmas.{get_behind}
 
 pub width_at : (xs ys : List Bus) (k : ℕ) (x y : Bus) → widths xs ≡ widths ys → slice_get xs k ≡ Some x → slice_get ys k ≡ Some y → y.width ≡ x.width
 width_at [] ys k x y h a b = absurd (cc)
@@ -60,27 +62,6 @@ first_chosen true b p q c e = ap Some e
 first_chosen false true p q c e = ap Some e
 first_chosen false false p q c e = refl
 
-pub merges_none : (old new : Net) (ws : List Wire) (v : Bit) (bs : List Bus) → IsNever old new v → AreBuses old bs
-    → Merges old new ws 0 (widths bs) (record { valid = v; columns = bs })
-unfolding tuple_at
-merges_none old new ws v bs h buses = record {
-  keeps = h.keeps;
-  valid = h.bit;
-  buses = buses_kept old new bs h.keeps buses;
-  same_widths = refl;
-  cost = record { nodes = omega (arith, h.cost.nodes); registers = omega (arith, h.cost.registers); memories = omega (arith, h.cost.memories) };
-  tuple = λ run r t. ap (λ (b : Bool). if b then Some (row_at run t bs) else None) (h.line run r t);
-}
-
-merged_tuple : (run : Run) (v u : Bit) (bs cs : List Bus) (w : Wire) → ((t : ℕ) → line_at run u t ≡ (line_at run v t || line_at run w.valid t))
-    → ((t : ℕ) → row_at run (suc t) cs ≡ (if line_at run v (suc t) then row_at run (suc t) bs else row_at run (suc t) w.columns))
-    → (t : ℕ) → tuple_at run u cs t ≡ first_of (tuple_at run v bs t) (tuple_at run w.valid w.columns t)
-unfolding tuple_at line_at
-merged_tuple run v u bs cs w line row zero = refl
-merged_tuple run v u bs cs w line row (suc t) =
-    ap (λ (b : Bool). if b then Some (row_at run (suc t) cs) else None) (line (suc t))
-    ∙ first_chosen (line_at run v (suc t)) (line_at run w.valid (suc t)) (row_at run (suc t) bs) (row_at run (suc t) w.columns) (row_at run (suc t) cs) (row t)
-
 length_by : (xs : List Bus) (ws : List ℕ) → widths xs ≡ ws → length xs ≡ length ws
 length_by xs ws h = long xs ∙ ap length h
   where
@@ -88,34 +69,146 @@ length_by xs ws h = long xs ∙ ap length h
     long [] = refl
     long (y ∷ ys) = ap suc (long ys)
 
+merged_tuple : (run : Run) (v q u : Bit) (bs ds cs : List Bus) → ((t : ℕ) → line_at run u t ≡ (line_at run v t || line_at run q t))
+    → ((t : ℕ) → row_at run (suc t) cs ≡ (if line_at run v (suc t) then row_at run (suc t) bs else row_at run (suc t) ds))
+    → (t : ℕ) → tuple_at run u cs t ≡ first_of (tuple_at run v bs t) (tuple_at run q ds t)
+unfolding tuple_at line_at
+merged_tuple run v q u bs ds cs line row zero = refl
+merged_tuple run v q u bs ds cs line row (suc t) =
+    ap (λ (b : Bool). if b then Some (row_at run (suc t) cs) else None) (line (suc t))
+    ∙ first_chosen (line_at run v (suc t)) (line_at run q (suc t)) (row_at run (suc t) bs) (row_at run (suc t) ds) (row_at run (suc t) cs) (row t)
+
+pub merges_two : (old mid new : Net) (first second : Merged) (bs : List Bus) (v : Bit) → ChoosesRow old mid first.valid first.columns second.columns bs → IsGate mid new (λ p q. p || q) first.valid second.valid v
+    → MergesTwo old new first second (record { valid = v; columns = bs })
+merges_two old mid new first second bs v c g = record {
+  keeps = keeps_then old mid new c.keeps g.keeps;
+  valid = g.bit;
+  buses = buses_kept mid new bs g.keeps c.buses;
+  same_widths = c.same_widths;
+  cost = record { nodes = omega (arith, c.cost.nodes, g.cost.nodes); registers = omega (arith, c.cost.registers, g.cost.registers); memories = omega (arith, c.cost.memories, g.cost.memories) };
+  tuple = λ run r. merged_tuple run first.valid second.valid v first.columns second.columns bs (g.line run r) (c.row run (g.keeps.runs run r));
+}
+
+-- ---- the first one of some copies, or of others
+
+first_none : (o : Option Row) → first_of o None ≡ o
+first_none None = refl
+first_none (Some r) = refl
+
+first_join : (o p q : Option Row) → first_of (first_of o p) q ≡ first_of o (first_of p q)
+first_join None p q = refl
+first_join (Some r) p q = refl
+
+pub tuples_same : (f g : ℕ → Carried) (n c : ℕ) → ((k : ℕ) → k < n → (f k).tuple c ≡ (g k).tuple c) → tuple_of_any f n c ≡ tuple_of_any g n c
+tuples_same f g zero c h = refl
+tuples_same f g (suc n) c h = ap (λ o. first_of o ((f n).tuple c)) (tuples_same f g n c (λ k l. h k (omega (arith, l)))) ∙ ap (first_of (tuple_of_any g n c)) (h n (omega arith))
+
+tuples_split : (f : ℕ → Carried) (m n c : ℕ) → tuple_of_any f (m + n) c ≡ first_of (tuple_of_any f m c) (tuple_of_any (λ k. f (m + k)) n c)
+tuples_split f m zero c = let e : m + 0 ≡ m = omega arith in ap (λ i. tuple_of_any f i c) e ∙ sym (first_none (tuple_of_any f m c))
+tuples_split f m (suc n) c =
+    let e : m + suc n ≡ suc (m + n) = omega arith in
+    ap (λ i. tuple_of_any f i c) e ∙ ap (λ o. first_of o ((f (m + n)).tuple c)) (tuples_split f m n c)
+    ∙ first_join (tuple_of_any f m c) (tuple_of_any (λ k. f (m + k)) n c) ((f (m + n)).tuple c)
+
+carried_front : (run : Run) (ws vs : List Wire) (k : ℕ) → k < length ws → carried_of run (ws ++ vs) k ≡ carried_of run ws k
+unfolding carried_of
+carried_front run [] vs k l = absurd (omega (arith, l))
+carried_front run (w ∷ ws) vs zero l = refl
+carried_front run (w ∷ ws) vs (suc k) l = carried_front run ws vs k (omega (arith, l))
+
+carried_behind : (run : Run) (ws vs : List Wire) (k : ℕ) → carried_of run (ws ++ vs) (length ws + k) ≡ carried_of run vs k
+unfolding carried_of
+carried_behind run [] vs k = let e : 0 + k ≡ k = omega arith in ap (carried_of run vs) e
+carried_behind run (w ∷ ws) vs k = let e : suc (length ws) + k ≡ suc (length ws + k) = omega arith in ap (carried_of run (w ∷ ws ++ vs)) e ∙ carried_behind run ws vs k
+
+tuples_halves : (run : Run) (ws vs : List Wire) (c : ℕ)
+    → tuple_of_any (carried_of run (ws ++ vs)) (length (ws ++ vs)) c ≡ first_of (tuple_of_any (carried_of run ws) (length ws) c) (tuple_of_any (carried_of run vs) (length vs) c)
+tuples_halves run ws vs c =
+    ap (λ n. tuple_of_any (carried_of run (ws ++ vs)) n c) (length-append ws vs) ∙ tuples_split (carried_of run (ws ++ vs)) (length ws) (length vs) c
+    ∙ ap (λ o. first_of o (tuple_of_any (λ k. carried_of run (ws ++ vs) (length ws + k)) (length vs) c))
+    (tuples_same (carried_of run (ws ++ vs)) (carried_of run ws) (length ws) c (λ k l. ap (λ (x : Carried). x.tuple c) (carried_front run ws vs k l)))
+    ∙ ap (first_of (tuple_of_any (carried_of run ws) (length ws) c))
+    (tuples_same (λ k. carried_of run (ws ++ vs) (length ws + k)) (carried_of run vs) (length vs) c (λ k l. ap (λ (x : Carried). x.tuple c) (carried_behind run ws vs k)))
+
+-- ---- the tree
+
+pub merges_none : (old new : Net) (ws : List Wire) (v : Bit) (bs : List Bus) → IsNever old new v → AreBuses old bs → length ws ≡ 0 → Merges old new ws (widths bs) (record { valid = v; columns = bs })
+unfolding tuple_at
+merges_none old new [] v bs h buses none = record {
+  keeps = h.keeps;
+  valid = h.bit;
+  buses = buses_kept old new bs h.keeps buses;
+  same_widths = refl;
+  cost = record { nodes = omega (arith, h.cost.nodes); registers = omega (arith, h.cost.registers); memories = omega (arith, h.cost.memories) };
+  tuple = λ run r t. ap (λ (b : Bool). if b then Some (row_at run t bs) else None) (h.line run r t);
+}
+merges_none old new (w ∷ ws) v bs h buses none = absurd (omega (arith, none))
+
+pub merges_only : (net : Net) (ws : List Wire) (w : Wire) (columns : List ℕ) → AreWires net ws columns → slice_get ws 0 ≡ Some w → length ws < 2 → Merges net net ws columns (record { valid = w.valid; columns = w.columns })
+unfolding carried_of
+merges_only net [] w columns are h l = absurd (cc)
+merges_only net (x ∷ []) w columns are h l =
+    let same : x ≡ w = cc in
+    let wire = are.each 0 w h in
+    record {
+      keeps = same_keeps net;
+      valid = wire.valid;
+      buses = wire.columns;
+      same_widths = are.same_widths 0 w h;
+      cost = record { nodes = omega arith; registers = omega arith; memories = omega arith };
+      tuple = λ run r t. ap (λ (y : Wire). (carried run y).tuple t) (sym same);
+    }
+merges_only net (x ∷ y ∷ ws) w columns are h l = absurd (omega (arith, l))
+
+-- a half of some wires are wires
+pub wires_part : (net : Net) (ws vs : List Wire) (columns : List ℕ) → AreWires net (ws ++ vs) columns → AreWires net ws columns × AreWires net vs columns
+wires_part net ws vs columns h = (
+  record { each = λ k w e. h.each k w (get_front ws vs k w e); same_widths = λ k w e. h.same_widths k w (get_front ws vs k w e) },
+  record { each = λ k w e. h.each (length ws + k) w (get_behind ws vs k w e); same_widths = λ k w e. h.same_widths (length ws + k) w (get_behind ws vs k w e) },
+)
+
+pub wires_kept : (old new : Net) (ws : List Wire) (columns : List ℕ) → Keeps old new → AreWires old ws columns → AreWires new ws columns
+wires_kept old new ws columns keeps h = record { each = λ k w e. wire_kept old new w keeps (h.each k w e); same_widths = h.same_widths }
+
+merge_nodes : (m n c : ℕ) → 1 ≤ m → 1 ≤ n → nodes_of_merge m c + nodes_of_merge n c + (c + 1) ≡ nodes_of_merge (m + n) c
+merge_nodes zero n c l k = absurd (omega (arith, l))
+merge_nodes (suc m) zero c l k = absurd (omega (arith, k))
+merge_nodes (suc m) (suc n) c l k =
+    let e : suc m + suc n ≡ suc (m + suc n) = omega arith in
+    let all : m * (c + 1) + n * (c + 1) + (c + 1) ≡ (m + suc n) * (c + 1) = omega arith in
+    all ∙ ap (λ i. nodes_of_merge i c) (sym e)
+
+pub merge_within : (n c : ℕ) → nodes_of_merge n c ≤ n * (c + 1) + 1
+merge_within zero c = omega arith
+merge_within (suc n) c = omega arith
+
+pub merges_both : (n0 n1 n2 n3 : Net) (ws vs : List Wire) (columns : List ℕ) (left right m : Merged) → 1 ≤ length ws → 1 ≤ length vs → Merges n0 n1 ws columns left → Merges n1 n2 vs columns right
+    → MergesTwo n2 n3 left right m → Merges n0 n3 (ws ++ vs) columns m
+merges_both n0 n1 n2 n3 ws vs columns left right m some_left some_right a b g =
+    let each : nodes_of_merge (length ws) (length columns) + nodes_of_merge (length vs) (length columns) + (length columns + 1) ≡ nodes_of_merge (length (ws ++ vs)) (length columns) =
+    merge_nodes (length ws) (length vs) (length columns) some_left some_right ∙ ap (λ n. nodes_of_merge n (length columns)) (sym (length-append ws vs)) in
+    record {
+      keeps = keeps_then n0 n1 n3 a.keeps (keeps_then n1 n2 n3 b.keeps g.keeps);
+      valid = g.valid;
+      buses = g.buses;
+      same_widths = g.same_widths ∙ a.same_widths;
+      cost = record {
+        nodes = omega (arith, a.cost.nodes, b.cost.nodes, g.cost.nodes, each, length_by left.columns columns a.same_widths);
+        registers = omega (arith, a.cost.registers, b.cost.registers, g.cost.registers);
+        memories = omega (arith, a.cost.memories, b.cost.memories, g.cost.memories);
+      };
+      tuple = λ run r t.
+          let at_b = g.keeps.runs run r in
+          g.tuple run r t ∙ ap (λ o. first_of o (tuple_at run right.valid right.columns t)) (a.tuple run (b.keeps.runs run at_b) t)
+          ∙ ap (first_of (tuple_of_any (carried_of run ws) (length ws) t)) (b.tuple run at_b t) ∙ sym (tuples_halves run ws vs t);
+    }
+
 joined_by : (run : Run) (v close : Bit) (bs : List Bus) (ws : List Wire) (n : ℕ) (w : Wire) → ((t : ℕ) → tuple_at run v bs t ≡ tuple_of_any (carried_of run ws) n t) → IsDelayed 1 (carried run (wire_of v close bs)) (carried run w)
     → IsDelayed 1 (record { tuple = tuple_of_any (carried_of run ws) n; ends = line_at run close }) (carried run w)
 joined_by run v close bs ws n w tuple d = delayed_same 1 (carried run (wire_of v close bs)) (record { tuple = tuple_of_any (carried_of run ws) n; ends = line_at run close }) (carried run w) tuple (λ c. refl) d
 
-pub merges_more : (old mid chosen new : Net) (ws : List Wire) (n : ℕ) (columns : List ℕ) (v u : Bit) (bs cs : List Bus) (w : Wire) → Merges old mid ws n columns (record { valid = v; columns = bs }) → slice_get ws n ≡ Some w
-    → ChoosesRow mid chosen v bs w.columns cs → IsGate chosen new (λ p q. p || q) v w.valid u → Merges old new ws (n + 1) columns (record { valid = u; columns = cs })
-unfolding tuple_at
-merges_more old mid chosen new ws n columns v u bs cs w h has c g = record {
-  keeps = keeps_then old mid new h.keeps (keeps_then mid chosen new c.keeps g.keeps);
-  valid = g.bit;
-  buses = buses_kept chosen new cs g.keeps c.buses;
-  same_widths = c.same_widths ∙ h.same_widths;
-  cost = record {
-    nodes = omega (arith, g.cost.nodes, c.cost.nodes, h.cost.nodes, length_by bs columns h.same_widths);
-    registers = omega (arith, g.cost.registers, c.cost.registers, h.cost.registers);
-    memories = omega (arith, g.cost.memories, c.cost.memories, h.cost.memories);
-  };
-  tuple = λ run r t.
-      let rc = g.keeps.runs run r in
-      let old_tuple = h.tuple run (c.keeps.runs run rc) t in
-      let s : n + 1 ≡ suc n = omega arith in
-      merged_tuple run v u bs cs w (g.line run r) (c.row run rc) t ∙ ap (λ o. first_of o (tuple_at run w.valid w.columns t)) old_tuple
-      ∙ ap (λ (d : Carried). first_of (tuple_of_any (carried_of run ws) n t) (d.tuple t)) (sym (carried_of-get run ws n w has))
-      ∙ ap (λ m. tuple_of_any (carried_of run ws) m t) (sym s);
-}
-
 -- a stage behind the tuples of all copies and a line
-pub joins_copies : (old mid new : Net) (ws : List Wire) (close : Bit) (columns : List ℕ) (m : Merged) (w : Wire) → Merges old mid ws (length ws) columns m
+pub joins_copies : (old mid new : Net) (ws : List Wire) (close : Bit) (columns : List ℕ) (m : Merged) (w : Wire) → Merges old mid ws columns m
     → IsPad mid new 1 (wire_of m.valid close m.columns) w → JoinsCopies old new ws close columns w
 joins_copies old mid new ws close columns m w h p = record {
   keeps = keeps_then old mid new h.keeps p.keeps;

@@ -1,6 +1,8 @@
 pub mod NumberLemmas
 pub mod CounterLemmas
 pub mod RegisterLemmas
+pub mod HalfLemmas
+pub mod FlagLemmas
 pub mod LineLemmas
 pub mod RowLemmas
 pub mod TimerLemmas

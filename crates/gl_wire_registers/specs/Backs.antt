@@ -1,5 +1,5 @@
 -- The back of copies: what they carry, on one wire.
-use Rattle.std.specs.Prelude.{◌≡◌, ℕ, suc, ◌+◌, ◌*◌, List, length, slice_get, Some, if◌then◌else◌}
+use Rattle.std.specs.Prelude.{◌≡◌, ℕ, zero, suc, ◌+◌, ◌*◌, List, length, slice_get, Some, if◌then◌else◌}
 use Rattle.std.specs.List.{sum}
 use Rattle.gl_net.specs.declared.node.Bus.{Bus}
 use Rattle.gl_net.specs.declared.node.Bit.{Bit}
@@ -8,7 +8,7 @@ use Rattle.gl_wire.specs.declared.wire.Wire.{Wire}
 use Rattle.gl_wire.specs.Costs.{Costs, nodes_alone}
 use Rattle.gl_wire.specs.Shapes.{IsDelayed}
 use Rattle.gl_wire.specs.Wire.{AreBuses, IsWire, carried, line_at, row_at, tuple_at, widths}
-use Rattle.gl_wire_copies.specs.Lift.{tuple_of_any}
+use Rattle.gl_wire_copies.specs.Lift.{first_of, tuple_of_any}
 use Rattle.gl_wire_registers.specs.declared.back.Merged.{Merged}
 use Rattle.gl_wire_registers.specs.Held.{with_registers}
 use Rattle.gl_wire_registers.specs.Lines.{carried_of}
@@ -28,22 +28,39 @@ pub record AreWires (net : Net) (ws : List Wire) (columns : List ℕ) : Type 0 w
   pub each : (k : ℕ) (w : Wire) → slice_get ws k ≡ Some w → IsWire net w
   pub same_widths : (k : ℕ) (w : Wire) → slice_get ws k ≡ Some w → widths w.columns ≡ columns
 
--- the tuples of the first n copies
-pub record Merges (old new : Net) (ws : List Wire) (n : ℕ) (columns : List ℕ) (m : Merged) : Type 0 where
+-- the tuples of one, and where it has none those of another
+pub record MergesTwo (old new : Net) (first second m : Merged) : Type 0 where
+  pub keeps : Keeps old new
+  pub valid : IsBit new m.valid
+  pub buses : AreBuses new m.columns
+  pub same_widths : widths m.columns ≡ widths first.columns
+  pub cost : Costs old new (nodes_alone (length first.columns + 1))
+  pub tuple : (run : Run) → IsRun new run → (t : ℕ)
+      → tuple_at run m.valid m.columns t
+      ≡ first_of (tuple_at run first.valid first.columns t) (tuple_at run second.valid second.columns t)
+
+-- the nodes of a tree over n copies: for each but one a choice of each column and a gate, and a constant where there is
+-- none
+abbrev pub nodes_of_merge : ℕ → ℕ → ℕ
+nodes_of_merge zero columns = 1
+nodes_of_merge (suc n) columns = n * (columns + 1)
+
+-- the tuples of these copies
+pub record Merges (old new : Net) (ws : List Wire) (columns : List ℕ) (m : Merged) : Type 0 where
   pub keeps : Keeps old new
   pub valid : IsBit new m.valid
   pub buses : AreBuses new m.columns
   pub same_widths : widths m.columns ≡ columns
-  pub cost : Costs old new (nodes_alone (n * (length columns + 1) + 1))
+  pub cost : Costs old new (nodes_alone (nodes_of_merge (length ws) (length columns)))
   pub tuple : (run : Run) → IsRun new run → (t : ℕ)
-      → tuple_at run m.valid m.columns t ≡ tuple_of_any (carried_of run ws) n t
+      → tuple_at run m.valid m.columns t ≡ tuple_of_any (carried_of run ws) (length ws) t
 
 -- a wire that carries, a cycle later, the tuples of all copies, and the ends of a line
 pub record JoinsCopies (old new : Net) (ws : List Wire) (close : Bit) (columns : List ℕ) (w : Wire) : Type 0 where
   pub keeps : Keeps old new
   pub wire : IsWire new w
   pub same_widths : widths w.columns ≡ columns
-  pub cost : Costs old new (with_registers (length ws * (length columns + 1) + length columns + 3) (sum columns + 2))
+  pub cost : Costs old new (with_registers (nodes_of_merge (length ws) (length columns) + length columns + 2) (sum columns + 2))
   pub delayed : (run : Run) → IsRun new run
       → IsDelayed 1 (record { tuple = tuple_of_any (carried_of run ws) (length ws); ends = line_at run close })
       (carried run w)

@@ -1,5 +1,5 @@
 -- What copies give, on one wire, and the lines of all copies together.
-use Rattle.std.specs.Prelude.{◌≡◌, ℕ, ◌+◌, ◌*◌, List, [], ◌∷◌, length, map, Option, Some, None, slice_get}
+use Rattle.std.specs.Prelude.{◌≡◌, ℕ, ◌+◌, ◌-◌, ◌*◌, List, [], ◌∷◌, length, map, Option, Some, None, slice_get}
 use Rattle.std.specs.List.{sum}
 use Rattle.gl_net.specs.declared.node.Bit.{Bit}
 use Rattle.gl_net.specs.Net.{Net, Run, IsRun, Keeps}
@@ -7,7 +7,7 @@ use Rattle.gl_wire.specs.declared.emitted.Emitted.{Emitted}
 use Rattle.gl_wire.specs.declared.emitted.Faults.{Faults}
 use Rattle.gl_wire.specs.declared.wire.Wire.{Wire}
 use Rattle.gl_wire.specs.Costs.{Cost, CostsAtMost, nodes_alone}
-use Rattle.gl_wire.specs.Faults.{AreLines, lines_of}
+use Rattle.gl_wire.specs.Faults.{AreLines, lines_of, no_faults}
 use Rattle.gl_wire.specs.Shapes.{IsDelayed}
 use Rattle.gl_wire.specs.Spills.{Lines, SameLines, both_lines, no_lines}
 use Rattle.gl_wire.specs.Wire.{Carried, IsWire, carried, line_at, widths}
@@ -52,6 +52,19 @@ pub record AreCopies (net : Net) (copies : List Emitted) : Type 0 where
   pub each : (k : ℕ) (e : Emitted) → slice_get copies k ≡ Some e → IsWire net e.wire
   pub same_widths : (k : ℕ) (e : Emitted) → slice_get copies k ≡ Some e → widths e.wire.columns ≡ columns_of copies
   pub lines : HaveLines net copies
+
+-- the lines of the first copy, where there is one
+abbrev pub faults_of : List Emitted → Faults
+faults_of [] = no_faults
+faults_of (e ∷ es) = e.faults
+
+-- the lines of all these copies together
+pub record JoinsAlone (old new : Net) (copies : List Emitted) (faults : Faults) : Type 0 where
+  pub keeps : Keeps old new
+  pub cost : CostsAtMost old new (nodes_alone ((length copies - 1) * 2))
+  pub are : AreLines new faults
+  pub told : (run : Run) → IsRun new run
+      → SameLines (lines_of run faults) (lines_of_all (told_of run copies) (length copies))
 
 -- the lines of a source and of the first n copies together
 pub record JoinsLines (old new : Net) (source : Faults) (copies : List Emitted) (n : ℕ) (faults : Faults) : Type 0 where

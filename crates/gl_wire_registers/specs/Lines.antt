@@ -32,6 +32,11 @@ abbrev pub any_to : ℕ → (ℕ → Bool) → Bool
 any_to zero f = false
 any_to (suc n) f = any_to n f || f n
 
+-- the gates of a tree over n lines: one fewer than lines, and a constant where there is none
+abbrev pub gates_of : ℕ → ℕ
+gates_of zero = 1
+gates_of (suc n) = n
+
 abbrev pub to_bit : Bus → Bit
 to_bit b = record { node = b.node }
 

@@ -1,9 +1,9 @@
 //! The back of copies: what they carry, on one wire.
 
-ghost use Rattle.std.specs.Prelude.{◌≡◌, IfOk, length};
+ghost use Rattle.std.specs.Prelude.{◌≡◌, ◌<◌, IfOk, length};
 ghost use Rattle.gl_net.specs.Net.{IsBit};
 ghost use Rattle.gl_wire.specs.Wire.{AreBuses, widths};
-ghost use Rattle.gl_wire_registers.specs.Backs.{AreWires, ChoosesRow, JoinsCopies, Merges};
+ghost use Rattle.gl_wire_registers.specs.Backs.{AreWires, ChoosesRow, JoinsCopies, Merges, MergesTwo};
 
 use crate::numbers::never;
 use crate::rows::same_buses;
@@ -43,7 +43,52 @@ pub fn choose_row(
     Ok(all)
 }
 
-// The tuples of all copies: of the first one that carries one.
+// What the only copy carries; where there is none, nothing, beside these columns.
+fn merge_few(
+    alloc: Global,
+    net: &mut NetBuilder,
+    wires: &[Wire],
+    columns: &[Bus],
+) -> Result<Merged, Memory>
+    requires wires { AreWires net.old wires.now (widths columns.now) }
+    requires columns { AreBuses net.old columns.now }
+    requires few { length wires.now < 2 }
+    ensures { IfOk result (Merges net.old net.new wires.now (widths columns.now)) }
+{
+    let Some((wire, _)) = wires.split_first() else {
+        let valid = never(net)?;
+        let columns = same_buses(alloc, columns)?;
+        return Ok(Merged { valid, columns });
+    };
+    let columns = same_buses(alloc, wire.columns.as_slice())?;
+    Ok(Merged {
+        valid: wire.valid,
+        columns,
+    })
+}
+
+// The tuples of the first copies, and else of the others.
+fn merge_two(
+    alloc: Global,
+    net: &mut NetBuilder,
+    first: &Merged,
+    second: &Merged,
+) -> Result<Merged, Memory>
+    requires first_valid { IsBit net.old first.now.valid }
+    requires first_columns { AreBuses net.old first.now.columns }
+    requires second_valid { IsBit net.old second.now.valid }
+    requires second_columns { AreBuses net.old second.now.columns }
+    requires widths { widths second.now.columns ≡ widths first.now.columns }
+    ensures { IfOk result (MergesTwo net.old net.new first.now second.now) }
+{
+    let left = first.columns.as_slice();
+    let right = second.columns.as_slice();
+    let columns = choose_row(alloc, net, first.valid, left, right)?;
+    let valid = either(net, first.valid, second.valid)?;
+    Ok(Merged { valid, columns })
+}
+
+// The tuples of all copies: of the first one that carries one, in the first half or else in the second.
 fn merge_all(
     alloc: Global,
     net: &mut NetBuilder,
@@ -52,22 +97,20 @@ fn merge_all(
 ) -> Result<Merged, Memory>
     requires wires { AreWires net.old wires.now (widths columns.now) }
     requires columns { AreBuses net.old columns.now }
-    ensures { IfOk result (λ m.
-        Merges net.old net.new wires.now (length wires.now) (widths columns.now) m) }
+    ensures { IfOk result (Merges net.old net.new wires.now (widths columns.now)) }
 {
-    let mut valid = never(net)?;
-    let mut row = same_buses(alloc, columns)?;
-    for wire in wires {
-        row = choose_row(alloc, net, valid, row.as_slice(), wire.columns.as_slice())?;
-        valid = either(net, valid, wire.valid)?;
+    if wires.len() < 2 {
+        let merged = merge_few(alloc, net, wires, columns)?;
+        return Ok(merged);
     }
-    Ok(Merged {
-        valid,
-        columns: row,
-    })
+    let (first, second) = wires.split_at(wires.len() / 2);
+    let left = merge_all(alloc, net, first, columns)?;
+    let right = merge_all(alloc, net, second, columns)?;
+    let merged = merge_two(alloc, net, &left, &right)?;
+    Ok(merged)
 }
 
-/// The tuples of all copies on one wire, a cycle later, with the ends of a line. The columns are any of the copies' widths.
+/// The tuples of all copies on one wire, a cycle later, chosen in a tree, with the ends of a line. The columns are any of the copies' widths.
 pub fn join_copies(
     alloc: Global,
     net: &mut NetBuilder,

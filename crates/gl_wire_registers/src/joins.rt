@@ -1,9 +1,9 @@
 //! The wires and the lines of copies, joined.
 
-ghost use Rattle.std.specs.Prelude.{◌≡◌, ◌≤◌, IfOk, length};
+ghost use Rattle.std.specs.Prelude.{◌≡◌, ◌<◌, ◌≤◌, IfOk, length};
 ghost use Rattle.gl_net.specs.Net.{IsBit};
 ghost use Rattle.gl_wire.specs.Faults.{AreLines};
-ghost use Rattle.gl_wire_registers.specs.Joins.{AreCopies, HaveLines, JoinsAll, JoinsLines, wires_of};
+ghost use Rattle.gl_wire_registers.specs.Joins.{AreCopies, HaveLines, JoinsAll, JoinsAlone, JoinsLines, faults_of, wires_of};
 
 use crate::back::join_copies;
 use crate::rows::{Wires, same_buses};
@@ -36,7 +36,37 @@ fn copied_wires(alloc: Global, copies: &[Emitted]) -> Result<Wires, Memory>
     Ok(all)
 }
 
-/// The lines of a source and of all copies together.
+// The lines of the only copy; where there is none, none.
+fn lines_of_few(copies: &[Emitted]) -> Faults
+    requires { length copies.now < 2 }
+    ensures { result ≡ faults_of copies.now }
+{
+    match copies.split_first() {
+        None => Faults {
+            passed: None,
+            further: None,
+        },
+        Some((copy, _)) => copy.faults,
+    }
+}
+
+// The lines of all copies together: those of the first half, and of the second.
+fn lines_of_copies(net: &mut NetBuilder, copies: &[Emitted]) -> Result<Faults, Memory>
+    requires { HaveLines net.old copies.now }
+    ensures { IfOk result (JoinsAlone net.old net.new copies.now) }
+{
+    if copies.len() < 2 {
+        let faults = lines_of_few(copies);
+        return Ok(faults);
+    }
+    let (first, second) = copies.split_at(copies.len() / 2);
+    let left = lines_of_copies(net, first)?;
+    let right = lines_of_copies(net, second)?;
+    let faults = both_faults(net, left, right)?;
+    Ok(faults)
+}
+
+/// The lines of a source and of all copies together, by gates in a tree.
 pub fn join_lines(
     net: &mut NetBuilder,
     source: Faults,
@@ -46,10 +76,11 @@ pub fn join_lines(
     requires copies { HaveLines net.old copies.now }
     ensures { IfOk result (JoinsLines net.old net.new source copies.now (length copies.now)) }
 {
-    let mut faults = source;
-    for copy in copies {
-        faults = both_faults(net, faults, copy.faults)?;
+    if copies.is_empty() {
+        return Ok(source);
     }
+    let own = lines_of_copies(net, copies)?;
+    let faults = both_faults(net, source, own)?;
     Ok(faults)
 }
 

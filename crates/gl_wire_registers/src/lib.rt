@@ -15,8 +15,10 @@ pub mod timers;
 pub use back::{choose_row, join_copies};
 pub use counters::{count_down, hold, latch, next_count, next_pointer, pointer};
 pub use joins::{join_all, join_lines};
-pub use lines::{Bits, LineOp, any, buses_with, decode, gate, lines_of, pairwise, with_all};
+pub use lines::{
+    Bits, LineOp, any, buses_of, buses_with, decode, gate, lines_of, pairwise, with_all,
+};
 pub use numbers::{always, never, number_at, number_or, when_equal, word};
-pub use registers::{drive_all, open_all};
+pub use registers::{drive_all, open_all, open_same};
 pub use rows::{Wires, copy_wires, hold_all, same_buses};
 pub use timers::{close_line, later_by, timer};

@@ -1,8 +1,8 @@
 //! Lines of many copies, one for each.
 
-ghost use Rattle.std.specs.Prelude.{◌≡◌, ◌+◌, ◌∷◌, ◌++◌, [], IfOk, length, map};
+ghost use Rattle.std.specs.Prelude.{◌≡◌, ◌<◌, ◌∷◌, ◌++◌, [], IfOk, length, map};
 ghost use Rattle.gl_net.specs.Net.{IsBit, IsBus};
-ghost use Rattle.gl_wire_registers.specs.Lines.{AddsLine, AddsLines, AreBits, any_line, gated, pairs, pointed, pointed_at, to_bit, to_bus, with_line};
+ghost use Rattle.gl_wire_registers.specs.Lines.{AddsLine, AddsLines, AreBits, any_line, gated, gates_of, pairs, pointed, pointed_at, to_bit, to_bus, with_line};
 
 use crate::numbers::{never, when_equal};
 use gl_bits::{Listed, Memory};
@@ -116,16 +116,34 @@ pub fn decode(
     Ok(all)
 }
 
-// 1 where the line of one of the copies is.
+// The line of the only copy; where there is none, one that is 1 in no cycle.
+fn any_of_few(net: &mut NetBuilder, lines: &[Bit]) -> Result<Bit, Memory>
+    requires lines { AreBits net.old lines.now }
+    requires few { length lines.now < 2 }
+    ensures { IfOk result (λ b.
+        AddsLine net.old net.new (gates_of (length lines.now)) b (any_line (length lines.now) lines.now)) }
+{
+    let Some((line, _)) = lines.split_first() else {
+        let none = never(net)?;
+        return Ok(none);
+    };
+    Ok(*line)
+}
+
+// 1 where the line of one of the copies is: that of one of the first half, or of the second.
 fn any_of(net: &mut NetBuilder, lines: &[Bit]) -> Result<Bit, Memory>
     requires { AreBits net.old lines.now }
     ensures { IfOk result (λ b.
-        AddsLine net.old net.new (length lines.now + 1) b (any_line (length lines.now) lines.now)) }
+        AddsLine net.old net.new (gates_of (length lines.now)) b (any_line (length lines.now) lines.now)) }
 {
-    let mut one = never(net)?;
-    for line in lines {
-        one = either(net, one, *line)?;
+    if lines.len() < 2 {
+        let one = any_of_few(net, lines)?;
+        return Ok(one);
     }
+    let (first, second) = lines.split_at(lines.len() / 2);
+    let left = any_of(net, first)?;
+    let right = any_of(net, second)?;
+    let one = either(net, left, right)?;
     Ok(one)
 }
 
@@ -143,8 +161,8 @@ pub fn lines_of(alloc: Global, registers: &[Bus]) -> Result<Vec<Bit>, Memory>
     }
 }
 
-// The lines as buses.
-fn buses_of(alloc: Global, lines: &[Bit]) -> Result<Vec<Bus>, Memory>
+/// The lines as buses.
+pub fn buses_of(alloc: Global, lines: &[Bit]) -> Result<Vec<Bus>, Memory>
     ensures { IfOk result (λ bs. bs.items ≡ map to_bus lines.now) }
 {
     match lines
@@ -204,11 +222,11 @@ pub fn with_all(
     Ok(all)
 }
 
-/// A line that is 1 where that of one of the copies is.
+/// A line that is 1 where that of one of the copies is, by gates in a tree.
 pub fn any(net: &mut NetBuilder, lines: &Bits) -> Result<Bit, Memory>
     requires { AreBits net.old lines.now }
     ensures { IfOk result (λ b.
-        AddsLine net.old net.new (length lines.now + 1) b (any_line (length lines.now) lines.now)) }
+        AddsLine net.old net.new (gates_of (length lines.now)) b (any_line (length lines.now) lines.now)) }
 {
     let one = any_of(net, lines.as_slice())?;
     Ok(one)

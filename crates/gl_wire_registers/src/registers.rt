@@ -1,6 +1,6 @@
 //! Many registers at once, which may read each other.
 
-ghost use Rattle.std.specs.Prelude.{IfOk, OnOk};
+ghost use Rattle.std.specs.Prelude.{◌≡◌, IfOk, OnOk, replicate};
 ghost use Rattle.gl_wire_registers.specs.Registers.{AreOpen, DrivesAll, MayDrive, Opens, OpensOne};
 
 use gl_bits::{Memory, Word};
@@ -26,6 +26,30 @@ pub fn open_all(alloc: Global, net: &mut NetBuilder, resets: &[Word]) -> Result<
         all.push(register)?;
     }
     Ok(all)
+}
+
+// So many equal words.
+fn words_of(alloc: Global, word: Word, count: usize) -> Result<Vec<Word>, Memory>
+    ensures { IfOk result (λ v. v.items ≡ replicate count word) }
+{
+    match vec![in alloc; word; count] {
+        Ok(all) => Ok(all),
+        Err(_) => Err(Memory),
+    }
+}
+
+/// So many registers with one reset value, to be driven later.
+pub fn open_same(
+    alloc: Global,
+    net: &mut NetBuilder,
+    reset: Word,
+    count: usize,
+) -> Result<Buses, Memory>
+    ensures { IfOk result (Opens net.old net.new (replicate count reset)) }
+{
+    let resets = words_of(alloc, reset, count)?;
+    let registers = open_all(alloc, net, resets.as_slice())?;
+    Ok(registers)
 }
 
 /// Drives each register by the bus in its place.
