@@ -8,34 +8,30 @@ use Rattle.gl_net.proofs.Determined.{keeps_then}
 use Rattle.gl_wire.specs.declared.wire.Wire.{Wire}
 use Rattle.gl_wire.specs.Stages.{IsLaterLine}
 use Rattle.gl_wire.specs.Wire.{carried, line_at, row_at, tuple_at, widths}
-use Rattle.gl_wire.proofs.ColumnLemmas.{bus_kept, wire_kept}
+use Rattle.gl_wire.proofs.ColumnLemmas.{bit_kept, bus_kept, buses_kept, wire_kept}
 use Rattle.gl_wire_registers.specs.Held.{counted_down, held_at}
-use Rattle.gl_wire_registers.specs.Lines.{carried_of, line_of}
+use Rattle.gl_wire_registers.specs.Lines.{line_of}
 use Rattle.gl_wire_registers.specs.Rows.{AddsWires}
-use Rattle.gl_wire_registers.proofs.LineLemmas.{gates_some, line_of-first}
+use Rattle.gl_wire_registers.proofs.LineLemmas.{bits_kept, gates_some, line_of-first}
+use Rattle.gl_groups.specs.declared.front.Chosen.{Chosen}
 use Rattle.gl_groups.specs.declared.front.Ending.{Ending}
 use Rattle.gl_groups.specs.declared.front.Lookup.{Lookup}
 use Rattle.gl_groups.specs.declared.parts.Flush.{Flush}
 use Rattle.gl_groups.specs.declared.parts.Tail.{Tail}
 use Rattle.gl_groups.specs.declared.slots.SlotLines.{SlotLines}
 use Rattle.gl_groups.specs.SlotLines.{AddsSlots, AreSlotLines, held_of, sought_at}
-use Rattle.gl_groups.specs.Fronts.{AddsEnding, AddsFront, AddsLookup, IsEnding, IsFront, IsLookup, column_of}
+use Rattle.gl_groups.specs.Fronts.{AddsChosen, AddsEnding, AddsFront, AddsLookup, IsChosen, IsEnding, IsLookup, column_of}
 use Rattle.gl_groups.specs.Groupings.{AreKeys}
 use Rattle.gl_groups.specs.Parts.{AddsFlush, AddsTail, IsFlush, IsTail, TakesOf}
 use Rattle.gl_groups.specs.Seeking.{asked, has, matches, takes}
-use Rattle.gl_groups.specs.Slots.{AreSlots, Slots, further_line, no_slots, slots_at}
+use Rattle.gl_groups.specs.Slots.{Slots, further_line, is_further, keys_at, no_slots, slots_at}
 use Rattle.gl_groups.specs.Values.{Cycle, Mirrors, Steps, Values, due_of, end_of, sought_of, tail_of, valid_of}
 use Rattle.gl_groups.proofs.MachineLemmas.{end_is, further_is, mirrors_next, taken_is}
 
-module _ (run : Run) (w : Wire) (key count stride : ℕ) (f : Flush) (h : Tail) (look : Lookup) (r : SlotLines) (g : Ending) (takers : List Bit) (ins : List Wire) (further : Bit)
+module _ (run : Run) (w : Wire) (key count stride : ℕ) (f : Flush) (h : Tail) (look : Lookup) (r : SlotLines) (g : Ending) (takers : List Bit)
     (is_f : IsFlush run w.valid w.eos stride f) (is_h : IsTail run w.valid w.eos f.idle h) (is_look : IsLookup run w key look) (is_r : AreSlotLines run f.free w.valid look.value count r)
     (is_g : IsEnding run w.eos f.due count r.has g)
-    (is_takes : (k t : ℕ) → k < count → line_of run takers k t ≡ (line_of run r.matches k t && ((line_of run g.ends k t && line_at run h.tail t) || (line_at run w.valid t && not (line_at run w.eos t)))))
-    (first_tuple : (k : ℕ) → k < count → (carried_of run ins k).tuple 0 ≡ None)
-    (first_end : (k : ℕ) → k < count → (carried_of run ins k).ends 0 ≡ false)
-    (later_tuple : (k t : ℕ) → k < count → (carried_of run ins k).tuple (suc t) ≡ (if line_of run takers k t then Some (row_at run (suc t) look.row) else None))
-    (later_end : (k t : ℕ) → k < count → (carried_of run ins k).ends (suc t) ≡ line_of run g.ends k t)
-    (later_further : (t : ℕ) → line_at run further (suc t) ≡ line_at run r.passes t) where
+    (is_takes : (k t : ℕ) → k < count → line_of run takers k t ≡ (line_of run r.matches k t && ((line_of run g.ends k t && line_at run h.tail t) || (line_at run w.valid t && not (line_at run w.eos t))))) where
   -- the registers in a cycle
   abbrev at : ℕ → Values
   at c = record {
@@ -130,17 +126,6 @@ module _ (run : Run) (w : Wire) (key count stride : ℕ) (f : Flush) (h : Tail) 
     mirrors zero = mirrors_first
     mirrors (suc c) = mirrors_next count stride (column_of key) some (s c) (at c) (mirrors c) (e c) (v c) (x c) (y c) (is_key c) (at (suc c)) (steps c)
 
-    slots_are : AreSlots count (column_of key) stride (carried run w) (carried_of run ins)
-    unfolding tuple_at
-    slots_are = record {
-      no_tuple = first_tuple;
-      no_end = first_end;
-      tuples = λ k c l.
-          later_tuple k c l ∙ ap (λ (b : Bool). if b then Some (row_at run (suc c) look.row) else None) (takes_are k c l)
-          ∙ sym (taken_is count stride (column_of key) some (s c) (at c) (mirrors c) (e c) (v c) (x c) (y c) (is_key c) (at (suc c)) (steps c) k l);
-      ends = λ k c l. later_end k c l ∙ ends_are k c l ∙ end_is count stride (column_of key) some (s c) (at c) (mirrors c) (e c) (v c) (x c) (y c) (is_key c) k l;
-    }
-
     keys_shown : AreKeys count (column_of key) stride (carried run w) (held_of run r.keys)
     keys_shown = record { shown = λ k c z l there. by (line_of run r.used k c) (held_of run r.keys k c) z (sym ((mirrors c).slots k l) ∙ there) }
       where
@@ -148,75 +133,103 @@ module _ (run : Run) (w : Wire) (key count stride : ℕ) (f : Flush) (h : Tail) 
         by true n z q = cc
         by false n z q = absurd (cc)
 
-    further_told : (c : ℕ) → line_at run further c ≡ further_line count (column_of key) stride (carried run w) c
-    unfolding tuple_at line_at
-    further_told zero = refl
-    further_told (suc c) =
-        later_further c ∙ is_r.passes c ∙ ap (λ z. asked count z count) (sought_is c)
-        ∙ further_is count stride (column_of key) some (s c) (at c) (mirrors c) (e c) (v c) (x c) (y c) (is_key c)
+    pub chosen_is : IsChosen run key count stride w (record { row = look.row; keys = r.keys; takes = takers; ends = g.ends; passes = r.passes })
+    unfolding tuple_at
+    chosen_is = record {
+      takes = λ k c l.
+          ap (λ (b : Bool). if b then Some (row_at run (suc c) look.row) else None) (takes_are k c l)
+          ∙ sym (taken_is count stride (column_of key) some (s c) (at c) (mirrors c) (e c) (v c) (x c) (y c) (is_key c) (at (suc c)) (steps c) k l);
+      ends = λ k c l. ends_are k c l ∙ end_is count stride (column_of key) some (s c) (at c) (mirrors c) (e c) (v c) (x c) (y c) (is_key c) k l;
+      shown = keys_shown;
+      further = λ c.
+          is_r.passes c ∙ ap (λ z. asked count z count) (sought_is c)
+          ∙ further_is count stride (column_of key) some (s c) (at c) (mirrors c) (e c) (v c) (x c) (y c) (is_key c);
+    }
 
-    pub front_is : IsFront run key count stride w (record { wires = ins; keys = r.keys; further = further })
-    front_is = record { front = slots_are; shown = keys_shown; told = further_told }
-
--- one after another the parts are a front
-module _ (n0 n1 n2 n3 n4 n5 n6 n7 n8 : Net) (w : Wire) (key count stride : ℕ) (some : 1 ≤ count)
-    (f : Flush) (h : Tail) (look : Lookup) (r : SlotLines) (g : Ending) (takers : List Bit) (ws : List Wire) (further : Bit)
+-- one after another the parts choose the slots
+module _ (n0 n1 n2 n3 n4 n5 n6 : Net) (w : Wire) (key count stride : ℕ) (some : 1 ≤ count) (f : Flush) (h : Tail) (look : Lookup) (r : SlotLines) (g : Ending) (takers : List Bit)
     (is_f : AddsFlush n0 n1 w.valid w.eos stride f) (is_h : AddsTail n1 n2 w.valid w.eos f.idle h) (is_look : AddsLookup n2 n3 w key look)
-    (is_r : AddsSlots n3 n4 f.free w.valid look.value count r) (is_g : AddsEnding n4 n5 w.eos f.due count r.has g)
-    (is_t : TakesOf n5 n6 w.valid w.eos h.tail r.matches g.ends takers) (is_w : AddsWires n6 n7 (length takers) takers g.ends look.row ws) (is_l : IsLaterLine n7 n8 r.passes further) where
-  k78 : Keeps n7 n8
-  k78 = is_l.keeps
+    (is_r : AddsSlots n3 n4 f.free w.valid look.value count r) (is_g : AddsEnding n4 n5 w.eos f.due count r.has g) (is_t : TakesOf n5 n6 w.valid w.eos h.tail r.matches g.ends takers) where
+  k56 : Keeps n5 n6
+  k56 = is_t.keeps
 
-  k68 : Keeps n6 n8
-  k68 = keeps_then n6 n7 n8 is_w.keeps k78
+  k46 : Keeps n4 n6
+  k46 = keeps_then n4 n5 n6 is_g.keeps k56
 
-  k58 : Keeps n5 n8
-  k58 = keeps_then n5 n6 n8 is_t.keeps k68
+  k36 : Keeps n3 n6
+  k36 = keeps_then n3 n4 n6 is_r.keeps k46
 
-  k48 : Keeps n4 n8
-  k48 = keeps_then n4 n5 n8 is_g.keeps k58
+  k26 : Keeps n2 n6
+  k26 = keeps_then n2 n3 n6 is_look.keeps k36
 
-  k38 : Keeps n3 n8
-  k38 = keeps_then n3 n4 n8 is_r.keeps k48
-
-  k28 : Keeps n2 n8
-  k28 = keeps_then n2 n3 n8 is_look.keeps k38
-
-  k18 : Keeps n1 n8
-  k18 = keeps_then n1 n2 n8 is_h.keeps k28
-
-  takes_count : length takers ≡ count
-  takes_count = is_t.count ∙ is_r.matches_count
+  k16 : Keeps n1 n6
+  k16 = keeps_then n1 n2 n6 is_h.keeps k26
 
   abbrev key_width : ℕ
   key_width = slice_index (widths w.columns) key
 
-  slots_bits : count * (look.value.width + 1) ≡ count * key_width + count
-  slots_bits = ap (λ n. count * (n + 1)) is_look.value_width ∙ omega arith
+  slots_bits : count * (look.value.width + 1) ≡ count * (key_width + 1)
+  slots_bits = ap (λ n. count * (n + 1)) is_look.value_width
 
-  all_bits : count * (key_width + 3) ≡ count * key_width + count * 3
-  all_bits = omega arith
-
-  pub fronts_are : AddsFront n0 n8 key count stride w (record { wires = ws; keys = r.keys; further = further })
-  fronts_are = record {
-    keeps = keeps_then n0 n1 n8 is_f.keeps k18;
+  pub chosen_are : AddsChosen n0 n6 key count stride w (record { row = look.row; keys = r.keys; takes = takers; ends = g.ends; passes = r.passes })
+  chosen_are = record {
+    keeps = keeps_then n0 n1 n6 is_f.keeps k16;
     cost = record {
-      nodes = omega (arith, is_f.cost.nodes, is_h.cost.nodes, is_look.cost.nodes, is_r.cost.nodes, is_g.cost.nodes, is_t.cost.nodes, is_w.cost.nodes, is_l.cost.nodes, is_r.matches_count, takes_count, gates_some count some);
-      registers = omega (arith, is_f.cost.registers, is_h.cost.registers, is_look.cost.registers, is_r.cost.registers, is_g.cost.registers, is_t.cost.registers, is_w.cost.registers, is_l.cost.registers, takes_count, slots_bits, all_bits);
-      memories = omega (arith, is_f.cost.memories, is_h.cost.memories, is_look.cost.memories, is_r.cost.memories, is_g.cost.memories, is_t.cost.memories, is_w.cost.memories, is_l.cost.memories);
+      nodes = omega (arith, is_f.cost.nodes, is_h.cost.nodes, is_look.cost.nodes, is_r.cost.nodes, is_g.cost.nodes, is_t.cost.nodes, is_r.matches_count, gates_some count some);
+      registers = omega (arith, is_f.cost.registers, is_h.cost.registers, is_look.cost.registers, is_r.cost.registers, is_g.cost.registers, is_t.cost.registers, slots_bits);
+      memories = omega (arith, is_f.cost.memories, is_h.cost.memories, is_look.cost.memories, is_r.cost.memories, is_g.cost.memories, is_t.cost.memories);
     };
-    as_many = is_w.count ∙ takes_count;
-    wires = λ k x e. (wire_kept n7 n8 x k78 (is_w.wires k x e), ap widths (is_w.columns k x e) ∙ is_look.row_widths);
+    row_buses = buses_kept n3 n6 look.row k36 is_look.row_buses;
+    row_widths = is_look.row_widths;
     keys_count = is_r.keys_count;
-    keys = λ k b e. (bus_kept n4 n8 b k48 (is_r.keys_there.each k b e), is_r.keys_width k b e ∙ is_look.value_width);
-    further = is_l.bit;
+    keys = λ k b e. (bus_kept n4 n6 b k46 (is_r.keys_there.each k b e), is_r.keys_width k b e ∙ is_look.value_width);
+    takes_count = is_t.count ∙ is_r.matches_count;
+    takes = is_t.bits;
+    ends_count = is_g.ends_count;
+    ends = bits_kept n5 n6 g.ends k56 is_g.bits;
+    passes = bit_kept n4 n6 r.passes k46 is_r.passes_bit;
     law = λ run z.
-        front_is run w key count stride f h look r g takers ws further
-        (is_f.law run (k18.runs run z)) (is_h.law run (k28.runs run z)) (is_look.law run (k38.runs run z)) (is_r.law run (k48.runs run z)) (is_g.law run (k58.runs run z))
-        (λ k u l. is_t.line run (k68.runs run z) k u (omega (arith, l, is_r.matches_count)))
-        (λ k l. is_w.first_tuple run (k78.runs run z) k (omega (arith, l, takes_count)))
-        (λ k l. is_w.first_end run (k78.runs run z) k (omega (arith, l, takes_count)))
-        (λ k u l. is_w.tuple run (k78.runs run z) k u (omega (arith, l, takes_count)))
-        (λ k u l. is_w.end run (k78.runs run z) k u (omega (arith, l, takes_count)))
-        (is_l.line run z) some;
+        chosen_is run w key count stride f h look r g takers
+        (is_f.law run (k16.runs run z)) (is_h.law run (k26.runs run z)) (is_look.law run (k36.runs run z)) (is_r.law run (k46.runs run z)) (is_g.law run (k56.runs run z))
+        (λ k u l. is_t.line run z k u (omega (arith, l, is_r.matches_count))) some;
   }
+
+-- wires of what is chosen are a front
+pub fronts_are : (n0 n1 n2 n3 : Net) (w : Wire) (key count stride : ℕ) (r : Chosen) (ws : List Wire) (further : Bit) → AddsChosen n0 n1 key count stride w r
+    → AddsWires n1 n2 (length r.takes) r.takes r.ends r.row ws → IsLaterLine n2 n3 r.passes further → AddsFront n0 n3 key count stride w (record { wires = ws; keys = r.keys; further = further })
+unfolding tuple_at line_at
+fronts_are n0 n1 n2 n3 w key count stride r ws further a b c =
+    let k13 = keeps_then n1 n2 n3 b.keeps c.keeps in
+    let bits : count * (slice_index (widths w.columns) key + 3) ≡ count * (slice_index (widths w.columns) key + 1) + count * 2 = omega arith in
+    record {
+      keeps = keeps_then n0 n1 n3 a.keeps k13;
+      cost = record {
+        nodes = omega (arith, a.cost.nodes, b.cost.nodes, c.cost.nodes, a.takes_count);
+        registers = omega (arith, a.cost.registers, b.cost.registers, c.cost.registers, a.takes_count, bits);
+        memories = omega (arith, a.cost.memories, b.cost.memories, c.cost.memories);
+      };
+      as_many = b.count ∙ a.takes_count;
+      wires = λ k x e. (wire_kept n2 n3 x c.keeps (b.wires k x e), ap widths (b.columns k x e) ∙ a.row_widths);
+      keys_count = a.keys_count;
+      keys = λ k x e. let h = a.keys k x e in (bus_kept n1 n3 x k13 h.0, h.1);
+      further = c.bit;
+      law = λ run z.
+          let at_wires = c.keeps.runs run z in
+          let law = a.law run (k13.runs run z) in
+          record {
+            front = record {
+              no_tuple = λ k l. b.first_tuple run at_wires k (omega (arith, l, a.takes_count));
+              no_end = λ k l. b.first_end run at_wires k (omega (arith, l, a.takes_count));
+              tuples = λ k u l. b.tuple run at_wires k u (omega (arith, l, a.takes_count)) ∙ law.takes k u l;
+              ends = λ k u l. b.end run at_wires k u (omega (arith, l, a.takes_count)) ∙ law.ends k u l;
+            };
+            shown = law.shown;
+            told = λ u. told_by run further u (c.line run z) law.further;
+          };
+    }
+  where
+    told_by : (run : Run) (f : Bit) (u : ℕ) → ((t : ℕ) → line_at run f (suc t) ≡ line_at run r.passes t)
+        → ((t : ℕ) → line_at run r.passes t ≡ is_further (column_of key) (keys_at count (column_of key) stride (carried run w) t) ((carried run w).tuple t))
+        → line_at run f u ≡ further_line count (column_of key) stride (carried run w) u
+    told_by run f zero later is = refl
+    told_by run f (suc u) later is = later u ∙ is u

@@ -35,7 +35,7 @@ use Rattle.gl_groups.proofs.FurtherLemmas.{further_came}
 use Rattle.gl_groups.proofs.GroupLemmas.{groupings_serve}
 
 -- what is given behind a source that awaits each flush
-abbrev setting_of : (r : Grouping) (a : Carried) (ins : ℕ → Carried) → IsGrouping r → AreSlots r.slots (key_of r) (stride_of r.body) a ins → AwaitsFlush r a → Setting
+abbrev pub setting_of : (r : Grouping) (a : Carried) (ins : ℕ → Carried) → IsGrouping r → AreSlots r.slots (key_of r) (stride_of r.body) a ins → AwaitsFlush r a → Setting
 setting_of r a ins is law awaits = record {
   count = r.slots;
   key = key_of r;

@@ -98,7 +98,7 @@ module _ (copies : List Emitted) (keys : List Bus) (ws : List Wire) (same_count 
       ap (λ n. tuple_of_any (carried_of run ws) n c) keyed.count
       ∙ tuples_same (carried_of run ws) (with_keys (held_of run keys) (gives_of run copies)) (length copies) c (λ k l. copy_tuple run c k l)
 
-first_then : (net : Net) (b : Bus) (bs : List Bus) → IsBus net b → AreBuses net bs → AreBuses net (b ∷ bs)
+pub first_then : (net : Net) (b : Bus) (bs : List Bus) → IsBus net b → AreBuses net bs → AreBuses net (b ∷ bs)
 first_then net b bs is h = record { each = by }
   where
     by : (k : ℕ) (x : Bus) → slice_get (b ∷ bs) k ≡ Some x → IsBus net x

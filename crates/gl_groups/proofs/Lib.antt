@@ -16,3 +16,7 @@ pub mod FrontNet
 pub mod JoinLemmas
 pub mod GroupedNet
 pub mod CostLemmas
+pub mod PickLemmas
+pub mod EventLemmas
+pub mod LaneNet
+pub mod LanedNet

@@ -36,13 +36,13 @@ held_of-get run [] k b t h = absurd (cc)
 held_of-get run (x ∷ bs) zero b t h = let e : x ≡ b = cc in ap (λ (y : Bus). held_at 0 run y t) e
 held_of-get run (x ∷ bs) (suc k) b t h = held_of-get run bs k b t h
 
-held_of-old : (run : Run) (bs : List Bus) (b : Bus) (k t : ℕ) → k < length bs → held_of run (bs ++ b ∷ []) k t ≡ held_of run bs k t
+pub held_of-old : (run : Run) (bs : List Bus) (b : Bus) (k t : ℕ) → k < length bs → held_of run (bs ++ b ∷ []) k t ≡ held_of run bs k t
 unfolding held_of
 held_of-old run [] b k t l = absurd (omega (arith, l))
 held_of-old run (x ∷ bs) b zero t l = refl
 held_of-old run (x ∷ bs) b (suc k) t l = held_of-old run bs b k t (omega (arith, l))
 
-held_of-new : (run : Run) (bs : List Bus) (b : Bus) (t : ℕ) → held_of run (bs ++ b ∷ []) (length bs) t ≡ held_at 0 run b t
+pub held_of-new : (run : Run) (bs : List Bus) (b : Bus) (t : ℕ) → held_of run (bs ++ b ∷ []) (length bs) t ≡ held_at 0 run b t
 unfolding held_of
 held_of-new run [] b t = refl
 held_of-new run (x ∷ bs) b t = held_of-new run bs b t

@@ -1,5 +1,5 @@
 -- A front of groups in a netlist: its wires, its keys and its own line.
-use Rattle.std.specs.Prelude.{◌≡◌, ℕ, suc, ◌+◌, ◌-◌, ◌*◌, ◌<◌, List, length, Some, slice_get, slice_index, if◌then◌else◌, nat_eq, ◌&&◌, ◌||◌}
+use Rattle.std.specs.Prelude.{◌≡◌, ℕ, suc, ◌+◌, ◌-◌, ◌*◌, ◌<◌, List, length, Some, None, slice_get, slice_index, if◌then◌else◌, nat_eq, ◌&&◌, ◌||◌}
 use Rattle.std.specs.List.{sum}
 use Rattle.gl_bits.specs.Results.{Row}
 use Rattle.gl_net.specs.declared.node.Bus.{Bus}
@@ -10,12 +10,13 @@ use Rattle.gl_wire.specs.Costs.{Costs}
 use Rattle.gl_wire.specs.Wire.{AreBuses, IsWire, carried, line_at, row_at, widths}
 use Rattle.gl_wire_registers.specs.Held.{counted_down, held_at, with_registers}
 use Rattle.gl_wire_registers.specs.Lines.{AreBits, carried_of, line_of}
+use Rattle.gl_groups.specs.declared.front.Chosen.{Chosen}
 use Rattle.gl_groups.specs.declared.front.Ending.{Ending}
 use Rattle.gl_groups.specs.declared.front.Front.{Front}
 use Rattle.gl_groups.specs.declared.front.Lookup.{Lookup}
 use Rattle.gl_groups.specs.SlotLines.{held_of}
 use Rattle.gl_groups.specs.Groupings.{AreKeys}
-use Rattle.gl_groups.specs.Slots.{AreSlots, further_line}
+use Rattle.gl_groups.specs.Slots.{AreSlots, further_line, is_further, keys_at, slot_at, slot_ends_at, slot_takes, slots_at}
 
 -- the column of a row
 abbrev pub column_of : ℕ → Row → ℕ
@@ -56,6 +57,38 @@ pub record AddsEnding (old new : Net) (eos due : Bit) (count : ℕ) (has : List 
   pub ends_count : length r.ends ≡ count
   pub cost : Costs old new (with_registers (count * 4 + 13) 32)
   pub law : (run : Run) → IsRun new run → IsEnding run eos due count has r
+
+-- what the machine of slots gives in a cycle: which slots take the row that stands here one cycle later and which one
+-- ends, the keys, and the line of further keys
+pub record IsChosen (run : Run) (key count stride : ℕ) (source : Wire) (r : Chosen) : Type 0 where
+  pub takes : (k c : ℕ) → k < count
+      → (if line_of run r.takes k c then Some (row_at run (suc c) r.row) else None)
+      ≡ slot_takes (column_of key) (line_at run source.eos c) ((carried run source).tuple c)
+      (keys_at count (column_of key) stride (carried run source) c)
+      (slots_at count (column_of key) stride (carried run source) c) k
+  pub ends : (k c : ℕ) → k < count
+      → line_of run r.ends k c ≡ (slot_ends_at count (column_of key) stride (carried run source) c
+      && nat_eq k (slot_at count (column_of key) stride (carried run source) c))
+  pub shown : AreKeys count (column_of key) stride (carried run source) (held_of run r.keys)
+  pub further : (c : ℕ) → line_at run r.passes c
+      ≡ is_further (column_of key) (keys_at count (column_of key) stride (carried run source) c)
+      ((carried run source).tuple c)
+
+pub record AddsChosen (old new : Net) (key count stride : ℕ) (source : Wire) (r : Chosen) : Type 0 where
+  pub keeps : Keeps old new
+  pub cost : Costs old new (with_registers (count * 18 + length (widths source.columns) * 2 + 40)
+      (count * (slice_index (widths source.columns) key + 1) + sum (widths source.columns) + 66))
+  pub row_buses : AreBuses new r.row
+  pub row_widths : widths r.row ≡ widths source.columns
+  pub keys_count : length r.keys ≡ count
+  pub keys : (k : ℕ) (b : Bus) → slice_get r.keys k ≡ Some b → IsBus new b
+      × (b.width ≡ slice_index (widths source.columns) key)
+  pub takes_count : length r.takes ≡ count
+  pub takes : AreBits new r.takes
+  pub ends_count : length r.ends ≡ count
+  pub ends : AreBits new r.ends
+  pub passes : IsBit new r.passes
+  pub law : (run : Run) → IsRun new run → IsChosen run key count stride source r
 
 -- wires behind the machine of slots, the keys of the slots, and the line of further keys
 pub record IsFront (run : Run) (key count stride : ℕ) (source : Wire) (r : Front) : Type 0 where

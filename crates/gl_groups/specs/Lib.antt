@@ -7,6 +7,9 @@ pub mod Groupings
 pub mod Fronts
 pub mod Costs
 pub mod Joins
+pub mod Picks
+pub mod Lanes
+pub mod Laned
 pub mod Grouped
 pub mod Laws
 pub mod Worked

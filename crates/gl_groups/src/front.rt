@@ -4,7 +4,7 @@ ghost use Rattle.std.specs.Prelude.{◌≡◌, ◌<◌, ◌≤◌, IfOk, length}
 ghost use Rattle.gl_net.specs.Net.{IsBit};
 ghost use Rattle.gl_wire_registers.specs.Lines.{AreBits};
 ghost use Rattle.gl_wire.specs.Wire.{IsWire};
-ghost use Rattle.gl_groups.specs.Fronts.{AddsEnding, AddsFront, AddsLookup};
+ghost use Rattle.gl_groups.specs.Fronts.{AddsChosen, AddsEnding, AddsFront, AddsLookup};
 
 use crate::parts::{count_flush, count_turns, keep_tail, take_rows, turn_lines};
 use crate::slots::put_slots;
@@ -30,6 +30,21 @@ pub struct Ending {
     pub rest: Bus,
     /// For each slot whether it ends.
     pub ends: Bits,
+}
+
+/// Which slots take a row, and which one ends.
+#[derive(Drop)]
+pub struct Chosen {
+    /// The row that came last, one cycle later.
+    pub row: Buses,
+    /// For each slot its key.
+    pub keys: Buses,
+    /// For each slot whether it takes that row.
+    pub takes: Bits,
+    /// For each slot whether it ends.
+    pub ends: Bits,
+    /// 1 with a row of a further key.
+    pub passes: Bit,
 }
 
 /// What a front gives.
@@ -86,8 +101,40 @@ pub fn end_slots(
     })
 }
 
-/// The wires of so many slots, by the key in a column, whose ends are `stride` cycles apart in a flush.
+/// Which slots take the row that came last and which one ends, by the key in a column, whose ends are `stride` cycles apart in a flush.
 #[tactic(auto, using(gl_wire_registers::proofs::LineLemmas::bits_kept, gl_wire::proofs::ColumnLemmas::buses_kept))]
+pub fn choose_slots(
+    alloc: Global,
+    net: &mut NetBuilder,
+    wire: &Wire,
+    key: usize,
+    count: u32,
+    stride: u32,
+) -> Result<Chosen, Memory>
+    requires wire { IsWire net.old wire.now }
+    requires key { key < length wire.now.columns }
+    requires count { 1 ≤ count }
+    requires stride { 1 ≤ stride }
+    ensures { IfOk result (AddsChosen net.old net.new key count stride wire.now) }
+{
+    let v = wire.valid;
+    let e = wire.eos;
+    let flush = count_flush(net, v, e, stride)?;
+    let tail = keep_tail(net, v, e, flush.idle)?;
+    let look = look_up(alloc, net, wire, key)?;
+    let slots = put_slots(alloc, net, flush.free, v, look.value, count)?;
+    let ending = end_slots(alloc, net, e, flush.due, &slots.has, count)?;
+    let takes = take_rows(alloc, net, v, e, tail.tail, &slots.matches, &ending.ends)?;
+    Ok(Chosen {
+        row: look.row,
+        keys: slots.keys,
+        takes,
+        ends: ending.ends,
+        passes: slots.passes,
+    })
+}
+
+/// The wires of so many slots, by the key in a column, whose ends are `stride` cycles apart in a flush.
 pub fn put_front(
     alloc: Global,
     net: &mut NetBuilder,
@@ -102,19 +149,12 @@ pub fn put_front(
     requires stride { 1 ≤ stride }
     ensures { IfOk result (AddsFront net.old net.new key count stride wire.now) }
 {
-    let v = wire.valid;
-    let e = wire.eos;
-    let flush = count_flush(net, v, e, stride)?;
-    let tail = keep_tail(net, v, e, flush.idle)?;
-    let look = look_up(alloc, net, wire, key)?;
-    let slots = put_slots(alloc, net, flush.free, v, look.value, count)?;
-    let ending = end_slots(alloc, net, e, flush.due, &slots.has, count)?;
-    let takes = take_rows(alloc, net, v, e, tail.tail, &slots.matches, &ending.ends)?;
-    let wires = copy_wires(alloc, net, &takes, &ending.ends, &look.row)?;
-    let further = later_bit(net, slots.passes)?;
+    let chosen = choose_slots(alloc, net, wire, key, count, stride)?;
+    let wires = copy_wires(alloc, net, &chosen.takes, &chosen.ends, &chosen.row)?;
+    let further = later_bit(net, chosen.passes)?;
     Ok(Front {
         wires,
-        keys: slots.keys,
+        keys: chosen.keys,
         further,
     })
 }

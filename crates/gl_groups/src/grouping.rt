@@ -45,7 +45,7 @@ pub struct Fronted {
 
 impl Grouping {
     // The cycles from one slot's turn to the next one's.
-    fn stride(&self) -> u32
+    pub(crate) fn stride(&self) -> u32
         requires { IsGrouping self.now }
         ensures { result ≡ stride_of self.now.body }
     {
@@ -53,7 +53,7 @@ impl Grouping {
     }
 
     // The cycles that the timer of the line of ends runs.
-    fn cycles(&self) -> u32
+    pub(crate) fn cycles(&self) -> u32
         requires { IsGrouping self.now }
         ensures { result ≡ close_cycles self.now }
     {

@@ -12,8 +12,8 @@ use gl_wire::{Emitted, Faults, Wire, both_faults};
 use gl_wire_registers::{Wires, join_copies, join_lines};
 use std::alloc::Global;
 
-// A bus in front of others.
-fn with_first(alloc: Global, first: Bus, others: &[Bus]) -> Result<Buses, Memory>
+/// A bus in front of others.
+pub fn with_first(alloc: Global, first: Bus, others: &[Bus]) -> Result<Buses, Memory>
     ensures { IfOk result (λ bs. bs ≡ first ∷ others.now) }
 {
     let mut all = Buses::new(alloc);

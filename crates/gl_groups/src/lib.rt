@@ -6,8 +6,12 @@
 pub mod front;
 pub mod grouping;
 pub mod joins;
+pub mod lane;
+pub mod laning;
 pub mod laws;
 pub mod parts;
+pub mod pick;
 pub mod slots;
 
 pub use grouping::{Fronted, Grouping};
+pub use laning::Lane;

@@ -74,8 +74,13 @@ pub struct SlotLines {
     pub passes: Bit,
 }
 
-// For each slot whether its key is this one.
-fn same_each(alloc: Global, net: &mut NetBuilder, value: Bus, keys: &[Bus]) -> Result<Bits, Memory>
+/// For each slot whether its key is this one.
+pub fn same_each(
+    alloc: Global,
+    net: &mut NetBuilder,
+    value: Bus,
+    keys: &[Bus],
+) -> Result<Bits, Memory>
     requires value { IsBus net.old value }
     requires keys { AreKeysOf net.old value keys.now }
     ensures { IfOk result (λ bs.

@@ -1,0 +1,170 @@
+-- A lane of a group, and what gathers the totals of its slots, from their parts.
+use Rattle.std.proofs.Common.{◌≡◌, ℕ, zero, suc, ◌+◌, ◌-◌, ◌^◌, ◌<◌, ◌≤◌, List, ◌∷◌, length, Some, None, Bool, true, false, refl, sym, ap, ◌∙◌, subst, arith, eqb-true, eq-eqb}
+use Rattle.std.specs.Prelude.{slice_get, slice_index_or, nat_eq, nat_le, if◌then◌else◌}
+use Rattle.std.proofs.Math.Pow.{pow-lt}
+use Rattle.std.proofs.lemmas.Bool.{leb-true}
+use Rattle.std.proofs.lemmas.Option.{slice_get-get_or}
+use Rattle.std.proofs.lemmas.List.Sums.{sum_by-cons}
+use Rattle.gl_algebra.specs.Cost.{least_exponent}
+use Rattle.gl_algebra.specs.FigureTable.{stride_of}
+use Rattle.gl_bits.specs.Results.{Row}
+use Rattle.gl_bits.proofs.Bools.{by_cases}
+use Rattle.gl_net.specs.declared.node.Bit.{Bit}
+use Rattle.gl_net.specs.declared.node.Bus.{Bus}
+use Rattle.gl_net.specs.Net.{Net, Run, IsRun, Keeps}
+use Rattle.gl_net.proofs.Determined.{keeps_then}
+use Rattle.gl_wire.specs.declared.wire.Wire.{Wire}
+use Rattle.gl_wire.specs.Stages.{IsPad}
+use Rattle.gl_wire.specs.Wire.{carried, line_at, row_at, tuple_at, widths, wire_of}
+use Rattle.gl_wire.proofs.ColumnLemmas.{bit_kept, bus_kept, wire_kept}
+use Rattle.gl_wire.proofs.StageLemmas.{delayed_same}
+use Rattle.gl_wire_lanes.specs.declared.table.TableOut.{TableOut}
+use Rattle.gl_wire_lanes.specs.Shares.{share, slot_of}
+use Rattle.gl_wire_registers.specs.Held.{held_at}
+use Rattle.gl_wire_registers.specs.Lines.{AddsLines, line_of}
+use Rattle.gl_wire_registers.specs.Timers.{IsClose, IsCloseLine}
+use Rattle.gl_groups.specs.declared.grouping.Grouping.{Grouping}
+use Rattle.gl_groups.specs.declared.lane.LaneLines.{LaneLines}
+use Rattle.gl_groups.specs.declared.laning.Lane.{Lane}
+use Rattle.gl_groups.specs.declared.pick.Picked.{Picked}
+use Rattle.gl_groups.specs.Groupings.{IsGrouping, close_cycles, close_delay, in_front}
+use Rattle.gl_groups.specs.Joins.{AreKeyBuses, width_of_keys}
+use Rattle.gl_groups.specs.Laned.{IsGathered, IsLaned, bits_of_slots}
+use Rattle.gl_groups.specs.Lanes.{AddsLane, IsLane}
+use Rattle.gl_groups.specs.Picks.{AddsNumbers, AreAlike, PicksOne}
+use Rattle.gl_groups.specs.SlotLines.{held_of, same_to}
+use Rattle.gl_groups.proofs.FurtherLemmas.{further_came}
+use Rattle.gl_groups.proofs.GroupedNet.{setting_of}
+
+-- ---- the bits of a number
+
+below_power : (n : ℕ) → n < 2 ^ n
+below_power zero = omega arith
+below_power (suc n) = let h = below_power n in let l = pow-lt {i = n} {j = suc n} (omega arith) in omega (arith, h, l)
+
+covers : (more exponent slots : ℕ) → slots ≤ more + exponent → slots ≤ 2 ^ least_exponent more exponent slots
+covers zero e slots h = let l = below_power e in omega (arith, l, h)
+covers (suc more) e slots h = by (nat_le slots (2 ^ e)) refl (covers more (suc e) slots (omega (arith, h)))
+  where
+    by : (b : Bool) → nat_le slots (2 ^ e) ≡ b → slots ≤ 2 ^ least_exponent more (suc e) slots → slots ≤ 2 ^ (if b then e else least_exponent more (suc e) slots)
+    by true p rest = leb-true slots (2 ^ e) p
+    by false p rest = rest
+
+pub bits_cover : (slots : ℕ) → slots ≤ 2 ^ bits_of_slots slots
+bits_cover slots = covers slots 1 slots (omega arith)
+
+pub bits_from : (slots more depth bits : ℕ) → more ≡ slots → depth ≡ slots → bits ≡ least_exponent more 1 depth → bits ≡ bits_of_slots slots
+bits_from slots more depth bits a b h = h ∙ ap (λ n. least_exponent n 1 depth) a ∙ ap (least_exponent slots 1) b
+
+-- ---- the lane
+
+pub is_laned : (old mid new : Net) (r : Grouping) (source : Wire) (g : LaneLines) (close : Bit) (stride cycles width : ℕ) → stride ≡ stride_of r.body → cycles ≡ close_cycles r → width ≡ bits_of_slots r.slots → width ≤ 32
+    → IsGrouping r → AddsLane old mid r.key r.slots stride width source g → IsCloseLine mid new cycles 0 source.eos close
+    → IsLaned old new r source (record { wire = g.wire; slot = g.slot; first = g.first; close = close; keys = g.keys; further = g.further })
+is_laned old mid new r source g close stride cycles width is_stride is_cycles is_width small is f c = record {
+  keeps = keeps_then old mid new f.keeps c.keeps;
+  cost = record {
+    nodes = omega (arith, f.cost.nodes, c.cost.nodes);
+    registers = omega (arith, f.cost.registers, c.cost.registers, is_width);
+    memories = omega (arith, f.cost.memories, c.cost.memories);
+  };
+  bound = omega (arith, f.cost.registers, c.cost.registers, small);
+  lane = record {
+    wire = wire_kept mid new g.wire c.keeps f.wire;
+    same_widths = f.same_widths;
+    slot = bus_kept mid new g.slot c.keeps f.slot;
+    slot_width = f.slot_width ∙ is_width;
+    first = bit_kept mid new g.first c.keeps f.first;
+    close = c.bit;
+    keys_count = f.keys_count;
+    keys = λ k b h. let x = f.keys k b h in (bus_kept mid new b c.keeps x.0, x.1);
+    further = bit_kept mid new g.further c.keeps f.further;
+    front = λ run z. (law run (f.law run (c.keeps.runs run z))).front;
+    within = λ run z. (law run (f.law run (c.keeps.runs run z))).within;
+    begins = λ run z. (law run (f.law run (c.keeps.runs run z))).begins;
+    shown = λ run z. (law run (f.law run (c.keeps.runs run z))).shown;
+    told = λ run z awaits n.
+        (let l = law run (f.law run (c.keeps.runs run z)) in l.told n ∙ further_came (setting_of r (carried run source) (λ k. share (slot_of run g.slot) k (carried run g.wire)) is l.front awaits) n);
+    closes = λ run z. ap_close run (subst (λ (n : ℕ). IsClose n (n + 1 + 0) (line_at run source.eos) (line_at run close)) is_cycles (c.close run z));
+  };
+}
+  where
+    law : (run : Run) → IsLane run r.key r.slots stride source g → IsLane run r.key r.slots (stride_of r.body) source g
+    law run h = subst (λ (n : ℕ). IsLane run r.key r.slots n source g) is_stride h
+
+    ap_close : (run : Run) → IsClose (close_cycles r) (close_cycles r + 1 + 0) (line_at run source.eos) (line_at run close) → IsClose (close_cycles r) (close_delay r) (line_at run source.eos) (line_at run close)
+    ap_close run h = let e : close_cycles r + 1 + 0 ≡ close_delay r = omega arith in subst (λ (n : ℕ). IsClose (close_cycles r) n (line_at run source.eos) (line_at run close)) e h
+
+-- ---- the keys in front
+
+pub first_width : (net : Net) (keys ks : List Bus) (d : Bus) → ks ≡ keys → 1 ≤ length keys → AreKeyBuses net keys → (slice_index_or ks 0 d).width ≡ width_of_keys keys
+first_width net keys ks d e some h = ap (λ (bs : List Bus). (slice_index_or bs 0 d).width) e ∙ h.same_width 0 (slice_index_or keys 0 d) (slice_get-get_or keys 0 d some)
+
+pub alike_keys : (net : Net) (keys ks : List Bus) (d : Bus) → ks ≡ keys → 1 ≤ length keys → AreKeyBuses net keys → AreAlike net ((slice_index_or ks 0 d).width) ks
+alike_keys net keys ks d e some h =
+    subst (λ (bs : List Bus). AreAlike net ((slice_index_or ks 0 d).width) bs) (sym e)
+    (record { each = h.each; widths = λ k b at. h.same_width k b at ∙ sym (first_width net keys ks d e some h) })
+
+module _ (n0 n1 n2 n3 n4 : Net) (r : Grouping) (l : Lane) (out : TableOut) (places : List Bus) (ls : List Bit) (p : Picked) (columns : List Bus) (w : Wire) (width bits : ℕ) (is_width : width ≡ width_of_keys l.keys)
+    (count : length l.keys ≡ r.slots) (some : 1 ≤ r.slots) (is_n : AddsNumbers n0 n1 r.slots bits places) (is_l : AddsLines n1 n2 (length places) 1 ls (same_to out.slot places)) (is_p : PicksOne n2 n3 ls l.keys width p)
+    (is_columns : columns ≡ p.bus ∷ out.wire.columns) (is_w : IsPad n3 n4 1 (wire_of out.wire.valid l.close columns) w) where
+  k34 : Keeps n3 n4
+  k34 = is_w.keeps
+
+  k24 : Keeps n2 n4
+  k24 = keeps_then n2 n3 n4 is_p.keeps k34
+
+  k14 : Keeps n1 n4
+  k14 = keeps_then n1 n2 n4 is_l.keeps k24
+
+  ls_count : length ls ≡ r.slots
+  ls_count = is_l.count ∙ is_n.count
+
+  module _ (run : Run) (z : IsRun n4 run) where
+    -- the line of a slot tells whether it is the cycle's
+    line_is : (k c : ℕ) → k < r.slots → line_of run ls k (suc c) ≡ nat_eq (slot_of run out.slot (suc c)) k
+    unfolding same_to held_at
+    line_is k c less =
+        is_l.line run (k24.runs run z) k (suc c) (omega (arith, less, is_n.count))
+        ∙ ap (nat_eq (run.at (suc c) out.slot.node)) (is_n.value run (k14.runs run z) k c less)
+
+    key_is : (c : ℕ) → slot_of run out.slot (suc c) < r.slots → run.at (suc c) p.bus.node ≡ held_of run l.keys (slot_of run out.slot (suc c)) (suc c)
+    unfolding held_at
+    key_is c less =
+        let slot = slot_of run out.slot (suc c) in
+        let at_pick = k34.runs run z in
+        let own : line_of run ls slot (suc c) ≡ true = line_is slot c less ∙ eq-eqb slot slot refl in
+        let high : line_at run p.any (suc c) ≡ true = by_cases (line_at run p.any (suc c)) (λ q. q) (λ q. let none = is_p.none run at_pick c q slot (omega (arith, less, ls_count)) in absurd (cc)) in
+        let place = is_p.value run at_pick c high in
+        let there : place.0 < r.slots = omega (arith, place.1, ls_count) in
+        let same : slot ≡ place.0 = eqb-true slot place.0 (sym (line_is place.0 c there) ∙ place.2) in
+        place.3 ∙ ap (λ k. held_of run l.keys k (suc c)) (sym same)
+
+    tuple_is : ((c : ℕ) (x : Row) → (carried run out.wire).tuple c ≡ Some x → slot_of run out.slot c < r.slots) → (c : ℕ)
+        → (carried run (wire_of out.wire.valid l.close (p.bus ∷ out.wire.columns))).tuple c ≡ in_front (held_of run l.keys (slot_of run out.slot c) c) ((carried run out.wire).tuple c)
+    unfolding tuple_at line_at row_at
+    tuple_is within zero = refl
+    tuple_is within (suc c) = by (nat_eq (run.at (suc c) out.wire.valid.node) 1) (λ e. within (suc c) (row_at run (suc c) out.wire.columns) (ap (λ (b : Bool). if b then Some (row_at run (suc c) out.wire.columns) else None) e))
+      where
+        by : (b : Bool) → (b ≡ true → slot_of run out.slot (suc c) < r.slots)
+            → (if b then Some (run.at (suc c) p.bus.node ∷ row_at run (suc c) out.wire.columns) else None) ≡ in_front (held_of run l.keys (slot_of run out.slot (suc c)) (suc c)) (if b then Some (row_at run (suc c) out.wire.columns) else None)
+        by true less = ap (λ n. Some (n ∷ row_at run (suc c) out.wire.columns)) (key_is c (less refl))
+        by false less = refl
+
+  pub is_gathered : IsGathered n0 n4 r l out w
+  is_gathered =
+      let pad = subst (λ (bs : List Bus). IsPad n3 n4 1 (wire_of out.wire.valid l.close bs) w) is_columns is_w in
+      record {
+        keeps = keeps_then n0 n1 n4 is_n.keeps k14;
+        cost = record {
+          nodes = omega (arith, is_n.cost.nodes, is_l.cost.nodes, is_p.cost.nodes, pad.cost.nodes, is_n.count, ls_count, some);
+          registers = omega (arith, is_n.cost.registers, is_l.cost.registers, is_p.cost.registers, pad.cost.registers, is_p.same_width, is_width, sum_by-cons (λ (n : ℕ). n) p.bus.width (widths out.wire.columns));
+          memories = omega (arith, is_n.cost.memories, is_l.cost.memories, is_p.cost.memories, pad.cost.memories);
+        };
+        wire = pad.wire;
+        same_widths = pad.same_widths ∙ ap (λ n. n ∷ widths out.wire.columns) (is_p.same_width ∙ is_width);
+        gathers = λ run z within.
+            delayed_same 1 (carried run (wire_of out.wire.valid l.close (p.bus ∷ out.wire.columns)))
+            (record { tuple = λ c. in_front (held_of run l.keys (slot_of run out.slot c) c) ((carried run out.wire).tuple c); ends = line_at run l.close }) (carried run w)
+            (tuple_is run z within) (λ c. refl) (pad.delayed run z);
+      }

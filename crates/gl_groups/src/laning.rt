@@ -1,0 +1,115 @@
+//! Groups over one wire in place of a wire for each slot: the lane, and what puts the keys in front of the totals of its slots.
+
+ghost use Rattle.std.specs.Prelude.{◌≡◌, ◌<◌, ◌≤◌, ◌^◌, IfOk, length};
+ghost use Rattle.gl_algebra.specs.Cost.{least_exponent};
+ghost use Rattle.gl_bits.specs.Words.{IsWidth};
+ghost use Rattle.gl_net.specs.Net.{IsBit, IsBus};
+ghost use Rattle.gl_wire.specs.Wire.{IsWire};
+ghost use Rattle.gl_groups.specs.Groupings.{IsGrouping};
+ghost use Rattle.gl_groups.specs.Joins.{AreKeyBuses};
+ghost use Rattle.gl_groups.specs.Laned.{IsGathered, IsLaned, bits_of_slots};
+
+use crate::grouping::Grouping;
+use crate::joins::with_first;
+use crate::lane::put_lane;
+use crate::pick::{numbers, pick};
+use crate::slots::same_each;
+use gl_bits::Memory;
+use gl_net::{Bit, Bus, Buses, NetBuilder};
+use gl_wire::{Wire, stage};
+use gl_wire_lanes::TableOut;
+use gl_wire_registers::close_line;
+use std::alloc::Global;
+
+/// One wire for the streams of all slots.
+#[derive(Drop)]
+pub struct Lane {
+    /// In each cycle what the one copy with an event would get.
+    pub wire: Wire,
+    /// The number of its slot.
+    pub slot: Bus,
+    /// 1 with the first event of a slot's stream.
+    pub first: Bit,
+    /// The ends of the whole, one cycle before the group gives them.
+    pub close: Bit,
+    /// For each slot its key.
+    pub keys: Buses,
+    /// 1 one cycle after a row of a further key.
+    pub further: Bit,
+}
+
+// The least exponent, of so many from this one on, whose power of two is at least the number of slots.
+fn least_exponent(more: u64, exponent: u8, slots: u64) -> u8
+    requires exponent { exponent ≤ 32 }
+    requires slots { slots ≤ 2 ^ 32 }
+    ensures value { result ≡ least_exponent more exponent slots }
+    ensures low { exponent ≤ result }
+    ensures high { result ≤ 32 }
+{
+    if more == 0 || slots <= 1u64 << exponent {
+        exponent
+    } else {
+        least_exponent(more - 1, exponent + 1, slots)
+    }
+}
+
+/// The bits of a slot's number.
+fn slot_bits(slots: u32) -> u8
+    ensures value { result ≡ bits_of_slots slots }
+    ensures width { IsWidth result }
+    ensures few { result ≤ 32 }
+    ensures enough { slots ≤ 2 ^ result }
+{
+    least_exponent(u64::from(slots), 1, u64::from(slots))
+}
+
+impl Grouping {
+    /// One wire for all slots, whose shares are what a front's wires would carry, with the keys and the line of ends.
+    pub fn lane(&self, alloc: Global, net: &mut NetBuilder, source: &Wire) -> Result<Lane, Memory>
+        requires grouping { IsGrouping self.now }
+        requires wire { IsWire net.old source.now }
+        requires key { self.now.key < length source.now.columns }
+        ensures { IfOk result (IsLaned net.old net.new self.now source.now) }
+    {
+        let stride = self.stride();
+        let cycles = self.cycles();
+        let width = slot_bits(self.slots);
+        let lane = put_lane(alloc, net, source, self.key, self.slots, stride, width)?;
+        let close = close_line(net, source.eos, cycles, 0)?;
+        Ok(Lane {
+            wire: lane.wire,
+            slot: lane.slot,
+            first: lane.first,
+            close,
+            keys: lane.keys,
+            further: lane.further,
+        })
+    }
+
+    /// What a table gives for the slots, with the key of its slot in front of each row, and the ends of the whole.
+    pub fn gather(
+        &self,
+        alloc: Global,
+        net: &mut NetBuilder,
+        lane: &Lane,
+        out: &TableOut,
+    ) -> Result<Wire, Memory>
+        requires grouping { IsGrouping self.now }
+        requires close { IsBit net.old lane.now.close }
+        requires keys { AreKeyBuses net.old lane.now.keys }
+        requires keys_count { length lane.now.keys ≡ self.now.slots }
+        requires wire { IsWire net.old out.now.wire }
+        requires slot { IsBus net.old out.now.slot }
+        requires slot_width { out.now.slot.width ≡ bits_of_slots self.now.slots }
+        ensures { IfOk result (IsGathered net.old net.new self.now lane.now out.now) }
+    {
+        let keys = lane.keys.as_slice();
+        let places = numbers(alloc, net, self.slots, slot_bits(self.slots))?;
+        let lines = same_each(alloc, net, out.slot, places.as_slice())?;
+        let picked = pick(net, lines.as_slice(), keys, keys[0].width)?;
+        let columns = with_first(alloc, picked.bus, out.wire.columns.as_slice())?;
+        // Named, since a goal speaks of the value.
+        let wire = stage(alloc, net, out.wire.valid, lane.close, columns.as_slice())?;
+        Ok(wire)
+    }
+}
