@@ -24,7 +24,7 @@ use Rattle.gl_runner.specs.declared.executing.Outcome.{Outcome}
 use Rattle.gl_runner.specs.Prints.{CanRun, OfEachRun, Ran}
 use Rattle.gl_compiler.specs.Runnable.{IsRunnable}
 
-pub can_run : (schema : Schema) (statement : Statement) (latency gap : ℕ) (text : List ℕ) (kinds : List Kind) (beats : List Beat) (start : Start)
+can_run : (schema : Schema) (statement : Statement) (latency gap : ℕ) (text : List ℕ) (kinds : List Kind) (beats : List Beat) (start : Start)
     → IsSchema schema → Meets schema statement latency gap text → kinds ≡ kinds_of (result_columns schema statement) → latency ≤ 2 ^ 32 → AreBeats schema beats → KeepsGap gap beats → CanRun text schema kinds beats latency start
 can_run schema statement latency gap text kinds beats start fine m e short are keeps = record {
   design = m.design;

@@ -1,5 +1,5 @@
 //! Glacier as a library: from the texts of a schema and of a query to the text of a module (`compile`),
-//! and from the text of a module to the lines of its runs (`execute`, `trace`).
+//! and from the text of a module to the lines of its runs (`execute`, `run_compiled`, `trace`).
 //!
 //! Here belongs what joins compiling and running. What is compiled of a statement belongs to
 //! gl_compiler_text, what of a text to gl_query_compiler, and how a module runs to gl_runner.

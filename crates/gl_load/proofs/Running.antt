@@ -5,7 +5,7 @@ use Rattle.gl_bits.specs.declared.kind.Kind.{Kind}
 use Rattle.gl_bits.specs.declared.kind.Kind.TheVariants.{Unsigned}
 use Rattle.gl_schema.specs.declared.schema.Schema.{Schema}
 use Rattle.gl_schema.specs.Schemas.{kinds_of}
-use Rattle.gl_schema.specs.Beats.{Beat, AreBeats, KeepsGap, inputs_of}
+use Rattle.gl_schema.specs.Beats.{Beat, KeepsGap, inputs_of}
 use Rattle.gl_schema.specs.Ports.{PortValues}
 use Rattle.gl_schema.specs.Right.{IsRight}
 use Rattle.gl_schema.specs.Seen.{lines, rows_of, seen, shown}
@@ -18,55 +18,36 @@ use Rattle.gl_verilog.specs.Run.{port_of}
 use Rattle.gl_verilog.specs.Text.{HasModule}
 use Rattle.gl_verilog_orders.specs.declared.start.Start.TheVariants.{Zero}
 use Rattle.gl_verilog_ports.specs.Profile.{result_names}
-use Rattle.gl_figures.specs.declared.Printed.{Printed}
 use Rattle.gl_compiler_text.specs.declared.compiling.Compiled.{Compiled}
 use Rattle.gl_runner.specs.declared.executing.Outcome.TheVariants.{Done}
 use Rattle.gl_compiler_text.specs.Built.{gap_of, latency_of}
-use Rattle.gl_compiler_text.specs.Meets.{Meets, result_columns}
-use Rattle.gl_runner.specs.Prints.{AreLinesOf, CanRun, IsRunOver, OfEachRun, Ran, Writes}
-use Rattle.gl_load.specs.Query.{load_schema}
+use Rattle.gl_compiler_text.specs.Meets.{result_columns}
+use Rattle.gl_query_compiler.specs.Queries.{IsQuery}
+use Rattle.gl_runner.specs.Prints.{AreLinesOf, IsRunOver, OfEachRun, Ran, Writes}
+use Rattle.gl_load.specs.Query.{load_schema, query_text}
 use Rattle.gl_load.specs.Loads.{IsLoad, TellsRun}
 use Rattle.gl_load.specs.Steps.{AreRunLines, IsCompiledLoad, Kept, kept_state}
 use Rattle.gl_load.specs.Told as spec
 use Rattle.gl_load.specs.Tuples.{load_beats}
 use Rattle.gl_load.specs.Tallies.{summary_of}
 use Rattle.gl_load.proofs.Beating.{are_beats, keep_gap}
-use Rattle.gl_load.proofs.Compiling.{query_is}
-use Rattle.gl_load.proofs.Constants.{load_tree, schema_spelled}
+use Rattle.gl_load.proofs.Compiling.{gap_is, meets_load, query_is}
+use Rattle.gl_load.proofs.Constants.{load_tree}
 use Rattle.gl_load.proofs.Counting.{are_counted, are_numbers}
-use Rattle.gl_compiler.proofs.Runs.{can_run}
 use Rattle.gl_load.proofs.Telling.{told_seen}
 
--- its text can be run over beats that come in each cycle
-pub can_run_load : (c : Compiled) (beats : List Beat) (text : List ℕ) (schema : Schema) (kinds : List Kind) (printed : Printed) → IsCompiledLoad c → AreBeats load_schema beats → KeepsGap 1 beats
-    → text ≡ c.text.items → schema ≡ c.schema → kinds ≡ c.kinds → printed ≡ c.printed → CanRun text schema kinds beats printed.latency Zero
-can_run_load c beats text schema kinds printed is are keeps a b d e =
-    let gap = gap_of load_schema c.statement in
-    let p : printed.latency ≡ c.printed.latency = ap (λ (x : Printed). x.latency) e in
-    let meets = subst (λ (n : ℕ). Meets load_schema c.statement n gap c.text.items) (sym is.latency) is.meets in
-    let near = subst (λ (n : ℕ). KeepsGap n beats) (sym is.gap) keeps in
-    let run : CanRun c.text.items load_schema c.kinds beats c.printed.latency Zero = can_run load_schema c.statement c.printed.latency gap c.text.items c.kinds beats Zero schema_spelled.schema' meets is.columns is.short are near in
-    subst (λ (x : List ℕ). CanRun x schema kinds beats printed.latency Zero) (sym a) (
-    subst (λ (x : Schema). CanRun c.text.items x kinds beats printed.latency Zero) (sym (b ∙ is.schema)) (
-    subst (λ (x : List Kind). CanRun c.text.items load_schema x beats printed.latency Zero) (sym d) (
-    subst (λ (x : ℕ). CanRun c.text.items load_schema c.kinds beats x Zero) (sym p) run)))
-
 -- the sink was empty before, and has the lines now
-pub ran_load : (c : Compiled) (beats : List Beat) (text : List ℕ) (schema : Schema) (kinds : List Kind) (old new : Kept) → IsCompiledLoad c → text ≡ c.text.items → schema ≡ c.schema → kinds ≡ c.kinds → old.bytes ≡ []
-    → Ran (OfEachRun text schema beats Zero) kinds beats (kept_state old) (kept_state new) Done → AreRunLines c beats new.bytes
-ran_load c beats text schema kinds old new is a b d none h = λ m value word has over.
+pub ran_load : (c : Compiled) (beats : List Beat) (old new : Kept) → IsCompiledLoad c → old.bytes ≡ []
+    → Ran (OfEachRun c.text.items c.schema beats Zero) (kinds_of (result_columns c.schema c.statement)) beats (kept_state old) (kept_state new) Done → AreRunLines c beats new.bytes
+ran_load c beats old new is none h = λ m value word has over.
     let w = all m value word has over in
     let e : Some new.bytes ≡ Some w.bytes = w.taken in
     (w.bytes, w.are, cc)
   where
-    before : OfEachRun text schema beats Zero (λ outs port. Writes kinds beats outs port (Some []) (Some new.bytes))
-    before = subst (λ (x : List ℕ). OfEachRun text schema beats Zero (λ outs port. Writes kinds beats outs port (Some x) (Some new.bytes))) none h.1
-
     all : OfEachRun c.text.items load_schema beats Zero (λ outs port. Writes (kinds_of (result_columns load_schema c.statement)) beats outs port (Some []) (Some new.bytes))
     all =
-        subst (λ (x : List ℕ). OfEachRun x load_schema beats Zero (λ outs port. Writes (kinds_of (result_columns load_schema c.statement)) beats outs port (Some []) (Some new.bytes))) a (
-        subst (λ (x : Schema). OfEachRun text x beats Zero (λ outs port. Writes (kinds_of (result_columns load_schema c.statement)) beats outs port (Some []) (Some new.bytes))) (b ∙ is.schema) (
-        subst (λ (x : List Kind). OfEachRun text schema beats Zero (λ outs port. Writes x beats outs port (Some []) (Some new.bytes))) (d ∙ is.columns) before))
+        subst (λ (s : Schema). OfEachRun c.text.items s beats Zero (λ outs port. Writes (kinds_of (result_columns s c.statement)) beats outs port (Some []) (Some new.bytes))) is.schema (
+        subst (λ (x : List ℕ). OfEachRun c.text.items c.schema beats Zero (λ outs port. Writes (kinds_of (result_columns c.schema c.statement)) beats outs port (Some x) (Some new.bytes))) none h.1)
 
 -- what holds of the sink of a run that came to its end
 pub where_ended : {E D : Type 0} (P : Kept → Type 0) (r : Result Kept E) (sink : Kept) → (IsOk r ↔ D) → IfOk r (λ kept. kept ≡ sink) → (D → P sink) → IfOk r P
@@ -84,11 +65,12 @@ right_of : (count : ℕ) (c : Compiled) → 1 ≤ count → HasOne c.text.items 
     → OfEachRun c.text.items load_schema (load_beats count) Zero (IsRight (IsResult load_schema c.statement) (latency_of load_schema c.statement) (load_beats count))
 right_of count c some one is m value word has over =
     let beats = load_beats count in
-    let same : m ≡ is.meets.design = one m is.meets.design has is.meets.has in
-    let run : IsRunOver is.meets.design load_schema beats Zero value word = subst (λ (x : Module). IsRunOver x load_schema beats Zero value word) same over in
-    let near : KeepsGap (gap_of load_schema c.statement) beats = subst (λ (n : ℕ). KeepsGap n beats) (sym is.gap) (keep_gap count) in
+    let meets = meets_load c is in
+    let same : m ≡ meets.design = one m meets.design has meets.has in
+    let run : IsRunOver meets.design load_schema beats Zero value word = subst (λ (x : Module). IsRunOver x load_schema beats Zero value word) same over in
+    let near : KeepsGap (gap_of load_schema c.statement) beats = subst (λ (n : ℕ). KeepsGap n beats) (sym (gap_is c.statement is.made.query'.has)) (keep_gap count) in
     subst (λ (x : Module). IsRight (IsResult load_schema c.statement) (latency_of load_schema c.statement) beats (result_names x) (port_of x value)) (sym same)
-    (is.meets.right beats value word (record { are = are_beats count some; keep = near; run = run.run; stimulus = run.stimulus }))
+    (meets.right beats value word (record { are = are_beats count some; keep = near; run = run.run; stimulus = run.stimulus }))
 
 -- of the end's cycle there is one, so what is seen up to it is the result
 tells_run : (count : ℕ) (s : Statement) (latency : ℕ) (outs : List (List ℕ)) (port : PortValues) (bytes summary : List ℕ) → query_shape s.query ≡ query_alike load_tree.query
@@ -113,9 +95,9 @@ tells_run count s latency outs port bytes summary query right are told =
 pub loaded : (count : ℕ) (c : Compiled) (lines kept summary : List ℕ) → 1 ≤ count → HasOne c.text.items → IsCompiledLoad c → AreRunLines c (load_beats count) kept → lines ≡ kept → summary ≡ summary_of count lines → IsLoad count summary c.text.items
 loaded count c lines kept summary some one is run same told = record {
   statement = c.statement;
-  query' = is.query';
-  meets = is.meets;
+  query' = subst (λ (x : Schema). IsQuery x query_text c.statement) is.schema is.made.query';
+  meets = meets_load c is;
   told = λ m value word has over.
       let r = run m value word has over in
-      tells_run count c.statement (latency_of load_schema c.statement) (result_names m) (port_of m value) r.0 summary (query_is c.statement is.query'.has) (right_of count c some one is m value word has over) r.1 (told ∙ ap (summary_of count) (same ∙ r.2));
+      tells_run count c.statement (latency_of load_schema c.statement) (result_names m) (port_of m value) r.0 summary (query_is c.statement is.made.query'.has) (right_of count c some one is m value word has over) r.1 (told ∙ ap (summary_of count) (same ∙ r.2));
 }

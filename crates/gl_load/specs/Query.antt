@@ -1,5 +1,5 @@
 -- The schema of the load and its query, and the texts that have them.
-use Rattle.std.specs.Prelude.{ℕ, false, List, [], ◌∷◌, codes, Some, None}
+use Rattle.std.specs.Prelude.{ℕ, false, List, [], ◌∷◌, ◌++◌, codes, Some, None}
 use Rattle.gl_bits.specs.declared.kind.Kind.{Kind}
 use Rattle.gl_bits.specs.declared.kind.Kind.TheVariants.{Unsigned, Text}
 use Rattle.gl_bits.specs.declared.op.Op.TheVariants.{Eq}
@@ -28,7 +28,9 @@ schema_text = codes "stream trades (symbol text4, price u32, volume u32);"
 -- ---- the query
 
 unfoldable pub query_text : List ℕ
-query_text = codes "SELECT count() AS n, sum(volume) AS v, max(price) AS top FROM trades [SIZE 600 ADVANCE 60 TUPLES] WHERE symbol = 'UBSN' INTO load"
+query_text =
+    codes "SELECT count() AS n, sum(volume) AS v, max(price) AS top "
+    ++ codes "FROM trades [SIZE 600 ADVANCE 60 TUPLES] WHERE symbol = 'UBSN' INTO load"
 
 -- a name and a number, each with the byte where it stands
 abbrev pub name : List ℕ → ℕ → Name

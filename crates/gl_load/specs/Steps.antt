@@ -1,19 +1,16 @@
 -- What the code has of a tally, the sink that keeps what it takes, and the compiled query and its run.
 -- A middle layer, proved equal to `Tallies` and `Loads`: no promise rests on it.
-use Rattle.std.specs.Prelude.{◌≡◌, ℕ, ◌*◌, ◌^◌, ◌≤◌, List, Some, length}
-use Rattle.std.specs.List.{AllByRecursion}
-use Rattle.gl_bits.specs.Kinds.{IsKind}
+use Rattle.std.specs.Prelude.{◌≡◌, ℕ, ◌*◌, ◌≤◌, List, Some}
 use Rattle.gl_schema.specs.Schemas.{kinds_of}
 use Rattle.gl_schema.specs.Beats.{Beat}
 use Rattle.gl_verilog_orders.specs.declared.start.Start.TheVariants.{Zero}
 use Rattle.gl_compiler_text.specs.declared.compiling.Compiled.{Compiled}
-use Rattle.gl_compiler_text.specs.Built.{gap_of, latency_of}
-use Rattle.gl_query_compiler.specs.Queries.{IsQuery}
-use Rattle.gl_compiler_text.specs.Meets.{Meets, result_columns}
+use Rattle.gl_compiler_text.specs.Meets.{result_columns}
+use Rattle.gl_query_compiler.specs.Texts.{IsCompiledText}
 use Rattle.gl_runner.specs.Prints.{AreLinesOf, OfEachRun}
 use Rattle.gl_outside.specs.States.{SinkState}
 use Rattle.gl_load.specs.declared.tally.Tally.{Tally as Rust}
-use Rattle.gl_load.specs.Query.{load_schema, query_text}
+use Rattle.gl_load.specs.Query.{load_schema, query_text, schema_text}
 use Rattle.gl_load.specs.Tallies.{Tally}
 
 abbrev pub tally_in : Rust → Tally
@@ -31,18 +28,11 @@ pub record Kept : Type 0 where
 abbrev pub kept_state : Kept → SinkState
 kept_state s = record { taken = Some s.bytes; faults = s.faults }
 
--- the compiled query of the load: it takes a tuple in each cycle
+-- the compiled query of the load: it is made of the two texts, and takes a tuple in each cycle
 pub record IsCompiledLoad (c : Compiled) : Type 0 where
+  pub made : IsCompiledText schema_text query_text c
   pub schema : c.schema ≡ load_schema
-  pub query' : IsQuery load_schema query_text c.statement
-  pub meets : Meets load_schema c.statement (latency_of load_schema c.statement) (gap_of load_schema c.statement)
-      c.text.items
-  pub gap : gap_of load_schema c.statement ≡ 1
-  pub columns : c.kinds ≡ kinds_of (result_columns load_schema c.statement)
-  pub many : length c.kinds ≤ 32
-  pub kinds : AllByRecursion IsKind c.kinds
-  pub latency : c.printed.latency ≡ latency_of load_schema c.statement
-  pub short : c.printed.latency ≤ 2 ^ 32
+  pub gap : c.printed.gap ≡ 1
 
 -- the bytes are the lines of each run of its text over these beats, from registers and words of 0
 abbrev pub AreRunLines : Compiled → List Beat → List ℕ → Type 0

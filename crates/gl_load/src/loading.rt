@@ -12,10 +12,7 @@ use crate::text_sink::TextSink;
 use crate::tuples::load_beats;
 use crate::{query_text, schema_text};
 use gl_bits::Memory;
-use gl_compiler::{Outcome, execute};
-use gl_compiler_text::Compiled;
-use gl_query_compiler::{CompileFault, compile_query};
-use gl_schema::{Schema, SchemaFault, read_schema};
+use gl_compiler::{CompileFault, Compiled, Outcome, compile, run_compiled};
 use gl_tuples::Beats;
 use gl_verilog_grammar::laws::one_module;
 use gl_verilog_orders::Start;
@@ -30,39 +27,20 @@ pub struct Loaded {
     pub compiled: Compiled,
 }
 
-// The schema's text has a schema: nothing but want of memory keeps it from being read.
-fn unread(fault: SchemaFault) -> Memory
-    requires { fault ≡ SchemaFault.Memory }
+// The texts are compiled: nothing but want of memory refuses them.
+fn uncompiled(fault: CompileFault) -> Memory
+    requires { fault ≡ CompileFault.Memory }
 {
     // Clauses alone speak of it.
     let _ = fault;
     Memory
 }
 
-// The query is compiled: nothing but want of memory refuses it.
-fn uncompiled(fault: CompileFault) -> Memory
-    requires { fault ≡ CompileFault.Memory }
-{
-    let _ = fault;
-    Memory
-}
-
-// The schema of the load.
-fn read_load(alloc: Global) -> Result<Schema, Memory>
-    ensures { IfOk result (λ schema. schema ≡ load_schema) }
-{
-    match read_schema(alloc, schema_text()) {
-        Ok(schema) => Ok(schema),
-        Err(fault) => Err(unread(fault)),
-    }
-}
-
-// The query of the load, over its schema.
-fn compile_load(alloc: Global, schema: Schema) -> Result<Compiled, Memory>
-    requires { schema ≡ load_schema }
+// The query of the load, compiled.
+fn compile_load(alloc: Global) -> Result<Compiled, Memory>
     ensures { IfOk result IsCompiledLoad }
 {
-    match compile_query(alloc, schema, query_text()) {
+    match compile(alloc, schema_text(), query_text()) {
         Ok(compiled) => Ok(compiled),
         Err(fault) => Err(uncompiled(fault)),
     }
@@ -87,16 +65,7 @@ fn run(alloc: Global, compiled: &Compiled, beats: &Beats) -> Result<TextSink, Me
     ensures { IfOk result (λ sink. AreRunLines compiled.now (plain_beats beats.now) sink.bytes) }
 {
     let mut sink = TextSink::empty(alloc);
-    let outcome = execute(
-        alloc,
-        compiled.text(),
-        compiled.schema(),
-        compiled.kinds(),
-        beats,
-        compiled.printed().latency,
-        Start::Zero,
-        &mut sink,
-    );
+    let outcome = run_compiled(alloc, compiled, beats, Start::Zero, &mut sink);
     ended(outcome, sink)
 }
 
@@ -107,8 +76,7 @@ pub fn load(alloc: Global, count: u32) -> Result<Loaded, Memory>
     ensures { IfOk result (λ l. IsLoad count l.summary.items l.compiled.text.items) }
 {
     one_module();
-    let schema = read_load(alloc)?;
-    let compiled = compile_load(alloc, schema)?;
+    let compiled = compile_load(alloc)?;
     let beats = load_beats(alloc, count)?;
     let lines = run(alloc, &compiled, &beats)?;
     let summary = summary_of(alloc, count, lines.bytes())?;

@@ -136,14 +136,14 @@ fn told(alloc: Global, netlist: &Netlist) -> Result<String, AllocError> {
 }
 
 /// The delay, and its nodes.
-pub fn delayed(alloc: Global) -> Result<String, Memory> {
+pub(crate) fn delayed(alloc: Global) -> Result<String, Memory> {
     let netlist = delay_netlist(alloc)?;
     let told = told(alloc, &netlist)?;
     Ok(format!(in alloc; "{told}: {:?}", netlist.nodes())?)
 }
 
 /// The netlist with a node of every kind.
-pub fn mixed(alloc: Global) -> Result<String, Memory> {
+pub(crate) fn mixed(alloc: Global) -> Result<String, Memory> {
     let netlist = mixed_netlist(alloc)?;
     Ok(told(alloc, &netlist)?)
 }

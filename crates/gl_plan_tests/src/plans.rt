@@ -185,7 +185,7 @@ fn nodes_told(alloc: Global, plan: &Plan, half: usize) -> Result<String, AllocEr
 }
 
 /// How many nodes a plan of every kind has when half of them are added, and at its end; and its first node.
-pub fn every(alloc: Global) -> Result<String, Memory> {
+pub(crate) fn every(alloc: Global) -> Result<String, Memory> {
     let mut plan = Plan::new(alloc);
     let half = put_every(alloc, &mut plan)?;
     Ok(nodes_told(alloc, &plan, half)?)
@@ -199,7 +199,7 @@ fn put_twice(alloc: Global, plan: &mut Plan) -> Result<(PlanId, PlanId), Memory>
 }
 
 /// The numbers of a node that is added twice, and how many nodes there are.
-pub fn twice(alloc: Global) -> Result<String, Memory> {
+pub(crate) fn twice(alloc: Global) -> Result<String, Memory> {
     worked_plans();
     let mut plan = Plan::new(alloc);
     let (first, second) = put_twice(alloc, &mut plan)?;

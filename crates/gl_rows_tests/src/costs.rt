@@ -8,7 +8,7 @@ use std::alloc::Global;
 
 /// The bits that a union of two columns of 16 bits holds, whose sides bring at most so many tuples with the end: of registers whether they are at
 /// most twice the bits of the columns and of two lines, and 200 more.
-pub fn bits_of(alloc: Global, most: u16) -> Result<String, Memory> {
+pub(crate) fn bits_of(alloc: Global, most: u16) -> Result<String, Memory> {
     let side = Side {
         first: 0,
         more: 0,

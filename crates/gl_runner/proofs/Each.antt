@@ -1,4 +1,4 @@
--- From the run that was followed to each run of the module.
+-- From the runs that what drives a module is before to each run of the module.
 use Rattle.std.proofs.Common.{◌≡◌, ℕ, inl, inr, true, false, List, Option, Ok, refl, sym, subst}
 use Rattle.std.specs.Prelude.{IsOk}
 use Rattle.gl_bits.specs.declared.kind.Kind.{Kind}
@@ -17,8 +17,8 @@ use Rattle.gl_verilog_orders.specs.declared.start.Start.{Start}
 use Rattle.gl_outside.specs.States.{SinkState}
 use Rattle.gl_runner.specs.declared.tracing.Ending.{Ending}
 use Rattle.gl_runner.specs.declared.tracing.Ending.TheVariants as ending
-use Rattle.gl_runner.specs.Cycles.{IsFollowed, OfFollowed, OfTimely, outcome_of}
-use Rattle.gl_runner.specs.Prints.{EndsWithin, HasRunOver, Ran, Writes, WritesFront}
+use Rattle.gl_runner.specs.Cycles.{Driven, IsFollowed, IsStarted, OfDriven, OfTimely, outcome_of}
+use Rattle.gl_runner.specs.Prints.{EndsWithin, HasRunOver, IsRunOver, Ran, Writes, WritesFront}
 use Rattle.gl_runner.specs.Traces.{OfRunsOf, RunsOut, Traced, TracesFront, TracesOut, TracesToEnd}
 use Rattle.gl_testbench.specs.Runs.{HasStartedRuns}
 use Rattle.gl_verilog_ports.specs.declared.fitting.Ports.{Ports}
@@ -26,27 +26,32 @@ use Rattle.gl_verilog_ports.specs.Fit.{fit_of}
 use Rattle.gl_verilog_ports.specs.Profile.{result_names}
 
 -- what holds of each run of one sort holds of each of the other, so the trace is one of these too
-pub traced_from : (OfOne OfOther : (List (List ℕ) → PortValues → Type 0) → Type 0) (kinds : List Kind) (beats : List Beat) (extra : ℕ) (old new : SinkState) (r : Ending) → ((P : List (List ℕ) → PortValues → Type 0) → OfOne P → OfOther P) → Traced OfOne kinds beats extra old new r → Traced OfOther kinds beats extra old new r
+traced_from : (OfOne OfOther : (List (List ℕ) → PortValues → Type 0) → Type 0) (kinds : List Kind) (beats : List Beat) (extra : ℕ) (old new : SinkState) (r : Ending) → ((P : List (List ℕ) → PortValues → Type 0) → OfOne P → OfOther P) → Traced OfOne kinds beats extra old new r → Traced OfOther kinds beats extra old new r
 traced_from OfOne OfOther kinds beats extra old new ending.Done f h = (h.0, f (λ outs port. TracesToEnd kinds beats extra outs port old.taken new.taken) h.1)
 traced_from OfOne OfOther kinds beats extra old new (ending.NoEnd cycle) f h = (h.0, f (λ outs port. TracesOut kinds beats extra cycle outs port old.taken new.taken) h.1)
 traced_from OfOne OfOther kinds beats extra old new ending.WriteFault f h = (h.0, f (λ outs port. TracesFront kinds beats extra outs port old.taken new.taken) h.1)
 traced_from OfOne OfOther kinds beats extra old new ending.Memory f h = h
 
--- the reset was made
-pub from_reset : (s s' : Simulation) (schema : Schema) (beats : List Beat) (P : List (List ℕ) → PortValues → Type 0) → s'.design ≡ s.design
-    → ((value : ℕ → Nets) (word : ℕ → Memories) → IsFollowed s schema beats value word 0 → IsFollowed s' schema beats value word 1) → OfFollowed s' schema beats 1 P → OfFollowed s schema beats 0 P
-from_reset s s' schema beats P same followed h = λ value word f. subst (λ (d : Rust). P (result_names (module_of d)) (port_of (module_of d) value)) same (h value word (followed value word f))
+-- each run from the start is one in which it is before the first cycle
+of_started : (m : Module) (schema : Schema) (kinds : List Kind) (beats : List Beat) (start : Start) (extra : ℕ) (d : Driven) (P : List (List ℕ) → PortValues → Type 0) → IsStarted m schema kinds beats start extra d → OfDriven d P → OfRunsOf m schema beats start P
+of_started m schema kinds beats start extra d P is h = λ value word over. subst (λ (x : Module). P (result_names x) (port_of x value)) is.design' (h value word (is.before value word over))
 
--- each run from the start is one that the simulator is before the first cycle of
-pub of_runs : (schema : Schema) (beats : List Beat) (start : Start) (d : Rust) (s : Simulation) (P : List (List ℕ) → PortValues → Type 0) → EventRunsAreRuns (module_of d) → s.design ≡ d
-    → ((value : ℕ → Nets) (word : ℕ → Memories) → StartsFrom start (module_of d) value word → IsAt s value word 0) → OfFollowed s schema beats 0 P → OfRunsOf (module_of d) schema beats start P
-of_runs schema beats start d s P runs same started h = λ value word over.
-    let followed : IsFollowed s schema beats value word 0 = record {
-      run = subst (λ (e : Rust). IsRun (module_of e) value word) (sym same) (runs value word over.run);
-      stimulus = subst (λ (e : Rust). IsStimulus schema beats (input_values (module_of e) value)) (sym same) over.stimulus;
-      at = started value word over.starts;
-    } in
-    subst (λ (e : Rust). P (result_names (module_of e)) (port_of (module_of e) value)) same (h value word followed)
+pub traced_started : (m : Module) (schema : Schema) (kinds : List Kind) (beats : List Beat) (start : Start) (extra : ℕ) (d : Driven) (old new : SinkState) (r : Ending) → IsStarted m schema kinds beats start extra d
+    → Traced (OfDriven d) d.kinds d.beats d.extra old new r → Traced (OfRunsOf m schema beats start) kinds beats extra old new r
+traced_started m schema kinds beats start extra d old new r is h =
+    subst (λ (x : List Kind). Traced (OfRunsOf m schema beats start) x beats extra old new r) is.kinds' (
+    subst (λ (x : List Beat). Traced (OfRunsOf m schema beats start) d.kinds x extra old new r) is.beats' (
+    subst (λ (x : ℕ). Traced (OfRunsOf m schema beats start) d.kinds d.beats x old new r) is.extra' (
+    traced_from (OfDriven d) (OfRunsOf m schema beats start) d.kinds d.beats d.extra old new r (λ P. of_started m schema kinds beats start extra d P is) h)))
+
+-- before the reset each run from the start is followed
+pub followed_first : (s : Simulation) (schema : Schema) (beats : List Beat) (start : Start) (d : Rust) (value : ℕ → Nets) (word : ℕ → Memories) → EventRunsAreRuns (module_of d) → s.design ≡ d
+    → ((value : ℕ → Nets) (word : ℕ → Memories) → StartsFrom start (module_of d) value word → IsAt s value word 0) → IsRunOver (module_of d) schema beats start value word → IsFollowed s schema beats value word 0
+followed_first s schema beats start d value word runs same started over = record {
+  run = subst (λ (e : Rust). IsRun (module_of e) value word) (sym same) (runs value word over.run);
+  stimulus = subst (λ (e : Rust). IsStimulus schema beats (input_values (module_of e) value)) (sym same) over.stimulus;
+  at = started value word over.starts;
+}
 
 -- there is such a run where the ports are found
 pub run_there : (m : Module) (schema : Schema) (ports : Ports) (beats : List Beat) (start : Start) → (IsOk (fit_of m schema) → HasStartedRuns m schema) → fit_of m schema ≡ Ok ports → AreBeats schema beats → HasRunOver m schema beats start

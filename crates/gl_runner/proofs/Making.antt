@@ -19,11 +19,11 @@ use Rattle.gl_verilog.specs.Evaluate.{nets_of}
 use Rattle.gl_verilog.specs.Runnable.{inputs_of, FitInputs, HasInputs, SameNets}
 use Rattle.gl_verilog.specs.Widths.{width_at}
 use Rattle.gl_sim.specs.Simulation.{Simulation, IsAt, Shows as SimShows}
-use Rattle.gl_runner.specs.declared.looking.Looked.{Looked}
+use Rattle.gl_runner.specs.declared.sampling.Sample.{Sample}
 use Rattle.gl_testbench.specs.declared.pins.Pin.{Pin}
 use Rattle.gl_testbench.specs.Benches.{columns_from}
 use Rattle.gl_testbench.specs.Carried.{pin_at, at_reset, with_beat}
-use Rattle.gl_runner.specs.Cycles.{CanFollow, IsFollowed, IsMade, looked_at}
+use Rattle.gl_runner.specs.Cycles.{CanFollow, IsFollowed, IsMade, sampled}
 use Rattle.gl_verilog_ports.specs.Profile.{ports_of, result_names, result_widths}
 use Rattle.gl_testbench.proofs.Inputs.{carried_at, inputs_fit, run_has_inputs}
 use Rattle.gl_testbench.proofs.Outputs.{columns_read, columns_widths, columns_fit, same_shown}
@@ -69,22 +69,22 @@ pub reset_followed : (s s' : Simulation) (schema : Schema) (kinds : List Kind) (
 reset_followed s s' schema kinds beats values value word can same e follows f =
     followed_on s s' schema beats 0 1 value word same f (step_followed s s' schema kinds beats 0 values value word can e follows f).1
 
-lines_same : (kinds : List Kind) (told : Bool) (a b : Shown) → a.cycle ≡ b.cycle → a.row ≡ b.row → a.end ≡ b.end → a.group ≡ b.group → cycle_lines kinds told a ≡ cycle_lines kinds told b
-lines_same kinds told a b cycle row ends group = rw (cycle, row, ends, group) refl
+lines_same : (kinds : List Kind) (overflowed : Bool) (a b : Shown) → a.cycle ≡ b.cycle → a.row ≡ b.row → a.end ≡ b.end → a.group ≡ b.group → cycle_lines kinds overflowed a ≡ cycle_lines kinds overflowed b
+lines_same kinds overflowed a b cycle row ends group = rw (cycle, row, ends, group) refl
 
--- what was looked at on the ports
-pub record IsLook (p : Simulation) (m : Module) (columns widths row : List ℕ) (l : Looked) : Type 0 where
+-- what was sampled on the ports
+pub record IsSample (p : Simulation) (m : Module) (columns widths row : List ℕ) (l : Sample) : Type 0 where
   pub group : l.group ≡ is_high (port_of m (λ t. nets_of p.shown)) 0 fault_group
   pub valid : l.valid ≡ is_high (port_of m (λ t. nets_of p.shown)) 0 out_valid
   pub ends : l.end ≡ is_high (port_of m (λ t. nets_of p.shown)) 0 out_eos
   pub columns' : columns ≡ columns_from 0 (ports_of m)
   pub bits : AllZip (λ n width. slice_index p.shown n < 2 ^ width) columns widths → row ≡ map (slice_index p.shown) columns
 
-shown_looked : (s' : Simulation) (m : Module) (schema : Schema) (columns widths row : List ℕ) (l : Looked) (n : ℕ) (kinds : List Kind) (told : Bool) → IsLook s' m columns widths row l → row ≡ map (λ name. unwrap_or (option_map (nets_of s'.shown) (number_of (ports_of m) name)) 0) (result_names m)
-    → cycle_lines kinds told (looked_at l n row) ≡ cycle_lines kinds told (shown (port_of m (λ t. nets_of s'.shown)) (result_names m) n)
+shown_sampled : (s' : Simulation) (m : Module) (schema : Schema) (columns widths row : List ℕ) (l : Sample) (n : ℕ) (kinds : List Kind) (overflowed : Bool) → IsSample s' m columns widths row l → row ≡ map (λ name. unwrap_or (option_map (nets_of s'.shown) (number_of (ports_of m) name)) 0) (result_names m)
+    → cycle_lines kinds overflowed (sampled l n row) ≡ cycle_lines kinds overflowed (shown (port_of m (λ t. nets_of s'.shown)) (result_names m) n)
 unfolding shown
-shown_looked s' m schema columns widths row l n kinds told look same =
-    lines_same kinds told (looked_at l n row) (shown (port_of m (λ t. nets_of s'.shown)) (result_names m) n) refl (rw (look.valid, same) refl) look.ends look.group
+shown_sampled s' m schema columns widths row l n kinds overflowed sample same =
+    lines_same kinds overflowed (sampled l n row) (shown (port_of m (λ t. nets_of s'.shown)) (result_names m) n) refl (rw (sample.valid, same) refl) sample.ends sample.group
 
 group_shown : (m : Module) (v : Nets) (n : ℕ) → is_high (port_of m (λ t. v)) 0 fault_group ≡ (shown (port_of m (λ t. v)) (result_names m) n).group
 unfolding shown
@@ -94,11 +94,11 @@ end_shown : (m : Module) (v : Nets) (n : ℕ) → is_high (port_of m (λ t. v)) 
 unfolding shown
 end_shown m v n = refl
 
-pub cycle_made : (s s' : Simulation) (schema : Schema) (kinds : List Kind) (beats : List Beat) (n : ℕ) (values columns widths row : List ℕ) (l : Looked) (value : ℕ → Nets) (word : ℕ → Memories)
+pub cycle_made : (s s' : Simulation) (schema : Schema) (kinds : List Kind) (beats : List Beat) (n : ℕ) (values columns widths row : List ℕ) (l : Sample) (value : ℕ → Nets) (word : ℕ → Memories)
     → CanFollow (module_of s.design) schema kinds beats → s'.design ≡ s.design → values ≡ map (carried_at beats (suc n)) (map (pin_at schema (module_of s.design).declarations) (inputs_of (module_of s.design))) → Follows s.design s s' values
-    → widths ≡ map width_of kinds → IsLook s' (module_of s.design) columns widths row l
+    → widths ≡ map width_of kinds → IsSample s' (module_of s.design) columns widths row l
     → IsFollowed s schema beats value word (n + 1) → IsMade (module_of s.design) s' schema beats l row n value word
-cycle_made s s' schema kinds beats n values columns widths row l value word can same e follows wide look f =
+cycle_made s s' schema kinds beats n values columns widths row l value word can same e follows wide sample f =
     let m : Module = module_of s.design in
     let f' : IsFollowed s schema beats value word (suc n) = subst (IsFollowed s schema beats value word) (add-one n) f in
     let step = step_followed s s' schema kinds beats (suc n) values value word can e follows f' in
@@ -106,12 +106,12 @@ cycle_made s s' schema kinds beats n values columns widths row l value word can 
     let nets : SameNets m.declarations (nets_of s'.shown) (value (suc n)) = subst (λ (d : Rust). SameNets (module_of d).declarations (nets_of s'.shown) (value (suc n))) same step.0 in
     let equal : shown (port_of m (λ t. nets_of s'.shown)) (result_names m) n ≡ shown (port_of m value) (result_names m) n = same_shown schema m (nets_of s'.shown) value n can.valid can.fits nets in
     let fit : AllZip (λ k width. slice_index s'.shown k < 2 ^ width) columns widths =
-    rw (look.columns', wide, ← can.widths) (columns_fit m (nets_of s'.shown) (value (suc n)) (word (suc n)) (f.run.fits (suc n)) nets) in
+    rw (sample.columns', wide, ← can.widths) (columns_fit m (nets_of s'.shown) (value (suc n)) (word (suc n)) (f.run.fits (suc n)) nets) in
     let bits : row ≡ map (λ name. unwrap_or (option_map (nets_of s'.shown) (number_of (ports_of m) name)) 0) (result_names m) =
-    look.bits fit ∙ ap (map (slice_index s'.shown)) look.columns' ∙ columns_read m (nets_of s'.shown) can.valid in
+    sample.bits fit ∙ ap (map (slice_index s'.shown)) sample.columns' ∙ columns_read m (nets_of s'.shown) can.valid in
     record {
       followed = followed_on s s' schema beats (suc n) (n + 2) value word same f' (subst (IsAt s' value word) two step.1);
-      lines' = λ ks told. shown_looked s' m schema columns widths row l n ks told look bits ∙ ap (cycle_lines ks told) equal;
-      group' = look.group ∙ group_shown m (nets_of s'.shown) n ∙ ap (λ (x : Shown). x.group) equal;
-      end' = look.ends ∙ end_shown m (nets_of s'.shown) n ∙ ap (λ (x : Shown). x.end) equal;
+      lines' = λ ks overflowed. shown_sampled s' m schema columns widths row l n ks overflowed sample bits ∙ ap (cycle_lines ks overflowed) equal;
+      group' = sample.group ∙ group_shown m (nets_of s'.shown) n ∙ ap (λ (x : Shown). x.group) equal;
+      end' = sample.ends ∙ end_shown m (nets_of s'.shown) n ∙ ap (λ (x : Shown). x.end) equal;
     }

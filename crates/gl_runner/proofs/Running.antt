@@ -13,10 +13,12 @@ use Rattle.gl_schema.specs.Beats.{Beat, last_cycle}
 use Rattle.gl_schema.specs.Ports.{PortValues}
 use Rattle.gl_schema.specs.Seen.{Shown, shown, seen, lines, lines_after, cycle_lines}
 use Rattle.gl_verilog.specs.Module.{Module, Nets, Memories}
+use Rattle.gl_verilog.specs.declared.module.Module.{Module as Rust}
 use Rattle.gl_verilog.specs.Run.{port_of}
+use Rattle.gl_verilog.specs.View.{module_of}
 use Rattle.gl_sim.specs.Simulation.{Simulation}
-use Rattle.gl_runner.specs.declared.looking.Looked.{Looked}
-use Rattle.gl_runner.specs.Cycles.{IsFollowed, IsMade, looked_at}
+use Rattle.gl_runner.specs.declared.sampling.Sample.{Sample}
+use Rattle.gl_runner.specs.Cycles.{Advances, Driven, IsAhead, IsBefore, IsFollowed, IsMade, design_of, sampled}
 use Rattle.gl_runner.specs.Traces.{IsLastRun, TracesFront, TracesToEnd, TracesOut}
 use Rattle.gl_verilog_ports.specs.Profile.{result_names}
 
@@ -48,13 +50,13 @@ unfolding has_group
 group_push [] s = or_none s.group
 group_push (x ∷ all) s = ap (λ (b : Bool). x.group || b) (group_push all s) ∙ sym (or_join x.group (has_group all) s.group)
 
-lines_push : (told : Bool) (kinds : List Kind) (all : List Shown) (s : Shown) → lines_after told kinds (all ++ s ∷ []) ≡ lines_after told kinds all ++ cycle_lines kinds (told || has_group all) s
+lines_push : (overflowed : Bool) (kinds : List Kind) (all : List Shown) (s : Shown) → lines_after overflowed kinds (all ++ s ∷ []) ≡ lines_after overflowed kinds all ++ cycle_lines kinds (overflowed || has_group all) s
 unfolding has_group
-lines_push told kinds [] s = append-nil (cycle_lines kinds told s) ∙ ap (λ (b : Bool). cycle_lines kinds b s) (sym (or_none told))
-lines_push told kinds (x ∷ all) s =
-    ap (λ (bytes : List ℕ). cycle_lines kinds told x ++ bytes)
-    (lines_push (told || x.group) kinds all s ∙ ap (λ (b : Bool). lines_after (told || x.group) kinds all ++ cycle_lines kinds b s) (or_join told x.group (has_group all)))
-    ∙ sym (append_assoc (cycle_lines kinds told x) (lines_after (told || x.group) kinds all) (cycle_lines kinds (told || has_group (x ∷ all)) s))
+lines_push overflowed kinds [] s = append-nil (cycle_lines kinds overflowed s) ∙ ap (λ (b : Bool). cycle_lines kinds b s) (sym (or_none overflowed))
+lines_push overflowed kinds (x ∷ all) s =
+    ap (λ (bytes : List ℕ). cycle_lines kinds overflowed x ++ bytes)
+    (lines_push (overflowed || x.group) kinds all s ∙ ap (λ (b : Bool). lines_after (overflowed || x.group) kinds all ++ cycle_lines kinds b s) (or_join overflowed x.group (has_group all)))
+    ∙ sym (append_assoc (cycle_lines kinds overflowed x) (lines_after (overflowed || x.group) kinds all) (cycle_lines kinds (overflowed || has_group (x ∷ all)) s))
 
 lines_below : (kinds : List Kind) (port : PortValues) (outs : List (List ℕ)) (n : ℕ) → lines kinds (seen_below port outs (suc n)) ≡ lines kinds (seen_below port outs n) ++ cycle_lines kinds (has_group (seen_below port outs n)) (shown port outs n)
 lines_below kinds port outs n = lines_push false kinds (seen_below port outs n) (shown port outs n)
@@ -110,43 +112,63 @@ first_end f from (suc j) = (elim (first_end f from j) [
   | inr none ↦ at_last f from (from + suc j) (omega arith) (λ k le lt. none k le (omega (arith, lt)))
 ])
 
+-- ---- one cycle after the other
+
+-- so many cycles were made of what was before its first one
+abbrev pub IsAt : Driven → Driven → ℕ → Type 0
+IsAt d e n = e ≡ record d { sim = e.sim; cycle = n; row = e.row }
+
+pub at_first : (d : Driven) → d.cycle ≡ 0 → IsAt d d 0
+at_first d first = subst (λ (n : ℕ). IsAt d d n) first refl
+
+pub at_next : (d e f : Driven) (n : ℕ) → IsAt d e n → IsAhead e f → IsAt d f (n + 1)
+at_next d e f n at ahead = ahead.same ∙ ap (λ (x : Driven). record x { sim = f.sim; cycle = x.cycle + 1; row = f.row }) at
+
+-- the next one is made in each run that is followed
+pub made_next : (d e f : Driven) (sample : Sample) (n : ℕ) (value : ℕ → Nets) (word : ℕ → Memories) → IsAt d e n → e.sim.design ≡ d.sim.design → Advances e f sample
+    → IsFollowed e.sim d.schema d.beats value word (n + 1) → IsMade (design_of d) f.sim d.schema d.beats sample f.row n value word
+made_next d e f sample n value word at design made followed =
+    let all : IsFollowed e.sim d.schema d.beats value word (n + 1) → IsMade (design_of e) f.sim d.schema d.beats sample f.row n value word =
+    subst (λ (x : Driven). IsBefore x value word → IsMade (design_of x) f.sim x.schema x.beats sample f.row x.cycle value word) at (made value word) in
+    subst (λ (m : Rust). IsMade (module_of m) f.sim d.schema d.beats sample f.row n value word) design (all followed)
+
 -- ---- on the way
 
 -- file cycle n comes next; so many bytes were written, and no end was seen from the last beat on
-pub record IsUnderWay (m : Module) (s : Simulation) (schema : Schema) (kinds : List Kind) (beats : List Beat) (told : Bool) (n : ℕ) (old new : Option (List ℕ)) (value : ℕ → Nets) (word : ℕ → Memories) : Type 0 where
+pub record IsUnderWay (m : Module) (s : Simulation) (schema : Schema) (kinds : List Kind) (beats : List Beat) (overflowed : Bool) (n : ℕ) (old new : Option (List ℕ)) (value : ℕ → Nets) (word : ℕ → Memories) : Type 0 where
   pub followed : IsFollowed s schema beats value word (n + 1)
-  pub told' : told ≡ has_group (seen_below (port_of m value) (result_names m) n)
+  pub overflowed' : overflowed ≡ has_group (seen_below (port_of m value) (result_names m) n)
   pub written : Appends old new (lines kinds (seen_below (port_of m value) (result_names m) n))
   pub none : (k : ℕ) → last_cycle beats ≤ k → k < n → (shown (port_of m value) (result_names m) k).end ≡ false
 
 pub under_way_first : (m : Module) (s : Simulation) (schema : Schema) (kinds : List Kind) (beats : List Beat) (old : Option (List ℕ)) (value : ℕ → Nets) (word : ℕ → Memories) → IsFollowed s schema beats value word 1 → IsUnderWay m s schema kinds beats false 0 old old value word
 unfolding has_group
-under_way_first m s schema kinds beats old value word h = record { followed = h; told' = refl; written = appends_none old; none = λ k le lt. absurd (omega arith) }
+under_way_first m s schema kinds beats old value word h = record { followed = h; overflowed' = refl; written = appends_none old; none = λ k le lt. absurd (omega arith) }
 
 -- what a cycle writes behind the others
-all_written : (m : Module) (s s' : Simulation) (schema : Schema) (kinds : List Kind) (beats : List Beat) (told : Bool) (l : Looked) (row : List ℕ) (n : ℕ) (old mid new : Option (List ℕ)) (value : ℕ → Nets) (word : ℕ → Memories)
-    → IsUnderWay m s schema kinds beats told n old mid value word → IsMade m s' schema beats l row n value word → Appends mid new (cycle_lines kinds told (looked_at l n row))
+all_written : (m : Module) (s s' : Simulation) (schema : Schema) (kinds : List Kind) (beats : List Beat) (overflowed : Bool) (l : Sample) (row : List ℕ) (n : ℕ) (old mid new : Option (List ℕ)) (value : ℕ → Nets) (word : ℕ → Memories)
+    → IsUnderWay m s schema kinds beats overflowed n old mid value word → IsMade m s' schema beats l row n value word → Appends mid new (cycle_lines kinds overflowed (sampled l n row))
     → Appends old new (lines kinds (seen_below (port_of m value) (result_names m) (suc n)))
-all_written m s s' schema kinds beats told l row n old mid new value word u made w =
+all_written m s s' schema kinds beats overflowed l row n old mid new value word u made w =
     let port : PortValues = port_of m value in
     let outs : List (List ℕ) = result_names m in
-    let same : cycle_lines kinds told (looked_at l n row) ≡ cycle_lines kinds (has_group (seen_below port outs n)) (shown port outs n) =
-    made.lines' kinds told ∙ ap (λ (b : Bool). cycle_lines kinds b (shown port outs n)) u.told' in
+    let same : cycle_lines kinds overflowed (sampled l n row) ≡ cycle_lines kinds (has_group (seen_below port outs n)) (shown port outs n) =
+    made.lines' kinds overflowed ∙ ap (λ (b : Bool). cycle_lines kinds b (shown port outs n)) u.overflowed' in
     subst (Appends old new) (ap (λ (bytes : List ℕ). lines kinds (seen_below port outs n) ++ bytes) same ∙ sym (lines_below kinds port outs n))
-    (appends_then old mid new (lines kinds (seen_below port outs n)) (cycle_lines kinds told (looked_at l n row)) u.written w)
+    (appends_then old mid new (lines kinds (seen_below port outs n)) (cycle_lines kinds overflowed (sampled l n row)) u.written w)
 
-pub under_way_more : (m : Module) (s s' : Simulation) (schema : Schema) (kinds : List Kind) (beats : List Beat) (told told' : Bool) (l : Looked) (row : List ℕ) (n : ℕ) (old mid new : Option (List ℕ)) (value : ℕ → Nets) (word : ℕ → Memories)
-    → IsUnderWay m s schema kinds beats told n old mid value word → IsMade m s' schema beats l row n value word → Appends mid new (cycle_lines kinds told (looked_at l n row))
-    → told' ≡ (told || l.group) → (last_cycle beats ≤ n → l.end ≡ false) → IsUnderWay m s' schema kinds beats told' (n + 1) old new value word
-under_way_more m s s' schema kinds beats told told' l row n old mid new value word u made w tells ends =
+pub under_way_more : (m : Module) (s s' : Simulation) (schema : Schema) (kinds : List Kind) (beats : List Beat) (overflowed overflowed' : Bool) (l : Sample) (row : List ℕ) (n : ℕ) (old mid new : Option (List ℕ)) (value : ℕ → Nets) (word : ℕ → Memories)
+    → IsUnderWay m s schema kinds beats overflowed n old mid value word → IsMade m s' schema beats l row n value word → Appends mid new (cycle_lines kinds overflowed (sampled l n row))
+    → overflowed' ≡ (overflowed || l.group) → (last_cycle beats ≤ n → l.end ≡ false) → IsUnderWay m s' schema kinds beats overflowed' (n + 1) old new value word
+under_way_more m s s' schema kinds beats overflowed overflowed' l row n old mid new value word u made w tells ends =
     let port : PortValues = port_of m value in
     let outs : List (List ℕ) = result_names m in
     let next : n + 1 ≡ suc n = add-one n in
     let two : n + 1 + 1 ≡ n + 2 = omega arith in
     record {
       followed = subst (IsFollowed s' schema beats value word) (sym two) made.followed;
-      told' = rw next (tells ∙ ap (λ (b : Bool). b || l.group) u.told' ∙ ap (λ (b : Bool). has_group (seen_below port outs n) || b) made.group' ∙ sym (group_push (seen_below port outs n) (shown port outs n)));
-      written = rw next (all_written m s s' schema kinds beats told l row n old mid new value word u made w);
+      overflowed' = rw next (tells ∙ ap (λ (b : Bool). b || l.group) u.overflowed' ∙ ap (λ (b : Bool). has_group (seen_below port outs n) || b) made.group' ∙ sym (group_push (seen_below port outs n) (shown port outs n)));
+      written = rw next (all_written m s s' schema kinds beats overflowed l row n old mid new value word u made w);
       none = λ k le lt. (elim (cases_eq k n) [
         | inl e ↦ subst (λ (x : ℕ). (shown port outs x).end ≡ false) (sym e) (sym made.end' ∙ ends (omega (arith, le, e)))
         | inr e ↦ u.none k le (omega (arith, lt, e))
@@ -154,22 +176,22 @@ under_way_more m s s' schema kinds beats told told' l row n old mid new value wo
     }
 
 -- the end
-pub under_way_done : (m : Module) (s s' : Simulation) (schema : Schema) (kinds : List Kind) (beats : List Beat) (told : Bool) (l : Looked) (row : List ℕ) (n extra : ℕ) (old mid new : Option (List ℕ)) (value : ℕ → Nets) (word : ℕ → Memories)
-    → IsUnderWay m s schema kinds beats told n old mid value word → IsMade m s' schema beats l row n value word → Appends mid new (cycle_lines kinds told (looked_at l n row))
+pub under_way_done : (m : Module) (s s' : Simulation) (schema : Schema) (kinds : List Kind) (beats : List Beat) (overflowed : Bool) (l : Sample) (row : List ℕ) (n extra : ℕ) (old mid new : Option (List ℕ)) (value : ℕ → Nets) (word : ℕ → Memories)
+    → IsUnderWay m s schema kinds beats overflowed n old mid value word → IsMade m s' schema beats l row n value word → Appends mid new (cycle_lines kinds overflowed (sampled l n row))
     → l.end ≡ true → last_cycle beats ≤ n → n ≤ last_cycle beats + extra → TracesToEnd kinds beats extra (result_names m) (port_of m value) old new
-under_way_done m s s' schema kinds beats told l row n extra old mid new value word u made w ends le soon = record {
+under_way_done m s s' schema kinds beats overflowed l row n extra old mid new value word u made w ends le soon = record {
   last = n;
   ends = record {
     is = record { soonest = le; ends = sym made.end' ∙ ends; first = u.none };
     in_time = soon;
   };
-  taken = rw (seen_is (port_of m value) (result_names m) n) (all_written m s s' schema kinds beats told l row n old mid new value word u made w);
+  taken = rw (seen_is (port_of m value) (result_names m) n) (all_written m s s' schema kinds beats overflowed l row n old mid new value word u made w);
 }
 
 -- no end came in any of the cycles
-pub under_way_out : (m : Module) (s : Simulation) (schema : Schema) (kinds : List Kind) (beats : List Beat) (told : Bool) (n extra far : ℕ) (old new : Option (List ℕ)) (value : ℕ → Nets) (word : ℕ → Memories)
-    → IsUnderWay m s schema kinds beats told n old new value word → far ≡ last_cycle beats + extra → n ≡ suc far → TracesOut kinds beats extra far (result_names m) (port_of m value) old new
-under_way_out m s schema kinds beats told n extra far old new value word u last next = record {
+pub under_way_out : (m : Module) (s : Simulation) (schema : Schema) (kinds : List Kind) (beats : List Beat) (overflowed : Bool) (n extra far : ℕ) (old new : Option (List ℕ)) (value : ℕ → Nets) (word : ℕ → Memories)
+    → IsUnderWay m s schema kinds beats overflowed n old new value word → far ≡ last_cycle beats + extra → n ≡ suc far → TracesOut kinds beats extra far (result_names m) (port_of m value) old new
+under_way_out m s schema kinds beats overflowed n extra far old new value word u last next = record {
   out = record { last = last; none = λ k le up. u.none k le (omega (arith, last, next, up)) };
   taken = rw (seen_is (port_of m value) (result_names m) far) (subst (λ (k : ℕ). Appends old new (lines kinds (seen_below (port_of m value) (result_names m) k))) next u.written);
 }
@@ -195,24 +217,24 @@ last_from beats outs port extra n none soon = (elim (first_end (λ k. (shown por
     not_before a b h = (elim (cases_lt b a) [ inl lt ↦ absurd (h lt) | inr le ↦ le ])
 
 -- the sink failed
-pub under_way_cut : (m : Module) (s s' : Simulation) (schema : Schema) (kinds : List Kind) (beats : List Beat) (told : Bool) (l : Looked) (row : List ℕ) (n extra : ℕ) (old mid new : Option (List ℕ)) (value : ℕ → Nets) (word : ℕ → Memories)
-    → IsUnderWay m s schema kinds beats told n old mid value word → IsMade m s' schema beats l row n value word → AppendsFront mid new (cycle_lines kinds told (looked_at l n row))
+pub under_way_cut : (m : Module) (s s' : Simulation) (schema : Schema) (kinds : List Kind) (beats : List Beat) (overflowed : Bool) (l : Sample) (row : List ℕ) (n extra : ℕ) (old mid new : Option (List ℕ)) (value : ℕ → Nets) (word : ℕ → Memories)
+    → IsUnderWay m s schema kinds beats overflowed n old mid value word → IsMade m s' schema beats l row n value word → AppendsFront mid new (cycle_lines kinds overflowed (sampled l n row))
     → n ≤ last_cycle beats + extra → TracesFront kinds beats extra (result_names m) (port_of m value) old new
-under_way_cut m s s' schema kinds beats told l row n extra old mid new value word u made w soon =
+under_way_cut m s s' schema kinds beats overflowed l row n extra old mid new value word u made w soon =
     let port : PortValues = port_of m value in
     let outs : List (List ℕ) = result_names m in
     let last = last_from beats outs port extra n u.none soon in
     let reach : suc n + (last.place - n) ≡ suc last.place = omega (arith, last.here) in
     let front = lines_front kinds port outs (suc n) (last.place - n) in
-    let same : cycle_lines kinds told (looked_at l n row) ≡ cycle_lines kinds (has_group (seen_below port outs n)) (shown port outs n) =
-    made.lines' kinds told ∙ ap (λ (b : Bool). cycle_lines kinds b (shown port outs n)) u.told' in
-    let all : lines kinds (seen port outs last.place) ≡ (lines kinds (seen_below port outs n) ++ cycle_lines kinds told (looked_at l n row)) ++ front.rest =
+    let same : cycle_lines kinds overflowed (sampled l n row) ≡ cycle_lines kinds (has_group (seen_below port outs n)) (shown port outs n) =
+    made.lines' kinds overflowed ∙ ap (λ (b : Bool). cycle_lines kinds b (shown port outs n)) u.overflowed' in
+    let all : lines kinds (seen port outs last.place) ≡ (lines kinds (seen_below port outs n) ++ cycle_lines kinds overflowed (sampled l n row)) ++ front.rest =
     ap (lines kinds) (seen_is port outs last.place) ∙ ap (λ (k : ℕ). lines kinds (seen_below port outs k)) (sym reach) ∙ front.same
     ∙ ap (λ (bytes : List ℕ). bytes ++ front.rest) (lines_below kinds port outs n ∙ ap (λ (bytes : List ℕ). lines kinds (seen_below port outs n) ++ bytes) (sym same)) in
     record {
       last = last.place;
       is = last.is;
       taken = subst (AppendsFront old new) (sym all)
-          (front_more old new (lines kinds (seen_below port outs n) ++ cycle_lines kinds told (looked_at l n row)) front.rest
-          (front_then old mid new (lines kinds (seen_below port outs n)) (cycle_lines kinds told (looked_at l n row)) u.written w));
+          (front_more old new (lines kinds (seen_below port outs n) ++ cycle_lines kinds overflowed (sampled l n row)) front.rest
+          (front_then old mid new (lines kinds (seen_below port outs n)) (cycle_lines kinds overflowed (sampled l n row)) u.written w));
     }

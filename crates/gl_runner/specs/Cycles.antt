@@ -1,7 +1,8 @@
--- One cycle of a run over beats: the beat that is due, what was looked at, and where the simulator is after it.
-use Rattle.std.specs.Prelude.{◌≡◌, ℕ, ◌+◌, Bool, false, List, [], Some, None, map, length, if◌then◌else◌}
+-- A module that is driven through the cycles of a file: what stands around it, what a cycle shows, and where it is then.
+use Rattle.std.specs.Prelude.{◌≡◌, ℕ, ◌+◌, ◌≤◌, ◌^◌, Bool, false, List, [], Some, None, map, length, if◌then◌else◌}
+use Rattle.std.specs.List.{AllByRecursion}
 use Rattle.gl_bits.specs.declared.kind.Kind.{Kind}
-use Rattle.gl_bits.specs.Kinds.{width_of}
+use Rattle.gl_bits.specs.Kinds.{IsKind, width_of}
 use Rattle.gl_schema.specs.declared.schema.Schema.{Schema}
 use Rattle.gl_schema.specs.Beats.{Beat, AreBeats}
 use Rattle.gl_schema.specs.Ports.{PortValues, IsStimulus}
@@ -12,14 +13,13 @@ use Rattle.gl_verilog.specs.Evaluate.{nets_of}
 use Rattle.gl_verilog.specs.View.{module_of}
 use Rattle.gl_verilog.specs.Valid.{IsValid}
 use Rattle.gl_sim.specs.Simulation.{Simulation, IsAt}
-use Rattle.gl_sim.specs.Starts.{StartsFrom}
 use Rattle.gl_verilog_orders.specs.declared.start.Start.{Start}
-use Rattle.gl_verilog.specs.declared.module.Module.{Module as Rust}
 use Rattle.gl_bits.specs.Words.{Word, widths_of}
-use Rattle.gl_runner.specs.declared.looking.Looked.{Looked}
+use Rattle.gl_runner.specs.declared.sampling.Sample.{Sample}
 use Rattle.gl_testbench.specs.declared.pins.Pin.{Pin}
 use Rattle.gl_testbench.specs.declared.pins.Shows.{Shows}
 use Rattle.gl_testbench.specs.Benches.{IsBench}
+use Rattle.gl_testbench.specs.Dues.{AreDue}
 use Rattle.gl_runner.specs.declared.executing.Outcome.{Outcome}
 use Rattle.gl_runner.specs.declared.executing.Outcome.TheVariants as outcome
 use Rattle.gl_runner.specs.declared.tracing.Ending.{Ending}
@@ -31,10 +31,10 @@ use Rattle.gl_verilog_ports.specs.Profile.{FitsSchema, HasInputPorts, result_nam
 abbrev pub port_by : Simulation → PortValues
 port_by s = port_of (module_of s.design) (λ t. nets_of s.shown)
 
--- a cycle in which this was looked at, with this row on the columns
-abbrev pub looked_at : Looked → ℕ → List ℕ → Shown
-looked_at l n row =
-    record { cycle = n; row = if l.valid then Some row else None; end = l.end; group = l.group; queue = false }
+-- a cycle that shows this, with this row on the columns
+abbrev pub sampled : Sample → ℕ → List ℕ → Shown
+sampled s n row =
+    record { cycle = n; row = if s.valid then Some row else None; end = s.end; group = s.group; queue = false }
 
 -- the lines that are due in a cycle
 abbrev pub overflow_if : Bool → ℕ → List ℕ
@@ -62,36 +62,84 @@ pub record IsFollowed (s : Simulation) (schema : Schema) (beats : List Beat) (va
   pub stimulus : IsStimulus schema beats (input_values (module_of s.design) value)
   pub at : IsAt s value word t
 
--- file cycle n of the module was made: what was looked at is what it shows, and the simulator is before the next
-pub record IsMade (m : Module) (s : Simulation) (schema : Schema) (beats : List Beat) (l : Looked) (row : List ℕ)
+-- file cycle n of the module was made: what was sampled is what it shows, and the simulator is before the next
+pub record IsMade (m : Module) (s : Simulation) (schema : Schema) (beats : List Beat) (sample : Sample) (row : List ℕ)
     (n : ℕ) (value : ℕ → Nets) (word : ℕ → Memories) : Type 0 where
   pub followed : IsFollowed s schema beats value word (n + 2)
-  pub lines' : (kinds : List Kind) (told : Bool)
-      → cycle_lines kinds told (looked_at l n row) ≡ cycle_lines kinds told (shown (port_of m value) (result_names m) n)
-  pub group' : l.group ≡ (shown (port_of m value) (result_names m) n).group
-  pub end' : l.end ≡ (shown (port_of m value) (result_names m) n).end
+  pub lines' : (kinds : List Kind) (overflowed : Bool) → cycle_lines kinds overflowed (sampled sample n row)
+      ≡ cycle_lines kinds overflowed (shown (port_of m value) (result_names m) n)
+  pub group' : sample.group ≡ (shown (port_of m value) (result_names m) n).group
+  pub end' : sample.end ≡ (shown (port_of m value) (result_names m) n).end
 
--- a module before its first cycle: what each of its ports is, and room for its inputs and a row
-pub record IsPrepared (d : Rust) (schema : Schema) (kinds : List Kind) (start : Start) (s : Simulation)
-    (pins : List Pin) (shows : Shows) (values : List ℕ) (row : List Word) : Type 0 where
-  pub design' : s.design ≡ d
-  pub started : (value : ℕ → Nets) (word : ℕ → Memories) → StartsFrom start (module_of d) value word
-      → IsAt s value word 0
-  pub bench : IsBench (module_of d) schema pins shows
+-- ---- what is driven
+
+-- a module behind its reset: its simulator, the schema and the beats that it is driven over, the kinds by which its
+-- columns are printed, how many cycles behind the last beat's the end is waited for, the cycle of the file that comes
+-- next, and what the columns showed in the last one
+pub record Driven : Type 0 where
+  pub sim : Simulation
+  pub schema : Schema
+  pub kinds : List Kind
+  pub beats : List Beat
+  pub extra : ℕ
+  pub cycle : ℕ
+  pub row : List ℕ
+
+abbrev pub design_of : Driven → Module
+design_of d = module_of d.sim.design
+
+-- it can be followed, what stands around it is that of its ports, and the beats from one place on are due
+pub record IsSetUp (sim : Simulation) (schema : Schema) (kinds : List Kind) (beats : List Beat) (extra : ℕ)
+    (pins : List Pin) (values : List ℕ) (shows : Shows) (row : List Word) (cycle next : ℕ) : Type 0 where
+  pub can : CanFollow (module_of sim.design) schema kinds beats
+  pub bench : IsBench (module_of sim.design) schema pins shows
   pub room : length values ≡ length pins
   pub widths : widths_of row ≡ map width_of kinds
+  pub due : AreDue beats next cycle
+  pub many : length kinds ≤ 32
+  pub kinds' : AllByRecursion IsKind kinds
+  pub short : extra ≤ 2 ^ 32
+
+-- it is before its next cycle of this run: cycle t + 1 of a run is cycle t of the file
+abbrev pub IsBefore : Driven → (ℕ → Nets) → (ℕ → Memories) → Type 0
+IsBefore d value word = IsFollowed d.sim d.schema d.beats value word (d.cycle + 1)
+
+-- the module of a task, behind its reset: it is before the first cycle of the file in each run from this start
+pub record IsStarted (m : Module) (schema : Schema) (kinds : List Kind) (beats : List Beat) (start : Start) (extra : ℕ)
+    (d : Driven) : Type 0 where
+  pub design' : design_of d ≡ m
+  pub schema' : d.schema ≡ schema
+  pub kinds' : d.kinds ≡ kinds
+  pub beats' : d.beats ≡ beats
+  pub extra' : d.extra ≡ extra
+  pub first : d.cycle ≡ 0
+  pub before : (value : ℕ → Nets) (word : ℕ → Memories) → IsRunOver m schema beats start value word
+      → IsBefore d value word
+
+-- one is the other after one cycle
+pub record IsAhead (d e : Driven) : Type 0 where
+  pub same : e ≡ record d { sim = e.sim; cycle = d.cycle + 1; row = e.row }
+  pub design' : e.sim.design ≡ d.sim.design
+
+-- and that cycle shows this
+abbrev pub Advances : Driven → Driven → Sample → Type 0
+Advances d e sample =
+    (value : ℕ → Nets) (word : ℕ → Memories) → IsBefore d value word
+    → IsMade (design_of d) e.sim d.schema d.beats sample e.row d.cycle value word
+
+-- a fact of each run in which it is before its next cycle
+abbrev pub OfDriven : Driven → (List (List ℕ) → PortValues → Type 0) → Type 0
+OfDriven d P =
+    (value : ℕ → Nets) (word : ℕ → Memories) → IsBefore d value word
+    → P (result_names (design_of d)) (port_of (design_of d) value)
+
+-- ---- to an end in time
 
 -- a fact of each run of a module from this start over these beats that ends in time
 abbrev pub OfTimely : ℕ → Module → Schema → List Beat → Start → (List (List ℕ) → PortValues → Type 0) → Type 0
 OfTimely latency m schema beats start P =
     (value : ℕ → Nets) (word : ℕ → Memories) → IsRunOver m schema beats start value word
     → EndsWithin latency beats (result_names m) (port_of m value) → P (result_names m) (port_of m value)
-
--- a fact of each run that the simulator is before cycle t of
-abbrev pub OfFollowed : Simulation → Schema → List Beat → ℕ → (List (List ℕ) → PortValues → Type 0) → Type 0
-OfFollowed s schema beats t P =
-    (value : ℕ → Nets) (word : ℕ → Memories) → IsFollowed s schema beats value word t
-    → P (result_names (module_of s.design)) (port_of (module_of s.design) value)
 
 -- how a run ended that ends in time: it does not wait in vain
 abbrev pub outcome_of : Ending → Outcome

@@ -8,7 +8,7 @@ ghost use Rattle.gl_verilog.specs.View.{module_of};
 ghost use Rattle.gl_runner.specs.Cycles.{CanFollow, OfTimely, outcome_of};
 ghost use Rattle.gl_runner.specs.Prints.{Ran};
 
-use crate::following::{Task, follow_module};
+use crate::driving::{Task, follow_module};
 use crate::tracing::Ending;
 use gl_bits::Kind;
 use gl_outside::Sink;
@@ -73,5 +73,5 @@ pub fn execute_module<K: Sink>(
         start,
         extra: latency,
     };
-    outcome_of(follow_module(alloc, design, shows, &task, out))
+    outcome_of(follow_module(alloc, design, shows, task, out))
 }

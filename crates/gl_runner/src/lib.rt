@@ -5,10 +5,10 @@
 //! the ports carry belongs to gl_testbench, one cycle of a module to gl_sim, and texts to gl_compiler.
 #![tactic(auto)]
 
+mod driving;
 pub mod executing;
-mod following;
 mod lines;
-pub mod looking;
+pub mod sampling;
 pub mod tracing;
 
 pub use executing::{Outcome, execute_module};

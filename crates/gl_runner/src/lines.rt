@@ -6,9 +6,9 @@ ghost use Rattle.gl_bits.specs.Kinds.{IsKind, width_of};
 ghost use Rattle.gl_bits.specs.Words.{widths_of, bits_of};
 ghost use Rattle.gl_outside.specs.States.{Wrote};
 ghost use Rattle.gl_schema.specs.Seen.{cycle_lines};
-ghost use Rattle.gl_runner.specs.Cycles.{looked_at, overflow_if, end_if, row_if};
+ghost use Rattle.gl_runner.specs.Cycles.{end_if, overflow_if, row_if, sampled};
 
-use crate::looking::Looked;
+use crate::sampling::Sample;
 use gl_bits::{Kind, Memory, Row, Word};
 use gl_outside::{Sink, WriteFault, write_all_of};
 use gl_tuples::line_into;
@@ -134,30 +134,30 @@ fn put_row<K: Sink>(
 }
 
 // Whether a further group is to be told.
-fn is_news(group: bool, told: bool) -> bool
-    ensures { result ≡ (group && not told) }
+fn is_news(group: bool, overflowed: bool) -> bool
+    ensures { result ≡ (group && not overflowed) }
 {
-    group && !told
+    group && !overflowed
 }
 
-/// Writes the lines of a cycle: that a further group came, where that was not told before, the
-/// row, and the end.
+/// Writes the lines of a cycle: that a further group came, where none came before, the row, and the
+/// end.
 pub(crate) fn put_cycle<K: Sink>(
     out: &mut K,
     cycle: u64,
     kinds: &[Kind],
     row: &Row,
-    told: bool,
-    looked: Looked,
+    overflowed: bool,
+    sample: Sample,
 ) -> Result<(), WriteFault>
     requires many { length kinds.now ≤ 32 }
     requires kinds { AllByRecursion IsKind kinds.now }
     requires widths { widths_of row.now ≡ map width_of kinds.now }
-    ensures { let bytes = cycle_lines kinds.now told (looked_at looked cycle (bits_of row.now)) in
-        Wrote (K.state out.old) (K.state out.new) bytes result }
+    ensures { let shown = sampled sample cycle (bits_of row.now) in
+        Wrote (K.state out.old) (K.state out.new) (cycle_lines kinds.now overflowed shown) result }
 {
-    let news = is_news(looked.group, told);
+    let news = is_news(sample.group, overflowed);
     put_overflow(out, cycle, news)?;
-    put_row(out, cycle, kinds, row, looked.valid)?;
-    put_end(out, cycle, looked.end)
+    put_row(out, cycle, kinds, row, sample.valid)?;
+    put_end(out, cycle, sample.end)
 }

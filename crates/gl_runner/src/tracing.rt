@@ -11,7 +11,7 @@ ghost use Rattle.gl_verilog_ports.specs.Profile.{HasInputPorts};
 ghost use Rattle.gl_runner.specs.Prints.{HasRunOver};
 ghost use Rattle.gl_runner.specs.Traces.{OfRunsOf, Traced, decimal_kinds};
 
-use crate::following::{Task, follow_module};
+use crate::driving::{Task, follow_module};
 use gl_bits::{Kind, Memory};
 use gl_outside::Sink;
 use gl_schema::Schema;
@@ -89,5 +89,5 @@ pub fn trace<K: Sink>(
         start,
         extra: u64::from(extra),
     };
-    follow_module(alloc, design, shows, &task, out)
+    follow_module(alloc, design, shows, task, out)
 }

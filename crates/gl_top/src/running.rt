@@ -16,7 +16,7 @@ ghost use Rattle.gl_top.specs.Verdicts.{TellsFaults, TellsForm, TellsRefusal};
 
 use crate::loading::answer_load;
 use crate::tracing::answer_sim;
-use gl_compiler::{Outcome, execute};
+use gl_compiler::{Outcome, run_compiled};
 use gl_compiler_text::Compiled;
 use gl_outside::{Shelf, Sink, Words};
 use gl_top_explain::answer_explain;
@@ -35,16 +35,7 @@ fn write_lines<K: Sink>(alloc: Global, words: &Taken<'_>, job: &Job, out: &mut K
     ensures { let c = job.now.compiled in RanLines c.schema c.statement job.now.beats
         (forms.start_of words.now) c.text.items (K.state out.old) (K.state out.new) result }
 {
-    execute(
-        alloc,
-        job.compiled.text(),
-        job.compiled.schema(),
-        job.compiled.kinds(),
-        &job.beats,
-        job.compiled.printed().latency,
-        words.start(),
-        out,
-    )
+    run_compiled(alloc, &job.compiled, &job.beats, words.start(), out)
 }
 
 // Runs the compiled text, and notes how that failed.

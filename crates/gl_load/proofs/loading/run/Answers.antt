@@ -1,32 +1,32 @@
-use Rattle.std.proofs.Common.{sym, ap, subst, ◌∙◌}
+use Rattle.std.proofs.Common.{ℕ, ap, sym, subst}
 use Rattle.gl_schema.specs.declared.schema.Schema.{Schema}
-use Rattle.gl_schema.specs.Schemas.{IsSchema}
-use Rattle.gl_schema.specs.Beats.{AreBeats}
+use Rattle.gl_schema.specs.Schemas.{kinds_of}
+use Rattle.gl_schema.specs.Beats.{AreBeats, KeepsGap}
 use Rattle.gl_tuples.specs.Gaps.{plain_beats}
 use Rattle.gl_verilog_orders.specs.declared.start.Start.TheVariants.{Zero}
+use Rattle.gl_compiler_text.specs.Meets.{result_columns}
 use Rattle.gl_runner.specs.declared.executing.Outcome.{Outcome}
 use Rattle.gl_runner.specs.Prints.{OfEachRun, Ran}
+use Rattle.gl_compiler.proofs.Runs.{runnable}
+use Rattle.gl_load.specs.Query.{query_text, schema_text}
 use Rattle.gl_load.specs.Steps.{AreRunLines, Kept, kept_state}
-use Rattle.gl_load.proofs.Constants.{schema_spelled}
-use Rattle.gl_load.proofs.Running.{can_run_load, ran_load, where_ended}
+use Rattle.gl_load.proofs.Running.{ran_load, where_ended}
 use Rattle.gl_load.proofs.loading.run.Goals as goal
 
-pub execute-outcome-requires-clause-schema : goal.execute-outcome-requires-clause-schema
-execute-outcome-requires-clause-schema c = subst IsSchema (sym (c.schema.ensures ∙ c.requires.compiled.schema)) schema_spelled.schema'
+pub run_compiled-outcome-requires-clause-compiled : goal.run_compiled-outcome-requires-clause-compiled
+run_compiled-outcome-requires-clause-compiled c = runnable schema_text query_text c.args.compiled.now c.requires.compiled.made
 
-pub execute-outcome-requires-clause-beats : goal.execute-outcome-requires-clause-beats
-execute-outcome-requires-clause-beats c = subst (λ (s : Schema). AreBeats s (plain_beats c.args.beats.now)) (sym (c.schema.ensures ∙ c.requires.compiled.schema)) c.requires.beats
+pub run_compiled-outcome-requires-clause-beats : goal.run_compiled-outcome-requires-clause-beats
+run_compiled-outcome-requires-clause-beats c = subst (λ (s : Schema). AreBeats s (plain_beats c.args.beats.now)) (sym c.requires.compiled.schema) c.requires.beats
 
-pub execute-outcome-requires-clause-runs : goal.execute-outcome-requires-clause-runs
-execute-outcome-requires-clause-runs c =
-    can_run_load c.args.compiled.now (plain_beats c.args.beats.now) c.text.result.now c.schema.result.now c.kinds.result.now c.printed.result c.requires.compiled c.requires.beats c.requires.gap c.text.ensures c.schema.ensures c.kinds.ensures c.printed.ensures
+pub run_compiled-outcome-requires-clause-gap : goal.run_compiled-outcome-requires-clause-gap
+run_compiled-outcome-requires-clause-gap c = subst (λ (n : ℕ). KeepsGap n (plain_beats c.args.beats.now)) (sym c.requires.compiled.gap) c.requires.gap
 
 pub returns : goal.returns
 returns c =
+    let q = c.args.compiled.now in
     let beats = plain_beats c.args.beats.now in
-    let old = kept_state c.empty-sink.result in
-    let new = kept_state c.execute-outcome.new.out in
-    where_ended (λ sink. AreRunLines c.args.compiled.now beats sink.bytes) c.ended.result c.execute-outcome.new.out c.ended.ensures.done c.ended.ensures.same
-    (λ e. ran_load c.args.compiled.now beats c.text.result.now c.schema.result.now c.kinds.result.now c.empty-sink.result c.execute-outcome.new.out c.requires.compiled c.text.ensures c.schema.ensures c.kinds.ensures
-    (ap (λ (s : Kept). s.bytes) c.empty-sink.ensures)
-    (subst (λ (o : Outcome). Ran (OfEachRun c.text.result.now c.schema.result.now beats Zero) c.kinds.result.now beats old new o) e c.execute-outcome.ensures))
+    let sink = c.run_compiled-outcome.new.out in
+    where_ended (λ sink. AreRunLines q beats sink.bytes) c.ended.result sink c.ended.ensures.done c.ended.ensures.same
+    (λ e. ran_load q beats c.empty-sink.result sink c.requires.compiled (ap (λ (s : Kept). s.bytes) c.empty-sink.ensures)
+    (subst (λ (o : Outcome). Ran (OfEachRun q.text.items q.schema beats Zero) (kinds_of (result_columns q.schema q.statement)) beats (kept_state c.empty-sink.result) (kept_state sink) o) e c.run_compiled-outcome.ensures))

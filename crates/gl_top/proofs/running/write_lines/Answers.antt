@@ -1,20 +1,22 @@
-use Rattle.std.proofs.Common.{sym, subst}
-use Rattle.gl_schema.specs.Schemas.{IsSchema}
+use Rattle.std.proofs.Common.{ℕ, sym, subst}
+use Rattle.gl_schema.specs.Beats.{KeepsGap}
+use Rattle.gl_tuples.specs.Gaps.{plain_beats}
 use Rattle.gl_verilog_orders.specs.declared.start.Start.{Start}
 use Rattle.gl_top.specs.Verdicts.{RanLines}
-use Rattle.gl_top.proofs.Runs.{can_run_all, ran_lines}
+use Rattle.gl_top.proofs.Runs.{runnable_of}
 use Rattle.gl_top.proofs.running.write_lines.Goals as goal
 
-pub execute-requires-clause-runs : goal.execute-requires-clause-runs
-execute-requires-clause-runs g c =
-    can_run_all c.args.job.now.compiled c.args.job.now.beats c.text.result.now c.schema.result.now c.kinds.result.now c.printed.result c.start.result c.requires.compiled c.requires.fine c.requires.gap c.text.ensures c.schema.ensures c.kinds.ensures c.printed.ensures
+pub run_compiled-requires-clause-compiled : goal.run_compiled-requires-clause-compiled
+run_compiled-requires-clause-compiled g c = runnable_of c.args.job.now.compiled c.requires.compiled
 
-pub execute-requires-clause-schema : goal.execute-requires-clause-schema
-execute-requires-clause-schema g c = subst IsSchema (sym c.schema.ensures) c.requires.compiled.fine
+pub run_compiled-requires-clause-beats : goal.run_compiled-requires-clause-beats
+run_compiled-requires-clause-beats g c = c.requires.fine.beats'
+
+pub run_compiled-requires-clause-gap : goal.run_compiled-requires-clause-gap
+run_compiled-requires-clause-gap g c = subst (λ (n : ℕ). KeepsGap n (plain_beats c.args.job.now.beats)) (sym c.requires.compiled.gap) c.requires.gap
 
 pub returns : goal.returns
 returns g c =
     let q = c.args.job.now.compiled in
-    let of_start : Start → Type 0 = λ start. RanLines q.schema q.statement c.args.job.now.beats start q.text.items (g.K.Sink.state c.args.out.now) (g.K.Sink.state c.execute.new.out) c.execute.result in
-    subst of_start c.start.ensures
-    (ran_lines q c.args.job.now.beats c.text.result.now c.schema.result.now c.kinds.result.now c.start.result _ _ c.execute.result c.requires.compiled c.text.ensures c.schema.ensures c.kinds.ensures c.execute.ensures)
+    let of_start : Start → Type 0 = λ start. RanLines q.schema q.statement c.args.job.now.beats start q.text.items (g.K.Sink.state c.args.out.now) (g.K.Sink.state c.run_compiled.new.out) c.run_compiled.result in
+    subst of_start c.start.ensures c.run_compiled.ensures

@@ -1,6 +1,6 @@
 use Rattle.std.proofs.Common.{◌∙◌}
 use Rattle.gl_testbench.proofs.Due.{last_some, last_none}
-use Rattle.gl_runner.proofs.following.last_of.Goals as goal
+use Rattle.gl_runner.proofs.driving.last_of.Goals as goal
 
 pub returns-in-Some-clause-cycle : goal.returns-in-Some-clause-cycle
 returns-in-Some-clause-cycle c = c.cycle_of.ensures.cycle ∙ last_some c.args.beats.now c.in-Some.beat.now c.in-Some.ensures.value

@@ -2,7 +2,7 @@ use Rattle.std.proofs.Common.{◌≡◌, ◌∙◌, ◌<◌, length, sym, arith}
 use Rattle.std.specs.Prelude.{slice_index}
 use Rattle.gl_bits.specs.Words.{widths_of}
 use Rattle.gl_runner.proofs.Rows.{row_more, widths_length}
-use Rattle.gl_runner.proofs.looking.set_row.Goals as goal
+use Rattle.gl_runner.proofs.sampling.set_row.Goals as goal
 
 pub loop-place-preserved : goal.loop-place-preserved
 loop-place-preserved c =

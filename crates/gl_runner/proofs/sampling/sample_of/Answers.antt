@@ -1,6 +1,6 @@
 use Rattle.gl_verilog.specs.View.{module_of}
 use Rattle.gl_testbench.proofs.Outputs.{shows_inside}
-use Rattle.gl_runner.proofs.looking.look.Goals as goal
+use Rattle.gl_runner.proofs.sampling.sample_of.Goals as goal
 
 pub is_high-requires : goal.is_high-requires
 is_high-requires c = (shows_inside (module_of c.args.sim.now.design) c.args.shows.now c.requires).2

@@ -15,9 +15,9 @@ use gl_bits::Row;
 use gl_sim::Sim;
 use gl_testbench::Shows;
 
-/// What is looked at in a cycle, beside the columns.
+/// What a cycle shows, beside the columns.
 #[derive(Clone, Copy, PartialEq, Eq, Debug)]
-pub struct Looked {
+pub struct Sample {
     /// A further group came.
     pub group: bool,
     /// A row leaves.
@@ -38,13 +38,13 @@ fn is_high(sim: &Sim, port: Option<usize>) -> bool
 }
 
 /// What the lines of the result show.
-pub(crate) fn look(sim: &Sim, shows: &Shows) -> Looked
+pub(crate) fn sample_of(sim: &Sim, shows: &Shows) -> Sample
     requires { AreShows (module_of sim.now.design) shows.now }
     ensures group { result.group ≡ seen.is_high (port_by sim.now) 0 fault_group }
     ensures valid { result.valid ≡ seen.is_high (port_by sim.now) 0 out_valid }
     ensures end { result.end ≡ seen.is_high (port_by sim.now) 0 out_eos }
 {
-    Looked {
+    Sample {
         group: is_high(sim, shows.group),
         valid: is_high(sim, shows.valid),
         end: is_high(sim, shows.end),

@@ -2,7 +2,7 @@ use Rattle.std.proofs.Common.{◌≡◌, ◌<◌, ◌^◌, map, take}
 use Rattle.std.specs.Prelude.{slice_index}
 use Rattle.std.specs.List.{AllZip}
 use Rattle.gl_bits.specs.Words.{widths_of, bits_of}
-use Rattle.gl_runner.proofs.looking.set_row.Given as goal
+use Rattle.gl_runner.proofs.sampling.set_row.Given as goal
 
 abbrev pub invariant-loop-place : goal.invariant-loop-place
 invariant-loop-place l = record {

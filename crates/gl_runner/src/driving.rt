@@ -1,0 +1,261 @@
+//! Driving a module through the cycles of a file, and writing what they show.
+
+ghost use Rattle.std.specs.Prelude.{◌≡◌, ◌+◌, ◌<◌, ◌≤◌, ◌^◌, length, map, option_map, IfOk};
+ghost use Rattle.std.specs.List.{AllByRecursion};
+ghost use Rattle.gl_bits.specs.Kinds.{IsKind};
+ghost use Rattle.gl_outside.specs.States.{Wrote};
+ghost use Rattle.gl_schema.specs.Beats.{beat_at, last_cycle};
+ghost use Rattle.gl_schema.specs.Seen.{cycle_lines};
+ghost use Rattle.gl_tuples.specs.Gaps.{plain_beat, plain_beats};
+ghost use Rattle.gl_verilog.specs.Runnable.{inputs_of};
+ghost use Rattle.gl_verilog.specs.View.{module_of};
+ghost use Rattle.gl_testbench.specs.Benches.{AreShows};
+ghost use Rattle.gl_testbench.specs.Carried.{pin_at};
+ghost use Rattle.gl_testbench.specs.Dues.{AreDue};
+ghost use Rattle.gl_runner.specs.Cycles.{Advances, CanFollow, IsAhead, IsStarted};
+ghost use Rattle.gl_runner.specs.Cycles.{OfDriven, sampled};
+ghost use Rattle.gl_runner.specs.Traces.{OfRunsOf, Traced};
+
+use crate::lines::{put_cycle, zero_row};
+use crate::sampling::{Sample, sample_of, set_row};
+use crate::tracing::Ending;
+use gl_bits::{Kind, Memory, Row};
+use gl_outside::{Sink, WriteFault};
+use gl_schema::Schema;
+use gl_sim::Sim;
+use gl_sim::room::{ports_of, zeros};
+use gl_testbench::{Pin, Shows, pins_at, set_beat, set_reset};
+use gl_tuples::Beat;
+use gl_verilog::Module;
+use gl_verilog::laws::valid_modules_run;
+use gl_verilog_orders::Start;
+use gl_verilog_orders::laws::event_runs_are_runs;
+use std::alloc::Global;
+use std::marker::Model;
+
+/// What a module is driven over, from where, and how far.
+#[derive(Clone, Copy)]
+pub(crate) struct Task<'a> {
+    pub schema: &'a Schema,
+    /// The kinds by which the columns are printed.
+    pub kinds: &'a [Kind],
+    pub beats: &'a [Beat],
+    pub start: Start,
+    /// The cycles behind the last beat's in which the end is waited for.
+    pub extra: u64,
+}
+
+/// A module that is driven over the beats of a file, behind its reset, and what stands around it.
+///
+/// In clauses it is seen as its simulator, what it is driven over, which cycle of the file comes
+/// next, and what the columns showed in the last one.
+#[derive(Drop)]
+struct Drive<'a> {
+    task: Task<'a>,
+    sim: Sim,
+    // What each input carries, and what it is set to.
+    pins: Vec<Pin>,
+    values: Vec<u128>,
+    // Where the result is shown, and the columns of the last cycle.
+    shows: Shows,
+    row: Row,
+    // The cycle that comes next, and the place of the next beat.
+    cycle: u64,
+    next: usize,
+}
+
+impl<'a> Model for Drive<'a> {
+    ghost use Rattle.std.specs.Coded.{codes};
+    ghost use Rattle.gl_bits.specs.Words.{bits_of};
+    ghost use Rattle.gl_tuples.specs.Gaps.{plain_beats};
+    ghost use Rattle.gl_verilog.specs.contracts.module.Expr as e;
+    ghost use Rattle.gl_verilog.specs.contracts.module.Statement as st;
+    ghost use Rattle.gl_runner.specs.Cycles.{Driven, IsSetUp};
+
+    ghost Value = { Driven };
+
+    ghost coded = { Prim.hlevel (codes, e.the_row.coded, st.the_row.coded) };
+
+    ghost view = { λ d. record {
+      sim = d.sim;
+      schema = d.task.schema.now;
+      kinds = d.task.kinds.now;
+      beats = plain_beats d.task.beats.now;
+      extra = d.task.extra;
+      cycle = d.cycle;
+      row = bits_of d.row;
+    } };
+
+    ghost invariant = { λ d. IsSetUp d.sim d.task.schema.now d.task.kinds.now
+        (plain_beats d.task.beats.now) d.task.extra d.pins.items d.values.items d.shows d.row
+        d.cycle d.next };
+}
+
+// What each input port of this module but the clock carries.
+fn pins_of(alloc: Global, schema: &Schema, design: &Module) -> Result<Vec<Pin>, Memory>
+    ensures { let m = module_of design.now in
+        IfOk result (λ v. v.items ≡ map (pin_at schema.now m.declarations) (inputs_of m)) }
+{
+    let declarations = design.declarations.as_slice();
+    let ports = ports_of(alloc, declarations)?;
+    pins_at(alloc, schema, declarations, &ports)
+}
+
+// The beat of this cycle, and the place behind it.
+fn due<'a>(beats: &'a [Beat], next: &mut usize, cycle: u64) -> Option<&'a Beat>
+    requires { AreDue (plain_beats beats.now) next.old cycle }
+    ensures beat { option_map (λ b. plain_beat b.now) result
+        ≡ beat_at (plain_beats beats.now) cycle }
+    ensures due { AreDue (plain_beats beats.now) next.new (cycle + 1) }
+{
+    let beat = beats.get(*next)?;
+    if u64::from(beat.cycle) != cycle {
+        return None;
+    }
+    *next += 1;
+    Some(beat)
+}
+
+fn cycle_of(beat: &Beat) -> u64
+    ensures cycle { result ≡ beat.now.cycle }
+    ensures early { result ≤ 2 ^ 32 }
+{
+    u64::from(beat.cycle)
+}
+
+// The cycle of the last beat.
+fn last_of(beats: &[Beat]) -> u64
+    ensures cycle { result ≡ last_cycle (plain_beats beats.now) }
+    ensures early { result ≤ 2 ^ 32 }
+{
+    match beats.last() {
+        Some(beat) => cycle_of(beat),
+        None => 0,
+    }
+}
+
+impl<'a> Drive<'a> {
+    // Takes all the memory that it needs, and makes the cycle of the reset.
+    fn new(alloc: Global, design: Module, shows: Shows, task: Task<'a>) -> Result<Drive<'a>, Memory>
+        requires can { CanFollow (module_of design) task.schema.now task.kinds.now
+            (plain_beats task.beats.now) }
+        requires shows { AreShows (module_of design) shows }
+        requires many { length task.kinds.now ≤ 32 }
+        requires kinds { AllByRecursion IsKind task.kinds.now }
+        requires short { task.extra ≤ 2 ^ 32 }
+        ensures { let t = task.entry in
+            IfOk result (IsStarted (module_of design) t.schema.now t.kinds.now
+            (plain_beats t.beats.now) t.start t.extra) }
+    {
+        valid_modules_run();
+        event_runs_are_runs();
+        let pins = pins_of(alloc, task.schema, &design)?;
+        let mut values = zeros(alloc, pins.len())?;
+        let row = zero_row(alloc, task.kinds)?;
+        let mut sim = Sim::new(alloc, design, task.start)?;
+        let inputs = values.as_mut_slice();
+        set_reset(&pins, inputs);
+        sim.step(inputs);
+        Ok(Drive {
+            task,
+            sim,
+            pins,
+            values,
+            shows,
+            row,
+            cycle: 0,
+            next: 0,
+        })
+    }
+
+    // The cycle of the last beat, and the last one in which the end is waited for.
+    fn bounds(&self) -> (u64, u64)
+        ensures last { result.0 ≡ last_cycle self.now.beats }
+        ensures far { result.1 ≡ last_cycle self.now.beats + self.now.extra }
+        ensures early { result.1 ≤ 2 ^ 33 }
+    {
+        let last = last_of(self.task.beats);
+        (last, last + self.task.extra)
+    }
+
+    // Makes the next cycle, and answers what it shows.
+    fn advance(&mut self) -> Sample
+        requires { self.old.cycle < 2 ^ 63 }
+        ensures ahead { IsAhead self.old self.new }
+        ensures made { Advances self.old self.new result }
+    {
+        let beat = due(self.task.beats, &mut self.next, self.cycle);
+        let values = self.values.as_mut_slice();
+        set_beat(&self.pins, beat, values);
+        self.sim.step(values);
+        self.cycle += 1;
+        set_row(&self.sim, &self.shows.columns, &mut self.row);
+        sample_of(&self.sim, &self.shows)
+    }
+
+    // Writes the lines of the cycle that was made last.
+    fn put<K: Sink>(
+        &self,
+        out: &mut K,
+        cycle: u64,
+        overflowed: bool,
+        sample: Sample,
+    ) -> Result<(), WriteFault>
+        ensures { let row = sampled sample cycle self.now.row in
+            Wrote (K.state out.old) (K.state out.new)
+            (cycle_lines self.now.kinds overflowed row) result }
+    {
+        put_cycle(out, cycle, self.task.kinds, &self.row, overflowed, sample)
+    }
+
+    // Makes the cycles of the file up to the end, or to the last that is waited for, and writes
+    // their lines.
+    fn follow<K: Sink>(&mut self, out: &mut K) -> Ending
+        requires { self.old.cycle ≡ 0 }
+        ensures { Traced (OfDriven self.old) self.old.kinds self.old.beats self.old.extra
+            (K.state out.old) (K.state out.new) result }
+    {
+        let (last, far) = self.bounds();
+        let mut overflowed = false;
+        for cycle in 0..far + 1 {
+            let sample = self.advance();
+            if self.put(out, cycle, overflowed, sample).is_err() {
+                return Ending::WriteFault;
+            }
+            if sample.end && cycle >= last {
+                return Ending::Done;
+            }
+            overflowed |= sample.group;
+        }
+        Ending::NoEnd { cycle: far }
+    }
+}
+
+/// Runs a module, in which these ports show the result, and writes the lines of its run.
+///
+/// In the first cycle the module is reset. Behind it comes a cycle for each cycle of the file, to
+/// the first one from the last beat's on in which `out__eos` is 1, or to the last that is waited
+/// for. The lines stand in order of cycle; in a cycle a further group stands before the result, and
+/// the end behind it. All memory is taken before the first line.
+pub(crate) fn follow_module<K: Sink>(
+    alloc: Global,
+    design: Module,
+    shows: Shows,
+    task: Task<'_>,
+    out: &mut K,
+) -> Ending
+    requires can { CanFollow (module_of design) task.schema.now task.kinds.now
+        (plain_beats task.beats.now) }
+    requires shows { AreShows (module_of design) shows }
+    requires many { length task.kinds.now ≤ 32 }
+    requires kinds { AllByRecursion IsKind task.kinds.now }
+    requires short { task.extra ≤ 2 ^ 32 }
+    ensures { let t = task.entry in
+        Traced (OfRunsOf (module_of design) t.schema.now (plain_beats t.beats.now) t.start)
+        t.kinds.now (plain_beats t.beats.now) t.extra (K.state out.old) (K.state out.new) result }
+{
+    let Ok(mut drive) = Drive::new(alloc, design, shows, task) else {
+        return Ending::Memory;
+    };
+    drive.follow(out)
+}
