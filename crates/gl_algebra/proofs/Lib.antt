@@ -9,6 +9,7 @@ pub mod FigureLemmas
 pub mod ResultLemmas
 pub mod UniqueLemmas
 pub mod TableLemmas
+pub mod ExponentLemmas
 pub mod KindLemmas
 pub mod PaceLemmas
 pub mod ReadLemmas

@@ -1,11 +1,10 @@
 -- A lane of a group, and what gathers the totals of its slots, from their parts.
 use Rattle.std.proofs.Common.{◌≡◌, ℕ, zero, suc, ◌+◌, ◌-◌, ◌^◌, ◌<◌, ◌≤◌, List, ◌∷◌, length, Some, None, Bool, true, false, refl, sym, ap, ◌∙◌, subst, arith, eqb-true, eq-eqb}
-use Rattle.std.specs.Prelude.{slice_get, slice_index_or, nat_eq, nat_le, if◌then◌else◌}
-use Rattle.std.proofs.Math.Pow.{pow-lt}
-use Rattle.std.proofs.lemmas.Bool.{leb-true}
+use Rattle.std.specs.Prelude.{slice_get, slice_index_or, nat_eq, if◌then◌else◌}
 use Rattle.std.proofs.lemmas.Option.{slice_get-get_or}
 use Rattle.std.proofs.lemmas.List.Sums.{sum_by-cons}
 use Rattle.gl_algebra.specs.Cost.{least_exponent}
+use Rattle.gl_algebra.proofs.ExponentLemmas.{exponent_covers}
 use Rattle.gl_algebra.specs.FigureTable.{stride_of}
 use Rattle.gl_bits.specs.Results.{Row}
 use Rattle.gl_bits.proofs.Bools.{by_cases}
@@ -38,20 +37,8 @@ use Rattle.gl_groups.proofs.GroupedNet.{setting_of}
 
 -- ---- the bits of a number
 
-below_power : (n : ℕ) → n < 2 ^ n
-below_power zero = omega arith
-below_power (suc n) = let h = below_power n in let l = pow-lt {i = n} {j = suc n} (omega arith) in omega (arith, h, l)
-
-covers : (more exponent slots : ℕ) → slots ≤ more + exponent → slots ≤ 2 ^ least_exponent more exponent slots
-covers zero e slots h = let l = below_power e in omega (arith, l, h)
-covers (suc more) e slots h = by (nat_le slots (2 ^ e)) refl (covers more (suc e) slots (omega (arith, h)))
-  where
-    by : (b : Bool) → nat_le slots (2 ^ e) ≡ b → slots ≤ 2 ^ least_exponent more (suc e) slots → slots ≤ 2 ^ (if b then e else least_exponent more (suc e) slots)
-    by true p rest = leb-true slots (2 ^ e) p
-    by false p rest = rest
-
 pub bits_cover : (slots : ℕ) → slots ≤ 2 ^ bits_of_slots slots
-bits_cover slots = covers slots 1 slots (omega arith)
+bits_cover slots = exponent_covers slots 1 slots (omega arith)
 
 pub bits_from : (slots more depth bits : ℕ) → more ≡ slots → depth ≡ slots → bits ≡ least_exponent more 1 depth → bits ≡ bits_of_slots slots
 bits_from slots more depth bits a b h = h ∙ ap (λ n. least_exponent n 1 depth) a ∙ ap (least_exponent slots 1) b

@@ -4,6 +4,7 @@ use Rattle.std.specs.Prelude.{decimal, nat_lt, ◌==◌, if◌then◌else◌}
 use Rattle.std.specs.Fmt.{digit_glyph, digits, digits_onto}
 use Rattle.std.specs.List.{AllByRecursion, fold, list_all, position_or_len}
 use Rattle.std.specs.Str.Parse.{AllDigits}
+use Rattle.std.proofs.Math.Seq.{take-append_seam}
 use Rattle.std.proofs.lemmas.Fmt.{decimal_is_IsNumeral}
 use Rattle.std.proofs.lemmas.Str.Parse.{FoldsDigits, IsNumeralModel, numerals_by_fold, tells_digits}
 use Rattle.gl_schema.specs.Names.{is_digit}
@@ -77,10 +78,6 @@ comma_found front rest h =
     let below : nat_lt (length front) (length (front ++ 44 ∷ rest)) ≡ true = lt-ltb (length front) (length (front ++ 44 ∷ rest)) (omega (arith, length-append front (44 ∷ rest))) in
     rw (comma_behind front rest h, below) refl
 
-taken : (front rest : List ℕ) → take (length front) (front ++ rest) ≡ front
-taken [] rest = refl
-taken (b ∷ bs) rest = ap (λ (r : List ℕ). b ∷ r) (taken bs rest)
-
 dropped : (front rest : List ℕ) (b : ℕ) → drop (length front + 1) (front ++ b ∷ rest) ≡ rest
 dropped [] rest b = refl
 dropped (f ∷ fs) rest b =
@@ -88,7 +85,7 @@ dropped (f ∷ fs) rest b =
     ap (λ (i : ℕ). drop i (f ∷ (fs ++ b ∷ rest))) place ∙ dropped fs rest b
 
 pub field_first : (front rest : List ℕ) → From 45 front → first_field (front ++ 44 ∷ rest) ≡ front
-field_first front rest h = ap (before_place (front ++ 44 ∷ rest)) (comma_found front rest h) ∙ taken front (44 ∷ rest)
+field_first front rest h = ap (before_place (front ++ 44 ∷ rest)) (comma_found front rest h) ∙ take-append_seam front (44 ∷ rest)
 
 pub field_behind : (front rest : List ℕ) → From 45 front → behind_comma (front ++ 44 ∷ rest) ≡ rest
 field_behind front rest h = ap (behind_place (front ++ 44 ∷ rest)) (comma_found front rest h) ∙ dropped front rest 44

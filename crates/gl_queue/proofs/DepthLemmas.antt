@@ -1,26 +1,14 @@
 -- An address of a queue's memories has enough bits for its places.
-use Rattle.std.proofs.Common.{◌≡◌, ℕ, zero, suc, ◌+◌, ◌^◌, ◌<◌, ◌≤◌, Bool, true, false, refl, ap, arith}
+use Rattle.std.proofs.Common.{◌≡◌, ℕ, zero, suc, ◌^◌, ◌≤◌, Bool, true, false, refl, ap, arith}
 use Rattle.std.specs.Prelude.{nat_le, if◌then◌else◌}
-use Rattle.std.proofs.Math.Pow.{pow-lt}
-use Rattle.std.proofs.lemmas.Bool.{leb-true, leb-false}
+use Rattle.std.proofs.lemmas.Bool.{leb-false}
 use Rattle.gl_algebra.specs.Cost.{least_exponent, ring}
+use Rattle.gl_algebra.proofs.ExponentLemmas.{exponent_covers}
 use Rattle.gl_queue.specs.Costs.{address_bits}
-
-below_power : (n : ℕ) → n < 2 ^ n
-below_power zero = omega arith
-below_power (suc n) = let h = below_power n in let l = pow-lt {i = n} {j = suc n} (omega arith) in omega (arith, h, l)
-
-covers : (more exponent depth : ℕ) → depth ≤ more + exponent → depth ≤ 2 ^ least_exponent more exponent depth
-covers zero e depth h = let l = below_power e in omega (arith, l, h)
-covers (suc more) e depth h = by (nat_le depth (2 ^ e)) refl (covers more (suc e) depth (omega (arith, h)))
-  where
-    by : (b : Bool) → nat_le depth (2 ^ e) ≡ b → depth ≤ 2 ^ least_exponent more (suc e) depth → depth ≤ 2 ^ (if b then e else least_exponent more (suc e) depth)
-    by true p rest = leb-true depth (2 ^ e) p
-    by false p rest = rest
 
 pub address_covers : (depth : ℕ) → depth ≤ 2 ^ address_bits depth
 unfolding address_bits
-address_covers depth = covers depth 1 depth (omega arith)
+address_covers depth = exponent_covers depth 1 depth (omega arith)
 
 -- the words of a queue's memories are those of a ring
 pub ring_words : (depth : ℕ) → 2 ^ address_bits depth ≡ ring depth

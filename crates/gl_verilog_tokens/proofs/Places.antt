@@ -1,6 +1,7 @@
 -- The places of a text's tokens, byte by byte.
 use Rattle.std.proofs.Common.{◌≡◌, ℕ, zero, suc, ◌+◌, ◌<◌, ◌≤◌, ◌⊎◌, inl, inr, List, [], ◌∷◌, ◌++◌, length, take, Some, refl, sym, ap, subst, ◌∙◌, arith, append_assoc, length-append}
 use Rattle.std.specs.Prelude.{slice_get}
+use Rattle.std.proofs.Math.Seq.{take-append_seam, take-length}
 use Rattle.std.proofs.lemmas.List.{append-nil}
 use Rattle.std.proofs.lemmas.Bool.{cases_eq, cases_order}
 use Rattle.gl_verilog.specs.Tokens.{Token, Between, to, scan, last_of}
@@ -14,16 +15,8 @@ use Rattle.gl_verilog_tokens.proofs.LexSteps.{front_tokens}
 
 -- ---- fronts
 
-pub front_own : (a : List ℕ) → take (length a) a ≡ a
-front_own [] = refl
-front_own (x ∷ a) = ap (λ (l : List ℕ). x ∷ l) (front_own a)
-
-pub front_more : (a b : List ℕ) → take (length a) (a ++ b) ≡ a
-front_more [] b = refl
-front_more (x ∷ a) b = ap (λ (l : List ℕ). x ∷ l) (front_more a b)
-
 front_by : (a b c : List ℕ) → b ≡ a ++ c → IsFront a b
-front_by a b c e = subst (IsFront a) (sym e) (front_more a c)
+front_by a b c e = subst (IsFront a) (sym e) (take-append_seam a c)
 
 -- nothing stays open
 pub front_closed : (ps xs : List ℕ) (at : ℕ) → take (length (ps ++ [])) ((ps ++ xs) ++ at ∷ []) ≡ ps ++ []
@@ -47,7 +40,7 @@ front_base ps s q at = front_by (ps ++ s ∷ q ∷ at ∷ []) ((ps ++ s ∷ q �
 pub front_digits : (ps : List ℕ) (s q from at : ℕ) → take (length (ps ++ s ∷ [])) ((ps ++ s ∷ q ∷ from ∷ []) ++ at ∷ []) ≡ ps ++ s ∷ []
 front_digits ps s q from at = front_by (ps ++ s ∷ []) ((ps ++ s ∷ q ∷ from ∷ []) ++ at ∷ []) (q ∷ from ∷ at ∷ []) (append_assoc ps (s ∷ q ∷ from ∷ []) (at ∷ []) ∙ sym (append_assoc ps (s ∷ []) (q ∷ from ∷ at ∷ [])))
 
-pub ruleset fronts = (front_own, front_more, front_closed, front_none, front_alone, front_quote, front_base, front_digits)
+pub ruleset fronts = (take-length, take-append_seam, front_closed, front_none, front_alone, front_quote, front_base, front_digits)
 
 -- ---- one byte more
 

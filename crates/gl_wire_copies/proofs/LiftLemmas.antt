@@ -12,7 +12,7 @@ use Rattle.gl_wire.proofs.ClosingLemmas.{closing_caused, closing_stream}
 use Rattle.gl_wire.proofs.RowsLemmas.{rows-split, rows-quiet, rows-same}
 use Rattle.gl_wire_copies.specs.Lift.{Visits, Schedules, first_of, tuple_of_any, all_of, visits, with_visit, Joined, Lifted}
 
-first_of-none : (o : Option Row) → first_of o None ≡ o
+pub first_of-none : (o : Option Row) → first_of o None ≡ o
 first_of-none None = refl
 first_of-none (Some r) = refl
 

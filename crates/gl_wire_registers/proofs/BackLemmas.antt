@@ -20,6 +20,7 @@ use Rattle.gl_wire.specs.Shapes.{IsDelayed}
 use Rattle.gl_wire.proofs.ColumnLemmas.{AreBuses-push, buses_kept, widths-push, wire_kept, row_at-push}
 use Rattle.gl_wire.proofs.StageLemmas.{delayed_same}
 use Rattle.gl_wire.proofs.GateLemmas.{choose_line}
+use Rattle.gl_wire_copies.proofs.LiftLemmas.{first_of-none}
 use Rattle.gl_wire_registers.specs.Lines.{carried_of}
 use Rattle.gl_wire_registers.specs.declared.back.Merged.{Merged}
 use Rattle.gl_wire_registers.specs.Backs.{AreWires, ChoosesRow, JoinsCopies, Merges, MergesTwo, nodes_of_merge}
@@ -91,10 +92,6 @@ merges_two old mid new first second bs v c g = record {
 
 -- ---- the first one of some copies, or of others
 
-first_none : (o : Option Row) → first_of o None ≡ o
-first_none None = refl
-first_none (Some r) = refl
-
 first_join : (o p q : Option Row) → first_of (first_of o p) q ≡ first_of o (first_of p q)
 first_join None p q = refl
 first_join (Some r) p q = refl
@@ -104,7 +101,7 @@ tuples_same f g zero c h = refl
 tuples_same f g (suc n) c h = ap (λ o. first_of o ((f n).tuple c)) (tuples_same f g n c (λ k l. h k (omega (arith, l)))) ∙ ap (first_of (tuple_of_any g n c)) (h n (omega arith))
 
 tuples_split : (f : ℕ → Carried) (m n c : ℕ) → tuple_of_any f (m + n) c ≡ first_of (tuple_of_any f m c) (tuple_of_any (λ k. f (m + k)) n c)
-tuples_split f m zero c = let e : m + 0 ≡ m = omega arith in ap (λ i. tuple_of_any f i c) e ∙ sym (first_none (tuple_of_any f m c))
+tuples_split f m zero c = let e : m + 0 ≡ m = omega arith in ap (λ i. tuple_of_any f i c) e ∙ sym (first_of-none (tuple_of_any f m c))
 tuples_split f m (suc n) c =
     let e : m + suc n ≡ suc (m + n) = omega arith in
     ap (λ i. tuple_of_any f i c) e ∙ ap (λ o. first_of o ((f (m + n)).tuple c)) (tuples_split f m n c)

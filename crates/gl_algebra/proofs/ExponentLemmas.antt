@@ -1,0 +1,18 @@
+-- The least exponent of a depth covers it.
+use Rattle.std.proofs.Common.{◌≡◌, ℕ, zero, suc, ◌+◌, ◌^◌, ◌<◌, ◌≤◌, Bool, true, false, refl, arith}
+use Rattle.std.specs.Prelude.{nat_le, if◌then◌else◌}
+use Rattle.std.proofs.Math.Pow.{pow-lt}
+use Rattle.std.proofs.lemmas.Bool.{leb-true}
+use Rattle.gl_algebra.specs.Cost.{least_exponent}
+
+below_power : (n : ℕ) → n < 2 ^ n
+below_power zero = omega arith
+below_power (suc n) = let h = below_power n in let l = pow-lt {i = n} {j = suc n} (omega arith) in omega (arith, h, l)
+
+pub exponent_covers : (more exponent depth : ℕ) → depth ≤ more + exponent → depth ≤ 2 ^ least_exponent more exponent depth
+exponent_covers zero e depth h = let l = below_power e in omega (arith, l, h)
+exponent_covers (suc more) e depth h = by (nat_le depth (2 ^ e)) refl (exponent_covers more (suc e) depth (omega (arith, h)))
+  where
+    by : (b : Bool) → nat_le depth (2 ^ e) ≡ b → depth ≤ 2 ^ least_exponent more (suc e) depth → depth ≤ 2 ^ (if b then e else least_exponent more (suc e) depth)
+    by true p rest = leb-true depth (2 ^ e) p
+    by false p rest = rest
