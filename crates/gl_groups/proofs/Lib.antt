@@ -20,3 +20,5 @@ pub mod PickLemmas
 pub mod EventLemmas
 pub mod LaneNet
 pub mod LanedNet
+pub mod LaneShares
+pub mod LaneServes

@@ -11,5 +11,6 @@ pub mod Picks
 pub mod Lanes
 pub mod Laned
 pub mod Grouped
+pub mod LaneLaws
 pub mod Laws
 pub mod Worked

@@ -1,12 +1,18 @@
 //! The laws of groups.
 
 ghost use Rattle.gl_groups.specs.Costs.{GroupingsAreCounted};
+ghost use Rattle.gl_groups.specs.LaneLaws.{LanesServe};
 ghost use Rattle.gl_groups.specs.Laws.{GroupingsServe, GroupsGroup};
 ghost use Rattle.gl_groups.specs.Worked.{WorkedGroups};
 
 /// A front, copies that serve a body, and a back serve what the body makes of each group, joined.
 pub fn groupings_serve()
     ensures { GroupingsServe }
+{}
+
+/// A lane, row operators, a table of totals and a gatherer serve what a body of such operators and that total makes of each group, joined.
+pub fn lanes_serve()
+    ensures { LanesServe }
 {}
 
 /// The groups of a plan have numbers that a circuit can have.

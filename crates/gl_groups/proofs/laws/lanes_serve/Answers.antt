@@ -1,0 +1,5 @@
+use Rattle.gl_groups.proofs.LaneServes.{lanes_serve}
+use Rattle.gl_groups.proofs.laws.lanes_serve.Goals as goal
+
+pub returns : goal.returns
+returns c = lanes_serve
