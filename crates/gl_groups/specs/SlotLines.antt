@@ -41,7 +41,8 @@ sought_at run used keys free ask value t = record {
 }
 
 -- which slots have the key, and whether it is new
-pub record IsFound (run : Run) (used : List Bit) (keys : List Bus) (free ask : Bit) (value : Bus) (r : Found) : Type 0 where
+pub record IsFound (run : Run) (used : List Bit) (keys : List Bus) (free ask : Bit) (value : Bus) (r : Found)
+    : Type 0 where
   pub kept : (k t : ℕ) → k < length used
       → line_of run r.kept k t ≡ kept (sought_at run used keys free ask value t) k
   pub found : (k t : ℕ) → k < length used
@@ -88,7 +89,8 @@ pub record AddsNexts (old new : Net) (takes : List Bit) (value : Bus) (keys : Li
       else held_of run keys k (suc t))
 
 -- what the slots make of the key
-pub record IsSeek (run : Run) (used : List Bit) (keys : List Bus) (free ask : Bit) (value : Bus) (r : Seek) : Type 0 where
+pub record IsSeek (run : Run) (used : List Bit) (keys : List Bus) (free ask : Bit) (value : Bus) (r : Seek)
+    : Type 0 where
   pub has : (k t : ℕ) → k < length used
       → line_of run r.has k t ≡ has (length used) (sought_at run used keys free ask value t) k
   pub matches : (k t : ℕ) → k < length used
@@ -114,7 +116,8 @@ pub record AddsSeek (old new : Net) (used : List Bit) (keys : List Bus) (free as
   pub law : (run : Run) → IsRun new run → IsSeek run used keys free ask value r
 
 -- n slots beside the lines that tell which ones are used
-pub record AreKeyLines (run : Run) (n : ℕ) (used : List Bit) (free ask : Bit) (value : Bus) (r : KeyLines) : Type 0 where
+pub record AreKeyLines (run : Run) (n : ℕ) (used : List Bit) (free ask : Bit) (value : Bus) (r : KeyLines)
+    : Type 0 where
   pub key : (k t : ℕ) → k < n
       → held_of run r.keys k (suc t)
       ≡ (if takes n (sought_at run used r.keys free ask value t) k then held_at 0 run value t

@@ -43,7 +43,8 @@ tail_of c p = (c.end && c.valid) || (idle_of c p && p.held)
 
 -- whether a slot takes the row that came last
 abbrev pub valid_of : ℕ → Cycle → Values → ℕ → Bool
-valid_of count c p k = matches count (sought_of c p) k && ((end_of count c p k && tail_of c p) || (c.valid && not c.end))
+valid_of count c p k =
+    matches count (sought_of c p) k && ((end_of count c p k && tail_of c p) || (c.valid && not c.end))
 
 -- one cycle; the key that is looked for is that of the row that came last
 pub record Steps (count stride : ℕ) (key : Row → ℕ) (c : Cycle) (p q : Values) : Type 0 where

@@ -1,4 +1,5 @@
--- A module that is driven through the cycles of a file: what stands around it, what a cycle shows, and where it is then.
+-- A module that is driven through the cycles of a file: what stands around it, what a cycle shows, and where it then
+-- is.
 use Rattle.std.specs.Prelude.{◌≡◌, ℕ, ◌+◌, ◌≤◌, ◌^◌, Bool, false, List, [], Some, None, map, length, if◌then◌else◌}
 use Rattle.std.specs.List.{AllByRecursion}
 use Rattle.gl_bits.specs.declared.kind.Kind.{Kind}

@@ -23,7 +23,9 @@ use std::alloc::Global;
 /// One row with the end of each stream of each slot: these aggregates side by side, over columns of these kinds.
 #[derive(Clone, Copy)]
 pub struct Table<'a> {
+    /// The kinds of the columns that come.
     pub kinds: &'a [Kind],
+    /// The aggregates, of which there is at least one.
     pub aggs: &'a [PlanAgg],
 }
 

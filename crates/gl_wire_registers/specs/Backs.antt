@@ -60,7 +60,8 @@ pub record JoinsCopies (old new : Net) (ws : List Wire) (close : Bit) (columns :
   pub keeps : Keeps old new
   pub wire : IsWire new w
   pub same_widths : widths w.columns ≡ columns
-  pub cost : Costs old new (with_registers (nodes_of_merge (length ws) (length columns) + length columns + 2) (sum columns + 2))
+  pub cost : Costs old new (with_registers (nodes_of_merge (length ws) (length columns) + length columns + 2)
+      (sum columns + 2))
   pub delayed : (run : Run) → IsRun new run
       → IsDelayed 1 (record { tuple = tuple_of_any (carried_of run ws) (length ws); ends = line_at run close })
       (carried run w)
