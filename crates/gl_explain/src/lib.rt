@@ -1,7 +1,7 @@
 //! A statement and its plan as text: the canonical text of the statement, a line for each node with its
 //! words and its figures, and the root.
 //!
-//! It works for every accepted statement, whether its circuit can be built or not.
+//! It works for every accepted statement.
 #![tactic(auto)]
 
 pub mod explaining;

@@ -1,6 +1,6 @@
-//! From a query to a netlist with the ports of an emitted module.
+//! From a plan to a netlist with the ports of an emitted module.
 //!
-//! Here belong the names of ports and the blocks that make a query's netlist. What a netlist's runs
+//! Here belong the names of ports and the blocks that make a plan's netlist. What a netlist's runs
 //! are stands in `gl_net`, what is right for a query in `gl_schema`; no text is written here.
 #![tactic(auto)]
 
