@@ -57,7 +57,7 @@ fn put_source(alloc: Global, net: &mut NetBuilder, first: u8, second: u8) -> Res
 }
 
 /// An operator behind columns of these two kinds.
-pub fn circuit_of<O: Operator>(
+pub(crate) fn circuit_of<O: Operator>(
     alloc: Global,
     first: Kind,
     second: Kind,
@@ -79,7 +79,12 @@ pub fn circuit_of<O: Operator>(
 
 /// A table behind columns of these two kinds, and the slot as its last column. Of the first column, which has three bits, the highest tells
 /// where streams begin, and the others whose they are.
-pub fn table_of(alloc: Global, first: Kind, second: Kind, table: &Table) -> Result<Circuit, Memory>
+pub(crate) fn table_of(
+    alloc: Global,
+    first: Kind,
+    second: Kind,
+    table: &Table,
+) -> Result<Circuit, Memory>
     requires first { IsKind first }
     requires bits { width_of first ≡ 3 }
     requires second { IsKind second }
@@ -104,7 +109,7 @@ pub fn table_of(alloc: Global, first: Kind, second: Kind, table: &Table) -> Resu
 }
 
 /// The first column by the second, of these widths; `ready` is the valid line, and the end line is the stream's own.
-pub fn divider_of(alloc: Global, first: u8, second: u8) -> Result<Circuit, Memory>
+pub(crate) fn divider_of(alloc: Global, first: u8, second: u8) -> Result<Circuit, Memory>
     requires first { IsWidth first }
     requires second { IsWidth second }
 {
@@ -129,7 +134,12 @@ pub fn divider_of(alloc: Global, first: u8, second: u8) -> Result<Circuit, Memor
 }
 
 /// The columns, of these widths, so many cycles later.
-pub fn padded_of(alloc: Global, first: u8, second: u8, cycles: u32) -> Result<Circuit, Memory>
+pub(crate) fn padded_of(
+    alloc: Global,
+    first: u8,
+    second: u8,
+    cycles: u32,
+) -> Result<Circuit, Memory>
     requires first { IsWidth first }
     requires second { IsWidth second }
 {
@@ -144,7 +154,12 @@ pub fn padded_of(alloc: Global, first: u8, second: u8, cycles: u32) -> Result<Ci
 }
 
 /// A union of columns of these widths with themselves, whose sides have these figures.
-pub fn union_of(alloc: Global, first: u8, second: u8, side: Figures) -> Result<Circuit, Memory>
+pub(crate) fn union_of(
+    alloc: Global,
+    first: u8,
+    second: u8,
+    side: Figures,
+) -> Result<Circuit, Memory>
     requires first { IsWidth first }
     requires second { IsWidth second }
     requires sound { IsSound side }

@@ -21,7 +21,7 @@ use std::alloc::Global;
 const NONE: Operand = Operand::Column(u16::MAX);
 
 /// Two kinds.
-pub fn kinds_of(text: &str) -> [Kind; 2] {
+pub(crate) fn kinds_of(text: &str) -> [Kind; 2] {
     let (first, second) = text.trim().split_once(' ').unwrap_or((text, ""));
     [kind_of(first), kind_of(second)]
 }
@@ -244,7 +244,11 @@ fn divided(alloc: Global, kinds: [Kind; 2]) -> Result<Option<Circuit>, Memory> {
 }
 
 /// A block behind columns of these kinds; None where it is none, or does not fit them.
-pub fn block_of(alloc: Global, kinds: [Kind; 2], text: &str) -> Result<Option<Circuit>, Memory> {
+pub(crate) fn block_of(
+    alloc: Global,
+    kinds: [Kind; 2],
+    text: &str,
+) -> Result<Option<Circuit>, Memory> {
     let text = text.trim();
     let (name, items) = text.split_once(' ').unwrap_or((text, ""));
     match name {
@@ -270,7 +274,11 @@ fn kind_behind(alloc: Global, kinds: &[Kind], name: &str, word: &str) -> Result<
 }
 
 /// The kinds of the columns that a block puts out; of a quotient none.
-pub fn kinds_behind(alloc: Global, kinds: [Kind; 2], text: &str) -> Result<Vec<Kind>, Memory> {
+pub(crate) fn kinds_behind(
+    alloc: Global,
+    kinds: [Kind; 2],
+    text: &str,
+) -> Result<Vec<Kind>, Memory> {
     let text = text.trim();
     let (name, items) = text.split_once(' ').unwrap_or((text, ""));
     let mut out = Vec::new(alloc);
@@ -304,7 +312,7 @@ fn beat_of(kinds: [Kind; 2], text: &str) -> Beat {
 }
 
 /// Beats of columns of these kinds.
-pub fn beats_of(alloc: Global, kinds: [Kind; 2], text: &str) -> Result<Vec<Beat>, Memory> {
+pub(crate) fn beats_of(alloc: Global, kinds: [Kind; 2], text: &str) -> Result<Vec<Beat>, Memory> {
     let mut beats = Vec::new(alloc);
     for word in text.split_whitespace() {
         beats.push(beat_of(kinds, word))?;

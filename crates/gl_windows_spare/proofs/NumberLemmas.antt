@@ -19,7 +19,7 @@ spares_rotate r f sound_f sound closing rows step is =
       record {
         rows = rows;
         step = step;
-        some' = omega (arith, suits.turns_some, suits.enough);
+        a_copy = omega (arith, suits.turns_some, suits.enough);
         sound = sound;
         closing = closing;
         timed = omega (arith, soon, turns, sound.tuples_last, sound.end_last);

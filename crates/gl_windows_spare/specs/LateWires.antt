@@ -8,6 +8,7 @@ use Rattle.gl_wire.specs.Wire.{IsWire, carried, widths}
 use Rattle.gl_wire_registers.specs.Held.{with_registers}
 use Rattle.gl_windows_spare.specs.LateEnds.{IsLate, IsQuiet}
 
+-- a wire with late ends more
 pub record AddsLate (old new : Net) (shift : ℕ) (source late : Wire) : Type 0 where
   pub keeps : Keeps old new
   pub cost : Costs old new (with_registers (length (widths source.columns) * 3 + 27) (sum (widths source.columns) + 34))

@@ -37,7 +37,7 @@ turns_in r = copies_of_window r.size r.advance
 pub record IsRotation (r : SpareRotation) : Type 0 where
   pub rows : 1 ≤ r.size
   pub step : 1 ≤ r.advance
-  pub some' : 1 ≤ r.spare.copies
+  pub a_copy : 1 ≤ r.spare.copies
   pub sound : IsSound r.body
   pub closing : r.body.nt ≡ 0
   pub timed : flush_of (turns_in r) r.body < 2 ^ 32
