@@ -7,7 +7,8 @@ use Rattle.gl_algebra.specs.FigureTable.{figures_of}
 use Rattle.gl_algebra.specs.Laws.{NodesFollowTables, EarlierNodesAreKept}
 use Rattle.gl_algebra.specs.Nodewise.{named_by}
 use Rattle.gl_algebra.specs.Shapes.{Shape, shape_of}
-use Rattle.gl_algebra.specs.Cost.{lean_from, lean_of, store_from, store_of}
+use Rattle.gl_algebra.specs.Cost.{keys_from, keys_of, lean_from, lean_of, store_from, store_of}
+use Rattle.gl_algebra.specs.Direct.{Form, copied, form_from, form_of}
 use Rattle.gl_algebra.specs.Weights.{weight_from, weight_of, copies_from, copies_of}
 use Rattle.std.proofs.lemmas.Option.{slice_get_within}
 use Rattle.gl_algebra.proofs.FigureLemmas.{figures-node, figures-kept}
@@ -43,31 +44,55 @@ copies_local v w (Beside left right) h = rw (h.0, h.1.0)
 copies_local v w (Window source body size advance) h = rw (h.0, h.1.0)
 copies_local v w (Group source body key groups) h = rw (h.0, h.1.0)
 
-lean_local : (s : ℕ → Shape) (f : ℕ → Figures) (v w : ℕ → ℕ) (node : PlanNode) → Agree v w (named_by node)
-    → lean_from s f v node ≡ lean_from s f w node
-lean_local s f v w (Stream number kinds) h = refl
-lean_local s f v w (Body kinds) h = refl
-lean_local s f v w (Compute child ops) h = rw h.0
-lean_local s f v w (Select child column) h = rw h.0
-lean_local s f v w (Project child items) h = rw h.0
-lean_local s f v w (Aggregate child aggs) h = rw h.0
-lean_local s f v w (Union left right) h = rw (h.0, h.1.0)
-lean_local s f v w (Beside left right) h = rw (h.0, h.1.0)
-lean_local s f v w (Window source body size advance) h = rw (h.0, h.1.0)
-lean_local s f v w (Group source body key groups) h = rw (h.0, h.1.0)
+lean_local : (s : ℕ → Shape) (f : ℕ → Figures) (o : ℕ → Form) (v w : ℕ → ℕ) (node : PlanNode) → Agree v w (named_by node)
+    → lean_from s f o v node ≡ lean_from s f o w node
+lean_local s f o v w (Stream number kinds) h = refl
+lean_local s f o v w (Body kinds) h = refl
+lean_local s f o v w (Compute child ops) h = rw h.0
+lean_local s f o v w (Select child column) h = rw h.0
+lean_local s f o v w (Project child items) h = rw h.0
+lean_local s f o v w (Aggregate child aggs) h = rw h.0
+lean_local s f o v w (Union left right) h = rw (h.0, h.1.0)
+lean_local s f o v w (Beside left right) h = rw (h.0, h.1.0)
+lean_local s f o v w (Window source body size advance) h = rw (h.0, h.1.0)
+lean_local s f o v w (Group source body key groups) h = rw (h.0, h.1.0)
 
-store_local : (s : ℕ → Shape) (f : ℕ → Figures) (v w : ℕ → ℕ) (node : PlanNode) → Agree v w (named_by node)
-    → store_from s f v node ≡ store_from s f w node
-store_local s f v w (Stream number kinds) h = refl
-store_local s f v w (Body kinds) h = refl
-store_local s f v w (Compute child ops) h = rw h.0
-store_local s f v w (Select child column) h = rw h.0
-store_local s f v w (Project child items) h = rw h.0
-store_local s f v w (Aggregate child aggs) h = rw h.0
-store_local s f v w (Union left right) h = rw (h.0, h.1.0)
-store_local s f v w (Beside left right) h = rw (h.0, h.1.0)
-store_local s f v w (Window source body size advance) h = rw (h.0, h.1.0)
-store_local s f v w (Group source body key groups) h = rw (h.0, h.1.0)
+form_local : (s : ℕ → Shape) (v w : ℕ → Form) (node : PlanNode) → Agree v w (named_by node) → form_from s v node ≡ form_from s w node
+form_local s v w (Stream number kinds) h = refl
+form_local s v w (Body kinds) h = refl
+form_local s v w (Compute child ops) h = rw h.0
+form_local s v w (Select child column) h = rw h.0
+form_local s v w (Project child items) h = rw h.0
+form_local s v w (Aggregate child aggs) h = rw h.0
+form_local s v w (Union left right) h = refl
+form_local s v w (Beside left right) h = refl
+form_local s v w (Window source body size advance) h = refl
+form_local s v w (Group source body key groups) h = refl
+
+keys_local : (s : ℕ → Shape) (o : ℕ → Form) (v w : ℕ → ℕ) (node : PlanNode) → Agree v w (named_by node) → keys_from s o v node ≡ keys_from s o w node
+keys_local s o v w (Stream number kinds) h = refl
+keys_local s o v w (Body kinds) h = refl
+keys_local s o v w (Compute child ops) h = rw h.0
+keys_local s o v w (Select child column) h = rw h.0
+keys_local s o v w (Project child items) h = rw h.0
+keys_local s o v w (Aggregate child aggs) h = rw h.0
+keys_local s o v w (Union left right) h = rw (h.0, h.1.0)
+keys_local s o v w (Beside left right) h = rw (h.0, h.1.0)
+keys_local s o v w (Window source body size advance) h = rw (h.0, h.1.0)
+keys_local s o v w (Group source body key groups) h = rw (h.0, h.1.0)
+
+store_local : (s : ℕ → Shape) (f : ℕ → Figures) (o : ℕ → Form) (v w : ℕ → ℕ) (node : PlanNode) → Agree v w (named_by node)
+    → store_from s f o v node ≡ store_from s f o w node
+store_local s f o v w (Stream number kinds) h = refl
+store_local s f o v w (Body kinds) h = refl
+store_local s f o v w (Compute child ops) h = rw h.0
+store_local s f o v w (Select child column) h = rw h.0
+store_local s f o v w (Project child items) h = rw h.0
+store_local s f o v w (Aggregate child aggs) h = rw h.0
+store_local s f o v w (Union left right) h = rw (h.0, h.1.0)
+store_local s f o v w (Beside left right) h = rw (h.0, h.1.0)
+store_local s f o v w (Window source body size advance) h = rw (h.0, h.1.0)
+store_local s f o v w (Group source body key groups) h = rw (h.0, h.1.0)
 
 module _ (nodes : List PlanNode) (limit : ℕ) (order : AreInOrder nodes limit) (number : ℕ) (node : PlanNode)
     (below : number < limit) (is : slice_get nodes number ≡ Some node) where
@@ -84,17 +109,29 @@ module _ (nodes : List PlanNode) (limit : ℕ) (order : AreInOrder nodes limit) 
   copies-node =
       nodewise-node copies_from 0 nodes limit order (λ at x in_limit was v w same. copies_local v w x same) number node below is
 
-  pub lean-node : lean_of nodes number ≡ lean_from (shape_of nodes) (figures_of nodes) (lean_of nodes) node
+  pub lean-node : lean_of nodes number ≡ lean_from (shape_of nodes) (figures_of nodes) (form_of nodes) (lean_of nodes) node
   unfolding lean_of
   lean-node =
-      nodewise-node (lean_from (shape_of nodes) (figures_of nodes)) 0 nodes limit order
-      (λ at x in_limit was v w same. lean_local (shape_of nodes) (figures_of nodes) v w x same) number node below is
+      nodewise-node (lean_from (shape_of nodes) (figures_of nodes) (form_of nodes)) 0 nodes limit order
+      (λ at x in_limit was v w same. lean_local (shape_of nodes) (figures_of nodes) (form_of nodes) v w x same) number node below is
 
-  pub store-node : store_of nodes number ≡ store_from (shape_of nodes) (figures_of nodes) (store_of nodes) node
+  pub form-node : form_of nodes number ≡ form_from (shape_of nodes) (form_of nodes) node
+  unfolding form_of
+  form-node =
+      nodewise-node (form_from (shape_of nodes)) copied nodes limit order (λ at x in_limit was v w same. form_local (shape_of nodes) v w x same)
+      number node below is
+
+  pub keys-node : keys_of nodes number ≡ keys_from (shape_of nodes) (form_of nodes) (keys_of nodes) node
+  unfolding keys_of
+  keys-node =
+      nodewise-node (keys_from (shape_of nodes) (form_of nodes)) 0 nodes limit order
+      (λ at x in_limit was v w same. keys_local (shape_of nodes) (form_of nodes) v w x same) number node below is
+
+  pub store-node : store_of nodes number ≡ store_from (shape_of nodes) (figures_of nodes) (form_of nodes) (store_of nodes) node
   unfolding store_of
   store-node =
-      nodewise-node (store_from (shape_of nodes) (figures_of nodes)) 0 nodes limit order
-      (λ at x in_limit was v w same. store_local (shape_of nodes) (figures_of nodes) v w x same) number node below is
+      nodewise-node (store_from (shape_of nodes) (figures_of nodes) (form_of nodes)) 0 nodes limit order
+      (λ at x in_limit was v w same. store_local (shape_of nodes) (figures_of nodes) (form_of nodes) v w x same) number node below is
 
 pub nodes_follow_tables : NodesFollowTables
 nodes_follow_tables nodes number node plan is =
@@ -106,7 +143,9 @@ nodes_follow_tables nodes number node plan is =
       figures = figures-node nodes (length nodes) order number node within is;
       weight = weight-node nodes (length nodes) order number node within is;
       copies = copies-node nodes (length nodes) order number node within is;
+      form = form-node nodes (length nodes) order number node within is;
       lean = lean-node nodes (length nodes) order number node within is;
+      keys = keys-node nodes (length nodes) order number node within is;
       store = store-node nodes (length nodes) order number node within is;
       results = λ inputs out spill. (moved _ _ meaning inputs out spill, moved _ _ (sym meaning) inputs out spill);
     }

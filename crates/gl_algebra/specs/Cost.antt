@@ -1,13 +1,17 @@
--- What bounds the register bits and the memory bits of a plan's circuit, where queues are rings in memories.
+-- What bounds the register bits and the memory bits of a plan's circuit, where queues are rings in memories, and so are
+-- the states of a group's slots where its body is direct.
 use Rattle.std.specs.Prelude.{ℕ, zero, suc, ◌+◌, ◌*◌, ◌^◌, List, nat_le, if◌then◌else◌}
+use Rattle.gl_bits.specs.Kinds.{width_of}
 use Rattle.gl_algebra.specs.declared.figures.Figures.{Figures}
 use Rattle.gl_algebra.specs.declared.node.PlanNode.{PlanNode}
-use Rattle.gl_algebra.specs.declared.node.PlanNode.TheVariants.{Union}
+use Rattle.gl_algebra.specs.declared.node.PlanNode.TheVariants.{Union, Group}
+use Rattle.gl_algebra.specs.Columns.{kind_of_column}
+use Rattle.gl_algebra.specs.Direct.{Form, copied, rowwise, totalling, form_of}
 use Rattle.gl_algebra.specs.FigureTable.{figures_of, needs_spacer}
 use Rattle.gl_algebra.specs.Nodewise.{nodewise}
 use Rattle.gl_algebra.specs.Shapes.{Shape, shape_of, shape_from}
 use Rattle.gl_algebra.specs.Views.{copies_in, of_body}
-use Rattle.gl_algebra.specs.Weights.{lines_of, own_part, pad_of, part_of_spacer, sum_over_children}
+use Rattle.gl_algebra.specs.Weights.{lines_of, own_part, pad_of, part_of_spacer, sum_over_children, weight_of_copies}
 
 -- the least exponent, of so many from this one on, whose power of two is at least a depth
 abbrev pub least_exponent : ℕ → ℕ → ℕ → ℕ
@@ -23,41 +27,83 @@ ring depth = 2 ^ least_exponent depth 1 depth
 abbrev pub lean_of_spacer : ℕ → Figures → ℕ → ℕ
 lean_of_spacer gap f lines = if needs_spacer gap f then 8 * lines else 0
 
--- a node's own part in registers, from those of bodies: its weight, but for queues
-abbrev pub own_lean : (ℕ → Shape) → (ℕ → Figures) → (ℕ → ℕ) → ℕ → PlanNode → ℕ
-own_lean shapes figures leans lines (Union left right) = 4 * lines * (pad_of (figures left) (figures right) + 4)
-own_lean shapes figures leans lines node = own_part lean_of_spacer shapes figures leans lines node
+-- those of so many groups over a body that counts so much, between lines of a source and own ones: a direct body stands
+-- once, and a table of its totals behind it
+abbrev pub lean_of_groups : Form → ℕ → ℕ → ℕ → ℕ → ℕ
+lean_of_groups copied groups body source own = weight_of_copies groups body source own
+lean_of_groups rowwise groups body source own = weight_of_copies groups body source own
+lean_of_groups (totalling many delay) groups body source own = body + 4 * (source + own + 8) + 4 * (many * delay)
 
-abbrev pub lean_from : (ℕ → Shape) → (ℕ → Figures) → (ℕ → ℕ) → PlanNode → ℕ
-lean_from shapes figures leans node =
-    sum_over_children leans node + own_lean shapes figures leans (lines_of (shape_from shapes node)) node
+-- a node's own part in registers, from those of bodies: its weight, but for queues and groups over direct bodies
+abbrev pub own_lean : (ℕ → Shape) → (ℕ → Figures) → (ℕ → Form) → (ℕ → ℕ) → ℕ → PlanNode → ℕ
+own_lean shapes figures forms leans lines (Union left right) =
+    4 * lines * (pad_of (figures left) (figures right) + 4)
+own_lean shapes figures forms leans lines (Group source body key groups) =
+    lean_of_groups (forms body) groups (leans body) (lines_of (shapes source)) lines
+    + part_of_spacer lean_of_spacer shapes figures (Group source body key groups)
+own_lean shapes figures forms leans lines node = own_part lean_of_spacer shapes figures leans lines node
 
--- what bounds a node's registers
+abbrev pub lean_from : (ℕ → Shape) → (ℕ → Figures) → (ℕ → Form) → (ℕ → ℕ) → PlanNode → ℕ
+lean_from shapes figures forms leans node =
+    sum_over_children leans node + own_lean shapes figures forms leans (lines_of (shape_from shapes node)) node
+
+-- what bounds a node's registers, 64 bits for each
 unfoldable pub lean_of : List PlanNode → ℕ → ℕ
-lean_of nodes = nodewise (lean_from (shape_of nodes) (figures_of nodes)) 0 nodes
+lean_of nodes = nodewise (lean_from (shape_of nodes) (figures_of nodes) (form_of nodes)) 0 nodes
+
+-- the bits of keys of so many groups over a body that has so many: over a direct body, for each slot, the key, of this
+-- width, whether it is used, and whether its stream is open
+abbrev pub keys_of_groups : Form → ℕ → ℕ → ℕ → ℕ
+keys_of_groups copied groups body width = groups * body
+keys_of_groups rowwise groups body width = groups * body
+keys_of_groups (totalling many delay) groups body width = groups * (width + 2)
+
+-- a node's own bits of keys, from those of bodies
+abbrev pub own_keys : (ℕ → Shape) → (ℕ → Form) → (ℕ → ℕ) → PlanNode → ℕ
+own_keys shapes forms keys (Group source body key groups) =
+    keys_of_groups (forms body) groups (keys body) (width_of (kind_of_column (shapes source).kinds key))
+own_keys shapes forms keys node = copies_in node * of_body keys node
+
+abbrev pub keys_from : (ℕ → Shape) → (ℕ → Form) → (ℕ → ℕ) → PlanNode → ℕ
+keys_from shapes forms keys node = sum_over_children keys node + own_keys shapes forms keys node
+
+-- the bits of the keys of all groups over direct bodies in a node
+unfoldable pub keys_of : List PlanNode → ℕ → ℕ
+keys_of nodes = nodewise (keys_from (shape_of nodes) (form_of nodes)) 0 nodes
 
 -- the ring of the spacer before a body of this gap, where one stands
 abbrev pub store_of_spacer : ℕ → Figures → ℕ → ℕ
 store_of_spacer gap f lines = if needs_spacer gap f then 64 * lines * ring (f.ne + 1) else 0
 
+-- the memories of so many groups over a body that has so much: over a direct body a state of each aggregate for each
+-- slot
+abbrev pub store_of_groups : Form → ℕ → ℕ → ℕ
+store_of_groups copied groups body = groups * body
+store_of_groups rowwise groups body = groups * body
+store_of_groups (totalling many delay) groups body = 128 * (many * ring groups)
+
 -- a node's own part in memories, from those of bodies
-abbrev pub own_store : (ℕ → Shape) → (ℕ → Figures) → (ℕ → ℕ) → ℕ → PlanNode → ℕ
-own_store shapes figures stores lines (Union left right) =
+abbrev pub own_store : (ℕ → Shape) → (ℕ → Figures) → (ℕ → Form) → (ℕ → ℕ) → ℕ → PlanNode → ℕ
+own_store shapes figures forms stores lines (Union left right) =
     64 * lines * (ring (figures left).ne + ring (figures right).ne)
-own_store shapes figures stores lines node =
+own_store shapes figures forms stores lines (Group source body key groups) =
+    store_of_groups (forms body) groups (stores body)
+    + part_of_spacer store_of_spacer shapes figures (Group source body key groups)
+own_store shapes figures forms stores lines node =
     copies_in node * of_body stores node + part_of_spacer store_of_spacer shapes figures node
 
-abbrev pub store_from : (ℕ → Shape) → (ℕ → Figures) → (ℕ → ℕ) → PlanNode → ℕ
-store_from shapes figures stores node =
-    sum_over_children stores node + own_store shapes figures stores (lines_of (shape_from shapes node)) node
+abbrev pub store_from : (ℕ → Shape) → (ℕ → Figures) → (ℕ → Form) → (ℕ → ℕ) → PlanNode → ℕ
+store_from shapes figures forms stores node =
+    sum_over_children stores node + own_store shapes figures forms stores (lines_of (shape_from shapes node)) node
 
 -- the memory bits of a node
 unfoldable pub store_of : List PlanNode → ℕ → ℕ
-store_of nodes = nodewise (store_from (shape_of nodes) (figures_of nodes)) 0 nodes
+store_of nodes = nodewise (store_from (shape_of nodes) (figures_of nodes) (form_of nodes)) 0 nodes
 
 -- the most register bits, and the most memory bits, of the circuit of a plan
 abbrev pub most_registers : List PlanNode → ℕ → ℕ
-most_registers nodes root = 64 * (lean_of nodes root + 8 * (lines_of (shape_of nodes root) + 8))
+most_registers nodes root =
+    64 * (lean_of nodes root + 8 * (lines_of (shape_of nodes root) + 8)) + keys_of nodes root
 
 abbrev pub most_memory : List PlanNode → ℕ → ℕ
 most_memory nodes root = store_of nodes root

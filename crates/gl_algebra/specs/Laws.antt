@@ -12,7 +12,8 @@ use Rattle.gl_algebra.specs.Nodewise.{named_by, nodewise}
 use Rattle.gl_bits.specs.Results.{Row, AreSame}
 use Rattle.gl_algebra.specs.Results.{Inputs, meaning_from, IsPlanResult}
 use Rattle.gl_algebra.specs.Shapes.{Shape, kinds_of, Pace, unsteady, once, with_stream, with_body, shape_from, shape_of, is_closing}
-use Rattle.gl_algebra.specs.Cost.{lean_from, lean_of, store_from, store_of}
+use Rattle.gl_algebra.specs.Cost.{keys_from, keys_of, lean_from, lean_of, store_from, store_of}
+use Rattle.gl_algebra.specs.Direct.{form_from, form_of}
 use Rattle.gl_algebra.specs.Weights.{weight_from, weight_of, copies_from, copies_of}
 
 -- each row of the table gives sound figures from sound ones
@@ -97,8 +98,12 @@ pub record FollowsTables (nodes : List PlanNode) (number : ℕ) (node : PlanNode
   pub figures : figures_of nodes number ≡ figures_from (shape_of nodes) (figures_of nodes) node
   pub weight : weight_of nodes number ≡ weight_from (shape_of nodes) (figures_of nodes) (weight_of nodes) node
   pub copies : copies_of nodes number ≡ copies_from (copies_of nodes) node
-  pub lean : lean_of nodes number ≡ lean_from (shape_of nodes) (figures_of nodes) (lean_of nodes) node
-  pub store : store_of nodes number ≡ store_from (shape_of nodes) (figures_of nodes) (store_of nodes) node
+  pub form : form_of nodes number ≡ form_from (shape_of nodes) (form_of nodes) node
+  pub lean : lean_of nodes number
+      ≡ lean_from (shape_of nodes) (figures_of nodes) (form_of nodes) (lean_of nodes) node
+  pub keys : keys_of nodes number ≡ keys_from (shape_of nodes) (form_of nodes) (keys_of nodes) node
+  pub store : store_of nodes number
+      ≡ store_from (shape_of nodes) (figures_of nodes) (form_of nodes) (store_of nodes) node
   pub results : (inputs : Inputs) (out : List Row) (spill : Bool) → IsPlanResult nodes number inputs out spill
       ↔ meaning_from (shape_of nodes) (IsPlanResult nodes) node inputs out spill
 

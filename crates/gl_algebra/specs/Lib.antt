@@ -8,6 +8,7 @@ pub mod FigureTable
 pub mod Small
 pub mod Wides
 pub mod Weights
+pub mod Direct
 pub mod Cost
 pub mod Values
 pub mod Results

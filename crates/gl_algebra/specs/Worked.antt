@@ -8,6 +8,7 @@ use Rattle.gl_algebra.specs.declared.node.ColOp.TheVariants.{Binary}
 use Rattle.gl_algebra.specs.declared.node.PlanAgg.TheVariants.{Count, Sum, Max, Avg}
 use Rattle.gl_algebra.specs.declared.node.PlanNode.{PlanNode}
 use Rattle.gl_algebra.specs.declared.node.PlanNode.TheVariants.{Stream, Body, Compute, Select, Project, Aggregate, Union, Beside, Window, Group}
+use Rattle.gl_algebra.specs.Cost.{keys_of, most_memory, most_registers}
 use Rattle.gl_algebra.specs.FigureTable.{figures_of, latency_of, gap_of}
 use Rattle.gl_algebra.specs.Weights.{weight_with_output, copies_of}
 
@@ -68,6 +69,14 @@ price_beside_sum =
 abbrev pub sums_by_symbol : List PlanNode
 sums_by_symbol = Stream 0 trade_kinds ∷ Body trade_kinds ∷ Aggregate 1 (Sum (Column 2) ∷ []) ∷ Group 0 2 0 4 ∷ []
 
+-- counts by symbol of the volumes above 10, in windows of 2 rows, of which 2 are open at once
+abbrev pub counts_by_symbol_in_windows : List PlanNode
+counts_by_symbol_in_windows =
+    Stream 0 trade_kinds ∷ Body trade_kinds
+    ∷ Compute 1 (Binary Op.Gt (Column 2) (Literal (record { bits = 10; width = 32 }) (Unsigned 32)) ∷ [])
+    ∷ Select 2 3 ∷ Project 3 (Column 0 ∷ Column 1 ∷ Column 2 ∷ []) ∷ Aggregate 4 (Count ∷ []) ∷ Group 1 5 0 4
+    ∷ Window 0 6 2 1 ∷ []
+
 -- the prices of two streams
 abbrev pub prices_of_both : List PlanNode
 prices_of_both =
@@ -95,3 +104,11 @@ pub record WorkedWeights : Type 0 where
   pub most : weight_with_output (averages_by_symbol 200) 3 ≡ 262101
   pub more : weight_with_output (averages_by_symbol 201) 3 ≡ 263410
   pub all : weight_with_output (averages_by_symbol 256) 3 ≡ 335405
+
+-- the states of 200 averages stand in a memory, and so do those of 4 sums; in two copies of groups there are two
+pub record WorkedBits : Type 0 where
+  pub registers : most_registers (averages_by_symbol 200) 3 ≡ 111632
+  pub memories : most_memory (averages_by_symbol 200) 3 ≡ 32768
+  pub sums : most_memory sums_by_symbol 3 ≡ 512
+  pub in_windows : most_memory counts_by_symbol_in_windows 7 ≡ 1024
+  pub keys : keys_of counts_by_symbol_in_windows 7 ≡ 272

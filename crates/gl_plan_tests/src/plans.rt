@@ -5,16 +5,17 @@ ghost use Rattle.gl_bits.specs.declared.kind.Kind.TheVariants.{Unsigned};
 ghost use Rattle.gl_algebra.specs.EveryNode as every;
 ghost use Rattle.gl_algebra.specs.Fits.{Fits};
 ghost use Rattle.gl_algebra.specs.Shapes.{shape_from, shape_of, HasShape, KeepsShapes};
-ghost use Rattle.gl_algebra.specs.Worked.{WorkedFigures, WorkedWeights};
+ghost use Rattle.gl_algebra.specs.Worked.{WorkedBits, WorkedFigures, WorkedWeights};
 
 use gl_algebra::*;
 use gl_bits::{Kind, Listed, Memory, Op};
 use std::alloc::{AllocError, Global};
 
-// The figures and weights of plans that were worked out by hand.
+// The figures, weights and bits of plans that were worked out by hand.
 fn worked_plans()
     ensures figures { WorkedFigures }
     ensures weights { WorkedWeights }
+    ensures bits { WorkedBits }
 {}
 
 // The kinds of one number.

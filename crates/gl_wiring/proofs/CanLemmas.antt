@@ -36,7 +36,7 @@ pub record CanPutChild (nodes : List PlanNode) (figures : List Figures) (id chil
   pub can : CanPut nodes figures child net leaves
 
 module _ (nodes : List PlanNode) (id : ℕ) (node : PlanNode) (plan : IsPlan nodes) (at : slice_get nodes id ≡ Some node) where
-  first_before : (child : ℕ) (rest : List ℕ) → named_by node ≡ child ∷ rest → child < id
+  pub first_before : (child : ℕ) (rest : List ℕ) → named_by node ≡ child ∷ rest → child < id
   first_before child rest named = All-head (λ c. c < id) child rest (subst (All (λ c. c < id)) named (plan.fits id node at).before)
 
   pub second_before : (left right : ℕ) → named_by node ≡ left ∷ right ∷ [] → right < id

@@ -30,7 +30,7 @@ use Rattle.gl_wiring.proofs.CanLemmas.{can_body, leaves_kept}
 use Rattle.gl_wiring.proofs.GivesLemmas.{gives_kept}
 
 -- a wire is the leaf of a body whose input has its columns
-body_leaves : (net : Net) (w : Wire) (kinds : List Kind) → IsWire net w → widths w.columns ≡ widths_of kinds
+pub body_leaves : (net : Net) (w : Wire) (kinds : List Kind) → IsWire net w → widths w.columns ≡ widths_of kinds
     → (leaves : List PlanNode) → All (λ leaf. leaf ≡ Body kinds) leaves → HaveLeaves net (w ∷ []) leaves
 body_leaves net w kinds is columns [] h = tt
 body_leaves net w kinds is columns (x ∷ xs) h = (

@@ -5,7 +5,7 @@ use Rattle.std.proofs.lemmas.List.{length-map}
 use Rattle.gl_bits.specs.Kinds.{IsKind, width_of}
 use Rattle.gl_bits.specs.declared.kind.Kind.{Kind}
 use Rattle.gl_algebra.specs.declared.node.PlanNode.{PlanNode}
-use Rattle.gl_algebra.specs.Cost.{lean_of, store_of}
+use Rattle.gl_algebra.specs.Cost.{keys_of, lean_of, store_of}
 use Rattle.gl_algebra.specs.Weights.{weight_of}
 use Rattle.gl_net.specs.Net.{Net}
 use Rattle.gl_wire.specs.Counted.{IsCounted}
@@ -18,7 +18,7 @@ use Rattle.gl_wiring.specs.Put.{counted}
 -- a node's circuit costs what its children cost, and its own part
 pub record IsSum (nodes : List PlanNode) (id weight lean store : ℕ) (children : Cost) : Type 0 where
   pub weight' : weight_of nodes id ≡ children.nodes + weight
-  pub lean' : 64 * lean_of nodes id ≡ children.registers + 64 * lean
+  pub lean' : 64 * lean_of nodes id + keys_of nodes id ≡ children.registers + 64 * lean
   pub store' : store_of nodes id ≡ children.memories + store
 
 -- one block behind what was put

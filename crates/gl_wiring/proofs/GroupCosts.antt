@@ -1,5 +1,5 @@
 -- What a group's parts cost is within what a plan counts for it.
-use Rattle.std.proofs.Common.{◌≡◌, ℕ, zero, suc, ◌+◌, ◌*◌, ◌<◌, ◌≤◌, List, [], ◌∷◌, length, map, refl, arith}
+use Rattle.std.proofs.Common.{◌≡◌, ℕ, zero, suc, ◌+◌, ◌*◌, ◌<◌, ◌≤◌, false, List, [], ◌∷◌, length, map, refl, ap, ◌∙◌, arith}
 use Rattle.std.specs.Prelude.{slice_index}
 use Rattle.std.specs.List.{All}
 use Rattle.std.proofs.lemmas.List.{length-map}
@@ -8,7 +8,8 @@ use Rattle.gl_bits.specs.declared.kind.Kind.{Kind}
 use Rattle.gl_algebra.specs.Columns.{kind_of_column}
 use Rattle.gl_algebra.specs.declared.node.PlanNode.{PlanNode}
 use Rattle.gl_algebra.specs.declared.node.PlanNode.TheVariants.{Group}
-use Rattle.gl_algebra.specs.Cost.{lean_of, lean_of_spacer, store_of}
+use Rattle.gl_algebra.specs.Cost.{keys_of, keys_of_groups, lean_of, lean_of_groups, lean_of_spacer, store_of, store_of_groups, store_of_spacer}
+use Rattle.gl_algebra.specs.Direct.{Form, copied, rowwise, totalling, form_of, is_direct}
 use Rattle.gl_algebra.specs.FigureTable.{figures_of, group_gap}
 use Rattle.gl_algebra.specs.Fits.{IsPlan}
 use Rattle.gl_algebra.specs.Laws.{FollowsTables}
@@ -34,12 +35,28 @@ nodes_within source body spacer front back c s o h =
     let each : c * (body + 8 * (s + o + 4)) ≡ c * body + c * (0 + 8 * (s + o + 4)) = omega arith in
     omega (arith, h, each)
 
-bits_within : (source body spacer front back c s o : ℕ) → front + back ≤ 64 * weight_of_copies c 0 s o
-    → 64 * source + 64 * spacer + front + c * (64 * body) + back ≤ 64 * (source + (weight_of_copies c body s o + spacer))
-bits_within source body spacer front back c s o h =
+bits_within : (source keys body own_keys spacer front back c s o : ℕ) → front + back ≤ 64 * weight_of_copies c 0 s o
+    → 64 * source + keys + 64 * spacer + front + c * (64 * body + own_keys) + back ≤ 64 * (source + (weight_of_copies c body s o + spacer)) + (keys + c * own_keys)
+bits_within source keys body own_keys spacer front back c s o h =
     let each : c * (body + 8 * (s + o + 4)) ≡ c * body + c * (0 + 8 * (s + o + 4)) = omega arith in
-    let bits : c * (64 * body) ≡ 64 * (c * body) = omega arith in
+    let bits : c * (64 * body + own_keys) ≡ 64 * (c * body) + c * own_keys = omega arith in
     omega (arith, h, each, bits)
+
+-- a body that is not direct has copies
+lean_copied : (form : Form) → is_direct form ≡ false → (groups body source own : ℕ) → lean_of_groups form groups body source own ≡ weight_of_copies groups body source own
+lean_copied copied h groups body source own = refl
+lean_copied rowwise h groups body source own = refl
+lean_copied (totalling many delay) h groups body source own = absurd (cc)
+
+keys_copied : (form : Form) → is_direct form ≡ false → (groups body width : ℕ) → keys_of_groups form groups body width ≡ groups * body
+keys_copied copied h groups body width = refl
+keys_copied rowwise h groups body width = refl
+keys_copied (totalling many delay) h groups body width = absurd (cc)
+
+store_copied : (form : Form) → is_direct form ≡ false → (groups body : ℕ) → store_of_groups form groups body ≡ groups * body
+store_copied copied h groups body = refl
+store_copied rowwise h groups body = refl
+store_copied (totalling many delay) h groups body = absurd (cc)
 
 -- the key has the width of its column
 pub key_width_is : (kinds : List Kind) (k : ℕ) → k < length kinds → slice_index (map width_of kinds) k ≡ width_of (kind_of_column kinds k)
@@ -49,7 +66,7 @@ key_width_is (kind ∷ kinds) (suc k) within = key_width_is kinds k (omega (arit
 
 -- all parts
 module _ (nodes : List PlanNode) (g : GroupOf) (plan : IsPlan nodes) (at : IsGroupNode nodes g) (kinds_source : All IsKind (kinds_of nodes g.source))
-    (kinds_own : All IsKind (kind_of_column (kinds_of nodes g.source) g.key ∷ kinds_of nodes g.body)) where
+    (kinds_own : All IsKind (kind_of_column (kinds_of nodes g.source) g.key ∷ kinds_of nodes g.body)) (copies : is_direct (form_of nodes g.body) ≡ false) where
   abbrev source : List ℕ
   source = widths_of (kinds_of nodes g.source)
 
@@ -83,11 +100,25 @@ module _ (nodes : List PlanNode) (g : GroupOf) (plan : IsPlan nodes) (at : IsGro
   abbrev lean_spacer : ℕ
   lean_spacer = lean_of_spacer (group_gap (figures_of nodes g.body)) (figures_of nodes g.source) (length source + 2)
 
+  abbrev lines_source : ℕ
+  lines_source = length (kinds_of nodes g.source) + 2
+
+  abbrev lean_spacer_of : ℕ
+  lean_spacer_of = lean_of_spacer (group_gap (figures_of nodes g.body)) (figures_of nodes g.source) lines_source
+
+  abbrev store_spacer_of : ℕ
+  store_spacer_of = store_of_spacer (group_gap (figures_of nodes g.body)) (figures_of nodes g.source) lines_source
+
   lean : lean_of nodes g.id ≡ lean_of nodes g.source + (lines (lean_of nodes g.body) + lean_spacer)
-  lean = rw (source_lines, own_lines) follows.lean
+  lean = rw (source_lines, own_lines) (follows.lean ∙ ap (λ n. lean_of nodes g.source + (n + lean_spacer_of))
+      (lean_copied (form_of nodes g.body) copies g.groups (lean_of nodes g.body) _ _))
+
+  keys : keys_of nodes g.id ≡ keys_of nodes g.source + g.groups * keys_of nodes g.body
+  keys = follows.keys ∙ ap (λ n. keys_of nodes g.source + n) (keys_copied (form_of nodes g.body) copies g.groups (keys_of nodes g.body) _)
 
   store : store_of nodes g.id ≡ store_of nodes g.source + (g.groups * store_of nodes g.body + spacer.memories)
-  store = rw source_lines follows.store
+  store = rw source_lines (follows.store ∙ ap (λ n. store_of nodes g.source + (n + store_spacer_of))
+      (store_copied (form_of nodes g.body) copies g.groups (store_of nodes g.body)))
 
   pub group_cost : (old mid net new : Net) → CostsAtMost old mid (cost_to_slots nodes g) → CostsAtMost mid net (times g.groups (counted nodes g.body))
       → CostsAtMost net new (cost_of_back g.groups own) → CostsAtMost old new (counted nodes g.id)
@@ -97,8 +128,8 @@ module _ (nodes : List PlanNode) (g : GroupOf) (plan : IsPlan nodes) (at : IsGro
         nodes = rw weight (at_most _ _ _ _ all.nodes
             (nodes_within (weight_of nodes g.source) (weight_of nodes g.body) spacer.nodes (cost_of_front g.groups g.key source).nodes (cost_of_back g.groups own).nodes
             g.groups (length source + 2) (length own + 2) grouping.nodes));
-        registers = rw lean (at_most _ _ _ _ all.registers
-            (bits_within (lean_of nodes g.source) (lean_of nodes g.body) lean_spacer (cost_of_front g.groups g.key source).registers
+        registers = rw (lean, keys) (at_most _ _ _ _ all.registers
+            (bits_within (lean_of nodes g.source) (keys_of nodes g.source) (lean_of nodes g.body) (keys_of nodes g.body) lean_spacer (cost_of_front g.groups g.key source).registers
             (cost_of_back g.groups own).registers g.groups (length source + 2) (length own + 2) grouping.registers));
         memories = rw store (at_most _ _ _ _ all.memories
             (stored_within (store_of nodes g.source) (g.groups * store_of nodes g.body) spacer.memories));

@@ -1,5 +1,5 @@
 -- The circuits of groups.
-use Rattle.std.proofs.Common.{◌≡◌, ℕ, ◌<◌, ◌≤◌, List, [], ◌∷◌, length, refl, sym, ap, ◌∙◌, subst, arith}
+use Rattle.std.proofs.Common.{◌≡◌, ℕ, ◌<◌, ◌≤◌, false, List, [], ◌∷◌, length, refl, sym, ap, ◌∙◌, subst, arith}
 use Rattle.std.specs.List.{All}
 use Rattle.std.proofs.lemmas.Option.{slice_get_within}
 use Rattle.std.specs.Prelude.{slice_index}
@@ -9,6 +9,7 @@ use Rattle.gl_algebra.specs.Columns.{kind_of_column}
 use Rattle.gl_algebra.specs.declared.figures.Figures.{Figures}
 use Rattle.gl_algebra.specs.declared.node.PlanNode.{PlanNode}
 use Rattle.gl_algebra.specs.declared.node.PlanNode.TheVariants.{Group}
+use Rattle.gl_algebra.specs.Direct.{form_of, is_direct}
 use Rattle.gl_algebra.specs.FigureTable.{AreSmall, IsSound, figures_of, group_gap, groups_over}
 use Rattle.gl_algebra.specs.Fits.{Fits as FitsPlan, IsPlan}
 use Rattle.gl_algebra.specs.Laws.{FollowsTables}
@@ -64,7 +65,7 @@ module _ (nodes : List PlanNode) (g : GroupOf) (plan : IsPlan nodes) (at : IsGro
   abbrev node : PlanNode
   node = Group g.source g.body g.key g.groups
 
-  fits : FitsPlan nodes g.id node
+  pub fits : FitsPlan nodes g.id node
   fits = plan.fits g.id node at
 
   pub in_source : g.source < length nodes
@@ -73,7 +74,7 @@ module _ (nodes : List PlanNode) (g : GroupOf) (plan : IsPlan nodes) (at : IsGro
   pub in_body : g.body < length nodes
   in_body = second_within nodes g.id node plan at g.source g.body refl
 
-  follows : FollowsTables nodes g.id node
+  pub follows : FollowsTables nodes g.id node
   follows = nodes_follow_tables nodes g.id node plan at
 
   abbrev s : Figures
@@ -85,7 +86,7 @@ module _ (nodes : List PlanNode) (g : GroupOf) (plan : IsPlan nodes) (at : IsGro
   abbrev h : Figures
   h = group_whole nodes g
 
-  sound_body : IsSound s
+  pub sound_body : IsSound s
   sound_body = figures_are_sound nodes g.body plan in_body
 
   pub source_is_sound : IsSound (figures_of nodes g.source)
@@ -98,10 +99,10 @@ module _ (nodes : List PlanNode) (g : GroupOf) (plan : IsPlan nodes) (at : IsGro
   pub source_is_narrow : (net : Net) (e : Emitted) → HasColumns nodes g.source net e → AreNarrow (widths e.wire.columns)
   source_is_narrow net e has = rw has.same_widths (narrow_kinds (kinds_of nodes g.source) (columns_have_kinds nodes g.source plan in_source))
 
-  sound_source : IsSound f
+  pub sound_source : IsSound f
   sound_source = spaced_sound (group_gap s) (figures_of nodes g.source) source_is_sound
 
-  room : LeavesRoom (group_gap s) f h
+  pub room : LeavesRoom (group_gap s) f h
   room = room_for g.groups f s sound_body
 
   -- the numbers of its circuit
@@ -158,8 +159,8 @@ module _ (nodes : List PlanNode) (g : GroupOf) (plan : IsPlan nodes) (at : IsGro
   -- the back behind the copies
   pub back_put : (old mid net new : Net) (leaves : List Wire) (front : Fronted) (copies : List Emitted) (e : Emitted) → IsGroupFront nodes g old mid leaves front
       → AreBodies nodes g.body mid net front.wires (length front.wires) copies → IsBacked net new (grouping_of nodes g) front copies e
-      → IsPut nodes g.id old new leaves e
-  back_put old mid net new leaves front copies e fr bodies b =
+      → is_direct (form_of nodes g.body) ≡ false → IsPut nodes g.id old new leaves e
+  back_put old mid net new leaves front copies e fr bodies b copied =
       let many : length front.wires ≡ g.groups = fr.fronts.as_many in
       let are : AreBodies nodes g.body mid net front.wires g.groups copies =
       subst (λ (n : ℕ). AreBodies nodes g.body mid net front.wires n copies) many bodies in
@@ -170,7 +171,7 @@ module _ (nodes : List PlanNode) (g : GroupOf) (plan : IsPlan nodes) (at : IsGro
         keeps = keeps_then old mid new fr.keeps (keeps_then mid net new are.keeps b.keeps);
         cost = group_cost nodes g plan at (columns_have_kinds nodes g.source plan in_source)
             (subst (λ (x : Shape). All IsKind x.kinds) follows.shape (columns_have_kinds nodes g.id plan (slice_get_within nodes g.id node at)))
-            old mid net new fr.cost are.cost rear;
+            copied old mid net new fr.cost are.cost rear;
         gives = rw (follows.shape, follows.figures) (record {
           wire = b.wire;
           same_widths = b.same_widths ∙ own;

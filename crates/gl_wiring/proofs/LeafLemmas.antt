@@ -52,7 +52,7 @@ at_once leaf = record {
 }
 
 -- the leaf's wire is the one that is asked for
-leaf_wire : (net : Net) (leaves : List Wire) (node : PlanNode) (w : Wire) → HasLeaf net leaves node → slice_get leaves (leaf_place node) ≡ Some w
+pub leaf_wire : (net : Net) (leaves : List Wire) (node : PlanNode) (w : Wire) → HasLeaf net leaves node → slice_get leaves (leaf_place node) ≡ Some w
     → IsWire net w × (widths w.columns ≡ widths_of (leaf_kinds node))
 leaf_wire net leaves node w h at = let same : h.wire ≡ w = let z = h.there in cc in
     (subst (IsWire net) same h.is, subst (λ (x : Wire). widths x.columns ≡ widths_of (leaf_kinds node)) same h.same_widths)

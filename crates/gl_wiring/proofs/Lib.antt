@@ -25,6 +25,12 @@ pub mod GivesLemmas
 pub mod LeafLemmas
 pub mod PairLemmas
 pub mod RowLemmas
+pub mod StepLemmas
+pub mod FormLemmas
+pub mod BodyTables
+pub mod LaneCosts
+pub mod LaneLemmas
+pub mod LaneRowLemmas
 pub mod SideLemmas
 pub mod SpacedLemmas
 pub mod TotalCosts

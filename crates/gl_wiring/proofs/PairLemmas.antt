@@ -68,7 +68,7 @@ module _ (nodes : List PlanNode) (id : ℕ) (old mid net new : Net) (leaves : Li
       record {
         keeps = keeps_then old mid new h.keeps (keeps_then mid net new h'.keeps b.keeps);
         cost = cost_behind nodes id _ _ _ old net new (both_costs (counted nodes left) (counted nodes right)) _
-            (record { weight' = rw n follows.weight; lean' = rw n (omega (arith, follows.lean)); store' = rw n follows.store })
+            (record { weight' = rw n follows.weight; lean' = rw n (omega (arith, follows.lean, follows.keys)); store' = rw n follows.store })
             (costs_then old mid net (counted nodes left) (counted nodes right) h.cost h'.cost) cost
             (unions_are_counted (shape_of nodes) (figures_of nodes) left right (widths_of kinds) (narrow_kinds kinds (columns_have_kinds nodes left plan within)));
         gives = rw (follows.shape, follows.figures) (behind2 (shape_of nodes left) (shape_of nodes right) _ p q (union_figures p q)
@@ -107,7 +107,7 @@ module _ (nodes : List PlanNode) (id : ℕ) (old mid net new : Net) (leaves : Li
       record {
         keeps = keeps_then old mid new h.keeps (keeps_then mid net new h'.keeps b.keeps);
         cost = cost_behind nodes id _ _ _ old net new (both_costs (counted nodes left) (counted nodes right)) _
-            (record { weight' = rw n follows.weight; lean' = rw n (omega (arith, follows.lean)); store' = follows.store })
+            (record { weight' = rw n follows.weight; lean' = rw n (omega (arith, follows.lean, follows.keys)); store' = follows.store })
             (costs_then old mid net (counted nodes left) (counted nodes right) h.cost h'.cost) cost
             (joiners_are_counted (shape_of nodes) (figures_of nodes) left right (widths_of kinds) (narrow_kinds kinds own));
         gives = rw (follows.shape, follows.figures) (behind2 (shape_of nodes left) (shape_of nodes right) _ p q (beside_figures p q)

@@ -45,12 +45,12 @@ use Rattle.gl_wiring.proofs.GivesLemmas.{behind}
 use Rattle.gl_wiring.proofs.TotalCosts.{aggs_counted}
 
 -- a step that drops nothing
-mapped_all : (f : Row → Row) (xs : List Row) → filter_map (λ row. Some (f row)) xs ≡ map f xs
+pub mapped_all : (f : Row → Row) (xs : List Row) → filter_map (λ row. Some (f row)) xs ≡ map f xs
 mapped_all f [] = refl
 mapped_all f (x ∷ xs) = ap (λ (l : List Row). f x ∷ l) (mapped_all f xs)
 
 -- the rows whose column is 1
-kept_rows : (column : ℕ) (xs : List Row) → filter_map (keep_where column) xs ≡ selected column xs
+pub kept_rows : (column : ℕ) (xs : List Row) → filter_map (keep_where column) xs ≡ selected column xs
 kept_rows column [] = refl
 kept_rows column (x ∷ xs) = by (nat_eq (slice_index x column) 1) (kept_rows column xs)
   where
@@ -82,7 +82,7 @@ module _ (nodes : List PlanNode) (id : ℕ) (old mid new : Net) (leaves : List W
       record {
         keeps = keeps_then old mid new h.keeps b.keeps;
         cost = cost_behind nodes id _ _ _ old mid new (counted nodes child) _
-            (record { weight' = follows.weight; lean' = omega (arith, follows.lean); store' = follows.store })
+            (record { weight' = follows.weight; lean' = omega (arith, follows.lean, follows.keys); store' = follows.store })
             h.cost b.cost (rows_counted (kinds ++ map (kind_of_op kinds) ops) (length ops) own);
         gives = rw (follows.shape, follows.figures) (behind (shape_of nodes child) _ f (settled (delayed 1 f)) (IsPlanResult nodes child)
             (IsPlanResult nodes id) mid new leaves below e _ _ _ (Mapped step)
@@ -104,7 +104,7 @@ module _ (nodes : List PlanNode) (id : ℕ) (old mid new : Net) (leaves : List W
       record {
         keeps = keeps_then old mid new h.keeps b.keeps;
         cost = cost_behind nodes id _ _ _ old mid new (counted nodes child) _
-            (record { weight' = follows.weight; lean' = omega (arith, follows.lean); store' = follows.store })
+            (record { weight' = follows.weight; lean' = omega (arith, follows.lean, follows.keys); store' = follows.store })
             h.cost b.cost (selected_counted kinds (columns_have_kinds nodes child plan within));
         gives = rw (follows.shape, follows.figures) (behind (shape_of nodes child) _ f (settled (delayed 1 f)) (IsPlanResult nodes child)
             (IsPlanResult nodes id) mid new leaves below e _ _ _ (Mapped (keep_where column))
@@ -128,7 +128,7 @@ module _ (nodes : List PlanNode) (id : ℕ) (old mid new : Net) (leaves : List W
       record {
         keeps = keeps_then old mid new h.keeps b.keeps;
         cost = cost_behind nodes id _ _ _ old mid new (counted nodes child) _
-            (record { weight' = follows.weight; lean' = omega (arith, follows.lean); store' = follows.store })
+            (record { weight' = follows.weight; lean' = omega (arith, follows.lean, follows.keys); store' = follows.store })
             h.cost b.cost (items_counted (map (kind_of_operand kinds) items));
         gives = rw (follows.shape, follows.figures) (behind (shape_of nodes child) _ f (settled f) (IsPlanResult nodes child)
             (IsPlanResult nodes id) mid new leaves below e _ _ _ (Mapped step)
@@ -154,7 +154,7 @@ module _ (nodes : List PlanNode) (id : ℕ) (old mid new : Net) (leaves : List W
       record {
         keeps = keeps_then old mid new h.keeps b.keeps;
         cost = cost_behind nodes id _ _ _ old mid new (counted nodes child) _
-            (record { weight' = follows.weight; lean' = omega (arith, follows.lean); store' = follows.store })
+            (record { weight' = follows.weight; lean' = omega (arith, follows.lean, follows.keys); store' = follows.store })
             h.cost b.cost (aggs_counted kinds (columns_have_kinds nodes child plan within) aggs suits);
         gives = rw (follows.shape, follows.figures) (behind (shape_of nodes child) _ f (aggregate_figures m f) (IsPlanResult nodes child)
             (IsPlanResult nodes id) mid new leaves below e _ _ _ (Totalled (total_row kinds aggs))

@@ -13,7 +13,7 @@ use Rattle.gl_algebra.specs.declared.node.Operand.TheVariants.{Column, Literal}
 use Rattle.gl_algebra.specs.declared.node.PlanAgg.{PlanAgg}
 use Rattle.gl_algebra.specs.declared.node.PlanAgg.TheVariants.{Count, Sum, Min, Max, Avg, Wsum}
 use Rattle.gl_algebra.specs.Columns.{AggFits, OperandFits, bit_kind, kind_of_agg, kind_of_operand}
-use Rattle.gl_algebra.specs.FigureTable.{delay_of_aggs}
+use Rattle.gl_algebra.specs.FigureTable.{delay_of_agg, delay_of_aggs}
 use Rattle.gl_algebra.specs.Weights.{weight_of_agg}
 use Rattle.gl_wire.specs.Counted.{IsCounted}
 use Rattle.gl_totals.specs.Costs.{cost_of_aggs, state_of_agg}
@@ -30,6 +30,24 @@ module _ (kinds : List Kind) (are : All IsKind kinds) where
   agg_within (Max operand) h = operand_within operand h
   agg_within (Avg operand) h = operand_within operand h.0
   agg_within (Wsum operand weights) h = operand_within operand h.0
+
+  delay_within_agg : (agg : PlanAgg) → AggFits kinds agg → delay_of_agg kinds agg ≤ 98
+  delay_within_agg Count h = omega arith
+  delay_within_agg (Sum operand) h = omega arith
+  delay_within_agg (Min operand) h = omega arith
+  delay_within_agg (Max operand) h = omega arith
+  delay_within_agg (Avg operand) h = let w = operand_within operand h.0 in omega (arith, w)
+  delay_within_agg (Wsum operand weights) h = omega arith
+
+  -- an average of 64 bits is the slowest aggregate
+  pub delays_within : (aggs : List PlanAgg) → All (AggFits kinds) aggs → delay_of_aggs kinds aggs ≤ 98
+  delays_within [] h = omega arith
+  delays_within (agg ∷ aggs) h =
+      omega (arith, delay_within_agg agg (All-head (AggFits kinds) agg aggs h), delays_within aggs (All-tail (AggFits kinds) agg aggs h))
+
+  pub delay_some : (aggs : List PlanAgg) → 1 ≤ delay_of_aggs kinds aggs
+  delay_some [] = omega arith
+  delay_some (agg ∷ aggs) = omega (arith, delay_some aggs)
 
   -- the divider of an average: a stage for each digit
   divider_within : (w : ℕ) → w ≤ 64 → (w + 32) + 32 + ((w + 32) + 32 + 1 + (w + 32) * ((w + 32) + 2 * 32 + 1)) ≤ 64 * (16 * (w + 34))

@@ -5,7 +5,7 @@ use Rattle.gl_bits.specs.Kinds.{IsKind, width_of}
 use Rattle.std.specs.List.{All}
 use Rattle.gl_algebra.specs.declared.node.PlanNode.{PlanNode}
 use Rattle.gl_algebra.specs.declared.node.PlanNode.TheVariants.{Window}
-use Rattle.gl_algebra.specs.Cost.{lean_of, lean_of_spacer, store_of}
+use Rattle.gl_algebra.specs.Cost.{keys_of, lean_of, lean_of_spacer, store_of}
 use Rattle.gl_algebra.specs.FigureTable.{figures_of, window_gap}
 use Rattle.gl_algebra.specs.Fits.{IsPlan}
 use Rattle.gl_algebra.specs.Views.{copies_of_window}
@@ -33,11 +33,11 @@ nodes_within source body spacer front back c s o a h =
     let each : c * (body + 8 * (s + o + 4)) ≡ c * body + c * (0 + 8 * (s + o + 4)) = omega arith in
     omega (arith, h, each)
 
-bits_within : (source body spacer front back c s o a : ℕ) → front + back ≤ 64 * (weight_of_copies c 0 s o + 4 * a)
-    → 64 * source + 64 * spacer + front + c * (64 * body) + back ≤ 64 * (source + (weight_of_copies c body s o + 4 * a + spacer))
-bits_within source body spacer front back c s o a h =
+bits_within : (source keys body own spacer front back c s o a : ℕ) → front + back ≤ 64 * (weight_of_copies c 0 s o + 4 * a)
+    → 64 * source + keys + 64 * spacer + front + c * (64 * body + own) + back ≤ 64 * (source + (weight_of_copies c body s o + 4 * a + spacer)) + (keys + c * own)
+bits_within source keys body own spacer front back c s o a h =
     let each : c * (body + 8 * (s + o + 4)) ≡ c * body + c * (0 + 8 * (s + o + 4)) = omega arith in
-    let bits : c * (64 * body) ≡ 64 * (c * body) = omega arith in
+    let bits : c * (64 * body + own) ≡ 64 * (c * body) + c * own = omega arith in
     omega (arith, h, each, bits)
 
 -- all parts
@@ -84,6 +84,9 @@ module _ (nodes : List PlanNode) (w : WindowOf) (plan : IsPlan nodes) (at : IsWi
   lean : lean_of nodes w.id ≡ lean_of nodes w.source + (lines (lean_of nodes w.body) + 4 * delay + lean_spacer)
   lean = rw (source_lines, own_lines) follows.lean
 
+  keys : keys_of nodes w.id ≡ keys_of nodes w.source + count * keys_of nodes w.body
+  keys = follows.keys
+
   store : store_of nodes w.id ≡ store_of nodes w.source + (count * store_of nodes w.body + spacer.memories)
   store = rw source_lines follows.store
 
@@ -95,8 +98,8 @@ module _ (nodes : List PlanNode) (w : WindowOf) (plan : IsPlan nodes) (at : IsWi
         nodes = rw weight (at_most _ _ _ _ all.nodes
             (nodes_within (weight_of nodes w.source) (weight_of nodes w.body) spacer.nodes (cost_of_front count delay source).nodes (cost_of_back count own).nodes
             count (length source + 2) (length own + 2) delay rotation.nodes));
-        registers = rw lean (at_most _ _ _ _ all.registers
-            (bits_within (lean_of nodes w.source) (lean_of nodes w.body) lean_spacer (cost_of_front count delay source).registers
+        registers = rw (lean, keys) (at_most _ _ _ _ all.registers
+            (bits_within (lean_of nodes w.source) (keys_of nodes w.source) (lean_of nodes w.body) (keys_of nodes w.body) lean_spacer (cost_of_front count delay source).registers
             (cost_of_back count own).registers count (length source + 2) (length own + 2) delay rotation.registers));
         memories = rw store (at_most _ _ _ _ all.memories
             (stored_within (store_of nodes w.source) (count * store_of nodes w.body) spacer.memories));

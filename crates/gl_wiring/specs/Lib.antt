@@ -11,4 +11,6 @@ pub mod Copies
 pub mod Groups
 pub mod Leaves
 pub mod Put
+pub mod Lanes
+pub mod LaneGroups
 pub mod Windows

@@ -1,9 +1,9 @@
 -- What the circuit of a plan's node is: its wire gives the node's results over all beats that are spaced by the node's
 -- figures.
-use Rattle.std.specs.Prelude.{◌≡◌, ℕ, ◌*◌, ◌<◌, List, length}
+use Rattle.std.specs.Prelude.{◌≡◌, ℕ, ◌+◌, ◌*◌, ◌<◌, List, length}
 use Rattle.gl_algebra.specs.declared.figures.Figures.{Figures}
 use Rattle.gl_algebra.specs.declared.node.PlanNode.{PlanNode}
-use Rattle.gl_algebra.specs.Cost.{lean_of, store_of}
+use Rattle.gl_algebra.specs.Cost.{keys_of, lean_of, store_of}
 use Rattle.gl_algebra.specs.FigureTable.{figures_of}
 use Rattle.gl_algebra.specs.Results.{Meaning, IsPlanResult}
 use Rattle.gl_algebra.specs.Shapes.{Shape, kinds_of, shape_of}
@@ -22,8 +22,11 @@ use Rattle.gl_wiring.specs.Leaves.{HaveLeaves, LeavesFit, leaf, widths_of}
 
 -- what a plan counts for the circuit of a node: nodes, bits of registers, bits of memories
 abbrev pub counted : List PlanNode → ℕ → Cost
-counted nodes id =
-    record { nodes = weight_of nodes id; registers = 64 * lean_of nodes id; memories = store_of nodes id }
+counted nodes id = record {
+  nodes = weight_of nodes id;
+  registers = 64 * lean_of nodes id + keys_of nodes id;
+  memories = store_of nodes id;
+}
 
 -- a node can be put: the figures are those of all nodes, and each of its leaves has a wire
 pub record CanPut (nodes : List PlanNode) (figures : List Figures) (id : ℕ) (net : Net) (leaves : List Wire)

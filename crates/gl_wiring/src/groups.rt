@@ -1,6 +1,7 @@
 //! Groups: the source, the front, and the back behind the copies of the body.
 
-ghost use Rattle.std.specs.Prelude.{◌≡◌, List, IfOk, length};
+ghost use Rattle.std.specs.Prelude.{◌≡◌, List, IfOk, length, false};
+ghost use Rattle.gl_algebra.specs.Direct.{form_of, is_direct};
 ghost use Rattle.gl_algebra.specs.Small.{AreFigures};
 ghost use Rattle.gl_net.specs.Net.{Net};
 ghost use Rattle.gl_groups.specs.Grouped.{Fronts};
@@ -36,7 +37,7 @@ pub struct GroupOf {
 
 impl GroupOf {
     // The numbers of its circuit.
-    fn grouping(&self, plan: &Plan, figures: &[Figures]) -> Grouping
+    pub(crate) fn grouping(&self, plan: &Plan, figures: &[Figures]) -> Grouping
         requires node { IsGroupNode plan.now self.now }
         requires figures { AreFigures plan.now figures.now }
         ensures value { result ≡ grouping_of plan.now self.now }
@@ -93,6 +94,7 @@ impl GroupOf {
         requires front { Fronts net.old (grouping_of plan.now self.now) front.now }
         requires copies { AreCopies net.old copies.now }
         requires count { length copies.now ≡ self.now.groups }
+        requires copied { is_direct (form_of plan.now self.now.body) ≡ false }
         ensures { (old mid : Net) (leaves : List WireOf)
             → IsGroupFront plan.now self.now old mid leaves front.now
             → AreBehindSlots plan.now self.now.body mid net.old front.now copies.now

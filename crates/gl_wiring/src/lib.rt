@@ -5,13 +5,16 @@
 #![tactic(auto)]
 
 mod arms;
+mod direct;
 pub mod groups;
+pub mod lanes;
 mod leaves;
 pub mod names;
 mod output;
 pub mod parts;
 pub mod plan;
 pub mod put;
+pub mod rows;
 pub mod windows;
 
 pub use names::{ResultNames, in_column_name, in_valid_name};

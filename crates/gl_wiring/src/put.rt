@@ -1,6 +1,7 @@
 //! The circuit of a node.
 
-ghost use Rattle.std.specs.Prelude.{IfOk, length};
+ghost use Rattle.std.specs.Prelude.{◌≡◌, IfOk, length, true};
+ghost use Rattle.gl_algebra.specs.Direct.{form_of, is_direct};
 ghost use Rattle.gl_wiring.specs.Put.{CanPut, IsPut};
 ghost use Rattle.gl_wiring.specs.Groups.{IsGroupNode};
 ghost use Rattle.gl_wiring.specs.Windows.{IsWindow};
@@ -9,7 +10,9 @@ ghost use Rattle.gl_wiring.specs.Copies.{AreBodies, CanCopy, IsOverCopies};
 use crate::arms::{
     aggregate_node, beside_node, compute_node, leaf_of, project_node, select_node, union_node,
 };
+use crate::direct::is_direct;
 use crate::groups::GroupOf;
+use crate::lanes::put_table;
 use crate::windows::{Copies, WindowOf};
 use gl_algebra::{Figures, Plan, PlanId, PlanNode};
 use gl_bits::Memory;
@@ -157,7 +160,7 @@ fn put_window(
     window.back(alloc, net, plan, figures, &front, copies.as_slice())
 }
 
-// Adds the circuit of a group in the same way.
+// Adds the circuit of a group in the same way, or, where its body is direct, on a lane.
 #[cycle(put)]
 #[tactic(auto, using(crate::proofs::CanLemmas::put_columns))]
 fn put_group(
@@ -173,6 +176,9 @@ fn put_group(
     ensures { IfOk result (λ e. IsPut plan.now group.id net.old net.new leaves.now e) }
 {
     let _ = plan.len();
+    if is_direct(plan, group.body) {
+        return put_on_lane(alloc, net, plan, figures, group, leaves);
+    }
     let below = put_node(alloc, net, plan, figures, group.source, leaves)?;
     let front = group.front(alloc, net, plan, figures, below)?;
     let copies = put_copies(
@@ -184,6 +190,30 @@ fn put_group(
         front.wires.as_slice(),
     )?;
     group.back(alloc, net, plan, figures, &front, copies.as_slice())
+}
+
+// Adds the circuit of a group whose body is direct: its source, one lane for all slots, the body once, and the keys in front of its totals.
+#[cycle(put)]
+#[tactic(auto, using(crate::proofs::CanLemmas::put_columns))]
+fn put_on_lane(
+    alloc: Global,
+    net: &mut NetBuilder,
+    plan: &Plan,
+    figures: &[Figures],
+    group: GroupOf,
+    leaves: &[Wire],
+) -> Result<Emitted, Memory>
+    requires node { IsGroupNode plan.now group }
+    requires can { CanPut plan.now figures.now group.id net.old leaves.now }
+    requires direct { is_direct (form_of plan.now group.body) ≡ true }
+    ensures { IfOk result (λ e. IsPut plan.now group.id net.old net.new leaves.now e) }
+{
+    let _ = plan.len();
+    let below = put_node(alloc, net, plan, figures, group.source, leaves)?;
+    let laned = group.lane(alloc, net, plan, figures, below)?;
+    let place = laned.place();
+    let out = put_table(alloc, net, plan, group.body, &laned.lane.wire, place)?;
+    group.gathered(alloc, net, plan, figures, &laned, &out)
 }
 
 // Adds a body's circuit behind each of these wires.

@@ -1,4 +1,6 @@
 use Rattle.std.proofs.Common.{refl}
+use Rattle.gl_algebra.specs.Cost.{keys_of, lean_of, ring, store_of}
+use Rattle.gl_algebra.specs.Direct.{form_of}
 use Rattle.gl_algebra.specs.FigureTable.{figures_of}
 use Rattle.gl_algebra.specs.Nodewise.{nodewise, value_to_depth}
 use Rattle.gl_algebra.specs.Shapes.{shape_of}
@@ -22,3 +24,7 @@ returns-clause-figures c = record {
 pub returns-clause-weights : goal.returns-clause-weights
 unfolding figures_of shape_of weight_of nodewise value_to_depth
 returns-clause-weights c = record { most = refl; more = refl; all = refl }
+
+pub returns-clause-bits : goal.returns-clause-bits
+unfolding figures_of shape_of form_of lean_of keys_of store_of ring nodewise value_to_depth
+returns-clause-bits c = record { registers = refl; memories = refl; sums = refl; in_windows = refl; keys = refl }

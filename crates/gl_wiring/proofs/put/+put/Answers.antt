@@ -5,9 +5,10 @@ use Rattle.gl_groups.proofs.GroupedNet.{fronts_kept as slots_kept}
 use Rattle.gl_windows.proofs.RotationNet.{fronts_kept}
 use Rattle.gl_wiring.specs.Groups.{grouping_of}
 use Rattle.gl_wiring.specs.Windows.{rotation_of}
-use Rattle.gl_wiring.proofs.CanLemmas.{can_child, can_left, can_right, columns_kept, put_columns, second_before}
+use Rattle.gl_wiring.proofs.CanLemmas.{can_child, can_left, can_right, columns_kept, put_columns, second_before, second_within}
 use Rattle.gl_wiring.proofs.CopyLemmas.{bodies_copies, bodies_more, bodies_none, can_copy}
 use Rattle.gl_wiring.proofs.GroupLemmas.{group_copies}
+use Rattle.gl_wiring.proofs.LaneLemmas.{few_slots, lane_leaves, lane_there, some_slots}
 use Rattle.gl_wiring.proofs.WindowLemmas.{window_copies}
 use Rattle.gl_wiring.proofs.LeafLemmas.{body_put, body_there, stream_put, stream_there}
 use Rattle.gl_wiring.proofs.put.+put.Goals as goal
@@ -139,6 +140,68 @@ put_window-returns t c =
 
 pub put_over-put_group-requires : goal.put_over-put_group-requires
 put_over-put_group-requires t c = (omega arith, (c.node.ensures.node ∙ ap Some c.in-Group.is, c.requires.can))
+
+pub put_group-is_direct-requires : goal.put_group-is_direct-requires
+put_group-is_direct-requires t c =
+    let g = c.args.group in
+    second_within c.args.plan.now g.id (Group g.source g.body g.key g.groups) c.len.ensures.plan c.requires.node g.source g.body refl
+
+pub put_group-put_on_lane-requires : goal.put_group-put_on_lane-requires
+put_group-put_on_lane-requires t c =
+    (omega arith, (c.requires.node, (c.requires.can, sym c.is_direct.ensures ∙ c.if-is_direct.true)))
+
+pub put_group-back-requires-clause-copied : goal.put_group-back-requires-clause-copied
+put_group-back-requires-clause-copied t c = sym c.is_direct.ensures ∙ c.if-is_direct.false
+
+pub put_on_lane-put_node-requires : goal.put_on_lane-put_node-requires
+put_on_lane-put_node-requires t c =
+    let g = c.args.group in
+    let d = can_child c.args.plan.now c.args.figures.now g.id (Group g.source g.body g.key g.groups) c.args.net.now c.args.leaves.now
+    c.len.ensures.plan c.requires.node c.requires.can g.source (g.body ∷ []) refl refl in
+    (omega (arith, d.before), d.can)
+
+pub put_on_lane-put_table-requires-clause-within : goal.put_on_lane-put_table-requires-clause-within
+put_on_lane-put_table-requires-clause-within t c =
+    let g = c.args.group in
+    second_within c.args.plan.now g.id (Group g.source g.body g.key g.groups) c.len.ensures.plan c.requires.node g.source g.body refl
+
+pub put_on_lane-put_table-requires-clause-leaves : goal.put_on_lane-put_table-requires-clause-leaves
+put_on_lane-put_table-requires-clause-leaves t c =
+    lane_leaves c.args.plan.now c.args.group c.len.ensures.plan c.requires.node c.args.net.now c.lane.new.net c.args.leaves.now c.in_ok-laned.laned
+    (c.in_ok-laned.ensures c.args.net.now c.args.leaves.now c.in_ok-below.ensures)
+
+pub put_on_lane-put_table-requires-clause-slot : goal.put_on_lane-put_table-requires-clause-slot
+put_on_lane-put_table-requires-clause-slot t c =
+    rw c.place-place.ensures (c.in_ok-laned.ensures c.args.net.now c.args.leaves.now c.in_ok-below.ensures).lane.slot
+
+pub put_on_lane-put_table-requires-clause-bits : goal.put_on_lane-put_table-requires-clause-bits
+put_on_lane-put_table-requires-clause-bits t c =
+    rw c.place-place.ensures (some_slots c.args.plan.now c.args.group c.len.ensures.plan c.requires.node c.args.net.now c.lane.new.net c.args.leaves.now
+    c.in_ok-laned.laned (c.in_ok-laned.ensures c.args.net.now c.args.leaves.now c.in_ok-below.ensures))
+
+pub put_on_lane-put_table-requires-clause-few : goal.put_on_lane-put_table-requires-clause-few
+put_on_lane-put_table-requires-clause-few t c =
+    rw c.place-place.ensures (few_slots c.args.plan.now c.args.group c.len.ensures.plan c.requires.node c.args.net.now c.lane.new.net c.args.leaves.now
+    c.in_ok-laned.laned (c.in_ok-laned.ensures c.args.net.now c.args.leaves.now c.in_ok-below.ensures))
+
+pub put_on_lane-put_table-requires-clause-first : goal.put_on_lane-put_table-requires-clause-first
+put_on_lane-put_table-requires-clause-first t c =
+    rw c.place-place.ensures (c.in_ok-laned.ensures c.args.net.now c.args.leaves.now c.in_ok-below.ensures).lane.first
+
+pub put_on_lane-gathered-requires-clause-lane : goal.put_on_lane-gathered-requires-clause-lane
+put_on_lane-gathered-requires-clause-lane t c =
+    lane_there c.args.plan.now c.args.group c.len.ensures.plan c.requires.node c.args.net.now c.lane.new.net c.put_table.new.net c.args.leaves.now
+    c.in_ok-laned.laned c.in_ok-out.ensures.keeps (c.in_ok-laned.ensures c.args.net.now c.args.leaves.now c.in_ok-below.ensures)
+
+pub put_on_lane-gathered-requires-clause-slot_width : goal.put_on_lane-gathered-requires-clause-slot_width
+put_on_lane-gathered-requires-clause-slot_width t c =
+    c.in_ok-out.ensures.slot_width ∙ ap (λ p. p.slot.width) c.place-place.ensures
+    ∙ (c.in_ok-laned.ensures c.args.net.now c.args.leaves.now c.in_ok-below.ensures).lane.slot_width
+
+pub put_on_lane-returns : goal.put_on_lane-returns
+put_on_lane-returns t c =
+    c.gathered.ensures c.args.net.now c.lane.new.net c.args.leaves.now (c.in_ok-laned.ensures c.args.net.now c.args.leaves.now c.in_ok-below.ensures)
+    c.requires.direct (rw c.place-place.ensures at c.in_ok-out.ensures)
 
 pub put_group-put_node-requires : goal.put_group-put_node-requires
 put_group-put_node-requires t c =

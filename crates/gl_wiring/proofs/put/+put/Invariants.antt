@@ -14,6 +14,9 @@ decreases-put_window l = 4 * l.window.id + 1
 abbrev pub decreases-put_group : goal.decreases-put_group
 decreases-put_group l = 4 * l.group.id + 1
 
+abbrev pub decreases-put_on_lane : goal.decreases-put_on_lane
+decreases-put_on_lane l = 4 * l.group.id
+
 abbrev pub decreases-put_copies : goal.decreases-put_copies
 decreases-put_copies l = 4 * l.body + 4
 

@@ -1,0 +1,367 @@
+-- The circuits of groups over direct bodies.
+use Rattle.std.proofs.Common.{◌≡◌, ℕ, zero, suc, ◌+◌, ◌-◌, ◌*◌, ◌<◌, ◌≤◌, ◌^◌, inl, inr, List, [], ◌∷◌, length, Option, Some, None, Bool, true, false, ◌||◌, refl, sym, ap, ◌∙◌, subst, arith, eq-eqb}
+use Rattle.std.specs.Prelude.{◌&&◌, if◌then◌else◌, nat_eq, nat_le, slice_get, slice_index}
+use Rattle.std.specs.List.{All, sum}
+use Rattle.std.proofs.lemmas.Bool.{cases_lt, eqb-true, le-leb}
+use Rattle.std.proofs.lemmas.List.{length-map}
+use Rattle.std.proofs.lemmas.List.Sums.{sum_by-cons}
+use Rattle.std.proofs.lemmas.Option.{slice_get_within}
+use Rattle.gl_bits.proofs.Bools.{and_left, and_right, or_right}
+use Rattle.gl_bits.specs.Kinds.{IsKind, width_of}
+use Rattle.gl_bits.specs.Results.{Row}
+use Rattle.gl_bits.specs.declared.kind.Kind.{Kind}
+use Rattle.gl_algebra.specs.declared.figures.Figures.{Figures}
+use Rattle.gl_algebra.specs.declared.node.PlanNode.{PlanNode}
+use Rattle.gl_algebra.specs.declared.node.PlanNode.TheVariants.{Aggregate}
+use Rattle.gl_algebra.specs.Columns.{kind_of_agg, kind_of_column}
+use Rattle.gl_algebra.specs.Cost.{least_exponent}
+use Rattle.gl_algebra.specs.Direct.{form_of, is_direct}
+use Rattle.gl_algebra.specs.FigureTable.{delay_of_aggs, figures_of, group_gap, groups_over, stride_of}
+use Rattle.gl_algebra.specs.Fits.{IsPlan}
+use Rattle.gl_algebra.specs.Laws.{FollowsTables}
+use Rattle.gl_algebra.specs.Results.{Inputs, IsPlanResult, given}
+use Rattle.gl_algebra.specs.Shapes.{Shape, kinds_of, shape_of}
+use Rattle.gl_algebra.proofs.KindLemmas.{columns_have_kinds}
+use Rattle.gl_algebra.proofs.ReadLemmas.{body_reads}
+use Rattle.gl_algebra.proofs.TableLemmas.{nodes_follow_tables}
+use Rattle.gl_net.specs.declared.node.Bus.{Bus}
+use Rattle.gl_net.specs.Net.{Net, Run, IsRun, Keeps}
+use Rattle.gl_net.proofs.Determined.{keeps_then}
+use Rattle.gl_groups.specs.declared.laning.Lane.{Lane}
+use Rattle.gl_groups.specs.Groupings.{AreKeys, OfGroups, key_of, line_of_further}
+use Rattle.gl_groups.specs.Joins.{width_of_keys}
+use Rattle.gl_groups.specs.Laned.{IsGathered, IsLaned, bits_of_slots, cost_of_lane}
+use Rattle.gl_groups.specs.LaneLaws as laws
+use Rattle.gl_groups.specs.SlotLines.{held_of}
+use Rattle.gl_groups.specs.Slots.{AreSlots, came_further}
+use Rattle.gl_groups.proofs.GroupLemmas.{groups_then}
+use Rattle.gl_groups.proofs.LaneServes.{lanes_serve}
+use Rattle.gl_wire.specs.declared.emitted.Emitted.{Emitted}
+use Rattle.gl_wire.specs.declared.emitted.Faults.{Faults}
+use Rattle.gl_wire.specs.declared.wire.Wire.{Wire}
+use Rattle.gl_wire.specs.Apart.{Carries}
+use Rattle.gl_wire.specs.Beats.{Beats, Spaced}
+use Rattle.gl_wire.specs.Costs.{Costs, CostsAtMost}
+use Rattle.gl_wire.specs.Faults.{AreBoth, lines_of}
+use Rattle.gl_wire.specs.Serves.{Fits}
+use Rattle.gl_wire.specs.Serving.{inputs_at}
+use Rattle.gl_wire.specs.Spills.{Lines, SameLines, ServedWithLines, both_lines, no_lines}
+use Rattle.gl_wire.specs.Wire.{carried, line_at, row_at, widths}
+use Rattle.gl_wire.proofs.ColumnLemmas.{bit_kept, bus_kept, wire_kept}
+use Rattle.gl_wire.proofs.DelayLemmas.{spaced_closer}
+use Rattle.gl_wire.proofs.FaultLemmas.{lines_kept}
+use Rattle.gl_wire.proofs.ServingLemmas.{serving_as, serving_lines}
+use Rattle.gl_wire.proofs.StageLemmas.{line_first, tuple_by}
+use Rattle.gl_wire_copies.specs.Bodies.{OfBody, alone}
+use Rattle.gl_wire_copies.specs.Rotates.{any_of, lines_of_all, turns_of}
+use Rattle.gl_wire_copies.specs.Timed.{Rested}
+use Rattle.gl_wire_lanes.specs.declared.table.TableOut.{TableOut}
+use Rattle.gl_wire_lanes.specs.Shares.{share, slot_of}
+use Rattle.gl_wire_registers.specs.Held.{with_registers}
+use Rattle.gl_wire_registers.specs.Timers.{IsClose}
+use Rattle.gl_wiring.specs.declared.groups.GroupOf.{GroupOf}
+use Rattle.gl_wiring.specs.declared.lanes.Laned.{Laned}
+use Rattle.gl_wiring.specs.Copies.{IsSpacedFor}
+use Rattle.gl_wiring.specs.Groups.{IsGroupNode, group_whole, grouping_of, spaced_source}
+use Rattle.gl_wiring.specs.LaneGroups.{HasLane, IsGroupLane}
+use Rattle.gl_wiring.specs.Lanes.{IsBodyTable, IsDirectBehind, cost_of_body, place_of}
+use Rattle.gl_wiring.specs.Leaves.{HaveLeaves, leaf, widths_of}
+use Rattle.gl_wiring.specs.Put.{IsPut, counted}
+use Rattle.gl_wiring.proofs.BodyLemmas.{columns_between, no_more, source_apart, source_cost, source_gives, source_keeps}
+use Rattle.gl_wiring.proofs.CanLemmas.{first_within}
+use Rattle.gl_wiring.proofs.CopyLemmas.{body_leaves}
+use Rattle.gl_wiring.proofs.FormLemmas.{IsDirect, direct_is}
+use Rattle.gl_wiring.proofs.GroupCosts.{key_width_is}
+use Rattle.gl_wiring.proofs.GroupLemmas.{fits, follows, in_body, in_source, room, sound_source}
+use Rattle.gl_wiring.proofs.LaneCosts.{lane_cost}
+use Rattle.gl_wiring.proofs.TotalCosts.{delay_some, delays_within}
+
+-- ---- the bits of a slot's number
+
+exponent_within : (more exponent slots : ℕ) → exponent ≤ 8 → slots ≤ 256 → least_exponent more exponent slots ≤ 8
+exponent_within zero e slots low few = low
+exponent_within (suc more) e slots low few = elim (cases_lt e 8) [
+  | inl l ↦ by (nat_le slots (2 ^ e)) (exponent_within more (suc e) slots (omega (arith, l)) few)
+  | inr l ↦
+      (let last : e ≡ 8 = omega (arith, l, low) in
+      let covers : nat_le slots (2 ^ e) ≡ true = ap (λ x. nat_le slots (2 ^ x)) last ∙ le-leb slots 256 few in
+      subst (λ (x : Bool). (if x then e else least_exponent more (suc e) slots) ≤ 8) (sym covers) low)
+]
+  where
+    by : (b : Bool) → least_exponent more (suc e) slots ≤ 8 → (if b then e else least_exponent more (suc e) slots) ≤ 8
+    by true rest = low
+    by false rest = rest
+
+exponent_some : (more exponent slots : ℕ) → exponent ≤ least_exponent more exponent slots
+exponent_some zero e slots = omega arith
+exponent_some (suc more) e slots = by (nat_le slots (2 ^ e)) (exponent_some more (suc e) slots)
+  where
+    by : (b : Bool) → suc e ≤ least_exponent more (suc e) slots → e ≤ (if b then e else least_exponent more (suc e) slots)
+    by true rest = omega arith
+    by false rest = omega (arith, rest)
+
+pub some_bits : (slots : ℕ) → 1 ≤ bits_of_slots slots
+some_bits slots = exponent_some slots 1 slots
+
+pub few_bits : (slots : ℕ) → slots ≤ 256 → bits_of_slots slots ≤ 8
+few_bits slots few = exponent_within slots 1 slots (omega arith) few
+
+-- ---- keys of one width
+
+keys_alike : (keys : List Bus) (w : ℕ) → ((k : ℕ) (b : Bus) → slice_get keys k ≡ Some b → b.width ≡ w) → (k : ℕ) (b : Bus) → slice_get keys k ≡ Some b → b.width ≡ width_of_keys keys
+keys_alike [] w h k b e = absurd (cc)
+keys_alike (x ∷ xs) w h k b e = h k b e ∙ sym (h 0 x refl)
+
+keys_width : (keys : List Bus) (w : ℕ) → 1 ≤ length keys → ((k : ℕ) (b : Bus) → slice_get keys k ≡ Some b → b.width ≡ w) → width_of_keys keys ≡ w
+keys_width [] w some h = absurd (omega (arith, some))
+keys_width (x ∷ xs) w some h = h 0 x refl
+
+-- ---- lines
+
+none_of : (n : ℕ) → any_of (λ k. false) n ≡ false
+none_of zero = refl
+none_of (suc n) = ap (λ b. b || false) (none_of n)
+
+-- what a group over a direct body tells is its source's lines and that of further keys
+own_lines : (count : ℕ) (before own : Lines) → SameLines (both_lines before own) (both_lines before (both_lines (lines_of_all (λ k. no_lines) count) own))
+own_lines count before own = record {
+  passed = λ c. ap (λ b. before.passed c || (b || own.passed c)) (sym (none_of count));
+  further = λ c. ap (λ b. before.further c || (b || own.further c)) (sym (none_of count));
+}
+
+same_then : (p q r : Lines) → SameLines p q → SameLines q r → SameLines p r
+same_then p q r h i = record { passed = λ c. h.passed c ∙ i.passed c; further = λ c. h.further c ∙ i.further c }
+
+-- ---- the lane
+
+module _ (nodes : List PlanNode) (g : GroupOf) (plan : IsPlan nodes) (at : IsGroupNode nodes g) where
+  abbrev s : Figures
+  s = figures_of nodes g.body
+
+  abbrev f : Figures
+  f = spaced_source nodes g
+
+  abbrev h : Figures
+  h = group_whole nodes g
+
+  -- the source spaced, and the lane behind it
+  pub lane_behind : (old mid net new : Net) (leaves : List Wire) (below between : Emitted) (l : Lane) → IsPut nodes g.source old mid leaves below
+      → IsSpacedFor mid net (group_gap s) (figures_of nodes g.source) below between → IsLaned net new (grouping_of nodes g) between.wire l
+      → IsGroupLane nodes g old new leaves (record { source = between; lane = l })
+  lane_behind old mid net new leaves below between l put sp is =
+      let gap = group_gap s in
+      let apart = room nodes g plan at in
+      let columns = columns_between nodes g.source gap h apart old mid net new leaves below between put sp is.keeps in
+      let fore : CostsAtMost net new (cost_of_lane g.groups g.key (widths_of (kinds_of nodes g.source))) =
+      subst (λ (cs : List ℕ). CostsAtMost net new (cost_of_lane g.groups g.key cs)) columns (no_more net new _ is.cost) in
+      record {
+        keeps = source_keeps nodes g.source gap h apart old mid net new leaves below between put sp is.keeps;
+        cost = source_cost nodes g.source gap h apart old mid net new leaves below between put sp is.keeps _ fore;
+        gives = source_gives nodes g.source gap h apart old mid net new leaves below between put sp is.keeps;
+        apart = source_apart nodes g.source gap h apart old mid net new leaves below between put sp is.keeps;
+        lane = is.lane;
+      }
+
+  -- it is the input of the body
+  pub lane_leaves : (old new : Net) (leaves : List Wire) (l : Laned) → IsGroupLane nodes g old new leaves l
+      → HaveLeaves new (l.lane.wire ∷ []) (shape_of nodes g.body).leaves
+  lane_leaves old new leaves l is =
+      body_leaves new l.lane.wire (kinds_of nodes g.source) is.lane.wire (is.lane.same_widths ∙ is.gives.same_widths) (shape_of nodes g.body).leaves
+      (fits nodes g plan at).suits.0.leaves
+
+  pub few_slots : (old new : Net) (leaves : List Wire) (l : Laned) → IsGroupLane nodes g old new leaves l → l.lane.slot.width ≤ 8
+  few_slots old new leaves l is = let few = few_bits g.groups (fits nodes g plan at).suits.2.most in omega (arith, is.lane.slot_width, few)
+
+  pub some_slots : (old new : Net) (leaves : List Wire) (l : Laned) → IsGroupLane nodes g old new leaves l → 1 ≤ l.lane.slot.width
+  some_slots old new leaves l is = let some = some_bits g.groups in omega (arith, is.lane.slot_width, some)
+
+  -- also once the body is put
+  pub lane_there : (old mid new : Net) (leaves : List Wire) (l : Laned) → Keeps mid new → IsGroupLane nodes g old mid leaves l → HasLane new g.groups l
+  lane_there old mid new leaves l keeps is = record {
+    close = bit_kept mid new l.lane.close keeps is.lane.close;
+    keys = record {
+      each = λ k b e. bus_kept mid new b keeps (is.lane.keys k b e).0;
+      same_width = keys_alike l.lane.keys (slice_index (widths l.source.wire.columns) g.key) (λ k b e. (is.lane.keys k b e).1);
+    };
+    keys_count = is.lane.keys_count;
+    further = bit_kept mid new l.lane.further keeps is.lane.further;
+    lines = lines_kept mid new l.source.faults keeps is.gives.lines;
+  }
+
+  -- ---- what gathers the totals of its slots
+
+  module _ (old mid net last new : Net) (leaves : List Wire) (l : Laned) (out : TableOut) (wire : Wire) (faults : Faults) (is : IsGroupLane nodes g old mid leaves l)
+      (direct : is_direct (form_of nodes g.body) ≡ true) (t : IsBodyTable nodes g.body mid net l.lane.wire (place_of l.lane) out)
+      (ga : IsGathered net last (grouping_of nodes g) l.lane out wire)
+      (both : AreBoth last new l.source.faults (record { passed = None; further = Some l.lane.further }) faults) where
+    abbrev own_kinds : List Kind
+    own_kinds = kind_of_column (kinds_of nodes g.source) g.key ∷ kinds_of nodes g.body
+
+    abbrev delay : ℕ
+    delay = delay_of_aggs (kinds_of nodes t.child) t.aggs
+
+    below : FollowsTables nodes g.body (Aggregate t.child t.aggs)
+    below = nodes_follow_tables nodes g.body (Aggregate t.child t.aggs) plan t.at
+
+    is_totals : IsDirect (form_of nodes t.child) (kinds_of nodes t.child) t.aggs
+    is_totals = direct_is (form_of nodes t.child) (kinds_of nodes t.child) t.aggs (sym (ap is_direct below.form) ∙ direct)
+
+    key : width_of_keys l.lane.keys ≡ width_of (kind_of_column (kinds_of nodes g.source) g.key)
+    key =
+        keys_width l.lane.keys (slice_index (widths l.source.wire.columns) g.key) (omega (arith, is.lane.keys_count, (fits nodes g plan at).suits.2.least))
+        (λ k b e. (is.lane.keys k b e).1)
+        ∙ ap (λ (ws : List ℕ). slice_index ws g.key) is.gives.same_widths ∙ key_width_is (kinds_of nodes g.source) g.key (fits nodes g plan at).suits.1
+
+    own : width_of_keys l.lane.keys ∷ widths out.wire.columns ≡ widths_of own_kinds
+    own = ap (λ w. w ∷ widths out.wire.columns) key ∙ ap (λ (ws : List ℕ). width_of (kind_of_column (kinds_of nodes g.source) g.key) ∷ ws) t.same_widths
+
+    many : length (widths out.wire.columns) ≡ length t.aggs
+    many = ap length t.same_widths ∙ length-map (kinds_of nodes g.body) width_of ∙ ap (λ (x : Shape). length x.kinds) below.shape
+        ∙ length-map t.aggs (kind_of_agg (kinds_of nodes t.child))
+
+    bits : width_of_keys l.lane.keys + sum (widths out.wire.columns) ≡ sum (widths_of own_kinds)
+    bits = sym (sum_by-cons (λ (w : ℕ). w) (width_of_keys l.lane.keys) (widths out.wire.columns)) ∙ ap sum own
+
+    gathered : Costs net last (with_registers (g.groups * 4 + length t.aggs + 1) (sum (widths_of own_kinds) + 2))
+    gathered = record {
+      nodes = omega (arith, ga.cost.nodes, many);
+      registers = omega (arith, ga.cost.registers, bits);
+      memories = omega (arith, ga.cost.memories);
+    }
+
+    tables : CostsAtMost mid net (cost_of_body nodes t.child t.aggs (bits_of_slots g.groups))
+    tables = subst (λ (w : ℕ). CostsAtMost mid net (cost_of_body nodes t.child t.aggs w)) is.lane.slot_width t.cost
+
+    cost : CostsAtMost old new (counted nodes g.id)
+    cost =
+        let kinds = kinds_of nodes t.child in
+        let in_child = first_within nodes g.body (Aggregate t.child t.aggs) plan t.at t.child [] refl in
+        let suits = (plan.fits g.body (Aggregate t.child t.aggs) t.at).suits in
+        lane_cost nodes g plan at (columns_have_kinds nodes g.source plan (in_source nodes g plan at))
+        (subst (λ (x : Shape). All IsKind x.kinds) (follows nodes g plan at).shape (columns_have_kinds nodes g.id plan (slice_get_within nodes g.id _ at)))
+        t.child t.aggs t.at (fits nodes g plan at).suits.2.least is_totals.some' (fits nodes g plan at).suits.1 (few_bits g.groups (fits nodes g plan at).suits.2.most)
+        (delays_within kinds (columns_have_kinds nodes t.child plan in_child) t.aggs suits) (delay_some kinds (columns_have_kinds nodes t.child plan in_child) t.aggs)
+        (below.form ∙ is_totals.is) old mid net last new is.cost tables gathered both.cost
+
+    module _ (run : Run) (r : IsRun new run) where
+      run_last : IsRun last run
+      run_last = both.keeps.runs run r
+
+      run_net : IsRun net run
+      run_net = ga.keeps.runs run run_last
+
+      run_mid : IsRun mid run
+      run_mid = t.keeps.runs run run_net
+
+      behind : IsDirectBehind t.depth delay t.step t.total (carried run l.lane.wire) (carried run out.wire) (slot_of run l.lane.slot) (slot_of run out.slot)
+      behind = t.behind run run_net (is.lane.begins run run_mid)
+
+      came : (o : Option Row) (x : Row) → o ≡ Some x → o ≡ None → ⊥
+      came o x p q = cc (p, q)
+
+      low : (e : Bool) → e ≡ true → e ≡ false → ⊥
+      low e p q = cc (p, q)
+
+      end_came : (e : Bool) (x y : Row) → (if e then Some y else None) ≡ Some x → e ≡ true
+      end_came true x y p = refl
+      end_came false x y p = absurd (cc)
+
+      -- an end that the operators give is that of a slot
+      end_within : (k c : ℕ) → behind.slot_mid c ≡ k → behind.mid.ends c ≡ true → k < g.groups
+      end_within k c of e = elim (cases_lt c t.depth) [
+        | inl lt ↦ absurd (low _ e (behind.rows.no_end c lt))
+        | inr le ↦ at_beat (c - t.depth) (omega (arith, le))
+      ]
+        where
+          at_beat : (x : ℕ) → c ≡ x + t.depth → k < g.groups
+          at_beat zero z = absurd (low _ (sym (behind.rows.ends zero) ∙ ap behind.mid.ends (sym z) ∙ e) (line_first run l.lane.wire.eos))
+          at_beat (suc x) z =
+              let ended : line_at run l.lane.wire.eos (suc x) ≡ true = sym (behind.rows.ends (suc x)) ∙ ap behind.mid.ends (sym z) ∙ e in
+              let own_slot : slot_of run l.lane.slot (suc x) ≡ k = sym (behind.slots x) ∙ ap behind.slot_mid (sym z) ∙ of in
+              let few = is.lane.within run run_mid (suc x) (or_right (line_at run l.lane.wire.valid (suc x)) (line_at run l.lane.wire.eos (suc x)) ended) in
+              omega (arith, few, own_slot)
+
+      -- and so is a row of the table
+      row_within : (c : ℕ) (x : Row) → (carried run out.wire).tuple c ≡ Some x → slot_of run out.slot c < g.groups
+      row_within c x p =
+          let k = slot_of run out.slot c in
+          let shared : (share (slot_of run out.slot) k (carried run out.wire)).tuple c ≡ Some x =
+          ap (λ z. if z then (carried run out.wire).tuple c else None) (eq-eqb k k refl) ∙ p in
+          elim (cases_lt c delay) [
+            | inl lt ↦ absurd (came _ x shared ((behind.table k).before c lt))
+            | inr le ↦
+                (let z : c ≡ (c - delay) + delay = omega (arith, le) in
+                let ended : (nat_eq (behind.slot_mid (c - delay)) k && behind.mid.ends (c - delay)) ≡ true =
+                end_came _ x _ (sym ((behind.table k).tuples (c - delay)) ∙ ap (share (slot_of run out.slot) k (carried run out.wire)).tuple (sym z) ∙ shared) in
+                end_within k (c - delay) (eqb-true (behind.slot_mid (c - delay)) k (and_left (nat_eq (behind.slot_mid (c - delay)) k) (behind.mid.ends (c - delay)) ended))
+                (and_right (nat_eq (behind.slot_mid (c - delay)) k) (behind.mid.ends (c - delay)) ended))
+          ]
+
+      abbrev d : Figures
+      d = laws.direct_figures t.depth delay
+
+      no_row : (carried run l.lane.wire).tuple 0 ≡ None
+      no_row = tuple_by run l.lane.wire.valid l.lane.wire.columns 0
+          ∙ ap (λ (b : Bool). if b then Some (row_at run 0 l.lane.wire.columns) else None) (line_first run l.lane.wire.valid)
+
+      laned : laws.Laned g.groups t.depth delay (key_of (grouping_of nodes g)) t.step t.total (carried run l.source.wire) (carried run l.lane.wire) behind.mid
+          (carried run out.wire) (carried run wire) (slot_of run l.lane.slot) behind.slot_mid (slot_of run out.slot) (held_of run l.lane.keys)
+          (line_at run l.lane.further) (line_at run l.lane.close)
+      laned =
+          let a = carried run l.source.wire in
+          record {
+            front = subst (λ (z : Figures). AreSlots g.groups (key_of (grouping_of nodes g)) (stride_of z) a (λ k. share (slot_of run l.lane.slot) k (carried run l.lane.wire)))
+                t.figures (is.lane.front run run_mid);
+            no_row = no_row;
+            no_end = line_first run l.lane.wire.eos;
+            shown = subst (λ (z : Figures). AreKeys g.groups (key_of (grouping_of nodes g)) (stride_of z) a (held_of run l.lane.keys)) t.figures (is.lane.shown run run_mid);
+            tells = subst (λ (z : Figures). ((c : ℕ) → Carries a c → Rested (g.groups * stride_of z) a c) → (c : ℕ)
+                → line_at run l.lane.further c ≡ came_further g.groups (key_of (grouping_of nodes g)) a c) t.figures (is.lane.told run run_mid);
+            rows = behind.rows;
+            slots = behind.slots;
+            table = behind.table;
+            within = row_within;
+            gathers = ga.gathers run run_last row_within;
+            closes = subst (λ (z : Figures). IsClose (z.le + turns_of g.groups z + 1) (z.le + turns_of g.groups z + 1 + 1) a.ends (line_at run l.lane.close)) t.figures
+                (is.lane.closes run run_mid);
+          }
+
+      served : (beats : Beats) → Spaced h beats → Fits f beats (carried run l.source.wire)
+          → ServedWithLines f h (OfGroups g.groups (key_of (grouping_of nodes g)) (OfBody nodes g.body))
+          (both_lines (lines_of_all (λ k. no_lines) g.groups) (line_of_further (line_at run l.lane.further))) beats (carried run l.source.wire) (carried run wire)
+      served beats spaced_beats fitting =
+          subst (λ (z : Figures). ServedWithLines f (groups_over g.groups f z) (OfGroups g.groups (key_of (grouping_of nodes g)) (OfBody nodes g.body))
+          (both_lines (lines_of_all (λ k. no_lines) g.groups) (line_of_further (line_at run l.lane.further))) beats (carried run l.source.wire) (carried run wire))
+          (sym t.figures)
+          (lanes_serve f g.groups t.depth delay (key_of (grouping_of nodes g)) t.step t.total (carried run l.source.wire) (carried run l.lane.wire) behind.mid
+          (carried run out.wire) (carried run wire) (slot_of run l.lane.slot) behind.slot_mid (slot_of run out.slot) (held_of run l.lane.keys)
+          (line_at run l.lane.further) (line_at run l.lane.close) nodes g.body (sound_source nodes g plan at) (fits nodes g plan at).suits.2.least laned t.means beats
+          (subst (λ (z : Figures). Spaced (groups_over g.groups f z) beats) t.figures spaced_beats) fitting)
+
+    pub gathered_put : IsPut nodes g.id old new leaves (record { wire = wire; faults = faults })
+    gathered_put = record {
+      keeps = keeps_then old mid new is.keeps (keeps_then mid net new t.keeps (keeps_then net last new ga.keeps both.keeps));
+      cost = cost;
+      gives = rw ((follows nodes g plan at).shape, (follows nodes g plan at).figures) (record {
+        wire = wire_kept last new wire both.keeps ga.wire;
+        same_widths = ga.same_widths ∙ own;
+        lines = both.are;
+        paced = λ run r. tt;
+        serving = λ run r beats spaced_beats has.
+            let source = is.gives.serving run (run_mid run r) beats (spaced_closer f h beats (room nodes g plan at).closer spaced_beats) has in
+            let whole = served run r beats spaced_beats source.fits in
+            let ins : ℕ → Inputs = inputs_at (leaf run leaves) (leaf run leaves 0) in
+            let further : Lines = line_of_further (line_at run l.lane.further) in
+            let told : Lines = both_lines (lines_of_all (λ k. no_lines) g.groups) further in
+            let lines : Lines = both_lines (lines_of run l.source.faults) told in
+            serving_lines h (λ t. IsPlanResult nodes g.id (ins t)) (lines_of run faults) lines beats (carried run wire)
+            (same_then (lines_of run faults) (both_lines (lines_of run l.source.faults) further) lines (both.lines run r)
+            (own_lines g.groups (lines_of run l.source.faults) further))
+            (serving_as h _ (λ t. IsPlanResult nodes g.id (ins t)) lines beats (carried run wire)
+            (λ t ys p v. ((follows nodes g plan at).results (ins t) ys p).1 v)
+            (groups_then f h (λ t. IsPlanResult nodes g.source (ins t)) g.groups (key_of (grouping_of nodes g)) (OfBody nodes g.body)
+            (λ t rows. IsPlanResult nodes g.body (given (ins t) rows))
+            (λ t rows zs q y. body_reads nodes g.body plan (in_body nodes g plan at) (kinds_of nodes g.source) (fits nodes g plan at).suits.0.leaves (alone rows) (given (ins t) rows) refl zs q y)
+            (lines_of run l.source.faults) told beats (carried run l.source.wire) (carried run wire) source whole));
+      });
+    }

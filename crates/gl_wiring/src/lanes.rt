@@ -1,0 +1,147 @@
+//! Groups over direct bodies: one lane for all slots, the body once behind it, and the keys in front of its totals.
+
+ghost use Rattle.std.specs.Prelude.{◌≡◌, ◌<◌, ◌≤◌, ◌∷◌, [], List, IfOk, length, true};
+ghost use Rattle.gl_algebra.specs.Direct.{form_of, is_direct};
+ghost use Rattle.gl_algebra.specs.Shapes.{shape_of};
+ghost use Rattle.gl_algebra.specs.Small.{AreFigures};
+ghost use Rattle.gl_groups.specs.Laned.{bits_of_slots};
+ghost use Rattle.gl_net.specs.Net.{Net, IsBit, IsBus};
+ghost use Rattle.gl_wire.specs.declared.wire.Wire.{Wire as WireOf};
+ghost use Rattle.gl_wire.specs.Wire.{IsWire};
+ghost use Rattle.gl_wiring.specs.Groups.{IsGroupNode};
+ghost use Rattle.gl_wiring.specs.LaneGroups.{HasLane, IsGroupLane};
+ghost use Rattle.gl_wiring.specs.Lanes.{IsBodyTable, place_of};
+ghost use Rattle.gl_wiring.specs.Leaves.{HaveLeaves};
+ghost use Rattle.gl_wiring.specs.Put.{HasColumns, IsPut};
+
+use crate::arms::figures_at;
+use crate::groups::GroupOf;
+use crate::rows::{Place, put_rows};
+use crate::windows::put_apart;
+use gl_algebra::{Figures, Plan, PlanId, PlanNode};
+use gl_bits::Memory;
+use gl_groups::Lane;
+use gl_net::NetBuilder;
+use gl_totals::table::Table;
+use gl_wire::{Emitted, Faults, Wire, both_faults};
+use gl_wire_lanes::TableOut;
+use std::alloc::Global;
+
+/// A lane behind a group's source.
+#[derive(Drop)]
+pub struct Laned {
+    /// What stands before the lane.
+    pub source: Emitted,
+    /// The lane.
+    pub lane: Lane,
+}
+
+impl Laned {
+    /// The place of each row on the lane.
+    pub(crate) fn place(&self) -> Place
+        ensures { result ≡ place_of self.now.lane }
+    {
+        Place {
+            slot: self.lane.slot,
+            first: self.lane.first,
+        }
+    }
+}
+
+/// The totals of a direct body behind a lane, which is its input.
+#[tactic(auto, using(crate::proofs::LaneRowLemmas::rows_there))]
+pub(crate) fn put_table(
+    alloc: Global,
+    net: &mut NetBuilder,
+    plan: &Plan,
+    body: PlanId,
+    lane: &Wire,
+    place: Place,
+) -> Result<TableOut, Memory>
+    requires within { body < length plan.now }
+    requires direct { is_direct (form_of plan.now body) ≡ true }
+    requires leaves { HaveLeaves net.old (lane.now ∷ []) (shape_of plan.now body).leaves }
+    requires slot { IsBus net.old place.slot }
+    requires bits { 1 ≤ place.slot.width }
+    requires few { place.slot.width ≤ 8 }
+    requires first { IsBit net.old place.first }
+    ensures { IfOk result (IsBodyTable plan.now body net.old net.new lane.now place) }
+{
+    match plan.node(body) {
+        PlanNode::Aggregate { child, aggs } => {
+            let below = put_rows(alloc, net, plan, *child, lane, place)?;
+            let table = Table {
+                kinds: plan.kinds(*child),
+                aggs: aggs.as_slice(),
+            };
+            let behind = below.place;
+            // Named, since a goal speaks of the value.
+            let out = table.emit(alloc, net, &below.rows.wire, behind.slot, behind.first)?;
+            Ok(out)
+        }
+        _ => unreachable!(),
+    }
+}
+
+impl GroupOf {
+    /// The source's rows far enough apart for the body, and the lane behind them.
+    pub(crate) fn lane(
+        &self,
+        alloc: Global,
+        net: &mut NetBuilder,
+        plan: &Plan,
+        figures: &[Figures],
+        below: Emitted,
+    ) -> Result<Laned, Memory>
+        requires node { IsGroupNode plan.now self.now }
+        requires figures { AreFigures plan.now figures.now }
+        requires below { HasColumns plan.now self.now.source net.old below }
+        ensures { (old : Net) (leaves : List WireOf)
+            → IsPut plan.now self.now.source old net.old leaves below
+            → IfOk result (λ l. IsGroupLane plan.now self.now old net.new leaves l) }
+    {
+        let _ = plan.len();
+        let grouping = self.grouping(plan, figures);
+        let source = figures_at(plan, figures, self.source);
+        let apart = put_apart(alloc, net, source, grouping.body.gt, below)?;
+        let lane = grouping.lane(alloc, net, &apart.wire)?;
+        Ok(Laned {
+            source: apart,
+            lane,
+        })
+    }
+
+    /// The keys in front of the totals of a direct body, the group's ends, and all lines.
+    pub(crate) fn gathered(
+        &self,
+        alloc: Global,
+        net: &mut NetBuilder,
+        plan: &Plan,
+        figures: &[Figures],
+        laned: &Laned,
+        out: &TableOut,
+    ) -> Result<Emitted, Memory>
+        requires node { IsGroupNode plan.now self.now }
+        requires figures { AreFigures plan.now figures.now }
+        requires lane { HasLane net.old self.now.groups laned.now }
+        requires wire { IsWire net.old out.now.wire }
+        requires slot { IsBus net.old out.now.slot }
+        requires slot_width { out.now.slot.width ≡ bits_of_slots self.now.groups }
+        ensures { (old mid : Net) (leaves : List WireOf)
+            → IsGroupLane plan.now self.now old mid leaves laned.now
+            → is_direct (form_of plan.now self.now.body) ≡ true
+            → IsBodyTable plan.now self.now.body mid net.old
+            laned.now.lane.wire (place_of laned.now.lane) out.now
+            → IfOk result (λ e. IsPut plan.now self.now.id old net.new leaves e) }
+    {
+        let _ = plan.len();
+        let grouping = self.grouping(plan, figures);
+        let wire = grouping.gather(alloc, net, &laned.lane, out)?;
+        let own = Faults {
+            passed: None,
+            further: Some(laned.lane.further),
+        };
+        let faults = both_faults(net, laned.source.faults, own)?;
+        Ok(Emitted { wire, faults })
+    }
+}
