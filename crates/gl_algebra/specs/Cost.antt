@@ -99,11 +99,3 @@ store_from shapes figures forms stores node =
 -- the memory bits of a node
 unfoldable pub store_of : List PlanNode → ℕ → ℕ
 store_of nodes = nodewise (store_from (shape_of nodes) (figures_of nodes) (form_of nodes)) 0 nodes
-
--- the most register bits, and the most memory bits, of the circuit of a plan
-abbrev pub most_registers : List PlanNode → ℕ → ℕ
-most_registers nodes root =
-    64 * (lean_of nodes root + 8 * (lines_of (shape_of nodes root) + 8)) + keys_of nodes root
-
-abbrev pub most_memory : List PlanNode → ℕ → ℕ
-most_memory nodes root = store_of nodes root

@@ -232,11 +232,3 @@ figures_from shapes figures (Group source body key groups) =
 -- the figures of a node
 unfoldable pub figures_of : List PlanNode → ℕ → Figures
 figures_of nodes = nodewise (figures_from (shape_of nodes)) input_figures nodes
-
--- the cycles from a beat with the end to the end on the output, which comes one cycle after the root's
-abbrev pub latency_of : List PlanNode → ℕ → ℕ
-latency_of nodes root = (figures_of nodes root).le + 1
-
--- the cycles from a beat to the next, at least
-abbrev pub gap_of : List PlanNode → ℕ → ℕ
-gap_of nodes root = (figures_of nodes root).gt

@@ -10,6 +10,8 @@ pub mod Wides
 pub mod Weights
 pub mod Direct
 pub mod Cost
+pub mod Spares
+pub mod Roots
 pub mod Values
 pub mod Results
 pub mod Laws

@@ -88,10 +88,6 @@ weight_from shapes figures weights node =
 unfoldable pub weight_of : List PlanNode → ℕ → ℕ
 weight_of nodes = nodewise (weight_from (shape_of nodes) (figures_of nodes)) 0 nodes
 
--- the weight of a plan with its output
-abbrev pub weight_with_output : List PlanNode → ℕ → ℕ
-weight_with_output nodes root = weight_of nodes root + 8 * (lines_of (shape_of nodes root) + 8)
-
 -- the copies that a node itself has of its body, with those in each
 abbrev pub own_copies : (ℕ → ℕ) → PlanNode → ℕ
 own_copies copies node = copies_in node * (1 + of_body copies node)

@@ -8,9 +8,9 @@ use Rattle.gl_algebra.specs.declared.node.ColOp.TheVariants.{Binary}
 use Rattle.gl_algebra.specs.declared.node.PlanAgg.TheVariants.{Count, Sum, Max, Avg}
 use Rattle.gl_algebra.specs.declared.node.PlanNode.{PlanNode}
 use Rattle.gl_algebra.specs.declared.node.PlanNode.TheVariants.{Stream, Body, Compute, Select, Project, Aggregate, Union, Beside, Window, Group}
-use Rattle.gl_algebra.specs.Cost.{keys_of, most_memory, most_registers}
-use Rattle.gl_algebra.specs.FigureTable.{figures_of, latency_of, gap_of}
-use Rattle.gl_algebra.specs.Weights.{weight_with_output, copies_of}
+use Rattle.gl_algebra.specs.Cost.{keys_of}
+use Rattle.gl_algebra.specs.FigureTable.{figures_of}
+use Rattle.gl_algebra.specs.Roots.{copies_with_spare, gap_of, latency_of, most_memory, most_registers, weight_with_output}
 
 -- a symbol, a price and a volume
 abbrev pub trade_kinds : List Kind
@@ -86,12 +86,12 @@ prices_of_both =
 pub record Has (nodes : List PlanNode) (root latency gap copies : ℕ) : Type 0 where
   pub is_late : latency_of nodes root ≡ latency
   pub is_apart : gap_of nodes root ≡ gap
-  pub is_copied : copies_of nodes root ≡ copies
+  pub is_copied : copies_with_spare nodes root ≡ copies
 
 pub record WorkedFigures : Type 0 where
   pub counts : figures_of counts_in_windows 6 ≡ record { a = 5; lt = 5; le = 7; nt = 1; ne = 2; gt = 1; ge = 3 }
   pub counts_in_windows : Has counts_in_windows 6 8 1 2
-  pub greatest_sums : Has greatest_sums 6 10 3 3
+  pub greatest_sums : Has greatest_sums 6 12 1 6
   pub greatest_sums_of_both : Has greatest_sums_of_both 9 20 7 3
   pub counts_of_both : Has counts_of_both 6 11 2 4
   pub sum_beside_count : Has sum_beside_count 7 4 1 0

@@ -19,3 +19,14 @@ pub struct Figures {
     /// The cycles from a beat with the end to the next beat, at least.
     pub ge: u32,
 }
+
+/// Spare copies of the body of windows: new tuples come while a window that has ended is still at work.
+#[derive(Clone, Copy, PartialEq, Eq, Debug)]
+pub struct Spare {
+    /// All copies.
+    pub copies: u32,
+    /// The fewest cycles from one beat to the next.
+    pub gap: u32,
+    /// The cycles by which the end of the stream comes late.
+    pub shift: u32,
+}

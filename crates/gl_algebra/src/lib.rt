@@ -14,7 +14,7 @@ pub mod plan;
 pub mod table;
 mod wide;
 
-pub use figures::Figures;
+pub use figures::{Figures, Spare};
 pub use node::{ColOp, Kinds, Operand, Operands, Ops, PlanAgg, PlanAggs, PlanNode, Weights};
 pub use number::PlanId;
 pub use plan::Plan;
