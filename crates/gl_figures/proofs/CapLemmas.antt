@@ -52,6 +52,20 @@ sum_alike a x y alike = elim alike [
 two_alike : (a b x : ℕ) → capped (capped a + capped b + x) ≡ capped (a + b + x)
 two_alike a b x = omega arith
 
+-- the same with more behind it, where there may be none of the multiple
+pub further-capped : (a b each further more : ℕ)
+    → capped (capped a + further * (capped b + each) + more) ≡ capped (a + further * (b + each) + more)
+further-capped a b each further more = elim (cases_lt 0 further) [
+  | inl some ↦ behind _ _ (times_alike further each b some)
+  | inr none ↦ (let no : further ≡ 0 = omega arith in rw no (omega arith))
+]
+  where
+    behind : (x y : ℕ) → Alike x y → capped (capped a + x + more) ≡ capped (a + y + more)
+    behind x y alike = elim alike [
+      | inl same ↦ omega arith
+      | inr both ↦ omega (arith, both.0, both.1)
+    ]
+
 more_alike : (x y k : ℕ) → Alike x y → Alike (x + k) (y + k)
 more_alike x y k alike = elim alike [
   | inl same ↦ inl (omega arith)

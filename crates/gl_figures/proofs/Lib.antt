@@ -4,3 +4,5 @@ pub mod CapLemmas
 pub mod WeighedLemmas
 pub mod TradeLemmas
 pub mod SpareLemmas
+pub mod RootLemmas
+pub mod PrintedLemmas

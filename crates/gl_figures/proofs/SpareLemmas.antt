@@ -10,8 +10,8 @@ use Rattle.gl_bits.specs.Limits.{most_copies}
 use Rattle.gl_algebra.specs.Views.{copies_of_window}
 use Rattle.gl_algebra.proofs.FigureLemmas.{one_copy}
 use Rattle.gl_bits.proofs.Bools.{and_parts, by_cases, else_false}
-use Rattle.gl_figures.specs.declared.Spare.{Spare}
-use Rattle.gl_figures.specs.Spares.{AreSpareNumbers, Suffices, SparesSuffice, has_spare, spare_copies, spare_figures, spare_gap, spare_of, spare_shift}
+use Rattle.gl_algebra.specs.declared.figures.Spare.{Spare}
+use Rattle.gl_algebra.specs.Spares.{AreSpareNumbers, Suffices, SparesSuffice, has_spare, spare_copies, spare_figures, spare_gap, spare_of, spare_shift}
 
 -- a product that covers
 covers : (a b : ℕ) → 1 ≤ b → a ≤ div_ceil a b * b

@@ -1,19 +1,16 @@
 -- One step of going through a plan's nodes with their copies or weights.
-use Rattle.std.proofs.Common.{◌≡◌, ℕ, ◌+◌, ◌<◌, ◌≤◌, inl, inr, List, length, Some, slice_get, sym, ap, ◌∙◌, arith}
+use Rattle.std.proofs.Common.{◌≡◌, ℕ, ◌+◌, ◌<◌, inl, inr, List, length, Some, slice_get, sym, ap, ◌∙◌, arith}
 use Rattle.std.proofs.Math.ListN.{set}
 use Rattle.std.proofs.lemmas.Bool.{cases_lt}
 use Rattle.std.proofs.lemmas.List.{length-set}
-use Rattle.gl_algebra.specs.declared.figures.Figures.{Figures}
 use Rattle.gl_algebra.specs.declared.node.PlanNode.{PlanNode}
 use Rattle.gl_algebra.specs.FigureTable.{figures_of}
 use Rattle.gl_algebra.specs.Fits.{IsPlan}
 use Rattle.gl_algebra.specs.Shapes.{shape_of}
-use Rattle.gl_algebra.specs.Weights.{copies_from, copies_of, weight_of, weight_with_output, lines_of}
+use Rattle.gl_algebra.specs.Weights.{copies_from, copies_of, weight_of, lines_of}
 use Rattle.gl_algebra.proofs.TableLemmas.{nodes_follow_tables}
-use Rattle.gl_figures.specs.Answered.{IsPrinted}
-use Rattle.gl_bits.specs.Limits.{most_weight}
 use Rattle.gl_figures.specs.Known.{capped, capped_at, weight_by, HasValues}
-use Rattle.gl_figures.proofs.CapLemmas.{copies-capped, weight-capped, copies_light}
+use Rattle.gl_figures.proofs.CapLemmas.{copies-capped, weight-capped}
 use Rattle.gl_figures.proofs.PlaceLemmas.{get-written, get-other}
 
 valued_next : (value : ℕ → ℕ) (values : List ℕ) (number own : ℕ) → HasValues value values number → number < length values
@@ -43,16 +40,3 @@ module _ (nodes : List PlanNode) (number : ℕ) (node : PlanNode) (plan : IsPlan
       (made ∙ ap (λ n. capped (weight_by nodes n node)) (lined ∙ ap lines_of follows.shape)
       ∙ weight-capped (shape_of nodes) (figures_of nodes) _ node (weight_of nodes) (plan.fits number node is).suits
       ∙ ap capped (sym follows.weight))
-
--- what is answered of a plan that is light enough
-pub is_printed : (nodes : List PlanNode) (root : ℕ) (own : Figures) (copies weight : ℕ) → IsPlan nodes → root < length nodes
-    → own ≡ figures_of nodes root → copies ≡ capped (copies_of nodes root) → weight ≡ capped (weight_with_output nodes root)
-    → weight ≤ most_weight → IsPrinted nodes root (record { latency = own.le + 1; gap = own.gt; copies = copies })
-is_printed nodes root own copies weight plan within figured copied weighed light =
-    let fewer = copies_light nodes root plan within in
-    record {
-      latency = ap (λ (f : Figures). f.le + 1) figured;
-      gap = ap (λ (f : Figures). f.gt) figured;
-      copies = omega arith;
-      light = omega arith;
-    }

@@ -6,7 +6,10 @@ use Rattle.gl_algebra.specs.declared.node.PlanNode.{PlanNode}
 use Rattle.gl_algebra.specs.FigureTable.{figures_from, figures_of}
 use Rattle.gl_algebra.specs.Shapes.{shape_of}
 use Rattle.gl_algebra.specs.Small.{small_of}
-use Rattle.gl_algebra.specs.Weights.{weight_of, own_weight, sum_over_children}
+use Rattle.gl_algebra.specs.Roots.{output_part}
+use Rattle.gl_algebra.specs.Nodewise.{value_at_node}
+use Rattle.gl_algebra.specs.Weights.{copies_of, weight_of, own_weight, sum_over_children}
+use Rattle.gl_algebra.specs.declared.node.PlanNode.TheVariants.{Window}
 
 -- the figures of the nodes before one
 pub record HasFigures (nodes : List PlanNode) (figures : List Figures) (number : ℕ) : Type 0 where
@@ -30,6 +33,18 @@ own_weight_by nodes lines node = own_weight (shape_of nodes) (figures_of nodes) 
 
 abbrev pub weight_by : List PlanNode → ℕ → PlanNode → ℕ
 weight_by nodes lines node = sum_over_children (capped_at (weight_of nodes)) node + own_weight_by nodes lines node
+
+-- the weight of a plan with its output, and without spare copies
+abbrev pub weight_alone : List PlanNode → ℕ → ℕ
+weight_alone nodes root = weight_of nodes root + output_part nodes root
+
+-- the capped copies in the body of windows at a root
+abbrev pub copies_in_body : List PlanNode → PlanNode → ℕ
+copies_in_body nodes (Window source body size advance) = capped (copies_of nodes body)
+copies_in_body nodes node = 0
+
+unfoldable pub copies_inside : List PlanNode → ℕ → ℕ
+copies_inside nodes root = value_at_node (copies_in_body nodes) 0 (slice_get nodes root)
 
 -- the capped values of the nodes before one
 pub record HasValues (value : ℕ → ℕ) (values : List ℕ) (number : ℕ) : Type 0 where

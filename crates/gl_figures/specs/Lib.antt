@@ -1,5 +1,4 @@
 pub mod Known
 pub mod Answered
 pub mod Worked
-pub mod Spares
 pub mod WorkedSpares

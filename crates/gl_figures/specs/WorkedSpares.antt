@@ -2,8 +2,8 @@
 use Rattle.std.specs.Prelude.{ℕ, ◌≡◌, ◌+◌, Option, Some, None}
 use Rattle.gl_algebra.specs.declared.figures.Figures.{Figures}
 use Rattle.gl_algebra.specs.FigureTable.{input_figures, union_figures, window_figures, aggregate_figures, group_figures}
-use Rattle.gl_figures.specs.declared.Spare.{Spare}
-use Rattle.gl_figures.specs.Spares.{spare_figures, spare_of}
+use Rattle.gl_algebra.specs.declared.figures.Spare.{Spare}
+use Rattle.gl_algebra.specs.Spares.{spare_figures, spare_of}
 
 -- the greatest sum of so many neighbours
 abbrev pub greatest_of : ℕ → Figures

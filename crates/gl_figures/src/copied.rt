@@ -39,7 +39,7 @@ pub(crate) fn count_copies(plan: &Plan, into: &mut [u64])
 }
 
 // The copies of a node before this one.
-fn copies_at(plan: &Plan, copies: &[u64], number: usize, id: PlanId) -> u128
+pub(crate) fn copies_at(plan: &Plan, copies: &[u64], number: usize, id: PlanId) -> u128
     requires below { id < number }
     requires known { HasValues (copies_of plan.now) copies.now number }
     ensures { result ≡ capped (copies_of plan.now id) }

@@ -1,6 +1,7 @@
 //! The law of spare copies, and worked ones.
 
-ghost use Rattle.gl_figures.specs.Spares.{SparesSuffice};
+ghost use Rattle.gl_algebra.specs.Roots.{RootsComeCloser};
+ghost use Rattle.gl_algebra.specs.Spares.{SparesSuffice};
 ghost use Rattle.gl_figures.specs.WorkedSpares.{WorkedSpares};
 
 /// Spare copies are enough, no fewer are, and beats come closer than without them.
@@ -11,4 +12,9 @@ pub fn spares_suffice()
 /// Spare copies and latencies of windows that were worked out by hand.
 pub fn worked_spares()
     ensures { WorkedSpares }
+{}
+
+/// Beats of a plan may come as close as its root's own figures say, and closer where its root has spare copies.
+pub fn roots_come_closer()
+    ensures { RootsComeCloser }
 {}

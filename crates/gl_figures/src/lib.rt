@@ -6,11 +6,14 @@
 mod copied;
 pub mod figured;
 pub mod laws;
+pub mod roots;
 pub mod spares;
 pub mod weighed;
 mod weights;
 
 pub use figured::figures;
+pub use gl_algebra::Spare;
+pub use roots::root_spare;
 use thiserror::Error;
 pub use weighed::weigh;
 
@@ -23,17 +26,6 @@ pub struct Printed {
     pub gap: u32,
     /// The copies of bodies of windows and groups.
     pub copies: u64,
-}
-
-/// Spare copies of the body of windows: new tuples come while a window that has ended is still at work.
-#[derive(Clone, Copy, PartialEq, Eq, Debug)]
-pub struct Spare {
-    /// All copies.
-    pub copies: u32,
-    /// The fewest cycles from one beat to the next.
-    pub gap: u32,
-    /// The cycles by which the end of the stream comes late.
-    pub shift: u32,
 }
 
 /// A limit that a plan passes.

@@ -4,7 +4,7 @@ ghost use Rattle.std.specs.Prelude.{◌≡◌, ◌<◌, ◌≤◌, ◌-◌, ◌+
 ghost use Rattle.gl_algebra.specs.FigureTable.{stride_of, window_figures, IsSound};
 ghost use Rattle.gl_algebra.specs.Fits.{IsWithin};
 ghost use Rattle.gl_bits.specs.Limits.{most_rows};
-ghost use Rattle.gl_figures.specs.Spares.{spare_copies, spare_gap, spare_of};
+ghost use Rattle.gl_algebra.specs.Spares.{spare_copies, spare_gap, spare_of};
 
 use crate::Spare;
 use crate::copied::times;
@@ -53,7 +53,7 @@ fn copies_with_spare(gap: u64, body: &Figures, size: u32, advance: u32) -> u128
 }
 
 // The last cycle after the last beat.
-fn last_with_spare(turns: u32, shift: u64, source: &Figures, body: &Figures) -> u128
+pub(crate) fn last_with_spare(turns: u32, shift: u64, source: &Figures, body: &Figures) -> u128
     ensures { result ≡ source.now.le + body.now.le + shift + (turns - 1) * stride_of body.now + 3 }
 {
     let ends = times(stride_of(body) as u128, turns.saturating_sub(1) as u128);

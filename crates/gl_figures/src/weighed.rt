@@ -2,11 +2,12 @@
 
 ghost use Rattle.std.specs.Prelude.{◌≡◌, ◌<◌, length, IfErr, IfOk};
 ghost use Rattle.gl_algebra.specs.Small.{AreFigures};
-ghost use Rattle.gl_algebra.specs.Weights.{weight_of, weight_with_output};
+ghost use Rattle.gl_algebra.specs.Weights.{weight_of};
 ghost use Rattle.gl_figures.specs.Answered.{AreWeights, IsHeavy, IsPrinted};
-ghost use Rattle.gl_figures.specs.Known.{capped, HasValues};
+ghost use Rattle.gl_figures.specs.Known.{capped, weight_alone, HasValues};
 
 use crate::copied::{cap, count_copies};
+use crate::roots::{copies_inside, printed_alone, printed_with, root_spare};
 use crate::weights::{lines_of, weight_over};
 use crate::{Limit, Printed};
 use gl_algebra::{Figures, Plan, PlanId};
@@ -31,16 +32,16 @@ pub fn weigh(
     let _ = plan.len();
     count_copies(plan, into);
     let copies = into[root.number()];
+    let inside = copies_inside(plan, root, into);
     weigh_nodes(plan, figures, into);
-    let weight = weight_with_output(plan, root, into[root.number()]);
+    // A plan that is too heavy alone has no spare copies.
+    let weight = weight_alone(plan, root, into[root.number()]);
     if weight > MOST_WEIGHT {
         return Err(Limit::Nodes { weight });
     }
-    let own = figures[root.number()];
-    Ok(Printed {
-        latency: own.le as u64 + 1,
-        gap: own.gt,
-        copies,
+    Ok(match root_spare(plan, root, figures, into) {
+        None => printed_alone(plan, root, figures, copies),
+        Some(it) => printed_with(plan, root, figures, copies, inside, it),
     })
 }
 
@@ -57,11 +58,11 @@ fn weigh_nodes(plan: &Plan, figures: &[Figures], into: &mut [u64])
     }
 }
 
-// The weight of a plan with its output, from that of its root.
-fn weight_with_output(plan: &Plan, root: PlanId, weight: u64) -> u64
+// The weight of a plan with its output and without spare copies, from that of its root.
+fn weight_alone(plan: &Plan, root: PlanId, weight: u64) -> u64
     requires root { root < length plan.now }
     requires weight { weight ≡ capped (weight_of plan.now root) }
-    ensures { result ≡ capped (weight_with_output plan.now root) }
+    ensures { result ≡ capped (weight_alone plan.now root) }
 {
     cap(weight as u128 + 8 * (lines_of(plan, root) + 8))
 }

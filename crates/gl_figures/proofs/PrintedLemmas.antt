@@ -1,0 +1,114 @@
+-- What is printed of a plan that is light enough: by the figures of its root, or with the spare copies of its windows.
+use Rattle.std.proofs.Common.{◌≡◌, ℕ, ◌+◌, ◌-◌, ◌*◌, ◌^◌, ◌<◌, ◌≤◌, List, length, Some, None, slice_get, refl, sym, ap, ◌∙◌, arith}
+use Rattle.std.proofs.Math.Nat.{mul-le-mul_left}
+use Rattle.gl_bits.proofs.AllLists.{get_there}
+use Rattle.gl_bits.specs.Limits.{most_weight}
+use Rattle.gl_algebra.specs.declared.figures.Figures.{Figures}
+use Rattle.gl_algebra.specs.declared.figures.Spare.{Spare}
+use Rattle.gl_algebra.specs.declared.node.PlanNode.{PlanNode}
+use Rattle.gl_algebra.specs.declared.node.PlanNode.TheVariants.{Stream, Body, Compute, Select, Project, Aggregate, Union, Beside, Window, Group}
+use Rattle.gl_algebra.specs.FigureTable.{figures_of, stride_of}
+use Rattle.gl_algebra.specs.Fits.{IsPlan}
+use Rattle.gl_algebra.specs.Nodewise.{value_at_node}
+use Rattle.gl_algebra.specs.Roots.{part_of_copy, root_figures, spare_at}
+use Rattle.gl_algebra.specs.Shapes.{shape_of}
+use Rattle.gl_algebra.specs.Spares.{spare_over}
+use Rattle.gl_algebra.specs.Views.{copies_of_window, of_body}
+use Rattle.gl_algebra.specs.Weights.{copies_of, lines_of, weight_of}
+use Rattle.std.proofs.lemmas.Option.{slice_get_within}
+use Rattle.gl_figures.specs.Answered.{IsPrinted}
+use Rattle.gl_figures.specs.Known.{capped, copies_in_body, copies_inside, weight_alone}
+use Rattle.gl_figures.proofs.CapLemmas.{copies_light, further-capped}
+use Rattle.gl_figures.proofs.RootLemmas.{IsSpareRoot, body_within, figures_there, further_there, none_further, spare_there}
+use Rattle.gl_figures.proofs.SpareLemmas.{spare_is}
+
+-- the copies in the body of a root, whichever node it is
+pub inside_there : (nodes : List PlanNode) (root : ℕ) (node : PlanNode) → slice_get nodes root ≡ Some node
+    → copies_inside nodes root ≡ copies_in_body nodes node
+unfolding copies_inside
+inside_there nodes root node at = ap (value_at_node (copies_in_body nodes) 0) at
+
+pub none_inside : (nodes : List PlanNode) (root : ℕ) (node : PlanNode) → slice_get nodes root ≡ Some node
+    → ((source body size advance : ℕ) → node ≡ Window source body size advance → ⊥) → 0 ≡ copies_inside nodes root
+none_inside nodes root node at not = sym (inside_there nodes root node at ∙ by node not)
+  where
+    by : (n : PlanNode) → ((source body size advance : ℕ) → n ≡ Window source body size advance → ⊥) → copies_in_body nodes n ≡ 0
+    by (Window source body size advance) not = absurd (not source body size advance refl)
+    by (Stream number kinds) not = refl
+    by (Body kinds) not = refl
+    by (Compute child ops) not = refl
+    by (Select child column) not = refl
+    by (Project child items) not = refl
+    by (Aggregate child aggs) not = refl
+    by (Union left right) not = refl
+    by (Beside left right) not = refl
+    by (Group source body key groups) not = refl
+
+-- without spare copies
+pub printed_alone : (nodes : List PlanNode) (root : ℕ) (own : Figures) (copies : ℕ) → IsPlan nodes → root < length nodes → own ≡ figures_of nodes root
+    → copies ≡ capped (copies_of nodes root) → weight_alone nodes root ≤ most_weight → spare_at nodes root ≡ None
+    → IsPrinted nodes root (record { latency = own.le + 1; gap = own.gt; copies = copies })
+printed_alone nodes root own copies plan within figured copied light h =
+    let here = get_there nodes root within in
+    let same : root_figures nodes root ≡ figures_of nodes root = figures_there nodes root here.0 None here.1 h in
+    let no_copies = none_further (λ node. 1 + of_body (copies_of nodes) node) nodes root within h in
+    let no_weight = none_further (part_of_copy (shape_of nodes) (weight_of nodes) (lines_of (shape_of nodes root))) nodes root within h in
+    let fewer = copies_light nodes root plan within in
+    record {
+      latency = ap (λ (f : Figures). f.le + 1) (figured ∙ sym same);
+      gap = ap (λ (f : Figures). f.gt) (figured ∙ sym same);
+      copies = omega (arith, copied, no_copies, fewer, light);
+      light = omega (arith, no_weight, light);
+    }
+
+-- with spare copies of windows
+module _ (nodes : List PlanNode) (root : ℕ) {source body size advance : ℕ} (it : Spare) (plan : IsPlan nodes)
+    (at : slice_get nodes root ≡ Some (Window source body size advance)) (h : spare_at nodes root ≡ Some it) where
+  abbrev turns : ℕ
+  turns = copies_of_window size advance
+
+  abbrev f : Figures
+  f = figures_of nodes source
+
+  abbrev s : Figures
+  s = figures_of nodes body
+
+  is : IsSpareRoot nodes root (Window source body size advance) it
+  is = spare_there nodes root (Window source body size advance) it at h
+
+  pub enough : turns ≤ it.copies
+  enough =
+      let x = spare_is size advance f s it is.of_node in
+      let same = ap (λ (y : Spare). y.copies) x.0 in
+      omega (arith, same)
+
+  soon : f.le + s.le + it.shift + (turns - 1) * stride_of s + 4 < 2 ^ 32
+  soon =
+      let x = spare_is size advance f s it is.of_node in
+      let late = ap (λ (y : Spare). y.shift) x.0 in
+      omega (arith, late, x.1.soon)
+
+  pub printed_with : (last copies inside : ℕ) → last ≡ f.le + s.le + it.shift + (turns - 1) * stride_of s + 3 → copies ≡ capped (copies_of nodes root)
+      → inside ≡ copies_inside nodes root
+      → IsPrinted nodes root (record { latency = capped (last + 1); gap = it.gap; copies = capped (copies + (it.copies - turns) * (1 + inside)) })
+  printed_with last copies inside ended copied within =
+      let figures : root_figures nodes root ≡ spare_over turns it.gap it.shift f s = figures_there nodes root (Window source body size advance) (Some it) at h in
+      let le = ap (λ (y : Figures). y.le) figures in
+      let part = part_of_copy (shape_of nodes) (weight_of nodes) (lines_of (shape_of nodes root)) in
+      let weight = further_there part nodes root (Window source body size advance) (Some it) at h in
+      let more = further_there (λ node. 1 + of_body (copies_of nodes) node) nodes root (Window source body size advance) (Some it) at h in
+      let inside_is : inside ≡ capped (copies_of nodes body) = within ∙ inside_there nodes root (Window source body size advance) at in
+      let fewer = copies_light nodes root plan (slice_get_within nodes root _ at) in
+      let fewer_inside = copies_light nodes body plan (body_within nodes root plan at) in
+      let each : (it.copies - turns) * (1 + copies_of nodes body) ≤ (it.copies - turns) * part (Window source body size advance) =
+      mul-le-mul_left (it.copies - turns) (omega (arith, fewer_inside)) in
+      let light = is.light in
+      let exact : capped (capped (copies_of nodes root) + (it.copies - turns) * (capped (copies_of nodes body) + 1) + 0)
+      ≡ capped (copies_of nodes root + (it.copies - turns) * (copies_of nodes body + 1) + 0) =
+      further-capped (copies_of nodes root) (copies_of nodes body) 1 (it.copies - turns) 0 in
+      record {
+        latency = omega (arith, ended, le, soon);
+        gap = sym (ap (λ (y : Figures). y.gt) figures);
+        copies = rw (copied, inside_is) (omega (arith, exact, more, each, light, fewer));
+        light = omega (arith, weight, light);
+      }

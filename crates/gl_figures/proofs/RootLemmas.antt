@@ -1,0 +1,204 @@
+-- The spare copies of a root: what they are, which plans have them, and that beats come closer with them.
+use Rattle.std.proofs.Common.{◌≡◌, ℕ, ◌+◌, ◌*◌, ◌<◌, ◌≤◌, List, length, Option, Some, None, Bool, slice_get, refl, sym, ap, ◌∙◌, subst, arith, lit<}
+use Rattle.std.specs.Prelude.{if◌then◌else◌, nat_le}
+use Rattle.std.proofs.lemmas.Bool.{leb-false, leb-true}
+use Rattle.std.proofs.lemmas.Option.{slice_get_within}
+use Rattle.gl_bits.proofs.AllLists.{get_there}
+use Rattle.gl_bits.proofs.Bools.{by_cases}
+use Rattle.gl_bits.specs.Limits.{most_rows, most_weight}
+use Rattle.gl_algebra.specs.declared.figures.Figures.{Figures}
+use Rattle.gl_algebra.specs.declared.figures.Spare.{Spare}
+use Rattle.gl_algebra.specs.declared.node.PlanNode.{PlanNode}
+use Rattle.gl_algebra.specs.declared.node.PlanNode.TheVariants.{Stream, Body, Compute, Select, Project, Aggregate, Union, Beside, Window, Group}
+use Rattle.gl_algebra.specs.FigureTable.{IsSound, figures_of}
+use Rattle.gl_algebra.specs.Fits.{IsPlan, IsWithin}
+use Rattle.gl_algebra.specs.Nodewise.{value_at_node}
+use Rattle.gl_algebra.specs.Roots.{RootsComeCloser, figures_with, further_copies, gap_of, of_further, output_part, part_of_copy, root_figures, spare_at, spare_in, weight_with_further, weight_with_output, where_light}
+use Rattle.gl_algebra.specs.Shapes.{shape_of}
+use Rattle.gl_algebra.specs.Weights.{lines_of, weight_of}
+use Rattle.gl_algebra.proofs.FigureLemmas.{figures_are_sound}
+use Rattle.gl_algebra.proofs.TableLemmas.{nodes_follow_tables}
+use Rattle.gl_figures.specs.Answered.{IsHeavy}
+use Rattle.gl_figures.specs.declared.Limit.TheVariants.{Nodes}
+use Rattle.gl_figures.specs.Known.{capped, weight_alone}
+use Rattle.gl_figures.proofs.CapLemmas.{further-capped}
+use Rattle.gl_figures.proofs.SpareLemmas.{spare_is}
+
+-- a root has the spare copies of its windows, and is light enough with them
+pub record IsSpareRoot (nodes : List PlanNode) (root : ℕ) (node : PlanNode) (it : Spare) : Type 0 where
+  pub of_node : spare_in (figures_of nodes) node ≡ Some it
+  pub light : weight_with_further nodes root node (further_copies (Some it) node) ≤ most_weight
+
+pub spare_there : (nodes : List PlanNode) (root : ℕ) (node : PlanNode) (it : Spare) → slice_get nodes root ≡ Some node → spare_at nodes root ≡ Some it
+    → IsSpareRoot nodes root node it
+unfolding spare_at
+spare_there nodes root node it at h =
+    by (spare_in (figures_of nodes) node) refl
+    (sym (ap (value_at_node (λ n. where_light nodes root n (spare_in (figures_of nodes) n)) None) at) ∙ h)
+  where
+    by : (o : Option Spare) → spare_in (figures_of nodes) node ≡ o → where_light nodes root node o ≡ Some it → IsSpareRoot nodes root node it
+    by None p q = absurd (cc (q))
+    by (Some x) p q =
+        by_cases (nat_le (weight_with_further nodes root node (further_copies (Some x) node)) most_weight)
+        (λ l.
+        let same : Some x ≡ Some it = sym (ap (λ (b : Bool). if b then Some x else None) l) ∙ q in
+        let is : x ≡ it = cc (same) in
+        record {
+          of_node = p ∙ same;
+          light = subst (λ (y : Spare). weight_with_further nodes root node (further_copies (Some y) node) ≤ most_weight) is (leb-true _ _ l);
+        })
+        (λ l. absurd (let none : None ≡ Some it = sym (ap (λ (b : Bool). if b then Some x else None) l) ∙ q in cc (none)))
+
+-- the figures of a root, whichever node it is and whatever spare copies it has
+pub figures_there : (nodes : List PlanNode) (root : ℕ) (node : PlanNode) (o : Option Spare) → slice_get nodes root ≡ Some node → spare_at nodes root ≡ o
+    → root_figures nodes root ≡ figures_with nodes root o node
+unfolding root_figures
+figures_there nodes root node o at h =
+    ap (value_at_node (figures_with nodes root (spare_at nodes root)) (figures_of nodes root)) at
+    ∙ ap (λ (s : Option Spare). figures_with nodes root s node) h
+
+-- what the further copies add, whichever node the root is
+pub further_there : (each : PlanNode → ℕ) (nodes : List PlanNode) (root : ℕ) (node : PlanNode) (o : Option Spare) → slice_get nodes root ≡ Some node
+    → spare_at nodes root ≡ o → of_further each nodes root ≡ further_copies o node * each node
+unfolding of_further
+further_there each nodes root node o at h =
+    ap (value_at_node (λ n. further_copies (spare_at nodes root) n * each n) 0) at
+    ∙ ap (λ (s : Option Spare). further_copies s node * each node) h
+
+-- no spare copies weigh nothing, and are none
+pub none_further : (each : PlanNode → ℕ) (nodes : List PlanNode) (root : ℕ) → root < length nodes → spare_at nodes root ≡ None
+    → of_further each nodes root ≡ 0
+none_further each nodes root within h =
+    let here = get_there nodes root within in
+    let none : of_further each nodes root ≡ 0 * each here.0 = further_there each nodes root here.0 None here.1 h in
+    omega (arith, none)
+
+-- a plan that is too heavy alone has no spare copies
+pub heavy_has_none : (nodes : List PlanNode) (root : ℕ) → root < length nodes → most_weight < weight_alone nodes root → spare_at nodes root ≡ None
+heavy_has_none nodes root within heavy = by (spare_at nodes root) refl
+  where
+    by : (o : Option Spare) → spare_at nodes root ≡ o → spare_at nodes root ≡ None
+    by None h = h
+    by (Some it) h =
+        let here = get_there nodes root within in
+        let x = spare_there nodes root here.0 it here.1 h in
+        absurd (omega (arith, x.light, heavy))
+
+pub is_heavy : (nodes : List PlanNode) (root weight : ℕ) → root < length nodes → weight ≡ capped (weight_alone nodes root) → most_weight < weight
+    → IsHeavy nodes root (Nodes weight)
+is_heavy nodes root weight within is heavy =
+    let past : most_weight < weight_alone nodes root = omega (arith, is, heavy) in
+    let none = none_further (part_of_copy (shape_of nodes) (weight_of nodes) (lines_of (shape_of nodes root))) nodes root within
+    (heavy_has_none nodes root within past) in
+    let same : weight_with_output nodes root ≡ weight_alone nodes root = omega (arith, none) in
+    record { heavy = omega (arith, same, past); is = ap Nodes (is ∙ ap capped (sym same)) }
+
+module _ (nodes : List PlanNode) (root : ℕ) (node : PlanNode) (at : slice_get nodes root ≡ Some node) where
+  -- the spare copies of a root, from those that its windows have
+  pub spare_by : (o : Option Spare) → spare_in (figures_of nodes) node ≡ o → spare_at nodes root ≡ where_light nodes root node o
+  unfolding spare_at
+  spare_by o h =
+      ap (value_at_node (λ n. where_light nodes root n (spare_in (figures_of nodes) n)) None) at ∙ ap (where_light nodes root node) h
+
+  -- a root that is no windows has none
+  pub no_windows : ((source body size advance : ℕ) → node ≡ Window source body size advance → ⊥) → None ≡ spare_at nodes root
+  no_windows not = sym (spare_by None (by node not))
+    where
+      by : (n : PlanNode) → ((source body size advance : ℕ) → n ≡ Window source body size advance → ⊥) → spare_in (figures_of nodes) n ≡ None
+      by (Window source body size advance) not = absurd (not source body size advance refl)
+      by (Stream number kinds) not = refl
+      by (Body kinds) not = refl
+      by (Compute child ops) not = refl
+      by (Select child column) not = refl
+      by (Project child items) not = refl
+      by (Aggregate child aggs) not = refl
+      by (Union left right) not = refl
+      by (Beside left right) not = refl
+      by (Group source body key groups) not = refl
+
+  pub is_light : (it : Spare) (weight : ℕ) → spare_in (figures_of nodes) node ≡ Some it
+      → weight ≡ capped (weight_with_further nodes root node (further_copies (Some it) node)) → weight ≤ most_weight → Some it ≡ spare_at nodes root
+  is_light it weight h is light =
+      by_cases (nat_le (weight_with_further nodes root node (further_copies (Some it) node)) most_weight)
+      (λ l. sym (spare_by (Some it) h ∙ ap (λ (b : Bool). if b then Some it else None) l))
+      (λ l. absurd (omega (arith, leb-false _ _ l, is, light)))
+
+  pub is_past : (it : Spare) (weight : ℕ) → spare_in (figures_of nodes) node ≡ Some it
+      → weight ≡ capped (weight_with_further nodes root node (further_copies (Some it) node)) → most_weight < weight → None ≡ spare_at nodes root
+  is_past it weight h is heavy =
+      by_cases (nat_le (weight_with_further nodes root node (further_copies (Some it) node)) most_weight)
+      (λ l. absurd (omega (arith, leb-true _ _ l, is, heavy)))
+      (λ l. sym (spare_by (Some it) h ∙ ap (λ (b : Bool). if b then Some it else None) l))
+
+-- windows at a root: their source and their body are there, with sound figures, and their numbers are within their limits
+module _ (nodes : List PlanNode) (root : ℕ) {source body size advance : ℕ} (plan : IsPlan nodes)
+    (at : slice_get nodes root ≡ Some (Window source body size advance)) where
+  pub source_within : source < length nodes
+  source_within =
+      let before = (plan.fits root (Window source body size advance) at).before 0 0 (lit< tt) in
+      omega (arith, before, slice_get_within nodes root _ at)
+
+  pub body_within : body < length nodes
+  body_within =
+      let before = (plan.fits root (Window source body size advance) at).before 1 0 (lit< tt) in
+      omega (arith, before, slice_get_within nodes root _ at)
+
+  pub source_sound : IsSound (figures_of nodes source)
+  source_sound = figures_are_sound nodes source plan source_within
+
+  pub body_sound : IsSound (figures_of nodes body)
+  body_sound = figures_are_sound nodes body plan body_within
+
+  pub rows : IsWithin most_rows size
+  rows = (plan.fits root (Window source body size advance) at).suits.1
+
+  -- what is said of their weight with so many further copies, from the capped weights
+  pub weight_is : (further : ℕ)
+      → capped (capped (weight_of nodes root)
+      + further * (capped (weight_of nodes body) + 8 * (lines_of (shape_of nodes source) + lines_of (shape_of nodes root) + 4))
+      + output_part nodes root) ≡ capped (weight_with_further nodes root (Window source body size advance) further)
+  weight_is further =
+      further-capped (weight_of nodes root) (weight_of nodes body) (8 * (lines_of (shape_of nodes source) + lines_of (shape_of nodes root) + 4))
+      further (output_part nodes root)
+
+  pub step : IsWithin most_rows advance
+  step = (plan.fits root (Window source body size advance) at).suits.2
+
+module _ (nodes : List PlanNode) (root : ℕ) (plan : IsPlan nodes) (within : root < length nodes) where
+  closer : (node : PlanNode) (it : Spare) → slice_get nodes root ≡ Some node → spare_in (figures_of nodes) node ≡ Some it
+      → (figures_with nodes root (Some it) node).gt < (figures_of nodes root).gt
+  closer (Window source body size advance) it at h =
+      let x = spare_is size advance (figures_of nodes source) (figures_of nodes body) it h in
+      let own = ap (λ (f : Figures). f.gt) (nodes_follow_tables nodes root (Window source body size advance) plan at).figures in
+      let gap = ap (λ (s : Spare). s.gap) x.0 in
+      omega (arith, x.1.closer, own, gap)
+  closer (Stream number kinds) it at h = absurd (cc (h))
+  closer (Body kinds) it at h = absurd (cc (h))
+  closer (Compute child ops) it at h = absurd (cc (h))
+  closer (Select child column) it at h = absurd (cc (h))
+  closer (Project child items) it at h = absurd (cc (h))
+  closer (Aggregate child aggs) it at h = absurd (cc (h))
+  closer (Union left right) it at h = absurd (cc (h))
+  closer (Beside left right) it at h = absurd (cc (h))
+  closer (Group source body key groups) it at h = absurd (cc (h))
+
+  with_spare : (it : Spare) → spare_at nodes root ≡ Some it → gap_of nodes root < (figures_of nodes root).gt
+  with_spare it h =
+      let here = get_there nodes root within in
+      let x = spare_there nodes root here.0 it here.1 h in
+      let f = ap (λ (f : Figures). f.gt) (figures_there nodes root here.0 (Some it) here.1 h) in
+      let z = closer here.0 it here.1 x.of_node in
+      omega (arith, z, f)
+
+  never_farther : gap_of nodes root ≤ (figures_of nodes root).gt
+  never_farther = by (spare_at nodes root) refl
+    where
+      by : (o : Option Spare) → spare_at nodes root ≡ o → gap_of nodes root ≤ (figures_of nodes root).gt
+      by None h =
+          let here = get_there nodes root within in
+          let f = ap (λ (f : Figures). f.gt) (figures_there nodes root here.0 None here.1 h) in
+          omega (arith, f)
+      by (Some it) h = let z = with_spare it h in omega (arith, z)
+
+pub roots_come_closer : RootsComeCloser
+roots_come_closer nodes root plan within = record { never_farther = never_farther nodes root plan within; with_spare = with_spare nodes root plan within }
