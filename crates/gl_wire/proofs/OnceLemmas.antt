@@ -1,15 +1,15 @@
 -- A wire that serves gives what it owes over one stream.
-use Rattle.std.proofs.Common.{◌≡◌, ℕ, ◌+◌, ◌<◌, ◌≤◌, Some, Bool, true, false, refl, ap, sym, ◌∙◌, arith, inl, inr}
+use Rattle.std.proofs.Common.{◌≡◌, ℕ, ◌+◌, ◌<◌, ◌≤◌, List, Some, Bool, true, false, refl, ap, sym, ◌∙◌, arith, inl, inr}
 use Rattle.std.proofs.lemmas.Bool.{cases_lt}
 use Rattle.gl_algebra.specs.declared.figures.Figures.{Figures}
 use Rattle.gl_algebra.specs.FigureTable.{IsSound}
 use Rattle.gl_bits.specs.Results.{Row, Results}
-use Rattle.gl_wire.specs.Beats.{Beats, Ends, Spaced}
+use Rattle.gl_wire.specs.Beats.{Beats, Ends, Spaced, gap}
 use Rattle.gl_wire.specs.Once.{OneStream, ServingOnce}
 use Rattle.gl_wire.specs.Serves.{OneEnd, Caused}
 use Rattle.gl_wire.specs.Serving.{Serving}
-use Rattle.gl_wire.specs.Spills.{Lines}
-use Rattle.gl_wire.specs.Wire.{Carried}
+use Rattle.gl_wire.specs.Spills.{Lines, SameLines}
+use Rattle.gl_wire.specs.Wire.{Carried, stream}
 use Rattle.gl_wire.proofs.SideLemmas.{none_unless}
 
 pub serving_once : (f : Figures) (means : ℕ → Results) (lines : Lines) (beats : Beats) (b : Carried) (last : ℕ)
@@ -61,3 +61,47 @@ serving_once f means lines beats b last sound spaced one s = record {
                       omega (arith, apart, m, low, l, sound.tuples_gap, sound.tuples_last))
                   | inr k ↦ (let same : i.beat ≡ last = omega (arith, k, before) in let z = ap beats same in let w = i.is in let v = one.is in cc (z, w, v, p))
                 ]
+
+-- the same with other words for what is right
+pub once_as : (f : Figures) (means other : Results) (lines : Lines) (last : ℕ) (b : Carried) → ((ys : List Row) (p : Bool) → means ys p → other ys p)
+    → ServingOnce f means lines last b → ServingOnce f other lines last b
+once_as f means other lines last b goes s = record {
+  ended = s.ended;
+  low = s.low;
+  high = s.high;
+  ends = s.ends;
+  once = s.once;
+  none_later = s.none_later;
+  spill = s.spill;
+  right = goes (stream b s.ended) s.spill s.right;
+  unpassed = s.unpassed;
+  told = s.told;
+  so = s.so;
+  late = s.late;
+}
+
+-- and with the same lines
+pub once_lines : (f : Figures) (means : Results) (lines other : Lines) (last : ℕ) (b : Carried) → SameLines lines other
+    → ServingOnce f means other last b → ServingOnce f means lines last b
+once_lines f means lines other last b same s = record {
+  ended = s.ended;
+  low = s.low;
+  high = s.high;
+  ends = s.ends;
+  once = s.once;
+  none_later = s.none_later;
+  spill = s.spill;
+  right = s.right;
+  unpassed = λ c. same.passed c ∙ s.unpassed c;
+  told = λ e. let x = s.told e in (x.0, same.further x.0 ∙ x.1);
+  so = λ c e. s.so c (sym (same.further c) ∙ e);
+  late = λ c e. s.late c (sym (same.further c) ∙ e);
+}
+
+-- over one stream the gap after an end is never asked for
+pub spaced_once : (f g : Figures) (beats : Beats) (last : ℕ) → f.gt ≤ g.gt → OneStream beats last → Spaced g beats → Spaced f beats
+spaced_once f g beats last closer one spaced = record { first = spaced.first; apart = apart }
+  where
+    apart : (t u : ℕ) (e d : Bool) → beats t ≡ Some e → beats u ≡ Some d → t < u → t + gap f e ≤ u
+    apart t u true d p q l = absurd (omega (arith, one.only t p, one.until u d q, l))
+    apart t u false d p q l = let z = spaced.apart t u false d p q l in omega (arith, z, closer)
