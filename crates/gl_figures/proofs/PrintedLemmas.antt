@@ -1,5 +1,5 @@
 -- What is printed of a plan that is light enough: by the figures of its root, or with the spare copies of its windows.
-use Rattle.std.proofs.Common.{◌≡◌, ℕ, ◌+◌, ◌-◌, ◌*◌, ◌^◌, ◌<◌, ◌≤◌, List, length, Some, None, slice_get, refl, sym, ap, ◌∙◌, arith}
+use Rattle.std.proofs.Common.{◌≡◌, ℕ, ◌+◌, ◌-◌, ◌*◌, ◌^◌, ◌<◌, ◌≤◌, List, length, Option, Some, None, slice_get, refl, sym, ap, ◌∙◌, arith}
 use Rattle.std.proofs.Math.Nat.{mul-le-mul_left}
 use Rattle.gl_bits.proofs.AllLists.{get_there}
 use Rattle.gl_bits.specs.Limits.{most_weight}
@@ -7,10 +7,10 @@ use Rattle.gl_algebra.specs.declared.figures.Figures.{Figures}
 use Rattle.gl_algebra.specs.declared.figures.Spare.{Spare}
 use Rattle.gl_algebra.specs.declared.node.PlanNode.{PlanNode}
 use Rattle.gl_algebra.specs.declared.node.PlanNode.TheVariants.{Stream, Body, Compute, Select, Project, Aggregate, Union, Beside, Window, Group}
-use Rattle.gl_algebra.specs.FigureTable.{figures_of, stride_of}
+use Rattle.gl_algebra.specs.FigureTable.{AreSmall, figures_of, stride_of}
 use Rattle.gl_algebra.specs.Fits.{IsPlan}
 use Rattle.gl_algebra.specs.Nodewise.{value_at_node}
-use Rattle.gl_algebra.specs.Roots.{part_of_copy, root_figures, spare_at}
+use Rattle.gl_algebra.specs.Roots.{figures_with, part_of_copy, root_figures, spare_at}
 use Rattle.gl_algebra.specs.Shapes.{shape_of}
 use Rattle.gl_algebra.specs.Spares.{spare_over}
 use Rattle.gl_algebra.specs.Views.{copies_of_window, of_body}
@@ -112,3 +112,33 @@ module _ (nodes : List PlanNode) (root : ℕ) {source body size advance : ℕ} (
         copies = rw (copied, inside_is) (omega (arith, exact, more, each, light, fewer));
         light = omega (arith, weight, light);
       }
+
+-- the last cycle of a root is below 2^32, as its own figures are
+module _ (nodes : List PlanNode) (root : ℕ) (plan : IsPlan nodes) (small : AreSmall (figures_of nodes root)) where
+  by_node : (node : PlanNode) (it : Spare) → slice_get nodes root ≡ Some node → spare_at nodes root ≡ Some it
+      → (figures_with nodes root (Some it) node).le < 2 ^ 32
+  by_node (Window source body size advance) it at h = let z = soon nodes root it plan at h in omega (arith, z)
+  by_node (Stream number kinds) it at h = small.le
+  by_node (Body kinds) it at h = small.le
+  by_node (Compute child ops) it at h = small.le
+  by_node (Select child column) it at h = small.le
+  by_node (Project child items) it at h = small.le
+  by_node (Aggregate child aggs) it at h = small.le
+  by_node (Union left right) it at h = small.le
+  by_node (Beside left right) it at h = small.le
+  by_node (Group source body key groups) it at h = small.le
+
+  by_spare : root < length nodes → (o : Option Spare) → spare_at nodes root ≡ o → (root_figures nodes root).le < 2 ^ 32
+  by_spare within None h =
+      let here = get_there nodes root within in
+      let le = ap (λ (f : Figures). f.le) (figures_there nodes root here.0 None here.1 h) in
+      omega (arith, le, small.le)
+  by_spare within (Some it) h =
+      let here = get_there nodes root within in
+      let le = ap (λ (f : Figures). f.le) (figures_there nodes root here.0 (Some it) here.1 h) in
+      let z = by_node here.0 it here.1 h in
+      omega (arith, le, z)
+
+pub root_small : (nodes : List PlanNode) (root : ℕ) → IsPlan nodes → root < length nodes → AreSmall (figures_of nodes root)
+    → (root_figures nodes root).le < 2 ^ 32
+root_small nodes root plan within small = by_spare nodes root plan small within (spare_at nodes root) refl
