@@ -14,7 +14,7 @@ use Rattle.gl_schema.specs.Seen.{shown}
 use Rattle.gl_query.specs.declared.tree.Statement.{Statement}
 use Rattle.gl_query.specs.Checked.{IsChecked}
 use Rattle.gl_query.specs.Results.{IsResult}
-use Rattle.gl_algebra.specs.FigureTable as table
+use Rattle.gl_algebra.specs.Roots as roots
 use Rattle.gl_algebra.specs.Shapes.{Shape, kinds_of as kinds_of_node}
 use Rattle.gl_algebra.specs.declared.figures.Figures.{Figures}
 use Rattle.gl_net.specs.Net.{Net}
@@ -93,10 +93,10 @@ module _ (schema : Schema) (statement : Statement) (net : Net) (text : List ℕ)
 
   -- the figures and the results of the plan
   abbrev latency : ℕ
-  latency = table.latency_of (plan_of schema statement).nodes (plan_of schema statement).root
+  latency = roots.latency_of (plan_of schema statement).nodes (plan_of schema statement).root
 
   abbrev gap : ℕ
-  gap = table.gap_of (plan_of schema statement).nodes (plan_of schema statement).root
+  gap = roots.gap_of (plan_of schema statement).nodes (plan_of schema statement).root
 
   abbrev means : Meaning
   means = plan_means (plan_of schema statement).nodes (plan_of schema statement).root

@@ -4,8 +4,8 @@ use Rattle.gl_schema.specs.declared.schema.Schema.{Schema}
 use Rattle.gl_schema.specs.Schemas.{kinds_of}
 use Rattle.gl_query.specs.declared.tree.Statement.{Statement}
 use Rattle.gl_algebra.specs.Added.{placed_at}
-use Rattle.gl_algebra.specs.Cost.{most_memory, most_registers}
 use Rattle.gl_algebra.specs.Small.{AreFigures}
+use Rattle.gl_algebra.specs.Roots.{most_memory, most_registers}
 use Rattle.gl_net.specs.declared.counting.Cost.{Cost}
 use Rattle.gl_elaborate.specs.Plans.{plan_of}
 use Rattle.gl_verilog.specs.Cost.{memory_bits, register_bits}

@@ -146,6 +146,7 @@ fn text_of(
         &planned.plan,
         planned.root,
         &planned.figures,
+        planned.spare,
         &names,
     )?;
     let mut text = Vec::new(alloc);

@@ -7,7 +7,7 @@ use Rattle.gl_algebra.specs.declared.node.PlanNode.{PlanNode}
 use Rattle.gl_algebra.specs.Added.{Placed, placed_at}
 use Rattle.gl_algebra.specs.FigureTable.{AreSmall, figures_of}
 use Rattle.gl_algebra.specs.Small.{AreFigures}
-use Rattle.gl_algebra.specs.Weights.{weight_with_output}
+use Rattle.gl_algebra.specs.Roots.{spare_at, weight_with_output}
 use Rattle.gl_figures.specs.declared.Limit.{Limit}
 use Rattle.gl_figures.specs.declared.Limit.TheVariants.{Latency, Nodes}
 use Rattle.gl_figures.specs.Answered.{AreSmallBefore, IsPrinted}
@@ -50,6 +50,7 @@ pub record IsPlanned (schema : Schema) (statement : Statement) (p : Planned) : T
   pub limits : IsWithinLimits (plan_of schema statement)
   pub figures' : AreFigures p.plan p.figures.items
   pub printed' : IsPrinted p.plan p.root p.printed
+  pub spare' : p.spare ≡ spare_at p.plan p.root
 
 -- why a statement has no such plan; want of memory is free
 abbrev pub PassesOr : Placed → PlanFault → Type 0

@@ -3,6 +3,7 @@
 ghost use Rattle.std.specs.Prelude.{◌≡◌, ◌<◌, length, IfErr, IfOk, MatchResult, OnOk};
 ghost use Rattle.gl_query.specs.Checked.{IsChecked};
 ghost use Rattle.gl_algebra.specs.Added.{placed_at};
+ghost use Rattle.gl_algebra.specs.Roots.{spare_at};
 ghost use Rattle.gl_algebra.specs.Small.{AreFigures};
 ghost use Rattle.gl_figures.specs.Answered.{IsPrinted};
 ghost use Rattle.gl_elaborate.specs.Plans.{plan_of};
@@ -10,10 +11,10 @@ ghost use Rattle.gl_elaborate_plan.specs.declared.planning.PlanFault.TheVariants
 ghost use Rattle.gl_elaborate_plan.specs.Planned.{AreAllSmall, IsPlanned, IsWithinLimits, PassesOr};
 
 use gl_algebra::table::input_figures;
-use gl_algebra::{Figures, Plan, PlanId};
+use gl_algebra::{Figures, Plan, PlanId, Spare};
 use gl_bits::Memory as NoMemory;
 use gl_elaborate::elaborate;
-use gl_figures::{Limit, Printed, figures, weigh};
+use gl_figures::{Limit, Printed, figures, root_spare, weigh};
 use gl_query_check::Checked;
 use std::alloc::Global;
 use thiserror::Error;
@@ -48,6 +49,8 @@ pub struct Planned {
     pub figures: Vec<Figures>,
     /// What is printed of the whole: latency and gap in cycles, and copies of bodies.
     pub printed: Printed,
+    /// The spare copies of its root, where it has some.
+    pub spare: Option<Spare>,
 }
 
 // A place for the figures of each node.
@@ -79,18 +82,24 @@ fn figured(alloc: Global, plan: &Plan, root: PlanId) -> Result<Vec<Figures>, Pla
     }
 }
 
-// What is printed of a plan, where it is within the limits.
-fn weighed(alloc: Global, plan: &Plan, root: PlanId, own: &[Figures]) -> Result<Printed, PlanFault>
+// What is printed of a plan and the spare copies of its root, where it is within the limits.
+fn weighed(
+    alloc: Global,
+    plan: &Plan,
+    root: PlanId,
+    own: &[Figures],
+) -> Result<(Printed, Option<Spare>), PlanFault>
     requires figures { AreFigures plan.now own.now }
     requires root { root < length plan.now }
     requires small { AreAllSmall plan.now }
-    ensures printed { IfOk result (IsPrinted plan.now root) }
+    ensures printed { IfOk result (λ found. IsPrinted plan.now root found.0) }
+    ensures spare { IfOk result (λ found. found.1 ≡ spare_at plan.now root) }
     ensures within { OnOk result (IsWithinLimits (placed_at plan.now root)) }
     ensures fault { IfErr result (PassesOr (placed_at plan.now root)) }
 {
     let mut weights = zeros(alloc, plan.len())?;
     match weigh(plan, root, own, &mut weights) {
-        Ok(printed) => Ok(printed),
+        Ok(printed) => Ok((printed, root_spare(plan, root, own, &weights))),
         Err(limit) => Err(PlanFault::Limit(limit)),
     }
 }
@@ -105,11 +114,12 @@ pub fn plan_statement(alloc: Global, checked: &Checked) -> Result<Planned, PlanF
 {
     let (plan, root) = elaborate(alloc, checked)?;
     let figures = figured(alloc, &plan, root)?;
-    let printed = weighed(alloc, &plan, root, &figures)?;
+    let (printed, spare) = weighed(alloc, &plan, root, &figures)?;
     Ok(Planned {
         plan,
         root,
         figures,
         printed,
+        spare,
     })
 }

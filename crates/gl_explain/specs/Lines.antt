@@ -14,6 +14,8 @@ use Rattle.gl_algebra.specs.declared.node.PlanNode.{PlanNode}
 use Rattle.gl_algebra.specs.declared.node.PlanNode.TheVariants as node
 use Rattle.gl_algebra.specs.Added.{Placed}
 use Rattle.gl_algebra.specs.FigureTable.{figures_of}
+use Rattle.gl_algebra.specs.Roots.{spare_at}
+use Rattle.gl_algebra.specs.declared.figures.Spare.{Spare}
 
 -- a number behind a word or a sign
 unfoldable pub numbered : List ℕ → ℕ → List ℕ
@@ -98,11 +100,19 @@ lines_from schema plan number (n ∷ nodes) =
 abbrev pub lines_of : Schema → List PlanNode → List ℕ
 lines_of schema nodes = lines_from schema nodes 0 nodes
 
--- the last line
+-- the root
 unfoldable pub root_text : ℕ → List ℕ
 root_text root = codes "root" ++ node_text root ++ codes "\n"
 
--- a statement and its plan: the canonical text, the lines of the nodes, and the root
+-- its spare copies, where it has some: their number, the gap, and how late the end comes
+unfoldable pub spare_text : Option Spare → List ℕ
+spare_text None = []
+spare_text (Some it) =
+    codes "spare" ++ numbered (codes " ") it.copies ++ numbered (codes " ") it.gap ++ numbered (codes " ") it.shift
+    ++ codes "\n"
+
+-- a statement and its plan: the canonical text, the lines of the nodes, the root, and its spare copies
 abbrev pub plan_text : Schema → Statement → Placed → List ℕ
 plan_text schema statement at =
     canonical_text (statement_shape statement) ++ codes "\n" ++ lines_of schema at.nodes ++ root_text at.root
+    ++ spare_text (spare_at at.nodes at.root)

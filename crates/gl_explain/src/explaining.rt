@@ -3,14 +3,15 @@
 ghost use Rattle.std.specs.Prelude.{◌≡◌, IfErr, IfOk};
 ghost use Rattle.gl_query.specs.Checked.{IsChecked};
 ghost use Rattle.gl_algebra.specs.Added.{placed_at};
+ghost use Rattle.gl_algebra.specs.Roots.{spare_at};
 ghost use Rattle.gl_algebra.specs.Small.{AreFigures};
 ghost use Rattle.gl_elaborate.specs.Plans.{plan_of};
 ghost use Rattle.gl_elaborate_plan.specs.Planned.{PassesOr};
 ghost use Rattle.gl_explain.specs.Explained.{IsExplained};
 ghost use Rattle.gl_explain.specs.Lines.{plan_text};
 
-use crate::lines::{put, put_lines, put_root};
-use gl_algebra::{Figures, Plan, PlanId};
+use crate::lines::{put, put_lines, put_root, put_spare};
+use gl_algebra::{Figures, Plan, PlanId, Spare};
 use gl_bits::Memory;
 use gl_elaborate_plan::{PlanFault, plan_statement};
 use gl_query_check::Checked;
@@ -24,8 +25,10 @@ fn text_of(
     plan: &Plan,
     root: PlanId,
     own: &[Figures],
+    spare: Option<Spare>,
 ) -> Result<Vec<u8>, Memory>
-    requires { AreFigures plan.now own.now }
+    requires figures { AreFigures plan.now own.now }
+    requires spare { spare ≡ spare_at plan.now root }
     ensures { IfOk result (λ v.
         v.items ≡ plan_text checked.now.schema checked.now.statement (placed_at plan.now root)) }
 {
@@ -34,11 +37,12 @@ fn text_of(
     put(&mut text, b"\n")?;
     put_lines(&mut text, &checked.schema, plan, own)?;
     put_root(&mut text, root)?;
+    put_spare(&mut text, spare)?;
     Ok(text)
 }
 
-/// What is explained of a checked statement: its canonical text, a line for each node of its plan, and
-/// the root.
+/// What is explained of a checked statement: its canonical text, a line for each node of its plan, the
+/// root, and the root's spare copies where it has some.
 ///
 /// A limit comes exactly where the plan passes it.
 pub fn explain(alloc: Global, checked: &Checked) -> Result<Vec<u8>, PlanFault>
@@ -54,5 +58,6 @@ pub fn explain(alloc: Global, checked: &Checked) -> Result<Vec<u8>, PlanFault>
         &planned.plan,
         planned.root,
         &planned.figures,
+        planned.spare,
     )?)
 }

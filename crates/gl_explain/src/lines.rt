@@ -5,7 +5,7 @@ ghost use Rattle.gl_algebra.specs.Small.{AreFigures};
 ghost use Rattle.gl_explain.specs.Lines.{HasLine};
 ghost use Rattle.gl_explain.specs.Lines as spec;
 
-use gl_algebra::{Figures, Operand, Plan, PlanAgg, PlanId, PlanNode};
+use gl_algebra::{Figures, Operand, Plan, PlanAgg, PlanId, PlanNode, Spare};
 use gl_bits::Memory;
 use gl_schema::Schema;
 use itoa::Buffer;
@@ -243,5 +243,20 @@ pub(crate) fn put_root(text: &mut Vec<u8>, root: PlanId) -> Result<(), Memory>
     ensures { OnOk result (text.new.items ≡ text.old.items ++ spec.root_text root) }
 {
     put_one(text, b"root", root)?;
+    put(text, b"\n")
+}
+
+/// Appends the line of a root's spare copies, where it has some.
+#[tactic(auto, unfolding(crate::specs::Lines::spare_text))]
+pub(crate) fn put_spare(text: &mut Vec<u8>, spare: Option<Spare>) -> Result<(), Memory>
+    ensures { OnOk result (text.new.items ≡ text.old.items ++ spec.spare_text spare) }
+{
+    let Some(it) = spare else {
+        return Ok(());
+    };
+    put(text, b"spare")?;
+    put_number(text, b" ", u128::from(it.copies))?;
+    put_number(text, b" ", u128::from(it.gap))?;
+    put_number(text, b" ", u128::from(it.shift))?;
     put(text, b"\n")
 }

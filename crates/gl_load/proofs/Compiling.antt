@@ -15,7 +15,7 @@ use Rattle.gl_query_judge.specs.Judged.{BreaksRule, HasNoStatement}
 use Rattle.gl_query_judge.proofs.Judged.{one_meaning}
 use Rattle.gl_query_judge.specs.Limits.{IsOverLimit}
 use Rattle.gl_figures.specs.declared.Limit.{Limit}
-use Rattle.gl_elaborate.specs.Figures.{query_figures}
+use Rattle.gl_compiler_text.proofs.Planning.{gap_at}
 use Rattle.gl_elaborate.specs.Plans.{placed, plan_of, stream_node}
 use Rattle.gl_elaborate_plan.specs.Planned.{IsWithinLimits}
 use Rattle.gl_elaborate_plan.proofs.LimitLemmas.{one_limit}
@@ -29,7 +29,7 @@ use Rattle.gl_query_compiler.specs.Texts.{IsCompiledText, IsTextRefused, OfSchem
 use Rattle.gl_load.specs.Query.{load_schema, query_text, schema_text}
 use Rattle.gl_load.specs.Steps.{IsCompiledLoad}
 use Rattle.gl_load.proofs.Constants.{load_tree, query_faultless, query_has, schema_spelled}
-use Rattle.gl_load.proofs.Planning.{load_plan, plan_within, query_gap}
+use Rattle.gl_load.proofs.Planning.{load_gap, load_plan, plan_within}
 
 -- each statement of the query's text has the query and the plan of the load, and takes a tuple in each cycle
 pub query_is : (s : Statement) → HasStatement query_text (statement_tree s) → query_shape s.query ≡ query_alike load_tree.query
@@ -39,7 +39,7 @@ plan_is : (s : Statement) → HasStatement query_text (statement_tree s) → pla
 plan_is s has = ap (λ (q : QueryShape). placed (stream_node load_schema.streams) load_schema.streams q []) (query_is s has)
 
 pub gap_is : (s : Statement) → HasStatement query_text (statement_tree s) → gap_of load_schema s ≡ 1
-gap_is s has = ap (λ (q : QueryShape). (query_figures load_schema.streams q).gt) (query_is s has) ∙ query_gap
+gap_is s has = ap (λ (q : QueryShape). gap_at load_schema q) (query_is s has) ∙ load_gap
 
 faultless : (f : QueryFault) → HasNoStatement query_text f ⊎ BreaksRule load_schema query_text f → ⊥
 faultless f (inl h) = h.none load_tree query_has

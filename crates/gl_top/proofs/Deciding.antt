@@ -9,11 +9,10 @@ use Rattle.gl_schema.specs.Schemas.{IsSchema}
 use Rattle.gl_schema.proofs.Complete.{read_again}
 use Rattle.gl_query.specs.declared.tree.Statement.{Statement}
 use Rattle.gl_query.specs.declared.fault.QueryFault.{QueryFault}
-use Rattle.gl_query.specs.Shapes.{QueryShape}
 use Rattle.gl_query.specs.Trees.{statement_tree}
 use Rattle.gl_query_judge.specs.Judged.{IsQueryFault}
 use Rattle.gl_query_judge.proofs.Judged.{accepted_goes, one_fault, one_meaning}
-use Rattle.gl_elaborate.specs.Figures.{query_figures}
+use Rattle.gl_compiler_text.proofs.Planning.{gap_by_shape}
 use Rattle.gl_figures.specs.declared.Limit.{Limit}
 use Rattle.gl_tuples.specs.declared.beats.Beat.{Beat}
 use Rattle.gl_tuples.specs.declared.fault.TupleFault.{TupleFault}
@@ -234,8 +233,7 @@ one_schema told words s t tells a b = with_both (told (name_of words part.Schema
 -- its statements have one gap
 same_gap : (s : Schema) (st st' : Statement) (text : List ℕ) → IsQuery s text st → IsQuery s text st' → gap_of s st ≡ gap_of s st'
 same_gap s st st' text p q =
-    ap (λ (q : QueryShape). (query_figures s.streams q).gt)
-    (shapes_alike st st' (one_meaning text (statement_tree st) (statement_tree st') p.has q.has))
+    gap_by_shape s st st' (shapes_alike st st' (one_meaning text (statement_tree st) (statement_tree st') p.has q.has))
 
 one_gap : (told : List ℕ → Told) (words : List (List ℕ)) (s : Schema) (st st' : Statement) → IsTelling told words → QueryPasses told words s st → QueryPasses told words s st' → gap_of s st ≡ gap_of s st'
 one_gap told words s st st' tells p q =

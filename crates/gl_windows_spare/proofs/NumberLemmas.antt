@@ -2,8 +2,8 @@
 use Rattle.std.proofs.Common.{sym, subst, arith}
 use Rattle.gl_algebra.specs.FigureTable.{stride_of}
 use Rattle.gl_wire_copies.proofs.NumberLemmas.{all_turns}
-use Rattle.gl_figures.specs.declared.Spare.{Spare}
-use Rattle.gl_figures.specs.Spares.{IsSpare}
+use Rattle.gl_algebra.specs.declared.figures.Spare.{Spare}
+use Rattle.gl_algebra.specs.Spares.{IsSpare}
 use Rattle.gl_figures.proofs.SpareLemmas.{spare_is, spare_numbers_suffice}
 use Rattle.gl_windows_spare.specs.Laws.{SparesRotate}
 use Rattle.gl_windows_spare.specs.Rotations.{Suits, turns_in}

@@ -27,7 +27,7 @@ use Rattle.gl_windows_spare.specs.LateEnds.{IsLate}
 use Rattle.gl_windows_spare.specs.Laws.{SparesSchedule, SparesServe}
 use Rattle.gl_wire.specs.Once.{OneStream, ServingOnce}
 use Rattle.gl_windows_spare.specs.Sources.{OneSource}
-use Rattle.gl_figures.specs.Spares.{IsSpare, spare_over}
+use Rattle.gl_algebra.specs.Spares.{IsSpare, spare_over}
 use Rattle.gl_windows_spare.proofs.SpareLemmas.{schedules, over, parted, empties, caused}
 use Rattle.gl_windows_spare.proofs.LateLemmas.{one_source, late_stream}
 use Rattle.gl_windows_spare.proofs.OnceLemmas.{copies_end, ends, once, none_later, spill, right, unpassed, told, so, late as lines_late}

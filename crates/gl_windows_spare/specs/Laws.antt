@@ -21,7 +21,7 @@ use Rattle.gl_windows_spare.specs.LateEnds.{IsLate}
 use Rattle.gl_windows_spare.specs.Sources.{OneSource}
 use Rattle.gl_windows_spare.specs.Rotations.{IsRotation, Suits}
 use Rattle.gl_windows_spare.specs.declared.rotation.SpareRotation.{SpareRotation}
-use Rattle.gl_figures.specs.Spares.{IsSpare, spare_of, spare_over}
+use Rattle.gl_algebra.specs.Spares.{IsSpare, spare_of, spare_over}
 
 -- the stream of a visit
 abbrev pub stream_of : ℕ × List Row → List Row

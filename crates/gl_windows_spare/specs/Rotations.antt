@@ -25,7 +25,7 @@ use Rattle.gl_wire_registers.specs.Timers.{IsClose}
 use Rattle.gl_windows.specs.Front.{IsFront}
 use Rattle.gl_windows_spare.specs.Costs.{cost_of_front}
 use Rattle.gl_windows_spare.specs.LateEnds.{IsLate, IsQuiet}
-use Rattle.gl_figures.specs.Spares.{IsSpare, spare_over}
+use Rattle.gl_algebra.specs.Spares.{IsSpare, spare_over}
 use Rattle.gl_windows_spare.specs.declared.rotation.Fronted.{Fronted}
 use Rattle.gl_windows_spare.specs.declared.rotation.SpareRotation.{SpareRotation}
 

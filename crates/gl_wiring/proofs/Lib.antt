@@ -36,3 +36,6 @@ pub mod SpacedLemmas
 pub mod TotalCosts
 pub mod WindowCosts
 pub mod WindowLemmas
+pub mod AloneLemmas
+pub mod SpareCosts
+pub mod SpareLemmas

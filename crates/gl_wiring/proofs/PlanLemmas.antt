@@ -3,13 +3,11 @@ use Rattle.std.proofs.Common.{◌≡◌, ℕ, suc, ◌+◌, ◌*◌, ◌<◌, �
 use Rattle.std.specs.Prelude.{slice_get}
 use Rattle.std.specs.List.{sum}
 use Rattle.std.proofs.lemmas.List.{map-append}
-use Rattle.gl_algebra.specs.Cost.{most_memory, most_registers}
-use Rattle.gl_algebra.specs.FigureTable.{figures_of, gap_of, latency_of}
 use Rattle.gl_algebra.specs.Fits.{IsPlan}
 use Rattle.gl_algebra.specs.Results.{IsPlanResult}
 use Rattle.gl_algebra.specs.Shapes.{kinds_of}
-use Rattle.gl_algebra.specs.Weights.{weight_with_output}
 use Rattle.gl_algebra.specs.declared.node.PlanNode.{PlanNode}
+use Rattle.gl_algebra.specs.Roots.{gap_of, latency_of, most_memory, most_registers, root_figures, weight_with_output}
 use Rattle.gl_algebra.proofs.KindLemmas.{columns_have_kinds}
 use Rattle.gl_bits.proofs.AllLists.{length_map}
 use Rattle.gl_bits.proofs.Options.{some_same}
@@ -17,7 +15,7 @@ use Rattle.gl_bits.specs.Kinds.{width_of}
 use Rattle.gl_net.specs.Net.{Net, Run, IsRun, IsTrace, memory_bits_of, register_bits_of, size_of}
 use Rattle.gl_net.specs.PortValues.{PortShape, input_values, port_shapes}
 use Rattle.gl_wiring.specs.Leaves.{widths_of}
-use Rattle.gl_wiring.specs.Put.{counted}
+use Rattle.gl_wiring.specs.Roots.{root_counted}
 use Rattle.gl_wiring.proofs.CostLemmas.{bits_within}
 use Rattle.gl_schema.specs.Beats.{Beat, AreBeats, KeepsGap, inputs_of, last_cycle}
 use Rattle.gl_schema.specs.Ports.{IsStimulus, rst, eos, out_valid, out_column, out_eos, fault_group, fault_queue}
@@ -84,7 +82,7 @@ pub record IsWithin (nodes : List PlanNode) (root : ℕ) (net : Net) : Type 0 wh
 
 -- the circuit of the root and an output are within what the plan counts with its output
 pub costs_within : (nodes : List PlanNode) (root : ℕ) (n0 n1 n2 n3 : Net) (columns : List ℕ) → IsPlan nodes → root < length nodes
-    → IsEmpty n0 → CostsNothing n0 n1 → CostsAtMost n1 n2 (counted nodes root) → CostsAtMost n2 n3 (output_cost columns)
+    → IsEmpty n0 → CostsNothing n0 n1 → CostsAtMost n1 n2 (root_counted nodes root) → CostsAtMost n2 n3 (output_cost columns)
     → columns ≡ widths_of (kinds_of nodes root) → IsWithin nodes root n3
 costs_within nodes root n0 n1 n2 n3 columns plan within empty none put out same =
     let kinds = kinds_of nodes root in
@@ -113,7 +111,7 @@ module _ (schema : Schema) (nodes : List PlanNode) (root : ℕ) (names : List (L
         subst (λ (x : Wire). Brings k beats (carried run x)) same
         (brings schema k r.stream r.there beats are net run apart r.wire r.is stimulus)
 
-    shows : ShowsRight (figures_of nodes root) (IsPlanResult nodes root (plan_inputs (inputs_of beats))) (suc (last_cycle beats))
+    shows : ShowsRight (root_figures nodes root) (IsPlanResult nodes root (plan_inputs (inputs_of beats))) (suc (last_cycle beats))
         (carried run is.output.wire) (line_at run is.output.group) (line_at run is.output.queue)
     shows = plan_right run is.leaves beats are.order leaf_brings
         (λ k e. no_input schema beats k are.each (no_stream net schema.streams is.leaves k is.wires e))

@@ -3,9 +3,9 @@ use Rattle.std.proofs.Common.{◌≡◌, ℕ, zero, suc, ◌+◌, List, [], ◌�
 use Rattle.std.specs.Prelude.{map, option_to_list, nat_eq}
 use Rattle.std.specs.List.{cons_option}
 use Rattle.std.proofs.lemmas.List.Elements.{filter_map-append}
-use Rattle.gl_algebra.specs.FigureTable.{figures_of, latency_of}
 use Rattle.gl_algebra.specs.Results.{IsPlanResult}
 use Rattle.gl_algebra.specs.declared.node.PlanNode.{PlanNode}
+use Rattle.gl_algebra.specs.Roots.{latency_of, root_figures}
 use Rattle.gl_bits.specs.Results.{Row}
 use Rattle.gl_net.specs.Net.{Net, Run}
 use Rattle.gl_net.specs.PortValues.{port_values}
@@ -74,7 +74,7 @@ module _ (net : Net) (run : Run) (names : List (List ℕ)) (w : Wire) (group que
       ∙ sym (ap (rows a 1) m ∙ rows-split a (suc n) 1 1)
 
   module _ (nodes : List PlanNode) (root : ℕ) (beats : List Beat) (first : (carried run w).tuple 0 ≡ None)
-      (s : ShowsRight (figures_of nodes root) (IsPlanResult nodes root (plan_inputs (inputs_of beats))) (suc (last_cycle beats))
+      (s : ShowsRight (root_figures nodes root) (IsPlanResult nodes root (plan_inputs (inputs_of beats))) (suc (last_cycle beats))
       (carried run w) (line_at run group) (line_at run queue)) where
     -- what the ports show of a right output is right
     pub shown_right : IsRight (plan_means nodes root) (latency_of nodes root) beats outs port

@@ -1,14 +1,12 @@
 -- A plan's root over the beats of a file, shown one cycle later.
-use Rattle.std.proofs.Common.{◌≡◌, ℕ, zero, suc, ◌<◌, List, [], ◌++◌, length, Option, Some, None, Bool, slice_get, refl, sym, ap, ◌∙◌, subst, arith}
+use Rattle.std.proofs.Common.{◌≡◌, ℕ, zero, suc, List, [], ◌++◌, Option, Some, None, Bool, slice_get, refl, sym, ap, ◌∙◌, subst, arith}
 use mathlib.Core.Path.{fun_ext}
-use Rattle.gl_algebra.specs.FigureTable.{figures_of, gap_of}
-use Rattle.gl_algebra.specs.Fits.{IsPlan}
 use Rattle.gl_algebra.specs.Results.{Inputs, IsPlanResult}
 use Rattle.gl_algebra.specs.declared.figures.Figures.{Figures}
 use Rattle.gl_algebra.specs.declared.node.PlanNode.{PlanNode}
-use Rattle.gl_algebra.proofs.FigureLemmas.{figures_are_sound}
+use Rattle.gl_algebra.specs.Roots.{gap_of, root_figures}
 use Rattle.gl_bits.specs.Results.{Row}
-use Rattle.gl_net.specs.Net.{Net, Run, IsRun}
+use Rattle.gl_net.specs.Net.{Run}
 use Rattle.gl_wiring.specs.Leaves.{LeavesFit, carried_by, leaf, silent}
 use Rattle.gl_schema.specs.Beats.{Beat, AreInOrder, KeepsGap, input_of, inputs_of, last_cycle}
 use Rattle.gl_wire.specs.Faults.{lines_of}
@@ -17,10 +15,8 @@ use Rattle.gl_wire.specs.Shapes.{IsDelayed}
 use Rattle.gl_wire.specs.Wire.{Carried, carried, pending, stream}
 use Rattle.gl_wire.specs.declared.emitted.Emitted.{Emitted}
 use Rattle.gl_wire.specs.declared.wire.Wire.{Wire}
-use Rattle.gl_wire.proofs.OnceLemmas.{serving_once}
 use Rattle.gl_wiring.specs.Bringing.{Brings, beats_in}
-use Rattle.gl_wiring.specs.PlanNet.{ServesOnceIn}
-use Rattle.gl_wiring.specs.Put.{Gives}
+use Rattle.gl_wiring.specs.Roots.{ServesOnceIn}
 use Rattle.gl_wiring.specs.Root.{IsSticky, ShowsRight, later_line}
 use Rattle.gl_wiring.specs.Wired.{plan_inputs}
 use Rattle.gl_wiring.proofs.FileLemmas.{file_one, file_spaced, file_fits, file_stream}
@@ -46,19 +42,12 @@ module _ (run : Run) (leaves : List Wire) (beats : List Beat) (order : AreInOrde
   pub plan_right : (nodes : List PlanNode) (root : ℕ) (e : Emitted) (o : Carried) (group queue : ℕ → Bool)
       → ServesOnceIn nodes root leaves e run → KeepsGap (gap_of nodes root) beats → IsDelayed 1 (carried run e.wire) o
       → IsSticky (lines_of run e.faults).further group → IsSticky (later_line (lines_of run e.faults).passed) queue
-      → ShowsRight (figures_of nodes root) (IsPlanResult nodes root (plan_inputs (inputs_of beats))) (suc (last_cycle beats)) o group queue
+      → ShowsRight (root_figures nodes root) (IsPlanResult nodes root (plan_inputs (inputs_of beats))) (suc (last_cycle beats)) o group queue
   plan_right nodes root e o group queue serves keeps later sticky sticky' =
-      let f : Figures = figures_of nodes root in
+      let f : Figures = root_figures nodes root in
       let spaced = file_spaced beats order f (gap_of nodes root) (omega arith) keeps in
       let fits : LeavesFit run leaves (beats_in beats) = record { each = λ k w p. file_fits beats order k (carried run w) (brings k w p) } in
       let serving = serves (beats_in beats) (suc (last_cycle beats)) (file_one beats order) spaced fits in
       subst (λ (i : Inputs). ShowsRight f (IsPlanResult nodes root i) (suc (last_cycle beats)) o group queue) same_inputs
       (once_shows f (IsPlanResult nodes root (inputs_at (leaf run leaves) (leaf run leaves 0) (suc (last_cycle beats)))) (lines_of run e.faults)
       (carried run e.wire) o group queue (suc (last_cycle beats)) serving later sticky sticky')
-
--- a circuit that gives a node's results does so over one stream
-pub gives_once : (nodes : List PlanNode) (id : ℕ) (net : Net) (leaves : List Wire) (e : Emitted) → IsPlan nodes → id < length nodes
-    → Gives nodes id net leaves e → (run : Run) → IsRun net run → ServesOnceIn nodes id leaves e run
-gives_once nodes id net leaves e plan within gives run is beats last one spaced fits =
-    serving_once (figures_of nodes id) (λ t. IsPlanResult nodes id (inputs_at (leaf run leaves) (leaf run leaves 0) t)) (lines_of run e.faults)
-    beats (carried run e.wire) last (figures_are_sound nodes id plan within) spaced one (gives.serving run is beats spaced fits)

@@ -61,10 +61,10 @@ module _ (nodes : List PlanNode) (w : WindowOf) (plan : IsPlan nodes) (at : IsWi
   abbrev lines : ℕ → ℕ
   lines body = weight_of_copies count body (length source + 2) (length own + 2)
 
-  source_lines : length source ≡ length (kinds_of nodes w.source)
+  pub source_lines : length source ≡ length (kinds_of nodes w.source)
   source_lines = length-map (kinds_of nodes w.source) width_of
 
-  own_lines : length own ≡ length (kinds_of nodes w.body)
+  pub own_lines : length own ≡ length (kinds_of nodes w.body)
   own_lines = length-map (kinds_of nodes w.body) width_of
 
   follows : FollowsTables nodes w.id (Window w.source w.body w.size w.advance)
@@ -75,19 +75,19 @@ module _ (nodes : List PlanNode) (w : WindowOf) (plan : IsPlan nodes) (at : IsWi
       rotations_are_counted count delay source own
       (narrow_kinds (kinds_of nodes w.source) kinds_source) (narrow_kinds (kinds_of nodes w.body) kinds_body)
 
-  weight : weight_of nodes w.id ≡ weight_of nodes w.source + (lines (weight_of nodes w.body) + 4 * delay + spacer.nodes)
+  pub weight : weight_of nodes w.id ≡ weight_of nodes w.source + (lines (weight_of nodes w.body) + 4 * delay + spacer.nodes)
   weight = rw (source_lines, own_lines) follows.weight
 
   abbrev lean_spacer : ℕ
   lean_spacer = lean_of_spacer (window_gap (figures_of nodes w.body)) (figures_of nodes w.source) (length source + 2)
 
-  lean : lean_of nodes w.id ≡ lean_of nodes w.source + (lines (lean_of nodes w.body) + 4 * delay + lean_spacer)
+  pub lean : lean_of nodes w.id ≡ lean_of nodes w.source + (lines (lean_of nodes w.body) + 4 * delay + lean_spacer)
   lean = rw (source_lines, own_lines) follows.lean
 
-  keys : keys_of nodes w.id ≡ keys_of nodes w.source + count * keys_of nodes w.body
+  pub keys : keys_of nodes w.id ≡ keys_of nodes w.source + count * keys_of nodes w.body
   keys = follows.keys
 
-  store : store_of nodes w.id ≡ store_of nodes w.source + (count * store_of nodes w.body + spacer.memories)
+  pub store : store_of nodes w.id ≡ store_of nodes w.source + (count * store_of nodes w.body + spacer.memories)
   store = rw source_lines follows.store
 
   pub window_cost : (old mid net new : Net) → CostsAtMost old mid (cost_to_front nodes w) → CostsAtMost mid net (times count (counted nodes w.body))

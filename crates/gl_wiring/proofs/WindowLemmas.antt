@@ -58,7 +58,7 @@ room_for count f body sound = record {
 }
 
 -- results of parts, with other words for the parts' results
-joined_as : {Part : Type 0} (P Q : Part → Results) → ((part : Part) (ys : List Row) (p : Bool) → P part ys p → Q part ys p)
+pub joined_as : {Part : Type 0} (P Q : Part → Results) → ((part : Part) (ys : List Row) (p : Bool) → P part ys p → Q part ys p)
     → (parts : List Part) (ys : List Row) (p : Bool) → AreJoined P parts ys p → AreJoined Q parts ys p
 joined_as P Q h [] ys p r = r
 joined_as P Q h (part ∷ parts) ys p r = (r.0, r.1, r.2, r.3, h part r.0 r.2 r.4, joined_as P Q h parts r.1 r.3 r.5, r.6, r.7)

@@ -14,3 +14,5 @@ pub mod Put
 pub mod Lanes
 pub mod LaneGroups
 pub mod Windows
+pub mod Roots
+pub mod SpareWindows

@@ -1,14 +1,13 @@
 -- The netlist of a plan: every run of it over beats that keep the gap is right for the plan.
-use Rattle.std.specs.Prelude.{◌≡◌, ℕ, suc, ◌<◌, ◌≤◌, List, ◌++◌, length, map, Some, IsTrue, codes, bytes_eq}
+use Rattle.std.specs.Prelude.{◌≡◌, ℕ, suc, ◌<◌, ◌≤◌, List, ◌++◌, length, map, Option, Some, IsTrue, codes, bytes_eq}
 use Rattle.std.specs.List.{AllByRecursion, IsDistinct}
-use Rattle.gl_algebra.specs.Cost.{most_memory, most_registers}
-use Rattle.gl_algebra.specs.FigureTable.{gap_of, latency_of}
 use Rattle.gl_algebra.specs.Results.{Inputs, IsPlanResult}
 use Rattle.gl_algebra.specs.Shapes.{kinds_of, shape_of}
 use Rattle.gl_algebra.specs.Small.{AreFigures}
-use Rattle.gl_algebra.specs.Weights.{weight_with_output}
 use Rattle.gl_algebra.specs.declared.figures.Figures.{Figures}
+use Rattle.gl_algebra.specs.declared.figures.Spare.{Spare}
 use Rattle.gl_algebra.specs.declared.node.PlanNode.{PlanNode}
+use Rattle.gl_algebra.specs.Roots.{gap_of, latency_of, most_memory, most_registers, spare_at, weight_with_output}
 use Rattle.gl_net.specs.Net.{Net, Run, IsTrace, memory_bits_of, register_bits_of, size_of}
 use Rattle.gl_net.specs.PortValues.{input_values, port_shapes, port_values}
 use Rattle.gl_schema.specs.Beats as beats
@@ -51,12 +50,13 @@ pub record AreResultNames (many : ℕ) (names : ResultNames) : Type 0 where
   pub distinct : IsDistinct bytes_eq names.columns
 
 -- a plan that can be wired: its leaves are streams of the schema
-pub record CanWire (schema : Schema) (nodes : List PlanNode) (root : ℕ) (figures : List Figures) (names : ResultNames)
-    : Type 0 where
+pub record CanWire (schema : Schema) (nodes : List PlanNode) (root : ℕ) (figures : List Figures) (spare : Option Spare)
+    (names : ResultNames) : Type 0 where
   pub schema' : IsSchema schema
   pub within : root < length nodes
   pub leaves : AreStreamLeaves schema.streams (shape_of nodes root).leaves
   pub figured : AreFigures nodes figures
+  pub spared : spare ≡ spare_at nodes root
   pub named : AreResultNames (length (kinds_of nodes root)) names
 
 -- its netlist: the ports of the schema and of the result, at most what the plan counts with its output, and over beats

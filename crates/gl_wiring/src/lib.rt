@@ -14,7 +14,9 @@ mod output;
 pub mod parts;
 pub mod plan;
 pub mod put;
+pub mod roots;
 pub mod rows;
+pub mod spare_windows;
 pub mod windows;
 
 pub use names::{ResultNames, in_column_name, in_valid_name};

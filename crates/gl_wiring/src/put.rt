@@ -219,7 +219,7 @@ fn put_on_lane(
 // Adds a body's circuit behind each of these wires.
 #[cycle(put)]
 #[tactic(auto)]
-fn put_copies(
+pub(crate) fn put_copies(
     alloc: Global,
     net: &mut NetBuilder,
     plan: &Plan,

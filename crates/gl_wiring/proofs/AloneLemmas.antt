@@ -1,0 +1,56 @@
+-- The circuit of a root that has no spare copies: its node's own.
+use Rattle.std.proofs.Common.{◌≡◌, ℕ, ◌+◌, ◌*◌, ◌<◌, ◌≤◌, List, length, None, sym, subst, arith}
+use Rattle.gl_bits.proofs.AllLists.{get_there}
+use Rattle.gl_algebra.specs.declared.figures.Figures.{Figures}
+use Rattle.gl_algebra.specs.declared.node.PlanNode.{PlanNode}
+use Rattle.gl_algebra.specs.FigureTable.{figures_of}
+use Rattle.gl_algebra.specs.Fits.{IsPlan}
+use Rattle.gl_algebra.specs.Results.{IsPlanResult}
+use Rattle.gl_algebra.specs.Roots.{root_figures, spare_at}
+use Rattle.gl_algebra.proofs.FigureLemmas.{figures_are_sound}
+use Rattle.gl_figures.proofs.RootLemmas.{figures_there}
+use Rattle.gl_net.specs.Net.{Net, Run, IsRun}
+use Rattle.gl_wire.specs.declared.emitted.Emitted.{Emitted}
+use Rattle.gl_wire.specs.declared.wire.Wire.{Wire}
+use Rattle.gl_wire.specs.Beats.{Spaced}
+use Rattle.gl_wire.specs.Faults.{lines_of}
+use Rattle.gl_wire.specs.Once.{ServingOnce}
+use Rattle.gl_wire.specs.Serving.{inputs_at}
+use Rattle.gl_wire.specs.Wire.{carried}
+use Rattle.gl_wire.proofs.OnceLemmas.{serving_once}
+use Rattle.gl_wiring.specs.Leaves.{leaf}
+use Rattle.gl_wiring.specs.Put.{IsPut}
+use Rattle.gl_wiring.specs.Roots.{IsRootPut, ServesOnceIn}
+use Rattle.gl_wiring.proofs.CanLemmas.{put_columns}
+
+-- what a plan counts for a root is no less than for its node
+behind : (new old own further : ℕ) → new ≤ old + own → new ≤ old + (own + further)
+behind new old own further h = omega (arith, h)
+
+bits_behind : (new old own further : ℕ) → new ≤ old + 64 * own → new ≤ old + 64 * (own + further)
+bits_behind new old own further h = omega (arith, h)
+
+pub root_alone : (nodes : List PlanNode) (root : ℕ) (old new : Net) (leaves : List Wire) (e : Emitted) → IsPlan nodes → root < length nodes
+    → spare_at nodes root ≡ None → IsPut nodes root old new leaves e → IsRootPut nodes root old new leaves e
+root_alone nodes root old new leaves e plan within none put =
+    record {
+      keeps = put.keeps;
+      cost = record {
+        nodes = behind _ _ _ _ put.cost.nodes;
+        registers = bits_behind _ _ _ _ put.cost.registers;
+        memories = behind _ _ _ _ put.cost.memories;
+      };
+      columns = put_columns nodes root old new leaves e put;
+      once = once;
+    }
+  where
+    same : root_figures nodes root ≡ figures_of nodes root
+    same = let here = get_there nodes root within in figures_there nodes root here.0 None here.1 none
+
+    once : (run : Run) → IsRun new run → ServesOnceIn nodes root leaves e run
+    once run is beats last one spaced has =
+        let own = subst (λ (g : Figures). Spaced g beats) same spaced in
+        subst (λ (g : Figures). ServingOnce g (IsPlanResult nodes root (inputs_at (leaf run leaves) (leaf run leaves 0) last)) (lines_of run e.faults) last
+        (carried run e.wire)) (sym same)
+        (serving_once (figures_of nodes root) (λ t. IsPlanResult nodes root (inputs_at (leaf run leaves) (leaf run leaves 0) t)) (lines_of run e.faults)
+        beats (carried run e.wire) last (figures_are_sound nodes root plan within) own one (put.gives.serving run is beats own has))

@@ -1,0 +1,173 @@
+-- The circuit of windows with spare copies at the root of a plan.
+use Rattle.std.proofs.Common.{◌≡◌, ℕ, ◌<◌, List, [], ◌∷◌, length, Bool, false, refl, sym, ap, ◌∙◌, subst, arith}
+use Rattle.gl_bits.specs.Lists.{slices}
+use Rattle.gl_bits.specs.Results.{IsOfParts, Row}
+use Rattle.gl_bits.proofs.AllLists.{get_there}
+use Rattle.gl_algebra.specs.declared.figures.Figures.{Figures}
+use Rattle.gl_algebra.specs.declared.node.PlanNode.{PlanNode}
+use Rattle.gl_algebra.specs.declared.node.PlanNode.TheVariants.{Window}
+use Rattle.gl_algebra.specs.FigureTable.{IsSound, figures_of}
+use Rattle.gl_algebra.specs.Fits.{Fits as FitsPlan, IsPlan}
+use Rattle.gl_algebra.specs.Laws.{FollowsTables}
+use Rattle.gl_algebra.specs.Results.{Inputs, IsPlanResult, given}
+use Rattle.gl_algebra.specs.Roots.{root_figures}
+use Rattle.gl_algebra.specs.Shapes.{Shape, kinds_of}
+use Rattle.std.specs.Prelude.{Some}
+use Rattle.gl_algebra.proofs.FigureLemmas.{closing_nodes_wait, figures_are_sound}
+use Rattle.gl_algebra.proofs.KindLemmas.{columns_have_kinds}
+use Rattle.gl_algebra.proofs.ReadLemmas.{body_reads}
+use Rattle.gl_algebra.proofs.TableLemmas.{nodes_follow_tables}
+use Rattle.gl_figures.proofs.RootLemmas.{figures_there, spare_there}
+use Rattle.gl_net.specs.Net.{Net}
+use Rattle.gl_net.proofs.Determined.{keeps_then}
+use Rattle.gl_windows_spare.specs.declared.rotation.Fronted.{Fronted}
+use Rattle.gl_windows_spare.specs.declared.rotation.SpareRotation.{SpareRotation}
+use Rattle.gl_windows_spare.specs.Costs.{cost_of_front}
+use Rattle.gl_windows_spare.specs.Rotations.{IsBacked, IsFronted, IsRotation, Suits, figures_over}
+use Rattle.gl_windows_spare.proofs.NumberLemmas.{spares_rotate}
+use Rattle.gl_wire_copies.specs.Bodies.{OfBody, alone}
+use Rattle.gl_wire_copies.specs.Rotates.{lines_of_all}
+use Rattle.gl_wire_registers.specs.Joins.{columns_of, cost_of_back, told_of}
+use Rattle.gl_wire.specs.declared.emitted.Emitted.{Emitted}
+use Rattle.gl_wire.specs.declared.wire.Wire.{Wire}
+use Rattle.gl_wire.specs.Beats.{Spaced}
+use Rattle.gl_wire.specs.Costs.{CostsAtMost}
+use Rattle.gl_wire.specs.Faults.{lines_of}
+use Rattle.gl_wire.specs.Once.{ServingOnce}
+use Rattle.gl_wire.specs.Serving.{inputs_at}
+use Rattle.gl_wire.specs.Spills.{Lines, both_lines}
+use Rattle.gl_wire.specs.Wire.{carried}
+use Rattle.gl_wire.proofs.OnceLemmas.{once_as, once_lines, spaced_once}
+use Rattle.gl_wiring.specs.declared.spare_windows.SpareWindowOf.{SpareWindowOf}
+use Rattle.gl_wiring.specs.Copies.{AreBodies, CanCopy}
+use Rattle.gl_wiring.specs.Leaves.{leaf, widths_of}
+use Rattle.gl_wiring.specs.Put.{CanPut, Gives, IsPut}
+use Rattle.gl_wiring.specs.Roots.{IsRootPut}
+use Rattle.gl_wiring.specs.SpareWindows.{IsSpareFrontOf, IsSpareWindow, rotation_with}
+use Rattle.gl_wiring.proofs.BodyLemmas.{copies_serve}
+use Rattle.gl_wiring.proofs.CanLemmas.{first_within, second_within}
+use Rattle.gl_wiring.proofs.CopyLemmas.{bodies_columns, can_copies}
+use Rattle.gl_wiring.proofs.CostLemmas.{costs_then}
+use Rattle.gl_wiring.proofs.GivesLemmas.{gives_kept}
+use Rattle.gl_wiring.proofs.SpareCosts.{spare_cost}
+use Rattle.gl_wiring.proofs.WindowLemmas.{joined_as}
+
+module _ (nodes : List PlanNode) (w : SpareWindowOf) (plan : IsPlan nodes) (is : IsSpareWindow nodes w) where
+  abbrev id : ℕ
+  id = w.window.id
+
+  abbrev of_source : ℕ
+  of_source = w.window.source
+
+  abbrev of_body : ℕ
+  of_body = w.window.body
+
+  abbrev node : PlanNode
+  node = Window of_source of_body w.window.size w.window.advance
+
+  fits : FitsPlan nodes id node
+  fits = plan.fits id node is.window'
+
+  pub in_source : of_source < length nodes
+  in_source = first_within nodes id node plan is.window' of_source (of_body ∷ []) refl
+
+  pub in_body : of_body < length nodes
+  in_body = second_within nodes id node plan is.window' of_source of_body refl
+
+  follows : FollowsTables nodes id node
+  follows = nodes_follow_tables nodes id node plan is.window'
+
+  abbrev f : Figures
+  f = figures_of nodes of_source
+
+  abbrev r : SpareRotation
+  r = rotation_with nodes w
+
+  sound_source : IsSound f
+  sound_source = figures_are_sound nodes of_source plan in_source
+
+  sound_body : IsSound (figures_of nodes of_body)
+  sound_body = figures_are_sound nodes of_body plan in_body
+
+  -- the numbers of the rotation suit the source
+  pub rotates : IsRotation r × Suits r f
+  rotates =
+      spares_rotate r f sound_source sound_body (closing_nodes_wait nodes of_body plan in_body fits.suits.0.closing)
+      fits.suits.1.least fits.suits.2.least (spare_there nodes id node w.spare is.window' is.spare').of_node
+
+  figures_are : root_figures nodes id ≡ figures_over r f
+  figures_are = figures_there nodes id node (Some w.spare) is.window' is.spare'
+
+  -- the front behind the source
+  pub spare_front : (old mid new : Net) (leaves : List Wire) (below : Emitted) (front : Fronted) → IsPut nodes of_source old mid leaves below
+      → IsFronted mid new r below front → IsSpareFrontOf nodes w old new leaves front
+  spare_front old mid new leaves below front h fr =
+      let delay : ℕ = (figures_of nodes of_body).a in
+      let fore : CostsAtMost mid new (cost_of_front w.spare.copies delay (widths_of (kinds_of nodes of_source))) =
+      subst (λ (cs : List ℕ). CostsAtMost mid new (cost_of_front w.spare.copies delay cs)) h.gives.same_widths fr.cost in
+      record {
+        keeps = keeps_then old mid new h.keeps fr.keeps;
+        cost = costs_then old mid new _ _ h.cost fore;
+        gives = subst (λ (e : Emitted). Gives nodes of_source new leaves e) (sym fr.same) (gives_kept _ _ _ mid new leaves below fr.keeps h.gives);
+        fronts = fr.fronts;
+      }
+
+  -- behind the front the body can be put
+  pub spare_copies : (figures : List Figures) (old mid net : Net) (leaves : List Wire) (front : Fronted) → CanPut nodes figures id old leaves
+      → IsSpareFrontOf nodes w mid net leaves front → CanCopy nodes figures of_body net front.wires
+  spare_copies figures old mid net leaves front can h =
+      can_copies nodes figures id of_source of_body node old net leaves front.wires plan is.window' refl fits.suits.0 can
+      (λ k wire at_wire. let x = h.fronts.wires k wire at_wire in (x.0, x.1 ∙ h.gives.same_widths))
+
+  -- the results of all windows are those of the root
+  abbrev parts_of : Inputs → List Row → Bool → Type 0
+  parts_of inputs = IsOfParts (IsPlanResult nodes of_source inputs) (slices w.window.size w.window.advance) (OfBody nodes of_body) (λ rows. false)
+
+  of_root : (inputs : Inputs) (ys : List Row) (p : Bool) → parts_of inputs ys p → IsPlanResult nodes id inputs ys p
+  of_root inputs ys p v =
+      (follows.results inputs ys p).1 (record {
+        rows = v.rows;
+        source_spill = v.source_spill;
+        parts_spill = v.parts_spill;
+        of_source = v.of_source;
+        of_parts = joined_as (OfBody nodes of_body) (λ slice. IsPlanResult nodes of_body (given inputs slice))
+            (λ slice zs q y. body_reads nodes of_body plan in_body (kinds_of nodes of_source) fits.suits.0.leaves (alone slice) (given inputs slice) refl zs q y)
+            (slices w.window.size w.window.advance v.rows) ys v.parts_spill v.of_parts;
+        any = v.any;
+      })
+
+  -- the back behind the copies
+  pub spare_back : (old mid net new : Net) (leaves : List Wire) (front : Fronted) (copies : List Emitted) (e : Emitted)
+      → IsSpareFrontOf nodes w old mid leaves front → AreBodies nodes of_body mid net front.wires (length front.wires) copies
+      → IsBacked net new r front copies e → IsRootPut nodes id old new leaves e
+  spare_back old mid net new leaves front copies e h bodies b =
+      let many : length front.wires ≡ w.spare.copies = h.fronts.as_many in
+      let are : AreBodies nodes of_body mid net front.wires w.spare.copies copies =
+      subst (λ (n : ℕ). AreBodies nodes of_body mid net front.wires n copies) many bodies in
+      let first = get_there copies 0 (omega (arith, rotates.0.some', are.as_many)) in
+      let columns : columns_of copies ≡ widths_of (kinds_of nodes of_body) =
+      bodies_columns nodes of_body mid net front.wires copies bodies 0 first.0 first.1 in
+      let rear : CostsAtMost net new (cost_of_back w.spare.copies (widths_of (kinds_of nodes of_body))) =
+      subst (λ (cs : List ℕ). CostsAtMost net new (cost_of_back w.spare.copies cs)) columns b.cost in
+      record {
+        keeps = keeps_then old mid new h.keeps (keeps_then mid net new are.keeps b.keeps);
+        cost = spare_cost nodes w plan is (columns_have_kinds nodes of_source plan in_source) (columns_have_kinds nodes of_body plan in_body)
+            old mid net new h.cost are.cost rear;
+        columns = record {
+          wire = b.wire;
+          same_widths = b.same_widths ∙ columns ∙ ap (λ (s : Shape). widths_of s.kinds) (sym follows.shape);
+          lines = b.lines;
+        };
+        once = λ run run_new beats last one spaced has.
+            let run_net = b.keeps.runs run run_new in
+            let run_mid = are.keeps.runs run run_net in
+            let ins : ℕ → Inputs = inputs_at (leaf run leaves) (leaf run leaves 0) in
+            let here : Spaced (figures_over r f) beats = subst (λ (g : Figures). Spaced g beats) figures_are spaced in
+            let source = h.gives.serving run run_mid beats (spaced_once f (figures_over r f) beats last rotates.1.source_gap one here) has in
+            let whole = b.serves run run_new f sound_source rotates.1 nodes of_source of_body ins (lines_of run front.source.faults) beats last one here source
+            (λ k l own. copies_serve nodes of_source of_body plan in_body fits.suits.0 mid net run front.wires w.spare.copies copies run_net are many k l own) in
+            let lines : Lines = both_lines (lines_of run front.source.faults) (lines_of_all (told_of run copies) w.spare.copies) in
+            subst (λ (g : Figures). ServingOnce g (IsPlanResult nodes id (ins last)) (lines_of run e.faults) last (carried run e.wire)) (sym figures_are)
+            (once_lines (figures_over r f) (IsPlanResult nodes id (ins last)) (lines_of run e.faults) lines last (carried run e.wire) (b.told run run_new)
+            (once_as (figures_over r f) (parts_of (ins last)) (IsPlanResult nodes id (ins last)) lines last (carried run e.wire) (of_root (ins last)) whole));
+      }

@@ -1,0 +1,98 @@
+//! Windows with spare copies at the root of a plan: the front with late ends, and the back behind the copies of the body.
+
+ghost use Rattle.std.specs.Prelude.{◌≡◌, List, IfOk, length};
+ghost use Rattle.gl_algebra.specs.Small.{AreFigures};
+ghost use Rattle.gl_net.specs.Net.{Net};
+ghost use Rattle.gl_windows_spare.specs.Rotations.{Fronts, IsRotation};
+ghost use Rattle.gl_wire_registers.specs.Joins.{AreCopies};
+ghost use Rattle.gl_wire.specs.declared.wire.Wire.{Wire as WireOf};
+ghost use Rattle.gl_wiring.specs.Copies.{AreBodies};
+ghost use Rattle.gl_wiring.specs.Put.{HasColumns, IsPut};
+ghost use Rattle.gl_wiring.specs.Roots.{IsRootPut};
+ghost use Rattle.gl_wiring.specs.SpareWindows.{IsSpareFrontOf, IsSpareWindow, rotation_with};
+
+use crate::arms::figures_at;
+use crate::windows::WindowOf;
+use gl_algebra::{Figures, Plan, Spare};
+use gl_bits::Memory;
+use gl_net::NetBuilder;
+use gl_windows_spare::{Fronted, SpareRotation};
+use gl_wire::Emitted;
+use std::alloc::Global;
+
+/// Windows at the root of a plan, with spare copies of their body.
+#[derive(Clone, Copy)]
+pub struct SpareWindowOf {
+    /// The windows.
+    pub window: WindowOf,
+    /// Their spare copies.
+    pub spare: Spare,
+}
+
+impl SpareWindowOf {
+    // The rotation over all copies.
+    fn rotation(&self, plan: &Plan, figures: &[Figures]) -> SpareRotation
+        requires node { IsSpareWindow plan.now self.now }
+        requires figures { AreFigures plan.now figures.now }
+        ensures value { result ≡ rotation_with plan.now self.now }
+        ensures is { IsRotation result }
+    {
+        // What `len` ensures of it is what the goals below ask for.
+        let _ = plan.len();
+        SpareRotation {
+            size: self.window.size,
+            advance: self.window.advance,
+            body: figures_at(plan, figures, self.window.body),
+            spare: self.spare,
+        }
+    }
+
+    /// The front behind the source's rows.
+    pub(crate) fn front(
+        &self,
+        alloc: Global,
+        net: &mut NetBuilder,
+        plan: &Plan,
+        figures: &[Figures],
+        below: Emitted,
+    ) -> Result<Fronted, Memory>
+        requires node { IsSpareWindow plan.now self.now }
+        requires figures { AreFigures plan.now figures.now }
+        requires below { HasColumns plan.now self.now.window.source net.old below }
+        ensures { (old : Net) (leaves : List WireOf)
+            → IsPut plan.now self.now.window.source old net.old leaves below
+            → IfOk result (λ front. IsSpareFrontOf plan.now self.now old net.new leaves front) }
+    {
+        let _ = plan.len();
+        let rotation = self.rotation(plan, figures);
+        // Named, since a goal speaks of the value.
+        let front = rotation.front(alloc, net, below)?;
+        Ok(front)
+    }
+
+    /// The back behind the copies of the body.
+    pub(crate) fn back(
+        &self,
+        alloc: Global,
+        net: &mut NetBuilder,
+        plan: &Plan,
+        figures: &[Figures],
+        front: &Fronted,
+        copies: &[Emitted],
+    ) -> Result<Emitted, Memory>
+        requires node { IsSpareWindow plan.now self.now }
+        requires figures { AreFigures plan.now figures.now }
+        requires front { Fronts net.old (rotation_with plan.now self.now) front.now }
+        requires copies { AreCopies net.old copies.now }
+        requires count { length copies.now ≡ self.now.spare.copies }
+        ensures { (old mid : Net) (leaves : List WireOf)
+            → IsSpareFrontOf plan.now self.now old mid leaves front.now
+            → AreBodies plan.now self.now.window.body mid net.old front.now.wires (length front.now.wires) copies.now
+            → IfOk result (λ e. IsRootPut plan.now self.now.window.id old net.new leaves e) }
+    {
+        let _ = plan.len();
+        let rotation = self.rotation(plan, figures);
+        let e = rotation.back(alloc, net, front, copies)?;
+        Ok(e)
+    }
+}
