@@ -17,6 +17,8 @@ use Rattle.gl_wire.specs.Faults.{lines_of}
 use Rattle.gl_wire.specs.Once.{ServingOnce}
 use Rattle.gl_wire.specs.Serving.{inputs_at}
 use Rattle.gl_wire.specs.Wire.{carried}
+use Rattle.gl_algebra.specs.Cost.{keys_of, lean_of}
+use Rattle.gl_algebra.specs.Roots.{further_keys, further_lean}
 use Rattle.gl_wire.proofs.OnceLemmas.{serving_once}
 use Rattle.gl_wiring.specs.Leaves.{leaf}
 use Rattle.gl_wiring.specs.Put.{IsPut}
@@ -27,8 +29,8 @@ use Rattle.gl_wiring.proofs.CanLemmas.{put_columns}
 behind : (new old own further : ℕ) → new ≤ old + own → new ≤ old + (own + further)
 behind new old own further h = omega (arith, h)
 
-bits_behind : (new old own further : ℕ) → new ≤ old + 64 * own → new ≤ old + 64 * (own + further)
-bits_behind new old own further h = omega (arith, h)
+bits_behind : (new old own further keys more : ℕ) → new ≤ old + (64 * own + keys) → new ≤ old + (64 * (own + further) + (keys + more))
+bits_behind new old own further keys more h = omega (arith, h)
 
 pub root_alone : (nodes : List PlanNode) (root : ℕ) (old new : Net) (leaves : List Wire) (e : Emitted) → IsPlan nodes → root < length nodes
     → spare_at nodes root ≡ None → IsPut nodes root old new leaves e → IsRootPut nodes root old new leaves e
@@ -37,7 +39,7 @@ root_alone nodes root old new leaves e plan within none put =
       keeps = put.keeps;
       cost = record {
         nodes = behind _ _ _ _ put.cost.nodes;
-        registers = bits_behind _ _ _ _ put.cost.registers;
+        registers = bits_behind _ _ (lean_of nodes root) (further_lean nodes root) (keys_of nodes root) (further_keys nodes root) put.cost.registers;
         memories = behind _ _ _ _ put.cost.memories;
       };
       columns = put_columns nodes root old new leaves e put;

@@ -2,13 +2,14 @@ use Rattle.std.proofs.Common.{refl}
 use Rattle.gl_algebra.specs.Cost.{keys_of, lean_of, ring, store_of}
 use Rattle.gl_algebra.specs.Direct.{form_of}
 use Rattle.gl_algebra.specs.FigureTable.{figures_of}
+use Rattle.gl_algebra.specs.Roots.{of_further, root_figures, spare_at}
 use Rattle.gl_algebra.specs.Nodewise.{nodewise, value_to_depth}
 use Rattle.gl_algebra.specs.Shapes.{shape_of}
 use Rattle.gl_algebra.specs.Weights.{weight_of, copies_of}
 use Rattle.gl_plan_tests.proofs.plans.worked_plans.Goals as goal
 
 pub returns-clause-figures : goal.returns-clause-figures
-unfolding figures_of shape_of copies_of nodewise value_to_depth
+unfolding figures_of shape_of weight_of copies_of spare_at root_figures of_further nodewise value_to_depth
 returns-clause-figures c = record {
   counts = refl;
   counts_in_windows = record { is_late = refl; is_apart = refl; is_copied = refl };
@@ -22,9 +23,9 @@ returns-clause-figures c = record {
 }
 
 pub returns-clause-weights : goal.returns-clause-weights
-unfolding figures_of shape_of weight_of nodewise value_to_depth
+unfolding figures_of shape_of weight_of spare_at of_further nodewise value_to_depth
 returns-clause-weights c = record { most = refl; more = refl; all = refl }
 
 pub returns-clause-bits : goal.returns-clause-bits
-unfolding figures_of shape_of form_of lean_of keys_of store_of ring nodewise value_to_depth
+unfolding figures_of shape_of weight_of form_of lean_of keys_of store_of spare_at of_further ring nodewise value_to_depth
 returns-clause-bits c = record { registers = refl; memories = refl; sums = refl; in_windows = refl; keys = refl }
