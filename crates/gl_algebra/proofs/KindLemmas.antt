@@ -1,10 +1,10 @@
 -- The columns of a plan's nodes have kinds of columns.
-use Rattle.std.proofs.Common.{ℕ, List, All, map, sym, subst, arith, lit<}
+use Rattle.std.proofs.Common.{ℕ, List, All, map, sym, subst, lit<, lit≤}
 use Rattle.std.proofs.lemmas.List.Elements.{All-append, All-cons, All-map, All-weaker}
 use Rattle.gl_bits.specs.Kinds.{IsKind}
 use Rattle.gl_bits.specs.Operators.{sort_of}
 use Rattle.gl_bits.specs.declared.kind.Kind.{Kind}
-use Rattle.gl_bits.proofs.KindLemmas.{bit_is_kind, result_is}
+use Rattle.gl_bits.proofs.KindLemmas.{bit_is_kind, cast_kind, result_is}
 use Rattle.gl_algebra.specs.declared.node.ColOp.{ColOp}
 use Rattle.gl_algebra.specs.declared.node.ColOp.TheVariants.{Not, Cast, Binary}
 use Rattle.gl_algebra.specs.declared.node.Operand.{Operand}
@@ -28,11 +28,11 @@ module _ (kinds : List Kind) (are : All IsKind kinds) where
 
   op_is : (op : ColOp) → OpFits kinds op → IsKind (kind_of_op kinds op)
   op_is (Not operand) fits = bit_is_kind
-  op_is (Cast operand kind) fits = fits.1
+  op_is (Cast operand kind) fits = cast_kind (kind_of_operand kinds operand) kind fits.1
   op_is (Binary operator left right) fits = result_is (sort_of operator) (kind_of_operand kinds left) (operand_is left fits.0)
 
   agg_is : (agg : PlanAgg) → AggFits kinds agg → IsKind (kind_of_agg kinds agg)
-  agg_is Count fits = (omega arith, omega arith)
+  agg_is Count fits = (lit≤ tt, lit≤ tt)
   agg_is (Sum operand) fits = operand_is operand fits.0
   agg_is (Min operand) fits = operand_is operand fits
   agg_is (Max operand) fits = operand_is operand fits

@@ -4,10 +4,10 @@ use Rattle.std.specs.Bool.{Decides}
 use Rattle.std.specs.Cmp.{IsEquivalence, unsigned_Decides}
 use Rattle.std.specs.Cmp.Lexicographic.{pointwise, pointwise_decides}
 use Rattle.gl_bits.proofs.Bools.{and_parts}
+use Rattle.gl_bits.proofs.KindLemmas.{kinds_equal}
 use Rattle.gl_algebra.specs.Added.{same_node}
 use Rattle.gl_bits.specs.Words.{Word}
 use Rattle.gl_bits.specs.declared.kind.Kind.{Kind}
-use Rattle.gl_bits.specs.declared.kind.Kind.TheVariants.{Unsigned, Text}
 use Rattle.gl_bits.specs.contracts.kind.KindPartialEq.TheImpl as OfKind
 use Rattle.gl_bits.specs.contracts.kind.KindEq.TheImpl.Laws as KindLaws
 use Rattle.gl_bits.specs.contracts.word.WordPartialEq.TheImpl as OfWord
@@ -42,14 +42,8 @@ never h = cc
 number : (x y : ℕ) → nat_eq x y ≡ true → x ≡ y
 number x y h = (unsigned_Decides x y).0 h
 
-same_kind : (x y : Kind) → OfKind.ghosts.eq x y ≡ true → x ≡ y
-same_kind (Unsigned v) (Unsigned w) h = ap Unsigned (number v w h)
-same_kind (Unsigned v) (Text n) h = absurd (never h)
-same_kind (Text m) (Unsigned w) h = absurd (never h)
-same_kind (Text m) (Text n) h = ap Text (number m n h)
-
 same_kinds : (xs ys : List Kind) → pointwise OfKind.ghosts.eq xs ys ≡ true → xs ≡ ys
-same_kinds xs ys = (pointwise_decides (decides_from OfKind.ghosts.eq KindLaws.laws-law same_kind) xs ys).0
+same_kinds xs ys = (pointwise_decides (decides_from OfKind.ghosts.eq KindLaws.laws-law kinds_equal) xs ys).0
 
 same_word : (x y : Word) → OfWord.ghosts.eq x y ≡ true → x ≡ y
 same_word x y h =
@@ -79,7 +73,7 @@ same_operand (Column v) (Literal u k) h = absurd (never h)
 same_operand (Literal u k) (Column w) h = absurd (never h)
 same_operand (Literal u k) (Literal v l) h =
     let parts = and_parts (OfWord.ghosts.eq u v) (OfKind.ghosts.eq k l) h in
-    λ i. Literal (same_word u v parts.0 i) (same_kind k l parts.1 i)
+    λ i. Literal (same_word u v parts.0 i) (kinds_equal k l parts.1 i)
 
 same_operands : (xs ys : List Operand) → pointwise OfOperand.ghosts.eq xs ys ≡ true → xs ≡ ys
 same_operands xs ys = (pointwise_decides (decides_from OfOperand.ghosts.eq OperandLaws.laws-law same_operand) xs ys).0
@@ -88,7 +82,7 @@ pub same_op : (x y : ColOp) → OfColOp.ghosts.eq x y ≡ true → x ≡ y
 same_op (Not a) (Not b) h = ap Not (same_operand a b h)
 same_op (Cast a k) (Cast b l) h =
     let parts = and_parts (OfOperand.ghosts.eq a b) (OfKind.ghosts.eq k l) h in
-    λ i. Cast (same_operand a b parts.0 i) (same_kind k l parts.1 i)
+    λ i. Cast (same_operand a b parts.0 i) (kinds_equal k l parts.1 i)
 same_op (Binary o a b) (Binary p c d) h =
     let parts = and_parts (OfOp.ghosts.eq o p) (OfOperand.ghosts.eq a c && OfOperand.ghosts.eq b d) h in
     let sides = and_parts (OfOperand.ghosts.eq a c) (OfOperand.ghosts.eq b d) parts.1 in

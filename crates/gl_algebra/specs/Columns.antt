@@ -1,11 +1,11 @@
 -- The kinds of columns: of operands, of operations, of aggregates, and when they fit the columns that they are applied
 -- to.
-use Rattle.std.specs.Prelude.{ℕ, ◌≡◌, ◌<◌, ◌≤◌, List, length, slice_index_or, All, ⊤}
+use Rattle.std.specs.Prelude.{ℕ, ◌≡◌, ◌<◌, ◌≤◌, List, length, slice_index_or, All, IsTrue, ⊤}
 use Rattle.gl_bits.specs.Limits.{most_weights}
 use Rattle.gl_bits.specs.Words.{Word, IsWord}
-use Rattle.gl_bits.specs.Kinds.{width_of, IsKind}
+use Rattle.gl_bits.specs.Kinds.{width_of, can_cast, is_number, IsKind}
 use Rattle.gl_bits.specs.declared.kind.Kind.{Kind}
-use Rattle.gl_bits.specs.declared.kind.Kind.TheVariants.{Unsigned, Text}
+use Rattle.gl_bits.specs.declared.kind.Kind.TheVariants.{Unsigned}
 use Rattle.gl_bits.specs.declared.op.Sort.{Sort}
 use Rattle.gl_bits.specs.declared.op.Sort.TheVariants.{Arithmetic, Comparison, Logic}
 use Rattle.gl_bits.specs.Operators.{sort_of, result_kind}
@@ -44,34 +44,21 @@ kind_of_agg kinds (Max operand) = kind_of_operand kinds operand
 kind_of_agg kinds (Avg operand) = kind_of_operand kinds operand
 kind_of_agg kinds (Wsum operand weights) = kind_of_operand kinds operand
 
--- a kind of numbers
-abbrev pub IsUnsigned : Kind → Type 0
-IsUnsigned (Unsigned width) = ⊤
-IsUnsigned (Text bytes) = ⊥
-
 -- a column that is there, or a literal of its kind's width
 abbrev pub OperandFits : List Kind → Operand → Type 0
 OperandFits kinds (Column column) = column < length kinds
 OperandFits kinds (Literal word kind) = IsWord word × IsKind kind × (word.width ≡ width_of kind)
 
--- a cast goes from numbers to numbers, or from texts to texts
-abbrev pub CastFits : Kind → Kind → Type 0
-CastFits (Unsigned from) (Unsigned to) = ⊤
-CastFits (Unsigned from) (Text to) = ⊥
-CastFits (Text from) (Unsigned to) = ⊥
-CastFits (Text from) (Text to) = ⊤
-
 -- what both operands of an operator are: numbers, of any kind, or bits
 abbrev pub SortFits : Sort → Kind → Type 0
-SortFits Arithmetic kind = IsUnsigned kind
+SortFits Arithmetic kind = IsTrue (is_number kind)
 SortFits Comparison kind = ⊤
 SortFits Logic kind = kind ≡ bit_kind
 
 -- an operation whose operands are there and have the kinds that it takes
 abbrev pub OpFits : List Kind → ColOp → Type 0
 OpFits kinds (Not operand) = OperandFits kinds operand × (kind_of_operand kinds operand ≡ bit_kind)
-OpFits kinds (Cast operand kind) =
-    OperandFits kinds operand × IsKind kind × CastFits (kind_of_operand kinds operand) kind
+OpFits kinds (Cast operand kind) = OperandFits kinds operand × IsTrue (can_cast (kind_of_operand kinds operand) kind)
 OpFits kinds (Binary operator left right) =
     OperandFits kinds left × OperandFits kinds right
     × (kind_of_operand kinds left ≡ kind_of_operand kinds right)
@@ -85,10 +72,10 @@ pub record WeightFits (kind : Kind) (weight : Word) : Type 0 where
 -- an aggregate whose operand is there and has a kind that it takes
 abbrev pub AggFits : List Kind → PlanAgg → Type 0
 AggFits kinds Count = ⊤
-AggFits kinds (Sum operand) = OperandFits kinds operand × IsUnsigned (kind_of_operand kinds operand)
+AggFits kinds (Sum operand) = OperandFits kinds operand × IsTrue (is_number (kind_of_operand kinds operand))
 AggFits kinds (Min operand) = OperandFits kinds operand
 AggFits kinds (Max operand) = OperandFits kinds operand
-AggFits kinds (Avg operand) = OperandFits kinds operand × IsUnsigned (kind_of_operand kinds operand)
+AggFits kinds (Avg operand) = OperandFits kinds operand × IsTrue (is_number (kind_of_operand kinds operand))
 AggFits kinds (Wsum operand weights) =
-    OperandFits kinds operand × IsUnsigned (kind_of_operand kinds operand)
+    OperandFits kinds operand × IsTrue (is_number (kind_of_operand kinds operand))
     × (length weights ≤ most_weights) × All (WeightFits (kind_of_operand kinds operand)) weights

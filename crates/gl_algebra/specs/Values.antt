@@ -1,9 +1,8 @@
 -- The values of operations on one row. A row is the list of its words' numbers, in the order of the columns.
-use Rattle.std.specs.Prelude.{ℕ, ◌-◌, ◌*◌, ◌/◌, ◌%◌, ◌^◌, List, slice_index}
-use Rattle.gl_bits.specs.Operators.{operate}
+use Rattle.std.specs.Prelude.{ℕ, List, slice_index}
+use Rattle.gl_bits.specs.Operators.{cast_of, operate}
 use Rattle.gl_bits.specs.Words.{not_of}
 use Rattle.gl_bits.specs.declared.kind.Kind.{Kind}
-use Rattle.gl_bits.specs.declared.kind.Kind.TheVariants.{Unsigned, Text}
 use Rattle.gl_algebra.specs.declared.node.Operand.{Operand}
 use Rattle.gl_algebra.specs.declared.node.Operand.TheVariants.{Column, Literal}
 use Rattle.gl_algebra.specs.declared.node.ColOp.{ColOp}
@@ -15,16 +14,9 @@ abbrev pub value_of_operand : List ℕ → Operand → ℕ
 value_of_operand row (Column column) = slice_index row column
 value_of_operand row (Literal word kind) = word.bits
 
--- a number as a number of another width; of a text the first bytes, or all of them with zero bytes behind
-abbrev pub value_as : Kind → Kind → ℕ → ℕ
-value_as (Unsigned from) (Unsigned to) x = x % 2 ^ to
-value_as (Unsigned from) (Text to) x = x
-value_as (Text from) (Unsigned to) x = x
-value_as (Text from) (Text to) x = x / 2 ^ (8 * (from - to)) * 2 ^ (8 * (to - from))
-
 -- the value of an operation on a row whose columns have these kinds
 abbrev pub value_of_op : List Kind → List ℕ → ColOp → ℕ
 value_of_op kinds row (Not operand) = not_of 1 (value_of_operand row operand)
-value_of_op kinds row (Cast operand kind) = value_as (kind_of_operand kinds operand) kind (value_of_operand row operand)
+value_of_op kinds row (Cast operand kind) = cast_of (kind_of_operand kinds operand) kind (value_of_operand row operand)
 value_of_op kinds row (Binary operator left right) =
     operate operator (kind_of_operand kinds left) (value_of_operand row left) (value_of_operand row right)

@@ -1,8 +1,7 @@
 //! The kinds of columns: of operands, of operations, of aggregates, and of lists of these.
 
-ghost use Rattle.std.specs.Prelude.{◌≡◌, ◌<◌, ◌^◌, ◌++◌, ◌∷◌, IfOk, map};
+ghost use Rattle.std.specs.Prelude.{◌≡◌, ◌++◌, ◌∷◌, IfOk, map};
 ghost use Rattle.gl_algebra.specs.Columns.{kind_of_agg, kind_of_column, kind_of_op, kind_of_operand};
-ghost use Rattle.gl_bits.specs.Kinds.{width_of};
 ghost use Rattle.gl_bits.specs.Operators.{result_kind};
 
 use crate::node::{ColOp, Kinds, Operand, PlanAgg};
@@ -61,17 +60,6 @@ pub fn kind_of_agg(kinds: &[Kind], agg: &PlanAgg) -> Kind
         PlanAgg::Max(operand) => kind_of_operand(kinds, operand),
         PlanAgg::Avg(operand) => kind_of_operand(kinds, operand),
         PlanAgg::Wsum(operand, _) => kind_of_operand(kinds, operand),
-    }
-}
-
-// The bits of a value of any kind.
-pub(crate) fn width_in(kind: Kind) -> u32
-    ensures value { result ≡ width_of kind }
-    ensures below { result < 2 ^ 12 }
-{
-    match kind {
-        Kind::Unsigned(width) => width as u32,
-        Kind::Text(bytes) => 8 * bytes as u32,
     }
 }
 

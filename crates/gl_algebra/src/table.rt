@@ -5,7 +5,7 @@ ghost use Rattle.gl_algebra.specs.FigureTable.{aggregate_figures, beside_figures
 ghost use Rattle.gl_algebra.specs.Views.{copies_of_window};
 ghost use Rattle.gl_algebra.specs.Small.{small_of};
 
-use crate::columns::{kind_of_operand, width_in};
+use crate::columns::kind_of_operand;
 use crate::figures::Figures;
 use crate::node::PlanAgg;
 use crate::wide::{
@@ -48,7 +48,7 @@ pub fn delay_of_agg(kinds: &[Kind], agg: &PlanAgg) -> u32
     ensures { result ≡ delay_of_agg kinds.now agg.now }
 {
     match agg {
-        PlanAgg::Avg(operand) => width_in(kind_of_operand(kinds, operand)) + 34,
+        PlanAgg::Avg(operand) => u32::from(kind_of_operand(kinds, operand).bits()) + 34,
         PlanAgg::Count => 1,
         PlanAgg::Sum(_) => 1,
         PlanAgg::Min(_) => 1,

@@ -37,9 +37,15 @@ unsigned_sum : (kind : Kind) (xs : List ℕ) → sum_of_numbers kind xs ≡ pos 
 unsigned_sum (Unsigned w) xs = summed 0 xs
 unsigned_sum (Text n) xs = summed 0 xs
 
+from_0 : (n m : ℕ) → pos (0 + (n + 0) % m) ≡ pos (n % m)
+from_0 n m =
+    let same : n + 0 ≡ n = omega arith in
+    let none : 0 + n % m ≡ n % m = omega arith in
+    ap (λ (k : ℕ). pos (0 + k % m)) same ∙ ap pos none
+
 wrapped_unsigned : (kind : Kind) (bits n : ℕ) → wrapped kind bits (pos n) ≡ pos (n % 2 ^ bits)
-wrapped_unsigned (Unsigned w) bits n = refl
-wrapped_unsigned (Text m) bits n = refl
+wrapped_unsigned (Unsigned w) bits n = from_0 n (2 ^ bits)
+wrapped_unsigned (Text m) bits n = from_0 n (2 ^ bits)
 
 wrapped_sum : (kind : Kind) (bits : ℕ) (xs : List ℕ) → wrapped kind bits (sum_of_numbers kind xs) ≡ pos (sum xs % 2 ^ bits)
 wrapped_sum kind bits xs = ap (wrapped kind bits) (unsigned_sum kind xs) ∙ wrapped_unsigned kind bits (sum xs)

@@ -1,23 +1,61 @@
 -- Kinds of columns: unsigned numbers and short texts.
-use Rattle.std.specs.Prelude.{ℕ, ℤ, pos, ◌*◌, ◌^◌, ◌≤◌, Bool, int_le, int_lt, unsigned_abs}
+use Rattle.std.specs.Prelude.{ℕ, ℤ, pos, ◌+ℤ◌, ◌-ℤ◌, ◌*◌, ◌/◌, ◌^◌, ◌≤◌, Bool, true, false, ◌&&◌, int_le, int_lt, nat_le, unsigned_abs}
 use Rattle.std.specs.Int.{int_rem_euclid}
+use Rattle.gl_bits.specs.declared.kind.Family.{Family}
+use Rattle.gl_bits.specs.declared.kind.Family.TheVariants.{Numbers, Texts}
 use Rattle.gl_bits.specs.declared.kind.Kind.{Kind}
 use Rattle.gl_bits.specs.declared.kind.Kind.TheVariants.{Unsigned, Text}
+
+-- ---- what each kind answers for itself
 
 -- the bits of a value: eight for each byte of a text
 abbrev pub width_of : Kind → ℕ
 width_of (Unsigned w) = w
 width_of (Text n) = 8 * n
 
--- unsigned numbers have 1 to 64 bits, texts 1 to 8 bytes
-abbrev pub IsKind : Kind → Type 0
-IsKind (Unsigned w) = (1 ≤ w) × (w ≤ 64)
-IsKind (Text n) = (1 ≤ n) × (n ≤ 8)
+-- what its values are
+abbrev pub family_of : Kind → Family
+family_of (Unsigned w) = Numbers
+family_of (Text n) = Texts
 
 -- the number that a word of a kind stands for: a text stands for its bytes, the first one highest
 abbrev pub number_of : Kind → ℕ → ℤ
 number_of (Unsigned w) word = pos word
 number_of (Text n) word = pos word
+
+-- the least number that so many bits of a kind hold: without a sign none is below 0
+abbrev pub lowest : Kind → ℕ → ℤ
+lowest (Unsigned w) bits = pos 0
+lowest (Text n) bits = pos 0
+
+-- ---- what follows for all of them
+
+-- a kind has 1 to 64 bits, so a text has 1 to 8 bytes
+abbrev pub IsKind : Kind → Type 0
+IsKind kind = (1 ≤ width_of kind) × (width_of kind ≤ 64)
+
+abbrev pub is_kind : Kind → Bool
+is_kind kind = nat_le 1 (width_of kind) && nat_le (width_of kind) 64
+
+-- the bytes of a text
+abbrev pub bytes_in : Kind → ℕ
+bytes_in kind = width_of kind / 8
+
+-- two families are one
+abbrev pub are_alike : Family → Family → Bool
+are_alike Numbers Numbers = true
+are_alike Numbers Texts = false
+are_alike Texts Numbers = false
+are_alike Texts Texts = true
+
+abbrev pub is_number : Kind → Bool
+is_number kind = are_alike (family_of kind) Numbers
+
+abbrev pub is_text : Kind → Bool
+is_text kind = are_alike (family_of kind) Texts
+
+abbrev pub same_family : Kind → Kind → Bool
+same_family first second = are_alike (family_of first) (family_of second)
 
 -- words of one kind compare as their numbers
 abbrev pub is_below : Kind → ℕ → ℕ → Bool
@@ -26,11 +64,21 @@ is_below kind x y = int_lt (number_of kind x) (number_of kind y)
 abbrev pub is_at_most : Kind → ℕ → ℕ → Bool
 is_at_most kind x y = int_le (number_of kind x) (number_of kind y)
 
+-- a number is one of the 2 ^ width that words of a kind stand for, from the lowest on
+abbrev pub in_range : Kind → ℤ → Bool
+in_range kind number =
+    int_le (lowest kind (width_of kind)) number
+    && int_lt number (lowest kind (width_of kind) +ℤ pos (2 ^ width_of kind))
+
 -- the word of a width that stands for a number, which wraps
 abbrev pub word_of : ℕ → ℤ → ℕ
 word_of width number = unsigned_abs (int_rem_euclid number (pos (2 ^ width)))
 
--- a number as so many bits of a kind hold it, a multiple of 2 ^ bits away: a kind without a sign holds none below 0
+-- a number as so many bits of a kind hold it: from the lowest on, a multiple of 2 ^ bits away
 abbrev pub wrapped : Kind → ℕ → ℤ → ℤ
-wrapped (Unsigned w) bits number = int_rem_euclid number (pos (2 ^ bits))
-wrapped (Text n) bits number = int_rem_euclid number (pos (2 ^ bits))
+wrapped kind bits number =
+    lowest kind bits +ℤ int_rem_euclid (number -ℤ lowest kind bits) (pos (2 ^ bits))
+
+-- a CAST goes from numbers to numbers and from texts to texts, to a kind that there is
+abbrev pub can_cast : Kind → Kind → Bool
+can_cast from to = same_family from to && is_kind to

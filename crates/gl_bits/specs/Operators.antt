@@ -1,10 +1,11 @@
--- What binary operators do, and what they give of two words of one kind.
+-- What binary operators do, and what they give of two words of one kind; and what CAST gives.
 -- After IEEE 1364-2005, clause 5, for operands of one width.
-use Rattle.std.specs.Prelude.{ℕ, Bool, true, false, bit_and, bit_or}
+use Rattle.std.specs.Prelude.{ℕ, ◌*◌, ◌/◌, ◌^◌, Bool, true, false, bit_and, bit_or, if◌then◌else◌}
 use Rattle.gl_bits.specs.Words.{bit, sum_of, difference_of, product_of, not_of, eq_of}
-use Rattle.gl_bits.specs.Kinds.{width_of, is_below, is_at_most}
+use Rattle.gl_bits.specs.Kinds.{width_of, number_of, word_of, is_number, is_below, is_at_most}
 use Rattle.gl_bits.specs.declared.kind.Kind.{Kind}
 use Rattle.gl_bits.specs.declared.kind.Kind.TheVariants.{Unsigned}
+use Rattle.gl_bits.specs.contracts.kind.KindPartialEq.TheImpl as OfKind
 use Rattle.gl_bits.specs.declared.op.Op.{Op}
 use Rattle.gl_bits.specs.declared.op.Op.TheVariants.{Add, Sub, Mul, Eq, Ne, Lt, Le, Gt, Ge, And, Or}
 use Rattle.gl_bits.specs.declared.op.Sort.{Sort}
@@ -48,3 +49,13 @@ operate Gt kind x y = bit (is_below kind y x)
 operate Ge kind x y = bit (is_at_most kind y x)
 operate And kind x y = bit_and x y
 operate Or kind x y = bit_or x y
+
+-- a number as the word of the new width that stands for it, which wraps; of a text the first bytes, or all of them with
+-- zero bytes behind
+abbrev pub cast_of : Kind → Kind → ℕ → ℕ
+cast_of from to x =
+    if is_number from then word_of (width_of to) (number_of from x) else x * 2 ^ width_of to / 2 ^ width_of from
+
+-- two kinds are one
+abbrev pub same_kind : Kind → Kind → Bool
+same_kind = OfKind.ghosts.eq

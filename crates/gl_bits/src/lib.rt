@@ -17,7 +17,7 @@ pub mod row;
 pub mod totals;
 pub mod word;
 
-pub use kind::Kind;
+pub use kind::{Family, Kind};
 pub use listed::Listed;
 pub use lists::{Group, Table};
 pub use op::{Op, Sort};

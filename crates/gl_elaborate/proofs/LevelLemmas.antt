@@ -1,10 +1,11 @@
 -- A level: what is reduced by it keeps its kind and its value.
 use Rattle.std.proofs.Common.{◌≡◌, ℕ, ◌+◌, ◌<◌, true, List, [], ◌∷◌, ◌++◌, length, Option, Some, None, slice_get, get_or, refl, sym, ap, subst, ◌∙◌, arith, map, length-append}
-use Rattle.std.specs.Prelude.{option_map}
+use Rattle.std.specs.Prelude.{IsTrue, option_map}
 use Rattle.std.specs.List.{AllByRecursion, AllZip, list_any, position_or_len}
 use Rattle.std.proofs.lemmas.List.{length-map, get_or_append_left, get_or-append-add}
 use Rattle.std.proofs.lemmas.Option.{slice_get-map, slice_get_within, get_or_from_slice_get, same_Some}
 use Rattle.indexmap.specs.IndexSet.{insert_key, insert_all}
+use Rattle.gl_bits.specs.Kinds.{can_cast}
 use Rattle.gl_bits.specs.Words.{not_of}
 use Rattle.gl_bits.specs.declared.kind.Kind.{Kind}
 use Rattle.gl_algebra.specs.declared.node.Operand.{Operand}
@@ -15,7 +16,7 @@ use Rattle.gl_bits.specs.Operators.{result_kind, sort_of}
 use Rattle.gl_bits.proofs.AllLists.{all_append, all_front, all_back}
 use Rattle.gl_bits.proofs.Bools.{by_cases}
 use Rattle.gl_bits.specs.Results.{Row}
-use Rattle.gl_algebra.specs.Columns.{bit_kind, kind_of_operand, kind_of_op, OperandFits, OpFits, CastFits, SortFits}
+use Rattle.gl_algebra.specs.Columns.{bit_kind, kind_of_operand, kind_of_op, OperandFits, OpFits, SortFits}
 use Rattle.gl_algebra.specs.Values.{value_of_operand, value_of_op}
 use Rattle.gl_algebra.specs.Results.{computed}
 use Rattle.gl_algebra.proofs.ListLemmas.{first_passes}
@@ -102,7 +103,7 @@ module _ (kinds : List Kind) where
 
   cast-op : (t : Term) (k : Kind) (x : Operand) → IsTerm kinds (Cast t k) → IsLeaf kinds t x → IsOp kinds (Cast t k) (op.Cast x k)
   cast-op t k x fits is = record {
-    fits = (is.fits, fits.1, subst (λ (j : Kind). CastFits j k) (sym is.kind) fits.2);
+    fits = (is.fits, subst (λ (j : Kind). IsTrue (can_cast j k)) (sym is.kind) fits.1);
     kind = refl;
     value = λ row. rw (is.kind, is.value row) refl;
   }
@@ -219,7 +220,7 @@ module _ (kinds : List Kind) (level : List ColOp) where
       })
   carried (Cast t k) fits has = or-carried (Cast t k) (Cast (reduced (length kinds) level t) k) (op_of (Cast t k)) (innermost t) refl fits has
       (λ ops. let below = carried t fits.0 ops in record {
-        fits = (below.fits, fits.1, subst (λ (j : Kind). CastFits j k) (sym below.kind) fits.2);
+        fits = (below.fits, subst (λ (j : Kind). IsTrue (can_cast j k)) (sym below.kind) fits.1);
         kind = refl;
         value = λ row same. rw (below.kind, below.value row same) refl;
       })

@@ -1,10 +1,11 @@
 -- A select over a node of a plan: its nodes fit, and its results are those of the select.
 use Rattle.std.proofs.Common.{◌≡◌, ℕ, zero, suc, ◌+◌, ◌%◌, ◌^◌, ◌<◌, ◌≤◌, Bool, true, List, [], ◌∷◌, length, Option, Some, None, slice_get, get_or, slice_index, refl, sym, ap, subst, ◌∙◌, arith, map, filter, nat_eq, lit≤}
-use Rattle.std.specs.Prelude.{option_to_list}
+use Rattle.std.specs.Prelude.{IsTrue, option_to_list}
 use Rattle.std.specs.List.{AllByRecursion, AllZip, range_with_len}
 use Rattle.std.proofs.lemmas.List.{length-map}
 use Rattle.std.proofs.lemmas.Option.{slice_get-get_or}
-use Rattle.gl_bits.specs.Kinds.{width_of}
+use Rattle.gl_bits.specs.Kinds.{can_cast, width_of}
+use Rattle.gl_bits.specs.Operators.{cast_of}
 use Rattle.gl_bits.specs.declared.kind.Kind.{Kind}
 use Rattle.gl_bits.specs.declared.kind.Kind.TheVariants.{Unsigned}
 use Rattle.gl_schema.specs.declared.schema.Column.{Column as NamedColumn}
@@ -17,12 +18,10 @@ use Rattle.gl_query.specs.Accepted.{IsRows, IsPick}
 use Rattle.gl_query.specs.Results.{picked, keeps, kept}
 use Rattle.gl_algebra.specs.declared.node.PlanNode.{PlanNode}
 use Rattle.gl_algebra.specs.Columns.{bit_kind, kind_of_operand, OperandFits}
-use Rattle.gl_algebra.specs.Values.{value_as}
 use Rattle.gl_algebra.specs.Shapes.{Shape, Pace, unsteady}
 use Rattle.gl_bits.specs.Results.{Row, Results, IsChanged}
 use Rattle.gl_bits.proofs.Bools.{by_cases}
 use Rattle.gl_query.specs.Laws.{AreKinds, IsLongAs}
-use Rattle.gl_algebra.specs.Columns.{CastFits}
 use Rattle.gl_algebra.specs.Added.{Placed}
 use Rattle.gl_algebra.specs.Results.{Meaning}
 use Rattle.gl_algebra.specs.Results as algebra
@@ -71,16 +70,16 @@ record IsCast (kinds : List Kind) (t t' : Term) : Type 0 where
   pub no : IsNoLiteral t'
   pub value : (row : Row) → term_value kinds row t' ≡ term_value kinds row t
 
-same_bit : (n width : ℕ) (kind : Kind) → kind ≡ bit_kind → width ≡ width_of kind → n < 2 ^ width → value_as kind (Unsigned 1) n ≡ n
+same_bit : (n width : ℕ) (kind : Kind) → kind ≡ bit_kind → width ≡ width_of kind → n < 2 ^ width → cast_of kind (Unsigned 1) n ≡ n
 same_bit n width kind k w fits =
     let narrow : 2 ^ width ≡ 2 = ap (λ (i : ℕ). 2 ^ i) (w ∙ ap width_of k) in
     let less : n < 2 = omega (arith, fits, narrow) in
-    ap (λ (j : Kind). value_as j (Unsigned 1) n) k ∙ (let same : n % 2 ≡ n = omega arith in same)
+    ap (λ (j : Kind). cast_of j (Unsigned 1) n) k ∙ (let same : n % 2 ≡ n = omega arith in same)
 
 condition : (kinds : List Kind) (t : Term) → IsTerm kinds t → term_kind kinds t ≡ bit_kind → IsCast kinds t (condition_of t)
 condition kinds (Column n) fits bit = record { fits = fits; kind = bit; no = tt; value = λ row. refl }
 condition kinds (Literal w k) fits bit = record {
-  fits = (fits, (lit≤ tt, lit≤ tt), subst (λ (j : Kind). CastFits j (Unsigned 1)) (sym bit) tt);
+  fits = (fits, subst (λ (j : Kind). IsTrue (can_cast j (Unsigned 1))) (sym bit) refl);
   kind = refl;
   no = tt;
   value = λ row. same_bit w.bits w.width k bit fits.2 fits.0.fits;

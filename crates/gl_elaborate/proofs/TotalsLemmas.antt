@@ -1,13 +1,13 @@
 -- Totals over a node of a plan.
 use Rattle.std.proofs.Common.{◌≡◌, ℕ, ◌+◌, ◌^◌, ◌<◌, Bool, true, List, [], ◌∷◌, ◌++◌, length, None, refl, sym, ap, subst, ◌∙◌, arith, map, max}
+use Rattle.std.specs.Prelude.{IsTrue}
 use Rattle.std.specs.List.{AllByRecursion, AllZip, All}
 use Rattle.std.proofs.lemmas.List.{length-map}
 use Rattle.std.proofs.lemmas.List.Elements.{All-from_recursion}
 use Rattle.gl_bits.specs.Words.{bits_of}
-use Rattle.gl_bits.specs.Kinds.{IsKind, width_of}
+use Rattle.gl_bits.specs.Kinds.{IsKind, is_number, width_of}
 use Rattle.gl_bits.specs.Totals.{count_of, sum_total, least_of, greatest_of, average_of, weighted_sum}
 use Rattle.gl_bits.specs.declared.kind.Kind.{Kind}
-use Rattle.gl_bits.specs.declared.kind.Kind.TheVariants.{Unsigned, Text}
 use Rattle.gl_schema.specs.declared.schema.Column.{Column as NamedColumn}
 use Rattle.gl_schema.specs.Schemas.{kinds_of}
 use Rattle.gl_query.specs.Shapes.{ExprShape, AggShape, AggItemShape}
@@ -19,7 +19,7 @@ use Rattle.gl_query.specs.Results.{agg_value, total_row, values_of}
 use Rattle.gl_algebra.specs.declared.node.Operand.{Operand}
 use Rattle.gl_algebra.specs.declared.node.PlanAgg.{PlanAgg}
 use Rattle.gl_algebra.specs.declared.node.PlanNode.{PlanNode}
-use Rattle.gl_algebra.specs.Columns.{kind_of_operand, kind_of_agg, OperandFits, AggFits, IsUnsigned, WeightFits}
+use Rattle.gl_algebra.specs.Columns.{kind_of_operand, kind_of_agg, OperandFits, AggFits, WeightFits}
 use Rattle.gl_algebra.specs.Values.{value_of_operand}
 use Rattle.gl_algebra.specs.Shapes.{Shape, once, shape_of}
 use Rattle.gl_algebra.specs.FigureTable.{delay_of_agg, delay_of_aggs}
@@ -27,6 +27,7 @@ use Rattle.gl_elaborate.specs.Figures.{agg_delay, aggs_delay}
 use Rattle.gl_bits.specs.Words.{IsWidth}
 use Rattle.gl_bits.specs.Results.{Row, Results, IsChanged}
 use Rattle.gl_bits.proofs.AllLists.{all_append}
+use Rattle.gl_bits.proofs.KindLemmas.{range_below}
 use Rattle.gl_query.specs.Laws.{AreKinds}
 use Rattle.gl_query.specs.Values.{IsNumberOf}
 use Rattle.gl_algebra.specs.Added.{Placed}
@@ -36,7 +37,7 @@ use Rattle.gl_elaborate.specs.Levels.{operand_of}
 use Rattle.gl_elaborate.specs.Plans.{levelled, arguments_of, arguments_of_all, weights_of, agg_over, behind, aggs_of, totals_over}
 use Rattle.gl_elaborate.specs.Fitting.{TotalsFit}
 use Rattle.gl_elaborate.proofs.TermLemmas.{term-kind, term-value}
-use Rattle.gl_elaborate.proofs.AcceptedLemmas.{term-fits, kind-fits, unsigned}
+use Rattle.gl_elaborate.proofs.AcceptedLemmas.{term-fits, kind-fits}
 use Rattle.gl_elaborate.proofs.LevelLemmas.{IsCarried}
 use Rattle.gl_elaborate.proofs.StandsLemmas.{Stands, weaker, aggregate-fits, aggregate-stands, levels-stand}
 use Rattle.gl_elaborate.proofs.LongLemmas.{AreLong}
@@ -80,12 +81,10 @@ module _ (columns : List NamedColumn) (areKinds : AreKinds columns) (kinds : Lis
   counted rows = rw length-map refl
 
   width-fits : (kind : Kind) → IsKind kind → IsWidth (width_of kind)
-  width-fits (Unsigned w) k = record { some' = k.0; most = omega (arith, k.1) }
-  width-fits (Text m) k = record { some' = omega (arith, k.0); most = omega (arith, k.1) }
+  width-fits kind k = record { some' = k.0; most = omega (arith, k.1) }
 
   pub number_fits : (kind : Kind) (n : ℕ) → IsNumberOf kind n → n < 2 ^ width_of kind
-  number_fits (Unsigned w) n h = h
-  number_fits (Text m) n h = absurd h
+  number_fits kind n h = range_below kind n h.1
 
   weights-fit : (kind : Kind) (weights : List ℕ) → IsKind kind → AllByRecursion (IsNumberOf kind) weights
       → AllByRecursion (WeightFits kind) (weights_of kind weights)
@@ -97,8 +96,8 @@ module _ (columns : List NamedColumn) (areKinds : AreKinds columns) (kinds : Lis
   weight-bits kind [] = refl
   weight-bits kind (n ∷ weights) = ap (λ (l : List ℕ). n ∷ l) (weight-bits kind weights)
 
-  summed : (e : ExprShape) (x : Operand) → IsArgument columns kinds widen e x → IsSummed columns e → IsUnsigned (kind_of_operand kinds x)
-  summed e x is h = subst IsUnsigned (sym is.kind) (unsigned (kind_of columns (kind_alone e) e) h.unsigned)
+  summed : (e : ExprShape) (x : Operand) → IsArgument columns kinds widen e x → IsSummed columns e → IsTrue (is_number (kind_of_operand kinds x))
+  summed e x is h = subst (λ (j : Kind). IsTrue (is_number j)) (sym is.kind) h.number
 
   sum_of_kind : (e : ExprShape) (x : Operand) → IsArgument columns kinds widen e x → (f : Kind → List ℕ → ℕ) (rows : List Row) → AreLong columns rows
       → f (kind_of_operand kinds x) (map (λ row. value_of_operand row x) (map widen rows)) ≡ f (kind_of columns (kind_alone e) e) (values_of columns e rows)

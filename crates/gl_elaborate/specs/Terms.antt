@@ -1,8 +1,8 @@
 -- Expressions over numbered columns: names are looked up, and each literal has the kind that its place gives.
-use Rattle.std.specs.Prelude.{ℕ, ◌+◌, max, List, [], ◌∷◌, ◌≡◌, ◌<◌, length, slice_index}
+use Rattle.std.specs.Prelude.{ℕ, ◌+◌, max, List, [], ◌∷◌, ◌≡◌, ◌<◌, IsTrue, length, slice_index}
 use Rattle.gl_bits.specs.Words.{Word, IsWord, not_of}
-use Rattle.gl_bits.specs.Kinds.{width_of, IsKind}
-use Rattle.gl_bits.specs.Operators.{sort_of, result_kind, operate}
+use Rattle.gl_bits.specs.Kinds.{bytes_in, can_cast, width_of, IsKind}
+use Rattle.gl_bits.specs.Operators.{cast_of, sort_of, result_kind, operate}
 use Rattle.gl_bits.specs.declared.kind.Kind.{Kind}
 use Rattle.gl_bits.specs.declared.kind.Kind.TheVariants.{Unsigned}
 use Rattle.gl_bits.specs.declared.op.Op.{Op}
@@ -10,9 +10,8 @@ use Rattle.gl_schema.specs.declared.schema.Column.{Column as NamedColumn}
 use Rattle.gl_schema.specs.Schemas.{text_word}
 use Rattle.gl_query.specs.Shapes.{ExprShape}
 use Rattle.gl_query.specs.Shapes as shape
-use Rattle.gl_query.specs.Values.{bytes_in, column_number, kind_alone, operand_place}
-use Rattle.gl_algebra.specs.Columns.{bit_kind, kind_of_column, CastFits, SortFits}
-use Rattle.gl_algebra.specs.Values.{value_as}
+use Rattle.gl_query.specs.Values.{column_number, kind_alone, operand_place}
+use Rattle.gl_algebra.specs.Columns.{bit_kind, kind_of_column, SortFits}
 
 pub data Term : Type 0 where
   Column : (number : ℕ) → Term
@@ -49,7 +48,7 @@ abbrev pub term_value : List Kind → List ℕ → Term → ℕ
 term_value kinds row (Column number) = slice_index row number
 term_value kinds row (Literal word kind) = word.bits
 term_value kinds row (Not t) = not_of 1 (term_value kinds row t)
-term_value kinds row (Cast t kind) = value_as (term_kind kinds t) kind (term_value kinds row t)
+term_value kinds row (Cast t kind) = cast_of (term_kind kinds t) kind (term_value kinds row t)
 term_value kinds row (Binary op l r) = operate op (term_kind kinds l) (term_value kinds row l) (term_value kinds row r)
 
 -- its columns are there, its literals are words of their kinds, its operators fit their operands
@@ -57,7 +56,7 @@ abbrev pub IsTerm : List Kind → Term → Type 0
 IsTerm kinds (Column number) = number < length kinds
 IsTerm kinds (Literal word kind) = IsWord word × IsKind kind × (word.width ≡ width_of kind)
 IsTerm kinds (Not t) = IsTerm kinds t × (term_kind kinds t ≡ bit_kind)
-IsTerm kinds (Cast t kind) = IsTerm kinds t × IsKind kind × CastFits (term_kind kinds t) kind
+IsTerm kinds (Cast t kind) = IsTerm kinds t × IsTrue (can_cast (term_kind kinds t) kind)
 IsTerm kinds (Binary op l r) =
     IsTerm kinds l × IsTerm kinds r × (term_kind kinds l ≡ term_kind kinds r)
     × SortFits (sort_of op) (term_kind kinds l)

@@ -3,7 +3,8 @@
 ghost use Rattle.std.specs.Prelude.{◌≡◌, ◌<◌, [], length, IfOk};
 ghost use Rattle.gl_schema.specs.Schemas.{kinds_of, text_word};
 ghost use Rattle.gl_query.specs.Shapes.{expr_shape};
-ghost use Rattle.gl_query.specs.Values.{bytes_in, HasKind, IsLettersOf};
+ghost use Rattle.gl_bits.specs.Kinds.{bytes_in};
+ghost use Rattle.gl_query.specs.Values.{HasKind, IsLettersOf};
 ghost use Rattle.gl_elaborate.specs.Terms.{literal, term_of, IsTerm};
 ghost use Rattle.gl_elaborate.specs.Trees.{term};
 
@@ -26,15 +27,16 @@ fn literal(place: Kind, bits: u128) -> Tree
 }
 
 // A text literal of a kind.
+#[tactic(auto, using(gl_query::proofs::Fitting::bytes_few, gl_query::proofs::Fitting::letters_short))]
 fn text_literal(place: Kind, text: &[u8]) -> Tree
     requires typed { IsLettersOf place text.now }
     requires fits { IsTerm (kinds_of []) (literal place (text_word (bytes_in place) text.now)) }
     ensures { term result ≡ literal place (text_word (bytes_in place) text.now) }
 {
-    match place {
-        Kind::Text(bytes) => literal(place, u128::from(text_number(text, usize::from(bytes)))),
-        Kind::Unsigned(_) => unreachable!(),
-    }
+    literal(
+        place,
+        u128::from(text_number(text, usize::from(place.bytes()))),
+    )
 }
 
 /// The tree of an expression, in a place that gives what is loose this kind.

@@ -1,15 +1,17 @@
 -- An expression, a list of items or of aggregates has no fault exactly where it is accepted.
-use Rattle.std.proofs.Common.{◌≡◌, ℕ, zero, suc, ◌+◌, ◌^◌, ◌<◌, ◌≤◌, Bool, true, false, List, [], ◌∷◌, ◌++◌, length, map, Option, Some, None, refl, sym, ap, subst, ◌∙◌, arith, append_assoc, append-nil, length-append}
-use Rattle.std.specs.Prelude.{◌&&◌, not, bytes_eq, nat_le, nat_lt, option_map, slice_get, if◌then◌else◌}
-use Rattle.std.specs.List.{AllByRecursion, IsDistinct, list_all, list_any}
-use Rattle.std.proofs.lemmas.Bool.{eqb-true, eq-eqb, leb-true, le-leb, ltb-true, lt-ltb}
+use Rattle.std.proofs.Common.{◌≡◌, ℕ, zero, suc, ◌+◌, ◌<◌, ◌≤◌, Bool, true, false, List, [], ◌∷◌, ◌++◌, length, map, Option, Some, None, refl, sym, ap, subst, ◌∙◌, arith, append_assoc, append-nil, length-append}
+use Rattle.std.specs.Prelude.{◌&&◌, not, pos, bytes_eq, nat_le, nat_lt, option_map, slice_get, if◌then◌else◌}
+use Rattle.std.specs.List.{AllByRecursion, IsDistinct, list_any}
+use Rattle.std.proofs.lemmas.Bool.{leb-true, le-leb, ltb-true, lt-ltb}
 use Rattle.gl_bits.specs.declared.kind.Kind.{Kind}
-use Rattle.gl_bits.specs.declared.kind.Kind.TheVariants.{Unsigned, Text}
+use Rattle.gl_bits.specs.declared.kind.Kind.TheVariants.{Unsigned}
 use Rattle.gl_bits.specs.declared.op.Sort.{Sort}
 use Rattle.gl_bits.specs.declared.op.Sort.TheVariants.{Arithmetic, Comparison, Logic}
-use Rattle.gl_bits.specs.Operators.{sort_of}
+use Rattle.gl_bits.specs.Kinds.{can_cast, in_range, is_number, is_text}
+use Rattle.gl_bits.specs.Operators.{same_kind, sort_of}
 use Rattle.gl_bits.proofs.AllLists.{length_map, get_past}
 use Rattle.gl_bits.proofs.Bools.{and_both, and_parts, not_false, not_true}
+use Rattle.gl_bits.proofs.KindLemmas.{equal_kinds, kinds_equal}
 use Rattle.gl_schema.specs.declared.schema.Column.{Column as NamedColumn}
 use Rattle.gl_schema.specs.Schemas.{has_column}
 use Rattle.gl_schema.proofs.Distinct.{more_named, new_named}
@@ -19,9 +21,9 @@ use Rattle.gl_query.specs.declared.tree.Num.{Num}
 use Rattle.gl_query.specs.Trees as tree
 use Rattle.gl_query.specs.Trees.{ExprTree, AggTree}
 use Rattle.gl_query.specs.Alike.{expr_alike, agg_alike}
-use Rattle.gl_query.specs.Values.{CanApply, CanCast, HasKind, IsLettersOf, IsNumberOf, IsUnsigned, is_loose, kind_alone, kind_of, operand_place}
+use Rattle.gl_query.specs.Values.{CanApply, HasKind, IsLettersOf, IsNumberOf, is_loose, kind_alone, kind_of, letters_fit, operand_place}
 use Rattle.gl_query.specs.Accepted.{IsAgg, IsFilter, IsSummed}
-use Rattle.gl_query.specs.Faults.{or_else, unless, same_kind, same_kinds, is_unsigned, is_bit, is_within, can_cast, letters_fit, number_fault, letters_fault, operator_fault, of_operands, expr_fault, whole_fault, whole_kind, filter_fault, named_fault, summed_fault, too_many, weights_fault, agg_fault}
+use Rattle.gl_query.specs.Faults.{or_else, unless, same_kinds, is_bit, is_within, number_fault, letters_fault, operator_fault, of_operands, expr_fault, whole_fault, whole_kind, filter_fault, named_fault, summed_fault, too_many, weights_fault, agg_fault}
 
 -- no fault comes exactly where this holds
 pub record Decides (fault : Option QueryFault) (P : Type 0) : Type 0 where
@@ -49,9 +51,6 @@ rule b f P s c = record { sound = λ e. s (unless_true b f e); complete = λ p. 
 pub test : (b : Bool) (f : QueryFault) → Decides (unless b f) (b ≡ true)
 test b f = rule b f (b ≡ true) (λ e. e) (λ e. e)
 
-pub never : (f : QueryFault) (P : Type 0) → (P → ⊥) → Decides (Some f) P
-never f P n = record { sound = λ e. absurd (cc); complete = λ p. absurd (n p) }
-
 pub always : (P : Type 0) → P → Decides None P
 always P p = record { sound = λ e. p; complete = λ q. refl }
 
@@ -59,19 +58,6 @@ pub change : {P Q : Type 0} (a : Option QueryFault) → Decides a P → (P → Q
 change a d f g = record { sound = λ e. f (d.sound e); complete = λ q. d.complete (g q) }
 
 -- ---- tests
-
-pub kinds_equal : (j k : Kind) → same_kind j k ≡ true → j ≡ k
-kinds_equal (Unsigned v) (Unsigned w) e = ap Unsigned (eqb-true v w e)
-kinds_equal (Unsigned v) (Text n) e = absurd (cc)
-kinds_equal (Text m) (Unsigned w) e = absurd (cc)
-kinds_equal (Text m) (Text n) e = ap Text (eqb-true m n e)
-
-kind_itself : (k : Kind) → same_kind k k ≡ true
-kind_itself (Unsigned w) = eq-eqb w w refl
-kind_itself (Text n) = eq-eqb n n refl
-
-pub equal_kinds : (j k : Kind) → j ≡ k → same_kind j k ≡ true
-equal_kinds j k e = subst (λ (x : Kind). same_kind j x ≡ true) e (kind_itself j)
 
 pub lists_equal : (js ks : List Kind) → same_kinds js ks ≡ true → js ≡ ks
 lists_equal [] [] e = refl
@@ -83,18 +69,10 @@ lists_equal (j ∷ js) (k ∷ ks) e =
 
 kinds_themselves : (ks : List Kind) → same_kinds ks ks ≡ true
 kinds_themselves [] = refl
-kinds_themselves (k ∷ ks) = and_both (same_kind k k) (same_kinds ks ks) (kind_itself k) (kinds_themselves ks)
+kinds_themselves (k ∷ ks) = and_both (same_kind k k) (same_kinds ks ks) (equal_kinds k k refl) (kinds_themselves ks)
 
 pub equal_lists : (js ks : List Kind) → js ≡ ks → same_kinds js ks ≡ true
 equal_lists js ks e = subst (λ (x : List Kind). same_kinds js x ≡ true) e (kinds_themselves js)
-
-unsigned_is : (k : Kind) → is_unsigned k ≡ true → IsUnsigned k
-unsigned_is (Unsigned w) e = tt
-unsigned_is (Text n) e = absurd (cc)
-
-is_unsigned_of : (k : Kind) → IsUnsigned k → is_unsigned k ≡ true
-is_unsigned_of (Unsigned w) h = refl
-is_unsigned_of (Text n) h = absurd h
 
 bit_is : (k : Kind) → is_bit k ≡ true → k ≡ Unsigned 1
 bit_is k e = kinds_equal k (Unsigned 1) e
@@ -108,46 +86,19 @@ within n most e = let p = and_parts (nat_le 1 n) (nat_le n most) e in (leb-true 
 pub is_within_of : (n most : ℕ) → (1 ≤ n) × (n ≤ most) → is_within n most ≡ true
 is_within_of n most h = and_both (nat_le 1 n) (nat_le n most) (le-leb 1 n h.0) (le-leb n most h.1)
 
-casts : (from to : Kind) → can_cast from to ≡ true → CanCast from to
-casts (Unsigned v) (Unsigned w) e = within w 64 e
-casts (Unsigned v) (Text n) e = absurd (cc)
-casts (Text m) (Unsigned w) e = absurd (cc)
-casts (Text m) (Text n) e = within n 8 e
-
-can_cast_of : (from to : Kind) → CanCast from to → can_cast from to ≡ true
-can_cast_of (Unsigned v) (Unsigned w) h = is_within_of w 64 h
-can_cast_of (Unsigned v) (Text n) h = absurd h
-can_cast_of (Text m) (Unsigned w) h = absurd h
-can_cast_of (Text m) (Text n) h = is_within_of n 8 h
-
-bytes_are : (text : List ℕ) → list_all (λ b. nat_lt b 256) text ≡ true → AllByRecursion (λ b. b < 256) text
-bytes_are [] e = tt
-bytes_are (b ∷ bs) e =
-    let p = and_parts (nat_lt b 256) (list_all (λ b. nat_lt b 256) bs) e in
-    (ltb-true b 256 p.0, bytes_are bs p.1)
-
-are_bytes : (text : List ℕ) → AllByRecursion (λ b. b < 256) text → list_all (λ b. nat_lt b 256) text ≡ true
-are_bytes [] h = refl
-are_bytes (b ∷ bs) h = and_both (nat_lt b 256) (list_all (λ b. nat_lt b 256) bs) (lt-ltb b 256 h.0) (are_bytes bs h.1)
-
 -- ---- expressions
 
 pub number_decides : (place : Kind) (n : Num) → Decides (number_fault place n) (IsNumberOf place n.value)
-number_decides (Unsigned w) n = rule (nat_lt n.value (2 ^ w)) _ (n.value < 2 ^ w) (ltb-true n.value (2 ^ w)) (lt-ltb n.value (2 ^ w))
-number_decides (Text m) n = never _ ⊥ (λ h. h)
+number_decides place n = both (unless (is_number place) _) _ (test (is_number place) _) (λ h. test (in_range place (pos n.value)) _)
 
 letters_decides : (place : Kind) (text : List ℕ) (at : ℕ) → Decides (letters_fault place text at) (IsLettersOf place text)
-letters_decides (Unsigned w) text at = never _ ⊥ (λ h. h)
-letters_decides (Text n) text at =
-    rule (letters_fit n text) _ (IsLettersOf (Text n) text)
-    (λ e. let p = and_parts (nat_le (length text) n) (list_all (λ b. nat_lt b 256) text) e in (leb-true (length text) n p.0, bytes_are text p.1))
-    (λ h. and_both (nat_le (length text) n) (list_all (λ b. nat_lt b 256) text) (le-leb (length text) n h.0) (are_bytes text h.1))
+letters_decides place text at = both (unless (is_text place) _) _ (test (is_text place) _) (λ h. test (letters_fit place text) _)
 
 operator_decides : (sort : Sort) (left right : Kind) (at : ℕ) → Decides (operator_fault sort left right at) (CanApply sort left right)
 operator_decides Arithmetic left right at =
-    rule (same_kind left right && is_unsigned left) _ (CanApply Arithmetic left right)
-    (λ e. let p = and_parts (same_kind left right) (is_unsigned left) e in (kinds_equal left right p.0, unsigned_is left p.1))
-    (λ h. and_both (same_kind left right) (is_unsigned left) (equal_kinds left right h.0) (is_unsigned_of left h.1))
+    rule (same_kind left right && is_number left) _ (CanApply Arithmetic left right)
+    (λ e. let p = and_parts (same_kind left right) (is_number left) e in (kinds_equal left right p.0, p.1))
+    (λ h. and_both (same_kind left right) (is_number left) (equal_kinds left right h.0) h.1)
 operator_decides Comparison left right at = rule (same_kind left right) _ (left ≡ right) (kinds_equal left right) (equal_kinds left right)
 operator_decides Logic left right at =
     rule (is_bit left && is_bit right) _ (CanApply Logic left right)
@@ -171,7 +122,7 @@ expr_decides (tree.Not e at) columns place =
 expr_decides (tree.Cast e kind at) columns place =
     let alone = kind_alone (expr_alike e) in
     let from = kind_of columns alone (expr_alike e) in
-    both (expr_fault columns alone e) _ (expr_decides e columns alone) (λ h. rule (can_cast from kind) _ (CanCast from kind) (casts from kind) (can_cast_of from kind))
+    both (expr_fault columns alone e) _ (expr_decides e columns alone) (λ h. test (can_cast from kind) _)
 expr_decides (tree.Binary op l r at) columns place =
     let left = operand_place columns op place (expr_alike l) (expr_alike r) in
     let right = operand_place columns op place (expr_alike r) (expr_alike l) in
@@ -195,8 +146,8 @@ filter_decides (Some e) columns =
 summed_decides : (e : ExprTree) (columns : List NamedColumn) (name : Name) → Decides (summed_fault columns e name) (IsSummed columns (expr_alike e))
 summed_decides e columns name =
     let kind = whole_kind columns e in
-    change _ (both (whole_fault columns e) _ (whole_decides e columns) (λ h. rule (is_unsigned kind) _ (IsUnsigned kind) (unsigned_is kind) (is_unsigned_of kind)))
-    (λ h. record { typed = h.0; unsigned = h.1 }) (λ s. (s.typed, s.unsigned))
+    change _ (both (whole_fault columns e) _ (whole_decides e columns) (λ h. test (is_number kind) _))
+    (λ h. record { typed = h.0; number = h.1 }) (λ s. (s.typed, s.number))
 
 get_none : {A : Type 0} (xs : List A) (i : ℕ) → slice_get xs i ≡ None → length xs ≤ i
 get_none [] i e = omega arith

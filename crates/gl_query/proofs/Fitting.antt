@@ -1,7 +1,8 @@
 -- The rows of a result fit the kinds of the query's columns.
 use Rattle.std.proofs.Common.{◌≡◌, ℕ, zero, suc, ◌+◌, ◌-◌, ◌*◌, ◌/◌, ◌%◌, ◌<◌, ◌≤◌, ◌^◌, Bool, true, List, [], ◌∷◌, ◌++◌, length, map, refl, sym, ap, subst, ◌∙◌, arith}
-use Rattle.std.specs.Prelude.{◌||◌, bytes_eq, bit_and, bit_or, replicate, sum, slice_get, slice_index, option_map, unwrap_or}
-use Rattle.std.specs.List.{AllByRecursion, fold, list_any}
+use Rattle.std.specs.Prelude.{◌||◌, bytes_eq, bit_and, bit_or, nat_le, nat_lt, replicate, sum, slice_get, slice_index, option_map, unwrap_or}
+use Rattle.std.specs.List.{AllByRecursion, fold, list_all, list_any}
+use Rattle.std.proofs.lemmas.Bool.{leb-true, ltb-true}
 use Rattle.std.proofs.Math.Nat.{mod-lt, div-lt_iff_lt-mul, mul_comm, mul-lt-mul_of_pos_right}
 use Rattle.std.proofs.lemmas.Nat.{pow_pos, and_le_l, or_lt}
 use Rattle.std.proofs.lemmas.List.{length-append, length-replicate}
@@ -9,19 +10,20 @@ use Rattle.gl_bits.specs.declared.kind.Kind.{Kind}
 use Rattle.gl_bits.specs.declared.kind.Kind.TheVariants.{Unsigned, Text}
 use Rattle.gl_bits.specs.declared.op.Op.{Op}
 use Rattle.gl_bits.specs.declared.op.Op.TheVariants as op
-use Rattle.gl_bits.specs.Kinds.{width_of, is_at_most, is_below}
-use Rattle.gl_bits.specs.Operators.{operate, result_kind, sort_of}
+use Rattle.gl_bits.specs.Kinds.{IsKind, bytes_in, width_of, is_at_most, is_below}
+use Rattle.gl_bits.specs.Operators.{cast_of, operate, result_kind, sort_of}
 use Rattle.gl_bits.specs.Results.{Row}
 use Rattle.gl_bits.specs.Totals.{average_of, count_of, greater, greatest_of, least_of, lesser, sum_total, weighted, weighted_sum}
 use Rattle.gl_bits.specs.Words.{difference_of, eq_of, not_of, product_of, sum_of}
 use Rattle.gl_bits.proofs.AllLists.{all_append}
-use Rattle.gl_bits.proofs.Bools.{bit_fits, by_cases}
+use Rattle.gl_bits.proofs.Bools.{and_left, and_parts, and_right, bit_fits, by_cases}
+use Rattle.gl_bits.proofs.KindLemmas.{range_below, text_width}
 use Rattle.gl_bits.proofs.Totalling.{average_none, average_some}
 use Rattle.gl_schema.specs.declared.schema.Column.{Column}
 use Rattle.gl_schema.specs.Schemas.{IsRowOf, has_column, kinds_of, number_of, padded, text_word}
 use Rattle.gl_query.specs.Shapes.{AggItemShape, AggShape, ExprShape, ItemShape, PickShape}
 use Rattle.gl_query.specs.Shapes as shape
-use Rattle.gl_query.specs.Values.{CanApply, CanCast, HasKind, cast_of, column_number, kind_alone, kind_of, operand_place, value_of}
+use Rattle.gl_query.specs.Values.{CanApply, HasKind, IsLettersOf, column_number, kind_alone, kind_of, operand_place, value_of}
 use Rattle.gl_query.specs.Columns.{agg_column, agg_kind, item_column, picked_columns}
 use Rattle.gl_query.specs.Accepted.{IsAgg, IsPick}
 use Rattle.gl_query.specs.Results.{agg_value, picked, total_row, values_of}
@@ -42,24 +44,46 @@ text_below n text le h =
     subst (λ (k : ℕ). number_of (padded n text) < 2 ^ (8 * k)) (length_padded n text le)
     (bytes_below (padded n text) 0 0 (all_append (λ b. b < 256) text (replicate (n - length text) 0) h (zeros_small (n - length text))) (omega arith))
 
+are_bytes : (text : List ℕ) → list_all (λ b. nat_lt b 256) text ≡ true → AllByRecursion (λ b. b < 256) text
+are_bytes [] e = tt
+are_bytes (b ∷ bs) e =
+    let p = and_parts (nat_lt b 256) (list_all (λ b. nat_lt b 256) bs) e in
+    (ltb-true b 256 p.0, are_bytes bs p.1)
+
+-- a kind has at most 8 bytes, and a text of a kind no more than the kind
+pub bytes_few : (kind : Kind) → IsKind kind → bytes_in kind ≤ 8
+bytes_few kind is = few (width_of kind) is.1
+  where
+    few : (w : ℕ) → w ≤ 64 → w / 8 ≤ 8
+    few w le = omega arith
+
+pub letters_short : (kind : Kind) (text : List ℕ) → IsLettersOf kind text → length text ≤ bytes_in kind
+letters_short kind text h =
+    leb-true (length text) (bytes_in kind) (and_left (nat_le (length text) (bytes_in kind)) (list_all (λ b. nat_lt b 256) text) h.1)
+
+-- the word of a text of a kind is one
+pub letters_below : (kind : Kind) (text : List ℕ) → IsLettersOf kind text → text_word (bytes_in kind) text < 2 ^ width_of kind
+letters_below kind text h =
+    subst (λ (w : ℕ). text_word (bytes_in kind) text < 2 ^ w) (text_width kind h.0)
+    (text_below (bytes_in kind) text (letters_short kind text h)
+    (are_bytes text (and_right (nat_le (length text) (bytes_in kind)) (list_all (λ b. nat_lt b 256) text) h.1)))
+
 -- ---- words
 
 wrapped : (n w : ℕ) → n % 2 ^ w < 2 ^ w
 wrapped n w = mod-lt n (pow_pos w)
 
-cut_below : (m n x : ℕ) → x < 2 ^ (8 * m) → x * 2 ^ (8 * n) / 2 ^ (8 * m) < 2 ^ (8 * n)
-cut_below m n x lt = below x (2 ^ (8 * m)) (2 ^ (8 * n)) lt (pow_pos (8 * n)) (pow_pos (8 * m))
+cut_below : (m n x : ℕ) → x < 2 ^ m → x * 2 ^ n / 2 ^ m < 2 ^ n
+cut_below m n x lt = below x (2 ^ m) (2 ^ n) lt (pow_pos n) (pow_pos m)
   where
     below : (x p q : ℕ) → x < p → 0 < q → 0 < p → x * q / p < q
     below x p q lt some some' =
         let less = subst (λ (k : ℕ). x * q < k) (mul_comm p q) (mul-lt-mul_of_pos_right {m = x} {n = p} {k = q} lt some) in
         (div-lt_iff_lt-mul {k = p} {x = x * q} {y = q} some').1 less
 
-cast_below : (from to : Kind) (x : ℕ) → CanCast from to → x < 2 ^ width_of from → cast_of from to x < 2 ^ width_of to
-cast_below (Unsigned v) (Unsigned w) x can lt = wrapped x w
-cast_below (Unsigned v) (Text n) x can lt = absurd can
-cast_below (Text m) (Unsigned w) x can lt = absurd can
-cast_below (Text m) (Text n) x can lt = cut_below m n x lt
+cast_below : (from to : Kind) (x : ℕ) → x < 2 ^ width_of from → cast_of from to x < 2 ^ width_of to
+cast_below (Unsigned v) to x lt = wrapped x (width_of to)
+cast_below (Text n) to x lt = cut_below (8 * n) (width_of to) x lt
 
 not_below : (x : ℕ) → not_of 1 x < 2 ^ 1
 unfolding not_of
@@ -114,13 +138,11 @@ column_below (c ∷ cs) (n ∷ ns) name known fits =
 pub value_below : (e : ExprShape) (columns : List Column) (place : Kind) (row : Row) → HasKind columns place e → IsRowOf columns row
     → value_of columns place e row < 2 ^ width_of (kind_of columns place e)
 value_below (shape.Column name) columns place row h fits = column_below columns row name h fits
-value_below (shape.Number n) columns (Unsigned w) row h fits = h
-value_below (shape.Number n) columns (Text m) row h fits = absurd h
-value_below (shape.Letters text) columns (Unsigned w) row h fits = absurd h
-value_below (shape.Letters text) columns (Text n) row h fits = text_below n text h.0 h.1
+value_below (shape.Number n) columns place row h fits = range_below place n h.1
+value_below (shape.Letters text) columns place row h fits = letters_below place text h
 value_below (shape.Not e) columns place row h fits = not_below (value_of columns (Unsigned 1) e row)
 value_below (shape.Cast kind e) columns place row h fits =
-    cast_below (kind_of columns (kind_alone e) e) kind (value_of columns (kind_alone e) e row) h.1 (value_below e columns (kind_alone e) row h.0 fits)
+    cast_below (kind_of columns (kind_alone e) e) kind (value_of columns (kind_alone e) e row) (value_below e columns (kind_alone e) row h.0 fits)
 value_below (shape.Binary o l r) columns place row h fits = rw (operator_gives columns place o l r)
     (operate_below o (kind_of columns (operand_place columns o place l r) l) (kind_of columns (operand_place columns o place r l) r)
     (value_of columns (operand_place columns o place l r) l row) (value_of columns (operand_place columns o place r l) r row) h.2

@@ -3,7 +3,7 @@ use Rattle.std.proofs.Common.{◌≡◌, ℕ, zero, suc, ◌≤◌, Bool, true, 
 use Rattle.std.specs.Prelude.{◌||◌, IfSome, Option, None, Some, bytes_eq, slice_get, unwrap_or, option_map}
 use Rattle.std.specs.List.{AllByRecursion, IsDistinct, list_any}
 use Rattle.gl_bits.specs.declared.kind.Kind.{Kind}
-use Rattle.gl_bits.specs.declared.kind.Kind.TheVariants.{Unsigned, Text}
+use Rattle.gl_bits.specs.declared.kind.Kind.TheVariants.{Unsigned}
 use Rattle.gl_bits.specs.declared.op.Op.{Op}
 use Rattle.gl_bits.specs.declared.op.Sort.{Sort}
 use Rattle.gl_bits.specs.declared.op.Sort.TheVariants.{Arithmetic, Comparison, Logic}
@@ -11,13 +11,13 @@ use Rattle.gl_bits.specs.Kinds.{IsKind}
 use Rattle.gl_bits.specs.Operators.{sort_of}
 use Rattle.gl_bits.proofs.AllLists.{all_append, length_map}
 use Rattle.gl_bits.proofs.Bools.{by_cases}
-use Rattle.gl_bits.proofs.KindLemmas.{bit_is_kind}
+use Rattle.gl_bits.proofs.KindLemmas.{bit_is_kind, cast_kind}
 use Rattle.gl_schema.specs.declared.schema.Column.{Column}
 use Rattle.gl_schema.specs.declared.schema.Stream.{Stream}
 use Rattle.gl_schema.specs.Schemas.{IsColumn, IsStream, has_stream}
 use Rattle.gl_query.specs.Shapes.{AggItemShape, AggShape, ExprShape, ItemShape, QueryShape}
 use Rattle.gl_query.specs.Shapes as shape
-use Rattle.gl_query.specs.Values.{CanCast, HasKind, begins_with_text, column_number, kind_alone, kind_of, loose_kind, operand_place, operator_kind, own_kind}
+use Rattle.gl_query.specs.Values.{HasKind, begins_with_text, column_number, kind_alone, kind_of, loose_kind, operand_place, operator_kind, own_kind}
 use Rattle.gl_query.specs.Columns.{agg_column, agg_kind, item_column, source_columns}
 use Rattle.gl_query.specs.Accepted.{AreResultColumns, IsAcceptedOver, IsAgg, Scope, body_scope, columns_under}
 use Rattle.gl_query.specs.Sizes.{HasItems}
@@ -51,12 +51,6 @@ CastsAreKinds (shape.Letters text) = Unit {0}
 CastsAreKinds (shape.Not e) = CastsAreKinds e
 CastsAreKinds (shape.Cast kind e) = IsKind kind × CastsAreKinds e
 CastsAreKinds (shape.Binary op l r) = CastsAreKinds l × CastsAreKinds r
-
-pub cast_kind : (from to : Kind) → CanCast from to → IsKind to
-cast_kind (Unsigned v) (Unsigned w) h = h
-cast_kind (Unsigned v) (Text n) h = absurd h
-cast_kind (Text m) (Unsigned w) h = absurd h
-cast_kind (Text m) (Text n) h = h
 
 pub casts_are : (e : ExprShape) (columns : List Column) (place : Kind) → HasKind columns place e → CastsAreKinds e
 casts_are (shape.Column name) columns place h = tt

@@ -1,6 +1,7 @@
 -- Which statements are accepted over a schema.
 use Rattle.std.specs.Prelude.{◌≡◌, ℕ, ◌*◌, ◌≤◌, List, length, Option, Some, None, IsSome, IsTrue, bytes_eq}
 use Rattle.std.specs.List.{AllByRecursion, IsDistinct}
+use Rattle.gl_bits.specs.Kinds.{is_number}
 use Rattle.gl_bits.specs.Limits as limit
 use Rattle.gl_bits.specs.declared.kind.Kind.TheVariants.{Unsigned}
 use Rattle.gl_schema.specs.declared.schema.Column.{Column}
@@ -10,7 +11,7 @@ use Rattle.gl_schema.specs.Schemas.{column_names, has_column, has_stream, kinds_
 use Rattle.gl_query.specs.declared.tree.Statement.{Statement}
 use Rattle.gl_query.specs.Shapes.{ExprShape, AggShape, ItemShape, AggItemShape, PickShape, QueryShape, query_shape}
 use Rattle.gl_query.specs.Shapes as shape
-use Rattle.gl_query.specs.Values.{HasKind, IsNumberOf, IsUnsigned, kind_alone, kind_of}
+use Rattle.gl_query.specs.Values.{HasKind, IsNumberOf, kind_alone, kind_of}
 use Rattle.gl_query.specs.Columns.{columns_of, picked_columns, is_closing, pace_of, variable}
 
 -- at most 32 columns, no two of one name
@@ -18,10 +19,10 @@ pub record AreResultColumns (columns : List Column) : Type 0 where
   pub most : length columns ≤ limit.most_columns
   pub distinct : IsDistinct bytes_eq (column_names columns)
 
--- an argument that is added or averaged is no text
+-- an argument that is added or averaged is a number
 pub record IsSummed (columns : List Column) (e : ExprShape) : Type 0 where
   pub typed : HasKind columns (kind_alone e) e
-  pub unsigned : IsUnsigned (kind_of columns (kind_alone e) e)
+  pub number : IsTrue (is_number (kind_of columns (kind_alone e) e))
 
 -- at most 64 weights, each a number of the argument's kind
 pub record IsWeighted (columns : List Column) (e : ExprShape) (weights : List ℕ) : Type 0 where

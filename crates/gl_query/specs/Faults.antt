@@ -1,13 +1,14 @@
 -- The first rule of acceptance that a statement breaks, with its place: the sources of a query come first, then its own
 -- parts.
-use Rattle.std.specs.Prelude.{ℕ, ◌*◌, ◌^◌, Bool, true, false, not, ◌&&◌, List, [], ◌∷◌, ◌++◌, length, Option, Some, None, bytes_eq, nat_le, nat_lt, nat_eq, slice_get, if◌then◌else◌}
-use Rattle.std.specs.List.{list_all, list_any}
+use Rattle.std.specs.Prelude.{ℕ, ◌*◌, pos, Bool, true, false, not, ◌&&◌, List, [], ◌∷◌, ◌++◌, length, Option, Some, None, bytes_eq, nat_le, nat_lt, slice_get, if◌then◌else◌}
+use Rattle.std.specs.List.{list_any}
+use Rattle.gl_bits.specs.Kinds.{can_cast, in_range, is_number, is_text}
 use Rattle.gl_bits.specs.Limits.{most_columns, most_copies, most_groups, most_rows, most_weights}
 use Rattle.gl_bits.specs.declared.kind.Kind.{Kind}
-use Rattle.gl_bits.specs.declared.kind.Kind.TheVariants.{Unsigned, Text}
+use Rattle.gl_bits.specs.declared.kind.Kind.TheVariants.{Unsigned}
 use Rattle.gl_bits.specs.declared.op.Sort.{Sort}
 use Rattle.gl_bits.specs.declared.op.Sort.TheVariants.{Arithmetic, Comparison, Logic}
-use Rattle.gl_bits.specs.Operators.{sort_of}
+use Rattle.gl_bits.specs.Operators.{same_kind, sort_of}
 use Rattle.gl_schema.specs.declared.schema.Column.{Column as NamedColumn}
 use Rattle.gl_schema.specs.declared.schema.Schema.{Schema}
 use Rattle.gl_schema.specs.Schemas.{column_names, has_column, has_stream, kinds_of}
@@ -18,7 +19,7 @@ use Rattle.gl_query.specs.declared.tree.Num.{Num}
 use Rattle.gl_query.specs.Trees.{ExprTree, AggTree, ItemTree, AggItemTree, PickTree, QueryTree, StatementTree, Column, Number, Letters, Not, Cast, Binary, Count, Sum, Min, Max, Avg, Wsum, All, Items, Read, Rows, Total, Each, PerGroup, Union, Concat}
 use Rattle.gl_query.specs.Shapes.{QueryShape}
 use Rattle.gl_query.specs.Alike.{expr_alike, query_alike}
-use Rattle.gl_query.specs.Values.{is_loose, kind_alone, kind_of, operand_place}
+use Rattle.gl_query.specs.Values.{is_loose, kind_alone, kind_of, letters_fit, operand_place}
 use Rattle.gl_query.specs.Columns.{Pace, Once, Step, is_closing, pace_of}
 use Rattle.gl_query.specs.Accepted.{Scope, body_scope, columns_under, schema_scope}
 
@@ -34,21 +35,11 @@ unless false f = Some f
 
 -- ---- tests
 
-abbrev pub same_kind : Kind → Kind → Bool
-same_kind (Unsigned v) (Unsigned w) = nat_eq v w
-same_kind (Unsigned v) (Text n) = false
-same_kind (Text m) (Unsigned w) = false
-same_kind (Text m) (Text n) = nat_eq m n
-
 abbrev pub same_kinds : List Kind → List Kind → Bool
 same_kinds [] [] = true
 same_kinds [] (k ∷ ks) = false
 same_kinds (j ∷ js) [] = false
 same_kinds (j ∷ js) (k ∷ ks) = same_kind j k && same_kinds js ks
-
-abbrev pub is_unsigned : Kind → Bool
-is_unsigned (Unsigned w) = true
-is_unsigned (Text n) = false
 
 -- one bit
 abbrev pub is_bit : Kind → Bool
@@ -57,16 +48,6 @@ is_bit kind = same_kind kind (Unsigned 1)
 -- from 1 to the most
 abbrev pub is_within : ℕ → ℕ → Bool
 is_within n most = nat_le 1 n && nat_le n most
-
-abbrev pub can_cast : Kind → Kind → Bool
-can_cast (Unsigned v) (Unsigned w) = is_within w 64
-can_cast (Unsigned v) (Text n) = false
-can_cast (Text m) (Unsigned w) = false
-can_cast (Text m) (Text n) = is_within n 8
-
--- at most so many bytes
-abbrev pub letters_fit : ℕ → List ℕ → Bool
-letters_fit n text = nat_le (length text) n && list_all (λ b. nat_lt b 256) text
 
 -- no two names are equal
 abbrev pub are_distinct : List (List ℕ) → Bool
@@ -84,15 +65,15 @@ same_pace p q = false
 
 -- a number as a text is of another kind
 abbrev pub number_fault : Kind → Num → Option QueryFault
-number_fault (Unsigned w) n = unless (nat_lt n.value (2 ^ w)) (LiteralTooWide n.at)
-number_fault (Text m) n = Some (KindsDiffer n.at)
+number_fault kind n =
+    or_else (unless (is_number kind) (KindsDiffer n.at)) (unless (in_range kind (pos n.value)) (LiteralTooWide n.at))
 
 abbrev pub letters_fault : Kind → List ℕ → ℕ → Option QueryFault
-letters_fault (Unsigned w) text at = Some (KindsDiffer at)
-letters_fault (Text n) text at = unless (letters_fit n text) (LiteralTooWide at)
+letters_fault kind text at =
+    or_else (unless (is_text kind) (KindsDiffer at)) (unless (letters_fit kind text) (LiteralTooWide at))
 
 abbrev pub operator_fault : Sort → Kind → Kind → ℕ → Option QueryFault
-operator_fault Arithmetic left right at = unless (same_kind left right && is_unsigned left) (KindsDiffer at)
+operator_fault Arithmetic left right at = unless (same_kind left right && is_number left) (KindsDiffer at)
 operator_fault Comparison left right at = unless (same_kind left right) (KindsDiffer at)
 operator_fault Logic left right at = unless (is_bit left && is_bit right) (NotCondition at)
 
@@ -163,7 +144,7 @@ pick_fault columns (Items items) = items_fault columns [] items
 
 abbrev pub summed_fault : List NamedColumn → ExprTree → Name → Option QueryFault
 summed_fault columns e name =
-    or_else (whole_fault columns e) (unless (is_unsigned (whole_kind columns e)) (KindsDiffer name.at))
+    or_else (whole_fault columns e) (unless (is_number (whole_kind columns e)) (KindsDiffer name.at))
 
 abbrev pub too_many : Option Num → Option QueryFault
 too_many None = None

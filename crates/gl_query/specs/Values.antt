@@ -1,14 +1,14 @@
 -- The kind and the value of an expression over one row.
-use Rattle.std.specs.Prelude.{◌≡◌, ℕ, ◌*◌, ◌/◌, ◌%◌, ◌^◌, ◌<◌, ◌≤◌, Bool, true, false, List, length, Option, Some, None, is_none, unwrap_or, option_map, slice_get, slice_index, bytes_eq, IsTrue, if◌then◌else◌}
-use Rattle.std.specs.List.{AllByRecursion, position_or_len}
+use Rattle.std.specs.Prelude.{◌≡◌, ℕ, pos, Bool, true, false, ◌&&◌, List, length, Option, Some, None, is_none, unwrap_or, option_map, nat_le, nat_lt, slice_get, slice_index, bytes_eq, IsTrue, if◌then◌else◌}
+use Rattle.std.specs.List.{list_all, position_or_len}
 use Rattle.std.specs.Option.{option_or}
 use Rattle.gl_bits.specs.declared.kind.Kind.{Kind}
 use Rattle.gl_bits.specs.declared.kind.Kind.TheVariants.{Unsigned, Text}
 use Rattle.gl_bits.specs.declared.op.Op.{Op}
 use Rattle.gl_bits.specs.declared.op.Sort.{Sort}
 use Rattle.gl_bits.specs.declared.op.Sort.TheVariants.{Arithmetic, Comparison, Logic}
-use Rattle.gl_bits.specs.Kinds.{IsKind}
-use Rattle.gl_bits.specs.Operators.{sort_of, operate}
+use Rattle.gl_bits.specs.Kinds.{bytes_in, can_cast, in_range, is_number, is_text}
+use Rattle.gl_bits.specs.Operators.{cast_of, sort_of, operate}
 use Rattle.gl_bits.specs.Words.{not_of}
 use Rattle.gl_schema.specs.declared.schema.Column.{Column}
 use Rattle.gl_schema.specs.Schemas.{has_column, text_word}
@@ -75,32 +75,23 @@ operand_place columns op place e other = unwrap_or (own_kind columns other) (loo
 
 -- ---- which expressions have a kind
 
-abbrev pub IsUnsigned : Kind → Type 0
-IsUnsigned (Unsigned w) = Unit {0}
-IsUnsigned (Text n) = ⊥
-
--- `+ - *` need one unsigned kind, comparisons one kind, and AND and OR one bit
+-- `+ - *` need one kind of numbers, comparisons one kind, and AND and OR one bit
 abbrev pub CanApply : Sort → Kind → Kind → Type 0
-CanApply Arithmetic left right = (left ≡ right) × IsUnsigned left
+CanApply Arithmetic left right = (left ≡ right) × IsTrue (is_number left)
 CanApply Comparison left right = left ≡ right
 CanApply Logic left right = (left ≡ Unsigned 1) × (right ≡ Unsigned 1)
 
--- a CAST goes from unsigned to unsigned and from text to text
-abbrev pub CanCast : Kind → Kind → Type 0
-CanCast (Unsigned v) (Unsigned w) = IsKind (Unsigned w)
-CanCast (Unsigned v) (Text n) = ⊥
-CanCast (Text m) (Unsigned w) = ⊥
-CanCast (Text m) (Text n) = IsKind (Text n)
-
 -- a number of this kind
 abbrev pub IsNumberOf : Kind → ℕ → Type 0
-IsNumberOf (Unsigned w) n = n < 2 ^ w
-IsNumberOf (Text m) n = ⊥
+IsNumberOf kind n = IsTrue (is_number kind) × IsTrue (in_range kind (pos n))
 
--- a text of this kind: at most so many bytes
+-- at most as many bytes as the kind has
+abbrev pub letters_fit : Kind → List ℕ → Bool
+letters_fit kind text = nat_le (length text) (bytes_in kind) && list_all (λ b. nat_lt b 256) text
+
+-- a text of this kind
 abbrev pub IsLettersOf : Kind → List ℕ → Type 0
-IsLettersOf (Unsigned w) text = ⊥
-IsLettersOf (Text n) text = (length text ≤ n) × AllByRecursion (λ b. b < 256) text
+IsLettersOf kind text = IsTrue (is_text kind) × IsTrue (letters_fit kind text)
 
 -- its columns are there, its literals fit, and its operators fit their operands
 abbrev pub HasKind : List Column → Kind → ExprShape → Type 0
@@ -109,25 +100,13 @@ HasKind columns place (shape.Number n) = IsNumberOf place n
 HasKind columns place (shape.Letters text) = IsLettersOf place text
 HasKind columns place (shape.Not e) = HasKind columns (Unsigned 1) e × (kind_of columns (Unsigned 1) e ≡ Unsigned 1)
 HasKind columns place (shape.Cast kind e) =
-    HasKind columns (kind_alone e) e × CanCast (kind_of columns (kind_alone e) e) kind
+    HasKind columns (kind_alone e) e × IsTrue (can_cast (kind_of columns (kind_alone e) e) kind)
 HasKind columns place (shape.Binary op l r) =
     HasKind columns (operand_place columns op place l r) l × HasKind columns (operand_place columns op place r l) r
     × CanApply (sort_of op) (kind_of columns (operand_place columns op place l r) l)
     (kind_of columns (operand_place columns op place r l) r)
 
 -- ---- values
-
--- the bytes of a text kind
-abbrev pub bytes_in : Kind → ℕ
-bytes_in (Unsigned w) = 0
-bytes_in (Text n) = n
-
--- a number modulo the new width; of a text the first bytes, with zero bytes behind them
-abbrev pub cast_of : Kind → Kind → ℕ → ℕ
-cast_of (Unsigned v) (Unsigned w) x = x % 2 ^ w
-cast_of (Unsigned v) (Text n) x = x
-cast_of (Text m) (Unsigned w) x = x
-cast_of (Text m) (Text n) x = x * 2 ^ (8 * n) / 2 ^ (8 * m)
 
 -- the word of an expression over a row, in a place that gives what is loose this kind
 abbrev pub value_of : List Column → Kind → ExprShape → List ℕ → ℕ

@@ -1,7 +1,6 @@
 //! Kinds of expressions.
 
-ghost use Rattle.std.specs.Prelude.{◌≡◌, ◌↔◌, ◌≤◌, IsTrue, length};
-ghost use Rattle.gl_bits.specs.Kinds.{IsKind};
+ghost use Rattle.std.specs.Prelude.{◌≡◌, ◌≤◌, length};
 ghost use Rattle.gl_query.specs.Shapes.{expr_shape};
 ghost use Rattle.gl_query.specs.Values.{begins_with_text, column_kind, column_number, kind_alone, kind_of, loose_kind, operand_place, operator_kind, own_kind};
 
@@ -107,14 +106,4 @@ pub fn operand_place(columns: &[Column], op: Op, place: Kind, expr: &Expr, other
         ≡ operand_place columns.now op place (expr_shape expr.now) (expr_shape other.now) }
 {
     own_kind(columns, other).unwrap_or(loose_kind(op.sort(), place, expr))
-}
-
-/// Whether words may have this kind.
-pub fn is_kind(kind: Kind) -> bool
-    ensures { IsTrue result ↔ IsKind kind }
-{
-    match kind {
-        Kind::Unsigned(width) => 1 <= width && width <= 64,
-        Kind::Text(bytes) => 1 <= bytes && bytes <= 8,
-    }
 }

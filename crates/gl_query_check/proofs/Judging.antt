@@ -6,17 +6,18 @@ use Rattle.gl_bits.specs.declared.kind.Kind.TheVariants.{Unsigned}
 use Rattle.gl_bits.specs.declared.op.Op.{Op}
 use Rattle.gl_bits.specs.declared.op.Sort.{Sort}
 use Rattle.gl_bits.specs.declared.op.Sort.TheVariants.{Arithmetic, Comparison, Logic}
+use Rattle.gl_bits.specs.Kinds.{is_number}
 use Rattle.gl_bits.specs.Operators.{sort_of}
+use Rattle.gl_bits.proofs.KindLemmas.{equal_kinds}
 use Rattle.gl_schema.specs.declared.schema.Column.{Column}
 use Rattle.gl_query.specs.declared.fault.QueryFault.{QueryFault}
 use Rattle.gl_query.specs.declared.fault.QueryFault.TheVariants.{KindsDiffer}
 use Rattle.gl_query.specs.Alike.{expr_alike}
-use Rattle.gl_query.specs.Faults.{expr_fault, is_unsigned, of_operands, operator_fault, or_else, unless}
+use Rattle.gl_query.specs.Faults.{expr_fault, of_operands, operator_fault, or_else, unless}
 use Rattle.gl_query.specs.Shapes.{ExprShape}
 use Rattle.gl_query.specs.Trees.{ExprTree}
 use Rattle.gl_query.specs.Trees as tree
 use Rattle.gl_query.specs.Values.{kind_of, loose_kind, operand_place, operator_kind, own_kind}
-use Rattle.gl_query.proofs.Deciding.{equal_kinds}
 use Rattle.gl_query_check.specs.declared.expressions.Judged.{Judged}
 use Rattle.gl_query_check.specs.declared.expressions.Judged.TheVariants.{Loose, Fixed}
 use Rattle.gl_query_check.specs.declared.expressions.Placed.{Placed}
@@ -38,7 +39,7 @@ loose_parts Comparison left right h = absurd cc
 loose_parts Logic left right h = absurd cc
 
 pub loose_operator : (columns : List Column) (place : Kind) (op : Op) (l r : ExprTree) (at : ℕ) → own_kind columns (expr_alike (tree.Binary op l r at)) ≡ None
-    → expr_fault columns place (tree.Binary op l r at) ≡ or_else (or_else (expr_fault columns place l) (expr_fault columns place r)) (unless (is_unsigned place) (KindsDiffer at))
+    → expr_fault columns place (tree.Binary op l r at) ≡ or_else (or_else (expr_fault columns place l) (expr_fault columns place r)) (unless (is_number place) (KindsDiffer at))
 loose_operator columns place op l r at h =
     let p = loose_parts (sort_of op) (own_kind columns (expr_alike l)) (own_kind columns (expr_alike r)) h in
     rw (p.left', p.right', p.sort', equal_kinds place place refl) refl

@@ -13,9 +13,7 @@ ghost use Rattle.gl_query.specs.Values as values;
 ghost use Rattle.gl_query_check.specs.Judging as judging;
 ghost use Rattle.gl_query_check.specs.Judging.{IsPlaced, Judges};
 
-use crate::rules::{
-    can_cast, has_column, is_bit, is_unsigned, letters_fit, number_fits, or_else, same_kind, unless,
-};
+use crate::rules::{has_column, is_bit, letters_fit, or_else, unless};
 use gl_bits::{Kind, Op, Sort};
 use gl_query::kinds::operator_kind;
 use gl_query::{Expr, Name, Num, QueryFault, kinds};
@@ -52,23 +50,26 @@ fn kind_alone(expr: &Expr) -> Kind
 pub fn number_fault(place: Kind, number: Num) -> Option<QueryFault>
     ensures { result ≡ faults.number_fault place number }
 {
-    match place {
-        Kind::Unsigned(width) => unless(
-            number_fits(number.value, width),
-            QueryFault::LiteralTooWide { at: number.at },
-        ),
-        Kind::Text(_) => Some(QueryFault::KindsDiffer { at: number.at }),
-    }
+    let at = number.at;
+    let fits = unless(
+        place.has_number(number.value),
+        QueryFault::LiteralTooWide { at },
+    );
+    or_else(
+        unless(place.is_number(), QueryFault::KindsDiffer { at }),
+        fits,
+    )
 }
 
 // The fault of a text literal in a place.
 fn letters_fault(place: Kind, text: &[u8], at: u64) -> Option<QueryFault>
     ensures { result ≡ faults.letters_fault place text.now at }
 {
-    match place {
-        Kind::Unsigned(_) => Some(QueryFault::KindsDiffer { at }),
-        Kind::Text(bytes) => unless(letters_fit(bytes, text), QueryFault::LiteralTooWide { at }),
-    }
+    let fits = unless(letters_fit(place, text), QueryFault::LiteralTooWide { at });
+    or_else(
+        unless(place.is_text(), QueryFault::KindsDiffer { at }),
+        fits,
+    )
 }
 
 // The fault of an operator over operands of these kinds.
@@ -77,10 +78,10 @@ fn operator_fault(sort: Sort, left: Kind, right: Kind, at: u64) -> Option<QueryF
 {
     match sort {
         Sort::Arithmetic => unless(
-            same_kind(left, right) && is_unsigned(left),
+            left == right && left.is_number(),
             QueryFault::KindsDiffer { at },
         ),
-        Sort::Comparison => unless(same_kind(left, right), QueryFault::KindsDiffer { at }),
+        Sort::Comparison => unless(left == right, QueryFault::KindsDiffer { at }),
         Sort::Logic => unless(
             is_bit(left) && is_bit(right),
             QueryFault::NotCondition { at },
@@ -120,8 +121,8 @@ fn loose_fault(place: Kind, expr: &Expr) -> Option<QueryFault>
             ..
         } => {
             let operands = or_else(loose_fault(place, left), loose_fault(place, right));
-            let unsigned = unless(is_unsigned(place), QueryFault::KindsDiffer { at: *at });
-            or_else(operands, unsigned)
+            let number = unless(place.is_number(), QueryFault::KindsDiffer { at: *at });
+            or_else(operands, number)
         }
         Expr::Column(_) | Expr::Not { .. } | Expr::Cast { .. } => None,
     }
@@ -233,7 +234,7 @@ fn judge(columns: &[Column], expr: &Expr) -> Judged
         }
         Expr::Cast { arg, kind, at } => {
             let inside = settle(kind_alone(arg), judge(columns, arg), arg);
-            let can = can_cast(inside.kind, *kind);
+            let can = inside.kind.can_cast(*kind);
             let can = unless(can, QueryFault::KindsDiffer { at: *at });
             Judged::Fixed {
                 kind: *kind,

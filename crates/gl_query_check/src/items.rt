@@ -2,13 +2,14 @@
 
 ghost use Rattle.std.specs.Prelude.{◌≡◌, ◌≤◌, bytes_eq, drop, length, map, slice_get, take};
 ghost use Rattle.std.specs.List.{list_any};
+ghost use Rattle.gl_bits.specs.Kinds.{is_number};
 ghost use Rattle.gl_bits.specs.Limits.{most_weights};
 ghost use Rattle.gl_query.specs.Faults as faults;
 ghost use Rattle.gl_query.specs.declared.fault.QueryFault.TheVariants.{KindsDiffer};
 ghost use Rattle.gl_query.specs.Trees.{AggItemTree, ItemTree, agg_item_tree, agg_tree, item_tree, pick_tree};
 
 use crate::expressions::{Placed, judge_whole, number_fault};
-use crate::rules::{is_unsigned, or_else, unless};
+use crate::rules::{or_else, unless};
 use gl_bits::Kind;
 use gl_bits::limits::{MOST_COLUMNS, MOST_WEIGHTS};
 use gl_query::{Agg, AggItem, Item, Name, Num, Pick, QueryFault};
@@ -72,13 +73,13 @@ pub fn pick_fault(columns: &[Column], pick: &Pick) -> Option<QueryFault>
 
 // The first fault of an argument that is added or averaged.
 fn summed_fault(arg: Placed, name: &Name) -> Option<QueryFault>
-    ensures { let unsigned = faults.is_unsigned arg.kind in
-        result ≡ faults.or_else arg.fault (faults.unless unsigned (KindsDiffer name.now.at)) }
+    ensures { let number = is_number arg.kind in
+        result ≡ faults.or_else arg.fault (faults.unless number (KindsDiffer name.now.at)) }
 {
-    let unsigned = is_unsigned(arg.kind);
+    let number = arg.kind.is_number();
     or_else(
         arg.fault,
-        unless(unsigned, QueryFault::KindsDiffer { at: name.at }),
+        unless(number, QueryFault::KindsDiffer { at: name.at }),
     )
 }
 

@@ -1,10 +1,11 @@
 //! Rules, each a test and the fault where it fails.
 
-ghost use Rattle.std.specs.Prelude.{◌≡◌, ◌^◌, nat_lt, bytes_eq};
+ghost use Rattle.std.specs.Prelude.{◌≡◌, nat_lt, bytes_eq};
 ghost use Rattle.std.specs.List.{list_all, list_any};
 ghost use Rattle.gl_schema.specs.Schemas.{column_names, has_column, has_stream, kinds_of};
 ghost use Rattle.gl_query.specs.Faults as faults;
 ghost use Rattle.gl_query.specs.Sources.{scope_of};
+ghost use Rattle.gl_query.specs.Values as values;
 ghost use Rattle.gl_query_check.specs.Answers.{Refuses};
 
 use gl_bits::Kind;
@@ -46,17 +47,6 @@ pub fn refuse(fault: Option<QueryFault>) -> Result<(), QueryFault>
     }
 }
 
-/// Whether two kinds are one.
-pub fn same_kind(left: Kind, right: Kind) -> bool
-    ensures { result ≡ faults.same_kind left right }
-{
-    match (left, right) {
-        (Kind::Unsigned(v), Kind::Unsigned(w)) => v == w,
-        (Kind::Text(m), Kind::Text(n)) => m == n,
-        (Kind::Unsigned(_), Kind::Text(_)) | (Kind::Text(_), Kind::Unsigned(_)) => false,
-    }
-}
-
 /// Whether columns have the same kinds.
 pub fn same_kinds(left: &[Column], right: &[Column]) -> bool
     ensures { result ≡ faults.same_kinds (kinds_of left.now) (kinds_of right.now) }
@@ -64,19 +54,9 @@ pub fn same_kinds(left: &[Column], right: &[Column]) -> bool
     match (left.split_first(), right.split_first()) {
         (None, None) => true,
         (Some((first, lefts)), Some((second, rights))) => {
-            same_kind(first.kind, second.kind) && same_kinds(lefts, rights)
+            first.kind == second.kind && same_kinds(lefts, rights)
         }
         (None, Some(_)) | (Some(_), None) => false,
-    }
-}
-
-/// Whether a kind is one of numbers.
-pub fn is_unsigned(kind: Kind) -> bool
-    ensures { result ≡ faults.is_unsigned kind }
-{
-    match kind {
-        Kind::Unsigned(_) => true,
-        Kind::Text(_) => false,
     }
 }
 
@@ -84,7 +64,7 @@ pub fn is_unsigned(kind: Kind) -> bool
 pub fn is_bit(kind: Kind) -> bool
     ensures { result ≡ faults.is_bit kind }
 {
-    same_kind(kind, Kind::Unsigned(1))
+    kind == Kind::Unsigned(1)
 }
 
 /// Whether a number is from 1 to the most.
@@ -92,28 +72,6 @@ pub fn is_within(number: u128, most: u128) -> bool
     ensures { result ≡ faults.is_within number most }
 {
     1 <= number && number <= most
-}
-
-/// Whether a CAST goes from one kind to another.
-pub fn can_cast(from: Kind, to: Kind) -> bool
-    ensures { result ≡ faults.can_cast from to }
-{
-    match (from, to) {
-        (Kind::Unsigned(_), Kind::Unsigned(width)) => is_within(u128::from(width), 64),
-        (Kind::Text(_), Kind::Text(bytes)) => is_within(u128::from(bytes), 8),
-        (Kind::Unsigned(_), Kind::Text(_)) | (Kind::Text(_), Kind::Unsigned(_)) => false,
-    }
-}
-
-/// Whether a number fits so many bits.
-#[tactic(auto, using(crate::proofs::Testing::wide_enough))]
-pub fn number_fits(value: u128, width: u8) -> bool
-    ensures { result ≡ nat_lt value (2 ^ width) }
-{
-    if width >= 128 {
-        return true;
-    }
-    value < 1u128 << width
 }
 
 // Whether all bytes are bytes, which they are.
@@ -126,11 +84,11 @@ fn are_bytes(text: &[u8]) -> bool
     }
 }
 
-/// Whether a text has at most so many bytes.
-pub fn letters_fit(bytes: u8, text: &[u8]) -> bool
-    ensures { result ≡ faults.letters_fit bytes text.now }
+/// Whether a text has at most as many bytes as a kind.
+pub fn letters_fit(kind: Kind, text: &[u8]) -> bool
+    ensures { result ≡ values.letters_fit kind text.now }
 {
-    text.len() <= usize::from(bytes) && are_bytes(text)
+    text.len() <= usize::from(kind.bytes()) && are_bytes(text)
 }
 
 /// Whether a column has a name.

@@ -39,35 +39,36 @@ fn values_over(
 }
 
 /// The sum in the width of a kind.
-#[tactic(auto, using(crate::proofs::Widths::kind_width))]
+#[tactic(auto, using(crate::proofs::Widths::kind_width, gl_bits::proofs::KindLemmas::passes_test, gl_bits::proofs::KindLemmas::tested_kind))]
 fn sum_in(kind: Kind, values: &[u128]) -> Result<u128, Fault>
     ensures value { IfOk result (λ v. v ≡ sum_total (width_of kind) values.now) }
     ensures fits { IsKind kind → IsOrMemory result }
 {
-    if !kinds::is_kind(kind) {
+    if !kind.is_kind() {
         return Err(Fault::Unfit);
     }
     Ok(totals::sum(kind.width(), values))
 }
 
 /// The average in a kind.
+#[tactic(auto, using(gl_bits::proofs::KindLemmas::passes_test, gl_bits::proofs::KindLemmas::tested_kind))]
 fn average_in(kind: Kind, values: &[u128]) -> Result<u128, Fault>
     ensures value { IfOk result (λ v. v ≡ average_of kind values.now) }
     ensures fits { IsKind kind → IsOrMemory result }
 {
-    if !kinds::is_kind(kind) {
+    if !kind.is_kind() {
         return Err(Fault::Unfit);
     }
     Ok(totals::average(kind, values))
 }
 
 /// The sum by weights in the width of a kind.
-#[tactic(auto, using(crate::proofs::Widths::kind_width))]
+#[tactic(auto, using(crate::proofs::Widths::kind_width, gl_bits::proofs::KindLemmas::passes_test, gl_bits::proofs::KindLemmas::tested_kind))]
 fn weigh_in(kind: Kind, weights: &[u128], values: &[u128]) -> Result<u128, Fault>
     ensures value { IfOk result (λ v. v ≡ weighted_sum (width_of kind) weights.now values.now) }
     ensures fits { IsKind kind → IsOrMemory result }
 {
-    if !kinds::is_kind(kind) {
+    if !kind.is_kind() {
         return Err(Fault::Unfit);
     }
     Ok(totals::weigh(kind.width(), weights, values))

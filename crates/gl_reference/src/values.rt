@@ -1,25 +1,25 @@
 //! Values of expressions. Each answers None where a kind is none or a number leaves 128 bits, which
 //! no accepted query over rows of its columns brings about.
 
-ghost use Rattle.std.specs.Prelude.{◌≡◌, ◌^◌, ◌<◌, IfSome, IsSome, Option, option_map};
+ghost use Rattle.std.specs.Prelude.{◌≡◌, ◌^◌, ◌<◌, IfSome, IsSome, IsTrue, Option, option_map};
 ghost use Rattle.gl_bits.specs.Words.{bit as bit_of, eq_of, not_of};
 ghost use Rattle.gl_schema.specs.Schemas.{text_word};
 ghost use Rattle.gl_query.specs.Shapes.{expr_shape};
-ghost use Rattle.gl_bits.specs.Kinds.{IsKind, is_at_most};
-ghost use Rattle.gl_bits.specs.Operators.{operate};
+ghost use Rattle.gl_bits.specs.Kinds.{IsKind, bytes_in, can_cast};
+ghost use Rattle.gl_bits.specs.Operators.{cast_of, operate};
 ghost use Rattle.gl_query.specs.Accepted.{IsFilter};
-ghost use Rattle.gl_query.specs.Values.{CanCast, IsLettersOf, bytes_in, cast_of, value_of};
+ghost use Rattle.gl_query.specs.Values.{IsLettersOf, value_of};
 ghost use Rattle.gl_query.specs.Results.{keeps};
 ghost use Rattle.gl_reference.specs.Fits.{HasWord, IsRow};
 
-use gl_bits::Kind;
 use gl_bits::lists::number_at;
-use gl_query::kinds::{column_number, is_kind, kind_alone, kind_of, operand_place};
+use gl_bits::{Family, Kind};
+use gl_query::kinds::{column_number, kind_alone, kind_of, operand_place};
 use gl_query::{Expr, Op};
 use gl_schema::{Column, text_number};
 
 /// A power of two; None past 127.
-fn power(width: u8) -> Option<u128>
+fn power(width: u16) -> Option<u128>
     ensures value { IfSome result (λ p. p ≡ 2 ^ width) }
     ensures fits { width < 128 → IsSome result }
 {
@@ -53,14 +53,12 @@ fn opposite(x: u128) -> u128
 }
 
 /// The word of a text literal in its kind.
+#[tactic(auto, using(gl_query::proofs::Fitting::bytes_few, gl_query::proofs::Fitting::letters_short))]
 fn letters(place: Kind, text: &[u8]) -> Option<u128>
     ensures value { IfSome result (λ v. v ≡ text_word (bytes_in place) text.now) }
     ensures fits { IsKind place → IsLettersOf place text.now → IsSome result }
 {
-    let Kind::Text(bytes) = place else {
-        return None;
-    };
-    let bytes = usize::from(bytes);
+    let bytes = usize::from(place.bytes());
     if bytes > 8 || text.len() > bytes {
         return None;
     }
@@ -68,39 +66,28 @@ fn letters(place: Kind, text: &[u8]) -> Option<u128>
 }
 
 /// The word of one kind as another.
+#[tactic(auto, using(crate::proofs::Widths::number_cast, crate::proofs::Widths::text_cast, gl_bits::proofs::KindLemmas::cast_kind))]
 fn cast(from: Kind, to: Kind, word: u128) -> Option<u128>
     ensures value { IfSome result (λ v. v ≡ cast_of from to word) }
-    ensures fits { IsKind from → CanCast from to → word < 2 ^ 64 → IsSome result }
+    ensures fits { IsKind from → IsTrue (can_cast from to) → word < 2 ^ 64 → IsSome result }
 {
-    match (from, to) {
-        (Kind::Unsigned(_), Kind::Unsigned(width)) => Some(word % power(width)?),
-        (Kind::Text(had), Kind::Text(wants)) => {
-            let top = word.checked_mul(power(wants.checked_mul(8)?)?)?;
-            Some(top / power(had.checked_mul(8)?)?)
-        }
-        (Kind::Unsigned(_), Kind::Text(_)) | (Kind::Text(_), Kind::Unsigned(_)) => Some(word),
-    }
-}
-
-/// Whether a word of a kind is at most another one.
-fn is_at_most(kind: Kind, x: u128, y: u128) -> bool
-    ensures { result ≡ is_at_most kind x y }
-{
-    match kind {
-        Kind::Unsigned(_) | Kind::Text(_) => x <= y,
+    let bound = power(to.bits())?;
+    match from.family() {
+        Family::Numbers => Some(word % bound),
+        Family::Texts => Some(word.checked_mul(bound)? / power(from.bits())?),
     }
 }
 
 /// What an operator gives of two words of a kind.
-#[tactic(auto, unfolding(gl_bits::specs::Words::sum_of, gl_bits::specs::Words::difference_of, gl_bits::specs::Words::product_of))]
+#[tactic(auto, using(gl_bits::proofs::KindLemmas::passes_test), unfolding(gl_bits::specs::Words::sum_of, gl_bits::specs::Words::difference_of, gl_bits::specs::Words::product_of))]
 fn operate(op: Op, kind: Kind, x: u128, y: u128) -> Option<u128>
     ensures value { IfSome result (λ v. v ≡ operate op kind x y) }
     ensures fits { IsKind kind → x < 2 ^ 64 → y < 2 ^ 64 → IsSome result }
 {
-    if !is_kind(kind) {
+    if !kind.is_kind() {
         return None;
     }
-    let bound = power(kind.width())?;
+    let bound = power(kind.bits())?;
     match op {
         Op::Add => Some(x.checked_add(y)? % bound),
         Op::Sub => Some(x.checked_add(bound.saturating_sub(y))? % bound),
@@ -108,9 +95,9 @@ fn operate(op: Op, kind: Kind, x: u128, y: u128) -> Option<u128>
         Op::Eq => equal(x, y),
         Op::Ne => Some(opposite(equal(x, y)?)),
         Op::Lt => bit(kind.is_below(x, y)),
-        Op::Le => bit(is_at_most(kind, x, y)),
+        Op::Le => bit(kind.is_at_most(x, y)),
         Op::Gt => bit(kind.is_below(y, x)),
-        Op::Ge => bit(is_at_most(kind, y, x)),
+        Op::Ge => bit(kind.is_at_most(y, x)),
         Op::And => Some(x & y),
         Op::Or => Some(x | y),
     }

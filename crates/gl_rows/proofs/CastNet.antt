@@ -1,6 +1,9 @@
 -- Buses that carry values of another width.
-use Rattle.std.proofs.Common.{◌≡◌, ℕ, ◌+◌, ◌-◌, ◌*◌, ◌/◌, ◌%◌, ◌^◌, ◌<◌, ◌≤◌, sym, ap, ◌∙◌, arith}
+use Rattle.std.proofs.Common.{◌≡◌, ℕ, ◌+◌, ◌-◌, ◌*◌, ◌/◌, ◌%◌, ◌^◌, ◌<◌, ◌≤◌, true, false, sym, ap, subst, ◌∙◌, arith}
+use Rattle.std.specs.Prelude.{IsTrue}
 use Rattle.std.proofs.Math.Nat.{mod-eq_of_lt}
+use Rattle.gl_bits.proofs.Bools.{and_left}
+use Rattle.gl_bits.proofs.KindLemmas.{text_cast}
 use Rattle.gl_bits.proofs.Wrapping.{fits_wider, cut_low}
 use Rattle.gl_bits.specs.Words.{join_of}
 use Rattle.gl_net.specs.declared.node.Bus.{Bus}
@@ -9,10 +12,12 @@ use Rattle.gl_net.specs.Net.{Net, IsBus, Keeps}
 use Rattle.gl_net.proofs.Determined.{keeps_then}
 use Rattle.gl_net.proofs.Values.{bus_fits}
 use Rattle.gl_wire.specs.Costs.{CostsAtMost, nodes_alone}
-use Rattle.gl_bits.specs.Kinds.{width_of}
+use Rattle.gl_bits.specs.Kinds.{are_alike, can_cast, family_of, is_kind, same_family, width_of}
+use Rattle.gl_bits.specs.Operators.{cast_of}
+use Rattle.gl_bits.specs.declared.kind.Family.{Family}
+use Rattle.gl_bits.specs.declared.kind.Family.TheVariants.{Numbers, Texts}
 use Rattle.gl_bits.specs.declared.kind.Kind.{Kind}
 use Rattle.gl_bits.specs.declared.kind.Kind.TheVariants.{Unsigned, Text}
-use Rattle.gl_algebra.specs.Columns.{CastFits}
 use Rattle.gl_rows.specs.Made.{AreHigh, AreLow, Carries, IsCast}
 use Rattle.gl_rows.proofs.CastLemmas.{high_cut, high_join}
 use Rattle.gl_rows.proofs.MadeLemmas.{carries_as}
@@ -79,18 +84,25 @@ module _ (old new : Net) (width : ℕ) (bus b : Bus) (is : IsBus old bus) (some 
     carries = λ run r t. value run r t ∙ high_cut bus.width width (run.at t bus.node) (bus_fits old bus run is (keeps.runs run r) t) some less;
   }
 
+-- ---- casts
+
+no_cast : false ≡ true → ⊥
+no_cast e = cc
+
 -- a number as another number
-pub low_casts : (old new : Net) (bus b : Bus) (from : Kind) (width : ℕ) → CastFits from (Unsigned width) → AreLow old new width bus b → IsCast old new from (Unsigned width) bus b
-low_casts old new bus b (Unsigned v) width fits are = are
-low_casts old new bus b (Text n) width fits are = absurd fits
+pub low_casts : (old new : Net) (bus b : Bus) (from to : Kind) (width : ℕ) → width ≡ width_of to → family_of to ≡ Numbers
+    → IsTrue (can_cast from to) → AreLow old new width bus b → IsCast old new from to bus b
+low_casts old new bus b (Unsigned v) to width wide numbers can are = subst (λ (w : ℕ). AreLow old new w bus b) wide are
+low_casts old new bus b (Text n) to width wide numbers can are =
+    absurd (no_cast (subst (λ (f : Family). are_alike Texts f ≡ true) numbers (and_left (same_family (Text n) to) (is_kind to) can)))
 
 -- a text as another text
-pub high_casts : (old new : Net) (bus b : Bus) (from : Kind) (bytes : ℕ) → bus.width ≡ width_of from → CastFits from (Text bytes) → AreHigh old new (8 * bytes) bus b
-    → IsCast old new from (Text bytes) bus b
-high_casts old new bus b (Unsigned v) bytes wide fits are = absurd fits
-high_casts old new bus b (Text n) bytes wide fits are =
-    let less : bus.width - 8 * bytes ≡ 8 * (n - bytes) = omega arith in
-    let more : 8 * bytes - bus.width ≡ 8 * (bytes - n) = omega arith in
-    carries_as old new 2 (8 * bytes) (λ run t. run.at t bus.node / 2 ^ (bus.width - 8 * bytes) * 2 ^ (8 * bytes - bus.width))
-    (λ run t. run.at t bus.node / 2 ^ (8 * (n - bytes)) * 2 ^ (8 * (bytes - n))) b
-    (λ run r t. ap (λ (k : ℕ). run.at t bus.node / 2 ^ k * 2 ^ (8 * bytes - bus.width)) less ∙ ap (λ (k : ℕ). run.at t bus.node / 2 ^ (8 * (n - bytes)) * 2 ^ k) more) are
+pub high_casts : (old new : Net) (bus b : Bus) (from to : Kind) (width : ℕ) → width ≡ width_of to → family_of to ≡ Texts → bus.width ≡ width_of from
+    → IsTrue (can_cast from to) → AreHigh old new width bus b → IsCast old new from to bus b
+high_casts old new bus b (Unsigned v) to width wide texts same can are =
+    absurd (no_cast (subst (λ (f : Family). are_alike Numbers f ≡ true) texts (and_left (same_family (Unsigned v) to) (is_kind to) can)))
+high_casts old new bus b (Text n) to width wide texts same can are =
+    carries_as old new 2 (width_of to) (λ run t. run.at t bus.node / 2 ^ (bus.width - width_of to) * 2 ^ (width_of to - bus.width))
+    (λ run t. cast_of (Text n) to (run.at t bus.node)) b
+    (λ run r t. ap (λ (k : ℕ). run.at t bus.node / 2 ^ (k - width_of to) * 2 ^ (width_of to - k)) same ∙ text_cast n to (run.at t bus.node))
+    (subst (λ (w : ℕ). AreHigh old new w bus b) wide are)

@@ -6,9 +6,9 @@ use Rattle.gl_bits.specs.declared.kind.Kind.{Kind}
 use Rattle.gl_algebra.specs.declared.node.ColOp.{ColOp}
 use Rattle.gl_algebra.specs.declared.node.Operand.{Operand}
 use Rattle.gl_algebra.specs.Columns.{kind_of_op, kind_of_operand}
-use Rattle.gl_algebra.specs.Values.{value_as, value_of_op, value_of_operand}
+use Rattle.gl_algebra.specs.Values.{value_of_op, value_of_operand}
 use Rattle.gl_bits.specs.declared.op.Op.{Op}
-use Rattle.gl_bits.specs.Operators.{operate, result_kind, sort_of}
+use Rattle.gl_bits.specs.Operators.{cast_of, operate, result_kind, sort_of}
 use Rattle.gl_net.specs.declared.node.Bus.{Bus}
 use Rattle.gl_net.specs.Net.{Net, Run, IsRun, IsBus, Keeps}
 use Rattle.gl_wire.specs.Costs.{CostsAtMost, nodes_alone}
@@ -57,7 +57,7 @@ AreOperations old new columns kinds ops bs = AreMade old new 3 columns (kind_of_
 
 -- the bus's value as another kind
 abbrev pub IsCast : Net → Net → Kind → Kind → Bus → Bus → Type 0
-IsCast old new from to bus b = Carries old new 2 (width_of to) (λ run t. value_as from to (run.at t bus.node)) b
+IsCast old new from to bus b = Carries old new 2 (width_of to) (λ run t. cast_of from to (run.at t bus.node)) b
 
 -- what an operator gives of two buses of a kind
 abbrev pub IsOperated : Net → Net → Op → Kind → Bus → Bus → Bus → Type 0

@@ -1,14 +1,13 @@
 //! Casts.
 
-ghost use Rattle.std.specs.Prelude.{◌≡◌, ◌<◌, IfOk};
-ghost use Rattle.gl_algebra.specs.Columns.{CastFits};
-ghost use Rattle.gl_bits.specs.Kinds.{IsKind, width_of};
+ghost use Rattle.std.specs.Prelude.{◌≡◌, ◌<◌, IfOk, IsTrue};
+ghost use Rattle.gl_bits.specs.Kinds.{IsKind, can_cast, width_of};
 ghost use Rattle.gl_bits.specs.Words.{IsWidth};
 ghost use Rattle.gl_net.specs.Net.{IsBus};
 ghost use Rattle.gl_bits.specs.declared.kind.Kind.{Kind};
 ghost use Rattle.gl_rows.specs.Made.{AreHigh, AreLow, Carries, IsCast};
 
-use gl_bits::{Kind, Memory, Word};
+use gl_bits::{Family, Kind, Memory, Word};
 use gl_net::{Bus, NetBuilder};
 
 // The word 0.
@@ -84,11 +83,11 @@ pub fn high_bits(net: &mut NetBuilder, bus: Bus, width: u8) -> Result<Bus, Memor
 pub fn put_cast(net: &mut NetBuilder, bus: Bus, to: Kind) -> Result<Bus, Memory>
     requires bus { IsBus net.old bus }
     requires kind { IsKind to }
-    ensures { (from : Kind) → bus.width ≡ width_of from → CastFits from to
+    ensures { (from : Kind) → bus.width ≡ width_of from → IsTrue (can_cast from to)
         → IfOk result (IsCast net.old net.new from to bus) }
 {
-    match to {
-        Kind::Unsigned(width) => low_bits(net, bus, width),
-        Kind::Text(bytes) => high_bits(net, bus, 8 * bytes),
+    match to.family() {
+        Family::Numbers => low_bits(net, bus, to.width()),
+        Family::Texts => high_bits(net, bus, to.width()),
     }
 }

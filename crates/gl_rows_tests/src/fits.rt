@@ -1,31 +1,19 @@
 //! Whether operands, operations and aggregates fit columns.
 
 ghost use Rattle.std.specs.Prelude.{All, IsTrue};
-ghost use Rattle.gl_algebra.specs.Columns.{AggFits, CastFits, IsUnsigned, OpFits, OperandFits, SortFits, WeightFits};
+ghost use Rattle.gl_algebra.specs.Columns.{AggFits, OpFits, OperandFits, SortFits, WeightFits};
 ghost use Rattle.gl_bits.specs.Kinds.{IsKind};
 
 use gl_algebra::columns::kind_of_operand;
 use gl_algebra::{ColOp, Operand, PlanAgg};
 use gl_bits::{Kind, Sort, Word};
 
-/// Whether a kind has a width that there is.
+/// Whether there is such a kind.
+#[tactic(auto, using(gl_bits::proofs::KindLemmas::tested_kind))]
 pub fn is_kind(kind: Kind) -> bool
     ensures { IsTrue result → IsKind kind }
 {
-    match kind {
-        Kind::Unsigned(width) => 1 <= width && width <= 64,
-        Kind::Text(bytes) => 1 <= bytes && bytes <= 8,
-    }
-}
-
-// Whether it is one of numbers.
-fn is_unsigned(kind: Kind) -> bool
-    ensures { IsTrue result → IsUnsigned kind }
-{
-    match kind {
-        Kind::Unsigned(_) => true,
-        Kind::Text(_) => false,
-    }
+    kind.is_kind()
 }
 
 /// Whether an operand fits.
@@ -38,23 +26,12 @@ pub fn operand_fits(kinds: &[Kind], operand: &Operand) -> bool
     }
 }
 
-// Whether a cast goes from numbers to numbers, or from texts to texts.
-fn cast_fits(from: Kind, to: Kind) -> bool
-    ensures { IsTrue result → CastFits from to }
-{
-    match (from, to) {
-        (Kind::Unsigned(_), Kind::Unsigned(_)) => true,
-        (Kind::Text(_), Kind::Text(_)) => true,
-        _ => false,
-    }
-}
-
 // Whether operands of a kind are taken.
 fn sort_fits(sort: Sort, kind: Kind) -> bool
     ensures { IsTrue result → SortFits sort kind }
 {
     match sort {
-        Sort::Arithmetic => is_unsigned(kind),
+        Sort::Arithmetic => kind.is_number(),
         Sort::Comparison => true,
         Sort::Logic => kind == Kind::Unsigned(1),
     }
@@ -69,9 +46,7 @@ fn op_fits(kinds: &[Kind], op: &ColOp) -> bool
             operand_fits(kinds, operand) && kind_of_operand(kinds, operand) == Kind::Unsigned(1)
         }
         ColOp::Cast(operand, kind) => {
-            operand_fits(kinds, operand)
-                && is_kind(*kind)
-                && cast_fits(kind_of_operand(kinds, operand), *kind)
+            operand_fits(kinds, operand) && kind_of_operand(kinds, operand).can_cast(*kind)
         }
         ColOp::Binary(op, left, right) => {
             operand_fits(kinds, left)
@@ -120,16 +95,16 @@ fn agg_fits(kinds: &[Kind], agg: &PlanAgg) -> bool
     match agg {
         PlanAgg::Count => true,
         PlanAgg::Sum(operand) => {
-            operand_fits(kinds, operand) && is_unsigned(kind_of_operand(kinds, operand))
+            operand_fits(kinds, operand) && kind_of_operand(kinds, operand).is_number()
         }
         PlanAgg::Min(operand) => operand_fits(kinds, operand),
         PlanAgg::Max(operand) => operand_fits(kinds, operand),
         PlanAgg::Avg(operand) => {
-            operand_fits(kinds, operand) && is_unsigned(kind_of_operand(kinds, operand))
+            operand_fits(kinds, operand) && kind_of_operand(kinds, operand).is_number()
         }
         PlanAgg::Wsum(operand, weights) => {
             operand_fits(kinds, operand)
-                && is_unsigned(kind_of_operand(kinds, operand))
+                && kind_of_operand(kinds, operand).is_number()
                 && weights.len() <= 64
                 && is_kind(kind_of_operand(kinds, operand))
                 && weights_fit(kind_of_operand(kinds, operand), weights.as_slice())

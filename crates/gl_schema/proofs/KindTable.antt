@@ -159,7 +159,7 @@ found w (Text n) r = text_is_found n r.low r.high
 -- a kind is found by its text
 pub kind_is_named : (k : Kind) → IsKind k → kind_named (kind_text k) ≡ Some k
 kind_is_named (Unsigned n) h = unsigned_found n h.0 h.1
-kind_is_named (Text n) h = text_is_found n h.0 h.1
+kind_is_named (Text n) h = text_is_found n (omega (arith, h.0)) (omega (arith, h.1))
 
 -- the kind that is found first has the word as its text
 find_none : (p : Kind → Bool) (ks : List Kind) → AllByRecursion (λ k. p k ≡ false) ks → find p ks ≡ None
@@ -181,7 +181,7 @@ kind_found w = found_as w (kind_read w) refl
 
 is_kind_read : (w : List ℕ) (k : Kind) → ReadAs w k → IsKind k
 is_kind_read w (Unsigned n) r = (r.low, r.high)
-is_kind_read w (Text n) r = (r.low, r.high)
+is_kind_read w (Text n) r = (omega (arith, r.low), omega (arith, r.high))
 
 -- the kind that is found is one, and the word is its text
 pub kind_named_is : (w : List ℕ) (k : Kind) → kind_named w ≡ Some k → (kind_text k ≡ w) × IsKind k

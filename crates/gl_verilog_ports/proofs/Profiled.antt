@@ -7,7 +7,6 @@ use Rattle.std.proofs.lemmas.Slice.Eq.{bytes_eq-Decides}
 use Rattle.gl_bits.proofs.AllLists.{all_append, all_at, all_back, all_front, get_unmapped, length_map}
 use Rattle.gl_bits.proofs.Bools.{bytes_turned}
 use Rattle.gl_bits.specs.declared.kind.Kind as bits
-use Rattle.gl_bits.specs.declared.kind.Kind.TheVariants.{Unsigned, Text}
 use Rattle.gl_bits.specs.Kinds.{IsKind, width_of}
 use Rattle.gl_schema.specs.declared.schema.Column.{Column}
 use Rattle.gl_schema.specs.declared.schema.Stream.{Stream}
@@ -161,13 +160,9 @@ widths_of : (cs : List Column) → map (λ (d : Declaration). d.width) (map decl
 widths_of [] = refl
 widths_of (c ∷ cs) = ap (λ (x : List ℕ). width_of c.kind ∷ x) (widths_of cs)
 
-kind_narrow : (k : bits.Kind) → IsKind k → width_of k ≤ 64
-kind_narrow (Unsigned w) h = h.1
-kind_narrow (Text n) h = omega (arith, h.1)
-
 kinds_narrow : (ks : List bits.Kind) → AllByRecursion IsKind ks → AllByRecursion (λ w. w ≤ 64) (map width_of ks)
 kinds_narrow [] h = tt
-kinds_narrow (k ∷ ks) h = (kind_narrow k h.0, kinds_narrow ks h.1)
+kinds_narrow (k ∷ ks) h = (h.0.1, kinds_narrow ks h.1)
 
 -- ---- the module
 

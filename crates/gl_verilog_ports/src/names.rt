@@ -71,10 +71,7 @@ pub fn is_in_column(stream: &[u8], column: &[u8], name: &[u8]) -> bool
 fn has_width(kind: Kind, width: u8) -> bool
     ensures { result ≡ nat_eq (kinds.width_of kind) width }
 {
-    match kind {
-        Kind::Unsigned(bits) => bits == width,
-        Kind::Text(bytes) => 8 * u16::from(bytes) == u16::from(width),
-    }
+    kind.bits() == u16::from(width)
 }
 
 // Of the column of this name, whether it has so many bits.

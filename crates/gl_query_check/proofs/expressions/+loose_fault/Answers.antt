@@ -14,4 +14,4 @@ returns-in-Binary t c = λ columns loose.
     let r = expr_tree c.in-Binary.right.value in
     let h : own_kind columns (expr_alike (tree.Binary op l r c.in-Binary.at)) ≡ None = rw c.in-Binary.is at loose in
     let p = loose_parts (sort_of op) (own_kind columns (expr_alike l)) (own_kind columns (expr_alike r)) h in
-    rw (c.in-Binary.is, loose_operator columns c.args.place op l r c.in-Binary.at h, c.or_else.ensures, c.or_else-operands.ensures, c.loose_fault.ensures columns (rw c.deref.ensures p.left'), c.loose_fault-in-Binary.ensures columns (rw c.deref-in-Binary.ensures p.right'), c.unless-unsigned.ensures, c.is_unsigned.ensures, c.deref.ensures, c.deref-in-Binary.ensures) refl
+    rw (c.in-Binary.is, loose_operator columns c.args.place op l r c.in-Binary.at h, c.or_else.ensures, c.or_else-operands.ensures, c.loose_fault.ensures columns (rw c.deref.ensures p.left'), c.loose_fault-in-Binary.ensures columns (rw c.deref-in-Binary.ensures p.right'), c.unless-number.ensures, c.is_number.ensures, c.deref.ensures, c.deref-in-Binary.ensures) refl

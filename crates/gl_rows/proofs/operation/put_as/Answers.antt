@@ -1,6 +1,7 @@
 use Rattle.gl_algebra.specs.Columns.{kind_of_operand}
-use Rattle.gl_algebra.specs.Values.{value_as, value_of_operand}
+use Rattle.gl_algebra.specs.Values.{value_of_operand}
 use Rattle.gl_bits.specs.Kinds.{width_of}
+use Rattle.gl_bits.specs.Operators.{cast_of}
 use Rattle.gl_wire.specs.Wire.{row_at}
 use Rattle.gl_rows.proofs.MadeLemmas.{carries_then}
 use Rattle.gl_rows.proofs.operation.put_as.Goals as goal
@@ -11,5 +12,5 @@ returns c =
     let from = kind_of_operand c.args.source.kinds.now c.args.operand in
     let arg = c.in_ok-arg.ensures in
     carries_then c.args.net.now c.put_operand.new.net c.put_cast.new.net 1 2 (width_of from) (width_of c.args.kind)
-    (λ run t. value_of_operand (row_at run t columns) c.args.operand) (value_as from c.args.kind) c.in_ok-arg.arg c.in_ok-bus.bus arg
-    (c.in_ok-bus.ensures from arg.same_width c.requires.fits.2)
+    (λ run t. value_of_operand (row_at run t columns) c.args.operand) (cast_of from c.args.kind) c.in_ok-arg.arg c.in_ok-bus.bus arg
+    (c.in_ok-bus.ensures from arg.same_width c.requires.fits.1)
