@@ -1,9 +1,10 @@
 -- What is seen on the output ports of a module, and the lines that tell it.
 use Rattle.std.specs.Prelude.{ℕ, zero, suc, Bool, false, not, ◌&&◌, ◌||◌, List, [], ◌∷◌, ◌++◌, map, Option, Some, None, codes, unwrap_or, ◌==◌, if◌then◌else◌, decimal, filter_map}
 use Rattle.std.specs.List.{list_any, flat_map}
+use Rattle.std.specs.Fmt.{signed_decimal}
 use Rattle.std.specs.Int.{bytes_high_first}
 use Rattle.gl_bits.specs.declared.kind.Kind.{Kind}
-use Rattle.gl_bits.specs.declared.kind.Kind.TheVariants.{Unsigned, Text}
+use Rattle.gl_bits.specs.Kinds.{bytes_in, is_number, number_of}
 use Rattle.gl_schema.specs.Ports.{PortValues, out_valid, out_eos, fault_group, fault_queue}
 
 -- what a file cycle shows: a row, the end, that a further group came, that a queue overflowed
@@ -73,8 +74,8 @@ quoted text = if needs_quotes text then 34 ∷ (doubled text ++ 34 ∷ []) else 
 
 -- a value of a kind as it is printed: a number in decimal, the bytes of a text, the highest first, without its padding
 unfoldable pub printed : Kind → ℕ → List ℕ
-printed (Unsigned w) v = decimal v
-printed (Text n) v = quoted (unpadded (bytes_high_first n v))
+printed kind v =
+    if is_number kind then signed_decimal (number_of kind v) else quoted (unpadded (bytes_high_first (bytes_in kind) v))
 
 -- the values of a row, each behind a comma
 abbrev pub values_text : List Kind → List ℕ → List ℕ

@@ -1,13 +1,16 @@
 -- Numbers and texts of fields.
 use Rattle.std.proofs.Common.{◌≡◌, ℕ, ◌+◌, ◌-◌, ◌*◌, ◌<◌, ◌≤◌, ◌^◌, min, true, false, List, length, take, get_or, refl, sym, ap, ◌∙◌, arith, inl, inr, Option, Some, None, ◌↔◌}
-use Rattle.std.specs.Prelude.{◌==◌, IsUtf8, IsSome, IfSome}
+use Rattle.std.specs.Prelude.{◌%◌, ◌==◌, IsUtf8, IsSome, IfSome, option_map, pos}
 use Rattle.std.specs.List.{fold}
 use Rattle.std.specs.Str.Lossy.{utf8_valid_len}
-use Rattle.std.proofs.lemmas.Bool.{eq-eqb, ne_eqb, cases_lt, false≢true, lt-ltb, le-ltb}
+use Rattle.std.proofs.lemmas.Bool.{eq-eqb, ne_eqb, cases_lt, false≢true, le-ltb}
 use Rattle.std.proofs.lemmas.Str.{utf8_valid_len-IsUtf8}
 use Rattle.std.proofs.lemmas.List.Sums.{fold_more}
-use Rattle.std.proofs.Math.Nat.{min-eq_left, min-eq_right}
+use Rattle.std.proofs.Math.Nat.{min-eq_left, min-eq_right, mod-eq_of_lt, pow-le-pow_right}
+use Rattle.gl_bits.specs.declared.kind.Kind.{Kind}
+use Rattle.gl_bits.specs.Kinds.{IsKind, in_range, width_of}
 use Rattle.gl_bits.specs.Words.{Word}
+use Rattle.gl_bits.proofs.KindLemmas.{in_range_is, range_below}
 use Rattle.gl_tuples.specs.Values.{number_in, fitting}
 
 pub text_is_utf8 : (bs : List ℕ) → IsUtf8 bs → (utf8_valid_len bs == length bs) ≡ true
@@ -40,10 +43,59 @@ none_yet digits = refl
 some_word : (x : Word) (bits width : ℕ) → x.bits ≡ bits → x.width ≡ width → ◌≡◌ {A = Option Word} (Some x) (Some (record { bits = bits; width = width }))
 some_word x bits width b w = rw (← b, ← w) refl
 
--- what `Word::new` answers
-pub word_made : (r : Option Word) (bits width : ℕ) → (IsSome r ↔ ((1 ≤ width) × (width ≤ 128) × (bits < 2 ^ width))) → IfSome r (λ w. w.bits ≡ bits) → IfSome r (λ w. w.width ≡ width) → 1 ≤ width → width ≤ 128 → r ≡ fitting width (Some bits)
-word_made None bits width given b w low high = elim (cases_lt bits (2 ^ width)) [
-  | inl lt ↦ absurd (false≢true (given.1 (low, high, lt)))
-  | inr le ↦ rw (le-ltb bits (2 ^ width) le) refl
+-- what `Word::new` answers of a number that fits
+pub word_made : (r : Option Word) (bits width : ℕ) → (IsSome r ↔ ((1 ≤ width) × (width ≤ 128) × (bits < 2 ^ width))) → IfSome r (λ w. w.bits ≡ bits) → IfSome r (λ w. w.width ≡ width) → 1 ≤ width → width ≤ 128 → bits < 2 ^ width → r ≡ Some (record { bits = bits; width = width })
+word_made None bits width given b w low high lt = absurd (false≢true (given.1 (low, high, lt)))
+word_made (Some x) bits width given b w low high lt = some_word x bits width b w
+
+-- ---- numbers of a kind, read as far as 64 bits hold them
+
+abbrev topped : Option ℕ → Option ℕ
+topped o = option_map (λ n. min n (2 ^ 64)) o
+
+narrow : (kind : Kind) → IsKind kind → 2 ^ width_of kind ≤ 2 ^ 64
+narrow kind is = pow-le-pow_right {n = 2} (omega arith) {i = width_of kind} {j = 64} is.1
+
+pub none_fits : (kind : Kind) (o : Option ℕ) → None ≡ topped o → None ≡ fitting kind (option_map pos o)
+none_fits kind None e = refl
+none_fits kind (Some n) e = absurd cc
+
+-- one that is in range is read as it is
+as_read : (n x : ℕ) → min n (2 ^ 64) ≡ x → x < 2 ^ 64 → n ≡ x
+as_read n x e lt = elim (cases_lt n (2 ^ 64)) [
+  | inl small ↦ (let s = min-eq_left {n = n} {m = 2 ^ 64} (omega arith) in sym s ∙ e)
+  | inr le ↦ (let s = min-eq_right {n = 2 ^ 64} {m = n} le in absurd (omega (arith, s, e, lt)))
 ]
-word_made (Some x) bits width given b w low high = rw (lt-ltb bits (2 ^ width) (given.0 refl).2) (some_word x bits width b w)
+
+pub in_range_fits : (kind : Kind) (o : Option ℕ) (x : ℕ) → IsKind kind → Some x ≡ topped o → true ≡ in_range kind (pos x)
+    → Some (record { bits = x; width = width_of kind }) ≡ fitting kind (option_map pos o)
+in_range_fits kind None x is e t = absurd cc
+in_range_fits kind (Some n) x is e t =
+    let below = range_below kind x (sym t) in
+    let most = narrow kind is in
+    let same : n ≡ x = as_read n x (same_some e) (omega (arith, below, most)) in
+    let whole : x % 2 ^ width_of kind ≡ x = mod-eq_of_lt below in
+    let word : Some (record { bits = x; width = width_of kind }) ≡ fitting kind (Some (pos x)) =
+    rw (sym t) (ap (λ (b : ℕ). Some (record { bits = b; width = width_of kind })) (sym whole)) in
+    word ∙ ap (λ (m : ℕ). fitting kind (Some (pos m))) (sym same)
+  where
+    same_some : Some x ≡ Some (min n (2 ^ 64)) → min n (2 ^ 64) ≡ x
+    same_some h = cc
+
+-- one that is not, however it is read, is not
+pub past_range_fits : (kind : Kind) (o : Option ℕ) (x : ℕ) → IsKind kind → Some x ≡ topped o → false ≡ in_range kind (pos x)
+    → None ≡ fitting kind (option_map pos o)
+past_range_fits kind None x is e f = absurd cc
+past_range_fits kind (Some n) x is e f = elim (cases_lt n (2 ^ 64)) [
+  | inl small ↦
+      let s = min-eq_left {n = n} {m = 2 ^ 64} (omega arith) in
+      let same : n ≡ x = sym s ∙ same_some e in
+      rw (same, sym f) refl
+  | inr le ↦
+      let most = narrow kind is in
+      let past : in_range kind (pos n) ≡ false = sym (in_range_is kind n (width_of kind) refl) ∙ le-ltb n (2 ^ width_of kind) (omega (arith, le, most)) in
+      rw past refl
+]
+  where
+    same_some : Some x ≡ Some (min n (2 ^ 64)) → min n (2 ^ 64) ≡ x
+    same_some h = cc

@@ -1,9 +1,10 @@
 -- Values of fields.
-use Rattle.std.specs.Prelude.{ℕ, ◌+◌, ◌-◌, ◌*◌, ◌^◌, Bool, not, ◌&&◌, List, length, Option, Some, None, nat_le, nat_lt, ◌==◌, if◌then◌else◌}
+use Rattle.std.specs.Prelude.{ℕ, ℤ, pos, ◌+◌, ◌-◌, ◌*◌, Bool, not, ◌&&◌, List, length, Option, Some, None, option_map, nat_le, ◌==◌, if◌then◌else◌}
 use Rattle.std.specs.List.{fold, list_all}
 use Rattle.std.specs.Str.Lossy.{utf8_valid_len}
 use Rattle.gl_bits.specs.declared.kind.Kind.{Kind}
-use Rattle.gl_bits.specs.declared.kind.Kind.TheVariants.{Unsigned, Text}
+use Rattle.gl_bits.specs.Kinds.{bytes_in, in_range, width_of}
+use Rattle.gl_bits.specs.Kinds as kinds
 use Rattle.gl_bits.specs.Words.{Word}
 use Rattle.gl_schema.specs.Names.{is_digit}
 use Rattle.gl_schema.specs.Schemas.{text_word}
@@ -34,14 +35,22 @@ is_printable b = nat_le 32 b && nat_le b 126
 unfoldable pub is_plain : List ℕ → Bool
 is_plain field = list_all is_printable field
 
--- a number as a word, where it is as wide
-abbrev pub fitting : ℕ → Option ℕ → Option Word
-fitting width None = None
-fitting width (Some n) = if nat_lt n (2 ^ width) then Some (record { bits = n; width = width }) else None
+-- the integer that a field spells, if it is one: a number has no sign
+abbrev pub integer_of : List ℕ → Option ℤ
+integer_of field = option_map pos (number_of field)
 
--- the word of a field in a column of a kind: a number below 2 ^ width, or a plain text of at most that many bytes
+-- the word of an integer, where it is in range
+abbrev pub fitting : Kind → Option ℤ → Option Word
+fitting kind None = None
+fitting kind (Some n) =
+    if in_range kind n then Some (record { bits = kinds.word_of (width_of kind) n; width = width_of kind }) else None
+
+-- the word of a plain text, where it has no more bytes than the kind
+abbrev pub short_enough : Kind → List ℕ → Option Word
+short_enough kind field =
+    if nat_le (length field) (bytes_in kind) && is_plain field
+    then Some (record { bits = text_word (bytes_in kind) field; width = width_of kind }) else None
+
+-- the word of a field in a column of a kind
 unfoldable pub word_of : Kind → List ℕ → Option Word
-word_of (Unsigned width) field = fitting width (number_of field)
-word_of (Text n) field =
-    if nat_le (length field) n && is_plain field then Some (record { bits = text_word n field; width = 8 * n })
-    else None
+word_of kind field = if kinds.is_number kind then fitting kind (integer_of field) else short_enough kind field

@@ -8,7 +8,7 @@ ghost use Rattle.gl_bits.specs.Words.{bits_of, widths_of};
 ghost use Rattle.gl_schema.specs.Seen.{line_of, printed, quoted, doubled};
 ghost use Rattle.gl_schema.specs.Seen as seen;
 
-use gl_bits::{Kind, Row, Word};
+use gl_bits::{Family, Kind, Row, Word};
 use itoa::Buffer;
 
 /// Writes the line of a result into a buffer and answers its length, at most 700: the cycle, each
@@ -64,7 +64,7 @@ fn put_number(into: &mut [u8; 1024], at: usize, number: u64) -> usize
     put(into, at, buffer.format(number).as_bytes())
 }
 
-#[tactic(auto, unfolding(gl_schema::specs::Seen::printed))]
+#[tactic(auto, using(crate::proofs::Printing::number_printed, crate::proofs::Printing::text_printed))]
 fn put_value(into: &mut [u8; 1024], at: usize, kind: Kind, word: Word) -> usize
     requires room { at ≤ 1000 }
     requires kind { IsKind kind }
@@ -73,9 +73,9 @@ fn put_value(into: &mut [u8; 1024], at: usize, kind: Kind, word: Word) -> usize
     ensures written { take result into.new ≡ take at into.old ++ printed kind word.bits }
 {
     let bits = small(word);
-    match kind {
-        Kind::Unsigned(_) => put_number(into, at, bits),
-        Kind::Text(bytes) => put_text(into, at, bits, usize::from(bytes)),
+    match kind.family() {
+        Family::Numbers => put_number(into, at, bits),
+        Family::Texts => put_text(into, at, bits, usize::from(kind.bytes())),
     }
 }
 

@@ -1,12 +1,11 @@
 //! Values of fields.
 
-ghost use Rattle.std.specs.Prelude.{◌≡◌, ◌≤◌, ◌^◌, ◌*◌, length, Some, option_map, min};
-ghost use Rattle.gl_bits.specs.Kinds.{IsKind};
-ghost use Rattle.gl_schema.specs.Schemas as schemas;
+ghost use Rattle.std.specs.Prelude.{◌≡◌, ◌^◌, IsTrue, option_map, min};
+ghost use Rattle.gl_bits.specs.Kinds.{IsKind, is_text};
 ghost use Rattle.gl_schema.specs.Names as names;
 ghost use Rattle.gl_tuples.specs.Values as spec;
 
-use gl_bits::{Kind, Word};
+use gl_bits::{Family, Kind, Word};
 use gl_schema::text_number;
 
 /// What stands for every number that 64 bits do not hold.
@@ -69,37 +68,37 @@ pub fn word_of(kind: Kind, field: &[u8]) -> Option<Word>
     requires { IsKind kind }
     ensures { result ≡ spec.word_of kind field.now }
 {
-    match kind {
-        Kind::Unsigned(width) => number_word(number_of(field)?, width),
-        Kind::Text(bytes) => {
-            if field.len() <= usize::from(bytes) && is_plain(field) {
-                text_word(field, bytes)
-            } else {
-                None
-            }
-        }
+    match kind.family() {
+        Family::Numbers => integer_word(kind, field),
+        Family::Texts => text_word(kind, field),
     }
 }
 
-/// The word of a number, where it is as wide.
-fn number_word(number: u128, width: u8) -> Option<Word>
-    requires width { (1 ≤ width) × (width ≤ 64) }
-    ensures { result ≡ spec.fitting width (Some number) }
+/// The word of an integer in a column of this kind.
+fn integer_word(kind: Kind, field: &[u8]) -> Option<Word>
+    requires { IsKind kind }
+    ensures { result ≡ spec.fitting kind (spec.integer_of field.now) }
 {
-    Word::new(number, width)
+    let number = number_of(field)?;
+    if kind.has_number(number) {
+        Word::new(number, kind.width())
+    } else {
+        None
+    }
 }
 
-/// The word of a text in this many bytes, zero bytes behind it.
-fn text_word(field: &[u8], bytes: u8) -> Option<Word>
-    requires bytes { (1 ≤ bytes) × (bytes ≤ 8) }
-    requires short { length field.now ≤ bytes }
-    ensures { result
-        ≡ Some (record { bits = schemas.text_word bytes field.now; width = 8 * bytes }) }
+/// The word of a text in a column of this kind, zero bytes behind it.
+fn text_word(kind: Kind, field: &[u8]) -> Option<Word>
+    requires kind { IsKind kind }
+    requires text { IsTrue (is_text kind) }
+    ensures { result ≡ spec.short_enough kind field.now }
 {
-    Word::new(
-        u128::from(text_number(field, usize::from(bytes))),
-        8 * bytes,
-    )
+    let bytes = usize::from(kind.bytes());
+    if field.len() <= bytes && is_plain(field) {
+        Word::new(u128::from(text_number(field, bytes)), kind.width())
+    } else {
+        None
+    }
 }
 
 #[tactic(auto, unfolding(crate::specs::Values::is_plain))]
