@@ -6,6 +6,7 @@ use Rattle.gl_schema.specs.Names.{is_name, begins_with_letter, has_name_bytes, h
 use Rattle.gl_schema.specs.Schemas.{IsSchema, has_column, has_stream}
 use Rattle.gl_schema.specs.SchemaText as schemas
 use Rattle.gl_schema.specs.SchemaText.{IsSchemaText}
+use Rattle.gl_schema.specs.Written.{is_written, kinds}
 use Rattle.gl_query.specs.Trees.{StatementTree}
 use Rattle.gl_query.specs.Faults.{first_fault}
 use Rattle.gl_query_tokens.specs.declared.token.Token.{Token}
@@ -21,7 +22,7 @@ use Rattle.gl_load.specs.Query.{load_schema, load_written, query_text, schema_te
 -- ---- the schema
 
 is_schema : IsSchema load_schema
-unfolding IsDistinct is_name begins_with_letter has_name_bytes has_loose_underscore is_taken keywords reserved
+unfolding IsDistinct is_name begins_with_letter has_name_bytes has_loose_underscore is_taken keywords reserved is_written kinds
 is_schema = record {
   some' = omega arith;
   most = omega arith;
@@ -30,7 +31,7 @@ is_schema = record {
       name = refl;
       some' = omega arith;
       most = omega arith;
-      columns = (record { name = refl; kind = (omega arith, omega arith) }, (record { name = refl; kind = (omega arith, omega arith) }, (record { name = refl; kind = (omega arith, omega arith) }, tt)));
+      columns = (record { name = refl; kind = refl }, (record { name = refl; kind = refl }, (record { name = refl; kind = refl }, tt)));
       distinct = ((refl, (refl, tt)), ((refl, tt), (tt, tt)));
     },
     tt,
@@ -39,7 +40,7 @@ is_schema = record {
 }
 
 pub schema_spelled : IsSchemaText schema_text load_schema
-unfolding schema_text schemas.tokens_of schemas.class_of schemas.kind_text digits
+unfolding schema_text schemas.tokens_of schemas.class_of schemas.kind_text schemas.row_of digits
 schema_spelled = record { schema' = is_schema; spelled = refl }
 
 -- ---- the query

@@ -14,6 +14,7 @@ use Rattle.gl_bits.proofs.Bools.{by_cases}
 use Rattle.gl_bits.proofs.KindLemmas.{bit_is_kind, cast_kind}
 use Rattle.gl_schema.specs.declared.schema.Column.{Column}
 use Rattle.gl_schema.specs.declared.schema.Stream.{Stream}
+use Rattle.gl_schema.proofs.KindTable.{written_is}
 use Rattle.gl_schema.specs.Schemas.{IsColumn, IsStream, has_stream}
 use Rattle.gl_query.specs.Shapes.{AggItemShape, AggShape, ExprShape, ItemShape, QueryShape}
 use Rattle.gl_query.specs.Shapes as shape
@@ -159,7 +160,7 @@ AreStreams streams = AllByRecursion IsStream streams
 
 column_kinds : (columns : List Column) → AllByRecursion IsColumn columns → AreKinds columns
 column_kinds [] h = tt
-column_kinds (c ∷ cs) h = (h.0.kind, column_kinds cs h.1)
+column_kinds (c ∷ cs) h = (written_is c.kind h.0.kind, column_kinds cs h.1)
 
 stream_columns : (streams : List Stream) (name : List ℕ) → AreStreams streams → AreReal (source_columns streams name)
 stream_columns [] name h = record { result = no_columns; kinds = tt }

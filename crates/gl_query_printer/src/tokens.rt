@@ -10,7 +10,7 @@ ghost use Rattle.gl_query_printer.specs.Brackets.{opening, closing};
 use gl_bits::{Kind, Memory};
 use gl_query::{Name, Num};
 use gl_query_tokens::{Plain, Token};
-use gl_schema::NameText;
+use gl_schema::{NameText, kind_front, kind_size};
 use itoa::Buffer;
 use std::alloc::Global;
 
@@ -71,10 +71,7 @@ pub(crate) fn put_kind(alloc: Global, tokens: &mut Vec<Token>, kind: Kind) -> Re
     ensures { OnOk result (tokens.new.items ≡ tokens.old.items
         ++ token.Name (name_of (kinds.kind_text kind)) ∷ []) }
 {
-    let word = match kind {
-        Kind::Unsigned(width) => word_of(alloc, b"u", width)?,
-        Kind::Text(bytes) => word_of(alloc, b"text", bytes)?,
-    };
+    let word = word_of(alloc, kind_front(kind), kind_size(kind))?;
     put_name(alloc, tokens, &word)
 }
 

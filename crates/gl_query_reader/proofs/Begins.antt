@@ -4,6 +4,7 @@ use Rattle.std.specs.Prelude.{codes}
 use Rattle.gl_bits.specs.declared.kind.Kind.TheVariants.{Unsigned}
 use Rattle.gl_schema.specs.SchemaText.{kind_text}
 use Rattle.gl_schema.specs.SchemaFaults.{kind_named}
+use Rattle.gl_schema.specs.Written.{is_written, kinds}
 use Rattle.gl_schema.proofs.KindTable.{kind_is_named}
 use Rattle.gl_query.specs.declared.tree.Name.{Name}
 use Rattle.gl_query.specs.declared.tree.Num.{Num}
@@ -35,7 +36,8 @@ abbrev pub some_word : Name
 some_word = record { text = kind_text (Unsigned 1); at = 0 }
 
 word_is_kind : kind_named some_word.text ≡ Some (Unsigned 1)
-word_is_kind = kind_is_named (Unsigned 1) (omega arith, omega arith)
+unfolding is_written kinds
+word_is_kind = kind_is_named (Unsigned 1) refl
 
 -- tokens that lead to a whole statement
 pub record Ends (s : State) : Type 0 where

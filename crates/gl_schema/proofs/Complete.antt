@@ -1,11 +1,10 @@
 -- What spells a schema is read as that schema.
 use Rattle.std.proofs.Common.{◌≡◌, ℕ, ◌<◌, ◌≤◌, false, List, [], ◌∷◌, ◌++◌, length, Result, Ok, refl, sym, ap, ◌∙◌, subst, arith, append_assoc}
-use Rattle.std.specs.Prelude.{map, codes, bytes_eq}
+use Rattle.std.specs.Prelude.{map, codes, bytes_eq, IsTrue}
 use Rattle.std.specs.List.{AllByRecursion, IsDistinct, flat_map}
 use Rattle.std.proofs.lemmas.Bool.{lt-leb}
 use Rattle.std.proofs.lemmas.List.{length-append, append-nil}
 use Rattle.gl_bits.specs.declared.kind.Kind.{Kind}
-use Rattle.gl_bits.specs.Kinds.{IsKind}
 use Rattle.gl_schema.specs.declared.fault.SchemaFault.{SchemaFault}
 use Rattle.gl_schema.specs.declared.schema.Column.{Column}
 use Rattle.gl_schema.specs.declared.schema.Stream.{Stream}
@@ -14,6 +13,7 @@ use Rattle.gl_schema.specs.declared.reading.Reading.{Reading}
 use Rattle.gl_schema.specs.declared.reading.Place.{Place}
 use Rattle.gl_schema.specs.declared.reading.Place.TheVariants as place
 use Rattle.gl_schema.specs.Names.{IsName}
+use Rattle.gl_schema.specs.Written.{is_written}
 use Rattle.gl_schema.specs.Schemas.{IsColumn, IsStream, has_stream, has_column, column_names, stream_names}
 use Rattle.gl_schema.specs.SchemaText.{Mark, Word, Sign, Token, tokens_of, kind_text, spell_column, spell_columns, spell_stream, spell, IsSchemaText}
 use Rattle.gl_schema.specs.SchemaFaults.{mark_at, schema_from, schema_of, with_column, ◌>>=◌}
@@ -68,7 +68,7 @@ step_name done n name new i = rw (name, new) refl
 step_column : (done : List Stream) (s : Stream) (n : List ℕ) → IsName n → length s.columns < 32 → has_column s.columns n ≡ false → (i : ℕ) → mark_at (Word n) (at done (place.Column s)) i ≡ Ok (at done (place.Kind s n))
 step_column done s n name lt new i = rw (name, lt-leb 32 (length s.columns) lt, new) refl
 
-step_kind : (done : List Stream) (s : Stream) (n : List ℕ) (k : Kind) → IsKind k → (i : ℕ) → mark_at (Word (kind_text k)) (at done (place.Kind s n)) i ≡ Ok (at done (place.Comma (with_column s n k)))
+step_kind : (done : List Stream) (s : Stream) (n : List ℕ) (k : Kind) → IsTrue (is_written k) → (i : ℕ) → mark_at (Word (kind_text k)) (at done (place.Kind s n)) i ≡ Ok (at done (place.Comma (with_column s n k)))
 step_kind done s n k kind i = rw (kind_is_named k kind) refl
 
 new_column : (front : List Column) (c : Column) (cs : List Column) → IsDistinct bytes_eq (column_names (front ++ c ∷ cs)) → has_column front c.name ≡ false

@@ -1,73 +1,116 @@
 -- Reading a kind by cases finds the kind that the word is the text of.
 use Rattle.std.proofs.Common.{◌≡◌, ℕ, ◌+◌, ◌-◌, ◌*◌, ◌≤◌, Bool, true, false, ◌&&◌, ◌||◌, List, [], ◌∷◌, ◌++◌, Option, Some, None, refl, sym, ap, ◌∙◌, subst, inl, inr, arith}
-use Rattle.std.specs.Prelude.{bytes_eq, nat_le, ◌==◌, find}
-use Rattle.std.specs.List.{list_all, AllByRecursion}
+use Rattle.std.specs.Prelude.{◌/◌, IsTrue, bytes_eq, nat_le, unwrap_or, ◌==◌, find}
+use Rattle.std.specs.List.{list_all, list_any, AllByRecursion}
 use Rattle.std.specs.Fmt.{digits}
 use Rattle.std.proofs.lemmas.Bool.{agree_below_at, and_parts, or_cases, eqb-true, leb-true, cases_Bool, true≢false, false_from_ne_true}
 use Rattle.std.proofs.lemmas.Slice.Eq.{bytes_eq-Decides}
 use Rattle.std.proofs.lemmas.Bool.Decides.{nat_tests}
 use Rattle.gl_bits.specs.declared.kind.Kind.{Kind}
 use Rattle.gl_bits.specs.declared.kind.Kind.TheVariants.{Unsigned, Text}
-use Rattle.gl_bits.specs.Kinds.{IsKind}
-use Rattle.gl_schema.specs.SchemaText.{kind_text}
-use Rattle.gl_schema.specs.SchemaFaults.{kind_named, kinds}
+use Rattle.gl_bits.specs.Kinds.{IsKind, is_kind}
+use Rattle.gl_bits.specs.Operators.{same_kind}
+use Rattle.gl_bits.proofs.KindLemmas.{equal_kinds, kinds_equal, tested_kind}
+use Rattle.gl_schema.specs.SchemaText.{kind_text, row_of, size_in}
+use Rattle.gl_schema.specs.SchemaFaults.{kind_named}
+use Rattle.gl_schema.specs.Written.{Written, is_written, kinds, numbers, texts}
 use Rattle.gl_schema.specs.KindReading.{kind_read, text_read, small_number, sized}
 
--- the same kind
-kind_eq : Kind → Kind → Bool
-kind_eq (Unsigned m) (Unsigned n) = m == n
-kind_eq (Text m) (Text n) = m == n
-kind_eq (Unsigned m) (Text n) = false
-kind_eq (Text m) (Unsigned n) = false
+-- the answer is this kind
+answers : Kind → Option Kind → Bool
+answers k None = false
+answers k (Some j) = same_kind j k
 
-is_kind : Kind → Option Kind → Bool
-is_kind k None = false
-is_kind k (Some j) = kind_eq k j
+answers-true : (k : Kind) (o : Option Kind) → answers k o ≡ true → o ≡ Some k
+unfolding answers
+answers-true k None h = absurd (true≢false (sym h))
+answers-true k (Some j) h = ap Some (kinds_equal j k h)
 
-kind_eq-true : (j k : Kind) → kind_eq j k ≡ true → k ≡ j
-unfolding kind_eq
-kind_eq-true (Unsigned m) (Unsigned n) h = ap Unsigned (sym (eqb-true m n h))
-kind_eq-true (Text m) (Text n) h = ap Text (sym (eqb-true m n h))
-kind_eq-true (Unsigned m) (Text n) h = absurd (true≢false (sym h))
-kind_eq-true (Text m) (Unsigned n) h = absurd (true≢false (sym h))
+-- ---- what is written
 
-is_kind-true : (k : Kind) (o : Option Kind) → is_kind k o ≡ true → o ≡ Some k
-unfolding is_kind
-is_kind-true k None h = absurd (true≢false (sym h))
-is_kind-true k (Some j) h = ap Some (kind_eq-true k j h)
+-- what passes for each kind of a list passes for one that is among them
+of_each : (p : Kind → Bool) (ks : List Kind) → list_all p ks ≡ true → (k : Kind) → list_any (same_kind k) ks ≡ true → p k ≡ true
+of_each p [] h k w = absurd (true≢false (sym w))
+of_each p (j ∷ js) h k w =
+    let here = and_parts (p j) (list_all p js) h in
+    elim (or_cases (same_kind k j) (list_any (same_kind k) js) w) [
+      | inl e ↦ subst (λ (x : Kind). p x ≡ true) (sym (kinds_equal k j e)) here.0
+      | inr e ↦ of_each p js here.1 k e
+    ]
+
+each_is : list_all is_kind kinds ≡ true
+unfolding kinds
+each_is = refl
+
+-- what is written is a kind
+pub written_is : (k : Kind) → IsTrue (is_written k) → IsKind k
+unfolding is_written
+written_is k w = tested_kind k (of_each is_kind kinds each_is k w)
+
+each_is_named : list_all (λ k. answers k (kind_named (kind_text k))) kinds ≡ true
+unfolding answers kind_text row_of kind_named kinds digits
+each_is_named = refl
+
+-- a kind is found by its text
+pub kind_is_named : (k : Kind) → IsTrue (is_written k) → kind_named (kind_text k) ≡ Some k
+unfolding is_written
+kind_is_named k w = answers-true k (kind_named (kind_text k)) (of_each (λ (k : Kind). answers k (kind_named (kind_text k))) kinds each_is_named k w)
 
 -- each kind's text is read as that kind
-reads_all : (ks : List Kind) → list_all (λ k. is_kind k (kind_read (kind_text k))) ks ≡ true → AllByRecursion (λ k. kind_read (kind_text k) ≡ Some k) ks
+reads_all : (ks : List Kind) → list_all (λ k. answers k (kind_read (kind_text k))) ks ≡ true → AllByRecursion (λ k. kind_read (kind_text k) ≡ Some k) ks
 reads_all [] h = tt
-reads_all (k ∷ ks) h = let p = and_parts (is_kind k (kind_read (kind_text k))) (list_all (λ k. is_kind k (kind_read (kind_text k))) ks) h in
-    (is_kind-true k (kind_read (kind_text k)) p.0, reads_all ks p.1)
+reads_all (k ∷ ks) h = let p = and_parts (answers k (kind_read (kind_text k))) (list_all (λ k. answers k (kind_read (kind_text k))) ks) h in
+    (answers-true k (kind_read (kind_text k)) p.0, reads_all ks p.1)
 
-table : list_all (λ k. is_kind k (kind_read (kind_text k))) kinds ≡ true
-unfolding kind_eq is_kind kind_text kinds digits
-table = refl
+each_is_read : list_all (λ k. answers k (kind_read (kind_text k))) kinds ≡ true
+unfolding answers kind_text row_of kinds digits
+each_is_read = refl
 
 reads : AllByRecursion (λ k. kind_read (kind_text k) ≡ Some k) kinds
-reads = reads_all kinds table
+reads = reads_all kinds each_is_read
+
+kind_is_read : (k : Kind) → IsTrue (is_written k) → kind_read (kind_text k) ≡ Some k
+unfolding is_written
+kind_is_read k w = answers-true k (kind_read (kind_text k)) (of_each (λ (k : Kind). answers k (kind_read (kind_text k))) kinds each_is_read k w)
 
 -- a number that is not 0 passes a test that 0 is let through
 past_zero : (n : ℕ) (b : Bool) → 1 ≤ n → ((n == 0) || b) ≡ true → b ≡ true
 past_zero n b low h = elim (or_cases (n == 0) b h) [ inl z ↦ absurd (let e = eqb-true n 0 z in omega arith) | inr t ↦ t ]
 
-unsigned_read : (n : ℕ) → 1 ≤ n → n ≤ 64 → kind_read (kind_text (Unsigned n)) ≡ Some (Unsigned n)
-unfolding kind_eq is_kind kind_text kinds digits
-unsigned_read n low high = is_kind-true (Unsigned n) (kind_read (kind_text (Unsigned n))) (past_zero n _ low (agree_below_at (λ n. (n == 0) || is_kind (Unsigned n) (kind_read (kind_text (Unsigned n)))) (λ _. true) 65 n refl (omega arith)))
+unsigned_written : (n : ℕ) → 1 ≤ n → n ≤ 64 → IsTrue (is_written (Unsigned n))
+unfolding is_written kinds
+unsigned_written n low high = past_zero n _ low (agree_below_at (λ n. (n == 0) || is_written (Unsigned n)) (λ _. true) 65 n refl (omega arith))
 
-unsigned_found : (n : ℕ) → 1 ≤ n → n ≤ 64 → kind_named (kind_text (Unsigned n)) ≡ Some (Unsigned n)
-unfolding kind_eq is_kind kind_text kinds digits kind_named
-unsigned_found n low high = is_kind-true (Unsigned n) (kind_named (kind_text (Unsigned n))) (past_zero n _ low (agree_below_at (λ n. (n == 0) || is_kind (Unsigned n) (kind_named (kind_text (Unsigned n)))) (λ _. true) 65 n refl (omega arith)))
+text_written : (n : ℕ) → 1 ≤ n → n ≤ 8 → IsTrue (is_written (Text n))
+unfolding is_written kinds
+text_written n low high = past_zero n _ low (agree_below_at (λ n. (n == 0) || is_written (Text n)) (λ _. true) 9 n refl (omega arith))
 
-text_is_read : (n : ℕ) → 1 ≤ n → n ≤ 8 → kind_read (kind_text (Text n)) ≡ Some (Text n)
-unfolding kind_eq is_kind kind_text kinds digits
-text_is_read n low high = is_kind-true (Text n) (kind_read (kind_text (Text n))) (past_zero n _ low (agree_below_at (λ n. (n == 0) || is_kind (Text n) (kind_read (kind_text (Text n)))) (λ _. true) 9 n refl (omega arith)))
+-- ---- how a kind is written
 
-text_is_found : (n : ℕ) → 1 ≤ n → n ≤ 8 → kind_named (kind_text (Text n)) ≡ Some (Text n)
-unfolding kind_eq is_kind kind_text kinds digits kind_named
-text_is_found n low high = is_kind-true (Text n) (kind_named (kind_text (Text n))) (past_zero n _ low (agree_below_at (λ n. (n == 0) || is_kind (Text n) (kind_named (kind_text (Text n)))) (λ _. true) 9 n refl (omega arith)))
+picked : (p : Written → Bool) (row other : Written) (rows : List Written) → p row ≡ true → unwrap_or (find p (row ∷ rows)) other ≡ row
+picked p row other rows e = rw e refl
+
+pub unsigned_row : (w : ℕ) → row_of (Unsigned w) ≡ numbers
+unfolding row_of
+unsigned_row w =
+    let one : w / 1 ≡ w = omega arith in
+    picked (λ row. same_kind (row.make (size_in row (Unsigned w))) (Unsigned w)) numbers numbers (texts ∷ [])
+    (equal_kinds (Unsigned (w / 1)) (Unsigned w) (ap Unsigned one))
+
+pub text_row : (n : ℕ) → row_of (Text n) ≡ texts
+unfolding row_of
+text_row n =
+    let eight : 8 * n / 8 ≡ n = omega arith in
+    picked (λ row. same_kind (row.make (size_in row (Text n))) (Text n)) texts numbers []
+    (equal_kinds (Text (8 * n / 8)) (Text n) (ap Text eight))
+
+pub unsigned_size : (w : ℕ) → size_in (row_of (Unsigned w)) (Unsigned w) ≡ w
+unsigned_size w = let one : w / 1 ≡ w = omega arith in ap (λ (row : Written). size_in row (Unsigned w)) (unsigned_row w) ∙ one
+
+pub text_size : (n : ℕ) → size_in (row_of (Text n)) (Text n) ≡ n
+text_size n = let eight : 8 * n / 8 ≡ n = omega arith in ap (λ (row : Written). size_in row (Text n)) (text_row n) ∙ eight
+
+-- ---- what is read
 
 -- what one digit, or two, tell
 one_tells : (a : ℕ) → 1 ≤ small_number (a ∷ []) → (49 ≤ a) × (a ≤ 57) × (small_number (a ∷ []) ≡ a - 48)
@@ -147,19 +190,17 @@ read_tells (a ∷ ds) k h = elim (cases_Bool (a == 117)) [
 begins_same : (front v w : List ℕ) (n most : ℕ) → Begins front v n most → Begins front w n most → v ≡ w
 begins_same front v w n most p q = p.word ∙ ap (λ (ds : List ℕ). front ++ ds) (small_same p.digits' q.digits' (p.spells ∙ sym q.spells) (omega (arith, p.spells, p.low))) ∙ sym q.word
 
+written_read : (w : List ℕ) (k : Kind) → ReadAs w k → IsTrue (is_written k)
+written_read w (Unsigned n) r = unsigned_written n r.low r.high
+written_read w (Text n) r = text_written n r.low r.high
+
 -- a word is the text of the kind that it is read as
 text_of : (w : List ℕ) (k : Kind) → ReadAs w k → kind_text k ≡ w
-text_of w (Unsigned n) r = begins_same (117 ∷ []) (kind_text (Unsigned n)) w n 64 (read_tells (kind_text (Unsigned n)) (Unsigned n) (unsigned_read n r.low r.high)) r
-text_of w (Text n) r = begins_same (116 ∷ 101 ∷ 120 ∷ 116 ∷ []) (kind_text (Text n)) w n 8 (read_tells (kind_text (Text n)) (Text n) (text_is_read n r.low r.high)) r
+text_of w (Unsigned n) r = begins_same (117 ∷ []) (kind_text (Unsigned n)) w n 64 (read_tells (kind_text (Unsigned n)) (Unsigned n) (kind_is_read (Unsigned n) (unsigned_written n r.low r.high))) r
+text_of w (Text n) r = begins_same (116 ∷ 101 ∷ 120 ∷ 116 ∷ []) (kind_text (Text n)) w n 8 (read_tells (kind_text (Text n)) (Text n) (kind_is_read (Text n) (text_written n r.low r.high))) r
 
 found : (w : List ℕ) (k : Kind) → ReadAs w k → kind_named (kind_text k) ≡ Some k
-found w (Unsigned n) r = unsigned_found n r.low r.high
-found w (Text n) r = text_is_found n r.low r.high
-
--- a kind is found by its text
-pub kind_is_named : (k : Kind) → IsKind k → kind_named (kind_text k) ≡ Some k
-kind_is_named (Unsigned n) h = unsigned_found n h.0 h.1
-kind_is_named (Text n) h = text_is_found n (omega (arith, h.0)) (omega (arith, h.1))
+found w k r = kind_is_named k (written_read w k r)
 
 -- the kind that is found first has the word as its text
 find_none : (p : Kind → Bool) (ks : List Kind) → AllByRecursion (λ k. p k ≡ false) ks → find p ks ≡ None
@@ -179,10 +220,6 @@ found_as w (Some k) h = let r = read_tells w k h in sym (ap kind_named (sym (tex
 pub kind_found : (w : List ℕ) → kind_read w ≡ kind_named w
 kind_found w = found_as w (kind_read w) refl
 
-is_kind_read : (w : List ℕ) (k : Kind) → ReadAs w k → IsKind k
-is_kind_read w (Unsigned n) r = (r.low, r.high)
-is_kind_read w (Text n) r = (omega (arith, r.low), omega (arith, r.high))
-
--- the kind that is found is one, and the word is its text
-pub kind_named_is : (w : List ℕ) (k : Kind) → kind_named w ≡ Some k → (kind_text k ≡ w) × IsKind k
-kind_named_is w k h = let r = read_tells w k (kind_found w ∙ h) in (text_of w k r, is_kind_read w k r)
+-- the kind that is found is written, and the word is its text
+pub kind_named_is : (w : List ℕ) (k : Kind) → kind_named w ≡ Some k → (kind_text k ≡ w) × IsTrue (is_written k)
+kind_named_is w k h = let r = read_tells w k (kind_found w ∙ h) in (text_of w k r, written_read w k r)

@@ -1,13 +1,12 @@
 -- What is read is spelled by the text.
 use Rattle.std.proofs.Common.{◌≡◌, ℕ, ◌<◌, ◌≤◌, Bool, true, false, not, cond, List, [], ◌∷◌, ◌++◌, length, Option, Some, None, Result, Ok, Err, refl, sym, ap, ◌∙◌, subst, arith, append_assoc, inl, inr}
-use Rattle.std.specs.Prelude.{map, codes, bytes_eq, nat_le, ◌==◌}
+use Rattle.std.specs.Prelude.{map, codes, bytes_eq, nat_le, ◌==◌, IsTrue}
 use Rattle.std.specs.List.{AllByRecursion, IsDistinct, flat_map}
 use Rattle.std.proofs.lemmas.Bool.{leb-false, eqb-true, not-false, cases_Bool}
 use Rattle.std.proofs.lemmas.List.{length-append, append-nil}
 use Rattle.std.proofs.lemmas.Slice.Eq.{bytes_eq-Decides}
 use Rattle.std.proofs.lemmas.Grind.{flat_map-append}
 use Rattle.gl_bits.specs.declared.kind.Kind.{Kind}
-use Rattle.gl_bits.specs.Kinds.{IsKind}
 use Rattle.gl_schema.specs.declared.fault.SchemaFault.{SchemaFault}
 use Rattle.gl_schema.specs.declared.fault.SchemaFault.TheVariants.{Syntax, BadName, Twice, TooMany}
 use Rattle.gl_schema.specs.declared.schema.Column.{Column}
@@ -17,6 +16,7 @@ use Rattle.gl_schema.specs.declared.reading.Reading.{Reading}
 use Rattle.gl_schema.specs.declared.reading.Place.{Place}
 use Rattle.gl_schema.specs.declared.reading.Place.TheVariants as place
 use Rattle.gl_schema.specs.Names.{IsName, is_name}
+use Rattle.gl_schema.specs.Written.{is_written}
 use Rattle.gl_schema.specs.Schemas.{IsColumn, IsStream, IsSchema, has_stream, has_column, column_names, stream_names}
 use Rattle.gl_schema.specs.SchemaText.{Mark, Word, Sign, Token, tokens_of, spell_column, spell_columns, spell_stream, spell, IsSchemaText}
 use Rattle.gl_schema.specs.SchemaFaults.{mark_at, end_at, schema_from, schema_of, start, kind_named, kind_next, with_column, ◌>>=◌}
@@ -161,7 +161,7 @@ more_streams : (ss : List Stream) (s : Stream) → IsDistinct bytes_eq (stream_n
 unfolding has_stream
 more_streams ss s distinct new = more_named (λ s. s.name) ss s distinct new
 
-with_fits : (ss : List Stream) (s : Stream) (n : List ℕ) (k : Kind) → IsBegun ss s → IsNext s n → IsKind k → HasColumns ss (with_column s n k)
+with_fits : (ss : List Stream) (s : Stream) (n : List ℕ) (k : Kind) → IsBegun ss s → IsNext s n → IsTrue (is_written k) → HasColumns ss (with_column s n k)
 with_fits ss s n k is next kind =
     let c : Column = record { name = n; kind = k } in
     let long = length-append s.columns (c ∷ []) in

@@ -1,4 +1,5 @@
 pub mod Names
+pub mod Written
 pub mod Schemas
 pub mod SchemaText
 pub mod SchemaFaults

@@ -1,7 +1,6 @@
 -- The first fault of a text that has no schema, read from the left.
-use Rattle.std.specs.Prelude.{◌≡◌, ℕ, zero, suc, ◌∷◌, not, List, [], ◌++◌, length, map, codes, bytes_eq, nat_le, ◌==◌, find, Option, Some, None, Result, Ok, Err, if◌then◌else◌}
+use Rattle.std.specs.Prelude.{◌≡◌, ℕ, ◌∷◌, not, List, [], ◌++◌, length, codes, bytes_eq, nat_le, ◌==◌, find, Option, Some, None, Result, Ok, Err, if◌then◌else◌}
 use Rattle.gl_bits.specs.declared.kind.Kind.{Kind}
-use Rattle.gl_bits.specs.declared.kind.Kind.TheVariants.{Unsigned, Text}
 use Rattle.gl_bits.specs.Limits.{most_columns, most_streams}
 use Rattle.gl_schema.specs.declared.schema.Stream.{Stream}
 use Rattle.gl_schema.specs.declared.schema.Schema.{Schema}
@@ -13,15 +12,7 @@ use Rattle.gl_schema.specs.declared.reading.Reading.{Reading}
 use Rattle.gl_schema.specs.Names.{is_name}
 use Rattle.gl_schema.specs.Schemas.{has_stream, has_column}
 use Rattle.gl_schema.specs.SchemaText.{Token, Mark, Word, Sign, kind_text, tokens_of}
-
--- the numbers from one to n, in order
-abbrev pub one_to : ℕ → List ℕ
-one_to zero = []
-one_to (suc n) = one_to n ++ suc n ∷ []
-
--- all kinds of columns
-unfoldable pub kinds : List Kind
-kinds = map Unsigned (one_to 64) ++ map Text (one_to 8)
+use Rattle.gl_schema.specs.Written.{kinds}
 
 -- the kind that a word is the text of
 unfoldable pub kind_named : List ℕ → Option Kind

@@ -1,8 +1,9 @@
 -- The text of a schema: `stream name ( name kind , .. ) ;`, once or more.
-use Rattle.std.specs.Prelude.{◌≡◌, ℕ, ◌+◌, ◌∷◌, Bool, ◌&&◌, ◌||◌, List, [], ◌++◌, map, codes, decimal, nat_le, ◌==◌, if◌then◌else◌}
+use Rattle.std.specs.Prelude.{◌≡◌, ℕ, ◌+◌, ◌/◌, ◌∷◌, Bool, ◌&&◌, ◌||◌, List, [], ◌++◌, map, codes, decimal, find, nat_le, unwrap_or, ◌==◌, if◌then◌else◌}
 use Rattle.std.specs.List.{flat_map}
 use Rattle.gl_bits.specs.declared.kind.Kind.{Kind}
-use Rattle.gl_bits.specs.declared.kind.Kind.TheVariants.{Unsigned, Text}
+use Rattle.gl_bits.specs.Kinds.{width_of}
+use Rattle.gl_bits.specs.Operators.{same_kind}
 use Rattle.gl_schema.specs.declared.schema.Column.{Column}
 use Rattle.gl_schema.specs.declared.schema.Stream.{Stream}
 use Rattle.gl_schema.specs.declared.schema.Schema.{Schema}
@@ -10,6 +11,7 @@ use Rattle.gl_schema.specs.declared.lexing.Class.{Class}
 use Rattle.gl_schema.specs.declared.lexing.Class.TheVariants.{Letter, Blank, Dash, Other}
 use Rattle.gl_schema.specs.Names.{is_digit, is_lower}
 use Rattle.gl_schema.specs.Schemas.{IsSchema}
+use Rattle.gl_schema.specs.Written.{Written, numbers, table}
 
 -- a token: a word, which is a longest run of letters, digits and underscores, or any other byte that is no white space
 pub data Mark : Type 0 where
@@ -92,10 +94,17 @@ tokens_from left at (b ∷ bs) = let m = move left (class_of b) at b in m.tokens
 unfoldable pub tokens_of : List ℕ → List Token
 tokens_of text = tokens_from Between 0 text
 
--- a kind as it is written: `u` and its bits, or `text` and its bytes
+-- the size of a kind in a row
+abbrev pub size_in : Written → Kind → ℕ
+size_in row kind = width_of kind / row.unit
+
+-- the row that makes a kind
+unfoldable pub row_of : Kind → Written
+row_of kind = unwrap_or (find (λ row. same_kind (row.make (size_in row kind)) kind) table) numbers
+
+-- a kind as it is written: the front of its row and its size
 unfoldable pub kind_text : Kind → List ℕ
-kind_text (Unsigned w) = codes "u" ++ decimal w
-kind_text (Text n) = codes "text" ++ decimal n
+kind_text kind = (row_of kind).front ++ decimal (size_in (row_of kind) kind)
 
 -- a column is its name and its kind
 abbrev pub spell_column : Column → List Mark

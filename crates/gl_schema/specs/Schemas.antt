@@ -1,13 +1,14 @@
 -- Schemas: streams of named columns, and the rows of a stream.
-use Rattle.std.specs.Prelude.{ℕ, ◌+◌, ◌*◌, ◌^◌, ◌<◌, ◌≤◌, ◌-◌, Bool, List, [], ◌∷◌, ◌++◌, length, map, replicate, bytes_eq}
+use Rattle.std.specs.Prelude.{ℕ, ◌+◌, ◌*◌, ◌^◌, ◌<◌, ◌≤◌, ◌-◌, Bool, List, [], ◌∷◌, ◌++◌, length, map, replicate, bytes_eq, IsTrue}
 use Rattle.std.specs.List.{AllByRecursion, IsDistinct, fold, list_any}
 use Rattle.gl_bits.specs.Limits.{most_columns, most_streams}
 use Rattle.gl_bits.specs.declared.kind.Kind.{Kind}
-use Rattle.gl_bits.specs.Kinds.{IsKind, width_of}
+use Rattle.gl_bits.specs.Kinds.{width_of}
 use Rattle.gl_schema.specs.declared.schema.Column.{Column}
 use Rattle.gl_schema.specs.declared.schema.Stream.{Stream}
 use Rattle.gl_schema.specs.declared.schema.Schema.{Schema}
 use Rattle.gl_schema.specs.Names.{IsName}
+use Rattle.gl_schema.specs.Written.{is_written}
 
 -- the names of columns and of streams, in order
 abbrev pub column_names : List Column → List (List ℕ)
@@ -27,10 +28,10 @@ has_stream streams name = list_any (λ s. bytes_eq name s.name) streams
 abbrev pub kinds_of : List Column → List Kind
 kinds_of columns = map (λ c. c.kind) columns
 
--- a column has a name and a kind
+-- a column has a name and a kind that is written
 pub record IsColumn (c : Column) : Type 0 where
   pub name : IsName c.name
-  pub kind : IsKind c.kind
+  pub kind : IsTrue (is_written c.kind)
 
 -- a stream has a name and 1 to 32 columns, no two of one name
 pub record IsStream (s : Stream) : Type 0 where

@@ -1,6 +1,7 @@
 //! Kinds as they are written.
 
 ghost use Rattle.std.specs.Prelude.{◌≡◌};
+ghost use Rattle.gl_schema.specs.SchemaText.{row_of, size_in};
 ghost use Rattle.gl_schema.specs.SchemaFaults as spec;
 ghost use Rattle.gl_schema.specs.KindReading as read;
 
@@ -11,6 +12,28 @@ pub fn kind_named(word: &[u8]) -> Option<Kind>
     ensures { result ≡ spec.kind_named word.now }
 {
     kind_read(word)
+}
+
+/// The front of a kind as it is written.
+#[tactic(auto, using(crate::proofs::KindTable::unsigned_row, crate::proofs::KindTable::text_row))]
+pub fn kind_front(kind: Kind) -> &'static [u8]
+    ensures { result.now ≡ (row_of kind).front }
+{
+    match kind {
+        Kind::Unsigned(_) => b"u",
+        Kind::Text(_) => b"text",
+    }
+}
+
+/// The size that stands behind it.
+#[tactic(auto, using(crate::proofs::KindTable::unsigned_size, crate::proofs::KindTable::text_size))]
+pub fn kind_size(kind: Kind) -> u8
+    ensures { result ≡ size_in (row_of kind) kind }
+{
+    match kind {
+        Kind::Unsigned(width) => width,
+        Kind::Text(bytes) => bytes,
+    }
 }
 
 fn kind_read(word: &[u8]) -> Option<Kind>

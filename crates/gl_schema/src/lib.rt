@@ -18,7 +18,7 @@ pub mod text;
 pub mod value;
 
 pub use fault::SchemaFault;
-pub use kind::kind_named;
+pub use kind::{kind_front, kind_named, kind_size};
 pub use name::is_name;
 pub use profile::pins_go_by_the_profile;
 pub use right::right_at_each_cycle;
