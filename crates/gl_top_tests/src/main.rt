@@ -180,9 +180,10 @@ fn without(row: &mut Row, name: &str) {
     }
 }
 
-// The last line but one of a text, whose lines all end with a line feed.
-fn last_but_one(text: &str) -> &str {
-    text.rsplitn(4, '\n').nth(2).unwrap_or("")
+// The line of the root's node in what is explained: the one before the line that names the root.
+fn root_line(text: &str) -> &str {
+    let (nodes, _) = text.split_once("\nroot ").unwrap_or(("", ""));
+    nodes.rsplit('\n').next().unwrap_or("")
 }
 
 fn print_told(
@@ -198,7 +199,7 @@ fn print_told(
     let code = told.code;
     let written = str::from_utf8(told.out.bytes()).unwrap_or("?");
     let noted = str::from_utf8(told.notes.bytes()).unwrap_or("?");
-    let written = if root { last_but_one(written) } else { written };
+    let written = if root { root_line(written) } else { written };
     println!(rt; "{query}")?;
     println!(rt; "{code}|{written}|{noted}")?;
     if shows_text {
