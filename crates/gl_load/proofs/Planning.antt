@@ -54,9 +54,9 @@ plan_light = refl
 pub plan_within : IsWithinLimits load_plan
 plan_within = record { small = small_before load_plan.nodes (length load_plan.nodes) plan_small; light = leb-true _ _ plan_light }
 
--- its root is no windows, so it has no spare copies
+-- its root has no spare copies, since its windows take a tuple in each cycle without any
 no_spare : spare_at load_plan.nodes load_plan.root ≡ None
-unfolding added level_of spare_at
+unfolding added level_of nodewise value_to_depth figures_of shape_of spare_at
 no_spare = refl
 
 -- it takes a tuple in each cycle
