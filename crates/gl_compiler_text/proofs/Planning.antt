@@ -1,10 +1,11 @@
 -- What the plan of a statement says of what is compiled.
-use Rattle.std.proofs.Common.{◌≡◌, ℕ, ◌+◌, ◌≤◌, ◌^◌, List, [], Option, Some, None, refl, sym, ap, ◌∙◌, arith}
+use Rattle.std.proofs.Common.{◌≡◌, ℕ, ◌+◌, ◌≤◌, ◌^◌, List, [], Option, Some, None, refl, sym, subst, ap, ◌∙◌, arith}
 use Rattle.gl_schema.specs.declared.schema.Schema.{Schema}
 use Rattle.gl_query.specs.declared.tree.Statement.{Statement}
 use Rattle.gl_query.specs.Checked.{IsChecked}
 use Rattle.gl_algebra.specs.Added.{Placed}
 use Rattle.gl_algebra.specs.Roots as roots
+use Rattle.gl_algebra.specs.FigureTable.{figures_of}
 use Rattle.gl_algebra.specs.Roots.{root_figures, spare_at}
 use Rattle.gl_algebra.specs.declared.figures.Figures.{Figures}
 use Rattle.gl_algebra.specs.declared.figures.Spare.{Spare}
@@ -13,12 +14,12 @@ use Rattle.gl_bits.proofs.AllLists.{get_there}
 use Rattle.gl_query.specs.Shapes.{QueryShape, query_shape}
 use Rattle.gl_elaborate.specs.Figures.{query_figures}
 use Rattle.gl_figures.proofs.PrintedLemmas.{root_small}
-use Rattle.gl_figures.proofs.RootLemmas.{figures_there}
+use Rattle.gl_figures.proofs.RootLemmas.{figures_there, roots_come_closer}
 use Rattle.gl_elaborate.proofs.StatementLemmas.{plans-right}
 use Rattle.gl_elaborate.specs.Plans.{placed, plan_of, stream_node}
 use Rattle.gl_elaborate_plan.specs.declared.planning.Planned.{Planned}
 use Rattle.gl_elaborate_plan.specs.Planned.{IsPlanned}
-use Rattle.gl_compiler_text.specs.Built.{IsBuilt, copies_of, figures_unless, gap_of, latency_of, statement_figures}
+use Rattle.gl_compiler_text.specs.Built.{GapsAreNoFarther, IsBuilt, IsNoFarther, copies_of, figures_unless, gap_of, latency_of, own_gap_of, statement_figures}
 
 -- the gap of a query of this shape
 abbrev pub gap_at : Schema → QueryShape → ℕ
@@ -49,6 +50,20 @@ pub figures_are : (schema : Schema) (statement : Statement) → IsChecked schema
 figures_are schema statement checked =
     by_spare schema statement checked (spare_at (plan_of schema statement).nodes (plan_of schema statement).root) refl
 
+-- beats may come as close as without spare copies, and closer where the root of the plan has some
+pub no_farther : GapsAreNoFarther
+no_farther schema statement checked =
+    let right = plans-right schema statement checked in
+    let at = plan_of schema statement in
+    let closer = roots_come_closer at.nodes at.root right.plan right.within in
+    let gap : roots.gap_of at.nodes at.root ≡ gap_of schema statement = ap (λ (f : Figures). f.gt) (figures_are schema statement checked) in
+    let own : (figures_of at.nodes at.root).gt ≡ own_gap_of schema statement = ap (λ (f : Figures). f.gt) right.figures in
+    let never = closer.never_farther in
+    record {
+      never_farther = omega (arith, never, gap, own);
+      with_spare = λ it h. let less = closer.with_spare it h in omega (arith, less, gap, own);
+    }
+
 -- statements whose queries have one shape have one gap
 pub gap_by_shape : (s : Schema) (st st' : Statement) → query_shape st.query ≡ query_shape st'.query → gap_of s st ≡ gap_of s st'
 gap_by_shape s st st' same = ap (λ (q : QueryShape). gap_at s q) same
@@ -73,3 +88,6 @@ module _ (schema : Schema) (statement : Statement) (p : Planned) (checked : IsCh
 
   pub copies_are : p.printed.copies ≡ copies_of schema statement
   copies_are = is.printed'.copies ∙ ap (λ (x : Placed). roots.copies_with_spare x.nodes x.root) is.at
+
+  pub closer_is : IsNoFarther schema statement p.printed.gap
+  closer_is = subst (IsNoFarther schema statement) (sym gap_is) (no_farther schema statement checked)

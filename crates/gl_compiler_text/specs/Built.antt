@@ -1,8 +1,9 @@
 -- Which statements are built, and the figures that are printed for them.
-use Rattle.std.specs.Prelude.{ℕ, ◌+◌, Option, Some, None}
+use Rattle.std.specs.Prelude.{◌≡◌, ℕ, ◌+◌, ◌<◌, ◌≤◌, Option, Some, None}
 use Rattle.gl_schema.specs.declared.schema.Schema.{Schema}
 use Rattle.gl_query.specs.declared.tree.Statement.{Statement}
 use Rattle.gl_query.specs.Accepted.{IsAccepted}
+use Rattle.gl_query.specs.Checked.{IsChecked}
 use Rattle.gl_query.specs.Shapes.{query_shape}
 use Rattle.gl_algebra.specs.declared.figures.Figures.{Figures}
 use Rattle.gl_algebra.specs.Roots.{copies_with_spare, root_figures, spare_at}
@@ -39,3 +40,17 @@ gap_of schema statement = (statement_figures schema statement).gt
 -- the copies of bodies
 abbrev pub copies_of : Schema → Statement → ℕ
 copies_of schema statement = copies_with_spare (plan_of schema statement).nodes (plan_of schema statement).root
+
+-- the gap of its query, form by form, without spare copies
+abbrev pub own_gap_of : Schema → Statement → ℕ
+own_gap_of schema statement = (query_figures schema.streams (query_shape statement.query)).gt
+
+-- with this gap beats may come as close as without spare copies, and closer where the root of the plan has some
+pub record IsNoFarther (schema : Schema) (statement : Statement) (gap : ℕ) : Type 0 where
+  pub never_farther : gap ≤ own_gap_of schema statement
+  pub with_spare : (it : Spare) → spare_at (plan_of schema statement).nodes (plan_of schema statement).root ≡ Some it
+      → gap < own_gap_of schema statement
+
+abbrev pub GapsAreNoFarther : Type 0
+GapsAreNoFarther = (schema : Schema) (statement : Statement) → IsChecked schema statement
+    → IsNoFarther schema statement (gap_of schema statement)

@@ -16,7 +16,7 @@ use Rattle.gl_algebra.specs.Small.{AreFigures}
 use Rattle.gl_elaborate.specs.Plans.{plan_of}
 use Rattle.gl_compiler_text.specs.Compiles.{HasCost, IsCompiled}
 use Rattle.gl_compiler_text.specs.Meets.{Meets, result_columns}
-use Rattle.gl_compiler_text.specs.Built.{copies_of, gap_of, latency_of}
+use Rattle.gl_compiler_text.specs.Built.{IsNoFarther, copies_of, gap_of, latency_of}
 use Rattle.gl_query_compiler.specs.Queries.{IsQuery, TellsCauses}
 use Rattle.gl_compiler_text.proofs.KnownOf.{all_kinds}
 use Rattle.gl_query_compiler.proofs.Refusing.{tells_none}
@@ -30,6 +30,7 @@ pub record IsMade (schema : Schema) (text : List ℕ) (c : Compiled) : Type 0 wh
   pub columns : c.kinds ≡ kinds_of (result_columns schema c.statement)
   pub latency : c.printed.latency ≡ latency_of schema c.statement
   pub gap : c.printed.gap ≡ gap_of schema c.statement
+  pub closer : IsNoFarther schema c.statement c.printed.gap
   pub copies : c.printed.copies ≡ copies_of schema c.statement
   pub short : c.printed.latency ≤ 2 ^ 32
   pub plan : placed_at c.plan c.root ≡ plan_of schema c.statement
@@ -51,6 +52,7 @@ over schema text statement c fine a m =
       columns = subst (λ (s : Statement). c.kinds ≡ kinds_of (result_columns schema s)) back m.kinds;
       latency = subst (λ (s : Statement). c.printed.latency ≡ latency_of schema s) back m.latency;
       gap = subst (λ (s : Statement). c.printed.gap ≡ gap_of schema s) back m.gap;
+      closer = subst (λ (s : Statement). IsNoFarther schema s c.printed.gap) back m.closer;
       copies = subst (λ (s : Statement). c.printed.copies ≡ copies_of schema s) back m.copies;
       short = m.short;
       plan = subst (λ (s : Statement). placed_at c.plan c.root ≡ plan_of schema s) back m.plan;

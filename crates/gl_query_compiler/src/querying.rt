@@ -9,7 +9,7 @@ ghost use Rattle.gl_algebra.specs.Added.{placed_at};
 ghost use Rattle.gl_algebra.specs.Small.{AreFigures};
 ghost use Rattle.gl_elaborate.specs.Plans.{plan_of};
 ghost use Rattle.gl_compiler_text.specs.Meets.{Meets, result_columns};
-ghost use Rattle.gl_compiler_text.specs.Built.{latency_of, gap_of, copies_of};
+ghost use Rattle.gl_compiler_text.specs.Built.{latency_of, gap_of, copies_of, IsNoFarther};
 ghost use Rattle.gl_compiler_text.specs.Compiles.{HasCost};
 ghost use Rattle.gl_query_compiler.specs.Queries.{IsQuery, IsQueryRefused, IfRefused, TellsCauses};
 ghost use Rattle.gl_query_compiler.specs.Texts.{IsCompiledText, IsTextRefused, TellsTextCauses};
@@ -34,6 +34,7 @@ pub fn compile_query(alloc: Global, schema: Schema, query: &[u8]) -> Result<Comp
     ensures columns { IfOk result (λ c. c.kinds ≡ kinds_of (result_columns schema c.statement)) }
     ensures latency { IfOk result (λ c. c.printed.latency ≡ latency_of schema c.statement) }
     ensures gap { IfOk result (λ c. c.printed.gap ≡ gap_of schema c.statement) }
+    ensures closer { IfOk result (λ c. IsNoFarther schema c.statement c.printed.gap) }
     ensures copies { IfOk result (λ c. c.printed.copies ≡ copies_of schema c.statement) }
     ensures short { IfOk result (λ c. c.printed.latency ≤ 2 ^ 32) }
     ensures plan { IfOk result (λ c. placed_at c.plan c.root ≡ plan_of schema c.statement) }

@@ -5,7 +5,7 @@ use Rattle.gl_query.specs.declared.tree.Statement.{Statement}
 use Rattle.gl_figures.specs.declared.Printed.{Printed}
 use Rattle.gl_net.specs.declared.counting.Cost.{Cost}
 use Rattle.gl_compiler_text.specs.Compiles.{HasCost}
-use Rattle.gl_compiler_text.specs.Built.{copies_of, gap_of, latency_of}
+use Rattle.gl_compiler_text.specs.Built.{IsNoFarther, copies_of, gap_of, latency_of}
 
 unfoldable pub figure_line : List ℕ → ℕ → List ℕ
 figure_line name number = name ++ decimal number ++ codes "\n"
@@ -25,6 +25,7 @@ pub record IsFigured (schema : Schema) (statement : Statement) (bytes text : Lis
   pub cost : Cost
   pub latency : printed.latency ≡ latency_of schema statement
   pub gap : printed.gap ≡ gap_of schema statement
+  pub closer : IsNoFarther schema statement printed.gap
   pub copies : printed.copies ≡ copies_of schema statement
   pub has : HasCost schema statement text cost
   pub shown : bytes ≡ figure_lines printed cost

@@ -19,7 +19,7 @@ use Rattle.gl_verilog_ports.specs.declared.fitting.Ports.{Ports}
 use Rattle.gl_verilog_ports.specs.Fit.{fit_of}
 use Rattle.gl_compiler_text.specs.declared.compiling.Compiled.{Compiled}
 use Rattle.gl_compiler_text.specs.Compiles.{HasCost}
-use Rattle.gl_compiler_text.specs.Built.{copies_of, latency_of, gap_of}
+use Rattle.gl_compiler_text.specs.Built.{IsNoFarther, copies_of, gap_of, latency_of}
 use Rattle.gl_query_compiler.specs.Queries.{IsQuery}
 use Rattle.gl_compiler_text.specs.Meets.{Meets, result_columns}
 use Rattle.gl_top_words.specs.declared.command.Part.TheVariants as part
@@ -78,6 +78,7 @@ pub record IsCompiled (c : Compiled) : Type 0 where
   pub kinds : AllByRecursion IsKind c.kinds
   pub latency : c.printed.latency ≡ latency_of c.schema c.statement
   pub gap : c.printed.gap ≡ gap_of c.schema c.statement
+  pub closer : IsNoFarther c.schema c.statement c.printed.gap
   pub short : c.printed.latency ≤ 2 ^ 32
   pub copies : c.printed.copies ≡ copies_of c.schema c.statement
   pub cost : HasCost c.schema c.statement c.text.items c.cost

@@ -1,7 +1,7 @@
 use Rattle.std.proofs.Common.{ℕ, refl, sym, subst}
 use Rattle.gl_compiler_text.specs.Meets.{Meets}
 use Rattle.gl_compiler_text.specs.Built.{gap_of}
-use Rattle.gl_compiler_text.proofs.Planning.{copies_are, gap_is, is_built, latency_is, short}
+use Rattle.gl_compiler_text.proofs.Planning.{closer_is, copies_are, gap_is, is_built, latency_is, short}
 use Rattle.gl_compiler_text.proofs.compiling.compile_checked.Goals as goal
 
 pub returns : goal.returns
@@ -21,6 +21,7 @@ returns c =
       kinds = c.in_ok-made.ensures.kinds;
       latency = latency;
       gap = gap;
+      closer = closer_is schema statement planned checked is;
       copies = copies_are schema statement planned checked is;
       short = short schema statement planned checked is;
       plan = is.at;

@@ -59,6 +59,10 @@ pub returns-clause-gap : goal.returns-clause-gap
 returns-clause-gap c =
     (made c.args.schema c.in_ok-checked.checked.schema c.args.query.now c.in_ok-checked.checked.statement c.in_ok-compile_checked.field-0 c.requires c.in_ok-checked.ensures.schema c.in_ok-checked.ensures.accepted c.in_ok-compile_checked.ensures).gap
 
+pub returns-clause-closer : goal.returns-clause-closer
+returns-clause-closer c =
+    (made c.args.schema c.in_ok-checked.checked.schema c.args.query.now c.in_ok-checked.checked.statement c.in_ok-compile_checked.field-0 c.requires c.in_ok-checked.ensures.schema c.in_ok-checked.ensures.accepted c.in_ok-compile_checked.ensures).closer
+
 pub returns-clause-copies : goal.returns-clause-copies
 returns-clause-copies c =
     (made c.args.schema c.in_ok-checked.checked.schema c.args.query.now c.in_ok-checked.checked.statement c.in_ok-compile_checked.field-0 c.requires c.in_ok-checked.ensures.schema c.in_ok-checked.ensures.accepted c.in_ok-compile_checked.ensures).copies

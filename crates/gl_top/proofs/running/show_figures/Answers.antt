@@ -21,6 +21,7 @@ returns-in-Ok g c = λ seen passes calm.
           cost = c.args.compiled.now.cost;
           latency = is.latency;
           gap = is.gap;
+          closer = is.closer;
           copies = is.copies;
           has = is.cost;
           shown = c.deref.ensures.value ∙ c.in-Ok.ensures;
