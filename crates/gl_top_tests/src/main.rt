@@ -11,7 +11,10 @@
 //! Q T WORD`. A line `sim WORD WORD` runs `sim S V T`, and a line `load WORD WORD` runs `load`, with
 //! these words, of which either may be missing. A line `over TEXT` sets the query of the lines `words
 //! WORD|WORD|..`, which run these words, of which each may be empty. Behind a line `show text` the text
-//! that is left is printed too, until a line `show no text`. Every other line is a remark.
+//! that is left is printed too, until a line `show no text`. A line `fronts NAME TEXT` runs `run S Q T`,
+//! or `sim S V T --extra 5` for `verilog`, over each front of the text that is shorter than it, in the
+//! place of the text of that name, and prints each length from which on the status or the kind of
+//! the note is another one. Every other line is a remark.
 #![tactic(auto)]
 
 ghost use Rattle.std.specs.Prelude.{◌≡◌, IfOk};
@@ -171,6 +174,59 @@ fn failing_of(text: &str) -> Failing {
     }
 }
 
+// Sets the text of a name; a space in `tuples` parts two records.
+fn set(alloc: Global, row: &mut Row, name: &str, text: &str) -> io::Result<()> {
+    match name {
+        "schema" => row.schema = Some(text.to_string(alloc)?),
+        "verilog" => row.verilog = Some(text.to_string(alloc)?),
+        "tuples" => row.tuples = Some(text.replace(alloc, ' ', "\n")?),
+        _ => row.query = Some(text.to_string(alloc)?),
+    }
+    Ok(())
+}
+
+// What the words that read the text of a name come to.
+fn told_over(alloc: Global, row: &Row, name: &str) -> Result<Told, Memory> {
+    if name == "verilog" {
+        return told_of(alloc, row, "sim", "--extra 5");
+    }
+    let query = match &row.query {
+        Some(query) => query.as_str(),
+        None => "",
+    };
+    told_of(alloc, row, "query", query)
+}
+
+// The kind of a note, without its place.
+fn kind_of(noted: &str) -> &str {
+    match noted.split_once(" at ") {
+        Some((kind, _)) => kind,
+        None => noted.trim_end(),
+    }
+}
+
+// Prints what each front of a text comes to in the place of the text of a name, from each length on
+// that changes it.
+fn print_fronts(rt: &HostRuntime, row: &mut Row, name: &str, text: &str) -> io::Result<()> {
+    println!(rt; "{text}")?;
+    let mut code = u8::MAX;
+    let mut kind = String::new(rt.alloc());
+    for len in 0..text.len() {
+        let front = str::from_utf8(&text.as_bytes()[..len]).unwrap_or("?");
+        set(rt.alloc(), row, name, front)?;
+        let Ok(told) = told_over(rt.alloc(), row, name) else {
+            return println!(rt; "out of memory");
+        };
+        let now = kind_of(str::from_utf8(told.notes.bytes()).unwrap_or("?"));
+        if told.code != code || now != kind.as_str() {
+            println!(rt; "from {len}: {}|{now}", told.code)?;
+            code = told.code;
+            kind = now.to_string(rt.alloc())?;
+        }
+    }
+    set(rt.alloc(), row, name, text)
+}
+
 // Takes a text away.
 fn without(row: &mut Row, name: &str) {
     match name {
@@ -222,10 +278,11 @@ fn main(rt: HostRuntime) -> io::Result<()> {
         let line = line?;
         let (kind, text) = line.split_once(' ').unwrap_or((line.as_str(), ""));
         match kind {
-            "schema" => row.schema = Some(text.to_string(rt.alloc())?),
-            "verilog" => row.verilog = Some(text.to_string(rt.alloc())?),
-            "tuples" => row.tuples = Some(text.replace(rt.alloc(), ' ', "\n")?),
-            "over" => row.query = Some(text.to_string(rt.alloc())?),
+            "schema" | "verilog" | "tuples" | "over" => set(rt.alloc(), &mut row, kind, text)?,
+            "fronts" => {
+                let (name, text) = text.split_once(' ').unwrap_or((text, ""));
+                print_fronts(&rt, &mut row, name, text)?
+            }
             "without" => without(&mut row, text),
             "fail" => row.failing = failing_of(text),
             "show" => row.shows_text = text == "text",
