@@ -51,7 +51,6 @@ pub(crate) fn put_output(net: &mut NetBuilder, name: &[u8], value: Bus) -> Resul
 }
 
 /// The input ports of the columns of a stream.
-#[tactic(auto, using(gl_schema::proofs::KindTable::written_is))]
 fn put_columns(alloc: Global, net: &mut NetBuilder, stream: &Stream) -> Result<Buses, Memory>
     requires { AllByRecursion IsColumn stream.now.columns }
     ensures extends { OnOk result (Extends net.old net.new) }
