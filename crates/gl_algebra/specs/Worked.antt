@@ -105,10 +105,11 @@ pub record WorkedWeights : Type 0 where
   pub more : weight_with_output (averages_by_symbol 201) 3 ≡ 263410
   pub all : weight_with_output (averages_by_symbol 256) 3 ≡ 335405
 
--- the states of 200 averages stand in a memory, and so do those of 4 sums; in two copies of groups there are two
+-- the states of 200 averages stand in a memory, and so do those of 4 sums; windows at the root have a third copy of
+-- groups, and there are three
 pub record WorkedBits : Type 0 where
   pub registers : most_registers (averages_by_symbol 200) 3 ≡ 111632
   pub memories : most_memory (averages_by_symbol 200) 3 ≡ 32768
   pub sums : most_memory sums_by_symbol 3 ≡ 512
-  pub in_windows : most_memory counts_by_symbol_in_windows 7 ≡ 1024
+  pub in_windows : most_memory counts_by_symbol_in_windows 7 ≡ 1536
   pub keys : keys_of counts_by_symbol_in_windows 7 ≡ 272

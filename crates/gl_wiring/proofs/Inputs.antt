@@ -1,11 +1,21 @@
 -- Input ports column by column and stream by stream.
-use Rattle.std.proofs.Common.{ℕ, ◌+◌, List, [], ◌∷◌, ◌++◌, ◌∙◌}
+use Rattle.std.proofs.Common.{◌≡◌, ℕ, zero, suc, ◌+◌, ◌<◌, List, [], ◌∷◌, ◌++◌, ◌∙◌, length, get_or, sym, subst, arith}
+use Rattle.std.specs.List.{AllByRecursion}
+use Rattle.gl_bits.specs.Kinds.{IsKind}
 use Rattle.gl_schema.specs.declared.schema.Column.{Column}
 use Rattle.gl_schema.specs.Ports.{in_column}
+use Rattle.gl_schema.specs.Schemas.{IsColumn}
+use Rattle.gl_schema.proofs.KindTable.{written_is}
 use Rattle.gl_net.specs.declared.node.Bus.{Bus}
 use Rattle.gl_net.specs.declared.node.Direction.TheVariants.{In}
 use Rattle.gl_net.specs.Net.{Net, IsBus, IsPort}
 use Rattle.gl_wiring.specs.Emitted.{Extends, AreInputs}
+
+-- each column of a stream has a kind
+pub kind_there : (cs : List Column) (i : ℕ) (c : Column) → AllByRecursion IsColumn cs → i < length cs → c ≡ get_or cs i c → IsKind c.kind
+kind_there [] i c all lt is = absurd (omega arith)
+kind_there (d ∷ cs) zero c all lt is = subst (λ (x : Column). IsKind x.kind) (sym is) (written_is d.kind all.0.kind)
+kind_there (d ∷ cs) (suc i) c all lt is = kind_there cs i c all.1 (omega arith) is
 
 -- what was an input stays one
 pub inputs_stay : (old new : Net) (s : List ℕ) (cs : List Column) (bs : List Bus) → Extends old new → AreInputs old s cs bs → AreInputs new s cs bs

@@ -144,7 +144,7 @@ module _ (nodes : List PlanNode) (w : SpareWindowOf) (plan : IsPlan nodes) (is :
       let many : length front.wires ≡ w.spare.copies = h.fronts.as_many in
       let are : AreBodies nodes of_body mid net front.wires w.spare.copies copies =
       subst (λ (n : ℕ). AreBodies nodes of_body mid net front.wires n copies) many bodies in
-      let first = get_there copies 0 (omega (arith, rotates.0.some', are.as_many)) in
+      let first = get_there copies 0 (omega (arith, rotates.0.a_copy, are.as_many)) in
       let columns : columns_of copies ≡ widths_of (kinds_of nodes of_body) =
       bodies_columns nodes of_body mid net front.wires copies bodies 0 first.0 first.1 in
       let rear : CostsAtMost net new (cost_of_back w.spare.copies (widths_of (kinds_of nodes of_body))) =

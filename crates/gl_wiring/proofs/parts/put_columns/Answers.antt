@@ -1,16 +1,38 @@
-use Rattle.std.proofs.Common.{rules, ◌≡◌, ◌∷◌, [], ◌∙◌, subst, take, List, ℕ, ◌<◌, length, get_or}
+use Rattle.std.proofs.Common.{rules, ◌≡◌, ◌∷◌, [], ◌∙◌, subst, take, List, ℕ, ◌<◌, length, get_or, arith}
 use Rattle.gl_bits.proofs.AllLists.{taken_next}
 use Rattle.gl_schema.specs.declared.schema.Column.{Column}
 use Rattle.gl_net.specs.declared.node.Direction.TheVariants.{In}
 use Rattle.gl_net.specs.Net.{IsPort}
-use Rattle.gl_bits.specs.Kinds.{width_of}
+use Rattle.gl_bits.specs.Kinds.{IsKind, width_of}
 use Rattle.gl_wiring.specs.EmittedPorts.{input}
 use Rattle.gl_schema.specs.Ports.{in_column}
 use Rattle.gl_wiring.specs.Emitted.{Puts}
-use Rattle.gl_wiring.proofs.Inputs.{inputs_stay, inputs_push, extends_then}
+use Rattle.gl_wiring.proofs.Inputs.{inputs_stay, inputs_push, extends_then, kind_there}
 use Rattle.gl_wiring.proofs.Shapes.{puts_nothing, columns_next, widths_push}
 use Rattle.gl_wiring.proofs.OutputLemmas.{nothing_more, nothing_then}
 use Rattle.gl_wiring.proofs.parts.put_columns.Goals as goal
+
+pub width-requires : goal.width-requires
+width-requires c =
+    let cs = c.args.stream.now.columns in
+    let i = c.loop-column.column-index in
+    let column = c.column-item.result in
+    let here = c.as_slice-column-items.ensures in
+    let lt : i < length cs = subst (λ (xs : List Column). i < length xs) here c.loop-column-test.true in
+    let is : column ≡ get_or cs i column = subst (λ (xs : List Column). column ≡ get_or xs i column) here c.column-item.is in
+    kind_there cs i column c.requires lt is
+
+pub put_input-requires : goal.put_input-requires
+put_input-requires c =
+    let cs = c.args.stream.now.columns in
+    let i = c.loop-column.column-index in
+    let column = c.column-item.result in
+    let here = c.as_slice-column-items.ensures in
+    let lt : i < length cs = subst (λ (xs : List Column). i < length xs) here c.loop-column-test.true in
+    let is : column ≡ get_or cs i column = subst (λ (xs : List Column). column ≡ get_or xs i column) here c.column-item.is in
+    let kind : IsKind column.kind = kind_there cs i column c.requires lt is in
+    let width : c.width.result ≡ width_of column.kind = c.width.ensures in
+    record { some' = omega (arith, kind.0, width); most = omega (arith, kind.1, width) }
 
 pub loop-column-preserved : goal.loop-column-preserved
 loop-column-preserved c =
