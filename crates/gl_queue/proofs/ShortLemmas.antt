@@ -1,5 +1,5 @@
 -- A flag and a register for each column make a queue of one place.
-use Rattle.std.proofs.Common.{◌≡◌, ℕ, zero, suc, ◌<◌, List, ◌++◌, length, Option, Some, None, Bool, true, false, refl, sym, ap, ◌∙◌, arith}
+use Rattle.std.proofs.Common.{◌≡◌, ℕ, zero, suc, List, ◌++◌, length, Option, Some, None, Bool, true, false, refl, sym, ap, ◌∙◌, arith}
 use Rattle.std.specs.Prelude.{option_to_list, is_some, not, ◌&&◌, ◌||◌, if◌then◌else◌, nat_eq}
 use Rattle.gl_bits.specs.Results.{Row}
 use Rattle.gl_net.specs.declared.node.Bus.{Bus}
@@ -7,7 +7,7 @@ use Rattle.gl_net.specs.declared.node.Bit.{Bit}
 use Rattle.gl_net.specs.Net.{Run}
 use Rattle.gl_wire.specs.Wire.{line_at, row_at, tuple_at}
 use Rattle.gl_wire.proofs.StageLemmas.{line_first, line_later, tuple_by}
-use Rattle.gl_queue.specs.Queue.{oldest, behind, entries, passes, LowBefore, IsQueue}
+use Rattle.gl_queue.specs.Queue.{oldest, behind, entries, LowBefore, IsQueue}
 use Rattle.gl_queue.specs.Short.{newer, IsSingle, SinglesAreQueues}
 
 -- one cycle of a list of at most one entry

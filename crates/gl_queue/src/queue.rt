@@ -94,10 +94,10 @@ pub fn put_queue(
 {
     // Named, since goals speak of the values.
     if depth == 1 {
-        let queue = put_single(alloc, net, push, hold, columns)?;
-        Ok(queue)
+        let single = put_single(alloc, net, push, hold, columns)?;
+        Ok(single)
     } else {
-        let queue = put_ring(alloc, net, depth, push, hold, columns)?;
-        Ok(queue)
+        let ring = put_ring(alloc, net, depth, push, hold, columns)?;
+        Ok(ring)
     }
 }
