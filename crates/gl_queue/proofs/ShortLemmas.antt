@@ -74,7 +74,7 @@ module _ (run : Run) (push hold some stays next passed : Bit) (columns outs : Li
     (nexts : (t : ℕ) → line_at run next t ≡ line_at run push t || line_at run stays t)
     (tell : (t : ℕ) → line_at run passed t ≡ line_at run push t && line_at run stays t)
     (row : (t : ℕ) → row_at run (suc (suc t)) outs ≡ (if line_at run push (suc t) then row_at run (suc t) columns else row_at run (suc t) outs)) where
-  shown : ℕ → Option Row
+  abbrev shown : ℕ → Option Row
   shown = tuple_at run some outs
 
   -- the reset cycle has none
