@@ -2,9 +2,11 @@ pub mod FigureLemmas
 pub mod QueueLemmas
 pub mod RingLemmas
 pub mod RingLinesLemmas
+pub mod ShortLemmas
 pub mod DriveLemmas
 pub mod PartLemmas
 pub mod DepthLemmas
+pub mod QueueCosts
 pub mod HeldLemmas
 pub mod PhaseLemmas
 pub mod FlowLemmas

@@ -111,6 +111,3 @@ merging_is run n m left right out never some_a some_b passed_a passed_b passed c
   next_a = w.left_next;
   next_b = w.right_next;
 }
-
-pub two_stores : (x y : ℕ) (xs ys : List ℕ) → xs ≡ ys → x * sum xs + y * sum ys ≡ (x + y) * sum xs
-two_stores x y xs ys same = ap (λ (zs : List ℕ). x * sum xs + y * sum zs) (sym same) ∙ omega arith

@@ -4,6 +4,7 @@ use Rattle.std.specs.Prelude.{slice_get, slice_index_or}
 use Rattle.std.specs.List.{sum}
 use Rattle.std.proofs.lemmas.List.Sums.{sum_by-cons}
 use Rattle.std.proofs.Math.Nat.{mul-le-mul_left}
+use Rattle.gl_algebra.specs.Cost.{ring}
 use Rattle.gl_algebra.specs.declared.figures.Figures.{Figures}
 use Rattle.gl_algebra.specs.FigureTable.{IsSound}
 use Rattle.gl_bits.proofs.Bools.{or_none}
@@ -24,7 +25,8 @@ use Rattle.gl_queue.specs.declared.merge.Merged.{Merged}
 use Rattle.gl_queue.specs.Merging.{only_passed}
 use Rattle.gl_queue.specs.SpacerLines.{IsSpacedOf, bus_of}
 use Rattle.gl_queue.specs.Spacers.{IsSpacerIn, IsSpacerOf, cost_of_spacer}
-use Rattle.gl_queue.proofs.DepthLemmas.{address_low}
+use Rattle.gl_queue.specs.Costs.{cost_of_queue}
+use Rattle.gl_queue.proofs.QueueCosts.{IsLow, queue_low}
 use Rattle.gl_queue.proofs.SpacerServeLemmas.{spacer_serves, spacer_spaces}
 
 -- the two in front are lines
@@ -82,10 +84,16 @@ module _ (old mid new : Net) (g : ℕ) (f : Figures) (a : Emitted) (out : Merged
 
   costs : CostsAtMost old new (cost_of_spacer f columns)
   costs = record {
-    nodes = omega (arith, m.cost.nodes, line.cost.nodes, cost_nodes (length columns + 2) f.ne (omega arith) sound.some);
-    registers = omega (arith, m.cost.registers, line.cost.registers, address_low (f.ne + 1) small);
-    memories = omega (arith, m.cost.memories, line.cost.memories);
+    nodes = omega (arith, m.cost.nodes, line.cost.nodes, low.nodes, long, cost_nodes (length columns + 2) f.ne (omega arith) sound.some);
+    registers = omega (arith, m.cost.registers, line.cost.registers, low.registers, lines_sum columns);
+    memories = omega (arith, m.cost.memories, line.cost.memories, low.memories, ap (λ (n : ℕ). ring (f.ne + 1) * n) (lines_sum columns));
   }
+    where
+      low : IsLow (f.ne + 1) (1 ∷ 1 ∷ columns) (cost_of_queue (f.ne + 1) (1 ∷ 1 ∷ columns))
+      low = queue_low (f.ne + 1) (1 ∷ 1 ∷ columns) small
+
+      long : length (1 ∷ 1 ∷ columns) ≡ length columns + 2
+      long = omega arith
 
   spaces : (run : Run) → IsRun new run → IsSpacerIn run g f a (record { wire = out.wire; faults = record { passed = passed; further = a.faults.further } })
   spaces run r = record {

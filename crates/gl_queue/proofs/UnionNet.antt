@@ -27,12 +27,12 @@ use Rattle.gl_wire.proofs.ColumnLemmas.{wire_kept}
 use Rattle.gl_wire.proofs.FaultLemmas.{line_kept}
 use Rattle.gl_wire.proofs.PadLemmas.{padded_when}
 use Rattle.gl_queue.specs.declared.merge.Merged.{Merged}
-use Rattle.gl_queue.specs.Costs.{address_bits}
+use Rattle.gl_queue.specs.Costs.{cost_of_queue}
 use Rattle.gl_queue.specs.MergeLines.{IsMergedOf}
 use Rattle.gl_queue.specs.Merging.{IsMerging, first_of, only_passed}
 use Rattle.gl_queue.specs.Unions.{IsUnionIn, IsUnionOf, cost_of_union}
-use Rattle.gl_queue.proofs.DepthLemmas.{address_low}
 use Rattle.gl_queue.proofs.FigureLemmas.{one_pad}
+use Rattle.gl_queue.proofs.QueueCosts.{IsLow, queue_low}
 use Rattle.gl_queue.proofs.UnionLemmas.{union_serves}
 
 -- sides padded to begin together, merged, serve the interleavings of the sides
@@ -72,9 +72,9 @@ module _ (old n1 n2 n3 n4 new : Net) (p q : Figures) (a b : Emitted) (first seco
 
   costs : CostsAtMost old new (cost_of_union p q columns)
   costs = record {
-    nodes = omega (arith, pad_a.cost.nodes, pad_b.cost.nodes, m.cost.nodes, told.cost.nodes, line.cost.nodes, long, long_b, pads, bound);
-    registers = omega (arith, pad_a.cost.registers, pad_b.cost.registers, m.cost.registers, told.cost.registers, line.cost.registers, wide_b, bits, low_p, low_q);
-    memories = omega (arith, pad_a.cost.memories, pad_b.cost.memories, m.cost.memories, told.cost.memories, line.cost.memories, stores);
+    nodes = omega (arith, pad_a.cost.nodes, pad_b.cost.nodes, m.cost.nodes, told.cost.nodes, line.cost.nodes, long, long_b, pads, bound, low_p.nodes, low_q.nodes);
+    registers = omega (arith, pad_a.cost.registers, pad_b.cost.registers, m.cost.registers, told.cost.registers, line.cost.registers, wide, wide_b, bits, low_p.registers, low_q.registers);
+    memories = omega (arith, pad_a.cost.memories, pad_b.cost.memories, m.cost.memories, told.cost.memories, line.cost.memories, low_p.memories, low_q.memories, stores);
   }
     where
       long : length (widths first.columns) ≡ length columns
@@ -97,14 +97,17 @@ module _ (old n1 n2 n3 n4 new : Net) (p q : Figures) (a b : Emitted) (first seco
       bits = let e : wait_of p q * (sum columns + 2) + wait_of q p * (sum columns + 2) + 2 * (sum columns + 2) ≡ (sum columns + 2) * ((wait_of p q + wait_of q p) + 2) = omega arith in
           e ∙ ap (λ (n : ℕ). (sum columns + 2) * (n + 2)) (one_pad p q)
 
-      low_p : address_bits p.ne ≤ 32
-      low_p = address_low p.ne small_p
+      low_p : IsLow p.ne (widths first.columns) (cost_of_queue p.ne (widths first.columns))
+      low_p = queue_low p.ne (widths first.columns) small_p
 
-      low_q : address_bits q.ne ≤ 32
-      low_q = address_low q.ne small_q
+      low_q : IsLow q.ne (widths first.columns) (cost_of_queue q.ne (widths first.columns))
+      low_q = queue_low q.ne (widths first.columns) small_q
 
-      stores : (ring p.ne + ring q.ne) * sum (widths first.columns) ≡ (ring p.ne + ring q.ne) * sum columns
-      stores = ap (λ (xs : List ℕ). (ring p.ne + ring q.ne) * sum xs) first_columns
+      wide : sum (widths first.columns) ≡ sum columns
+      wide = ap sum first_columns
+
+      stores : ring p.ne * sum (widths first.columns) + ring q.ne * sum (widths first.columns) ≡ (ring p.ne + ring q.ne) * sum columns
+      stores = ap (λ (n : ℕ). ring p.ne * n + ring q.ne * n) wide ∙ omega arith
 
   merges : (run : Run) → IsRun new run → IsUnionIn run p q a b (record { wire = out.wire; faults = record { passed = passed; further = sides.further } })
   merges run r =

@@ -1,6 +1,7 @@
 pub mod Queue
 pub mod Ring
 pub mod RingLines
+pub mod Short
 pub mod Costs
 pub mod Parts
 pub mod Queues

@@ -1,4 +1,4 @@
-//! Where two streams meet, or one is slowed down: queues in memories, and the blocks that stand on them. A queue is known by what it does to
+//! Where two streams meet, or one is slowed down: queues in registers or memories, and the blocks that stand on them. A queue is known by what it does to
 //! a list of entries, and nothing else of it is used by the blocks above it. Here belong the union, the joiner and the spacer; what goes
 //! row by row does not, nor do windows and groups.
 #![tactic(auto)]
@@ -9,6 +9,7 @@ pub mod merge;
 pub mod pacing;
 pub mod queue;
 pub mod ring;
+pub mod short;
 pub mod spacer;
 pub mod union;
 

@@ -8,6 +8,7 @@ ghost use Rattle.gl_queue.specs.Costs.{address_bits};
 ghost use Rattle.gl_queue.specs.Queues.{IsQueueOf};
 
 use crate::ring::{put_columns, put_passed, put_places};
+use crate::short::put_single;
 use gl_bits::Memory;
 use gl_net::{Bit, Bus, Buses, NetBuilder};
 use std::alloc::Global;
@@ -48,8 +49,8 @@ pub fn address_bits(depth: u64) -> u8
     least_exponent(depth, 1, depth)
 }
 
-/// A queue of so many places, from which the oldest entry leaves wherever the line `hold` is 0.
-pub fn put_queue(
+// A ring of so many places.
+fn put_ring(
     alloc: Global,
     net: &mut NetBuilder,
     depth: u64,
@@ -57,7 +58,7 @@ pub fn put_queue(
     hold: Bit,
     columns: &[Bus],
 ) -> Result<Queue, Memory>
-    requires some_places { 1 ≤ depth }
+    requires more_than_one { 2 ≤ depth }
     requires most { depth ≤ 2 ^ 32 }
     requires push { IsBit net.old push }
     requires hold { IsBit net.old hold }
@@ -73,4 +74,30 @@ pub fn put_queue(
         columns,
         passed,
     })
+}
+
+/// A queue of so many places, from which the oldest entry leaves wherever the line `hold` is 0. One place stands in registers, more are a ring.
+pub fn put_queue(
+    alloc: Global,
+    net: &mut NetBuilder,
+    depth: u64,
+    push: Bit,
+    hold: Bit,
+    columns: &[Bus],
+) -> Result<Queue, Memory>
+    requires some_places { 1 ≤ depth }
+    requires most { depth ≤ 2 ^ 32 }
+    requires push { IsBit net.old push }
+    requires hold { IsBit net.old hold }
+    requires columns { AreBuses net.old columns.now }
+    ensures { IfOk result (IsQueueOf net.old net.new depth push hold columns.now) }
+{
+    // Named, since goals speak of the values.
+    if depth == 1 {
+        let single = put_single(alloc, net, push, hold, columns)?;
+        Ok(single)
+    } else {
+        let ring = put_ring(alloc, net, depth, push, hold, columns)?;
+        Ok(ring)
+    }
 }

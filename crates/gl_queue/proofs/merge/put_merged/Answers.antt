@@ -1,13 +1,13 @@
-use Rattle.std.proofs.Common.{List, sym, ap, ◌∙◌, arith, length, subst}
+use Rattle.std.proofs.Common.{ℕ, List, sym, ap, ◌∙◌, arith, length, subst}
 use Rattle.gl_net.specs.declared.node.Bus.{Bus}
 use Rattle.gl_net.specs.Net.{Keeps}
 use Rattle.gl_net.proofs.Determined.{keeps_then}
 use Rattle.gl_wire.specs.Wire.{AreBuses, widths}
 use Rattle.gl_wire.proofs.ColumnLemmas.{buses_kept, wire_kept}
 use Rattle.gl_wire.proofs.GateLemmas.{never_line}
-use Rattle.gl_algebra.specs.Cost.{ring}
+use Rattle.gl_queue.specs.Costs.{cost_of_queue}
 use Rattle.gl_queue.specs.MergeLines.{AreChosenOf}
-use Rattle.gl_queue.proofs.MergeLinesLemmas.{merging_is, two_stores}
+use Rattle.gl_queue.proofs.MergeLinesLemmas.{merging_is}
 use Rattle.gl_queue.proofs.merge.put_merged.Goals as goal
 
 pub put_rows-requires-clause-wire : goal.put_rows-requires-clause-wire
@@ -50,13 +50,16 @@ returns c =
     let behind_valid : Keeps c.either.new.net c.either-2.new.net = keeps_then _ c.choose_all.new.net _ chosen.keeps (keeps_then _ c.put_end.new.net _ eos.keeps passed.keeps) in
     let behind_first : Keeps c.put_rows.new.net c.either-2.new.net = keeps_then _ c.put_rows-2.new.net _ second.keeps (keeps_then _ c.either.new.net _ valid.keeps behind_valid) in
     let wide = ap length first.same_widths in
-    let stores = two_stores (ring n) (ring m) (widths a.columns) (widths b.columns) c.requires.widths in
+    let same = c.requires.widths in
+    let two_nodes = ap (λ (ws : List ℕ). (cost_of_queue m ws).nodes) same in
+    let two_registers = ap (λ (ws : List ℕ). (cost_of_queue m ws).registers) same in
+    let two_memories = ap (λ (ws : List ℕ). (cost_of_queue m ws).memories) same in
     record {
       keeps = keeps_then c.args.net.now c.constant.new.self _ never.keeps (keeps_then _ c.put_rows.new.net _ first.keeps behind_first);
       cost = record {
-        nodes = omega (arith, never.size, first.cost.nodes, second.cost.nodes, valid.cost.nodes, chosen.cost.nodes, eos.cost.nodes, passed.cost.nodes, ap length c.requires.widths, wide);
-        registers = omega (arith, never.register_bits, first.cost.registers, second.cost.registers, valid.cost.registers, chosen.cost.registers, eos.cost.registers, passed.cost.registers);
-        memories = omega (arith, never.memory_bits, first.cost.memories, second.cost.memories, valid.cost.memories, chosen.cost.memories, eos.cost.memories, passed.cost.memories, stores);
+        nodes = omega (arith, never.size, first.cost.nodes, second.cost.nodes, valid.cost.nodes, chosen.cost.nodes, eos.cost.nodes, passed.cost.nodes, wide, two_nodes);
+        registers = omega (arith, never.register_bits, first.cost.registers, second.cost.registers, valid.cost.registers, chosen.cost.registers, eos.cost.registers, passed.cost.registers, two_registers);
+        memories = omega (arith, never.memory_bits, first.cost.memories, second.cost.memories, valid.cost.memories, chosen.cost.memories, eos.cost.memories, passed.cost.memories, two_memories);
       };
       wire = record {
         valid = record { there = behind_valid.shapes _ _ valid.bit.there };

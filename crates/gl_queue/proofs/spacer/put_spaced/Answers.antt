@@ -1,14 +1,14 @@
-use Rattle.std.proofs.Common.{◌≡◌, ℕ, ◌*◌, List, ◌∷◌, drop, sym, ap, ◌∙◌, arith, subst}
+use Rattle.std.proofs.Common.{◌≡◌, ℕ, List, ◌∷◌, drop, refl, sym, ap, ◌∙◌, arith, subst}
 use Rattle.std.specs.Prelude.{slice_index_or}
-use Rattle.gl_algebra.specs.Cost.{ring}
 use Rattle.gl_net.specs.declared.node.Bus.{Bus}
 use Rattle.gl_net.specs.Net.{Keeps}
 use Rattle.gl_net.proofs.Determined.{keeps_then}
 use Rattle.gl_wire.specs.Wire.{AreBuses, widths}
 use Rattle.gl_wire.proofs.ColumnLemmas.{buses_kept, wire_kept}
+use Rattle.gl_queue.specs.Costs.{cost_of_queue}
 use Rattle.gl_queue.specs.SpacerLines.{IsPacedOf, bus_of}
 use Rattle.gl_queue.proofs.SpacerLinesLemmas.{spacer_is}
-use Rattle.gl_queue.proofs.SpacerNet.{buses_behind, first_bit, lines_buses, lines_in_front, lines_sum, second_bit}
+use Rattle.gl_queue.proofs.SpacerNet.{buses_behind, first_bit, lines_buses, lines_in_front, second_bit}
 use Rattle.gl_queue.proofs.spacer.put_spaced.Goals as goal
 
 pub put_paced-requires-clause-columns : goal.put_paced-requires-clause-columns
@@ -51,14 +51,17 @@ returns c =
     (c.bit.ensures ∙ ap (λ (bs : List Bus). (slice_index_or bs 0 none).node) shown) (c.bit-2.ensures ∙ ap (λ (bs : List Bus). (slice_index_or bs 1 none).node) shown) in
     let rest : outs ≡ drop 2 p.queue.columns = c.in_ok-columns-2.ensures ∙ ap (λ (bs : List Bus). drop 2 bs) shown in
     let is : p.queue.columns ≡ bus_of first ∷ bus_of second ∷ outs = parts.0 ∙ ap (λ (bs : List Bus). bus_of first ∷ bus_of second ∷ bs) (sym rest) in
+    let same : widths all ≡ 1 ∷ 1 ∷ widths w.columns = refl in
+    let same_nodes = ap (λ (ws : List ℕ). (cost_of_queue n ws).nodes) same in
+    let same_registers = ap (λ (ws : List ℕ). (cost_of_queue n ws).registers) same in
+    let same_memories = ap (λ (ws : List ℕ). (cost_of_queue n ws).memories) same in
     let behind : Keeps c.put_paced.new.net c.both-2.new.net = keeps_then _ c.both.new.net _ valid.keeps eos.keeps in
-    let stores = ap (λ (i : ℕ). ring n * i) (lines_sum (widths w.columns)) in
     record {
       keeps = keeps_then c.args.net.now c.either.new.net _ comes.keeps (keeps_then _ c.put_paced.new.net _ paced.keeps behind);
       cost = record {
-        nodes = omega (arith, comes.cost.nodes, paced.cost.nodes, valid.cost.nodes, eos.cost.nodes);
-        registers = omega (arith, comes.cost.registers, paced.cost.registers, valid.cost.registers, eos.cost.registers);
-        memories = omega (arith, comes.cost.memories, paced.cost.memories, valid.cost.memories, eos.cost.memories, stores);
+        nodes = omega (arith, comes.cost.nodes, paced.cost.nodes, valid.cost.nodes, eos.cost.nodes, same_nodes);
+        registers = omega (arith, comes.cost.registers, paced.cost.registers, valid.cost.registers, eos.cost.registers, same_registers);
+        memories = omega (arith, comes.cost.memories, paced.cost.memories, valid.cost.memories, eos.cost.memories, same_memories);
       };
       wire = record {
         valid = record { there = eos.keeps.shapes _ _ valid.bit.there };
