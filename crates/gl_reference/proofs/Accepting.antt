@@ -1,5 +1,5 @@
 -- The worked statements are accepted, or not, by computing.
-use Rattle.std.proofs.Common.{refl, ap, arith, lit≤}
+use Rattle.std.proofs.Common.{◌≡◌, false, true, refl, ap, arith, lit≤}
 use Rattle.std.specs.List.{IsDistinct}
 use Rattle.gl_bits.specs.Kinds.{width_of}
 use Rattle.gl_schema.specs.Schemas.{has_column, has_stream}
@@ -8,16 +8,16 @@ use Rattle.gl_reference.specs.Worked.{AreAccepted, AreRefused}
 pub accepted : AreAccepted
 unfolding has_column has_stream IsDistinct
 accepted = record {
-  filtered = (refl, record { picks = tt; filters = record { typed = (refl, (lit≤ tt, (lit≤ tt, (lit≤ tt, (lit≤ tt, (lit≤ tt, tt))))), refl); bit = refl } });
+  filtered = (refl, record { picks = tt; filters = record { typed = (refl, (refl, refl), refl); bit = refl } });
   counted = (
     refl,
     record { some_size = lit≤ tt; most_size = lit≤ tt; some_advance = lit≤ tt; most_advance = lit≤ tt; copies = lit≤ tt },
-    ((refl, record { picks = tt; filters = record { typed = (refl, (lit≤ tt, (lit≤ tt, (lit≤ tt, (lit≤ tt, (lit≤ tt, tt))))), refl); bit = refl } }), record { typed = (tt, tt); columns = record { most = lit≤ tt; distinct = (tt, tt) } }),
+    ((refl, record { picks = tt; filters = record { typed = (refl, (refl, refl), refl); bit = refl } }), record { typed = (tt, tt); columns = record { most = lit≤ tt; distinct = (tt, tt) } }),
     refl,
   );
   summed = (
     (refl, record { picks = record { typed = (refl, tt); result = record { most = lit≤ tt; distinct = (tt, tt) } }; filters = tt }),
-    (refl, record { picks = record { typed = ((refl, refl, (refl, tt)), tt); result = record { most = lit≤ tt; distinct = (tt, tt) } }; filters = tt }),
+    (refl, record { picks = record { typed = ((refl, refl, (refl, refl)), tt); result = record { most = lit≤ tt; distinct = (tt, tt) } }; filters = tt }),
     record { paced = refl; same = refl },
     record { most = lit≤ tt; distinct = ((refl, tt), (tt, tt)) },
   );
@@ -26,8 +26,8 @@ accepted = record {
 pub refused : AreRefused
 unfolding has_column has_stream IsDistinct
 refused = record {
-  mixed = λ a. a.1.filters.typed.1;
-  wide = λ a. let h = a.1.filters.typed.1 in omega (arith, h);
+  mixed = λ a. let no : false ≡ true = a.1.filters.typed.1.0 in cc;
+  wide = λ a. let no : false ≡ true = a.1.filters.typed.1.1 in cc;
   no_bit = λ a. let e = ap width_of a.1.filters.bit in omega (arith, e);
   unlike = λ a. let e = a.2 in cc;
   unpaced = λ a. let e = a.2.same in cc;
