@@ -1,5 +1,5 @@
 -- At most one slot has an event in a cycle, so one wire carries them all.
-use Rattle.std.proofs.Common.{◌≡◌, ℕ, zero, suc, ◌+◌, ◌<◌, List, [], ◌∷◌, ◌++◌, Option, Some, None, Bool, true, false, refl, sym, ap, ◌∙◌, subst, arith, inl, inr, ◌⊎◌, eqb-true, eq-eqb}
+use Rattle.std.proofs.Common.{◌≡◌, ℕ, zero, suc, ◌<◌, List, [], ◌∷◌, ◌++◌, Option, Some, None, Bool, true, false, refl, sym, ap, ◌∙◌, subst, arith, inl, inr, ◌⊎◌, eqb-true, eq-eqb}
 use Rattle.std.specs.Prelude.{slice_get, not, ◌&&◌, ◌||◌, if◌then◌else◌, nat_eq, nat_lt, length}
 use Rattle.std.specs.List.{list_any}
 use Rattle.std.proofs.lemmas.Bool.{cases_lt}
@@ -21,7 +21,7 @@ any_there (suc n) f h = elim (or_cases (any_to n f) (f n) h) [
   | inr b ↦ (n, omega arith, b)
 ]
 
-any_here : (n : ℕ) (f : ℕ → Bool) (k : ℕ) → k < n → f k ≡ true → any_to n f ≡ true
+pub any_here : (n : ℕ) (f : ℕ → Bool) (k : ℕ) → k < n → f k ≡ true → any_to n f ≡ true
 any_here zero f k l h = absurd (omega (arith, l))
 any_here (suc n) f k l h = by_cases (nat_eq k n) (λ e. or_right (any_to n f) (f n) (subst (λ i. f i ≡ true) (eqb-true k n e) h))
     (λ e. or_left (any_to n f) (f n) (any_here n f k (other k n l e) h))

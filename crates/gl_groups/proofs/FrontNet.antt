@@ -3,35 +3,51 @@ use Rattle.std.proofs.Common.{◌≡◌, ℕ, zero, suc, ◌+◌, ◌-◌, ◌*�
 use Rattle.std.specs.Prelude.{slice_index, nat_eq, not, ◌&&◌, ◌||◌, if◌then◌else◌}
 use Rattle.gl_bits.specs.Results.{Row}
 use Rattle.gl_net.specs.declared.node.Bit.{Bit}
-use Rattle.gl_net.specs.Net.{Net, Run, Keeps}
+use Rattle.gl_net.specs.Net.{Net, Run, IsRun, Keeps}
 use Rattle.gl_net.proofs.Determined.{keeps_then}
 use Rattle.gl_wire.specs.declared.wire.Wire.{Wire}
 use Rattle.gl_wire.specs.Stages.{IsLaterLine}
 use Rattle.gl_wire.specs.Wire.{carried, line_at, row_at, tuple_at, widths}
 use Rattle.gl_wire.proofs.ColumnLemmas.{bit_kept, bus_kept, buses_kept, wire_kept}
 use Rattle.gl_wire_registers.specs.Held.{counted_down, held_at}
-use Rattle.gl_wire_registers.specs.Lines.{line_of}
+use Rattle.gl_wire_registers.specs.declared.lines.LineOp.TheVariants.{Both, Either}
+use Rattle.gl_wire_registers.specs.Lines.{AddsLines, any_to, line_of, pairs}
 use Rattle.gl_wire_registers.specs.Rows.{AddsWires}
-use Rattle.gl_wire_registers.proofs.LineLemmas.{bits_kept, gates_some, line_of-first}
+use Rattle.gl_wire_registers.proofs.LineLemmas.{any_same, bits_kept, gates_some, line_of-first}
 use Rattle.gl_groups.specs.declared.front.Chosen.{Chosen}
-use Rattle.gl_groups.specs.declared.front.Ending.{Ending}
+use Rattle.gl_groups.specs.declared.front.Looked.{Looked}
 use Rattle.gl_groups.specs.declared.front.Lookup.{Lookup}
+use Rattle.gl_groups.specs.declared.front.Turning.{Turning}
 use Rattle.gl_groups.specs.declared.parts.Flush.{Flush}
 use Rattle.gl_groups.specs.declared.parts.Tail.{Tail}
+use Rattle.gl_groups.specs.declared.slots.Seen.{Seen}
 use Rattle.gl_groups.specs.declared.slots.SlotLines.{SlotLines}
-use Rattle.gl_groups.specs.SlotLines.{AddsSlots, AreSlotLines, held_of, sought_at}
-use Rattle.gl_groups.specs.Fronts.{AddsChosen, AddsEnding, AddsFront, AddsLookup, IsChosen, IsEnding, IsLookup, column_of}
+use Rattle.gl_groups.specs.SlotLines.{AddsSlots, AreSlotLines, IsSeen, held_of, sought_at}
+use Rattle.gl_groups.specs.Fronts.{AddsChosen, AddsFront, AddsLooked, AddsLookup, AddsTurning, IsLooked, IsLookup, IsSettled, IsTurning, column_of, ends_of, takes_of, takes_row}
 use Rattle.gl_groups.specs.Groupings.{AreKeys}
 use Rattle.gl_groups.specs.Parts.{AddsFlush, AddsTail, IsFlush, IsTail, TakesOf}
-use Rattle.gl_groups.specs.Seeking.{asked, has, matches, takes}
+use Rattle.gl_groups.specs.Seeking.{Sought, asked, found, has, is_next, matches, takes}
 use Rattle.gl_groups.specs.Slots.{Slots, further_line, is_further, keys_at, no_slots, slots_at}
 use Rattle.gl_groups.specs.Values.{Cycle, Mirrors, Steps, Values, due_of, end_of, sought_of, tail_of, valid_of}
 use Rattle.gl_groups.proofs.MachineLemmas.{end_is, further_is, mirrors_next, taken_is}
+use Rattle.gl_groups.proofs.SeekLemmas.{takes_last}
+use Rattle.gl_groups.proofs.SeenNet.{seen_kept}
 
-module _ (run : Run) (w : Wire) (key count stride : ℕ) (f : Flush) (h : Tail) (look : Lookup) (r : SlotLines) (g : Ending) (takers : List Bit)
+-- how what the slots make of a key hangs together
+pub settled_by : (run : Run) (n : ℕ) (s : ℕ → Sought) (r : Seen) → IsSeen run n s r → (t : ℕ) → IsSettled run n r t
+settled_by run n s r h t = record {
+  takes = λ k l.
+      h.takes k t l ∙ takes_last n (s t) k ∙ ap (λ b. b && not (any_to n (found (s t)))) (sym (h.nexts k t l)) ∙ ap (λ b. line_of run r.nexts k t && not b) (sym (h.one t));
+  has = λ k l. h.has k t l ∙ ap (λ b. b || takes n (s t) k) (sym (h.kept k t l)) ∙ ap (λ b. line_of run r.kept k t || b) (sym (h.takes k t l));
+  one = h.one t ∙ any_same n (found (s t)) (λ k. line_of run r.found k t) (λ k l. sym (h.found k t l));
+}
+
+module _ (run : Run) (w : Wire) (key count stride : ℕ) (f : Flush) (h : Tail) (look : Lookup) (r : SlotLines) (g : Turning)
     (is_f : IsFlush run w.valid w.eos stride f) (is_h : IsTail run w.valid w.eos f.idle h) (is_look : IsLookup run w key look) (is_r : AreSlotLines run f.free w.valid look.value count r)
-    (is_g : IsEnding run w.eos f.due count r.has g)
-    (is_takes : (k t : ℕ) → k < count → line_of run takers k t ≡ (line_of run r.matches k t && ((line_of run g.ends k t && line_at run h.tail t) || (line_at run w.valid t && not (line_at run w.eos t))))) where
+    (is_g : IsTurning run w.eos f.due count g) where
+  abbrev looked : Looked
+  looked = record { row = look.row; keys = r.keys; seen = r.seen; turns = g.turns; tail = h.tail }
+
   -- the registers in a cycle
   abbrev at : ℕ → Values
   at c = record {
@@ -65,19 +81,23 @@ module _ (run : Run) (w : Wire) (key count stride : ℕ) (f : Flush) (h : Tail) 
   due_is : (c : ℕ) → line_at run f.due c ≡ due_of (cycle c) (at c)
   due_is c = is_f.due c ∙ ap (λ b. b && nat_eq (held_at 0 run f.wait c) 0) (is_f.idle c)
 
-  ends_are : (k c : ℕ) → k < count → line_of run g.ends k c ≡ end_of count (cycle c) (at c) k
+  ends_are : (k c : ℕ) → k < count → ends_of run looked k c ≡ end_of count (cycle c) (at c) k
   ends_are k c l =
-      is_g.end k c l
-      ∙ ap (λ b. ((e c || b) && nat_eq (if e c then count else held_at count run g.rest c) (count - k)) && line_of run r.has k c) (due_is c)
-      ∙ ap (λ b. ((e c || due_of (cycle c) (at c)) && nat_eq (if e c then count else held_at count run g.rest c) (count - k)) && b) (is_r.has k c l ∙ ap (λ s. has count s k) (sought_is c))
+      ap (λ b. b && line_of run r.seen.has k c) (is_g.turn k c l)
+      ∙ ap (λ b. ((e c || b) && nat_eq (if e c then count else held_at count run g.rest c) (count - k)) && line_of run r.seen.has k c) (due_is c)
+      ∙ ap (λ b. ((e c || due_of (cycle c) (at c)) && nat_eq (if e c then count else held_at count run g.rest c) (count - k)) && b) (is_r.seen.has k c l ∙ ap (λ s. has count s k) (sought_is c))
 
   tail_is : (c : ℕ) → line_at run h.tail c ≡ tail_of (cycle c) (at c)
   tail_is c = is_h.tail c ∙ ap (λ b. (e c && v c) || (b && line_at run h.held c)) (is_f.idle c)
 
-  takes_are : (k c : ℕ) → k < count → line_of run takers k c ≡ valid_of count (cycle c) (at c) k
+  matches_are : (k c : ℕ) → k < count → (line_of run r.seen.found k c || line_of run r.seen.takes k c) ≡ matches count (sought_of (cycle c) (at c)) k
+  matches_are k c l =
+      let s = sought_at run r.used r.keys f.free w.valid look.value c in
+      ap (λ b. b || line_of run r.seen.takes k c) (is_r.seen.found k c l) ∙ ap (λ b. found s k || b) (is_r.seen.takes k c l) ∙ ap (λ z. matches count z k) (sought_is c)
+
+  takes_are : (k c : ℕ) → k < count → takes_of run w looked k c ≡ valid_of count (cycle c) (at c) k
   takes_are k c l =
-      is_takes k c l
-      ∙ ap (λ b. b && ((line_of run g.ends k c && line_at run h.tail c) || (v c && not (e c)))) (is_r.matches k c l ∙ ap (λ s. matches count s k) (sought_is c))
+      ap (λ b. b && ((ends_of run looked k c && line_at run h.tail c) || (v c && not (e c)))) (matches_are k c l)
       ∙ ap (λ b. matches count (sought_of (cycle c) (at c)) k && ((b && line_at run h.tail c) || (v c && not (e c)))) (ends_are k c l)
       ∙ ap (λ b. matches count (sought_of (cycle c) (at c)) k && ((end_of count (cycle c) (at c) k && b) || (v c && not (e c)))) (tail_is c)
 
@@ -97,7 +117,7 @@ module _ (run : Run) (w : Wire) (key count stride : ℕ) (f : Flush) (h : Tail) 
   steps : (c : ℕ) → Steps count stride (column_of key) (cycle c) (at c) (at (suc c))
   steps c = record {
     used = λ k l. is_r.used k c l ∙ ap (λ s. has count s k) (sought_is c);
-    keys = λ k l. is_r.key k c l ∙ ap (λ s. if takes count s k then y c else held_of run r.keys k c) (sought_is c);
+    keys = λ k l. is_r.key k c l ∙ ap (λ s. if is_next s k then y c else held_of run r.keys k c) (sought_is c);
     flush = is_f.next c;
     rest = is_g.next c ∙ ap (λ b. counted_down (count - 1) 0 (e c) b (held_at count run g.rest c)) (due_is c);
     wait = is_f.next_wait c ∙ ap (λ b. counted_down (stride - 1) (stride - 1) (e c) b (held_at 0 run f.wait c)) (is_f.idle c);
@@ -133,37 +153,34 @@ module _ (run : Run) (w : Wire) (key count stride : ℕ) (f : Flush) (h : Tail) 
         by true n z q = cc
         by false n z q = absurd (cc)
 
-    pub chosen_is : IsChosen run key count stride w (record { row = look.row; keys = r.keys; takes = takers; ends = g.ends; passes = r.passes })
+    pub looked_is : IsLooked run key count stride w looked
     unfolding tuple_at
-    chosen_is = record {
+    looked_is = record {
       takes = λ k c l.
           ap (λ (b : Bool). if b then Some (row_at run (suc c) look.row) else None) (takes_are k c l)
           ∙ sym (taken_is count stride (column_of key) some (s c) (at c) (mirrors c) (e c) (v c) (x c) (y c) (is_key c) (at (suc c)) (steps c) k l);
       ends = λ k c l. ends_are k c l ∙ end_is count stride (column_of key) some (s c) (at c) (mirrors c) (e c) (v c) (x c) (y c) (is_key c) k l;
       shown = keys_shown;
       further = λ c.
-          is_r.passes c ∙ ap (λ z. asked count z count) (sought_is c)
+          is_r.seen.passes c ∙ ap (λ z. asked count z count) (sought_is c)
           ∙ further_is count stride (column_of key) some (s c) (at c) (mirrors c) (e c) (v c) (x c) (y c) (is_key c);
     }
 
--- one after another the parts choose the slots
-module _ (n0 n1 n2 n3 n4 n5 n6 : Net) (w : Wire) (key count stride : ℕ) (some : 1 ≤ count) (f : Flush) (h : Tail) (look : Lookup) (r : SlotLines) (g : Ending) (takers : List Bit)
+-- one after another the parts look at the slots
+module _ (n0 n1 n2 n3 n4 n5 : Net) (w : Wire) (key count stride : ℕ) (some : 1 ≤ count) (f : Flush) (h : Tail) (look : Lookup) (r : SlotLines) (g : Turning)
     (is_f : AddsFlush n0 n1 w.valid w.eos stride f) (is_h : AddsTail n1 n2 w.valid w.eos f.idle h) (is_look : AddsLookup n2 n3 w key look)
-    (is_r : AddsSlots n3 n4 f.free w.valid look.value count r) (is_g : AddsEnding n4 n5 w.eos f.due count r.has g) (is_t : TakesOf n5 n6 w.valid w.eos h.tail r.matches g.ends takers) where
-  k56 : Keeps n5 n6
-  k56 = is_t.keeps
+    (is_r : AddsSlots n3 n4 f.free w.valid look.value count r) (is_g : AddsTurning n4 n5 w.eos f.due count g) where
+  k45 : Keeps n4 n5
+  k45 = is_g.keeps
 
-  k46 : Keeps n4 n6
-  k46 = keeps_then n4 n5 n6 is_g.keeps k56
+  k35 : Keeps n3 n5
+  k35 = keeps_then n3 n4 n5 is_r.keeps k45
 
-  k36 : Keeps n3 n6
-  k36 = keeps_then n3 n4 n6 is_r.keeps k46
+  k25 : Keeps n2 n5
+  k25 = keeps_then n2 n3 n5 is_look.keeps k35
 
-  k26 : Keeps n2 n6
-  k26 = keeps_then n2 n3 n6 is_look.keeps k36
-
-  k16 : Keeps n1 n6
-  k16 = keeps_then n1 n2 n6 is_h.keeps k26
+  k15 : Keeps n1 n5
+  k15 = keeps_then n1 n2 n5 is_h.keeps k25
 
   abbrev key_width : ℕ
   key_width = slice_index (widths w.columns) key
@@ -171,28 +188,72 @@ module _ (n0 n1 n2 n3 n4 n5 n6 : Net) (w : Wire) (key count stride : ℕ) (some 
   slots_bits : count * (look.value.width + 1) ≡ count * (key_width + 1)
   slots_bits = ap (λ n. count * (n + 1)) is_look.value_width
 
-  pub chosen_are : AddsChosen n0 n6 key count stride w (record { row = look.row; keys = r.keys; takes = takers; ends = g.ends; passes = r.passes })
-  chosen_are = record {
-    keeps = keeps_then n0 n1 n6 is_f.keeps k16;
+  pub looked_are : AddsLooked n0 n5 key count stride w (record { row = look.row; keys = r.keys; seen = r.seen; turns = g.turns; tail = h.tail })
+  looked_are = record {
+    keeps = keeps_then n0 n1 n5 is_f.keeps k15;
     cost = record {
-      nodes = omega (arith, is_f.cost.nodes, is_h.cost.nodes, is_look.cost.nodes, is_r.cost.nodes, is_g.cost.nodes, is_t.cost.nodes, is_r.matches_count, gates_some count some);
-      registers = omega (arith, is_f.cost.registers, is_h.cost.registers, is_look.cost.registers, is_r.cost.registers, is_g.cost.registers, is_t.cost.registers, slots_bits);
-      memories = omega (arith, is_f.cost.memories, is_h.cost.memories, is_look.cost.memories, is_r.cost.memories, is_g.cost.memories, is_t.cost.memories);
+      nodes = omega (arith, is_f.cost.nodes, is_h.cost.nodes, is_look.cost.nodes, is_r.cost.nodes, is_g.cost.nodes);
+      registers = omega (arith, is_f.cost.registers, is_h.cost.registers, is_look.cost.registers, is_r.cost.registers, is_g.cost.registers, slots_bits);
+      memories = omega (arith, is_f.cost.memories, is_h.cost.memories, is_look.cost.memories, is_r.cost.memories, is_g.cost.memories);
     };
-    row_buses = buses_kept n3 n6 look.row k36 is_look.row_buses;
+    row_buses = buses_kept n3 n5 look.row k35 is_look.row_buses;
     row_widths = is_look.row_widths;
     keys_count = is_r.keys_count;
-    keys = λ k b e. (bus_kept n4 n6 b k46 (is_r.keys_there.each k b e), is_r.keys_width k b e ∙ is_look.value_width);
-    takes_count = is_t.count ∙ is_r.matches_count;
-    takes = is_t.bits;
-    ends_count = is_g.ends_count;
-    ends = bits_kept n5 n6 g.ends k56 is_g.bits;
-    passes = bit_kept n4 n6 r.passes k46 is_r.passes_bit;
+    keys = λ k b e. (bus_kept n4 n5 b k45 (is_r.keys_there.each k b e), is_r.keys_width k b e ∙ is_look.value_width);
+    look = record {
+      seen = seen_kept n4 n5 count r.seen k45 is_r.are;
+      settled = λ run z. settled_by run count (sought_at run r.used r.keys f.free w.valid look.value) r.seen (is_r.law run (k45.runs run z)).seen;
+      turns_count = is_g.turns_count;
+      turns = is_g.bits;
+      tail = bit_kept n2 n5 h.tail k25 is_h.bit;
+    };
     law = λ run z.
-        chosen_is run w key count stride f h look r g takers
-        (is_f.law run (k16.runs run z)) (is_h.law run (k26.runs run z)) (is_look.law run (k36.runs run z)) (is_r.law run (k46.runs run z)) (is_g.law run (k56.runs run z))
-        (λ k u l. is_t.line run z k u (omega (arith, l, is_r.matches_count))) some;
+        looked_is run w key count stride f h look r g
+        (is_f.law run (k15.runs run z)) (is_h.law run (k25.runs run z)) (is_look.law run (k35.runs run z)) (is_r.law run (k45.runs run z)) (is_g.law run z) some;
   }
+
+-- lines of what the slots take and end, from those that are looked at
+pub chosen_are : (n0 n1 n2 n3 n4 : Net) (w : Wire) (key count stride : ℕ) (r : Looked) (ends ms takers : List Bit) → 1 ≤ count → AddsLooked n0 n1 key count stride w r
+    → AddsLines n1 n2 (length r.turns) 1 ends (pairs Both r.turns r.seen.has) → AddsLines n2 n3 (length r.seen.found) 1 ms (pairs Either r.seen.found r.seen.takes)
+    → TakesOf n3 n4 w.valid w.eos r.tail ms ends takers → AddsChosen n0 n4 key count stride w (record { row = r.row; keys = r.keys; takes = takers; ends = ends; passes = r.seen.passes })
+unfolding pairs
+chosen_are n0 n1 n2 n3 n4 w key count stride r ends ms takers some a b c d =
+    let k34 = d.keeps in
+    let k24 = keeps_then n2 n3 n4 c.keeps k34 in
+    let k14 = keeps_then n1 n2 n4 b.keeps k24 in
+    let ms_count : length ms ≡ count = c.count ∙ a.look.seen.found_count in
+    let ended : (run : Run) → IsRun n4 run → (k t : ℕ) → k < count → line_of run ends k t ≡ ends_of run r k t =
+    λ run z k t l. b.line run (k24.runs run z) k t (omega (arith, l, a.look.turns_count)) in
+    let taken : (run : Run) → IsRun n4 run → (k t : ℕ) → k < count → line_of run takers k t ≡ takes_of run w r k t =
+    λ run z k t l.
+    d.line run z k t (omega (arith, l, ms_count))
+    ∙ ap (λ x. x && ((line_of run ends k t && line_at run r.tail t) || (line_at run w.valid t && not (line_at run w.eos t)))) (c.line run (k34.runs run z) k t (omega (arith, l, a.look.seen.found_count)))
+    ∙ ap (λ x. takes_row run w r (line_of run r.seen.found k t || line_of run r.seen.takes k t) x t) (ended run z k t l) in
+    record {
+      keeps = keeps_then n0 n1 n4 a.keeps k14;
+      cost = record {
+        nodes = omega (arith, a.cost.nodes, b.cost.nodes, c.cost.nodes, d.cost.nodes, a.look.turns_count, a.look.seen.found_count, ms_count, gates_some count some);
+        registers = omega (arith, a.cost.registers, b.cost.registers, c.cost.registers, d.cost.registers);
+        memories = omega (arith, a.cost.memories, b.cost.memories, c.cost.memories, d.cost.memories);
+      };
+      row_buses = buses_kept n1 n4 r.row k14 a.row_buses;
+      row_widths = a.row_widths;
+      keys_count = a.keys_count;
+      keys = λ k x e. (bus_kept n1 n4 x k14 (a.keys k x e).0, (a.keys k x e).1);
+      takes_count = d.count ∙ ms_count;
+      takes = d.bits;
+      ends_count = b.count ∙ a.look.turns_count;
+      ends = bits_kept n2 n4 ends k24 b.bits;
+      passes = bit_kept n1 n4 r.seen.passes k14 a.look.seen.passes;
+      law = λ run z.
+          let law = a.law run (k14.runs run z) in
+          record {
+            takes = λ k t l. ap (λ (x : Bool). if x then Some (row_at run (suc t) r.row) else None) (taken run z k t l) ∙ law.takes k t l;
+            ends = λ k t l. ended run z k t l ∙ law.ends k t l;
+            shown = law.shown;
+            further = law.further;
+          };
+    }
 
 -- wires of what is chosen are a front
 pub fronts_are : (n0 n1 n2 n3 : Net) (w : Wire) (key count stride : ℕ) (r : Chosen) (ws : List Wire) (further : Bit) → AddsChosen n0 n1 key count stride w r

@@ -1,13 +1,12 @@
 -- A lane of a group, and what gathers the totals of its slots, from their parts.
-use Rattle.std.proofs.Common.{◌≡◌, ℕ, zero, suc, ◌+◌, ◌-◌, ◌^◌, ◌<◌, ◌≤◌, List, ◌∷◌, length, Some, None, Bool, true, false, refl, sym, ap, ◌∙◌, subst, arith, eqb-true, eq-eqb}
-use Rattle.std.specs.Prelude.{slice_get, slice_index_or, nat_eq, if◌then◌else◌}
+use Rattle.std.proofs.Common.{◌≡◌, ℕ, zero, suc, ◌+◌, ◌*◌, ◌^◌, ◌<◌, ◌≤◌, List, ◌∷◌, length, Some, None, Bool, true, false, refl, sym, ap, ◌∙◌, subst, arith, eqb-true, eq-eqb}
+use Rattle.std.specs.Prelude.{slice_index_or, nat_eq, if◌then◌else◌}
 use Rattle.std.proofs.lemmas.Option.{slice_get-get_or}
 use Rattle.std.proofs.lemmas.List.Sums.{sum_by-cons}
 use Rattle.gl_algebra.specs.Cost.{least_exponent}
 use Rattle.gl_algebra.proofs.ExponentLemmas.{exponent_covers}
 use Rattle.gl_algebra.specs.FigureTable.{stride_of}
 use Rattle.gl_bits.specs.Results.{Row}
-use Rattle.gl_bits.proofs.Bools.{by_cases}
 use Rattle.gl_net.specs.declared.node.Bit.{Bit}
 use Rattle.gl_net.specs.declared.node.Bus.{Bus}
 use Rattle.gl_net.specs.Net.{Net, Run, IsRun, Keeps}
@@ -25,7 +24,6 @@ use Rattle.gl_wire_registers.specs.Timers.{IsClose, IsCloseLine}
 use Rattle.gl_groups.specs.declared.grouping.Grouping.{Grouping}
 use Rattle.gl_groups.specs.declared.lane.LaneLines.{LaneLines}
 use Rattle.gl_groups.specs.declared.laning.Lane.{Lane}
-use Rattle.gl_groups.specs.declared.pick.Picked.{Picked}
 use Rattle.gl_groups.specs.Groupings.{IsGrouping, close_cycles, close_delay, in_front}
 use Rattle.gl_groups.specs.Joins.{AreKeyBuses, width_of_keys}
 use Rattle.gl_groups.specs.Laned.{IsGathered, IsLaned, bits_of_slots}
@@ -92,9 +90,9 @@ alike_keys net keys ks d e some h =
     subst (λ (bs : List Bus). AreAlike net ((slice_index_or ks 0 d).width) bs) (sym e)
     (record { each = h.each; widths = λ k b at. h.same_width k b at ∙ sym (first_width net keys ks d e some h) })
 
-module _ (n0 n1 n2 n3 n4 : Net) (r : Grouping) (l : Lane) (out : TableOut) (places : List Bus) (ls : List Bit) (p : Picked) (columns : List Bus) (w : Wire) (width bits : ℕ) (is_width : width ≡ width_of_keys l.keys)
-    (count : length l.keys ≡ r.slots) (some : 1 ≤ r.slots) (is_n : AddsNumbers n0 n1 r.slots bits places) (is_l : AddsLines n1 n2 (length places) 1 ls (same_to out.slot places)) (is_p : PicksOne n2 n3 ls l.keys width p)
-    (is_columns : columns ≡ p.bus ∷ out.wire.columns) (is_w : IsPad n3 n4 1 (wire_of out.wire.valid l.close columns) w) where
+module _ (n0 n1 n2 n3 n4 : Net) (r : Grouping) (l : Lane) (out : TableOut) (places : List Bus) (ls : List Bit) (p : Bus) (columns : List Bus) (w : Wire) (width bits : ℕ) (is_width : width ≡ width_of_keys l.keys)
+    (count : length l.keys ≡ r.slots) (some : 1 ≤ r.slots) (is_n : AddsNumbers n0 n1 r.slots bits places) (is_l : AddsLines n1 n2 (length places) 1 ls (same_to out.slot places)) (is_p : PicksOne n2 n3 ls l.keys width (length ls * 2) p)
+    (is_columns : columns ≡ p ∷ out.wire.columns) (is_w : IsPad n3 n4 1 (wire_of out.wire.valid l.close columns) w) where
   k34 : Keeps n3 n4
   k34 = is_w.keeps
 
@@ -115,26 +113,22 @@ module _ (n0 n1 n2 n3 n4 : Net) (r : Grouping) (l : Lane) (out : TableOut) (plac
         is_l.line run (k24.runs run z) k (suc c) (omega (arith, less, is_n.count))
         ∙ ap (nat_eq (run.at (suc c) out.slot.node)) (is_n.value run (k14.runs run z) k c less)
 
-    key_is : (c : ℕ) → slot_of run out.slot (suc c) < r.slots → run.at (suc c) p.bus.node ≡ held_of run l.keys (slot_of run out.slot (suc c)) (suc c)
+    key_is : (c : ℕ) → slot_of run out.slot (suc c) < r.slots → run.at (suc c) p.node ≡ held_of run l.keys (slot_of run out.slot (suc c)) (suc c)
     unfolding held_at
     key_is c less =
         let slot = slot_of run out.slot (suc c) in
-        let at_pick = k34.runs run z in
         let own : line_of run ls slot (suc c) ≡ true = line_is slot c less ∙ eq-eqb slot slot refl in
-        let high : line_at run p.any (suc c) ≡ true = by_cases (line_at run p.any (suc c)) (λ q. q) (λ q. let none = is_p.none run at_pick c q slot (omega (arith, less, ls_count)) in absurd (cc)) in
-        let place = is_p.value run at_pick c high in
-        let there : place.0 < r.slots = omega (arith, place.1, ls_count) in
-        let same : slot ≡ place.0 = eqb-true slot place.0 (sym (line_is place.0 c there) ∙ place.2) in
-        place.3 ∙ ap (λ k. held_of run l.keys k (suc c)) (sym same)
+        (is_p.law run (k34.runs run z) (suc c)).one slot (omega (arith, less, ls_count)) own
+        (λ j m e. let there : j < r.slots = omega (arith, m, ls_count) in sym (eqb-true slot j (sym (line_is j c there) ∙ e)))
 
     tuple_is : ((c : ℕ) (x : Row) → (carried run out.wire).tuple c ≡ Some x → slot_of run out.slot c < r.slots) → (c : ℕ)
-        → (carried run (wire_of out.wire.valid l.close (p.bus ∷ out.wire.columns))).tuple c ≡ in_front (held_of run l.keys (slot_of run out.slot c) c) ((carried run out.wire).tuple c)
+        → (carried run (wire_of out.wire.valid l.close (p ∷ out.wire.columns))).tuple c ≡ in_front (held_of run l.keys (slot_of run out.slot c) c) ((carried run out.wire).tuple c)
     unfolding tuple_at line_at row_at
     tuple_is within zero = refl
     tuple_is within (suc c) = by (nat_eq (run.at (suc c) out.wire.valid.node) 1) (λ e. within (suc c) (row_at run (suc c) out.wire.columns) (ap (λ (b : Bool). if b then Some (row_at run (suc c) out.wire.columns) else None) e))
       where
         by : (b : Bool) → (b ≡ true → slot_of run out.slot (suc c) < r.slots)
-            → (if b then Some (run.at (suc c) p.bus.node ∷ row_at run (suc c) out.wire.columns) else None) ≡ in_front (held_of run l.keys (slot_of run out.slot (suc c)) (suc c)) (if b then Some (row_at run (suc c) out.wire.columns) else None)
+            → (if b then Some (run.at (suc c) p.node ∷ row_at run (suc c) out.wire.columns) else None) ≡ in_front (held_of run l.keys (slot_of run out.slot (suc c)) (suc c)) (if b then Some (row_at run (suc c) out.wire.columns) else None)
         by true less = ap (λ n. Some (n ∷ row_at run (suc c) out.wire.columns)) (key_is c (less refl))
         by false less = refl
 
@@ -145,13 +139,13 @@ module _ (n0 n1 n2 n3 n4 : Net) (r : Grouping) (l : Lane) (out : TableOut) (plac
         keeps = keeps_then n0 n1 n4 is_n.keeps k14;
         cost = record {
           nodes = omega (arith, is_n.cost.nodes, is_l.cost.nodes, is_p.cost.nodes, pad.cost.nodes, is_n.count, ls_count, some);
-          registers = omega (arith, is_n.cost.registers, is_l.cost.registers, is_p.cost.registers, pad.cost.registers, is_p.same_width, is_width, sum_by-cons (λ (n : ℕ). n) p.bus.width (widths out.wire.columns));
+          registers = omega (arith, is_n.cost.registers, is_l.cost.registers, is_p.cost.registers, pad.cost.registers, is_p.same_width, is_width, sum_by-cons (λ (n : ℕ). n) p.width (widths out.wire.columns));
           memories = omega (arith, is_n.cost.memories, is_l.cost.memories, is_p.cost.memories, pad.cost.memories);
         };
         wire = pad.wire;
         same_widths = pad.same_widths ∙ ap (λ n. n ∷ widths out.wire.columns) (is_p.same_width ∙ is_width);
         gathers = λ run z within.
-            delayed_same 1 (carried run (wire_of out.wire.valid l.close (p.bus ∷ out.wire.columns)))
+            delayed_same 1 (carried run (wire_of out.wire.valid l.close (p ∷ out.wire.columns)))
             (record { tuple = λ c. in_front (held_of run l.keys (slot_of run out.slot c) c) ((carried run out.wire).tuple c); ends = line_at run l.close }) (carried run w)
             (tuple_is run z within) (λ c. refl) (pad.delayed run z);
       }

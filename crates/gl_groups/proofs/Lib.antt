@@ -11,13 +11,17 @@ pub mod GroupLemmas
 pub mod SeekLemmas
 pub mod MachineLemmas
 pub mod SlotNet
+pub mod SeenNet
 pub mod PartLemmas
 pub mod FrontNet
 pub mod JoinLemmas
 pub mod GroupedNet
 pub mod CostLemmas
 pub mod PickLemmas
+pub mod ChoiceLemmas
 pub mod EventLemmas
+pub mod ToldNet
+pub mod StreamNet
 pub mod LaneNet
 pub mod LanedNet
 pub mod LaneShares

@@ -6,12 +6,12 @@ use Rattle.std.proofs.lemmas.Bool.{cases_lt, ne_eqb}
 use Rattle.std.proofs.lemmas.Bool.Decides.{eqb_tells}
 use Rattle.std.proofs.Math.Bool.{and-true, and-false}
 use Rattle.gl_bits.specs.Results.{Row}
-use Rattle.gl_bits.proofs.Bools.{same_test}
+use Rattle.gl_bits.proofs.Bools.{by_cases, same_test}
 use Rattle.gl_wire_registers.specs.Held.{counted_down}
-use Rattle.gl_groups.specs.Seeking.{Sought, asked, has, kept, matches, takes}
+use Rattle.gl_groups.specs.Seeking.{Sought, asked, has, is_next, kept, matches, takes}
 use Rattle.gl_groups.specs.Slots.{Slots, is_further, keys_now, of_slot, same_key, slot_ends, slot_now, slot_takes, slots_next, with_tuple}
 use Rattle.gl_groups.specs.Values.{Cycle, Mirrors, Steps, Values, at_of, due_of, end_of, sought_of, tail_of, valid_of}
-use Rattle.gl_groups.proofs.SeekLemmas.{get_some, has_is, joined, later_few, left_is, matches_is, next_at}
+use Rattle.gl_groups.proofs.SeekLemmas.{get_some, has_is, joined, later_few, left_is, matches_is, next_at, next_used}
 
 abbrev pub tuple_of : Bool → Row → Option Row
 tuple_of v x = if v then Some x else None
@@ -187,12 +187,19 @@ module _ (count stride : ℕ) (key : Row → ℕ) (some : 1 ≤ count) (s : Slot
             let row : q.row ≡ p.row = st.row (rw hv (m.flush ∙ h)) ∙ rw hv refl in
             rw (is, row) (m.held h)
 
+    -- what is asked of a key is what it is while its slot is used
+    kept_key : (k : ℕ)
+        → (if has count seen k then Some (if takes count seen k then y else p.key k) else None) ≡ (if has count seen k then Some (if is_next seen k then y else p.key k) else None)
+    kept_key k = by_cases (has count seen k)
+        (λ h. ap (λ b. if has count seen k then Some (if b then y else p.key k) else None) (sym (next_used count seen k h)))
+        (λ h. ap (λ b. if b then Some (if takes count seen k then y else p.key k) else None) h ∙ sym (ap (λ b. if b then Some (if is_next seen k then y else p.key k) else None) h))
+
     -- one cycle is one step
     pub mirrors_next : Mirrors count after q
     mirrors_next = record {
       slots = λ k l.
-          ap (λ zs. slice_get zs k) after_keys ∙ shown_next k l
-          ∙ ap (λ b. if b then Some (if takes count seen k then y else p.key k) else None) (sym (st.used k l))
+          ap (λ zs. slice_get zs k) after_keys ∙ shown_next k l ∙ kept_key k
+          ∙ ap (λ b. if b then Some (if is_next seen k then y else p.key k) else None) (sym (st.used k l))
           ∙ ap (λ n. if q.used k then Some n else None) (sym (st.keys k l));
       few = subst (λ (zs : List ℕ). length zs ≤ count) (sym after_keys) few_next;
       flush = st.flush ∙ ap (λ b. e || (b && not v)) m.flush ∙ sym after_flush;

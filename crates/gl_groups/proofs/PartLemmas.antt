@@ -22,7 +22,7 @@ use Rattle.gl_wire_registers.specs.Lines.{AddsLines, line_of, pairs, with_line}
 use Rattle.gl_wire_registers.specs.Numbers.{IsNumberOr}
 use Rattle.gl_wire_registers.specs.Rows.{HoldsRow}
 use Rattle.gl_groups.specs.declared.parts.Turns.{Turns}
-use Rattle.gl_groups.specs.Fronts.{AddsEnding, AddsLookup, column_of}
+use Rattle.gl_groups.specs.Fronts.{AddsTurning, AddsLookup, column_of}
 use Rattle.gl_groups.specs.Parts.{AddsTurns, IsTurns, TakesOf, turned_at, turned_to}
 
 pub turned_here : (run : Run) (count : ℕ) (x : Bit) (p : Bus) (k t : ℕ) → turned_at count x p k run t ≡ turned_to count x p run k t
@@ -91,27 +91,20 @@ turned_line run eos due count r is k (suc t) =
     ap (λ b. b && nat_eq (held_at 0 run r.at (suc t)) (count - k)) (is.trigger (suc t))
     ∙ ap (λ n. (line_at run eos (suc t) || line_at run due (suc t)) && nat_eq n (count - k)) (is.at t)
 
-pub ending_is : (n0 n1 n2 n3 : Net) (eos due : Bit) (count : ℕ) (has lines ends : List Bit) (r : Turns) → AddsTurns n0 n1 eos due count r → AddsLines n1 n2 count 3 lines (turned_to count r.trigger r.at)
-    → AddsLines n2 n3 (length lines) 1 ends (pairs Both lines has) → AddsEnding n0 n3 eos due count has (record { rest = r.rest; ends = ends })
-unfolding pairs
-ending_is n0 n1 n2 n3 eos due count has lines ends r a b c = record {
-  keeps = keeps_then n0 n1 n3 a.keeps (keeps_then n1 n2 n3 b.keeps c.keeps);
-  bits = c.bits;
-  ends_count = c.count ∙ b.count;
+pub turning_is : (n0 n1 n2 : Net) (eos due : Bit) (count : ℕ) (lines : List Bit) (r : Turns) → AddsTurns n0 n1 eos due count r → AddsLines n1 n2 count 3 lines (turned_to count r.trigger r.at)
+    → AddsTurning n0 n2 eos due count (record { rest = r.rest; turns = lines })
+turning_is n0 n1 n2 eos due count lines r a b = record {
+  keeps = keeps_then n0 n1 n2 a.keeps b.keeps;
+  turns_count = b.count;
+  bits = b.bits;
   cost = record {
-    nodes = omega (arith, a.cost.nodes, b.cost.nodes, c.cost.nodes, b.count);
-    registers = omega (arith, a.cost.registers, b.cost.registers, c.cost.registers);
-    memories = omega (arith, a.cost.memories, b.cost.memories, c.cost.memories);
+    nodes = omega (arith, a.cost.nodes, b.cost.nodes);
+    registers = omega (arith, a.cost.registers, b.cost.registers);
+    memories = omega (arith, a.cost.memories, b.cost.memories);
   };
   law = λ run z.
-      let at_b = c.keeps.runs run z in
-      let law = a.law run (b.keeps.runs run at_b) in
-      record {
-        next = law.next;
-        end = λ k t l.
-            c.line run z k t (omega (arith, l, b.count))
-            ∙ ap (λ q. q && line_of run has k t) (b.line run at_b k t l ∙ turned_line run eos due count r law k t);
-      };
+      let law = a.law run (b.keeps.runs run z) in
+      record { next = law.next; turn = λ k t l. b.line run z k t l ∙ turned_line run eos due count r law k t };
 }
 
 -- ---- the row that came last

@@ -1,10 +1,11 @@
--- A tree of choices gives the bus whose line is 1.
-use Rattle.std.proofs.Common.{◌≡◌, ℕ, suc, ◌+◌, ◌-◌, ◌<◌, ◌≤◌, List, [], ◌∷◌, ◌++◌, length, Some, Bool, true, false, refl, sym, ap, ◌∙◌, subst, arith, inl, inr, ◌/◌, take, drop, length-append}
-use Rattle.std.specs.Prelude.{slice_get, ◌||◌, if◌then◌else◌}
+-- A tree of buses, each masked by its line, gives the bus whose line is 1.
+use Rattle.std.proofs.Common.{◌≡◌, ℕ, zero, suc, ◌+◌, ◌-◌, ◌*◌, ◌<◌, ◌≤◌, List, [], ◌∷◌, ◌++◌, length, Some, Bool, true, refl, sym, ap, ◌∙◌, subst, arith, inl, inr, ◌/◌, take, drop, length-append}
+use Rattle.std.specs.Prelude.{slice_get, if◌then◌else◌, bit_or}
+use Rattle.std.specs.Int.Bits.{or_zero_r}
 use Rattle.std.proofs.lemmas.Bool.{cases_lt}
-use Rattle.gl_bits.specs.Words.{choose_of}
+use Rattle.gl_bits.specs.Words.{IsWidth, choose_of}
 use Rattle.gl_bits.proofs.AllLists.{get_front, get_there}
-use Rattle.gl_bits.proofs.Bools.{neither_parts}
+use Rattle.gl_bits.proofs.Bools.{by_cases}
 use Rattle.gl_net.specs.declared.node.Bus.{Bus}
 use Rattle.gl_net.specs.declared.node.Bit.{Bit}
 use Rattle.gl_net.specs.Net.{Net, Run, IsRun, IsBus, Keeps}
@@ -12,33 +13,42 @@ use Rattle.gl_net.proofs.Determined.{keeps_then}
 use Rattle.gl_net.proofs.Growth.{same_keeps}
 use Rattle.gl_net.proofs.Lists.{get_push_cases}
 use Rattle.gl_wire.specs.Costs.{Costs, nodes_alone}
-use Rattle.gl_wire.specs.Gates.{IsGate}
 use Rattle.gl_wire.specs.Wire.{line_at}
 use Rattle.gl_wire.proofs.ColumnLemmas.{bus_kept}
 use Rattle.gl_wire.proofs.GateLemmas.{choose_line}
 use Rattle.gl_wire_registers.specs.Held.{held_at}
-use Rattle.gl_wire_registers.specs.Lines.{AreBits, line_of}
+use Rattle.gl_wire_registers.specs.Lines.{line_of}
 use Rattle.gl_wire_registers.proofs.HalfLemmas.{AreHalves, get_behind, halves}
 use Rattle.gl_wire_registers.proofs.LineLemmas.{line_of-get}
 use Rattle.gl_wire_registers.proofs.RegisterLemmas.{length_taken}
-use Rattle.gl_groups.specs.declared.pick.Picked.{Picked}
-use Rattle.gl_groups.specs.Picks.{AddsNumbers, AreAlike, IsNumber, IsPlace, PicksOne, PicksTwo}
+use Rattle.gl_groups.specs.Picks.{AddsNumbers, AreAlike, CarriesZero, IsNumber, IsPicked, Masks, Merges, PicksOne}
 use Rattle.gl_groups.specs.SlotLines.{held_of}
 use Rattle.gl_groups.proofs.SlotNet.{held_of-get, held_of-new, held_of-old}
 
-pub picks_two : (old mid new : Net) (first second : Picked) (bus : Bus) (any : Bit) → Keeps old mid → Costs old mid (nodes_alone 1) → IsBus mid bus → bus.width ≡ first.bus.width
-    → ((run : Run) → IsRun mid run → (t : ℕ) → run.at t bus.node ≡ choose_of (run.at t first.any.node) (run.at t first.bus.node) (run.at t second.bus.node))
-    → IsGate mid new (λ p q. p || q) first.any second.any any → PicksTwo old new first second (record { any = any; bus = bus })
+pub masks_are : (old new : Net) (line : Bit) (bus z b : Bus) → Keeps old new → Costs old new (nodes_alone 1) → IsBus new b → b.width ≡ bus.width → CarriesZero old z
+    → ((run : Run) → IsRun new run → (t : ℕ) → run.at t b.node ≡ choose_of (run.at t line.node) (run.at t bus.node) (run.at t z.node)) → Masks old new line bus b
+unfolding held_at line_at
+masks_are old new line bus z b keeps cost is width none value = record { keeps = keeps; there = is; same_width = width; cost = cost; value = at }
+  where
+    at : (run : Run) → IsRun new run → (t : ℕ) → held_at 0 run b t ≡ (if line_at run line t then held_at 0 run bus t else 0)
+    at run r zero = refl
+    at run r (suc t) =
+        value run r (suc t) ∙ choose_line run line (run.at (suc t) bus.node) (run.at (suc t) z.node) t
+        ∙ ap (λ n. if line_at run line (suc t) then run.at (suc t) bus.node else n) (none run (keeps.runs run r) (suc t))
+
+pub merges_are : (old new : Net) (left right b : Bus) → Keeps old new → Costs old new (nodes_alone 1) → IsBus new b → b.width ≡ left.width
+    → ((run : Run) → IsRun new run → (t : ℕ) → run.at t b.node ≡ bit_or (run.at t left.node) (run.at t right.node)) → Merges old new left right b
 unfolding held_at
-picks_two old mid new first second bus any keeps cost is width value g = record {
-  keeps = keeps_then old mid new keeps g.keeps;
-  any_bit = g.bit;
-  bus = bus_kept mid new bus g.keeps is;
-  width = width;
-  cost = record { nodes = omega (arith, cost.nodes, g.cost.nodes); registers = omega (arith, cost.registers, g.cost.registers); memories = omega (arith, cost.memories, g.cost.memories) };
-  any = g.line;
-  value = λ run r t. value run (g.keeps.runs run r) (suc t) ∙ choose_line run first.any (run.at (suc t) first.bus.node) (run.at (suc t) second.bus.node) t;
-}
+merges_are old new left right b keeps cost is width value = record { keeps = keeps; bus = is; same_width = width; cost = cost; value = at }
+  where
+    at : (run : Run) → IsRun new run → (t : ℕ) → held_at 0 run b t ≡ bit_or (held_at 0 run left t) (held_at 0 run right t)
+    at run r zero = refl
+    at run r (suc t) = value run r (suc t)
+
+pub carries_zero : (old new : Net) (width : ℕ) (b : Bus) → IsNumber old new 0 width b → CarriesZero new b
+unfolding held_at
+carries_zero old new width b h run r zero = refl
+carries_zero old new width b h run r (suc t) = h.value run r t
 
 pub alike_kept : (old new : Net) (width : ℕ) (bs : List Bus) → Keeps old new → AreAlike old width bs → AreAlike new width bs
 alike_kept old new width bs keeps h = record { each = λ k b e. bus_kept old new b keeps (h.each k b e); widths = h.widths }
@@ -50,84 +60,113 @@ alike_part net width bs cs h = (
   record { each = λ k b e. h.each (length bs + k) b (get_behind bs cs k b e); widths = λ k b e. h.widths (length bs + k) b (get_behind bs cs k b e) },
 )
 
-pub picks_only : (net : Net) (lines : List Bit) (buses : List Bus) (width : ℕ) (x : Bit) (b : Bus) → AreBits net lines → AreAlike net width buses → slice_get lines 0 ≡ Some x → slice_get buses 0 ≡ Some b
-    → length lines < 2 → PicksOne net net lines buses width (record { any = x; bus = b })
-picks_only net [] buses width x b are alike at at_bus few = absurd (cc)
-picks_only net (y ∷ []) buses width x b are alike at at_bus few = record {
-  keeps = same_keeps net;
-  any_bit = are.each 0 x at;
-  bus = alike.each 0 b at_bus;
-  same_width = alike.widths 0 b at_bus;
-  cost = record { nodes = omega arith; registers = omega arith; memories = omega arith };
-  none = λ run r t low k l.
-      let e : k ≡ 0 = omega (arith, l) in
-      ap (λ i. line_of run (y ∷ []) i (suc t)) e ∙ line_of-get run (y ∷ []) 0 x (suc t) at ∙ low;
-  value = λ run r t high. (0, omega arith, line_of-get run (y ∷ []) 0 x (suc t) at ∙ high, sym (held_of-get run buses 0 b (suc t) at_bus));
+pub picks_only : (old new : Net) (lines : List Bit) (buses : List Bus) (width : ℕ) (x : Bit) (b only : Bus) → AreAlike old width buses → slice_get lines 0 ≡ Some x → slice_get buses 0 ≡ Some b
+    → length lines < 2 → Masks old new x b only → PicksOne old new lines buses width (length lines * 2 - 1) only
+picks_only old new [] buses width x b only alike at at_bus few h = absurd (cc)
+picks_only old new (y ∷ z ∷ lines) buses width x b only alike at at_bus few h = absurd (omega (arith, few))
+picks_only old new (y ∷ []) buses width x b only alike at at_bus few h = record {
+  keeps = h.keeps;
+  bus = h.there;
+  same_width = h.same_width ∙ alike.widths 0 b at_bus;
+  cost = record { nodes = omega (arith, h.cost.nodes); registers = omega (arith, h.cost.registers); memories = omega (arith, h.cost.memories) };
+  law = λ run r t. record {
+    none = λ low. h.value run r t ∙ ap (λ (q : Bool). if q then held_at 0 run b t else 0) (sym (here run 0 t refl) ∙ low 0 (omega arith));
+    one = λ k l high only_one.
+        let e : k ≡ 0 = omega (arith, l) in
+        h.value run r t ∙ ap (λ (q : Bool). if q then held_at 0 run b t else 0) (sym (here run k t e) ∙ high)
+        ∙ sym (held_of-get run buses 0 b t at_bus) ∙ ap (λ i. held_of run buses i t) (sym e);
+  };
 }
-picks_only net (y ∷ z ∷ lines) buses width x b are alike at at_bus few = absurd (omega (arith, few))
+  where
+    here : (run : Run) (k t : ℕ) → k ≡ 0 → line_of run (y ∷ []) k t ≡ line_at run x t
+    here run k t e = ap (λ i. line_of run (y ∷ []) i t) e ∙ line_of-get run (y ∷ []) 0 x t at
 
 module _ (run : Run) (ls ms : List Bit) (bs cs : List Bus) (t : ℕ) (same_left : length bs ≡ length ls) (same_right : length cs ≡ length ms) where
-  left_line : (k : ℕ) → k < length ls → line_of run (ls ++ ms) k (suc t) ≡ line_of run ls k (suc t)
-  left_line k l = let x = get_there ls k l in line_of-get run (ls ++ ms) k x.0 (suc t) (get_front ls ms k x.0 x.1) ∙ sym (line_of-get run ls k x.0 (suc t) x.1)
+  left_line : (k : ℕ) → k < length ls → line_of run (ls ++ ms) k t ≡ line_of run ls k t
+  left_line k l = let x = get_there ls k l in line_of-get run (ls ++ ms) k x.0 t (get_front ls ms k x.0 x.1) ∙ sym (line_of-get run ls k x.0 t x.1)
 
-  right_line : (k : ℕ) → k < length ms → line_of run (ls ++ ms) (length ls + k) (suc t) ≡ line_of run ms k (suc t)
-  right_line k l = let x = get_there ms k l in line_of-get run (ls ++ ms) (length ls + k) x.0 (suc t) (get_behind ls ms k x.0 x.1) ∙ sym (line_of-get run ms k x.0 (suc t) x.1)
+  right_line : (k : ℕ) → k < length ms → line_of run (ls ++ ms) (length ls + k) t ≡ line_of run ms k t
+  right_line k l = let x = get_there ms k l in line_of-get run (ls ++ ms) (length ls + k) x.0 t (get_behind ls ms k x.0 x.1) ∙ sym (line_of-get run ms k x.0 t x.1)
 
-  left_bus : (k : ℕ) → k < length ls → held_of run bs k (suc t) ≡ held_of run (bs ++ cs) k (suc t)
-  left_bus k l = let x = get_there bs k (omega (arith, l, same_left)) in held_of-get run bs k x.0 (suc t) x.1 ∙ sym (held_of-get run (bs ++ cs) k x.0 (suc t) (get_front bs cs k x.0 x.1))
+  left_bus : (k : ℕ) → k < length ls → held_of run bs k t ≡ held_of run (bs ++ cs) k t
+  left_bus k l = let x = get_there bs k (omega (arith, l, same_left)) in held_of-get run bs k x.0 t x.1 ∙ sym (held_of-get run (bs ++ cs) k x.0 t (get_front bs cs k x.0 x.1))
 
-  right_bus : (k : ℕ) → k < length ms → held_of run cs k (suc t) ≡ held_of run (bs ++ cs) (length ls + k) (suc t)
+  right_bus : (k : ℕ) → k < length ms → held_of run cs k t ≡ held_of run (bs ++ cs) (length ls + k) t
   right_bus k l =
       let x = get_there cs k (omega (arith, l, same_right)) in
-      held_of-get run cs k x.0 (suc t) x.1 ∙ sym (held_of-get run (bs ++ cs) (length bs + k) x.0 (suc t) (get_behind bs cs k x.0 x.1))
-      ∙ ap (λ n. held_of run (bs ++ cs) (n + k) (suc t)) same_left
+      held_of-get run cs k x.0 t x.1 ∙ sym (held_of-get run (bs ++ cs) (length bs + k) x.0 t (get_behind bs cs k x.0 x.1))
+      ∙ ap (λ n. held_of run (bs ++ cs) (n + k) t) same_left
 
-  place_left : (v : ℕ) → IsPlace run ls bs t v → IsPlace run (ls ++ ms) (bs ++ cs) t v
-  place_left v p = (p.0, omega (arith, p.1, length-append ls ms), left_line p.0 p.1 ∙ p.2, p.3 ∙ left_bus p.0 p.1)
+  module _ (v w : ℕ) (p : IsPicked run ls bs t v) (q : IsPicked run ms cs t w) where
+    -- where a line of one half is 1, none of the other is
+    one_left : (k : ℕ) → k < length ls → line_of run ls k t ≡ true → ((j : ℕ) → j < length (ls ++ ms) → line_of run (ls ++ ms) j t ≡ true → j ≡ k) → bit_or v w ≡ held_of run (bs ++ cs) k t
+    one_left k l high only =
+        let mine : v ≡ held_of run bs k t = p.one k l high (λ j m e. only j (omega (arith, m, length-append ls ms)) (left_line j m ∙ e)) in
+        let other : w ≡ 0 = q.none (λ j m. by_cases (line_of run ms j t)
+        (λ e. let z = only (length ls + j) (omega (arith, m, length-append ls ms)) (right_line j m ∙ e) in absurd (omega (arith, z, l))) (λ e. e)) in
+        ap (bit_or v) other ∙ or_zero_r v ∙ mine ∙ left_bus k l
 
-  place_right : (v : ℕ) → IsPlace run ms cs t v → IsPlace run (ls ++ ms) (bs ++ cs) t v
-  place_right v p = (length ls + p.0, omega (arith, p.1, length-append ls ms), right_line p.0 p.1 ∙ p.2, p.3 ∙ right_bus p.0 p.1)
+    one_right : (k : ℕ) → k < length ms → line_of run ms k t ≡ true → ((j : ℕ) → j < length (ls ++ ms) → line_of run (ls ++ ms) j t ≡ true → j ≡ length ls + k)
+        → bit_or v w ≡ held_of run (bs ++ cs) (length ls + k) t
+    one_right k l high only =
+        let mine : w ≡ held_of run cs k t = q.one k l high
+        (λ j m e. let z = only (length ls + j) (omega (arith, m, length-append ls ms)) (right_line j m ∙ e) in omega (arith, z)) in
+        let other : v ≡ 0 = p.none (λ j m. by_cases (line_of run ls j t)
+        (λ e. let z = only j (omega (arith, m, length-append ls ms)) (left_line j m ∙ e) in absurd (omega (arith, z, m))) (λ e. e)) in
+        ap (λ n. bit_or n w) other ∙ mine ∙ right_bus k l
 
-  none_both : ((k : ℕ) → k < length ls → line_of run ls k (suc t) ≡ false) → ((k : ℕ) → k < length ms → line_of run ms k (suc t) ≡ false) → (k : ℕ) → k < length (ls ++ ms)
-      → line_of run (ls ++ ms) k (suc t) ≡ false
-  none_both a b k l = elim (cases_lt k (length ls)) [
-    | inl m ↦ left_line k m ∙ a k m
-    | inr m ↦
-        (let rest : k - length ls < length ms = omega (arith, l, m, length-append ls ms) in
-        let at : k ≡ length ls + (k - length ls) = omega (arith, m) in
-        ap (λ i. line_of run (ls ++ ms) i (suc t)) at ∙ right_line (k - length ls) rest ∙ b (k - length ls) rest)
-  ]
+    picked_both : IsPicked run (ls ++ ms) (bs ++ cs) t (bit_or v w)
+    picked_both = record {
+      none = λ low.
+          let left : v ≡ 0 = p.none (λ k l. sym (left_line k l) ∙ low k (omega (arith, l, length-append ls ms))) in
+          let right : w ≡ 0 = q.none (λ k l. sym (right_line k l) ∙ low (length ls + k) (omega (arith, l, length-append ls ms))) in
+          ap (λ n. bit_or n w) left ∙ right;
+      one = λ k l high only. elim (cases_lt k (length ls)) [
+        | inl m ↦ one_left k m (sym (left_line k m) ∙ high) only
+        | inr m ↦
+            (let at : k ≡ length ls + (k - length ls) = omega (arith, m) in
+            let rest : k - length ls < length ms = omega (arith, l, m, length-append ls ms) in
+            one_right (k - length ls) rest (sym (right_line (k - length ls) rest) ∙ ap (λ i. line_of run (ls ++ ms) i t) (sym at) ∙ high)
+            (λ j n e. only j n e ∙ at)
+            ∙ ap (λ i. held_of run (bs ++ cs) i t) (sym at))
+      ];
+    }
 
-pub picks_both : (n0 n1 n2 n3 : Net) (ls ms : List Bit) (bs cs : List Bus) (width : ℕ) (one other r : Picked) → length bs ≡ length ls → length cs ≡ length ms → 1 ≤ length ls → 1 ≤ length ms
-    → PicksOne n0 n1 ls bs width one → PicksOne n1 n2 ms cs width other → PicksTwo n2 n3 one other r → PicksOne n0 n3 (ls ++ ms) (bs ++ cs) width r
+pub picks_both : (n0 n1 n2 n3 : Net) (ls ms : List Bit) (bs cs : List Bus) (width : ℕ) (one other r : Bus) → length bs ≡ length ls → length cs ≡ length ms → 1 ≤ length ls → 1 ≤ length ms
+    → PicksOne n0 n1 ls bs width (length ls * 2 - 1) one → PicksOne n1 n2 ms cs width (length ms * 2 - 1) other → Merges n2 n3 one other r
+    → PicksOne n0 n3 (ls ++ ms) (bs ++ cs) width (length (ls ++ ms) * 2 - 1) r
 picks_both n0 n1 n2 n3 ls ms bs cs width one other r same_left same_right some_left some_right a b g = record {
   keeps = keeps_then n0 n1 n3 a.keeps (keeps_then n1 n2 n3 b.keeps g.keeps);
-  any_bit = g.any_bit;
   bus = g.bus;
-  same_width = g.width ∙ a.same_width;
+  same_width = g.same_width ∙ a.same_width;
   cost = record {
     nodes = omega (arith, a.cost.nodes, b.cost.nodes, g.cost.nodes, length-append ls ms, some_left, some_right);
     registers = omega (arith, a.cost.registers, b.cost.registers, g.cost.registers);
     memories = omega (arith, a.cost.memories, b.cost.memories, g.cost.memories);
   };
-  none = λ run r3 t low.
+  law = λ run r3 t.
       let r2 = g.keeps.runs run r3 in
-      let parts = neither_parts (line_at run one.any (suc t)) (line_at run other.any (suc t)) (sym (g.any run r3 (suc t)) ∙ low) in
-      none_both run ls ms bs cs t same_left same_right (a.none run (b.keeps.runs run r2) t parts.0) (b.none run r2 t parts.1);
-  value = λ run r3 t high.
-      let r2 = g.keeps.runs run r3 in
-      by run t r2 (line_at run one.any (suc t)) refl (sym (g.any run r3 (suc t)) ∙ high) (g.value run r3 t);
+      subst (IsPicked run (ls ++ ms) (bs ++ cs) t) (sym (g.value run r3 t))
+      (picked_both run ls ms bs cs t same_left same_right (held_at 0 run one t) (held_at 0 run other t) (a.law run (b.keeps.runs run r2) t) (b.law run r2 t));
 }
-  where
-    by : (run : Run) (t : ℕ) → IsRun n2 run → (x : Bool) → line_at run one.any (suc t) ≡ x → (line_at run one.any (suc t) || line_at run other.any (suc t)) ≡ true
-        → held_at 0 run r.bus (suc t) ≡ (if line_at run one.any (suc t) then held_at 0 run one.bus (suc t) else held_at 0 run other.bus (suc t))
-        → IsPlace run (ls ++ ms) (bs ++ cs) t (held_at 0 run r.bus (suc t))
-    by run t r2 true e high is =
-        subst (IsPlace run (ls ++ ms) (bs ++ cs) t) (sym (is ∙ ap (λ (b : Bool). if b then held_at 0 run one.bus (suc t) else held_at 0 run other.bus (suc t)) e))
-        (place_left run ls ms bs cs t same_left same_right (held_at 0 run one.bus (suc t)) (a.value run (b.keeps.runs run r2) t e))
-    by run t r2 false e high is =
-        subst (IsPlace run (ls ++ ms) (bs ++ cs) t) (sym (is ∙ ap (λ (b : Bool). if b then held_at 0 run one.bus (suc t) else held_at 0 run other.bus (suc t)) e))
-        (place_right run ls ms bs cs t same_left same_right (held_at 0 run other.bus (suc t)) (b.value run r2 t (sym (ap (λ q. q || line_at run other.any (suc t)) e) ∙ high)))
+
+pub first_wide : (net : Net) (width : ℕ) (bs : List Bus) → AreAlike net width bs → 0 < length bs → IsWidth width
+first_wide net width bs h some = let x = get_there bs 0 some in subst IsWidth (h.widths 0 x.0 x.1) (h.each 0 x.0 x.1).width
+
+-- with the bus of 0
+pub picks_all : (old mid new : Net) (lines : List Bit) (buses : List Bus) (width : ℕ) (z b : Bus) → 1 ≤ length lines → IsNumber old mid 0 width z
+    → PicksOne mid new lines buses z.width (length lines * 2 - 1) b → PicksOne old new lines buses width (length lines * 2) b
+picks_all old mid new lines buses width z b some h p = record {
+  keeps = keeps_then old mid new h.keeps p.keeps;
+  bus = p.bus;
+  same_width = p.same_width ∙ h.same_width;
+  cost = record {
+    nodes = omega (arith, h.cost.nodes, p.cost.nodes, some);
+    registers = omega (arith, h.cost.registers, p.cost.registers);
+    memories = omega (arith, h.cost.memories, p.cost.memories);
+  };
+  law = p.law;
+}
 
 -- lines and buses are cut at one place
 pub cut_both : (ls first second : List Bit) (bs left right : List Bus) → length bs ≡ length ls → 2 ≤ length ls → first ≡ take (length ls / 2) ls → second ≡ drop (length ls / 2) ls

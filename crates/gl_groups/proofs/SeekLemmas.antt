@@ -11,7 +11,7 @@ use Rattle.gl_bits.proofs.Bools.{or_join, or_none}
 use Rattle.gl_bits.specs.Tables.{with_key}
 use Rattle.gl_wire_registers.specs.Lines.{any_to}
 use Rattle.gl_wire_registers.proofs.LineLemmas.{any_same}
-use Rattle.gl_groups.specs.Seeking.{Sought, asked, found, has, is_new, kept, matches, takes}
+use Rattle.gl_groups.specs.Seeking.{Sought, asked, asks, found, has, is_new, is_next, kept, matches, takes}
 use Rattle.gl_groups.specs.Slots.{same_key}
 
 and_join : (a b c : Bool) → ((a && b) && c) ≡ (a && (b && c))
@@ -20,6 +20,30 @@ and_join false b c = refl
 
 lt_tells : (a b : ℕ) → ((nat_lt a b ≡ true) × (a < b)) ⊎ ((nat_lt a b ≡ false) × (b < suc a))
 lt_tells a b = leb_tells (suc a) b
+
+-- what follows from the registers alone, and whether one has the key comes behind it
+swap : (a b c : Bool) → ((a && b) && c) ≡ ((a && c) && b)
+swap true true true = refl
+swap true true false = refl
+swap true false true = refl
+swap true false false = refl
+swap false b c = refl
+
+pub asked_last : (count : ℕ) (s : Sought) (k : ℕ) → asked count s k ≡ (asks s k && not (any_to count (found s)))
+asked_last count s zero = refl
+asked_last count s (suc k) = swap s.ask (not (any_to count (found s))) (kept s k)
+
+pub takes_last : (count : ℕ) (s : Sought) (k : ℕ) → takes count s k ≡ (is_next s k && not (any_to count (found s)))
+takes_last count s k = ap (λ b. b && not (kept s k)) (asked_last count s k) ∙ swap (asks s k) (not (any_to count (found s))) (not (kept s k))
+
+-- a slot that is used keeps its key, and one that takes the key has it
+pub next_used : (count : ℕ) (s : Sought) (k : ℕ) → has count s k ≡ true → is_next s k ≡ takes count s k
+next_used count s k h = by (kept s k) (asks s k) (asked count s k) (sym (takes_last count s k)) h
+  where
+    by : (b a t : Bool) → (((a && not b) && not (any_to count (found s))) ≡ (t && not b)) → (b || (t && not b)) ≡ true → (a && not b) ≡ (t && not b)
+    by true a t e q = and-false a ∙ sym (and-false t)
+    by false true t e q = let z : (t && true) ≡ true = q in sym z
+    by false false t e q = e
 
 -- one of so many places has this key exactly if the list has it
 any_shift : (n : ℕ) (f : ℕ → Bool) → any_to (suc n) f ≡ (f 0 || any_to n (λ k. f (suc k)))

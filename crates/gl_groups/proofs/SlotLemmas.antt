@@ -1,5 +1,5 @@
 -- The machine of slots, from one cycle to the next, while a stream comes, and where it ends.
-use Rattle.std.proofs.Common.{◌≡◌, ℕ, suc, ◌+◌, ◌-◌, ◌*◌, ◌<◌, ◌≤◌, List, [], ◌∷◌, ◌++◌, length, take, length-take, map, Option, Some, None, Bool, true, false, ◌&&◌, refl, sym, ap, ◌∙◌, subst, arith, inl, inr, ◌⊎◌, mul-le-mul_right}
+use Rattle.std.proofs.Common.{◌≡◌, ℕ, suc, ◌+◌, ◌*◌, ◌<◌, ◌≤◌, List, [], ◌∷◌, ◌++◌, length, take, length-take, map, Option, Some, None, Bool, true, false, ◌&&◌, refl, sym, ap, ◌∙◌, subst, arith, inl, inr, ◌⊎◌, mul-le-mul_right}
 use Rattle.std.specs.Prelude.{option_to_list, if◌then◌else◌, nat_eq, nat_lt, slice_get}
 use Rattle.std.proofs.lemmas.Bool.{cases_lt, cases_Bool, ne_eqb, and_from, and_left, and_right, lt-ltb, le-ltb}
 use Rattle.std.proofs.lemmas.List.{append-nil}

@@ -9,7 +9,7 @@ use Rattle.gl_wire.specs.Counted.{AreNarrow}
 -- timer
 abbrev pub cost_of_front : ℕ → ℕ → List ℕ → Cost
 cost_of_front slots key source = record {
-  nodes = slots * 20 + length source * 2 + 61;
+  nodes = slots * 21 + length source * 2 + 61;
   registers = slots * (slice_index source key + 3) + sum source + 100;
   memories = 0;
 }

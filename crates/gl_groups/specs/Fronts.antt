@@ -1,5 +1,5 @@
 -- A front of groups in a netlist: its wires, its keys and its own line.
-use Rattle.std.specs.Prelude.{◌≡◌, ℕ, suc, ◌+◌, ◌-◌, ◌*◌, ◌<◌, List, length, Some, None, slice_get, slice_index, if◌then◌else◌, nat_eq, ◌&&◌, ◌||◌}
+use Rattle.std.specs.Prelude.{◌≡◌, ℕ, suc, ◌+◌, ◌-◌, ◌*◌, ◌<◌, List, length, Some, None, Bool, slice_get, slice_index, if◌then◌else◌, nat_eq, not, ◌&&◌, ◌||◌}
 use Rattle.std.specs.List.{sum}
 use Rattle.gl_bits.specs.Results.{Row}
 use Rattle.gl_net.specs.declared.node.Bus.{Bus}
@@ -9,12 +9,14 @@ use Rattle.gl_wire.specs.declared.wire.Wire.{Wire}
 use Rattle.gl_wire.specs.Costs.{Costs}
 use Rattle.gl_wire.specs.Wire.{AreBuses, IsWire, carried, line_at, row_at, widths}
 use Rattle.gl_wire_registers.specs.Held.{counted_down, held_at, with_registers}
-use Rattle.gl_wire_registers.specs.Lines.{AreBits, carried_of, line_of}
+use Rattle.gl_wire_registers.specs.Lines.{AreBits, any_to, carried_of, gates_of, line_of}
 use Rattle.gl_groups.specs.declared.front.Chosen.{Chosen}
-use Rattle.gl_groups.specs.declared.front.Ending.{Ending}
 use Rattle.gl_groups.specs.declared.front.Front.{Front}
+use Rattle.gl_groups.specs.declared.front.Looked.{Looked}
 use Rattle.gl_groups.specs.declared.front.Lookup.{Lookup}
-use Rattle.gl_groups.specs.SlotLines.{held_of}
+use Rattle.gl_groups.specs.declared.front.Turning.{Turning}
+use Rattle.gl_groups.specs.declared.slots.Seen.{Seen}
+use Rattle.gl_groups.specs.SlotLines.{AreSeen, held_of}
 use Rattle.gl_groups.specs.Groupings.{AreKeys}
 use Rattle.gl_groups.specs.Slots.{AreSlots, further_line, is_further, keys_at, slot_at, slot_ends_at, slot_takes, slots_at}
 
@@ -41,22 +43,84 @@ pub record AddsLookup (old new : Net) (source : Wire) (key : ℕ) (r : Lookup) :
   pub cost : Costs old new (with_registers (length (widths source.columns) * 2 + 1) (sum (widths source.columns)))
   pub law : (run : Run) → IsRun new run → IsLookup run source key r
 
--- the slots that end: with an end the first one, in a flush the one whose turn it is, if it is used
-pub record IsEnding (run : Run) (eos due : Bit) (count : ℕ) (has : List Bit) (r : Ending) : Type 0 where
+-- the slot whose turn it is: with an end the first one, in a flush the next one
+pub record IsTurning (run : Run) (eos due : Bit) (count : ℕ) (r : Turning) : Type 0 where
   pub next : (t : ℕ)
       → held_at count run r.rest (suc t) ≡ counted_down (count - 1) 0 (line_at run eos t) (line_at run due t)
       (held_at count run r.rest t)
-  pub end : (k t : ℕ) → k < count
-      → line_of run r.ends k t
-      ≡ (((line_at run eos t || line_at run due t) && nat_eq
-      (if line_at run eos t then count else held_at count run r.rest t) (count - k)) && line_of run has k t)
+  pub turn : (k t : ℕ) → k < count
+      → line_of run r.turns k t
+      ≡ ((line_at run eos t || line_at run due t) && nat_eq
+      (if line_at run eos t then count else held_at count run r.rest t) (count - k))
 
-pub record AddsEnding (old new : Net) (eos due : Bit) (count : ℕ) (has : List Bit) (r : Ending) : Type 0 where
+pub record AddsTurning (old new : Net) (eos due : Bit) (count : ℕ) (r : Turning) : Type 0 where
   pub keeps : Keeps old new
-  pub bits : AreBits new r.ends
-  pub ends_count : length r.ends ≡ count
-  pub cost : Costs old new (with_registers (count * 4 + 13) 32)
-  pub law : (run : Run) → IsRun new run → IsEnding run eos due count has r
+  pub turns_count : length r.turns ≡ count
+  pub bits : AreBits new r.turns
+  pub cost : Costs old new (with_registers (count * 3 + 13) 32)
+  pub law : (run : Run) → IsRun new run → IsTurning run eos due count r
+
+-- how what n slots make of a key hangs together in a cycle
+pub record IsSettled (run : Run) (n : ℕ) (r : Seen) (t : ℕ) : Type 0 where
+  pub takes : (k : ℕ) → k < n → line_of run r.takes k t ≡ (line_of run r.nexts k t && not (line_at run r.one t))
+  pub has : (k : ℕ) → k < n → line_of run r.has k t ≡ (line_of run r.kept k t || line_of run r.takes k t)
+  pub one : line_at run r.one t ≡ any_to n (λ k. line_of run r.found k t)
+
+-- lines of n slots that are looked at
+pub record IsLook (net : Net) (n : ℕ) (r : Looked) : Type 0 where
+  pub seen : AreSeen net n r.seen
+  pub settled : (run : Run) → IsRun net run → (t : ℕ) → IsSettled run n r.seen t
+  pub turns_count : length r.turns ≡ n
+  pub turns : AreBits net r.turns
+  pub tail : IsBit net r.tail
+
+-- whether a slot takes the row: one with its key a tuple without the end, the one that ends what came with the end
+abbrev pub takes_row : Run → Wire → Looked → Bool → Bool → ℕ → Bool
+takes_row run source r matches ends t =
+    matches && ((ends && line_at run r.tail t) || (line_at run source.valid t && not (line_at run source.eos t)))
+
+-- the slots that end if these are used, and those that take the row if these have its key
+abbrev pub ends_if : Run → Looked → List Bit → ℕ → ℕ → Bool
+ends_if run r has k t = line_of run r.turns k t && line_of run has k t
+
+abbrev pub takes_if : Run → Wire → Looked → List Bit → List Bit → ℕ → ℕ → Bool
+takes_if run source r has matches k t = takes_row run source r (line_of run matches k t) (ends_if run r has k t) t
+
+-- those that do
+abbrev pub ends_of : Run → Looked → ℕ → ℕ → Bool
+ends_of run r = ends_if run r r.seen.has
+
+abbrev pub takes_of : Run → Wire → Looked → ℕ → ℕ → Bool
+takes_of run source r k t =
+    takes_row run source r (line_of run r.seen.found k t || line_of run r.seen.takes k t) (ends_of run r k t) t
+
+-- the machine of slots: which slots take the row that stands here one cycle later and which one ends, the keys, and the
+-- line of further keys
+pub record IsLooked (run : Run) (key count stride : ℕ) (source : Wire) (r : Looked) : Type 0 where
+  pub takes : (k c : ℕ) → k < count
+      → (if takes_of run source r k c then Some (row_at run (suc c) r.row) else None)
+      ≡ slot_takes (column_of key) (line_at run source.eos c) ((carried run source).tuple c)
+      (keys_at count (column_of key) stride (carried run source) c)
+      (slots_at count (column_of key) stride (carried run source) c) k
+  pub ends : (k c : ℕ) → k < count
+      → ends_of run r k c ≡ (slot_ends_at count (column_of key) stride (carried run source) c
+      && nat_eq k (slot_at count (column_of key) stride (carried run source) c))
+  pub shown : AreKeys count (column_of key) stride (carried run source) (held_of run r.keys)
+  pub further : (c : ℕ) → line_at run r.seen.passes c
+      ≡ is_further (column_of key) (keys_at count (column_of key) stride (carried run source) c)
+      ((carried run source).tuple c)
+
+pub record AddsLooked (old new : Net) (key count stride : ℕ) (source : Wire) (r : Looked) : Type 0 where
+  pub keeps : Keeps old new
+  pub cost : Costs old new (with_registers (count * 13 + gates_of count + length (widths source.columns) * 2 + 40)
+      (count * (slice_index (widths source.columns) key + 1) + sum (widths source.columns) + 66))
+  pub row_buses : AreBuses new r.row
+  pub row_widths : widths r.row ≡ widths source.columns
+  pub keys_count : length r.keys ≡ count
+  pub keys : (k : ℕ) (b : Bus) → slice_get r.keys k ≡ Some b → IsBus new b
+      × (b.width ≡ slice_index (widths source.columns) key)
+  pub look : IsLook new count r
+  pub law : (run : Run) → IsRun new run → IsLooked run key count stride source r
 
 -- what the machine of slots gives in a cycle: which slots take the row that stands here one cycle later and which one
 -- ends, the keys, and the line of further keys
@@ -76,7 +140,7 @@ pub record IsChosen (run : Run) (key count stride : ℕ) (source : Wire) (r : Ch
 
 pub record AddsChosen (old new : Net) (key count stride : ℕ) (source : Wire) (r : Chosen) : Type 0 where
   pub keeps : Keeps old new
-  pub cost : Costs old new (with_registers (count * 18 + length (widths source.columns) * 2 + 40)
+  pub cost : Costs old new (with_registers (count * 19 + length (widths source.columns) * 2 + 40)
       (count * (slice_index (widths source.columns) key + 1) + sum (widths source.columns) + 66))
   pub row_buses : AreBuses new r.row
   pub row_widths : widths r.row ≡ widths source.columns
@@ -98,7 +162,7 @@ pub record IsFront (run : Run) (key count stride : ℕ) (source : Wire) (r : Fro
 
 pub record AddsFront (old new : Net) (key count stride : ℕ) (source : Wire) (r : Front) : Type 0 where
   pub keeps : Keeps old new
-  pub cost : Costs old new (with_registers (count * 20 + length (widths source.columns) * 2 + 41)
+  pub cost : Costs old new (with_registers (count * 21 + length (widths source.columns) * 2 + 41)
       (count * (slice_index (widths source.columns) key + 3) + sum (widths source.columns) + 67))
   pub as_many : length r.wires ≡ count
   pub wires : (k : ℕ) (w : Wire) → slice_get r.wires k ≡ Some w → IsWire new w

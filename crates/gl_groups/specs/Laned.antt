@@ -29,7 +29,7 @@ bits_of_slots slots = least_exponent slots 1 slots
 -- a lane of so many slots over a source of these columns, with the key in one of them, and the line of ends
 abbrev pub cost_of_lane : ℕ → ℕ → List ℕ → Cost
 cost_of_lane slots key source = record {
-  nodes = slots * 29 + length source * 2 + 60;
+  nodes = slots * 44 + length source * 2 + 64;
   registers = slots * (slice_index source key + 2) + sum source + bits_of_slots slots + 103;
   memories = 0;
 }
@@ -72,7 +72,7 @@ pub record IsLaned (old new : Net) (r : Grouping) (source : Wire) (l : Lane) : T
 -- one cycle behind a table's rows, with the key of the slot in front, and the ends of a line
 pub record IsGathered (old new : Net) (r : Grouping) (l : Lane) (out : TableOut) (w : Wire) : Type 0 where
   pub keeps : Keeps old new
-  pub cost : Costs old new (with_registers (r.slots * 4 + length (widths out.wire.columns) + 1)
+  pub cost : Costs old new (with_registers (r.slots * 4 + length (widths out.wire.columns) + 3)
       (width_of_keys l.keys + sum (widths out.wire.columns) + 2))
   pub wire : IsWire new w
   pub same_widths : widths w.columns ≡ width_of_keys l.keys ∷ widths out.wire.columns

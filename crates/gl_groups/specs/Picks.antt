@@ -1,13 +1,12 @@
 -- Of buses the one whose line is 1.
-use Rattle.std.specs.Prelude.{◌≡◌, ℕ, suc, ◌-◌, ◌*◌, ◌<◌, List, length, Some, true, false, slice_get, if◌then◌else◌, ◌||◌}
+use Rattle.std.specs.Prelude.{◌≡◌, ℕ, suc, ◌<◌, List, length, Some, true, false, slice_get, if◌then◌else◌, bit_or}
 use Rattle.gl_net.specs.declared.node.Bus.{Bus}
 use Rattle.gl_net.specs.declared.node.Bit.{Bit}
-use Rattle.gl_net.specs.Net.{Net, Run, IsRun, IsBit, IsBus, Keeps}
+use Rattle.gl_net.specs.Net.{Net, Run, IsRun, IsBus, Keeps}
 use Rattle.gl_wire.specs.Costs.{Costs, nodes_alone}
 use Rattle.gl_wire.specs.Wire.{line_at}
 use Rattle.gl_wire_registers.specs.Held.{held_at}
 use Rattle.gl_wire_registers.specs.Lines.{line_of}
-use Rattle.gl_groups.specs.declared.pick.Picked.{Picked}
 use Rattle.gl_groups.specs.SlotLines.{held_of}
 
 -- buses of this width are in the netlist
@@ -15,35 +14,41 @@ pub record AreAlike (net : Net) (width : ℕ) (bs : List Bus) : Type 0 where
   pub each : (k : ℕ) (b : Bus) → slice_get bs k ≡ Some b → IsBus net b
   pub widths : (k : ℕ) (b : Bus) → slice_get bs k ≡ Some b → b.width ≡ width
 
--- one of two
-pub record PicksTwo (old new : Net) (first second r : Picked) : Type 0 where
-  pub keeps : Keeps old new
-  pub any_bit : IsBit new r.any
-  pub bus : IsBus new r.bus
-  pub width : r.bus.width ≡ first.bus.width
-  pub cost : Costs old new (nodes_alone 2)
-  pub any : (run : Run) → IsRun new run → (t : ℕ)
-      → line_at run r.any t ≡ (line_at run first.any t || line_at run second.any t)
-  pub value : (run : Run) → IsRun new run → (t : ℕ)
-      → held_at 0 run r.bus (suc t)
-      ≡ (if line_at run first.any (suc t) then held_at 0 run first.bus (suc t) else held_at 0 run second.bus (suc t))
+-- a bus that carries 0 in each cycle
+abbrev pub CarriesZero : Net → Bus → Type 0
+CarriesZero net b = (run : Run) → IsRun net run → (t : ℕ) → held_at 0 run b t ≡ 0
 
--- a place whose line is 1 in a cycle, and whose bus carries this value then
-abbrev pub IsPlace : Run → List Bit → List Bus → ℕ → ℕ → Type 0
-IsPlace run lines buses t value =
-    (k : ℕ) × (k < length lines) × (line_of run lines k (suc t) ≡ true) × (value ≡ held_of run buses k (suc t))
+-- a bus where its line is 1, and else 0
+pub record Masks (old new : Net) (line : Bit) (bus b : Bus) : Type 0 where
+  pub keeps : Keeps old new
+  pub there : IsBus new b
+  pub same_width : b.width ≡ bus.width
+  pub cost : Costs old new (nodes_alone 1)
+  pub value : (run : Run) → IsRun new run → (t : ℕ)
+      → held_at 0 run b t ≡ (if line_at run line t then held_at 0 run bus t else 0)
+
+-- the bits of two buses together
+pub record Merges (old new : Net) (left right b : Bus) : Type 0 where
+  pub keeps : Keeps old new
+  pub bus : IsBus new b
+  pub same_width : b.width ≡ left.width
+  pub cost : Costs old new (nodes_alone 1)
+  pub value : (run : Run) → IsRun new run → (t : ℕ)
+      → held_at 0 run b t ≡ bit_or (held_at 0 run left t) (held_at 0 run right t)
+
+-- a number that is 0 where no line is 1, and where one alone is, what its bus carries
+pub record IsPicked (run : Run) (lines : List Bit) (buses : List Bus) (t value : ℕ) : Type 0 where
+  pub none : ((k : ℕ) → k < length lines → line_of run lines k t ≡ false) → value ≡ 0
+  pub one : (k : ℕ) → k < length lines → line_of run lines k t ≡ true
+      → ((j : ℕ) → j < length lines → line_of run lines j t ≡ true → j ≡ k) → value ≡ held_of run buses k t
 
 -- one of many
-pub record PicksOne (old new : Net) (lines : List Bit) (buses : List Bus) (width : ℕ) (r : Picked) : Type 0 where
+pub record PicksOne (old new : Net) (lines : List Bit) (buses : List Bus) (width price : ℕ) (b : Bus) : Type 0 where
   pub keeps : Keeps old new
-  pub any_bit : IsBit new r.any
-  pub bus : IsBus new r.bus
-  pub same_width : r.bus.width ≡ width
-  pub cost : Costs old new (nodes_alone ((length lines - 1) * 2))
-  pub none : (run : Run) → IsRun new run → (t : ℕ) → line_at run r.any (suc t) ≡ false → (k : ℕ) → k < length lines
-      → line_of run lines k (suc t) ≡ false
-  pub value : (run : Run) → IsRun new run → (t : ℕ) → line_at run r.any (suc t) ≡ true
-      → IsPlace run lines buses t (held_at 0 run r.bus (suc t))
+  pub bus : IsBus new b
+  pub same_width : b.width ≡ width
+  pub cost : Costs old new (nodes_alone price)
+  pub law : (run : Run) → IsRun new run → (t : ℕ) → IsPicked run lines buses t (held_at 0 run b t)
 
 -- a bus that carries a number
 pub record IsNumber (old new : Net) (number width : ℕ) (b : Bus) : Type 0 where

@@ -30,6 +30,15 @@ asked count s (suc k) = is_new count s && kept s k
 abbrev pub takes : ℕ → Sought → ℕ → Bool
 takes count s k = asked count s k && not (kept s k)
 
+-- whether a key comes, and the slot before this one is used
+abbrev pub asks : Sought → ℕ → Bool
+asks s zero = s.ask
+asks s (suc k) = s.ask && kept s k
+
+-- whether this one takes the key if none of the slots has it: the registers alone tell
+abbrev pub is_next : Sought → ℕ → Bool
+is_next s k = asks s k && not (kept s k)
+
 abbrev pub has : ℕ → Sought → ℕ → Bool
 has count s k = kept s k || takes count s k
 

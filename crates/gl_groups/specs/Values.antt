@@ -2,7 +2,7 @@
 use Rattle.std.specs.Prelude.{◌≡◌, ℕ, ◌-◌, ◌<◌, ◌≤◌, length, Some, None, Bool, true, if◌then◌else◌, nat_eq, not, ◌&&◌, ◌||◌, slice_get}
 use Rattle.gl_bits.specs.Results.{Row}
 use Rattle.gl_wire_registers.specs.Held.{counted_down}
-use Rattle.gl_groups.specs.Seeking.{Sought, has, matches, takes}
+use Rattle.gl_groups.specs.Seeking.{Sought, has, is_next, matches}
 use Rattle.gl_groups.specs.Slots.{Slots}
 
 pub record Values : Type 0 where
@@ -49,7 +49,7 @@ valid_of count c p k =
 -- one cycle; the key that is looked for is that of the row that came last
 pub record Steps (count stride : ℕ) (key : Row → ℕ) (c : Cycle) (p q : Values) : Type 0 where
   pub used : (k : ℕ) → k < count → q.used k ≡ has count (sought_of c p) k
-  pub keys : (k : ℕ) → k < count → q.key k ≡ (if takes count (sought_of c p) k then c.value else p.key k)
+  pub keys : (k : ℕ) → k < count → q.key k ≡ (if is_next (sought_of c p) k then c.value else p.key k)
   pub flush : q.flush ≡ (c.end || (p.flush && not c.valid))
   pub rest : q.rest ≡ counted_down (count - 1) 0 c.end (due_of c p) p.rest
   pub wait : q.wait ≡ counted_down (stride - 1) (stride - 1) c.end (idle_of c p) p.wait

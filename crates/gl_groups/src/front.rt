@@ -1,13 +1,12 @@
 //! The front of groups: which slot takes a tuple, and which takes an end.
 
-ghost use Rattle.std.specs.Prelude.{◌≡◌, ◌<◌, ◌≤◌, IfOk, length};
+ghost use Rattle.std.specs.Prelude.{◌<◌, ◌≤◌, IfOk, length};
 ghost use Rattle.gl_net.specs.Net.{IsBit};
-ghost use Rattle.gl_wire_registers.specs.Lines.{AreBits};
 ghost use Rattle.gl_wire.specs.Wire.{IsWire};
-ghost use Rattle.gl_groups.specs.Fronts.{AddsChosen, AddsEnding, AddsFront, AddsLookup};
+ghost use Rattle.gl_groups.specs.Fronts.{AddsChosen, AddsFront, AddsLooked, AddsLookup, AddsTurning};
 
 use crate::parts::{count_flush, count_turns, keep_tail, take_rows, turn_lines};
-use crate::slots::put_slots;
+use crate::slots::{Seen, put_slots};
 use gl_bits::Memory;
 use gl_net::{Bit, Bus, Buses, NetBuilder};
 use gl_wire::{Wire, later_bit};
@@ -23,13 +22,28 @@ pub struct Lookup {
     pub value: Bus,
 }
 
-/// The slots that end.
+/// Whose turn it is.
 #[derive(Drop)]
-pub struct Ending {
+pub struct Turning {
     /// The slots from the one whose turn is next on.
     pub rest: Bus,
-    /// For each slot whether it ends.
-    pub ends: Bits,
+    /// For each slot whether it ends, if it is used.
+    pub turns: Bits,
+}
+
+/// The slots in a cycle, and what comes: which one takes a row and which one ends follows from this alone.
+#[derive(Drop)]
+pub struct Looked {
+    /// The row that came last, one cycle later.
+    pub row: Buses,
+    /// For each slot its key.
+    pub keys: Buses,
+    /// What the slots make of the key that is looked for.
+    pub seen: Seen,
+    /// For each slot whether it ends, if it is used.
+    pub turns: Bits,
+    /// 1 where the slot that ends takes that row, if it has its key.
+    pub tail: Bit,
 }
 
 /// Which slots take a row, and which one ends.
@@ -76,32 +90,58 @@ pub fn look_up(
     Ok(Lookup { row, value })
 }
 
-/// Ends the slot whose turn it is, if it is used.
-pub fn end_slots(
+/// The slot whose turn it is.
+pub fn turn_slots(
     alloc: Global,
     net: &mut NetBuilder,
     eos: Bit,
     due: Bit,
-    has: &Bits,
     count: u32,
-) -> Result<Ending, Memory>
+) -> Result<Turning, Memory>
     requires eos { IsBit net.old eos }
     requires due { IsBit net.old due }
-    requires has { AreBits net.old has.now }
-    requires has_count { length has.now ≡ count }
     requires some_slot { 1 ≤ count }
-    ensures { IfOk result (AddsEnding net.old net.new eos due count has.now) }
+    ensures { IfOk result (AddsTurning net.old net.new eos due count) }
 {
     let turns = count_turns(net, eos, due, count)?;
     let lines = turn_lines(alloc, net, turns.trigger, turns.at, count)?;
-    let ends = pairwise(alloc, net, LineOp::Both, &lines, has)?;
-    Ok(Ending {
+    Ok(Turning {
         rest: turns.rest,
-        ends,
+        turns: lines,
     })
 }
 
-/// Which slots take the row that came last and which one ends, by the key in a column, whose ends are `stride` cycles apart in a flush.
+/// Looks at the slots, by the key in a column, whose ends are `stride` cycles apart in a flush.
+#[tactic(auto, using(gl_wire_registers::proofs::LineLemmas::bits_kept, gl_wire::proofs::ColumnLemmas::buses_kept))]
+pub fn look_all(
+    alloc: Global,
+    net: &mut NetBuilder,
+    wire: &Wire,
+    key: usize,
+    count: u32,
+    stride: u32,
+) -> Result<Looked, Memory>
+    requires wire { IsWire net.old wire.now }
+    requires key { key < length wire.now.columns }
+    requires count { 1 ≤ count }
+    requires stride { 1 ≤ stride }
+    ensures { IfOk result (AddsLooked net.old net.new key count stride wire.now) }
+{
+    let flush = count_flush(net, wire.valid, wire.eos, stride)?;
+    let tail = keep_tail(net, wire.valid, wire.eos, flush.idle)?;
+    let look = look_up(alloc, net, wire, key)?;
+    let slots = put_slots(alloc, net, flush.free, wire.valid, look.value, count)?;
+    let turning = turn_slots(alloc, net, wire.eos, flush.due, count)?;
+    Ok(Looked {
+        row: look.row,
+        keys: slots.keys,
+        seen: slots.seen,
+        turns: turning.turns,
+        tail: tail.tail,
+    })
+}
+
+/// Which slots take the row that came last and which one ends.
 #[tactic(auto, using(gl_wire_registers::proofs::LineLemmas::bits_kept, gl_wire::proofs::ColumnLemmas::buses_kept))]
 pub fn choose_slots(
     alloc: Global,
@@ -117,20 +157,22 @@ pub fn choose_slots(
     requires stride { 1 ≤ stride }
     ensures { IfOk result (AddsChosen net.old net.new key count stride wire.now) }
 {
-    let v = wire.valid;
-    let e = wire.eos;
-    let flush = count_flush(net, v, e, stride)?;
-    let tail = keep_tail(net, v, e, flush.idle)?;
-    let look = look_up(alloc, net, wire, key)?;
-    let slots = put_slots(alloc, net, flush.free, v, look.value, count)?;
-    let ending = end_slots(alloc, net, e, flush.due, &slots.has, count)?;
-    let takes = take_rows(alloc, net, v, e, tail.tail, &slots.matches, &ending.ends)?;
+    let look = look_all(alloc, net, wire, key, count, stride)?;
+    let ends = pairwise(alloc, net, LineOp::Both, &look.turns, &look.seen.has)?;
+    let has_key = pairwise(
+        alloc,
+        net,
+        LineOp::Either,
+        &look.seen.found,
+        &look.seen.takes,
+    )?;
+    let takes = take_rows(alloc, net, wire.valid, wire.eos, look.tail, &has_key, &ends)?;
     Ok(Chosen {
         row: look.row,
-        keys: slots.keys,
+        keys: look.keys,
         takes,
-        ends: ending.ends,
-        passes: slots.passes,
+        ends,
+        passes: look.seen.passes,
     })
 }
 

@@ -107,7 +107,7 @@ impl Grouping {
         let places = numbers(alloc, net, self.slots, slot_bits(self.slots))?;
         let lines = same_each(alloc, net, out.slot, places.as_slice())?;
         let picked = pick(net, lines.as_slice(), keys, keys[0].width)?;
-        let columns = with_first(alloc, picked.bus, out.wire.columns.as_slice())?;
+        let columns = with_first(alloc, picked, out.wire.columns.as_slice())?;
         // Named, since a goal speaks of the value.
         let wire = stage(alloc, net, out.wire.valid, lane.close, columns.as_slice())?;
         Ok(wire)

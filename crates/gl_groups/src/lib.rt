@@ -3,6 +3,7 @@
 //! a group's rows does not, nor the laws that windows and groups share.
 #![tactic(auto)]
 
+pub mod choices;
 pub mod front;
 pub mod grouping;
 pub mod joins;

@@ -1,60 +1,77 @@
-//! Of buses the one whose line is 1, in a tree.
+//! Of buses the one whose line is 1: each bus where its line is 1 and else 0, and the bits of all of them together, in a tree.
 
-ghost use Rattle.std.specs.Prelude.{◌≡◌, ◌<◌, ◌≤◌, ◌^◌, IfOk, length};
+ghost use Rattle.std.specs.Prelude.{◌≡◌, ◌<◌, ◌≤◌, ◌*◌, ◌-◌, ◌^◌, IfOk, length};
 ghost use Rattle.gl_bits.specs.Words.{IsWidth};
 ghost use Rattle.gl_net.specs.Net.{IsBit, IsBus};
 ghost use Rattle.gl_wire_registers.specs.Lines.{AreBits};
-ghost use Rattle.gl_groups.specs.Picks.{AddsNumbers, AreAlike, IsNumber, PicksOne, PicksTwo};
+ghost use Rattle.gl_groups.specs.Picks.{AddsNumbers, AreAlike, CarriesZero, IsNumber, Masks, Merges, PicksOne};
 
 use gl_bits::Memory;
-use gl_net::{Bit, Bus, Buses, NetBuilder};
-use gl_wire::either;
+use gl_net::{BinaryOp, Bit, Bus, Buses, NetBuilder};
 use gl_wire_registers::word;
 use std::alloc::Global;
 
-/// The bus whose line is 1.
-#[derive(Clone, Copy, PartialEq, Eq, Debug)]
-pub struct Picked {
-    /// 1 where one of the lines is.
-    pub any: Bit,
-    /// Its bus.
-    pub bus: Bus,
+// A bus where its line is 1, and else 0.
+fn mask(net: &mut NetBuilder, line: Bit, bus: Bus, zero: Bus) -> Result<Bus, Memory>
+    requires line { IsBit net.old line }
+    requires bus { IsBus net.old bus }
+    requires zero { IsBus net.old zero }
+    requires widths { bus.width ≡ zero.width }
+    requires carries { CarriesZero net.old zero }
+    ensures { IfOk result (Masks net.old net.new line bus) }
+{
+    // Named, since a goal speaks of the value.
+    let masked = net.choose(line, bus, zero)?;
+    Ok(masked)
 }
 
-/// The first bus where its line is 1, and else the second.
-fn pick_two(net: &mut NetBuilder, first: Picked, second: Picked) -> Result<Picked, Memory>
-    requires first_any { IsBit net.old first.any }
-    requires first_bus { IsBus net.old first.bus }
-    requires second_any { IsBit net.old second.any }
-    requires second_bus { IsBus net.old second.bus }
-    requires widths { second.bus.width ≡ first.bus.width }
-    ensures { IfOk result (PicksTwo net.old net.new first second) }
+// The bits of two buses together.
+fn merge(net: &mut NetBuilder, left: Bus, right: Bus) -> Result<Bus, Memory>
+    requires left { IsBus net.old left }
+    requires right { IsBus net.old right }
+    requires widths { left.width ≡ right.width }
+    ensures { IfOk result (Merges net.old net.new left right) }
 {
-    let bus = net.choose(first.any, first.bus, second.bus)?;
-    let any = either(net, first.any, second.any)?;
-    Ok(Picked { any, bus })
+    // Named, since a goal speaks of the value.
+    let bus = net.binary(BinaryOp::Or, left, right)?;
+    Ok(bus)
+}
+
+// Of these buses the one whose line is 1, beside a bus that carries 0.
+fn pick_of(net: &mut NetBuilder, lines: &[Bit], buses: &[Bus], zero: Bus) -> Result<Bus, Memory>
+    requires lines { AreBits net.old lines.now }
+    requires buses { AreAlike net.old zero.width buses.now }
+    requires zero { IsBus net.old zero }
+    requires carries { CarriesZero net.old zero }
+    requires count { length buses.now ≡ length lines.now }
+    requires some { 1 ≤ length lines.now }
+    ensures { IfOk result
+        (PicksOne net.old net.new lines.now buses.now zero.width (length lines.now * 2 - 1)) }
+{
+    let many = lines.len();
+    if many < 2 {
+        let only = mask(net, lines[0], buses[0], zero)?;
+        return Ok(only);
+    }
+    let (first, second) = lines.split_at(many / 2);
+    let (left, right) = buses.split_at(many / 2);
+    let one = pick_of(net, first, left, zero)?;
+    let other = pick_of(net, second, right, zero)?;
+    let picked = merge(net, one, other)?;
+    Ok(picked)
 }
 
 /// Of these buses the one whose line is 1.
-pub fn pick(net: &mut NetBuilder, lines: &[Bit], buses: &[Bus], width: u8) -> Result<Picked, Memory>
+pub fn pick(net: &mut NetBuilder, lines: &[Bit], buses: &[Bus], width: u8) -> Result<Bus, Memory>
     requires lines { AreBits net.old lines.now }
     requires buses { AreAlike net.old width buses.now }
     requires count { length buses.now ≡ length lines.now }
     requires some { 1 ≤ length lines.now }
-    ensures { IfOk result (PicksOne net.old net.new lines.now buses.now width) }
+    ensures { IfOk result
+        (PicksOne net.old net.new lines.now buses.now width (length lines.now * 2)) }
 {
-    let many = lines.len();
-    if many < 2 {
-        return Ok(Picked {
-            any: lines[0],
-            bus: buses[0],
-        });
-    }
-    let (first, second) = lines.split_at(many / 2);
-    let (left, right) = buses.split_at(many / 2);
-    let one = pick(net, first, left, width)?;
-    let other = pick(net, second, right, width)?;
-    let picked = pick_two(net, one, other)?;
+    let zero = number(net, 0, width)?;
+    let picked = pick_of(net, lines, buses, zero)?;
     Ok(picked)
 }
 

@@ -56,7 +56,7 @@ once zero x some = absurd (omega (arith, some))
 once (suc n) x some = let e : suc n * x ≡ x + n * x = omega arith in omega (arith, e)
 
 nodes_within : (source body child spacer parts n a k m : ℕ) → 1 ≤ n → 1 ≤ k → m ≤ 98 → body ≡ child + (4 * (k + 2) + (parts + k * (m + 1)))
-    → source + spacer + (n * 29 + a * 2 + 60) + (child + (2 * (m + 1) + 6 * k + parts)) + (n * 4 + k + 1) + 2 ≤ source + (weight_of_copies n body (a + 2) (k + 1 + 2) + spacer)
+    → source + spacer + (n * 44 + a * 2 + 64) + (child + (2 * (m + 1) + 6 * k + parts)) + (n * 4 + k + 3) + 2 ≤ source + (weight_of_copies n body (a + 2) (k + 1 + 2) + spacer)
 nodes_within source body child spacer parts n a k m some aggs few is =
     let each : n * (body + 8 * (a + 2 + (k + 1 + 2) + 4)) ≡ n * body + 8 * (n * a) + 8 * (n * k) + 72 * n = omega arith in
     let product : k * (m + 1) ≡ k * m + k = omega arith in
@@ -143,7 +143,7 @@ module _ (nodes : List PlanNode) (g : GroupOf) (plan : IsPlan nodes) (at : IsGro
 
   pub lane_cost : (old mid net last new : Net) → CostsAtMost old mid (cost_to_lane nodes g)
       → CostsAtMost mid net (cost_of_body nodes child aggs (bits_of_slots g.groups))
-      → Costs net last (with_registers (g.groups * 4 + length aggs + 1) (sum own + 2)) → CostsAtMost last new (nodes_alone 2) → CostsAtMost old new (counted nodes g.id)
+      → Costs net last (with_registers (g.groups * 4 + length aggs + 3) (sum own + 2)) → CostsAtMost last new (nodes_alone 2) → CostsAtMost old new (counted nodes g.id)
   lane_cost old mid net last new front tables gathered lines =
       let key : slice_index source g.key ≡ w = key_width_is (kinds_of nodes g.source) g.key within in
       let n = nodes_within (weight_of nodes g.source) (weight_of nodes g.body) (weight_of nodes child) spacer.nodes parts g.groups (length source) (length aggs) delay

@@ -222,7 +222,7 @@ module _ (nodes : List PlanNode) (g : GroupOf) (plan : IsPlan nodes) (at : IsGro
     bits : width_of_keys l.lane.keys + sum (widths out.wire.columns) ≡ sum (widths_of own_kinds)
     bits = sym (sum_by-cons (λ (w : ℕ). w) (width_of_keys l.lane.keys) (widths out.wire.columns)) ∙ ap sum own
 
-    gathered : Costs net last (with_registers (g.groups * 4 + length t.aggs + 1) (sum (widths_of own_kinds) + 2))
+    gathered : Costs net last (with_registers (g.groups * 4 + length t.aggs + 3) (sum (widths_of own_kinds) + 2))
     gathered = record {
       nodes = omega (arith, ga.cost.nodes, many);
       registers = omega (arith, ga.cost.registers, bits);

@@ -1,16 +1,14 @@
-use Rattle.gl_net.proofs.Determined.{keeps_then}
-use Rattle.gl_wire.proofs.ColumnLemmas.{wire_kept}
+use Rattle.std.proofs.Common.{◌∙◌, sym}
 use Rattle.gl_groups.proofs.FrontNet.{chosen_are}
 use Rattle.gl_groups.proofs.front.choose_slots.Goals as goal
 
-pub look_up-requires-clause-wire : goal.look_up-requires-clause-wire
-look_up-requires-clause-wire c =
-    wire_kept c.args.net.now c.keep_tail.new.net c.args.wire.now
-    (keeps_then c.args.net.now c.count_flush.new.net c.keep_tail.new.net c.in_ok-flush.ensures.keeps c.in_ok-tail.ensures.keeps) c.requires.wire
+pub pairwise-requires-clause-count : goal.pairwise-requires-clause-count
+pairwise-requires-clause-count c = c.in_ok-look.ensures.look.seen.has_count ∙ sym c.in_ok-look.ensures.look.turns_count
+
+pub pairwise-requires-2-clause-count : goal.pairwise-requires-2-clause-count
+pairwise-requires-2-clause-count c = c.in_ok-look.ensures.look.seen.takes_count ∙ sym c.in_ok-look.ensures.look.seen.found_count
 
 pub returns : goal.returns
 returns c =
-    chosen_are c.args.net.now c.count_flush.new.net c.keep_tail.new.net c.look_up.new.net c.put_slots.new.net c.end_slots.new.net c.take_rows.new.net
-    c.args.wire.now c.args.key c.args.count c.args.stride c.requires.count
-    c.in_ok-flush.flush c.in_ok-tail.tail c.in_ok-look.look c.in_ok-slots.slots c.in_ok-ending.ending c.in_ok-takes.takes
-    c.in_ok-flush.ensures c.in_ok-tail.ensures c.in_ok-look.ensures c.in_ok-slots.ensures c.in_ok-ending.ensures c.in_ok-takes.ensures
+    chosen_are c.args.net.now c.look_all.new.net c.pairwise.new.net c.pairwise-2.new.net c.take_rows.new.net c.args.wire.now c.args.key c.args.count c.args.stride
+    c.in_ok-look.look c.in_ok-ends.ends c.in_ok-has_key.has_key c.in_ok-takes.takes c.requires.count c.in_ok-look.ensures c.in_ok-ends.ensures c.in_ok-has_key.ensures c.in_ok-takes.ensures

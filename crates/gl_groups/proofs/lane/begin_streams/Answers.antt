@@ -1,4 +1,4 @@
-use Rattle.gl_groups.proofs.LaneNet.{begun_are}
+use Rattle.gl_groups.proofs.ToldNet.{begun_are}
 use Rattle.gl_groups.proofs.lane.begin_streams.Goals as goal
 
 pub returns : goal.returns

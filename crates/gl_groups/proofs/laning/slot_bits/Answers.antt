@@ -1,5 +1,4 @@
 use Rattle.std.proofs.Common.{ℕ, ◌≤◌, ◌^◌, sym, subst}
-use Rattle.gl_algebra.specs.Cost.{least_exponent}
 use Rattle.gl_groups.proofs.LanedNet.{bits_cover, bits_from}
 use Rattle.gl_groups.proofs.laning.slot_bits.Goals as goal
 

@@ -10,5 +10,5 @@ pairwise-requires-clause-lefts c = bits_kept c.with_all.new.net c.same_each.new.
 
 pub returns : goal.returns
 returns c =
-    found_are c.args.net.now c.with_all.new.net c.same_each.new.net c.pairwise.new.net c.any.new.net c.but_not.new.net c.args.used.now c.args.keys.now c.args.free c.args.ask c.args.value
-    c.in_ok-kept.kept c.in_ok-same.same c.in_ok-found.found c.in_ok-one.one c.in_ok-is_new.is_new c.requires.count c.in_ok-kept.ensures c.in_ok-same.ensures c.in_ok-found.ensures c.in_ok-one.ensures c.in_ok-is_new.ensures
+    found_are c.args.net.now c.with_all.new.net c.same_each.new.net c.pairwise.new.net c.any.new.net c.args.used.now c.args.keys.now c.args.free c.args.value
+    c.in_ok-kept.kept c.in_ok-same.same c.in_ok-found.found c.in_ok-one.one c.requires.count c.in_ok-kept.ensures c.in_ok-same.ensures c.in_ok-found.ensures c.in_ok-one.ensures

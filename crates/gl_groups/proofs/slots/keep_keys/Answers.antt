@@ -2,7 +2,8 @@ use Rattle.std.proofs.Common.{ℕ, List, subst, sym, replicate}
 use Rattle.gl_net.specs.declared.node.Bus.{Bus}
 use Rattle.gl_wire_registers.specs.Registers.{DrivesAll, MayDrive, Opens}
 use Rattle.gl_groups.specs.SlotLines.{AddsSeek, AreKeysOf}
-use Rattle.gl_groups.proofs.SlotNet.{bits_opened, keys_add, keys_may, regs_are}
+use Rattle.gl_groups.proofs.SeenNet.{keys_add, keys_may, regs_are}
+use Rattle.gl_groups.proofs.SlotNet.{bits_opened}
 use Rattle.gl_groups.proofs.slots.keep_keys.Goals as goal
 
 pub seek_key-requires-clause-used : goal.seek_key-requires-clause-used

@@ -1,4 +1,4 @@
-use Rattle.std.proofs.Common.{◌≡◌, ◌≤◌, ◌∷◌, List, length, subst, sym, ap, arith, ◌∙◌}
+use Rattle.std.proofs.Common.{◌≡◌, ◌*◌, ◌≤◌, ◌∷◌, List, length, subst, sym, ap, arith, ◌∙◌}
 use Rattle.std.specs.Prelude.{slice_index_or}
 use Rattle.gl_net.specs.declared.node.Bit.{Bit}
 use Rattle.gl_net.specs.declared.node.Bus.{Bus}
@@ -34,20 +34,20 @@ stage-requires-clause-eos c =
 pub stage-requires-clause-columns : goal.stage-requires-clause-columns
 stage-requires-clause-columns c =
     let keeps = keeps_then c.args.net.now c.numbers.new.net c.pick.new.net c.in_ok-places.ensures.keeps (keeps_then c.numbers.new.net c.same_each.new.net c.pick.new.net c.in_ok-lines.ensures.keeps c.in_ok-picked.ensures.keeps) in
-    let are : c.as_slice-4.result.now ≡ c.in_ok-picked.picked.bus ∷ c.args.out.now.wire.columns =
-    c.as_slice-4.ensures ∙ c.in_ok-columns.ensures ∙ ap (λ (l : List Bus). c.in_ok-picked.picked.bus ∷ l) c.as_slice-3.ensures in
+    let are : c.as_slice-4.result.now ≡ c.in_ok-picked.picked ∷ c.args.out.now.wire.columns =
+    c.as_slice-4.ensures ∙ c.in_ok-columns.ensures ∙ ap (λ (l : List Bus). c.in_ok-picked.picked ∷ l) c.as_slice-3.ensures in
     subst (AreBuses c.pick.new.net) (sym are)
-    (first_then c.pick.new.net c.in_ok-picked.picked.bus c.args.out.now.wire.columns c.in_ok-picked.ensures.bus (buses_kept c.args.net.now c.pick.new.net c.args.out.now.wire.columns keeps c.requires.wire.columns))
+    (first_then c.pick.new.net c.in_ok-picked.picked c.args.out.now.wire.columns c.in_ok-picked.ensures.bus (buses_kept c.args.net.now c.pick.new.net c.args.out.now.wire.columns keeps c.requires.wire.columns))
 
 pub returns : goal.returns
 returns c =
     let some : 1 ≤ length c.args.lane.now.keys = omega (arith, c.requires.grouping.some', c.requires.keys_count) in
-    let are : c.as_slice-4.result.now ≡ c.in_ok-picked.picked.bus ∷ c.args.out.now.wire.columns =
-    c.as_slice-4.ensures ∙ c.in_ok-columns.ensures ∙ ap (λ (l : List Bus). c.in_ok-picked.picked.bus ∷ l) c.as_slice-3.ensures in
+    let are : c.as_slice-4.result.now ≡ c.in_ok-picked.picked ∷ c.args.out.now.wire.columns =
+    c.as_slice-4.ensures ∙ c.in_ok-columns.ensures ∙ ap (λ (l : List Bus). c.in_ok-picked.picked ∷ l) c.as_slice-3.ensures in
     let lines = subst (λ (bs : List Bus). AddsLines c.numbers.new.net c.same_each.new.net (length bs) 1 c.in_ok-lines.lines (same_to c.args.out.now.slot bs)) c.as_slice.ensures c.in_ok-lines.ensures in
     let width = (slice_index_or c.as_slice-keys.result.now 0 (record { node = 0; width = 0 })).width in
-    let picked = subst (λ (bs : List Bus). PicksOne c.same_each.new.net c.pick.new.net c.in_ok-lines.lines bs width c.in_ok-picked.picked) c.as_slice-keys.ensures
-    (subst (λ (ls : List Bit). PicksOne c.same_each.new.net c.pick.new.net ls c.as_slice-keys.result.now width c.in_ok-picked.picked) c.as_slice-2.ensures c.in_ok-picked.ensures) in
+    let picked = subst (λ (bs : List Bus). PicksOne c.same_each.new.net c.pick.new.net c.in_ok-lines.lines bs width (length c.in_ok-lines.lines * 2) c.in_ok-picked.picked) c.as_slice-keys.ensures
+    (subst (λ (ls : List Bit). PicksOne c.same_each.new.net c.pick.new.net ls c.as_slice-keys.result.now width (length ls * 2) c.in_ok-picked.picked) c.as_slice-2.ensures c.in_ok-picked.ensures) in
     is_gathered c.args.net.now c.numbers.new.net c.same_each.new.net c.pick.new.net c.stage.new.net c.args.self.now c.args.lane.now c.args.out.now c.in_ok-places.places c.in_ok-lines.lines c.in_ok-picked.picked
     c.as_slice-4.result.now c.in_ok-wire.wire width c.slot_bits.result
     (first_width c.args.net.now c.args.lane.now.keys c.as_slice-keys.result.now (record { node = 0; width = 0 }) c.as_slice-keys.ensures some c.requires.keys)
