@@ -1,8 +1,6 @@
 -- Buses that carry values of another width.
-use Rattle.std.proofs.Common.{◌≡◌, ℕ, ◌+◌, ◌-◌, ◌*◌, ◌/◌, ◌%◌, ◌^◌, ◌<◌, ◌≤◌, true, false, sym, ap, subst, ◌∙◌, arith}
-use Rattle.std.specs.Prelude.{IsTrue}
+use Rattle.std.proofs.Common.{◌≡◌, ℕ, ◌+◌, ◌-◌, ◌*◌, ◌/◌, ◌%◌, ◌^◌, ◌<◌, ◌≤◌, sym, ap, subst, ◌∙◌, arith}
 use Rattle.std.proofs.Math.Nat.{mod-eq_of_lt}
-use Rattle.gl_bits.proofs.Bools.{and_left}
 use Rattle.gl_bits.proofs.KindLemmas.{text_cast}
 use Rattle.gl_bits.proofs.Wrapping.{fits_wider, cut_low}
 use Rattle.gl_bits.specs.Words.{join_of}
@@ -12,15 +10,14 @@ use Rattle.gl_net.specs.Net.{Net, IsBus, Keeps}
 use Rattle.gl_net.proofs.Determined.{keeps_then}
 use Rattle.gl_net.proofs.Values.{bus_fits}
 use Rattle.gl_wire.specs.Costs.{CostsAtMost, nodes_alone}
-use Rattle.gl_bits.specs.Kinds.{are_alike, can_cast, family_of, is_kind, same_family, width_of}
+use Rattle.gl_bits.specs.Kinds.{family_of, width_of}
 use Rattle.gl_bits.specs.Operators.{cast_of}
-use Rattle.gl_bits.specs.declared.kind.Family.{Family}
 use Rattle.gl_bits.specs.declared.kind.Family.TheVariants.{Numbers, Texts}
 use Rattle.gl_bits.specs.declared.kind.Kind.{Kind}
 use Rattle.gl_bits.specs.declared.kind.Kind.TheVariants.{Unsigned, Text}
 use Rattle.gl_rows.specs.Made.{AreHigh, AreLow, Carries, IsCast}
 use Rattle.gl_rows.proofs.CastLemmas.{high_cut, high_join}
-use Rattle.gl_rows.proofs.MadeLemmas.{carries_as}
+use Rattle.gl_rows.proofs.MadeLemmas.{carries_as, carries_within}
 
 module _ (old mid new : Net) (width : ℕ) (bus zeros b : Bus) (is : IsBus old bus) (more : bus.width < width)
     (none : Carries old mid 1 (width - bus.width) (λ run t. 0) zeros) (keeps : Keeps mid new) (cost : CostsAtMost mid new (nodes_alone 1)) (there : IsBus new b) where
@@ -86,23 +83,23 @@ module _ (old new : Net) (width : ℕ) (bus b : Bus) (is : IsBus old bus) (some 
 
 -- ---- casts
 
-no_cast : false ≡ true → ⊥
-no_cast e = cc
+no_family : Texts ≡ Numbers → ⊥
+no_family e = cc
 
 -- a number as another number
-pub low_casts : (old new : Net) (bus b : Bus) (from to : Kind) (width : ℕ) → width ≡ width_of to → family_of to ≡ Numbers
-    → IsTrue (can_cast from to) → AreLow old new width bus b → IsCast old new from to bus b
-low_casts old new bus b (Unsigned v) to width wide numbers can are = subst (λ (w : ℕ). AreLow old new w bus b) wide are
-low_casts old new bus b (Text n) to width wide numbers can are =
-    absurd (no_cast (subst (λ (f : Family). are_alike Texts f ≡ true) numbers (and_left (same_family (Text n) to) (is_kind to) can)))
+pub low_casts : (old new : Net) (bus b : Bus) (from to : Kind) (width : ℕ) → width ≡ width_of to → family_of from ≡ Numbers
+    → AreLow old new width bus b → IsCast old new from to bus b
+low_casts old new bus b (Unsigned v) to width wide numbers are =
+    carries_within old new 2 5 (width_of to) (λ run t. run.at t bus.node % 2 ^ width_of to) b (omega arith) (subst (λ (w : ℕ). AreLow old new w bus b) wide are)
+low_casts old new bus b (Text n) to width wide numbers are = absurd (no_family numbers)
 
 -- a text as another text
-pub high_casts : (old new : Net) (bus b : Bus) (from to : Kind) (width : ℕ) → width ≡ width_of to → family_of to ≡ Texts → bus.width ≡ width_of from
-    → IsTrue (can_cast from to) → AreHigh old new width bus b → IsCast old new from to bus b
-high_casts old new bus b (Unsigned v) to width wide texts same can are =
-    absurd (no_cast (subst (λ (f : Family). are_alike Numbers f ≡ true) texts (and_left (same_family (Unsigned v) to) (is_kind to) can)))
-high_casts old new bus b (Text n) to width wide texts same can are =
-    carries_as old new 2 (width_of to) (λ run t. run.at t bus.node / 2 ^ (bus.width - width_of to) * 2 ^ (width_of to - bus.width))
+pub high_casts : (old new : Net) (bus b : Bus) (from to : Kind) (width : ℕ) → width ≡ width_of to → family_of from ≡ Texts → bus.width ≡ width_of from
+    → AreHigh old new width bus b → IsCast old new from to bus b
+high_casts old new bus b (Unsigned v) to width wide texts same are = absurd (no_family (sym texts))
+high_casts old new bus b (Text n) to width wide texts same are =
+    carries_within old new 2 5 (width_of to) (λ run t. cast_of (Text n) to (run.at t bus.node)) b (omega arith)
+    (carries_as old new 2 (width_of to) (λ run t. run.at t bus.node / 2 ^ (bus.width - width_of to) * 2 ^ (width_of to - bus.width))
     (λ run t. cast_of (Text n) to (run.at t bus.node)) b
     (λ run r t. ap (λ (k : ℕ). run.at t bus.node / 2 ^ (k - width_of to) * 2 ^ (width_of to - k)) same ∙ text_cast n to (run.at t bus.node))
-    (subst (λ (w : ℕ). AreHigh old new w bus b) wide are)
+    (subst (λ (w : ℕ). AreHigh old new w bus b) wide are))

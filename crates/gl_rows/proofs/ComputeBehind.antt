@@ -1,7 +1,7 @@
 -- A wire's columns and the operations over them, behind a stage.
-use Rattle.std.proofs.Common.{◌≡◌, ℕ, List, ◌++◌, map, length, Some, refl, sym, ap, ◌∙◌, arith}
+use Rattle.std.proofs.Common.{◌≡◌, ℕ, ◌+◌, List, ◌++◌, map, length, length-append, Some, refl, sym, ap, ◌∙◌, arith}
 use Rattle.std.specs.List.{sum}
-use Rattle.std.proofs.lemmas.List.{map-append}
+use Rattle.std.proofs.lemmas.List.{length-map, map-append}
 use Rattle.gl_bits.specs.Kinds.{width_of}
 use Rattle.gl_bits.specs.declared.kind.Kind.{Kind}
 use Rattle.gl_algebra.specs.declared.node.ColOp.{ColOp}
@@ -28,6 +28,12 @@ module _ (old mid new : Net) (a : Emitted) (kinds : List Kind) (ops : List ColOp
       ap widths is ∙ widths-append a.wire.columns made ∙ ap (λ l. l ++ widths made) given ∙ ap (λ l. map width_of kinds ++ l) all.same_widths
       ∙ sym (map-append width_of kinds (map (kind_of_op kinds) ops))
 
+  -- each operation makes a column
+  many : length (computed_widths kinds ops) ≡ length kinds + length ops
+  many =
+      length-map (kinds ++ map (kind_of_op kinds) ops) width_of ∙ length-append kinds (map (kind_of_op kinds) ops)
+      ∙ ap (λ (n : ℕ). length kinds + n) (length-map ops (kind_of_op kinds))
+
   out_row : (run : Run) → IsRun mid run → (t : ℕ) → row_at run t columns ≡ computed kinds ops (row_at run t a.wire.columns)
   out_row run r t =
       ap (row_at run t) is ∙ row_at-append run t a.wire.columns made ∙ ap (λ l. row_at run t a.wire.columns ++ l) (all.row run r t)
@@ -37,7 +43,7 @@ module _ (old mid new : Net) (a : Emitted) (kinds : List Kind) (ops : List ColOp
   compute_behind w staged = record {
     keeps = keeps_then old mid new all.keeps staged.keeps;
     cost = record {
-      nodes = omega (arith, all.cost.nodes, staged.cost.nodes, ap length out_widths);
+      nodes = omega (arith, all.cost.nodes, staged.cost.nodes, ap length out_widths, many);
       registers = omega (arith, all.cost.registers, staged.cost.registers, ap sum out_widths);
       memories = omega (arith, all.cost.memories, staged.cost.memories);
     };

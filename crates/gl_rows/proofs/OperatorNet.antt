@@ -1,5 +1,5 @@
 -- A gate that takes two buses of a kind, as an operator.
-use Rattle.std.proofs.Common.{◌≡◌, ℕ, true, false, ap, ◌∙◌}
+use Rattle.std.proofs.Common.{◌≡◌, ℕ, true, false, ap, ◌∙◌, arith}
 use Rattle.gl_bits.specs.Kinds.{width_of}
 use Rattle.gl_bits.specs.Operators.{sort_of}
 use Rattle.gl_bits.specs.declared.kind.Kind.{Kind}
@@ -15,11 +15,14 @@ use Rattle.gl_rows.proofs.GateLemmas.{gate_value, gate_width, turned_value}
 
 module _ (old new : Net) (op : Op) (kind : Kind) (left right b : Bus) (fits : SortFits (sort_of op) kind) (keeps : Keeps old new)
     (cost : CostsAtMost old new (nodes_alone 1)) (there : IsBus new b) where
+  within : CostsAtMost old new (nodes_alone 4)
+  within = record { nodes = omega (arith, cost.nodes); registers = cost.registers; memories = cost.memories }
+
   pub operated : is_turned op ≡ false → left.width ≡ width_of kind → b.width ≡ binary_width (gate_of op) left.width
       → IsBinary new (gate_of op) left right b → IsOperated old new op kind left right b
   operated plain wide same value = record {
     keeps = keeps;
-    cost = cost;
+    cost = within;
     bus = there;
     same_width = same ∙ ap (binary_width (gate_of op)) wide ∙ gate_width op kind fits;
     carries = λ run r t.
@@ -31,7 +34,7 @@ module _ (old new : Net) (op : Op) (kind : Kind) (left right b : Bus) (fits : So
       → IsBinary new (gate_of op) right left b → IsOperated old new op kind left right b
   turned around wide same value = record {
     keeps = keeps;
-    cost = cost;
+    cost = within;
     bus = there;
     same_width = same ∙ ap (binary_width (gate_of op)) wide ∙ gate_width op kind fits;
     carries = λ run r t.

@@ -47,22 +47,22 @@ abbrev pub AreOperands : Net → Net → List Bus → List Kind → List Operand
 AreOperands old new columns kinds operands bs =
     AreMade old new 1 columns (kind_of_operand kinds) value_of_operand operands bs
 
--- the value of an operation, for three nodes at most: two literals and a gate
+-- the value of an operation, for six nodes at most: two literals and what an operator or a CAST takes
 abbrev pub IsOperation : Net → Net → List Bus → List Kind → ColOp → Bus → Type 0
 IsOperation old new columns kinds op b =
-    Carries old new 3 (width_of (kind_of_op kinds op)) (λ run t. value_of_op kinds (row_at run t columns) op) b
+    Carries old new 6 (width_of (kind_of_op kinds op)) (λ run t. value_of_op kinds (row_at run t columns) op) b
 
 abbrev pub AreOperations : Net → Net → List Bus → List Kind → List ColOp → List Bus → Type 0
-AreOperations old new columns kinds ops bs = AreMade old new 3 columns (kind_of_op kinds) (value_of_op kinds) ops bs
+AreOperations old new columns kinds ops bs = AreMade old new 6 columns (kind_of_op kinds) (value_of_op kinds) ops bs
 
--- the bus's value as another kind
+-- the bus's value as another kind, for five nodes at most
 abbrev pub IsCast : Net → Net → Kind → Kind → Bus → Bus → Type 0
-IsCast old new from to bus b = Carries old new 2 (width_of to) (λ run t. cast_of from to (run.at t bus.node)) b
+IsCast old new from to bus b = Carries old new 5 (width_of to) (λ run t. cast_of from to (run.at t bus.node)) b
 
--- what an operator gives of two buses of a kind
+-- what an operator gives of two buses of a kind, for four nodes at most
 abbrev pub IsOperated : Net → Net → Op → Kind → Bus → Bus → Bus → Type 0
 IsOperated old new op kind left right b =
-    Carries old new 1 (width_of (result_kind (sort_of op) kind))
+    Carries old new 4 (width_of (result_kind (sort_of op) kind))
     (λ run t. operate op kind (run.at t left.node) (run.at t right.node)) b
 
 -- the lowest bits of a bus, or all of them with zero bits above

@@ -1,10 +1,9 @@
 //! Casts.
 
 ghost use Rattle.std.specs.Prelude.{◌≡◌, ◌<◌, IfOk, IsTrue};
-ghost use Rattle.gl_bits.specs.Kinds.{IsKind, can_cast, width_of};
+ghost use Rattle.gl_bits.specs.Kinds.{can_cast, width_of};
 ghost use Rattle.gl_bits.specs.Words.{IsWidth};
 ghost use Rattle.gl_net.specs.Net.{IsBus};
-ghost use Rattle.gl_bits.specs.declared.kind.Kind.{Kind};
 ghost use Rattle.gl_rows.specs.Made.{AreHigh, AreLow, Carries, IsCast};
 
 use gl_bits::{Family, Kind, Memory, Word};
@@ -79,14 +78,15 @@ pub fn high_bits(net: &mut NetBuilder, bus: Bus, width: u8) -> Result<Bus, Memor
     Ok(high)
 }
 
-/// A value as another kind, whatever kind it is of: a number's lowest bits, a text's first bytes.
-pub fn put_cast(net: &mut NetBuilder, bus: Bus, to: Kind) -> Result<Bus, Memory>
+/// A value of a kind as another one: a number's lowest bits, a text's first bytes.
+#[tactic(auto, using(gl_bits::proofs::KindLemmas::cast_kind))]
+pub fn put_cast(net: &mut NetBuilder, bus: Bus, from: Kind, to: Kind) -> Result<Bus, Memory>
     requires bus { IsBus net.old bus }
-    requires kind { IsKind to }
-    ensures { (from : Kind) → bus.width ≡ width_of from → IsTrue (can_cast from to)
-        → IfOk result (IsCast net.old net.new from to bus) }
+    requires width { bus.width ≡ width_of from }
+    requires can { IsTrue (can_cast from to) }
+    ensures { IfOk result (IsCast net.old net.new from to bus) }
 {
-    match to.family() {
+    match from.family() {
         Family::Numbers => low_bits(net, bus, to.width()),
         Family::Texts => high_bits(net, bus, to.width()),
     }

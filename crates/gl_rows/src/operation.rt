@@ -4,7 +4,6 @@ ghost use Rattle.std.specs.Prelude.{◌≡◌, All, IfOk};
 ghost use Rattle.gl_algebra.specs.Columns.{OpFits, SortFits};
 ghost use Rattle.gl_bits.specs.Kinds.{width_of};
 ghost use Rattle.gl_bits.specs.Operators.{sort_of};
-ghost use Rattle.gl_bits.specs.declared.kind.Kind.{Kind};
 ghost use Rattle.gl_net.specs.Net.{IsBus};
 ghost use Rattle.gl_algebra.specs.declared.node.ColOp.TheVariants.{Binary, Cast, Not};
 ghost use Rattle.gl_rows.specs.Gates.{gate_of, is_turned};
@@ -12,6 +11,7 @@ ghost use Rattle.gl_rows.specs.Made.{AreOperations, IsOperated, IsOperation, IsS
 
 use crate::cast::put_cast;
 use crate::operand::{Source, put_operand};
+use gl_algebra::columns::kind_of_operand;
 use gl_algebra::{ColOp, Operand};
 use gl_bits::{Kind, Memory, Op};
 use gl_net::{BinaryOp, Bus, Buses, NetBuilder};
@@ -44,14 +44,23 @@ fn is_turned(op: Op) -> bool
     }
 }
 
-/// What an operator gives of two buses, whatever kind both are of.
-pub fn put_operator(net: &mut NetBuilder, op: Op, left: Bus, right: Bus) -> Result<Bus, Memory>
+/// What an operator gives of two buses of a kind.
+pub fn put_operator(
+    net: &mut NetBuilder,
+    op: Op,
+    kind: Kind,
+    left: Bus,
+    right: Bus,
+) -> Result<Bus, Memory>
     requires left { IsBus net.old left }
     requires right { IsBus net.old right }
-    requires widths { left.width ≡ right.width }
-    ensures { (kind : Kind) → left.width ≡ width_of kind → SortFits (sort_of op) kind
-        → IfOk result (IsOperated net.old net.new op kind left right) }
+    requires left_width { left.width ≡ width_of kind }
+    requires right_width { right.width ≡ width_of kind }
+    requires fits { SortFits (sort_of op) kind }
+    ensures { IfOk result (IsOperated net.old net.new op kind left right) }
 {
+    // Named, since the clauses alone speak of it.
+    let _ = kind;
     if is_turned(op) {
         let bus = net.binary(gate_of(op), right, left)?;
         return Ok(bus);
@@ -81,7 +90,8 @@ fn put_as(net: &mut NetBuilder, source: Source, operand: Operand, kind: Kind) ->
         source.entry.columns.now source.entry.kinds.now (Cast operand kind)) }
 {
     let arg = put_operand(net, source, operand)?;
-    let bus = put_cast(net, arg, kind)?;
+    let from = kind_of_operand(source.kinds, &operand);
+    let bus = put_cast(net, arg, from, kind)?;
     Ok(bus)
 }
 
@@ -100,7 +110,8 @@ fn put_binary(
 {
     let first = put_operand(net, source, left)?;
     let second = put_operand(net, source, right)?;
-    let bus = put_operator(net, op, first, second)?;
+    let kind = kind_of_operand(source.kinds, &left);
+    let bus = put_operator(net, op, kind, first, second)?;
     Ok(bus)
 }
 

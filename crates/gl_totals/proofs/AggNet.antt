@@ -1,6 +1,5 @@
 -- Aggregates of rows, from totals of values.
 use Rattle.std.proofs.Common.{◌≡◌, ℕ, suc, ◌+◌, ◌-◌, ◌*◌, ◌%◌, ◌^◌, ◌≤◌, List, map, refl, ap, ◌∙◌, arith}
-use Rattle.std.proofs.Math.Nat.{mul-le-mul_left}
 use Rattle.gl_bits.specs.Kinds.{width_of}
 use Rattle.gl_bits.specs.Results.{Row}
 use Rattle.gl_bits.specs.Totals.{count_of, greatest_of, least_of}
@@ -25,14 +24,15 @@ use Rattle.gl_totals.proofs.KeepLemmas.{lag_small}
 use Rattle.gl_totals.proofs.ValueLemmas.{values_many}
 
 -- a total of an operand's values
-pub agg_is : (old mid new : Net) (s : Stream) (operand : Operand) (agg : PlanAgg) (x out : Bus) (most : Cost) (width cycles : ℕ) (total : List ℕ → ℕ)
+pub agg_is : (old mid new : Net) (s : Stream) (operand : Operand) (agg : PlanAgg) (x out : Bus) (most : Cost) (width stages cycles : ℕ) (total : List ℕ → ℕ)
     → IsValueOf old mid s operand x → IsTotalOf mid new most width cycles s.rows x total out
-    → most.nodes + 1 ≤ weight_of_agg s.source.kinds.now agg + 5 * lag_of s.rows.keep → most.registers ≤ state_of_agg s.source.kinds.now agg
+    → most.nodes + 1 ≤ stages + weight_of_agg s.source.kinds.now agg + 5 * lag_of s.rows.keep
+    → most.registers ≤ state_of_agg s.source.kinds.now agg + width_of (kind_of_agg s.source.kinds.now agg) * stages
     → most.memories ≤ slot_words s.rows.keep * kept_of_agg s.source.kinds.now agg
     → width_of (kind_of_operand s.source.kinds.now operand) ≡ operand_of_agg s.source.kinds.now agg
     → width ≡ width_of (kind_of_agg s.source.kinds.now agg)
-    → ((rows : List Row) → total (map (λ row. value_of_operand row operand) rows) ≡ total_of s.source.kinds.now rows agg) → IsAggOf old new 0 cycles s agg out
-agg_is old mid new s operand agg x out most width cycles total value h nodes registers memories bits wide same =
+    → ((rows : List Row) → total (map (λ row. value_of_operand row operand) rows) ≡ total_of s.source.kinds.now rows agg) → IsAggOf old new stages cycles s agg out
+agg_is old mid new s operand agg x out most width stages cycles total value h nodes registers memories bits wide same =
     let held : lag_of s.rows.keep * width_of (kind_of_operand s.source.kinds.now operand) ≡ lag_of s.rows.keep * operand_of_agg s.source.kinds.now agg =
     ap (λ (w : ℕ). lag_of s.rows.keep * w) bits in
     record {
@@ -60,18 +60,22 @@ count_is old new s x out h = record {
   carries = λ run r told t fresh. h.carries run r told t fresh ∙ ap (λ (n : ℕ). n % 2 ^ 32) (values_many run s x (suc t));
 }
 
+side_by_side : (w m n : ℕ) → w * m + w * n ≡ w * (m + n)
+side_by_side w m n = omega arith
+
 -- some cycles later
-pub agg_later : (old mid new : Net) (s : Stream) (agg : PlanAgg) (early out : Bus) (gone cycles : ℕ) → gone ≤ cycles → IsAggOf old mid 0 gone s agg early
+pub agg_later : (old mid new : Net) (s : Stream) (agg : PlanAgg) (early out : Bus) (gone cycles : ℕ) → gone ≤ cycles → IsAggOf old mid gone gone s agg early
     → IsBusBehind mid new (cycles - gone) early out → IsAggOf old new cycles cycles s agg out
 agg_later old mid new s agg early out gone cycles le h later =
     let width = width_of (kind_of_agg s.source.kinds.now agg) in
     let bits : early.width * (cycles - gone) ≡ width * (cycles - gone) = ap (λ (w : ℕ). w * (cycles - gone)) h.same_width in
-    let fewer : width * (cycles - gone) ≤ width * cycles = mul-le-mul_left width (omega arith) in
+    let whole : gone + (cycles - gone) ≡ cycles = omega (arith, le) in
+    let parts : width * gone + width * (cycles - gone) ≡ width * cycles = side_by_side width gone (cycles - gone) ∙ ap (λ (n : ℕ). width * n) whole in
     record {
       keeps = keeps_then old mid new h.keeps later.keeps;
       cost = record {
-        nodes = omega (arith, h.cost.nodes, later.cost.nodes);
-        registers = omega (arith, h.cost.registers, later.cost.registers, bits, fewer);
+        nodes = omega (arith, h.cost.nodes, later.cost.nodes, whole);
+        registers = omega (arith, h.cost.registers, later.cost.registers, bits, parts);
         memories = omega (arith, h.cost.memories, later.cost.memories);
       };
       bus = later.bus;
@@ -89,9 +93,9 @@ pub extreme_is : (old mid new : Net) (s : Stream) (operand : Operand) (extreme :
     → IsAggOf old new 0 0 s (agg_of_extreme extreme operand) out
 extreme_is old mid new s operand Least x out value h =
     let bits = ap (λ (w : ℕ). slot_words s.rows.keep * (w + 1)) value.same_width in
-    agg_is old mid new s operand (Min operand) x out (cost_of_extreme s.rows.keep x.width) x.width 0 (least_of (kind_of_operand s.source.kinds.now operand)) value h
+    agg_is old mid new s operand (Min operand) x out (cost_of_extreme s.rows.keep x.width) x.width 0 0 (least_of (kind_of_operand s.source.kinds.now operand)) value h
     (omega (arith, lag_small s.rows.keep)) (omega (arith, value.same_width)) (omega (arith, bits)) refl value.same_width (λ rows. refl)
 extreme_is old mid new s operand Greatest x out value h =
     let bits = ap (λ (w : ℕ). slot_words s.rows.keep * (w + 1)) value.same_width in
-    agg_is old mid new s operand (Max operand) x out (cost_of_extreme s.rows.keep x.width) x.width 0 (greatest_of (kind_of_operand s.source.kinds.now operand)) value h
+    agg_is old mid new s operand (Max operand) x out (cost_of_extreme s.rows.keep x.width) x.width 0 0 (greatest_of (kind_of_operand s.source.kinds.now operand)) value h
     (omega (arith, lag_small s.rows.keep)) (omega (arith, value.same_width)) (omega (arith, bits)) refl value.same_width (λ rows. refl)

@@ -22,39 +22,41 @@ abbrev pub slot_words : Keep → ℕ
 slot_words Register = 0
 slot_words (Slots first slot next) = 2 ^ slot.width
 
--- a register of this width that folds the open stream; that of each slot takes six nodes more, and a word as wide
-abbrev pub cost_of_fold : Keep → ℕ → Cost
-cost_of_fold keep width =
-    record { nodes = 7 + 6 * lag_of keep; registers = width; memories = slot_words keep * width }
+-- a register of this width that folds the open stream by a step of so many nodes; that of each slot takes six nodes
+-- more, and a word as wide
+abbrev pub cost_of_fold : Keep → ℕ → ℕ → Cost
+cost_of_fold keep step width =
+    record { nodes = 4 + step + 6 * lag_of keep; registers = width; memories = slot_words keep * width }
 
 -- a constant and a fold
 abbrev pub cost_of_count : Keep → Cost
-cost_of_count keep = record { nodes = 8 + 6 * lag_of keep; registers = 32; memories = slot_words keep * 32 }
+cost_of_count keep = record { nodes = 6 + 6 * lag_of keep; registers = 32; memories = slot_words keep * 32 }
 
--- a fold of values, and one that tells whether there was one
+-- a fold of values by six nodes, and one that tells whether there was one
 abbrev pub cost_of_extreme : Keep → ℕ → Cost
 cost_of_extreme keep width =
-    record { nodes = 14 + 12 * lag_of keep; registers = width + 1; memories = slot_words keep * (width + 1) }
+    record { nodes = 15 + 12 * lag_of keep; registers = width + 1; memories = slot_words keep * (width + 1) }
 
--- a sum and a count
+-- a sum of values that five nodes extend, and a count
 abbrev pub cost_of_fraction : Keep → ℕ → Cost
 cost_of_fraction keep width =
-    record { nodes = 17 + 12 * lag_of keep; registers = width + 64; memories = slot_words keep * (width + 64) }
+    record { nodes = 16 + 12 * lag_of keep; registers = width + 64; memories = slot_words keep * (width + 64) }
 
--- these, six gates and the divider, between two casts
+-- these, the sum's sign and what it is without it, six gates, the divider and the sign beside it, and the quotient with
+-- its sign in the width
 abbrev pub cost_of_average : Keep → ℕ → Cost
 cost_of_average keep width =
     let wide = width + 32 in
     record {
-      nodes = 29 + 12 * lag_of keep + 15 * wide;
-      registers = wide + 32 + (cost_of_stages wide wide 32).registers;
+      nodes = 35 + 12 * lag_of keep + 15 * wide + (width + 33);
+      registers = wide + 32 + (cost_of_stages wide wide 32).registers + (width + 33);
       memories = slot_words keep * (width + 64);
     }
 
 -- a fold of values, one of places, a product, and three nodes a weight
 abbrev pub cost_of_weighted : Keep → ℕ → ℕ → Cost
 cost_of_weighted keep width weights = record {
-  nodes = 16 + 12 * lag_of keep + 3 * weights;
+  nodes = 14 + 12 * lag_of keep + 3 * weights;
   registers = width + weights;
   memories = slot_words keep * (width + weights);
 }
@@ -68,7 +70,8 @@ kept_of_agg kinds (Max operand) = width_of (kind_of_operand kinds operand) + 1
 kept_of_agg kinds (Avg operand) = width_of (kind_of_operand kinds operand) + 64
 kept_of_agg kinds (Wsum operand weights) = width_of (kind_of_operand kinds operand) + length weights
 
--- the bits in which an aggregate keeps the open stream, and those of the divider of an average
+-- the bits in which an aggregate keeps the open stream, and those of the divider of an average; the sign beside it is
+-- counted with the stages
 abbrev pub state_of_agg : List Kind → PlanAgg → ℕ
 state_of_agg kinds Count = 32
 state_of_agg kinds (Sum operand) = width_of (kind_of_operand kinds operand)

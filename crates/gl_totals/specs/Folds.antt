@@ -34,7 +34,7 @@ is_better Greatest kind state x = is_below kind state x
 -- a bus of one bit that carries that
 abbrev pub IsBetter : Net → Net → Bus → Best → Bus → Type 0
 IsBetter old new state best out =
-    Carries old new 1 1 (λ run t. bit (is_better best.extreme best.kind (run.at t state.node)
+    Carries old new 4 1 (λ run t. bit (is_better best.extreme best.kind (run.at t state.node)
     (run.at t best.value.node))) out
 
 -- what is compared is in the netlist, for a state of this width
@@ -60,10 +60,17 @@ next_of (Keep best) run width t state =
 next_of Shift run width t state = with_bit width state false
 next_of Set run width t state = 1
 
+-- the nodes that it takes at most
+abbrev pub nodes_of : Step → ℕ
+nodes_of (Add value) = 1
+nodes_of (Keep best) = 6
+nodes_of Shift = 3
+nodes_of Set = 1
+
 -- a bus that carries that
 pub record IsNext (old new : Net) (state : Bus) (step : Step) (out : Bus) : Type 0 where
   pub keeps : Keeps old new
-  pub cost : CostsAtMost old new (nodes_alone 3)
+  pub cost : CostsAtMost old new (nodes_alone (nodes_of step))
   pub bus : IsBus new out
   pub same_width : out.width ≡ state.width
   pub value : (run : Run) → IsRun new run → (t : ℕ)
@@ -78,7 +85,7 @@ pub record IsFolded (run : Run) (width first : ℕ) (step : Step) (rows : Rows) 
 
 pub record IsFold (old new : Net) (width first : ℕ) (step : Step) (rows : Rows) (f : Fold) : Type 0 where
   pub keeps : Keeps old new
-  pub cost : CostsAtMost old new (cost_of_fold rows.keep width)
+  pub cost : CostsAtMost old new (cost_of_fold rows.keep (nodes_of step) width)
   pub before : IsBus new f.before
   pub before_width : f.before.width ≡ width
   pub now : IsBus new f.now

@@ -1,9 +1,9 @@
 -- The parts of a fold that keeps a state for each slot in a memory.
-use Rattle.std.specs.Prelude.{◌≡◌, ℕ, suc, ◌*◌, ◌^◌, Bool, if◌then◌else◌, ◌&&◌, ◌||◌, nat_eq}
+use Rattle.std.specs.Prelude.{◌≡◌, ℕ, suc, ◌+◌, ◌*◌, ◌^◌, Bool, if◌then◌else◌, ◌&&◌, ◌||◌, nat_eq}
 use Rattle.gl_net.specs.declared.node.Bit.{Bit}
 use Rattle.gl_net.specs.declared.node.Bus.{Bus}
 use Rattle.gl_net.specs.Net.{Net, Run, IsRun, IsBus, Keeps}
-use Rattle.gl_totals.specs.Folds.{next_of}
+use Rattle.gl_totals.specs.Folds.{next_of, nodes_of}
 use Rattle.gl_totals.specs.declared.fold.Fold.{Fold}
 use Rattle.gl_totals.specs.declared.fold.Step.{Step}
 use Rattle.gl_wire.specs.Costs.{Costs, CostsAtMost, nodes_alone}
@@ -13,7 +13,7 @@ use Rattle.gl_wire.specs.Wire.{line_at}
 pub record IsNow (old new : Net) (valid first : Bit) (word : Bus) (width initial : ℕ) (step : Step) (f : Fold)
     : Type 0 where
   pub keeps : Keeps old new
-  pub cost : CostsAtMost old new (nodes_alone 6)
+  pub cost : CostsAtMost old new (nodes_alone (3 + nodes_of step))
   pub before : IsBus new f.before
   pub before_width : f.before.width ≡ width
   pub now : IsBus new f.now

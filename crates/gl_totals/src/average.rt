@@ -1,7 +1,7 @@
 //! The average of the values of the open stream.
 
 ghost use Rattle.std.specs.Prelude.{◌≡◌, ◌+◌, ◌≤◌, IfOk};
-ghost use Rattle.gl_bits.specs.Kinds.{width_of};
+ghost use Rattle.gl_bits.specs.Kinds.{IsKind, width_of};
 ghost use Rattle.gl_bits.specs.Totals.{average_of};
 ghost use Rattle.gl_net.specs.Net.{IsBit, IsBus};
 ghost use Rattle.gl_totals.specs.Averages.{IsFraction, IsGuarded};
@@ -57,16 +57,18 @@ fn put_fraction(net: &mut NetBuilder, rows: Rows, value: Bus) -> Result<Fraction
 
 /// The sum of the values of a kind, in 32 bits more than the kind has, by their number; 0 where there is none. It comes 33 cycles later
 /// than the kind has bits.
-pub fn put_average(net: &mut NetBuilder, rows: Rows, value: Bus) -> Result<Bus, Memory>
+pub fn put_average(net: &mut NetBuilder, rows: Rows, kind: Kind, value: Bus) -> Result<Bus, Memory>
     requires valid { IsBit net.old rows.valid }
     requires eos { IsBit net.old rows.eos }
     requires keep { KeepFits net.old rows.keep }
     requires value { IsBus net.old value }
-    requires width { value.width ≤ 96 }
-    ensures { (kind : Kind) → value.width ≡ width_of kind
-        → IfOk result (IsTotalOf net.old net.new (cost_of_average rows.keep value.width) value.width
-        (value.width + 33) rows value (average_of kind)) }
+    requires kind { IsKind kind }
+    requires width { value.width ≡ width_of kind }
+    ensures { IfOk result (IsTotalOf net.old net.new (cost_of_average rows.keep value.width)
+        value.width (value.width + 33) rows value (average_of kind)) }
 {
+    // Named, since the clauses alone speak of it.
+    let _ = kind;
     let fraction = put_fraction(net, rows, value)?;
     let guarded = put_guarded(net, fraction)?;
     let quotient = divide(net, guarded.top, guarded.bottom, rows.eos)?;

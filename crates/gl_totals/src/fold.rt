@@ -84,8 +84,8 @@ fn put_better(net: &mut NetBuilder, state: Bus, best: Best) -> Result<Bus, Memor
     ensures { IfOk result (IsBetter net.old net.new state best) }
 {
     match best.extreme {
-        Extreme::Least => put_operator(net, Op::Lt, best.value, state),
-        Extreme::Greatest => put_operator(net, Op::Lt, state, best.value),
+        Extreme::Least => put_operator(net, Op::Lt, best.kind, best.value, state),
+        Extreme::Greatest => put_operator(net, Op::Lt, best.kind, state, best.value),
     }
 }
 

@@ -18,7 +18,7 @@ pub fn put_sum(net: &mut NetBuilder, rows: Rows, value: Bus) -> Result<Bus, Memo
     requires eos { IsBit net.old rows.eos }
     requires keep { KeepFits net.old rows.keep }
     requires value { IsBus net.old value }
-    ensures { IfOk result (IsTotalOf net.old net.new (cost_of_fold rows.keep value.width)
+    ensures { IfOk result (IsTotalOf net.old net.new (cost_of_fold rows.keep 1 value.width)
         value.width 0 rows value (sum_total value.width)) }
 {
     let fold = put_fold(net, rows, small_word(false, value.width), Step::Add(value))?;

@@ -85,11 +85,13 @@ fn put_average_of(net: &mut NetBuilder, stream: Stream, operand: Operand) -> Res
     requires stream { IsStream net.old stream }
     requires kinds { All IsKind stream.source.kinds.now }
     requires fits { AggFits stream.source.kinds.now (Avg operand) }
-    ensures { IfOk result (IsAggOf net.old net.new
-        0 (delay_of_agg stream.entry.source.kinds.now (Avg operand) - 1) stream.entry (Avg operand)) }
+    ensures { IfOk result (
+        let gone = delay_of_agg stream.entry.source.kinds.now (Avg operand) - 1 in
+        IsAggOf net.old net.new gone gone stream.entry (Avg operand)) }
 {
+    let kind = kind_of_operand(stream.source.kinds, &operand);
     let value = put_value(net, stream, operand)?;
-    let average = put_average(net, stream.rows, value)?;
+    let average = put_average(net, stream.rows, kind, value)?;
     Ok(average)
 }
 
@@ -114,8 +116,9 @@ fn put_early(net: &mut NetBuilder, stream: Stream, agg: &PlanAgg) -> Result<Bus,
     requires stream { IsStream net.old stream }
     requires kinds { All IsKind stream.source.kinds.now }
     requires fits { AggFits stream.source.kinds.now agg.now }
-    ensures { IfOk result (IsAggOf net.old net.new
-        0 (delay_of_agg stream.entry.source.kinds.now agg.now - 1) stream.entry agg.now) }
+    ensures { IfOk result (
+        let gone = delay_of_agg stream.entry.source.kinds.now agg.now - 1 in
+        IsAggOf net.old net.new gone gone stream.entry agg.now) }
 {
     match agg {
         PlanAgg::Count => put_count(net, stream.rows),

@@ -5,17 +5,17 @@ use Rattle.gl_rows.proofs.CastNet.{high_casts, low_casts}
 use Rattle.gl_rows.proofs.cast.put_cast.Goals as goal
 
 pub returns-in-Numbers : goal.returns-in-Numbers
-returns-in-Numbers c = λ from wide fits.
+returns-in-Numbers c =
     let old = c.args.net.now in
     let new = c.low_bits.new.net in
     let width = c.width.result in
-    IfOk-weaker c.low_bits.result (AreLow old new width c.args.bus) (IsCast old new from c.args.to c.args.bus)
-    (λ b. low_casts old new c.args.bus b from c.args.to width c.width.ensures (sym c.family.ensures ∙ c.in-Numbers.is) fits) c.low_bits.ensures
+    IfOk-weaker c.low_bits.result (AreLow old new width c.args.bus) (IsCast old new c.args.from c.args.to c.args.bus)
+    (λ b. low_casts old new c.args.bus b c.args.from c.args.to width c.width.ensures (sym c.family.ensures ∙ c.in-Numbers.is)) c.low_bits.ensures
 
 pub returns-in-Texts : goal.returns-in-Texts
-returns-in-Texts c = λ from wide fits.
+returns-in-Texts c =
     let old = c.args.net.now in
     let new = c.high_bits.new.net in
     let width = c.width-in-Texts.result in
-    IfOk-weaker c.high_bits.result (AreHigh old new width c.args.bus) (IsCast old new from c.args.to c.args.bus)
-    (λ b. high_casts old new c.args.bus b from c.args.to width c.width-in-Texts.ensures (sym c.family.ensures ∙ c.in-Texts.is) wide fits) c.high_bits.ensures
+    IfOk-weaker c.high_bits.result (AreHigh old new width c.args.bus) (IsCast old new c.args.from c.args.to c.args.bus)
+    (λ b. high_casts old new c.args.bus b c.args.from c.args.to width c.width-in-Texts.ensures (sym c.family.ensures ∙ c.in-Texts.is) c.requires.width) c.high_bits.ensures

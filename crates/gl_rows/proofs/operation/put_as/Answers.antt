@@ -1,16 +1,27 @@
+use Rattle.std.proofs.Common.{ap, sym, subst, ◌∙◌}
+use Rattle.std.specs.Prelude.{IsTrue}
 use Rattle.gl_algebra.specs.Columns.{kind_of_operand}
 use Rattle.gl_algebra.specs.Values.{value_of_operand}
-use Rattle.gl_bits.specs.Kinds.{width_of}
+use Rattle.gl_bits.specs.Kinds.{can_cast, width_of}
 use Rattle.gl_bits.specs.Operators.{cast_of}
+use Rattle.gl_bits.specs.declared.kind.Kind.{Kind}
 use Rattle.gl_wire.specs.Wire.{row_at}
+use Rattle.gl_rows.specs.Made.{IsCast}
 use Rattle.gl_rows.proofs.MadeLemmas.{carries_then}
 use Rattle.gl_rows.proofs.operation.put_as.Goals as goal
+
+pub put_cast-requires : goal.put_cast-requires
+put_cast-requires c = record {
+  bus = c.in_ok-arg.ensures.bus;
+  width = c.in_ok-arg.ensures.same_width ∙ ap width_of (sym c.kind_of_operand-from.ensures);
+  can = subst (λ (k : Kind). IsTrue (can_cast k c.args.kind)) (sym c.kind_of_operand-from.ensures) c.requires.fits.1;
+}
 
 pub returns : goal.returns
 returns c =
     let columns = c.args.source.columns.now in
     let from = kind_of_operand c.args.source.kinds.now c.args.operand in
     let arg = c.in_ok-arg.ensures in
-    carries_then c.args.net.now c.put_operand.new.net c.put_cast.new.net 1 2 (width_of from) (width_of c.args.kind)
+    carries_then c.args.net.now c.put_operand.new.net c.put_cast.new.net 1 5 (width_of from) (width_of c.args.kind)
     (λ run t. value_of_operand (row_at run t columns) c.args.operand) (cast_of from c.args.kind) c.in_ok-arg.arg c.in_ok-bus.bus arg
-    (c.in_ok-bus.ensures from arg.same_width c.requires.fits.1)
+    (subst (λ (k : Kind). IsCast c.put_operand.new.net c.put_cast.new.net k c.args.kind c.in_ok-arg.arg c.in_ok-bus.bus) c.kind_of_operand-from.ensures c.in_ok-bus.ensures)

@@ -1,10 +1,12 @@
-use Rattle.std.proofs.Common.{ap, sym, ◌∙◌}
-use Rattle.gl_algebra.specs.Columns.{kind_of_operand}
+use Rattle.std.proofs.Common.{ap, sym, subst, ◌∙◌}
+use Rattle.gl_algebra.specs.Columns.{SortFits, kind_of_operand}
 use Rattle.gl_algebra.specs.Values.{value_of_operand}
 use Rattle.gl_bits.specs.Kinds.{width_of}
 use Rattle.gl_bits.specs.Operators.{operate, result_kind, sort_of}
+use Rattle.gl_bits.specs.declared.kind.Kind.{Kind}
 use Rattle.gl_wire.specs.Wire.{row_at}
 use Rattle.gl_wire.proofs.ColumnLemmas.{bus_kept}
+use Rattle.gl_rows.specs.Made.{IsOperated}
 use Rattle.gl_rows.proofs.MadeLemmas.{carries_then2, source_kept}
 use Rattle.gl_rows.proofs.operation.put_binary.Goals as goal
 
@@ -18,7 +20,9 @@ pub put_operator-requires : goal.put_operator-requires
 put_operator-requires c = record {
   left = bus_kept c.put_operand.new.net c.put_operand-2.new.net c.in_ok-first.first c.in_ok-second.ensures.keeps c.in_ok-first.ensures.bus;
   right = c.in_ok-second.ensures.bus;
-  widths = c.in_ok-first.ensures.same_width ∙ ap width_of c.requires.fits.2 ∙ sym c.in_ok-second.ensures.same_width;
+  left_width = c.in_ok-first.ensures.same_width ∙ ap width_of (sym c.kind_of_operand-kind.ensures);
+  right_width = c.in_ok-second.ensures.same_width ∙ ap width_of (sym c.requires.fits.2 ∙ sym c.kind_of_operand-kind.ensures);
+  fits = subst (SortFits (sort_of c.args.op)) (sym c.kind_of_operand-kind.ensures) c.requires.fits.3;
 }
 
 pub returns : goal.returns
@@ -26,8 +30,9 @@ returns c =
     let columns = c.args.source.columns.now in
     let kinds = c.args.source.kinds.now in
     let kind = kind_of_operand kinds c.args.left in
-    carries_then2 c.args.net.now c.put_operand.new.net c.put_operand-2.new.net c.put_operator.new.net 1 1 1 (width_of kind)
+    carries_then2 c.args.net.now c.put_operand.new.net c.put_operand-2.new.net c.put_operator.new.net 1 1 4 (width_of kind)
     (width_of (kind_of_operand kinds c.args.right)) (width_of (result_kind (sort_of c.args.op) kind))
     (λ run t. value_of_operand (row_at run t columns) c.args.left) (λ run t. value_of_operand (row_at run t columns) c.args.right) (operate c.args.op kind)
     c.in_ok-first.first c.in_ok-second.second c.in_ok-bus.bus c.in_ok-first.ensures c.in_ok-second.ensures
-    (c.in_ok-bus.ensures kind c.in_ok-first.ensures.same_width c.requires.fits.3)
+    (subst (λ (k : Kind). IsOperated c.put_operand-2.new.net c.put_operator.new.net c.args.op k c.in_ok-first.first c.in_ok-second.second c.in_ok-bus.bus)
+    c.kind_of_operand-kind.ensures c.in_ok-bus.ensures)

@@ -10,7 +10,9 @@ use Rattle.gl_totals.proofs.AverageNet.{average_is}
 use Rattle.gl_totals.proofs.average.put_average.Goals as goal
 
 pub returns : goal.returns
-returns c = λ kind width.
+returns c =
+    let kind = c.args.kind in
+    let width = c.requires.width in
     let new = c.low_bits.new.net in
     let value = c.args.value in
     let fraction = c.in_ok-fraction.ensures in

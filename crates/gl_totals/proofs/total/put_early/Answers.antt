@@ -17,5 +17,5 @@ returns-in-Count c =
     let new = c.put_count.new.net in
     let s = c.args.stream in
     let x : Bus = record { node = s.rows.eos.node; width = 1 } in
-    subst (λ (agg : PlanAgg). IfOk c.put_count.result (IsAggOf old new 0 (delay_of_agg s.source.kinds.now agg - 1) s agg)) (sym c.in-Count.is)
+    subst (λ (agg : PlanAgg). IfOk c.put_count.result (IsAggOf old new (delay_of_agg s.source.kinds.now agg - 1) (delay_of_agg s.source.kinds.now agg - 1) s agg)) (sym c.in-Count.is)
     (IfOk-weaker c.put_count.result (IsTotalOf old new (cost_of_count s.rows.keep) 32 0 s.rows x count_of) (IsAggOf old new 0 0 s Count) (count_is old new s x) (c.put_count.ensures x))
