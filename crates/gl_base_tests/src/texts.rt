@@ -11,12 +11,15 @@ use crate::pieces::{bytes_of, number_before};
 use gl_bits::{Kind, Memory, Row, Word};
 use gl_schema::{Schema, read_schema};
 use gl_tuple_reader::read_tuples;
-use gl_tuples::{Beat, Beats, TupleFault, line_into};
+use gl_tuples::{BeatView, Beats, TupleFault, line_into};
 use std::alloc::Global;
 use std::io;
 
 // The schema of the tuple files.
 const SCHEMA: &[u8] = b"stream trades (symbol text4, price u32, volume u32); stream other (v u64);";
+
+/// Its streams.
+const STREAMS: usize = 2;
 
 // Prints the streams of a schema's text, or its fault.
 fn print_schema(rt: &HostRuntime, text: &[u8]) -> io::Result<()> {
@@ -49,12 +52,14 @@ fn beats_of(alloc: Global, text: &[u8]) -> Result<Beats, TupleFault> {
 }
 
 // Prints each beat of a tuple file, or its fault: the cycle, `#` and its record, and for each
-// stream `-` or the numbers of its row with their widths.
+// stream `-` or the numbers of its row.
 fn print_tuples(rt: &HostRuntime, text: &[u8]) -> io::Result<()> {
     match beats_of(rt.alloc(), text) {
         Ok(beats) => {
-            for beat in beats.as_slice() {
-                print_beat(rt, beat)?;
+            for at in 0..beats.len() {
+                if let Some(beat) = beats.get(at) {
+                    print_beat(rt, &beat)?;
+                }
             }
             println!(rt)
         }
@@ -62,26 +67,22 @@ fn print_tuples(rt: &HostRuntime, text: &[u8]) -> io::Result<()> {
     }
 }
 
-fn print_beat(rt: &HostRuntime, beat: &Beat) -> io::Result<()> {
-    let cycle = beat.cycle;
-    let number = beat.number;
+fn print_beat(rt: &HostRuntime, beat: &BeatView<'_>) -> io::Result<()> {
+    let cycle = beat.cycle();
+    let number = beat.number();
     print!(rt; "{cycle}#{number}")?;
-    for row in beat.rows.as_slice() {
-        match row {
+    for stream in 0..STREAMS {
+        match beat.row(stream) {
             Some(row) => print_row(rt, row)?,
             None => print!(rt; "-")?,
         }
     }
-    print!(rt; "{}", if beat.end { " end" } else { " " })
+    print!(rt; "{}", if beat.ends() { " end" } else { " " })
 }
 
-fn print_row(rt: &HostRuntime, row: &Row) -> io::Result<()> {
-    for at in 0..row.len() {
-        if let Some(word) = row.get(at) {
-            let bits = word.bits();
-            let width = word.width();
-            print!(rt; ":{bits}/{width}")?;
-        }
+fn print_row(rt: &HostRuntime, row: &[u64]) -> io::Result<()> {
+    for number in row {
+        print!(rt; ":{number}")?;
     }
     Ok(())
 }

@@ -77,7 +77,7 @@ pub fn load(alloc: Global, count: u32) -> Result<Loaded, Memory>
 {
     one_module();
     let compiled = compile_load(alloc)?;
-    let beats = load_beats(alloc, count)?;
+    let beats = load_beats(alloc, compiled.schema(), count)?;
     let lines = run(alloc, &compiled, &beats)?;
     let summary = summary_of(alloc, count, lines.bytes())?;
     Ok(Loaded { summary, compiled })

@@ -6,7 +6,7 @@ ghost use Rattle.gl_tuples.specs.Gaps.{plain_beat, plain_beats};
 ghost use Rattle.gl_load.specs.Tuples as spec;
 
 use gl_bits::{Listed, Memory, Row, Word};
-use gl_schema::text_number;
+use gl_schema::{Schema, text_number};
 use gl_tuples::{Beat, Beats};
 use std::alloc::Global;
 
@@ -63,12 +63,12 @@ fn load_beat(alloc: Global, count: u32, index: u32) -> Result<Beat, Memory>
 }
 
 /// The beats of so many tuples.
-pub(crate) fn load_beats(alloc: Global, count: u32) -> Result<Beats, Memory>
+pub(crate) fn load_beats(alloc: Global, schema: &Schema, count: u32) -> Result<Beats, Memory>
     ensures { IfOk result (λ beats. plain_beats beats ≡ spec.load_beats count) }
 {
-    let mut beats = Vec::new(alloc);
+    let mut beats = Beats::new(alloc, schema)?;
     for index in 0..count {
-        beats.push(load_beat(alloc, count, index)?)?;
+        beats.push(&load_beat(alloc, count, index)?)?;
     }
-    Ok(Beats::from_vec(beats))
+    Ok(beats)
 }

@@ -1,6 +1,6 @@
 -- One cycle made by a simulator, at a run over beats.
-use Rattle.std.proofs.Common.{◌≡◌, ℕ, suc, ◌+◌, ◌^◌, ◌<◌, Bool, List, map, length, Option, refl, sym, ap, ◌∙◌, subst, arith, add-one}
-use Rattle.std.specs.Prelude.{slice_index, unwrap_or}
+use Rattle.std.proofs.Common.{Bor, ◌≡◌, ℕ, zero, suc, ◌+◌, ◌^◌, ◌<◌, Bool, List, [], ◌∷◌, map, length, Option, Some, None, refl, sym, ap, ◌∙◌, subst, arith, add-one}
+use Rattle.std.specs.Prelude.{slice_get, slice_index, unwrap_or}
 use Rattle.std.specs.Option.{option_map}
 use Rattle.std.specs.List.{AllZip}
 use Rattle.gl_bits.proofs.AllLists.{length_map}
@@ -9,6 +9,8 @@ use Rattle.gl_bits.specs.Kinds.{width_of}
 use Rattle.gl_bits.specs.Words.{Word, widths_of}
 use Rattle.gl_schema.specs.declared.schema.Schema.{Schema}
 use Rattle.gl_schema.specs.Beats.{Beat, beat_at}
+use Rattle.gl_tuples.specs.declared.beats.Beat.{Beat as Read}
+use Rattle.gl_tuples.specs.Gaps.{plain_beat}
 use Rattle.gl_schema.specs.Ports.{IsStimulus, out_valid, out_eos, fault_group}
 use Rattle.gl_schema.specs.Seen.{Shown, shown, is_high, cycle_lines}
 use Rattle.gl_verilog.specs.Module.{Module, Nets, Memories, number_of}
@@ -32,6 +34,17 @@ use Rattle.gl_testbench.proofs.Outputs.{columns_read, columns_widths, columns_fi
 pub beat_values : (m : Module) (schema : Schema) (beats : List Beat) (n : ℕ) (o : Option Beat) (ps pins : List Pin) (values : List ℕ)
     → values ≡ map (with_beat o) ps → ps ≡ pins → o ≡ beat_at beats n → pins ≡ map (pin_at schema m.declarations) (inputs_of m) → values ≡ map (carried_at beats (suc n)) (map (pin_at schema m.declarations) (inputs_of m))
 beat_values m schema beats n o ps pins values e same due are = e ∙ ap (λ (x : Option Beat). map (with_beat x) ps) due ∙ ap (map (with_beat (beat_at beats n))) (same ∙ are)
+
+-- the place of a beat that there is
+pub get_below : (bs : List Read) (at : ℕ) (b : Read) → Some b ≡ slice_get bs at → at < length bs
+get_below [] at b e = absurd cc
+get_below (x ∷ bs) zero b e = omega arith
+get_below (x ∷ bs) (suc at) b e = let h : at < length bs = get_below bs at b e in omega (arith, h)
+
+-- a beat that is borrowed
+pub seen_beat : (r : Option (Bor Read)) (o : Option Read) → option_map (λ b. b.now) r ≡ o → option_map (λ b. plain_beat b.now) r ≡ option_map plain_beat o
+seen_beat None o e = ap (option_map plain_beat) e
+seen_beat (Some b) o e = ap (option_map plain_beat) e
 
 pub reset_values : (m : Module) (schema : Schema) (beats : List Beat) (ps pins : List Pin) (values : List ℕ)
     → values ≡ map at_reset ps → ps ≡ pins → pins ≡ map (pin_at schema m.declarations) (inputs_of m) → values ≡ map (carried_at beats 0) (map (pin_at schema m.declarations) (inputs_of m))

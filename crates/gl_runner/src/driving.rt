@@ -25,7 +25,7 @@ use gl_schema::Schema;
 use gl_sim::Sim;
 use gl_sim::room::{ports_of, zeros};
 use gl_testbench::{Pin, Shows, pins_at, set_beat, set_reset};
-use gl_tuples::Beat;
+use gl_tuples::{BeatView, Beats};
 use gl_verilog::Module;
 use gl_verilog::laws::valid_modules_run;
 use gl_verilog_orders::Start;
@@ -39,7 +39,7 @@ pub(crate) struct Task<'a> {
     pub schema: &'a Schema,
     /// The kinds by which the columns are printed.
     pub kinds: &'a [Kind],
-    pub beats: &'a [Beat],
+    pub beats: &'a Beats,
     pub start: Start,
     /// The cycles behind the last beat's in which the end is waited for.
     pub extra: u64,
@@ -101,35 +101,47 @@ fn pins_of(alloc: Global, schema: &Schema, design: &Module) -> Result<Vec<Pin>, 
     pins_at(alloc, schema, declarations, &ports)
 }
 
+// The place behind one of so many.
+fn behind(place: usize, many: usize) -> usize
+    requires { place < many }
+    ensures { result ≡ place + 1 }
+{
+    // Clauses alone speak of it.
+    let _ = many;
+    place + 1
+}
+
 // The beat of this cycle, and the place behind it.
-fn due<'a>(beats: &'a [Beat], next: &mut usize, cycle: u64) -> Option<&'a Beat>
+fn due<'a>(beats: &'a Beats, next: &mut usize, cycle: u64) -> Option<BeatView<'a>>
     requires { AreDue (plain_beats beats.now) next.old cycle }
-    ensures beat { option_map (λ b. plain_beat b.now) result
+    ensures beat { option_map plain_beat result
         ≡ beat_at (plain_beats beats.now) cycle }
     ensures due { AreDue (plain_beats beats.now) next.new (cycle + 1) }
 {
-    let beat = beats.get(*next)?;
-    if u64::from(beat.cycle) != cycle {
+    let Some(beat) = beats.get(*next) else {
+        return None;
+    };
+    if u64::from(beat.cycle()) != cycle {
         return None;
     }
-    *next += 1;
+    *next = behind(*next, beats.len());
     Some(beat)
 }
 
-fn cycle_of(beat: &Beat) -> u64
+fn cycle_of(beat: &BeatView<'_>) -> u64
     ensures cycle { result ≡ beat.now.cycle }
     ensures early { result ≤ 2 ^ 32 }
 {
-    u64::from(beat.cycle)
+    u64::from(beat.cycle())
 }
 
 // The cycle of the last beat.
-fn last_of(beats: &[Beat]) -> u64
+fn last_of(beats: &Beats) -> u64
     ensures cycle { result ≡ last_cycle (plain_beats beats.now) }
     ensures early { result ≤ 2 ^ 32 }
 {
-    match beats.last() {
-        Some(beat) => cycle_of(beat),
+    match beats.get(beats.len().saturating_sub(1)) {
+        Some(beat) => cycle_of(&beat),
         None => 0,
     }
 }
@@ -186,7 +198,7 @@ impl<'a> Drive<'a> {
     {
         let beat = due(self.task.beats, &mut self.next, self.cycle);
         let values = self.values.as_mut_slice();
-        set_beat(&self.pins, beat, values);
+        set_beat(&self.pins, beat.as_ref(), values);
         self.sim.step(values);
         self.cycle += 1;
         set_row(&self.sim, &self.shows.columns, &mut self.row);

@@ -69,7 +69,7 @@ pub fn execute_module<K: Sink>(
     let task = Task {
         schema,
         kinds,
-        beats: beats.as_slice(),
+        beats,
         start,
         extra: latency,
     };

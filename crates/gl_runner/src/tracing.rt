@@ -85,7 +85,7 @@ pub fn trace<K: Sink>(
     let task = Task {
         schema,
         kinds: &kinds,
-        beats: beats.as_slice(),
+        beats,
         start,
         extra: u64::from(extra),
     };

@@ -1,12 +1,12 @@
 -- The beat of a cycle, where the beats are taken in order.
-use Rattle.std.proofs.Common.{◌≡◌, ℕ, zero, suc, ◌+◌, ◌-◌, ◌<◌, ◌≤◌, inl, inr, List, [], ◌∷◌, drop, length, get_or, Option, Some, None, refl, sym, ap, ◌∙◌, subst, arith}
+use Rattle.std.proofs.Common.{◌≡◌, ℕ, zero, suc, ◌+◌, ◌-◌, ◌<◌, ◌≤◌, inl, inr, List, [], ◌∷◌, drop, length, Option, Some, None, refl, sym, ap, ◌∙◌, subst, arith}
 use Rattle.std.specs.Prelude.{slice_get}
 use Rattle.std.proofs.lemmas.Bool.Decides.{eqb_tells}
 use Rattle.gl_schema.specs.Beats.{Beat, AreInOrder, beat_at, last_cycle}
 use Rattle.gl_tuples.specs.Gaps.{plain_beat, plain_beats}
 use Rattle.gl_tuples.specs.declared.beats.Beat.{Beat as Rust}
 use Rattle.gl_bits.proofs.AllLists.{get_mapped}
-use Rattle.gl_sim.proofs.Settling.{drop_here, slice_get-at}
+use Rattle.gl_sim.proofs.Settling.{drop_here}
 use Rattle.gl_testbench.specs.Dues.{AreFrom, AreDue}
 
 pub other_beat : (b : Beat) (bs : List Beat) (k : ℕ) → (b.cycle ≡ k → ⊥) → beat_at (b ∷ bs) k ≡ beat_at bs k
@@ -49,14 +49,28 @@ due_later bs next n b d e c =
       due = record { same = λ k le. d.same k (omega (arith, le)); later = subst (AreFrom (n + 1)) (sym rest) beyond };
     }
 
-plain_at : (beats : List Rust) (next : ℕ) (b : Rust) → next < length beats → b ≡ get_or beats next b → slice_get (plain_beats beats) next ≡ Some (plain_beat b)
-plain_at beats next b lt e = get_mapped plain_beat beats next b (slice_get-at beats next b lt e)
+plain_at : (beats : List Rust) (next : ℕ) (b : Rust) → Some b ≡ slice_get beats next → slice_get (plain_beats beats) next ≡ Some (plain_beat b)
+plain_at beats next b e = get_mapped plain_beat beats next b (sym e)
 
-pub taken_here : (beats : List Rust) (next n : ℕ) (b : Rust) → AreDue (plain_beats beats) next n → next < length beats → b ≡ get_or beats next b → b.cycle ≡ n → AfterBeat (plain_beats beats) (next + 1) n (Some (plain_beat b))
-taken_here beats next n b d lt e c = due_here (plain_beats beats) next n (plain_beat b) d (plain_at beats next b lt e) c
+pub taken_here : (beats : List Rust) (next n : ℕ) (b : Rust) → AreDue (plain_beats beats) next n → Some b ≡ slice_get beats next → b.cycle ≡ n → AfterBeat (plain_beats beats) (next + 1) n (Some (plain_beat b))
+taken_here beats next n b d e c = due_here (plain_beats beats) next n (plain_beat b) d (plain_at beats next b e) c
 
-pub taken_later : (beats : List Rust) (next n : ℕ) (b : Rust) → AreDue (plain_beats beats) next n → next < length beats → b ≡ get_or beats next b → (b.cycle ≡ n → ⊥) → AfterBeat (plain_beats beats) next n None
-taken_later beats next n b d lt e c = due_later (plain_beats beats) next n (plain_beat b) d (plain_at beats next b lt e) c
+pub taken_later : (beats : List Rust) (next n : ℕ) (b : Rust) → AreDue (plain_beats beats) next n → Some b ≡ slice_get beats next → (b.cycle ≡ n → ⊥) → AfterBeat (plain_beats beats) next n None
+taken_later beats next n b d e c = due_later (plain_beats beats) next n (plain_beat b) d (plain_at beats next b e) c
+
+none_left : (beats : List Rust) (next : ℕ) → None ≡ slice_get beats next → drop next (plain_beats beats) ≡ []
+none_left [] zero e = refl
+none_left [] (suc next) e = refl
+none_left (b ∷ beats) zero e = absurd cc
+none_left (b ∷ beats) (suc next) e = none_left beats next e
+
+pub taken_none : (beats : List Rust) (next n : ℕ) → AreDue (plain_beats beats) next n → None ≡ slice_get beats next → AfterBeat (plain_beats beats) next n None
+taken_none beats next n d e =
+    let none : drop next (plain_beats beats) ≡ [] = none_left beats next e in
+    record {
+      beat = sym (d.same n (omega arith) ∙ ap (λ (bs : List Beat). beat_at bs n) none);
+      due = record { same = λ k le. d.same k (omega (arith, le)); later = subst (AreFrom (n + 1)) (sym none) tt };
+    }
 
 order_from : (b : Beat) (bs : List Beat) → AreInOrder (b ∷ bs) → AreFrom (b.cycle + 1) bs
 order_from b [] h = tt

@@ -8,7 +8,7 @@ ghost use Rattle.gl_testbench.specs.Carried.{at_reset, name_at, pin_at, with_bea
 use crate::pins::{Pin, pin_of, value_of};
 use gl_bits::Memory;
 use gl_schema::Schema;
-use gl_tuples::Beat;
+use gl_tuples::BeatView;
 use gl_verilog::Declaration;
 use std::alloc::Global;
 
@@ -50,7 +50,7 @@ pub fn set_reset(pins: &[Pin], values: &mut [u128])
 }
 
 /// Sets the values of the pins for a cycle of the file with this beat, or with none.
-pub fn set_beat(pins: &[Pin], beat: Option<&Beat>, values: &mut [u128])
+pub fn set_beat(pins: &[Pin], beat: Option<&BeatView<'_>>, values: &mut [u128])
     requires { length values.old ≡ length pins.now }
     ensures { values.new
         ≡ map (with_beat (option_map (λ b. plain_beat b.now) beat.entry)) pins.now }

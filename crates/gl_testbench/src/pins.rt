@@ -1,18 +1,17 @@
 //! Which port of a module is what: the inputs of the streams, and what shows the result.
 
 ghost use Rattle.std.specs.Prelude.{◌≡◌, ◌∷◌, [], ◌<◌, Some, map, option_map, IfOk, slice_index};
-ghost use Rattle.gl_bits.specs.Words.{bits_of};
 ghost use Rattle.gl_schema.specs.Ports.{out_valid, out_eos, fault_group};
 ghost use Rattle.gl_tuples.specs.Gaps.{plain_beat};
 ghost use Rattle.gl_verilog.specs.View.{declaration_of, module_of};
 ghost use Rattle.gl_verilog.specs.Module as spec;
-ghost use Rattle.gl_testbench.specs.Carried.{column_pin, stream_pin, pin_named, with_beat, row_among};
+ghost use Rattle.gl_testbench.specs.Carried.{column_pin, stream_pin, pin_named, with_beat};
 ghost use Rattle.gl_verilog_ports.specs.Profile as profile;
 ghost use Rattle.gl_testbench.specs.Benches.{columns_from, AreShows};
 
-use gl_bits::{Memory, Row};
+use gl_bits::Memory;
 use gl_schema::{Column, Schema, Stream};
-use gl_tuples::Beat;
+use gl_tuples::BeatView;
 use gl_verilog::{Declaration, Module};
 use gl_verilog_ports::{Ports, is_in_column, is_in_valid, ports_of, shows_column};
 use std::alloc::Global;
@@ -90,41 +89,31 @@ pub fn pin_of(schema: &Schema, name: &[u8]) -> Pin
     }
 }
 
-// The word of a column of a row.
-#[tactic(auto, using(crate::proofs::Words::word_none))]
-fn word_at(row: &Row, column: usize) -> u128
-    ensures { result ≡ slice_index (bits_of row.now) column }
+// The number of a column of a row.
+#[tactic(auto, using(crate::proofs::Words::number_steps))]
+fn number_at(row: &[u64], column: usize) -> u128
+    ensures { result ≡ slice_index row.now column }
 {
-    match row.get(column) {
-        Some(word) => word.bits(),
+    match row.get(column).copied() {
+        Some(number) => u128::from(number),
         None => 0,
     }
 }
 
-// The row of a stream in a beat.
-fn row_of(beat: &Beat, stream: usize) -> Option<&Row>
-    ensures { option_map (λ r. bits_of r.now) result ≡ row_among (plain_beat beat.now).rows stream }
-{
-    match beat.rows.as_slice().get(stream) {
-        Some(Some(row)) => Some(row),
-        _ => None,
-    }
-}
-
 /// What a pin carries in a file cycle with this beat, or with none.
-pub fn value_of(pin: Pin, beat: Option<&Beat>) -> u128
+pub fn value_of(pin: Pin, beat: Option<&BeatView<'_>>) -> u128
     ensures { result ≡ with_beat (option_map (λ b. plain_beat b.now) beat.entry) pin }
 {
     let Some(beat) = beat else {
         return 0;
     };
     match pin {
-        Pin::Valid(stream) => u128::from(row_of(beat, stream).is_some()),
-        Pin::Column(stream, column) => match row_of(beat, stream) {
-            Some(row) => word_at(row, column),
+        Pin::Valid(stream) => u128::from(beat.row(stream).is_some()),
+        Pin::Column(stream, column) => match beat.row(stream) {
+            Some(row) => number_at(row, column),
             None => 0,
         },
-        Pin::End => u128::from(beat.end),
+        Pin::End => u128::from(beat.ends()),
         Pin::Reset | Pin::Unknown => 0,
     }
 }

@@ -1,6 +1,6 @@
 //! Records, one after another, made into beats.
 
-ghost use Rattle.std.specs.Prelude.{◌≡◌, ◌+◌, ◌<◌, ◌^◌, length, replicate, None, Ok};
+ghost use Rattle.std.specs.Prelude.{◌≡◌, ◌+◌, ◌<◌, ◌^◌, length, replicate, None, Ok, IfOk};
 ghost use Rattle.gl_schema.specs.Schemas.{IsSchema};
 ghost use Rattle.gl_tuple_reader.specs.Entries.{Gives};
 ghost use Rattle.gl_tuple_reader.specs.Filing as spec;
@@ -9,7 +9,7 @@ ghost use Rattle.csv.specs.Records.{fields_of};
 use crate::entry::Entry;
 use crate::record::{check_text, cycle_of, entry_of};
 use csv::ByteRecord;
-use gl_bits::Listed;
+use gl_bits::Memory;
 use gl_schema::Schema;
 use gl_tuples::{Beat, Beats, StreamRows, TupleFault};
 use std::alloc::Global;
@@ -17,21 +17,21 @@ use std::alloc::Global;
 /// The beats of the records so far: those that are whole, and that of the last record.
 #[derive(Drop, Debug)]
 pub struct Filing {
-    pub whole: Listed<Beat>,
+    pub whole: Beats,
     pub current: Option<Beat>,
     pub records: u64,
 }
 
 impl Filing {
     /// Before the first record.
-    pub fn new(alloc: Global) -> Filing
-        ensures { result ≡ spec.no_records }
+    pub fn new(alloc: Global, schema: &Schema) -> Result<Filing, Memory>
+        ensures { IfOk result (λ filing. filing ≡ spec.no_records) }
     {
-        Filing {
-            whole: Listed::new(alloc),
+        Ok(Filing {
+            whole: Beats::new(alloc, schema)?,
             current: None,
             records: 0,
-        }
+        })
     }
 
     /// Adds a record, or answers the first rule that it breaks.
@@ -96,8 +96,8 @@ impl Filing {
             None => empty_beat(alloc, streams, 0, 0)?,
         };
         last.end = true;
-        whole.push(last)?;
-        Ok(Beats::from_vec(whole.into_vec()))
+        whole.push(&last)?;
+        Ok(whole)
     }
 }
 
@@ -125,11 +125,11 @@ fn check_cycle(current: &Option<Beat>, cycle: u32, number: u64) -> Result<(), Tu
 fn turned(
     alloc: Global,
     streams: usize,
-    whole: Listed<Beat>,
+    whole: Beats,
     current: Option<Beat>,
     cycle: u32,
     number: u64,
-) -> Result<(Listed<Beat>, Beat), TupleFault>
+) -> Result<(Beats, Beat), TupleFault>
     ensures { Gives result (Ok (
       spec.whole_before cycle whole current,
       spec.beat_of streams cycle
@@ -142,7 +142,7 @@ fn turned(
             if beat.cycle == cycle {
                 return Ok((whole, beat));
             }
-            whole.push(beat)?;
+            whole.push(&beat)?;
         }
         None => {}
     }

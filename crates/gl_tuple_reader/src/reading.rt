@@ -8,7 +8,7 @@ ghost use Rattle.gl_tuples.specs.declared.fault.TupleFault.{TupleFault};
 ghost use Rattle.gl_tuples.specs.declared.fault.TupleFault.TheVariants.{Memory, TooClose};
 ghost use Rattle.gl_tuple_reader.specs.FileBeats.{AreBeatsOf};
 ghost use Rattle.gl_tuple_reader.specs.Entries.{Gives};
-ghost use Rattle.gl_tuple_reader.specs.Filing.{IsFirstFault, beats_of, records_of};
+ghost use Rattle.gl_tuple_reader.specs.Filing.{IsFirstFault, beats_of, no_records, records_of};
 
 use crate::filing::Filing;
 use csv::ReaderBuilder;
@@ -29,18 +29,20 @@ pub fn read_tuples(alloc: Global, schema: &Schema, text: &[u8]) -> Result<Beats,
     // Which rule is the first that is broken, and by which record.
     ensures exact { Gives result (beats_of schema.now (records_of text.now)) }
 {
-    read(alloc, schema, text)
+    let filing = Filing::new(alloc, schema)?;
+    read(alloc, schema, filing, text)
 }
 
-fn read(alloc: Global, schema: &Schema, text: &[u8]) -> Result<Beats, TupleFault>
-    requires { IsSchema schema.now }
+fn read(alloc: Global, schema: &Schema, filing: Filing, text: &[u8]) -> Result<Beats, TupleFault>
+    requires schema { IsSchema schema.now }
+    requires empty { filing ≡ no_records }
     ensures { Gives result (beats_of schema.now (records_of text.now)) }
 {
     let reader = ReaderBuilder::new()
         .has_headers(false)
         .flexible(true)
         .from_reader(alloc, text);
-    let mut filing = Filing::new(alloc);
+    let mut filing = filing;
     for fields in reader.into_byte_records() {
         let Ok(fields) = fields else {
             return Err(TupleFault::Memory);

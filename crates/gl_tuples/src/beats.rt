@@ -1,11 +1,16 @@
 //! Beats: the cycles in which tuples come, and the end.
 
-ghost use Rattle.std.specs.Prelude.{◌≡◌, ◌+◌, ◌↔◌, length, nat_lt, IsOk};
-ghost use Rattle.gl_schema.specs.Beats.{KeepsGap};
-ghost use Rattle.gl_tuples.specs.Gaps.{close_answer, first_close, plain_beats};
+ghost use Rattle.std.specs.Prelude.{◌≡◌, ◌+◌, ◌↔◌, ◌++◌, ◌∷◌, [], ℕ, List, length, nat_lt, option_map, slice_get, IfOk, IsOk, OnOk};
+ghost use Rattle.gl_schema.specs.Beats.{KeepsGap, row_in};
+ghost use Rattle.gl_tuples.specs.Flat.{beats_in};
+ghost use Rattle.gl_tuples.specs.Gaps.{close_answer, first_close, plain_beat, plain_beats};
 
 use crate::fault::TupleFault;
-use gl_bits::{Listed, Row};
+use crate::flat::{Columns, push_rows, row_of};
+use gl_bits::limits::MOST_STREAMS;
+use gl_bits::{Listed, Memory, Row};
+use gl_schema::{Schema, Stream};
+use std::alloc::Global;
 use std::marker::Model;
 
 /// The rows of a beat: one entry for each stream.
@@ -26,41 +31,95 @@ pub struct Beat {
     pub end: bool,
 }
 
-/// Beats in order.
+/// What a beat has beside its rows.
+#[derive(Clone, Copy, Debug)]
+struct Head {
+    cycle: u32,
+    number: u32,
+    // The place of the first number of its rows.
+    first: u32,
+    // Bit k is 1 where stream k has a row.
+    present: u8,
+    tick: bool,
+    end: bool,
+}
+
+/// Beats in order, in two flat lists: 16 bytes for each, and 8 for each word of a row.
 #[derive(Drop, Debug)]
 pub struct Beats {
-    beats: Vec<Beat>,
+    // The bits of the columns of each stream, the same for all beats.
+    shape: Listed<Columns>,
+    heads: Vec<Head>,
+    numbers: Vec<u64>,
 }
 
 impl Model for Beats {
     ghost use Rattle.std.specs.Prelude.{List};
+    ghost use Rattle.std.specs.List.{AllByRecursion};
     ghost use Rattle.gl_tuples.specs.declared.beats.Beat.{Beat};
+    ghost use Rattle.gl_tuples.specs.Flat.{IsInside, beats_in};
 
     ghost Value = { List Beat };
 
-    ghost view = { λ b. b.beats.items };
+    ghost view = { λ b. beats_in b.shape b.numbers.items b.heads.items };
+
+    ghost invariant = { λ b. AllByRecursion (IsInside b.shape b.numbers.items) b.heads.items };
 }
 
 impl Beats {
-    /// The beats of a vector.
-    pub fn from_vec(beats: Vec<Beat>) -> Beats
-        ensures { result ≡ beats.items }
+    /// No beats yet, of this schema.
+    pub fn new(alloc: Global, schema: &Schema) -> Result<Beats, Memory>
+        ensures { IfOk result (λ beats. beats ≡ []) }
     {
-        Beats { beats }
+        Ok(Beats {
+            shape: shape_of(alloc, schema)?,
+            heads: Vec::new(alloc),
+            numbers: Vec::new(alloc),
+        })
+    }
+
+    /// Adds a beat at the end, unless memory runs out. That is also the answer where a row is none
+    /// of the schema, or the lists are full: they have room for 2^32 words, and records up to that
+    /// number.
+    pub fn push(&mut self, beat: &Beat) -> Result<(), Memory>
+        ensures { OnOk result (self.new ≡ self.old ++ beat.now ∷ []) }
+    {
+        let first = short_of(self.numbers.len() as u64)?;
+        let number = short_of(beat.number)?;
+        let rows = beat.rows.as_slice();
+        if rows.len() > MOST_STREAMS {
+            return Err(Memory);
+        }
+        let present = push_rows(self.shape.as_slice(), rows, &mut self.numbers)?;
+        self.heads.push(Head {
+            cycle: beat.cycle,
+            number,
+            first,
+            present,
+            tick: beat.tick,
+            end: beat.end,
+        })?;
+        Ok(())
     }
 
     /// The number of beats.
     pub fn len(&self) -> usize
         ensures { result ≡ length self.now }
     {
-        self.beats.len()
+        self.heads.len()
     }
 
-    /// The beats.
-    pub fn as_slice(&self) -> &[Beat]
-        ensures { result.now ≡ self.now }
+    /// The beat at a place; None exactly where the place is not below the length.
+    pub fn get(&self, at: usize) -> Option<BeatView<'_>>
+        ensures { result ≡ slice_get self.now at }
     {
-        self.beats.as_slice()
+        let head = *self.heads.get(at)?;
+        let (_, numbers) = self.numbers.as_slice().split_at(head.first as usize);
+        Some(BeatView {
+            shape: self.shape.as_slice(),
+            head,
+            numbers,
+        })
     }
 
     /// Whether each beat is at least `gap` cycles after the one before; else `TooClose` with the
@@ -69,26 +128,107 @@ impl Beats {
         ensures exact { result ≡ close_answer (first_close gap self.now) }
         ensures keeps { IsOk result ↔ KeepsGap gap (plain_beats self.now) }
     {
-        kept(self.beats.as_slice(), gap)
+        kept(self.heads.as_slice(), gap)
     }
 }
 
-fn kept(beats: &[Beat], gap: u32) -> Result<(), TupleFault>
-    ensures { result ≡ close_answer (first_close gap beats.now) }
+/// A beat among beats.
+#[derive(Drop, Debug)]
+pub struct BeatView<'a> {
+    shape: &'a [Columns],
+    head: Head,
+    // From its own first one on.
+    numbers: &'a [u64],
+}
+
+impl<'a> Model for BeatView<'a> {
+    ghost use Rattle.std.specs.Prelude.{◌≤◌, length};
+    ghost use Rattle.gl_tuples.specs.declared.beats.Beat.{Beat};
+    ghost use Rattle.gl_tuples.specs.Flat.{beat_in, rows_size};
+
+    ghost Value = { Beat };
+
+    ghost view = { λ b. beat_in b.shape.now b.numbers.now b.head };
+
+    ghost invariant = { λ b. rows_size b.shape.now b.head.present ≤ length b.numbers.now };
+}
+
+impl<'a> BeatView<'a> {
+    /// The cycle of the file.
+    pub fn cycle(&self) -> u32
+        ensures { result ≡ self.now.cycle }
+    {
+        self.head.cycle
+    }
+
+    /// The number of the first record of this cycle.
+    pub fn number(&self) -> u32
+        ensures { result ≡ self.now.number }
+    {
+        self.head.number
+    }
+
+    /// Whether the end comes.
+    pub fn ends(&self) -> bool
+        ensures { result ≡ self.now.end }
+    {
+        self.head.end
+    }
+
+    /// The numbers of the row of a stream, where it has one.
+    pub fn row(&self, stream: usize) -> Option<&[u64]>
+        ensures { option_map (λ r. r.now) result ≡ row_in stream (plain_beat self.now) }
+    {
+        row_of(self.shape, self.head.present, self.numbers, stream)
+    }
+}
+
+// The bits of the columns of each stream.
+fn shape_of(alloc: Global, schema: &Schema) -> Result<Listed<Columns>, Memory> {
+    let mut shape = Listed::new(alloc);
+    for stream in schema.streams.as_slice() {
+        shape.push(widths_of(alloc, stream)?)?;
+    }
+    Ok(shape)
+}
+
+// The bits of the columns of a stream.
+fn widths_of(alloc: Global, stream: &Stream) -> Result<Columns, Memory> {
+    let mut widths = Listed::new(alloc);
+    for column in stream.columns.as_slice() {
+        widths.push(column.kind.bits())?;
+    }
+    Ok(widths)
+}
+
+// A number as the lists have it.
+fn short_of(number: u64) -> Result<u32, Memory>
+    ensures { IfOk result (λ short. short ≡ number) }
+{
+    match u32::try_from(number) {
+        Ok(short) => Ok(short),
+        Err(_) => Err(Memory),
+    }
+}
+
+// Whether each is at least the gap after the one before.
+fn kept(beats: &[Head], gap: u32) -> Result<(), TupleFault>
+    ensures { (shape : List (List ℕ)) (numbers : List ℕ)
+        → result ≡ close_answer (first_close gap (beats_in shape numbers beats.now)) }
 {
     for at in 1..beats.len() {
         let beat = &beats[at];
         if is_close(&beats[at - 1], beat, gap) {
             return Err(TupleFault::TooClose {
-                number: beat.number,
+                number: u64::from(beat.number),
             });
         }
     }
     Ok(())
 }
 
-/// Whether a beat is nearer than the gap to the one before.
-fn is_close(before: &Beat, beat: &Beat, gap: u32) -> bool
+// Whether a beat is nearer than the gap to the one before.
+fn is_close(before: &Head, beat: &Head, gap: u32) -> bool
     ensures { result ≡ nat_lt beat.now.cycle (before.now.cycle + gap) }
 {
     u64::from(beat.cycle) < u64::from(before.cycle) + u64::from(gap)

@@ -7,9 +7,10 @@
 
 pub mod beats;
 pub mod fault;
+mod flat;
 pub mod line;
 pub mod value;
 
-pub use beats::{Beat, Beats, StreamRows};
+pub use beats::{Beat, BeatView, Beats, StreamRows};
 pub use fault::TupleFault;
 pub use line::line_into;

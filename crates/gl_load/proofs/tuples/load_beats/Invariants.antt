@@ -6,4 +6,4 @@ use Rattle.gl_load.proofs.tuples.load_beats.Given as goal
 
 -- the beats so far
 abbrev pub invariant-loop-index : goal.invariant-loop-index
-invariant-loop-index l = plain_beats l.beats.items ≡ map (load_beat l.count) (range_with_len 0 l.index)
+invariant-loop-index l = plain_beats l.beats ≡ map (load_beat l.count) (range_with_len 0 l.index)

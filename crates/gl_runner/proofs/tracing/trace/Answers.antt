@@ -3,7 +3,6 @@ use Rattle.std.specs.List.{AllByRecursion}
 use Rattle.gl_bits.specs.declared.kind.Kind.{Kind}
 use Rattle.gl_bits.specs.Kinds.{IsKind}
 use Rattle.gl_tuples.specs.Gaps.{plain_beats}
-use Rattle.gl_tuples.specs.declared.beats.Beat.{Beat}
 use Rattle.gl_verilog.specs.View.{module_of}
 use Rattle.gl_verilog_ports.proofs.Fits.{fits, numbered}
 use Rattle.gl_runner.specs.Cycles.{CanFollow}
@@ -26,9 +25,8 @@ follow_module-requires-clause-can g c =
     let m = module_of c.args.design in
     let schema = c.args.schema.now in
     let kinds : c.deref.result.now ≡ decimal_kinds m = c.deref.ensures.value ∙ c.in-Ok.ensures in
-    subst (λ (b : List Beat). CanFollow m schema c.deref.result.now (plain_beats b)) (sym c.as_slice.ensures)
-    (subst (λ (k : List Kind). CanFollow m schema k (plain_beats c.args.beats.now)) (sym kinds)
-    (can_trace m schema (plain_beats c.args.beats.now) c.requires.valid c.requires.inputs (fits m schema c.args.ports.now c.requires.valid.names c.requires.inputs c.requires.fits) c.requires.beats))
+    subst (λ (k : List Kind). CanFollow m schema k (plain_beats c.args.beats.now)) (sym kinds)
+    (can_trace m schema (plain_beats c.args.beats.now) c.requires.valid c.requires.inputs (fits m schema c.args.ports.now c.requires.valid.names c.requires.inputs c.requires.fits) c.requires.beats)
 
 pub follow_module-requires-clause-many : goal.follow_module-requires-clause-many
 follow_module-requires-clause-many g c =
@@ -55,8 +53,7 @@ returns-clause-lines g c =
     let kinds : c.deref.result.now ≡ decimal_kinds m = c.deref.ensures.value ∙ c.in-Ok.ensures in
     let beats = plain_beats c.args.beats.now in
     subst (λ (n : ℕ). Traced (OfRunsOf m schema beats start) (decimal_kinds m) beats n old new end') c.from.ensures
-    (subst (λ (k : List Kind). Traced (OfRunsOf m schema beats start) k beats c.from.result old new end') kinds
-    (subst (λ (b : List Beat). Traced (OfRunsOf m schema (plain_beats b) start) c.deref.result.now (plain_beats b) c.from.result old new end') c.as_slice.ensures c.follow_module.ensures))
+    (subst (λ (k : List Kind). Traced (OfRunsOf m schema beats start) k beats c.from.result old new end') kinds c.follow_module.ensures)
 
 pub returns-in_default-clause-run : goal.returns-in_default-clause-run
 returns-in_default-clause-run g c =

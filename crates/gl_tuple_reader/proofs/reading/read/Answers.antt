@@ -27,7 +27,7 @@ loop-fields-init c =
       fr.source,
       [],
       (sym fr.state, refl),
-      ap Ok (sym c.new-filing.ensures),
+      ap Ok (sym c.requires.empty),
     )
 
 pub take-requires-clause-counted : goal.take-requires-clause-counted

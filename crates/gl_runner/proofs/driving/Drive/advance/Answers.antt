@@ -11,7 +11,7 @@ use Rattle.gl_verilog.specs.View.{module_of}
 use Rattle.gl_testbench.specs.Benches.{AreShows}
 use Rattle.gl_testbench.proofs.Outputs.{columns_inside}
 use Rattle.gl_runner.specs.Cycles.{Driven, IsBefore, IsMade, design_of}
-use Rattle.gl_runner.proofs.Making.{beat_values, values_fit, columns_count, cycle_made}
+use Rattle.gl_runner.proofs.Making.{beat_values, seen_beat, values_fit, columns_count, cycle_made}
 use Rattle.gl_runner.proofs.driving.Drive.advance.Goals as goal
 
 pub step-requires : goal.step-requires
@@ -21,7 +21,7 @@ step-requires c =
     let schema = d.task.schema.now in
     let beats = plain_beats d.task.beats.now in
     values_fit m schema d.task.kinds.now beats (suc d.cycle) c.set_beat.new.values c.self.invariant.can
-    (beat_values m schema beats d.cycle (option_map (λ b. plain_beat b.now) c.due-beat.result) c.deref.result.now d.pins.items c.set_beat.new.values c.set_beat.ensures c.deref.ensures.value c.due-beat.ensures.beat c.self.invariant.bench.pins')
+    (beat_values m schema beats d.cycle (option_map (λ b. plain_beat b.now) c.as_ref.result) c.deref.result.now d.pins.items c.set_beat.new.values c.set_beat.ensures c.deref.ensures.value (seen_beat c.as_ref.result c.due-beat.result c.as_ref.ensures.value ∙ c.due-beat.ensures.beat) c.self.invariant.bench.pins')
 
 pub set_row-requires-clause-inside : goal.set_row-requires-clause-inside
 set_row-requires-clause-inside c =
@@ -47,7 +47,7 @@ returns-clause-made c = λ value word f.
     subst (λ (x : Driven). IsMade (design_of x) s' x.schema x.beats c.sample_of.result (bits_of c.set_row.new.row) x.cycle value word) c.self.view_is (
     cycle_made d.sim s' schema d.task.kinds.now beats d.cycle c.set_beat.new.values c.deref-2.result.now (widths_of d.row) (bits_of c.set_row.new.row) c.sample_of.result value word
     c.self.invariant.can c.step.ensures.design
-    (beat_values m schema beats d.cycle (option_map (λ b. plain_beat b.now) c.due-beat.result) c.deref.result.now d.pins.items c.set_beat.new.values c.set_beat.ensures c.deref.ensures.value c.due-beat.ensures.beat c.self.invariant.bench.pins')
+    (beat_values m schema beats d.cycle (option_map (λ b. plain_beat b.now) c.as_ref.result) c.deref.result.now d.pins.items c.set_beat.new.values c.set_beat.ensures c.deref.ensures.value (seen_beat c.as_ref.result c.due-beat.result c.as_ref.ensures.value ∙ c.due-beat.ensures.beat) c.self.invariant.bench.pins')
     c.step.ensures.follows c.self.invariant.widths
     (record {
       group = c.sample_of.ensures.group ∙ ap (λ (x : Module). is_high (port_of (module_of x) (λ t. nets_of s'.shown)) 0 fault_group) c.step.ensures.design;

@@ -1,0 +1,115 @@
+//! The rows of beats as numbers in one list: how they are added, and read again.
+
+ghost use Rattle.std.specs.Prelude.{◌≡◌, ◌≤◌, ◌<◌, ◌^◌, ◌++◌, ℕ, List, length, Some, slice_get, unwrap_or, option_map, IfOk, IfSome, OnOk};
+ghost use Rattle.gl_bits.specs.Words.{bits_of};
+ghost use Rattle.gl_tuples.specs.Flat.{RowAdded, RowsAdded, is_odd, row_size, rows_in, rows_size, words_in};
+
+use gl_bits::{Listed, Memory, Row};
+
+/// The bits of the columns of a stream.
+pub(crate) type Columns = Listed<u16>;
+
+// The number at a place of a row, where its word has these bits and 64 hold it.
+fn number_at(row: &Row, at: usize, width: u16) -> Option<u64>
+    ensures { IfSome result
+        (λ n. slice_get row.now at ≡ Some (record { bits = n; width = width })) }
+{
+    let word = row.get(at)?;
+    if u16::from(word.width()) != width {
+        return None;
+    }
+    u64::try_from(word.bits()).ok()
+}
+
+// Adds the numbers of a row, if it is one of these columns.
+fn push_words(columns: &[u16], row: &Row, numbers: &mut Vec<u64>) -> Result<(), Memory>
+    ensures added { OnOk result (numbers.new.items ≡ numbers.old.items ++ bits_of row.now) }
+    ensures fits { OnOk result ((more : List ℕ)
+        → words_in columns.now (bits_of row.now ++ more) ≡ row.now) }
+    ensures many { OnOk result (length columns.now ≡ length row.now) }
+    ensures kept { (more : List ℕ) × (numbers.new.items ≡ numbers.old.items ++ more) }
+{
+    if row.len() != columns.len() {
+        return Err(Memory);
+    }
+    for (at, width) in columns.iter().enumerate() {
+        let Some(number) = number_at(row, at, *width) else {
+            return Err(Memory);
+        };
+        numbers.push(number)?;
+    }
+    Ok(())
+}
+
+// Adds the numbers of the row of a stream, where it has one, and answers whether it has.
+fn push_row(columns: &[u16], row: &Option<Row>, numbers: &mut Vec<u64>) -> Result<bool, Memory>
+    ensures added { IfOk result
+        (RowAdded columns.now row.now numbers.old.items numbers.new.items) }
+    ensures kept { (more : List ℕ) × (numbers.new.items ≡ numbers.old.items ++ more) }
+{
+    match row {
+        Some(row) => {
+            push_words(columns, row, numbers)?;
+            Ok(true)
+        }
+        None => Ok(false),
+    }
+}
+
+/// Adds the numbers of the rows of a beat, and answers the number whose bits say which streams have
+/// one.
+pub(crate) fn push_rows(
+    shape: &[Columns],
+    rows: &[Option<Row>],
+    numbers: &mut Vec<u64>,
+) -> Result<u8, Memory>
+    requires { length rows.now ≤ 8 }
+    ensures added { IfOk result
+        (RowsAdded shape.now rows.now numbers.old.items numbers.new.items) }
+    ensures small { IfOk result (λ present. present < 2 ^ length rows.now) }
+    ensures kept { (more : List ℕ) × (numbers.new.items ≡ numbers.old.items ++ more) }
+{
+    match (shape.split_first(), rows.split_first()) {
+        (None, None) => Ok(0),
+        (Some((columns, others)), Some((row, rest))) => {
+            let comes = push_row(columns.as_slice(), row, numbers)?;
+            let later = push_rows(others, rest, numbers)?;
+            Ok(u8::from(comes) + 2 * later)
+        }
+        _ => Err(Memory),
+    }
+}
+
+// Whether the first stream has a row.
+fn comes_first(present: u8) -> bool
+    ensures { result ≡ is_odd present }
+{
+    present % 2 == 1
+}
+
+// How many numbers the row of a stream takes.
+fn size_of(columns: &[u16], comes: bool) -> usize
+    ensures { result ≡ row_size comes columns.now }
+{
+    if comes { columns.len() } else { 0 }
+}
+
+/// The numbers of the row of a stream, where it has one, among those of a beat.
+pub(crate) fn row_of<'a>(
+    shape: &[Columns],
+    present: u8,
+    numbers: &'a [u64],
+    stream: usize,
+) -> Option<&'a [u64]>
+    requires { rows_size shape.now present ≤ length numbers.now }
+    ensures { option_map (λ r. r.now) result ≡ option_map bits_of
+        (unwrap_or (slice_get (rows_in shape.now present numbers.now) stream) None) }
+{
+    let (columns, others) = shape.split_first()?;
+    let comes = comes_first(present);
+    let (row, rest) = numbers.split_at(size_of(columns.as_slice(), comes));
+    if stream > 0 {
+        return row_of(others, present / 2, rest, stream - 1);
+    }
+    if comes { Some(row) } else { None }
+}
