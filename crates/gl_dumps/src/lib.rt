@@ -1,0 +1,12 @@
+//! Value change dumps of the ports of a module: their text, and the result that one shows. After
+//! IEEE 1364-2005, clause 18, of which this is a part.
+#![tactic(auto)]
+
+pub mod fault;
+pub mod laws;
+pub mod outcome;
+pub mod writing;
+
+pub use fault::VcdFault;
+pub use outcome::Undump;
+pub use writing::{cycle, header, last_time};
