@@ -1,6 +1,7 @@
 -- What groups cost against what a plan counts.
-use Rattle.std.proofs.Common.{◌≡◌, ℕ, zero, suc, ◌+◌, ◌*◌, ◌≤◌, List, [], ◌∷◌, length, refl, arith}
-use Rattle.std.specs.Prelude.{slice_index}
+use Rattle.std.proofs.Common.{◌≡◌, ℕ, zero, suc, ◌+◌, ◌*◌, ◌^◌, ◌≤◌, List, [], ◌∷◌, length, Bool, true, false, refl, arith}
+use Rattle.std.specs.Prelude.{slice_index, nat_le, if◌then◌else◌}
+use Rattle.gl_algebra.specs.Cost.{least_exponent}
 use Rattle.gl_wire.specs.Counted.{AreNarrow}
 use Rattle.gl_wire.proofs.CountLemmas.{narrow_sum}
 use Rattle.gl_groups.specs.Costs.{GroupingsAreCounted}
@@ -9,6 +10,14 @@ narrow_at : (columns : List ℕ) (k : ℕ) → AreNarrow columns → slice_index
 narrow_at [] k h = omega arith
 narrow_at (w ∷ ws) zero h = h 0 0 (omega arith)
 narrow_at (w ∷ ws) (suc k) h = narrow_at ws k (λ i d l. h (suc i) d (omega (arith, l)))
+
+exponent_few : (more exponent depth : ℕ) → least_exponent more exponent depth ≤ more + exponent
+exponent_few zero exponent depth = omega arith
+exponent_few (suc more) exponent depth = by (nat_le depth (2 ^ exponent)) (exponent_few more (suc exponent) depth)
+  where
+    by : (b : Bool) → least_exponent more (suc exponent) depth ≤ more + suc exponent → (if b then exponent else least_exponent more (suc exponent) depth) ≤ suc more + exponent
+    by true rest = omega arith
+    by false rest = omega (arith, rest)
 
 pub groupings_are_counted : GroupingsAreCounted
 groupings_are_counted slots key source own hs ho =
@@ -20,7 +29,7 @@ groupings_are_counted slots key source own hs ho =
     let most : slots * (w + 3) ≤ slots * 67 = mul_more slots (w + 3) 67 (let n = narrow_at source key hs in omega (arith, n)) in
     record {
       nodes = omega (arith, each, lines);
-      registers = omega (arith, each, lines, most, narrow_sum source hs, narrow_sum own ho);
+      registers = omega (arith, each, lines, most, narrow_sum source hs, narrow_sum own ho, exponent_few slots 1 slots);
       memories = refl;
     }
   where

@@ -14,7 +14,7 @@ use Rattle.gl_groups.specs.Slots.{Slots, freed, keys_at, keys_now, of_slot, same
 
 -- ---- one of some lines
 
-any_there : (n : ℕ) (f : ℕ → Bool) → any_to n f ≡ true → (k : ℕ) × (k < n) × (f k ≡ true)
+pub any_there : (n : ℕ) (f : ℕ → Bool) → any_to n f ≡ true → (k : ℕ) × (k < n) × (f k ≡ true)
 any_there zero f h = absurd (cc)
 any_there (suc n) f h = elim (or_cases (any_to n f) (f n) h) [
   | inl a ↦ (let p = any_there n f a in (p.0, omega (arith, p.1), p.2))

@@ -22,7 +22,7 @@ use Rattle.gl_groups.specs.declared.parts.Flush.{Flush}
 use Rattle.gl_groups.specs.declared.parts.Tail.{Tail}
 use Rattle.gl_groups.specs.declared.slots.Seen.{Seen}
 use Rattle.gl_groups.specs.declared.slots.SlotLines.{SlotLines}
-use Rattle.gl_groups.specs.SlotLines.{AddsSlots, AreSlotLines, IsSeen, held_of, sought_at}
+use Rattle.gl_groups.specs.SlotLines.{AddsSlots, AreSlotLines, IsLatest, IsSeen, held_of, sought_at}
 use Rattle.gl_groups.specs.Fronts.{AddsChosen, AddsFront, AddsLooked, AddsLookup, AddsTurning, IsLooked, IsLookup, IsSettled, IsTurning, column_of, ends_of, takes_of, takes_row}
 use Rattle.gl_groups.specs.Groupings.{AreKeys}
 use Rattle.gl_groups.specs.Parts.{AddsFlush, AddsTail, IsFlush, IsTail, TakesOf}
@@ -34,16 +34,30 @@ use Rattle.gl_groups.proofs.SeekLemmas.{takes_last}
 use Rattle.gl_groups.proofs.SeenNet.{seen_kept}
 
 -- how what the slots make of a key hangs together
-pub settled_by : (run : Run) (n : ℕ) (s : ℕ → Sought) (r : Seen) → IsSeen run n s r → (t : ℕ) → IsSettled run n r t
-settled_by run n s r h t = record {
-  takes = λ k l.
-      h.takes k t l ∙ takes_last n (s t) k ∙ ap (λ b. b && not (any_to n (found (s t)))) (sym (h.nexts k t l)) ∙ ap (λ b. line_of run r.nexts k t && not b) (sym (h.one t));
-  has = λ k l. h.has k t l ∙ ap (λ b. b || takes n (s t) k) (sym (h.kept k t l)) ∙ ap (λ b. line_of run r.kept k t || b) (sym (h.takes k t l));
-  one = h.one t ∙ any_same n (found (s t)) (λ k. line_of run r.found k t) (λ k l. sym (h.found k t l));
+pub settled_by : (run : Run) (n : ℕ) (s : Sought) (r : Seen) (t : ℕ) → IsSeen run n s r t → IsSettled run n r t
+settled_by run n s r t h = record {
+  takes = λ k l. h.takes k l ∙ takes_last n s k ∙ ap (λ b. b && not (any_to n (found s))) (sym (h.nexts k l)) ∙ ap (λ b. line_of run r.nexts k t && not b) (sym h.one);
+  has = λ k l. h.has k l ∙ ap (λ b. b || takes n s k) (sym (h.kept k l)) ∙ ap (λ b. line_of run r.kept k t || b) (sym (h.takes k l));
+  one = h.one ∙ any_same n (found s) (λ k. line_of run r.found k t) (λ k l. sym (h.found k l));
 }
 
+-- the key of the row that comes, or else of the one that came last
+abbrev pub latest_key : Run → Wire → ℕ → Lookup → ℕ → ℕ
+latest_key run w key look c = column_of key (if line_at run w.valid c then row_at run c w.columns else row_at run c look.row)
+
+pub latest_is : (run : Run) (w : Wire) (key : ℕ) (look : Lookup) → IsLookup run w key look → IsLatest run w.valid look.here (latest_key run w key look)
+unfolding line_at
+latest_is run w key look is = record { comes = comes; stays = stays }
+  where
+    comes : (t : ℕ) → line_at run w.valid t ≡ true → latest_key run w key look t ≡ held_at 0 run look.here t
+    comes zero e = absurd (cc)
+    comes (suc t) e = ap (λ (b : Bool). column_of key (if b then row_at run (suc t) w.columns else row_at run (suc t) look.row)) e ∙ sym (is.here t)
+
+    stays : (t : ℕ) → line_at run w.valid (suc (suc t)) ≡ false → latest_key run w key look (suc (suc t)) ≡ latest_key run w key look (suc t)
+    stays t e = ap (λ (b : Bool). column_of key (if b then row_at run (suc (suc t)) w.columns else row_at run (suc (suc t)) look.row)) e ∙ ap (column_of key) (is.row t)
+
 module _ (run : Run) (w : Wire) (key count stride : ℕ) (f : Flush) (h : Tail) (look : Lookup) (r : SlotLines) (g : Turning)
-    (is_f : IsFlush run w.valid w.eos stride f) (is_h : IsTail run w.valid w.eos f.idle h) (is_look : IsLookup run w key look) (is_r : AreSlotLines run f.free w.valid look.value count r)
+    (is_f : IsFlush run w.valid w.eos stride f) (is_h : IsTail run w.valid w.eos f.idle h) (is_look : IsLookup run w key look) (is_r : AreSlotLines run f.free w.valid (latest_key run w key look) count r)
     (is_g : IsTurning run w.eos f.due count g) where
   abbrev looked : Looked
   looked = record { row = look.row; keys = r.keys; seen = r.seen; turns = g.turns; tail = h.tail }
@@ -70,12 +84,12 @@ module _ (run : Run) (w : Wire) (key count stride : ℕ) (f : Flush) (h : Tail) 
   x c = row_at run c w.columns
 
   abbrev y : ℕ → ℕ
-  y c = held_at 0 run look.value c
+  y = latest_key run w key look
 
   abbrev cycle : ℕ → Cycle
   cycle c = record { end = e c; valid = v c; row = x c; value = y c }
 
-  sought_is : (c : ℕ) → sought_at run r.used r.keys f.free w.valid look.value c ≡ sought_of (cycle c) (at c)
+  sought_is : (c : ℕ) → sought_at run r.used r.keys f.free w.valid y c ≡ sought_of (cycle c) (at c)
   sought_is c = ap (λ (b : Bool). record { used = λ k. line_of run r.used k c; key = λ k. held_of run r.keys k c; free = b; ask = v c; value = y c }) (is_f.free c)
 
   due_is : (c : ℕ) → line_at run f.due c ≡ due_of (cycle c) (at c)
@@ -85,15 +99,15 @@ module _ (run : Run) (w : Wire) (key count stride : ℕ) (f : Flush) (h : Tail) 
   ends_are k c l =
       ap (λ b. b && line_of run r.seen.has k c) (is_g.turn k c l)
       ∙ ap (λ b. ((e c || b) && nat_eq (if e c then count else held_at count run g.rest c) (count - k)) && line_of run r.seen.has k c) (due_is c)
-      ∙ ap (λ b. ((e c || due_of (cycle c) (at c)) && nat_eq (if e c then count else held_at count run g.rest c) (count - k)) && b) (is_r.seen.has k c l ∙ ap (λ s. has count s k) (sought_is c))
+      ∙ ap (λ b. ((e c || due_of (cycle c) (at c)) && nat_eq (if e c then count else held_at count run g.rest c) (count - k)) && b) ((is_r.seen c).has k l ∙ ap (λ s. has count s k) (sought_is c))
 
   tail_is : (c : ℕ) → line_at run h.tail c ≡ tail_of (cycle c) (at c)
   tail_is c = is_h.tail c ∙ ap (λ b. (e c && v c) || (b && line_at run h.held c)) (is_f.idle c)
 
   matches_are : (k c : ℕ) → k < count → (line_of run r.seen.found k c || line_of run r.seen.takes k c) ≡ matches count (sought_of (cycle c) (at c)) k
   matches_are k c l =
-      let s = sought_at run r.used r.keys f.free w.valid look.value c in
-      ap (λ b. b || line_of run r.seen.takes k c) (is_r.seen.found k c l) ∙ ap (λ b. found s k || b) (is_r.seen.takes k c l) ∙ ap (λ z. matches count z k) (sought_is c)
+      let s = sought_at run r.used r.keys f.free w.valid y c in
+      ap (λ b. b || line_of run r.seen.takes k c) ((is_r.seen c).found k l) ∙ ap (λ b. found s k || b) ((is_r.seen c).takes k l) ∙ ap (λ z. matches count z k) (sought_is c)
 
   takes_are : (k c : ℕ) → k < count → takes_of run w looked k c ≡ valid_of count (cycle c) (at c) k
   takes_are k c l =
@@ -106,13 +120,8 @@ module _ (run : Run) (w : Wire) (key count stride : ℕ) (f : Flush) (h : Tail) 
   row_step zero q = absurd (cc)
   row_step (suc c) q = is_look.row c
 
-  value_step : (c : ℕ) → (v c || line_at run f.flush c) ≡ true → y c ≡ column_of key (if v c then x c else row_at run c look.row)
-  unfolding line_at
-  value_step zero q = absurd (cc)
-  value_step (suc c) q = is_look.value c
-
   is_key : (c : ℕ) → v c ≡ true → y c ≡ column_of key (x c)
-  is_key c q = value_step c (rw q refl) ∙ rw q refl
+  is_key c q = ap (λ (b : Bool). column_of key (if b then x c else row_at run c look.row)) q
 
   steps : (c : ℕ) → Steps count stride (column_of key) (cycle c) (at c) (at (suc c))
   steps c = record {
@@ -123,7 +132,7 @@ module _ (run : Run) (w : Wire) (key count stride : ℕ) (f : Flush) (h : Tail) 
     wait = is_f.next_wait c ∙ ap (λ b. counted_down (stride - 1) (stride - 1) (e c) b (held_at 0 run f.wait c)) (is_f.idle c);
     held = is_h.next c;
     row = row_step c;
-    value = value_step c;
+    value = λ q. refl;
   }
 
   abbrev s : ℕ → Slots
@@ -162,14 +171,14 @@ module _ (run : Run) (w : Wire) (key count stride : ℕ) (f : Flush) (h : Tail) 
       ends = λ k c l. ends_are k c l ∙ end_is count stride (column_of key) some (s c) (at c) (mirrors c) (e c) (v c) (x c) (y c) (is_key c) k l;
       shown = keys_shown;
       further = λ c.
-          is_r.seen.passes c ∙ ap (λ z. asked count z count) (sought_is c)
+          (is_r.seen c).passes ∙ ap (λ z. asked count z count) (sought_is c)
           ∙ further_is count stride (column_of key) some (s c) (at c) (mirrors c) (e c) (v c) (x c) (y c) (is_key c);
     }
 
 -- one after another the parts look at the slots
-module _ (n0 n1 n2 n3 n4 n5 : Net) (w : Wire) (key count stride : ℕ) (some : 1 ≤ count) (f : Flush) (h : Tail) (look : Lookup) (r : SlotLines) (g : Turning)
+module _ (n0 n1 n2 n3 n4 n5 : Net) (w : Wire) (key count stride width : ℕ) (some : 1 ≤ count) (f : Flush) (h : Tail) (look : Lookup) (r : SlotLines) (g : Turning)
     (is_f : AddsFlush n0 n1 w.valid w.eos stride f) (is_h : AddsTail n1 n2 w.valid w.eos f.idle h) (is_look : AddsLookup n2 n3 w key look)
-    (is_r : AddsSlots n3 n4 f.free w.valid look.value count r) (is_g : AddsTurning n4 n5 w.eos f.due count g) where
+    (is_r : AddsSlots n3 n4 f.free w.valid look.here count width r) (is_g : AddsTurning n4 n5 w.eos f.due count g) where
   k45 : Keeps n4 n5
   k45 = is_g.keeps
 
@@ -185,10 +194,13 @@ module _ (n0 n1 n2 n3 n4 n5 : Net) (w : Wire) (key count stride : ℕ) (some : 1
   abbrev key_width : ℕ
   key_width = slice_index (widths w.columns) key
 
-  slots_bits : count * (look.value.width + 1) ≡ count * (key_width + 1)
-  slots_bits = ap (λ n. count * (n + 1)) is_look.value_width
+  slots_bits : count * (look.here.width + 1) ≡ count * (key_width + 1)
+  slots_bits = ap (λ n. count * (n + 1)) is_look.here_width
 
-  pub looked_are : AddsLooked n0 n5 key count stride w (record { row = look.row; keys = r.keys; seen = r.seen; turns = g.turns; tail = h.tail })
+  slot_lines : (run : Run) → IsRun n5 run → AreSlotLines run f.free w.valid (latest_key run w key look) count r
+  slot_lines run z = is_r.law run (k45.runs run z) (latest_key run w key look) (latest_is run w key look (is_look.law run (k35.runs run z)))
+
+  pub looked_are : AddsLooked n0 n5 key count stride width w (record { row = look.row; keys = r.keys; seen = r.seen; turns = g.turns; tail = h.tail })
   looked_are = record {
     keeps = keeps_then n0 n1 n5 is_f.keeps k15;
     cost = record {
@@ -199,25 +211,25 @@ module _ (n0 n1 n2 n3 n4 n5 : Net) (w : Wire) (key count stride : ℕ) (some : 1
     row_buses = buses_kept n3 n5 look.row k35 is_look.row_buses;
     row_widths = is_look.row_widths;
     keys_count = is_r.keys_count;
-    keys = λ k b e. (bus_kept n4 n5 b k45 (is_r.keys_there.each k b e), is_r.keys_width k b e ∙ is_look.value_width);
+    keys = λ k b e. (bus_kept n4 n5 b k45 (is_r.keys_there.each k b e), is_r.keys_width k b e ∙ is_look.here_width);
     look = record {
       seen = seen_kept n4 n5 count r.seen k45 is_r.are;
-      settled = λ run z. settled_by run count (sought_at run r.used r.keys f.free w.valid look.value) r.seen (is_r.law run (k45.runs run z)).seen;
+      settled = λ run z t. settled_by run count (sought_at run r.used r.keys f.free w.valid (latest_key run w key look) t) r.seen t ((slot_lines run z).seen t);
       turns_count = is_g.turns_count;
       turns = is_g.bits;
       tail = bit_kept n2 n5 h.tail k25 is_h.bit;
     };
     law = λ run z.
         looked_is run w key count stride f h look r g
-        (is_f.law run (k15.runs run z)) (is_h.law run (k25.runs run z)) (is_look.law run (k35.runs run z)) (is_r.law run (k45.runs run z)) (is_g.law run z) some;
+        (is_f.law run (k15.runs run z)) (is_h.law run (k25.runs run z)) (is_look.law run (k35.runs run z)) (slot_lines run z) (is_g.law run z) some;
   }
 
 -- lines of what the slots take and end, from those that are looked at
-pub chosen_are : (n0 n1 n2 n3 n4 : Net) (w : Wire) (key count stride : ℕ) (r : Looked) (ends ms takers : List Bit) → 1 ≤ count → AddsLooked n0 n1 key count stride w r
+pub chosen_are : (n0 n1 n2 n3 n4 : Net) (w : Wire) (key count stride width : ℕ) (r : Looked) (ends ms takers : List Bit) → 1 ≤ count → AddsLooked n0 n1 key count stride width w r
     → AddsLines n1 n2 (length r.turns) 1 ends (pairs Both r.turns r.seen.has) → AddsLines n2 n3 (length r.seen.found) 1 ms (pairs Either r.seen.found r.seen.takes)
-    → TakesOf n3 n4 w.valid w.eos r.tail ms ends takers → AddsChosen n0 n4 key count stride w (record { row = r.row; keys = r.keys; takes = takers; ends = ends; passes = r.seen.passes })
+    → TakesOf n3 n4 w.valid w.eos r.tail ms ends takers → AddsChosen n0 n4 key count stride width w (record { row = r.row; keys = r.keys; takes = takers; ends = ends; passes = r.seen.passes })
 unfolding pairs
-chosen_are n0 n1 n2 n3 n4 w key count stride r ends ms takers some a b c d =
+chosen_are n0 n1 n2 n3 n4 w key count stride width r ends ms takers some a b c d =
     let k34 = d.keeps in
     let k24 = keeps_then n2 n3 n4 c.keeps k34 in
     let k14 = keeps_then n1 n2 n4 b.keeps k24 in
@@ -256,10 +268,10 @@ chosen_are n0 n1 n2 n3 n4 w key count stride r ends ms takers some a b c d =
     }
 
 -- wires of what is chosen are a front
-pub fronts_are : (n0 n1 n2 n3 : Net) (w : Wire) (key count stride : ℕ) (r : Chosen) (ws : List Wire) (further : Bit) → AddsChosen n0 n1 key count stride w r
-    → AddsWires n1 n2 (length r.takes) r.takes r.ends r.row ws → IsLaterLine n2 n3 r.passes further → AddsFront n0 n3 key count stride w (record { wires = ws; keys = r.keys; further = further })
+pub fronts_are : (n0 n1 n2 n3 : Net) (w : Wire) (key count stride width : ℕ) (r : Chosen) (ws : List Wire) (further : Bit) → AddsChosen n0 n1 key count stride width w r
+    → AddsWires n1 n2 (length r.takes) r.takes r.ends r.row ws → IsLaterLine n2 n3 r.passes further → AddsFront n0 n3 key count stride width w (record { wires = ws; keys = r.keys; further = further })
 unfolding tuple_at line_at
-fronts_are n0 n1 n2 n3 w key count stride r ws further a b c =
+fronts_are n0 n1 n2 n3 w key count stride width r ws further a b c =
     let k13 = keeps_then n1 n2 n3 b.keeps c.keeps in
     let bits : count * (slice_index (widths w.columns) key + 3) ≡ count * (slice_index (widths w.columns) key + 1) + count * 2 = omega arith in
     record {

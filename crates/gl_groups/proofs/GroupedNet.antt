@@ -28,6 +28,7 @@ use Rattle.gl_groups.specs.Fronts.{AddsFront, IsFront}
 use Rattle.gl_groups.specs.Grouped.{Fronts, IsBacked, IsFronted, columns_with_key, key_width}
 use Rattle.gl_groups.specs.Groupings.{AwaitsFlush, IsGrouping, close_cycles, close_delay, key_of, line_of_further, with_keys}
 use Rattle.gl_groups.specs.Joins.{AreKeyBuses, JoinsAll, width_of_keys}
+use Rattle.gl_groups.specs.Picks.{bits_of_slots}
 use Rattle.gl_wire_registers.specs.Joins.{columns_of, gives_of, told_of}
 use Rattle.gl_groups.specs.Slots.{AreSlots}
 use Rattle.gl_groups.proofs.Setting.{Setting}
@@ -55,14 +56,14 @@ setting_of r a ins is law awaits = record {
 }
 
 -- wires and keys of a front, and a line of ends behind it
-pub is_fronted : (old mid new : Net) (r : Grouping) (source : Emitted) (g : Front) (close : Bit) (stride cycles : ℕ) → stride ≡ stride_of r.body → cycles ≡ close_cycles r → IsGrouping r
-    → IsWire old source.wire → AreLines old source.faults → r.key < length source.wire.columns → AddsFront old mid r.key r.slots stride source.wire g → IsCloseLine mid new cycles 0 source.wire.eos close
+pub is_fronted : (old mid new : Net) (r : Grouping) (source : Emitted) (g : Front) (close : Bit) (stride cycles width : ℕ) → stride ≡ stride_of r.body → cycles ≡ close_cycles r → width ≡ bits_of_slots r.slots + 1 → IsGrouping r
+    → IsWire old source.wire → AreLines old source.faults → r.key < length source.wire.columns → AddsFront old mid r.key r.slots stride width source.wire g → IsCloseLine mid new cycles 0 source.wire.eos close
     → IsFronted old new r source (record { source = source; wires = g.wires; keys = g.keys; further = g.further; close = close })
-is_fronted old mid new r source g close stride cycles is_stride is_cycles is wire lines key f c = record {
+is_fronted old mid new r source g close stride cycles width is_stride is_cycles is_width is wire lines key f c = record {
   keeps = keeps_then old mid new f.keeps c.keeps;
   cost = record {
     nodes = omega (arith, f.cost.nodes, c.cost.nodes);
-    registers = omega (arith, f.cost.registers, c.cost.registers);
+    registers = omega (arith, f.cost.registers, c.cost.registers, is_width);
     memories = omega (arith, f.cost.memories, c.cost.memories);
   };
   same = refl;

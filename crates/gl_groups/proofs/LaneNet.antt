@@ -68,7 +68,7 @@ module _ (run : Run) (w : Wire) (key count stride : ℕ) (r : Looked) (law : IsL
 
 -- one after another the parts are a lane
 module _ (n0 n1 n2 n3 n4 n5 n6 n7 : Net) (w : Wire) (key count stride width : ℕ) (some : 1 ≤ count) (r : Looked) (m : Told) (valid eos first further : Bit) (slot : Bus)
-    (is_r : AddsLooked n0 n1 key count stride w r) (is_m : PutsTold n1 n2 count width w r m) (is_valid : IsLaterLine n2 n3 m.row valid) (is_eos : IsLaterLine n3 n4 m.end eos)
+    (is_r : AddsLooked n0 n1 key count stride (width + 1) w r) (is_m : PutsTold n1 n2 count width w r m) (is_valid : IsLaterLine n2 n3 m.row valid) (is_eos : IsLaterLine n3 n4 m.end eos)
     (is_slot : IsLaterBus n4 n5 m.slot slot) (is_first : IsLaterLine n5 n6 m.first first) (is_further : IsLaterLine n6 n7 r.seen.passes further) where
   k6 : Keeps n6 n7
   k6 = is_further.keeps

@@ -1,10 +1,8 @@
 -- A lane of a group, and what gathers the totals of its slots, from their parts.
-use Rattle.std.proofs.Common.{◌≡◌, ℕ, zero, suc, ◌+◌, ◌*◌, ◌^◌, ◌<◌, ◌≤◌, List, ◌∷◌, length, Some, None, Bool, true, false, refl, sym, ap, ◌∙◌, subst, arith, eqb-true, eq-eqb}
+use Rattle.std.proofs.Common.{◌≡◌, ℕ, zero, suc, ◌+◌, ◌*◌, ◌<◌, ◌≤◌, List, ◌∷◌, length, Some, None, Bool, true, false, refl, sym, ap, ◌∙◌, subst, arith, eqb-true, eq-eqb}
 use Rattle.std.specs.Prelude.{slice_index_or, nat_eq, if◌then◌else◌}
 use Rattle.std.proofs.lemmas.Option.{slice_get-get_or}
 use Rattle.std.proofs.lemmas.List.Sums.{sum_by-cons}
-use Rattle.gl_algebra.specs.Cost.{least_exponent}
-use Rattle.gl_algebra.proofs.ExponentLemmas.{exponent_covers}
 use Rattle.gl_algebra.specs.FigureTable.{stride_of}
 use Rattle.gl_bits.specs.Results.{Row}
 use Rattle.gl_net.specs.declared.node.Bit.{Bit}
@@ -26,20 +24,12 @@ use Rattle.gl_groups.specs.declared.lane.LaneLines.{LaneLines}
 use Rattle.gl_groups.specs.declared.laning.Lane.{Lane}
 use Rattle.gl_groups.specs.Groupings.{IsGrouping, close_cycles, close_delay, in_front}
 use Rattle.gl_groups.specs.Joins.{AreKeyBuses, width_of_keys}
-use Rattle.gl_groups.specs.Laned.{IsGathered, IsLaned, bits_of_slots}
+use Rattle.gl_groups.specs.Laned.{IsGathered, IsLaned}
 use Rattle.gl_groups.specs.Lanes.{AddsLane, IsLane}
-use Rattle.gl_groups.specs.Picks.{AddsNumbers, AreAlike, PicksOne}
+use Rattle.gl_groups.specs.Picks.{AddsNumbers, AreAlike, PicksOne, bits_of_slots}
 use Rattle.gl_groups.specs.SlotLines.{held_of, same_to}
 use Rattle.gl_groups.proofs.FurtherLemmas.{further_came}
 use Rattle.gl_groups.proofs.GroupedNet.{setting_of}
-
--- ---- the bits of a number
-
-pub bits_cover : (slots : ℕ) → slots ≤ 2 ^ bits_of_slots slots
-bits_cover slots = exponent_covers slots 1 slots (omega arith)
-
-pub bits_from : (slots more depth bits : ℕ) → more ≡ slots → depth ≡ slots → bits ≡ least_exponent more 1 depth → bits ≡ bits_of_slots slots
-bits_from slots more depth bits a b h = h ∙ ap (λ n. least_exponent n 1 depth) a ∙ ap (least_exponent slots 1) b
 
 -- ---- the lane
 
@@ -91,7 +81,7 @@ alike_keys net keys ks d e some h =
     (record { each = h.each; widths = λ k b at. h.same_width k b at ∙ sym (first_width net keys ks d e some h) })
 
 module _ (n0 n1 n2 n3 n4 : Net) (r : Grouping) (l : Lane) (out : TableOut) (places : List Bus) (ls : List Bit) (p : Bus) (columns : List Bus) (w : Wire) (width bits : ℕ) (is_width : width ≡ width_of_keys l.keys)
-    (count : length l.keys ≡ r.slots) (some : 1 ≤ r.slots) (is_n : AddsNumbers n0 n1 r.slots bits places) (is_l : AddsLines n1 n2 (length places) 1 ls (same_to out.slot places)) (is_p : PicksOne n2 n3 ls l.keys width (length ls * 2) p)
+    (count : length l.keys ≡ r.slots) (some : 1 ≤ r.slots) (is_n : AddsNumbers n0 n1 (λ k. k) r.slots bits places) (is_l : AddsLines n1 n2 (length places) 1 ls (same_to out.slot places)) (is_p : PicksOne n2 n3 ls l.keys width (length ls * 2) p)
     (is_columns : columns ≡ p ∷ out.wire.columns) (is_w : IsPad n3 n4 1 (wire_of out.wire.valid l.close columns) w) where
   k34 : Keeps n3 n4
   k34 = is_w.keeps

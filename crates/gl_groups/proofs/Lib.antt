@@ -20,6 +20,8 @@ pub mod CostLemmas
 pub mod PickLemmas
 pub mod ChoiceLemmas
 pub mod EventLemmas
+pub mod HomeLemmas
+pub mod HomeNet
 pub mod ToldNet
 pub mod StreamNet
 pub mod LaneNet

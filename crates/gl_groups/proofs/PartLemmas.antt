@@ -1,20 +1,16 @@
 -- The parts of a front, from the lines that they are made of.
-use Rattle.std.proofs.Common.{◌≡◌, ℕ, zero, suc, ◌-◌, ◌<◌, List, length, Some, Bool, true, false, refl, sym, ap, ◌∙◌, subst, arith}
+use Rattle.std.proofs.Common.{◌≡◌, ℕ, zero, suc, ◌-◌, ◌<◌, List, length, Some, refl, sym, ap, ◌∙◌, subst, arith}
 use Rattle.std.specs.Prelude.{slice_get, slice_index, slice_index_or, nat_eq, not, ◌&&◌, ◌||◌, if◌then◌else◌}
 use Rattle.std.proofs.lemmas.Option.{get_or_from_slice_get, slice_get-get_or}
-use Rattle.gl_bits.specs.Words.{choose_of}
-use Rattle.gl_bits.proofs.AllLists.{get_mapped, length_map}
-use Rattle.gl_net.specs.Builds.{IsChoice}
+use Rattle.gl_bits.proofs.AllLists.{get_mapped}
 use Rattle.gl_net.specs.declared.node.Bus.{Bus}
 use Rattle.gl_net.specs.declared.node.Bit.{Bit}
-use Rattle.gl_net.specs.Net.{Net, Run, IsBus, Keeps}
+use Rattle.gl_net.specs.Net.{Net, Run, IsBus}
 use Rattle.gl_net.proofs.Determined.{keeps_then}
 use Rattle.gl_wire.specs.Gates.{IsGate}
 use Rattle.gl_wire.specs.declared.wire.Wire.{Wire}
-use Rattle.gl_wire.specs.Costs.{Costs, nodes_alone}
 use Rattle.gl_wire.specs.Wire.{AreBuses, line_at, row_at, widths}
-use Rattle.gl_wire.proofs.ColumnLemmas.{buses_kept, row_at-value}
-use Rattle.gl_wire.proofs.GateLemmas.{choose_line}
+use Rattle.gl_wire.proofs.ColumnLemmas.{row_at-value}
 use Rattle.gl_wire_registers.specs.Counters.{IsCounter}
 use Rattle.gl_wire_registers.specs.Held.{counted_down, held_at}
 use Rattle.gl_wire_registers.specs.declared.lines.LineOp.TheVariants.{Both, Either}
@@ -119,37 +115,18 @@ column_there net bs cs k d are e l = are.each k (slice_index_or cs k d) (column_
 pub width_there : (bs : List Bus) (k : ℕ) (b : Bus) → slice_get bs k ≡ Some b → b.width ≡ slice_index (widths bs) k
 width_there bs k b h = sym (get_or_from_slice_get (widths bs) k b.width 0 (get_mapped (λ (x : Bus). x.width) bs k b h))
 
--- as many columns
-pub as_long : (bs cs : List Bus) (k : ℕ) → widths bs ≡ widths cs → k < length cs → k < length bs
-as_long bs cs k e l = let a = length_map (λ (x : Bus). x.width) bs in let b = length_map (λ (x : Bus). x.width) cs in omega (arith, l, ap length e, a, b)
-
-key_chosen : (run : Run) (valid : Bit) (columns row : List Bus) (here last value : Bus) (key t : ℕ) → slice_get columns key ≡ Some here → slice_get row key ≡ Some last
-    → run.at (suc t) value.node ≡ choose_of (run.at (suc t) valid.node) (run.at (suc t) here.node) (run.at (suc t) last.node)
-    → held_at 0 run value (suc t) ≡ column_of key (if line_at run valid (suc t) then row_at run (suc t) columns else row_at run (suc t) row)
+pub lookup_is : (old new : Net) (w : Wire) (key : ℕ) (row : List Bus) (here : Bus) → HoldsRow old new w.valid w.columns row → slice_get w.columns key ≡ Some here → IsBus new here
+    → AddsLookup old new w key (record { row = row; here = here })
 unfolding held_at
-key_chosen run valid columns row here last value key t has_here has_last is =
-    is ∙ choose_line run valid (run.at (suc t) here.node) (run.at (suc t) last.node) t ∙ by (line_at run valid (suc t))
-  where
-    by : (b : Bool) → (if b then run.at (suc t) here.node else run.at (suc t) last.node) ≡ column_of key (if b then row_at run (suc t) columns else row_at run (suc t) row)
-    by true = sym (row_at-value run (suc t) columns key here has_here)
-    by false = sym (row_at-value run (suc t) row key last has_last)
-
-pub lookup_is : (old mid new : Net) (w : Wire) (key : ℕ) (row : List Bus) (here last value : Bus) → HoldsRow old mid w.valid w.columns row → slice_get w.columns key ≡ Some here → slice_get row key ≡ Some last
-    → Keeps mid new → Costs mid new (nodes_alone 1) → IsBus new value → value.width ≡ here.width → IsChoice new w.valid here last value
-    → AddsLookup old new w key (record { row = row; value = value })
-lookup_is old mid new w key row here last value h has_here has_last keeps cost bus width chosen = record {
-  keeps = keeps_then old mid new h.keeps keeps;
-  row_buses = buses_kept mid new row keeps h.buses;
+lookup_is old new w key row here h has_here bus = record {
+  keeps = h.keeps;
+  row_buses = h.buses;
   row_widths = h.same_widths;
-  value_bus = bus;
-  value_width = width ∙ width_there w.columns key here has_here;
-  cost = record {
-    nodes = omega (arith, h.cost.nodes, cost.nodes);
-    registers = omega (arith, h.cost.registers, cost.registers);
-    memories = omega (arith, h.cost.memories, cost.memories);
-  };
-  law = λ run r. record {
-    row = h.row run (keeps.runs run r);
-    value = λ t. key_chosen run w.valid w.columns row here last value key t has_here has_last (chosen run r (suc t));
-  };
+  here_bus = bus;
+  here_width = width_there w.columns key here has_here;
+  cost = h.cost;
+  law = λ run r. record { row = h.row run r; here = here_is run };
 }
+  where
+    here_is : (run : Run) → (t : ℕ) → held_at 0 run here (suc t) ≡ column_of key (row_at run (suc t) w.columns)
+    here_is run t = sym (row_at-value run (suc t) w.columns key here has_here)

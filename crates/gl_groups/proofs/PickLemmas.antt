@@ -1,8 +1,11 @@
 -- A tree of buses, each masked by its line, gives the bus whose line is 1.
-use Rattle.std.proofs.Common.{◌≡◌, ℕ, zero, suc, ◌+◌, ◌-◌, ◌*◌, ◌<◌, ◌≤◌, List, [], ◌∷◌, ◌++◌, length, Some, Bool, true, refl, sym, ap, ◌∙◌, subst, arith, inl, inr, ◌/◌, take, drop, length-append}
+use Rattle.std.proofs.Common.{◌≡◌, ℕ, zero, suc, ◌+◌, ◌-◌, ◌*◌, ◌<◌, ◌≤◌, List, [], ◌∷◌, ◌++◌, length, Some, Bool, true, refl, sym, ap, ◌∙◌, subst, arith, inl, inr, ◌/◌, ◌^◌, take, drop, length-append}
 use Rattle.std.specs.Prelude.{slice_get, if◌then◌else◌, bit_or}
 use Rattle.std.specs.Int.Bits.{or_zero_r}
+use Rattle.std.proofs.Math.Pow.{pow-lt}
 use Rattle.std.proofs.lemmas.Bool.{cases_lt}
+use Rattle.gl_algebra.specs.Cost.{least_exponent}
+use Rattle.gl_algebra.proofs.ExponentLemmas.{exponent_covers}
 use Rattle.gl_bits.specs.Words.{IsWidth, choose_of}
 use Rattle.gl_bits.proofs.AllLists.{get_front, get_there}
 use Rattle.gl_bits.proofs.Bools.{by_cases}
@@ -21,7 +24,7 @@ use Rattle.gl_wire_registers.specs.Lines.{line_of}
 use Rattle.gl_wire_registers.proofs.HalfLemmas.{AreHalves, get_behind, halves}
 use Rattle.gl_wire_registers.proofs.LineLemmas.{line_of-get}
 use Rattle.gl_wire_registers.proofs.RegisterLemmas.{length_taken}
-use Rattle.gl_groups.specs.Picks.{AddsNumbers, AreAlike, CarriesZero, IsNumber, IsPicked, Masks, Merges, PicksOne}
+use Rattle.gl_groups.specs.Picks.{AddsNumbers, AreAlike, CarriesZero, IsNumber, IsPicked, Masks, Merges, PicksOne, bits_of_slots}
 use Rattle.gl_groups.specs.SlotLines.{held_of}
 use Rattle.gl_groups.proofs.SlotNet.{held_of-get, held_of-new, held_of-old}
 
@@ -180,10 +183,22 @@ cut_both ls first second bs left right many some front back front_bus back_bus =
     let all_bus : length left + length right ≡ length bs = sym (length-append left right) ∙ ap length cut_bus.whole in
     (cut, cut_bus, two ∙ sym one, omega (arith, one, two, all, all_bus, many))
 
+-- ---- the bits of a number
+
+pub bits_cover : (slots : ℕ) → slots ≤ 2 ^ bits_of_slots slots
+bits_cover slots = exponent_covers slots 1 slots (omega arith)
+
+pub bits_from : (slots more depth bits : ℕ) → more ≡ slots → depth ≡ slots → bits ≡ least_exponent more 1 depth → bits ≡ bits_of_slots slots
+bits_from slots more depth bits a b h = h ∙ ap (λ n. least_exponent n 1 depth) a ∙ ap (least_exponent slots 1) b
+
+-- one bit more has room for one number more
+pub room_for_mark : (slots width : ℕ) → slots ≤ 2 ^ width → slots < 2 ^ (width + 1)
+room_for_mark slots width h = let l = pow-lt {i = width} {j = width + 1} (omega arith) in omega (arith, l, h)
+
 -- ---- numbers
 
-pub numbers_none : (net : Net) (width : ℕ) → AddsNumbers net net 0 width []
-numbers_none net width = record {
+pub numbers_none : (net : Net) (of : ℕ → ℕ) (width : ℕ) → AddsNumbers net net of 0 width []
+numbers_none net of width = record {
   keeps = same_keeps net;
   count = refl;
   alike = record { each = λ k b h. absurd (cc); widths = λ k b h. absurd (cc) };
@@ -191,8 +206,8 @@ numbers_none net width = record {
   value = λ run r k t l. absurd (omega (arith, l));
 }
 
-pub numbers_more : (old mid new : Net) (n width : ℕ) (bs : List Bus) (b : Bus) → AddsNumbers old mid n width bs → IsNumber mid new n width b → AddsNumbers old new (n + 1) width (bs ++ b ∷ [])
-numbers_more old mid new n width bs b h one = record {
+pub numbers_more : (old mid new : Net) (of : ℕ → ℕ) (n width : ℕ) (bs : List Bus) (b : Bus) → AddsNumbers old mid of n width bs → IsNumber mid new (of n) width b → AddsNumbers old new of (n + 1) width (bs ++ b ∷ [])
+numbers_more old mid new of n width bs b h one = record {
   keeps = keeps_then old mid new h.keeps one.keeps;
   count = length-append bs (b ∷ []) ∙ ap (λ i. i + 1) h.count;
   alike = record {
@@ -202,6 +217,6 @@ numbers_more old mid new n width bs b h one = record {
   cost = record { nodes = omega (arith, one.cost.nodes, h.cost.nodes); registers = omega (arith, one.cost.registers, h.cost.registers); memories = omega (arith, one.cost.memories, h.cost.memories) };
   value = λ run r k t l. elim (cases_lt k n) [
     | inl m ↦ held_of-old run bs b k (suc t) (omega (arith, m, h.count)) ∙ h.value run (one.keeps.runs run r) k t m
-    | inr m ↦ (let e : k ≡ n = omega (arith, l, m) in ap (λ i. held_of run (bs ++ b ∷ []) i (suc t)) (e ∙ sym h.count) ∙ held_of-new run bs b (suc t) ∙ one.value run r t ∙ sym e)
+    | inr m ↦ (let e : k ≡ n = omega (arith, l, m) in ap (λ i. held_of run (bs ++ b ∷ []) i (suc t)) (e ∙ sym h.count) ∙ held_of-new run bs b (suc t) ∙ one.value run r t ∙ sym (ap of e))
   ];
 }

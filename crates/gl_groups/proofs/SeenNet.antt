@@ -1,8 +1,9 @@
 -- What the slots make of a key, with their registers.
 use Rattle.std.proofs.Common.{◌≡◌, ℕ, zero, suc, ◌*◌, ◌<◌, ◌≤◌, List, length, Bool, true, false, refl, sym, ap, ◌∙◌, subst, arith, replicate}
-use Rattle.std.specs.Prelude.{not, map, ◌&&◌, ◌||◌, if◌then◌else◌}
+use Rattle.std.specs.Prelude.{not, map, ◌&&◌, ◌||◌, if◌then◌else◌, nat_eq}
 use Rattle.gl_bits.specs.Words.{Word}
 use Rattle.gl_bits.proofs.AllLists.{get_there, length_map}
+use Rattle.gl_bits.proofs.Bools.{by_cases}
 use Rattle.gl_net.specs.declared.node.Bus.{Bus}
 use Rattle.gl_net.specs.declared.node.Bit.{Bit}
 use Rattle.gl_net.specs.Net.{Net, Run, IsRun, IsBit, Grows, Keeps}
@@ -24,7 +25,7 @@ use Rattle.gl_groups.specs.declared.slots.KeyLines.{KeyLines}
 use Rattle.gl_groups.specs.declared.slots.Seek.{Seek}
 use Rattle.gl_groups.specs.declared.slots.Seen.{Seen}
 use Rattle.gl_groups.specs.Seeking.{Sought, asked, asks, found, has, is_next, kept, takes}
-use Rattle.gl_groups.specs.SlotLines.{AddsAsks, AddsFound, AddsKeys, AddsNexts, AddsSeek, AddsSeen, AddsSlots, AreKeyLines, AreKeysOf, AreSeen, asked_of, held_of, sought_at}
+use Rattle.gl_groups.specs.SlotLines.{AddsAsks, AddsFound, AddsKept, AddsKeys, AddsNexts, AddsSeek, AddsSeen, AreKeyLines, AreKeysOf, AreSeen, FindsKey, IsSeen, asked_of, has_key, held_of, sought_at}
 use Rattle.gl_groups.proofs.SeekLemmas.{asked_last, takes_last}
 use Rattle.gl_groups.proofs.SlotNet.{held_of-get, bits_opened}
 
@@ -65,8 +66,8 @@ seen_opened old new n r g h = record {
   passes = bit_opened old new r.passes g h.passes;
 }
 
-module _ (n0 n1 n2 n3 n4 n5 n6 : Net) (used : List Bit) (keys : List Bus) (free ask : Bit) (value : Bus) (f : Found) (q : Asks) (ns ts hs : List Bit) (last : Bit)
-    (a : AddsFound n0 n1 used keys free value f) (b : AddsAsks n1 n2 ask f.kept (length f.kept) q) (c : AddsLines n2 n3 (length q.asks) 1 ns (pairs ButNot q.asks f.kept))
+module _ (n0 n1 n2 n3 n4 n5 n6 : Net) (used : List Bit) (keys : List Bus) (free ask : Bit) (here : Bus) (homes : List Bit) (f : Found) (q : Asks) (ns ts hs : List Bit) (last : Bit)
+    (a : AddsFound n0 n1 used keys free ask here homes f) (b : AddsAsks n1 n2 ask f.kept (length f.kept) q) (c : AddsLines n2 n3 (length q.asks) 1 ns (pairs ButNot q.asks f.kept))
     (d : AddsLines n3 n4 (length ns) 1 ts (with_line ButNot ns f.one)) (e : AddsLines n4 n5 (length f.kept) 1 hs (pairs Either f.kept ts)) (g : IsGate n5 n6 (λ x y. x && not y) q.passes f.one last) where
   k56 : Keeps n5 n6
   k56 = g.keeps
@@ -89,18 +90,12 @@ module _ (n0 n1 n2 n3 n4 n5 n6 : Net) (used : List Bit) (keys : List Bus) (free 
   nexts_count : length ns ≡ length used
   nexts_count = c.count ∙ asks_count
 
-  module _ (run : Run) (r : IsRun n6 run) where
+  module _ (run : Run) (r : IsRun n6 run) (value : ℕ → ℕ) where
     abbrev s : ℕ → Sought
     s t = sought_at run used keys free ask value t
 
     kept_is : (k t : ℕ) → k < length used → line_of run f.kept k t ≡ kept (s t) k
     kept_is = (a.law run (k16.runs run r)).kept
-
-    found_is : (k t : ℕ) → k < length used → line_of run f.found k t ≡ found (s t) k
-    found_is = (a.law run (k16.runs run r)).found
-
-    one_is : (t : ℕ) → line_at run f.one t ≡ any_to (length used) (found (s t))
-    one_is t = (a.law run (k16.runs run r)).one t ∙ any_same (length used) (λ k. line_of run f.found k t) (found (s t)) (λ k l. found_is k t l)
 
     asked_is : (k t : ℕ) → k ≤ length used → asked_of ask f.kept run k t ≡ asks (s t) k
     unfolding asked_of
@@ -114,25 +109,47 @@ module _ (n0 n1 n2 n3 n4 n5 n6 : Net) (used : List Bit) (keys : List Bus) (free 
         ∙ ap (λ x. x && not (line_of run f.kept k t)) (b.asks run (k26.runs run r) k t (omega (arith, l, a.kept_count)) ∙ asked_is k t (omega (arith, l)))
         ∙ ap (λ x. asks (s t) k && not x) (kept_is k t l)
 
-    takes_is : (k t : ℕ) → k < length used → line_of run ts k t ≡ takes (length used) (s t) k
-    unfolding with_line
-    takes_is k t l =
-        d.line run (k46.runs run r) k t (omega (arith, l, nexts_count)) ∙ ap (λ x. x && not (line_at run f.one t)) (next_is k t l)
-        ∙ ap (λ x. is_next (s t) k && not x) (one_is t) ∙ sym (takes_last (length used) (s t) k)
+    -- a cycle in which it is told which slot has the key
+    module _ (t : ℕ) (finds : FindsKey run (length used) used keys ask here homes (value t) t) where
+      found_is : (k : ℕ) → k < length used → line_of run f.found k t ≡ found (s t) k
+      found_is k l = (a.law run (k16.runs run r)).found k t l ∙ by_cases (line_of run used k t)
+          (λ e. ap (λ x. (line_of run used k t && not (line_at run free t)) && x) (finds k l e))
+          (λ e. ap (λ x. (x && not (line_at run free t)) && has_key run keys ask here homes k t) e
+          ∙ sym (ap (λ x. (x && not (line_at run free t)) && nat_eq (value t) (held_of run keys k t)) e))
 
-    has_is : (k t : ℕ) → k < length used → line_of run hs k t ≡ has (length used) (s t) k
-    unfolding pairs
-    has_is k t l =
-        e.line run (k56.runs run r) k t (omega (arith, l, a.kept_count)) ∙ ap (λ x. x || line_of run ts k t) (kept_is k t l) ∙ ap (λ x. kept (s t) k || x) (takes_is k t l)
+      one_is : line_at run f.one t ≡ any_to (length used) (found (s t))
+      one_is = (a.law run (k16.runs run r)).one t ∙ any_same (length used) (λ k. line_of run f.found k t) (found (s t)) (λ k l. found_is k l)
 
-    passes_is : (t : ℕ) → line_at run last t ≡ asked (length used) (s t) (length used)
-    passes_is t =
-        g.line run r t
-        ∙ ap (λ x. x && not (line_at run f.one t))
-        (b.passes run (k26.runs run r) t ∙ ap (λ n. asked_of ask f.kept run n t) a.kept_count ∙ asked_is (length used) t (omega arith))
-        ∙ ap (λ x. asks (s t) (length used) && not x) (one_is t) ∙ sym (asked_last (length used) (s t) (length used))
+      takes_is : (k : ℕ) → k < length used → line_of run ts k t ≡ takes (length used) (s t) k
+      unfolding with_line
+      takes_is k l =
+          d.line run (k46.runs run r) k t (omega (arith, l, nexts_count)) ∙ ap (λ x. x && not (line_at run f.one t)) (next_is k t l)
+          ∙ ap (λ x. is_next (s t) k && not x) one_is ∙ sym (takes_last (length used) (s t) k)
 
-  pub seen_are : AddsSeen n0 n6 used keys free ask value (record { kept = f.kept; found = f.found; one = f.one; nexts = ns; takes = ts; has = hs; passes = last })
+      has_is : (k : ℕ) → k < length used → line_of run hs k t ≡ has (length used) (s t) k
+      unfolding pairs
+      has_is k l =
+          e.line run (k56.runs run r) k t (omega (arith, l, a.kept_count)) ∙ ap (λ x. x || line_of run ts k t) (kept_is k t l) ∙ ap (λ x. kept (s t) k || x) (takes_is k l)
+
+      passes_is : line_at run last t ≡ asked (length used) (s t) (length used)
+      passes_is =
+          g.line run r t
+          ∙ ap (λ x. x && not (line_at run f.one t))
+          (b.passes run (k26.runs run r) t ∙ ap (λ n. asked_of ask f.kept run n t) a.kept_count ∙ asked_is (length used) t (omega arith))
+          ∙ ap (λ x. asks (s t) (length used) && not x) one_is ∙ sym (asked_last (length used) (s t) (length used))
+
+      is_seen : IsSeen run (length used) (s t) (record { kept = f.kept; found = f.found; one = f.one; nexts = ns; takes = ts; has = hs; passes = last }) t
+      is_seen = record {
+        kept = λ k l. kept_is k t l;
+        found = found_is;
+        one = one_is;
+        nexts = λ k l. next_is k t l;
+        takes = takes_is;
+        has = has_is;
+        passes = passes_is;
+      }
+
+  pub seen_are : AddsSeen n0 n6 used keys free ask here homes (record { kept = f.kept; found = f.found; one = f.one; nexts = ns; takes = ts; has = hs; passes = last })
   seen_are = record {
     keeps = keeps_then n0 n1 n6 a.keeps k16;
     are = record {
@@ -154,20 +171,13 @@ module _ (n0 n1 n2 n3 n4 n5 n6 : Net) (used : List Bit) (keys : List Bus) (free 
       registers = omega (arith, a.cost.registers, b.cost.registers, c.cost.registers, d.cost.registers, e.cost.registers, g.cost.registers);
       memories = omega (arith, a.cost.memories, b.cost.memories, c.cost.memories, d.cost.memories, e.cost.memories, g.cost.memories);
     };
-    law = λ run r. record {
-      kept = kept_is run r;
-      found = found_is run r;
-      one = one_is run r;
-      nexts = next_is run r;
-      takes = takes_is run r;
-      has = has_is run r;
-      passes = passes_is run r;
-    };
+    nexts = λ run r value k t l. next_is run r value k t l;
+    law = λ run r value t finds. is_seen run r value t finds;
   }
 
-pub seek_is : (n0 n1 n2 : Net) (used : List Bit) (keys : List Bus) (free ask : Bit) (value : Bus) (r : Seen) (ns : List Bus) → length keys ≡ length used
-    → AddsSeen n0 n1 used keys free ask value r → AddsNexts n1 n2 r.nexts value keys (length keys) ns → AddsSeek n0 n2 used keys free ask value (record { seen = r; keys = ns })
-seek_is n0 n1 n2 used keys free ask value r ns many a b = record {
+pub seek_is : (n0 n1 n2 : Net) (used : List Bit) (keys : List Bus) (free ask : Bit) (here : Bus) (homes : List Bit) (r : Seen) (ns : List Bus) → length keys ≡ length used
+    → AddsSeen n0 n1 used keys free ask here homes r → AddsNexts n1 n2 r.nexts here keys (length keys) ns → AddsSeek n0 n2 used keys free ask here homes (record { seen = r; keys = ns })
+seek_is n0 n1 n2 used keys free ask here homes r ns many a b = record {
   keeps = keeps_then n0 n1 n2 a.keeps b.keeps;
   are = seen_kept n1 n2 (length used) r b.keeps a.are;
   keys_count = b.count ∙ many;
@@ -177,19 +187,19 @@ seek_is n0 n1 n2 used keys free ask value r ns many a b = record {
     registers = omega (arith, a.cost.registers, b.cost.registers);
     memories = omega (arith, a.cost.memories, b.cost.memories);
   };
-  law = λ run z. a.law run (b.keeps.runs run z);
-  key = λ run z k t l.
+  law = λ run z value t finds. a.law run (b.keeps.runs run z) value t finds;
+  key = λ run z value k t l.
       b.next run z k t (omega (arith, l, many))
-      ∙ ap (λ x. if x then held_at 0 run value (suc t) else held_of run keys k (suc t)) ((a.law run (b.keeps.runs run z)).nexts k (suc t) l);
+      ∙ ap (λ x. if x then held_at 0 run here (suc t) else held_of run keys k (suc t)) (a.nexts run (b.keeps.runs run z) value k (suc t) l);
 }
 
 -- ---- the keys in registers
 
-module _ (n0 n1 : Net) (used : List Bit) (w : Word) (free ask : Bit) (value : Bus) (regs : List Bus) (wide : w.width ≡ value.width) (zeros : w.bits ≡ 0) (o : Opens n0 n1 (replicate (length used) w) regs) where
-  pub regs_are : AreKeysOf n1 value regs
+module _ (n0 n1 : Net) (used : List Bit) (w : Word) (free ask : Bit) (here : Bus) (homes : List Bit) (regs : List Bus) (wide : w.width ≡ here.width) (zeros : w.bits ≡ 0) (o : Opens n0 n1 (replicate (length used) w) regs) where
+  pub regs_are : AreKeysOf n1 here regs
   regs_are = record { each = o.each; widths = λ k b h. reg_width n0 n1 (length used) w regs o k b h ∙ wide }
 
-  module _ (n2 : Net) (z : Seek) (h : AddsSeek n1 n2 used regs free ask value z) where
+  module _ (n2 : Net) (z : Seek) (h : AddsSeek n1 n2 used regs free ask here homes z) where
     pub keys_may : MayDrive n2 regs z.keys
     keys_may = record {
       count = h.keys_count ∙ sym (regs_count n0 n1 (length used) w regs o);
@@ -199,27 +209,27 @@ module _ (n0 n1 : Net) (used : List Bit) (w : Word) (free ask : Bit) (value : Bu
 
     module _ (n3 : Net) (v : DrivesAll n2 n3 regs z.keys) where
       -- in the reset cycle a key is 0
-      key_next : (run : Run) → IsRun n3 run → (k t : ℕ) → k < length used
-          → held_of run regs k (suc t) ≡ (if is_next (sought_at run used regs free ask value t) k then held_at 0 run value t else held_of run regs k t)
+      key_next : (run : Run) → IsRun n3 run → (value : ℕ → ℕ) (k t : ℕ) → k < length used
+          → held_of run regs k (suc t) ≡ (if is_next (sought_at run used regs free ask value t) k then held_at 0 run here t else held_of run regs k t)
       unfolding held_at line_at
-      key_next run r3 k t l =
+      key_next run r3 value k t l =
           let r2 = v.grows.runs run r3 in
           let at = get_there regs k (omega (arith, l, regs_count n0 n1 (length used) w regs o)) in
           let next = get_there z.keys k (omega (arith, l, h.keys_count)) in
-          let here = held_of-get run regs k at.0 in
-          here (suc t) at.1
-          ∙ held_by run at.0 0 (λ u n. if is_next (sought_at run used regs free ask value u) k then held_at 0 run value u else n)
+          let own = held_of-get run regs k at.0 in
+          own (suc t) at.1
+          ∙ held_by run at.0 0 (λ u n. if is_next (sought_at run used regs free ask value u) k then held_at 0 run here u else n)
           (reg_start n0 n1 (length used) w regs o k at.0 at.1 run (h.keeps.runs run r2) ∙ zeros)
-          (λ u. v.value k at.0 next.0 at.1 next.1 run r3 u ∙ sym (held_of-get run z.keys k next.0 (suc u) next.1) ∙ h.key run r2 k u l
-          ∙ ap (λ n. if is_next (sought_at run used regs free ask value (suc u)) k then held_at 0 run value (suc u) else n) (here (suc u) at.1))
+          (λ u. v.value k at.0 next.0 at.1 next.1 run r3 u ∙ sym (held_of-get run z.keys k next.0 (suc u) next.1) ∙ h.key run r2 value k u l
+          ∙ ap (λ n. if is_next (sought_at run used regs free ask value (suc u)) k then held_at 0 run here (suc u) else n) (own (suc u) at.1))
           (none_first (is_next (sought_at run used regs free ask value 0) k) 0) t
-          ∙ ap (λ n. if is_next (sought_at run used regs free ask value t) k then held_at 0 run value t else n) (sym (here t at.1))
+          ∙ ap (λ n. if is_next (sought_at run used regs free ask value t) k then held_at 0 run here t else n) (sym (own t at.1))
         where
           none_first : (b : Bool) (n : ℕ) → (if b then n else n) ≡ n
           none_first true n = refl
           none_first false n = refl
 
-      pub keys_add : AddsKeys n0 n3 used free ask value (record { keys = regs; seen = z.seen })
+      pub keys_add : AddsKeys n0 n3 used free ask here homes (record { keys = regs; seen = z.seen })
       keys_add = record {
         keeps = closed_up n0 n1 n2 n3 (replicate (length used) w) regs z.keys o h.keeps v;
         keys_count = regs_count n0 n1 (length used) w regs o;
@@ -230,13 +240,13 @@ module _ (n0 n1 : Net) (used : List Bit) (w : Word) (free ask : Bit) (value : Bu
           registers = omega (arith, v.cost.registers, h.cost.registers, o.cost.registers, same_bits (length used) w, ap (λ n. length used * n) wide);
           memories = omega (arith, v.cost.memories, h.cost.memories, o.cost.memories);
         };
-        law = λ run r3. record { key = λ k t l. key_next run r3 k t l; seen = h.law run (v.grows.runs run r3) };
+        law = λ run r3. record { key = λ value k t l. key_next run r3 value k t l; seen = λ value t finds. h.law run (v.grows.runs run r3) value t finds };
       }
 
 -- ---- the flags of the slots in registers
 
-module _ (n0 n1 n2 n3 : Net) (count : ℕ) (w : Word) (free ask : Bit) (value : Bus) (regs : List Bus) (r : KeyLines) (width : w.width ≡ 1) (zeros : w.bits ≡ 0) (o : Opens n0 n1 (replicate count w) regs)
-    (h : AddsKeys n1 n2 (map to_bit regs) free ask value r) where
+module _ (n0 n1 n2 n3 : Net) (count : ℕ) (w : Word) (free ask : Bit) (here : Bus) (homes : List Bit) (regs : List Bus) (r : KeyLines) (width : w.width ≡ 1) (zeros : w.bits ≡ 0)
+    (o : Opens n0 n1 (replicate count w) regs) (h : AddsKeys n1 n2 (map to_bit regs) free ask here homes r) where
   many : length (map to_bit regs) ≡ count
   many = length_map to_bit regs ∙ regs_count n0 n1 count w regs o
 
@@ -244,8 +254,8 @@ module _ (n0 n1 n2 n3 : Net) (count : ℕ) (w : Word) (free ask : Bit) (value : 
   slots_may = flags_may n0 n1 count w regs o width zeros n2 n3 r.seen.has (h.are.has_count ∙ many) h.are.has
 
   module _ (v : DrivesAll n2 n3 regs (map to_bus r.seen.has)) where
-    pub slots_add : AddsSlots n0 n3 free ask value count (record { used = map to_bit regs; keys = r.keys; seen = r.seen })
-    slots_add = record {
+    pub slots_kept : AddsKept n0 n3 free ask here homes count (record { used = map to_bit regs; keys = r.keys; seen = r.seen })
+    slots_kept = record {
       keeps = closed_up n0 n1 n2 n3 (replicate count w) regs (map to_bus r.seen.has) o h.keeps v;
       used_count = many;
       keys_count = h.keys_count ∙ many;
@@ -254,15 +264,14 @@ module _ (n0 n1 n2 n3 : Net) (count : ℕ) (w : Word) (free ask : Bit) (value : 
       are = subst (λ (n : ℕ). AreSeen n3 n r.seen) many (seen_opened n2 n3 (length (map to_bit regs)) r.seen v.grows h.are);
       cost = record {
         nodes = omega (arith, v.cost.nodes, h.cost.nodes, o.cost.nodes, length_replicate count w, many, ap gates_of many);
-        registers = omega (arith, v.cost.registers, h.cost.registers, o.cost.registers, same_bits count w, ap (λ n. count * n) width, ap (λ n. n * value.width) many);
+        registers = omega (arith, v.cost.registers, h.cost.registers, o.cost.registers, same_bits count w, ap (λ n. count * n) width, ap (λ n. n * here.width) many);
         memories = omega (arith, v.cost.memories, h.cost.memories, o.cost.memories);
       };
       law = λ run r3.
           let r2 = v.grows.runs run r3 in
-          let law = subst (λ (n : ℕ). AreKeyLines run n (map to_bit regs) free ask value r) many (h.law run r2) in
+          let law = subst (λ (n : ℕ). AreKeyLines run n (map to_bit regs) free ask here homes r) many (h.law run r2) in
           record {
-            used = λ k t l.
-                flag_next n0 n1 count w regs o width zeros n2 n3 r.seen.has (h.are.has_count ∙ many) h.are.has v run (h.keeps.runs run r2) r3 k t l ∙ law.seen.has k t l;
+            used = λ k t l. flag_next n0 n1 count w regs o width zeros n2 n3 r.seen.has (h.are.has_count ∙ many) h.are.has v run (h.keeps.runs run r2) r3 k t l;
             key = law.key;
             seen = law.seen;
           };

@@ -18,7 +18,8 @@ use Rattle.gl_wire_registers.specs.Held.{held_at}
 use Rattle.gl_wire_registers.specs.declared.lines.LineOp.TheVariants.{Both, ButNot}
 use Rattle.gl_wire_registers.specs.Lines.{AddsLine, AddsLines, AreBits, any_line, any_to, gates_of, line_of, pairs, with_line}
 use Rattle.gl_wire_registers.proofs.LineLemmas.{bits_kept, line_of-first, line_of-get, line_of-new, line_of-old}
-use Rattle.gl_groups.specs.SlotLines.{AddsAsks, AddsFound, AddsNexts, AreKeysOf, asked_of, held_of, same_to}
+use Rattle.gl_groups.specs.Choices.{chosen_to}
+use Rattle.gl_groups.specs.SlotLines.{AddsAsks, AddsFound, AddsNexts, AreKeysOf, asked_of, has_key, held_of, same_to}
 
 pub held_of-get : (run : Run) (bs : List Bus) (k : ℕ) (b : Bus) (t : ℕ) → slice_get bs k ≡ Some b → held_of run bs k t ≡ held_at 0 run b t
 unfolding held_of
@@ -55,42 +56,46 @@ same_here run value b keys k (suc t) h = ap (nat_eq (run.at (suc t) value.node))
 pub same_line : (old new : Net) (value b : Bus) (bit : Bit) → IsSame old new value b bit → AddsLine old new 1 bit (λ run t. same_at run value b t)
 same_line old new value b bit h = record { keeps = h.keeps; bit = h.bit; cost = h.cost; line = h.line }
 
-found_at : (run : Run) (used : List Bit) (keys : List Bus) (free : Bit) (value : Bus) (ks ss fs : List Bit) (k : ℕ)
-    → ((t : ℕ) → line_of run ks k t ≡ (line_of run used k t && not (line_at run free t))) → ((t : ℕ) → line_of run ss k t ≡ same_to value keys run k t)
-    → ((t : ℕ) → line_of run fs k t ≡ (line_of run ks k t && line_of run ss k t))
-    → (t : ℕ) → line_of run fs k t ≡ ((line_of run used k t && not (line_at run free t)) && nat_eq (held_at 0 run value t) (held_of run keys k t))
-unfolding same_to
-found_at run used keys free value ks ss fs k is_kept is_same is_found zero =
-    line_of-first run fs k ∙ sym (ap (λ b. (b && not (line_at run free 0)) && nat_eq (held_at 0 run value 0) (held_of run keys k 0)) (line_of-first run used k))
-found_at run used keys free value ks ss fs k is_kept is_same is_found (suc t) =
-    is_found (suc t) ∙ ap (λ b. b && line_of run ss k (suc t)) (is_kept (suc t)) ∙ ap (λ b. (line_of run used k (suc t) && not (line_at run free (suc t))) && b) (is_same (suc t))
+found_at : (run : Run) (used : List Bit) (keys : List Bus) (free ask : Bit) (here : Bus) (homes ks ss ms fs : List Bit) (k : ℕ)
+    → ((t : ℕ) → line_of run ks k t ≡ (line_of run used k t && not (line_at run free t))) → ((t : ℕ) → line_of run ss k t ≡ same_to here keys run k t)
+    → ((t : ℕ) → line_of run ms k t ≡ chosen_to ask ss homes run k t) → ((t : ℕ) → line_of run fs k t ≡ (line_of run ks k t && line_of run ms k t))
+    → (t : ℕ) → line_of run fs k t ≡ ((line_of run used k t && not (line_at run free t)) && has_key run keys ask here homes k t)
+unfolding same_to chosen_to
+found_at run used keys free ask here homes ks ss ms fs k is_kept is_same is_chosen is_found zero =
+    line_of-first run fs k ∙ sym (ap (λ b. (b && not (line_at run free 0)) && has_key run keys ask here homes k 0) (line_of-first run used k))
+found_at run used keys free ask here homes ks ss ms fs k is_kept is_same is_chosen is_found (suc t) =
+    is_found (suc t) ∙ ap (λ b. b && line_of run ms k (suc t)) (is_kept (suc t))
+    ∙ ap (λ b. (line_of run used k (suc t) && not (line_at run free (suc t))) && b)
+    (is_chosen (suc t) ∙ ap (λ b. if line_at run ask (suc t) then b else line_of run homes k (suc t)) (is_same (suc t)))
 
-pub found_are : (n0 n1 n2 n3 n4 : Net) (used : List Bit) (keys : List Bus) (free : Bit) (value : Bus) (ks ss fs : List Bit) (one : Bit) → length keys ≡ length used
-    → AddsLines n0 n1 (length used) 1 ks (with_line ButNot used free) → AddsLines n1 n2 (length keys) 1 ss (same_to value keys) → AddsLines n2 n3 (length ks) 1 fs (pairs Both ks ss)
-    → AddsLine n3 n4 (gates_of (length fs)) one (any_line (length fs) fs) → AddsFound n0 n4 used keys free value (record { kept = ks; found = fs; one = one })
+pub found_are : (n0 n1 n2 n3 n4 n5 : Net) (used : List Bit) (keys : List Bus) (free ask : Bit) (here : Bus) (homes ks ss ms fs : List Bit) (one : Bit) → length keys ≡ length used
+    → AddsLines n0 n1 (length used) 1 ks (with_line ButNot used free) → AddsLines n1 n2 (length keys) 1 ss (same_to here keys) → AddsLines n2 n3 (length ss) 1 ms (chosen_to ask ss homes)
+    → AddsLines n3 n4 (length ks) 1 fs (pairs Both ks ms) → AddsLine n4 n5 (gates_of (length fs)) one (any_line (length fs) fs)
+    → AddsFound n0 n5 used keys free ask here homes (record { kept = ks; found = fs; one = one })
 unfolding with_line pairs any_line
-found_are n0 n1 n2 n3 n4 used keys free value ks ss fs one many a b c d =
-    let k34 = d.keeps in
-    let k24 = keeps_then n2 n3 n4 c.keeps k34 in
-    let k14 = keeps_then n1 n2 n4 b.keeps k24 in
-    let fs_count : length fs ≡ length used = c.count ∙ a.count in
+found_are n0 n1 n2 n3 n4 n5 used keys free ask here homes ks ss ms fs one many a b c d e =
+    let k45 = e.keeps in
+    let k35 = keeps_then n3 n4 n5 d.keeps k45 in
+    let k25 = keeps_then n2 n3 n5 c.keeps k35 in
+    let k15 = keeps_then n1 n2 n5 b.keeps k25 in
+    let fs_count : length fs ≡ length used = d.count ∙ a.count in
     record {
-      keeps = keeps_then n0 n1 n4 a.keeps k14;
+      keeps = keeps_then n0 n1 n5 a.keeps k15;
       kept_count = a.count;
       found_count = fs_count;
-      kept_bits = bits_kept n1 n4 ks k14 a.bits;
-      found_bits = bits_kept n3 n4 fs k34 c.bits;
-      one_bit = d.bit;
+      kept_bits = bits_kept n1 n5 ks k15 a.bits;
+      found_bits = bits_kept n4 n5 fs k45 d.bits;
+      one_bit = e.bit;
       cost = record {
-        nodes = omega (arith, a.cost.nodes, b.cost.nodes, c.cost.nodes, d.cost.nodes, a.count, many, ap gates_of fs_count);
-        registers = omega (arith, a.cost.registers, b.cost.registers, c.cost.registers, d.cost.registers);
-        memories = omega (arith, a.cost.memories, b.cost.memories, c.cost.memories, d.cost.memories);
+        nodes = omega (arith, a.cost.nodes, b.cost.nodes, c.cost.nodes, d.cost.nodes, e.cost.nodes, a.count, b.count, many, ap gates_of fs_count);
+        registers = omega (arith, a.cost.registers, b.cost.registers, c.cost.registers, d.cost.registers, e.cost.registers);
+        memories = omega (arith, a.cost.memories, b.cost.memories, c.cost.memories, d.cost.memories, e.cost.memories);
       };
       law = λ run r. record {
-        kept = λ k t l. a.line run (k14.runs run r) k t l;
-        found = λ k t l. found_at run used keys free value ks ss fs k (λ u. a.line run (k14.runs run r) k u l) (λ u. b.line run (k24.runs run r) k u (omega (arith, l, many)))
-            (λ u. c.line run (k34.runs run r) k u (omega (arith, l, a.count))) t;
-        one = λ t. d.line run r t ∙ ap (λ n. any_to n (λ k. line_of run fs k t)) fs_count;
+        kept = λ k t l. a.line run (k15.runs run r) k t l;
+        found = λ k t l. found_at run used keys free ask here homes ks ss ms fs k (λ u. a.line run (k15.runs run r) k u l) (λ u. b.line run (k25.runs run r) k u (omega (arith, l, many)))
+            (λ u. c.line run (k35.runs run r) k u (omega (arith, l, many, b.count))) (λ u. d.line run (k45.runs run r) k u (omega (arith, l, a.count))) t;
+        one = λ t. e.line run r t ∙ ap (λ n. any_to n (λ k. line_of run fs k t)) fs_count;
       };
     }
 

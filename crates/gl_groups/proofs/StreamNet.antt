@@ -83,7 +83,7 @@ told_opened old new n width r g h = record {
 }
 
 module _ (n0 n1 n2 n3 n4 : Net) (n width : ℕ) (source : Wire) (look : Looked) (numbers : List Bus) (w : Word) (regs : List Bus) (r : Told) (wide : w.width ≡ 1) (zeros : w.bits ≡ 0)
-    (many : length look.turns ≡ n) (a : AddsNumbers n0 n1 n width numbers) (o : Opens n1 n2 (replicate n w) regs) (h : TellsBoth n2 n3 source look (record { numbers = numbers; width = width; was = map to_bit regs }) r) where
+    (many : length look.turns ≡ n) (a : AddsNumbers n0 n1 (λ k. k) n width numbers) (o : Opens n1 n2 (replicate n w) regs) (h : TellsBoth n2 n3 source look (record { numbers = numbers; width = width; was = map to_bit regs }) r) where
   is_told : IsTold n3 n width r
   is_told = subst (λ (m : ℕ). IsTold n3 m width r) many h.is
 
@@ -114,7 +114,7 @@ module _ (n0 n1 n2 n3 n4 : Net) (n width : ℕ) (source : Wire) (look : Looked) 
   }
 
 -- the numbers, and lines that are registers
-pub streams_are : (n0 n1 n2 : Net) (n width : ℕ) (numbers : List Bus) (was : List Bit) → AddsNumbers n0 n1 n width numbers → Grows n1 n2 → length was ≡ n → AreBits n2 was
+pub streams_are : (n0 n1 n2 : Net) (n width : ℕ) (numbers : List Bus) (was : List Bit) → AddsNumbers n0 n1 (λ k. k) n width numbers → Grows n1 n2 → length was ≡ n → AreBits n2 was
     → AreStreams n2 n (record { numbers = numbers; width = width; was = was })
 streams_are n0 n1 n2 n width numbers was a g many are = record {
   numbers_count = a.count;

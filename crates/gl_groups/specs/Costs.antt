@@ -4,13 +4,14 @@ use Rattle.std.specs.List.{sum}
 use Rattle.gl_algebra.specs.Weights.{weight_of_copies}
 use Rattle.gl_wire.specs.Costs.{Cost}
 use Rattle.gl_wire.specs.Counted.{AreNarrow}
+use Rattle.gl_groups.specs.Picks.{bits_of_slots}
 
 -- a front of so many slots over a source of these columns, with the key in one of them, and the line of ends behind a
 -- timer
 abbrev pub cost_of_front : ℕ → ℕ → List ℕ → Cost
 cost_of_front slots key source = record {
-  nodes = slots * 21 + length source * 2 + 61;
-  registers = slots * (slice_index source key + 3) + sum source + 100;
+  nodes = slots * 28 + length source * 2 + 62;
+  registers = slots * (slice_index source key + 3) + sum source + bits_of_slots slots + 101;
   memories = 0;
 }
 

@@ -24,23 +24,20 @@ use Rattle.gl_groups.specs.Slots.{AreSlots, further_line, is_further, keys_at, s
 abbrev pub column_of : ℕ → Row → ℕ
 column_of key row = slice_index row key
 
--- the row that came last, and the key that is looked for: that of the row that comes, or else of that one
+-- the row that came last, and the key of the row that comes
 pub record IsLookup (run : Run) (source : Wire) (key : ℕ) (r : Lookup) : Type 0 where
   pub row : (t : ℕ)
       → row_at run (suc (suc t)) r.row ≡ (if line_at run source.valid (suc t) then row_at run (suc t) source.columns
       else row_at run (suc t) r.row)
-  pub value : (t : ℕ)
-      → held_at 0 run r.value (suc t)
-      ≡ column_of key (if line_at run source.valid (suc t) then row_at run (suc t) source.columns
-      else row_at run (suc t) r.row)
+  pub here : (t : ℕ) → held_at 0 run r.here (suc t) ≡ column_of key (row_at run (suc t) source.columns)
 
 pub record AddsLookup (old new : Net) (source : Wire) (key : ℕ) (r : Lookup) : Type 0 where
   pub keeps : Keeps old new
   pub row_buses : AreBuses new r.row
   pub row_widths : widths r.row ≡ widths source.columns
-  pub value_bus : IsBus new r.value
-  pub value_width : r.value.width ≡ slice_index (widths source.columns) key
-  pub cost : Costs old new (with_registers (length (widths source.columns) * 2 + 1) (sum (widths source.columns)))
+  pub here_bus : IsBus new r.here
+  pub here_width : r.here.width ≡ slice_index (widths source.columns) key
+  pub cost : Costs old new (with_registers (length (widths source.columns) * 2) (sum (widths source.columns)))
   pub law : (run : Run) → IsRun new run → IsLookup run source key r
 
 -- the slot whose turn it is: with an end the first one, in a flush the next one
@@ -110,10 +107,10 @@ pub record IsLooked (run : Run) (key count stride : ℕ) (source : Wire) (r : Lo
       ≡ is_further (column_of key) (keys_at count (column_of key) stride (carried run source) c)
       ((carried run source).tuple c)
 
-pub record AddsLooked (old new : Net) (key count stride : ℕ) (source : Wire) (r : Looked) : Type 0 where
+pub record AddsLooked (old new : Net) (key count stride width : ℕ) (source : Wire) (r : Looked) : Type 0 where
   pub keeps : Keeps old new
-  pub cost : Costs old new (with_registers (count * 13 + gates_of count + length (widths source.columns) * 2 + 40)
-      (count * (slice_index (widths source.columns) key + 1) + sum (widths source.columns) + 66))
+  pub cost : Costs old new (with_registers (count * 20 + gates_of count + length (widths source.columns) * 2 + 41)
+      (count * (slice_index (widths source.columns) key + 1) + sum (widths source.columns) + width + 66))
   pub row_buses : AreBuses new r.row
   pub row_widths : widths r.row ≡ widths source.columns
   pub keys_count : length r.keys ≡ count
@@ -138,10 +135,10 @@ pub record IsChosen (run : Run) (key count stride : ℕ) (source : Wire) (r : Ch
       ≡ is_further (column_of key) (keys_at count (column_of key) stride (carried run source) c)
       ((carried run source).tuple c)
 
-pub record AddsChosen (old new : Net) (key count stride : ℕ) (source : Wire) (r : Chosen) : Type 0 where
+pub record AddsChosen (old new : Net) (key count stride width : ℕ) (source : Wire) (r : Chosen) : Type 0 where
   pub keeps : Keeps old new
-  pub cost : Costs old new (with_registers (count * 19 + length (widths source.columns) * 2 + 40)
-      (count * (slice_index (widths source.columns) key + 1) + sum (widths source.columns) + 66))
+  pub cost : Costs old new (with_registers (count * 26 + length (widths source.columns) * 2 + 41)
+      (count * (slice_index (widths source.columns) key + 1) + sum (widths source.columns) + width + 66))
   pub row_buses : AreBuses new r.row
   pub row_widths : widths r.row ≡ widths source.columns
   pub keys_count : length r.keys ≡ count
@@ -160,10 +157,10 @@ pub record IsFront (run : Run) (key count stride : ℕ) (source : Wire) (r : Fro
   pub shown : AreKeys count (column_of key) stride (carried run source) (held_of run r.keys)
   pub told : (c : ℕ) → line_at run r.further c ≡ further_line count (column_of key) stride (carried run source) c
 
-pub record AddsFront (old new : Net) (key count stride : ℕ) (source : Wire) (r : Front) : Type 0 where
+pub record AddsFront (old new : Net) (key count stride width : ℕ) (source : Wire) (r : Front) : Type 0 where
   pub keeps : Keeps old new
-  pub cost : Costs old new (with_registers (count * 21 + length (widths source.columns) * 2 + 41)
-      (count * (slice_index (widths source.columns) key + 3) + sum (widths source.columns) + 67))
+  pub cost : Costs old new (with_registers (count * 28 + length (widths source.columns) * 2 + 42)
+      (count * (slice_index (widths source.columns) key + 3) + sum (widths source.columns) + width + 67))
   pub as_many : length r.wires ≡ count
   pub wires : (k : ℕ) (w : Wire) → slice_get r.wires k ≡ Some w → IsWire new w
       × (widths w.columns ≡ widths source.columns)

@@ -1,7 +1,6 @@
 -- A lane of a group in a netlist, and what puts the keys in front of the totals of its slots.
 use Rattle.std.specs.Prelude.{◌≡◌, ℕ, ◌+◌, ◌*◌, ◌<◌, ◌≤◌, ◌||◌, ◌∷◌, List, length, Some, true, slice_get, slice_index}
 use Rattle.std.specs.List.{sum}
-use Rattle.gl_algebra.specs.Cost.{least_exponent}
 use Rattle.gl_algebra.specs.FigureTable.{stride_of}
 use Rattle.gl_bits.specs.Results.{Row}
 use Rattle.gl_net.specs.declared.node.Bus.{Bus}
@@ -19,18 +18,15 @@ use Rattle.gl_groups.specs.declared.grouping.Grouping.{Grouping}
 use Rattle.gl_groups.specs.declared.laning.Lane.{Lane}
 use Rattle.gl_groups.specs.Groupings.{AreKeys, AwaitsFlush, close_cycles, close_delay, in_front, key_of}
 use Rattle.gl_groups.specs.Joins.{width_of_keys}
+use Rattle.gl_groups.specs.Picks.{bits_of_slots}
 use Rattle.gl_groups.specs.SlotLines.{held_of}
 use Rattle.gl_groups.specs.Slots.{AreSlots, came_further}
-
--- the bits of a slot's number: the least, and at least one
-abbrev pub bits_of_slots : ℕ → ℕ
-bits_of_slots slots = least_exponent slots 1 slots
 
 -- a lane of so many slots over a source of these columns, with the key in one of them, and the line of ends
 abbrev pub cost_of_lane : ℕ → ℕ → List ℕ → Cost
 cost_of_lane slots key source = record {
-  nodes = slots * 44 + length source * 2 + 64;
-  registers = slots * (slice_index source key + 2) + sum source + bits_of_slots slots + 103;
+  nodes = slots * 51 + length source * 2 + 65;
+  registers = slots * (slice_index source key + 2) + sum source + bits_of_slots slots * 2 + 104;
   memories = 0;
 }
 

@@ -140,8 +140,8 @@ pub record IsLane (run : Run) (key count stride : ℕ) (source : Wire) (r : Lane
 
 pub record AddsLane (old new : Net) (key count stride width : ℕ) (source : Wire) (r : LaneLines) : Type 0 where
   pub keeps : Keeps old new
-  pub cost : Costs old new (with_registers (count * 44 + length (widths source.columns) * 2 + 44)
-      (count * (slice_index (widths source.columns) key + 2) + sum (widths source.columns) + width + 70))
+  pub cost : Costs old new (with_registers (count * 51 + length (widths source.columns) * 2 + 45)
+      (count * (slice_index (widths source.columns) key + 2) + sum (widths source.columns) + width * 2 + 71))
   pub wire : IsWire new r.wire
   pub same_widths : widths r.wire.columns ≡ widths source.columns
   pub slot : IsBus new r.slot

@@ -8,6 +8,7 @@ pub mod Fronts
 pub mod Costs
 pub mod Joins
 pub mod Picks
+pub mod Homes
 pub mod Choices
 pub mod Lanes
 pub mod Laned

@@ -1,5 +1,6 @@
 -- Of buses the one whose line is 1.
 use Rattle.std.specs.Prelude.{◌≡◌, ℕ, suc, ◌<◌, List, length, Some, true, false, slice_get, if◌then◌else◌, bit_or}
+use Rattle.gl_algebra.specs.Cost.{least_exponent}
 use Rattle.gl_net.specs.declared.node.Bus.{Bus}
 use Rattle.gl_net.specs.declared.node.Bit.{Bit}
 use Rattle.gl_net.specs.Net.{Net, Run, IsRun, IsBus, Keeps}
@@ -8,6 +9,10 @@ use Rattle.gl_wire.specs.Wire.{line_at}
 use Rattle.gl_wire_registers.specs.Held.{held_at}
 use Rattle.gl_wire_registers.specs.Lines.{line_of}
 use Rattle.gl_groups.specs.SlotLines.{held_of}
+
+-- the bits of a slot's number: the least, and at least one
+abbrev pub bits_of_slots : ℕ → ℕ
+bits_of_slots slots = least_exponent slots 1 slots
 
 -- buses of this width are in the netlist
 pub record AreAlike (net : Net) (width : ℕ) (bs : List Bus) : Type 0 where
@@ -58,10 +63,10 @@ pub record IsNumber (old new : Net) (number width : ℕ) (b : Bus) : Type 0 wher
   pub cost : Costs old new (nodes_alone 1)
   pub value : (run : Run) → IsRun new run → (t : ℕ) → held_at 0 run b (suc t) ≡ number
 
--- for each of n places its number
-pub record AddsNumbers (old new : Net) (n width : ℕ) (bs : List Bus) : Type 0 where
+-- for each of n places its number, by a rule
+pub record AddsNumbers (old new : Net) (of : ℕ → ℕ) (n width : ℕ) (bs : List Bus) : Type 0 where
   pub keeps : Keeps old new
   pub count : length bs ≡ n
   pub alike : AreAlike new width bs
   pub cost : Costs old new (nodes_alone n)
-  pub value : (run : Run) → IsRun new run → (k t : ℕ) → k < n → held_of run bs k (suc t) ≡ k
+  pub value : (run : Run) → IsRun new run → (k t : ℕ) → k < n → held_of run bs k (suc t) ≡ of k

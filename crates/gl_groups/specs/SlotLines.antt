@@ -1,5 +1,5 @@
 -- Slots in registers, from the reset cycle on.
-use Rattle.std.specs.Prelude.{◌≡◌, ℕ, zero, suc, ◌+◌, ◌*◌, ◌<◌, List, [], ◌∷◌, length, Some, Bool, false, slice_get, if◌then◌else◌, nat_eq, not, ◌&&◌}
+use Rattle.std.specs.Prelude.{◌≡◌, ℕ, zero, suc, ◌+◌, ◌*◌, ◌<◌, List, [], ◌∷◌, length, Some, Bool, true, false, slice_get, if◌then◌else◌, nat_eq, not, ◌&&◌}
 use Rattle.gl_net.specs.declared.node.Bus.{Bus}
 use Rattle.gl_net.specs.declared.node.Bit.{Bit}
 use Rattle.gl_net.specs.Net.{Net, Run, IsRun, IsBit, IsBus, Keeps}
@@ -31,35 +31,47 @@ unfoldable pub same_to : Bus → List Bus → Run → ℕ → ℕ → Bool
 same_to value keys run k zero = false
 same_to value keys run k (suc t) = nat_eq (held_at 0 run value (suc t)) (held_of run keys k (suc t))
 
--- what the slots are in a cycle
-abbrev pub sought_at : Run → List Bit → List Bus → Bit → Bit → Bus → ℕ → Sought
+-- what the slots are in a cycle, where these are the keys that are looked for
+abbrev pub sought_at : Run → List Bit → List Bus → Bit → Bit → (ℕ → ℕ) → ℕ → Sought
 sought_at run used keys free ask value t = record {
   used = λ k. line_of run used k t;
   key = λ k. held_of run keys k t;
   free = line_at run free t;
   ask = line_at run ask t;
-  value = held_at 0 run value t;
+  value = value t;
 }
 
+-- whether a slot's key is that of the row that comes, and where none comes, whether the slot's line is 1
+abbrev pub has_key : Run → List Bus → Bit → Bus → List Bit → ℕ → ℕ → Bool
+has_key run keys ask here homes k t =
+    if line_at run ask t then nat_eq (held_at 0 run here t) (held_of run keys k t) else line_of run homes k t
+
+-- in a cycle this tells of those of n slots that are used which one has a key
+abbrev pub FindsKey : Run → ℕ → List Bit → List Bus → Bit → Bus → List Bit → ℕ → ℕ → Type 0
+FindsKey run n used keys ask here homes value t =
+    (k : ℕ) → k < n → line_of run used k t ≡ true
+    → has_key run keys ask here homes k t ≡ nat_eq value (held_of run keys k t)
+
 -- which slots have the key, and whether one of them has
-pub record IsFound (run : Run) (used : List Bit) (keys : List Bus) (free : Bit) (value : Bus) (r : Found) : Type 0 where
+pub record IsFound (run : Run) (used : List Bit) (keys : List Bus) (free ask : Bit) (here : Bus) (homes : List Bit)
+    (r : Found) : Type 0 where
   pub kept : (k t : ℕ) → k < length used
       → line_of run r.kept k t ≡ (line_of run used k t && not (line_at run free t))
   pub found : (k t : ℕ) → k < length used
       → line_of run r.found k t
-      ≡ ((line_of run used k t && not (line_at run free t)) && nat_eq (held_at 0 run value t) (held_of run keys k t))
+      ≡ ((line_of run used k t && not (line_at run free t)) && has_key run keys ask here homes k t)
   pub one : (t : ℕ) → line_at run r.one t ≡ any_to (length used) (λ k. line_of run r.found k t)
 
-pub record AddsFound (old new : Net) (used : List Bit) (keys : List Bus) (free : Bit) (value : Bus) (r : Found)
-    : Type 0 where
+pub record AddsFound (old new : Net) (used : List Bit) (keys : List Bus) (free ask : Bit) (here : Bus)
+    (homes : List Bit) (r : Found) : Type 0 where
   pub keeps : Keeps old new
   pub kept_count : length r.kept ≡ length used
   pub found_count : length r.found ≡ length used
   pub kept_bits : AreBits new r.kept
   pub found_bits : AreBits new r.found
   pub one_bit : IsBit new r.one
-  pub cost : Costs old new (nodes_alone (length used * 3 + gates_of (length used)))
-  pub law : (run : Run) → IsRun new run → IsFound run used keys free value r
+  pub cost : Costs old new (nodes_alone (length used * 4 + gates_of (length used)))
+  pub law : (run : Run) → IsRun new run → IsFound run used keys free ask here homes r
 
 -- whether a key comes and the slot before is used
 unfoldable pub asked_of : Bit → List Bit → Run → ℕ → ℕ → Bool
@@ -88,15 +100,15 @@ pub record AddsNexts (old new : Net) (nexts : List Bit) (value : Bus) (keys : Li
       → held_of run bs k (suc t) ≡ (if line_of run nexts k (suc t) then held_at 0 run value (suc t)
       else held_of run keys k (suc t))
 
--- what n slots make of the key, where this is what they are in each cycle
-pub record IsSeen (run : Run) (n : ℕ) (s : ℕ → Sought) (r : Seen) : Type 0 where
-  pub one : (t : ℕ) → line_at run r.one t ≡ any_to n (found (s t))
-  pub kept : (k t : ℕ) → k < n → line_of run r.kept k t ≡ kept (s t) k
-  pub found : (k t : ℕ) → k < n → line_of run r.found k t ≡ found (s t) k
-  pub nexts : (k t : ℕ) → k < n → line_of run r.nexts k t ≡ is_next (s t) k
-  pub takes : (k t : ℕ) → k < n → line_of run r.takes k t ≡ takes n (s t) k
-  pub has : (k t : ℕ) → k < n → line_of run r.has k t ≡ has n (s t) k
-  pub passes : (t : ℕ) → line_at run r.passes t ≡ asked n (s t) n
+-- what n slots make of the key in a cycle, where this is what they are then
+pub record IsSeen (run : Run) (n : ℕ) (s : Sought) (r : Seen) (t : ℕ) : Type 0 where
+  pub one : line_at run r.one t ≡ any_to n (found s)
+  pub kept : (k : ℕ) → k < n → line_of run r.kept k t ≡ kept s k
+  pub found : (k : ℕ) → k < n → line_of run r.found k t ≡ found s k
+  pub nexts : (k : ℕ) → k < n → line_of run r.nexts k t ≡ is_next s k
+  pub takes : (k : ℕ) → k < n → line_of run r.takes k t ≡ takes n s k
+  pub has : (k : ℕ) → k < n → line_of run r.has k t ≡ has n s k
+  pub passes : line_at run r.passes t ≡ asked n s n
 
 -- the lines of n slots
 pub record AreSeen (net : Net) (n : ℕ) (r : Seen) : Type 0 where
@@ -113,63 +125,98 @@ pub record AreSeen (net : Net) (n : ℕ) (r : Seen) : Type 0 where
   pub has : AreBits net r.has
   pub passes : IsBit net r.passes
 
-pub record AddsSeen (old new : Net) (used : List Bit) (keys : List Bus) (free ask : Bit) (value : Bus) (r : Seen)
-    : Type 0 where
+-- what the slots make of a key, in each cycle in which it is told which one has it; which one is next is told in any
+pub record AddsSeen (old new : Net) (used : List Bit) (keys : List Bus) (free ask : Bit) (here : Bus)
+    (homes : List Bit) (r : Seen) : Type 0 where
   pub keeps : Keeps old new
   pub are : AreSeen new (length used) r
-  pub cost : Costs old new (nodes_alone (length used * 7 + gates_of (length used) + 1))
-  pub law : (run : Run) → IsRun new run → IsSeen run (length used) (sought_at run used keys free ask value) r
+  pub cost : Costs old new (nodes_alone (length used * 8 + gates_of (length used) + 1))
+  pub nexts : (run : Run) → IsRun new run → (value : ℕ → ℕ) (k t : ℕ) → k < length used
+      → line_of run r.nexts k t ≡ is_next (sought_at run used keys free ask value t) k
+  pub law : (run : Run) → IsRun new run → (value : ℕ → ℕ) (t : ℕ)
+      → FindsKey run (length used) used keys ask here homes (value t) t
+      → IsSeen run (length used) (sought_at run used keys free ask value t) r t
 
 -- and the keys that they keep
-pub record AddsSeek (old new : Net) (used : List Bit) (keys : List Bus) (free ask : Bit) (value : Bus) (r : Seek)
-    : Type 0 where
+pub record AddsSeek (old new : Net) (used : List Bit) (keys : List Bus) (free ask : Bit) (here : Bus)
+    (homes : List Bit) (r : Seek) : Type 0 where
   pub keeps : Keeps old new
   pub are : AreSeen new (length used) r.seen
   pub keys_count : length r.keys ≡ length used
-  pub wide : AreKeysOf new value r.keys
-  pub cost : Costs old new (nodes_alone (length used * 8 + gates_of (length used) + 1))
-  pub law : (run : Run) → IsRun new run → IsSeen run (length used) (sought_at run used keys free ask value) r.seen
-  pub key : (run : Run) → IsRun new run → (k t : ℕ) → k < length used
+  pub wide : AreKeysOf new here r.keys
+  pub cost : Costs old new (nodes_alone (length used * 9 + gates_of (length used) + 1))
+  pub law : (run : Run) → IsRun new run → (value : ℕ → ℕ) (t : ℕ)
+      → FindsKey run (length used) used keys ask here homes (value t) t
+      → IsSeen run (length used) (sought_at run used keys free ask value t) r.seen t
+  pub key : (run : Run) → IsRun new run → (value : ℕ → ℕ) (k t : ℕ) → k < length used
       → held_of run r.keys k (suc t)
-      ≡ (if is_next (sought_at run used keys free ask value (suc t)) k then held_at 0 run value (suc t)
+      ≡ (if is_next (sought_at run used keys free ask value (suc t)) k then held_at 0 run here (suc t)
       else held_of run keys k (suc t))
 
 -- n slots beside the lines that tell which ones are used: one that may take the key keeps it, whether it is used then
 -- or not
-pub record AreKeyLines (run : Run) (n : ℕ) (used : List Bit) (free ask : Bit) (value : Bus) (r : KeyLines)
-    : Type 0 where
-  pub key : (k t : ℕ) → k < n
+pub record AreKeyLines (run : Run) (n : ℕ) (used : List Bit) (free ask : Bit) (here : Bus) (homes : List Bit)
+    (r : KeyLines) : Type 0 where
+  pub key : (value : ℕ → ℕ) (k t : ℕ) → k < n
       → held_of run r.keys k (suc t)
-      ≡ (if is_next (sought_at run used r.keys free ask value t) k then held_at 0 run value t
+      ≡ (if is_next (sought_at run used r.keys free ask value t) k then held_at 0 run here t
       else held_of run r.keys k t)
-  pub seen : IsSeen run n (sought_at run used r.keys free ask value) r.seen
+  pub seen : (value : ℕ → ℕ) (t : ℕ) → FindsKey run n used r.keys ask here homes (value t) t
+      → IsSeen run n (sought_at run used r.keys free ask value t) r.seen t
 
-pub record AddsKeys (old new : Net) (used : List Bit) (free ask : Bit) (value : Bus) (r : KeyLines) : Type 0 where
+pub record AddsKeys (old new : Net) (used : List Bit) (free ask : Bit) (here : Bus) (homes : List Bit) (r : KeyLines)
+    : Type 0 where
   pub keeps : Keeps old new
   pub keys_count : length r.keys ≡ length used
-  pub keys : AreKeysOf new value r.keys
+  pub keys : AreKeysOf new here r.keys
   pub are : AreSeen new (length used) r.seen
   pub cost : Costs old new
-      (with_registers (length used * 9 + gates_of (length used) + 1) (length used * value.width))
-  pub law : (run : Run) → IsRun new run → AreKeyLines run (length used) used free ask value r
+      (with_registers (length used * 10 + gates_of (length used) + 1) (length used * here.width))
+  pub law : (run : Run) → IsRun new run → AreKeyLines run (length used) used free ask here homes r
 
--- n slots
-pub record AreSlotLines (run : Run) (free ask : Bit) (value : Bus) (n : ℕ) (r : SlotLines) : Type 0 where
-  pub used : (k t : ℕ) → k < n
-      → line_of run r.used k (suc t) ≡ has n (sought_at run r.used r.keys free ask value t) k
-  pub key : (k t : ℕ) → k < n
+-- n slots beside the lines that tell which one has the key of the row that came last
+pub record AreKept (run : Run) (free ask : Bit) (here : Bus) (homes : List Bit) (n : ℕ) (r : SlotLines) : Type 0 where
+  pub used : (k t : ℕ) → k < n → line_of run r.used k (suc t) ≡ line_of run r.seen.has k t
+  pub key : (value : ℕ → ℕ) (k t : ℕ) → k < n
       → held_of run r.keys k (suc t)
-      ≡ (if is_next (sought_at run r.used r.keys free ask value t) k then held_at 0 run value t
+      ≡ (if is_next (sought_at run r.used r.keys free ask value t) k then held_at 0 run here t
       else held_of run r.keys k t)
-  pub seen : IsSeen run n (sought_at run r.used r.keys free ask value) r.seen
+  pub seen : (value : ℕ → ℕ) (t : ℕ) → FindsKey run n r.used r.keys ask here homes (value t) t
+      → IsSeen run n (sought_at run r.used r.keys free ask value t) r.seen t
 
--- so many slots more
-pub record AddsSlots (old new : Net) (free ask : Bit) (value : Bus) (n : ℕ) (r : SlotLines) : Type 0 where
+pub record AddsKept (old new : Net) (free ask : Bit) (here : Bus) (homes : List Bit) (n : ℕ) (r : SlotLines)
+    : Type 0 where
   pub keeps : Keeps old new
   pub used_count : length r.used ≡ n
   pub keys_count : length r.keys ≡ n
   pub keys_there : AreBuses new r.keys
-  pub keys_width : (k : ℕ) (b : Bus) → slice_get r.keys k ≡ Some b → b.width ≡ value.width
+  pub keys_width : (k : ℕ) (b : Bus) → slice_get r.keys k ≡ Some b → b.width ≡ here.width
   pub are : AreSeen new n r.seen
-  pub cost : Costs old new (with_registers (n * 10 + gates_of n + 1) (n * (value.width + 1)))
-  pub law : (run : Run) → IsRun new run → AreSlotLines run free ask value n r
+  pub cost : Costs old new (with_registers (n * 11 + gates_of n + 1) (n * (here.width + 1)))
+  pub law : (run : Run) → IsRun new run → AreKept run free ask here homes n r
+
+-- the key that is looked for: that of the row that comes, and else that of the one that came last
+pub record IsLatest (run : Run) (ask : Bit) (here : Bus) (value : ℕ → ℕ) : Type 0 where
+  pub comes : (t : ℕ) → line_at run ask t ≡ true → value t ≡ held_at 0 run here t
+  pub stays : (t : ℕ) → line_at run ask (suc (suc t)) ≡ false → value (suc (suc t)) ≡ value (suc t)
+
+-- n slots
+pub record AreSlotLines (run : Run) (free ask : Bit) (value : ℕ → ℕ) (n : ℕ) (r : SlotLines) : Type 0 where
+  pub used : (k t : ℕ) → k < n
+      → line_of run r.used k (suc t) ≡ has n (sought_at run r.used r.keys free ask value t) k
+  pub key : (k t : ℕ) → k < n
+      → held_of run r.keys k (suc t)
+      ≡ (if is_next (sought_at run r.used r.keys free ask value t) k then value t else held_of run r.keys k t)
+  pub seen : (t : ℕ) → IsSeen run n (sought_at run r.used r.keys free ask value t) r.seen t
+
+-- so many slots more, which look for the latest key; a register of so many bits tells which one has it
+pub record AddsSlots (old new : Net) (free ask : Bit) (here : Bus) (n width : ℕ) (r : SlotLines) : Type 0 where
+  pub keeps : Keeps old new
+  pub used_count : length r.used ≡ n
+  pub keys_count : length r.keys ≡ n
+  pub keys_there : AreBuses new r.keys
+  pub keys_width : (k : ℕ) (b : Bus) → slice_get r.keys k ≡ Some b → b.width ≡ here.width
+  pub are : AreSeen new n r.seen
+  pub cost : Costs old new (with_registers (n * 17 + gates_of n + 3) (n * (here.width + 1) + width))
+  pub law : (run : Run) → IsRun new run → (value : ℕ → ℕ) → IsLatest run ask here value
+      → AreSlotLines run free ask value n r

@@ -1,25 +1,27 @@
 //! The front of groups: which slot takes a tuple, and which takes an end.
 
-ghost use Rattle.std.specs.Prelude.{◌<◌, ◌≤◌, IfOk, length};
+ghost use Rattle.std.specs.Prelude.{◌<◌, ◌≤◌, ◌^◌, IfOk, length};
+ghost use Rattle.gl_bits.specs.Words.{IsWidth};
 ghost use Rattle.gl_net.specs.Net.{IsBit};
 ghost use Rattle.gl_wire.specs.Wire.{IsWire};
 ghost use Rattle.gl_groups.specs.Fronts.{AddsChosen, AddsFront, AddsLooked, AddsLookup, AddsTurning};
 
+use crate::homes::put_slots;
 use crate::parts::{count_flush, count_turns, keep_tail, take_rows, turn_lines};
-use crate::slots::{Seen, put_slots};
+use crate::slots::Seen;
 use gl_bits::Memory;
 use gl_net::{Bit, Bus, Buses, NetBuilder};
 use gl_wire::{Wire, later_bit};
 use gl_wire_registers::{Bits, LineOp, Wires, copy_wires, hold_all, pairwise};
 use std::alloc::Global;
 
-/// The row that came last, and the key that is looked for.
+/// The row that came last, and the key of the row that comes.
 #[derive(Drop)]
 pub struct Lookup {
     /// The columns of the row that came last, before this cycle.
     pub row: Buses,
-    /// The key of the row that comes, or else of that one.
-    pub value: Bus,
+    /// The key of the row that comes.
+    pub here: Bus,
 }
 
 /// Whose turn it is.
@@ -72,7 +74,7 @@ pub struct Front {
     pub further: Bit,
 }
 
-/// Keeps the row that came last, and chooses the key that is looked for.
+/// Keeps the row that came last, beside the key of the row that comes.
 pub fn look_up(
     alloc: Global,
     net: &mut NetBuilder,
@@ -85,9 +87,7 @@ pub fn look_up(
 {
     let row = hold_all(alloc, net, wire.valid, &wire.columns)?;
     let here = wire.columns.as_slice()[key];
-    let last = row.as_slice()[key];
-    let value = net.choose(wire.valid, here, last)?;
-    Ok(Lookup { row, value })
+    Ok(Lookup { row, here })
 }
 
 /// The slot whose turn it is.
@@ -111,7 +111,7 @@ pub fn turn_slots(
     })
 }
 
-/// Looks at the slots, by the key in a column, whose ends are `stride` cycles apart in a flush.
+/// Looks at the slots, by the key in a column, whose ends are `stride` cycles apart in a flush; the mark of a slot has so many bits.
 #[tactic(auto, using(gl_wire_registers::proofs::LineLemmas::bits_kept, gl_wire::proofs::ColumnLemmas::buses_kept))]
 pub fn look_all(
     alloc: Global,
@@ -120,17 +120,20 @@ pub fn look_all(
     key: usize,
     count: u32,
     stride: u32,
+    width: u8,
 ) -> Result<Looked, Memory>
     requires wire { IsWire net.old wire.now }
     requires key { key < length wire.now.columns }
     requires count { 1 ≤ count }
     requires stride { 1 ≤ stride }
-    ensures { IfOk result (AddsLooked net.old net.new key count stride wire.now) }
+    requires width { IsWidth width }
+    requires fits { count < 2 ^ width }
+    ensures { IfOk result (AddsLooked net.old net.new key count stride width wire.now) }
 {
     let flush = count_flush(net, wire.valid, wire.eos, stride)?;
     let tail = keep_tail(net, wire.valid, wire.eos, flush.idle)?;
     let look = look_up(alloc, net, wire, key)?;
-    let slots = put_slots(alloc, net, flush.free, wire.valid, look.value, count)?;
+    let slots = put_slots(alloc, net, flush.free, wire.valid, look.here, count, width)?;
     let turning = turn_slots(alloc, net, wire.eos, flush.due, count)?;
     Ok(Looked {
         row: look.row,
@@ -150,14 +153,17 @@ pub fn choose_slots(
     key: usize,
     count: u32,
     stride: u32,
+    width: u8,
 ) -> Result<Chosen, Memory>
     requires wire { IsWire net.old wire.now }
     requires key { key < length wire.now.columns }
     requires count { 1 ≤ count }
     requires stride { 1 ≤ stride }
-    ensures { IfOk result (AddsChosen net.old net.new key count stride wire.now) }
+    requires width { IsWidth width }
+    requires fits { count < 2 ^ width }
+    ensures { IfOk result (AddsChosen net.old net.new key count stride width wire.now) }
 {
-    let look = look_all(alloc, net, wire, key, count, stride)?;
+    let look = look_all(alloc, net, wire, key, count, stride, width)?;
     let ends = pairwise(alloc, net, LineOp::Both, &look.turns, &look.seen.has)?;
     let has_key = pairwise(
         alloc,
@@ -184,14 +190,17 @@ pub fn put_front(
     key: usize,
     count: u32,
     stride: u32,
+    width: u8,
 ) -> Result<Front, Memory>
     requires wire { IsWire net.old wire.now }
     requires key { key < length wire.now.columns }
     requires count { 1 ≤ count }
     requires stride { 1 ≤ stride }
-    ensures { IfOk result (AddsFront net.old net.new key count stride wire.now) }
+    requires width { IsWidth width }
+    requires fits { count < 2 ^ width }
+    ensures { IfOk result (AddsFront net.old net.new key count stride width wire.now) }
 {
-    let chosen = choose_slots(alloc, net, wire, key, count, stride)?;
+    let chosen = choose_slots(alloc, net, wire, key, count, stride, width)?;
     let wires = copy_wires(alloc, net, &chosen.takes, &chosen.ends, &chosen.row)?;
     let further = later_bit(net, chosen.passes)?;
     Ok(Front {

@@ -9,6 +9,7 @@ ghost use Rattle.gl_groups.specs.Groupings.{IsGrouping, close_cycles};
 ghost use Rattle.gl_wire_registers.specs.Joins.{AreCopies};
 
 use crate::front::put_front;
+use crate::homes::mark_bits;
 use crate::joins::join_all;
 use gl_algebra::Figures;
 use gl_bits::Memory;
@@ -75,7 +76,16 @@ impl Grouping {
     {
         let stride = self.stride();
         let cycles = self.cycles();
-        let front = put_front(alloc, net, &source.wire, self.key, self.slots, stride)?;
+        let width = mark_bits(self.slots);
+        let front = put_front(
+            alloc,
+            net,
+            &source.wire,
+            self.key,
+            self.slots,
+            stride,
+            width,
+        )?;
         let close = close_line(net, source.wire.eos, cycles, 0)?;
         Ok(Fronted {
             source,

@@ -239,10 +239,11 @@ pub fn put_lane(
     requires count { 1 ≤ count }
     requires stride { 1 ≤ stride }
     requires width { IsWidth width }
+    requires few { width ≤ 32 }
     requires fits { count ≤ 2 ^ width }
     ensures { IfOk result (AddsLane net.old net.new key count stride width wire.now) }
 {
-    let look = look_all(alloc, net, wire, key, count, stride)?;
+    let look = look_all(alloc, net, wire, key, count, stride, width + 1)?;
     let told = put_told(alloc, net, wire, &look, count, width)?;
     let valid = later_bit(net, told.row)?;
     let eos = later_bit(net, told.end)?;

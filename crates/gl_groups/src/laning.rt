@@ -1,18 +1,17 @@
 //! Groups over one wire in place of a wire for each slot: the lane, and what puts the keys in front of the totals of its slots.
 
-ghost use Rattle.std.specs.Prelude.{◌≡◌, ◌<◌, ◌≤◌, ◌^◌, IfOk, length};
-ghost use Rattle.gl_algebra.specs.Cost.{least_exponent};
-ghost use Rattle.gl_bits.specs.Words.{IsWidth};
+ghost use Rattle.std.specs.Prelude.{◌≡◌, ◌<◌, IfOk, length};
 ghost use Rattle.gl_net.specs.Net.{IsBit, IsBus};
 ghost use Rattle.gl_wire.specs.Wire.{IsWire};
 ghost use Rattle.gl_groups.specs.Groupings.{IsGrouping};
 ghost use Rattle.gl_groups.specs.Joins.{AreKeyBuses};
-ghost use Rattle.gl_groups.specs.Laned.{IsGathered, IsLaned, bits_of_slots};
+ghost use Rattle.gl_groups.specs.Laned.{IsGathered, IsLaned};
+ghost use Rattle.gl_groups.specs.Picks.{bits_of_slots};
 
 use crate::grouping::Grouping;
 use crate::joins::with_first;
 use crate::lane::put_lane;
-use crate::pick::{numbers, pick};
+use crate::pick::{numbers, pick, slot_bits};
 use crate::slots::same_each;
 use gl_bits::Memory;
 use gl_net::{Bit, Bus, Buses, NetBuilder};
@@ -36,31 +35,6 @@ pub struct Lane {
     pub keys: Buses,
     /// 1 one cycle after a row of a further key.
     pub further: Bit,
-}
-
-// The least exponent, of so many from this one on, whose power of two is at least the number of slots.
-fn least_exponent(more: u64, exponent: u8, slots: u64) -> u8
-    requires exponent { exponent ≤ 32 }
-    requires slots { slots ≤ 2 ^ 32 }
-    ensures value { result ≡ least_exponent more exponent slots }
-    ensures low { exponent ≤ result }
-    ensures high { result ≤ 32 }
-{
-    if more == 0 || slots <= 1u64 << exponent {
-        exponent
-    } else {
-        least_exponent(more - 1, exponent + 1, slots)
-    }
-}
-
-/// The bits of a slot's number.
-fn slot_bits(slots: u32) -> u8
-    ensures value { result ≡ bits_of_slots slots }
-    ensures width { IsWidth result }
-    ensures few { result ≤ 32 }
-    ensures enough { slots ≤ 2 ^ result }
-{
-    least_exponent(u64::from(slots), 1, u64::from(slots))
 }
 
 impl Grouping {

@@ -6,6 +6,7 @@
 pub mod choices;
 pub mod front;
 pub mod grouping;
+pub mod homes;
 pub mod joins;
 pub mod lane;
 pub mod laning;

@@ -1,10 +1,11 @@
 //! Of buses the one whose line is 1: each bus where its line is 1 and else 0, and the bits of all of them together, in a tree.
 
 ghost use Rattle.std.specs.Prelude.{◌≡◌, ◌<◌, ◌≤◌, ◌*◌, ◌-◌, ◌^◌, IfOk, length};
+ghost use Rattle.gl_algebra.specs.Cost.{least_exponent};
 ghost use Rattle.gl_bits.specs.Words.{IsWidth};
 ghost use Rattle.gl_net.specs.Net.{IsBit, IsBus};
 ghost use Rattle.gl_wire_registers.specs.Lines.{AreBits};
-ghost use Rattle.gl_groups.specs.Picks.{AddsNumbers, AreAlike, CarriesZero, IsNumber, Masks, Merges, PicksOne};
+ghost use Rattle.gl_groups.specs.Picks.{AddsNumbers, AreAlike, CarriesZero, IsNumber, Masks, Merges, PicksOne, bits_of_slots};
 
 use gl_bits::Memory;
 use gl_net::{BinaryOp, Bit, Bus, Buses, NetBuilder};
@@ -75,8 +76,8 @@ pub fn pick(net: &mut NetBuilder, lines: &[Bit], buses: &[Bus], width: u8) -> Re
     Ok(picked)
 }
 
-// A bus that carries a number.
-fn number(net: &mut NetBuilder, number: u32, width: u8) -> Result<Bus, Memory>
+/// A bus that carries a number.
+pub fn number(net: &mut NetBuilder, number: u32, width: u8) -> Result<Bus, Memory>
     requires width { IsWidth width }
     requires fits { number < 2 ^ width }
     ensures { IfOk result (IsNumber net.old net.new number width) }
@@ -90,7 +91,7 @@ fn number(net: &mut NetBuilder, number: u32, width: u8) -> Result<Bus, Memory>
 pub fn numbers(alloc: Global, net: &mut NetBuilder, count: u32, width: u8) -> Result<Buses, Memory>
     requires width { IsWidth width }
     requires fits { count ≤ 2 ^ width }
-    ensures { IfOk result (AddsNumbers net.old net.new count width) }
+    ensures { IfOk result (AddsNumbers net.old net.new (λ k. k) count width) }
 {
     let mut all = Buses::new(alloc);
     for place in 0..count {
@@ -98,4 +99,29 @@ pub fn numbers(alloc: Global, net: &mut NetBuilder, count: u32, width: u8) -> Re
         all.push(bus)?;
     }
     Ok(all)
+}
+
+// The least exponent, of so many from this one on, whose power of two is at least the number of slots.
+fn least_exponent(more: u64, exponent: u8, slots: u64) -> u8
+    requires exponent { exponent ≤ 32 }
+    requires slots { slots ≤ 2 ^ 32 }
+    ensures value { result ≡ least_exponent more exponent slots }
+    ensures low { exponent ≤ result }
+    ensures high { result ≤ 32 }
+{
+    if more == 0 || slots <= 1u64 << exponent {
+        exponent
+    } else {
+        least_exponent(more - 1, exponent + 1, slots)
+    }
+}
+
+/// The bits of a slot's number.
+pub fn slot_bits(slots: u32) -> u8
+    ensures value { result ≡ bits_of_slots slots }
+    ensures width { IsWidth result }
+    ensures few { result ≤ 32 }
+    ensures enough { slots ≤ 2 ^ result }
+{
+    least_exponent(u64::from(slots), 1, u64::from(slots))
 }

@@ -3,8 +3,9 @@
 ghost use Rattle.std.specs.Prelude.{◌≡◌, IfOk, length};
 ghost use Rattle.gl_net.specs.Net.{IsBit, IsBus};
 ghost use Rattle.gl_wire_registers.specs.Lines.{AddsLines, AreBits};
-ghost use Rattle.gl_groups.specs.SlotLines.{AddsAsks, AddsFound, AddsKeys, AddsNexts, AddsSeek, AddsSeen, AddsSlots, AreKeysOf, same_to};
+ghost use Rattle.gl_groups.specs.SlotLines.{AddsAsks, AddsFound, AddsKept, AddsKeys, AddsNexts, AddsSeek, AddsSeen, AreKeysOf, same_to};
 
+use crate::choices::choose_each;
 use gl_bits::Memory;
 use gl_net::{Bit, Bus, Buses, NetBuilder};
 use gl_wire::{both, but_not, same};
@@ -101,25 +102,33 @@ pub fn same_each(
     Ok(all)
 }
 
-/// Looks at all slots at once: which ones have the key, where they are not set free.
+/// Looks at all slots at once: which ones have the key, where they are not set free. That of the row that comes is compared; where none
+/// comes, `homes` tells which slot has that of the row that came last.
 pub fn find_all(
     alloc: Global,
     net: &mut NetBuilder,
     used: &Bits,
     keys: &[Bus],
     free: Bit,
-    value: Bus,
+    ask: Bit,
+    here: Bus,
+    homes: &Bits,
 ) -> Result<Found, Memory>
     requires used { AreBits net.old used.now }
-    requires keys { AreKeysOf net.old value keys.now }
+    requires keys { AreKeysOf net.old here keys.now }
     requires count { length keys.now ≡ length used.now }
     requires free { IsBit net.old free }
-    requires value { IsBus net.old value }
-    ensures { IfOk result (AddsFound net.old net.new used.now keys.now free value) }
+    requires ask { IsBit net.old ask }
+    requires here { IsBus net.old here }
+    requires homes { AreBits net.old homes.now }
+    requires homes_count { length homes.now ≡ length used.now }
+    ensures { IfOk result
+        (AddsFound net.old net.new used.now keys.now free ask here homes.now) }
 {
     let kept = with_all(alloc, net, LineOp::ButNot, used, free)?;
-    let same = same_each(alloc, net, value, keys)?;
-    let found = pairwise(alloc, net, LineOp::Both, &kept, &same)?;
+    let same = same_each(alloc, net, here, keys)?;
+    let has = choose_each(alloc, net, ask, same.as_slice(), homes.as_slice())?;
+    let found = pairwise(alloc, net, LineOp::Both, &kept, &has)?;
     let one = any(net, &found)?;
     Ok(Found { kept, found, one })
 }
@@ -169,17 +178,20 @@ pub fn see_key(
     keys: &[Bus],
     free: Bit,
     ask: Bit,
-    value: Bus,
+    here: Bus,
+    homes: &Bits,
 ) -> Result<Seen, Memory>
     requires used { AreBits net.old used.now }
-    requires keys { AreKeysOf net.old value keys.now }
+    requires keys { AreKeysOf net.old here keys.now }
     requires count { length keys.now ≡ length used.now }
     requires free { IsBit net.old free }
     requires ask { IsBit net.old ask }
-    requires value { IsBus net.old value }
-    ensures { IfOk result (AddsSeen net.old net.new used.now keys.now free ask value) }
+    requires here { IsBus net.old here }
+    requires homes { AreBits net.old homes.now }
+    requires homes_count { length homes.now ≡ length used.now }
+    ensures { IfOk result (AddsSeen net.old net.new used.now keys.now free ask here homes.now) }
 {
-    let found = find_all(alloc, net, used, keys, free, value)?;
+    let found = find_all(alloc, net, used, keys, free, ask, here, homes)?;
     let asked = ask_each(alloc, net, ask, found.kept.as_slice())?;
     let nexts = pairwise(alloc, net, LineOp::ButNot, &asked.asks, &found.kept)?;
     let takes = with_all(alloc, net, LineOp::ButNot, &nexts, found.one)?;
@@ -204,18 +216,21 @@ pub fn seek_key(
     keys: &[Bus],
     free: Bit,
     ask: Bit,
-    value: Bus,
+    here: Bus,
+    homes: &Bits,
 ) -> Result<Seek, Memory>
     requires used { AreBits net.old used.now }
-    requires keys { AreKeysOf net.old value keys.now }
+    requires keys { AreKeysOf net.old here keys.now }
     requires count { length keys.now ≡ length used.now }
     requires free { IsBit net.old free }
     requires ask { IsBit net.old ask }
-    requires value { IsBus net.old value }
-    ensures { IfOk result (AddsSeek net.old net.new used.now keys.now free ask value) }
+    requires here { IsBus net.old here }
+    requires homes { AreBits net.old homes.now }
+    requires homes_count { length homes.now ≡ length used.now }
+    ensures { IfOk result (AddsSeek net.old net.new used.now keys.now free ask here homes.now) }
 {
-    let seen = see_key(alloc, net, used, keys, free, ask, value)?;
-    let keys = key_each(alloc, net, seen.nexts.as_slice(), value, keys)?;
+    let seen = see_key(alloc, net, used, keys, free, ask, here, homes)?;
+    let keys = key_each(alloc, net, seen.nexts.as_slice(), here, keys)?;
     Ok(Seek { seen, keys })
 }
 
@@ -226,16 +241,19 @@ pub fn keep_keys(
     used: &Bits,
     free: Bit,
     ask: Bit,
-    value: Bus,
+    here: Bus,
+    homes: &Bits,
 ) -> Result<KeyLines, Memory>
     requires used { AreBits net.old used.now }
     requires free { IsBit net.old free }
     requires ask { IsBit net.old ask }
-    requires value { IsBus net.old value }
-    ensures { IfOk result (AddsKeys net.old net.new used.now free ask value) }
+    requires here { IsBus net.old here }
+    requires homes { AreBits net.old homes.now }
+    requires homes_count { length homes.now ≡ length used.now }
+    ensures { IfOk result (AddsKeys net.old net.new used.now free ask here homes.now) }
 {
-    let keys = open_same(alloc, net, word(0, value.width), used.len())?;
-    let seek = seek_key(alloc, net, used, keys.as_slice(), free, ask, value)?;
+    let keys = open_same(alloc, net, word(0, here.width), used.len())?;
+    let seek = seek_key(alloc, net, used, keys.as_slice(), free, ask, here, homes)?;
     drive_all(net, keys.as_slice(), seek.keys.as_slice())?;
     Ok(KeyLines {
         keys,
@@ -243,23 +261,26 @@ pub fn keep_keys(
     })
 }
 
-/// All slots in their registers, which look for the key at once.
-pub fn put_slots(
+/// All slots in their registers, which look for the key at once, beside the lines that tell which one has that of the row that came last.
+pub fn keep_slots(
     alloc: Global,
     net: &mut NetBuilder,
     free: Bit,
     ask: Bit,
-    value: Bus,
+    here: Bus,
+    homes: &Bits,
     count: u32,
 ) -> Result<SlotLines, Memory>
     requires free { IsBit net.old free }
     requires ask { IsBit net.old ask }
-    requires value { IsBus net.old value }
-    ensures { IfOk result (AddsSlots net.old net.new free ask value count) }
+    requires here { IsBus net.old here }
+    requires homes { AreBits net.old homes.now }
+    requires homes_count { length homes.now ≡ count }
+    ensures { IfOk result (AddsKept net.old net.new free ask here homes.now count) }
 {
     let flags = open_same(alloc, net, word(0, 1), count as usize)?;
     let used = Bits::from_vec(lines_of(alloc, flags.as_slice())?);
-    let slots = keep_keys(alloc, net, &used, free, ask, value)?;
+    let slots = keep_keys(alloc, net, &used, free, ask, here, homes)?;
     let nexts = buses_of(alloc, slots.seen.has.as_slice())?;
     drive_all(net, flags.as_slice(), nexts.as_slice())?;
     Ok(SlotLines {

@@ -19,7 +19,7 @@ use Rattle.gl_algebra.specs.Shapes.{kinds_of}
 use Rattle.gl_algebra.specs.Weights.{weight_of, weight_of_agg, weight_of_copies}
 use Rattle.gl_algebra.proofs.TableLemmas.{nodes_follow_tables}
 use Rattle.gl_net.specs.Net.{Net}
-use Rattle.gl_groups.specs.Laned.{bits_of_slots}
+use Rattle.gl_groups.specs.Picks.{bits_of_slots}
 use Rattle.gl_wire.specs.Costs.{Cost, Costs, CostsAtMost, nodes_alone}
 use Rattle.gl_wire_registers.specs.Held.{with_registers}
 use Rattle.gl_wiring.specs.declared.groups.GroupOf.{GroupOf}
@@ -56,14 +56,14 @@ once zero x some = absurd (omega (arith, some))
 once (suc n) x some = let e : suc n * x ≡ x + n * x = omega arith in omega (arith, e)
 
 nodes_within : (source body child spacer parts n a k m : ℕ) → 1 ≤ n → 1 ≤ k → m ≤ 98 → body ≡ child + (4 * (k + 2) + (parts + k * (m + 1)))
-    → source + spacer + (n * 44 + a * 2 + 64) + (child + (2 * (m + 1) + 6 * k + parts)) + (n * 4 + k + 3) + 2 ≤ source + (weight_of_copies n body (a + 2) (k + 1 + 2) + spacer)
+    → source + spacer + (n * 51 + a * 2 + 65) + (child + (2 * (m + 1) + 6 * k + parts)) + (n * 4 + k + 3) + 2 ≤ source + (weight_of_copies n body (a + 2) (k + 1 + 2) + spacer)
 nodes_within source body child spacer parts n a k m some aggs few is =
     let each : n * (body + 8 * (a + 2 + (k + 1 + 2) + 4)) ≡ n * body + 8 * (n * a) + 8 * (n * k) + 72 * n = omega arith in
     let product : k * (m + 1) ≡ k * m + k = omega arith in
     omega (arith, each, product, once n body some, once k m aggs, some, few, is)
 
 bits_of : (source keys body child spacer n a k m w bits front out : ℕ) → child ≤ body → front ≤ 64 * a → bits ≤ 8 → out ≤ 64 * (k + 1)
-    → 64 * source + keys + 64 * spacer + (n * (w + 2) + front + bits + 103) + (64 * child + 256 * (k * m)) + (out + 2)
+    → 64 * source + keys + 64 * spacer + (n * (w + 2) + front + bits * 2 + 104) + (64 * child + 256 * (k * m)) + (out + 2)
     ≤ 64 * (source + (body + 4 * (a + 2 + (k + 1 + 2) + 8) + 4 * (k * m) + spacer)) + (keys + n * (w + 2))
 bits_of source keys body child spacer n a k m w bits front out less columns few own = omega (arith, less, columns, few, own)
 

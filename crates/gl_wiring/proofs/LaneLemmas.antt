@@ -30,8 +30,9 @@ use Rattle.gl_net.proofs.Determined.{keeps_then}
 use Rattle.gl_groups.specs.declared.laning.Lane.{Lane}
 use Rattle.gl_groups.specs.Groupings.{AreKeys, OfGroups, key_of, line_of_further}
 use Rattle.gl_groups.specs.Joins.{width_of_keys}
-use Rattle.gl_groups.specs.Laned.{IsGathered, IsLaned, bits_of_slots, cost_of_lane}
+use Rattle.gl_groups.specs.Laned.{IsGathered, IsLaned, cost_of_lane}
 use Rattle.gl_groups.specs.LaneLaws as laws
+use Rattle.gl_groups.specs.Picks.{bits_of_slots}
 use Rattle.gl_groups.specs.SlotLines.{held_of}
 use Rattle.gl_groups.specs.Slots.{AreSlots, came_further}
 use Rattle.gl_groups.proofs.GroupLemmas.{groups_then}

@@ -4,7 +4,7 @@ ghost use Rattle.std.specs.Prelude.{◌≡◌, ◌<◌, ◌≤◌, ◌∷◌, []
 ghost use Rattle.gl_algebra.specs.Direct.{form_of, is_direct};
 ghost use Rattle.gl_algebra.specs.Shapes.{shape_of};
 ghost use Rattle.gl_algebra.specs.Small.{AreFigures};
-ghost use Rattle.gl_groups.specs.Laned.{bits_of_slots};
+ghost use Rattle.gl_groups.specs.Picks.{bits_of_slots};
 ghost use Rattle.gl_net.specs.Net.{Net, IsBit, IsBus};
 ghost use Rattle.gl_wire.specs.declared.wire.Wire.{Wire as WireOf};
 ghost use Rattle.gl_wire.specs.Wire.{IsWire};

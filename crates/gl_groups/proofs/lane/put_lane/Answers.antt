@@ -1,7 +1,15 @@
+use Rattle.std.proofs.Common.{arith}
 use Rattle.gl_net.proofs.Determined.{keeps_then}
 use Rattle.gl_wire.proofs.ColumnLemmas.{bit_kept, bus_kept, wire_kept}
 use Rattle.gl_groups.proofs.LaneNet.{lanes_are}
+use Rattle.gl_groups.proofs.PickLemmas.{room_for_mark}
 use Rattle.gl_groups.proofs.lane.put_lane.Goals as goal
+
+pub look_all-requires-clause-width : goal.look_all-requires-clause-width
+look_all-requires-clause-width c = record { some' = omega arith; most = omega (arith, c.requires.few) }
+
+pub look_all-requires-clause-fits : goal.look_all-requires-clause-fits
+look_all-requires-clause-fits c = room_for_mark c.args.count c.args.width c.requires.fits
 
 pub put_told-requires-clause-wire : goal.put_told-requires-clause-wire
 put_told-requires-clause-wire c = wire_kept c.args.net.now c.look_all.new.net c.args.wire.now c.in_ok-look.ensures.keeps c.requires.wire
