@@ -61,7 +61,7 @@ def width_of(kind):
 
 def word_of(text, kind):
     """The word that a value of a tuple file stands for."""
-    return int.from_bytes(text.encode().ljust(int(kind[4:]), b'\0'), 'big') if kind.startswith('text') else int(text)
+    return int.from_bytes(text.encode().ljust(int(kind[4:]), b'\0'), 'big') if kind.startswith('text') else int(text) % 2 ** width_of(kind)
 
 
 def schema_of(text):

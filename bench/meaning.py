@@ -30,9 +30,14 @@ class TooMany(Exception):
 
 # ---- kinds and words
 
+def number_of(word, kind):
+    """The number that a word stands for; a text's is its word."""
+    return word - 2 ** width_of(kind) if kind[0] == 's' and word >> width_of(kind) - 1 else word
+
+
 def shown(word, kind):
     """A word as a file has it."""
-    return word.to_bytes(int(kind[4:]), 'big').rstrip(b'\0').decode() if kind[0] == 't' else str(word)
+    return word.to_bytes(int(kind[4:]), 'big').rstrip(b'\0').decode() if kind[0] == 't' else str(number_of(word, kind))
 
 
 # ---- trees of outcomes
@@ -152,21 +157,31 @@ def value_of(expression, row):
         return 1 - x
     if sort == 'CAST':
         had, wants = width_of(parts[0][1]), width_of(kind)
-        return x % 2 ** wants if kind[0] == 'u' else x << wants >> had
-    y, bound = value_of(parts[1], row), 2 ** width_of(parts[0][1])
-    return int({'+': (x + y) % bound, '-': (x - y) % bound, '*': x * y % bound, '=': x == y, '<>': x != y, '<': x < y, '<=': x <= y,
-                '>': x > y, '>=': x >= y, 'AND': x & y, 'OR': x | y}[sort])
+        return x << wants >> had if kind[0] == 't' else number_of(x, parts[0][1]) % 2 ** wants
+    y, of = value_of(parts[1], row), parts[0][1]
+    bound, m, n = 2 ** width_of(of), number_of(x, of), number_of(y, of)
+    return int({'+': (x + y) % bound, '-': (x - y) % bound, '*': x * y % bound, '=': x == y, '<>': x != y, '<': m < n, '<=': m <= n,
+                '>': m > n, '>=': m >= n, 'AND': x & y, 'OR': x | y}[sort])
+
+
+def average_of(numbers, kind):
+    """The word of the average: the sum wraps in 32 bits more than the kind has, and is divided toward zero."""
+    width = width_of(kind) + 32
+    total = sum(numbers) % 2 ** width
+    if kind[0] == 's' and total >> width - 1:
+        return -((2 ** width - total) // len(numbers)) % 2 ** width_of(kind)
+    return total // len(numbers) % 2 ** width_of(kind)
 
 
 def total_of(item, rows):
     name, sort, expression, weights = item
     if sort == 'count':
         return len(rows) % 2 ** 32
-    values, width = [value_of(expression, row) for row in rows], width_of(expression[1])
+    values, kind, width = [value_of(expression, row) for row in rows], expression[1], width_of(expression[1])
     if sort in ('min', 'max'):
-        return (min if sort == 'min' else max)(values, default=0)
+        return (min if sort == 'min' else max)(values, key=lambda word: number_of(word, kind), default=0)
     if sort == 'avg':
-        return sum(values) % 2 ** (width + 32) // len(values) % 2 ** width if values else 0
+        return average_of([number_of(word, kind) for word in values], kind) if values else 0
     return sum(values) % 2 ** width if sort == 'sum' else sum(n * v for n, v in zip(weights, values)) % 2 ** width
 
 

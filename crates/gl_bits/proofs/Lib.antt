@@ -9,4 +9,5 @@ pub mod Memories
 pub mod Slicing
 pub mod Grouping
 pub mod Interleaving
+pub mod Signs
 pub mod Totalling

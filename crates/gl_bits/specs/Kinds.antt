@@ -1,41 +1,61 @@
--- Kinds of columns: unsigned numbers and short texts.
-use Rattle.std.specs.Prelude.{ℕ, ℤ, pos, ◌+ℤ◌, ◌-ℤ◌, ◌*◌, ◌/◌, ◌^◌, ◌≤◌, Bool, true, false, ◌&&◌, int_le, int_lt, nat_le, unsigned_abs}
+-- Kinds of columns: numbers without and with a sign, and short texts.
+use Rattle.std.specs.Prelude.{ℕ, ℤ, pos, ◌+ℤ◌, ◌-ℤ◌, neg_ℤ, ◌-◌, ◌*◌, ◌/◌, ◌^◌, ◌≤◌, Bool, true, false, ◌&&◌, int_le, int_lt, nat_le, nat_lt, unsigned_abs, if◌then◌else◌}
 use Rattle.std.specs.Int.{int_rem_euclid}
 use Rattle.gl_bits.specs.declared.kind.Family.{Family}
 use Rattle.gl_bits.specs.declared.kind.Family.TheVariants.{Numbers, Texts}
 use Rattle.gl_bits.specs.declared.kind.Kind.{Kind}
-use Rattle.gl_bits.specs.declared.kind.Kind.TheVariants.{Unsigned, Text}
+use Rattle.gl_bits.specs.declared.kind.Kind.TheVariants.{Unsigned, Signed, Text}
 
 -- ---- what each kind answers for itself
 
 -- the bits of a value: eight for each byte of a text
 abbrev pub width_of : Kind → ℕ
 width_of (Unsigned w) = w
+width_of (Signed w) = w
 width_of (Text n) = 8 * n
+
+-- the fewest bits that a kind may have
+abbrev pub fewest : Kind → ℕ
+fewest (Unsigned w) = 1
+fewest (Signed w) = 2
+fewest (Text n) = 8
 
 -- what its values are
 abbrev pub family_of : Kind → Family
 family_of (Unsigned w) = Numbers
+family_of (Signed w) = Numbers
 family_of (Text n) = Texts
 
--- the number that a word of a kind stands for: a text stands for its bytes, the first one highest
-abbrev pub number_of : Kind → ℕ → ℤ
-number_of (Unsigned w) word = pos word
-number_of (Text n) word = pos word
-
--- the least number that so many bits of a kind hold: without a sign none is below 0
-abbrev pub lowest : Kind → ℕ → ℤ
-lowest (Unsigned w) bits = pos 0
-lowest (Text n) bits = pos 0
+-- whether its values have a sign
+abbrev pub is_signed : Kind → Bool
+is_signed (Unsigned w) = false
+is_signed (Signed w) = true
+is_signed (Text n) = false
 
 -- ---- what follows for all of them
 
--- a kind has 1 to 64 bits, so a text has 1 to 8 bytes
+-- the number that a word of a width stands for in two's complement
+abbrev pub signed_number : ℕ → ℕ → ℤ
+signed_number width word = if nat_lt word (2 ^ (width - 1)) then pos word else pos word -ℤ pos (2 ^ width)
+
+-- the number that a word of so many bits stands for, where a kind says whether it has a sign
+abbrev pub number_in : Kind → ℕ → ℕ → ℤ
+number_in kind bits word = if is_signed kind then signed_number bits word else pos word
+
+-- the number that a word of a kind stands for: a text stands for its bytes, the first one highest
+abbrev pub number_of : Kind → ℕ → ℤ
+number_of kind word = number_in kind (width_of kind) word
+
+-- the least number that so many bits of a kind hold: without a sign none is below 0
+abbrev pub lowest : Kind → ℕ → ℤ
+lowest kind bits = if is_signed kind then pos 0 -ℤ pos (2 ^ (bits - 1)) else pos 0
+
+-- a kind has at most 64 bits, so a text has 1 to 8 bytes
 abbrev pub IsKind : Kind → Type 0
-IsKind kind = (1 ≤ width_of kind) × (width_of kind ≤ 64)
+IsKind kind = (fewest kind ≤ width_of kind) × (width_of kind ≤ 64)
 
 abbrev pub is_kind : Kind → Bool
-is_kind kind = nat_le 1 (width_of kind) && nat_le (width_of kind) 64
+is_kind kind = nat_le (fewest kind) (width_of kind) && nat_le (width_of kind) 64
 
 -- the bytes of a text
 abbrev pub bytes_in : Kind → ℕ
@@ -73,6 +93,14 @@ in_range kind number =
 -- the word of a width that stands for a number, which wraps
 abbrev pub word_of : ℕ → ℤ → ℕ
 word_of width number = unsigned_abs (int_rem_euclid number (pos (2 ^ width)))
+
+-- a kind with a sign has numbers behind a minus sign, 0 too, down to its lowest; no other kind has any
+abbrev pub has_negative : Kind → ℕ → Bool
+has_negative kind number = is_signed kind && nat_le number (2 ^ (width_of kind - 1))
+
+-- the word that stands for a number behind a minus sign
+abbrev pub negative_word : Kind → ℕ → ℕ
+negative_word kind number = word_of (width_of kind) (neg_ℤ (pos number))
 
 -- a number as so many bits of a kind hold it: from the lowest on, a multiple of 2 ^ bits away
 abbrev pub wrapped : Kind → ℕ → ℤ → ℤ

@@ -1,5 +1,5 @@
 -- Totals over the values of a column, each a word of one kind. Each is 0 over no values.
-use Rattle.std.specs.Prelude.{ℕ, ℤ, pos, ◌+ℤ◌, ◌+◌, ◌*◌, ◌%◌, ◌^◌, List, [], ◌∷◌, length, map, fold, sum, nat_eq, int_div, if◌then◌else◌}
+use Rattle.std.specs.Prelude.{ℕ, ℤ, pos, ◌+ℤ◌, ◌+◌, ◌*◌, ◌%◌, ◌^◌, List, [], ◌∷◌, length, fold, sum, nat_eq, int_div, if◌then◌else◌}
 use Rattle.gl_bits.specs.declared.kind.Kind.{Kind}
 use Rattle.gl_bits.specs.Kinds.{width_of, number_of, wrapped, word_of, is_below}
 
@@ -30,7 +30,7 @@ greatest_of kind (x ∷ xs) = fold (greater kind) x xs
 
 -- the sum of the numbers that words of a kind stand for
 abbrev pub sum_of_numbers : Kind → List ℕ → ℤ
-sum_of_numbers kind xs = fold (λ a x. a +ℤ x) (pos 0) (map (number_of kind) xs)
+sum_of_numbers kind xs = fold (λ a x. a +ℤ number_of kind x) (pos 0) xs
 
 -- the quotient, toward 0; and 0 where there is nothing to divide by
 abbrev pub quotient_of : ℤ → ℕ → ℤ

@@ -9,3 +9,12 @@ pub mod Declarations
 pub mod Values
 pub mod Rows
 pub mod RoundTrip
+pub mod Found
+pub mod Lexed
+pub mod Bits
+pub mod Changed
+pub mod Going
+pub mod Went
+pub mod Kept
+pub mod Shown
+pub mod Left

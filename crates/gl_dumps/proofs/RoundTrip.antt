@@ -189,7 +189,7 @@ same_line p q t name same = ap (λ (o : Option ℕ). unwrap_or o 0 == 1) same
 abbrev shown_of : ℕ → Option (List ℕ) → Bool → Bool → Bool → Shown
 shown_of n row end' group queue = record { cycle = n; row = row; end = end'; group = group; queue = queue }
 
-same_shown : (p q : PortValues) (outs : List (List ℕ)) (n : ℕ) → ((name : List ℕ) → p (suc n) name ≡ q (suc n) name) → shown p outs n ≡ shown q outs n
+pub same_shown : (p q : PortValues) (outs : List (List ℕ)) (n : ℕ) → ((name : List ℕ) → p (suc n) name ≡ q (suc n) name) → shown p outs n ≡ shown q outs n
 unfolding shown
 same_shown p q outs n same =
     let valid = same_line p q (suc n) out_valid (same out_valid) in

@@ -5,3 +5,6 @@ pub mod Dumped
 pub mod Written
 pub mod Worked
 pub mod RoundTrip
+pub mod Lexing
+pub mod Standing
+pub mod Showings

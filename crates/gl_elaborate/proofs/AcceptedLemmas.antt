@@ -1,15 +1,16 @@
 -- The term of an accepted expression is one.
 use Rattle.std.proofs.Common.{◌≡◌, ℕ, ◌^◌, ◌<◌, ◌≤◌, true, List, length, refl, sym, subst, ◌∙◌, arith, lit≤}
-use Rattle.std.specs.Prelude.{IsTrue, bytes_eq}
+use Rattle.std.specs.Prelude.{IsTrue, bytes_eq, neg_ℤ, pos}
 use Rattle.std.proofs.lemmas.List.{length-map}
 use Rattle.std.proofs.lemmas.Option.{slice_get_within}
-use Rattle.gl_bits.specs.Kinds.{IsKind, bytes_in, can_cast, width_of}
+use Rattle.gl_bits.specs.Kinds.{IsKind, bytes_in, can_cast, negative_word, width_of}
 use Rattle.gl_bits.specs.Operators.{sort_of}
 use Rattle.gl_bits.specs.declared.kind.Kind.{Kind}
 use Rattle.gl_bits.specs.declared.kind.Kind.TheVariants.{Unsigned}
 use Rattle.gl_bits.specs.declared.op.Sort.{Sort}
 use Rattle.gl_bits.specs.declared.op.Sort.TheVariants.{Arithmetic, Comparison, Logic}
-use Rattle.gl_bits.proofs.KindLemmas.{range_below}
+use Rattle.gl_bits.proofs.KindLemmas.{kind_some, range_below}
+use Rattle.gl_bits.proofs.Signs.{word_fits}
 use Rattle.gl_schema.specs.declared.schema.Column.{Column as NamedColumn}
 use Rattle.gl_schema.specs.Schemas.{kinds_of, has_column, text_word}
 use Rattle.gl_query.specs.Shapes.{ExprShape}
@@ -27,7 +28,7 @@ use Rattle.gl_query.proofs.Real.{alone_kind, casts_are, kind_is, place_is}
 
 literal-fits : (kinds : List Kind) (place : Kind) (n : ℕ) → IsKind place → n < 2 ^ width_of place → IsTerm kinds (literal place n)
 literal-fits kinds place n kind below =
-    (record { width = record { some' = kind.0; most = omega (arith, kind.1) }; fits = below }, kind, refl)
+    (record { width = record { some' = kind_some place kind; most = omega (arith, kind.1) }; fits = below }, kind, refl)
 
 -- ---- kinds
 
@@ -51,6 +52,8 @@ module _ (columns : List NamedColumn) (kinds : AreKinds columns) where
   pub term-fits : (e : ExprShape) (place : Kind) → IsKind place → HasKind columns place e → IsTerm (kinds_of columns) (term_of columns place e)
   term-fits (shape.Column name) place k h = column-fits name h
   term-fits (shape.Number n) place k h = literal-fits (kinds_of columns) place n k (range_below place n h.1)
+  term-fits (shape.Minus n) place k h =
+      literal-fits (kinds_of columns) place (negative_word place n) k (word_fits (width_of place) (neg_ℤ (pos n)))
   term-fits (shape.Letters text) place k h =
       literal-fits (kinds_of columns) place (text_word (bytes_in place) text) k (letters_below place text h)
   term-fits (shape.Not e) place k h =

@@ -39,6 +39,7 @@ AnyName name = Unit {0}
 term-ops : (columns : List NamedColumn) (place : Kind) (e : ExprShape) → ops_in (term_of columns place e) ≡ operators_in e
 term-ops columns place (shape.Column name) = refl
 term-ops columns place (shape.Number n) = refl
+term-ops columns place (shape.Minus n) = refl
 term-ops columns place (shape.Letters text) = refl
 term-ops columns place (shape.Not e) = ap (λ (n : ℕ). 1 + n) (term-ops columns (Unsigned 1) e)
 term-ops columns place (shape.Cast kind e) = ap (λ (n : ℕ). 1 + n) (term-ops columns (kind_alone e) e)

@@ -38,6 +38,7 @@ use Rattle.gl_elaborate.proofs.QueryLemmas.{right, total-delay, columns-are}
 term-depth : (columns : List NamedColumn) (place : Kind) (e : ExprShape) → depth_of (term_of columns place e) ≡ expr_depth e
 term-depth columns place (shape.Column name) = refl
 term-depth columns place (shape.Number n) = refl
+term-depth columns place (shape.Minus n) = refl
 term-depth columns place (shape.Letters text) = refl
 term-depth columns place (shape.Not e) = ap (λ (n : ℕ). 1 + n) (term-depth columns (Unsigned 1) e)
 term-depth columns place (shape.Cast kind e) = ap (λ (n : ℕ). 1 + n) (term-depth columns (kind_alone e) e)
@@ -47,6 +48,7 @@ term-depth columns place (shape.Binary o l r) = λ i.
 condition-depth : (columns : List NamedColumn) (e : ExprShape) → depth_of (condition_of (term_of columns (Unsigned 1) e)) ≡ filter_depth e
 condition-depth columns (shape.Column name) = refl
 condition-depth columns (shape.Number n) = refl
+condition-depth columns (shape.Minus n) = refl
 condition-depth columns (shape.Letters text) = refl
 condition-depth columns (shape.Not e) = term-depth columns (Unsigned 1) (shape.Not e)
 condition-depth columns (shape.Cast kind e) = term-depth columns (Unsigned 1) (shape.Cast kind e)

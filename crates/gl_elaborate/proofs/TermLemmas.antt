@@ -25,6 +25,7 @@ kind-column columns name = kind_at columns (column_number columns name)
 pub term-kind : (columns : List NamedColumn) (place : Kind) (e : ExprShape) → term_kind (kinds_of columns) (term_of columns place e) ≡ kind_of columns place e
 term-kind columns place (shape.Column name) = kind-column columns name
 term-kind columns place (shape.Number n) = refl
+term-kind columns place (shape.Minus n) = refl
 term-kind columns place (shape.Letters text) = refl
 term-kind columns place (shape.Not e) = refl
 term-kind columns place (shape.Cast kind e) = refl
@@ -35,6 +36,7 @@ pub term-value : (columns : List NamedColumn) (place : Kind) (e : ExprShape) (ro
     → term_value (kinds_of columns) row (term_of columns place e) ≡ value_of columns place e row
 term-value columns place (shape.Column name) row = refl
 term-value columns place (shape.Number n) row = refl
+term-value columns place (shape.Minus n) row = refl
 term-value columns place (shape.Letters text) row = refl
 term-value columns place (shape.Not e) row = ap (not_of 1) (term-value columns (Unsigned 1) e row)
 term-value columns place (shape.Cast kind e) row =

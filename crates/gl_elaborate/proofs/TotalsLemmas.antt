@@ -27,7 +27,7 @@ use Rattle.gl_elaborate.specs.Figures.{agg_delay, aggs_delay}
 use Rattle.gl_bits.specs.Words.{IsWidth}
 use Rattle.gl_bits.specs.Results.{Row, Results, IsChanged}
 use Rattle.gl_bits.proofs.AllLists.{all_append}
-use Rattle.gl_bits.proofs.KindLemmas.{range_below}
+use Rattle.gl_bits.proofs.KindLemmas.{kind_some, range_below}
 use Rattle.gl_query.specs.Laws.{AreKinds}
 use Rattle.gl_query.specs.Values.{IsNumberOf}
 use Rattle.gl_algebra.specs.Added.{Placed}
@@ -81,7 +81,7 @@ module _ (columns : List NamedColumn) (areKinds : AreKinds columns) (kinds : Lis
   counted rows = rw length-map refl
 
   width-fits : (kind : Kind) → IsKind kind → IsWidth (width_of kind)
-  width-fits kind k = record { some' = k.0; most = omega (arith, k.1) }
+  width-fits kind k = record { some' = kind_some kind k; most = omega (arith, k.1) }
 
   pub number_fits : (kind : Kind) (n : ℕ) → IsNumberOf kind n → n < 2 ^ width_of kind
   number_fits kind n h = range_below kind n h.1

@@ -1,7 +1,7 @@
 -- Expressions over numbered columns: names are looked up, and each literal has the kind that its place gives.
 use Rattle.std.specs.Prelude.{ℕ, ◌+◌, max, List, [], ◌∷◌, ◌≡◌, ◌<◌, IsTrue, length, slice_index}
 use Rattle.gl_bits.specs.Words.{Word, IsWord, not_of}
-use Rattle.gl_bits.specs.Kinds.{bytes_in, can_cast, width_of, IsKind}
+use Rattle.gl_bits.specs.Kinds.{bytes_in, can_cast, negative_word, width_of, IsKind}
 use Rattle.gl_bits.specs.Operators.{cast_of, sort_of, result_kind, operate}
 use Rattle.gl_bits.specs.declared.kind.Kind.{Kind}
 use Rattle.gl_bits.specs.declared.kind.Kind.TheVariants.{Unsigned}
@@ -28,6 +28,7 @@ literal kind bits = Literal (record { bits = bits; width = width_of kind }) kind
 abbrev pub term_of : List NamedColumn → Kind → ExprShape → Term
 term_of columns place (shape.Column name) = Column (column_number columns name)
 term_of columns place (shape.Number n) = literal place n
+term_of columns place (shape.Minus n) = literal place (negative_word place n)
 term_of columns place (shape.Letters text) = literal place (text_word (bytes_in place) text)
 term_of columns place (shape.Not e) = Not (term_of columns (Unsigned 1) e)
 term_of columns place (shape.Cast kind e) = Cast (term_of columns (kind_alone e) e) kind

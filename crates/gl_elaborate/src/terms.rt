@@ -3,7 +3,7 @@
 ghost use Rattle.std.specs.Prelude.{◌≡◌, ◌<◌, [], length, IfOk};
 ghost use Rattle.gl_schema.specs.Schemas.{kinds_of, text_word};
 ghost use Rattle.gl_query.specs.Shapes.{expr_shape};
-ghost use Rattle.gl_bits.specs.Kinds.{bytes_in};
+ghost use Rattle.gl_bits.specs.Kinds.{bytes_in, negative_word};
 ghost use Rattle.gl_query.specs.Values.{HasKind, IsLettersOf};
 ghost use Rattle.gl_elaborate.specs.Terms.{literal, term_of, IsTerm};
 ghost use Rattle.gl_elaborate.specs.Trees.{term};
@@ -24,6 +24,14 @@ fn literal(place: Kind, bits: u128) -> Tree
         Some(word) => Tree::Literal(word, place),
         None => unreachable!(),
     }
+}
+
+// A literal of a number behind a minus sign.
+fn negative_literal(place: Kind, number: u128) -> Tree
+    requires { IsTerm (kinds_of []) (literal place (negative_word place number)) }
+    ensures { term result ≡ literal place (negative_word place number) }
+{
+    literal(place, place.negative_word(number))
 }
 
 // A text literal of a kind.
@@ -50,6 +58,7 @@ pub fn tree_of(alloc: Global, columns: &[Column], place: Kind, expr: &Expr) -> R
     match expr {
         Expr::Column(name) => Ok(Tree::Column(column_number(columns, name.text.as_slice()) as u16)),
         Expr::Number(n) => Ok(literal(place, n.value)),
+        Expr::Minus(n) => Ok(negative_literal(place, n.value)),
         Expr::Letters { text, .. } => Ok(text_literal(place, text.as_slice())),
         Expr::Not { arg, .. } => {
             let inner = tree_of(alloc, columns, Kind::Unsigned(1), arg)?;

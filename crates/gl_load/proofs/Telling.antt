@@ -5,7 +5,7 @@ use Rattle.std.specs.List.{AllByRecursion, cons_option, fold, list_all, sum}
 use Rattle.std.proofs.lemmas.Bool.{leb-true}
 use Rattle.std.proofs.lemmas.List.Sums.{sum_by-cons}
 use Rattle.gl_bits.specs.declared.kind.Kind.{Kind}
-use Rattle.gl_bits.specs.declared.kind.Kind.TheVariants.{Unsigned, Text}
+use Rattle.gl_bits.specs.declared.kind.Kind.TheVariants.{Unsigned, Signed, Text}
 use Rattle.gl_bits.proofs.AllLists.{all_append, all_weaker}
 use Rattle.gl_bits.proofs.Bools.{and_left, and_right}
 use Rattle.gl_schema.specs.Ports.{PortValues}
@@ -24,10 +24,11 @@ pub record IsCounted (row : List ℕ) : Type 0 where
   pub is : row ≡ count ∷ second ∷ rest
   pub small' : count < 2 ^ 64
 
--- columns of numbers
+-- columns of numbers without a sign
 abbrev pub AreNumbers : List Kind → Type 0
 AreNumbers [] = Unit {0}
 AreNumbers (Unsigned w ∷ kinds) = AreNumbers kinds
+AreNumbers (Signed w ∷ kinds) = ⊥
 AreNumbers (Text n ∷ kinds) = ⊥
 
 lower : (n m : ℕ) (bytes : List ℕ) → n ≤ m → From m bytes → From n bytes
@@ -39,6 +40,7 @@ values_from [] row h = tt
 values_from (Unsigned w ∷ kinds) [] h = tt
 values_from (Unsigned w ∷ kinds) (v ∷ vs) h =
     (omega arith, all_append (λ b. 11 ≤ b) (decimal v) (values_text kinds vs) (lower 11 45 (decimal v) (omega arith) (decimal_from v)) (values_from kinds vs h))
+values_from (Signed w ∷ kinds) row h = absurd h
 values_from (Text n ∷ kinds) row h = absurd h
 
 -- the tally of lines behind one more

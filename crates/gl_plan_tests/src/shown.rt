@@ -16,7 +16,7 @@ fn push_name(out: &mut String, name: &[u8]) -> Result<(), AllocError> {
 // Adds a literal: of a text its letters.
 fn push_literal(out: &mut String, word: Word, kind: Kind) -> Result<(), AllocError> {
     match kind {
-        Kind::Unsigned(_) => write!(out, " #{}", word.bits()),
+        Kind::Unsigned(_) | Kind::Signed(_) => write!(out, " #{}", word.bits()),
         Kind::Text(_) => {
             out.push_str(" '")?;
             for byte in word.bits().to_be_bytes() {
@@ -33,6 +33,7 @@ fn push_literal(out: &mut String, word: Word, kind: Kind) -> Result<(), AllocErr
 fn push_kind(out: &mut String, kind: Kind) -> Result<(), AllocError> {
     match kind {
         Kind::Unsigned(width) => write!(out, " u{width}"),
+        Kind::Signed(width) => write!(out, " s{width}"),
         Kind::Text(bytes) => write!(out, " text{bytes}"),
     }
 }

@@ -19,6 +19,7 @@ use Rattle.gl_query.specs.Alike.{expr_alike, agg_alike, item_alike, agg_item_ali
 pub expr_same : (e : Expr) → expr_alike (expr_tree e) ≡ expr_shape e
 expr_same (expr.Column name) = refl
 expr_same (expr.Number n) = refl
+expr_same (expr.Minus n) = refl
 expr_same (expr.Letters text at) = refl
 expr_same (expr.Not' p e at) = ap shape.Not (expr_same e)
 expr_same (expr.Cast' p e kind at) = ap (shape.Cast kind) (expr_same e)

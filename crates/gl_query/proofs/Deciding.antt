@@ -7,7 +7,7 @@ use Rattle.gl_bits.specs.declared.kind.Kind.{Kind}
 use Rattle.gl_bits.specs.declared.kind.Kind.TheVariants.{Unsigned}
 use Rattle.gl_bits.specs.declared.op.Sort.{Sort}
 use Rattle.gl_bits.specs.declared.op.Sort.TheVariants.{Arithmetic, Comparison, Logic}
-use Rattle.gl_bits.specs.Kinds.{can_cast, in_range, is_number, is_text}
+use Rattle.gl_bits.specs.Kinds.{can_cast, has_negative, in_range, is_number, is_text}
 use Rattle.gl_bits.specs.Operators.{same_kind, sort_of}
 use Rattle.gl_bits.proofs.AllLists.{length_map, get_past}
 use Rattle.gl_bits.proofs.Bools.{and_both, and_parts, not_false, not_true}
@@ -21,9 +21,9 @@ use Rattle.gl_query.specs.declared.tree.Num.{Num}
 use Rattle.gl_query.specs.Trees as tree
 use Rattle.gl_query.specs.Trees.{ExprTree, AggTree}
 use Rattle.gl_query.specs.Alike.{expr_alike, agg_alike}
-use Rattle.gl_query.specs.Values.{CanApply, HasKind, IsLettersOf, IsNumberOf, is_loose, kind_alone, kind_of, letters_fit, operand_place}
+use Rattle.gl_query.specs.Values.{CanApply, HasKind, IsLettersOf, IsNegativeOf, IsNumberOf, is_loose, kind_alone, kind_of, letters_fit, operand_place}
 use Rattle.gl_query.specs.Accepted.{IsAgg, IsFilter, IsSummed}
-use Rattle.gl_query.specs.Faults.{or_else, unless, same_kinds, is_bit, is_within, number_fault, letters_fault, operator_fault, of_operands, expr_fault, whole_fault, whole_kind, filter_fault, named_fault, summed_fault, too_many, weights_fault, agg_fault}
+use Rattle.gl_query.specs.Faults.{or_else, unless, same_kinds, is_bit, is_within, number_fault, negative_fault, letters_fault, operator_fault, of_operands, expr_fault, whole_fault, whole_kind, filter_fault, named_fault, summed_fault, too_many, weights_fault, agg_fault}
 
 -- no fault comes exactly where this holds
 pub record Decides (fault : Option QueryFault) (P : Type 0) : Type 0 where
@@ -91,6 +91,9 @@ is_within_of n most h = and_both (nat_le 1 n) (nat_le n most) (le-leb 1 n h.0) (
 pub number_decides : (place : Kind) (n : Num) → Decides (number_fault place n) (IsNumberOf place n.value)
 number_decides place n = both (unless (is_number place) _) _ (test (is_number place) _) (λ h. test (in_range place (pos n.value)) _)
 
+negative_decides : (place : Kind) (n : Num) → Decides (negative_fault place n) (IsNegativeOf place n.value)
+negative_decides place n = both (unless (is_number place) _) _ (test (is_number place) _) (λ h. test (has_negative place n.value) _)
+
 letters_decides : (place : Kind) (text : List ℕ) (at : ℕ) → Decides (letters_fault place text at) (IsLettersOf place text)
 letters_decides place text at = both (unless (is_text place) _) _ (test (is_text place) _) (λ h. test (letters_fit place text) _)
 
@@ -116,6 +119,7 @@ bit_rule k f = rule (is_bit k) f (k ≡ Unsigned 1) (bit_is k) (is_bit_of k)
 pub expr_decides : (e : ExprTree) (columns : List NamedColumn) (place : Kind) → Decides (expr_fault columns place e) (HasKind columns place (expr_alike e))
 expr_decides (tree.Column name) columns place = test (has_column columns name.text) _
 expr_decides (tree.Number n) columns place = number_decides place n
+expr_decides (tree.Minus n) columns place = negative_decides place n
 expr_decides (tree.Letters text at) columns place = letters_decides place text at
 expr_decides (tree.Not e at) columns place =
     both (expr_fault columns (Unsigned 1) e) _ (expr_decides e columns (Unsigned 1)) (λ h. bit_rule (kind_of columns (Unsigned 1) (expr_alike e)) _)

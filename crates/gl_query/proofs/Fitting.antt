@@ -1,24 +1,25 @@
 -- The rows of a result fit the kinds of the query's columns.
-use Rattle.std.proofs.Common.{◌≡◌, ℕ, zero, suc, ◌+◌, ◌-◌, ◌*◌, ◌/◌, ◌%◌, ◌<◌, ◌≤◌, ◌^◌, Bool, true, List, [], ◌∷◌, ◌++◌, length, map, refl, sym, ap, subst, ◌∙◌, arith}
-use Rattle.std.specs.Prelude.{◌||◌, bytes_eq, bit_and, bit_or, nat_le, nat_lt, replicate, sum, slice_get, slice_index, option_map, unwrap_or}
+use Rattle.std.proofs.Common.{◌≡◌, ℕ, suc, ◌+◌, ◌-◌, ◌*◌, ◌/◌, ◌%◌, ◌<◌, ◌≤◌, ◌^◌, Bool, true, List, [], ◌∷◌, ◌++◌, length, map, sym, ap, subst, ◌∙◌, arith}
+use Rattle.std.specs.Prelude.{◌||◌, bytes_eq, bit_and, bit_or, neg_ℤ, nat_le, nat_lt, pos, replicate, sum, slice_get, slice_index, option_map, unwrap_or}
 use Rattle.std.specs.List.{AllByRecursion, fold, list_all, list_any}
 use Rattle.std.proofs.lemmas.Bool.{leb-true, ltb-true}
 use Rattle.std.proofs.Math.Nat.{mod-lt, div-lt_iff_lt-mul, mul_comm, mul-lt-mul_of_pos_right}
 use Rattle.std.proofs.lemmas.Nat.{pow_pos, and_le_l, or_lt}
 use Rattle.std.proofs.lemmas.List.{length-append, length-replicate}
 use Rattle.gl_bits.specs.declared.kind.Kind.{Kind}
-use Rattle.gl_bits.specs.declared.kind.Kind.TheVariants.{Unsigned, Text}
+use Rattle.gl_bits.specs.declared.kind.Kind.TheVariants.{Unsigned, Signed, Text}
 use Rattle.gl_bits.specs.declared.op.Op.{Op}
 use Rattle.gl_bits.specs.declared.op.Op.TheVariants as op
-use Rattle.gl_bits.specs.Kinds.{IsKind, bytes_in, width_of, is_at_most, is_below}
+use Rattle.gl_bits.specs.Kinds.{IsKind, bytes_in, width_of, is_at_most, is_below, signed_number}
 use Rattle.gl_bits.specs.Operators.{cast_of, operate, result_kind, sort_of}
 use Rattle.gl_bits.specs.Results.{Row}
-use Rattle.gl_bits.specs.Totals.{average_of, count_of, greater, greatest_of, least_of, lesser, sum_total, weighted, weighted_sum}
+use Rattle.gl_bits.specs.Totals.{count_of, greater, greatest_of, least_of, lesser, sum_total, weighted, weighted_sum}
 use Rattle.gl_bits.specs.Words.{difference_of, eq_of, not_of, product_of, sum_of}
 use Rattle.gl_bits.proofs.AllLists.{all_append}
 use Rattle.gl_bits.proofs.Bools.{and_left, and_parts, and_right, bit_fits, by_cases}
 use Rattle.gl_bits.proofs.KindLemmas.{range_below, text_width}
-use Rattle.gl_bits.proofs.Totalling.{average_none, average_some}
+use Rattle.gl_bits.proofs.Signs.{word_fits}
+use Rattle.gl_bits.proofs.Totalling.{average_fits}
 use Rattle.gl_schema.specs.declared.schema.Column.{Column}
 use Rattle.gl_schema.specs.Schemas.{IsRowOf, has_column, kinds_of, number_of, padded, text_word}
 use Rattle.gl_query.specs.Shapes.{AggItemShape, AggShape, ExprShape, ItemShape, PickShape}
@@ -83,6 +84,7 @@ cut_below m n x lt = below x (2 ^ m) (2 ^ n) lt (pow_pos n) (pow_pos m)
 
 cast_below : (from to : Kind) (x : ℕ) → x < 2 ^ width_of from → cast_of from to x < 2 ^ width_of to
 cast_below (Unsigned v) to x lt = wrapped x (width_of to)
+cast_below (Signed v) to x lt = word_fits (width_of to) (signed_number v x)
 cast_below (Text n) to x lt = cut_below (8 * n) (width_of to) x lt
 
 not_below : (x : ℕ) → not_of 1 x < 2 ^ 1
@@ -139,6 +141,7 @@ pub value_below : (e : ExprShape) (columns : List Column) (place : Kind) (row : 
     → value_of columns place e row < 2 ^ width_of (kind_of columns place e)
 value_below (shape.Column name) columns place row h fits = column_below columns row name h fits
 value_below (shape.Number n) columns place row h fits = range_below place n h.1
+value_below (shape.Minus n) columns place row h fits = word_fits (width_of place) (neg_ℤ (pos n))
 value_below (shape.Letters text) columns place row h fits = letters_below place text h
 value_below (shape.Not e) columns place row h fits = not_below (value_of columns (Unsigned 1) e row)
 value_below (shape.Cast kind e) columns place row h fits =
@@ -175,15 +178,6 @@ unfolding greatest_of
 greatest_below kind w [] h = pow_pos w
 greatest_below kind w (x ∷ xs) h = fold_below (greater kind) (2 ^ w) x xs (greater_below kind (2 ^ w)) h.0 h.1
 
-average_at : (kind : Kind) (xs : List ℕ) (n : ℕ) → n ≡ count_of xs → average_of kind xs < 2 ^ width_of kind
-average_at kind xs zero e = subst (λ (k : ℕ). k < 2 ^ width_of kind) (sym (average_none kind xs (sym e))) (pow_pos (width_of kind))
-average_at kind xs (suc n) e =
-    subst (λ (k : ℕ). k < 2 ^ width_of kind) (average_some kind xs (suc n) e (λ z. absurd (omega (arith, z))))
-    (wrapped (sum_total (width_of kind + 32) xs / suc n) (width_of kind))
-
-average_below : (kind : Kind) (xs : List ℕ) → average_of kind xs < 2 ^ width_of kind
-average_below kind xs = average_at kind xs (count_of xs) refl
-
 sum_below : (w : ℕ) (xs : List ℕ) → sum_total w xs < 2 ^ w
 unfolding sum_total
 sum_below w xs = wrapped (sum xs) w
@@ -202,7 +196,7 @@ agg_below columns rows shape.Count h fits = count_below rows
 agg_below columns rows (shape.Sum e) h fits = sum_below _ (values_of columns e rows)
 agg_below columns rows (shape.Min e) h fits = least_below _ _ (values_of columns e rows) (values_below columns e rows h fits)
 agg_below columns rows (shape.Max e) h fits = greatest_below _ _ (values_of columns e rows) (values_below columns e rows h fits)
-agg_below columns rows (shape.Avg e) h fits = average_below _ (values_of columns e rows)
+agg_below columns rows (shape.Avg e) h fits = average_fits _ (values_of columns e rows)
 agg_below columns rows (shape.Wsum e weights) h fits = weighted_below _ weights (values_of columns e rows)
 
 -- ---- rows

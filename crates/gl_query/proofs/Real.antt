@@ -18,7 +18,7 @@ use Rattle.gl_schema.proofs.KindTable.{written_is}
 use Rattle.gl_schema.specs.Schemas.{IsColumn, IsStream, has_stream}
 use Rattle.gl_query.specs.Shapes.{AggItemShape, AggShape, ExprShape, ItemShape, QueryShape}
 use Rattle.gl_query.specs.Shapes as shape
-use Rattle.gl_query.specs.Values.{HasKind, begins_with_text, column_number, kind_alone, kind_of, loose_kind, operand_place, operator_kind, own_kind}
+use Rattle.gl_query.specs.Values.{HasKind, begins_with_text, column_number, has_minus, kind_alone, kind_of, loose_kind, operand_place, operator_kind, own_kind}
 use Rattle.gl_query.specs.Columns.{agg_column, agg_kind, item_column, source_columns}
 use Rattle.gl_query.specs.Accepted.{AreResultColumns, IsAcceptedOver, IsAgg, Scope, body_scope, columns_under}
 use Rattle.gl_query.specs.Sizes.{HasItems}
@@ -48,6 +48,7 @@ body_is var columns h k = record {
 abbrev CastsAreKinds : ExprShape → Type 0
 CastsAreKinds (shape.Column name) = Unit {0}
 CastsAreKinds (shape.Number n) = Unit {0}
+CastsAreKinds (shape.Minus n) = Unit {0}
 CastsAreKinds (shape.Letters text) = Unit {0}
 CastsAreKinds (shape.Not e) = CastsAreKinds e
 CastsAreKinds (shape.Cast kind e) = IsKind kind × CastsAreKinds e
@@ -56,6 +57,7 @@ CastsAreKinds (shape.Binary op l r) = CastsAreKinds l × CastsAreKinds r
 pub casts_are : (e : ExprShape) (columns : List Column) (place : Kind) → HasKind columns place e → CastsAreKinds e
 casts_are (shape.Column name) columns place h = tt
 casts_are (shape.Number n) columns place h = tt
+casts_are (shape.Minus n) columns place h = tt
 casts_are (shape.Letters text) columns place h = tt
 casts_are (shape.Not e) columns place h = casts_are e columns (Unsigned 1) h.0
 casts_are (shape.Cast kind e) columns place h =
@@ -64,7 +66,9 @@ casts_are (shape.Binary op l r) columns place h =
     (casts_are l columns (operand_place columns op place l r) h.0, casts_are r columns (operand_place columns op place r l) h.1)
 
 pub alone_kind : (e : ExprShape) → IsKind (kind_alone e)
-alone_kind e = by_cases (begins_with_text e) (λ b. rw b (lit≤ tt, lit≤ tt)) (λ b. rw b (lit≤ tt, lit≤ tt))
+alone_kind e =
+    by_cases (begins_with_text e) (λ b. rw b (lit≤ tt, lit≤ tt))
+    (λ b. rw b (by_cases (has_minus e) (λ m. rw m (lit≤ tt, lit≤ tt)) (λ m. rw m (lit≤ tt, lit≤ tt))))
 
 loose_is : (sort : Sort) (whole : Kind) (e : ExprShape) → IsKind whole → IsKind (loose_kind sort whole e)
 loose_is Arithmetic whole e h = h
@@ -86,6 +90,7 @@ operator_is Logic left right h k = bit_is_kind
 own_is : (e : ExprShape) (columns : List Column) → AreKinds columns → CastsAreKinds e → IfSome (own_kind columns e) IsKind
 own_is (shape.Column name) columns h c = kind_at columns (column_number columns name) h
 own_is (shape.Number n) columns h c = tt
+own_is (shape.Minus n) columns h c = tt
 own_is (shape.Letters text) columns h c = tt
 own_is (shape.Not e) columns h c = bit_is_kind
 own_is (shape.Cast kind e) columns h c = c.0

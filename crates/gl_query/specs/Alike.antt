@@ -9,6 +9,7 @@ use Rattle.gl_query.specs.Trees as tree
 abbrev pub expr_alike : ExprTree → ExprShape
 expr_alike (tree.Column name) = shape.Column name.text
 expr_alike (tree.Number n) = shape.Number n.value
+expr_alike (tree.Minus n) = shape.Minus n.value
 expr_alike (tree.Letters text at) = shape.Letters text
 expr_alike (tree.Not e at) = shape.Not (expr_alike e)
 expr_alike (tree.Cast e kind at) = shape.Cast kind (expr_alike e)

@@ -2,7 +2,7 @@
 -- parts.
 use Rattle.std.specs.Prelude.{ℕ, ◌*◌, pos, Bool, true, false, not, ◌&&◌, List, [], ◌∷◌, ◌++◌, length, Option, Some, None, bytes_eq, nat_le, nat_lt, slice_get, if◌then◌else◌}
 use Rattle.std.specs.List.{list_any}
-use Rattle.gl_bits.specs.Kinds.{can_cast, in_range, is_number, is_text}
+use Rattle.gl_bits.specs.Kinds.{can_cast, has_negative, in_range, is_number, is_text}
 use Rattle.gl_bits.specs.Limits.{most_columns, most_copies, most_groups, most_rows, most_weights}
 use Rattle.gl_bits.specs.declared.kind.Kind.{Kind}
 use Rattle.gl_bits.specs.declared.kind.Kind.TheVariants.{Unsigned}
@@ -16,7 +16,7 @@ use Rattle.gl_query.specs.declared.fault.QueryFault.{QueryFault}
 use Rattle.gl_query.specs.declared.fault.QueryFault.TheVariants.{UnknownStream, UnknownColumn, KindsDiffer, LiteralTooWide, NotCondition, TwiceNamed, ColumnsDiffer, PaceDiffers, NotClosing, OutOfRange}
 use Rattle.gl_query.specs.declared.tree.Name.{Name}
 use Rattle.gl_query.specs.declared.tree.Num.{Num}
-use Rattle.gl_query.specs.Trees.{ExprTree, AggTree, ItemTree, AggItemTree, PickTree, QueryTree, StatementTree, Column, Number, Letters, Not, Cast, Binary, Count, Sum, Min, Max, Avg, Wsum, All, Items, Read, Rows, Total, Each, PerGroup, Union, Concat}
+use Rattle.gl_query.specs.Trees.{ExprTree, AggTree, ItemTree, AggItemTree, PickTree, QueryTree, StatementTree, Column, Number, Minus, Letters, Not, Cast, Binary, Count, Sum, Min, Max, Avg, Wsum, All, Items, Read, Rows, Total, Each, PerGroup, Union, Concat}
 use Rattle.gl_query.specs.Shapes.{QueryShape}
 use Rattle.gl_query.specs.Alike.{expr_alike, query_alike}
 use Rattle.gl_query.specs.Values.{is_loose, kind_alone, kind_of, letters_fit, operand_place}
@@ -68,6 +68,11 @@ abbrev pub number_fault : Kind → Num → Option QueryFault
 number_fault kind n =
     or_else (unless (is_number kind) (KindsDiffer n.at)) (unless (in_range kind (pos n.value)) (LiteralTooWide n.at))
 
+-- a number behind a minus sign fits a kind with a sign alone
+abbrev pub negative_fault : Kind → Num → Option QueryFault
+negative_fault kind n =
+    or_else (unless (is_number kind) (KindsDiffer n.at)) (unless (has_negative kind n.value) (LiteralTooWide n.at))
+
 abbrev pub letters_fault : Kind → List ℕ → ℕ → Option QueryFault
 letters_fault kind text at =
     or_else (unless (is_text kind) (KindsDiffer at)) (unless (letters_fit kind text) (LiteralTooWide at))
@@ -85,6 +90,7 @@ of_operands left_loose right_loose left right =
 abbrev pub expr_fault : List NamedColumn → Kind → ExprTree → Option QueryFault
 expr_fault columns place (Column name) = unless (has_column columns name.text) (UnknownColumn name.at)
 expr_fault columns place (Number n) = number_fault place n
+expr_fault columns place (Minus n) = negative_fault place n
 expr_fault columns place (Letters text at) = letters_fault place text at
 expr_fault columns place (Not e at) =
     or_else (expr_fault columns (Unsigned 1) e)
@@ -111,6 +117,7 @@ whole_kind columns e = kind_of columns (kind_alone (expr_alike e)) (expr_alike e
 abbrev pub first_place : ExprTree → ℕ
 first_place (Column name) = name.at
 first_place (Number n) = n.at
+first_place (Minus n) = n.at
 first_place (Letters text at) = at
 first_place (Not e at) = at
 first_place (Cast e kind at) = at

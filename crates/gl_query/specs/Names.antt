@@ -8,6 +8,7 @@ use Rattle.gl_query.specs.Parts.{InQuery}
 abbrev pub HasNames : ExprShape → Type 0
 HasNames (shape.Column name) = IsName name
 HasNames (shape.Number n) = Unit {0}
+HasNames (shape.Minus n) = Unit {0}
 HasNames (shape.Letters text) = Unit {0}
 HasNames (shape.Not e) = HasNames e
 HasNames (shape.Cast kind e) = HasNames e

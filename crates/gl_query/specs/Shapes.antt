@@ -19,6 +19,7 @@ use Rattle.gl_query.specs.declared.tree.Statement.{Statement}
 pub data ExprShape : Type 0 where
   Column : (name : List ℕ) → ExprShape
   Number : (n : ℕ) → ExprShape
+  Minus : (n : ℕ) → ExprShape
   Letters : (text : List ℕ) → ExprShape
   Not : (e : ExprShape) → ExprShape
   Cast : (kind : Kind) (e : ExprShape) → ExprShape
@@ -66,6 +67,7 @@ pub record StatementShape : Type 0 where
 abbrev pub expr_shape : Expr → ExprShape
 expr_shape (expr.Column name) = Column name.text
 expr_shape (expr.Number n) = Number n.value
+expr_shape (expr.Minus n) = Minus n.value
 expr_shape (expr.Letters text at) = Letters text
 expr_shape (expr.Not' p e at) = Not (expr_shape e)
 expr_shape (expr.Cast' p e kind at) = Cast kind (expr_shape e)

@@ -19,6 +19,7 @@ use Rattle.gl_query.specs.declared.tree.Statement.{Statement}
 pub data ExprTree : Type 0 where
   Column : (name : Name) → ExprTree
   Number : (n : Num) → ExprTree
+  Minus : (n : Num) → ExprTree
   Letters : (text : List ℕ) (at : ℕ) → ExprTree
   Not : (e : ExprTree) (at : ℕ) → ExprTree
   Cast : (e : ExprTree) (kind : Kind) (at : ℕ) → ExprTree
@@ -60,6 +61,7 @@ pub record StatementTree : Type 0 where
 abbrev pub expr_tree : Expr → ExprTree
 expr_tree (expr.Column name) = Column name
 expr_tree (expr.Number n) = Number n
+expr_tree (expr.Minus n) = Minus n
 expr_tree (expr.Letters text at) = Letters text at
 expr_tree (expr.Not' p e at) = Not (expr_tree e) at
 expr_tree (expr.Cast' p e kind at) = Cast (expr_tree e) kind at

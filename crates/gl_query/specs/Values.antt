@@ -1,13 +1,13 @@
 -- The kind and the value of an expression over one row.
-use Rattle.std.specs.Prelude.{◌≡◌, ℕ, pos, Bool, true, false, ◌&&◌, List, length, Option, Some, None, is_none, unwrap_or, option_map, nat_le, nat_lt, slice_get, slice_index, bytes_eq, IsTrue, if◌then◌else◌}
+use Rattle.std.specs.Prelude.{◌≡◌, ℕ, pos, Bool, true, false, ◌&&◌, ◌||◌, List, length, Option, Some, None, is_none, unwrap_or, option_map, nat_le, nat_lt, slice_get, slice_index, bytes_eq, IsTrue, if◌then◌else◌}
 use Rattle.std.specs.List.{list_all, position_or_len}
 use Rattle.std.specs.Option.{option_or}
 use Rattle.gl_bits.specs.declared.kind.Kind.{Kind}
-use Rattle.gl_bits.specs.declared.kind.Kind.TheVariants.{Unsigned, Text}
+use Rattle.gl_bits.specs.declared.kind.Kind.TheVariants.{Unsigned, Signed, Text}
 use Rattle.gl_bits.specs.declared.op.Op.{Op}
 use Rattle.gl_bits.specs.declared.op.Sort.{Sort}
 use Rattle.gl_bits.specs.declared.op.Sort.TheVariants.{Arithmetic, Comparison, Logic}
-use Rattle.gl_bits.specs.Kinds.{bytes_in, can_cast, in_range, is_number, is_text}
+use Rattle.gl_bits.specs.Kinds.{bytes_in, can_cast, has_negative, in_range, is_number, is_text, negative_word}
 use Rattle.gl_bits.specs.Operators.{cast_of, sort_of, operate}
 use Rattle.gl_bits.specs.Words.{not_of}
 use Rattle.gl_schema.specs.declared.schema.Column.{Column}
@@ -38,6 +38,7 @@ operator_kind Logic left right = Some (Unsigned 1)
 abbrev pub own_kind : List Column → ExprShape → Option Kind
 own_kind columns (shape.Column name) = Some (column_kind columns name)
 own_kind columns (shape.Number n) = None
+own_kind columns (shape.Minus n) = None
 own_kind columns (shape.Letters text) = None
 own_kind columns (shape.Not e) = Some (Unsigned 1)
 own_kind columns (shape.Cast kind e) = Some kind
@@ -54,14 +55,25 @@ kind_of columns place e = unwrap_or (own_kind columns e) place
 abbrev pub begins_with_text : ExprShape → Bool
 begins_with_text (shape.Column name) = false
 begins_with_text (shape.Number n) = false
+begins_with_text (shape.Minus n) = false
 begins_with_text (shape.Letters text) = true
 begins_with_text (shape.Not e) = false
 begins_with_text (shape.Cast kind e) = false
 begins_with_text (shape.Binary op l r) = begins_with_text l
 
+-- a number behind a minus sign stands in what is loose
+abbrev pub has_minus : ExprShape → Bool
+has_minus (shape.Column name) = false
+has_minus (shape.Number n) = false
+has_minus (shape.Minus n) = true
+has_minus (shape.Letters text) = false
+has_minus (shape.Not e) = false
+has_minus (shape.Cast kind e) = false
+has_minus (shape.Binary op l r) = has_minus l || has_minus r
+
 -- the kind that what is loose takes where its place gives none
 abbrev pub kind_alone : ExprShape → Kind
-kind_alone e = if begins_with_text e then Text 8 else Unsigned 64
+kind_alone e = if begins_with_text e then Text 8 else if has_minus e then Signed 64 else Unsigned 64
 
 -- the kind that a loose operand takes beside a loose one, under an operator in a place of this kind
 abbrev pub loose_kind : Sort → Kind → ExprShape → Kind
@@ -85,6 +97,10 @@ CanApply Logic left right = (left ≡ Unsigned 1) × (right ≡ Unsigned 1)
 abbrev pub IsNumberOf : Kind → ℕ → Type 0
 IsNumberOf kind n = IsTrue (is_number kind) × IsTrue (in_range kind (pos n))
 
+-- a number behind a minus sign of this kind
+abbrev pub IsNegativeOf : Kind → ℕ → Type 0
+IsNegativeOf kind n = IsTrue (is_number kind) × IsTrue (has_negative kind n)
+
 -- at most as many bytes as the kind has
 abbrev pub letters_fit : Kind → List ℕ → Bool
 letters_fit kind text = nat_le (length text) (bytes_in kind) && list_all (λ b. nat_lt b 256) text
@@ -97,6 +113,7 @@ IsLettersOf kind text = IsTrue (is_text kind) × IsTrue (letters_fit kind text)
 abbrev pub HasKind : List Column → Kind → ExprShape → Type 0
 HasKind columns place (shape.Column name) = IsTrue (has_column columns name)
 HasKind columns place (shape.Number n) = IsNumberOf place n
+HasKind columns place (shape.Minus n) = IsNegativeOf place n
 HasKind columns place (shape.Letters text) = IsLettersOf place text
 HasKind columns place (shape.Not e) = HasKind columns (Unsigned 1) e × (kind_of columns (Unsigned 1) e ≡ Unsigned 1)
 HasKind columns place (shape.Cast kind e) =
@@ -112,6 +129,7 @@ HasKind columns place (shape.Binary op l r) =
 abbrev pub value_of : List Column → Kind → ExprShape → List ℕ → ℕ
 value_of columns place (shape.Column name) row = slice_index row (column_number columns name)
 value_of columns place (shape.Number n) row = n
+value_of columns place (shape.Minus n) row = negative_word place n
 value_of columns place (shape.Letters text) row = text_word (bytes_in place) text
 value_of columns place (shape.Not e) row = not_of 1 (value_of columns (Unsigned 1) e row)
 value_of columns place (shape.Cast kind e) row =

@@ -2,7 +2,7 @@
 
 ghost use Rattle.std.specs.Prelude.{◌≡◌, ◌≤◌, length};
 ghost use Rattle.gl_query.specs.Shapes.{expr_shape};
-ghost use Rattle.gl_query.specs.Values.{begins_with_text, column_kind, column_number, kind_alone, kind_of, loose_kind, operand_place, operator_kind, own_kind};
+ghost use Rattle.gl_query.specs.Values.{begins_with_text, column_kind, column_number, has_minus, kind_alone, kind_of, loose_kind, operand_place, operator_kind, own_kind};
 
 use crate::tree::Expr;
 use gl_bits::{Kind, Op, Sort};
@@ -48,7 +48,7 @@ pub fn own_kind(columns: &[Column], expr: &Expr) -> Option<Kind>
 {
     match expr {
         Expr::Column(name) => Some(column_kind(columns, name.text.as_slice())),
-        Expr::Number(_) | Expr::Letters { .. } => None,
+        Expr::Number(_) | Expr::Minus(_) | Expr::Letters { .. } => None,
         Expr::Not { .. } => Some(Kind::Unsigned(1)),
         Expr::Cast { kind, .. } => Some(*kind),
         Expr::Binary {
@@ -74,7 +74,23 @@ pub fn begins_with_text(expr: &Expr) -> bool
     match expr {
         Expr::Letters { .. } => true,
         Expr::Binary { left, .. } => begins_with_text(left),
-        Expr::Column(_) | Expr::Number(_) | Expr::Not { .. } | Expr::Cast { .. } => false,
+        Expr::Column(_) | Expr::Number(_) | Expr::Minus(_) | Expr::Not { .. } | Expr::Cast { .. } =>
+            false,
+    }
+}
+
+/// Whether a number behind a minus sign stands in a loose expression.
+pub fn has_minus(expr: &Expr) -> bool
+    ensures { result ≡ has_minus (expr_shape expr.now) }
+{
+    match expr {
+        Expr::Minus(_) => true,
+        Expr::Binary { left, right, .. } => has_minus(left) || has_minus(right),
+        Expr::Column(_)
+        | Expr::Number(_)
+        | Expr::Letters { .. }
+        | Expr::Not { .. }
+        | Expr::Cast { .. } => false,
     }
 }
 
@@ -84,6 +100,8 @@ pub fn kind_alone(expr: &Expr) -> Kind
 {
     if begins_with_text(expr) {
         Kind::Text(8)
+    } else if has_minus(expr) {
+        Kind::Signed(64)
     } else {
         Kind::Unsigned(64)
     }

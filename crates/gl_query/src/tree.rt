@@ -40,6 +40,8 @@ pub enum Expr {
     Column(Name),
     /// A number.
     Number(Num),
+    /// A number behind a minus sign; its place is that of the sign.
+    Minus(Num),
     /// A text literal.
     Letters {
         text: TextBytes,

@@ -61,6 +61,21 @@ pub fn number_fault(place: Kind, number: Num) -> Option<QueryFault>
     )
 }
 
+// The fault of a number behind a minus sign in a place.
+fn negative_fault(place: Kind, number: Num) -> Option<QueryFault>
+    ensures { result ≡ faults.negative_fault place number }
+{
+    let at = number.at;
+    let fits = unless(
+        place.has_negative(number.value),
+        QueryFault::LiteralTooWide { at },
+    );
+    or_else(
+        unless(place.is_number(), QueryFault::KindsDiffer { at }),
+        fits,
+    )
+}
+
 // The fault of a text literal in a place.
 fn letters_fault(place: Kind, text: &[u8], at: u64) -> Option<QueryFault>
     ensures { result ≡ faults.letters_fault place text.now at }
@@ -113,6 +128,7 @@ fn loose_fault(place: Kind, expr: &Expr) -> Option<QueryFault>
 {
     match expr {
         Expr::Number(number) => number_fault(place, *number),
+        Expr::Minus(number) => negative_fault(place, *number),
         Expr::Letters { text, at } => letters_fault(place, text.as_slice(), *at),
         Expr::Binary {
             left,
@@ -223,7 +239,7 @@ fn judge(columns: &[Column], expr: &Expr) -> Judged
 {
     match expr {
         Expr::Column(name) => column_judged(columns, name),
-        Expr::Number(_) | Expr::Letters { .. } => Judged::Loose,
+        Expr::Number(_) | Expr::Minus(_) | Expr::Letters { .. } => Judged::Loose,
         Expr::Not { arg, at } => {
             let inside = settle(Kind::Unsigned(1), judge(columns, arg), arg);
             let bit = unless(is_bit(inside.kind), QueryFault::NotCondition { at: *at });
@@ -275,7 +291,7 @@ fn first_place(expr: &Expr) -> u64
 {
     match expr {
         Expr::Column(name) => name.at,
-        Expr::Number(number) => number.at,
+        Expr::Number(number) | Expr::Minus(number) => number.at,
         Expr::Letters { at, .. } => *at,
         Expr::Not { at, .. } => *at,
         Expr::Cast { at, .. } => *at,

@@ -1,5 +1,5 @@
 -- Numbers in decimal are read as these numbers.
-use Rattle.std.proofs.Common.{◌≡◌, ◌≢◌, ℕ, ◌+◌, ◌-◌, ◌*◌, ◌^◌, ◌<◌, ◌≤◌, Bool, true, false, ◌&&◌, List, [], ◌∷◌, length, map, Option, Some, None, refl, sym, ap, ◌∙◌, arith, le-leb, lt-ltb, lit≤}
+use Rattle.std.proofs.Common.{◌≡◌, ℕ, ◌+◌, ◌-◌, ◌*◌, ◌^◌, ◌<◌, ◌≤◌, Bool, true, false, ◌&&◌, List, [], ◌∷◌, length, map, Option, Some, None, refl, sym, ap, ◌∙◌, arith, le-leb, lt-ltb, lit≤}
 use Rattle.std.specs.Prelude.{codes, decimal, nat_le, nat_lt, bytes_eq, if◌then◌else◌}
 use Rattle.std.specs.Int.{IsInRange}
 use Rattle.std.specs.Char.{to_ascii_lowercase}
@@ -21,7 +21,7 @@ use Rattle.gl_query_tokens.specs.Tokens.{class_of}
 use Rattle.gl_query_tokens.specs.Words.{is_keyword, clause_of, window_of, operator_of, keyword_of, or_else, with_digit, number_of, number_token, word_token}
 use Rattle.gl_query_printer.specs.Canonical.{num_of}
 use Rattle.gl_query_printer.specs.Spaced.{token_text, place_behind}
-use Rattle.gl_query_printer.proofs.Lexed.{Readable, read_word}
+use Rattle.gl_query_printer.proofs.Lexed.{Readable, read_word, word_apart}
 use Rattle.gl_query_tokens.proofs.Sound.{is_letter, are_letters, is_word}
 use Rattle.gl_query_printer.proofs.Places.{placeless}
 use Rattle.gl_query_tokens.proofs.Sound.{IsSmall}
@@ -156,4 +156,8 @@ number_readable n h =
     let w : n < 10 ^ 64 = let l = ltb-true n (2 ^ 128) h in omega (arith, l) in
     let d = decimal_is_IsNumeral_wide n w in
     let z : IsDecimal (decimal n) n = record { digits' = d.0.1; value = own.same (decimal n) d.0.1 ∙ d.1 } in
-    record { reads = λ at bs e. read_word (decimal n) (token.Number (num_of n)) (is_word_digits (decimal n) d.0) (λ a. numeral_token (decimal n) n a (is_word_digits (decimal n) d.0) z h) at bs e }
+    let word = is_word_digits (decimal n) d.0 in
+    record {
+      reads = λ p at bs e. read_word (decimal n) (token.Number (num_of n)) word (λ a. numeral_token (decimal n) n a word z h) at bs e;
+      apart = λ is more. word_apart (decimal n) more word;
+    }

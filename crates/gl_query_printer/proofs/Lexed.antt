@@ -1,8 +1,8 @@
 -- The text of tokens has these tokens.
-use Rattle.std.proofs.Common.{◌≡◌, ◌≢◌, ℕ, ◌+◌, ◌-◌, Bool, true, false, not, ◌&&◌, List, [], ◌∷◌, ◌++◌, length, map, refl, sym, ap, subst, ◌∙◌, append_assoc, append-nil, inl, inr, ◌⊎◌}
+use Rattle.std.proofs.Common.{◌≡◌, ℕ, ◌+◌, Bool, true, false, not, ◌&&◌, List, [], ◌∷◌, ◌++◌, length, map, refl, sym, ap, subst, ◌∙◌, append_assoc, append-nil, inl, inr, ◌⊎◌}
 use Rattle.std.specs.Prelude.{nat_le, ◌==◌}
 use Rattle.std.specs.List.{AllByRecursion}
-use Rattle.std.proofs.lemmas.Bool.{and_parts, true≢false}
+use Rattle.std.proofs.lemmas.Bool.{and_parts, cases_Bool, eqb-true, true≢false}
 use Rattle.gl_query_tokens.specs.declared.token.Plain.TheVariants as plain
 use Rattle.gl_query_tokens.specs.declared.token.Token.{Token}
 use Rattle.gl_query_tokens.specs.declared.token.Token.TheVariants as token
@@ -15,8 +15,8 @@ use Rattle.gl_query_tokens.specs.Tokens.{Mode, Between, InWord, InText, AfterHal
 use Rattle.gl_query_tokens.specs.Words.{word_token}
 use Rattle.gl_query_reader.specs.Grammar.{bare_tokens}
 use Rattle.gl_query_printer.specs.declared.text.Behind.{Behind}
-use Rattle.gl_query_printer.specs.declared.text.Behind.TheVariants.{Opening, Aggregate, Other}
-use Rattle.gl_query_printer.specs.Spaced.{token_text, plain_text, letters_text, place_behind, is_closing, is_opening, needs_space, gap, spaced, text_of}
+use Rattle.gl_query_printer.specs.declared.text.Behind.TheVariants.{Opening, Aggregate, Operand, Sign, Other}
+use Rattle.gl_query_printer.specs.Spaced.{token_text, plain_text, letters_text, place_behind, is_closing, is_number, is_opening, needs_space, gap, spaced, text_of}
 use Rattle.gl_query_tokens.proofs.Sound.{IsLetters, are_inside, are_letters, is_inside, is_letter, is_word}
 use Rattle.gl_query_printer.proofs.Places.{placeless}
 use Rattle.gl_bits.proofs.Bools.{not_true}
@@ -77,10 +77,32 @@ square_ends : IsEnd 93
 unfolding class_of follow_of
 square_ends = end_at 93 refl refl refl refl
 
+-- these bytes do not begin with a dash, which would make a comment of one before them
+abbrev pub Apart : List ℕ → Type 0
+Apart [] = Unit {0}
+Apart (b ∷ bs) = follow_of 45 b ≡ Fresh
+
+pub ends_apart : (bs : List ℕ) → Ends bs → Apart bs
+ends_apart [] e = tt
+ends_apart (b ∷ bs) e = e.dash
+
+letter_apart : (b : ℕ) → is_letter (class_of b) ≡ true → follow_of 45 b ≡ Fresh
+unfolding class_of follow_of
+letter_apart b h = elim (cases_Bool (b == 45)) [
+  | inl dash ↦ absurd (true≢false (sym h ∙ ap (λ (c : ℕ). is_letter (class_of c)) (eqb-true b 45 dash)))
+  | inr other ↦ rw other refl
+]
+
+pub word_apart : (w more : List ℕ) → is_word w ≡ true → Apart (w ++ more)
+word_apart [] more h = absurd (true≢false (sym h))
+word_apart (b ∷ w) more h = letter_apart b (and_parts (is_letter (class_of b)) (are_letters w) h).0
+
 -- what stands behind a token does not go on with it
 abbrev pub EndsIn : Behind → List ℕ → Type 0
 EndsIn Opening bs = Unit {0}
 EndsIn Aggregate bs = Ends bs
+EndsIn Operand bs = Ends bs
+EndsIn Sign bs = Apart bs
 EndsIn Other bs = Ends bs
 
 -- these bytes, with such ones behind them, are read as this token
@@ -88,9 +110,13 @@ pub record ReadAs (at : ℕ) (w bs : List ℕ) (t : Token) : Type 0 where
   pub behind : ℕ
   pub is : read_on Between at (w ++ bs) ≡ t ∷ read_on Between behind bs
 
--- a token's text is read as it
+-- a token's text is read as it, and that of a number does not begin with a dash
 pub record Readable (t : Token) : Type 0 where
-  pub reads : (at : ℕ) (bs : List ℕ) → EndsIn (place_behind t) bs → ReadAs at (token_text t) bs t
+  pub reads : (p : Behind) (at : ℕ) (bs : List ℕ) → EndsIn (place_behind p t) bs → ReadAs at (token_text t) bs t
+  pub apart : is_number t ≡ true → (more : List ℕ) → Apart (token_text t ++ more)
+
+pub no_number : {t : Token} → is_number t ≡ false → ((p : Behind) (at : ℕ) (bs : List ℕ) → EndsIn (place_behind p t) bs → ReadAs at (token_text t) bs t) → Readable t
+no_number n r = record { reads = r; apart = λ h. absurd (true≢false (sym h ∙ n)) }
 
 -- ---- words
 
@@ -146,6 +172,10 @@ pub half_ends : (from a : ℕ) (bs : List ℕ) (at : ℕ) → ((b : ℕ) → IsE
 half_ends from a [] at f e = refl
 half_ends from a (b ∷ bs) at f e = ap (λ (x : Follow). bare (after_half x from a at b).tokens ++ read_on (after_half x from a at b).mode (at + 1) bs) (f b e)
 
+pub dash_ends : (from : ℕ) (bs : List ℕ) (at : ℕ) → Apart bs → read_on (AfterHalf from 45) at bs ≡ placeless (sign_token 45 from) ∷ read_on Between at bs
+dash_ends from [] at e = refl
+dash_ends from (b ∷ bs) at e = ap (λ (x : Follow). bare (after_half x from 45 at b).tokens ++ read_on (after_half x from 45 at b).mode (at + 1) bs) e
+
 -- ---- text literals
 
 record Quoted (from : ℕ) (front w bs : List ℕ) (at : ℕ) : Type 0 where
@@ -178,15 +208,13 @@ letters_token text at h = rw h refl
 
 pub letters_readable : (text : List ℕ) → IsLetters text → Readable (token.Letters text 0)
 unfolding token_text letters_text
-letters_readable text h = record {
-  reads = λ at bs e.
-      let r = quoted at [] text bs (at + 1) h.inside in
-      record {
-        behind = r.behind;
-        is = ap (read_on Between at) (ap (λ (x : List ℕ). 39 ∷ x) (append_assoc text (39 ∷ []) bs)) ∙ quote_first at (text ++ 39 ∷ bs) ∙ r.is
-            ∙ ap (λ (x : Token). x ∷ read_on Between r.behind bs) (letters_token text at h.short);
-      };
-}
+letters_readable text h = no_number refl (λ p at bs e.
+    let r = quoted at [] text bs (at + 1) h.inside in
+    record {
+      behind = r.behind;
+      is = ap (read_on Between at) (ap (λ (x : List ℕ). 39 ∷ x) (append_assoc text (39 ∷ []) bs)) ∙ quote_first at (text ++ 39 ∷ bs) ∙ r.is
+          ∙ ap (λ (x : Token). x ∷ read_on Between r.behind bs) (letters_token text at h.short);
+    })
 
 -- ---- tokens with spaces between them
 
@@ -235,24 +263,35 @@ either_needed true b h = inl refl
 either_needed false true h = inr refl
 either_needed false false h = absurd (true≢false h)
 
-begins_in : (p : Behind) (u : Token) → (p ≡ Opening → ⊥) → needs_space p u ≡ false → Begins (token_text u)
-begins_in Opening u n h = absurd (n refl)
-begins_in Aggregate u n h = elim (either_needed (is_opening u) (is_closing u) h) [ inl o ↦ opening_begins u o | inr c ↦ closing_begins u c ]
-begins_in Other u n h = closing_begins u (not_needed (is_closing u) h)
+behind_name : (u : Token) → needs_space Aggregate u ≡ false → Begins (token_text u)
+behind_name u h = elim (either_needed (is_opening u) (is_closing u) h) [ inl o ↦ opening_begins u o | inr c ↦ closing_begins u c ]
 
-rest_ends : (p : Behind) (ts : List Token) → EndsIn p (spaced p ts)
-rest_ends Opening ts = tt
-rest_ends Aggregate [] = tt
-rest_ends Aggregate (u ∷ ts) = ends_by_gap (needs_space Aggregate u) (token_text u) (spaced (place_behind u) ts) (begins_in Aggregate u (λ e. absurd (cc)))
-rest_ends Other [] = tt
-rest_ends Other (u ∷ ts) = ends_by_gap (needs_space Other u) (token_text u) (spaced (place_behind u) ts) (begins_in Other u (λ e. absurd (cc)))
+behind_other : (u : Token) → not (is_closing u) ≡ false → Begins (token_text u)
+behind_other u h = closing_begins u (not_needed (is_closing u) h)
+
+-- a space, or a number behind its sign
+apart_by_gap : (number : Bool) (text more : List ℕ) → (number ≡ true → Apart (text ++ more)) → Apart (gap (not number) ++ text ++ more)
+apart_by_gap true text more f = f refl
+apart_by_gap false text more f = space_ends.dash
+
+rest_ends : (p : Behind) (ts : List Token) → AllByRecursion Readable ts → EndsIn p (spaced p ts)
+rest_ends Opening ts h = tt
+rest_ends Aggregate [] h = tt
+rest_ends Aggregate (u ∷ ts) h = ends_by_gap (needs_space Aggregate u) (token_text u) (spaced (place_behind Aggregate u) ts) (behind_name u)
+rest_ends Operand [] h = tt
+rest_ends Operand (u ∷ ts) h = ends_by_gap (needs_space Operand u) (token_text u) (spaced (place_behind Operand u) ts) (behind_other u)
+rest_ends Sign [] h = tt
+rest_ends Sign (u ∷ ts) h = apart_by_gap (is_number u) (token_text u) (spaced (place_behind Sign u) ts) (λ n. h.0.apart n (spaced (place_behind Sign u) ts))
+rest_ends Other [] h = tt
+rest_ends Other (u ∷ ts) h = ends_by_gap (needs_space Other u) (token_text u) (spaced (place_behind Other u) ts) (behind_other u)
 
 spaced_read : (p : Behind) (ts : List Token) (at : ℕ) → AllByRecursion Readable ts → read_on Between at (spaced p ts) ≡ ts
 spaced_read p [] at h = refl
 spaced_read p (t ∷ ts) at h =
-    let s = skips (needs_space p t) at (token_text t ++ spaced (place_behind t) ts) in
-    let r = h.0.reads s.behind (spaced (place_behind t) ts) (rest_ends (place_behind t) ts) in
-    ap (read_on Between at) (append_assoc (gap (needs_space p t)) (token_text t) (spaced (place_behind t) ts)) ∙ s.is ∙ r.is ∙ ap (λ (x : List Token). t ∷ x) (spaced_read (place_behind t) ts r.behind h.1)
+    let q = place_behind p t in
+    let s = skips (needs_space p t) at (token_text t ++ spaced q ts) in
+    let r = h.0.reads p s.behind (spaced q ts) (rest_ends q ts h.1) in
+    ap (read_on Between at) (append_assoc (gap (needs_space p t)) (token_text t) (spaced q ts)) ∙ s.is ∙ r.is ∙ ap (λ (x : List Token). t ∷ x) (spaced_read q ts r.behind h.1)
 
 -- the text of tokens that can be read has them
 pub text_has : (ts : List Token) → AllByRecursion Readable ts → map placeless (bare_tokens (tokens_of (text_of ts))) ≡ ts

@@ -14,7 +14,7 @@ use Rattle.gl_query_printer.specs.declared.text.Behind.{Behind}
 use Rattle.gl_query_printer.specs.Spaced.{place_behind, gap, needs_space, token_text, spaced}
 
 -- the text of the tokens from a place on
-pub spaced_next : (b : Behind) (ts : List Token) (at : ℕ) (d : Token) → at < length ts → spaced b (drop at ts) ≡ (gap (needs_space b (get_or ts at d)) ++ token_text (get_or ts at d)) ++ spaced (place_behind (get_or ts at d)) (drop (at + 1) ts)
+pub spaced_next : (b : Behind) (ts : List Token) (at : ℕ) (d : Token) → at < length ts → spaced b (drop at ts) ≡ (gap (needs_space b (get_or ts at d)) ++ token_text (get_or ts at d)) ++ spaced (place_behind b (get_or ts at d)) (drop (at + 1) ts)
 spaced_next b ts at d lt = rw (drop-cons ts at d lt, add-one) refl
 
 -- what stands behind the first of a list with a comma between each two

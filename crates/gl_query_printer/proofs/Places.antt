@@ -1,6 +1,5 @@
 -- Tokens without their places, and at other places.
 use Rattle.std.proofs.Common.{◌≡◌, ℕ, List, [], ◌∷◌, ◌++◌, map, refl, sym, ap, ◌∙◌}
-use Rattle.gl_query.specs.declared.tree.Name.{Name}
 use Rattle.gl_query_tokens.specs.declared.token.Token.{Token}
 use Rattle.gl_query_tokens.specs.declared.token.Token.TheVariants as token
 use Rattle.gl_query_printer.specs.Canonical.{name_of, num_of}

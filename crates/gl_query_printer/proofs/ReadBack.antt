@@ -1,6 +1,6 @@
 -- What is read from tokens that are the canonical ones but for their places.
-use Rattle.std.proofs.Common.{◌≡◌, ℕ, ◌+◌, ◌<◌, ◌≤◌, Bool, true, false, List, [], ◌∷◌, ◌++◌, map, None, refl, sym, ap, subst, ◌∙◌, arith, leb-true, lit<}
-use Rattle.std.specs.Prelude.{nat_le, nat_lt, bytes_eq, if◌then◌else◌}
+use Rattle.std.proofs.Common.{◌≡◌, ℕ, ◌<◌, ◌≤◌, Bool, true, false, List, [], ◌∷◌, ◌++◌, map, None, refl, sym, ap, subst, ◌∙◌, arith, leb-true, lit<}
+use Rattle.std.specs.Prelude.{nat_le, nat_lt, if◌then◌else◌}
 use Rattle.std.specs.List.{AllByRecursion}
 use Rattle.std.proofs.lemmas.Bool.{ltb-true, true≢false}
 use Rattle.std.proofs.lemmas.Slice.Eq.{bytes_eq-Decides}
@@ -88,6 +88,16 @@ read_expr (shape.Column name) c us h =
 read_expr (shape.Number n) c us h =
     let a = alone us (token.Number (num_of n)) h in
     record { tree = written.Number (record { value = n; at = a.at }); spelled = sym a.whole; level_is = refl; grammar = tt; alike = refl }
+read_expr (shape.Minus n) c us h =
+    let a = first us (token.Operator op.Sub 0) (token.Number (num_of n) ∷ []) h in
+    let b = alone a.rest (token.Number (num_of n)) a.rest_is in
+    record {
+      tree = written.Minus a.at (record { value = n; at = b.at });
+      spelled = cons (token.Operator op.Sub a.at) us a.rest _ a.whole (sym b.whole);
+      level_is = refl;
+      grammar = tt;
+      alike = refl;
+    }
 read_expr (shape.Letters text) c us h =
     let a = alone us (token.Letters text 0) h in
     record { tree = written.Letters text a.at; spelled = sym a.whole; level_is = refl; grammar = tt; alike = refl }
@@ -293,6 +303,7 @@ totals_parted (written.Total a name) xs = refl
 bare_is : (e : ExprShape) (name : List ℕ) → is_bare e name ≡ true → e ≡ shape.Column name
 bare_is (shape.Column column) name h = ap shape.Column ((bytes_eq-Decides column name).0 h)
 bare_is (shape.Number n) name h = absurd (true≢false (sym h))
+bare_is (shape.Minus n) name h = absurd (true≢false (sym h))
 bare_is (shape.Letters text) name h = absurd (true≢false (sym h))
 bare_is (shape.Not e) name h = absurd (true≢false (sym h))
 bare_is (shape.Cast kind e) name h = absurd (true≢false (sym h))

@@ -19,8 +19,10 @@ use Rattle.gl_query_tokens.specs.Words.{is_keyword, word_token}
 use Rattle.gl_query_reader.specs.Written as written
 use Rattle.gl_query_reader.specs.Written.{spell, spell_numbers, spell_agg, spell_item, spell_items, spell_pick, spell_window, spell_filter, spell_grouping, spell_query}
 use Rattle.gl_query_printer.specs.Canonical.{name_of, num_of, fitted, expr_of, agg_of, is_bare, item_of, agg_item_of, pick_of, bracketed_unless, source_of, term_of, window_of, grouping_of, query_of, canonical_tokens}
+use Rattle.gl_query_printer.specs.declared.text.Behind.{Behind}
+use Rattle.gl_query_printer.specs.declared.text.Behind.TheVariants.{Opening, Aggregate, Operand, Sign, Other}
 use Rattle.gl_query_printer.specs.Spaced.{token_text, plain_text, operator_text, fold_text, join_text, place_behind}
-use Rattle.gl_query_printer.proofs.Lexed.{Readable, ReadAs, Ends, read_word, letters_readable, half_ends}
+use Rattle.gl_query_printer.proofs.Lexed.{Readable, ReadAs, Apart, Ends, EndsIn, dash_ends, ends_apart, half_ends, letters_readable, no_number, read_word}
 use Rattle.gl_query_tokens.proofs.Sound.{is_word}
 use Rattle.gl_query_printer.proofs.Places.{placeless}
 use Rattle.gl_query_tokens.proofs.Sound.{IsNameWord, IsSmall}
@@ -32,27 +34,27 @@ use Rattle.gl_query_printer.proofs.Writable.{CanBeExpr, AreWeights, CanBeAgg, Ca
 
 name_readable : (w : List ℕ) → IsNameWord w → Readable (token.Name (name_of w))
 unfolding token_text place_behind
-name_readable w h = record { reads = λ at bs e. read_word w (token.Name (name_of w)) h.word (λ a. ap placeless (h.token a)) at bs e }
+name_readable w h = no_number refl (λ p at bs e. read_word w (token.Name (name_of w)) h.word (λ a. ap placeless (h.token a)) at bs e)
 
 open_readable : Readable (token.Open 0)
 unfolding token_text place_behind class_of sign_token
-open_readable = record { reads = λ at bs e. record { behind = at + 1; is = refl } }
+open_readable = no_number refl (λ p at bs e. record { behind = at + 1; is = refl })
 
 close_readable : Readable (token.Plain plain.Close)
 unfolding token_text plain_text class_of sign_token
-close_readable = record { reads = λ at bs e. record { behind = at + 1; is = refl } }
+close_readable = no_number refl (λ p at bs e. record { behind = at + 1; is = refl })
 
 left_readable : Readable (token.Plain plain.LeftSquare)
 unfolding token_text plain_text class_of sign_token
-left_readable = record { reads = λ at bs e. record { behind = at + 1; is = refl } }
+left_readable = no_number refl (λ p at bs e. record { behind = at + 1; is = refl })
 
 right_readable : Readable (token.Plain plain.RightSquare)
 unfolding token_text plain_text class_of sign_token
-right_readable = record { reads = λ at bs e. record { behind = at + 1; is = refl } }
+right_readable = no_number refl (λ p at bs e. record { behind = at + 1; is = refl })
 
 comma_readable : Readable (token.Plain plain.Comma)
 unfolding token_text plain_text class_of sign_token
-comma_readable = record { reads = λ at bs e. record { behind = at + 1; is = refl } }
+comma_readable = no_number refl (λ p at bs e. record { behind = at + 1; is = refl })
 
 -- keywords behind which a word ends
 plain_readable : (p : Plain) → is_word (plain_text p) ≡ true → ((at : ℕ) → placeless (word_token (plain_text p) at) ≡ token.Plain p) → ((at : ℕ) (bs : List ℕ) → Ends bs → ReadAs at (plain_text p) bs (token.Plain p))
@@ -60,93 +62,102 @@ plain_readable p w k = λ at bs e. read_word (plain_text p) (token.Plain p) w k 
 
 select_readable : Readable (token.Plain plain.Select)
 unfolding token_text plain_text place_behind class_of word_token is_keyword
-select_readable = record { reads = plain_readable plain.Select refl (λ at. refl) }
+select_readable = no_number refl (λ p. plain_readable plain.Select refl (λ at. refl))
 
 from_readable : Readable (token.Plain plain.From)
 unfolding token_text plain_text place_behind class_of word_token is_keyword
-from_readable = record { reads = plain_readable plain.From refl (λ at. refl) }
+from_readable = no_number refl (λ p. plain_readable plain.From refl (λ at. refl))
 
 where_readable : Readable (token.Plain plain.Where)
 unfolding token_text plain_text place_behind class_of word_token is_keyword
-where_readable = record { reads = plain_readable plain.Where refl (λ at. refl) }
+where_readable = no_number refl (λ p. plain_readable plain.Where refl (λ at. refl))
 
 groups_readable : Readable (token.Plain plain.Groups)
 unfolding token_text plain_text place_behind class_of word_token is_keyword
-groups_readable = record { reads = plain_readable plain.Groups refl (λ at. refl) }
+groups_readable = no_number refl (λ p. plain_readable plain.Groups refl (λ at. refl))
 
 in_readable : Readable (token.Plain plain.In)
 unfolding token_text plain_text place_behind class_of word_token is_keyword
-in_readable = record { reads = plain_readable plain.In refl (λ at. refl) }
+in_readable = no_number refl (λ p. plain_readable plain.In refl (λ at. refl))
 
 advance_readable : Readable (token.Plain plain.Advance)
 unfolding token_text plain_text place_behind class_of word_token is_keyword
-advance_readable = record { reads = plain_readable plain.Advance refl (λ at. refl) }
+advance_readable = no_number refl (λ p. plain_readable plain.Advance refl (λ at. refl))
 
 tuples_readable : Readable (token.Plain plain.Tuples)
 unfolding token_text plain_text place_behind class_of word_token is_keyword
-tuples_readable = record { reads = plain_readable plain.Tuples refl (λ at. refl) }
+tuples_readable = no_number refl (λ p. plain_readable plain.Tuples refl (λ at. refl))
 
 into_readable : Readable (token.Plain plain.Into)
 unfolding token_text plain_text place_behind class_of word_token is_keyword
-into_readable = record { reads = plain_readable plain.Into refl (λ at. refl) }
+into_readable = no_number refl (λ p. plain_readable plain.Into refl (λ at. refl))
 
 as_readable : Readable (token.Plain plain.As)
 unfolding token_text plain_text place_behind class_of word_token is_keyword
-as_readable = record { reads = plain_readable plain.As refl (λ at. refl) }
+as_readable = no_number refl (λ p. plain_readable plain.As refl (λ at. refl))
 
 not_readable : Readable (token.Not 0)
 unfolding token_text place_behind class_of word_token is_keyword
-not_readable = record { reads = λ at bs e. read_word (codes "NOT") (token.Not 0) refl (λ a. refl) at bs e }
+not_readable = no_number refl (λ p at bs e. read_word (codes "NOT") (token.Not 0) refl (λ a. refl) at bs e)
 
 cast_readable : Readable (token.Cast 0)
 unfolding token_text place_behind class_of word_token is_keyword
-cast_readable = record { reads = λ at bs e. read_word (codes "CAST") (token.Cast 0) refl (λ a. refl) at bs e }
+cast_readable = no_number refl (λ p at bs e. read_word (codes "CAST") (token.Cast 0) refl (λ a. refl) at bs e)
 
 count_readable : Readable (token.Count 0)
 unfolding token_text place_behind class_of word_token is_keyword
-count_readable = record { reads = λ at bs e. read_word (codes "count") (token.Count 0) refl (λ a. refl) at bs e }
+count_readable = no_number refl (λ p at bs e. read_word (codes "count") (token.Count 0) refl (λ a. refl) at bs e)
 
 wsum_readable : Readable (token.Wsum 0)
 unfolding token_text place_behind class_of word_token is_keyword
-wsum_readable = record { reads = λ at bs e. read_word (codes "wsum") (token.Wsum 0) refl (λ a. refl) at bs e }
+wsum_readable = no_number refl (λ p at bs e. read_word (codes "wsum") (token.Wsum 0) refl (λ a. refl) at bs e)
 
 each_readable : Readable (token.Each 0)
 unfolding token_text place_behind class_of word_token is_keyword
-each_readable = record { reads = λ at bs e. read_word (codes "EACH") (token.Each 0) refl (λ a. refl) at bs e }
+each_readable = no_number refl (λ p at bs e. read_word (codes "EACH") (token.Each 0) refl (λ a. refl) at bs e)
 
 by_readable : Readable (token.By 0)
 unfolding token_text place_behind class_of word_token is_keyword
-by_readable = record { reads = λ at bs e. read_word (codes "BY") (token.By 0) refl (λ a. refl) at bs e }
+by_readable = no_number refl (λ p at bs e. read_word (codes "BY") (token.By 0) refl (λ a. refl) at bs e)
 
 size_readable : Readable (token.Size 0)
 unfolding token_text place_behind class_of word_token is_keyword
-size_readable = record { reads = λ at bs e. read_word (codes "SIZE") (token.Size 0) refl (λ a. refl) at bs e }
+size_readable = no_number refl (λ p at bs e. read_word (codes "SIZE") (token.Size 0) refl (λ a. refl) at bs e)
 
 fold_readable : (f : Fold) → Readable (token.Fold f 0)
 unfolding token_text fold_text place_behind class_of word_token is_keyword
-fold_readable Sum = record { reads = λ at bs e. read_word (codes "sum") (token.Fold Sum 0) refl (λ a. refl) at bs e }
-fold_readable Min = record { reads = λ at bs e. read_word (codes "min") (token.Fold Min 0) refl (λ a. refl) at bs e }
-fold_readable Max = record { reads = λ at bs e. read_word (codes "max") (token.Fold Max 0) refl (λ a. refl) at bs e }
-fold_readable Avg = record { reads = λ at bs e. read_word (codes "avg") (token.Fold Avg 0) refl (λ a. refl) at bs e }
+fold_readable Sum = no_number refl (λ p at bs e. read_word (codes "sum") (token.Fold Sum 0) refl (λ a. refl) at bs e)
+fold_readable Min = no_number refl (λ p at bs e. read_word (codes "min") (token.Fold Min 0) refl (λ a. refl) at bs e)
+fold_readable Max = no_number refl (λ p at bs e. read_word (codes "max") (token.Fold Max 0) refl (λ a. refl) at bs e)
+fold_readable Avg = no_number refl (λ p at bs e. read_word (codes "avg") (token.Fold Avg 0) refl (λ a. refl) at bs e)
 
 join_readable : (j : Join) → Readable (token.Join j 0)
 unfolding token_text join_text place_behind class_of word_token is_keyword
-join_readable Union = record { reads = λ at bs e. read_word (codes "UNION") (token.Join Union 0) refl (λ a. refl) at bs e }
-join_readable Concat = record { reads = λ at bs e. read_word (codes "CONCAT") (token.Join Concat 0) refl (λ a. refl) at bs e }
+join_readable Union = no_number refl (λ p at bs e. read_word (codes "UNION") (token.Join Union 0) refl (λ a. refl) at bs e)
+join_readable Concat = no_number refl (λ p at bs e. read_word (codes "CONCAT") (token.Join Concat 0) refl (λ a. refl) at bs e)
+
+-- a minus sign ends whether it is a number's or an operator
+behind_minus : (p : Behind) (bs : List ℕ) → EndsIn (place_behind p (token.Operator op.Sub 0)) bs → Apart bs
+unfolding place_behind
+behind_minus Opening bs e = e
+behind_minus Aggregate bs e = ends_apart bs e
+behind_minus Operand bs e = e
+behind_minus Sign bs e = ends_apart bs e
+behind_minus Other bs e = ends_apart bs e
 
 operator_readable : (o : Op) → Readable (token.Operator o 0)
 unfolding token_text operator_text place_behind class_of sign_token follow_of word_token is_keyword
-operator_readable op.Add = record { reads = λ at bs e. record { behind = at + 1; is = refl } }
-operator_readable op.Sub = record { reads = λ at bs e. record { behind = at + 1; is = half_ends at 45 bs (at + 1) (λ b i. i.dash) e } }
-operator_readable op.Mul = record { reads = λ at bs e. record { behind = at + 1; is = refl } }
-operator_readable op.Eq = record { reads = λ at bs e. record { behind = at + 1; is = refl } }
-operator_readable op.Ne = record { reads = λ at bs e. record { behind = at + 1 + 1; is = refl } }
-operator_readable op.Lt = record { reads = λ at bs e. record { behind = at + 1; is = half_ends at 60 bs (at + 1) (λ b i. i.less) e } }
-operator_readable op.Le = record { reads = λ at bs e. record { behind = at + 1 + 1; is = refl } }
-operator_readable op.Gt = record { reads = λ at bs e. record { behind = at + 1; is = half_ends at 62 bs (at + 1) (λ b i. i.greater) e } }
-operator_readable op.Ge = record { reads = λ at bs e. record { behind = at + 1 + 1; is = refl } }
-operator_readable op.And = record { reads = λ at bs e. read_word (codes "AND") (token.Operator op.And 0) refl (λ a. refl) at bs e }
-operator_readable op.Or = record { reads = λ at bs e. read_word (codes "OR") (token.Operator op.Or 0) refl (λ a. refl) at bs e }
+operator_readable op.Add = no_number refl (λ p at bs e. record { behind = at + 1; is = refl })
+operator_readable op.Sub = no_number refl (λ p at bs e. record { behind = at + 1; is = dash_ends at bs (at + 1) (behind_minus p bs e) })
+operator_readable op.Mul = no_number refl (λ p at bs e. record { behind = at + 1; is = refl })
+operator_readable op.Eq = no_number refl (λ p at bs e. record { behind = at + 1; is = refl })
+operator_readable op.Ne = no_number refl (λ p at bs e. record { behind = at + 1 + 1; is = refl })
+operator_readable op.Lt = no_number refl (λ p at bs e. record { behind = at + 1; is = half_ends at 60 bs (at + 1) (λ b i. i.less) e })
+operator_readable op.Le = no_number refl (λ p at bs e. record { behind = at + 1 + 1; is = refl })
+operator_readable op.Gt = no_number refl (λ p at bs e. record { behind = at + 1; is = half_ends at 62 bs (at + 1) (λ b i. i.greater) e })
+operator_readable op.Ge = no_number refl (λ p at bs e. record { behind = at + 1 + 1; is = refl })
+operator_readable op.And = no_number refl (λ p at bs e. read_word (codes "AND") (token.Operator op.And 0) refl (λ a. refl) at bs e)
+operator_readable op.Or = no_number refl (λ p at bs e. read_word (codes "OR") (token.Operator op.Or 0) refl (λ a. refl) at bs e)
 
 -- ---- trees
 
@@ -166,6 +177,7 @@ fitted_readable false e h = (open_readable, join (spell e) (token.Plain plain.Cl
 expr_readable : (e : ExprShape) → CanBeExpr e → AreReadable (spell (expr_of e))
 expr_readable (shape.Column name) c = (name_readable name c, tt)
 expr_readable (shape.Number n) c = (number_readable n c, tt)
+expr_readable (shape.Minus n) c = (operator_readable op.Sub, (number_readable n c, tt))
 expr_readable (shape.Letters text) c = (letters_readable text c, tt)
 expr_readable (shape.Not e) c = (not_readable, fitted_readable _ (expr_of e) (expr_readable e c))
 expr_readable (shape.Cast kind e) c = (cast_readable, (open_readable, join (spell (expr_of e)) _ (expr_readable e c.0) (as_readable, (name_readable _ c.1, closed))))

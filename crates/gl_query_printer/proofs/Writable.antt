@@ -7,7 +7,6 @@ use Rattle.gl_bits.specs.declared.kind.Kind.{Kind}
 use Rattle.gl_schema.specs.SchemaText.{kind_text}
 use Rattle.gl_schema.specs.SchemaFaults.{kind_named}
 use Rattle.gl_schema.proofs.KindTable.{kind_named_is}
-use Rattle.gl_query.specs.declared.tree.Name.{Name}
 use Rattle.gl_query.specs.declared.tree.Num.{Num}
 use Rattle.gl_query.specs.Shapes.{ExprShape, AggShape, ItemShape, AggItemShape, PickShape, QueryShape}
 use Rattle.gl_query.specs.Shapes as shape
@@ -36,6 +35,7 @@ use Rattle.gl_query_reader.proofs.Regular.{sound_parts, AreSound}
 abbrev pub CanBeExpr : ExprShape → Type 0
 CanBeExpr (shape.Column name) = IsNameWord name
 CanBeExpr (shape.Number n) = IsSmall n
+CanBeExpr (shape.Minus n) = IsSmall n
 CanBeExpr (shape.Letters text) = IsLetters text
 CanBeExpr (shape.Not e) = CanBeExpr e
 CanBeExpr (shape.Cast kind e) = CanBeExpr e × IsNameWord (kind_text kind) × (kind_named (kind_text kind) ≡ Some kind)
@@ -104,6 +104,7 @@ kind_word word kind e h =
 expr_can : (e : written.Expr) → written.IsExpr e → AreSound (written.spell e) → CanBeExpr (expr_alike (expr_meaning e))
 expr_can (written.Column name) g h = h.0
 expr_can (written.Number n) g h = h.0
+expr_can (written.Minus at n) g h = h.1.0
 expr_can (written.Letters text at) g h = h.0
 expr_can (written.Brackets at e) g h = expr_can e g (sound_parts (written.spell e) (token.Plain plain.Close ∷ []) h.1).0
 expr_can (written.Cast at open' e word kind) g h =

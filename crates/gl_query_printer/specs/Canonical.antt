@@ -10,7 +10,7 @@ use Rattle.gl_query_tokens.specs.declared.token.Join.TheVariants.{Union, Concat}
 use Rattle.gl_query_tokens.specs.declared.token.Token.{Token}
 use Rattle.gl_query_reader.specs.declared.written.Window.{Window}
 use Rattle.gl_query_reader.specs.declared.written.Grouping.{Grouping}
-use Rattle.gl_query_reader.specs.Written.{Expr, Column, Number, Letters, Brackets, Cast, Not, Binary, Agg, Count, Fold', Wsum, Item, Bare, Named, Total, Pick, All, Items, Query, Stream, InBrackets, Select, Windows, Groups, Join', Statement, level, looseness, left_looseness, spell_statement}
+use Rattle.gl_query_reader.specs.Written.{Expr, Column, Number, Minus, Letters, Brackets, Cast, Not, Binary, Agg, Count, Fold', Wsum, Item, Bare, Named, Total, Pick, All, Items, Query, Stream, InBrackets, Select, Windows, Groups, Join', Statement, level, looseness, left_looseness, spell_statement}
 use Rattle.gl_query_printer.specs.Brackets.{is_stream, is_term}
 
 -- what has no place of its own yet has place 0
@@ -29,6 +29,7 @@ fitted false e = Brackets 0 e
 abbrev pub expr_of : ExprShape → Expr
 expr_of (shape.Column name) = Column (name_of name)
 expr_of (shape.Number n) = Number (num_of n)
+expr_of (shape.Minus n) = Minus 0 (num_of n)
 expr_of (shape.Letters text) = Letters text 0
 expr_of (shape.Not e) = Not 0 (fitted (nat_lt (level (expr_of e)) 4) (expr_of e))
 expr_of (shape.Cast kind e) = Cast 0 0 (expr_of e) (name_of (kind_text kind)) kind

@@ -1,5 +1,5 @@
 -- The text of tokens: how each is written, and where a space stands between two.
-use Rattle.std.specs.Prelude.{ℕ, Bool, true, false, List, [], ◌∷◌, ◌++◌, codes, decimal, not, ◌&&◌}
+use Rattle.std.specs.Prelude.{ℕ, Bool, true, false, List, [], ◌∷◌, ◌++◌, codes, decimal, not, ◌&&◌, if◌then◌else◌}
 use Rattle.gl_bits.specs.declared.op.Op.{Op}
 use Rattle.gl_bits.specs.declared.op.Op.TheVariants as op
 use Rattle.gl_query_tokens.specs.declared.token.Fold.{Fold}
@@ -11,7 +11,7 @@ use Rattle.gl_query_tokens.specs.declared.token.Plain.TheVariants as plain
 use Rattle.gl_query_tokens.specs.declared.token.Token.{Token}
 use Rattle.gl_query_tokens.specs.declared.token.Token.TheVariants as token
 use Rattle.gl_query_printer.specs.declared.text.Behind.{Behind}
-use Rattle.gl_query_printer.specs.declared.text.Behind.TheVariants.{Opening, Aggregate, Other}
+use Rattle.gl_query_printer.specs.declared.text.Behind.TheVariants.{Opening, Aggregate, Operand, Sign, Other}
 
 -- how an operator is written
 unfoldable pub operator_text : Op → List ℕ
@@ -83,14 +83,36 @@ token_text (token.Size at) = codes "SIZE"
 token_text (token.Plain p) = plain_text p
 token_text token.Stray = []
 
--- what the place behind a token is
-unfoldable pub place_behind : Token → Behind
-place_behind (token.Open at) = Opening
-place_behind (token.Plain plain.LeftSquare) = Opening
-place_behind (token.Count at) = Aggregate
-place_behind (token.Wsum at) = Aggregate
-place_behind (token.Fold f at) = Aggregate
-place_behind t = Other
+-- an operand may begin in a place
+abbrev pub begins_operand : Behind → Bool
+begins_operand Opening = true
+begins_operand Aggregate = false
+begins_operand Operand = true
+begins_operand Sign = false
+begins_operand Other = false
+
+-- a minus sign where an operand may begin is that of a number
+abbrev pub is_sign : Behind → Token → Bool
+is_sign b (token.Operator op.Sub at) = begins_operand b
+is_sign b t = false
+
+-- what the place behind a token is that is no number's sign
+abbrev pub behind_token : Token → Behind
+behind_token (token.Open at) = Opening
+behind_token (token.Plain plain.LeftSquare) = Opening
+behind_token (token.Count at) = Aggregate
+behind_token (token.Wsum at) = Aggregate
+behind_token (token.Fold f at) = Aggregate
+behind_token (token.Operator o at) = Operand
+behind_token (token.Not at) = Operand
+behind_token (token.Plain plain.Select) = Operand
+behind_token (token.Plain plain.Where) = Operand
+behind_token (token.Plain plain.Comma) = Operand
+behind_token t = Other
+
+-- what the place behind a token is, by the place where the token stands
+unfoldable pub place_behind : Behind → Token → Behind
+place_behind b t = if is_sign b t then Sign else behind_token t
 
 -- no space stands before `)`, `]` and `,`
 unfoldable pub is_closing : Token → Bool
@@ -103,11 +125,17 @@ unfoldable pub is_opening : Token → Bool
 is_opening (token.Open at) = true
 is_opening t = false
 
--- a space stands before a token, but none behind `(` and `[`, at the text's beginning, or between an aggregate's name
--- and its bracket
+abbrev pub is_number : Token → Bool
+is_number (token.Number n) = true
+is_number t = false
+
+-- a space stands before a token, but none behind `(` and `[`, at the text's beginning, between an aggregate's name and
+-- its bracket, or between a number's sign and the number
 abbrev pub needs_space : Behind → Token → Bool
 needs_space Opening t = false
 needs_space Aggregate t = not (is_opening t) && not (is_closing t)
+needs_space Operand t = not (is_closing t)
+needs_space Sign t = not (is_number t)
 needs_space Other t = not (is_closing t)
 
 abbrev pub gap : Bool → List ℕ
@@ -117,7 +145,7 @@ gap false = []
 -- the text of tokens that stand behind another
 abbrev pub spaced : Behind → List Token → List ℕ
 spaced b [] = []
-spaced b (t ∷ ts) = gap (needs_space b t) ++ token_text t ++ spaced (place_behind t) ts
+spaced b (t ∷ ts) = gap (needs_space b t) ++ token_text t ++ spaced (place_behind b t) ts
 
 -- the text of tokens
 unfoldable pub text_of : List Token → List ℕ

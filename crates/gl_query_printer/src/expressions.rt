@@ -46,7 +46,11 @@ fn level(expr: &Expr) -> u8
     ensures { result ≡ written.level (expr_of (expr_shape expr.now)) }
 {
     match expr {
-        Expr::Column(_) | Expr::Number(_) | Expr::Letters { .. } | Expr::Cast { .. } => 0,
+        Expr::Column(_)
+        | Expr::Number(_)
+        | Expr::Minus(_)
+        | Expr::Letters { .. }
+        | Expr::Cast { .. } => 0,
         Expr::Not { .. } => 4,
         Expr::Binary { op, .. } => looseness(*op),
     }
@@ -80,6 +84,10 @@ pub(crate) fn put_expr(alloc: Global, tokens: &mut Vec<Token>, expr: &Expr) -> R
     match expr {
         Expr::Column(name) => put_name(alloc, tokens, name.text.as_slice()),
         Expr::Number(number) => put_number(tokens, number.value),
+        Expr::Minus(number) => {
+            put(tokens, Token::Operator { op: Op::Sub, at: 0 })?;
+            put_number(tokens, number.value)
+        }
         Expr::Letters { text, .. } => put_letters(alloc, tokens, text.as_slice()),
         Expr::Not { arg, .. } => {
             let fits = level(arg) < 4;

@@ -15,6 +15,10 @@ pub enum Behind {
     Opening,
     /// Behind an aggregate's name.
     Aggregate,
+    /// Behind any other token where an operand may begin.
+    Operand,
+    /// Behind the sign of a number.
+    Sign,
     /// Behind any other token.
     Other,
 }
@@ -137,14 +141,47 @@ fn put_token(text: &mut Vec<u8>, token: &Token) -> Result<(), Memory>
     }
 }
 
-#[tactic(auto, unfolding(crate::specs::Spaced::place_behind))]
-fn place_behind(token: &Token) -> Behind
-    ensures { result ≡ spec.place_behind token.now }
+// Whether an operand may begin in such a place.
+fn begins_operand(behind: Behind) -> bool
+    ensures { result ≡ spec.begins_operand behind }
+{
+    match behind {
+        Behind::Opening | Behind::Operand => true,
+        Behind::Aggregate | Behind::Sign | Behind::Other => false,
+    }
+}
+
+// Whether a token is the sign of a number.
+fn is_sign(behind: Behind, token: &Token) -> bool
+    ensures { result ≡ spec.is_sign behind token.now }
+{
+    match token {
+        Token::Operator { op: Op::Sub, .. } => begins_operand(behind),
+        _ => false,
+    }
+}
+
+// What the place behind a token is that is no number's sign.
+fn behind_token(token: &Token) -> Behind
+    ensures { result ≡ spec.behind_token token.now }
 {
     match token {
         Token::Open { .. } | Token::Plain(Plain::LeftSquare) => Behind::Opening,
         Token::Count { .. } | Token::Wsum { .. } | Token::Fold { .. } => Behind::Aggregate,
+        Token::Operator { .. } | Token::Not { .. } => Behind::Operand,
+        Token::Plain(Plain::Select | Plain::Where | Plain::Comma) => Behind::Operand,
         _ => Behind::Other,
+    }
+}
+
+#[tactic(auto, unfolding(crate::specs::Spaced::place_behind))]
+fn place_behind(behind: Behind, token: &Token) -> Behind
+    ensures { result ≡ spec.place_behind behind token.now }
+{
+    if is_sign(behind, token) {
+        Behind::Sign
+    } else {
+        behind_token(token)
     }
 }
 
@@ -169,13 +206,23 @@ fn is_opening(token: &Token) -> bool
     }
 }
 
+fn is_number(token: &Token) -> bool
+    ensures { result ≡ spec.is_number token.now }
+{
+    match token {
+        Token::Number(_) => true,
+        _ => false,
+    }
+}
+
 fn needs_space(behind: Behind, token: &Token) -> bool
     ensures { result ≡ spec.needs_space behind token.now }
 {
     match behind {
         Behind::Opening => false,
         Behind::Aggregate => !is_opening(token) && !is_closing(token),
-        Behind::Other => !is_closing(token),
+        Behind::Sign => !is_number(token),
+        Behind::Operand | Behind::Other => !is_closing(token),
     }
 }
 
@@ -199,7 +246,7 @@ pub(crate) fn put_tokens(text: &mut Vec<u8>, tokens: &[Token]) -> Result<(), Mem
     let mut place = Behind::Opening;
     for token in tokens {
         put_behind(text, place, token)?;
-        place = place_behind(token);
+        place = place_behind(place, token);
     }
     Ok(())
 }

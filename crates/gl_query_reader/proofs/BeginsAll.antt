@@ -9,15 +9,15 @@ use Rattle.gl_query_tokens.specs.declared.token.Token.{Token}
 use Rattle.gl_query_tokens.specs.declared.token.Token.TheVariants as token
 use Rattle.gl_query_tokens.specs.Sorts.{plain_eq}
 use Rattle.gl_query_reader.specs.declared.written.Window.{Window}
-use Rattle.gl_query_reader.specs.Written.{Expr, Column, Cast, Count, Item, Pick, All, Query, Stream}
-use Rattle.gl_query_reader.specs.States.{State, Control, Frame, SelectHead, EachHead, SelectGroups, InCast, InItem, InFold, InWsum, WantTerm, WantItem, WantOperand, HaveExpr, WantCastOpen, WantKind, WantCastClose, WantCountOpen, WantCountClose, WantFoldOpen, WantWsumOpen, WantWeightsOpen, WantWeight, HaveWeight, WantWsumClose, WantAs, WantItemName, HaveItem, WantFrom, WantSource, HaveSource, HaveEachSource, WantSize, WantSizeNumber, WantAdvance, WantAdvanceNumber, WantTuples, WantWindowClose, WantBy, WantKey, WantGroups, WantGroupsNumber, WantVar, WantIn, WantBody, HaveTerm, WantName, HaveName, WantEnd}
+use Rattle.gl_query_reader.specs.Written.{Expr, Column, Minus, Cast, Count, Item, Pick, All, Query, Stream}
+use Rattle.gl_query_reader.specs.States.{State, Control, Frame, SelectHead, EachHead, SelectGroups, InCast, InItem, InFold, InWsum, WantTerm, WantItem, WantOperand, WantMinus, HaveExpr, WantCastOpen, WantKind, WantCastClose, WantCountOpen, WantCountClose, WantFoldOpen, WantWsumOpen, WantWeightsOpen, WantWeight, HaveWeight, WantWsumClose, WantAs, WantItemName, HaveItem, WantFrom, WantSource, HaveSource, HaveEachSource, WantSize, WantSizeNumber, WantAdvance, WantAdvanceNumber, WantTuples, WantWindowClose, WantBy, WantKey, WantGroups, WantGroupsNumber, WantVar, WantIn, WantBody, HaveTerm, WantName, HaveName, WantEnd}
 use Rattle.gl_query_reader.specs.Machine.{step}
 use Rattle.gl_query_reader.proofs.Steps.{steps, state}
 use Rattle.gl_query_reader.proofs.ReadExpressions.{wanting, having}
 use Rattle.gl_query_reader.specs.Grammar.{CanBegin}
 use Rattle.gl_query_reader.proofs.Said.{InTerm, Fits, Holds, Read}
 use Rattle.gl_query_reader.proofs.Sound.{sound_steps, sound_finish}
-use Rattle.gl_query_reader.proofs.Begins.{some_name, some_word, Ends, by_token, by_tokens, all_text, named_ends, closed_ends, unnamed_ends, have_term_ends, have_source_ends, want_body_ends, have_each_ends, have_item_ends, item_name_ends, as_ends, wsum_close_ends, have_weight_ends, weight_ends, weights_open_ends, kind_then, expr_ends, have_expr_ends, operand_ends, want_source_ends, window_close_ends, tuples_ends, advance_number_ends, advance_ends, size_number_ends, size_ends, groups_number_ends, groups_ends, key_ends}
+use Rattle.gl_query_reader.proofs.Begins.{some_name, some_number, some_word, Ends, by_token, by_tokens, all_text, named_ends, closed_ends, unnamed_ends, have_term_ends, have_source_ends, want_body_ends, have_each_ends, have_item_ends, item_name_ends, as_ends, wsum_close_ends, have_weight_ends, weight_ends, weights_open_ends, kind_then, expr_ends, have_expr_ends, operand_ends, want_source_ends, window_close_ends, tuples_ends, advance_number_ends, advance_ends, size_number_ends, size_ends, groups_number_ends, groups_ends, key_ends}
 
 -- ---- single tokens before these
 
@@ -28,6 +28,10 @@ all_steps fs = refl
 item_step : (fs : List Frame) (items : List Item) → step (state (WantItem items) fs) (token.Name some_name) ≡ Some (having (Column some_name) (InItem items ∷ fs))
 unfolding step
 item_step fs items = refl
+
+minus_step : (fs : List Frame) (at : ℕ) → step (state (WantMinus at) fs) (token.Number some_number) ≡ Some (having (Minus at some_number) fs)
+unfolding step
+minus_step fs at = refl
 
 cast_open_step : (fs : List Frame) (at : ℕ) → step (state (WantCastOpen at) fs) (token.Open 0) ≡ Some (wanting (InCast at 0 ∷ fs))
 unfolding step
@@ -80,6 +84,7 @@ pub state_ends : (c : Control) (fs : List Frame) → Fits fs → Holds c fs → 
 state_ends WantTerm fs f h = by_tokens (state WantTerm fs) (state (HaveSource (All 0) (Stream some_name) None) fs) all_text (all_steps fs) (have_source_ends fs (All 0) (Stream some_name) None f h)
 state_ends (WantItem items) fs f h = by_token _ (having (Column some_name) (InItem items ∷ fs)) (token.Name some_name) (item_step fs items) (have_expr_ends (InItem items ∷ fs) (Column some_name) (h, f) tt)
 state_ends WantOperand fs f h = operand_ends fs f h
+state_ends (WantMinus at) fs f h = by_token _ (having (Minus at some_number) fs) (token.Number some_number) (minus_step fs at) (have_expr_ends fs (Minus at some_number) f h)
 state_ends (HaveExpr e) fs f h = have_expr_ends fs e f h.0
 state_ends (WantCastOpen at) fs f h = by_token _ (wanting (InCast at 0 ∷ fs)) (token.Open 0) (cast_open_step fs at) (operand_ends (InCast at 0 ∷ fs) (h, f) tt)
 state_ends (WantKind at open' e) fs f h = kind_then fs at open' e (expr_ends fs (Cast at open' e some_word (Unsigned 1)) f h.0)

@@ -8,7 +8,7 @@ use Rattle.gl_query_tokens.specs.declared.token.Token.TheVariants as token
 use Rattle.gl_query_reader.specs.declared.limits.Counts.{Counts}
 use Rattle.gl_query_reader.specs.Limits.{IsSmall, after, is_past, keeps_limits}
 use Rattle.gl_query_reader.specs.Sizes.{expr_depth, operators_of}
-use Rattle.gl_query_reader.specs.Written.{Expr, Column, Number, Letters, Brackets, Cast, Not, Binary, spell}
+use Rattle.gl_query_reader.specs.Written.{Expr, Column, Number, Minus, Letters, Brackets, Cast, Not, Binary, spell}
 use Rattle.gl_bits.proofs.Bools.{guard_true}
 
 abbrev pub counts : ℕ → ℕ → ℕ → Bool → Counts
@@ -49,70 +49,73 @@ keeps_at b' o' j' e f g h = rw (e, f, g) at h
 pub small_at : (b o j : ℕ) (d : Bool) → b ≤ 32 → o ≤ 256 → j ≤ 64 → IsSmall (counts b o j d)
 small_at b o j d e f g = record { brackets = e; operators = f; joins = g }
 
--- ---- expressions
+-- ---- expressions, each where an operand may begin
 
 pub record Past (b o j depth operators : ℕ) (rest : List Token) : Type 0 where
   pub depth' : b + depth ≤ 32
   pub short : o + operators ≤ 256
   pub rest' : Keeps (counts b (o + operators) j false) rest
 
-past_leaf : (b o j : ℕ) (d : Bool) (rest : List Token) → IsSmall (counts b o j d) → Keeps (counts b o j false) rest → Past b o j 0 0 rest
-past_leaf b o j d rest f h = record {
+past_leaf : (b o j : ℕ) (rest : List Token) → IsSmall (counts b o j true) → Keeps (counts b o j false) rest → Past b o j 0 0 rest
+past_leaf b o j rest f h = record {
   depth' = (let t : b ≤ 32 = f.brackets in omega arith);
   short = (let t : o ≤ 256 = f.operators in omega arith);
   rest' = keeps_at b (o + 0) j refl (omega arith) refl h;
 }
 
-pub limited : (e : Expr) (b o j : ℕ) (d : Bool) (rest : List Token) → IsSmall (counts b o j d) → Keeps (counts b o j d) (spell e ++ rest) → Past b o j (expr_depth e) (operators_of e) rest
-limited (Column name) b o j d rest f h = past_leaf b o j d rest f (over h).1
-limited (Number n) b o j d rest f h = past_leaf b o j d rest f (over h).1
-limited (Letters text at) b o j d rest f h = past_leaf b o j d rest f (over h).1
-limited (Brackets at e) b o j d rest f h =
+pub limited : (e : Expr) (b o j : ℕ) (rest : List Token) → IsSmall (counts b o j true) → Keeps (counts b o j true) (spell e ++ rest) → Past b o j (expr_depth e) (operators_of e) rest
+limited (Column name) b o j rest f h = past_leaf b o j rest f (over h).1
+limited (Number n) b o j rest f h = past_leaf b o j rest f (over h).1
+limited (Minus at n) b o j rest f h = past_leaf b o j rest f (over (over h).1).1
+limited (Letters text at) b o j rest f h = past_leaf b o j rest f (over h).1
+limited (Brackets at e) b o j rest f h =
     let q = over h in
-    let a = limited e (b + 1) o j true (token.Plain plain.Close ∷ rest) q.0 (parted (spell e) (token.Plain plain.Close ∷ []) rest q.1) in
+    let a = limited e (b + 1) o j (token.Plain plain.Close ∷ rest) q.0 (parted (spell e) (token.Plain plain.Close ∷ []) rest q.1) in
     record {
       depth' = (let t : b + 1 + expr_depth e ≤ 32 = a.depth' in omega arith);
       short = a.short;
       rest' = keeps_at {b = b + 1 - 1} b (o + operators_of e) j (omega arith) refl refl (over a.rest').1;
     }
-limited (Cast at open' e word kind) b o j d rest f h =
+limited (Cast at open' e word kind) b o j rest f h =
     let behind : List Token = token.Plain plain.As ∷ token.Name word ∷ token.Plain plain.Close ∷ [] in
     let q = over (over h).1 in
-    let a = limited e (b + 1) (o + 1) j true (behind ++ rest) q.0 (parted (spell e) behind rest q.1) in
+    let a = limited e (b + 1) (o + 1) j (behind ++ rest) q.0 (parted (spell e) behind rest q.1) in
     record {
       depth' = (let t : b + 1 + expr_depth e ≤ 32 = a.depth' in omega arith);
       short = (let t : o + 1 + operators_of e ≤ 256 = a.short in omega arith);
       rest' = keeps_at {b = b + 1 - 1} {o = o + 1 + operators_of e} b (o + (operators_of e + 1)) j (omega arith) (omega arith) refl (over (over (over a.rest').1).1).1;
     }
-limited (Not at e) b o j d rest f h =
+limited (Not at e) b o j rest f h =
     let q = over h in
-    let a = limited e b (o + 1) j true rest q.0 q.1 in
+    let a = limited e b (o + 1) j rest q.0 q.1 in
     record {
       depth' = a.depth';
       short = (let t : o + 1 + operators_of e ≤ 256 = a.short in omega arith);
       rest' = keeps_at b (o + (operators_of e + 1)) j refl (omega arith) refl a.rest';
     }
-limited (Binary op at l r) b o j d rest f h =
+limited (Binary op at l r) b o j rest f h =
     let right : List Token = token.Operator op at ∷ spell r in
-    let x = limited l b o j d (right ++ rest) f (parted (spell l) right rest h) in
+    let x = limited l b o j (right ++ rest) f (parted (spell l) right rest h) in
     let p = over x.rest' in
-    let y = limited r b (o + operators_of l + 1) j true rest p.0 p.1 in
+    let y = limited r b (o + operators_of l + 1) j rest p.0 p.1 in
     record {
       depth' = (let t : b + expr_depth l ≤ 32 = x.depth' in let u : b + expr_depth r ≤ 32 = y.depth' in omega arith);
       short = (let t : o + operators_of l + 1 + operators_of r ≤ 256 = y.short in omega arith);
       rest' = keeps_at b (o + (operators_of l + operators_of r + 1)) j refl (omega arith) refl y.rest';
     }
 
-pub limits : (e : Expr) (b o j : ℕ) (d : Bool) (rest : List Token) → j ≤ 64 → b + expr_depth e ≤ 32 → o + operators_of e ≤ 256 → Keeps (counts b (o + operators_of e) j false) rest → Keeps (counts b o j d) (spell e ++ rest)
-limits (Column name) b o j d rest g e s h = under (small_at b o j false (omega arith) (omega arith) g) (keeps_at b o j refl (omega arith) refl h)
-limits (Number n) b o j d rest g e s h = under (small_at b o j false (omega arith) (omega arith) g) (keeps_at b o j refl (omega arith) refl h)
-limits (Letters text at) b o j d rest g e s h = under (small_at b o j false (omega arith) (omega arith) g) (keeps_at b o j refl (omega arith) refl h)
-limits (Brackets at e) b o j d rest g m s h =
+pub limits : (e : Expr) (b o j : ℕ) (rest : List Token) → j ≤ 64 → b + expr_depth e ≤ 32 → o + operators_of e ≤ 256 → Keeps (counts b (o + operators_of e) j false) rest → Keeps (counts b o j true) (spell e ++ rest)
+limits (Column name) b o j rest g e s h = under (small_at b o j false (omega arith) (omega arith) g) (keeps_at b o j refl (omega arith) refl h)
+limits (Number n) b o j rest g e s h = under (small_at b o j false (omega arith) (omega arith) g) (keeps_at b o j refl (omega arith) refl h)
+limits (Minus at n) b o j rest g e s h =
+    under (small_at b o j true (omega arith) (omega arith) g) (under (small_at b o j false (omega arith) (omega arith) g) (keeps_at b o j refl (omega arith) refl h))
+limits (Letters text at) b o j rest g e s h = under (small_at b o j false (omega arith) (omega arith) g) (keeps_at b o j refl (omega arith) refl h)
+limits (Brackets at e) b o j rest g m s h =
     let t : b + (expr_depth e + 1) ≤ 32 = m in
     let last : Keeps (counts (b + 1) (o + operators_of e) j false) (token.Plain plain.Close ∷ rest) =
     under (small_at (b + 1 - 1) (o + operators_of e) j false (omega arith) s g) (keeps_at (b + 1 - 1) (o + operators_of e) j (omega arith) refl refl h) in
-    under (small_at (b + 1) o j true (omega arith) (omega arith) g) (paired (spell e) (token.Plain plain.Close ∷ []) rest (limits e (b + 1) o j true (token.Plain plain.Close ∷ rest) g (omega arith) s last))
-limits (Cast at open' e word kind) b o j d rest g m s h =
+    under (small_at (b + 1) o j true (omega arith) (omega arith) g) (paired (spell e) (token.Plain plain.Close ∷ []) rest (limits e (b + 1) o j (token.Plain plain.Close ∷ rest) g (omega arith) s last))
+limits (Cast at open' e word kind) b o j rest g m s h =
     let t : b + (expr_depth e + 1) ≤ 32 = m in
     let u : o + (operators_of e + 1) ≤ 256 = s in
     let k = o + 1 + operators_of e in
@@ -122,13 +125,13 @@ limits (Cast at open' e word kind) b o j d rest g m s h =
     let last : Keeps (counts (b + 1) k j false) (behind ++ rest) =
     under inside (under inside (under (small_at (b + 1 - 1) k j false (omega arith) v g) (keeps_at (b + 1 - 1) k j (omega arith) (omega arith) refl h))) in
     under (small_at b (o + 1) j false (omega arith) (omega arith) g) (under (small_at (b + 1) (o + 1) j true (omega arith) (omega arith) g)
-    (paired (spell e) behind rest (limits e (b + 1) (o + 1) j true (behind ++ rest) g (omega arith) v last)))
-limits (Not at e) b o j d rest g m s h =
+    (paired (spell e) behind rest (limits e (b + 1) (o + 1) j (behind ++ rest) g (omega arith) v last)))
+limits (Not at e) b o j rest g m s h =
     let u : o + (operators_of e + 1) ≤ 256 = s in
-    under (small_at b (o + 1) j true (omega arith) (omega arith) g) (limits e b (o + 1) j true rest g m (omega arith) (keeps_at b (o + 1 + operators_of e) j refl (omega arith) refl h))
-limits (Binary op at l r) b o j d rest g m s h =
+    under (small_at b (o + 1) j true (omega arith) (omega arith) g) (limits e b (o + 1) j rest g m (omega arith) (keeps_at b (o + 1 + operators_of e) j refl (omega arith) refl h))
+limits (Binary op at l r) b o j rest g m s h =
     let t : b + max (expr_depth l) (expr_depth r) ≤ 32 = m in
     let u : o + (operators_of l + operators_of r + 1) ≤ 256 = s in
     let right : List Token = token.Operator op at ∷ spell r in
-    let behind = limits r b (o + operators_of l + 1) j true rest g (omega arith) (omega arith) (keeps_at b (o + operators_of l + 1 + operators_of r) j refl (omega arith) refl h) in
-    paired (spell l) right rest (limits l b o j d (right ++ rest) g (omega arith) (omega arith) (under (small_at b (o + operators_of l + 1) j true (omega arith) (omega arith) g) behind))
+    let behind = limits r b (o + operators_of l + 1) j rest g (omega arith) (omega arith) (keeps_at b (o + operators_of l + 1 + operators_of r) j refl (omega arith) refl h) in
+    paired (spell l) right rest (limits l b o j (right ++ rest) g (omega arith) (omega arith) (under (small_at b (o + operators_of l + 1) j true (omega arith) (omega arith) g) behind))

@@ -47,7 +47,7 @@ limited_agg (Count at open') b j d rest h =
     record { depth' = q.0.brackets; short' = tt; operators = 0; operand = false; small = omega arith; rest' = keeps_at {b = b + 1 - 1} b 0 j (omega arith) refl refl (over q.1).1 }
 limited_agg (Fold' fold at open' e) b j d rest h =
     let q = over (over h).1 in
-    let a = limited e (b + 1) 0 j true (close ∷ rest) q.0 (parted (spell e) (close ∷ []) rest q.1) in
+    let a = limited e (b + 1) 0 j (close ∷ rest) q.0 (parted (spell e) (close ∷ []) rest q.1) in
     record {
       depth' = (let t : b + 1 + expr_depth e ≤ 32 = a.depth' in omega arith);
       short' = (let t : 0 + operators_of e ≤ 256 = a.short in omega arith);
@@ -60,7 +60,7 @@ limited_agg (Wsum at open' e ns) b j d rest h =
     let ending : List Token = token.Plain plain.RightSquare ∷ close ∷ [] in
     let weights : List Token = token.Plain plain.Comma ∷ token.Plain plain.LeftSquare ∷ (spell_numbers ns ++ ending) in
     let q = over (over h).1 in
-    let a = limited e (b + 1) 0 j true (weights ++ rest) q.0 (parted (spell e) weights rest q.1) in
+    let a = limited e (b + 1) 0 j (weights ++ rest) q.0 (parted (spell e) weights rest q.1) in
     let p = (over (over a.rest').1).1 in
     let r = numbers_to ns (b + 1) j true (ending ++ rest) (parted (spell_numbers ns) ending rest p) in
     record {
@@ -84,7 +84,7 @@ limits_agg (Fold' fold at open' e) b j d rest g m s h =
     let last : Keeps (counts (b + 1) k j false) (close ∷ rest) =
     under (small_at (b + 1 - 1) k j false (omega arith) v g) (keeps_at {b = b} (b + 1 - 1) k j (omega arith) refl refl (h k false v)) in
     under (small_at b 0 j false (omega arith) (omega arith) g) (under (small_at (b + 1) 0 j true (omega arith) (omega arith) g)
-    (paired (spell e) (close ∷ []) rest (limits e (b + 1) 0 j true (close ∷ rest) g (omega arith) v last)))
+    (paired (spell e) (close ∷ []) rest (limits e (b + 1) 0 j (close ∷ rest) g (omega arith) v last)))
 limits_agg (Wsum at open' e ns) b j d rest g m s h =
     let t : b + (expr_depth e + 1) ≤ 32 = m in
     let u : operators_of e ≤ 256 = s in
@@ -100,16 +100,16 @@ limits_agg (Wsum at open' e ns) b j d rest g m s h =
     under (small_at (b + 1) 0 j true w (omega arith) g) (under (small_at (b + 1) 0 j true w (omega arith) g)
     (paired (spell_numbers ns) ending rest (numbers_from ns (b + 1) j true (ending ++ rest) w g last))) in
     under (small_at b 0 j false (omega arith) (omega arith) g) (under (small_at (b + 1) 0 j true w (omega arith) g)
-    (paired (spell e) weights rest (limits e (b + 1) 0 j true (weights ++ rest) g (omega arith) v inside)))
+    (paired (spell e) weights rest (limits e (b + 1) 0 j (weights ++ rest) g (omega arith) v inside)))
 
 -- ---- items
 
-limited_item : (i : Item) (b j : ℕ) (d : Bool) (rest : List Token) → IsSmall (counts b 0 j d) → Keeps (counts b 0 j d) (spell_item i ++ rest) → Behind b j (item_depth i) (ItemIsShort i) rest
-limited_item (Bare name) b j d rest f h =
+limited_item : (i : Item) (b j : ℕ) (rest : List Token) → IsSmall (counts b 0 j true) → Keeps (counts b 0 j true) (spell_item i ++ rest) → Behind b j (item_depth i) (ItemIsShort i) rest
+limited_item (Bare name) b j rest f h =
     record { depth' = (let t : b ≤ 32 = f.brackets in omega arith); short' = tt; operators = 0; operand = false; small = omega arith; rest' = (over h).1 }
-limited_item (Named e name) b j d rest f h =
+limited_item (Named e name) b j rest f h =
     let tail : List Token = token.Plain plain.As ∷ token.Name name ∷ [] in
-    let a = limited e b 0 j d (tail ++ rest) f (parted (spell e) tail rest h) in
+    let a = limited e b 0 j (tail ++ rest) f (parted (spell e) tail rest h) in
     record {
       depth' = a.depth';
       short' = (let t : 0 + operators_of e ≤ 256 = a.short in omega arith);
@@ -118,36 +118,36 @@ limited_item (Named e name) b j d rest f h =
       small = a.short;
       rest' = (over (over a.rest').1).1;
     }
-limited_item (Total a name) b j d rest f h =
+limited_item (Total a name) b j rest f h =
     let tail : List Token = token.Plain plain.As ∷ token.Name name ∷ [] in
-    let x = limited_agg a b j d (tail ++ rest) (parted (spell_agg a) tail rest h) in
+    let x = limited_agg a b j true (tail ++ rest) (parted (spell_agg a) tail rest h) in
     record { depth' = x.depth'; short' = x.short'; operators = x.operators; operand = false; small = x.small; rest' = (over (over x.rest').1).1 }
 
-limits_item : (i : Item) (b j : ℕ) (d : Bool) (rest : List Token) → j ≤ 64 → b + item_depth i ≤ 32 → ItemIsShort i → Any b j rest → Keeps (counts b 0 j d) (spell_item i ++ rest)
-limits_item (Bare name) b j d rest g m s h = under (small_at b 0 j false (omega arith) (omega arith) g) (h 0 false (omega arith))
-limits_item (Named e name) b j d rest g m s h =
+limits_item : (i : Item) (b j : ℕ) (rest : List Token) → j ≤ 64 → b + item_depth i ≤ 32 → ItemIsShort i → Any b j rest → Keeps (counts b 0 j true) (spell_item i ++ rest)
+limits_item (Bare name) b j rest g m s h = under (small_at b 0 j false (omega arith) (omega arith) g) (h 0 false (omega arith))
+limits_item (Named e name) b j rest g m s h =
     let tail : List Token = token.Plain plain.As ∷ token.Name name ∷ [] in
     let u : operators_of e ≤ 256 = s in
     let k = 0 + operators_of e in
     let v : k ≤ 256 = omega arith in
     let f = small_at b k j false (omega arith) v g in
-    paired (spell e) tail rest (limits e b 0 j d (tail ++ rest) g m v (under f (under f (h k false v))))
-limits_item (Total a name) b j d rest g m s h =
+    paired (spell e) tail rest (limits e b 0 j (tail ++ rest) g m v (under f (under f (h k false v))))
+limits_item (Total a name) b j rest g m s h =
     let tail : List Token = token.Plain plain.As ∷ token.Name name ∷ [] in
-    paired (spell_agg a) tail rest (limits_agg a b j d (tail ++ rest) g m s
+    paired (spell_agg a) tail rest (limits_agg a b j true (tail ++ rest) g m s
     (λ o d' v. (let f = small_at b o j false (omega arith) v g in under f (under f (h o false v)))))
 
-limited_items : (is : List Item) (b j : ℕ) (d : Bool) (rest : List Token) → IsSmall (counts b 0 j d) → Keeps (counts b 0 j d) (spell_items is ++ rest) → Behind b j (items_depth is) (AllByRecursion ItemIsShort is) rest
-limited_items [] b j d rest f h =
-    record { depth' = (let t : b ≤ 32 = f.brackets in omega arith); short' = tt; operators = 0; operand = d; small = omega arith; rest' = h }
-limited_items (i ∷ []) b j d rest f h =
-    let x = limited_item i b j d rest f h in
+limited_items : (is : List Item) (b j : ℕ) (rest : List Token) → IsSmall (counts b 0 j true) → Keeps (counts b 0 j true) (spell_items is ++ rest) → Behind b j (items_depth is) (AllByRecursion ItemIsShort is) rest
+limited_items [] b j rest f h =
+    record { depth' = (let t : b ≤ 32 = f.brackets in omega arith); short' = tt; operators = 0; operand = true; small = omega arith; rest' = h }
+limited_items (i ∷ []) b j rest f h =
+    let x = limited_item i b j rest f h in
     record { depth' = (let t : b + item_depth i ≤ 32 = x.depth' in omega arith); short' = (x.short', tt); operators = x.operators; operand = x.operand; small = x.small; rest' = x.rest' }
-limited_items (i ∷ k ∷ is) b j d rest f h =
+limited_items (i ∷ k ∷ is) b j rest f h =
     let more : List Token = token.Plain plain.Comma ∷ spell_items (k ∷ is) in
-    let x = limited_item i b j d (more ++ rest) f (parted (spell_item i) more rest h) in
+    let x = limited_item i b j (more ++ rest) f (parted (spell_item i) more rest h) in
     let p = over x.rest' in
-    let y = limited_items (k ∷ is) b j true rest p.0 p.1 in
+    let y = limited_items (k ∷ is) b j rest p.0 p.1 in
     record {
       depth' = (let t : b + item_depth i ≤ 32 = x.depth' in let u : b + items_depth (k ∷ is) ≤ 32 = y.depth' in omega arith);
       short' = (x.short', y.short');
@@ -157,27 +157,27 @@ limited_items (i ∷ k ∷ is) b j d rest f h =
       rest' = y.rest';
     }
 
-limits_items : (is : List Item) (b j : ℕ) (d : Bool) (rest : List Token) → j ≤ 64 → b + items_depth is ≤ 32 → AllByRecursion ItemIsShort is → Any b j rest → Keeps (counts b 0 j d) (spell_items is ++ rest)
-limits_items [] b j d rest g m s h = h 0 d (omega arith)
-limits_items (i ∷ []) b j d rest g m s h =
+limits_items : (is : List Item) (b j : ℕ) (rest : List Token) → j ≤ 64 → b + items_depth is ≤ 32 → AllByRecursion ItemIsShort is → Any b j rest → Keeps (counts b 0 j true) (spell_items is ++ rest)
+limits_items [] b j rest g m s h = h 0 true (omega arith)
+limits_items (i ∷ []) b j rest g m s h =
     let t : b + max (item_depth i) 0 ≤ 32 = m in
-    limits_item i b j d rest g (omega arith) s.0 h
-limits_items (i ∷ k ∷ is) b j d rest g m s h =
+    limits_item i b j rest g (omega arith) s.0 h
+limits_items (i ∷ k ∷ is) b j rest g m s h =
     let t : b + max (item_depth i) (items_depth (k ∷ is)) ≤ 32 = m in
     let more : List Token = token.Plain plain.Comma ∷ spell_items (k ∷ is) in
-    paired (spell_item i) more rest (limits_item i b j d (more ++ rest) g (omega arith) s.0
-    (λ o d' v. under (small_at b 0 j true (omega arith) (omega arith) g) (limits_items (k ∷ is) b j true rest g (omega arith) s.1 h)))
+    paired (spell_item i) more rest (limits_item i b j (more ++ rest) g (omega arith) s.0
+    (λ o d' v. under (small_at b 0 j true (omega arith) (omega arith) g) (limits_items (k ∷ is) b j rest g (omega arith) s.1 h)))
 
 -- ---- what a select has beside its source
 
 pub limited_pick : (p : Pick) (b j : ℕ) (rest : List Token) → IsSmall (counts b 0 j true) → Keeps (counts b 0 j true) (spell_pick p ++ rest) → Behind b j (pick_depth p) (PickIsShort p) rest
 limited_pick (All at) b j rest f h =
     record { depth' = (let t : b ≤ 32 = f.brackets in omega arith); short' = tt; operators = 0; operand = true; small = omega arith; rest' = (over h).1 }
-limited_pick (Items items) b j rest f h = limited_items items b j true rest f h
+limited_pick (Items items) b j rest f h = limited_items items b j rest f h
 
 pub limits_pick : (p : Pick) (b j : ℕ) (rest : List Token) → j ≤ 64 → b + pick_depth p ≤ 32 → PickIsShort p → Any b j rest → Keeps (counts b 0 j true) (spell_pick p ++ rest)
 limits_pick (All at) b j rest g m s h = under (small_at b 0 j true (omega arith) (omega arith) g) (h 0 true (omega arith))
-limits_pick (Items items) b j rest g m s h = limits_items items b j true rest g m s h
+limits_pick (Items items) b j rest g m s h = limits_items items b j rest g m s h
 
 pub window_to : (w : Window) (b o j : ℕ) (d : Bool) (rest : List Token) → Keeps (counts b o j d) (spell_window w ++ rest) → Keeps (counts b o j false) rest
 window_to w b o j d rest h = (over (over (over (over (over (over (over h).1).1).1).1).1).1).1
@@ -216,7 +216,7 @@ limited_filter None b o j d rest f h =
     record { depth' = (let t : b ≤ 32 = f.brackets in omega arith); short' = tt; operators = o; operand = d; small = f.operators; rest' = h }
 limited_filter (Some e) b o j d rest f h =
     let q = over h in
-    let a = limited e b 0 j true rest q.0 q.1 in
+    let a = limited e b 0 j rest q.0 q.1 in
     record {
       depth' = a.depth';
       short' = (let t : 0 + operators_of e ≤ 256 = a.short in omega arith);
@@ -232,4 +232,4 @@ limits_filter (Some e) b o j d rest f g m s h =
     let u : operators_of e ≤ 256 = s in
     let k = 0 + operators_of e in
     let v : k ≤ 256 = omega arith in
-    under (small_at b 0 j true (omega arith) (omega arith) g) (limits e b 0 j true rest g m v (h k false v))
+    under (small_at b 0 j true (omega arith) (omega arith) g) (limits e b 0 j rest g m v (h k false v))

@@ -7,7 +7,7 @@ use Rattle.gl_query_tokens.specs.declared.token.Plain.TheVariants as plain
 use Rattle.gl_query_tokens.specs.declared.token.Token.{Token}
 use Rattle.gl_query_tokens.specs.declared.token.Token.TheVariants as token
 use Rattle.gl_query_tokens.specs.Sorts.{plain_eq, is_plain}
-use Rattle.gl_query_reader.specs.Written.{Expr, Column, Number, Letters, Brackets, Cast, Not, Binary, Agg, Count, Fold', Wsum, Item, Bare, Named, Total, Pick, All, Items, IsAgg, IsItem, AreItems, IsPick, spell, spell_numbers, spell_agg, spell_item, spell_items, spell_pick}
+use Rattle.gl_query_reader.specs.Written.{Expr, Column, Number, Minus, Letters, Brackets, Cast, Not, Binary, Agg, Count, Fold', Wsum, Item, Bare, Named, Total, Pick, All, Items, IsAgg, IsItem, AreItems, IsPick, spell, spell_numbers, spell_agg, spell_item, spell_items, spell_pick}
 use Rattle.gl_query_reader.specs.States.{State, Frame, InItem, InFold, InWsum, WantItem, WantWeight, WantAs, HaveItem, WantSource, SelectHead}
 use Rattle.gl_query_reader.specs.Machine.{reduced, step, is_operator}
 use Rattle.gl_query_reader.proofs.Steps.{steps, state}
@@ -25,6 +25,7 @@ item-begins (Binary o at l r) items fs rest =
     ∙ ap (steps (wanting (InItem items ∷ fs))) (sym (append_assoc (spell l) (token.Operator o at ∷ spell r) rest))
 item-begins (Column name) items fs rest = refl
 item-begins (Number n) items fs rest = refl
+item-begins (Minus at n) items fs rest = refl
 item-begins (Letters text at) items fs rest = refl
 item-begins (Brackets at e) items fs rest = refl
 item-begins (Cast at open' e word kind) items fs rest = refl

@@ -37,6 +37,7 @@ sound_parts xs ys h = all_parts IsSound xs ys h
 expr_names : (e : written.Expr) → AreSound (written.spell e) → HasNames (expr_alike (expr_meaning e))
 expr_names (written.Column name) h = h.0.name
 expr_names (written.Number n) h = tt
+expr_names (written.Minus at n) h = tt
 expr_names (written.Letters text at) h = tt
 expr_names (written.Brackets at e) h = expr_names e (sound_parts (written.spell e) (token.Plain plain.Close ∷ []) h.1).0
 expr_names (written.Cast at open' e word kind) h =

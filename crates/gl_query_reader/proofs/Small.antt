@@ -54,30 +54,32 @@ one_more a b k e = omega (arith, e)
 one_between : (a b c k l : ℕ) → b ≡ a + k → c ≡ b + 1 + l → c ≡ a + (1 + k + l)
 one_between a b c k l e f = omega (arith, e, f)
 
-expr_adds : (e : written.Expr) (n : Counts) → Adds n (counted n (written.spell e)) (ops e)
+-- where an operand may begin
+expr_adds : (e : written.Expr) (n : Counts) → n.operand ≡ true → Adds n (counted n (written.spell e)) (ops e)
 unfolding ops
-expr_adds (written.Column name) n = record { operators = omega arith; behind = refl }
-expr_adds (written.Number number) n = record { operators = omega arith; behind = refl }
-expr_adds (written.Letters text at) n = record { operators = omega arith; behind = refl }
-expr_adds (written.Brackets at e) n =
+expr_adds (written.Column name) n begins = record { operators = omega arith; behind = refl }
+expr_adds (written.Number number) n begins = record { operators = omega arith; behind = refl }
+expr_adds (written.Minus at number) n begins = record { operators = rw begins (omega arith); behind = refl }
+expr_adds (written.Letters text at) n begins = record { operators = omega arith; behind = refl }
+expr_adds (written.Brackets at e) n begins =
     let m = after n (token.Open at) in
-    let a = expr_adds e m in
+    let a = expr_adds e m refl in
     subst (λ (c : Counts). Adds n c (ops e)) (sym (counted_both (written.spell e) (token.Plain plain.Close ∷ []) m))
     (record { operators = a.operators; behind = refl })
-expr_adds (written.Cast at open' e word kind) n =
+expr_adds (written.Cast at open' e word kind) n begins =
     let m = after (after n (token.Cast at)) (token.Open open') in
-    let a = expr_adds e m in
+    let a = expr_adds e m refl in
     subst (λ (c : Counts). Adds n c (1 + ops e))
     (sym (counted_both (written.spell e) (token.Plain plain.As ∷ token.Name word ∷ token.Plain plain.Close ∷ []) m))
     (record { operators = one_more n.operators (counted m (written.spell e)).operators (ops e) a.operators; behind = refl })
-expr_adds (written.Not at e) n =
-    let a = expr_adds e (after n (token.Not at)) in
+expr_adds (written.Not at e) n begins =
+    let a = expr_adds e (after n (token.Not at)) refl in
     record { operators = one_more n.operators (counted (after n (token.Not at)) (written.spell e)).operators (ops e) a.operators; behind = a.behind }
-expr_adds (written.Binary o at l r) n =
-    let left = expr_adds l n in
+expr_adds (written.Binary o at l r) n begins =
+    let left = expr_adds l n begins in
     let m = counted n (written.spell l) in
     let k = after m (token.Operator o at) in
-    let right = expr_adds r k in
+    let right = expr_adds r k refl in
     let here : k.operators ≡ m.operators + 1 = rw left.behind refl in
     subst (λ (c : Counts). Adds n c (1 + ops l + ops r)) (sym (counted_both (written.spell l) (token.Operator o at ∷ written.spell r) n))
     (record {
@@ -90,10 +92,10 @@ expr_adds (written.Binary o at l r) n =
 not_past : (n : Counts) → is_past n ≡ false → n.operators ≤ 256
 not_past n e = ltb-false 256 n.operators (neither_parts (nat_lt 32 n.brackets) (nat_lt 256 n.operators) (neither_parts (nat_lt 32 n.brackets || nat_lt 256 n.operators) (nat_lt 64 n.joins) e).0).1
 
-whole_small : (e : written.Expr) (more : List Token) (n : Counts) → n.operators ≡ 0 → IsWithin n (written.spell e ++ more) → IsSmall (expr_alike (expr_meaning e))
+whole_small : (e : written.Expr) (more : List Token) (n : Counts) → n.operand ≡ true → n.operators ≡ 0 → IsWithin n (written.spell e ++ more) → IsSmall (expr_alike (expr_meaning e))
 unfolding ops
-whole_small e more n none w =
-    let a = expr_adds e n in
+whole_small e more n begins none w =
+    let a = expr_adds e n begins in
     let within = not_past (counted n (written.spell e)) (within_behind (written.spell e) more n w).now in
     let exact = a.operators in
     omega (arith, within, exact, none)
@@ -109,39 +111,39 @@ agg_small (written.Count at open') more n w = tt
 agg_small (written.Fold' fold at open' e) more n w =
     let start = after (after n (token.Fold fold at)) (token.Open open') in
     let tail : List Token = token.Plain plain.Close ∷ [] in
-    whole_small e (tail ++ more) start refl
+    whole_small e (tail ++ more) start refl refl
     (subst (IsWithin start) (append_assoc (written.spell e) tail more) (within_more _ (token.Open open') _ (within_more n (token.Fold fold at) _ w)))
 agg_small (written.Wsum at open' e ns) more n w =
     let start = after (after n (token.Wsum at)) (token.Open open') in
     let tail : List Token = token.Plain plain.Comma ∷ token.Plain plain.LeftSquare ∷ (written.spell_numbers ns ++ token.Plain plain.RightSquare ∷ token.Plain plain.Close ∷ []) in
-    whole_small e (tail ++ more) start refl
+    whole_small e (tail ++ more) start refl refl
     (subst (IsWithin start) (append_assoc (written.spell e) tail more) (within_more _ (token.Open open') _ (within_more n (token.Wsum at) _ w)))
 
-item_small : (i : written.Item) (more : List Token) (n : Counts) → n.operators ≡ 0 → IsWithin n (written.spell_item i ++ more) → ItemHolds IsSmall Any i
-item_small (written.Bare name) more n none w = (omega arith, tt)
-item_small (written.Named e name) more n none w =
+item_small : (i : written.Item) (more : List Token) (n : Counts) → n.operand ≡ true → n.operators ≡ 0 → IsWithin n (written.spell_item i ++ more) → ItemHolds IsSmall Any i
+item_small (written.Bare name) more n begins none w = (omega arith, tt)
+item_small (written.Named e name) more n begins none w =
     let tail : List Token = token.Plain plain.As ∷ token.Name name ∷ [] in
-    (whole_small e (tail ++ more) n none (subst (IsWithin n) (append_assoc (written.spell e) tail more) w), tt)
-item_small (written.Total a name) more n none w =
+    (whole_small e (tail ++ more) n begins none (subst (IsWithin n) (append_assoc (written.spell e) tail more) w), tt)
+item_small (written.Total a name) more n begins none w =
     let tail : List Token = token.Plain plain.As ∷ token.Name name ∷ [] in
     (agg_small a (tail ++ more) n (subst (IsWithin n) (append_assoc (written.spell_agg a) tail more) w), tt)
 
-items_small : (is : List written.Item) (more : List Token) (n : Counts) → n.operators ≡ 0 → IsWithin n (written.spell_items is ++ more) → AllByRecursion (ItemHolds IsSmall Any) is
-items_small [] more n none w = tt
-items_small (i ∷ []) more n none w = (item_small i more n none w, tt)
-items_small (i ∷ j ∷ is) more n none w =
+items_small : (is : List written.Item) (more : List Token) (n : Counts) → n.operand ≡ true → n.operators ≡ 0 → IsWithin n (written.spell_items is ++ more) → AllByRecursion (ItemHolds IsSmall Any) is
+items_small [] more n begins none w = tt
+items_small (i ∷ []) more n begins none w = (item_small i more n begins none w, tt)
+items_small (i ∷ j ∷ is) more n begins none w =
     let tail : List Token = token.Plain plain.Comma ∷ written.spell_items (j ∷ is) in
     let v = subst (IsWithin n) (append_assoc (written.spell_item i) tail more) w in
     let rest = within_more (counted n (written.spell_item i)) (token.Plain plain.Comma) _ (within_behind (written.spell_item i) (tail ++ more) n v) in
-    (item_small i (tail ++ more) n none v, items_small (j ∷ is) more (after (counted n (written.spell_item i)) (token.Plain plain.Comma)) refl rest)
+    (item_small i (tail ++ more) n begins none v, items_small (j ∷ is) more (after (counted n (written.spell_item i)) (token.Plain plain.Comma)) refl refl rest)
 
-pick_small : (p : written.Pick) (more : List Token) (n : Counts) → n.operators ≡ 0 → IsWithin n (written.spell_pick p ++ more) → PickHolds IsSmall Any p
-pick_small (written.All at) more n none w = tt
-pick_small (written.Items items) more n none w = items_small items more n none w
+pick_small : (p : written.Pick) (more : List Token) (n : Counts) → n.operand ≡ true → n.operators ≡ 0 → IsWithin n (written.spell_pick p ++ more) → PickHolds IsSmall Any p
+pick_small (written.All at) more n begins none w = tt
+pick_small (written.Items items) more n begins none w = items_small items more n begins none w
 
 filter_small : (f : Option written.Expr) (more : List Token) (n : Counts) → IsWithin n (written.spell_filter f ++ more) → FilterHolds IsSmall f
 filter_small None more n w = tt
-filter_small (Some e) more n w = whole_small e more (after n (token.Plain plain.Where)) refl (within_more n (token.Plain plain.Where) _ w)
+filter_small (Some e) more n w = whole_small e more (after n (token.Plain plain.Where)) refl refl (within_more n (token.Plain plain.Where) _ w)
 
 grouping_any : (g : Option Grouping) → GroupingHolds Any g
 grouping_any None = tt
@@ -173,7 +175,7 @@ query_small (written.Select pick source window filter grouping) more n w =
     let c = along (written.spell_query source) rest more _ b in
     let d = along windows (filters ++ groups) more _ c in
     let f = first_part filters groups more _ d in
-    (query_small source (rest ++ more) _ s, pick_small pick ((token.Plain plain.From ∷ behind) ++ more) m refl p, filter_small filter (groups ++ more) _ f, grouping_any grouping)
+    (query_small source (rest ++ more) _ s, pick_small pick ((token.Plain plain.From ∷ behind) ++ more) m refl refl p, filter_small filter (groups ++ more) _ f, grouping_any grouping)
 query_small (written.Windows at var source window open' body) more n w =
     let tail : List Token = token.Plain plain.Close ∷ [] in
     let bodies : List Token = written.spell_query body ++ tail in

@@ -12,8 +12,8 @@ use Rattle.gl_query_tokens.specs.declared.token.Fold.{Fold}
 use Rattle.gl_query_tokens.specs.declared.token.Plain.TheVariants as plain
 use Rattle.gl_query_tokens.specs.declared.token.Token.{Token}
 use Rattle.gl_query_tokens.specs.declared.token.Token.TheVariants as token
-use Rattle.gl_query_reader.specs.Written.{Expr, Column, Cast, Not, Binary, Agg, Count, Wsum, Item, Bare, All, Items, Select, looseness, left_looseness, level, IsExpr, IsAgg, IsItem, AreItems, IsPick, spell, spell_numbers, spell_agg, spell_item, spell_items, spell_pick, spell_query, spell_if_window}
-use Rattle.gl_query_reader.specs.States.{State, Frame, SelectHead, Unnamed, UnnamedExpr, UnnamedAgg, LeftOf, NotOf, BracketOf, InCast, InItem, InFold, InWsum, InFilter, WantItem, WantOperand, HaveExpr, WantCastOpen, WantKind, WantCastClose, WantCountOpen, WantCountClose, WantFoldOpen, WantWsumOpen, WantWeightsOpen, WantWeight, HaveWeight, WantWsumClose, WantAs, WantItemName, HaveItem, WantFrom, WantSource, goes}
+use Rattle.gl_query_reader.specs.Written.{Expr, Column, Minus, Cast, Not, Binary, Agg, Count, Wsum, Item, Bare, All, Items, Select, looseness, left_looseness, level, IsExpr, IsAgg, IsItem, AreItems, IsPick, spell, spell_numbers, spell_agg, spell_item, spell_items, spell_pick, spell_query, spell_if_window}
+use Rattle.gl_query_reader.specs.States.{State, Frame, SelectHead, Unnamed, UnnamedExpr, UnnamedAgg, LeftOf, NotOf, BracketOf, InCast, InItem, InFold, InWsum, InFilter, WantItem, WantOperand, WantMinus, HaveExpr, WantCastOpen, WantKind, WantCastClose, WantCountOpen, WantCountClose, WantFoldOpen, WantWsumOpen, WantWeightsOpen, WantWeight, HaveWeight, WantWsumClose, WantAs, WantItemName, HaveItem, WantFrom, WantSource, goes}
 use Rattle.gl_query_reader.specs.Machine.{Reduced, room, reduced, want_operand, have_item, after_expr, after_item, bare, under_name}
 use Rattle.gl_query_reader.proofs.ReadExpressions.{pair}
 use Rattle.gl_query_reader.proofs.Said.{items_before, numbers_before, in_items, unnamed_text, before, control_text, IsUnnamed, InExpr, Fits, Read, by_some, by_if, by_plain, by_name, by_number, by_open, go_on, go_in}
@@ -83,6 +83,8 @@ if_some false x s' e = absurd cc
 pub keeps_operand_in : (fs : List Frame) (t : Token) (s' : State) → Fits fs → InExpr fs → want_operand fs t ≡ Some s' → Read s' (before fs ++ t ∷ [])
 keeps_operand_in fs (token.Name n) s' f h e = by_some _ s' _ e (record { text = refl; fits = f; holds = (h, tt, refl) })
 keeps_operand_in fs (token.Number n) s' f h e = by_some _ s' _ e (record { text = refl; fits = f; holds = (h, tt, refl) })
+keeps_operand_in fs (token.Operator op.Sub at) s' f h e = by_some _ s' _ e (record { text = refl; fits = f; holds = h })
+keeps_operand_in fs (token.Operator o at) s' f h e = absurd cc
 keeps_operand_in fs (token.Letters text at) s' f h e = by_some _ s' _ e (record { text = refl; fits = f; holds = (h, tt, refl) })
 keeps_operand_in fs (token.Open at) s' f h e = by_some _ s' _ e (record { text = append-nil (before fs ++ token.Open at ∷ []); fits = (h, f); holds = tt })
 keeps_operand_in fs (token.Cast at) s' f h e = by_some _ s' _ e (record { text = refl; fits = f; holds = h })
@@ -93,6 +95,9 @@ keeps_operand_in fs t s' f h e = absurd cc
 
 pub keeps_operand : Keeps WantOperand
 keeps_operand fs t s' f h e = subst (λ (x : List Token). Read s' (x ++ t ∷ [])) (sym (append-nil (before fs))) (keeps_operand_in fs t s' f h e)
+
+pub keeps_minus : (at : ℕ) → Keeps (WantMinus at)
+keeps_minus at fs t s' f h e = by_number t _ s' _ e (λ n d. by_some _ s' _ d (go_on (control_text (WantMinus at)) (HaveExpr (Minus at n)) fs (token.Number n) f (h, tt, refl) refl))
 
 pub keeps_cast_open : (at : ℕ) → Keeps (WantCastOpen at)
 keeps_cast_open at fs t s' f h e = by_open t _ s' _ e (λ n d. by_some _ s' _ d (go_in (token.Cast at ∷ []) WantOperand (InCast at n) fs (token.Open n) f h tt refl refl))
@@ -116,6 +121,7 @@ keeps_cast_close at open' inner word kind fs t s' f h e = by_plain plain.Close t
 pub keeps_item : (items : List Item) → Keeps (WantItem items)
 keeps_item [] fs (token.Operator op.Mul at) s' f h e = by_some _ s' _ e (go_on (control_text (WantItem [])) (WantFrom at) fs (token.Operator op.Mul at) f h.0 refl)
 keeps_item (i ∷ is) fs (token.Operator op.Mul at) s' f h e = absurd cc
+keeps_item items fs (token.Operator op.Sub at) s' f h e = keeps_operand_in (InItem items ∷ fs) (token.Operator op.Sub at) s' (h, f) tt e
 keeps_item items fs (token.Operator o at) s' f h e = absurd cc
 keeps_item items fs (token.Count at) s' f h e = by_some _ s' _ e (go_on (control_text (WantItem items)) (WantCountOpen items at) fs (token.Count at) f h refl)
 keeps_item items fs (token.Fold fold at) s' f h e = by_some _ s' _ e (go_on (control_text (WantItem items)) (WantFoldOpen items fold at) fs (token.Fold fold at) f h refl)

@@ -15,8 +15,8 @@ use Rattle.gl_query_tokens.specs.declared.token.Token.TheVariants as token
 use Rattle.gl_query_tokens.specs.Sorts.{is_plain, name_in, number_in, open_in, size_in, by_in}
 use Rattle.gl_query_reader.specs.declared.written.Window.{Window}
 use Rattle.gl_query_reader.specs.declared.written.Grouping.{Grouping}
-use Rattle.gl_query_reader.specs.Written.{Expr, Column, Number, Letters, Brackets, Cast, Not, Binary, Count, Fold', Wsum, Item, Bare, Named, Total, Pick, All, Items, Query, Stream, InBrackets, Select, Windows, Groups, Join', Statement, looseness, left_looseness}
-use Rattle.gl_query_reader.specs.States.{Head, SelectHead, EachHead, BodyHead, WindowsHead, GroupsHead', GroupsHead, SelectGroups, EachGroups, Unnamed, UnnamedExpr, UnnamedAgg, Frame, Control, State, goes, expected, LeftOf, NotOf, BracketOf, InCast, InItem, InFold, InWsum, InFilter, JoinOf, InQuery, InSource, InBody, WantTerm, WantItem, WantOperand, HaveExpr, WantCastOpen, WantKind, WantCastClose, WantCountOpen, WantCountClose, WantFoldOpen, WantWsumOpen, WantWeightsOpen, WantWeight, HaveWeight, WantWsumClose, WantAs, WantItemName, HaveItem, WantFrom, WantSource, HaveSource, HaveEachSource, WantSize, WantSizeNumber, WantAdvance, WantAdvanceNumber, WantTuples, WantWindowClose, WantBy, WantKey, WantGroups, WantGroupsNumber, WantVar, WantIn, WantBody, HaveTerm, WantName, HaveName, WantEnd}
+use Rattle.gl_query_reader.specs.Written.{Expr, Column, Number, Minus, Letters, Brackets, Cast, Not, Binary, Count, Fold', Wsum, Item, Bare, Named, Total, Pick, All, Items, Query, Stream, InBrackets, Select, Windows, Groups, Join', Statement, looseness, left_looseness}
+use Rattle.gl_query_reader.specs.States.{Head, SelectHead, EachHead, BodyHead, WindowsHead, GroupsHead', GroupsHead, SelectGroups, EachGroups, Unnamed, UnnamedExpr, UnnamedAgg, Frame, Control, State, goes, expected, LeftOf, NotOf, BracketOf, InCast, InItem, InFold, InWsum, InFilter, JoinOf, InQuery, InSource, InBody, WantTerm, WantItem, WantOperand, WantMinus, HaveExpr, WantCastOpen, WantKind, WantCastClose, WantCountOpen, WantCountClose, WantFoldOpen, WantWsumOpen, WantWeightsOpen, WantWeight, HaveWeight, WantWsumClose, WantAs, WantItemName, HaveItem, WantFrom, WantSource, HaveSource, HaveEachSource, WantSize, WantSizeNumber, WantAdvance, WantAdvanceNumber, WantTuples, WantWindowClose, WantBy, WantKey, WantGroups, WantGroupsNumber, WantVar, WantIn, WantBody, HaveTerm, WantName, HaveName, WantEnd}
 
 -- ---- expressions
 
@@ -65,9 +65,21 @@ with_operator o at r = if nat_lt (looseness o) (room r.0) then goes WantOperand 
 abbrev pub with_not : ℕ → List Frame → Option State
 with_not at fs = if nat_lt 4 (room fs) then goes WantOperand (NotOf at ∷ fs) else None
 
+abbrev pub is_minus : Op → Bool
+is_minus op.Sub = true
+is_minus o = false
+
+-- a minus sign where an operand may begin leads to a number
+abbrev pub begin_minus : Op → ℕ → List Frame → Option State
+begin_minus o at fs = if is_minus o then goes (WantMinus at) fs else None
+
+abbrev pub want_minus : List Frame → ℕ → Token → Option State
+want_minus fs at t = option_and_then (λ n. goes (HaveExpr (Minus at n)) fs) (number_in t)
+
 abbrev pub want_operand : List Frame → Token → Option State
 want_operand fs (token.Name name) = goes (HaveExpr (Column name)) fs
 want_operand fs (token.Number n) = goes (HaveExpr (Number n)) fs
+want_operand fs (token.Operator o at) = begin_minus o at fs
 want_operand fs (token.Letters text at) = goes (HaveExpr (Letters text at)) fs
 want_operand fs (token.Open at) = goes WantOperand (BracketOf at ∷ fs)
 want_operand fs (token.Cast at) = goes (WantCastOpen at) fs
@@ -159,7 +171,7 @@ want_all o items at fs = if is_star o && none_yet items then goes (WantFrom at) 
 
 -- whether a token is `*` or begins an aggregate
 abbrev pub begins_agg : Token → Bool
-begins_agg (token.Operator o at) = true
+begins_agg (token.Operator o at) = is_star o
 begins_agg (token.Count at) = true
 begins_agg (token.Fold fold at) = true
 begins_agg (token.Wsum at) = true
@@ -353,6 +365,7 @@ step_at (WantGroups head at key) fs t = expected plain.Groups (WantGroupsNumber 
 step_at (WantGroupsNumber head at key) fs t = want_groups_number fs head at key t
 step_at (WantItem items) fs t = want_item items fs t
 step_at WantOperand fs t = want_operand fs t
+step_at (WantMinus at) fs t = want_minus fs at t
 step_at (HaveExpr e) fs t = have_expr fs e t
 step_at (WantCastOpen at) fs t = want_cast_open fs at t
 step_at (WantKind at open' e) fs t = want_kind fs at open' e t

@@ -1,7 +1,7 @@
 -- What a statement that is written means: a tree of queries, with places.
 use Rattle.std.specs.Prelude.{ℕ, Bool, true, false, List, [], ◌∷◌, codes, Option, Some, None, option_map}
 use Rattle.gl_query.specs.declared.tree.Name.{Name}
-use Rattle.gl_query.specs.Trees.{ExprTree, AggTree, ItemTree, AggItemTree, QueryTree, StatementTree, Column, Number, Letters, Not, Cast, Binary, Count, Sum, Min, Max, Avg, Wsum, All, Items, Read, Rows, Total, Each, PerGroup, Union, Concat}
+use Rattle.gl_query.specs.Trees.{ExprTree, AggTree, ItemTree, AggItemTree, QueryTree, StatementTree, Column, Number, Minus, Letters, Not, Cast, Binary, Count, Sum, Min, Max, Avg, Wsum, All, Items, Read, Rows, Total, Each, PerGroup, Union, Concat}
 use Rattle.gl_query_tokens.specs.declared.token.Fold.{Fold}
 use Rattle.gl_query_tokens.specs.declared.token.Fold.TheVariants as fold
 use Rattle.gl_query_tokens.specs.declared.token.Join.{Join}
@@ -10,10 +10,11 @@ use Rattle.gl_query_reader.specs.declared.written.Window.{Window}
 use Rattle.gl_query_reader.specs.declared.written.Grouping.{Grouping}
 use Rattle.gl_query_reader.specs.Written as written
 
--- brackets only group
+-- brackets only group; the place of a number behind a minus sign is that of the sign
 abbrev pub expr_meaning : written.Expr → ExprTree
 expr_meaning (written.Column name) = Column name
 expr_meaning (written.Number n) = Number n
+expr_meaning (written.Minus at n) = Minus (record { value = n.value; at = at })
 expr_meaning (written.Letters text at) = Letters text at
 expr_meaning (written.Brackets at e) = expr_meaning e
 expr_meaning (written.Cast at open' e word kind) = Cast (expr_meaning e) kind at

@@ -2,13 +2,14 @@
 use Rattle.std.specs.Prelude.{ℕ, Bool, true, false, not, List, [], ◌∷◌, Option, Some, None, bytes_eq, nat_le, if◌then◌else◌}
 use Rattle.gl_query.specs.declared.tree.Name.{Name}
 use Rattle.gl_query_reader.specs.declared.written.Grouping.{Grouping}
-use Rattle.gl_query_reader.specs.Written.{Expr, Column, Number, Letters, Brackets, Cast, Not, Binary, Agg, Count, Fold', Wsum, Item, Bare, Named, Total, Pick, All, Items, Query, Stream, InBrackets, Select, Windows, Groups, Join'}
+use Rattle.gl_query_reader.specs.Written.{Expr, Column, Number, Minus, Letters, Brackets, Cast, Not, Binary, Agg, Count, Fold', Wsum, Item, Bare, Named, Total, Pick, All, Items, Query, Stream, InBrackets, Select, Windows, Groups, Join'}
 use Rattle.gl_query_reader.specs.Meaning.{is_total}
 
 -- the place of an expression's first token
 abbrev pub first_at : Expr → ℕ
 first_at (Column name) = name.at
 first_at (Number n) = n.at
+first_at (Minus at n) = at
 first_at (Letters text at) = at
 first_at (Brackets at e) = at
 first_at (Cast at open' e word kind) = at

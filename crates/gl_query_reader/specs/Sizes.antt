@@ -2,12 +2,13 @@
 use Rattle.std.specs.Prelude.{◌≡◌, ℕ, ◌+◌, ◌≤◌, max, true, ◌↔◌, List, [], ◌∷◌, Option, Some, None}
 use Rattle.std.specs.List.{AllByRecursion}
 use Rattle.gl_query_reader.specs.Limits.{none_counted, keeps_limits, MOST_BRACKETS, MOST_OPERATORS, MOST_JOINS}
-use Rattle.gl_query_reader.specs.Written.{Expr, Column, Number, Letters, Brackets, Cast, Not, Binary, Agg, Count, Fold', Wsum, Item, Bare, Named, Total, Pick, All, Items, Query, Stream, InBrackets, Select, Windows, Groups, Join', Statement, spell_statement}
+use Rattle.gl_query_reader.specs.Written.{Expr, Column, Number, Minus, Letters, Brackets, Cast, Not, Binary, Agg, Count, Fold', Wsum, Item, Bare, Named, Total, Pick, All, Items, Query, Stream, InBrackets, Select, Windows, Groups, Join', Statement, spell_statement}
 
 -- how many round brackets are open at once
 abbrev pub expr_depth : Expr → ℕ
 expr_depth (Column name) = 0
 expr_depth (Number n) = 0
+expr_depth (Minus at n) = 0
 expr_depth (Letters text at) = 0
 expr_depth (Brackets at e) = expr_depth e + 1
 expr_depth (Cast at open' e word kind) = expr_depth e + 1
@@ -58,6 +59,7 @@ joins_of (Join' join at l r) = joins_of l + joins_of r + 1
 abbrev pub operators_of : Expr → ℕ
 operators_of (Column name) = 0
 operators_of (Number n) = 0
+operators_of (Minus at n) = 0
 operators_of (Letters text at) = 0
 operators_of (Brackets at e) = operators_of e
 operators_of (Cast at open' e word kind) = operators_of e + 1

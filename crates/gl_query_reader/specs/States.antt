@@ -53,6 +53,7 @@ pub data Control : Type 0 where
   WantTerm : Control
   WantItem : (items : List Item) → Control
   WantOperand : Control
+  WantMinus : (at : ℕ) → Control
   HaveExpr : (last' : Expr) → Control
   WantCastOpen : (at : ℕ) → Control
   WantKind : (at open' : ℕ) (inner : Expr) → Control

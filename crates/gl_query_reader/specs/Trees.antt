@@ -16,7 +16,7 @@ use Rattle.gl_query_reader.specs.declared.written.WrittenEach.{WrittenEach}
 use Rattle.gl_query_reader.specs.declared.written.WrittenSelect.{WrittenSelect}
 use Rattle.gl_query_reader.specs.declared.written.WrittenQuery as query
 use Rattle.gl_query_reader.specs.declared.written.WrittenStatement.{WrittenStatement}
-use Rattle.gl_query_reader.specs.Written.{Expr, Column, Number, Letters, Brackets, Cast, Not, Binary, Agg, Count, Fold', Wsum, Item, Bare, Named, Total, Pick, All, Items, Query, Stream, InBrackets, Select, Windows, Groups, Join', Statement}
+use Rattle.gl_query_reader.specs.Written.{Expr, Column, Number, Minus, Letters, Brackets, Cast, Not, Binary, Agg, Count, Fold', Wsum, Item, Bare, Named, Total, Pick, All, Items, Query, Stream, InBrackets, Select, Windows, Groups, Join', Statement}
 use Rattle.gl_query_reader.specs.declared.state.Head.{Head}
 use Rattle.gl_query_reader.specs.declared.state.Head.TheVariants as head
 use Rattle.gl_query_reader.specs.declared.state.BodyHead.{BodyHead}
@@ -48,6 +48,7 @@ use Rattle.gl_query_reader.specs.States as states
 abbrev pub expr_of : expr.WrittenExpr → Expr
 expr_of (expr.Column name) = Column name
 expr_of (expr.Number n) = Number n
+expr_of (expr.Minus at n) = Minus at n
 expr_of (expr.Letters text at) = Letters text at
 expr_of (expr.Brackets' at p e) = Brackets at (expr_of e)
 expr_of (expr.Cast' at open' p e word kind) = Cast at open' (expr_of e) word kind
@@ -142,6 +143,7 @@ frames_of stack = map frame_of (reverse stack)
 
 abbrev pub expr_control_of : ExprControl → states.Control
 expr_control_of expr_control.WantOperand = states.WantOperand
+expr_control_of (expr_control.WantMinus at) = states.WantMinus at
 expr_control_of (expr_control.HaveExpr e) = states.HaveExpr (expr_of e)
 expr_control_of (expr_control.WantCastOpen at) = states.WantCastOpen at
 expr_control_of (expr_control.WantKind h) = states.WantKind h.at h.open (expr_of h.inner)

@@ -18,6 +18,7 @@ use Rattle.gl_query_reader.specs.declared.written.Grouping.{Grouping}
 pub data Expr : Type 0 where
   Column : (name : Name) → Expr
   Number : (n : Num) → Expr
+  Minus : (at : ℕ) (n : Num) → Expr
   Letters : (text : List ℕ) (at : ℕ) → Expr
   Brackets : (at : ℕ) (e : Expr) → Expr
   Cast : (at open' : ℕ) (e : Expr) (word : Name) (kind : Kind) → Expr
@@ -90,6 +91,7 @@ left_looseness op.Or = 6
 abbrev pub level : Expr → ℕ
 level (Column name) = 0
 level (Number n) = 0
+level (Minus at n) = 0
 level (Letters text at) = 0
 level (Brackets at e) = 0
 level (Cast at open' e word kind) = 0
@@ -99,6 +101,7 @@ level (Binary o at l r) = looseness o
 abbrev pub IsExpr : Expr → Type 0
 IsExpr (Column name) = Unit {0}
 IsExpr (Number n) = Unit {0}
+IsExpr (Minus at n) = Unit {0}
 IsExpr (Letters text at) = Unit {0}
 IsExpr (Brackets at e) = IsExpr e
 IsExpr (Cast at open' e word kind) = IsExpr e × (kind_named word.text ≡ Some kind)
@@ -159,10 +162,11 @@ abbrev mutual
 
 -- ---- the tokens
 
--- an operator's token
+-- a number's minus sign is the token of an operator
 abbrev pub spell : Expr → List Token
 spell (Column name) = token.Name name ∷ []
 spell (Number n) = token.Number n ∷ []
+spell (Minus at n) = token.Operator op.Sub at ∷ token.Number n ∷ []
 spell (Letters text at) = token.Letters text at ∷ []
 spell (Brackets at e) = token.Open at ∷ (spell e ++ token.Plain plain.Close ∷ [])
 spell (Cast at open' e word kind) =

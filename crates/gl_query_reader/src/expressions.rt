@@ -14,7 +14,7 @@ use crate::written::WrittenExpr;
 use gl_bits::Kind;
 use gl_bits::boxes::{OneBox, one_box};
 use gl_query::{Name, Op, TextBytes};
-use gl_query_tokens::sorts::{is_plain, open_in};
+use gl_query_tokens::sorts::{is_plain, number_in, open_in};
 use gl_query_tokens::{Plain, Token};
 use gl_schema::kind_named;
 use std::alloc::{AllocError, Global};
@@ -58,11 +58,32 @@ pub fn want_operand(
     match token {
         Token::Name(name) => have_column(alloc, name),
         Token::Number(number) => Ok(have(WrittenExpr::Number(*number))),
+        Token::Operator { op, at } => Ok(begin_minus(*op, *at)),
         Token::Letters { text, at } => have_letters(alloc, text, *at),
         Token::Open { at } => operand_in(frames, Frame::InBrackets { at: *at }),
         Token::Cast { at } => Ok(Some(Control::Expr(ExprControl::WantCastOpen { at: *at }))),
         Token::Not { at } => with_not(*at, frames),
         _ => Ok(None),
+    }
+}
+
+// A minus sign where an operand may begin.
+fn begin_minus(op: Op, at: u64) -> Option<Control>
+    ensures { (fs : List states.Frame) → leads result fs ≡ machine.begin_minus op at fs }
+{
+    match op {
+        Op::Sub => Some(Control::Expr(ExprControl::WantMinus { at })),
+        _ => None,
+    }
+}
+
+// The number behind a minus sign.
+fn want_minus(at: u64, token: &Token) -> Option<Control>
+    ensures { (fs : List states.Frame) → leads result fs ≡ machine.want_minus fs at token.now }
+{
+    match number_in(token) {
+        Some(number) => have(WrittenExpr::Minus { at, number }),
+        None => None,
     }
 }
 
@@ -217,6 +238,7 @@ pub fn step_expr(
 {
     match control {
         ExprControl::WantOperand => want_operand(alloc, frames, token),
+        ExprControl::WantMinus { at } => Ok(want_minus(at, token)),
         ExprControl::HaveExpr { last } => have_expr(alloc, frames, last, token),
         ExprControl::WantCastOpen { at } => want_cast_open(frames, at, token),
         ExprControl::WantKind(head) => want_kind(alloc, head, token),

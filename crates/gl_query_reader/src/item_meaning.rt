@@ -10,7 +10,7 @@ use crate::parts::cloned;
 use crate::written::{WrittenAgg, WrittenExpr, WrittenItem, WrittenItems};
 use gl_bits::Kind;
 use gl_bits::boxes::{OneBox, TwoBoxes, one_box, two_boxes};
-use gl_query::{Agg, AggItem, AggItems, Expr, Item, ItemList, Op};
+use gl_query::{Agg, AggItem, AggItems, Expr, Item, ItemList, Num, Op};
 use gl_query_tokens::Fold;
 use std::alloc::{AllocError, Global};
 
@@ -21,6 +21,7 @@ pub fn expr_meaning(alloc: Global, written: WrittenExpr) -> Result<Expr, AllocEr
     match written {
         WrittenExpr::Column(name) => Ok(Expr::Column(name)),
         WrittenExpr::Number(number) => Ok(Expr::Number(number)),
+        WrittenExpr::Minus { at, number } => Ok(Expr::Minus(Num { at, ..number })),
         WrittenExpr::Letters { text, at } => Ok(Expr::Letters { text, at }),
         WrittenExpr::Brackets { at: _, inner } => expr_meaning(alloc, Box::into_inner(inner)),
         WrittenExpr::Cast {

@@ -15,6 +15,12 @@ use gl_query_tokens::sorts::is_plain;
 use gl_query_tokens::{Plain, Token};
 use std::alloc::{AllocError, Global};
 
+fn is_star(op: Op) -> bool
+    ensures { result ≡ machine.is_star op }
+{
+    matches!(op, Op::Mul)
+}
+
 // `*` in place of the first item.
 fn want_all(items: WrittenItems, op: Op, at: u64) -> Option<Control>
     ensures { (fs : List states.Frame) →
@@ -22,7 +28,7 @@ fn want_all(items: WrittenItems, op: Op, at: u64) -> Option<Control>
 {
     let is_first = items.len() == 0;
     drop(items);
-    if matches!(op, Op::Mul) && is_first {
+    if is_star(op) && is_first {
         Some(Control::Item(ItemControl::WantFrom { at }))
     } else {
         None
@@ -33,10 +39,11 @@ fn want_all(items: WrittenItems, op: Op, at: u64) -> Option<Control>
 fn begins_agg(token: &Token) -> bool
     ensures { result ≡ machine.begins_agg token.now }
 {
-    matches!(
-        token,
-        Token::Operator { .. } | Token::Count { .. } | Token::Fold { .. } | Token::Wsum { .. }
-    )
+    match token {
+        Token::Operator { op, .. } => is_star(*op),
+        Token::Count { .. } | Token::Fold { .. } | Token::Wsum { .. } => true,
+        _ => false,
+    }
 }
 
 // `*`, or the keyword of an aggregate.

@@ -15,6 +15,7 @@ fn first_at(expr: &WrittenExpr) -> u64
     match expr {
         WrittenExpr::Column(name) => name.at,
         WrittenExpr::Number(number) => number.at,
+        WrittenExpr::Minus { at, .. } => *at,
         WrittenExpr::Letters { at, .. } => *at,
         WrittenExpr::Brackets { at, .. } => *at,
         WrittenExpr::Cast { at, .. } => *at,

@@ -136,6 +136,10 @@ pub enum Frame {
 pub enum ExprControl {
     /// An operand.
     WantOperand,
+    /// The number behind a minus sign.
+    WantMinus {
+        at: u64,
+    },
     /// An operator, or what may stand behind an expression.
     HaveExpr {
         last: WrittenExpr,

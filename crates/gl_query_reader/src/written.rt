@@ -13,6 +13,11 @@ pub type WrittenItems = Listed<WrittenItem>;
 pub enum WrittenExpr {
     Column(Name),
     Number(Num),
+    /// A number behind a minus sign, with the place of the sign.
+    Minus {
+        at: u64,
+        number: Num,
+    },
     Letters {
         text: TextBytes,
         at: u64,

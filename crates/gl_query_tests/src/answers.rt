@@ -27,11 +27,28 @@ fn letters_of(field: &[u8], bytes: u8) -> u128 {
     }
 }
 
+// A number behind a minus sign as a word of a kind; 0 where there is no such kind.
+#[tactic(auto, using(gl_bits::proofs::KindLemmas::tested_kind))]
+fn negative_of(kind: Kind, digits: &str) -> u128 {
+    if !kind.is_kind() {
+        return 0;
+    }
+    kind.negative_word(digits.parse::<u128>().unwrap_or(0))
+}
+
+// The word of a number.
+fn number_of(kind: Kind, field: &str) -> u128 {
+    match field.strip_prefix("-") {
+        Some(digits) => negative_of(kind, digits),
+        None => field.parse::<u128>().unwrap_or(0),
+    }
+}
+
 // The value of a field.
 fn value_of(kind: Kind, field: &str) -> u128 {
     match kind {
         Kind::Text(bytes) => letters_of(field.as_bytes(), bytes),
-        Kind::Unsigned(_) => field.parse::<u128>().unwrap_or(0),
+        Kind::Unsigned(_) | Kind::Signed(_) => number_of(kind, field),
     }
 }
 
@@ -74,10 +91,20 @@ fn inputs_of(alloc: Global, schema: &Schema, given: &Given) -> Result<Listed<Tab
     Ok(inputs)
 }
 
+// Adds a number, which may be below 0.
+#[tactic(auto, using(gl_bits::proofs::KindLemmas::tested_kind))]
+fn push_number(out: &mut String, kind: Kind, value: u128) -> Result<(), AllocError> {
+    if kind.is_kind() && kind.is_below(value, 0) {
+        write!(out, "-{}", (1u128 << kind.width()).saturating_sub(value))
+    } else {
+        write!(out, "{value}")
+    }
+}
+
 // Adds a value: of a text its letters.
 fn push_value(out: &mut String, kind: Kind, value: u128) -> Result<(), AllocError> {
     match kind {
-        Kind::Unsigned(_) => write!(out, "{value}"),
+        Kind::Unsigned(_) | Kind::Signed(_) => push_number(out, kind, value),
         Kind::Text(_) => {
             for byte in value.to_be_bytes() {
                 if byte != 0 {

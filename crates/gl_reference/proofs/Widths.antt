@@ -1,18 +1,21 @@
 -- The widths of kinds, and casts by what a kind's values are.
-use Rattle.std.proofs.Common.{◌≡◌, ℕ, ◌*◌, ◌/◌, ◌%◌, ◌^◌, ◌≤◌, refl, arith}
+use Rattle.std.proofs.Common.{◌≡◌, ℕ, ◌*◌, ◌/◌, ◌^◌, ◌≤◌, refl, arith}
 use Rattle.gl_bits.specs.declared.kind.Family.TheVariants.{Numbers, Texts}
 use Rattle.gl_bits.specs.declared.kind.Kind.{Kind}
-use Rattle.gl_bits.specs.declared.kind.Kind.TheVariants.{Unsigned, Text}
-use Rattle.gl_bits.specs.Kinds.{IsKind, family_of, width_of}
+use Rattle.gl_bits.specs.declared.kind.Kind.TheVariants.{Unsigned, Signed, Text}
+use Rattle.gl_bits.specs.Kinds.{IsKind, family_of, number_of, width_of, word_of}
+use Rattle.gl_bits.proofs.KindLemmas.{kind_some}
 use Rattle.gl_bits.specs.Operators.{cast_of}
 
 pub kind_width : (kind : Kind) → IsKind kind → (1 ≤ width_of kind) × (width_of kind ≤ 128)
-kind_width kind k = (k.0, omega (arith, k.1))
+kind_width kind k = (kind_some kind k, omega (arith, k.1))
 
-pub number_cast : (from to : Kind) (x : ℕ) → family_of from ≡ Numbers → x % 2 ^ width_of to ≡ cast_of from to x
+pub number_cast : (from to : Kind) (x : ℕ) → family_of from ≡ Numbers → word_of (width_of to) (number_of from x) ≡ cast_of from to x
 number_cast (Unsigned w) to x e = refl
+number_cast (Signed w) to x e = refl
 number_cast (Text n) to x e = absurd cc
 
 pub text_cast : (from to : Kind) (x : ℕ) → family_of from ≡ Texts → x * 2 ^ width_of to / 2 ^ width_of from ≡ cast_of from to x
 text_cast (Unsigned w) to x e = absurd cc
+text_cast (Signed w) to x e = absurd cc
 text_cast (Text n) to x e = refl

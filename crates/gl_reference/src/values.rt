@@ -5,7 +5,7 @@ ghost use Rattle.std.specs.Prelude.{◌≡◌, ◌^◌, ◌<◌, IfSome, IsSome,
 ghost use Rattle.gl_bits.specs.Words.{bit as bit_of, eq_of, not_of};
 ghost use Rattle.gl_schema.specs.Schemas.{text_word};
 ghost use Rattle.gl_query.specs.Shapes.{expr_shape};
-ghost use Rattle.gl_bits.specs.Kinds.{IsKind, bytes_in, can_cast};
+ghost use Rattle.gl_bits.specs.Kinds.{IsKind, bytes_in, can_cast, negative_word};
 ghost use Rattle.gl_bits.specs.Operators.{cast_of, operate};
 ghost use Rattle.gl_query.specs.Accepted.{IsFilter};
 ghost use Rattle.gl_query.specs.Values.{IsLettersOf, value_of};
@@ -65,16 +65,30 @@ fn letters(place: Kind, text: &[u8]) -> Option<u128>
     Some(u128::from(text_number(text, bytes)))
 }
 
+/// The word of a number behind a minus sign in its kind.
+#[tactic(auto, using(gl_bits::proofs::KindLemmas::passes_test, gl_bits::proofs::KindLemmas::tested_kind))]
+fn negative(place: Kind, number: u128) -> Option<u128>
+    ensures value { IfSome result (λ v. v ≡ negative_word place number) }
+    ensures fits { IsKind place → IsSome result }
+{
+    if !place.is_kind() {
+        return None;
+    }
+    Some(place.negative_word(number))
+}
+
 /// The word of one kind as another.
-#[tactic(auto, using(crate::proofs::Widths::number_cast, crate::proofs::Widths::text_cast, gl_bits::proofs::KindLemmas::cast_kind))]
+#[tactic(auto, using(crate::proofs::Widths::kind_width, crate::proofs::Widths::number_cast, crate::proofs::Widths::text_cast, gl_bits::proofs::KindLemmas::cast_kind, gl_bits::proofs::KindLemmas::passes_test, gl_bits::proofs::KindLemmas::tested_kind))]
 fn cast(from: Kind, to: Kind, word: u128) -> Option<u128>
     ensures value { IfSome result (λ v. v ≡ cast_of from to word) }
     ensures fits { IsKind from → IsTrue (can_cast from to) → word < 2 ^ 64 → IsSome result }
 {
-    let bound = power(to.bits())?;
+    if !from.is_kind() || !to.is_kind() {
+        return None;
+    }
     match from.family() {
-        Family::Numbers => Some(word % bound),
-        Family::Texts => Some(word.checked_mul(bound)? / power(from.bits())?),
+        Family::Numbers => Some(from.resized(word, to.width())),
+        Family::Texts => Some(word.checked_mul(power(to.bits())?)? / power(from.bits())?),
     }
 }
 
@@ -112,6 +126,7 @@ pub fn value_of(columns: &[Column], place: Kind, expr: &Expr, row: &[u128]) -> O
     match expr {
         Expr::Column(name) => Some(number_at(row, column_number(columns, name.text.as_slice()))),
         Expr::Number(n) => Some(n.value),
+        Expr::Minus(n) => negative(place, n.value),
         Expr::Letters { text, .. } => letters(place, text.as_slice()),
         Expr::Not { arg, .. } => {
             let word = value_of(columns, Kind::Unsigned(1), arg, row)?;

@@ -1,7 +1,9 @@
 -- Buses that carry values of another width.
-use Rattle.std.proofs.Common.{◌≡◌, ℕ, ◌+◌, ◌-◌, ◌*◌, ◌/◌, ◌%◌, ◌^◌, ◌<◌, ◌≤◌, sym, ap, subst, ◌∙◌, arith}
+use Rattle.std.proofs.Common.{◌≡◌, ℕ, ◌+◌, ◌-◌, ◌*◌, ◌/◌, ◌%◌, ◌^◌, ◌<◌, ◌≤◌, true, false, sym, ap, subst, ◌∙◌, arith}
 use Rattle.std.proofs.Math.Nat.{mod-eq_of_lt}
+use Rattle.std.specs.Prelude.{if◌then◌else◌}
 use Rattle.gl_bits.proofs.KindLemmas.{text_cast}
+use Rattle.gl_bits.proofs.Signs.{resized_plain, resized_signed, sign_cut}
 use Rattle.gl_bits.proofs.Wrapping.{fits_wider, cut_low}
 use Rattle.gl_bits.specs.Words.{join_of}
 use Rattle.gl_net.specs.declared.node.Bus.{Bus}
@@ -10,12 +12,13 @@ use Rattle.gl_net.specs.Net.{Net, IsBus, Keeps}
 use Rattle.gl_net.proofs.Determined.{keeps_then}
 use Rattle.gl_net.proofs.Values.{bus_fits}
 use Rattle.gl_wire.specs.Costs.{CostsAtMost, nodes_alone}
-use Rattle.gl_bits.specs.Kinds.{family_of, width_of}
+use Rattle.gl_bits.specs.Kinds.{are_alike, family_of, is_signed, number_of, signed_number, width_of, word_of}
 use Rattle.gl_bits.specs.Operators.{cast_of}
+use Rattle.gl_bits.specs.declared.kind.Family.{Family}
 use Rattle.gl_bits.specs.declared.kind.Family.TheVariants.{Numbers, Texts}
 use Rattle.gl_bits.specs.declared.kind.Kind.{Kind}
-use Rattle.gl_bits.specs.declared.kind.Kind.TheVariants.{Unsigned, Text}
-use Rattle.gl_rows.specs.Made.{AreHigh, AreLow, Carries, IsCast}
+use Rattle.gl_bits.specs.declared.kind.Kind.TheVariants.{Unsigned, Signed, Text}
+use Rattle.gl_rows.specs.Made.{AreHigh, AreLow, Carries, IsCast, IsExtended, IsNumber}
 use Rattle.gl_rows.proofs.CastLemmas.{high_cut, high_join}
 use Rattle.gl_rows.proofs.MadeLemmas.{carries_as, carries_within}
 
@@ -81,22 +84,42 @@ module _ (old new : Net) (width : ℕ) (bus b : Bus) (is : IsBus old bus) (some 
     carries = λ run r t. value run r t ∙ high_cut bus.width width (run.at t bus.node) (bus_fits old bus run is (keeps.runs run r) t) some less;
   }
 
+-- ---- numbers in another width
+
+pub sign_lowest : (old new : Net) (width : ℕ) (bus b : Bus) → width ≤ bus.width → AreLow old new width bus b → IsExtended old new width bus b
+sign_lowest old new width bus b less are =
+    carries_as old new 5 width (λ run t. run.at t bus.node % 2 ^ width) (λ run t. word_of width (signed_number bus.width (run.at t bus.node))) b
+    (λ run r t. sign_cut bus.width width (run.at t bus.node) less) (carries_within old new 2 5 width (λ run t. run.at t bus.node % 2 ^ width) b (omega arith) are)
+
+pub number_plain : (old new : Net) (kind : Kind) (width : ℕ) (bus b : Bus) → is_signed kind ≡ false → AreLow old new width bus b → IsNumber old new kind width bus b
+number_plain old new kind width bus b plain are =
+    carries_as old new 5 width (λ run t. run.at t bus.node % 2 ^ width) (λ run t. word_of width (number_of kind (run.at t bus.node))) b
+    (λ run r t. resized_plain kind width (run.at t bus.node) plain) (carries_within old new 2 5 width (λ run t. run.at t bus.node % 2 ^ width) b (omega arith) are)
+
+pub number_signed : (old new : Net) (kind : Kind) (width : ℕ) (bus b : Bus) → bus.width ≡ width_of kind → is_signed kind ≡ true → IsExtended old new width bus b → IsNumber old new kind width bus b
+number_signed old new kind width bus b wide signed are =
+    carries_as old new 5 width (λ run t. word_of width (signed_number bus.width (run.at t bus.node))) (λ run t. word_of width (number_of kind (run.at t bus.node))) b
+    (λ run r t. ap (λ (w : ℕ). word_of width (signed_number w (run.at t bus.node))) wide ∙ resized_signed kind width (run.at t bus.node) signed) are
+
 -- ---- casts
 
 no_family : Texts ≡ Numbers → ⊥
 no_family e = cc
 
 -- a number as another number
-pub low_casts : (old new : Net) (bus b : Bus) (from to : Kind) (width : ℕ) → width ≡ width_of to → family_of from ≡ Numbers
-    → AreLow old new width bus b → IsCast old new from to bus b
-low_casts old new bus b (Unsigned v) to width wide numbers are =
-    carries_within old new 2 5 (width_of to) (λ run t. run.at t bus.node % 2 ^ width_of to) b (omega arith) (subst (λ (w : ℕ). AreLow old new w bus b) wide are)
-low_casts old new bus b (Text n) to width wide numbers are = absurd (no_family numbers)
+pub number_casts : (old new : Net) (bus b : Bus) (from to : Kind) (width : ℕ) → width ≡ width_of to → family_of from ≡ Numbers
+    → IsNumber old new from width bus b → IsCast old new from to bus b
+number_casts old new bus b from to width wide numbers are =
+    carries_as old new 5 (width_of to) (λ run t. word_of (width_of to) (number_of from (run.at t bus.node))) (λ run t. cast_of from to (run.at t bus.node)) b
+    (λ run r t. sym (ap (λ (f : Family). if are_alike f Numbers then word_of (width_of to) (number_of from (run.at t bus.node))
+    else run.at t bus.node * 2 ^ width_of to / 2 ^ width_of from) numbers))
+    (subst (λ (w : ℕ). IsNumber old new from w bus b) wide are)
 
 -- a text as another text
 pub high_casts : (old new : Net) (bus b : Bus) (from to : Kind) (width : ℕ) → width ≡ width_of to → family_of from ≡ Texts → bus.width ≡ width_of from
     → AreHigh old new width bus b → IsCast old new from to bus b
 high_casts old new bus b (Unsigned v) to width wide texts same are = absurd (no_family (sym texts))
+high_casts old new bus b (Signed v) to width wide texts same are = absurd (no_family (sym texts))
 high_casts old new bus b (Text n) to width wide texts same are =
     carries_within old new 2 5 (width_of to) (λ run t. cast_of (Text n) to (run.at t bus.node)) b (omega arith)
     (carries_as old new 2 (width_of to) (λ run t. run.at t bus.node / 2 ^ (bus.width - width_of to) * 2 ^ (width_of to - bus.width))

@@ -1,43 +1,63 @@
 -- A gate that takes two buses of a kind, as an operator.
-use Rattle.std.proofs.Common.{◌≡◌, ℕ, true, false, ap, ◌∙◌, arith}
-use Rattle.gl_bits.specs.Kinds.{width_of}
-use Rattle.gl_bits.specs.Operators.{sort_of}
+use Rattle.std.proofs.Common.{◌≡◌, ℕ, ◌^◌, ◌<◌, true, false, refl, sym, ap, subst, ◌∙◌, arith}
+use Rattle.std.specs.Prelude.{Bool, if◌then◌else◌}
+use Rattle.gl_bits.specs.Kinds.{is_signed, width_of}
+use Rattle.gl_bits.specs.Operators.{operate, result_kind, sort_of}
 use Rattle.gl_bits.specs.declared.kind.Kind.{Kind}
+use Rattle.gl_bits.specs.declared.kind.Kind.TheVariants.{Unsigned, Signed, Text}
 use Rattle.gl_bits.specs.declared.op.Op.{Op}
 use Rattle.gl_algebra.specs.Columns.{SortFits}
 use Rattle.gl_net.specs.declared.node.Bus.{Bus}
-use Rattle.gl_net.specs.Builds.{IsBinary}
-use Rattle.gl_net.specs.Net.{Net, IsBus, Keeps, binary_of, binary_width}
-use Rattle.gl_wire.specs.Costs.{CostsAtMost, nodes_alone}
-use Rattle.gl_rows.specs.Gates.{gate_of, is_turned}
-use Rattle.gl_rows.specs.Made.{IsOperated}
-use Rattle.gl_rows.proofs.GateLemmas.{gate_value, gate_width, turned_value}
+use Rattle.gl_net.specs.Net.{Net, IsBus, binary_of, binary_width}
+use Rattle.gl_net.proofs.Values.{bus_fits}
+use Rattle.gl_rows.specs.Gates.{gate_of, gated, is_order, is_turned}
+use Rattle.gl_rows.specs.Made.{IsGated, IsGatedTurned, IsOperated}
+use Rattle.gl_rows.proofs.GateLemmas.{gate_width, ordered_value, plain_value, unordered_value}
 
-module _ (old new : Net) (op : Op) (kind : Kind) (left right b : Bus) (fits : SortFits (sort_of op) kind) (keeps : Keeps old new)
-    (cost : CostsAtMost old new (nodes_alone 1)) (there : IsBus new b) where
-  within : CostsAtMost old new (nodes_alone 4)
-  within = record { nodes = omega (arith, cost.nodes); registers = cost.registers; memories = cost.memories }
+-- which operand the gate takes first
+pub gated_plain : (op : Op) (w x y : ℕ) → is_turned op ≡ false → binary_of (gate_of op) w x y ≡ gated op w x y
+gated_plain op w x y t = sym (ap (λ (b : Bool). if b then binary_of (gate_of op) w y x else binary_of (gate_of op) w x y) t)
 
-  pub operated : is_turned op ≡ false → left.width ≡ width_of kind → b.width ≡ binary_width (gate_of op) left.width
-      → IsBinary new (gate_of op) left right b → IsOperated old new op kind left right b
-  operated plain wide same value = record {
-    keeps = keeps;
-    cost = within;
-    bus = there;
-    same_width = same ∙ ap (binary_width (gate_of op)) wide ∙ gate_width op kind fits;
+pub gated_around : (op : Op) (w x y : ℕ) → is_turned op ≡ true → binary_of (gate_of op) w y x ≡ gated op w x y
+gated_around op w x y t = sym (ap (λ (b : Bool). if b then binary_of (gate_of op) w y x else binary_of (gate_of op) w x y) t)
+
+module _ (old new : Net) (op : Op) (kind : Kind) (left right b : Bus) (fits : SortFits (sort_of op) kind) (wide : left.width ≡ width_of kind) where
+  out_width : binary_width (gate_of op) left.width ≡ width_of (result_kind (sort_of op) kind)
+  out_width = ap (binary_width (gate_of op)) wide ∙ gate_width op kind fits
+
+  by_gate : ((x y : ℕ) → gated op (width_of kind) x y ≡ operate op kind x y) → IsGated old new op left right b → IsOperated old new op kind left right b
+  by_gate same one = record {
+    keeps = one.keeps;
+    cost = record { nodes = omega (arith, one.cost.nodes); registers = one.cost.registers; memories = one.cost.memories };
+    bus = one.bus;
+    same_width = one.same_width ∙ out_width;
     carries = λ run r t.
-        value run r t ∙ ap (λ (w : ℕ). binary_of (gate_of op) w (run.at t left.node) (run.at t right.node)) wide
-        ∙ gate_value op kind (run.at t left.node) (run.at t right.node) plain;
+        one.carries run r t ∙ ap (λ (w : ℕ). gated op w (run.at t left.node) (run.at t right.node)) wide ∙ same (run.at t left.node) (run.at t right.node);
   }
 
-  pub turned : is_turned op ≡ true → right.width ≡ width_of kind → b.width ≡ binary_width (gate_of op) right.width
-      → IsBinary new (gate_of op) right left b → IsOperated old new op kind left right b
-  turned around wide same value = record {
-    keeps = keeps;
-    cost = within;
-    bus = there;
-    same_width = same ∙ ap (binary_width (gate_of op)) wide ∙ gate_width op kind fits;
-    carries = λ run r t.
-        value run r t ∙ ap (λ (w : ℕ). binary_of (gate_of op) w (run.at t right.node) (run.at t left.node)) wide
-        ∙ turned_value op kind (run.at t left.node) (run.at t right.node) around;
-  }
+  pub plain_operates : is_signed kind ≡ false → IsGated old new op left right b → IsOperated old new op kind left right b
+  plain_operates plain = by_gate (λ x y. plain_value op kind x y plain)
+
+  pub unordered_operates : is_order op ≡ false → IsGated old new op left right b → IsOperated old new op kind left right b
+  unordered_operates plain = by_gate (λ x y. unordered_value op kind x y plain)
+
+-- an order of numbers with a sign
+pub turned_operates : (old new : Net) (op : Op) (left right b : Bus) → SortFits (sort_of op) (Signed left.width) → IsBus old left → IsBus old right → left.width ≡ right.width
+    → is_order op ≡ true → IsGatedTurned old new op left right b → IsOperated old new op (Signed left.width) left right b
+turned_operates old new op left right b fits first second same order one = record {
+  keeps = one.keeps;
+  cost = one.cost;
+  bus = one.bus;
+  same_width = one.same_width ∙ gate_width op (Signed left.width) fits;
+  carries = λ run r t.
+      let before = one.keeps.runs run r in
+      one.carries run r t
+      ∙ ordered_value op left.width (run.at t left.node) (run.at t right.node) order first.width.some' (bus_fits old left run first before t)
+      (subst (λ (w : ℕ). run.at t right.node < 2 ^ w) (sym same) (bus_fits old right run second before t));
+}
+
+-- a kind with a sign
+pub signed_kind : (kind : Kind) → is_signed kind ≡ true → Signed (width_of kind) ≡ kind
+signed_kind (Unsigned w) e = absurd cc
+signed_kind (Signed w) e = refl
+signed_kind (Text n) e = absurd cc

@@ -1,8 +1,9 @@
 -- The gate of each operator, and whether it takes the right operand first: there is no gate for > and >=.
-use Rattle.std.specs.Prelude.{Bool, true, false}
+use Rattle.std.specs.Prelude.{ℕ, ◌-◌, ◌^◌, Bool, true, false, bit_xor, if◌then◌else◌}
 use Rattle.gl_bits.specs.declared.op.Op.{Op}
 use Rattle.gl_net.specs.declared.node.BinaryOp.{BinaryOp}
 use Rattle.gl_net.specs.declared.node.BinaryOp.TheVariants as Gate
+use Rattle.gl_net.specs.Net.{binary_of}
 
 abbrev pub gate_of : Op → BinaryOp
 gate_of Op.Add = Gate.Add
@@ -29,3 +30,25 @@ is_turned Op.Gt = true
 is_turned Op.Ge = true
 is_turned Op.And = false
 is_turned Op.Or = false
+
+-- what it gives of two words of a width
+abbrev pub gated : Op → ℕ → ℕ → ℕ → ℕ
+gated op width x y = if is_turned op then binary_of (gate_of op) width y x else binary_of (gate_of op) width x y
+
+-- whether an operator orders its operands
+abbrev pub is_order : Op → Bool
+is_order Op.Add = false
+is_order Op.Sub = false
+is_order Op.Mul = false
+is_order Op.Eq = false
+is_order Op.Ne = false
+is_order Op.Lt = true
+is_order Op.Le = true
+is_order Op.Gt = true
+is_order Op.Ge = true
+is_order Op.And = false
+is_order Op.Or = false
+
+-- a word of a width whose highest bit is turned
+abbrev pub top_turned : ℕ → ℕ → ℕ
+top_turned width x = bit_xor x (2 ^ (width - 1))

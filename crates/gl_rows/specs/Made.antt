@@ -1,6 +1,6 @@
 -- What is made of columns: buses that carry values of a run, in every cycle.
 use Rattle.std.specs.Prelude.{◌≡◌, ℕ, ◌-◌, ◌*◌, ◌/◌, ◌%◌, ◌^◌, List, length, map}
-use Rattle.gl_bits.specs.Kinds.{width_of}
+use Rattle.gl_bits.specs.Kinds.{number_of, signed_number, width_of, word_of}
 use Rattle.gl_bits.specs.Results.{Row}
 use Rattle.gl_bits.specs.declared.kind.Kind.{Kind}
 use Rattle.gl_algebra.specs.declared.node.ColOp.{ColOp}
@@ -10,7 +10,8 @@ use Rattle.gl_algebra.specs.Values.{value_of_op, value_of_operand}
 use Rattle.gl_bits.specs.declared.op.Op.{Op}
 use Rattle.gl_bits.specs.Operators.{cast_of, operate, result_kind, sort_of}
 use Rattle.gl_net.specs.declared.node.Bus.{Bus}
-use Rattle.gl_net.specs.Net.{Net, Run, IsRun, IsBus, Keeps}
+use Rattle.gl_net.specs.Net.{Net, Run, IsRun, IsBus, Keeps, binary_width}
+use Rattle.gl_rows.specs.Gates.{gate_of, gated, top_turned}
 use Rattle.gl_wire.specs.Costs.{CostsAtMost, nodes_alone}
 use Rattle.gl_wire.specs.Wire.{AreBuses, row_at, widths}
 
@@ -64,6 +65,28 @@ abbrev pub IsOperated : Net → Net → Op → Kind → Bus → Bus → Bus → 
 IsOperated old new op kind left right b =
     Carries old new 4 (width_of (result_kind (sort_of op) kind))
     (λ run t. operate op kind (run.at t left.node) (run.at t right.node)) b
+
+-- what an operator's gate gives of two buses
+abbrev pub IsGated : Net → Net → Op → Bus → Bus → Bus → Type 0
+IsGated old new op left right b =
+    Carries old new 1 (binary_width (gate_of op) left.width)
+    (λ run t. gated op left.width (run.at t left.node) (run.at t right.node)) b
+
+-- the same, with the highest bit of both turned
+abbrev pub IsGatedTurned : Net → Net → Op → Bus → Bus → Bus → Type 0
+IsGatedTurned old new op left right b =
+    Carries old new 4 (binary_width (gate_of op) left.width)
+    (λ run t. gated op left.width (top_turned left.width (run.at t left.node)) (top_turned left.width (run.at t right.node))) b
+
+-- the word of a width that stands for a bus's number in two's complement
+abbrev pub IsExtended : Net → Net → ℕ → Bus → Bus → Type 0
+IsExtended old new width bus b =
+    Carries old new 5 width (λ run t. word_of width (signed_number bus.width (run.at t bus.node))) b
+
+-- the word of a width that stands for a bus's number, where a kind says whether it has a sign
+abbrev pub IsNumber : Net → Net → Kind → ℕ → Bus → Bus → Type 0
+IsNumber old new kind width bus b =
+    Carries old new 5 width (λ run t. word_of width (number_of kind (run.at t bus.node))) b
 
 -- the lowest bits of a bus, or all of them with zero bits above
 abbrev pub AreLow : Net → Net → ℕ → Bus → Bus → Type 0

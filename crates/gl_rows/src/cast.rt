@@ -1,10 +1,10 @@
 //! Casts.
 
-ghost use Rattle.std.specs.Prelude.{◌≡◌, ◌<◌, IfOk, IsTrue};
+ghost use Rattle.std.specs.Prelude.{◌≡◌, ◌-◌, ◌^◌, ◌<◌, IfOk, IsTrue};
 ghost use Rattle.gl_bits.specs.Kinds.{can_cast, width_of};
 ghost use Rattle.gl_bits.specs.Words.{IsWidth};
 ghost use Rattle.gl_net.specs.Net.{IsBus};
-ghost use Rattle.gl_rows.specs.Made.{AreHigh, AreLow, Carries, IsCast};
+ghost use Rattle.gl_rows.specs.Made.{AreHigh, AreLow, Carries, IsCast, IsExtended, IsNumber};
 
 use gl_bits::{Family, Kind, Memory, Word};
 use gl_net::{Bus, NetBuilder};
@@ -78,7 +78,57 @@ pub fn high_bits(net: &mut NetBuilder, bus: Bus, width: u8) -> Result<Bus, Memor
     Ok(high)
 }
 
-/// A value of a kind as another one: a number's lowest bits, a text's first bytes.
+// The word whose bits are all 1.
+#[tactic(auto, unfolding(gl_bits::specs::Words::not_of))]
+fn ones_word(width: u8) -> Word
+    requires { IsWidth width }
+    ensures bits { result.bits ≡ 2 ^ width - 1 }
+    ensures width { result.width ≡ width }
+{
+    zero_word(width).not()
+}
+
+// The bus with bits like its highest one above it, to this width.
+fn sign_above(net: &mut NetBuilder, bus: Bus, width: u8) -> Result<Bus, Memory>
+    requires bus { IsBus net.old bus }
+    requires width { IsWidth width }
+    requires more { bus.width < width }
+    ensures { IfOk result (IsExtended net.old net.new width bus) }
+{
+    let sign = net.cut(bus, bus.width - 1, bus.width - 1)?;
+    let ones = net.constant(ones_word(width - bus.width))?;
+    let zeros = put_zeros(net, width - bus.width)?;
+    let above = net.choose(sign.bit(), ones, zeros)?;
+    let joined = net.join(above, bus)?;
+    Ok(joined)
+}
+
+// A number with a sign in another width.
+fn put_signed(net: &mut NetBuilder, bus: Bus, width: u8) -> Result<Bus, Memory>
+    requires bus { IsBus net.old bus }
+    requires width { IsWidth width }
+    ensures { IfOk result (IsExtended net.old net.new width bus) }
+{
+    if bus.width < width {
+        return sign_above(net, bus, width);
+    }
+    low_bits(net, bus, width)
+}
+
+/// The word of a width that stands for the number of a kind, which keeps its sign where it has one.
+pub fn put_number(net: &mut NetBuilder, bus: Bus, kind: Kind, width: u8) -> Result<Bus, Memory>
+    requires bus { IsBus net.old bus }
+    requires same_width { bus.width ≡ width_of kind }
+    requires width { IsWidth width }
+    ensures { IfOk result (IsNumber net.old net.new kind width bus) }
+{
+    if kind.is_signed() {
+        return put_signed(net, bus, width);
+    }
+    low_bits(net, bus, width)
+}
+
+/// A value of a kind as another one: a number that keeps its sign, or its lowest bits; a text's first bytes.
 #[tactic(auto, using(gl_bits::proofs::KindLemmas::cast_kind))]
 pub fn put_cast(net: &mut NetBuilder, bus: Bus, from: Kind, to: Kind) -> Result<Bus, Memory>
     requires bus { IsBus net.old bus }
@@ -87,7 +137,7 @@ pub fn put_cast(net: &mut NetBuilder, bus: Bus, from: Kind, to: Kind) -> Result<
     ensures { IfOk result (IsCast net.old net.new from to bus) }
 {
     match from.family() {
-        Family::Numbers => low_bits(net, bus, to.width()),
+        Family::Numbers => put_number(net, bus, from, to.width()),
         Family::Texts => high_bits(net, bus, to.width()),
     }
 }

@@ -1,19 +1,21 @@
 //! What operations carry.
 
-ghost use Rattle.std.specs.Prelude.{◌≡◌, All, IfOk};
+ghost use Rattle.std.specs.Prelude.{◌≡◌, ◌-◌, ◌^◌, All, IfOk};
 ghost use Rattle.gl_algebra.specs.Columns.{OpFits, SortFits};
 ghost use Rattle.gl_bits.specs.Kinds.{width_of};
 ghost use Rattle.gl_bits.specs.Operators.{sort_of};
 ghost use Rattle.gl_net.specs.Net.{IsBus};
 ghost use Rattle.gl_algebra.specs.declared.node.ColOp.TheVariants.{Binary, Cast, Not};
-ghost use Rattle.gl_rows.specs.Gates.{gate_of, is_turned};
-ghost use Rattle.gl_rows.specs.Made.{AreOperations, IsOperated, IsOperation, IsSource};
+ghost use Rattle.gl_bits.specs.Words.{IsWidth};
+ghost use Rattle.gl_bits.specs.declared.kind.Kind.TheVariants.{Signed};
+ghost use Rattle.gl_rows.specs.Gates.{gate_of, is_order, is_turned};
+ghost use Rattle.gl_rows.specs.Made.{AreOperations, IsGated, IsGatedTurned, IsOperated, IsOperation, IsSource};
 
 use crate::cast::put_cast;
 use crate::operand::{Source, put_operand};
 use gl_algebra::columns::kind_of_operand;
 use gl_algebra::{ColOp, Operand};
-use gl_bits::{Kind, Memory, Op};
+use gl_bits::{Kind, Memory, Op, Word};
 use gl_net::{BinaryOp, Bus, Buses, NetBuilder};
 use std::alloc::Global;
 
@@ -44,6 +46,70 @@ fn is_turned(op: Op) -> bool
     }
 }
 
+// Whether an operator orders its operands.
+fn is_order(op: Op) -> bool
+    ensures { result ≡ is_order op }
+{
+    match op {
+        Op::Lt | Op::Le | Op::Gt | Op::Ge => true,
+        Op::Add | Op::Sub | Op::Mul | Op::Eq | Op::Ne | Op::And | Op::Or => false,
+    }
+}
+
+// What the gate of an operator gives of two buses.
+fn put_gate(net: &mut NetBuilder, op: Op, left: Bus, right: Bus) -> Result<Bus, Memory>
+    requires left { IsBus net.old left }
+    requires right { IsBus net.old right }
+    requires widths { left.width ≡ right.width }
+    ensures { IfOk result (IsGated net.old net.new op left right) }
+{
+    if is_turned(op) {
+        let bus = net.binary(gate_of(op), right, left)?;
+        return Ok(bus);
+    }
+    // Named, since a goal speaks of the value.
+    let bus = net.binary(gate_of(op), left, right)?;
+    Ok(bus)
+}
+
+// The word whose highest bit alone is 1.
+fn top_word(width: u8) -> Word
+    requires { IsWidth width }
+    ensures bits { result.bits ≡ 2 ^ (width - 1) }
+    ensures width { result.width ≡ width }
+{
+    Word::new(1u128 << (width - 1), width).unwrap()
+}
+
+// What the gate gives of two buses with the highest bit of both turned: so numbers with a sign compare.
+fn put_turned(net: &mut NetBuilder, op: Op, left: Bus, right: Bus) -> Result<Bus, Memory>
+    requires left { IsBus net.old left }
+    requires right { IsBus net.old right }
+    requires widths { left.width ≡ right.width }
+    ensures { IfOk result (IsGatedTurned net.old net.new op left right) }
+{
+    let top = net.constant(top_word(left.width))?;
+    let first = net.binary(BinaryOp::Xor, left, top)?;
+    let second = net.binary(BinaryOp::Xor, right, top)?;
+    // Named, since a goal speaks of the value.
+    let bus = put_gate(net, op, first, second)?;
+    Ok(bus)
+}
+
+// What an operator gives of two buses with a sign.
+fn put_signed(net: &mut NetBuilder, op: Op, left: Bus, right: Bus) -> Result<Bus, Memory>
+    requires left { IsBus net.old left }
+    requires right { IsBus net.old right }
+    requires widths { left.width ≡ right.width }
+    requires fits { SortFits (sort_of op) (Signed left.width) }
+    ensures { IfOk result (IsOperated net.old net.new op (Signed left.width) left right) }
+{
+    if is_order(op) {
+        return put_turned(net, op, left, right);
+    }
+    put_gate(net, op, left, right)
+}
+
 /// What an operator gives of two buses of a kind.
 pub fn put_operator(
     net: &mut NetBuilder,
@@ -59,15 +125,10 @@ pub fn put_operator(
     requires fits { SortFits (sort_of op) kind }
     ensures { IfOk result (IsOperated net.old net.new op kind left right) }
 {
-    // Named, since the clauses alone speak of it.
-    let _ = kind;
-    if is_turned(op) {
-        let bus = net.binary(gate_of(op), right, left)?;
-        return Ok(bus);
+    if kind.is_signed() {
+        return put_signed(net, op, left, right);
     }
-    // Named, since a goal speaks of the value.
-    let bus = net.binary(gate_of(op), left, right)?;
-    Ok(bus)
+    put_gate(net, op, left, right)
 }
 
 // The other bit.

@@ -1,5 +1,6 @@
 //! Kinds, and values of them: numbers in decimal, texts by their letters.
 
+use crate::fits::is_kind;
 use gl_bits::Kind;
 use std::alloc::AllocError;
 
@@ -10,9 +11,10 @@ fn small_of(text: &str) -> u8 {
 
 /// A kind; one without bits, which is none, where the text names none.
 pub fn kind_of(text: &str) -> Kind {
-    match text.strip_prefix("text") {
-        Some(bytes) => Kind::Text(small_of(bytes)),
-        None => Kind::Unsigned(small_of(text.strip_prefix("u").unwrap_or(""))),
+    match (text.strip_prefix("text"), text.strip_prefix("s")) {
+        (Some(bytes), _) => Kind::Text(small_of(bytes)),
+        (None, Some(width)) => Kind::Signed(small_of(width)),
+        (None, None) => Kind::Unsigned(small_of(text.strip_prefix("u").unwrap_or(""))),
     }
 }
 
@@ -26,18 +28,46 @@ fn letters_of(text: &str, bytes: u8) -> u128 {
     number
 }
 
+// A number behind a minus sign as a word of a kind; 0 where there is no such kind.
+fn negative_of(kind: Kind, digits: &str) -> u128 {
+    if !is_kind(kind) {
+        return 0;
+    }
+    kind.negative_word(digits.parse::<u128>().unwrap_or(0))
+}
+
+// The word of a number.
+fn number_of(kind: Kind, text: &str) -> u128 {
+    match text.strip_prefix("-") {
+        Some(digits) => negative_of(kind, digits),
+        None => text.parse::<u128>().unwrap_or(0),
+    }
+}
+
 /// A value of a kind; 0 where the text tells none.
 pub fn value_of(kind: Kind, text: &str) -> u128 {
     match kind {
         Kind::Text(bytes) => letters_of(text.trim_matches('\''), bytes),
-        Kind::Unsigned(_) => text.parse::<u128>().unwrap_or(0),
+        Kind::Unsigned(_) | Kind::Signed(_) => number_of(kind, text),
+    }
+}
+
+// Adds a number, which may be below 0; that of the word where there is no kind.
+fn push_number(out: &mut String, kind: Option<Kind>, value: u128) -> Result<(), AllocError> {
+    let Some(kind) = kind else {
+        return write!(out, "{value}");
+    };
+    if is_kind(kind) && kind.is_below(value, 0) {
+        write!(out, "-{}", (1u128 << kind.width()).saturating_sub(value))
+    } else {
+        write!(out, "{value}")
     }
 }
 
 /// Adds a value: the letters of a text, else a number.
 pub fn push_value(out: &mut String, kind: Option<Kind>, value: u128) -> Result<(), AllocError> {
     let Some(Kind::Text(_)) = kind else {
-        return write!(out, "{value}");
+        return push_number(out, kind, value);
     };
     out.push_str("'")?;
     for byte in value.to_be_bytes() {

@@ -1,10 +1,10 @@
 //! What stands in a row: two kinds, a block, and beats.
 //!
-//! A kind is `u1` to `u64`, `text1` to `text8`; for the divider the widths go to `u128`. A block is `compute OP..`, `select` (by the first
-//! column), `project OPERAND..`, `totals AGGREGATE..`, `table AGGREGATE..` (for the slots of a lane, see `table_of`), `pad CYCLES` or
-//! `divide`. An operand is the column `a` or `b`, or a literal `KIND#VALUE`; an operation `add:a,b`, `cast:a,u16`, `not:a`; an aggregate
-//! `count`, `sum:a`, `wsum:a,1,2,4`. A beat is a row `200,'ab'`, a row with the end `200,'ab'!`, columns without their row `?200,'ab'` or
-//! `?200,'ab'!`, the end alone `!`, or nothing `-`.
+//! A kind is `u1` to `u64`, `s2` to `s64`, `text1` to `text8`; for the divider the widths go to `u128`. A block is `compute OP..`, `select` (by
+//! the first column), `project OPERAND..`, `totals AGGREGATE..`, `table AGGREGATE..` (for the slots of a lane, see `table_of`), `pad CYCLES` or
+//! `divide`. An operand is the column `a` or `b`, or a literal `KIND#VALUE`, whose value may have a minus sign; an operation `add:a,b`,
+//! `cast:a,u16`, `not:a`; an aggregate `count`, `sum:a`, `wsum:a,1,2,4`. A beat is a row `200,'ab'`, a row with the end `200,'ab'!`, columns
+//! without their row `?200,'ab'` or `?200,'ab'!`, the end alone `!`, or nothing `-`.
 
 use crate::beats::Beat;
 use crate::circuit::{Circuit, circuit_of, divider_of, padded_of, table_of};

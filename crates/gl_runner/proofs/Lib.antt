@@ -1,5 +1,3 @@
-pub mod Rows
-pub mod Puts
 pub mod Making
 pub mod Running
 pub mod Each

@@ -21,11 +21,12 @@ use Rattle.gl_verilog.specs.Evaluate.{nets_of}
 use Rattle.gl_verilog.specs.Runnable.{inputs_of, FitInputs, HasInputs, SameNets}
 use Rattle.gl_verilog.specs.Widths.{width_at}
 use Rattle.gl_sim.specs.Simulation.{Simulation, IsAt, Shows as SimShows}
-use Rattle.gl_runner.specs.declared.sampling.Sample.{Sample}
+use Rattle.gl_lines.specs.declared.lines.Sample.{Sample}
 use Rattle.gl_testbench.specs.declared.pins.Pin.{Pin}
 use Rattle.gl_testbench.specs.Benches.{columns_from}
 use Rattle.gl_testbench.specs.Carried.{pin_at, at_reset, with_beat}
-use Rattle.gl_runner.specs.Cycles.{CanFollow, IsFollowed, IsMade, sampled}
+use Rattle.gl_runner.specs.Cycles.{CanFollow, IsFollowed, IsMade}
+use Rattle.gl_lines.specs.Pieces.{sampled}
 use Rattle.gl_verilog_ports.specs.Profile.{ports_of, result_names, result_widths}
 use Rattle.gl_testbench.proofs.Inputs.{carried_at, inputs_fit, run_has_inputs}
 use Rattle.gl_testbench.proofs.Outputs.{columns_read, columns_widths, columns_fit, same_shown}

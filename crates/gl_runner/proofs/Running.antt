@@ -17,8 +17,9 @@ use Rattle.gl_verilog.specs.declared.module.Module.{Module as Rust}
 use Rattle.gl_verilog.specs.Run.{port_of}
 use Rattle.gl_verilog.specs.View.{module_of}
 use Rattle.gl_sim.specs.Simulation.{Simulation}
-use Rattle.gl_runner.specs.declared.sampling.Sample.{Sample}
-use Rattle.gl_runner.specs.Cycles.{Advances, Driven, IsAhead, IsBefore, IsFollowed, IsMade, design_of, sampled}
+use Rattle.gl_lines.specs.declared.lines.Sample.{Sample}
+use Rattle.gl_runner.specs.Cycles.{Advances, Driven, IsAhead, IsBefore, IsFollowed, IsMade, design_of}
+use Rattle.gl_lines.specs.Pieces.{sampled}
 use Rattle.gl_runner.specs.Traces.{IsLastRun, TracesFront, TracesToEnd, TracesOut}
 use Rattle.gl_verilog_ports.specs.Profile.{result_names}
 

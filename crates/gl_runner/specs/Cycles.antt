@@ -1,13 +1,13 @@
 -- A module that is driven through the cycles of a file: what stands around it, what a cycle shows, and where it then
 -- is.
-use Rattle.std.specs.Prelude.{◌≡◌, ℕ, ◌+◌, ◌≤◌, ◌^◌, Bool, false, List, [], Some, None, map, length, if◌then◌else◌}
+use Rattle.std.specs.Prelude.{◌≡◌, ℕ, ◌+◌, ◌≤◌, ◌^◌, Bool, List, map, length}
 use Rattle.std.specs.List.{AllByRecursion}
 use Rattle.gl_bits.specs.declared.kind.Kind.{Kind}
 use Rattle.gl_bits.specs.Kinds.{IsKind, width_of}
 use Rattle.gl_schema.specs.declared.schema.Schema.{Schema}
 use Rattle.gl_schema.specs.Beats.{Beat, AreBeats}
 use Rattle.gl_schema.specs.Ports.{PortValues, IsStimulus}
-use Rattle.gl_schema.specs.Seen.{Shown, shown, row_line, overflow_line, end_line, cycle_lines}
+use Rattle.gl_schema.specs.Seen.{shown, cycle_lines}
 use Rattle.gl_verilog.specs.Module.{Module, Nets, Memories}
 use Rattle.gl_verilog.specs.Run.{IsRun, port_of, input_values}
 use Rattle.gl_verilog.specs.Evaluate.{nets_of}
@@ -16,7 +16,8 @@ use Rattle.gl_verilog.specs.Valid.{IsValid}
 use Rattle.gl_sim.specs.Simulation.{Simulation, IsAt}
 use Rattle.gl_verilog_orders.specs.declared.start.Start.{Start}
 use Rattle.gl_bits.specs.Words.{Word, widths_of}
-use Rattle.gl_runner.specs.declared.sampling.Sample.{Sample}
+use Rattle.gl_lines.specs.declared.lines.Sample.{Sample}
+use Rattle.gl_lines.specs.Pieces.{sampled}
 use Rattle.gl_testbench.specs.declared.pins.Pin.{Pin}
 use Rattle.gl_testbench.specs.declared.pins.Shows.{Shows}
 use Rattle.gl_testbench.specs.Benches.{IsBench}
@@ -31,21 +32,6 @@ use Rattle.gl_verilog_ports.specs.Profile.{FitsSchema, HasInputPorts, result_nam
 -- what a simulator has on its ports
 abbrev pub port_by : Simulation → PortValues
 port_by s = port_of (module_of s.design) (λ t. nets_of s.shown)
-
--- a cycle that shows this, with this row on the columns
-abbrev pub sampled : Sample → ℕ → List ℕ → Shown
-sampled s n row =
-    record { cycle = n; row = if s.valid then Some row else None; end = s.end; group = s.group; queue = false }
-
--- the lines that are due in a cycle
-abbrev pub overflow_if : Bool → ℕ → List ℕ
-overflow_if due n = if due then overflow_line n else []
-
-abbrev pub row_if : Bool → List Kind → ℕ → List ℕ → List ℕ
-row_if due kinds n row = row_line kinds n (if due then Some row else None)
-
-abbrev pub end_if : Bool → ℕ → List ℕ
-end_if due n = if due then end_line n else []
 
 -- the module is valid and each of its inputs is a port, its ports are those of the schema and of the result, and the
 -- beats are the schema's

@@ -10,21 +10,10 @@ ghost use Rattle.gl_verilog.specs.Evaluate.{nets_of};
 ghost use Rattle.gl_testbench.specs.Benches.{AreShows};
 ghost use Rattle.gl_runner.specs.Cycles.{port_by};
 
-use crate::lines::set_value;
 use gl_bits::Row;
+use gl_lines::{Sample, set_value};
 use gl_sim::Sim;
 use gl_testbench::Shows;
-
-/// What a cycle shows, beside the columns.
-#[derive(Clone, Copy, PartialEq, Eq, Debug)]
-pub struct Sample {
-    /// A further group came.
-    pub group: bool,
-    /// A row leaves.
-    pub valid: bool,
-    /// The end is there.
-    pub end: bool,
-}
 
 // Whether a port is there and shows 1.
 fn is_high(sim: &Sim, port: Option<usize>) -> bool

@@ -7,14 +7,14 @@ use Rattle.std.proofs.lemmas.Bool.{agree_below_at, and_parts, or_cases, eqb-true
 use Rattle.std.proofs.lemmas.Slice.Eq.{bytes_eq-Decides}
 use Rattle.std.proofs.lemmas.Bool.Decides.{nat_tests}
 use Rattle.gl_bits.specs.declared.kind.Kind.{Kind}
-use Rattle.gl_bits.specs.declared.kind.Kind.TheVariants.{Unsigned, Text}
+use Rattle.gl_bits.specs.declared.kind.Kind.TheVariants.{Unsigned, Signed, Text}
 use Rattle.gl_bits.specs.Kinds.{IsKind, is_kind}
 use Rattle.gl_bits.specs.Operators.{same_kind}
 use Rattle.gl_bits.proofs.KindLemmas.{equal_kinds, kinds_equal, tested_kind}
 use Rattle.gl_schema.specs.SchemaText.{kind_text, row_of, size_in}
 use Rattle.gl_schema.specs.SchemaFaults.{kind_named}
-use Rattle.gl_schema.specs.Written.{Written, is_written, kinds, numbers, texts}
-use Rattle.gl_schema.specs.KindReading.{kind_read, text_read, small_number, sized}
+use Rattle.gl_schema.specs.Written.{Written, is_written, kinds, numbers, signed_numbers, texts}
+use Rattle.gl_schema.specs.KindReading.{kind_read, signed_read, text_read, small_number, sized}
 
 -- the answer is this kind
 answers : Kind → Option Kind → Bool
@@ -77,9 +77,17 @@ kind_is_read k w = answers-true k (kind_read (kind_text k)) (of_each (λ (k : Ki
 past_zero : (n : ℕ) (b : Bool) → 1 ≤ n → ((n == 0) || b) ≡ true → b ≡ true
 past_zero n b low h = elim (or_cases (n == 0) b h) [ inl z ↦ absurd (let e = eqb-true n 0 z in omega arith) | inr t ↦ t ]
 
+-- nor does one that is above 1
+past_one : (n : ℕ) (b : Bool) → 2 ≤ n → (nat_le n 1 || b) ≡ true → b ≡ true
+past_one n b low h = elim (or_cases (nat_le n 1) b h) [ inl z ↦ absurd (let e = leb-true n 1 z in omega arith) | inr t ↦ t ]
+
 unsigned_written : (n : ℕ) → 1 ≤ n → n ≤ 64 → IsTrue (is_written (Unsigned n))
 unfolding is_written kinds
 unsigned_written n low high = past_zero n _ low (agree_below_at (λ n. (n == 0) || is_written (Unsigned n)) (λ _. true) 65 n refl (omega arith))
+
+signed_written : (n : ℕ) → 2 ≤ n → n ≤ 64 → IsTrue (is_written (Signed n))
+unfolding is_written kinds
+signed_written n low high = past_one n _ low (agree_below_at (λ n. nat_le n 1 || is_written (Signed n)) (λ _. true) 65 n refl (omega arith))
 
 text_written : (n : ℕ) → 1 ≤ n → n ≤ 8 → IsTrue (is_written (Text n))
 unfolding is_written kinds
@@ -94,8 +102,15 @@ pub unsigned_row : (w : ℕ) → row_of (Unsigned w) ≡ numbers
 unfolding row_of
 unsigned_row w =
     let one : w / 1 ≡ w = omega arith in
-    picked (λ row. same_kind (row.make (size_in row (Unsigned w))) (Unsigned w)) numbers numbers (texts ∷ [])
+    picked (λ row. same_kind (row.make (size_in row (Unsigned w))) (Unsigned w)) numbers numbers (signed_numbers ∷ texts ∷ [])
     (equal_kinds (Unsigned (w / 1)) (Unsigned w) (ap Unsigned one))
+
+pub signed_row : (w : ℕ) → row_of (Signed w) ≡ signed_numbers
+unfolding row_of
+signed_row w =
+    let one : w / 1 ≡ w = omega arith in
+    picked (λ row. same_kind (row.make (size_in row (Signed w))) (Signed w)) signed_numbers numbers (texts ∷ [])
+    (equal_kinds (Signed (w / 1)) (Signed w) (ap Signed one))
 
 pub text_row : (n : ℕ) → row_of (Text n) ≡ texts
 unfolding row_of
@@ -107,8 +122,15 @@ text_row n =
 pub unsigned_size : (w : ℕ) → size_in (row_of (Unsigned w)) (Unsigned w) ≡ w
 unsigned_size w = let one : w / 1 ≡ w = omega arith in ap (λ (row : Written). size_in row (Unsigned w)) (unsigned_row w) ∙ one
 
+pub signed_size : (w : ℕ) → size_in (row_of (Signed w)) (Signed w) ≡ w
+signed_size w = let one : w / 1 ≡ w = omega arith in ap (λ (row : Written). size_in row (Signed w)) (signed_row w) ∙ one
+
 pub text_size : (n : ℕ) → size_in (row_of (Text n)) (Text n) ≡ n
 text_size n = let eight : 8 * n / 8 ≡ n = omega arith in ap (λ (row : Written). size_in row (Text n)) (text_row n) ∙ eight
+
+pub ruleset rows = (unsigned_row, signed_row, text_row)
+
+pub ruleset sizes = (unsigned_size, signed_size, text_size)
 
 -- ---- what is read
 
@@ -137,30 +159,35 @@ small_same (a ∷ b ∷ []) (c ∷ d ∷ f ∷ fs) e low = absurd (omega (arith,
 small_same (a ∷ b ∷ c ∷ cs) y e low = absurd (omega arith)
 
 -- a size that is read is a kind's
-sized_tells : (kind : ℕ → Kind) (most n : ℕ) (k : Kind) → sized kind most n ≡ Some k → (1 ≤ n) × (n ≤ most) × (kind n ≡ k)
-sized_tells kind most n k h = elim (cases_Bool (nat_le 1 n && nat_le n most)) [
-  | inl t ↦ (let p = and_parts (nat_le 1 n) (nat_le n most) t in (leb-true 1 n p.0, leb-true n most p.1, cc (rw t at h)))
+sized_tells : (kind : ℕ → Kind) (least most n : ℕ) (k : Kind) → sized kind least most n ≡ Some k → (least ≤ n) × (n ≤ most) × (kind n ≡ k)
+sized_tells kind least most n k h = elim (cases_Bool (nat_le least n && nat_le n most)) [
+  | inl t ↦ (let p = and_parts (nat_le least n) (nat_le n most) t in (leb-true least n p.0, leb-true n most p.1, cc (rw t at h)))
   | inr f ↦ absurd (cc (rw f at h))
 ]
 
 -- what a word that is read tells: how it begins, and the number that its digits spell
-record Begins (front w : List ℕ) (n most : ℕ) : Type 0 where
+record Begins (front w : List ℕ) (n least most : ℕ) : Type 0 where
   digits' : List ℕ
   word : w ≡ front ++ digits'
   spells : small_number digits' ≡ n
-  low : 1 ≤ n
+  low : least ≤ n
   high : n ≤ most
 
 abbrev ReadAs : List ℕ → Kind → Type 0
-ReadAs w (Unsigned n) = Begins (117 ∷ []) w n 64
-ReadAs w (Text n) = Begins (116 ∷ 101 ∷ 120 ∷ 116 ∷ []) w n 8
+ReadAs w (Unsigned n) = Begins (117 ∷ []) w n 1 64
+ReadAs w (Signed n) = Begins (115 ∷ []) w n 2 64
+ReadAs w (Text n) = Begins (116 ∷ 101 ∷ 120 ∷ 116 ∷ []) w n 1 8
 
-tells_unsigned : (ds : List ℕ) (k : Kind) → sized Unsigned 64 (small_number ds) ≡ Some k → ReadAs (117 ∷ ds) k
-tells_unsigned ds k h = let p = sized_tells Unsigned 64 (small_number ds) k h in
+tells_unsigned : (ds : List ℕ) (k : Kind) → sized Unsigned 1 64 (small_number ds) ≡ Some k → ReadAs (117 ∷ ds) k
+tells_unsigned ds k h = let p = sized_tells Unsigned 1 64 (small_number ds) k h in
     subst (ReadAs (117 ∷ ds)) p.2 (record { digits' = ds; word = refl; spells = refl; low = p.0; high = p.1 })
 
-tells_text : (ds : List ℕ) (k : Kind) → sized Text 8 (small_number ds) ≡ Some k → ReadAs (116 ∷ 101 ∷ 120 ∷ 116 ∷ ds) k
-tells_text ds k h = let p = sized_tells Text 8 (small_number ds) k h in
+tells_signed : (ds : List ℕ) (k : Kind) → sized Signed 2 64 (small_number ds) ≡ Some k → ReadAs (115 ∷ ds) k
+tells_signed ds k h = let p = sized_tells Signed 2 64 (small_number ds) k h in
+    subst (ReadAs (115 ∷ ds)) p.2 (record { digits' = ds; word = refl; spells = refl; low = p.0; high = p.1 })
+
+tells_text : (ds : List ℕ) (k : Kind) → sized Text 1 8 (small_number ds) ≡ Some k → ReadAs (116 ∷ 101 ∷ 120 ∷ 116 ∷ ds) k
+tells_text ds k h = let p = sized_tells Text 1 8 (small_number ds) k h in
     subst (ReadAs (116 ∷ 101 ∷ 120 ∷ 116 ∷ ds)) p.2 (record { digits' = ds; word = refl; spells = refl; low = p.0; high = p.1 })
 
 four_same : (a b c d : ℕ) (ds : List ℕ) → ((a == 116) && (b == 101) && (c == 120) && (d == 116)) ≡ true → 116 ∷ 101 ∷ 120 ∷ 116 ∷ ds ≡ a ∷ b ∷ c ∷ d ∷ ds
@@ -180,24 +207,35 @@ text_tells (a ∷ b ∷ c ∷ d ∷ ds) k h = elim (cases_Bool ((a == 116) && (b
   | inr f ↦ absurd (cc (rw f at h))
 ]
 
+signed_tells : (w : List ℕ) (k : Kind) → signed_read w ≡ Some k → ReadAs w k
+signed_tells [] k h = absurd cc
+signed_tells (a ∷ ds) k h = elim (cases_Bool (a == 115)) [
+  | inl t ↦ subst (λ (x : ℕ). ReadAs (x ∷ ds) k) (sym (eqb-true a 115 t)) (tells_signed ds k (rw t at h))
+  | inr f ↦ text_tells (a ∷ ds) k (rw f at h)
+]
+
 read_tells : (w : List ℕ) (k : Kind) → kind_read w ≡ Some k → ReadAs w k
 read_tells [] k h = absurd cc
 read_tells (a ∷ ds) k h = elim (cases_Bool (a == 117)) [
   | inl t ↦ subst (λ (x : ℕ). ReadAs (x ∷ ds) k) (sym (eqb-true a 117 t)) (tells_unsigned ds k (rw t at h))
-  | inr f ↦ text_tells (a ∷ ds) k (rw f at h)
+  | inr f ↦ signed_tells (a ∷ ds) k (rw f at h)
 ]
 
-begins_same : (front v w : List ℕ) (n most : ℕ) → Begins front v n most → Begins front w n most → v ≡ w
-begins_same front v w n most p q = p.word ∙ ap (λ (ds : List ℕ). front ++ ds) (small_same p.digits' q.digits' (p.spells ∙ sym q.spells) (omega (arith, p.spells, p.low))) ∙ sym q.word
+begins_same : (front v w : List ℕ) (n least most : ℕ) → 1 ≤ least → Begins front v n least most → Begins front w n least most → v ≡ w
+begins_same front v w n least most some p q = p.word
+    ∙ ap (λ (ds : List ℕ). front ++ ds) (small_same p.digits' q.digits' (p.spells ∙ sym q.spells) (omega (arith, p.spells, p.low, some)))
+    ∙ sym q.word
 
 written_read : (w : List ℕ) (k : Kind) → ReadAs w k → IsTrue (is_written k)
 written_read w (Unsigned n) r = unsigned_written n r.low r.high
+written_read w (Signed n) r = signed_written n r.low r.high
 written_read w (Text n) r = text_written n r.low r.high
 
 -- a word is the text of the kind that it is read as
 text_of : (w : List ℕ) (k : Kind) → ReadAs w k → kind_text k ≡ w
-text_of w (Unsigned n) r = begins_same (117 ∷ []) (kind_text (Unsigned n)) w n 64 (read_tells (kind_text (Unsigned n)) (Unsigned n) (kind_is_read (Unsigned n) (unsigned_written n r.low r.high))) r
-text_of w (Text n) r = begins_same (116 ∷ 101 ∷ 120 ∷ 116 ∷ []) (kind_text (Text n)) w n 8 (read_tells (kind_text (Text n)) (Text n) (kind_is_read (Text n) (text_written n r.low r.high))) r
+text_of w (Unsigned n) r = begins_same (117 ∷ []) (kind_text (Unsigned n)) w n 1 64 (omega arith) (read_tells (kind_text (Unsigned n)) (Unsigned n) (kind_is_read (Unsigned n) (unsigned_written n r.low r.high))) r
+text_of w (Signed n) r = begins_same (115 ∷ []) (kind_text (Signed n)) w n 2 64 (omega arith) (read_tells (kind_text (Signed n)) (Signed n) (kind_is_read (Signed n) (signed_written n r.low r.high))) r
+text_of w (Text n) r = begins_same (116 ∷ 101 ∷ 120 ∷ 116 ∷ []) (kind_text (Text n)) w n 1 8 (omega arith) (read_tells (kind_text (Text n)) (Text n) (kind_is_read (Text n) (text_written n r.low r.high))) r
 
 found : (w : List ℕ) (k : Kind) → ReadAs w k → kind_named (kind_text k) ≡ Some k
 found w k r = kind_is_named k (written_read w k r)

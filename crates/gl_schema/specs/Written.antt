@@ -3,7 +3,7 @@ use Rattle.std.specs.Prelude.{ℕ, ◌+◌, ◌-◌, Bool, List, [], ◌∷◌, 
 use Rattle.std.specs.List.{flat_map, list_any, range_with_len}
 use Rattle.gl_bits.specs.Operators.{same_kind}
 use Rattle.gl_bits.specs.declared.kind.Kind.{Kind}
-use Rattle.gl_bits.specs.declared.kind.Kind.TheVariants.{Unsigned, Text}
+use Rattle.gl_bits.specs.declared.kind.Kind.TheVariants.{Unsigned, Signed, Text}
 
 -- a front, the bits of a size of 1, the sizes from the least to the most, and the kind of a size
 pub record Written : Type 0 where
@@ -17,12 +17,16 @@ pub record Written : Type 0 where
 abbrev pub numbers : Written
 numbers = record { front = codes "u"; unit = 1; least = 1; most = 64; make = Unsigned }
 
+-- `s2` to `s64`
+abbrev pub signed_numbers : Written
+signed_numbers = record { front = codes "s"; unit = 1; least = 2; most = 64; make = Signed }
+
 -- `text1` to `text8`
 abbrev pub texts : Written
 texts = record { front = codes "text"; unit = 8; least = 1; most = 8; make = Text }
 
 abbrev pub table : List Written
-table = numbers ∷ texts ∷ []
+table = numbers ∷ signed_numbers ∷ texts ∷ []
 
 -- the kinds of a row
 abbrev pub kinds_in : Written → List Kind

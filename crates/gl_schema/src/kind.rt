@@ -7,7 +7,7 @@ ghost use Rattle.gl_schema.specs.KindReading as read;
 
 use gl_bits::Kind;
 
-/// The kind that a word is the text of: `u1` to `u64`, `text1` to `text8`.
+/// The kind that a word is the text of: `u1` to `u64`, `s2` to `s64`, `text1` to `text8`.
 pub fn kind_named(word: &[u8]) -> Option<Kind>
     ensures { result ≡ spec.kind_named word.now }
 {
@@ -15,23 +15,24 @@ pub fn kind_named(word: &[u8]) -> Option<Kind>
 }
 
 /// The front of a kind as it is written.
-#[tactic(auto, using(crate::proofs::KindTable::unsigned_row, crate::proofs::KindTable::text_row))]
+#[tactic(auto, using(crate::proofs::KindTable::rows))]
 pub fn kind_front(kind: Kind) -> &'static [u8]
     ensures { result.now ≡ (row_of kind).front }
 {
     match kind {
         Kind::Unsigned(_) => b"u",
+        Kind::Signed(_) => b"s",
         Kind::Text(_) => b"text",
     }
 }
 
 /// The size that stands behind it.
-#[tactic(auto, using(crate::proofs::KindTable::unsigned_size, crate::proofs::KindTable::text_size))]
+#[tactic(auto, using(crate::proofs::KindTable::sizes))]
 pub fn kind_size(kind: Kind) -> u8
     ensures { result ≡ size_in (row_of kind) kind }
 {
     match kind {
-        Kind::Unsigned(width) => width,
+        Kind::Unsigned(width) | Kind::Signed(width) => width,
         Kind::Text(bytes) => bytes,
     }
 }
@@ -42,6 +43,10 @@ fn kind_read(word: &[u8]) -> Option<Kind>
     match word {
         [b'u', digits @ ..] => match small_number(digits) {
             width @ 1..=64 => Some(Kind::Unsigned(width)),
+            _ => None,
+        },
+        [b's', digits @ ..] => match small_number(digits) {
+            width @ 2..=64 => Some(Kind::Signed(width)),
             _ => None,
         },
         [b't', b'e', b'x', b't', digits @ ..] => match small_number(digits) {

@@ -10,6 +10,7 @@ pub mod SumNet
 pub mod ExtremeNet
 pub mod WeighNet
 pub mod AverageNet
+pub mod QuotientNet
 pub mod AggNet
 pub mod AggListNet
 pub mod KindLemmas

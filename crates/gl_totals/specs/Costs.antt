@@ -42,6 +42,22 @@ abbrev pub cost_of_fraction : Keep → ℕ → Cost
 cost_of_fraction keep width =
     record { nodes = 16 + 12 * lag_of keep; registers = width + 64; memories = slot_words keep * (width + 64) }
 
+-- six gates and the divider
+abbrev pub cost_of_divided : ℕ → ℕ → Cost
+cost_of_divided top bottom = record {
+  nodes = 6 + (cost_of_stages top top bottom).nodes;
+  registers = (cost_of_stages top top bottom).registers;
+  memories = 0;
+}
+
+-- these, the top's sign and what it is without it, the sign as late as the quotient, and the quotient with its sign
+abbrev pub cost_of_quotient : ℕ → ℕ → Cost
+cost_of_quotient top bottom = record {
+  nodes = 13 + (cost_of_stages top top bottom).nodes + (top + 1);
+  registers = (cost_of_stages top top bottom).registers + (top + 1);
+  memories = 0;
+}
+
 -- these, the sum's sign and what it is without it, six gates, the divider and the sign beside it, and the quotient with
 -- its sign in the width
 abbrev pub cost_of_average : Keep → ℕ → Cost

@@ -8,6 +8,7 @@ pub mod extreme;
 pub mod fold;
 pub mod laws;
 pub mod rows;
+pub mod sign;
 pub mod sum;
 pub mod table;
 pub mod total;

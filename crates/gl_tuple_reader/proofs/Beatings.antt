@@ -1,17 +1,16 @@
 -- What records add up to are beats of the schema.
 use Rattle.std.proofs.Common.{◌≡◌, ℕ, zero, suc, ◌+◌, ◌-◌, ◌*◌, ◌^◌, ◌<◌, ◌≤◌, Bool, true, false, cond, ◌&&◌, List, [], ◌∷◌, ◌++◌, length, drop, Option, Some, None, Result, Ok, Err, refl, sym, ap, subst, arith, inl, inr}
-use Rattle.std.specs.Prelude.{ℤ, pos, negsuc, map, option_map, slice_get, slice_set, replicate, is_some, IsTrue, IsFalse, nat_lt, nat_le, ◌==◌, bytes_eq, codes, unwrap_or}
+use Rattle.std.specs.Prelude.{pos, neg_ℤ, map, option_map, slice_get, slice_set, replicate, is_some, IsTrue, IsFalse, nat_lt, nat_le, ◌==◌, bytes_eq, codes, unwrap_or}
 use Rattle.std.specs.List.{AllByRecursion, list_any, list_all}
 use Rattle.std.proofs.lemmas.Bool.{cases_Bool, ltb-false, leb-true, and_parts, or_right, eqb-false, false≢true}
 use Rattle.std.proofs.lemmas.List.Quantifiers.{position-Some}
-use Rattle.std.proofs.lemmas.Nat.{pow_pos}
-use Rattle.std.proofs.Math.Nat.{mod-lt}
 use Rattle.gl_bits.proofs.Options.{some_same}
 use Rattle.gl_bits.specs.declared.kind.Kind.{Kind}
-use Rattle.gl_bits.specs.declared.kind.Kind.TheVariants.{Unsigned, Text}
-use Rattle.gl_bits.specs.Kinds.{bytes_in, in_range, width_of}
+use Rattle.gl_bits.specs.declared.kind.Kind.TheVariants.{Unsigned, Signed, Text}
+use Rattle.gl_bits.specs.Kinds.{bytes_in, has_negative, in_range, negative_word, width_of}
 use Rattle.gl_bits.specs.Kinds as kinds
 use Rattle.gl_bits.proofs.KindLemmas.{text_width}
+use Rattle.gl_bits.proofs.Signs.{word_fits}
 use Rattle.gl_bits.specs.Words.{Word, bits_of}
 use Rattle.gl_schema.specs.declared.schema.Column.{Column}
 use Rattle.gl_schema.specs.declared.schema.Stream.{Stream}
@@ -24,7 +23,7 @@ use Rattle.gl_tuple_reader.specs.declared.entry.Entry.TheVariants.{Tuple, End}
 use Rattle.gl_tuple_reader.specs.declared.filing.Filing.{Filing}
 use Rattle.gl_tuples.specs.declared.fault.TupleFault.{TupleFault}
 use Rattle.gl_tuples.specs.declared.fault.TupleFault.TheVariants.{FieldCount, StreamTwice, AfterEnd, CycleFalls, CycleTooLarge}
-use Rattle.gl_tuples.specs.Values.{word_of, fitting, integer_of, is_plain, is_printable, short_enough}
+use Rattle.gl_tuples.specs.Values.{word_of, fitting, fitting_negative, has_minus, integer_word, is_plain, is_printable, short_enough}
 use Rattle.gl_tuples.specs.Values as values
 use Rattle.gl_tuple_reader.specs.Entries.{words_of, row_of, row_found, columns_at, entry_of, entry_named, tuple_of, stream_named, cycle_of, cycle_below, option_bind}
 use Rattle.gl_tuple_reader.specs.Filing.{filing_after, next_filing, no_records, ended, beats_of, beat_with, beat_of, whole_before, empty_beat, open_checked, cycle_checked, has_row}
@@ -51,15 +50,24 @@ test_some true x y h = (refl, some_same x y h)
 test_some false x y h = absurd cc
 
 -- a word that stands for a number
-wrapped_small : (width : ℕ) (n : ℤ) → kinds.word_of width n < 2 ^ width
-wrapped_small width (pos n) = mod-lt n (pow_pos width)
-wrapped_small width (negsuc n) = let some = pow_pos width in omega (arith, some)
-
-fitting_small : (kind : Kind) (o : Option ℤ) (w : Word) → fitting kind o ≡ Some w → w.bits < 2 ^ width_of kind
+fitting_small : (kind : Kind) (o : Option ℕ) (w : Word) → fitting kind o ≡ Some w → w.bits < 2 ^ width_of kind
 fitting_small kind None w h = absurd cc
 fitting_small kind (Some n) w h =
-    let p = test_some (in_range kind n) (record { bits = kinds.word_of (width_of kind) n; width = width_of kind }) w h in
-    subst (λ (w : Word). w.bits < 2 ^ width_of kind) p.1 (wrapped_small (width_of kind) n)
+    let p = test_some (in_range kind (pos n)) (record { bits = kinds.word_of (width_of kind) (pos n); width = width_of kind }) w h in
+    subst (λ (w : Word). w.bits < 2 ^ width_of kind) p.1 (word_fits (width_of kind) (pos n))
+
+-- or for one behind a minus sign
+negative_small : (kind : Kind) (o : Option ℕ) (w : Word) → fitting_negative kind o ≡ Some w → w.bits < 2 ^ width_of kind
+negative_small kind None w h = absurd cc
+negative_small kind (Some n) w h =
+    let p = test_some (has_negative kind n) (record { bits = negative_word kind n; width = width_of kind }) w h in
+    subst (λ (w : Word). w.bits < 2 ^ width_of kind) p.1 (word_fits (width_of kind) (neg_ℤ (pos n)))
+
+integer_small : (kind : Kind) (field : List ℕ) (w : Word) → integer_word kind field ≡ Some w → w.bits < 2 ^ width_of kind
+integer_small kind field w h = elim (cases_Bool (has_minus field)) [
+  | inl minus ↦ negative_small kind (values.number_of (drop 1 field)) w (rw minus at h)
+  | inr none ↦ fitting_small kind (values.number_of field) w (rw none at h)
+]
 
 short_small : (kind : Kind) (field : List ℕ) (w : Word) → IsTrue (kinds.is_text kind) → short_enough kind field ≡ Some w → w.bits < 2 ^ width_of kind
 short_small kind field w text h =
@@ -72,7 +80,8 @@ short_small kind field w text h =
 -- a word fits its column
 word_small : (kind : Kind) (field : List ℕ) (w : Word) → word_of kind field ≡ Some w → w.bits < 2 ^ width_of kind
 unfolding word_of
-word_small (Unsigned width) field w h = fitting_small (Unsigned width) (integer_of field) w h
+word_small (Unsigned width) field w h = integer_small (Unsigned width) field w h
+word_small (Signed width) field w h = integer_small (Signed width) field w h
 word_small (Text n) field w h = short_small (Text n) field w refl h
 
 pub bind_some : {A B : Type 0} (o : Option A) (f : A → Option B) (y : B) → option_bind o f ≡ Some y → (x : A) × (o ≡ Some x) × (f x ≡ Some y)

@@ -173,7 +173,6 @@ fn row_of(
 }
 
 /// The word of a field in a column.
-#[tactic(auto, using(gl_schema::proofs::KindTable::written_is))]
 fn word_at(fields: &ByteRecord, at: usize, column: &Column) -> Option<Word>
     requires { IsColumn column.now }
     ensures { result ≡ spec.option_bind (slice_get (fields_of fields.now) at)

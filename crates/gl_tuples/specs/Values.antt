@@ -1,9 +1,9 @@
 -- Values of fields.
-use Rattle.std.specs.Prelude.{ℕ, ℤ, pos, ◌+◌, ◌-◌, ◌*◌, Bool, not, ◌&&◌, List, length, Option, Some, None, option_map, nat_le, ◌==◌, if◌then◌else◌}
+use Rattle.std.specs.Prelude.{ℕ, pos, ◌+◌, ◌-◌, ◌*◌, Bool, false, not, ◌&&◌, List, [], ◌∷◌, length, drop, Option, Some, None, nat_le, ◌==◌, if◌then◌else◌}
 use Rattle.std.specs.List.{fold, list_all}
 use Rattle.std.specs.Str.Lossy.{utf8_valid_len}
 use Rattle.gl_bits.specs.declared.kind.Kind.{Kind}
-use Rattle.gl_bits.specs.Kinds.{bytes_in, in_range, width_of}
+use Rattle.gl_bits.specs.Kinds.{bytes_in, has_negative, in_range, negative_word, width_of}
 use Rattle.gl_bits.specs.Kinds as kinds
 use Rattle.gl_bits.specs.Words.{Word}
 use Rattle.gl_schema.specs.Names.{is_digit}
@@ -35,15 +35,28 @@ is_printable b = nat_le 32 b && nat_le b 126
 unfoldable pub is_plain : List ℕ → Bool
 is_plain field = list_all is_printable field
 
--- the integer that a field spells, if it is one: a number has no sign
-abbrev pub integer_of : List ℕ → Option ℤ
-integer_of field = option_map pos (number_of field)
-
--- the word of an integer, where it is in range
-abbrev pub fitting : Kind → Option ℤ → Option Word
+-- the word of a number, where it is in range
+abbrev pub fitting : Kind → Option ℕ → Option Word
 fitting kind None = None
 fitting kind (Some n) =
-    if in_range kind n then Some (record { bits = kinds.word_of (width_of kind) n; width = width_of kind }) else None
+    if in_range kind (pos n) then Some (record { bits = kinds.word_of (width_of kind) (pos n); width = width_of kind })
+    else None
+
+-- the word of a number behind a minus sign, where the kind has it
+abbrev pub fitting_negative : Kind → Option ℕ → Option Word
+fitting_negative kind None = None
+fitting_negative kind (Some n) =
+    if has_negative kind n then Some (record { bits = negative_word kind n; width = width_of kind }) else None
+
+-- a minus sign stands first
+abbrev pub has_minus : List ℕ → Bool
+has_minus [] = false
+has_minus (b ∷ bs) = b == 45
+
+-- the word of digits, or of a minus sign and digits
+abbrev pub integer_word : Kind → List ℕ → Option Word
+integer_word kind field =
+    if has_minus field then fitting_negative kind (number_of (drop 1 field)) else fitting kind (number_of field)
 
 -- the word of a plain text, where it has no more bytes than the kind
 abbrev pub short_enough : Kind → List ℕ → Option Word
@@ -53,4 +66,4 @@ short_enough kind field =
 
 -- the word of a field in a column of a kind
 unfoldable pub word_of : Kind → List ℕ → Option Word
-word_of kind field = if kinds.is_number kind then fitting kind (integer_of field) else short_enough kind field
+word_of kind field = if kinds.is_number kind then integer_word kind field else short_enough kind field

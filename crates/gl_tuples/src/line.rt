@@ -1,9 +1,10 @@
 //! Result lines.
 
-ghost use Rattle.std.specs.Prelude.{◌≡◌, ◌≤◌, ◌+◌, ◌*◌, ◌++◌, ◌∷◌, [], length, take, map, decimal};
+ghost use Rattle.std.specs.Prelude.{◌≡◌, ◌≤◌, ◌<◌, ◌+◌, ◌-◌, ◌*◌, ◌^◌, ◌++◌, ◌∷◌, [], length, take, map, decimal, IsTrue};
+ghost use Rattle.std.specs.Fmt.{signed_decimal};
 ghost use Rattle.std.specs.List.{AllByRecursion};
 ghost use Rattle.std.specs.Int.{bytes_high_first};
-ghost use Rattle.gl_bits.specs.Kinds.{IsKind, width_of};
+ghost use Rattle.gl_bits.specs.Kinds.{IsKind, is_below, number_of, width_of};
 ghost use Rattle.gl_bits.specs.Words.{bits_of, widths_of};
 ghost use Rattle.gl_schema.specs.Seen.{line_of, printed, quoted, doubled};
 ghost use Rattle.gl_schema.specs.Seen as seen;
@@ -12,8 +13,9 @@ use gl_bits::{Family, Kind, Row, Word};
 use itoa::Buffer;
 
 /// Writes the line of a result into a buffer and answers its length, at most 700: the cycle, each
-/// value behind a comma, and a line feed. A number stands in decimal. A text stands without its
-/// padding, and in double quotes where it has a comma or a double quote. Takes no memory.
+/// value behind a comma, and a line feed. A number stands in decimal, behind a minus sign where it
+/// is below 0. A text stands without its padding, and in double quotes where it has a comma or a
+/// double quote. Takes no memory.
 #[tactic(auto, using(crate::proofs::Lines::line_steps), unfolding(gl_schema::specs::Seen::line_of))]
 pub fn line_into(cycle: u64, row: &Row, kinds: &[Kind], into: &mut [u8; 1024]) -> usize
     requires many { length kinds.now ≤ 32 }
@@ -64,6 +66,49 @@ fn put_number(into: &mut [u8; 1024], at: usize, number: u64) -> usize
     put(into, at, buffer.format(number).as_bytes())
 }
 
+/// Writes a number of at most 19 digits behind a minus sign.
+#[tactic(auto, using(crate::proofs::Printing::few_digits))]
+fn put_negative(into: &mut [u8; 1024], at: usize, number: u64) -> usize
+    requires room { at ≤ 1000 }
+    requires few { number ≤ 2 ^ 63 }
+    ensures end { result ≤ at + 20 }
+    ensures written { take result into.new ≡ take at into.old ++ 45 ∷ decimal number }
+{
+    let end = put(into, at, b"-");
+    let mut buffer = Buffer::new();
+    put(into, end, buffer.format(number).as_bytes())
+}
+
+/// The number without its sign that a word of a kind stands for, where it is below 0.
+#[tactic(auto, using(crate::proofs::Printing::sizes))]
+fn size_below(kind: Kind, word: u128) -> u64
+    requires kind { IsKind kind }
+    requires fits { word < 2 ^ width_of kind }
+    requires below { IsTrue (is_below kind word 0) }
+    ensures few { result ≤ 2 ^ 63 }
+    ensures value { result ≡ 2 ^ width_of kind - word }
+{
+    ((1u128 << kind.width()) - word) as u64
+}
+
+/// Writes the number that a word of a kind stands for.
+#[tactic(auto, using(crate::proofs::Printing::integers))]
+fn put_integer(into: &mut [u8; 1024], at: usize, kind: Kind, bits: u64) -> usize
+    requires room { at ≤ 1000 }
+    requires kind { IsKind kind }
+    requires fits { bits < 2 ^ width_of kind }
+    ensures end { result ≤ at + 20 }
+    ensures written { take result into.new
+        ≡ take at into.old ++ signed_decimal (number_of kind bits) }
+{
+    let word = u128::from(bits);
+    if kind.is_below(word, 0) {
+        put_negative(into, at, size_below(kind, word))
+    } else {
+        put_number(into, at, bits)
+    }
+}
+
 #[tactic(auto, using(crate::proofs::Printing::number_printed, crate::proofs::Printing::text_printed))]
 fn put_value(into: &mut [u8; 1024], at: usize, kind: Kind, word: Word) -> usize
     requires room { at ≤ 1000 }
@@ -74,7 +119,7 @@ fn put_value(into: &mut [u8; 1024], at: usize, kind: Kind, word: Word) -> usize
 {
     let bits = small(word);
     match kind.family() {
-        Family::Numbers => put_number(into, at, bits),
+        Family::Numbers => put_integer(into, at, kind, bits),
         Family::Texts => put_text(into, at, bits, usize::from(kind.bytes())),
     }
 }
@@ -82,7 +127,8 @@ fn put_value(into: &mut [u8; 1024], at: usize, kind: Kind, word: Word) -> usize
 /// The number of a word of at most 64 bits.
 fn small(word: Word) -> u64
     requires { word.width ≤ 64 }
-    ensures { result ≡ word.bits }
+    ensures value { result ≡ word.bits }
+    ensures fits { result < 2 ^ word.width }
 {
     word.bits() as u64
 }

@@ -74,12 +74,36 @@ pub fn word_of(kind: Kind, field: &[u8]) -> Option<Word>
     }
 }
 
-/// The word of an integer in a column of this kind.
+/// The word of digits, or of a minus sign and digits, in a column of this kind.
 fn integer_word(kind: Kind, field: &[u8]) -> Option<Word>
     requires { IsKind kind }
-    ensures { result ≡ spec.fitting kind (spec.integer_of field.now) }
+    ensures { result ≡ spec.integer_word kind field.now }
 {
-    let number = number_of(field)?;
+    match field {
+        [b'-', digits @ ..] => negative_word(kind, digits),
+        _ => plain_word(kind, field),
+    }
+}
+
+/// The word of digits behind a minus sign.
+fn negative_word(kind: Kind, digits: &[u8]) -> Option<Word>
+    requires { IsKind kind }
+    ensures { result ≡ spec.fitting_negative kind (spec.number_of digits.now) }
+{
+    let number = number_of(digits)?;
+    if kind.has_negative(number) {
+        Word::new(kind.negative_word(number), kind.width())
+    } else {
+        None
+    }
+}
+
+/// The word of digits.
+fn plain_word(kind: Kind, digits: &[u8]) -> Option<Word>
+    requires { IsKind kind }
+    ensures { result ≡ spec.fitting kind (spec.number_of digits.now) }
+{
+    let number = number_of(digits)?;
     if kind.has_number(number) {
         Word::new(number, kind.width())
     } else {

@@ -1,24 +1,28 @@
-use Rattle.std.proofs.Common.{arith, ap, sym, subst, ◌∙◌}
-use Rattle.gl_net.specs.declared.node.BinaryOp.{BinaryOp}
-use Rattle.gl_net.specs.Builds.{IsBinary}
-use Rattle.gl_net.specs.Net.{binary_width}
-use Rattle.gl_rows.proofs.OperatorNet.{operated, turned}
+use Rattle.std.proofs.Common.{ap, sym, subst, ◌∙◌}
+use Rattle.std.specs.Prelude.{IfOk}
+use Rattle.std.proofs.lemmas.Result.{IfOk-weaker}
+use Rattle.gl_algebra.specs.Columns.{SortFits}
+use Rattle.gl_bits.specs.Operators.{sort_of}
+use Rattle.gl_bits.specs.declared.kind.Kind.{Kind}
+use Rattle.gl_bits.specs.declared.kind.Kind.TheVariants.{Signed}
+use Rattle.gl_rows.specs.Made.{IsGated, IsOperated}
+use Rattle.gl_rows.proofs.OperatorNet.{plain_operates, signed_kind}
 use Rattle.gl_rows.proofs.operation.put_operator.Goals as goal
 
-pub returns-then-is_turned : goal.returns-then-is_turned
-returns-then-is_turned c =
-    let gate = c.in_ok-bus.ensures in
-    turned c.args.net.now c.binary.new.self c.args.op c.args.kind c.args.left c.args.right c.in_ok-bus.bus c.requires.fits gate.keeps
-    (record { nodes = omega (arith, gate.size); registers = omega (arith, gate.register_bits); memories = omega (arith, gate.memory_bits) })
-    gate.bus (sym c.is_turned.ensures ∙ c.if-is_turned.true) c.requires.right_width
-    (gate.width ∙ ap (λ (g : BinaryOp). binary_width g c.args.right.width) c.gate_of.ensures)
-    (subst (λ (g : BinaryOp). IsBinary c.binary.new.self g c.args.right c.args.left c.in_ok-bus.bus) c.gate_of.ensures gate.value)
+pub put_signed-requires-clause-fits : goal.put_signed-requires-clause-fits
+put_signed-requires-clause-fits c =
+    let same = ap Signed c.requires.left_width ∙ signed_kind c.args.kind (sym c.is_signed.ensures ∙ c.if-is_signed.true) in
+    subst (SortFits (sort_of c.args.op)) (sym same) c.requires.fits
+
+pub returns-then-is_signed : goal.returns-then-is_signed
+returns-then-is_signed c =
+    let same = ap Signed c.requires.left_width ∙ signed_kind c.args.kind (sym c.is_signed.ensures ∙ c.if-is_signed.true) in
+    subst (λ (k : Kind). IfOk c.put_signed.result (IsOperated c.args.net.now c.put_signed.new.net c.args.op k c.args.left c.args.right)) same c.put_signed.ensures
 
 pub returns : goal.returns
 returns c =
-    let gate = c.in_ok-bus-2.ensures in
-    operated c.args.net.now c.binary-2.new.self c.args.op c.args.kind c.args.left c.args.right c.in_ok-bus-2.bus c.requires.fits gate.keeps
-    (record { nodes = omega (arith, gate.size); registers = omega (arith, gate.register_bits); memories = omega (arith, gate.memory_bits) })
-    gate.bus (sym c.is_turned.ensures ∙ c.if-is_turned.false) c.requires.left_width
-    (gate.width ∙ ap (λ (g : BinaryOp). binary_width g c.args.left.width) c.gate_of-2.ensures)
-    (subst (λ (g : BinaryOp). IsBinary c.binary-2.new.self g c.args.left c.args.right c.in_ok-bus-2.bus) c.gate_of-2.ensures gate.value)
+    let old = c.args.net.now in
+    let new = c.put_gate.new.net in
+    IfOk-weaker c.put_gate.result (IsGated old new c.args.op c.args.left c.args.right) (IsOperated old new c.args.op c.args.kind c.args.left c.args.right)
+    (λ b. plain_operates old new c.args.op c.args.kind c.args.left c.args.right b c.requires.fits c.requires.left_width (sym c.is_signed.ensures ∙ c.if-is_signed.false))
+    c.put_gate.ensures

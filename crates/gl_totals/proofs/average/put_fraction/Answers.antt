@@ -1,10 +1,11 @@
-use Rattle.std.proofs.Common.{◌≡◌, ℕ, suc, ◌+◌, ◌*◌, List, ap, arith, ◌∙◌}
-use Rattle.gl_bits.specs.Totals.{sum_total}
+use Rattle.std.proofs.Common.{◌≡◌, ℕ, suc, ◌+◌, ◌*◌, ap, arith, ◌∙◌}
+use Rattle.gl_bits.specs.Kinds.{word_of}
+use Rattle.gl_bits.specs.Totals.{sum_of_numbers, sum_total}
 use Rattle.gl_net.proofs.Determined.{keeps_then}
 use Rattle.gl_wire.proofs.ColumnLemmas.{bus_kept}
 use Rattle.gl_totals.specs.Costs.{slot_words}
 use Rattle.gl_totals.specs.Open.{values_at}
-use Rattle.gl_totals.proofs.AverageNet.{values_wider}
+use Rattle.gl_totals.proofs.AverageNet.{values_numbers}
 use Rattle.gl_totals.proofs.KeepLemmas.{keep_kept}
 use Rattle.gl_totals.proofs.average.put_fraction.Goals as goal
 
@@ -27,7 +28,7 @@ returns c =
     let words = slot_words c.args.rows.keep in
     let bits : words * x.width ≡ words * (value.width + 32) = ap (λ (w : ℕ). words * w) wide.same_width in
     record {
-      keeps = keeps_then old c.low_bits.new.net new wide.keeps (keeps_then _ c.put_sum.new.net new top.keeps bottom.keeps);
+      keeps = keeps_then old c.put_number.new.net new wide.keeps (keeps_then _ c.put_sum.new.net new top.keeps bottom.keeps);
       cost = record {
         nodes = omega (arith, wide.cost.nodes, top.cost.nodes, bottom.cost.nodes);
         registers = omega (arith, wide.cost.registers, top.cost.registers, bottom.cost.registers, wide.same_width);
@@ -43,8 +44,8 @@ returns c =
           let e : suc t ≡ suc t + 0 = omega arith in
           ap (λ (n : ℕ). run.at n c.in_ok-top.top.node) e ∙ top.carries run at_top told t fresh
           ∙ ap (λ (w : ℕ). sum_total w (values_at run c.args.rows x (suc t))) wide.same_width
-          ∙ ap (λ (l : List ℕ). sum_total (value.width + 32) l)
-          (values_wider old run c.args.rows value x (value.width + 32) c.requires.value (wide.keeps.runs run at_wide) (omega arith) (λ u. wide.carries run at_wide u) (suc t));
+          ∙ values_numbers run c.args.rows c.args.kind value x (value.width + 32) (λ u. wide.carries run at_wide u) (suc t)
+          ∙ ap (λ (w : ℕ). word_of (w + 32) (sum_of_numbers c.args.kind (values_at run c.args.rows value (suc t)))) c.requires.width;
       number = λ run r told t fresh.
           let e : suc t ≡ suc t + 0 = omega arith in
           ap (λ (n : ℕ). run.at n c.in_ok-bottom.bottom.node) e ∙ bottom.carries run r told t fresh;

@@ -4,6 +4,7 @@ use Rattle.gl_algebra.specs.Columns.{kind_of_operand}
 use Rattle.gl_algebra.specs.declared.node.PlanAgg.TheVariants.{Avg}
 use Rattle.gl_bits.specs.Kinds.{IsKind, width_of}
 use Rattle.gl_bits.specs.Totals.{average_of}
+use Rattle.gl_bits.proofs.KindLemmas.{kind_some}
 use Rattle.gl_bits.specs.declared.kind.Kind.{Kind}
 use Rattle.gl_totals.specs.Costs.{cost_of_average}
 use Rattle.gl_totals.specs.Totals.{IsTotalOf}
@@ -39,7 +40,7 @@ returns c =
     (subst (λ (k : Kind). IsTotalOf mid new (cost_of_average keep x.width) x.width (x.width + 33) s.rows x (average_of k) out) c.kind_of_operand-kind.ensures
     c.in_ok-average.ensures)) in
     let some = operand_kind s.source.kinds.now c.args.operand c.requires.kinds c.requires.fits.0 in
-    let signs : 1 * (width_of kind + 33) ≤ width_of kind * (width_of kind + 33) = mul-le-mul_right (width_of kind + 33) some.0 in
+    let signs : 1 * (width_of kind + 33) ≤ width_of kind * (width_of kind + 33) = mul-le-mul_right (width_of kind + 33) (kind_some kind some) in
     let gone_stages : width_of kind * (width_of kind + 34 - 1) ≡ width_of kind * (width_of kind + 33) = ap (λ (n : ℕ). width_of kind * n) (omega arith) in
     agg_is c.args.net.now mid new s c.args.operand (Avg c.args.operand) x out (cost_of_average keep (width_of kind)) x.width (width_of kind + 34 - 1)
     (width_of kind + 34 - 1) (average_of kind) value total (omega (arith, lag_small keep)) (omega (arith, signs, gone_stages)) (omega arith) refl value.same_width (λ rows. refl)

@@ -1,5 +1,6 @@
 use Rattle.std.proofs.Common.{rules, ◌≡◌, ◌∷◌, [], ◌∙◌, subst, take, List, ℕ, ◌<◌, length, get_or, arith}
 use Rattle.gl_bits.proofs.AllLists.{taken_next}
+use Rattle.gl_bits.proofs.KindLemmas.{kind_some}
 use Rattle.gl_schema.specs.declared.schema.Column.{Column}
 use Rattle.gl_net.specs.declared.node.Direction.TheVariants.{In}
 use Rattle.gl_net.specs.Net.{IsPort}
@@ -32,7 +33,7 @@ put_input-requires c =
     let is : column ≡ get_or cs i column = subst (λ (xs : List Column). column ≡ get_or xs i column) here c.column-item.is in
     let kind : IsKind column.kind = kind_there cs i column c.requires lt is in
     let width : c.width.result ≡ width_of column.kind = c.width.ensures in
-    record { some' = omega (arith, kind.0, width); most = omega (arith, kind.1, width) }
+    record { some' = omega (arith, kind_some column.kind kind, width); most = omega (arith, kind.1, width) }
 
 pub loop-column-preserved : goal.loop-column-preserved
 loop-column-preserved c =

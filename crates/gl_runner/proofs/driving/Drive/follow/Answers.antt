@@ -4,7 +4,8 @@ use Rattle.gl_schema.specs.Beats.{last_cycle}
 use Rattle.gl_schema.specs.Seen.{cycle_lines}
 use Rattle.gl_outside.specs.Counts.{Rose}
 use Rattle.gl_outside.specs.States.{Wrote}
-use Rattle.gl_runner.specs.Cycles.{Driven, IsFollowed, design_of, sampled}
+use Rattle.gl_runner.specs.Cycles.{Driven, IsFollowed, design_of}
+use Rattle.gl_lines.specs.Pieces.{sampled}
 use Rattle.gl_runner.proofs.Running.{at_first, at_next, made_next, wrote_all, wrote_front, under_way_first, under_way_more, under_way_done, under_way_out, under_way_cut}
 use Rattle.gl_runner.proofs.driving.Drive.follow.Goals as goal
 use Rattle.gl_runner.proofs.driving.Drive.follow.Goals.{else-sample-via-then-sample+else-cycle-last, else-sample-via-else-sample}
