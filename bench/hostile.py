@@ -11,7 +11,26 @@ MODULE = '''module m(input wire clk, input wire rst, input wire in__s__valid, in
   always @(posedge clk) if (rst) out__eos <= 1'd0; else out__eos <= eos;
 endmodule
 '''
-SMALL = {'S': 'stream s (v u8);\n', 'V': MODULE, 'T': '0,s,5\n2,s,255\n'}
+DUMP = '''$timescale 1 ns $end
+$scope module m $end
+$var wire 1 !! out__valid $end
+$var wire 8 !" out__v [7:0] $end
+$var wire 1 !# out__eos $end
+$upscope $end
+$enddefinitions $end
+#0
+0!!
+b0 !"
+0!#
+#3
+1!!
+b101 !"
+#4
+0!!
+1!#
+#5
+'''
+SMALL = {'S': 'stream s (v u8);\n', 'V': MODULE, 'T': '0,s,5\n2,s,255\n', 'D': DUMP}
 
 # Each query with its tuples.
 QUERIES = {
@@ -41,6 +60,9 @@ def cases():
     yield 'run --start, groups', ['run', 'S', 'Q', 'T', '--start', '7'], {'S': SCHEMA, 'Q': QUERIES['groups'][0], 'T': TUPLES}
     yield 'sim', ['sim', 'S', 'V', 'T', '--extra', '3'], SMALL
     yield 'load', ['load', '9'], {}
+    for name in ('windows', 'groups'):
+        yield f'vcd, {name}', ['vcd', 'S', 'Q', 'T'], {'S': SCHEMA, 'Q': QUERIES[name][0], 'T': QUERIES[name][1]}
+    yield 'undump', ['undump', 'D'], SMALL
 
 
 def put(room, texts):

@@ -21,6 +21,7 @@ use Rattle.gl_compiler_text.proofs.KnownOf.{all_kinds}
 use Rattle.gl_compiler_text.proofs.Ports.{ports_fit, widths_are}
 use Rattle.gl_query_compiler.specs.Texts.{IsCompiledText}
 use Rattle.gl_runner.specs.declared.executing.Outcome.{Outcome}
+use Rattle.gl_runner.specs.Dumps.{Dumped, OfEachPorts}
 use Rattle.gl_runner.specs.Prints.{CanRun, OfEachRun, Ran}
 use Rattle.gl_compiler.specs.Runnable.{IsRunnable}
 
@@ -53,6 +54,13 @@ ran_compiled c beats text schema kinds start old new r is a b d h =
     subst (λ (x : List ℕ). Ran (OfEachRun x c.schema beats start) (kinds_of (result_columns c.schema c.statement)) beats old new r) a (
     subst (λ (x : Schema). Ran (OfEachRun text x beats start) (kinds_of (result_columns c.schema c.statement)) beats old new r) b (
     subst (λ (x : List Kind). Ran (OfEachRun text schema beats start) x beats old new r) (d ∙ is.columns) h))
+
+-- how its dump ended
+pub dumped_compiled : (c : Compiled) (beats : List Beat) (text : List ℕ) (schema : Schema) (start : Start) (old new : SinkState) (r : Outcome) → text ≡ c.text.items → schema ≡ c.schema
+    → Dumped (OfEachPorts text schema beats start) beats old new r → Dumped (OfEachPorts c.text.items c.schema beats start) beats old new r
+dumped_compiled c beats text schema start old new r a b h =
+    subst (λ (x : List ℕ). Dumped (OfEachPorts x c.schema beats start) beats old new r) a (
+    subst (λ (x : Schema). Dumped (OfEachPorts text x beats start) beats old new r) b h)
 
 over : (c : Compiled) (schema : Schema) (statement : Statement) → c.schema ≡ schema → c.statement ≡ statement → IsSchema schema → IsCompiled schema statement c → IsRunnable c
 over c schema statement e s fine m =

@@ -20,7 +20,7 @@ use gl_verilog_reader::{VerilogFault, read_module};
 use std::alloc::Global;
 
 // The outcome where a text that has a module was not read: nothing but want of memory does that.
-fn unread(fault: VerilogFault) -> Outcome
+pub(crate) fn unread(fault: VerilogFault) -> Outcome
     requires { fault ≡ VerilogFault.Memory }
     ensures { result ≡ Outcome.Memory }
 {

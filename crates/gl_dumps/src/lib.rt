@@ -18,4 +18,4 @@ pub mod writing;
 pub use fault::VcdFault;
 pub use outcome::Undump;
 pub use undumping::undump;
-pub use writing::{cycle, header, last_time};
+pub use writing::{cycle, header, is_dumped, last_time};

@@ -78,9 +78,9 @@ fn put_declaration<K: Sink>(
     put_named(out, &head[..end], port.name.as_slice(), b" $end\n")
 }
 
-// Whether a port stands in the dump: it is not the clock.
+/// Whether a port stands in the dump: it is not the clock.
 #[tactic(auto, unfolding(gl_schema::specs::Profile::clk))]
-fn is_dumped(port: &Declaration) -> bool
+pub fn is_dumped(port: &Declaration) -> bool
     ensures { result ≡ not (bytes_eq port.now.name clk) }
 {
     port.name.as_slice() != b"clk".as_slice()

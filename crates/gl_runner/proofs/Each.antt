@@ -14,12 +14,14 @@ use Rattle.gl_verilog.specs.View.{module_of}
 use Rattle.gl_sim.specs.Simulation.{Simulation, IsAt}
 use Rattle.gl_sim.specs.Starts.{StartsFrom}
 use Rattle.gl_verilog_orders.specs.declared.start.Start.{Start}
-use Rattle.gl_outside.specs.States.{SinkState}
+use Rattle.gl_outside.specs.States.{Appends, AppendsFront, SinkState}
 use Rattle.gl_runner.specs.declared.tracing.Ending.{Ending}
 use Rattle.gl_runner.specs.declared.tracing.Ending.TheVariants as ending
-use Rattle.gl_runner.specs.Cycles.{Driven, IsFollowed, IsStarted, OfDriven, OfTimely, outcome_of}
+use Rattle.gl_runner.specs.Cycles.{Driven, IsFollowed, IsStarted, OfDriven, OfTimely, design_of, outcome_of}
 use Rattle.gl_runner.specs.Prints.{EndsWithin, HasRunOver, IsRunOver, Ran, Writes, WritesFront}
-use Rattle.gl_runner.specs.Traces.{OfRunsOf, RunsOut, Traced, TracesFront, TracesOut, TracesToEnd}
+use Rattle.gl_runner.specs.Traces.{OfRunsOf, RunsOut, Traced, TracesFront, TracesOut, TracesToEnd, WritesTo}
+use Rattle.gl_runner.specs.Watches.{OfDrivenPorts, Watched, bytes_to, lines_of_cycle}
+use Rattle.gl_runner.proofs.Running.{lines_to}
 use Rattle.gl_testbench.specs.Runs.{HasStartedRuns}
 use Rattle.gl_verilog_ports.specs.declared.fitting.Ports.{Ports}
 use Rattle.gl_verilog_ports.specs.Fit.{fit_of}
@@ -44,6 +46,31 @@ traced_started m schema kinds beats start extra d old new r is h =
     subst (λ (x : ℕ). Traced (OfRunsOf m schema beats start) d.kinds d.beats x old new r) is.extra' (
     traced_from (OfDriven d) (OfRunsOf m schema beats start) d.kinds d.beats d.extra old new r (λ P. of_started m schema kinds beats start extra d P is) h)))
 
+-- what was watched of a result is its trace
+lines_taken : (kinds : List Kind) (m : Module) (port : PortValues) (n : ℕ) (old new : Option (List ℕ)) → Appends old new (bytes_to (lines_of_cycle kinds) m port n) → WritesTo kinds (result_names m) port n old new
+lines_taken kinds m port n old new h = subst (Appends old new) (lines_to kinds m port n) h
+
+pub traced_of : (d : Driven) (stands : Module → PortValues → ℕ → Type 0) (kinds : List Kind) (beats : List Beat) (extra : ℕ) (old new : SinkState) (r : Ending) → Watched (OfDrivenPorts d) (lines_of_cycle kinds) stands beats extra old new r → Traced (OfDriven d) kinds beats extra old new r
+traced_of d stands kinds beats extra old new ending.Done h = (
+  h.0,
+  λ value word before.
+      let w = h.1 value word before in
+      record { last = w.last; ends = w.is; taken = lines_taken kinds (design_of d) (port_of (design_of d) value) w.last old.taken new.taken w.watched.taken },
+)
+traced_of d stands kinds beats extra old new (ending.NoEnd cycle) h = (
+  h.0,
+  λ value word before.
+      let w = h.1 value word before in
+      record { out = w.is; taken = lines_taken kinds (design_of d) (port_of (design_of d) value) cycle old.taken new.taken w.watched.taken },
+)
+traced_of d stands kinds beats extra old new ending.WriteFault h = (
+  h.0,
+  λ value word before.
+      let w = h.1 value word before in
+      record { last = w.last; is = w.is; taken = subst (AppendsFront old.taken new.taken) (lines_to kinds (design_of d) (port_of (design_of d) value) w.last) w.taken },
+)
+traced_of d stands kinds beats extra old new ending.Memory h = absurd h
+
 -- before the reset each run from the start is followed
 pub followed_first : (s : Simulation) (schema : Schema) (beats : List Beat) (start : Start) (d : Rust) (value : ℕ → Nets) (word : ℕ → Memories) → EventRunsAreRuns (module_of d) → s.design ≡ d
     → ((value : ℕ → Nets) (word : ℕ → Memories) → StartsFrom start (module_of d) value word → IsAt s value word 0) → IsRunOver (module_of d) schema beats start value word → IsFollowed s schema beats value word 0
@@ -62,7 +89,7 @@ run_there m schema ports beats start runs fit are =
 -- ---- runs that end in time
 
 -- such a run is not one that is waited for in vain
-not_out : {P : Type 0} (beats : List Beat) (outs : List (List ℕ)) (port : PortValues) (extra n : ℕ) → RunsOut beats outs port extra n → EndsWithin extra beats outs port → P
+pub not_out : {P : Type 0} (beats : List Beat) (outs : List (List ℕ)) (port : PortValues) (extra n : ℕ) → RunsOut beats outs port extra n → EndsWithin extra beats outs port → P
 not_out beats outs port extra n out e =
     let no' : (shown port outs e.ended).end ≡ false = out.none e.ended e.soonest e.in_time in
     let yes' : (shown port outs e.ended).end ≡ true = e.ends in

@@ -13,13 +13,14 @@ use Rattle.gl_tuples.specs.declared.beats.Beat.{Beat as Read}
 use Rattle.gl_tuples.specs.Gaps.{plain_beat}
 use Rattle.gl_schema.specs.Ports.{IsStimulus, out_valid, out_eos, fault_group}
 use Rattle.gl_schema.specs.Seen.{Shown, shown, is_high, cycle_lines}
-use Rattle.gl_verilog.specs.Module.{Module, Nets, Memories, number_of}
+use Rattle.gl_verilog.specs.Module.{Declaration, Module, Nets, Memories, number_of}
 use Rattle.gl_verilog.specs.declared.module.Module.{Module as Rust}
 use Rattle.gl_verilog.specs.View.{module_of}
-use Rattle.gl_verilog.specs.Run.{IsRun, port_of, input_values}
+use Rattle.gl_verilog.specs.Run.{Fit, IsRun, port_of, input_values}
+use Rattle.gl_verilog.specs.Valid.{IsValid}
 use Rattle.gl_verilog.specs.Evaluate.{nets_of}
 use Rattle.gl_verilog.specs.Runnable.{inputs_of, FitInputs, HasInputs, SameNets}
-use Rattle.gl_verilog.specs.Widths.{width_at}
+use Rattle.gl_verilog.specs.Widths.{IsReadable, width_at}
 use Rattle.gl_sim.specs.Simulation.{Simulation, IsAt, Shows as SimShows}
 use Rattle.gl_lines.specs.declared.lines.Sample.{Sample}
 use Rattle.gl_testbench.specs.declared.pins.Pin.{Pin}
@@ -28,6 +29,7 @@ use Rattle.gl_testbench.specs.Carried.{pin_at, at_reset, with_beat}
 use Rattle.gl_runner.specs.Cycles.{CanFollow, IsFollowed, IsMade}
 use Rattle.gl_lines.specs.Pieces.{sampled}
 use Rattle.gl_verilog_ports.specs.Profile.{ports_of, result_names, result_widths}
+use Rattle.gl_verilog_ports.proofs.Declared.{distinct_take, get_take, number_at}
 use Rattle.gl_testbench.proofs.Inputs.{carried_at, inputs_fit, run_has_inputs}
 use Rattle.gl_testbench.proofs.Outputs.{columns_read, columns_widths, columns_fit, same_shown}
 
@@ -108,6 +110,16 @@ end_shown : (m : Module) (v : Nets) (n : ℕ) → is_high (port_of m (λ t. v)) 
 unfolding shown
 end_shown m v n = refl
 
+-- what the simulator has on a port is what the port has
+on_port : (m : Module) (have : List ℕ) (v : Nets) (words : Memories) → IsValid m → SameNets m.declarations (nets_of have) v → Fit m.declarations v words → (k : ℕ) (d : Declaration) → slice_get (ports_of m) k ≡ Some d → IsReadable d
+    → (slice_index have k ≡ unwrap_or (option_map v (number_of (ports_of m) d.name)) 0) × (slice_index have k < 2 ^ d.width)
+on_port m have v words valid same fit k d there readable =
+    let there' : slice_get m.declarations k ≡ Some d = get_take m.ports m.declarations k d there in
+    let number : number_of (ports_of m) d.name ≡ Some k = number_at (ports_of m) k d (distinct_take m.ports m.declarations valid.names) there in
+    let equal : slice_index have k ≡ v k = same k d there' readable in
+    let small : v k < 2 ^ d.width = (fit k d there').0 in
+    (rw (number, equal) refl, rw equal small)
+
 pub cycle_made : (s s' : Simulation) (schema : Schema) (kinds : List Kind) (beats : List Beat) (n : ℕ) (values columns widths row : List ℕ) (l : Sample) (value : ℕ → Nets) (word : ℕ → Memories)
     → CanFollow (module_of s.design) schema kinds beats → s'.design ≡ s.design → values ≡ map (carried_at beats (suc n)) (map (pin_at schema (module_of s.design).declarations) (inputs_of (module_of s.design))) → Follows s.design s s' values
     → widths ≡ map width_of kinds → IsSample s' (module_of s.design) columns widths row l
@@ -125,6 +137,7 @@ cycle_made s s' schema kinds beats n values columns widths row l value word can 
     sample.bits fit ∙ ap (map (slice_index s'.shown)) sample.columns' ∙ columns_read m (nets_of s'.shown) can.valid in
     record {
       followed = followed_on s s' schema beats (suc n) (n + 2) value word same f' (subst (IsAt s' value word) two step.1);
+      ports' = λ k d there readable. on_port m s'.shown (value (suc n)) (word (suc n)) can.valid nets (f.run.fits (suc n)) k d there readable;
       lines' = λ ks overflowed. shown_sampled s' m schema columns widths row l n ks overflowed sample bits ∙ ap (cycle_lines ks overflowed) equal;
       group' = sample.group ∙ group_shown m (nets_of s'.shown) n ∙ ap (λ (x : Shown). x.group) equal;
       end' = sample.ends ∙ end_shown m (nets_of s'.shown) n ∙ ap (λ (x : Shown). x.end) equal;

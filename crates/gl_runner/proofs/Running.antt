@@ -1,13 +1,14 @@
 -- Cycle by cycle: what was written so far, and where the end is.
 use Rattle.std.proofs.Common.{◌≡◌, ℕ, zero, suc, ◌+◌, ◌-◌, ◌<◌, ◌≤◌, inl, inr, Bool, true, false, ◌||◌, List, [], ◌∷◌, ◌++◌, Option, Result, Ok, Err, refl, sym, ap, ◌∙◌, subst, arith, append_assoc, add-one}
-use Rattle.std.specs.Prelude.{◌⊎◌, is_err}
-use Rattle.std.specs.List.{list_any}
+use Rattle.std.specs.Prelude.{◌⊎◌, IsErrAnd, OnOk, is_err}
 use Rattle.std.proofs.lemmas.List.{append-nil}
 use Rattle.std.proofs.lemmas.Bool.{cases_lt, cases_eq}
 use Rattle.gl_bits.proofs.Bools.{or_join, or_none}
 use Rattle.gl_bits.specs.declared.kind.Kind.{Kind}
-use Rattle.gl_outside.specs.States.{Appends, AppendsFront, Broke, SinkState, Took, Wrote}
+use Rattle.gl_outside.specs.States.{Appends, AppendsFront, Broke, Counts, SinkState, Took, Wrote}
+use Rattle.gl_outside.specs.Counts.{Rose}
 use Rattle.gl_outside.proofs.Takes.{appends_none, appends_then, front_then, front_more}
+use Rattle.gl_dumps.specs.Signals.{seen_below}
 use Rattle.gl_schema.specs.declared.schema.Schema.{Schema}
 use Rattle.gl_schema.specs.Beats.{Beat, last_cycle}
 use Rattle.gl_schema.specs.Ports.{PortValues}
@@ -18,9 +19,12 @@ use Rattle.gl_verilog.specs.Run.{port_of}
 use Rattle.gl_verilog.specs.View.{module_of}
 use Rattle.gl_sim.specs.Simulation.{Simulation}
 use Rattle.gl_lines.specs.declared.lines.Sample.{Sample}
-use Rattle.gl_runner.specs.Cycles.{Advances, Driven, IsAhead, IsBefore, IsFollowed, IsMade, design_of}
+use Rattle.gl_runner.specs.Cycles.{Advances, Driven, HasOnPorts, IsAhead, IsBefore, IsFollowed, IsMade, design_of}
+use Rattle.gl_runner.specs.Traces.{IsLastRun}
 use Rattle.gl_lines.specs.Pieces.{sampled}
-use Rattle.gl_runner.specs.Traces.{IsLastRun, TracesFront, TracesToEnd, TracesOut}
+use Rattle.gl_bits.specs.Words.{bits_of}
+use Rattle.gl_runner.specs.declared.watching.Made.{Made}
+use Rattle.gl_runner.specs.Watches.{IsMadeOf, WatchesFront, WatchesOut, WatchesToEnd, bytes_to, has_group, lines_of_cycle, module_in, stands_told}
 use Rattle.gl_verilog_ports.specs.Profile.{result_names}
 
 -- ---- whether all was written
@@ -33,51 +37,86 @@ pub wrote_front : {E : Type 0} (a b : SinkState) (bytes : List ℕ) (r : Result 
 wrote_front a b bytes (Ok u) e w = absurd cc
 wrote_front a b bytes (Err x) e w = w
 
--- ---- the cycles before one
+-- what failed
+pub failed : {E : Type 0} (P : E → Type 0) (a b : SinkState) (bytes : List ℕ) (r : Result (Unit {0}) E) → IsErrAnd r P → Broke a b bytes → Wrote a b bytes r
+failed P a b bytes (Ok u) h w = absurd h
+failed P a b bytes (Err e) h w = w
 
-abbrev pub seen_below : PortValues → List (List ℕ) → ℕ → List Shown
-seen_below port outs zero = []
-seen_below port outs (suc n) = seen_below port outs n ++ shown port outs n ∷ []
+pub counts_of : {E : Type 0} (a b : SinkState) (bytes : List ℕ) (r : Result (Unit {0}) E) → Wrote a b bytes r → Counts a b r
+counts_of a b bytes (Ok u) w = w.calm
+counts_of a b bytes (Err x) w = w.cause
 
-seen_is : (port : PortValues) (outs : List (List ℕ)) (n : ℕ) → seen port outs n ≡ seen_below port outs (suc n)
-seen_is port outs zero = refl
-seen_is port outs (suc n) = ap (λ (all : List Shown). all ++ shown port outs (suc n) ∷ []) (seen_is port outs n)
+pub counts_calm : {E : Type 0} (a b : SinkState) (r : Result (Unit {0}) E) → is_err r ≡ false → Counts a b r → b.faults ≡ a.faults
+counts_calm a b (Ok u) e w = w
+counts_calm a b (Err x) e w = absurd cc
 
-pub has_group : List Shown → Bool
-has_group all = list_any (λ (s : Shown). s.group) all
+pub counts_rose : {E : Type 0} (a b : SinkState) (r : Result (Unit {0}) E) → is_err r ≡ true → Counts a b r → Rose a.faults b.faults
+counts_rose a b (Ok u) e w = absurd cc
+counts_rose a b (Err x) e w = w
+
+pub ok_then : {E P : Type 0} (r : Result (Unit {0}) E) → is_err r ≡ false → OnOk r P → P
+ok_then (Ok u) e h = h
+ok_then (Err x) e h = absurd cc
+
+-- ---- the lines of a result
+
+seen_more : (port : PortValues) (outs : List (List ℕ)) (n : ℕ) → seen port outs n ≡ seen_below port outs n ++ shown port outs n ∷ []
+seen_more port outs zero = refl
+seen_more port outs (suc n) = refl
 
 group_push : (all : List Shown) (s : Shown) → has_group (all ++ s ∷ []) ≡ (has_group all || s.group)
-unfolding has_group
 group_push [] s = or_none s.group
 group_push (x ∷ all) s = ap (λ (b : Bool). x.group || b) (group_push all s) ∙ sym (or_join x.group (has_group all) s.group)
 
+-- whether a further group was told, behind a cycle
+pub told_more : (told : Bool) (m : Module) (port : PortValues) (n : ℕ) (group : Bool) → stands_told told m port n → group ≡ (shown port (result_names m) n).group → stands_told (told || group) m port (n + 1)
+told_more told m port n group before same =
+    let next : n + 1 ≡ suc n = add-one n in
+    let outs : List (List ℕ) = result_names m in
+    rw next (ap (λ (b : Bool). b || group) before ∙ ap (λ (b : Bool). has_group (seen_below port outs n) || b) same
+    ∙ sym (group_push (seen_below port outs n) (shown port outs n)) ∙ ap has_group (sym (seen_more port outs n)))
+
 lines_push : (overflowed : Bool) (kinds : List Kind) (all : List Shown) (s : Shown) → lines_after overflowed kinds (all ++ s ∷ []) ≡ lines_after overflowed kinds all ++ cycle_lines kinds (overflowed || has_group all) s
-unfolding has_group
 lines_push overflowed kinds [] s = append-nil (cycle_lines kinds overflowed s) ∙ ap (λ (b : Bool). cycle_lines kinds b s) (sym (or_none overflowed))
 lines_push overflowed kinds (x ∷ all) s =
     ap (λ (bytes : List ℕ). cycle_lines kinds overflowed x ++ bytes)
     (lines_push (overflowed || x.group) kinds all s ∙ ap (λ (b : Bool). lines_after (overflowed || x.group) kinds all ++ cycle_lines kinds b s) (or_join overflowed x.group (has_group all)))
     ∙ sym (append_assoc (cycle_lines kinds overflowed x) (lines_after (overflowed || x.group) kinds all) (cycle_lines kinds (overflowed || has_group (x ∷ all)) s))
 
-lines_below : (kinds : List Kind) (port : PortValues) (outs : List (List ℕ)) (n : ℕ) → lines kinds (seen_below port outs (suc n)) ≡ lines kinds (seen_below port outs n) ++ cycle_lines kinds (has_group (seen_below port outs n)) (shown port outs n)
-lines_below kinds port outs n = lines_push false kinds (seen_below port outs n) (shown port outs n)
+-- the lines of the cycles up to one, cycle by cycle
+pub lines_to : (kinds : List Kind) (m : Module) (port : PortValues) (n : ℕ) → bytes_to (lines_of_cycle kinds) m port n ≡ lines kinds (seen port (result_names m) n)
+lines_to kinds m port zero = sym (append-nil (cycle_lines kinds false (shown port (result_names m) 0)))
+lines_to kinds m port (suc n) =
+    let outs : List (List ℕ) = result_names m in
+    ap (λ (bytes : List ℕ). bytes ++ lines_of_cycle kinds m port (suc n)) (lines_to kinds m port n)
+    ∙ sym (lines_push false kinds (seen port outs n) (shown port outs (suc n)))
 
--- the lines of fewer cycles are a front
-record IsFront (front all : List ℕ) : Type 0 where
-  rest : List ℕ
-  same : all ≡ front ++ rest
+-- ---- the cycles before one
 
-lines_front : (kinds : List Kind) (port : PortValues) (outs : List (List ℕ)) (n j : ℕ) → IsFront (lines kinds (seen_below port outs n)) (lines kinds (seen_below port outs (n + j)))
-lines_front kinds port outs n zero =
+abbrev pub bytes_below : (Module → PortValues → ℕ → List ℕ) → Module → PortValues → ℕ → List ℕ
+bytes_below bytes m port zero = []
+bytes_below bytes m port (suc n) = bytes_to bytes m port n
+
+bytes_more : (bytes : Module → PortValues → ℕ → List ℕ) (m : Module) (port : PortValues) (n : ℕ) → bytes_to bytes m port n ≡ bytes_below bytes m port n ++ bytes m port n
+bytes_more bytes m port zero = refl
+bytes_more bytes m port (suc n) = refl
+
+-- the bytes of fewer cycles are a front
+pub record IsFront (front all : List ℕ) : Type 0 where
+  pub rest : List ℕ
+  pub same : all ≡ front ++ rest
+
+bytes_front : (bytes : Module → PortValues → ℕ → List ℕ) (m : Module) (port : PortValues) (n j : ℕ) → IsFront (bytes_below bytes m port n) (bytes_below bytes m port (n + j))
+bytes_front bytes m port n zero =
     let same : n + 0 ≡ n = omega arith in
-    record { rest = []; same = ap (λ (k : ℕ). lines kinds (seen_below port outs k)) same ∙ sym (append-nil (lines kinds (seen_below port outs n))) }
-lines_front kinds port outs n (suc j) =
+    record { rest = []; same = ap (bytes_below bytes m port) same ∙ sym (append-nil (bytes_below bytes m port n)) }
+bytes_front bytes m port n (suc j) =
     let same : n + suc j ≡ suc (n + j) = omega arith in
-    let front = lines_front kinds port outs n j in
-    let more : List ℕ = cycle_lines kinds (has_group (seen_below port outs (n + j))) (shown port outs (n + j)) in
+    let front = bytes_front bytes m port n j in
+    let more : List ℕ = bytes m port (n + j) in
     record {
       rest = front.rest ++ more;
-      same = ap (λ (k : ℕ). lines kinds (seen_below port outs k)) same ∙ lines_below kinds port outs (n + j) ∙ ap (λ (bytes : List ℕ). bytes ++ more) front.same ∙ append_assoc (lines kinds (seen_below port outs n)) front.rest more;
+      same = ap (bytes_below bytes m port) same ∙ bytes_more bytes m port (n + j) ∙ ap (λ (x : List ℕ). x ++ more) front.same ∙ append_assoc (bytes_below bytes m port n) front.rest more;
     }
 
 -- ---- the first end
@@ -133,43 +172,64 @@ made_next d e f sample n value word at design made followed =
     subst (λ (x : Driven). IsBefore x value word → IsMade (design_of x) f.sim x.schema x.beats sample f.row x.cycle value word) at (made value word) in
     subst (λ (m : Rust). IsMade (module_of m) f.sim d.schema d.beats sample f.row n value word) design (all followed)
 
+-- what was made is this of the ports in a run
+pub made_of : (made : Made) (m : Module) (s : Simulation) (schema : Schema) (beats : List Beat) (row : List ℕ) (value : ℕ → Nets) (word : ℕ → Memories)
+    → m ≡ module_in made → s ≡ made.sim.now → row ≡ bits_of made.row.now → IsMade m s schema beats made.sample row made.cycle value word → IsMadeOf made (port_of m value)
+made_of made m s schema beats row value word same at shows h =
+    let h' : IsMade m made.sim.now schema beats made.sample (bits_of made.row.now) made.cycle value word = subst (λ (x : Simulation). IsMade m x schema beats made.sample (bits_of made.row.now) made.cycle value word) at (subst (λ (x : List ℕ). IsMade m s schema beats made.sample x made.cycle value word) shows h) in
+    record {
+      ports' = subst (λ (x : Module). HasOnPorts x made.sim.now (port_of m value) (suc made.cycle)) same h'.ports';
+      lines' = subst (λ (x : Module). (kinds : List Kind) (overflowed : Bool) → cycle_lines kinds overflowed (sampled made.sample made.cycle (bits_of made.row.now)) ≡ cycle_lines kinds overflowed (shown (port_of m value) (result_names x) made.cycle)) same h'.lines';
+      group' = subst (λ (x : Module). made.sample.group ≡ (shown (port_of m value) (result_names x) made.cycle).group) same h'.group';
+    }
+
+-- what a watcher does of a cycle in a run
+pub record IsWatched {E : Type 0} (bytes : Module → PortValues → ℕ → List ℕ) (stands : Module → PortValues → ℕ → Type 0) (m : Module) (port : PortValues) (n : ℕ) (old new : SinkState) (r : Result (Unit {0}) E) : Type 0 where
+  pub wrote : Wrote old new (bytes m port n) r
+  pub behind : OnOk r (stands m port (n + 1))
+
+pub watched_one : {E : Type 0} (made : Made) (m : Module) (kinds : List Kind) (bytes bytes' : List Kind → Module → PortValues → ℕ → List ℕ) (stands stands' : Module → PortValues → ℕ → Type 0) (port : PortValues) (old new : SinkState) (r : Result (Unit {0}) E)
+    → m ≡ module_in made → made.kinds.now ≡ kinds → bytes ≡ bytes' → IsMadeOf made port → stands m port made.cycle
+    → ((p : PortValues) → IsMadeOf made p → stands (module_in made) p made.cycle → Wrote old new (bytes made.kinds.now (module_in made) p made.cycle) r)
+    → ((p : PortValues) → IsMadeOf made p → stands (module_in made) p made.cycle → OnOk r (stands' (module_in made) p (made.cycle + 1)))
+    → IsWatched (bytes' kinds) stands' m port made.cycle old new r
+watched_one made m kinds bytes bytes' stands stands' port old new r same printed alike of before wrote behind =
+    let before' : stands (module_in made) port made.cycle = subst (λ (x : Module). stands x port made.cycle) same before in
+    record {
+      wrote = subst (λ (x : List Kind → Module → PortValues → ℕ → List ℕ). Wrote old new (x kinds m port made.cycle) r) alike
+          (subst (λ (x : List Kind). Wrote old new (bytes x m port made.cycle) r) printed
+          (subst (λ (x : Module). Wrote old new (bytes made.kinds.now x port made.cycle) r) (sym same) (wrote port of before')));
+      behind = subst (λ (x : Module). OnOk r (stands' x port (made.cycle + 1))) (sym same) (behind port of before');
+    }
+
 -- ---- on the way
 
--- file cycle n comes next; so many bytes were written, and no end was seen from the last beat on
-pub record IsUnderWay (m : Module) (s : Simulation) (schema : Schema) (kinds : List Kind) (beats : List Beat) (overflowed : Bool) (n : ℕ) (old new : Option (List ℕ)) (value : ℕ → Nets) (word : ℕ → Memories) : Type 0 where
+-- file cycle n comes next; so many bytes were written, the watcher stands in front of it, and no end was seen from the last beat on
+pub record IsUnderWay (m : Module) (s : Simulation) (schema : Schema) (bytes : Module → PortValues → ℕ → List ℕ) (stands : Module → PortValues → ℕ → Type 0) (beats : List Beat) (n : ℕ) (old new : Option (List ℕ)) (value : ℕ → Nets) (word : ℕ → Memories) : Type 0 where
   pub followed : IsFollowed s schema beats value word (n + 1)
-  pub overflowed' : overflowed ≡ has_group (seen_below (port_of m value) (result_names m) n)
-  pub written : Appends old new (lines kinds (seen_below (port_of m value) (result_names m) n))
+  pub stands' : stands m (port_of m value) n
+  pub written : Appends old new (bytes_below bytes m (port_of m value) n)
   pub none : (k : ℕ) → last_cycle beats ≤ k → k < n → (shown (port_of m value) (result_names m) k).end ≡ false
 
-pub under_way_first : (m : Module) (s : Simulation) (schema : Schema) (kinds : List Kind) (beats : List Beat) (old : Option (List ℕ)) (value : ℕ → Nets) (word : ℕ → Memories) → IsFollowed s schema beats value word 1 → IsUnderWay m s schema kinds beats false 0 old old value word
-unfolding has_group
-under_way_first m s schema kinds beats old value word h = record { followed = h; overflowed' = refl; written = appends_none old; none = λ k le lt. absurd (omega arith) }
+pub under_way_first : (m : Module) (s : Simulation) (schema : Schema) (bytes : Module → PortValues → ℕ → List ℕ) (stands : Module → PortValues → ℕ → Type 0) (beats : List Beat) (old : Option (List ℕ)) (value : ℕ → Nets) (word : ℕ → Memories) → IsFollowed s schema beats value word 1 → stands m (port_of m value) 0 → IsUnderWay m s schema bytes stands beats 0 old old value word
+under_way_first m s schema bytes stands beats old value word h at = record { followed = h; stands' = at; written = appends_none old; none = λ k le lt. absurd (omega arith) }
 
 -- what a cycle writes behind the others
-all_written : (m : Module) (s s' : Simulation) (schema : Schema) (kinds : List Kind) (beats : List Beat) (overflowed : Bool) (l : Sample) (row : List ℕ) (n : ℕ) (old mid new : Option (List ℕ)) (value : ℕ → Nets) (word : ℕ → Memories)
-    → IsUnderWay m s schema kinds beats overflowed n old mid value word → IsMade m s' schema beats l row n value word → Appends mid new (cycle_lines kinds overflowed (sampled l n row))
-    → Appends old new (lines kinds (seen_below (port_of m value) (result_names m) (suc n)))
-all_written m s s' schema kinds beats overflowed l row n old mid new value word u made w =
-    let port : PortValues = port_of m value in
-    let outs : List (List ℕ) = result_names m in
-    let same : cycle_lines kinds overflowed (sampled l n row) ≡ cycle_lines kinds (has_group (seen_below port outs n)) (shown port outs n) =
-    made.lines' kinds overflowed ∙ ap (λ (b : Bool). cycle_lines kinds b (shown port outs n)) u.overflowed' in
-    subst (Appends old new) (ap (λ (bytes : List ℕ). lines kinds (seen_below port outs n) ++ bytes) same ∙ sym (lines_below kinds port outs n))
-    (appends_then old mid new (lines kinds (seen_below port outs n)) (cycle_lines kinds overflowed (sampled l n row)) u.written w)
+all_written : (m : Module) (bytes : Module → PortValues → ℕ → List ℕ) (port : PortValues) (n : ℕ) (old mid new : Option (List ℕ)) → Appends old mid (bytes_below bytes m port n) → Appends mid new (bytes m port n) → Appends old new (bytes_to bytes m port n)
+all_written m bytes port n old mid new before w = subst (Appends old new) (sym (bytes_more bytes m port n)) (appends_then old mid new (bytes_below bytes m port n) (bytes m port n) before w)
 
-pub under_way_more : (m : Module) (s s' : Simulation) (schema : Schema) (kinds : List Kind) (beats : List Beat) (overflowed overflowed' : Bool) (l : Sample) (row : List ℕ) (n : ℕ) (old mid new : Option (List ℕ)) (value : ℕ → Nets) (word : ℕ → Memories)
-    → IsUnderWay m s schema kinds beats overflowed n old mid value word → IsMade m s' schema beats l row n value word → Appends mid new (cycle_lines kinds overflowed (sampled l n row))
-    → overflowed' ≡ (overflowed || l.group) → (last_cycle beats ≤ n → l.end ≡ false) → IsUnderWay m s' schema kinds beats overflowed' (n + 1) old new value word
-under_way_more m s s' schema kinds beats overflowed overflowed' l row n old mid new value word u made w tells ends =
+pub under_way_more : (m : Module) (s s' : Simulation) (schema : Schema) (bytes : Module → PortValues → ℕ → List ℕ) (stands stands' : Module → PortValues → ℕ → Type 0) (beats : List Beat) (l : Sample) (row : List ℕ) (n : ℕ) (old mid new : Option (List ℕ)) (value : ℕ → Nets) (word : ℕ → Memories)
+    → IsUnderWay m s schema bytes stands beats n old mid value word → IsMade m s' schema beats l row n value word → Appends mid new (bytes m (port_of m value) n)
+    → stands' m (port_of m value) (n + 1) → (last_cycle beats ≤ n → l.end ≡ false) → IsUnderWay m s' schema bytes stands' beats (n + 1) old new value word
+under_way_more m s s' schema bytes stands stands' beats l row n old mid new value word u made w behind ends =
     let port : PortValues = port_of m value in
     let outs : List (List ℕ) = result_names m in
     let next : n + 1 ≡ suc n = add-one n in
     let two : n + 1 + 1 ≡ n + 2 = omega arith in
     record {
       followed = subst (IsFollowed s' schema beats value word) (sym two) made.followed;
-      overflowed' = rw next (tells ∙ ap (λ (b : Bool). b || l.group) u.overflowed' ∙ ap (λ (b : Bool). has_group (seen_below port outs n) || b) made.group' ∙ sym (group_push (seen_below port outs n) (shown port outs n)));
-      written = rw next (all_written m s s' schema kinds beats overflowed l row n old mid new value word u made w);
+      stands' = behind;
+      written = rw next (all_written m bytes port n old mid new u.written w);
       none = λ k le lt. (elim (cases_eq k n) [
         | inl e ↦ subst (λ (x : ℕ). (shown port outs x).end ≡ false) (sym e) (sym made.end' ∙ ends (omega (arith, le, e)))
         | inr e ↦ u.none k le (omega (arith, lt, e))
@@ -177,33 +237,41 @@ under_way_more m s s' schema kinds beats overflowed overflowed' l row n old mid 
     }
 
 -- the end
-pub under_way_done : (m : Module) (s s' : Simulation) (schema : Schema) (kinds : List Kind) (beats : List Beat) (overflowed : Bool) (l : Sample) (row : List ℕ) (n extra : ℕ) (old mid new : Option (List ℕ)) (value : ℕ → Nets) (word : ℕ → Memories)
-    → IsUnderWay m s schema kinds beats overflowed n old mid value word → IsMade m s' schema beats l row n value word → Appends mid new (cycle_lines kinds overflowed (sampled l n row))
-    → l.end ≡ true → last_cycle beats ≤ n → n ≤ last_cycle beats + extra → TracesToEnd kinds beats extra (result_names m) (port_of m value) old new
-under_way_done m s s' schema kinds beats overflowed l row n extra old mid new value word u made w ends le soon = record {
-  last = n;
-  ends = record {
-    is = record { soonest = le; ends = sym made.end' ∙ ends; first = u.none };
-    in_time = soon;
-  };
-  taken = rw (seen_is (port_of m value) (result_names m) n) (all_written m s s' schema kinds beats overflowed l row n old mid new value word u made w);
-}
+pub under_way_done : (m : Module) (s s' : Simulation) (schema : Schema) (bytes : Module → PortValues → ℕ → List ℕ) (stands stands' : Module → PortValues → ℕ → Type 0) (beats : List Beat) (l : Sample) (row : List ℕ) (n extra : ℕ) (old mid new : Option (List ℕ)) (value : ℕ → Nets) (word : ℕ → Memories)
+    → IsUnderWay m s schema bytes stands beats n old mid value word → IsMade m s' schema beats l row n value word → Appends mid new (bytes m (port_of m value) n)
+    → stands' m (port_of m value) (n + 1) → l.end ≡ true → last_cycle beats ≤ n → n ≤ last_cycle beats + extra → WatchesToEnd bytes stands' beats extra m (port_of m value) old new
+under_way_done m s s' schema bytes stands stands' beats l row n extra old mid new value word u made w behind ends le soon =
+    let next : n + 1 ≡ suc n = add-one n in
+    record {
+      last = n;
+      is = record {
+        is = record { soonest = le; ends = sym made.end' ∙ ends; first = u.none };
+        in_time = soon;
+      };
+      watched = record {
+        taken = all_written m bytes (port_of m value) n old mid new u.written w;
+        behind = subst (stands' m (port_of m value)) next behind;
+      };
+    }
 
 -- no end came in any of the cycles
-pub under_way_out : (m : Module) (s : Simulation) (schema : Schema) (kinds : List Kind) (beats : List Beat) (overflowed : Bool) (n extra far : ℕ) (old new : Option (List ℕ)) (value : ℕ → Nets) (word : ℕ → Memories)
-    → IsUnderWay m s schema kinds beats overflowed n old new value word → far ≡ last_cycle beats + extra → n ≡ suc far → TracesOut kinds beats extra far (result_names m) (port_of m value) old new
-under_way_out m s schema kinds beats overflowed n extra far old new value word u last next = record {
-  out = record { last = last; none = λ k le up. u.none k le (omega (arith, last, next, up)) };
-  taken = rw (seen_is (port_of m value) (result_names m) far) (subst (λ (k : ℕ). Appends old new (lines kinds (seen_below (port_of m value) (result_names m) k))) next u.written);
+pub under_way_out : (m : Module) (s : Simulation) (schema : Schema) (bytes : Module → PortValues → ℕ → List ℕ) (stands : Module → PortValues → ℕ → Type 0) (beats : List Beat) (n extra far : ℕ) (old new : Option (List ℕ)) (value : ℕ → Nets) (word : ℕ → Memories)
+    → IsUnderWay m s schema bytes stands beats n old new value word → far ≡ last_cycle beats + extra → n ≡ suc far → WatchesOut bytes stands beats extra far m (port_of m value) old new
+under_way_out m s schema bytes stands beats n extra far old new value word u last next = record {
+  is = record { last = last; none = λ k le up. u.none k le (omega (arith, last, next, up)) };
+  watched = record {
+    taken = subst (λ (k : ℕ). Appends old new (bytes_below bytes m (port_of m value) k)) next u.written;
+    behind = subst (stands m (port_of m value)) next u.stands';
+  };
 }
 
 -- the last cycle that is run, where no end came before cycle n
-record IsLastFrom (beats : List Beat) (outs : List (List ℕ)) (port : PortValues) (extra n : ℕ) : Type 0 where
-  place : ℕ
-  is : IsLastRun beats outs port extra place
-  here : n ≤ place
+pub record IsLastFrom (beats : List Beat) (outs : List (List ℕ)) (port : PortValues) (extra n : ℕ) : Type 0 where
+  pub place : ℕ
+  pub is : IsLastRun beats outs port extra place
+  pub here : n ≤ place
 
-last_from : (beats : List Beat) (outs : List (List ℕ)) (port : PortValues) (extra n : ℕ) → ((k : ℕ) → last_cycle beats ≤ k → k < n → (shown port outs k).end ≡ false) → n ≤ last_cycle beats + extra → IsLastFrom beats outs port extra n
+pub last_from : (beats : List Beat) (outs : List (List ℕ)) (port : PortValues) (extra n : ℕ) → ((k : ℕ) → last_cycle beats ≤ k → k < n → (shown port outs k).end ≡ false) → n ≤ last_cycle beats + extra → IsLastFrom beats outs port extra n
 unfolding IsNone
 last_from beats outs port extra n none soon = (elim (first_end (λ k. (shown port outs k).end) (last_cycle beats) extra) [
   | inl e ↦ record {
@@ -217,25 +285,26 @@ last_from beats outs port extra n none soon = (elim (first_end (λ k. (shown por
     not_before : (a b : ℕ) → (b < a → ⊥) → a ≤ b
     not_before a b h = (elim (cases_lt b a) [ inl lt ↦ absurd (h lt) | inr le ↦ le ])
 
+-- what was written up to a cycle is a front of what is written up to a later one
+pub bytes_up_to : (bytes : Module → PortValues → ℕ → List ℕ) (m : Module) (port : PortValues) (n last : ℕ) → n ≤ last → IsFront (bytes_to bytes m port n) (bytes_to bytes m port last)
+bytes_up_to bytes m port n last le =
+    let reach : suc n + (last - n) ≡ suc last = omega (arith, le) in
+    subst (λ (k : ℕ). IsFront (bytes_to bytes m port n) (bytes_below bytes m port k)) reach (bytes_front bytes m port (suc n) (last - n))
+
 -- the sink failed
-pub under_way_cut : (m : Module) (s s' : Simulation) (schema : Schema) (kinds : List Kind) (beats : List Beat) (overflowed : Bool) (l : Sample) (row : List ℕ) (n extra : ℕ) (old mid new : Option (List ℕ)) (value : ℕ → Nets) (word : ℕ → Memories)
-    → IsUnderWay m s schema kinds beats overflowed n old mid value word → IsMade m s' schema beats l row n value word → AppendsFront mid new (cycle_lines kinds overflowed (sampled l n row))
-    → n ≤ last_cycle beats + extra → TracesFront kinds beats extra (result_names m) (port_of m value) old new
-under_way_cut m s s' schema kinds beats overflowed l row n extra old mid new value word u made w soon =
+pub under_way_cut : (m : Module) (s : Simulation) (schema : Schema) (bytes : Module → PortValues → ℕ → List ℕ) (stands : Module → PortValues → ℕ → Type 0) (beats : List Beat) (n extra : ℕ) (old mid new : Option (List ℕ)) (value : ℕ → Nets) (word : ℕ → Memories)
+    → IsUnderWay m s schema bytes stands beats n old mid value word → AppendsFront mid new (bytes m (port_of m value) n)
+    → n ≤ last_cycle beats + extra → WatchesFront bytes beats extra m (port_of m value) old new
+under_way_cut m s schema bytes stands beats n extra old mid new value word u w soon =
     let port : PortValues = port_of m value in
-    let outs : List (List ℕ) = result_names m in
-    let last = last_from beats outs port extra n u.none soon in
-    let reach : suc n + (last.place - n) ≡ suc last.place = omega (arith, last.here) in
-    let front = lines_front kinds port outs (suc n) (last.place - n) in
-    let same : cycle_lines kinds overflowed (sampled l n row) ≡ cycle_lines kinds (has_group (seen_below port outs n)) (shown port outs n) =
-    made.lines' kinds overflowed ∙ ap (λ (b : Bool). cycle_lines kinds b (shown port outs n)) u.overflowed' in
-    let all : lines kinds (seen port outs last.place) ≡ (lines kinds (seen_below port outs n) ++ cycle_lines kinds overflowed (sampled l n row)) ++ front.rest =
-    ap (lines kinds) (seen_is port outs last.place) ∙ ap (λ (k : ℕ). lines kinds (seen_below port outs k)) (sym reach) ∙ front.same
-    ∙ ap (λ (bytes : List ℕ). bytes ++ front.rest) (lines_below kinds port outs n ∙ ap (λ (bytes : List ℕ). lines kinds (seen_below port outs n) ++ bytes) (sym same)) in
+    let last = last_from beats (result_names m) port extra n u.none soon in
+    let front = bytes_up_to bytes m port n last.place last.here in
+    let all : bytes_to bytes m port last.place ≡ (bytes_below bytes m port n ++ bytes m port n) ++ front.rest =
+    front.same ∙ ap (λ (x : List ℕ). x ++ front.rest) (bytes_more bytes m port n) in
     record {
       last = last.place;
       is = last.is;
       taken = subst (AppendsFront old new) (sym all)
-          (front_more old new (lines kinds (seen_below port outs n) ++ cycle_lines kinds overflowed (sampled l n row)) front.rest
-          (front_then old mid new (lines kinds (seen_below port outs n)) (cycle_lines kinds overflowed (sampled l n row)) u.written w));
+          (front_more old new (bytes_below bytes m port n ++ bytes m port n) front.rest
+          (front_then old mid new (bytes_below bytes m port n) (bytes m port n) u.written w));
     }

@@ -1,18 +1,19 @@
 -- A module that is driven through the cycles of a file: what stands around it, what a cycle shows, and where it then
 -- is.
-use Rattle.std.specs.Prelude.{◌≡◌, ℕ, ◌+◌, ◌≤◌, ◌^◌, Bool, List, map, length}
+use Rattle.std.specs.Prelude.{◌≡◌, ℕ, suc, ◌+◌, ◌<◌, ◌≤◌, ◌^◌, Bool, List, Some, map, length, slice_get, slice_index, take}
 use Rattle.std.specs.List.{AllByRecursion}
 use Rattle.gl_bits.specs.declared.kind.Kind.{Kind}
 use Rattle.gl_bits.specs.Kinds.{IsKind, width_of}
 use Rattle.gl_schema.specs.declared.schema.Schema.{Schema}
 use Rattle.gl_schema.specs.Beats.{Beat, AreBeats}
 use Rattle.gl_schema.specs.Ports.{PortValues, IsStimulus}
-use Rattle.gl_schema.specs.Seen.{shown, cycle_lines}
-use Rattle.gl_verilog.specs.Module.{Module, Nets, Memories}
+use Rattle.gl_schema.specs.Seen.{shown, cycle_lines, value_at}
+use Rattle.gl_verilog.specs.Module.{Declaration, Module, Nets, Memories}
 use Rattle.gl_verilog.specs.Run.{IsRun, port_of, input_values}
 use Rattle.gl_verilog.specs.Evaluate.{nets_of}
 use Rattle.gl_verilog.specs.View.{module_of}
 use Rattle.gl_verilog.specs.Valid.{IsValid}
+use Rattle.gl_verilog.specs.Widths.{IsNet, IsReadable}
 use Rattle.gl_sim.specs.Simulation.{Simulation, IsAt}
 use Rattle.gl_verilog_orders.specs.declared.start.Start.{Start}
 use Rattle.gl_bits.specs.Words.{Word, widths_of}
@@ -49,10 +50,22 @@ pub record IsFollowed (s : Simulation) (schema : Schema) (beats : List Beat) (va
   pub stimulus : IsStimulus schema beats (input_values (module_of s.design) value)
   pub at : IsAt s value word t
 
+-- the ports of the module are declared, and none is a memory
+pub record HasPlainPorts (m : Module) : Type 0 where
+  pub inside : m.ports ≤ length m.declarations
+  pub nets : (k : ℕ) (d : Declaration) → slice_get (take m.ports m.declarations) k ≡ Some d → IsNet d.kind
+
+-- what the simulator has on each port but the clock is what the port has in cycle t of a run, and fits its bits
+abbrev pub HasOnPorts : Module → Simulation → PortValues → ℕ → Type 0
+HasOnPorts m s port t =
+    (k : ℕ) (d : Declaration) → slice_get (take m.ports m.declarations) k ≡ Some d → IsReadable d
+    → (slice_index s.shown k ≡ value_at port t d.name) × (slice_index s.shown k < 2 ^ d.width)
+
 -- file cycle n of the module was made: what was sampled is what it shows, and the simulator is before the next
 pub record IsMade (m : Module) (s : Simulation) (schema : Schema) (beats : List Beat) (sample : Sample) (row : List ℕ)
     (n : ℕ) (value : ℕ → Nets) (word : ℕ → Memories) : Type 0 where
   pub followed : IsFollowed s schema beats value word (n + 2)
+  pub ports' : HasOnPorts m s (port_of m value) (suc n)
   pub lines' : (kinds : List Kind) (overflowed : Bool) → cycle_lines kinds overflowed (sampled sample n row)
       ≡ cycle_lines kinds overflowed (shown (port_of m value) (result_names m) n)
   pub group' : sample.group ≡ (shown (port_of m value) (result_names m) n).group

@@ -3,25 +3,23 @@
 ghost use Rattle.std.specs.Prelude.{◌≡◌, ◌+◌, ◌<◌, ◌≤◌, ◌^◌, length, map, option_map, IfOk};
 ghost use Rattle.std.specs.List.{AllByRecursion};
 ghost use Rattle.gl_bits.specs.Kinds.{IsKind};
-ghost use Rattle.gl_outside.specs.States.{Wrote};
 ghost use Rattle.gl_schema.specs.Beats.{beat_at, last_cycle};
-ghost use Rattle.gl_schema.specs.Seen.{cycle_lines};
 ghost use Rattle.gl_tuples.specs.Gaps.{plain_beat, plain_beats};
-ghost use Rattle.gl_lines.specs.Pieces.{sampled};
 ghost use Rattle.gl_verilog.specs.Runnable.{inputs_of};
 ghost use Rattle.gl_verilog.specs.View.{module_of};
 ghost use Rattle.gl_testbench.specs.Benches.{AreShows};
 ghost use Rattle.gl_testbench.specs.Carried.{pin_at};
 ghost use Rattle.gl_testbench.specs.Dues.{AreDue};
-ghost use Rattle.gl_runner.specs.Cycles.{Advances, CanFollow, IsAhead, IsStarted};
-ghost use Rattle.gl_runner.specs.Cycles.{OfDriven};
+ghost use Rattle.gl_runner.specs.Cycles.{Advances, CanFollow, IsAhead, IsStarted, design_of};
 ghost use Rattle.gl_runner.specs.Traces.{OfRunsOf, Traced};
+ghost use Rattle.gl_runner.specs.Watches.{OfDrivenPorts, StandsFirst, Watched};
 
 use crate::sampling::{sample_of, set_row};
 use crate::tracing::Ending;
+use crate::watching::{Made, ResultLines, Watch};
 use gl_bits::{Kind, Memory, Row};
-use gl_lines::{Sample, put_cycle, zero_row};
-use gl_outside::{Sink, WriteFault};
+use gl_lines::{Sample, zero_row};
+use gl_outside::Sink;
 use gl_schema::Schema;
 use gl_sim::Sim;
 use gl_sim::room::{ports_of, zeros};
@@ -51,7 +49,7 @@ pub(crate) struct Task<'a> {
 /// In clauses it is seen as its simulator, what it is driven over, which cycle of the file comes
 /// next, and what the columns showed in the last one.
 #[derive(Drop)]
-struct Drive<'a> {
+pub(crate) struct Drive<'a> {
     task: Task<'a>,
     sim: Sim,
     // What each input carries, and what it is set to.
@@ -149,7 +147,12 @@ fn last_of(beats: &Beats) -> u64
 
 impl<'a> Drive<'a> {
     // Takes all the memory that it needs, and makes the cycle of the reset.
-    fn new(alloc: Global, design: Module, shows: Shows, task: Task<'a>) -> Result<Drive<'a>, Memory>
+    pub(crate) fn new(
+        alloc: Global,
+        design: Module,
+        shows: Shows,
+        task: Task<'a>,
+    ) -> Result<Drive<'a>, Memory>
         requires can { CanFollow (module_of design) task.schema.now task.kinds.now
             (plain_beats task.beats.now) }
         requires shows { AreShows (module_of design) shows }
@@ -206,39 +209,32 @@ impl<'a> Drive<'a> {
         sample_of(&self.sim, &self.shows)
     }
 
-    // Writes the lines of the cycle that was made last.
-    fn put<K: Sink>(
-        &self,
-        out: &mut K,
-        cycle: u64,
-        overflowed: bool,
-        sample: Sample,
-    ) -> Result<(), WriteFault>
-        ensures { let row = sampled sample cycle self.now.row in
-            Wrote (K.state out.old) (K.state out.new)
-            (cycle_lines self.now.kinds overflowed row) result }
-    {
-        put_cycle(out, cycle, self.task.kinds, &self.row, overflowed, sample)
-    }
-
-    // Makes the cycles of the file up to the end, or to the last that is waited for, and writes
-    // their lines.
-    fn follow<K: Sink>(&mut self, out: &mut K) -> Ending
-        requires { self.old.cycle ≡ 0 }
-        ensures { Traced (OfDriven self.old) self.old.kinds self.old.beats self.old.extra
-            (K.state out.old) (K.state out.new) result }
+    // Makes the cycles of the file up to the end, or to the last that is waited for, each of which
+    // is watched.
+    pub(crate) fn follow<W: Watch, K: Sink>(&mut self, watch: &mut W, out: &mut K) -> Ending
+        requires first { self.old.cycle ≡ 0 }
+        requires serves { W.serves watch.old (design_of self.old) }
+        requires stands { StandsFirst (W.stands watch.old) self.old }
+        ensures { let d = self.old in
+            Watched (OfDrivenPorts d) (W.bytes watch.old d.kinds) (W.stands watch.new) d.beats
+            d.extra (K.state out.old) (K.state out.new) result }
     {
         let (last, far) = self.bounds();
-        let mut overflowed = false;
         for cycle in 0..far + 1 {
             let sample = self.advance();
-            if self.put(out, cycle, overflowed, sample).is_err() {
+            let made = Made {
+                cycle,
+                sim: &self.sim,
+                sample,
+                row: &self.row,
+                kinds: self.task.kinds,
+            };
+            if watch.cycle(&made, out).is_err() {
                 return Ending::WriteFault;
             }
             if sample.end && cycle >= last {
                 return Ending::Done;
             }
-            overflowed |= sample.group;
         }
         Ending::NoEnd { cycle: far }
     }
@@ -270,5 +266,6 @@ pub(crate) fn follow_module<K: Sink>(
     let Ok(mut drive) = Drive::new(alloc, design, shows, task) else {
         return Ending::Memory;
     };
-    drive.follow(out)
+    let mut lines = ResultLines { told: false };
+    drive.follow(&mut lines, out)
 }

@@ -6,9 +6,12 @@
 #![tactic(auto)]
 
 mod driving;
+pub mod dumping;
 pub mod executing;
 mod sampling;
 pub mod tracing;
+pub mod watching;
 
+pub use dumping::dump_module;
 pub use executing::{Outcome, execute_module};
 pub use tracing::{Ending, trace};

@@ -9,7 +9,7 @@ use Rattle.gl_top_notes.specs.declared.status.Status.{Status}
 use Rattle.gl_top_notes.specs.declared.status.Status.TheVariants as status
 use Rattle.gl_outside.specs.Told.{Told}
 use Rattle.gl_top_words.specs.declared.command.Command.{Command}
-use Rattle.gl_top_words.specs.declared.command.Command.TheVariants.{Compile, Figures, Explain, Run, Sim, Load}
+use Rattle.gl_top_words.specs.declared.command.Command.TheVariants.{Compile, Figures, Explain, Run, Sim, Load, Vcd, Undump}
 use Rattle.gl_top_words.specs.declared.command.Part.{Part}
 use Rattle.gl_top_words.specs.declared.command.Part.TheVariants as part
 use Rattle.gl_top_words.specs.Forms.{IsForm, command_of, extra_of}
@@ -29,9 +29,9 @@ use Rattle.gl_top_notes.specs.Refusals.{Puts, Notes, status_of, note_of, no_end_
 use Rattle.gl_top_judging.specs.Causes.{Change, HasCause, IsNext, IsRefused}
 use Rattle.gl_top.specs.Shown.{Shows}
 use Rattle.gl_top.specs.Calls.{Call}
-use Rattle.gl_top.specs.Verdicts.{AllPass, OfFile, Three, Completes, Whole, NoMemory, Endless, IsAnswer, RanWhole, RanCut, Traced, Wrote, WroteCut, Refused, IsEndless, IsComplete, IsGiven, OfLoad, OfTexts, IsTelling, TellsEnding, TellsFaults, TellsForm, Yields, Same, ToRead, ToWrite, ToMemory, IsFaultless, Says, SaysBy, TellsRefusal}
+use Rattle.gl_top.specs.Verdicts.{AllPass, OfFile, Three, Completes, Whole, NoMemory, Endless, IsAnswer, RanWhole, RanCut, Dumped, DumpedCut, Traced, Wrote, WroteCut, Refused, IsEndless, IsComplete, IsGiven, OfDump, OfLoad, OfTexts, IsTelling, TellsEnding, TellsFaults, TellsForm, Yields, Same, ToRead, ToWrite, ToMemory, IsFaultless, Says, SaysBy, TellsRefusal}
 use Rattle.gl_top_judging.proofs.Texts.{next_form}
-use Rattle.gl_top.proofs.Deciding.{Stops, formed, load_goes, one_refusal, stops, passes_goes, two_go}
+use Rattle.gl_top.proofs.Deciding.{Stops, dump_goes, formed, load_goes, one_refusal, stops, passes_goes, two_go}
 
 noted_write : (own answered : Status) (line : List ℕ) (notes : Puts) → own ≡ status.WriteFault → Notes own line notes answered → answered ≡ status.WriteFault
 noted_write own answered line notes e (inl n) = n.0 ∙ e
@@ -53,6 +53,7 @@ caused words c (refusal.Query f) h = Judged h.0
 caused words c (refusal.Limit l) h = Judged h.0
 caused words c (refusal.Verilog f) h = Judged h.0
 caused words c (refusal.Tuples f) h = Judged h.0
+caused words c (refusal.Dump f) h = Judged h.0
 caused words c refusal.Memory h = Short refl
 
 -- the statuses of what the words and the texts are refused for
@@ -74,6 +75,7 @@ judged told words (refusal.Query f) h = tt
 judged told words (refusal.Limit l) h = tt
 judged told words (refusal.Verilog f) h = tt
 judged told words (refusal.Tuples f) h = tt
+judged told words (refusal.Dump f) h = tt
 judged told words refusal.Memory h = h
 
 -- what a refusal says
@@ -87,6 +89,7 @@ of_refusal call (refusal.Query f) h = (f, h.0)
 of_refusal call (refusal.Limit l) h = inr (l, h.0)
 of_refusal call (refusal.Verilog f) h = (f, h.0)
 of_refusal call (refusal.Tuples f) h = (f, h.0)
+of_refusal call (refusal.Dump f) h = (f, h.0)
 of_refusal call refusal.Memory h = tt
 
 says_noted : (call : Call) (own : Status) (line : List ℕ) → SaysBy own call → Notes own line call.notes call.status → Says call
@@ -141,6 +144,8 @@ module _ (call : Call) (schema : Schema) (design : Module) (beats : List Beat) (
 pub when_says : (call : Call) → IsAnswer call → Says call
 when_says call (RanWhole d) = subst (λ (s : Status). SaysBy s call) (sym d.done) (d.calm, d.whole, d.silent)
 when_says call (RanCut d) = says_noted call status.WriteFault write_line (inl d.cause) d.noted
+when_says call (Dumped d) = subst (λ (s : Status). SaysBy s call) (sym d.done) (d.calm, d.wrote.0, d.silent)
+when_says call (DumpedCut d) = says_noted call status.WriteFault write_line (inl d.wrote.0) d.noted
 when_says call (Traced d) = trace_says call d.schema d.design d.beats d.passes d.run d.calm d.ending d.traced d.tells
 when_says call (Wrote d) = subst (λ (s : Status). SaysBy s call) (sym d.done) (d.calm, d.wrote.calm, d.silent)
 when_says call (WroteCut d) = says_noted call status.WriteFault write_line (inl d.wrote.cause) d.noted
@@ -169,6 +174,8 @@ broken_other told words r notes answered is e n = subst IsJudged (sym e ∙ note
 pub when_told : (call : Call) → IsAnswer call → TellsRefusal call
 when_told call (RanWhole d) r tells is e = absurd (subst IsJudged (sym e ∙ d.done) (judged call.shelf.old.told call.words r is))
 when_told call (RanCut d) r tells is e = absurd (broken_other call.shelf.old.told call.words r call.notes call.status is e d.noted)
+when_told call (Dumped d) r tells is e = absurd (subst IsJudged (sym e ∙ d.done) (judged call.shelf.old.told call.words r is))
+when_told call (DumpedCut d) r tells is e = absurd (broken_other call.shelf.old.told call.words r call.notes call.status is e d.noted)
 when_told call (Traced d) r tells is e = absurd (ending_other call.shelf.old.told call.words r d.ending call.notes call.status is e d.tells)
 when_told call (Wrote d) r tells is e = absurd (subst IsJudged (sym e ∙ d.done) (judged call.shelf.old.told call.words r is))
 when_told call (WroteCut d) r tells is e = absurd (broken_other call.shelf.old.told call.words r call.notes call.status is e d.noted)
@@ -178,19 +185,26 @@ when_told call (Refused d) r tells is e = told_by call.words call.shelf call.not
 pub when_untouched : (call : Call) → IsAnswer call → call.status ≢ status.Done → call.status ≢ status.WriteFault → call.status ≢ status.NoEnd → Took call.out.old call.out.new []
 when_untouched call (RanWhole d) nd nw ne = absurd (nd d.done)
 when_untouched call (RanCut d) nd nw ne = absurd (nw (noted_write status.WriteFault call.status write_line call.notes refl d.noted))
+when_untouched call (Dumped d) nd nw ne = absurd (nd d.done)
+when_untouched call (DumpedCut d) nd nw ne = absurd (nw (noted_write status.WriteFault call.status write_line call.notes refl d.noted))
 when_untouched call (Traced d) nd nw ne = elim (ending_status d.ending call.notes call.status d.tells) [ inl e ↦ absurd (nd e) | inr (inl e) ↦ absurd (nw e) | inr (inr e) ↦ absurd (ne e) ]
 when_untouched call (Wrote d) nd nw ne = absurd (nd d.done)
 when_untouched call (WroteCut d) nd nw ne = absurd (nw (noted_write status.WriteFault call.status write_line call.notes refl d.noted))
 when_untouched call (Refused d) nd nw ne = d.untouched
 
 -- a command that shows something does not run
-runs_none : (c : Command) (schema : Schema) (statement : Statement) (bytes text : List ℕ) → Shows c schema statement bytes text → (o : Option Command) → o ≡ Some c → o ≢ Some Run
-runs_none Compile schema statement bytes text h o e r = let f : ◌≡◌ {A = Option Command} (Some Compile) (Some Run) = sym e ∙ r in cc
-runs_none Figures schema statement bytes text h o e r = let f : ◌≡◌ {A = Option Command} (Some Figures) (Some Run) = sym e ∙ r in cc
-runs_none Explain schema statement bytes text h o e r = let f : ◌≡◌ {A = Option Command} (Some Explain) (Some Run) = sym e ∙ r in cc
+runs_none : (c : Command) (schema : Schema) (statement : Statement) (bytes text : List ℕ) → Shows c schema statement bytes text → (o : Option Command) → o ≡ Some c → (o ≡ Some Run) ⊎ (o ≡ Some Vcd) → ⊥
+runs_none Compile schema statement bytes text h o e (inl r) = let f : ◌≡◌ {A = Option Command} (Some Compile) (Some Run) = sym e ∙ r in cc
+runs_none Compile schema statement bytes text h o e (inr r) = let f : ◌≡◌ {A = Option Command} (Some Compile) (Some Vcd) = sym e ∙ r in cc
+runs_none Figures schema statement bytes text h o e (inl r) = let f : ◌≡◌ {A = Option Command} (Some Figures) (Some Run) = sym e ∙ r in cc
+runs_none Figures schema statement bytes text h o e (inr r) = let f : ◌≡◌ {A = Option Command} (Some Figures) (Some Vcd) = sym e ∙ r in cc
+runs_none Explain schema statement bytes text h o e (inl r) = let f : ◌≡◌ {A = Option Command} (Some Explain) (Some Run) = sym e ∙ r in cc
+runs_none Explain schema statement bytes text h o e (inr r) = let f : ◌≡◌ {A = Option Command} (Some Explain) (Some Vcd) = sym e ∙ r in cc
 runs_none Run schema statement bytes text h o e r = h
 runs_none Sim schema statement bytes text h o e r = h
 runs_none Load schema statement bytes text h o e r = h
+runs_none Vcd schema statement bytes text h o e r = h
+runs_none Undump schema statement bytes text h o e r = h
 
 -- what the status yields to, where a refusal was noted
 by_cause : (call : Call) (r : Refusal) → IsTelling call.shelf.old.told call.words → IsRefused call.shelf.old.told call.words r → (s : Refusal) → IsCaused call.words call.shelf s
@@ -203,11 +217,14 @@ by_cause call r tells is s (Short own) (inl n) = ToMemory (n.0 ∙ own)
 -- what is shown was not refused
 shown_goes : (told : List ℕ → Told) (words : List (List ℕ)) (bytes text : List ℕ) (a : Refusal) → IsTelling told words → IsGiven told words bytes text → Stops told words a → ⊥
 shown_goes told words bytes text a tells (OfLoad d) h = load_goes told words d.count a d.is h
+shown_goes told words bytes text a tells (OfDump d left) h = dump_goes told words bytes a tells d h
 shown_goes told words bytes text a tells (OfTexts d) h = two_go told words d.schema d.statement a tells d.passes (runs_none d.command d.schema d.statement bytes text d.shows (command_of words) d.is) h
 
 pub when_refused : (call : Call) → IsAnswer call → TellsFaults call
 when_refused call (RanWhole d) r tells h = absurd (passes_goes call.shelf.old.told call.words r tells (Three d.schema d.statement d.beats d.emitted.passes) (stops call.shelf.old.told call.words r h))
 when_refused call (RanCut d) r tells h = absurd (passes_goes call.shelf.old.told call.words r tells (Three d.schema d.statement d.beats d.emitted.passes) (stops call.shelf.old.told call.words r h))
+when_refused call (Dumped d) r tells h = absurd (passes_goes call.shelf.old.told call.words r tells (Three d.schema d.statement d.beats d.emitted.passes) (stops call.shelf.old.told call.words r h))
+when_refused call (DumpedCut d) r tells h = absurd (passes_goes call.shelf.old.told call.words r tells (Three d.schema d.statement d.beats d.emitted.passes) (stops call.shelf.old.told call.words r h))
 when_refused call (Traced d) r tells h = absurd (passes_goes call.shelf.old.told call.words r tells (OfFile d.schema d.design d.beats d.passes) (stops call.shelf.old.told call.words r h))
 when_refused call (Wrote d) r tells h = absurd (shown_goes call.shelf.old.told call.words d.bytes call.text r tells d.given (stops call.shelf.old.told call.words r h))
 when_refused call (WroteCut d) r tells h = absurd (shown_goes call.shelf.old.told call.words d.bytes call.text r tells d.given (stops call.shelf.old.told call.words r h))
@@ -223,6 +240,8 @@ by_calm call tells pass calm s (Short own) (inl n) = NoMemory (n.0 ∙ own)
 pub when_calm : (call : Call) → IsAnswer call → IsComplete call
 when_calm call (RanWhole d) tells p calm = Whole d.done
 when_calm call (Wrote d) tells p calm = Whole d.done
+when_calm call (Dumped d) tells p calm = Whole d.done
+when_calm call (DumpedCut d) tells p calm = absurd (calm.out d.wrote.0)
 when_calm call (Traced d) tells p calm = trace_completes call d.schema d.design d.beats d.passes d.run d.calm d.ending calm d.traced d.tells
 when_calm call (WroteCut d) tells p calm = absurd (calm.out d.wrote.cause)
 when_calm call (RanCut d) tells p calm = absurd (calm.out d.cause)
@@ -238,10 +257,13 @@ by_form call none s (Short own) (inl n) = ToMemory (n.0 ∙ own)
 given_form : (told : List ℕ → Told) (words : List (List ℕ)) (bytes text : List ℕ) → IsGiven told words bytes text → IsForm words
 given_form told words bytes text (OfTexts d) = named_form words part.Query d.passes.named
 given_form told words bytes text (OfLoad d) = form_of words Load d.is.loads
+given_form told words bytes text (OfDump d left) = form_of words Undump d.is
 
 pub when_formless : (call : Call) → IsAnswer call → TellsForm call
-when_formless call (RanWhole d) none = absurd (none (form_of call.words Run d.emitted.passes.runs))
-when_formless call (RanCut d) none = absurd (none (form_of call.words Run d.emitted.passes.runs))
+when_formless call (RanWhole d) none = absurd (none (form_of call.words Run d.runs))
+when_formless call (RanCut d) none = absurd (none (form_of call.words Run d.runs))
+when_formless call (Dumped d) none = absurd (none (form_of call.words Vcd d.dumps'))
+when_formless call (DumpedCut d) none = absurd (none (form_of call.words Vcd d.dumps'))
 when_formless call (Traced d) none = absurd (none (form_of call.words Sim d.passes.before.sims))
 when_formless call (Wrote d) none = absurd (none (given_form call.shelf.old.told call.words d.bytes call.text d.given))
 when_formless call (WroteCut d) none = absurd (none (given_form call.shelf.old.told call.words d.bytes call.text d.given))

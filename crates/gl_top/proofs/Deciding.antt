@@ -1,6 +1,8 @@
 -- Words and texts are refused in one way, or not at all, where the texts are told.
-use Rattle.std.proofs.Common.{◌≡◌, ◌≢◌, ◌⊎◌, ℕ, ◌<◌, ◌≤◌, List, length, Some, Result, Ok, Err, inl, inr, refl, sym, ap, subst, ◌∙◌, arith}
-use Rattle.gl_outside.specs.Told.{Told, Untold, Lacks, Holds, IsLacking, IfTold}
+use Rattle.std.proofs.Common.{◌≡◌, ◌≢◌, ◌⊎◌, ℕ, List, Result, Ok, Err, inl, inr, refl, sym, ap, subst, ◌∙◌}
+use Rattle.gl_outside.specs.Told.{Told, Untold}
+use Rattle.gl_dumps.specs.Dumped.{OfLines}
+use Rattle.gl_dumps.specs.Reading.{dump_of}
 use Rattle.gl_schema.specs.declared.schema.Schema.{Schema}
 use Rattle.gl_schema.specs.declared.fault.SchemaFault.{SchemaFault}
 use Rattle.gl_schema.specs.SchemaFaults.{schema_of}
@@ -29,69 +31,19 @@ use Rattle.gl_query_compiler.specs.declared.fault.CompileFault.TheVariants as co
 use Rattle.gl_query_compiler.proofs.Refusing.{over_goes, query_accepted, tells_of}
 use Rattle.gl_compiler_text.proofs.Shaped.{shapes_alike}
 use Rattle.gl_top_words.specs.declared.command.Command.TheVariants as command
-use Rattle.gl_top_words.specs.declared.command.Part.{Part}
 use Rattle.gl_top_words.specs.declared.command.Part.TheVariants as part
 use Rattle.gl_top_notes.specs.declared.refusal.Refusal.{Refusal}
 use Rattle.gl_top_notes.specs.declared.refusal.Refusal.TheVariants as refusal
-use Rattle.gl_top_words.specs.Forms.{IsCommand, IsForm, IsLoadOf, IsNamed, command_of, name_of}
+use Rattle.gl_top_words.specs.Forms.{IsCommand, IsForm, IsLoadOf, IsNamed, IsOfRun, name_of}
 use Rattle.gl_top_texts.specs.Texts.{SchemaPasses}
 use Rattle.gl_top_judging.specs.Passing.{QueryPasses, TuplesPass, ModulePasses, FilePasses, kept_beats}
 use Rattle.gl_top_judging.specs.Causes.{PassBeforeTuples, OfRun, OfSim, ToRun, ToSim, IsModuleFault, IsRefused}
-use Rattle.gl_top.specs.Verdicts.{AllPass, IsTelling, Loads, OfFile, Three, Two}
+use Rattle.gl_top.specs.Verdicts.{AllPass, IsTelling, IsUndumped, Loads, OfFile, Three, Two, Undumps}
 use Rattle.gl_top_words.proofs.Named.{form_of, load_names_none, named_form, one_command, sim_names_no_query}
 use Rattle.gl_top_judging.proofs.Modules.{module_goes, one_module_fault}
 use Rattle.gl_top_judging.proofs.Texts.{run_names_tuples, sim_names_module, sim_names_tuples}
-
--- a text of at most 64 MiB with a property
-abbrev pub Fine : Told → (List ℕ → Type 0) → Type 0
-Fine t P = IfTold t (λ text. (length text ≤ 67108864) × P text)
-
--- how the text of a part may stop a command: it is not there, it is too long, or this is wrong with it
-pub data Failing (t : Told) (p : Part) (F : List ℕ → Refusal → Type 0) (r : Refusal) : Type 0 where
-  Lacking : (lacks : IsLacking t) (is : r ≡ refusal.Missing p) → Failing t p F r
-  Long : (long : IfTold t (λ text. 67108864 < length text)) (is : r ≡ refusal.TooLong p) → Failing t p F r
-  Bad : (bad : Fine t (λ text. F text r)) → Failing t p F r
-
--- the text that the words name so stops it
-abbrev pub FailsAt : (List ℕ → Told) → List (List ℕ) → Part → (List ℕ → Refusal → Type 0) → Refusal → Type 0
-FailsAt told words p F r = Failing (told (name_of words p)) p F r
-
-too_long : (n : ℕ) {A : Type 0} → n ≤ 67108864 → 67108864 < n → A
-too_long n le lt = absurd (omega arith)
-
-pub not_both : (t : Told) (p : Part) (P : List ℕ → Type 0) (F : List ℕ → Refusal → Type 0) (a : Refusal) → t ≢ Untold → ((text : List ℕ) → P text → F text a → ⊥) → Fine t P → Failing t p F a → ⊥
-not_both Untold p P F a told out fine f = told refl
-not_both Lacks p P F a told out fine f = fine
-not_both (Holds text) p P F a told out fine (Lacking l e) = l
-not_both (Holds text) p P F a told out fine (Long l e) = too_long (length text) fine.0 l
-not_both (Holds text) p P F a told out fine (Bad b) = out text fine.1 b.1
-
-fails_once : (t : Told) (p : Part) (F : List ℕ → Refusal → Type 0) (a b : Refusal) → t ≢ Untold → ((text : List ℕ) → F text a → F text b → a ≡ b) → Failing t p F a → Failing t p F b → a ≡ b
-fails_once Untold p F a b told once f g = absurd (told refl)
-fails_once Lacks p F a b told once (Lacking l e) (Lacking m h) = e ∙ sym h
-fails_once Lacks p F a b told once (Lacking l e) (Long m h) = absurd m
-fails_once Lacks p F a b told once (Lacking l e) (Bad m) = absurd m
-fails_once Lacks p F a b told once (Long l e) g = absurd l
-fails_once Lacks p F a b told once (Bad l) g = absurd l
-fails_once (Holds text) p F a b told once (Lacking l e) g = absurd l
-fails_once (Holds text) p F a b told once (Long l e) (Lacking m h) = absurd m
-fails_once (Holds text) p F a b told once (Long l e) (Long m h) = e ∙ sym h
-fails_once (Holds text) p F a b told once (Long l e) (Bad m) = too_long (length text) m.0 l
-fails_once (Holds text) p F a b told once (Bad l) (Lacking m h) = absurd m
-fails_once (Holds text) p F a b told once (Bad l) (Long m h) = too_long (length text) l.0 m
-fails_once (Holds text) p F a b told once (Bad l) (Bad m) = once text l.1 m.1
-
--- a text with two properties
-with_both : (t : Told) (P Q : List ℕ → Type 0) {A : Type 0} → t ≢ Untold → Fine t P → Fine t Q → ((text : List ℕ) → P text → Q text → A) → A
-with_both Untold P Q told p q f = absurd (told refl)
-with_both Lacks P Q told p q f = absurd p
-with_both (Holds text) P Q told p q f = f text p.1 q.1
-
--- a weaker property
-pub weaker : (t : Told) (P Q : List ℕ → Type 0) → ((text : List ℕ) → P text → Q text) → Fine t P → Fine t Q
-weaker Untold P Q f h = tt
-weaker Lacks P Q f h = h
-weaker (Holds text) P Q f h = (h.0, f text h.1)
+use Rattle.gl_top.proofs.Dumps.{DumpFails, dump_once, no_dump, undump_names}
+use Rattle.gl_top.proofs.Failing.{Failing, FailsAt, Fine, Lacking, Long, bad, fails_once, no_error, not_both, one_error, weaker, with_both}
 
 -- ---- what each text is to be, and what may be wrong with it
 
@@ -128,9 +80,6 @@ pub record TuplesFail (read : List ℕ → Result (List Beat) TupleFault) (text 
   pub is : r ≡ refusal.Tuples fault
 
 -- each in one way
-one_error : {A F : Type 0} (r : Result A F) (f g : F) → r ≡ Err f → r ≡ Err g → f ≡ g
-one_error {A = A} {F = F} r f g p q = let e : ◌≡◌ {A = Result A F} (Err f) (Err g) = sym p ∙ q in cc
-
 schema_once : (a b : Refusal) (text : List ℕ) → SchemaFails text a → SchemaFails text b → a ≡ b
 schema_once a b text f g = f.is ∙ ap refusal.Schema (one_error (schema_of text) f.fault g.fault f.found g.found) ∙ sym g.is
 
@@ -164,7 +113,7 @@ pub data SecondStops (told : List ℕ → Told) (words : List (List ℕ)) (s : S
 
 -- and behind the text that comes next
 pub data ThirdStops (told : List ℕ → Told) (words : List (List ℕ)) (s : Schema) (r : Refusal) : Type 0 where
-  AtTuples : (runs : IsCommand words command.Run) (st : Statement) (before : QueryPasses told words s st) (fails : FailsAt told words part.Tuples (TuplesFail (kept s st)) r) → ThirdStops told words s r
+  AtTuples : (runs : IsOfRun words) (st : Statement) (before : QueryPasses told words s st) (fails : FailsAt told words part.Tuples (TuplesFail (kept s st)) r) → ThirdStops told words s r
   AtFile : (m : Module) (before : ModulePasses told words s m) (fails : FailsAt told words part.Tuples (TuplesFail (filed s)) r) → ThirdStops told words s r
 
 -- the first that is refused
@@ -173,16 +122,13 @@ pub data Stops (told : List ℕ → Told) (words : List (List ℕ)) (r : Refusal
   AtSchema : (named : IsNamed words part.Schema) (fails : FailsAt told words part.Schema SchemaFails r) → Stops told words r
   AtSecond : (s : Schema) (before : SchemaPasses told words s) (stops' : SecondStops told words s r) → Stops told words r
   AtThird : (s : Schema) (before : SchemaPasses told words s) (stops' : ThirdStops told words s r) → Stops told words r
+  AtDump : (named : IsNamed words part.Dump) (fails : FailsAt told words part.Dump DumpFails r) → Stops told words r
 
-at_tuples : (told : List ℕ → Told) (words : List (List ℕ)) (s : Schema) (st : Statement) (r : Refusal) → IsCommand words command.Run → QueryPasses told words s st → FailsAt told words part.Tuples (TuplesFail (kept s st)) r → Stops told words r
+at_tuples : (told : List ℕ → Told) (words : List (List ℕ)) (s : Schema) (st : Statement) (r : Refusal) → IsOfRun words → QueryPasses told words s st → FailsAt told words part.Tuples (TuplesFail (kept s st)) r → Stops told words r
 at_tuples told words s st r runs before f = AtThird s before.before (AtTuples runs st before f)
 
 at_file : (told : List ℕ → Told) (words : List (List ℕ)) (s : Schema) (m : Module) (r : Refusal) → ModulePasses told words s m → FailsAt told words part.Tuples (TuplesFail (filed s)) r → Stops told words r
 at_file told words s m r before f = AtThird s before.before (AtFile m before f)
-
--- what is wrong with a text, where this is so of it
-bad : (t : Told) (p : Part) (P : List ℕ → Type 0) (F : List ℕ → Refusal → Type 0) (r : Refusal) → ((text : List ℕ) → P text → F text r) → Fine t P → Failing t p F r
-bad t p P F r f h = Bad (weaker t P (λ text. F text r) f h)
 
 bad_tuples : (t : Told) (read : List ℕ → Result (List Beat) TupleFault) (fault : TupleFault) → Fine t (λ text. read text ≡ Err fault) → Failing t part.Tuples (TuplesFail read) (refusal.Tuples fault)
 bad_tuples t read fault h = bad t part.Tuples (λ text. read text ≡ Err fault) (TuplesFail read) (refusal.Tuples fault) (λ text e. record { fault = fault; found = e; is = refl }) h
@@ -198,11 +144,13 @@ stops told words (refusal.Missing part.Schema) h = AtSchema h.next (Lacking h.la
 stops told words (refusal.Missing part.Query) h = AtSecond h.next.1 h.next.2 (AtQuery h.next.0 (Lacking h.lacking refl))
 stops told words (refusal.Missing part.Module) h = AtSecond h.next.1 h.next.2 (AtModule h.next.0 (Lacking h.lacking refl))
 stops told words (refusal.Missing part.Tuples) h = by_file told words (refusal.Missing part.Tuples) h.next (λ (F : List ℕ → Refusal → Type 0). Lacking h.lacking refl)
+stops told words (refusal.Missing part.Dump) h = AtDump h.next (Lacking h.lacking refl)
 stops told words (refusal.ReadFault p) h = absurd h
 stops told words (refusal.TooLong part.Schema) h = AtSchema h.next (Long h.long refl)
 stops told words (refusal.TooLong part.Query) h = AtSecond h.next.1 h.next.2 (AtQuery h.next.0 (Long h.long refl))
 stops told words (refusal.TooLong part.Module) h = AtSecond h.next.1 h.next.2 (AtModule h.next.0 (Long h.long refl))
 stops told words (refusal.TooLong part.Tuples) h = by_file told words (refusal.TooLong part.Tuples) h.next (λ (F : List ℕ → Refusal → Type 0). Long h.long refl)
+stops told words (refusal.TooLong part.Dump) h = AtDump h.next (Long h.long refl)
 stops told words (refusal.Schema fault) h =
     AtSchema h.named
     (bad (told (name_of words part.Schema)) part.Schema (λ text. schema_of text ≡ Err fault) SchemaFails (refusal.Schema fault) (λ text e. record { fault = fault; found = e; is = refl }) h.text)
@@ -220,6 +168,8 @@ stops told words (refusal.Tuples fault) (ToRun runs s st before text) =
     at_tuples told words s st (refusal.Tuples fault) runs before (bad_tuples (told (name_of words part.Tuples)) (kept s st) fault text)
 stops told words (refusal.Tuples fault) (ToSim s m before text) =
     at_file told words s m (refusal.Tuples fault) before (bad_tuples (told (name_of words part.Tuples)) (filed s) fault text)
+stops told words (refusal.Dump fault) h =
+    AtDump h.named (bad (told (name_of words part.Dump)) part.Dump (λ text. dump_of text ≡ Err fault) DumpFails (refusal.Dump fault) (λ text e. record { fault = fault; found = e; is = refl }) h.text)
 stops told words refusal.Memory h = absurd h
 
 -- ---- one schema, one gap
@@ -241,9 +191,6 @@ one_gap told words s st st' tells p q =
 
 -- ---- what passes does not stop
 
-no_error : {A F : Type 0} (r : Result A F) (x : A) (f : F) → r ≡ Ok x → r ≡ Err f → ⊥
-no_error {A = A} {F = F} r x f p q = let e : ◌≡◌ {A = Result A F} (Ok x) (Err f) = sym p ∙ q in cc
-
 schema_goes : (told : List ℕ → Told) (words : List (List ℕ)) (s : Schema) (a : Refusal) {A : Type 0} → IsTelling told words → SchemaPasses told words s → FailsAt told words part.Schema SchemaFails a → A
 schema_goes told words s a tells p f =
     absurd (not_both (told (name_of words part.Schema)) part.Schema IsSome SchemaFails a (tells part.Schema p.named) (λ text is fails. no_error (schema_of text) is.0 fails.fault (read_again text is.0 is.1) fails.found)
@@ -264,9 +211,10 @@ module_passed told words s t m a tells p q f =
     (λ text has fails. module_goes s text m p.ports fails.fault has p.fits fails.found) p.text
     (subst (λ (x : Schema). FailsAt told words part.Module (ModuleFails x) a) e f))
 
--- a text of `run` is none of `sim`
-runs_not_sims : (words : List (List ℕ)) {A : Type 0} → IsCommand words command.Run → IsCommand words command.Sim → A
-runs_not_sims words runs sims = absurd (let e : command.Run ≡ command.Sim = one_command words command.Run command.Sim runs sims in cc)
+-- a text of `run` or `vcd` is none of `sim`
+runs_not_sims : (words : List (List ℕ)) {A : Type 0} → IsOfRun words → IsCommand words command.Sim → A
+runs_not_sims words (inl runs) sims = absurd (let e : command.Run ≡ command.Sim = one_command words command.Run command.Sim runs sims in cc)
+runs_not_sims words (inr runs) sims = absurd (let e : command.Vcd ≡ command.Sim = one_command words command.Vcd command.Sim runs sims in cc)
 
 -- what passed behind the schema does not stop there
 query_second : (told : List ℕ → Told) (words : List (List ℕ)) (s t : Schema) (st : Statement) (a : Refusal) {A : Type 0} → IsTelling told words → QueryPasses told words s st → SchemaPasses told words t → SecondStops told words t a → A
@@ -314,27 +262,30 @@ file_third told words s t m beats a tells p (AtFile n q f) =
     beats_go (told (name_of words part.Tuples)) (filed s) beats a (tells part.Tuples (sim_names_tuples words q.sims)) p.text (other_file told words s t tells p.before.before q.before a f)
 
 -- the query passes, and the words run nothing
-no_third : (told : List ℕ → Told) (words : List (List ℕ)) (t : Schema) (a : Refusal) → IsNamed words part.Query → command_of words ≢ Some command.Run → ThirdStops told words t a → ⊥
+no_third : (told : List ℕ → Told) (words : List (List ℕ)) (t : Schema) (a : Refusal) → IsNamed words part.Query → (IsOfRun words → ⊥) → ThirdStops told words t a → ⊥
 no_third told words t a named other (AtTuples runs st q f) = other runs
 no_third told words t a named other (AtFile m q f) = sim_names_no_query words q.sims named
 
-pub two_go : (told : List ℕ → Told) (words : List (List ℕ)) (s : Schema) (st : Statement) (a : Refusal) → IsTelling told words → QueryPasses told words s st → command_of words ≢ Some command.Run → Stops told words a → ⊥
+pub two_go : (told : List ℕ → Told) (words : List (List ℕ)) (s : Schema) (st : Statement) (a : Refusal) → IsTelling told words → QueryPasses told words s st → (IsOfRun words → ⊥) → Stops told words a → ⊥
 two_go told words s st a tells p other (AtWords n e) = n (named_form words part.Query p.named)
 two_go told words s st a tells p other (AtSchema named f) = schema_goes told words s a tells p.before f
 two_go told words s st a tells p other (AtSecond t q h) = query_second told words s t st a tells p q h
 two_go told words s st a tells p other (AtThird t q h) = no_third told words t a p.named other h
+two_go told words s st a tells p other (AtDump named f) = no_dump words part.Query refl p.named named
 
 pub three_go : (told : List ℕ → Told) (words : List (List ℕ)) (s : Schema) (st : Statement) (beats : List Beat) (a : Refusal) → IsTelling told words → TuplesPass told words s st beats → Stops told words a → ⊥
-three_go told words s st beats a tells p (AtWords n e) = n (form_of words command.Run p.runs)
+three_go told words s st beats a tells p (AtWords n e) = n (named_form words part.Query p.before.named)
 three_go told words s st beats a tells p (AtSchema named f) = schema_goes told words s a tells p.before.before f
 three_go told words s st beats a tells p (AtSecond t q h) = query_second told words s t st a tells p.before q h
 three_go told words s st beats a tells p (AtThird t q h) = tuples_third told words s t st beats a tells p h
+three_go told words s st beats a tells p (AtDump named f) = no_dump words part.Query refl p.before.named named
 
 pub file_goes : (told : List ℕ → Told) (words : List (List ℕ)) (s : Schema) (m : Module) (beats : List Beat) (a : Refusal) → IsTelling told words → FilePasses told words s m beats → Stops told words a → ⊥
 file_goes told words s m beats a tells p (AtWords n e) = n (form_of words command.Sim p.before.sims)
 file_goes told words s m beats a tells p (AtSchema named f) = schema_goes told words s a tells p.before.before f
 file_goes told words s m beats a tells p (AtSecond t q h) = module_second told words s t m a tells p.before q h
 file_goes told words s m beats a tells p (AtThird t q h) = file_third told words s t m beats a tells p h
+file_goes told words s m beats a tells p (AtDump named f) = no_dump words part.Schema refl p.before.before.named named
 
 -- a load names no text that could
 pub load_goes : (told : List ℕ → Told) (words : List (List ℕ)) (count : ℕ) (a : Refusal) → IsLoadOf words count → Stops told words a → ⊥
@@ -342,12 +293,24 @@ load_goes told words count a is (AtWords n e) = n (form_of words command.Load is
 load_goes told words count a is (AtSchema named f) = load_names_none words part.Schema is.loads named
 load_goes told words count a is (AtSecond s p h) = load_names_none words part.Schema is.loads p.named
 load_goes told words count a is (AtThird s p h) = load_names_none words part.Schema is.loads p.named
+load_goes told words count a is (AtDump named f) = load_names_none words part.Dump is.loads named
+
+-- nor does a dump that is read
+pub dump_goes : (told : List ℕ → Told) (words : List (List ℕ)) (bytes : List ℕ) (a : Refusal) → IsTelling told words → IsUndumped told words bytes → Stops told words a → ⊥
+dump_goes told words bytes a tells d (AtWords n e) = n (form_of words command.Undump d.is)
+dump_goes told words bytes a tells d (AtSchema named f) = no_dump words part.Schema refl named (undump_names words d.is)
+dump_goes told words bytes a tells d (AtSecond s p h) = no_dump words part.Schema refl p.named (undump_names words d.is)
+dump_goes told words bytes a tells d (AtThird s p h) = no_dump words part.Schema refl p.named (undump_names words d.is)
+dump_goes told words bytes a tells d (AtDump named f) =
+    not_both (told (name_of words part.Dump)) part.Dump (λ text. OfLines text (λ lines. bytes ≡ lines)) DumpFails a (tells part.Dump named)
+    (λ text is fails. no_error (dump_of text) is.dump fails.fault is.reads fails.found) d.text f
 
 pub passes_goes : (told : List ℕ → Told) (words : List (List ℕ)) (a : Refusal) → IsTelling told words → AllPass told words → Stops told words a → ⊥
 passes_goes told words a tells (Two s st p other) h = two_go told words s st a tells p other h
 passes_goes told words a tells (Three s st beats p) h = three_go told words s st beats a tells p h
 passes_goes told words a tells (OfFile s m beats p) h = file_goes told words s m beats a tells p h
 passes_goes told words a tells (Loads count is) h = load_goes told words count a is h
+passes_goes told words a tells (Undumps bytes d) h = dump_goes told words bytes a tells d h
 
 -- ---- there is one way to be refused
 
@@ -357,6 +320,7 @@ formed told words a (AtWords n e) = inl e
 formed told words a (AtSchema named f) = inr (named_form words part.Schema named)
 formed told words a (AtSecond s p h) = inr (named_form words part.Schema p.named)
 formed told words a (AtThird s p h) = inr (named_form words part.Schema p.named)
+formed told words a (AtDump named f) = inr (named_form words part.Dump named)
 
 words_once : (told : List ℕ → Told) (words : List (List ℕ)) (a b : Refusal) → (IsForm words → ⊥) → a ≡ refusal.Usage → Stops told words b → a ≡ b
 words_once told words a b n e h = elim (formed told words b h) [ inl f ↦ e ∙ sym f | inr form ↦ absurd (n form) ]
@@ -383,15 +347,23 @@ stops_once told words a b tells (AtSchema named f) (AtWords m h) = sym (words_on
 stops_once told words a b tells (AtSchema named f) (AtSchema named' g) = fails_once (told (name_of words part.Schema)) part.Schema SchemaFails a b (tells part.Schema named) (schema_once a b) f g
 stops_once told words a b tells (AtSchema named f) (AtSecond s p g) = schema_goes told words s a tells p f
 stops_once told words a b tells (AtSchema named f) (AtThird s p g) = schema_goes told words s a tells p f
+stops_once told words a b tells (AtSchema named f) (AtDump named' g) = absurd (no_dump words part.Schema refl named named')
 stops_once told words a b tells (AtSecond s p f) (AtWords m h) = sym (words_once told words b a m h (AtSecond s p f))
 stops_once told words a b tells (AtSecond s p f) (AtSchema named g) = schema_goes told words s b tells p g
 stops_once told words a b tells (AtSecond s p f) (AtSecond t q g) =
     second_once told words t a b tells q.fine (subst (λ (x : Schema). SecondStops told words x a) (one_schema told words s t tells p q) f) g
 stops_once told words a b tells (AtSecond s p f) (AtThird t q g) = third_second told words t s b a tells g p f
+stops_once told words a b tells (AtSecond s p f) (AtDump named g) = absurd (no_dump words part.Schema refl p.named named)
 stops_once told words a b tells (AtThird s p f) (AtWords m h) = sym (words_once told words b a m h (AtThird s p f))
 stops_once told words a b tells (AtThird s p f) (AtSchema named g) = schema_goes told words s b tells p g
 stops_once told words a b tells (AtThird s p f) (AtSecond t q g) = third_second told words s t a b tells f q g
 stops_once told words a b tells (AtThird s p f) (AtThird t q g) = third_once told words s t a b tells f g
+stops_once told words a b tells (AtThird s p f) (AtDump named g) = absurd (no_dump words part.Schema refl p.named named)
+stops_once told words a b tells (AtDump named f) (AtWords m h) = sym (words_once told words b a m h (AtDump named f))
+stops_once told words a b tells (AtDump named f) (AtSchema named' g) = absurd (no_dump words part.Schema refl named' named)
+stops_once told words a b tells (AtDump named f) (AtSecond s p g) = absurd (no_dump words part.Schema refl p.named named)
+stops_once told words a b tells (AtDump named f) (AtThird s p g) = absurd (no_dump words part.Schema refl p.named named)
+stops_once told words a b tells (AtDump named f) (AtDump named' g) = fails_once (told (name_of words part.Dump)) part.Dump DumpFails a b (tells part.Dump named) (dump_once a b) f g
 
 -- so one refusal holds at most
 pub one_refusal : (told : List ℕ → Told) (words : List (List ℕ)) (a b : Refusal) → IsTelling told words → IsRefused told words a → IsRefused told words b → a ≡ b

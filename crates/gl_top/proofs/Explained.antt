@@ -21,7 +21,7 @@ use Rattle.gl_top_judging.proofs.Texts.{no_schema_cause, unfetched_cause}
 use Rattle.gl_top.specs.Shown.{IsShownOf}
 use Rattle.gl_top.specs.Verdicts.{IsAnswer, OfTexts, Refused}
 use Rattle.gl_top.proofs.Answering.{leaving, written}
-use Rattle.gl_top.proofs.Deciding.{weaker}
+use Rattle.gl_top.proofs.Failing.{weaker}
 
 -- what is explained is compiled
 shown_of : (told : List ℕ → Told) (words : List (List ℕ)) (bytes : List ℕ) → IsCommand words Explain → IsPlanText told words bytes → IsShownOf told words bytes []
@@ -49,7 +49,7 @@ unexplained_cause words s a b r is before (OfLimit l e text calm) =
 unexplained_cause words s a b r is before (NoMemory e calm) = subst (HasCause words (change a b)) (sym e) calm
 
 no_plan_cause : (words : List (List ℕ)) (a b : ShelfState) (r : Refusal) → IsCommand words Explain → HasNoPlan words a b r → HasCause words (change a b) r
-no_plan_cause words a b r is (AtSchema h) = no_schema_cause words (change a b) r (schema_named words part.Query (explain_names_query words is)) h
+no_plan_cause words a b r is (AtSchema h) = no_schema_cause words (change a b) r (schema_named words part.Query refl (explain_names_query words is)) h
 no_plan_cause words a b r is (AtQuery s before h) = unexplained_cause words s a b r is before h
 
 pub explain_answer : (words : List (List ℕ)) (a b : ShelfState) (out notes : Puts) (status : Status) → IsCommand words Explain → EndsExplain words a b out notes status → IsAnswer (leaving words (change a b) out notes status [])

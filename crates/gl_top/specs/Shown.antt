@@ -1,4 +1,4 @@
--- What the commands other than `run`, `sim` and `load` write of the texts that they name.
+-- What `compile`, `figures` and `explain` write of the texts that they name.
 use Rattle.std.specs.Prelude.{◌≡◌, ℕ, List, []}
 use Rattle.gl_outside.specs.Told.{Told}
 use Rattle.gl_schema.specs.declared.schema.Schema.{Schema}
@@ -8,13 +8,12 @@ use Rattle.gl_explain.specs.Lines.{plan_text}
 use Rattle.gl_compiler_text.specs.Built.{latency_of, gap_of}
 use Rattle.gl_compiler_text.specs.Meets.{Meets}
 use Rattle.gl_top_words.specs.declared.command.Command.{Command}
-use Rattle.gl_top_words.specs.declared.command.Command.TheVariants.{Compile, Figures, Explain, Run, Sim, Load}
+use Rattle.gl_top_words.specs.declared.command.Command.TheVariants.{Compile, Figures, Explain, Run, Sim, Load, Vcd, Undump}
 use Rattle.gl_top_words.specs.Forms.{IsCommand}
 use Rattle.gl_top_judging.specs.Figuring.{IsFigured}
 use Rattle.gl_top_judging.specs.Passing.{QueryPasses}
 
--- what a command other than `run`, `sim` and `load` writes of a statement, and the text that it leaves: the Verilog
--- text, which meets the statement; the figures that are printed for it and what it costs; or the statement and its plan
+-- what such a command writes of a statement, and the text that it leaves: the Verilog text, which meets the statement; the figures that are printed for it and what it costs; or the statement and its plan
 abbrev pub Shows : Command → Schema → Statement → List ℕ → List ℕ → Type 0
 Shows Compile schema statement bytes text =
     (bytes ≡ text) × Meets schema statement (latency_of schema statement) (gap_of schema statement) text
@@ -26,6 +25,8 @@ Shows Explain schema statement bytes text =
 Shows Run schema statement bytes text = ⊥
 Shows Sim schema statement bytes text = ⊥
 Shows Load schema statement bytes text = ⊥
+Shows Vcd schema statement bytes text = ⊥
+Shows Undump schema statement bytes text = ⊥
 
 -- the texts that such a command names pass, and this is what it shows of them
 pub record IsShownOf (told : List ℕ → Told) (words : List (List ℕ)) (bytes text : List ℕ) : Type 0 where

@@ -1,5 +1,5 @@
 -- How the program ends: what was written, what was noted, and why.
-use Rattle.std.specs.Prelude.{◌≡◌, ◌≢◌, ℕ, ◌⊎◌, List, [], Some}
+use Rattle.std.specs.Prelude.{◌≡◌, ◌≢◌, ℕ, ◌⊎◌, List, []}
 use Rattle.gl_figures.specs.declared.Limit.{Limit}
 use Rattle.gl_outside.specs.Counts.{Rose}
 use Rattle.gl_outside.specs.Told.{Told, Untold}
@@ -16,6 +16,13 @@ use Rattle.gl_compiler_text.specs.Meets.{Meets, result_columns}
 use Rattle.gl_runner.specs.declared.executing.Outcome.{Outcome}
 use Rattle.gl_runner.specs.Prints.{HasRunOver, OfEachRun, Writes, WritesFront}
 use Rattle.gl_runner.specs.Prints as prints
+use Rattle.gl_runner.specs.Dumps as dumps
+use Rattle.gl_runner.specs.Dumps.{OfEachPorts}
+use Rattle.gl_runner.specs.declared.executing.Outcome.TheVariants as outcome
+use Rattle.gl_dumps.specs.declared.fault.VcdFault.{VcdFault}
+use Rattle.gl_dumps.specs.Dumped.{OfLines}
+use Rattle.gl_top_texts.specs.Texts.{HasText}
+use Rattle.gl_top_words.specs.declared.command.Part.TheVariants as part
 use Rattle.gl_runner.specs.declared.tracing.Ending.{Ending}
 use Rattle.gl_runner.specs.declared.tracing.Ending.TheVariants as end
 use Rattle.gl_runner.specs.Traces.{OfRunsOf, TracesOut, decimal_kinds}
@@ -31,13 +38,13 @@ use Rattle.gl_top_notes.specs.declared.refusal.Refusal.TheVariants as refusal
 use Rattle.gl_schema.specs.declared.fault.SchemaFault.{SchemaFault}
 use Rattle.gl_query.specs.declared.fault.QueryFault.{QueryFault}
 use Rattle.gl_tuples.specs.declared.fault.TupleFault.{TupleFault}
-use Rattle.gl_top_words.specs.declared.command.Command.TheVariants.{Run}
-use Rattle.gl_top_words.specs.Forms.{IsForm, IsLoadOf, IsNamed, command_of, extra_of, name_of, start_of}
+use Rattle.gl_top_words.specs.declared.command.Command.TheVariants.{Run, Undump, Vcd}
+use Rattle.gl_top_words.specs.Forms.{IsCommand, IsForm, IsLoadOf, IsNamed, IsOfRun, extra_of, name_of, start_of}
 use Rattle.gl_load.specs.Loads.{IsLoad}
 use Rattle.gl_top.specs.Calls.{Call}
 use Rattle.gl_top.specs.Shown.{IsShownOf}
 use Rattle.gl_top_judging.specs.Passing.{QueryPasses, TuplesPass, FilePasses}
-use Rattle.gl_top_judging.specs.Causes.{HasCause, IsTooLong, IsBadSchema, IsBadQuery, IsOver, IsBadVerilog, IsRefused, AreBadTuples}
+use Rattle.gl_top_judging.specs.Causes.{HasCause, IsTooLong, IsBadSchema, IsBadQuery, IsOver, IsBadVerilog, IsRefused, AreBadTuples, IsBadDump}
 use Rattle.gl_top_notes.specs.Refusals.{Puts, Notes, status_of, note_of, no_end_line, write_line}
 
 -- ---- what was written
@@ -61,6 +68,11 @@ RanLines schema statement beats start text old new outcome =
     prints.Ran (OfEachRun text schema (plain_beats beats) start) (kinds_of (result_columns schema statement))
     (plain_beats beats) old new outcome
 
+-- how dumping the run of the text over these beats ended
+abbrev pub DumpedRun : Schema → List Beat → Start → List ℕ → SinkState → SinkState → Outcome → Type 0
+DumpedRun schema beats start text old new outcome =
+    dumps.Dumped (OfEachPorts text schema (plain_beats beats) start) (plain_beats beats) old new outcome
+
 -- the texts pass, and the text that was emitted for them meets the statement
 pub record IsEmitted (told : List ℕ → Told) (words : List (List ℕ)) (schema : Schema) (statement : Statement)
     (beats : List Beat) (text : List ℕ) : Type 0 where
@@ -73,11 +85,17 @@ pub record IsLoaded (words : List (List ℕ)) (bytes text : List ℕ) : Type 0 w
   pub is : IsLoadOf words count
   pub load : IsLoad count bytes text
 
+-- the words name a dump, and the lines that its text shows are these
+pub record IsUndumped (told : List ℕ → Told) (words : List (List ℕ)) (bytes : List ℕ) : Type 0 where
+  pub is : IsCommand words Undump
+  pub text : HasText told words part.Dump (λ text. OfLines text (λ lines. bytes ≡ lines))
+
 -- what is written, and the text that is left: what a command shows of the texts that it names, or what is told of
 -- a load
 pub data IsGiven (told : List ℕ → Told) (words : List (List ℕ)) (bytes text : List ℕ) : Type 0 where
   OfTexts : (shown : IsShownOf told words bytes text) → IsGiven told words bytes text
   OfLoad : (loaded : IsLoaded words bytes text) → IsGiven told words bytes text
+  OfDump : (shown : IsUndumped told words bytes) (left : text ≡ []) → IsGiven told words bytes text
 
 -- what is noted of a trace that ended so, and the status; want of memory is a refusal
 abbrev pub TellsEnding : Ending → Puts → Status → Type 0
@@ -96,6 +114,7 @@ IsNoneOrEmitted told words text =
 
 -- the lines of the run were written and nothing was noted; no text was missing, and nothing failed
 pub record HasRunWhole (call : Call) : Type 0 where
+  pub runs : IsCommand call.words Run
   pub schema : Schema
   pub statement : Statement
   pub beats : List Beat
@@ -108,6 +127,7 @@ pub record HasRunWhole (call : Call) : Type 0 where
 
 -- the output failed behind a front of these lines, and that was noted
 pub record HasRunInPart (call : Call) : Type 0 where
+  pub runs : IsCommand call.words Run
   pub schema : Schema
   pub statement : Statement
   pub beats : List Beat
@@ -115,6 +135,29 @@ pub record HasRunInPart (call : Call) : Type 0 where
   pub wrote : WritesLinesFront schema statement beats (start_of call.words) call.text call.out
   pub calm : IsCalm call.shelf.old call.shelf.new
   pub cause : Rose call.out.old.faults call.out.new.faults
+  pub noted : Notes WriteFault write_line call.notes call.status
+
+-- the dump of the run was written and nothing was noted; no text was missing, and nothing failed
+pub record HasDumpedWhole (call : Call) : Type 0 where
+  pub dumps' : IsCommand call.words Vcd
+  pub schema : Schema
+  pub statement : Statement
+  pub beats : List Beat
+  pub emitted : IsEmitted call.shelf.old.told call.words schema statement beats call.text
+  pub wrote : DumpedRun schema beats (start_of call.words) call.text call.out.old call.out.new outcome.Done
+  pub silent : Took call.notes.old call.notes.new []
+  pub calm : IsCalm call.shelf.old call.shelf.new
+  pub done : call.status ≡ Done
+
+-- the output failed behind a front of it, and that was noted
+pub record HasDumpedInPart (call : Call) : Type 0 where
+  pub dumps' : IsCommand call.words Vcd
+  pub schema : Schema
+  pub statement : Statement
+  pub beats : List Beat
+  pub emitted : IsEmitted call.shelf.old.told call.words schema statement beats call.text
+  pub wrote : DumpedRun schema beats (start_of call.words) call.text call.out.old call.out.new outcome.WriteFault
+  pub calm : IsCalm call.shelf.old call.shelf.new
   pub noted : Notes WriteFault write_line call.notes call.status
 
 -- a module was traced over the beats of a file, from all zero, and it has a run over them; no text was missing, and
@@ -161,6 +204,8 @@ pub record HasRefused (call : Call) : Type 0 where
 pub data IsAnswer (call : Call) : Type 0 where
   RanWhole : (run : HasRunWhole call) → IsAnswer call
   RanCut : (run : HasRunInPart call) → IsAnswer call
+  Dumped : (run : HasDumpedWhole call) → IsAnswer call
+  DumpedCut : (run : HasDumpedInPart call) → IsAnswer call
   Traced : (trace : HasTraced call) → IsAnswer call
   Wrote : (written : HasWrittenWhole call) → IsAnswer call
   WroteCut : (written : HasWrittenInPart call) → IsAnswer call
@@ -203,6 +248,7 @@ SaysBy status.Limit call =
 SaysBy status.Memory call = Unit {0}
 SaysBy status.Verilog call = (fault : VerilogFault) × IsBadVerilog call.shelf.old.told call.words fault
 SaysBy status.NoEnd call = IsEndless call
+SaysBy status.Dump call = (fault : VcdFault) × IsBadDump call.shelf.old.told call.words fault
 
 abbrev pub Says : Call → Type 0
 Says call = SaysBy call.status call
@@ -212,12 +258,13 @@ Says call = SaysBy call.status call
 -- the texts that a command asks for pass: to run and to simulate, the tuple file too; a load asks for none
 pub data AllPass (told : List ℕ → Told) (words : List (List ℕ)) : Type 0 where
   Two : (schema : Schema) (statement : Statement) (passes : QueryPasses told words schema statement)
-      (others : command_of words ≢ Some Run) → AllPass told words
+      (others : IsOfRun words → ⊥) → AllPass told words
   Three : (schema : Schema) (statement : Statement) (beats : List Beat)
       (pass : TuplesPass told words schema statement beats) → AllPass told words
   OfFile : (schema : Schema) (design : Module) (beats : List Beat)
       (pass : FilePasses told words schema design beats) → AllPass told words
   Loads : (count : ℕ) (is : IsLoadOf words count) → AllPass told words
+  Undumps : (bytes : List ℕ) (shown : IsUndumped told words bytes) → AllPass told words
 
 -- the shelf tells the texts that the words name
 abbrev pub IsTelling : (List ℕ → Told) → List (List ℕ) → Type 0

@@ -1,11 +1,13 @@
 //! All that the program does, over any shelf and any sinks.
 //!
 //! Here belongs what each command does with the texts that gl_top_judging gives: `compile`, `figures`,
-//! `run` and `load` on the text that a query is compiled to, `sim` on a given Verilog text. `explain`
+//! `run`, `vcd` and `load` on the text that a query is compiled to, `sim` on a given Verilog text,
+//! `undump` on a given dump. `explain`
 //! belongs to gl_top_explain. The words' forms are those of gl_top_words, what they say is found by
 //! gl_top_matches, statuses and notes are those of gl_top_notes.
 #![tactic(auto)]
 
+mod dumping;
 mod loading;
 pub mod running;
 mod tracing;

@@ -14,6 +14,7 @@ ghost use Rattle.gl_top.specs.Calls.{call_of, call_over};
 ghost use Rattle.gl_top.specs.Verdicts.{IsAnswer, IsComplete, IsGiven, RanLines, Says};
 ghost use Rattle.gl_top.specs.Verdicts.{TellsFaults, TellsForm, TellsRefusal};
 
+use crate::dumping::{answer_undump, answer_vcd};
 use crate::loading::answer_load;
 use crate::tracing::answer_sim;
 use gl_compiler::{Outcome, run_compiled};
@@ -46,6 +47,7 @@ fn finish_run<K: Sink, N: Sink>(
     out: &mut K,
     notes: &mut N,
 ) -> Status
+    requires runs { IsCommand words.now Run }
     requires compiled { IsCompiled job.now.compiled }
     requires fine { AreFileBeats job.now.compiled.schema job.now.beats }
     requires gap { let c = job.now.compiled in
@@ -70,6 +72,7 @@ fn finish<K: Sink, N: Sink>(
     notes: &mut N,
     text: &mut Vec<u8>,
 ) -> Status
+    requires runs { IsCommand words.now Run }
     requires compiled { IsCompiled job.now.compiled }
     requires fine { AreFileBeats job.now.compiled.schema job.now.beats }
     requires gap { let c = job.now.compiled in
@@ -216,6 +219,8 @@ fn answer_command<S: Shelf, K: Sink, N: Sink>(
         Command::Run => answer_run(alloc, words, shelf, out, notes, text),
         Command::Sim => answer_sim(alloc, words, shelf, out, notes),
         Command::Load => answer_load(alloc, words, out, notes, text),
+        Command::Vcd => answer_vcd(alloc, words, shelf, out, notes, text),
+        Command::Undump => answer_undump(alloc, words, shelf, out, notes),
     }
 }
 
@@ -246,10 +251,13 @@ fn answer<S: Shelf, K: Sink, N: Sink>(
 /// text S, and writes the Verilog text to `out`; `figures S Q` writes its latency, gap and copies, and
 /// the bits of its registers and memories; `run S Q T` writes what that text does over the tuple file
 /// T, from registers and words of 0 or as `--start N` says. `load N` compiles a query of its own, runs
-/// its text over N tuples, and tells what came out. These leave the text in `text`. `explain S Q`
+/// its text over N tuples, and tells what came out; `vcd S Q T` runs as `run` does, and writes the
+/// values of all ports but the clock as a value change dump. These leave the text in `text`.
+/// `undump D` reads such a dump of any origin back, and writes the lines of the result that it shows,
+/// with all values in decimal. `explain S Q`
 /// writes the query in its canonical form and its plan. `sim S V T --extra N` writes what the Verilog
 /// text V does over T, from registers and words of 0, with all values in decimal, up to the end, for
-/// which it waits N cycles behind the last beat's; it leaves `text` empty.
+/// which it waits N cycles behind the last beat's; these leave `text` empty.
 /// Where it ends before its work is done, and where no end came, it writes one line to `notes`.
 ///
 /// The texts are fetched in the order in which they are named, and each is judged before the next is

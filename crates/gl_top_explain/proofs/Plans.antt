@@ -44,6 +44,7 @@ unexplained words a b v s (refusal.TooLong p) calm h e = absurd e
 unexplained words a b v s (refusal.Schema f) calm h e = absurd e
 unexplained words a b v s (refusal.Verilog f) calm h e = absurd e
 unexplained words a b v s (refusal.Tuples f) calm h e = absurd e
+unexplained words a b v s (refusal.Dump f) calm h e = absurd e
 
 pub query_leaves : {T : Type 0} (words : List (List ℕ)) (a b : ShelfState) (v : List ℕ) (s : Schema) (r : Result T Refusal) → IsCalm a b → HasText a.told words part.Query (λ text. v ≡ text) → IfErr r (IsExplainRefused s v) → LeavesQuery words s a b r
 query_leaves words a b v s (Ok x) calm h e = calm

@@ -30,6 +30,7 @@ IsExplainRefused schema text (refusal.Query fault) = IsQueryFault schema text fa
 IsExplainRefused schema text (refusal.Limit limit) = IsOverLimit schema text limit
 IsExplainRefused schema text (refusal.Verilog fault) = ⊥
 IsExplainRefused schema text (refusal.Tuples fault) = ⊥
+IsExplainRefused schema text (refusal.Dump fault) = ⊥
 IsExplainRefused schema text refusal.Memory = Unit {0}
 
 -- what a plan passes, as a refusal: want of memory is its own

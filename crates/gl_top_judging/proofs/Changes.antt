@@ -4,7 +4,7 @@ use Rattle.std.specs.Result.{IsErrAnd}
 use Rattle.gl_outside.specs.States.{ShelfState, Stays, IsCalm}
 use Rattle.gl_outside.proofs.Counting.{calm_then, missed_then, faulted_then}
 use Rattle.gl_top_notes.specs.declared.refusal.Refusal.{Refusal}
-use Rattle.gl_top_notes.specs.declared.refusal.Refusal.TheVariants.{Usage, Missing, ReadFault, TooLong, Schema, Query, Limit, Verilog, Tuples, Memory}
+use Rattle.gl_top_notes.specs.declared.refusal.Refusal.TheVariants.{Usage, Missing, ReadFault, TooLong, Schema, Query, Limit, Verilog, Tuples, Dump, Memory}
 use Rattle.gl_top_texts.proofs.Later.{same_told}
 use Rattle.gl_top_judging.specs.Causes.{change, IsNext, IsRefused, HasCause, Leaves}
 
@@ -19,6 +19,7 @@ cause_later words a b c (Query f) k q h = (same_told (λ t. IsRefused t words (Q
 cause_later words a b c (Limit l) k q h = (same_told (λ t. IsRefused t words (Limit l)) a.told b.told k.texts h.0, calm_then a b c q h.1)
 cause_later words a b c (Verilog f) k q h = (same_told (λ t. IsRefused t words (Verilog f)) a.told b.told k.texts h.0, calm_then a b c q h.1)
 cause_later words a b c (Tuples f) k q h = (same_told (λ t. IsRefused t words (Tuples f)) a.told b.told k.texts h.0, calm_then a b c q h.1)
+cause_later words a b c (Dump f) k q h = (same_told (λ t. IsRefused t words (Dump f)) a.told b.told k.texts h.0, calm_then a b c q h.1)
 cause_later words a b c Memory k q h = calm_then a b c q h
 
 pub leaves_later : {T : Type 0} (words : List (List ℕ)) (a b c : ShelfState) (r : Result T Refusal) → Stays a b → IsCalm a b → Leaves words b c r → Leaves words a c r

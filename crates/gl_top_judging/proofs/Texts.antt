@@ -25,8 +25,8 @@ use Rattle.gl_query_compiler.specs.Queries.{IsQuery, IsQueryRefused}
 use Rattle.gl_top_words.specs.declared.command.Part.{Part}
 use Rattle.gl_top_words.specs.declared.command.Part.TheVariants as part
 use Rattle.gl_top_words.specs.declared.command.Command.{Command}
-use Rattle.gl_top_words.specs.declared.command.Command.TheVariants.{Run, Sim}
-use Rattle.gl_top_words.specs.Forms.{IsCommand, IsForm, IsNamed, command_of}
+use Rattle.gl_top_words.specs.declared.command.Command.TheVariants.{Run, Sim, Vcd}
+use Rattle.gl_top_words.specs.Forms.{IsCommand, IsForm, IsNamed, IsOfRun, command_of}
 use Rattle.gl_top_notes.specs.declared.refusal.Refusal.{Refusal}
 use Rattle.gl_top_notes.specs.declared.refusal.Refusal.TheVariants as refusal
 use Rattle.gl_top_notes.specs.Refusals.{tuples_refusal}
@@ -36,11 +36,13 @@ use Rattle.gl_top_judging.specs.Passing.{QueryPasses, ModulePasses, FilePasses, 
 use Rattle.gl_top_judging.specs.Causes.{OfRun, OfSim, IsNext, AreBadTuples, ToRun, ToSim, Change, HasCause, compile_refusal}
 
 -- the texts of a command that its words name
-pub run_names_query : (words : List (List ℕ)) → IsCommand words Run → IsNamed words part.Query
-run_names_query words is = record { command = Run; is = is; names = (1, omega arith, refl) }
+pub run_names_query : (words : List (List ℕ)) → IsOfRun words → IsNamed words part.Query
+run_names_query words (inl is) = record { command = Run; is = is; names = (1, omega arith, refl) }
+run_names_query words (inr is) = record { command = Vcd; is = is; names = (1, omega arith, refl) }
 
-pub run_names_tuples : (words : List (List ℕ)) → IsCommand words Run → IsNamed words part.Tuples
-run_names_tuples words is = record { command = Run; is = is; names = (2, omega arith, refl) }
+pub run_names_tuples : (words : List (List ℕ)) → IsOfRun words → IsNamed words part.Tuples
+run_names_tuples words (inl is) = record { command = Run; is = is; names = (2, omega arith, refl) }
+run_names_tuples words (inr is) = record { command = Vcd; is = is; names = (2, omega arith, refl) }
 
 pub sim_names_module : (words : List (List ℕ)) → IsCommand words Sim → IsNamed words part.Module
 sim_names_module words is = record { command = Sim; is = is; names = (1, omega arith, refl) }
@@ -55,6 +57,7 @@ next_named told words part.Query next = next.0
 next_named told words part.Module next = sim_names_module words next.0
 next_named told words part.Tuples (OfRun runs s st passes) = run_names_tuples words runs
 next_named told words part.Tuples (OfSim s m passes) = sim_names_tuples words passes.sims
+next_named told words part.Dump next = next
 
 -- so they are of a form
 pub next_form : (told : List ℕ → Told) (words : List (List ℕ)) (p : Part) → IsNext told words p → IsForm words
@@ -75,6 +78,7 @@ unfetched_cause words c p (refusal.Query f) next h = absurd h
 unfetched_cause words c p (refusal.Limit l) next h = absurd h
 unfetched_cause words c p (refusal.Verilog f) next h = absurd h
 unfetched_cause words c p (refusal.Tuples f) next h = absurd h
+unfetched_cause words c p (refusal.Dump f) next h = absurd h
 unfetched_cause words c p refusal.Memory next h = h
 
 -- of a schema that was not read
@@ -88,6 +92,7 @@ no_schema_cause words c (refusal.Query f) named h = absurd h
 no_schema_cause words c (refusal.Limit l) named h = absurd h
 no_schema_cause words c (refusal.Verilog f) named h = absurd h
 no_schema_cause words c (refusal.Tuples f) named h = absurd h
+no_schema_cause words c (refusal.Dump f) named h = absurd h
 no_schema_cause words c refusal.Memory named h = h
 
 -- of a query that is refused
@@ -109,7 +114,7 @@ query_passes told words v s t statement e named before h built =
     (record { named = named; before = before; text = has_text told words part.Query (λ text. IsQuery s text statement) v h built })
 
 -- of a tuple file that is refused
-are_bad : (words : List (List ℕ)) (c : Change) (v : List ℕ) (s : Schema) (statement : Statement) (fault : TupleFault) → IsCommand words Run → QueryPasses c.old.told words s statement → HasText c.old.told words part.Tuples (λ text. v ≡ text)
+are_bad : (words : List (List ℕ)) (c : Change) (v : List ℕ) (s : Schema) (statement : Statement) (fault : TupleFault) → IsOfRun words → QueryPasses c.old.told words s statement → HasText c.old.told words part.Tuples (λ text. v ≡ text)
     → kept_beats s (gap_of s statement) v ≡ Err fault → AreBadTuples c.old.told words fault
 are_bad words c v s statement fault runs before h f = ToRun runs s statement before (has_text c.old.told words part.Tuples (λ text. kept_beats s (gap_of s statement) text ≡ Err fault) v h f)
 
@@ -133,7 +138,7 @@ bad_cause words c fault read calm bad f = elim (tuples_told fault read f) [
   | inr h ↦ rw h.0 (bad h.1, calm)
 ]
 
-pub tuples_cause : (words : List (List ℕ)) (c : Change) (v : List ℕ) (s : Schema) (statement : Statement) (fault : TupleFault) → IsCommand words Run → IsCalm c.old c.new → QueryPasses c.old.told words s statement → HasText c.old.told words part.Tuples (λ text. v ≡ text)
+pub tuples_cause : (words : List (List ℕ)) (c : Change) (v : List ℕ) (s : Schema) (statement : Statement) (fault : TupleFault) → IsOfRun words → IsCalm c.old c.new → QueryPasses c.old.told words s statement → HasText c.old.told words part.Tuples (λ text. v ≡ text)
     → Fails fault (kept_beats s (gap_of s statement) v) → HasCause words c (tuples_refusal fault)
 tuples_cause words c v s st fault runs calm before h f = bad_cause words c fault (kept_beats s (gap_of s st) v) calm (are_bad words c v s st fault runs before h) f
 

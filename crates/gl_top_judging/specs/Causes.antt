@@ -10,6 +10,8 @@ use Rattle.gl_query.specs.declared.tree.Statement.{Statement}
 use Rattle.gl_tuples.specs.declared.fault.TupleFault.{TupleFault}
 use Rattle.gl_query_compiler.specs.declared.fault.CompileFault.{CompileFault}
 use Rattle.gl_query_compiler.specs.declared.fault.CompileFault.TheVariants as compile
+use Rattle.gl_dumps.specs.declared.fault.VcdFault.{VcdFault}
+use Rattle.gl_dumps.specs.Reading.{dump_of}
 use Rattle.gl_query_judge.specs.Judged.{IsQueryFault}
 use Rattle.gl_figures.specs.declared.Limit.{Limit}
 use Rattle.gl_compiler_text.specs.Built.{gap_of}
@@ -23,15 +25,15 @@ use Rattle.gl_top_words.specs.declared.command.Part.{Part}
 use Rattle.gl_top_words.specs.declared.command.Part.TheVariants as part
 use Rattle.gl_top_notes.specs.declared.refusal.Refusal.{Refusal}
 use Rattle.gl_top_notes.specs.declared.refusal.Refusal.TheVariants as refusal
-use Rattle.gl_top_words.specs.declared.command.Command.TheVariants.{Run, Sim}
-use Rattle.gl_top_words.specs.Forms.{IsCommand, IsForm, IsNamed, name_of}
+use Rattle.gl_top_words.specs.declared.command.Command.TheVariants.{Sim}
+use Rattle.gl_top_words.specs.Forms.{IsCommand, IsForm, IsNamed, IsOfRun, name_of}
 use Rattle.gl_tuple_reader.specs.Filing.{beats_of, records_of}
 use Rattle.gl_top_texts.specs.Texts.{HasText, SchemaPasses}
 use Rattle.gl_top_judging.specs.Passing.{QueryPasses, ModulePasses, kept_beats}
 
 -- the texts before the tuple file pass: a query's to run it, a module's to simulate it
 pub data PassBeforeTuples (told : List ℕ → Told) (words : List (List ℕ)) : Type 0 where
-  OfRun : (runs : IsCommand words Run) (schema : Schema) (statement : Statement)
+  OfRun : (runs : IsOfRun words) (schema : Schema) (statement : Statement)
       (passes : QueryPasses told words schema statement) → PassBeforeTuples told words
   OfSim : (schema : Schema) (m : Module) (passes : ModulePasses told words schema m) → PassBeforeTuples told words
 
@@ -41,6 +43,7 @@ IsNext told words part.Schema = IsNamed words part.Schema
 IsNext told words part.Query = IsNamed words part.Query × (schema : Schema) × SchemaPasses told words schema
 IsNext told words part.Module = IsCommand words Sim × (schema : Schema) × SchemaPasses told words schema
 IsNext told words part.Tuples = PassBeforeTuples told words
+IsNext told words part.Dump = IsNamed words part.Dump
 
 -- the text of a part is the first that does not pass: no text has its name
 pub record IsMissing (told : List ℕ → Told) (words : List (List ℕ)) (part : Part) : Type 0 where
@@ -89,13 +92,18 @@ pub record IsBadVerilog (told : List ℕ → Told) (words : List (List ℕ)) (fa
 
 -- it is no tuple file of the schema, or, to run, its beats do not keep the gap, and this is the first fault
 pub data AreBadTuples (told : List ℕ → Told) (words : List (List ℕ)) (fault : TupleFault) : Type 0 where
-  ToRun : (runs : IsCommand words Run) (schema : Schema) (statement : Statement)
+  ToRun : (runs : IsOfRun words) (schema : Schema) (statement : Statement)
       (before : QueryPasses told words schema statement)
       (text : HasText told words part.Tuples (λ text. kept_beats schema (gap_of schema statement) text ≡ Err fault))
       → AreBadTuples told words fault
   ToSim : (schema : Schema) (m : Module) (before : ModulePasses told words schema m)
       (text : HasText told words part.Tuples (λ text. beats_of schema (records_of text) ≡ Err fault))
       → AreBadTuples told words fault
+
+-- it is no value change dump, and this is the first fault
+pub record IsBadDump (told : List ℕ → Told) (words : List (List ℕ)) (fault : VcdFault) : Type 0 where
+  pub named : IsNamed words part.Dump
+  pub text : HasText told words part.Dump (λ text. dump_of text ≡ Err fault)
 
 -- what the words and the texts say of a refusal; a failed read and want of memory are not theirs
 abbrev pub IsRefused : (List ℕ → Told) → List (List ℕ) → Refusal → Type 0
@@ -108,6 +116,7 @@ IsRefused told words (refusal.Query fault) = IsBadQuery told words fault
 IsRefused told words (refusal.Limit limit) = IsOver told words limit
 IsRefused told words (refusal.Verilog fault) = IsBadVerilog told words fault
 IsRefused told words (refusal.Tuples fault) = AreBadTuples told words fault
+IsRefused told words (refusal.Dump fault) = IsBadDump told words fault
 IsRefused told words refusal.Memory = ⊥
 
 -- a shelf before and after a call

@@ -26,8 +26,8 @@ use Rattle.gl_top_words.specs.declared.command.Part.TheVariants as part
 use Rattle.gl_top_judging.specs.declared.judging.Job.{Job}
 use Rattle.gl_top_judging.specs.declared.simulating.Fitted.{Fitted}
 use Rattle.gl_top_judging.specs.declared.simulating.Simulation.{Simulation}
-use Rattle.gl_top_words.specs.declared.command.Command.TheVariants.{Run, Sim}
-use Rattle.gl_top_words.specs.Forms.{IsCommand, IsNamed}
+use Rattle.gl_top_words.specs.declared.command.Command.TheVariants.{Sim}
+use Rattle.gl_top_words.specs.Forms.{IsCommand, IsNamed, IsOfRun}
 use Rattle.gl_top_texts.specs.Texts.{HasText, SchemaPasses}
 
 -- the words name a query, and its text is that of this statement, which is accepted over the schema, and whose plan is
@@ -43,10 +43,10 @@ unfoldable pub kept_beats : Schema → ℕ → List ℕ → Result (List Beat) T
 kept_beats schema gap text =
     beats_of schema (records_of text) >>= λ beats. (close_answer (first_close gap beats) >>= λ _. Ok beats)
 
--- the words are of `run`, and the tuple file is that of these beats, which keep the statement's gap
+-- the words are of `run` or of `vcd`, and the tuple file is that of these beats, which keep the statement's gap
 pub record TuplesPass (told : List ℕ → Told) (words : List (List ℕ)) (schema : Schema) (statement : Statement)
     (beats : List Beat) : Type 0 where
-  pub runs : IsCommand words Run
+  pub runs : IsOfRun words
   pub before : QueryPasses told words schema statement
   pub fine : AreFileBeats schema beats
   pub gap : KeepsGap (gap_of schema statement) (plain_beats beats)

@@ -5,8 +5,7 @@ ghost use Rattle.gl_schema.specs.Schemas.{IsSchema};
 ghost use Rattle.gl_schema.specs.Beats.{KeepsGap};
 ghost use Rattle.gl_tuple_reader.specs.Entries.{Gives};
 ghost use Rattle.gl_tuples.specs.Gaps.{AreFileBeats, plain_beats};
-ghost use Rattle.gl_top_words.specs.declared.command.Command.TheVariants.{Run};
-ghost use Rattle.gl_top_words.specs.Forms.{IsCommand, IsNamed};
+ghost use Rattle.gl_top_words.specs.Forms.{IsNamed, IsOfRun};
 ghost use Rattle.gl_top_judging.specs.Causes as causes;
 ghost use Rattle.gl_top_judging.specs.Causes.{Leaves};
 ghost use Rattle.gl_outside.specs.States.{Stays};
@@ -88,7 +87,7 @@ fn judge_tuples<S: Shelf>(
     words: &Taken<'_>,
     compiled: &Compiled,
 ) -> Result<Beats, Refusal>
-    requires runs { IsCommand words.now Run }
+    requires runs { IsOfRun words.now }
     requires passes { let told = (S.state shelf.old).told in
         QueryPasses told words.now compiled.now.schema compiled.now.statement }
     requires compiled { IsCompiled compiled.now }
@@ -108,7 +107,7 @@ fn judge_file<S: Shelf>(
     words: &Taken<'_>,
     compiled: Compiled,
 ) -> Result<Job, Refusal>
-    requires runs { IsCommand words.now Run }
+    requires runs { IsOfRun words.now }
     requires passes { let told = (S.state shelf.old).told in
         QueryPasses told words.now compiled.schema compiled.statement }
     requires compiled { IsCompiled compiled }
@@ -127,7 +126,7 @@ fn judge_rest<S: Shelf>(
     words: &Taken<'_>,
     schema: Schema,
 ) -> Result<Job, Refusal>
-    requires runs { IsCommand words.now Run }
+    requires runs { IsOfRun words.now }
     requires passes { SchemaPasses (S.state shelf.old).told words.now schema }
     requires names { (S.state shelf.old).names ≡ words.now }
     ensures ready { IfOk result (λ job. IsReady (S.state shelf.old).told words.now job) }
@@ -137,9 +136,9 @@ fn judge_rest<S: Shelf>(
     judge_file(alloc, shelf, words, compiled)
 }
 
-/// Judges the three texts of `run S Q T`.
+/// Judges the three texts of `run S Q T` and of `vcd S Q T`.
 pub fn judge_run<S: Shelf>(alloc: Global, shelf: &mut S, words: &Taken<'_>) -> Result<Job, Refusal>
-    requires runs { IsCommand words.now Run }
+    requires runs { IsOfRun words.now }
     requires names { (S.state shelf.old).names ≡ words.now }
     ensures ready { IfOk result (λ job. IsReady (S.state shelf.old).told words.now job) }
     ensures leaves { Leaves words.now (S.state shelf.old) (S.state shelf.new) result }

@@ -20,7 +20,7 @@ one = (built one_name).top
 abbrev two : Shape
 two = (built two_names).top
 
--- `load N`
+-- `load N` and `undump D`
 pub load_names : (n : Text) → is_dashed n ≡ false → Given one_name (n ∷ []) (n ∷ []) None
 load_names n pn = given one_name (n ∷ []) (n ∷ []) None _ one_alone (name one nothing_held _ 1 2 _ n [] pn refl refl (stop one _)) refl (refl, refl, refl, refl)
 

@@ -11,7 +11,7 @@ use Rattle.clap.specs.Words.{App, HasMatchesOf, Text, first_of, found_of, is_sim
 use Rattle.clap.specs.declared.parser.matches.ArgMatches.{ArgMatches}
 use Rattle.clap.proofs.WalkLemmas.{first_value-rows}
 use Rattle.gl_top_words.specs.declared.command.Command.{Command}
-use Rattle.gl_top_words.specs.declared.command.Command.TheVariants.{Compile, Figures, Explain, Run, Sim, Load}
+use Rattle.gl_top_words.specs.declared.command.Command.TheVariants.{Compile, Figures, Explain, Run, Sim, Load, Vcd, Undump}
 use Rattle.gl_top_words.specs.Forms.{IsCommand, extra_at, extra_in, extra_of, first_word, is_command, is_dashed, load_at, load_in, load_of, many_names, name_of, names_in, names_of, option_front, option_word, start_at, start_in, start_of, takes_values, values_in, values_of, word_of}
 use Rattle.gl_top_words.proofs.Named.{is_one}
 use Rattle.gl_top_matches.specs.Apps.{Tells, app_for}
@@ -44,6 +44,7 @@ said_of : (words names : List Text) (value : Option Text) → names_of words ≡
 unfolding name_of start_of extra_of load_of
 said_of words names value named valued load = record {
   schema = ap (λ (l : List Text). at l 0) named;
+  dump = ap (λ (l : List Text). at l 0) named;
   query = ap (λ (l : List Text). at l 1) named;
   tuples = ap (λ (l : List Text). at l 2) named;
   start = ap (λ (l : List (Option Text)). unwrap_or (start_in l) Zero) valued ∙ start_same value;
@@ -96,6 +97,8 @@ some_word Explain e = omega (arith, e)
 some_word Run e = omega (arith, e)
 some_word Sim e = omega (arith, e)
 some_word Load e = omega (arith, e)
+some_word Vcd e = omega (arith, e)
+some_word Undump e = omega (arith, e)
 
 behind_word : (words : List Text) (c : Command) → first_word words ≡ word_of c → words ≡ word_of c ∷ drop 1 words
 behind_word [] c e = absurd (some_word c (ap length (sym e)))
@@ -123,6 +126,11 @@ load_by : (words ws : List Text) → words ≡ codes "load" ∷ ws → AreNames 
 load_by words [] same n e named valued = absurd (omega (arith, e))
 load_by words (m ∷ []) same n e named valued = read_of words (m ∷ []) (m ∷ []) Load None (codes "load") same (load_names m n.0) named valued refl
 load_by words (m ∷ u ∷ ws) same n e named valued = absurd (omega (arith, e))
+
+undump_by : (words ws : List Text) → words ≡ codes "undump" ∷ ws → AreNames ws → length ws ≡ 1 → names_of words ≡ ws → values_of words ≡ [] → IsRead words Undump
+undump_by words [] same n e named valued = absurd (omega (arith, e))
+undump_by words (m ∷ []) same n e named valued = read_of words (m ∷ []) (m ∷ []) Undump None (codes "undump") same (load_names m n.0) named valued refl
+undump_by words (m ∷ u ∷ ws) same n e named valued = absurd (omega (arith, e))
 
 two : (P : List Text → Type 0) → ((s q : Text) → is_dashed s ≡ false → is_dashed q ≡ false → P (s ∷ q ∷ [])) → (ws : List Text) → AreNames ws → length ws ≡ 2 → P ws
 two P p [] n e = absurd (omega (arith, e))
@@ -253,6 +261,23 @@ run_read words is = elim (run_values (values_of words) (values_are words Run is)
       (run_given h.0 h.2 (drop 1 words) p many) named h.1 (first_there (p.before ++ p.behind) many)
 ]
 
+vcd_read : (words : List Text) → is_command words Vcd ≡ true → IsRead words Vcd
+vcd_read words is = elim (run_values (values_of words) (values_are words Vcd is)) [
+  | inl none ↦
+      let b = bare_words words Vcd is none in
+      three (λ ws. words ≡ codes "vcd" ∷ ws → names_of words ≡ ws → IsRead words Vcd)
+      (λ s q t ps pq pt same named. read_of words (s ∷ q ∷ t ∷ []) (s ∷ q ∷ t ∷ []) Vcd None (codes "vcd") same (run_bare s q t ps pq pt) named none refl)
+      (drop 1 words) b.plain b.many b.same b.named
+  | inr h ↦
+      let word = word_is words Vcd is in
+      let option = option_is words (codes "vcd") word in
+      let p = placed start_front h.0 refl (drop 1 words) (sym (values_with words start_front option) ∙ h.1) in
+      let named = names_with words start_front option ∙ p.names in
+      let many = ap length (sym named) ∙ many_are words Vcd is in
+      read_of words (drop 1 words) (p.before ++ p.behind) Vcd (Some h.0) (codes "vcd") (behind_word words Vcd word)
+      (run_given h.0 h.2 (drop 1 words) p many) named h.1 (first_there (p.before ++ p.behind) many)
+]
+
 sim_read : (words : List Text) → is_command words Sim ≡ true → IsRead words Sim
 sim_read words is =
     let h = sim_values (values_of words) (values_are words Sim is) in
@@ -287,6 +312,10 @@ read_by words Sim is = sim_read words is
 read_by words Load is =
     let b = bare_words words Load is (none_taken (values_of words) (values_are words Load is)) in
     load_by words (drop 1 words) b.same b.plain b.many b.named b.valued
+read_by words Vcd is = vcd_read words is
+read_by words Undump is =
+    let b = bare_words words Undump is (none_taken (values_of words) (values_are words Undump is)) in
+    undump_by words (drop 1 words) b.same b.plain b.many b.named b.valued
 
 pub read : (words : List Text) (c : Command) → IsCommand words c → IsRead words c
 read words c is = read_by words c (is_one words c is)
@@ -300,6 +329,8 @@ simple Explain = refl
 simple Run = refl
 simple Sim = refl
 simple Load = refl
+simple Vcd = refl
+simple Undump = refl
 
 -- no other refusal than want of memory
 pub takes_all : (words given : List Text) (c : Command) (app : App) → app ≡ app_for c → given ≡ words → IsCommand words c → takes app given ≡ true

@@ -62,9 +62,9 @@ fn command_for<'a>(alloc: Global, command: Command) -> Result<clap::Command<'a>,
 {
     match command {
         Command::Compile | Command::Figures | Command::Explain => two_names(alloc),
-        Command::Run => with_option(alloc, three_names(alloc)?, "start", false),
+        Command::Run | Command::Vcd => with_option(alloc, three_names(alloc)?, "start", false),
         Command::Sim => with_option(alloc, three_names(alloc)?, "extra", true),
-        Command::Load => one_name(alloc),
+        Command::Load | Command::Undump => one_name(alloc),
     }
 }
 

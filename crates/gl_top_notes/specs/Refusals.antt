@@ -8,10 +8,12 @@ use Rattle.gl_verilog_syntax.specs.declared.fault.VerilogFault.{VerilogFault}
 use Rattle.gl_verilog_syntax.specs.declared.fault.VerilogFault.TheVariants as verilog
 use Rattle.gl_tuples.specs.declared.fault.TupleFault.{TupleFault}
 use Rattle.gl_tuples.specs.declared.fault.TupleFault.TheVariants as tuples
+use Rattle.gl_dumps.specs.declared.fault.VcdFault.{VcdFault}
+use Rattle.gl_dumps.specs.declared.fault.VcdFault.TheVariants as dump
 use Rattle.gl_outside.specs.States.{SinkState, Took, Broke}
 use Rattle.gl_top_words.specs.declared.command.Part.TheVariants as part
 use Rattle.gl_top_notes.specs.declared.refusal.Refusal.{Refusal}
-use Rattle.gl_top_notes.specs.declared.refusal.Refusal.TheVariants.{Usage, Missing, ReadFault, TooLong, Schema, Query, Limit, Verilog, Tuples, Memory}
+use Rattle.gl_top_notes.specs.declared.refusal.Refusal.TheVariants.{Usage, Missing, ReadFault, TooLong, Schema, Query, Limit, Verilog, Tuples, Dump, Memory}
 use Rattle.gl_figures.specs.declared.Limit as figures
 use Rattle.gl_figures.specs.declared.Limit.TheVariants as limit
 use Rattle.gl_top_notes.specs.declared.status.Status.{Status}
@@ -35,6 +37,9 @@ abbrev pub tuples_refusal : TupleFault → Refusal
 tuples_refusal tuples.Memory = Memory
 tuples_refusal fault = Tuples fault
 
+abbrev pub dump_refusal : VcdFault → Refusal
+dump_refusal fault = Dump fault
+
 -- each refusal has one status
 abbrev pub status_of : Refusal → Status
 status_of Usage = status.Usage
@@ -46,6 +51,7 @@ status_of (Query fault) = status.Query
 status_of (Limit passed) = status.Limit
 status_of (Verilog fault) = status.Verilog
 status_of (Tuples fault) = status.Tuples
+status_of (Dump fault) = status.Dump
 status_of Memory = status.Memory
 
 -- the kind of a fault is its variant's name
@@ -155,6 +161,26 @@ tuples_record (tuples.AfterEnd number) = number
 tuples_record (tuples.TooClose number) = number
 tuples_record tuples.Memory = 0
 
+unfoldable pub dump_kind : VcdFault → List ℕ
+dump_kind (dump.Syntax at) = codes "Syntax"
+dump_kind (dump.UnknownSignal at) = codes "UnknownSignal"
+dump_kind (dump.TimeFalls at) = codes "TimeFalls"
+dump_kind (dump.TooWide at) = codes "TooWide"
+dump_kind (dump.NoValue at) = codes "NoValue"
+dump_kind (dump.Twice at) = codes "Twice"
+dump_kind (dump.NoPort at) = codes "NoPort"
+dump_kind (dump.TooLate at) = codes "TooLate"
+
+abbrev pub dump_place : VcdFault → ℕ
+dump_place (dump.Syntax at) = at
+dump_place (dump.UnknownSignal at) = at
+dump_place (dump.TimeFalls at) = at
+dump_place (dump.TooWide at) = at
+dump_place (dump.NoValue at) = at
+dump_place (dump.Twice at) = at
+dump_place (dump.NoPort at) = at
+dump_place (dump.TooLate at) = at
+
 -- a line of a head and what it tells of; each ends with a line feed
 abbrev pub line : List ℕ → List ℕ → List ℕ
 line head rest = head ++ rest ++ codes "\n"
@@ -166,7 +192,8 @@ kind_line head kind middle number = head ++ kind ++ line middle (decimal number)
 -- the line of all forms
 unfoldable pub usage_line : List ℕ
 usage_line =
-    codes "usage: glacier compile S Q, figures S Q, explain S Q, run S Q T [--start N], sim S V T --extra N, load N\n"
+    codes "usage: glacier compile S Q, figures S Q, explain S Q, run S Q T [--start N], sim S V T --extra N, load N, "
+    ++ codes "vcd S Q T [--start N], undump D\n"
 
 -- the other lines that tell of no text
 unfoldable pub memory_line : List ℕ
@@ -188,6 +215,10 @@ limit_line (limit.Nodes weight) = line (codes "limit: Nodes ") (decimal weight)
 abbrev pub verilog_line : VerilogFault → List ℕ
 verilog_line fault = kind_line (codes "verilog: ") (verilog_kind fault) (codes " at ") (verilog_place fault)
 
+-- and of a value change dump
+abbrev pub dump_line : VcdFault → List ℕ
+dump_line fault = kind_line (codes "dump: ") (dump_kind fault) (codes " at ") (dump_place fault)
+
 -- the line of each refusal
 abbrev pub note_of : List (List ℕ) → Refusal → List ℕ
 note_of words Usage = usage_line
@@ -200,6 +231,7 @@ note_of words (Limit passed) = limit_line passed
 note_of words (Verilog fault) = verilog_line fault
 note_of words (Tuples fault) =
     kind_line (codes "tuples: ") (tuples_kind fault) (codes " at record ") (tuples_record fault)
+note_of words (Dump fault) = dump_line fault
 note_of words Memory = memory_line
 
 -- a sink before and after a call

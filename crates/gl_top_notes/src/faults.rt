@@ -3,6 +3,7 @@
 ghost use Rattle.std.specs.Prelude.{◌≡◌};
 ghost use Rattle.gl_top_notes.specs.Refusals as told;
 
+use gl_dumps::VcdFault;
 use gl_query::QueryFault;
 use gl_schema::SchemaFault;
 use gl_tuples::TupleFault;
@@ -163,5 +164,38 @@ pub fn tuples_record(fault: &TupleFault) -> u64
         | TupleFault::AfterEnd { number }
         | TupleFault::TooClose { number } => *number,
         TupleFault::Memory => 0,
+    }
+}
+
+/// The kind of a fault of a value change dump.
+#[tactic(auto, unfolding(crate::specs::Refusals::dump_kind))]
+pub fn dump_kind(fault: &VcdFault) -> &'static [u8]
+    ensures { result.now ≡ told.dump_kind fault.now }
+{
+    match fault {
+        VcdFault::Syntax { .. } => b"Syntax",
+        VcdFault::UnknownSignal { .. } => b"UnknownSignal",
+        VcdFault::TimeFalls { .. } => b"TimeFalls",
+        VcdFault::TooWide { .. } => b"TooWide",
+        VcdFault::NoValue { .. } => b"NoValue",
+        VcdFault::Twice { .. } => b"Twice",
+        VcdFault::NoPort { .. } => b"NoPort",
+        VcdFault::TooLate { .. } => b"TooLate",
+    }
+}
+
+/// The place of a fault of a value change dump.
+pub fn dump_place(fault: &VcdFault) -> u64
+    ensures { result ≡ told.dump_place fault.now }
+{
+    match fault {
+        VcdFault::Syntax { at }
+        | VcdFault::UnknownSignal { at }
+        | VcdFault::TimeFalls { at }
+        | VcdFault::TooWide { at }
+        | VcdFault::NoValue { at }
+        | VcdFault::Twice { at }
+        | VcdFault::NoPort { at }
+        | VcdFault::TooLate { at } => *at,
     }
 }

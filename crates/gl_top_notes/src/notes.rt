@@ -4,16 +4,17 @@ ghost use Rattle.std.specs.Prelude.{decimal};
 ghost use Rattle.gl_outside.specs.States.{Wrote};
 ghost use Rattle.gl_top_words.specs.Forms as forms;
 ghost use Rattle.gl_top_notes.specs.Refusals as told;
-ghost use Rattle.gl_top_notes.specs.Refusals.{line, kind_line, limit_line, no_end_line, note_of, verilog_line};
+ghost use Rattle.gl_top_notes.specs.Refusals.{line, dump_line, kind_line, limit_line, no_end_line, note_of, verilog_line};
 ghost use Rattle.gl_top_notes.specs.Refusals.{usage_line, memory_line, write_line, puts, Notes};
 ghost use Rattle.gl_top_notes.specs.Written.{IsWritten};
 
 use crate::faults::{
-    query_kind, query_place, schema_kind, schema_place, tuples_kind, tuples_record, verilog_kind,
-    verilog_place,
+    dump_kind, dump_place, query_kind, query_place, schema_kind, schema_place, tuples_kind,
+    tuples_record, verilog_kind, verilog_place,
 };
 use crate::refusal::{Refusal, status_of};
 use crate::status::Status;
+use gl_dumps::VcdFault;
 use gl_figures::Limit;
 use gl_outside::{Sink, WriteFault, write_all_of};
 use gl_top_words::{Part, Taken};
@@ -23,7 +24,7 @@ use itoa::Buffer;
 // The line of all forms.
 const USAGE: &[u8] =
     b"usage: glacier compile S Q, figures S Q, explain S Q, run S Q T [--start N], \
-sim S V T --extra N, load N\n";
+sim S V T --extra N, load N, vcd S Q T [--start N], undump D\n";
 
 // Writes a line of a head and what it tells of.
 #[tactic(auto, using(gl_outside::proofs::Takes::pieces))]
@@ -130,6 +131,20 @@ fn put_verilog<N: Sink>(notes: &mut N, fault: &VerilogFault) -> Result<(), Write
     )
 }
 
+// Writes the line of a value change dump that is refused.
+fn put_dump<N: Sink>(notes: &mut N, fault: &VcdFault) -> Result<(), WriteFault>
+    ensures { let bytes = dump_line fault.now in
+        Wrote (N.state notes.old) (N.state notes.new) bytes result }
+{
+    put_kind(
+        notes,
+        b"dump: ",
+        dump_kind(fault),
+        b" at ",
+        dump_place(fault),
+    )
+}
+
 // Writes the line of a refusal.
 fn put_note<N: Sink>(notes: &mut N, words: &Taken<'_>, refusal: &Refusal) -> Result<(), WriteFault>
     ensures { Wrote (N.state notes.old) (N.state notes.new) (note_of words.now refusal.now) result }
@@ -162,6 +177,7 @@ fn put_note<N: Sink>(notes: &mut N, words: &Taken<'_>, refusal: &Refusal) -> Res
             b" at record ",
             tuples_record(fault),
         ),
+        Refusal::Dump(fault) => put_dump(notes, fault),
         Refusal::Memory => put_memory(notes),
     }
 }

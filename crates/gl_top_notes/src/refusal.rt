@@ -4,6 +4,7 @@ ghost use Rattle.std.specs.Prelude.{◌≡◌};
 ghost use Rattle.gl_top_notes.specs.Refusals as told;
 
 use crate::status::Status;
+use gl_dumps::VcdFault;
 use gl_figures::Limit;
 use gl_query::QueryFault;
 use gl_schema::SchemaFault;
@@ -32,6 +33,8 @@ pub enum Refusal {
     Verilog(VerilogFault),
     /// The tuple file is refused.
     Tuples(TupleFault),
+    /// The value change dump is refused.
+    Dump(VcdFault),
     /// Want of memory.
     Memory,
 }
@@ -80,6 +83,14 @@ impl From<TupleFault> for Refusal {
     }
 }
 
+impl From<VcdFault> for Refusal {
+    ghost from_gives = { λ fault r. r ≡ told.dump_refusal fault };
+
+    fn from(fault: VcdFault) -> Refusal {
+        Refusal::Dump(fault)
+    }
+}
+
 /// The status of a refusal.
 pub(crate) fn status_of(refusal: &Refusal) -> Status
     ensures { result ≡ told.status_of refusal.now }
@@ -94,6 +105,7 @@ pub(crate) fn status_of(refusal: &Refusal) -> Status
         Refusal::Limit(_) => Status::Limit,
         Refusal::Verilog(_) => Status::Verilog,
         Refusal::Tuples(_) => Status::Tuples,
+        Refusal::Dump(_) => Status::Dump,
         Refusal::Memory => Status::Memory,
     }
 }

@@ -34,6 +34,8 @@ pub enum Status {
     Memory,
     /// The end of the result did not come.
     NoEnd,
+    /// The value change dump is refused.
+    Dump,
 }
 
 impl Status {
@@ -54,6 +56,7 @@ impl Status {
             Status::Limit => 9,
             Status::Memory => 10,
             Status::NoEnd => 11,
+            Status::Dump => 12,
         }
     }
 }

@@ -9,7 +9,8 @@
 //! too, and prints the line of the root's node alone. Lines `compile TEXT`, `figures TEXT`, `start
 //! TEXT` and `option WORD TEXT` run `compile S Q`, `figures S Q`, `run --start 12345 S Q T` and `run S
 //! Q T WORD`. A line `sim WORD WORD` runs `sim S V T`, and a line `load WORD WORD` runs `load`, with
-//! these words, of which either may be missing. A line `over TEXT` sets the query of the lines `words
+//! these words, of which either may be missing. A line `vcd TEXT` runs `vcd S Q T`, and a line `undump
+//! TEXT` reads this text as a dump. A line `over TEXT` sets the query of the lines `words
 //! WORD|WORD|..`, which run these words, of which each may be empty. Behind a line `show text` the text
 //! that is left is printed too, until a line `show no text`. A line `fronts NAME TEXT` runs `run S Q T`,
 //! or `sim S V T --extra 5` for `verilog`, over each front of the text that is shorter than it, in the
@@ -70,6 +71,8 @@ fn words_before(kind: &str) -> &'static str {
         "figures" => "figures S Q",
         "sim" => "sim S V T",
         "load" => "load",
+        "vcd" => "vcd S Q T",
+        "undump" => "undump Q",
         _ => "",
     }
 }

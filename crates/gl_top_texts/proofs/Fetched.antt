@@ -53,6 +53,7 @@ unread words a b (refusal.Query f) h = h
 unread words a b (refusal.Limit l) h = h
 unread words a b (refusal.Verilog f) h = h
 unread words a b (refusal.Tuples f) h = h
+unread words a b (refusal.Dump f) h = h
 unread words a b refusal.Memory h = h
 
 -- nor where it has a fault

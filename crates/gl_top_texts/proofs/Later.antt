@@ -26,3 +26,4 @@ unfetched_later words p a b c (refusal.Query f) k calm h = absurd h
 unfetched_later words p a b c (refusal.Limit l) k calm h = absurd h
 unfetched_later words p a b c (refusal.Verilog f) k calm h = absurd h
 unfetched_later words p a b c (refusal.Tuples f) k calm h = absurd h
+unfetched_later words p a b c (refusal.Dump f) k calm h = absurd h

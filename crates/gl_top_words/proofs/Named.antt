@@ -1,6 +1,7 @@
 -- What words of a form name.
-use Rattle.std.proofs.Common.{◌≡◌, ℕ, zero, suc, ◌<◌, Bool, true, false, List, [], ◌∷◌, length, drop, Option, Some, None, refl, sym, ap, subst, ◌∙◌, arith}
+use Rattle.std.proofs.Common.{◌≡◌, inl, inr, ℕ, zero, suc, ◌<◌, Bool, true, false, List, [], ◌∷◌, length, drop, Option, Some, None, refl, sym, ap, subst, ◌∙◌, arith}
 use Rattle.std.specs.Prelude.{is_some, slice_get, unwrap_or, Contains, bytes_eq, if◌then◌else◌}
+use Rattle.std.specs.List.{list_all}
 use Rattle.std.proofs.lemmas.Bool.{eqb-true}
 use Rattle.gl_bits.proofs.Bools.{and_left, and_right}
 use Rattle.gl_bits.proofs.Options.{some_there}
@@ -8,10 +9,10 @@ use Rattle.gl_outside.proofs.Places.{found_is}
 use Rattle.gl_verilog_orders.specs.declared.start.Start.{Start}
 use Rattle.gl_verilog_orders.specs.declared.start.Start.TheVariants.{Zero}
 use Rattle.gl_top_words.specs.declared.command.Part.{Part}
-use Rattle.gl_top_words.specs.declared.command.Part.TheVariants.{Schema, Query, Module, Tuples}
+use Rattle.gl_top_words.specs.declared.command.Part.TheVariants.{Schema, Query, Module, Tuples, Dump}
 use Rattle.gl_top_words.specs.declared.command.Command.{Command}
-use Rattle.gl_top_words.specs.declared.command.Command.TheVariants.{Compile, Figures, Explain, Run, Sim, Load}
-use Rattle.gl_top_words.specs.Forms.{IsCommand, IsForm, IsLoadOf, IsNamed, command_of, extra_in, extra_of, is_command, is_dashed, load_in, load_of, many_names, name_of, names_in, names_of, option_word, parts_of, place_of, start_in, start_of, values_of}
+use Rattle.gl_top_words.specs.declared.command.Command.TheVariants.{Compile, Figures, Explain, Run, Sim, Load, Vcd, Undump}
+use Rattle.gl_top_words.specs.Forms.{IsCommand, IsForm, IsLoadOf, IsNamed, IsOfRun, command_of, extra_in, extra_of, is_command, is_dashed, load_in, load_of, many_names, name_of, names_in, names_of, option_word, parts_of, place_of, start_in, start_of, values_of}
 
 -- ---- a name is one of the words
 
@@ -59,24 +60,28 @@ pub data Commanded (words : List (List ℕ)) (o : Option Command) : Type 0 where
 pub commanded : (words : List (List ℕ)) → Commanded words (command_of words)
 unfolding command_of
 commanded words = by (is_command words Compile) (is_command words Figures) (is_command words Explain) (is_command words Run) (is_command words Sim) (is_command words Load)
-    refl refl refl refl refl refl
+    (is_command words Vcd) (is_command words Undump) refl refl refl refl refl refl refl refl
   where
-    by : (a f b c s l : Bool) → is_command words Compile ≡ a → is_command words Figures ≡ f → is_command words Explain ≡ b
-        → is_command words Run ≡ c → is_command words Sim ≡ s → is_command words Load ≡ l
+    by : (a f b c s l v u : Bool) → is_command words Compile ≡ a → is_command words Figures ≡ f → is_command words Explain ≡ b
+        → is_command words Run ≡ c → is_command words Sim ≡ s → is_command words Load ≡ l → is_command words Vcd ≡ v → is_command words Undump ≡ u
         → Commanded words (if is_command words Compile then Some Compile
         else if is_command words Figures then Some Figures
         else if is_command words Explain then Some Explain
         else if is_command words Run then Some Run
         else if is_command words Sim then Some Sim
         else if is_command words Load then Some Load
+        else if is_command words Vcd then Some Vcd
+        else if is_command words Undump then Some Undump
         else None)
-    by true f b c s l p g q r t o = Of Compile p (rw p refl)
-    by false true b c s l p g q r t o = Of Figures g (rw (p, g) refl)
-    by false false true c s l p g q r t o = Of Explain q (rw (p, g, q) refl)
-    by false false false true s l p g q r t o = Of Run r (rw (p, g, q, r) refl)
-    by false false false false true l p g q r t o = Of Sim t (rw (p, g, q, r, t) refl)
-    by false false false false false true p g q r t o = Of Load o (rw (p, g, q, r, t, o) refl)
-    by false false false false false false p g q r t o = Formless (rw (p, g, q, r, t, o) refl)
+    by true f b c s l v u p g q r t o w x = Of Compile p (rw p refl)
+    by false true b c s l v u p g q r t o w x = Of Figures g (rw (p, g) refl)
+    by false false true c s l v u p g q r t o w x = Of Explain q (rw (p, g, q) refl)
+    by false false false true s l v u p g q r t o w x = Of Run r (rw (p, g, q, r) refl)
+    by false false false false true l v u p g q r t o w x = Of Sim t (rw (p, g, q, r, t) refl)
+    by false false false false false true v u p g q r t o w x = Of Load o (rw (p, g, q, r, t, o) refl)
+    by false false false false false false true u p g q r t o w x = Of Vcd w (rw (p, g, q, r, t, o, w) refl)
+    by false false false false false false false true p g q r t o w x = Of Undump x (rw (p, g, q, r, t, o, w, x) refl)
+    by false false false false false false false false p g q r t o w x = Formless (rw (p, g, q, r, t, o, w, x) refl)
 
 pub form_of : (words : List (List ℕ)) (c : Command) → IsCommand words c → IsForm words
 form_of words c is = rw is refl
@@ -102,6 +107,23 @@ names_are : (words : List (List ℕ)) (c : Command) → is_command words c ≡ t
 unfolding is_command
 names_are words c is = eqb-true (length (names_of words)) (many_names c) (and_right _ _ (and_left _ _ (and_left _ _ is)))
 
+-- whether a text is read beside a schema
+abbrev pub is_beside : Part → Bool
+is_beside Schema = true
+is_beside Query = true
+is_beside Module = true
+is_beside Tuples = true
+is_beside Dump = false
+
+beside_in : (ps : List Part) (p : Part) → list_all is_beside ps ≡ true → Contains ps p → is_beside p ≡ true
+beside_in [] p all (k, l, e) = absurd (omega (arith, l))
+beside_in (q ∷ ps) p all (zero, l, e) = let same : q ≡ p = cc in subst (λ (x : Part). is_beside x ≡ true) same (and_left _ _ all)
+beside_in (q ∷ ps) p all (suc k, l, e) = beside_in ps p (and_right _ _ all) (k, omega (arith, l), e)
+
+dump_alone : (p : Part) → Contains (Dump ∷ []) p → Dump ≡ p
+dump_alone p (zero, l, e) = cc
+dump_alone p (suc k, l, e) = absurd (omega (arith, l))
+
 -- each text has a name in its place
 place_two : (p : Part) → Contains (Schema ∷ Query ∷ []) p → place_of p < 2
 place_two Schema h = omega arith
@@ -110,12 +132,14 @@ place_two Module h = omega arith
 place_two Tuples (zero, l, e) = absurd cc
 place_two Tuples (suc zero, l, e) = absurd cc
 place_two Tuples (suc (suc k), l, e) = absurd (omega (arith, l))
+place_two Dump h = omega arith
 
 place_three : (p : Part) → place_of p < 3
 place_three Schema = omega arith
 place_three Query = omega arith
 place_three Module = omega arith
 place_three Tuples = omega arith
+place_three Dump = omega arith
 
 place_within : (c : Command) (p : Part) → Contains (parts_of c) p → place_of p < many_names c
 place_within Compile p h = place_two p h
@@ -124,6 +148,8 @@ place_within Explain p h = place_two p h
 place_within Run p h = place_three p
 place_within Sim p h = place_three p
 place_within Load p h = absurd (omega (arith, h.1))
+place_within Vcd p h = place_three p
+place_within Undump p h = subst (λ (x : Part). place_of x < 1) (dump_alone p h) (omega arith)
 
 -- the name of a text that the words name is one of the words
 pub named : (words : List (List ℕ)) (p : Part) → IsNamed words p → Contains words (name_of words p)
@@ -133,17 +159,19 @@ named words p is =
     let lt = place_within is.command p is.names in
     in_rest words _ (is_word (option_word words) (drop 1 words) _ false (place_of p) (some_at (names_of words) (place_of p) (omega (arith, many, lt))))
 
--- a command that names a text names a schema
-first_part : (c : Command) (p : Part) → Contains (parts_of c) p → Contains (parts_of c) Schema
-first_part Compile p h = (0, omega arith, refl)
-first_part Figures p h = (0, omega arith, refl)
-first_part Explain p h = (0, omega arith, refl)
-first_part Run p h = (0, omega arith, refl)
-first_part Sim p h = (0, omega arith, refl)
-first_part Load p h = absurd (omega (arith, h.1))
+-- a command that names a text that is read beside a schema names a schema
+first_part : (c : Command) (p : Part) → is_beside p ≡ true → Contains (parts_of c) p → Contains (parts_of c) Schema
+first_part Compile p b h = (0, omega arith, refl)
+first_part Figures p b h = (0, omega arith, refl)
+first_part Explain p b h = (0, omega arith, refl)
+first_part Run p b h = (0, omega arith, refl)
+first_part Sim p b h = (0, omega arith, refl)
+first_part Load p b h = absurd (omega (arith, h.1))
+first_part Vcd p b h = (0, omega arith, refl)
+first_part Undump p b h = let no : is_beside Dump ≡ true = subst (λ (x : Part). is_beside x ≡ true) (sym (dump_alone p h)) b in absurd cc
 
-pub schema_named : (words : List (List ℕ)) (p : Part) → IsNamed words p → IsNamed words Schema
-schema_named words p is = record { command = is.command; is = is.is; names = first_part is.command p is.names }
+pub schema_named : (words : List (List ℕ)) (p : Part) → is_beside p ≡ true → IsNamed words p → IsNamed words Schema
+schema_named words p beside is = record { command = is.command; is = is.is; names = first_part is.command p beside is.names }
 
 pub named_form : (words : List (List ℕ)) (p : Part) → IsNamed words p → IsForm words
 named_form words p is = form_of words is.command is.is
@@ -164,6 +192,23 @@ no_query (suc (suc (suc k)), l, e) = absurd (omega (arith, l))
 pub sim_names_no_query : (words : List (List ℕ)) → IsCommand words Sim → IsNamed words Query → ⊥
 sim_names_no_query words is h = no_query (parts_are words Sim Query is h)
 
+-- the words of `undump` name a dump alone, and no other words name one
+pub undump_names_dump : (words : List (List ℕ)) (p : Part) → IsCommand words Undump → IsNamed words p → Dump ≡ p
+undump_names_dump words p is h = dump_alone p (parts_are words Undump p is h)
+
+undumps : (c : Command) → Contains (parts_of c) Dump → Undump ≡ c
+undumps Compile h = let e = beside_in (parts_of Compile) Dump refl h in absurd cc
+undumps Figures h = let e = beside_in (parts_of Figures) Dump refl h in absurd cc
+undumps Explain h = let e = beside_in (parts_of Explain) Dump refl h in absurd cc
+undumps Run h = let e = beside_in (parts_of Run) Dump refl h in absurd cc
+undumps Sim h = let e = beside_in (parts_of Sim) Dump refl h in absurd cc
+undumps Load h = absurd (omega (arith, h.1))
+undumps Vcd h = let e = beside_in (parts_of Vcd) Dump refl h in absurd cc
+undumps Undump h = refl
+
+pub dump_is_undumped : (words : List (List ℕ)) → IsNamed words Dump → IsCommand words Undump
+dump_is_undumped words h = subst (λ (c : Command). IsCommand words c) (sym (undumps h.command h.names)) h.is
+
 -- ---- the tuples of a load
 
 load_takes : (words : List (List ℕ)) → is_command words Load ≡ true → is_some (load_in (names_of words)) ≡ true
@@ -177,17 +222,25 @@ load_given words is =
     let there = some_there (load_in (names_of words)) (load_takes words (is_one words Load is)) in
     (there.0, record { loads = is; many = there.1 })
 
--- ---- the start of a run
+-- ---- the start of a run, and of its dump
 
 run_takes : (words : List (List ℕ)) → is_command words Run ≡ true → is_some (start_in (values_of words)) ≡ true
 unfolding is_command
 run_takes words is = and_right _ _ is
 
-pub start_given : (words : List (List ℕ)) → IsCommand words Run → start_in (values_of words) ≡ Some (start_of words)
+vcd_takes : (words : List (List ℕ)) → is_command words Vcd ≡ true → is_some (start_in (values_of words)) ≡ true
+unfolding is_command
+vcd_takes words is = and_right _ _ is
+
+start_is : (words : List (List ℕ)) → is_some (start_in (values_of words)) ≡ true → start_in (values_of words) ≡ Some (start_of words)
 unfolding start_of
-start_given words is =
-    let there = some_there (start_in (values_of words)) (run_takes words (is_one words Run is)) in
+start_is words takes =
+    let there = some_there (start_in (values_of words)) takes in
     there.1 ∙ ap (λ (o : Option Start). Some (unwrap_or o Zero)) (sym there.1)
+
+pub start_given : (words : List (List ℕ)) → IsOfRun words → start_in (values_of words) ≡ Some (start_of words)
+start_given words (inl is) = start_is words (run_takes words (is_one words Run is))
+start_given words (inr is) = start_is words (vcd_takes words (is_one words Vcd is))
 
 -- ---- the cycles that are waited for the end
 

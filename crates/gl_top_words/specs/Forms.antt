@@ -1,14 +1,14 @@
 -- The forms of command lines: a command, names, and options, which may stand anywhere behind the command. The names are
 -- those of texts, but for one command the number of tuples.
-use Rattle.std.specs.Prelude.{◌≡◌, ℕ, zero, suc, ◌^◌, Bool, true, false, ◌&&◌, ◌==◌, nat_le, nat_lt, List, [], ◌∷◌, ◌++◌, length, codes, bytes_eq, slice_get, unwrap_or, drop, Contains, Option, Some, None, is_some, IsTrue, if◌then◌else◌}
+use Rattle.std.specs.Prelude.{◌≡◌, ◌⊎◌, ℕ, zero, suc, ◌^◌, Bool, true, false, ◌&&◌, ◌==◌, nat_le, nat_lt, List, [], ◌∷◌, ◌++◌, length, codes, bytes_eq, slice_get, unwrap_or, drop, Contains, Option, Some, None, is_some, IsTrue, if◌then◌else◌}
 use Rattle.std.specs.List.{starts_with}
 use Rattle.gl_verilog_orders.specs.declared.start.Start.{Start}
 use Rattle.gl_verilog_orders.specs.declared.start.Start.TheVariants.{Zero, Drawn}
 use Rattle.gl_tuples.specs.Values.{number_of}
 use Rattle.gl_top_words.specs.declared.command.Command.{Command}
-use Rattle.gl_top_words.specs.declared.command.Command.TheVariants.{Compile, Figures, Explain, Run, Sim, Load}
+use Rattle.gl_top_words.specs.declared.command.Command.TheVariants.{Compile, Figures, Explain, Run, Sim, Load, Vcd, Undump}
 use Rattle.gl_top_words.specs.declared.command.Part.{Part}
-use Rattle.gl_top_words.specs.declared.command.Part.TheVariants.{Schema, Query, Module, Tuples}
+use Rattle.gl_top_words.specs.declared.command.Part.TheVariants.{Schema, Query, Module, Tuples, Dump}
 
 -- ---- words behind the command
 
@@ -121,6 +121,8 @@ word_of Explain = codes "explain"
 word_of Run = codes "run"
 word_of Sim = codes "sim"
 word_of Load = codes "load"
+word_of Vcd = codes "vcd"
+word_of Undump = codes "undump"
 
 -- how many names stand behind a command: those of its texts, or the number of tuples
 abbrev pub many_names : Command → ℕ
@@ -130,10 +132,13 @@ many_names Explain = 2
 many_names Run = 3
 many_names Sim = 3
 many_names Load = 1
+many_names Vcd = 3
+many_names Undump = 1
 
--- the values that its option may have: a start, to run, or none; to simulate, the cycles that are waited; else none
+-- the values that its option may have: a start, to run or to dump, or none; to simulate, the cycles that are waited; else none
 abbrev pub takes_values : Command → List (Option (List ℕ)) → Bool
 takes_values Run values = is_some (start_in values)
+takes_values Vcd values = is_some (start_in values)
 takes_values Sim values = is_some (extra_in values)
 takes_values c [] = true
 takes_values c (v ∷ vs) = false
@@ -157,10 +162,16 @@ command_of words =
     else if is_command words Run then Some Run
     else if is_command words Sim then Some Sim
     else if is_command words Load then Some Load
+    else if is_command words Vcd then Some Vcd
+    else if is_command words Undump then Some Undump
     else None
 
 abbrev pub IsCommand : List (List ℕ) → Command → Type 0
 IsCommand words c = command_of words ≡ Some c
+
+-- the words run the text of a query over a tuple file: to its lines, or to a dump
+abbrev pub IsOfRun : List (List ℕ) → Type 0
+IsOfRun words = IsCommand words Run ⊎ IsCommand words Vcd
 
 -- the words are of a form
 abbrev pub IsForm : List (List ℕ) → Type 0
@@ -181,12 +192,15 @@ parts_of Explain = Schema ∷ Query ∷ []
 parts_of Run = Schema ∷ Query ∷ Tuples ∷ []
 parts_of Sim = Schema ∷ Module ∷ Tuples ∷ []
 parts_of Load = []
+parts_of Vcd = Schema ∷ Query ∷ Tuples ∷ []
+parts_of Undump = Dump ∷ []
 
 abbrev pub place_of : Part → ℕ
 place_of Schema = 0
 place_of Query = 1
 place_of Module = 1
 place_of Tuples = 2
+place_of Dump = 0
 
 -- the name of a text, and no byte where the words name none
 unfoldable pub name_of : List (List ℕ) → Part → List ℕ

@@ -3,7 +3,7 @@ use Rattle.std.specs.Prelude.{◌≡◌, ℕ, List, [], ◌∷◌, codes, Some, 
 use Rattle.gl_verilog_orders.specs.declared.start.Start.{Start}
 use Rattle.gl_verilog_orders.specs.declared.start.Start.TheVariants as from
 use Rattle.gl_top_words.specs.declared.command.Command.{Command}
-use Rattle.gl_top_words.specs.declared.command.Command.TheVariants.{Compile, Figures, Explain, Run, Sim, Load}
+use Rattle.gl_top_words.specs.declared.command.Command.TheVariants.{Compile, Figures, Explain, Run, Sim, Load, Vcd, Undump}
 use Rattle.gl_top_words.specs.Forms.{command_of, extra_of, load_of, names_of, start_of}
 
 abbrev pub s : List ℕ
@@ -23,6 +23,12 @@ load words = codes "load" ∷ words
 
 abbrev pub run : List (List ℕ) → List (List ℕ)
 run words = codes "run" ∷ words
+
+abbrev pub vcd : List (List ℕ) → List (List ℕ)
+vcd words = codes "vcd" ∷ words
+
+abbrev pub undump : List (List ℕ) → List (List ℕ)
+undump words = codes "undump" ∷ words
 
 abbrev pub sim : List (List ℕ) → List (List ℕ)
 sim words = codes "sim" ∷ words
@@ -86,6 +92,14 @@ pub record WorkedForms : Type 0 where
   pub sim_a_name_too_many : IsFormless (sim (s ∷ v ∷ t ∷ codes "U" ∷ codes "--extra=5" ∷ []))
   pub sim_no_option : IsFormless (sim (s ∷ v ∷ t ∷ codes "--extra=5" ∷ codes "--" ∷ []))
   pub sim_help : IsFormless (sim (s ∷ v ∷ t ∷ codes "--extra=5" ∷ codes "--help" ∷ []))
+  pub dumps : Names (vcd (s ∷ q ∷ t ∷ [])) Vcd (s ∷ q ∷ t ∷ [])
+  pub dumps_from : Names (vcd (s ∷ codes "--start=5" ∷ q ∷ t ∷ [])) Vcd (s ∷ q ∷ t ∷ [])
+  pub dumps_no_extra : IsFormless (vcd (s ∷ q ∷ t ∷ codes "--extra=5" ∷ []))
+  pub dumps_too_few : IsFormless (vcd (s ∷ q ∷ []))
+  pub undumps : Names (undump (codes "D" ∷ [])) Undump (codes "D" ∷ [])
+  pub undumps_nothing : IsFormless (undump [])
+  pub undumps_two : IsFormless (undump (codes "D" ∷ codes "E" ∷ []))
+  pub undumps_no_start : IsFormless (undump (codes "D" ∷ codes "--start=5" ∷ []))
   pub load_some : Loads (load (codes "1000" ∷ [])) 1000
   pub load_one : Loads (load (codes "1" ∷ [])) 1
   pub load_most : Loads (load (codes "1000000" ∷ [])) 1000000

@@ -18,6 +18,10 @@ pub enum Command {
     Sim,
     /// `load N`: the Verilog text of a fixed query over N tuples, and what comes out.
     Load,
+    /// `vcd S Q T [--start N]`: a value change dump of what the Verilog text does over a tuple file.
+    Vcd,
+    /// `undump D`: the result that a value change dump shows.
+    Undump,
 }
 
 impl Command {
@@ -32,6 +36,8 @@ impl Command {
             Command::Run => "run",
             Command::Sim => "sim",
             Command::Load => "load",
+            Command::Vcd => "vcd",
+            Command::Undump => "undump",
         }
     }
 
@@ -41,8 +47,8 @@ impl Command {
     {
         match self {
             Command::Compile | Command::Figures | Command::Explain => 2,
-            Command::Run | Command::Sim => 3,
-            Command::Load => 1,
+            Command::Run | Command::Sim | Command::Vcd => 3,
+            Command::Load | Command::Undump => 1,
         }
     }
 }
@@ -58,4 +64,6 @@ pub enum Part {
     Module,
     /// The tuple file.
     Tuples,
+    /// The value change dump.
+    Dump,
 }

@@ -264,11 +264,10 @@ fn takes_values(words: &Words, command: Command) -> bool
     ensures { result ≡ forms.takes_values command (forms.values_of words.now) }
 {
     match command {
-        Command::Run => start_in(words).is_some(),
+        Command::Run | Command::Vcd => start_in(words).is_some(),
         Command::Sim => extra_in(words).is_some(),
-        Command::Compile | Command::Figures | Command::Explain | Command::Load => {
-            value_at(words, 0).is_none()
-        }
+        Command::Compile | Command::Figures | Command::Explain | Command::Load | Command::Undump =>
+            value_at(words, 0).is_none(),
     }
 }
 
@@ -278,8 +277,13 @@ fn takes_names(words: &Words, command: Command) -> bool
 {
     match command {
         Command::Load => load_in(words).is_some(),
-        Command::Compile | Command::Figures | Command::Explain | Command::Run | Command::Sim =>
-            true,
+        Command::Compile
+        | Command::Figures
+        | Command::Explain
+        | Command::Run
+        | Command::Sim
+        | Command::Vcd
+        | Command::Undump => true,
     }
 }
 
@@ -316,6 +320,12 @@ pub fn command_of(words: &Words) -> Option<Command>
     }
     if is_command(words, Command::Load) {
         return Some(Command::Load);
+    }
+    if is_command(words, Command::Vcd) {
+        return Some(Command::Vcd);
+    }
+    if is_command(words, Command::Undump) {
+        return Some(Command::Undump);
     }
     None
 }

@@ -65,7 +65,7 @@ impl Taken<'_> {
         ensures { result.now ≡ forms.name_of self.now part }
     {
         match part {
-            Part::Schema => self.first,
+            Part::Schema | Part::Dump => self.first,
             Part::Query | Part::Module => self.second,
             Part::Tuples => self.third,
         }

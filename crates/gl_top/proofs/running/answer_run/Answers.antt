@@ -15,3 +15,6 @@ returns-in-Err g c = Refused (record {
   noted = c.tell.ensures;
   left = inl c.requires.empty;
 })
+
+pub judge_run-requires-clause-runs : goal.judge_run-requires-clause-runs
+judge_run-requires-clause-runs g c = inl c.requires.runs

@@ -7,6 +7,7 @@ use Rattle.gl_top.proofs.running.finish_run.Goals as goal
 
 pub returns-in-Done : goal.returns-in-Done
 returns-in-Done g c = λ ch ready calm. RanWhole (record {
+  runs = c.requires.runs;
   schema = c.args.job.now.compiled.schema;
   statement = c.args.job.now.compiled.statement;
   beats = c.args.job.now.beats;
@@ -20,6 +21,7 @@ returns-in-Done g c = λ ch ready calm. RanWhole (record {
 
 pub returns-in-WriteFault : goal.returns-in-WriteFault
 returns-in-WriteFault g c = λ ch ready calm. RanCut (record {
+  runs = c.requires.runs;
   schema = c.args.job.now.compiled.schema;
   statement = c.args.job.now.compiled.statement;
   beats = c.args.job.now.beats;

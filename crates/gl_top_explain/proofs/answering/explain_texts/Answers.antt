@@ -1,3 +1,4 @@
+use Rattle.std.proofs.Common.{refl}
 use Rattle.std.proofs.lemmas.Result.{err_from_is_err_and}
 use Rattle.gl_top_words.specs.declared.command.Part.TheVariants.{Query}
 use Rattle.gl_top_words.proofs.Named.{schema_named}
@@ -6,7 +7,7 @@ use Rattle.gl_top_explain.proofs.Plans.{plan_leaves}
 use Rattle.gl_top_explain.proofs.answering.explain_texts.Goals as goal
 
 pub fetch_schema-requires-clause-named : goal.fetch_schema-requires-clause-named
-fetch_schema-requires-clause-named g c = schema_named c.args.words.now Query c.requires.named
+fetch_schema-requires-clause-named g c = schema_named c.args.words.now Query refl c.requires.named
 
 pub returns-in_err-schema-clause-leaves : goal.returns-in_err-schema-clause-leaves
 returns-in_err-schema-clause-leaves g c =

@@ -1,12 +1,11 @@
-use Rattle.std.proofs.Common.{◌≡◌, ◌∙◌, ℕ, ◌≤◌, ◌+◌, suc, false, List, ap, arith, sym, subst, refl}
-use Rattle.gl_bits.specs.declared.kind.Kind.{Kind}
+use Rattle.std.proofs.Common.{◌≡◌, ◌∙◌, ℕ, ◌≤◌, ◌+◌, suc, false, ap, arith, sym, subst, refl}
 use Rattle.gl_schema.specs.Beats.{last_cycle}
-use Rattle.gl_schema.specs.Seen.{cycle_lines}
 use Rattle.gl_outside.specs.Counts.{Rose}
-use Rattle.gl_outside.specs.States.{Wrote}
+use Rattle.gl_verilog.specs.Module.{Module}
+use Rattle.gl_verilog.specs.Run.{port_of}
+use Rattle.gl_verilog.specs.View.{module_of}
 use Rattle.gl_runner.specs.Cycles.{Driven, IsFollowed, design_of}
-use Rattle.gl_lines.specs.Pieces.{sampled}
-use Rattle.gl_runner.proofs.Running.{at_first, at_next, made_next, wrote_all, wrote_front, under_way_first, under_way_more, under_way_done, under_way_out, under_way_cut}
+use Rattle.gl_runner.proofs.Running.{at_first, at_next, counts_calm, counts_rose, made_next, made_of, ok_then, under_way_cut, under_way_done, under_way_first, under_way_more, under_way_out, watched_one, wrote_all, wrote_front}
 use Rattle.gl_runner.proofs.driving.Drive.follow.Goals as goal
 use Rattle.gl_runner.proofs.driving.Drive.follow.Goals.{else-sample-via-then-sample+else-cycle-last, else-sample-via-else-sample}
 
@@ -14,9 +13,11 @@ pub loop-cycle-init : goal.loop-cycle-init
 loop-cycle-init g c =
     let d = c.args.self.now in
     record {
-      at = at_first d c.requires;
+      at = at_first d c.requires.first;
       design = refl;
-      way = λ value word f. under_way_first (design_of d) d.sim d.schema d.kinds d.beats (g.K.Sink.state c.args.out.now).taken value word (subst (λ (n : ℕ). IsFollowed d.sim d.schema d.beats value word (n + 1)) c.requires f);
+      bytes = refl;
+      serves = c.requires.serves;
+      way = λ value word f. under_way_first (design_of d) d.sim d.schema (g.W.Watch.bytes c.args.watch.now d.kinds) (g.W.Watch.stands c.args.watch.now) d.beats (g.K.Sink.state c.args.out.now).taken value word (subst (λ (n : ℕ). IsFollowed d.sim d.schema d.beats value word (n + 1)) c.requires.first f) (c.requires.stands value word f);
       calm = refl;
     }
 
@@ -31,16 +32,23 @@ returns-then-is_err g c =
     let e = c.loop-cycle.self in
     let f = c.advance-sample.new.self in
     let n = c.loop-cycle.cycle in
-    let kinds : f.kinds ≡ d.kinds = ap (λ (x : Driven). x.kinds) (at_next d e f n c.loop-cycle.invariant.at c.advance-sample.ensures.ahead) in
-    let put = subst (λ (ks : List Kind). Wrote (g.K.Sink.state c.loop-cycle.out) (g.K.Sink.state c.put.new.out) (cycle_lines ks c.loop-cycle.overflowed (sampled c.advance-sample.result n f.row)) c.put.result) kinds c.put.ensures in
-    let broke = wrote_front _ _ _ c.put.result (sym c.is_err.ensures.value ∙ c.if-is_err.true) put in (
-      subst (λ m. Rose m (g.K.Sink.state c.put.new.out).faults) c.loop-cycle.invariant.calm broke.cause,
+    let bytes = g.W.Watch.bytes c.args.watch.now d.kinds in
+    let at = at_next d e f n c.loop-cycle.invariant.at c.advance-sample.ensures.ahead in
+    let design : f.sim.design ≡ d.sim.design = c.advance-sample.ensures.ahead.design' ∙ c.loop-cycle.invariant.design in
+    let inside : design_of d ≡ module_of c.self.inside.sim.design = sym (ap (λ (x : Driven). design_of x) c.self.view_is ∙ ap module_of design) in
+    let kinds : c.self.inside.task.kinds.now ≡ d.kinds = ap (λ (x : Driven). x.kinds) c.self.view_is ∙ ap (λ (x : Driven). x.kinds) at in
+    let failed = sym c.is_err.ensures.value ∙ c.if-is_err.true in (
+      subst (λ m. Rose m (g.K.Sink.state c.cycle.new.out).faults) c.loop-cycle.invariant.calm (counts_rose (g.K.Sink.state c.loop-cycle.out) (g.K.Sink.state c.cycle.new.out) c.cycle.result failed c.cycle.ensures.counts),
       λ value word before.
           let way = c.loop-cycle.invariant.way value word before in
           let made = made_next d e f c.advance-sample.result n value word c.loop-cycle.invariant.at c.loop-cycle.invariant.design c.advance-sample.ensures.made way.followed in
+          let of = made_of _ (design_of d) f.sim d.schema d.beats f.row value word inside (sym (ap (λ (x : Driven). x.sim) c.self.view_is)) (sym (ap (λ (x : Driven). x.row) c.self.view_is)) made in
+          let one = watched_one _ (design_of d) d.kinds (g.W.Watch.bytes c.loop-cycle.watch) (g.W.Watch.bytes c.args.watch.now) (g.W.Watch.stands c.loop-cycle.watch) (g.W.Watch.stands c.cycle.new.self) (port_of (design_of d) value)
+          (g.K.Sink.state c.loop-cycle.out) (g.K.Sink.state c.cycle.new.out) c.cycle.result inside kinds c.loop-cycle.invariant.bytes of way.stands' c.cycle.ensures.wrote c.cycle.ensures.stands in
+          let broke = wrote_front _ _ _ c.cycle.result failed one.wrote in
           let soon : n ≤ last_cycle d.beats + d.extra = omega (arith, c.bounds-last.ensures.far, c.loop-cycle-test.true) in
-          under_way_cut (design_of d) e.sim f.sim d.schema d.kinds d.beats c.loop-cycle.overflowed c.advance-sample.result f.row n d.extra
-          (g.K.Sink.state c.args.out.now).taken (g.K.Sink.state c.loop-cycle.out).taken (g.K.Sink.state c.put.new.out).taken value word way made broke.front soon,
+          under_way_cut (design_of d) e.sim d.schema bytes (g.W.Watch.stands c.loop-cycle.watch) d.beats n d.extra
+          (g.K.Sink.state c.args.out.now).taken (g.K.Sink.state c.loop-cycle.out).taken (g.K.Sink.state c.cycle.new.out).taken value word way broke.front soon,
     )
 
 pub returns-then-cycle-last : goal.returns-then-cycle-last
@@ -49,17 +57,24 @@ returns-then-cycle-last g c =
     let e = c.loop-cycle.self in
     let f = c.advance-sample.new.self in
     let n = c.loop-cycle.cycle in
-    let kinds : f.kinds ≡ d.kinds = ap (λ (x : Driven). x.kinds) (at_next d e f n c.loop-cycle.invariant.at c.advance-sample.ensures.ahead) in
-    let put = subst (λ (ks : List Kind). Wrote (g.K.Sink.state c.loop-cycle.out) (g.K.Sink.state c.put.new.out) (cycle_lines ks c.loop-cycle.overflowed (sampled c.advance-sample.result n f.row)) c.put.result) kinds c.put.ensures in
-    let took = wrote_all _ _ _ c.put.result (sym c.is_err.ensures.value ∙ c.if-is_err.false) put in (
-      took.calm ∙ c.loop-cycle.invariant.calm,
+    let bytes = g.W.Watch.bytes c.args.watch.now d.kinds in
+    let at = at_next d e f n c.loop-cycle.invariant.at c.advance-sample.ensures.ahead in
+    let design : f.sim.design ≡ d.sim.design = c.advance-sample.ensures.ahead.design' ∙ c.loop-cycle.invariant.design in
+    let inside : design_of d ≡ module_of c.self.inside.sim.design = sym (ap (λ (x : Driven). design_of x) c.self.view_is ∙ ap module_of design) in
+    let kinds : c.self.inside.task.kinds.now ≡ d.kinds = ap (λ (x : Driven). x.kinds) c.self.view_is ∙ ap (λ (x : Driven). x.kinds) at in
+    let went = sym c.is_err.ensures.value ∙ c.if-is_err.false in (
+      counts_calm (g.K.Sink.state c.loop-cycle.out) (g.K.Sink.state c.cycle.new.out) c.cycle.result went c.cycle.ensures.counts ∙ c.loop-cycle.invariant.calm,
       λ value word before.
           let way = c.loop-cycle.invariant.way value word before in
           let made = made_next d e f c.advance-sample.result n value word c.loop-cycle.invariant.at c.loop-cycle.invariant.design c.advance-sample.ensures.made way.followed in
+          let of = made_of _ (design_of d) f.sim d.schema d.beats f.row value word inside (sym (ap (λ (x : Driven). x.sim) c.self.view_is)) (sym (ap (λ (x : Driven). x.row) c.self.view_is)) made in
+          let one = watched_one _ (design_of d) d.kinds (g.W.Watch.bytes c.loop-cycle.watch) (g.W.Watch.bytes c.args.watch.now) (g.W.Watch.stands c.loop-cycle.watch) (g.W.Watch.stands c.cycle.new.self) (port_of (design_of d) value)
+          (g.K.Sink.state c.loop-cycle.out) (g.K.Sink.state c.cycle.new.out) c.cycle.result inside kinds c.loop-cycle.invariant.bytes of way.stands' c.cycle.ensures.wrote c.cycle.ensures.stands in
+          let took = wrote_all _ _ _ c.cycle.result went one.wrote in
           let late : last_cycle d.beats ≤ n = omega (arith, c.bounds-last.ensures.last, c.if-cycle-last.true) in
           let soon : n ≤ last_cycle d.beats + d.extra = omega (arith, c.bounds-last.ensures.far, c.loop-cycle-test.true) in
-          under_way_done (design_of d) e.sim f.sim d.schema d.kinds d.beats c.loop-cycle.overflowed c.advance-sample.result f.row n d.extra
-          (g.K.Sink.state c.args.out.now).taken (g.K.Sink.state c.loop-cycle.out).taken (g.K.Sink.state c.put.new.out).taken value word way made took.all c.if-sample.true late soon,
+          under_way_done (design_of d) e.sim f.sim d.schema bytes (g.W.Watch.stands c.loop-cycle.watch) (g.W.Watch.stands c.cycle.new.self) d.beats c.advance-sample.result f.row n d.extra
+          (g.K.Sink.state c.args.out.now).taken (g.K.Sink.state c.loop-cycle.out).taken (g.K.Sink.state c.cycle.new.out).taken value word way made took.all (ok_then c.cycle.result went one.behind) c.if-sample.true late soon,
     )
 
 pub loop-cycle-preserved : goal.loop-cycle-preserved
@@ -68,10 +83,12 @@ loop-cycle-preserved g c =
     let e = c.loop-cycle.self in
     let f = c.advance-sample.new.self in
     let n = c.loop-cycle.cycle in
+    let bytes = g.W.Watch.bytes c.args.watch.now d.kinds in
     let at = at_next d e f n c.loop-cycle.invariant.at c.advance-sample.ensures.ahead in
-    let kinds : f.kinds ≡ d.kinds = ap (λ (x : Driven). x.kinds) at in
-    let put = subst (λ (ks : List Kind). Wrote (g.K.Sink.state c.loop-cycle.out) (g.K.Sink.state c.put.new.out) (cycle_lines ks c.loop-cycle.overflowed (sampled c.advance-sample.result n f.row)) c.put.result) kinds c.put.ensures in
-    let took = wrote_all _ _ _ c.put.result (sym c.is_err.ensures.value ∙ c.if-is_err.false) put in
+    let design : f.sim.design ≡ d.sim.design = c.advance-sample.ensures.ahead.design' ∙ c.loop-cycle.invariant.design in
+    let inside : design_of d ≡ module_of c.self.inside.sim.design = sym (ap (λ (x : Driven). design_of x) c.self.view_is ∙ ap module_of design) in
+    let kinds : c.self.inside.task.kinds.now ≡ d.kinds = ap (λ (x : Driven). x.kinds) c.self.view_is ∙ ap (λ (x : Driven). x.kinds) at in
+    let went = sym c.is_err.ensures.value ∙ c.if-is_err.false in
     let open' : last_cycle d.beats ≤ n → c.advance-sample.result.end ≡ false =
     λ le. (elim c.else-sample.branch [
       | else-sample-via-then-sample+else-cycle-last w ↦ absurd (omega (arith, c.bounds-last.ensures.last, w.if-cycle-last.false, le))
@@ -79,13 +96,19 @@ loop-cycle-preserved g c =
     ]) in
     record {
       at = at;
-      design = c.advance-sample.ensures.ahead.design' ∙ c.loop-cycle.invariant.design;
+      design = design;
+      bytes = c.cycle.ensures.bytes ∙ c.loop-cycle.invariant.bytes;
+      serves = subst (λ (x : Module). g.W.Watch.serves c.cycle.new.self x) (sym inside) (ok_then c.cycle.result went c.cycle.ensures.serves);
       way = λ value word before.
           let way = c.loop-cycle.invariant.way value word before in
           let made = made_next d e f c.advance-sample.result n value word c.loop-cycle.invariant.at c.loop-cycle.invariant.design c.advance-sample.ensures.made way.followed in
-          under_way_more (design_of d) e.sim f.sim d.schema d.kinds d.beats c.loop-cycle.overflowed _ c.advance-sample.result f.row n
-          (g.K.Sink.state c.args.out.now).taken (g.K.Sink.state c.loop-cycle.out).taken (g.K.Sink.state c.put.new.out).taken value word way made took.all refl open';
-      calm = took.calm ∙ c.loop-cycle.invariant.calm;
+          let of = made_of _ (design_of d) f.sim d.schema d.beats f.row value word inside (sym (ap (λ (x : Driven). x.sim) c.self.view_is)) (sym (ap (λ (x : Driven). x.row) c.self.view_is)) made in
+          let one = watched_one _ (design_of d) d.kinds (g.W.Watch.bytes c.loop-cycle.watch) (g.W.Watch.bytes c.args.watch.now) (g.W.Watch.stands c.loop-cycle.watch) (g.W.Watch.stands c.cycle.new.self) (port_of (design_of d) value)
+          (g.K.Sink.state c.loop-cycle.out) (g.K.Sink.state c.cycle.new.out) c.cycle.result inside kinds c.loop-cycle.invariant.bytes of way.stands' c.cycle.ensures.wrote c.cycle.ensures.stands in
+          let took = wrote_all _ _ _ c.cycle.result went one.wrote in
+          under_way_more (design_of d) e.sim f.sim d.schema bytes (g.W.Watch.stands c.loop-cycle.watch) (g.W.Watch.stands c.cycle.new.self) d.beats c.advance-sample.result f.row n
+          (g.K.Sink.state c.args.out.now).taken (g.K.Sink.state c.loop-cycle.out).taken (g.K.Sink.state c.cycle.new.out).taken value word way made took.all (ok_then c.cycle.result went one.behind) open';
+      calm = counts_calm (g.K.Sink.state c.loop-cycle.out) (g.K.Sink.state c.cycle.new.out) c.cycle.result went c.cycle.ensures.counts ∙ c.loop-cycle.invariant.calm;
     }
 
 pub returns : goal.returns
@@ -96,6 +119,6 @@ returns g c =
       λ value word before.
           let far = c.bounds-last.result.1 in
           let next : n ≡ suc far = omega (arith, c.loop-cycle-test.false) in
-          under_way_out (design_of d) c.loop-cycle.self.sim d.schema d.kinds d.beats c.loop-cycle.overflowed n d.extra far
+          under_way_out (design_of d) c.loop-cycle.self.sim d.schema (g.W.Watch.bytes c.args.watch.now d.kinds) (g.W.Watch.stands c.loop-cycle.watch) d.beats n d.extra far
           (g.K.Sink.state c.args.out.now).taken (g.K.Sink.state c.loop-cycle.out).taken value word (c.loop-cycle.invariant.way value word before) c.bounds-last.ensures.far next,
     )

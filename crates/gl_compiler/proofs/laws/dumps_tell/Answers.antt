@@ -1,0 +1,5 @@
+use Rattle.gl_compiler.proofs.DumpedRuns as runs
+use Rattle.gl_compiler.proofs.laws.dumps_tell.Goals as goal
+
+pub returns : goal.returns
+returns c = runs.dumps_tell

@@ -1,0 +1,25 @@
+use Rattle.std.proofs.Common.{◌≤◌, arith, length, sym, subst}
+use Rattle.std.specs.List.{AllByRecursion}
+use Rattle.gl_bits.proofs.AllLists.{length_map}
+use Rattle.gl_tuples.specs.Gaps.{plain_beats}
+use Rattle.gl_dumps.specs.Written.{ports_of}
+use Rattle.gl_verilog.specs.Module.{Module}
+use Rattle.gl_verilog.specs.View.{declaration_of, module_of}
+use Rattle.gl_verilog.specs.Widths.{HasSize}
+use Rattle.gl_runner.proofs.Dumps.{dumped_started}
+use Rattle.gl_runner.proofs.dumping.dump_module.Goals as goal
+
+pub new-requires : goal.new-requires
+new-requires g c =
+    let face = c.args.face.now in
+    let inside : (module_of face).ports ≤ length (module_of face).declarations = subst (λ (m : Module). m.ports ≤ length m.declarations) (sym c.requires.same) c.requires.plain.inside in
+    record {
+      inside = omega (arith, inside, length_map declaration_of face.declarations);
+      sizes = subst (λ (m : Module). AllByRecursion HasSize m.declarations) (sym c.requires.same) c.requires.can.valid.sizes;
+      few = subst (λ (m : Module). length (ports_of m) ≤ 8836) (sym c.requires.same) c.requires.few;
+    }
+
+pub returns : goal.returns
+returns g c =
+    dumped_started (module_of c.args.design) c.args.schema.now c.args.kinds.now (plain_beats c.args.beats.now) c.args.start c.args.latency c.in-Ok-new-2.drive
+    (g.K.Sink.state c.args.out.now) (g.K.Sink.state c.put_dump.new.out) c.put_dump.result c.in-Ok-new-2.ensures c.put_dump.ensures

@@ -1,0 +1,123 @@
+-- What is written of a cycle of a file, by the values of a module's ports in a run.
+use Rattle.std.specs.Prelude.{◌≡◌, ◌<◌, ◌≤◌, ◌^◌, ℕ, zero, suc, Bool, List, [], ◌∷◌, ◌++◌, length, map, Option, Some, None}
+use Rattle.std.specs.List.{AllByRecursion, list_any}
+use Rattle.gl_bits.specs.declared.kind.Kind.{Kind}
+use Rattle.gl_bits.specs.Kinds.{IsKind, width_of}
+use Rattle.gl_bits.specs.Words.{Word, bits_of, widths_of}
+use Rattle.gl_dumps.specs.Dumped.{Port}
+use Rattle.gl_dumps.specs.Signals.{seen_below}
+use Rattle.gl_dumps.specs.Written as written
+use Rattle.gl_schema.specs.Ports.{PortValues}
+use Rattle.gl_schema.specs.Seen.{Shown, cycle_lines, shown, value_at}
+use Rattle.gl_verilog.specs.Module.{Module}
+use Rattle.gl_verilog.specs.View.{module_of}
+use Rattle.gl_verilog_ports.specs.Profile.{result_names}
+use Rattle.gl_lines.specs.Pieces.{sampled}
+use Rattle.gl_outside.specs.Counts.{Rose}
+use Rattle.gl_outside.specs.States.{SinkState, Appends, AppendsFront}
+use Rattle.gl_schema.specs.Beats.{Beat}
+use Rattle.gl_runner.specs.Cycles.{Driven, HasOnPorts, IsBefore, design_of}
+use Rattle.gl_runner.specs.Traces.{EndsIn, IsLastRun, RunsOut}
+use Rattle.gl_runner.specs.declared.tracing.Ending.{Ending}
+use Rattle.gl_runner.specs.declared.tracing.Ending.TheVariants.{Done, NoEnd, WriteFault, Memory}
+use Rattle.gl_verilog.specs.Module.{Nets, Memories}
+use Rattle.gl_verilog.specs.Run.{port_of}
+use Rattle.gl_runner.specs.declared.watching.Made.{Made}
+
+abbrev pub module_in : Made → Module
+module_in made = module_of made.sim.now.design
+
+-- what the simulator and the sample have in the cycle is what the ports have in it in a run
+pub record IsMadeOf (made : Made) (port : PortValues) : Type 0 where
+  pub ports' : HasOnPorts (module_in made) made.sim.now port (suc made.cycle)
+  pub lines' : (kinds : List Kind) (overflowed : Bool)
+      → cycle_lines kinds overflowed (sampled made.sample made.cycle (bits_of made.row.now))
+      ≡ cycle_lines kinds overflowed (shown port (result_names (module_in made)) made.cycle)
+  pub group' : made.sample.group ≡ (shown port (result_names (module_in made)) made.cycle).group
+
+-- it is no late cycle, and its row has a place for each column, of the kind by which it is printed
+pub record IsWhole (made : Made) : Type 0 where
+  pub early : made.cycle < 2 ^ 63
+  pub many : length made.kinds.now ≤ 32
+  pub kinds' : AllByRecursion IsKind made.kinds.now
+  pub widths : widths_of made.row.now ≡ map width_of made.kinds.now
+
+-- a further group came in one of these cycles
+abbrev pub has_group : List Shown → Bool
+has_group all = list_any (λ s. s.group) all
+
+-- of a result: its lines in the cycle, where a further group may have been told before
+abbrev pub lines_of_cycle : List Kind → Module → PortValues → ℕ → List ℕ
+lines_of_cycle kinds m port n =
+    cycle_lines kinds (has_group (seen_below port (result_names m) n)) (shown port (result_names m) n)
+
+abbrev pub stands_told : Bool → Module → PortValues → ℕ → Type 0
+stands_told told m port n = told ≡ has_group (seen_below port (result_names m) n)
+
+-- of a dump: the row of the ports in the cycle, behind that of the cycle before
+abbrev pub row_in : List Port → PortValues → ℕ → List Word
+row_in ports port n = map (λ p. record { bits = value_at port (suc n) p.name; width = p.width }) ports
+
+abbrev pub row_before : List Port → PortValues → ℕ → Option (List Word)
+row_before ports port zero = None
+row_before ports port (suc n) = Some (row_in ports port n)
+
+abbrev pub dump_of_cycle : Module → PortValues → ℕ → List ℕ
+dump_of_cycle m port n =
+    written.cycle n (row_before (written.ports_of m) port n) (row_in (written.ports_of m) port n)
+
+-- the rows of the cycles up to one
+abbrev pub rows_to : List Port → PortValues → ℕ → List (List Word)
+rows_to ports port zero = row_in ports port 0 ∷ []
+rows_to ports port (suc n) = rows_to ports port n ++ row_in ports port (suc n) ∷ []
+
+-- ---- what was watched
+
+-- the bytes of the cycles up to one
+abbrev pub bytes_to : (Module → PortValues → ℕ → List ℕ) → Module → PortValues → ℕ → List ℕ
+bytes_to bytes m port zero = bytes m port 0
+bytes_to bytes m port (suc n) = bytes_to bytes m port n ++ bytes m port (suc n)
+
+-- a fact of a module and its ports in each run in which it is before its next cycle
+abbrev pub OfDrivenPorts : Driven → (Module → PortValues → Type 0) → Type 0
+OfDrivenPorts d P =
+    (value : ℕ → Nets) (word : ℕ → Memories) → IsBefore d value word → P (design_of d) (port_of (design_of d) value)
+
+-- the watcher stands in front of the first cycle of each run
+abbrev pub StandsFirst : (Module → PortValues → ℕ → Type 0) → Driven → Type 0
+StandsFirst stands d = OfDrivenPorts d (λ m port. stands m port 0)
+
+pub record WatchesTo (bytes : Module → PortValues → ℕ → List ℕ) (stands : Module → PortValues → ℕ → Type 0)
+    (m : Module) (port : PortValues) (n : ℕ) (old new : Option (List ℕ)) : Type 0 where
+  pub taken : Appends old new (bytes_to bytes m port n)
+  pub behind : stands m port (suc n)
+
+pub record WatchesFront (bytes : Module → PortValues → ℕ → List ℕ) (beats : List Beat) (extra : ℕ) (m : Module)
+    (port : PortValues) (old new : Option (List ℕ)) : Type 0 where
+  pub last : ℕ
+  pub is : IsLastRun beats (result_names m) port extra last
+  pub taken : AppendsFront old new (bytes_to bytes m port last)
+
+pub record WatchesToEnd (bytes : Module → PortValues → ℕ → List ℕ) (stands : Module → PortValues → ℕ → Type 0)
+    (beats : List Beat) (extra : ℕ) (m : Module) (port : PortValues) (old new : Option (List ℕ)) : Type 0 where
+  pub last : ℕ
+  pub is : EndsIn beats (result_names m) port extra last
+  pub watched : WatchesTo bytes stands m port last old new
+
+pub record WatchesOut (bytes : Module → PortValues → ℕ → List ℕ) (stands : Module → PortValues → ℕ → Type 0)
+    (beats : List Beat) (extra n : ℕ) (m : Module) (port : PortValues) (old new : Option (List ℕ)) : Type 0 where
+  pub is : RunsOut beats (result_names m) port extra n
+  pub watched : WatchesTo bytes stands m port n old new
+
+-- how watching ended: the bytes of all cycles to the end, or to the last that is waited for, were written and nothing
+-- failed, and the watcher stands behind them; or the sink failed behind a front of them
+abbrev pub Watched : ((Module → PortValues → Type 0) → Type 0) → (Module → PortValues → ℕ → List ℕ)
+    → (Module → PortValues → ℕ → Type 0) → List Beat → ℕ → SinkState → SinkState → Ending → Type 0
+Watched OfRuns bytes stands beats extra old new Done =
+    (new.faults ≡ old.faults) × OfRuns (λ m port. WatchesToEnd bytes stands beats extra m port old.taken new.taken)
+Watched OfRuns bytes stands beats extra old new (NoEnd cycle) =
+    (new.faults ≡ old.faults)
+    × OfRuns (λ m port. WatchesOut bytes stands beats extra cycle m port old.taken new.taken)
+Watched OfRuns bytes stands beats extra old new WriteFault =
+    Rose old.faults new.faults × OfRuns (λ m port. WatchesFront bytes beats extra m port old.taken new.taken)
+Watched OfRuns bytes stands beats extra old new Memory = ⊥
