@@ -2,7 +2,7 @@
 import os, subprocess
 
 SCHEMA = 'stream trades (symbol text4, price u32, volume u32); stream quotes (symbol text4, bid u32, ask u32);\n'
-TUPLES = ''.join(f'{at},trades,UBSN,{7 + at},{10 * at}\n' for at in range(5)) + '5,quotes,UBSN,1,2\n8,end\n'
+TUPLES = ''.join(f'{at},trades,UBSN,{7 + at},{10 * at}\n' for at in range(5)) + '5,quotes,UBSN,1,2\n5,tick\n8,end\n'
 APART = ''.join(f'{40 * at},trades,{"UBSN" if at % 2 else "CSGN"},{7 + at},{at}\n' for at in range(5))
 MODULE = '''module m(input wire clk, input wire rst, input wire in__s__valid, input wire [7:0] in__s__v, input wire eos,
   output reg out__valid, output reg [7:0] out__v, output reg out__eos);

@@ -51,8 +51,8 @@ fn beats_of(alloc: Global, text: &[u8]) -> Result<Beats, TupleFault> {
     }
 }
 
-// Prints each beat of a tuple file, or its fault: the cycle, `#` and its record, and for each
-// stream `-` or the numbers of its row.
+// Prints each beat of a tuple file, or its fault: the cycle, `#` and its record, for each stream
+// `-` or the numbers of its row, and whether a tick and the end come.
 fn print_tuples(rt: &HostRuntime, text: &[u8]) -> io::Result<()> {
     match beats_of(rt.alloc(), text) {
         Ok(beats) => {
@@ -77,6 +77,7 @@ fn print_beat(rt: &HostRuntime, beat: &BeatView<'_>) -> io::Result<()> {
             None => print!(rt; "-")?,
         }
     }
+    print!(rt; "{}", if beat.ticks() { " tick" } else { "" })?;
     print!(rt; "{}", if beat.ends() { " end" } else { " " })
 }
 

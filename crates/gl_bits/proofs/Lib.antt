@@ -7,7 +7,10 @@ pub mod Unique
 pub mod Wrapping
 pub mod Memories
 pub mod Slicing
+pub mod Timing
 pub mod Grouping
+pub mod Filling
+pub mod Parting
 pub mod Interleaving
 pub mod Signs
 pub mod Totalling

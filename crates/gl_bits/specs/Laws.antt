@@ -1,7 +1,9 @@
 -- Laws of windows, groups and interleavings.
-use Rattle.std.specs.Prelude.{◌≡◌, ℕ, ◌+◌, ◌*◌, ◌<◌, ◌≤◌, Bool, true, false, not, List, [], ◌∷◌, ◌++◌, IsPermutation, Some, length, take, map, filter, sum_by, slice_get, nat_eq}
+use Rattle.std.specs.Prelude.{◌≡◌, ℕ, ◌+◌, ◌*◌, ◌<◌, ◌≤◌, Bool, true, false, not, List, [], ◌∷◌, ◌++◌, IsPermutation, Some, length, take, map, filter, sum_by, slice_get, nat_eq, nat_le, nat_lt, ◌&&◌, None, if◌then◌else◌}
 use Rattle.std.specs.List.{list_any}
 use Rattle.gl_bits.specs.Lists.{slices, slice_at, keys_of, rows_with, groups, Group, IsInterleaving}
+use Rattle.gl_bits.specs.Times.{tpart, tslices}
+use Rattle.gl_bits.specs.Partitions.{has_key, parts}
 
 -- an empty list has no slices
 abbrev pub NoSlicesOfNothing : Type 0 → Type 0
@@ -27,6 +29,21 @@ abbrev pub SlicesMissNothing : Type 0 → Type 0
 SlicesMissNothing A =
     (size advance : ℕ) (xs : List A) (i : ℕ) → 1 ≤ advance → advance ≤ size → i < length xs
     → IsInSlice size advance xs i
+
+-- window j of time has the elements whose time is from j * advance on, within the size; it is there where j * advance is
+-- at most the ticks, and there is no other
+abbrev pub TimeSlicesAreParts : Type 0 → Type 0
+TimeSlicesAreParts A =
+    (size advance ticks : ℕ) (times : List ℕ) (xs : List A) (j : ℕ) → 1 ≤ advance
+    → slice_get (tslices size advance times ticks xs) j
+    ≡ (if nat_le (j * advance) ticks then Some (tpart (j * advance) size times xs) else None)
+
+-- an element more joins the windows that its time is in, behind all others, and no other window
+abbrev pub TimeSlicesGrow : Type 0 → Type 0
+TimeSlicesGrow A =
+    (from size t : ℕ) (ts : List ℕ) (x : A) (xs : List A) → length ts ≡ length xs
+    → tpart from size (ts ++ t ∷ []) (xs ++ x ∷ [])
+    ≡ tpart from size ts xs ++ (if nat_le from t && nat_lt t (from + size) then x ∷ [] else [])
 
 -- the keys of the groups are the first n, and each group has the rows with its key, in their order
 pub record HaveFirstKeys {A : Type 0} (n : ℕ) (key_of : A → ℕ) (xs : List A) : Type 0 where
@@ -56,3 +73,15 @@ pub record IsPutTogether {A : Type 0} (xs ys zs : List A) : Type 0 where
 -- an interleaving has the elements of both lists, and keeps both orders
 abbrev pub InterleavingsKeepOrders : Type 0 → Type 0
 InterleavingsKeepOrders A = (xs ys zs : List A) → IsInterleaving xs ys zs → IsPutTogether xs ys zs
+
+-- the windows of a key
+abbrev pub windows_of : {A : Type 0} → ℕ → List (Group A) → List (List A)
+windows_of {A = A} key windows =
+    map (λ (g : Group A). g.rows) (filter (λ (g : Group A). nat_eq g.key key) windows)
+
+-- the windows of each of the first n keys are the slices of its rows, in their order, and no other key has one
+abbrev pub PartsAreSlices : Type 0 → Type 0
+PartsAreSlices A =
+    (n size advance key : ℕ) (key_of : A → ℕ) (xs : List A) → 1 ≤ size → 1 ≤ advance
+    → windows_of key (parts n key_of size advance xs)
+    ≡ (if has_key n key_of xs key then slices size advance (rows_with key_of xs key) else [])

@@ -25,6 +25,10 @@ most_copies = 64
 abbrev pub most_groups : ℕ
 most_groups = 256
 
+-- windows that are open at once where each group has its own, each with a copy of the body
+abbrev pub most_windows : ℕ
+most_windows = 256
+
 -- weights of a weighted sum
 abbrev pub most_weights : ℕ
 most_weights = 64

@@ -1,7 +1,8 @@
 //! Laws of windows, groups and interleavings. The contract of each function is the law; it does
 //! nothing.
 
-ghost use Rattle.gl_bits.specs.Laws.{GroupsHaveFirstKeys, InterleavingsKeepOrders, NoSlicesOfNothing, SlicesAreParts, SlicesMissNothing};
+ghost use Rattle.gl_bits.specs.WorkedPartitions.{WorkedParts};
+ghost use Rattle.gl_bits.specs.Laws.{GroupsHaveFirstKeys, InterleavingsKeepOrders, NoSlicesOfNothing, PartsAreSlices, SlicesAreParts, SlicesMissNothing, TimeSlicesAreParts, TimeSlicesGrow};
 
 /// An empty list has no slices.
 pub fn no_slices_of_nothing<T>()
@@ -19,6 +20,17 @@ pub fn slices_miss_nothing<T>()
     ensures { SlicesMissNothing T }
 {}
 
+/// Window j of time has the elements whose time is from j times the advance on, within the size; it
+/// is there where j times the advance is at most the ticks, and there are no other windows.
+pub fn time_slices_are_parts<T>()
+    ensures { TimeSlicesAreParts T }
+{}
+
+/// An element more joins exactly the windows of time that its time is in, behind their others.
+pub fn time_slices_grow<T>()
+    ensures { TimeSlicesGrow T }
+{}
+
 /// The groups hold exactly the rows whose key is among the first keys, each in order and once.
 pub fn groups_have_first_keys<T>()
     ensures { GroupsHaveFirstKeys T }
@@ -27,4 +39,15 @@ pub fn groups_have_first_keys<T>()
 /// An interleaving is a permutation of both lists that keeps both orders.
 pub fn interleavings_keep_orders<T>()
     ensures { InterleavingsKeepOrders T }
+{}
+
+/// The windows of each of the first keys are the slices of its rows, in their order, and no other
+/// key has one.
+pub fn parts_are_slices<T>()
+    ensures { PartsAreSlices T }
+{}
+
+/// Worked windows of two keys and of a third one.
+pub fn worked_parts()
+    ensures { WorkedParts }
 {}

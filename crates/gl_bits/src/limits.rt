@@ -18,6 +18,9 @@ pub const MOST_COPIES: u128 = 64;
 /// Groups of a stream: GROUPS.
 pub const MOST_GROUPS: u128 = 256;
 
+/// Windows that are open at once where each group has its own, each with a copy of the body.
+pub const MOST_WINDOWS: u128 = 256;
+
 /// Weights of a weighted sum.
 pub const MOST_WEIGHTS: usize = 64;
 

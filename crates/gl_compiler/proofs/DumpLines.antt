@@ -98,8 +98,8 @@ outputs_out : (cs : List Column) → AllByRecursion (λ (p : ProfilePort). p.dir
 outputs_out [] = (refl, (refl, (refl, tt)))
 outputs_out (c ∷ cs) = (refl, outputs_out cs)
 
-profile_shown : (schema : Schema) (columns : List Column) → AreShown 0 (profile schema columns)
-profile_shown schema columns = inputs_shown (output_ports columns) (λ j. outputs_shown (output_ports columns) j (refl, outputs_out columns)) (input_ports schema) 0 (inputs_aside schema) (inputs_in schema)
+profile_shown : (schema : Schema) (columns : List Column) → AreShown 0 (profile false schema columns)
+profile_shown schema columns = inputs_shown (output_ports columns) (λ j. outputs_shown (output_ports columns) j (refl, outputs_out columns)) (input_ports false schema) 0 (inputs_aside schema) (inputs_in schema)
 
 others_shown : (ps : List Port) (i : ℕ) → AllByRecursion (λ (p : Port). bytes_eq clk p.name ≡ false) ps → AreOther (shown_names (signals_from i ps))
 others_shown [] i h = tt
@@ -113,7 +113,7 @@ module _ (m : Module) (schema : Schema) (columns : List Column) (distinct : AreD
   abbrev all : List Signal
   all = signals_from 0 (ports_of m)
 
-  are : ports_of m ≡ map port_in (profile schema columns)
+  are : ports_of m ≡ map port_in (profile false schema columns)
   are = ports_are m schema columns distinct has
 
   names_are : shown_names all ≡ result_names m

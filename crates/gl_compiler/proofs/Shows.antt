@@ -66,7 +66,7 @@ eos_aside : IsAside (input eos 1)
 unfolding eos fault_group out_valid out_eos
 eos_aside = (refl, refl)
 
-pub inputs_aside : (schema : Schema) → AllByRecursion IsAside (input_ports schema)
+pub inputs_aside : (schema : Schema) → AllByRecursion IsAside (input_ports false schema)
 inputs_aside schema = (rst_aside, all_append IsAside (streams_inputs schema.streams) (input eos 1 ∷ []) (streams_aside schema.streams) (eos_aside, tt))
 
 valid_out : IsAside (output out_valid 1)
@@ -128,20 +128,20 @@ outputs_few (c ∷ cs) i h =
     record { few = both.0; narrow = both.1 }
 
 -- the profile shows a result
-pub profile_shows : (schema : Schema) (columns : List Column) → length columns ≤ 32 → AllByRecursion IsKind (kinds_of columns) → show_none (signals_from 0 (map port_in (profile schema columns))) ≡ false
+pub profile_shows : (schema : Schema) (columns : List Column) → length columns ≤ 32 → AllByRecursion IsKind (kinds_of columns) → show_none (signals_from 0 (map port_in (profile false schema columns))) ≡ false
 unfolding show_none
 profile_shows schema columns few kinds =
-    let all = signals 0 (profile schema columns) in
-    let valid : has_line all out_valid ≡ true = line_behind out_valid (output_ports columns) (λ j. line_here out_valid (column_outputs columns ++ tail) j) (input_ports schema) 0 in
+    let all = signals 0 (profile false schema columns) in
+    let valid : has_line all out_valid ≡ true = line_behind out_valid (output_ports columns) (λ j. line_here out_valid (column_outputs columns ++ tail) j) (input_ports false schema) 0 in
     let end : has_line all out_eos ≡ true =
     line_behind out_eos (output_ports columns)
     (λ j. or_right (bytes_eq out_valid out_eos && true) (has_line (signals (j + 1) (column_outputs columns ++ tail)) out_eos) (line_behind out_eos tail (λ k. line_here out_eos (output fault_group 1 ∷ output fault_queue 1 ∷ []) k) (column_outputs columns) (j + 1)))
-    (input_ports schema) 0 in
+    (input_ports false schema) 0 in
     let wide : has_wide all fault_group ≡ false =
-    none_wide (output_ports columns) (λ j. none_wide (column_outputs columns ++ tail) (outputs_wide columns) (output out_valid 1 ∷ []) j (valid_out, tt)) (input_ports schema) 0 (inputs_aside schema) in
+    none_wide (output_ports columns) (λ j. none_wide (column_outputs columns ++ tail) (outputs_wide columns) (output out_valid 1 ∷ []) j (valid_out, tt)) (input_ports false schema) 0 (inputs_aside schema) in
     let fine : AreFew (length columns) all =
     few_behind (length columns) (output_ports columns)
-    (λ j. few_behind (length columns) (column_outputs columns ++ tail) (λ k. outputs_few columns k kinds) (output out_valid 1 ∷ []) j (valid_out, tt)) (input_ports schema) 0 (inputs_aside schema) in
+    (λ j. few_behind (length columns) (column_outputs columns ++ tail) (λ k. outputs_few columns k kinds) (output out_valid 1 ∷ []) j (valid_out, tt)) (input_ports false schema) 0 (inputs_aside schema) in
     let many : nat_le (length (columns_of all)) 32 ≡ true = le-leb (length (columns_of all)) 32 (omega (arith, fine.few, few)) in
     let shown : are_columns all ≡ true = rw (many, fine.narrow) refl in
     rw (valid, end, wide, shown) refl

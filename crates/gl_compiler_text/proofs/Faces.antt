@@ -1,5 +1,5 @@
 -- The ports of an emitted netlist are those of the profile.
-use Rattle.std.proofs.Common.{◌≡◌, ℕ, not, List, [], ◌∷◌, ◌++◌, map, refl, ap, ◌∙◌}
+use Rattle.std.proofs.Common.{◌≡◌, ℕ, not, List, [], ◌∷◌, ◌++◌, map, refl, ap, ◌∙◌, false}
 use Rattle.std.specs.Prelude.{◌==◌}
 use Rattle.std.proofs.lemmas.List.{map-append}
 use Rattle.gl_bits.specs.Kinds.{width_of}
@@ -55,7 +55,7 @@ streams_in (s ∷ ss) =
     ∙ ap (λ (x : List ProfilePort). profile.input (in_valid s.name) 1 ∷ (x ++ map port_like (streams_inputs ss))) (columns_in s.name s.columns)
     ∙ ap (λ (x : List ProfilePort). profile.stream_inputs s ++ x) (streams_in ss)
 
-inputs_are : (schema : Schema) → map port_like (input_ports schema) ≡ profile.input_ports schema
+inputs_are : (schema : Schema) → map port_like (input_ports schema) ≡ profile.input_ports false schema
 inputs_are schema =
     ap (λ (x : List ProfilePort). profile.input rst 1 ∷ x)
     (map-append port_like (streams_inputs schema.streams) (input eos 1 ∷ []) ∙ ap (λ (x : List ProfilePort). x ++ profile.input eos 1 ∷ []) (streams_in schema.streams))
@@ -70,11 +70,11 @@ outputs_are cs =
     ap (λ (x : List ProfilePort). profile.output out_valid 1 ∷ x)
     (map-append port_like (named_outputs (widths_of (kinds_of cs)) (column_names cs)) tail ∙ ap (λ (x : List ProfilePort). x ++ map port_like tail) (columns_out cs))
 
-plan_profile : (schema : Schema) (cs : List Column) → map port_like (plan_ports schema (kinds_of cs) (column_names cs)) ≡ profile.profile schema cs
+plan_profile : (schema : Schema) (cs : List Column) → map port_like (plan_ports schema (kinds_of cs) (column_names cs)) ≡ profile.profile false schema cs
 plan_profile schema cs =
     map-append port_like (input_ports schema) (output_ports (widths_of (kinds_of cs)) (column_names cs))
     ∙ ap (λ (x : List ProfilePort). x ++ map port_like (output_ports (widths_of (kinds_of cs)) (column_names cs))) (inputs_are schema)
-    ∙ ap (λ (x : List ProfilePort). profile.input_ports schema ++ x) (outputs_are cs)
+    ∙ ap (λ (x : List ProfilePort). profile.input_ports false schema ++ x) (outputs_are cs)
 
 -- the module of its text has the profile
 pub profile_of : (n : Net) (m : Module) (schema : Schema) (cs : List Column) → ports_of m ≡ clock ∷ map (declaration_of n) n.ports → port_shapes n ≡ plan_ports schema (kinds_of cs) (column_names cs) → HasProfile m schema cs

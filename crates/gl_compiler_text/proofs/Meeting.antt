@@ -8,7 +8,7 @@ use Rattle.gl_schema.specs.declared.schema.Stream.{Stream}
 use Rattle.gl_schema.specs.declared.schema.Schema.{Schema}
 use Rattle.gl_schema.specs.Schemas.{column_names}
 use Rattle.gl_schema.specs.Beats.{Beat, AreBeats, rows_at}
-use Rattle.gl_schema.specs.Ports.{PortValues, Pin, pin, pins, column_pins, stream_pins, streams_pins, rst, eos, in_valid, in_column, out_column}
+use Rattle.gl_schema.specs.Ports.{PortValues, Pin, pin, pins, column_pins, stream_pins, streams_pins, rst, eos, tick, in_valid, in_column, out_column}
 use Rattle.gl_schema.specs.Right.{IsRight, Meaning}
 use Rattle.gl_schema.specs.Seen.{shown}
 use Rattle.gl_query.specs.declared.tree.Statement.{Statement}
@@ -72,9 +72,9 @@ streams_other (s ∷ ss) [] = Other-join (stream_pins s None) (streams_pins ss [
 streams_other (s ∷ ss) (r ∷ rows) = Other-join (stream_pins s r) (streams_pins ss rows) (stream_other s r) (streams_other ss rows)
 
 pub pins_other : (schema : Schema) (beats : List Beat) (t : ℕ) → AllByRecursion IsOther (pins schema beats t)
-unfolding rst eos
-pins_other schema beats zero = (refl, Other-join (streams_pins schema.streams []) (pin eos 0 ∷ []) (streams_other schema.streams []) (refl, tt))
-pins_other schema beats (suc n) = (refl, Other-join (streams_pins schema.streams (rows_at beats n)) _ (streams_other schema.streams (rows_at beats n)) (refl, tt))
+unfolding rst eos tick
+pins_other schema beats zero = (refl, Other-join (streams_pins schema.streams []) (pin eos 0 ∷ pin tick 0 ∷ []) (streams_other schema.streams []) (refl, (refl, tt)))
+pins_other schema beats (suc n) = (refl, Other-join (streams_pins schema.streams (rows_at beats n)) _ (streams_other schema.streams (rows_at beats n)) (refl, (refl, tt)))
 
 outs_other : (ns : List (List ℕ)) → NoClock (map out_column ns)
 unfolding out_column

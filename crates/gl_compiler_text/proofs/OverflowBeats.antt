@@ -1,13 +1,14 @@
 -- Beats that are cut behind a cycle: those up to it, and the end alone behind them where there are more.
 use mathlib.Core.Path.{fun_ext}
-use Rattle.std.proofs.Common.{◌≡◌, ℕ, zero, suc, ◌+◌, ◌<◌, ◌≤◌, inl, inr, true, false, cond, List, [], ◌∷◌, Option, None, refl, sym, ap, ◌∙◌, subst, arith, unwrap_or}
-use Rattle.std.specs.Prelude.{slice_get, nat_le, IsTrue}
+use Rattle.std.proofs.Common.{◌≡◌, ℕ, zero, suc, ◌+◌, ◌<◌, ◌≤◌, inl, inr, true, false, cond, List, [], ◌∷◌, Option, None, Bool, refl, sym, ap, ◌∙◌, subst, arith, unwrap_or}
+use Rattle.std.specs.Prelude.{option_map, slice_get, nat_le, IsTrue}
 use Rattle.std.specs.List.{AllByRecursion, cons_option}
 use Rattle.std.proofs.lemmas.Bool.{cases_lt}
 use Rattle.std.proofs.lemmas.Bool.Decides.{eqb_tells, leb_tells}
+use Rattle.gl_bits.specs.Words.{bit}
 use Rattle.gl_schema.specs.declared.schema.Stream.{Stream}
 use Rattle.gl_schema.specs.declared.schema.Schema.{Schema}
-use Rattle.gl_schema.specs.Beats.{Beat, IsBeat, AreBeats, AreInOrder, AreRowsOf, KeepsGap, beat_at, inputs_of, input_of, row_in}
+use Rattle.gl_schema.specs.Beats.{Beat, Inputs, IsBeat, AreBeats, AreInOrder, AreRowsOf, KeepsGap, beat_at, inputs_of, input_of, row_in, ticks_of, times_from}
 use Rattle.gl_testbench.specs.Dues.{AreFrom}
 use Rattle.gl_compiler_text.specs.Overflow.{beats_to}
 use Rattle.gl_testbench.proofs.Due.{other_beat, this_beat, none_before, from_first}
@@ -31,7 +32,7 @@ no_row (s ∷ ss) zero = refl
 no_row (s ∷ ss) (suc k) = no_row ss k
 
 end_is_beat : (schema : Schema) (n : ℕ) → IsBeat schema (end_alone schema n)
-end_is_beat schema n = record { rows = no_rows_fit schema.streams; some' = λ e. absurd (let z : true ≡ false = e in cc); still = refl }
+end_is_beat schema n = record { rows = no_rows_fit schema.streams; some' = λ e t. absurd (let z : true ≡ false = e in cc) }
 
 -- ---- the cut
 
@@ -117,6 +118,33 @@ module _ (c : ℕ) (e : Beat) where
         ∙ sym (ap (input_of j) (to_here b bs le))
   ]
 
+  cut_times : (j : ℕ) (bs : List Beat) (k before : ℕ) → row_in j e ≡ None → AreFrom k bs → times_from before j (cut_at c e bs) ≡ times_from before j (beats_to c bs)
+  cut_times j [] k before none h = refl
+  cut_times j (b ∷ bs) k before none h = elim (cases_lt c b.cycle) [
+    | inl lt ↦
+        ap (times_from before j) (cut_here c e b bs lt) ∙ ap (λ (o : Option (List ℕ)). cons_option (option_map (λ row. before + bit e.tick) o) []) none
+        ∙ sym (ap (times_from before j) (to_none (b ∷ bs) b.cycle (omega arith, h.1) lt))
+    | inr le ↦
+        ap (times_from before j) (cut_later c e b bs le)
+        ∙ ap (cons_option (option_map (λ row. before + bit b.tick) (row_in j b))) (cut_times j bs (b.cycle + 1) (before + bit b.tick) none h.1)
+        ∙ sym (ap (times_from before j) (to_here b bs le))
+  ]
+
+  cut_ticks : (bs : List Beat) (k : ℕ) → e.tick ≡ false → AreFrom k bs → ticks_of (cut_at c e bs) ≡ ticks_of (beats_to c bs)
+  cut_ticks [] k still h = refl
+  cut_ticks (b ∷ bs) k still h = elim (cases_lt c b.cycle) [
+    | inl lt ↦
+        ap ticks_of (cut_here c e b bs lt) ∙ ap (λ (t : Bool). bit t + 0) still
+        ∙ sym (ap ticks_of (to_none (b ∷ bs) b.cycle (omega arith, h.1) lt))
+    | inr le ↦
+        ap ticks_of (cut_later c e b bs le) ∙ ap (λ (n : ℕ). bit b.tick + n) (cut_ticks bs (b.cycle + 1) still h.1)
+        ∙ sym (ap ticks_of (to_here b bs le))
+  ]
+
+inputs_same : (rows rows' : ℕ → List (List ℕ)) (times times' : ℕ → List ℕ) (ticks ticks' : ℕ) → rows ≡ rows' → times ≡ times' → ticks ≡ ticks'
+    → ◌≡◌ {A = Inputs} (record { rows = rows; times = times; ticks = ticks }) (record { rows = rows'; times = times'; ticks = ticks' })
+inputs_same rows rows' times times' ticks ticks' r t n = cc
+
 -- beats that keep the gap, and agree with these up to a cycle, of which they bring what has come by then
 pub record IsCut (schema : Schema) (gap c : ℕ) (beats cut : List Beat) : Type 0 where
   pub are : AreBeats schema cut
@@ -138,5 +166,7 @@ is_cut schema gap c beats are gaps =
       };
       gaps = cut_gap c e gap beats (omega arith) gaps;
       same = λ n le. cut_same c e beats 0 n le (omega arith) from;
-      brings = ap (λ (r : ℕ → List (List ℕ)). record { rows = r }) (fun_ext (λ j. cut_input c e j beats 0 (no_row schema.streams j) from));
+      brings =
+          inputs_same _ _ _ _ _ _ (fun_ext (λ j. cut_input c e j beats 0 (no_row schema.streams j) from))
+          (fun_ext (λ j. cut_times c e j beats 0 0 (no_row schema.streams j) from)) (cut_ticks c e beats 0 refl from);
     }

@@ -12,7 +12,7 @@ use Rattle.gl_query.specs.Laws.{IsLongAs}
 use Rattle.gl_query.specs.Results.{IsResult}
 use Rattle.gl_elaborate.specs.Laws.{AreLongRows, IsRightPlan}
 use Rattle.gl_elaborate.specs.Plans.{plan_of}
-use Rattle.gl_wiring.specs.Wired.{plan_inputs, plan_means}
+use Rattle.gl_wiring.specs.Wired.{plan_means}
 
 row_long : (columns : List Column) (row : List ℕ) → IsRowOf columns row → IsLongAs columns row
 row_long [] [] h = refl
@@ -44,4 +44,4 @@ long_rows schema beats are = λ k s e. rows_long schema beats k s are.each e
 pub plan_result : (schema : Schema) (statement : Statement) (beats : List Beat) → AreBeats schema beats → IsRightPlan schema statement
     → (rows : List (List ℕ)) (spill : Bool) → plan_means (plan_of schema statement).nodes (plan_of schema statement).root (inputs_of beats) rows spill
     → IsResult schema statement (inputs_of beats) rows spill
-plan_result schema statement beats are plan rows spill h = plan.results (plan_inputs (inputs_of beats)) rows spill (long_rows schema beats are) h
+plan_result schema statement beats are plan rows spill h = plan.results (inputs_of beats) (input_of 0 beats) rows spill (long_rows schema beats are) h

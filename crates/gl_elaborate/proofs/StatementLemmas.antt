@@ -1,6 +1,7 @@
 -- The plan of a statement.
 use Rattle.std.proofs.Common.{◌≡◌, ℕ, suc, ◌+◌, true, List, [], ◌∷◌, Some, slice_get, refl, sym, ap, subst, ◌∙◌, arith}
 use Rattle.std.specs.Prelude.{bytes_eq}
+use Rattle.gl_bits.specs.Results.{Row}
 use Rattle.std.proofs.Math.Numerals.{one-add}
 use Rattle.gl_schema.specs.declared.schema.Stream.{Stream}
 use Rattle.gl_schema.specs.declared.schema.Schema.{Schema}
@@ -12,8 +13,7 @@ use Rattle.gl_algebra.specs.Fits.{IsPlan}
 use Rattle.gl_bits.proofs.Bools.{by_cases}
 use Rattle.gl_schema.specs.Beats as beats
 use Rattle.gl_query.proofs.Real.{schema_is}
-use Rattle.gl_algebra.specs.Results.{Inputs}
-use Rattle.gl_elaborate.specs.Laws.{AreLongRows, PlansAreRight, query_inputs}
+use Rattle.gl_elaborate.specs.Laws.{AreLongRows, PlansAreRight, leaf_inputs}
 use Rattle.gl_elaborate.specs.Plans.{stream_node, stream_number}
 use Rattle.gl_elaborate.proofs.LongLemmas.{AreLong}
 use Rattle.gl_elaborate.proofs.ReadLemmas.{IsReader, Sees}
@@ -52,17 +52,17 @@ numbered-long k (s ∷ streams) inputs name h =
     (λ e. rw e (numbered-long (k + 1) streams inputs name
     (λ i t is. subst (λ (j : ℕ). AreLong t.columns (inputs.rows j)) (let z : k + suc i ≡ k + 1 + i = omega arith in z) (h (suc i) t is))))
 
-schema-sees : (schema : Schema) (inputs : Inputs) → AreLongRows schema inputs.streams
-    → Sees (stream_node schema.streams) schema.streams (env_of schema (query_inputs inputs)) inputs
-schema-sees schema inputs rows = record {
-  streams = numbered-streams 0 schema.streams (query_inputs inputs);
-  are_long = λ name. subst (λ (s : List Stream). AreLong (source_columns s name) (rows_of (env_of schema (query_inputs inputs)) name))
-      (sym (numbered-streams 0 schema.streams (query_inputs inputs)))
-      (numbered-long 0 schema.streams (query_inputs inputs) name
-      (λ i s is. subst (λ (j : ℕ). AreLong s.columns (inputs.streams j)) (let z : i ≡ 0 + i = omega arith in z) (rows i s is)));
+schema-sees : (schema : Schema) (inputs : beats.Inputs) (body : List Row) → AreLongRows schema inputs.rows
+    → Sees (stream_node schema.streams) schema.streams (env_of schema inputs) (leaf_inputs inputs body)
+schema-sees schema inputs body rows = record {
+  streams = numbered-streams 0 schema.streams inputs;
+  are_long = λ name. subst (λ (s : List Stream). AreLong (source_columns s name) (rows_of (env_of schema inputs) name))
+      (sym (numbered-streams 0 schema.streams inputs))
+      (numbered-long 0 schema.streams inputs name
+      (λ i s is. subst (λ (j : ℕ). AreLong s.columns (inputs.rows j)) (let z : i ≡ 0 + i = omega arith in z) (rows i s is)));
   reads = λ name has.
-      ap inputs.streams (let z : stream_number schema.streams name ≡ 0 + stream_number schema.streams name = omega arith in z)
-      ∙ numbered-rows 0 schema.streams (query_inputs inputs) name has;
+      ap inputs.rows (let z : stream_number schema.streams name ≡ 0 + stream_number schema.streams name = omega arith in z)
+      ∙ numbered-rows 0 schema.streams inputs name has;
 }
 
 pub empty : IsPlan []
@@ -78,5 +78,5 @@ plans-right schema statement checked =
       within = done.1.over.within;
       shape = done.1.is;
       figures = (figures-right (query_shape statement.query) (stream_node schema.streams) schema.streams [] reader checked.accepted empty).is;
-      results = λ inputs out spill rows r. done.1.means inputs out spill r (env_of schema (query_inputs inputs)) (schema-sees schema inputs rows);
+      results = λ inputs body out spill rows r. done.1.means (leaf_inputs inputs body) out spill r (env_of schema inputs) (schema-sees schema inputs body rows);
     }

@@ -24,9 +24,9 @@ abbrev pub AreLongRows : Schema → (ℕ → List Row) → Type 0
 AreLongRows schema rows = (number : ℕ) (s : Stream) → slice_get schema.streams number ≡ Some s
     → AllByRecursion (IsLongAs s.columns) (rows number)
 
--- what the leaves of a plan give, as what comes in to a query
-abbrev pub query_inputs : Inputs → beats.Inputs
-query_inputs inputs = record { rows = inputs.streams }
+-- what comes in to a query, as what the leaves of its plan give, beside the rows of a body
+abbrev pub leaf_inputs : beats.Inputs → List Row → Inputs
+leaf_inputs inputs body = record { streams = inputs.rows; body = body }
 
 -- the plan of a statement over a schema: each node fits where it is added, and the root has the query's shape, its
 -- figures, and no result that is not one of the statement
@@ -38,9 +38,10 @@ pub record IsRightPlan (schema : Schema) (statement : Statement) : Type 0 where
       ≡ shape_for (stream_node schema.streams) schema.streams (query_shape statement.query)
   pub figures : figures_of (plan_of schema statement).nodes (plan_of schema statement).root
       ≡ query_figures schema.streams (query_shape statement.query)
-  pub results : (inputs : Inputs) (out : List Row) (spill : Bool) → AreLongRows schema inputs.streams
-      → IsPlanResult (plan_of schema statement).nodes (plan_of schema statement).root inputs out spill
-      → IsResult schema statement (query_inputs inputs) out spill
+  pub results : (inputs : beats.Inputs) (body : List Row) (out : List Row) (spill : Bool)
+      → AreLongRows schema inputs.rows
+      → IsPlanResult (plan_of schema statement).nodes (plan_of schema statement).root (leaf_inputs inputs body) out spill
+      → IsResult schema statement inputs out spill
 
 abbrev pub PlansAreRight : Type 0
 PlansAreRight = (schema : Schema) (statement : Statement) → IsChecked schema statement → IsRightPlan schema statement

@@ -26,7 +26,7 @@ row_fits i =
     (symbol_small (i % 4), (omega (arith, price), (omega (arith, volume), tt)))
 
 is_beat : (n i : ℕ) → IsBeat load_schema (load_beat n i)
-is_beat n i = record { rows = (row_fits i, tt); some' = λ none. refl; still = refl }
+is_beat n i = record { rows = (row_fits i, tt); some' = λ none still. refl }
 
 each : (n i k : ℕ) → AllByRecursion (IsBeat load_schema) (map (load_beat n) (range_with_len i k))
 each n i zero = tt

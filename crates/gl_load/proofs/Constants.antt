@@ -21,7 +21,7 @@ use Rattle.gl_load.specs.Query.{load_schema, load_written, query_text, schema_te
 
 -- ---- the schema
 
-is_schema : IsSchema load_schema
+pub is_schema : IsSchema load_schema
 unfolding IsDistinct is_name begins_with_letter has_name_bytes has_loose_underscore is_taken keywords reserved is_written kinds
 is_schema = record {
   some' = omega arith;

@@ -1,13 +1,15 @@
 //! The tuples of the load.
 
-ghost use Rattle.std.specs.Prelude.{◌≡◌, ◌<◌, ◌≤◌, ◌^◌, length, IfOk};
-ghost use Rattle.gl_bits.specs.Words.{bits_of};
+ghost use Rattle.std.specs.Prelude.{◌≡◌, ◌<◌, ◌≤◌, ◌^◌, ◌∷◌, [], length, IfOk};
+ghost use Rattle.gl_bits.specs.Words.{bits_of, widths_of};
 ghost use Rattle.gl_tuples.specs.Gaps.{plain_beat, plain_beats};
+ghost use Rattle.gl_tuples.specs.Growing.{Fit, shape_of};
+ghost use Rattle.gl_load.specs.Query.{load_schema};
 ghost use Rattle.gl_load.specs.Tuples as spec;
 
 use gl_bits::{Listed, Memory, Row, Word};
 use gl_schema::{Schema, text_number};
-use gl_tuples::{Beat, Beats};
+use gl_tuples::{Beat, Beats, GrowingBeats};
 use std::alloc::Global;
 
 // One of the four symbols.
@@ -26,7 +28,8 @@ fn symbol_at(place: u32) -> &'static [u8]
 // A number as a word of 32 bits.
 fn word_of(number: u64) -> Word
     requires { number < 2 ^ 32 }
-    ensures { result.bits ≡ number }
+    ensures number { result.bits ≡ number }
+    ensures width { result.width ≡ 32 }
 {
     match Word::new(u128::from(number), 32) {
         Some(word) => word,
@@ -36,7 +39,8 @@ fn word_of(number: u64) -> Word
 
 // The row of a tuple.
 fn load_row(alloc: Global, index: u32) -> Result<Row, Memory>
-    ensures { IfOk result (λ row. bits_of row ≡ spec.load_row index) }
+    ensures numbers { IfOk result (λ row. bits_of row ≡ spec.load_row index) }
+    ensures widths { IfOk result (λ row. widths_of row ≡ 32 ∷ 32 ∷ 32 ∷ []) }
 {
     let number = u64::from(index);
     let mut row = Row::new(alloc);
@@ -49,7 +53,8 @@ fn load_row(alloc: Global, index: u32) -> Result<Row, Memory>
 // The beat of a tuple, one of so many.
 fn load_beat(alloc: Global, count: u32, index: u32) -> Result<Beat, Memory>
     requires { index < count }
-    ensures { IfOk result (λ beat. plain_beat beat ≡ spec.load_beat count index) }
+    ensures plain { IfOk result (λ beat. plain_beat beat ≡ spec.load_beat count index) }
+    ensures fits { IfOk result (λ beat. Fit (shape_of load_schema) beat.rows) }
 {
     let mut rows = Listed::new(alloc);
     rows.push(Some(load_row(alloc, index)?))?;
@@ -64,11 +69,12 @@ fn load_beat(alloc: Global, count: u32, index: u32) -> Result<Beat, Memory>
 
 /// The beats of so many tuples.
 pub(crate) fn load_beats(alloc: Global, schema: &Schema, count: u32) -> Result<Beats, Memory>
+    requires { schema.now ≡ load_schema }
     ensures { IfOk result (λ beats. plain_beats beats ≡ spec.load_beats count) }
 {
-    let mut beats = Beats::new(alloc, schema)?;
+    let mut beats = GrowingBeats::new(alloc, schema)?;
     for index in 0..count {
         beats.push(&load_beat(alloc, count, index)?)?;
     }
-    Ok(beats)
+    Ok(beats.done())
 }

@@ -1,5 +1,6 @@
 pub mod Unique
 pub mod Existing
+pub mod Timeless
 pub mod Alike
 pub mod Holding
 pub mod Lengths

@@ -11,11 +11,12 @@ use Rattle.gl_query.specs.Trees.{StatementTree, statement_tree}
 use Rattle.gl_query.specs.Alike.{query_alike, statement_alike}
 use Rattle.gl_schema.specs.declared.schema.Column.{Column}
 use Rattle.gl_schema.specs.declared.schema.Schema.{Schema}
+use Rattle.gl_schema.specs.Beats.{Inputs}
 use Rattle.gl_schema.specs.Schemas.{IsRowOf, IsSchema}
 use Rattle.gl_query.specs.Columns.{columns_of, source_columns}
 use Rattle.gl_query.specs.Sizes.{HasItems}
 use Rattle.gl_query.specs.Faults.{first_fault}
-use Rattle.gl_query.specs.Results.{Env, IsResultIn, columns_in, rows_of, streams_of}
+use Rattle.gl_query.specs.Results.{Env, IsResult, IsResultIn, columns_in, rows_of, streams_of}
 use Rattle.gl_query.specs.Accepted.{AreResultColumns, Scope, IsAcceptedOver, schema_scope}
 
 -- no UNION stands in a query
@@ -69,6 +70,13 @@ ResultsAreLong = HoldsOfResults IsLongAs
 -- where the rows of the sources fit the kinds of their columns, so do those of a result
 abbrev pub ResultsFit : Type 0
 ResultsFit = HoldsOfResults IsRowOf
+
+-- a result goes by the rows of the streams: no query reads their times, or ticks
+abbrev pub ResultsGoByRows : Type 0
+ResultsGoByRows =
+    (schema : Schema) (statement : Statement) (inputs others : Inputs) (out : List Row) (spill : Bool)
+    → ((k : ℕ) → inputs.rows k ≡ others.rows k)
+    → IsResult schema statement inputs out spill → IsResult schema statement others out spill
 
 -- a statement without its places is the tree without them
 abbrev pub TreesAreAlike : Type 0

@@ -1,6 +1,6 @@
 //! Laws of the meaning of queries. The contract of each function is the law; it does nothing.
 
-ghost use Rattle.gl_query.specs.Laws.{AcceptedHaveRealColumns, AcceptedHaveResults, FirstFaultsAreExact, HasOneResult, ResultsAreLong, ResultsFit, TreesAreAlike};
+ghost use Rattle.gl_query.specs.Laws.{AcceptedHaveRealColumns, AcceptedHaveResults, FirstFaultsAreExact, HasOneResult, ResultsAreLong, ResultsFit, ResultsGoByRows, TreesAreAlike};
 
 /// A query without UNION has at most one result over given rows: its rows and its spill.
 pub fn results_are_unique()
@@ -22,6 +22,11 @@ pub fn results_are_long()
 /// sources do.
 pub fn results_fit()
     ensures { ResultsFit }
+{}
+
+/// A result goes by the rows of the streams alone: no query reads their times, or ticks.
+pub fn results_go_by_rows()
+    ensures { ResultsGoByRows }
 {}
 
 /// The tree of a statement and the statement are alike.

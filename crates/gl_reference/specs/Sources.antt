@@ -19,7 +19,7 @@ env_view sources = map source_of sources
 
 -- the inputs that are given, one for each stream
 abbrev pub given_inputs : List (List Row) → Inputs
-given_inputs tables = record { rows = λ k. unwrap_or (slice_get tables k) [] }
+given_inputs tables = record { rows = λ k. unwrap_or (slice_get tables k) []; times = λ k. []; ticks = 0 }
 
 -- the columns of a query over sources
 abbrev pub columns_over : List Given → Query → List Column

@@ -10,7 +10,7 @@ use Rattle.gl_schema.specs.declared.schema.Stream.{Stream}
 use Rattle.gl_schema.specs.declared.schema.Schema.{Schema}
 use Rattle.gl_schema.specs.Names.{IsName, is_name, is_taken, reserved, keywords, has_loose_underscore, begins_with_letter, has_name_bytes}
 use Rattle.gl_schema.specs.Schemas.{IsColumn, IsStream, IsSchema, column_names, stream_names}
-use Rattle.gl_schema.specs.Ports.{rst, eos, in_valid, in_column}
+use Rattle.gl_schema.specs.Ports.{rst, eos, tick, in_valid, in_column}
 use Rattle.gl_schema.specs.Profile.{ProfilePort, clk, input, column_inputs, stream_inputs, streams_inputs, input_ports, port_names}
 
 -- ---- lists of names
@@ -162,35 +162,39 @@ streams_first (s ∷ ss) all = subst (AllByRecursion (λ n. first_byte n ≡ 105
 
 -- ---- all inputs, the clock before them
 
-names_are : (schema : Schema) → port_names (input_ports schema) ≡ rst ∷ (port_names (streams_inputs schema.streams) ++ eos ∷ [])
-names_are schema = ap (λ (ns : List (List ℕ)). rst ∷ ns) (map-append (λ (p : ProfilePort). p.name) (streams_inputs schema.streams) (input eos 1 ∷ []))
+names_are : (schema : Schema) → port_names (input_ports true schema) ≡ rst ∷ (port_names (streams_inputs schema.streams) ++ eos ∷ tick ∷ [])
+names_are schema = ap (λ (ns : List (List ℕ)). rst ∷ ns) (map-append (λ (p : ProfilePort). p.name) (streams_inputs schema.streams) (input eos 1 ∷ input tick 1 ∷ []))
 
--- a name with another first byte, and not that of the end, is apart from what stands behind the reset
-front_apart : (n : List ℕ) (ss : List Stream) → AllByRecursion IsStream ss → (first_byte n ≡ 105 → ⊥) → (n ≡ eos → ⊥) → Apart n (port_names (streams_inputs ss) ++ eos ∷ [])
-front_apart n ss all other last =
-    all_append (λ m. n ≡ m → ⊥) (port_names (streams_inputs ss)) (eos ∷ [])
-    (all_weaker (λ m. first_byte m ≡ 105) (λ m. n ≡ m → ⊥) (λ m h e. other (ap first_byte e ∙ h)) (port_names (streams_inputs ss)) (streams_first ss all)) (last, tt)
+-- a name with another first byte, and neither that of the end nor of the tick, is apart from what stands behind the reset
+front_apart : (n : List ℕ) (ss : List Stream) → AllByRecursion IsStream ss → (first_byte n ≡ 105 → ⊥) → (n ≡ eos → ⊥) → (n ≡ tick → ⊥) → Apart n (port_names (streams_inputs ss) ++ eos ∷ tick ∷ [])
+front_apart n ss all other end last =
+    all_append (λ m. n ≡ m → ⊥) (port_names (streams_inputs ss)) (eos ∷ tick ∷ [])
+    (all_weaker (λ m. first_byte m ≡ 105) (λ m. n ≡ m → ⊥) (λ m h e. other (ap first_byte e ∙ h)) (port_names (streams_inputs ss)) (streams_first ss all)) (end, (last, tt))
 
-rst_differs : (first_byte rst ≡ 105 → ⊥) × (rst ≡ eos → ⊥)
-unfolding rst eos
-rst_differs = (λ e. absurd (omega (arith, e)), texts_differ rst eos refl)
+rst_differs : (first_byte rst ≡ 105 → ⊥) × (rst ≡ eos → ⊥) × (rst ≡ tick → ⊥)
+unfolding rst eos tick
+rst_differs = (λ e. absurd (omega (arith, e)), texts_differ rst eos refl, texts_differ rst tick refl)
 
-clk_differs : (first_byte clk ≡ 105 → ⊥) × (clk ≡ rst → ⊥) × (clk ≡ eos → ⊥)
-unfolding clk rst eos
-clk_differs = (λ e. absurd (omega (arith, e)), texts_differ clk rst refl, texts_differ clk eos refl)
+clk_differs : (first_byte clk ≡ 105 → ⊥) × (clk ≡ rst → ⊥) × (clk ≡ eos → ⊥) × (clk ≡ tick → ⊥)
+unfolding clk rst eos tick
+clk_differs = (λ e. absurd (omega (arith, e)), texts_differ clk rst refl, texts_differ clk eos refl, texts_differ clk tick refl)
 
-eos_differs : first_byte eos ≡ 105 → ⊥
-unfolding eos
-eos_differs = λ e. absurd (omega (arith, e))
+eos_differs : (first_byte eos ≡ 105 → ⊥) × (eos ≡ tick → ⊥)
+unfolding eos tick
+eos_differs = (λ e. absurd (omega (arith, e)), texts_differ eos tick refl)
 
-pub names_apart : (schema : Schema) → IsSchema schema → AreApart (clk ∷ port_names (input_ports schema))
+tick_differs : first_byte tick ≡ 105 → ⊥
+unfolding tick
+tick_differs = λ e. absurd (omega (arith, e))
+
+pub names_apart : (schema : Schema) → IsSchema schema → AreApart (clk ∷ port_names (input_ports true schema))
 names_apart schema is =
     let streams = port_names (streams_inputs schema.streams) in
     subst (λ (ns : List (List ℕ)). AreApart (clk ∷ ns)) (sym (names_are schema)) (
-      (clk_differs.1, front_apart clk schema.streams is.streams clk_differs.0 clk_differs.2),
+      (clk_differs.1, front_apart clk schema.streams is.streams clk_differs.0 clk_differs.2 clk_differs.3),
       (
-        front_apart rst schema.streams is.streams rst_differs.0 rst_differs.1,
-        both_apart streams (eos ∷ []) (streams_apart schema.streams is.streams (apart_distinct (stream_names schema.streams) is.distinct)) (tt, tt)
-            (all_weaker (λ m. first_byte m ≡ 105) (λ m. Apart m (eos ∷ [])) (λ m h. (λ e. eos_differs (sym (ap first_byte e) ∙ h), tt)) streams (streams_first schema.streams is.streams)),
+        front_apart rst schema.streams is.streams rst_differs.0 rst_differs.1 rst_differs.2,
+        both_apart streams (eos ∷ tick ∷ []) (streams_apart schema.streams is.streams (apart_distinct (stream_names schema.streams) is.distinct)) ((eos_differs.1, tt), (tt, tt))
+            (all_weaker (λ m. first_byte m ≡ 105) (λ m. Apart m (eos ∷ tick ∷ [])) (λ m h. (λ e. eos_differs.0 (sym (ap first_byte e) ∙ h), (λ e. tick_differs (sym (ap first_byte e) ∙ h), tt))) streams (streams_first schema.streams is.streams)),
       ),
     )

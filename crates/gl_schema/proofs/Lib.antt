@@ -6,6 +6,7 @@ pub mod Complete
 pub mod Sound
 pub mod Readings
 pub mod TextNumbers
+pub mod Timed
 pub mod Pinned
 pub mod RightTo
 pub mod InputNames

@@ -13,8 +13,8 @@ use Rattle.gl_schema.specs.declared.schema.Column.{Column}
 use Rattle.gl_schema.specs.declared.schema.Stream.{Stream}
 use Rattle.gl_schema.specs.declared.schema.Schema.{Schema}
 use Rattle.gl_schema.specs.Schemas.{IsRowOf}
-use Rattle.gl_schema.specs.Beats.{Beat, AreBeats, AreRowsOf, IsBeat, beat_at, rows_at, ends_at}
-use Rattle.gl_schema.specs.Ports.{rst, eos, in_valid, in_column, Pin, pin, pin_names, column_pins, stream_pins, streams_pins, pins}
+use Rattle.gl_schema.specs.Beats.{Beat, AreBeats, AreRowsOf, IsBeat, beat_at, rows_at, ends_at, ticks_at}
+use Rattle.gl_schema.specs.Ports.{rst, eos, tick, in_valid, in_column, Pin, pin, pin_names, column_pins, stream_pins, streams_pins, pins}
 use Rattle.gl_schema.specs.Profile.{ProfilePort, input, column_inputs, stream_inputs, streams_inputs, input_ports, port_names, CanCarry}
 
 -- ---- the names
@@ -37,12 +37,14 @@ streams_named [] rows = refl
 streams_named (s ∷ ss) [] = both_named (stream_pins s None) (streams_pins ss []) (stream_inputs s) (streams_inputs ss) (stream_named s None) (streams_named ss [])
 streams_named (s ∷ ss) (r ∷ rs) = both_named (stream_pins s r) (streams_pins ss rs) (stream_inputs s) (streams_inputs ss) (stream_named s r) (streams_named ss rs)
 
-whole_named : (schema : Schema) (reset : ℕ) (rows : List (Option (List ℕ))) (end : ℕ) → pin_names (pin rst reset ∷ (streams_pins schema.streams rows ++ pin eos end ∷ [])) ≡ port_names (input_ports schema)
-whole_named schema reset rows end = ap (λ (x : List (List ℕ)). rst ∷ x) (both_named (streams_pins schema.streams rows) (pin eos end ∷ []) (streams_inputs schema.streams) (input eos 1 ∷ []) (streams_named schema.streams rows) refl)
+whole_named : (schema : Schema) (reset : ℕ) (rows : List (Option (List ℕ))) (end ticked : ℕ) → pin_names (pin rst reset ∷ (streams_pins schema.streams rows ++ pin eos end ∷ pin tick ticked ∷ [])) ≡ port_names (input_ports true schema)
+whole_named schema reset rows end ticked =
+    ap (λ (x : List (List ℕ)). rst ∷ x)
+    (both_named (streams_pins schema.streams rows) (pin eos end ∷ pin tick ticked ∷ []) (streams_inputs schema.streams) (input eos 1 ∷ input tick 1 ∷ []) (streams_named schema.streams rows) refl)
 
-pub pins_named : (schema : Schema) (beats : List Beat) (t : ℕ) → pin_names (pins schema beats t) ≡ port_names (input_ports schema)
-pins_named schema beats zero = whole_named schema 1 [] 0
-pins_named schema beats (suc n) = whole_named schema 0 (rows_at beats n) (bit (ends_at beats n))
+pub pins_named : (schema : Schema) (beats : List Beat) (t : ℕ) → pin_names (pins schema beats t) ≡ port_names (input_ports true schema)
+pins_named schema beats zero = whole_named schema 1 [] 0 0
+pins_named schema beats (suc n) = whole_named schema 0 (rows_at beats n) (bit (ends_at beats n)) (bit (ticks_at beats n))
 
 -- ---- the values
 
@@ -68,9 +70,10 @@ streams_fit [] rows h = tt
 streams_fit (s ∷ ss) [] h = absurd h
 streams_fit (s ∷ ss) (r ∷ rs) h = zip_append CanCarry (stream_inputs s) (streams_inputs ss) (stream_pins s r) (streams_pins ss rs) (stream_fits s r h.0) (streams_fit ss rs h.1)
 
-whole_fits : (schema : Schema) (reset : ℕ) (rows : List (Option (List ℕ))) (ends : Bool) → reset < 2 ^ 1 → AllZip CanCarry (streams_inputs schema.streams) (streams_pins schema.streams rows)
-    → AllZip CanCarry (input_ports schema) (pin rst reset ∷ (streams_pins schema.streams rows ++ pin eos (bit ends) ∷ []))
-whole_fits schema reset rows ends small h = (small, zip_append CanCarry (streams_inputs schema.streams) (input eos 1 ∷ []) (streams_pins schema.streams rows) (pin eos (bit ends) ∷ []) h (bit_fits ends, tt))
+whole_fits : (schema : Schema) (reset : ℕ) (rows : List (Option (List ℕ))) (ends ticks : Bool) → reset < 2 ^ 1 → AllZip CanCarry (streams_inputs schema.streams) (streams_pins schema.streams rows)
+    → AllZip CanCarry (input_ports true schema) (pin rst reset ∷ (streams_pins schema.streams rows ++ pin eos (bit ends) ∷ pin tick (bit ticks) ∷ []))
+whole_fits schema reset rows ends ticks small h =
+    (small, zip_append CanCarry (streams_inputs schema.streams) (input eos 1 ∷ input tick 1 ∷ []) (streams_pins schema.streams rows) (pin eos (bit ends) ∷ pin tick (bit ticks) ∷ []) h (bit_fits ends, (bit_fits ticks, tt)))
 
 -- what holds of each beat holds of the one of a cycle
 found_beat : (P : Beat → Type 0) (beats : List Beat) (n : ℕ) → AllByRecursion P beats → IfSome (beat_at beats n) P
@@ -82,10 +85,10 @@ found_beat P (b ∷ beats) n h = pick (b.cycle == n) (found_beat P beats n h.1)
     pick false later = later
 
 cycle_fits : (schema : Schema) (beat : Option Beat) → IfSome beat (IsBeat schema)
-    → AllZip CanCarry (input_ports schema) (pin rst 0 ∷ (streams_pins schema.streams (option_map_or (λ (b : Beat). b.rows) beat []) ++ pin eos (bit (option_map_or (λ (b : Beat). b.end) beat false)) ∷ []))
-cycle_fits schema None h = whole_fits schema 0 [] false (omega arith) (no_streams schema.streams)
-cycle_fits schema (Some b) h = whole_fits schema 0 b.rows b.end (omega arith) (streams_fit schema.streams b.rows h.rows)
+    → AllZip CanCarry (input_ports true schema) (pin rst 0 ∷ (streams_pins schema.streams (option_map_or (λ (b : Beat). b.rows) beat []) ++ pin eos (bit (option_map_or (λ (b : Beat). b.end) beat false)) ∷ pin tick (bit (option_map_or (λ (b : Beat). b.tick) beat false)) ∷ []))
+cycle_fits schema None h = whole_fits schema 0 [] false false (omega arith) (no_streams schema.streams)
+cycle_fits schema (Some b) h = whole_fits schema 0 b.rows b.end b.tick (omega arith) (streams_fit schema.streams b.rows h.rows)
 
-pub pins_fit : (schema : Schema) (beats : List Beat) (t : ℕ) → AreBeats schema beats → AllZip CanCarry (input_ports schema) (pins schema beats t)
-pins_fit schema beats zero h = whole_fits schema 1 [] false (omega arith) (no_streams schema.streams)
+pub pins_fit : (schema : Schema) (beats : List Beat) (t : ℕ) → AreBeats schema beats → AllZip CanCarry (input_ports true schema) (pins schema beats t)
+pins_fit schema beats zero h = whole_fits schema 1 [] false false (omega arith) (no_streams schema.streams)
 pins_fit schema beats (suc n) h = cycle_fits schema (beat_at beats n) (found_beat (IsBeat schema) beats n h.each)

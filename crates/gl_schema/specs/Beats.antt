@@ -1,12 +1,14 @@
--- Beats: the cycles in which tuples come, and the end.
-use Rattle.std.specs.Prelude.{ℕ, ◌+◌, ◌<◌, ◌≤◌, Bool, false, List, [], ◌∷◌, Option, None, IfSome, is_some, unwrap_or, slice_get, IsTrue, IsFalse, filter_map, find, ◌==◌}
-use Rattle.std.specs.List.{AllByRecursion, list_any}
+-- Beats: the cycles in which tuples come, ticks of the clock, and the end.
+use Rattle.std.specs.Prelude.{◌≡◌, ℕ, ◌+◌, ◌<◌, ◌≤◌, Bool, false, List, [], ◌∷◌, length, Option, None, IfSome, is_some, option_map, unwrap_or, slice_get, IsTrue, IsFalse, filter_map, find, ◌==◌}
+use Rattle.std.specs.List.{AllByRecursion, cons_option, list_any}
 use Rattle.std.specs.Option.{option_map_or}
+use Rattle.gl_bits.specs.Words.{bit}
 use Rattle.gl_schema.specs.declared.schema.Stream.{Stream}
 use Rattle.gl_schema.specs.declared.schema.Schema.{Schema}
 use Rattle.gl_schema.specs.Schemas.{IsRowOf}
 
--- a cycle with a row of some streams, one entry for each stream, or with the end
+-- a cycle with a row of some streams, one entry for each stream, with a tick, or with the end; the tick comes before the
+-- rows of its cycle
 pub record Beat : Type 0 where
   pub cycle : ℕ
   pub rows : List (Option (List ℕ))
@@ -20,11 +22,10 @@ AreRowsOf [] (r ∷ rs) = ⊥
 AreRowsOf (s ∷ ss) [] = ⊥
 AreRowsOf (s ∷ ss) (r ∷ rs) = IfSome r (IsRowOf s.columns) × AreRowsOf ss rs
 
--- a beat of a schema: its rows fit, and there is a row or the end; no schema has ticks
+-- a beat of a schema: its rows fit, and there is a row, a tick or the end
 pub record IsBeat (schema : Schema) (b : Beat) : Type 0 where
   pub rows : AreRowsOf schema.streams b.rows
-  pub some' : IsFalse b.end → IsTrue (list_any is_some b.rows)
-  pub still : IsFalse b.tick
+  pub some' : IsFalse b.end → IsFalse b.tick → IsTrue (list_any is_some b.rows)
 
 -- cycles rise, and the last beat alone has the end
 abbrev pub AreInOrder : List Beat → Type 0
@@ -45,13 +46,40 @@ row_in k b = unwrap_or (slice_get b.rows k) None
 abbrev pub input_of : ℕ → List Beat → List (List ℕ)
 input_of k beats = filter_map (row_in k) beats
 
--- what comes in to a query: the rows of each stream, by the streams' numbers
+-- how many ticks beats have
+abbrev pub ticks_of : List Beat → ℕ
+ticks_of [] = 0
+ticks_of (b ∷ bs) = bit b.tick + ticks_of bs
+
+-- behind so many ticks, the time of each row of stream k: the number of ticks up to its beat, that of the beat included
+abbrev pub times_from : ℕ → ℕ → List Beat → List ℕ
+times_from before k [] = []
+times_from before k (b ∷ bs) =
+    cons_option (option_map (λ row. before + bit b.tick) (row_in k b)) (times_from (before + bit b.tick) k bs)
+
+abbrev pub times_of : ℕ → List Beat → List ℕ
+times_of k beats = times_from 0 k beats
+
+-- what comes in to a query: the rows of each stream, by the streams' numbers, with their times, and how many ticks
 pub record Inputs : Type 0 where
   pub rows : ℕ → List (List ℕ)
+  pub times : ℕ → List ℕ
+  pub ticks : ℕ
 
 -- the inputs that beats bring
 abbrev pub inputs_of : List Beat → Inputs
-inputs_of beats = record { rows = λ k. input_of k beats }
+inputs_of beats = record { rows = λ k. input_of k beats; times = λ k. times_of k beats; ticks = ticks_of beats }
+
+-- no time is above a later one
+abbrev pub NeverFall : List ℕ → Type 0
+NeverFall [] = Unit {0}
+NeverFall (t ∷ ts) = AllByRecursion (λ s. t ≤ s) ts × NeverFall ts
+
+-- each row of a stream has a time, in their order, and none is above the number of ticks
+pub record HaveTimes (inputs : Inputs) : Type 0 where
+  pub each : (k : ℕ) → length (inputs.times k) ≡ length (inputs.rows k)
+  pub order : (k : ℕ) → NeverFall (inputs.times k)
+  pub last : (k : ℕ) → AllByRecursion (λ t. t ≤ inputs.ticks) (inputs.times k)
 
 -- the cycle of the last beat
 abbrev pub last_cycle : List Beat → ℕ
@@ -69,9 +97,13 @@ KeepsGap gap (b ∷ c ∷ bs) = (b.cycle + gap ≤ c.cycle) × KeepsGap gap (c �
 abbrev pub beat_at : List Beat → ℕ → Option Beat
 beat_at beats n = find (λ b. b.cycle == n) beats
 
--- what comes in a cycle: the rows of its beat, one entry for each stream or none at all, and whether the end does
+-- what comes in a cycle: the rows of its beat, one entry for each stream or none at all, whether the end does, and
+-- whether a tick does
 abbrev pub rows_at : List Beat → ℕ → List (Option (List ℕ))
 rows_at beats n = option_map_or (λ b. b.rows) (beat_at beats n) []
 
 abbrev pub ends_at : List Beat → ℕ → Bool
 ends_at beats n = option_map_or (λ b. b.end) (beat_at beats n) false
+
+abbrev pub ticks_at : List Beat → ℕ → Bool
+ticks_at beats n = option_map_or (λ b. b.tick) (beat_at beats n) false

@@ -6,14 +6,17 @@ use Rattle.gl_bits.specs.Words.{bit}
 use Rattle.gl_schema.specs.declared.schema.Column.{Column}
 use Rattle.gl_schema.specs.declared.schema.Stream.{Stream}
 use Rattle.gl_schema.specs.declared.schema.Schema.{Schema}
-use Rattle.gl_schema.specs.Beats.{Beat, rows_at, ends_at}
+use Rattle.gl_schema.specs.Beats.{Beat, rows_at, ends_at, ticks_at}
 
--- the names of the ports: reset and the end of the input
+-- the names of the ports: reset, the end of the input, and a tick
 unfoldable pub rst : List ℕ
 rst = codes "rst"
 
 unfoldable pub eos : List ℕ
 eos = codes "eos"
+
+unfoldable pub tick : List ℕ
+tick = codes "tick"
 
 -- of a stream: whether a tuple comes, and its columns
 unfoldable pub in_valid : List ℕ → List ℕ
@@ -65,9 +68,11 @@ streams_pins (s ∷ ss) (r ∷ rs) = stream_pins s r ++ streams_pins ss rs
 
 -- all input ports but the clock, with their values in a simulation cycle: in reset rst alone is 1
 abbrev pub pins : Schema → List Beat → ℕ → List Pin
-pins schema beats zero = pin rst 1 ∷ (streams_pins schema.streams [] ++ pin eos 0 ∷ [])
+pins schema beats zero = pin rst 1 ∷ (streams_pins schema.streams [] ++ pin eos 0 ∷ pin tick 0 ∷ [])
 pins schema beats (suc n) =
-    pin rst 0 ∷ (streams_pins schema.streams (rows_at beats n) ++ pin eos (bit (ends_at beats n)) ∷ [])
+    pin rst 0 ∷ (streams_pins schema.streams (rows_at beats n) ++ pin eos (bit (ends_at beats n)) ∷ pin tick
+    (bit (ticks_at beats n))
+    ∷ [])
 
 -- their names
 abbrev pub pin_names : List Pin → List (List ℕ)

@@ -1,10 +1,10 @@
 -- The profile: the ports by which a module takes the beats of a schema and shows a result, in order, the clock aside.
-use Rattle.std.specs.Prelude.{ℕ, ◌<◌, ◌^◌, List, [], ◌∷◌, ◌++◌, map, codes}
+use Rattle.std.specs.Prelude.{ℕ, ◌<◌, ◌^◌, Bool, true, false, List, [], ◌∷◌, ◌++◌, map, codes}
 use Rattle.gl_bits.specs.Kinds.{width_of}
 use Rattle.gl_schema.specs.declared.schema.Column.{Column}
 use Rattle.gl_schema.specs.declared.schema.Stream.{Stream}
 use Rattle.gl_schema.specs.declared.schema.Schema.{Schema}
-use Rattle.gl_schema.specs.Ports.{rst, eos, in_valid, in_column, out_valid, out_column, out_eos, fault_group, fault_queue, Pin}
+use Rattle.gl_schema.specs.Ports.{rst, eos, tick, in_valid, in_column, out_valid, out_column, out_eos, fault_group, fault_queue, Pin}
 
 -- the name of the clock
 unfoldable pub clk : List ℕ
@@ -39,9 +39,14 @@ abbrev pub streams_inputs : List Stream → List ProfilePort
 streams_inputs [] = []
 streams_inputs (s ∷ ss) = stream_inputs s ++ streams_inputs ss
 
--- all inputs of a schema: reset, those of the streams, and the end
-abbrev pub input_ports : Schema → List ProfilePort
-input_ports schema = input rst 1 ∷ (streams_inputs schema.streams ++ input eos 1 ∷ [])
+-- the tick, where it is asked for
+abbrev pub tick_input : Bool → List ProfilePort
+tick_input true = input tick 1 ∷ []
+tick_input false = []
+
+-- all inputs of a schema: reset, those of the streams, the end, and the tick where it is asked for
+abbrev pub input_ports : Bool → Schema → List ProfilePort
+input_ports ticks schema = input rst 1 ∷ (streams_inputs schema.streams ++ input eos 1 ∷ tick_input ticks)
 
 -- an output for each column of a result
 abbrev pub column_outputs : List Column → List ProfilePort
@@ -53,8 +58,8 @@ output_ports columns =
     output out_valid 1 ∷ (column_outputs columns ++ output out_eos 1 ∷ output fault_group 1 ∷ output fault_queue 1 ∷ [])
 
 -- all ports but the clock
-abbrev pub profile : Schema → List Column → List ProfilePort
-profile schema columns = input_ports schema ++ output_ports columns
+abbrev pub profile : Bool → Schema → List Column → List ProfilePort
+profile ticks schema columns = input_ports ticks schema ++ output_ports columns
 
 -- their names
 abbrev pub port_names : List ProfilePort → List (List ℕ)

@@ -6,6 +6,7 @@
 //! do not.
 #![tactic(auto)]
 
+pub mod beats;
 pub mod fault;
 pub mod kind;
 mod lexing;
@@ -17,6 +18,7 @@ pub mod schema;
 pub mod text;
 pub mod value;
 
+pub use beats::rows_have_times;
 pub use fault::SchemaFault;
 pub use kind::{kind_front, kind_named, kind_size};
 pub use name::is_name;

@@ -9,7 +9,7 @@ use Rattle.gl_bits.specs.Words.{bit}
 use Rattle.gl_schema.specs.declared.schema.Column.{Column}
 use Rattle.gl_schema.specs.declared.schema.Stream.{Stream}
 use Rattle.gl_schema.specs.declared.schema.Schema.{Schema}
-use Rattle.gl_schema.specs.Ports.{rst, eos, in_valid, in_column, Pin, pin, column_pins, stream_pins, streams_pins}
+use Rattle.gl_schema.specs.Ports.{rst, eos, tick, in_valid, in_column, Pin, pin, column_pins, stream_pins, streams_pins}
 use Rattle.gl_testbench.specs.declared.pins.Pin.{Pin as Carried}
 use Rattle.gl_testbench.specs.declared.pins.Pin.TheVariants as is
 use Rattle.gl_testbench.specs.Carried.{first_known, column_pin, stream_pin, pin_named, row_among, carried}
@@ -58,18 +58,18 @@ or_found : (R : Fact) (name : List ℕ) (w : ℕ) (f : Carried → ℕ) (a b : C
 or_found R name w f a b ips ps ips' ps' (inl found) go = subst (λ (q : Carried). Finds R name w (f q) q ips ps) (sym (found.0 b)) (inl found)
 or_found R name w f a b ips ps ips' ps' (inr behind) go = subst (λ (q : Carried). Finds R name w (f (first_known q b)) (first_known q b) ips ps) (sym behind.0) (go behind.1 behind.2)
 
-found_column : (R : Fact) (name stream : List ℕ) (reset : ℕ) (rows : List (Option (List ℕ))) (ends : Bool) (k c : ℕ) (xs : List Column) (ips : List ProfilePort) (ps : List Pin) (w : ℕ)
+found_column : (R : Fact) (name stream : List ℕ) (reset : ℕ) (rows : List (Option (List ℕ))) (ends ticks : Bool) (k c : ℕ) (xs : List Column) (ips : List ProfilePort) (ps : List Pin) (w : ℕ)
     → AllZip (OfBoth R) (column_inputs stream xs ++ ips) (column_pins stream xs (drop c (unwrap_or (row_among rows k) [])) ++ ps)
     → width_in name (column_inputs stream xs ++ ips) ≡ Some w
-    → Finds R name w (carried reset rows ends (column_pin name stream k c xs)) (column_pin name stream k c xs) ips ps
-found_column R name stream reset rows ends k c [] ips ps w z e = inr (refl, z, e)
-found_column R name stream reset rows ends k c (x ∷ xs) ips ps w z e =
+    → Finds R name w (carried reset rows ends ticks (column_pin name stream k c xs)) (column_pin name stream k c xs) ips ps
+found_column R name stream reset rows ends ticks k c [] ips ps w z e = inr (refl, z, e)
+found_column R name stream reset rows ends ticks k c (x ∷ xs) ips ps w z e =
     let row : List ℕ = unwrap_or (row_among rows k) [] in
     let both : AllZip (OfBoth R) (column_inputs stream (x ∷ xs) ++ ips) ((pin (in_column stream x.name) (slice_index row c) ∷ column_pins stream xs (drop (suc c) row)) ++ ps) =
     subst (λ (ps' : List Pin). AllZip (OfBoth R) (column_inputs stream (x ∷ xs) ++ ips) (ps' ++ ps)) (column_pins-at stream x xs row c) z in
-    pick_found R name (in_column stream x.name) (width_of x.kind) (slice_index row c) w (carried reset rows ends) (is.Column k c) (column_pin name stream k (c + 1) xs) ips ps
+    pick_found R name (in_column stream x.name) (width_of x.kind) (slice_index row c) w (carried reset rows ends ticks) (is.Column k c) (column_pin name stream k (c + 1) xs) ips ps
     (column_inputs stream xs ++ ips) (column_pins stream xs (drop (suc c) row) ++ ps) (bytes_eq (in_column stream x.name) name) refl (λ other. refl) refl both.0 both.1 e
-    (λ z' e'. found_column R name stream reset rows ends k (c + 1) xs ips ps w (subst (λ (j : ℕ). AllZip (OfBoth R) (column_inputs stream xs ++ ips) (column_pins stream xs (drop j row) ++ ps)) (sym (add-one c)) z') e')
+    (λ z' e'. found_column R name stream reset rows ends ticks k (c + 1) xs ips ps w (subst (λ (j : ℕ). AllZip (OfBoth R) (column_inputs stream xs ++ ips) (column_pins stream xs (drop j row) ++ ps)) (sym (add-one c)) z') e')
 
 streams_pins-at : (s : Stream) (ss : List Stream) (rows : List (Option (List ℕ))) (k : ℕ) → streams_pins (s ∷ ss) (drop k rows) ≡ stream_pins s (row_among rows k) ++ streams_pins ss (drop (suc k) rows)
 streams_pins-at s ss [] zero = refl
@@ -77,12 +77,12 @@ streams_pins-at s ss [] (suc k) = refl
 streams_pins-at s ss (r ∷ rows) zero = refl
 streams_pins-at s ss (r ∷ rows) (suc k) = streams_pins-at s ss rows k
 
-found_stream : (R : Fact) (name : List ℕ) (reset : ℕ) (rows : List (Option (List ℕ))) (ends : Bool) (k : ℕ) (ss : List Stream) (ips : List ProfilePort) (ps : List Pin) (w : ℕ)
+found_stream : (R : Fact) (name : List ℕ) (reset : ℕ) (rows : List (Option (List ℕ))) (ends ticks : Bool) (k : ℕ) (ss : List Stream) (ips : List ProfilePort) (ps : List Pin) (w : ℕ)
     → AllZip (OfBoth R) (streams_inputs ss ++ ips) (streams_pins ss (drop k rows) ++ ps)
     → width_in name (streams_inputs ss ++ ips) ≡ Some w
-    → Finds R name w (carried reset rows ends (stream_pin name k ss)) (stream_pin name k ss) ips ps
-found_stream R name reset rows ends k [] ips ps w z e = inr (refl, z, e)
-found_stream R name reset rows ends k (s ∷ ss) ips ps w z e =
+    → Finds R name w (carried reset rows ends ticks (stream_pin name k ss)) (stream_pin name k ss) ips ps
+found_stream R name reset rows ends ticks k [] ips ps w z e = inr (refl, z, e)
+found_stream R name reset rows ends ticks k (s ∷ ss) ips ps w z e =
     let row : Option (List ℕ) = row_among rows k in
     let inputs : List ProfilePort = column_inputs s.name s.columns in
     let values : List Pin = column_pins s.name s.columns (unwrap_or row []) in
@@ -95,37 +95,41 @@ found_stream R name reset rows ends k (s ∷ ss) ips ps w z e =
     let both : AllZip (OfBoth R) (valid ∷ (inputs ++ inputs')) (comes ∷ (values ++ values')) =
     subst (λ (xs : List ProfilePort). AllZip (OfBoth R) xs (comes ∷ (values ++ values'))) same_inputs (subst (λ (xs : List Pin). AllZip (OfBoth R) (((valid ∷ inputs) ++ streams_inputs ss) ++ ips) xs) same_values z) in
     let width : width_in name (valid ∷ (inputs ++ inputs')) ≡ Some w = subst (λ (xs : List ProfilePort). width_in name xs ≡ Some w) same_inputs e in
-    pick_found R name (in_valid s.name) 1 (bit (is_some row)) w (carried reset rows ends) (is.Valid k) (first_known (column_pin name s.name k 0 s.columns) (stream_pin name (k + 1) ss)) ips ps
+    pick_found R name (in_valid s.name) 1 (bit (is_some row)) w (carried reset rows ends ticks) (is.Valid k) (first_known (column_pin name s.name k 0 s.columns) (stream_pin name (k + 1) ss)) ips ps
     (inputs ++ inputs') (values ++ values') (bytes_eq (in_valid s.name) name) refl (λ other. refl) refl both.0 both.1 width
-    (λ z' e'. or_found R name w (carried reset rows ends) (column_pin name s.name k 0 s.columns) (stream_pin name (k + 1) ss) ips ps inputs' values'
-    (found_column R name s.name reset rows ends k 0 s.columns inputs' values' w z' e')
-    (λ z'' e''. found_stream R name reset rows ends (k + 1) ss ips ps w (subst (λ (j : ℕ). AllZip (OfBoth R) (streams_inputs ss ++ ips) (streams_pins ss (drop j rows) ++ ps)) (sym (add-one k)) z'') e''))
+    (λ z' e'. or_found R name w (carried reset rows ends ticks) (column_pin name s.name k 0 s.columns) (stream_pin name (k + 1) ss) ips ps inputs' values'
+    (found_column R name s.name reset rows ends ticks k 0 s.columns inputs' values' w z' e')
+    (λ z'' e''. found_stream R name reset rows ends ticks (k + 1) ss ips ps w (subst (λ (j : ℕ). AllZip (OfBoth R) (streams_inputs ss ++ ips) (streams_pins ss (drop j rows) ++ ps)) (sym (add-one k)) z'') e''))
 
 -- all input ports but the clock with these on them
-abbrev pub pins_with : Schema → ℕ → List (Option (List ℕ)) → Bool → List Pin
-pins_with schema reset rows ends = pin rst reset ∷ (streams_pins schema.streams rows ++ pin eos (bit ends) ∷ [])
+abbrev pub pins_with : Schema → ℕ → List (Option (List ℕ)) → Bool → Bool → List Pin
+pins_with schema reset rows ends ticks = pin rst reset ∷ (streams_pins schema.streams rows ++ pin eos (bit ends) ∷ pin tick (bit ticks) ∷ [])
 
-pub found : (R : Fact) (schema : Schema) (name : List ℕ) (reset : ℕ) (rows : List (Option (List ℕ))) (ends : Bool) (w : ℕ)
-    → AllZip (OfBoth R) (input_ports schema) (pins_with schema reset rows ends) → input_width schema name ≡ Some w
-    → R w name (carried reset rows ends (pin_named schema name))
-found R schema name reset rows ends w z e =
-    known (pick_found R name rst 1 reset w (carried reset rows ends) is.Reset (first_known (stream_pin name 0 schema.streams) last) [] []
-    (streams_inputs schema.streams ++ ends_input) (streams_pins schema.streams rows ++ ends_pin) (bytes_eq rst name) refl (λ other. refl) refl z.0 z.1 e
-    (λ z' e'. or_found R name w (carried reset rows ends) (stream_pin name 0 schema.streams) last [] [] ends_input ends_pin
-    (found_stream R name reset rows ends 0 schema.streams ends_input ends_pin w z' e')
-    (λ z'' e''. pick_found R name eos 1 (bit ends) w (carried reset rows ends) is.End is.Unknown [] [] [] [] (bytes_eq eos name) refl (λ other. refl) refl z''.0 tt e''
-    (λ z3 e3. absurd cc))))
+pub found : (R : Fact) (schema : Schema) (name : List ℕ) (reset : ℕ) (rows : List (Option (List ℕ))) (ends ticks : Bool) (w : ℕ)
+    → AllZip (OfBoth R) (input_ports true schema) (pins_with schema reset rows ends ticks) → input_width schema name ≡ Some w
+    → R w name (carried reset rows ends ticks (pin_named schema name))
+found R schema name reset rows ends ticks w z e =
+    known (pick_found R name rst 1 reset w (carried reset rows ends ticks) is.Reset (first_known (stream_pin name 0 schema.streams) last) [] []
+    (streams_inputs schema.streams ++ last_inputs) (streams_pins schema.streams rows ++ last_pins) (bytes_eq rst name) refl (λ other. refl) refl z.0 z.1 e
+    (λ z' e'. or_found R name w (carried reset rows ends ticks) (stream_pin name 0 schema.streams) last [] [] last_inputs last_pins
+    (found_stream R name reset rows ends ticks 0 schema.streams last_inputs last_pins w z' e')
+    (λ z'' e''. pick_found R name eos 1 (bit ends) w (carried reset rows ends ticks) is.End tick_pin [] [] (input tick 1 ∷ []) (pin tick (bit ticks) ∷ []) (bytes_eq eos name) refl (λ other. refl) refl z''.0 z''.1 e''
+    (λ z3 e3. pick_found R name tick 1 (bit ticks) w (carried reset rows ends ticks) is.Tick is.Unknown [] [] [] [] (bytes_eq tick name) refl (λ other. refl) refl z3.0 tt e3
+    (λ z4 e4. absurd cc)))))
   where
+    tick_pin : Carried
+    tick_pin = if bytes_eq tick name then is.Tick else is.Unknown
+
     last : Carried
-    last = if bytes_eq eos name then is.End else is.Unknown
+    last = if bytes_eq eos name then is.End else tick_pin
 
-    ends_input : List ProfilePort
-    ends_input = input eos 1 ∷ []
+    last_inputs : List ProfilePort
+    last_inputs = input eos 1 ∷ input tick 1 ∷ []
 
-    ends_pin : List Pin
-    ends_pin = pin eos (bit ends) ∷ []
+    last_pins : List Pin
+    last_pins = pin eos (bit ends) ∷ pin tick (bit ticks) ∷ []
 
-    known : Finds R name w (carried reset rows ends (pin_named schema name)) (pin_named schema name) [] [] → R w name (carried reset rows ends (pin_named schema name))
+    known : Finds R name w (carried reset rows ends ticks (pin_named schema name)) (pin_named schema name) [] [] → R w name (carried reset rows ends ticks (pin_named schema name))
     known (inl h) = h.1
     known (inr h) = let none : width_in name [] ≡ Some w = h.2 in absurd cc
 

@@ -4,7 +4,7 @@ use Rattle.std.specs.Prelude.{slice_get, IfSome, if◌then◌else◌}
 use Rattle.std.specs.Option.{option_and_then, option_map, option_map_or}
 use Rattle.std.specs.List.{AllByRecursion, AllZip}
 use Rattle.gl_schema.specs.declared.schema.Schema.{Schema}
-use Rattle.gl_schema.specs.Beats.{Beat, AreBeats, beat_at, rows_at, ends_at}
+use Rattle.gl_schema.specs.Beats.{Beat, AreBeats, beat_at, rows_at, ends_at, ticks_at}
 use Rattle.gl_schema.specs.Ports.{Pin, pins, IsStimulus}
 use Rattle.gl_verilog.specs.Module.{Module, Declaration, Input, Nets, number_of}
 use Rattle.gl_verilog.specs.Run.{input_values, input_number, is_input_at}
@@ -35,9 +35,9 @@ carried_at beats zero p = at_reset p
 carried_at beats (suc n) p = with_beat (beat_at beats n) p
 
 -- a fact of all of the schema's ports holds of what an input port carries
-pub found_at : (R : Fact) (schema : Schema) (beats : List Beat) (t : ℕ) (name : List ℕ) (w : ℕ) → AllZip (OfBoth R) (input_ports schema) (pins schema beats t) → input_width schema name ≡ Some w → R w name (carried_at beats t (pin_named schema name))
-found_at R schema beats zero name w z e = found R schema name 1 [] false w z e
-found_at R schema beats (suc n) name w z e = found R schema name 0 (rows_at beats n) (ends_at beats n) w z e
+pub found_at : (R : Fact) (schema : Schema) (beats : List Beat) (t : ℕ) (name : List ℕ) (w : ℕ) → AllZip (OfBoth R) (input_ports true schema) (pins schema beats t) → input_width schema name ≡ Some w → R w name (carried_at beats t (pin_named schema name))
+found_at R schema beats zero name w z e = found R schema name 1 [] false false w z e
+found_at R schema beats (suc n) name w z e = found R schema name 0 (rows_at beats n) (ends_at beats n) (ticks_at beats n) w z e
 
 -- the input port of a name
 pub input_there : (m : Module) (n : ℕ) (d : Declaration) → slice_get m.declarations n ≡ Some d → d.kind ≡ Input → number_of (ports_of m) d.name ≡ Some n → input_number m d.name ≡ Some n
@@ -80,7 +80,7 @@ input_carries schema m beats value t valid among fits are stimulus n p =
     let a = is_asked schema m n valid among fits p in
     let carries : IfSome (input_values m value t a.d.name) (λ v. v ≡ carried_at beats t (pin_named schema a.d.name)) =
     found_at (λ w name x. IfSome (input_values m value t name) (λ v. v ≡ x)) schema beats t a.d.name a.d.width
-    (zip_all (OfBoth IsNarrow) (λ (q : Pin). IfSome (input_values m value t q.name) (λ v. v ≡ q.value)) (input_ports schema) (pins schema beats t) (pins_fit schema beats t are) (stimulus.carries t)) a.width in
+    (zip_all (OfBoth IsNarrow) (λ (q : Pin). IfSome (input_values m value t q.name) (λ v. v ≡ q.value)) (input_ports true schema) (pins schema beats t) (pins_fit schema beats t are) (stimulus.carries t)) a.width in
     let there : value t n ≡ carried_at beats t (pin_named schema a.d.name) =
     subst (λ (o : Option ℕ). IfSome (option_map (value t) o) (λ v. v ≡ carried_at beats t (pin_named schema a.d.name))) a.number carries in
     there ∙ sym (ap (carried_at beats t) (pin_is schema m n a.d a.there))

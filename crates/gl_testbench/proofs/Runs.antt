@@ -88,7 +88,7 @@ module _ (m : Module) (schema : Schema) (valid : IsValid m) (is : IsSchema schem
           ∙ ap (λ (b : Bool). if b then carried_at beats t (pin_named schema d.name) else 0) takes in
           let value : carried_at beats t (pin_named schema d.name) ≡ p.value =
           found_at (λ w x y. x ≡ p.name → y ≡ p.value) schema beats t d.name d.width
-          (zip_all (OfBoth IsNarrow) (λ (q : Pin). q.name ≡ p.name → q.value ≡ p.value) (input_ports schema) (pins schema beats t) (pins_fit schema beats t are) one)
+          (zip_all (OfBoth IsNarrow) (λ (q : Pin). q.name ≡ p.name → q.value ≡ p.value) (input_ports true schema) (pins schema beats t) (pins_fit schema beats t are) one)
           (asked_port m schema ports n d fit at.there at.way no_clock) name in
           sym (same n d there (kind_is_input d.kind at.way) no_clock) ∙ here ∙ value
 

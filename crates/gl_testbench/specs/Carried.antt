@@ -6,7 +6,7 @@ use Rattle.gl_schema.specs.declared.schema.Column.{Column}
 use Rattle.gl_schema.specs.declared.schema.Stream.{Stream}
 use Rattle.gl_schema.specs.declared.schema.Schema.{Schema}
 use Rattle.gl_schema.specs.Beats.{Beat}
-use Rattle.gl_schema.specs.Ports.{rst, eos, in_valid, in_column}
+use Rattle.gl_schema.specs.Ports.{rst, eos, tick, in_valid, in_column}
 use Rattle.gl_verilog.specs.Module.{Declaration}
 use Rattle.gl_testbench.specs.declared.pins.Pin.{Pin}
 use Rattle.gl_testbench.specs.declared.pins.Pin.TheVariants as pin_is
@@ -33,7 +33,7 @@ stream_pin name k (s ∷ ss) =
 abbrev pub pin_named : Schema → List ℕ → Pin
 pin_named schema name =
     if bytes_eq rst name then pin_is.Reset else first_known (stream_pin name 0 schema.streams)
-    (if bytes_eq eos name then pin_is.End else pin_is.Unknown)
+    (if bytes_eq eos name then pin_is.End else if bytes_eq tick name then pin_is.Tick else pin_is.Unknown)
 
 -- the name of the declaration with this number
 abbrev pub name_at : List Declaration → ℕ → List ℕ
@@ -46,18 +46,21 @@ pin_at schema ds n = pin_named schema (name_at ds n)
 abbrev pub row_among : List (Option (List ℕ)) → ℕ → Option (List ℕ)
 row_among rows k = unwrap_or (slice_get rows k) None
 
--- what a pin carries, given the reset line, the rows of the streams, and whether the end comes
-abbrev pub carried : ℕ → List (Option (List ℕ)) → Bool → Pin → ℕ
-carried reset rows ends pin_is.Reset = reset
-carried reset rows ends (pin_is.Valid k) = bit (is_some (row_among rows k))
-carried reset rows ends (pin_is.Column k c) = slice_index (unwrap_or (row_among rows k) []) c
-carried reset rows ends pin_is.End = bit ends
-carried reset rows ends pin_is.Unknown = 0
+-- what a pin carries, given the reset line, the rows of the streams, whether the end comes, and whether a tick does
+abbrev pub carried : ℕ → List (Option (List ℕ)) → Bool → Bool → Pin → ℕ
+carried reset rows ends ticks pin_is.Reset = reset
+carried reset rows ends ticks (pin_is.Valid k) = bit (is_some (row_among rows k))
+carried reset rows ends ticks (pin_is.Column k c) = slice_index (unwrap_or (row_among rows k) []) c
+carried reset rows ends ticks pin_is.End = bit ends
+carried reset rows ends ticks pin_is.Tick = bit ticks
+carried reset rows ends ticks pin_is.Unknown = 0
 
 -- in the cycle of the reset
 abbrev pub at_reset : Pin → ℕ
-at_reset p = carried 1 [] false p
+at_reset p = carried 1 [] false false p
 
 -- in a cycle with this beat, or with none
 abbrev pub with_beat : Option Beat → Pin → ℕ
-with_beat beat p = carried 0 (option_map_or (λ b. b.rows) beat []) (option_map_or (λ b. b.end) beat false) p
+with_beat beat p =
+    carried 0 (option_map_or (λ b. b.rows) beat []) (option_map_or (λ b. b.end) beat false)
+    (option_map_or (λ b. b.tick) beat false) p

@@ -27,6 +27,8 @@ pub enum Pin {
     Column(usize, usize),
     /// The end of the input.
     End,
+    /// Whether a tick comes.
+    Tick,
     /// Nothing that the beats tell of.
     Unknown,
 }
@@ -76,7 +78,7 @@ fn stream_pin_of(streams: &[Stream], name: &[u8]) -> Pin
 }
 
 /// What an input port carries, by its name.
-#[tactic(auto, unfolding(gl_schema::specs::Ports::rst, gl_schema::specs::Ports::eos))]
+#[tactic(auto, unfolding(gl_schema::specs::Ports::rst, gl_schema::specs::Ports::eos, gl_schema::specs::Ports::tick))]
 pub fn pin_of(schema: &Schema, name: &[u8]) -> Pin
     ensures { result ≡ pin_named schema.now name.now }
 {
@@ -85,6 +87,7 @@ pub fn pin_of(schema: &Schema, name: &[u8]) -> Pin
     }
     match stream_pin_of(schema.streams.as_slice(), name) {
         Pin::Unknown if b"eos".as_slice() == name => Pin::End,
+        Pin::Unknown if b"tick".as_slice() == name => Pin::Tick,
         pin => pin,
     }
 }
@@ -114,6 +117,7 @@ pub fn value_of(pin: Pin, beat: Option<&BeatView<'_>>) -> u128
             None => 0,
         },
         Pin::End => u128::from(beat.ends()),
+        Pin::Tick => u128::from(beat.ticks()),
         Pin::Reset | Pin::Unknown => 0,
     }
 }

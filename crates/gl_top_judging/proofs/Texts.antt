@@ -129,6 +129,7 @@ tuples_told (tuples.UnknownStream n) read f = inr (refl, f)
 tuples_told (tuples.FieldCount n) read f = inr (refl, f)
 tuples_told (tuples.BadValue n) read f = inr (refl, f)
 tuples_told (tuples.StreamTwice n) read f = inr (refl, f)
+tuples_told (tuples.TickTwice n) read f = inr (refl, f)
 tuples_told (tuples.AfterEnd n) read f = inr (refl, f)
 tuples_told (tuples.TooClose n) read f = inr (refl, f)
 
@@ -193,5 +194,6 @@ kept_bad s gap v (tuples.UnknownStream n) f = unkept s gap v (tuples.UnknownStre
 kept_bad s gap v (tuples.FieldCount n) f = unkept s gap v (tuples.FieldCount n) f
 kept_bad s gap v (tuples.BadValue n) f = unkept s gap v (tuples.BadValue n) f
 kept_bad s gap v (tuples.StreamTwice n) f = unkept s gap v (tuples.StreamTwice n) f
+kept_bad s gap v (tuples.TickTwice n) f = unkept s gap v (tuples.TickTwice n) f
 kept_bad s gap v (tuples.AfterEnd n) f = unkept s gap v (tuples.AfterEnd n) f
 kept_bad s gap v (tuples.TooClose n) f = unkept s gap v (tuples.TooClose n) f

@@ -142,6 +142,7 @@ pub fn tuples_kind(fault: &TupleFault) -> &'static [u8]
         TupleFault::FieldCount { .. } => b"FieldCount",
         TupleFault::BadValue { .. } => b"BadValue",
         TupleFault::StreamTwice { .. } => b"StreamTwice",
+        TupleFault::TickTwice { .. } => b"TickTwice",
         TupleFault::AfterEnd { .. } => b"AfterEnd",
         TupleFault::TooClose { .. } => b"TooClose",
         TupleFault::Memory => b"Memory",
@@ -161,6 +162,7 @@ pub fn tuples_record(fault: &TupleFault) -> u64
         | TupleFault::FieldCount { number }
         | TupleFault::BadValue { number }
         | TupleFault::StreamTwice { number }
+        | TupleFault::TickTwice { number }
         | TupleFault::AfterEnd { number }
         | TupleFault::TooClose { number } => *number,
         TupleFault::Memory => 0,

@@ -1,18 +1,22 @@
 -- Beats while records are added.
 use Rattle.std.proofs.Common.{◌≡◌, ℕ, ◌+◌, Bool, true, false, cond, List, [], ◌∷◌, ◌++◌, length, Option, Some, None, Result, Ok, Err, refl, sym, ap, ◌∙◌, subst, arith, append_assoc}
-use Rattle.std.specs.Prelude.{replicate, ◌==◌}
+use Rattle.std.specs.Prelude.{IfSome, replicate, ◌==◌}
 use Rattle.std.proofs.lemmas.List.{length-replicate, length-set}
 use Rattle.gl_bits.specs.Words.{Word}
 use Rattle.gl_tuples.specs.declared.beats.Beat.{Beat}
 use Rattle.gl_tuple_reader.specs.declared.entry.Entry.{Entry}
-use Rattle.gl_tuple_reader.specs.declared.entry.Entry.TheVariants.{Tuple, End}
-use Rattle.gl_tuples.specs.declared.fault.TupleFault.TheVariants.{StreamTwice}
+use Rattle.gl_tuple_reader.specs.declared.entry.Entry.TheVariants.{Tuple, Tick, End}
+use Rattle.gl_tuples.specs.declared.fault.TupleFault.TheVariants.{StreamTwice, TickTwice}
 use Rattle.gl_schema.specs.declared.schema.Schema.{Schema}
 use Rattle.gl_tuples.specs.declared.fault.TupleFault.{TupleFault}
 use Rattle.gl_tuple_reader.specs.declared.filing.Filing.{Filing}
 use Rattle.gl_tuple_reader.specs.Entries.{Fails, ◌>>=◌, text_checked, cycle_of, entry_of}
-use Rattle.gl_tuple_reader.specs.Filing.{HasRows, IsEntry, beat_of, beat_with, empty_beat, whole_before, open_checked, cycle_checked, has_row, filing_after, next_filing, no_records, ended, beats_of}
+use Rattle.gl_tuple_reader.specs.Filing.{beat_of, beat_with, empty_beat, grown_before, open_checked, cycle_checked, has_row, filing_after, next_filing, no_records, ended, beats_of}
 use Rattle.gl_tuple_reader.proofs.Fields.{fails_then}
+
+-- the current beat has one entry for each stream
+abbrev pub HasRows : ℕ → Option Beat → Type 0
+HasRows streams current = IfSome current (λ b. length b.rows ≡ streams)
 
 no_rows_long : (streams : ℕ) → length (replicate {A = Option (List Word)} streams None) ≡ streams
 no_rows_long streams = length-replicate streams None
@@ -25,9 +29,6 @@ beat_if streams cycle number beat false h = no_rows_long streams
 pub beat_long : (streams cycle number : ℕ) (current : Option Beat) → HasRows streams current → length (beat_of streams cycle number current).rows ≡ streams
 beat_long streams cycle number None h = no_rows_long streams
 beat_long streams cycle number (Some beat) h = beat_if streams cycle number beat (beat.cycle == cycle) h
-
-pub entry_of_beat : (streams cycle number : ℕ) (current : Option Beat) (entry : Entry) (beat : Beat) → HasRows streams current → IsEntry streams entry → beat_of streams cycle number current ≡ beat → IsEntry (length beat.rows) entry
-entry_of_beat streams cycle number current entry beat h is e = subst (λ (n : ℕ). IsEntry n entry) (sym (ap (λ (b : Beat). length b.rows) (sym e) ∙ beat_long streams cycle number current h)) is
 
 pub pair_second : {A B : Type 0} (a c : A) (b d : B) → ◌≡◌ {A = Result (A × B) TupleFault} (Ok (a, b)) (Ok (c, d)) → b ≡ d
 pair_second a c b d e = ap (λ r. second_of r b) e
@@ -53,7 +54,7 @@ pub record Next (schema : Schema) (f : Filing) (fields : List (List ℕ)) (g : F
   pub rises : cycle_checked (f.records + 1) cycle f.current ≡ Ok tt
   pub entered : entry_of (f.records + 1) schema fields ≡ Ok entry
   pub filled : beat_with (f.records + 1) (beat_of (length schema.streams) cycle (f.records + 1) f.current) entry ≡ Ok beat
-  pub is : record { whole = whole_before cycle f.whole f.current; current = Some beat; records = f.records + 1 } ≡ g
+  pub is : record { whole = grown_before cycle f.whole f.current; current = Some beat; records = f.records + 1 } ≡ g
 
 pub next_tells : (schema : Schema) (f : Filing) (fields : List (List ℕ)) (g : Filing) → next_filing schema f fields ≡ Ok g → Next schema f fields g
 unfolding next_filing
@@ -73,6 +74,7 @@ guard_ok false e x y h = (refl, ok_is x y h)
 -- an entry changes no number of rows
 pub filled_long : (number : ℕ) (beat : Beat) (entry : Entry) (full : Beat) → beat_with number beat entry ≡ Ok full → length full.rows ≡ length beat.rows
 filled_long number beat End full h = ap (λ (b : Beat). length b.rows) (sym (ok_is _ full h))
+filled_long number beat Tick full h = let p = guard_ok beat.tick (TickTwice number) _ full h in ap (λ (b : Beat). length b.rows) (sym p.1)
 filled_long number beat (Tuple k row) full h = let p = guard_ok (has_row beat.rows k) (StreamTwice number) _ full h in
     ap (λ (b : Beat). length b.rows) (sym p.1) ∙ length-set beat.rows k (Some row)
 
@@ -80,12 +82,7 @@ pub next_rows : (schema : Schema) (f : Filing) (fields : List (List ℕ)) (g : F
 next_rows schema f fields g h n = subst (λ (g : Filing). HasRows (length schema.streams) g.current) n.is
     (filled_long (f.records + 1) (beat_of (length schema.streams) n.cycle (f.records + 1) f.current) n.entry n.beat n.filled ∙ beat_long (length schema.streams) n.cycle (f.records + 1) f.current h)
 
--- after records the current beat has one entry for each stream, and all records are counted
-pub filing_rows : (schema : Schema) (rs : List (List (List ℕ))) (f g : Filing) → HasRows (length schema.streams) f.current → filing_after schema rs f ≡ Ok g → HasRows (length schema.streams) g.current
-filing_rows schema [] f g h e = subst (λ (g : Filing). HasRows (length schema.streams) g.current) (ok_is f g e) h
-filing_rows schema (r ∷ rs) f g h e = let b = bind_ok (next_filing schema f r) (filing_after schema rs) g e in
-    filing_rows schema rs b.0 g (next_rows schema f r b.0 h (next_tells schema f r b.0 b.1)) b.2
-
+-- all records are counted
 pub filing_counts : (schema : Schema) (rs : List (List (List ℕ))) (f g : Filing) → filing_after schema rs f ≡ Ok g → g.records ≡ f.records + length rs
 filing_counts schema [] f g e = ap (λ (g : Filing). g.records) (sym (ok_is f g e)) ∙ (let z : f.records ≡ f.records + 0 = omega arith in z)
 filing_counts schema (r ∷ rs) f g e = let b = bind_ok (next_filing schema f r) (filing_after schema rs) g e in
@@ -106,13 +103,13 @@ pub filing_more : (schema : Schema) (rs : List (List (List ℕ))) (r : List (Lis
 filing_more schema rs r f g h a b = filing_after-append schema rs (r ∷ []) f ∙ ap (λ (x : Result Filing TupleFault). x >>= filing_after schema (r ∷ [])) a ∙ ap (λ (x : Result Filing TupleFault). x >>= filing_after schema []) b
 
 -- a record that breaks a rule, whatever follows it
-pub filing_fails : (schema : Schema) (rs us : List (List (List ℕ))) (r : List (List ℕ)) (g : Filing) (e : TupleFault) → filing_after schema rs no_records ≡ Ok g → Fails e (next_filing schema g r) → Fails e (beats_of schema ((rs ++ r ∷ []) ++ us))
+pub filing_fails : (schema : Schema) (rs us : List (List (List ℕ))) (r : List (List ℕ)) (g : Filing) (e : TupleFault) → filing_after schema rs (no_records schema) ≡ Ok g → Fails e (next_filing schema g r) → Fails e (beats_of schema ((rs ++ r ∷ []) ++ us))
 unfolding beats_of
 filing_fails schema rs us r g e a b =
-    fails_then e (filing_after schema ((rs ++ r ∷ []) ++ us) no_records) (λ f. Ok (ended (length schema.streams) f))
-    (subst (Fails e) (sym (ap (λ (x : List (List (List ℕ))). filing_after schema x no_records) (append_assoc rs (r ∷ []) us) ∙ filing_after-append schema rs (r ∷ us) no_records ∙ ap (λ (x : Result Filing TupleFault). x >>= filing_after schema (r ∷ us)) a))
+    fails_then e (filing_after schema ((rs ++ r ∷ []) ++ us) (no_records schema)) (λ f. Ok (ended (length schema.streams) f))
+    (subst (Fails e) (sym (ap (λ (x : List (List (List ℕ))). filing_after schema x (no_records schema)) (append_assoc rs (r ∷ []) us) ∙ filing_after-append schema rs (r ∷ us) (no_records schema) ∙ ap (λ (x : Result Filing TupleFault). x >>= filing_after schema (r ∷ us)) a))
     (fails_then e (next_filing schema g r) (filing_after schema us) b))
 
-pub all_filed : (schema : Schema) (rs : List (List (List ℕ))) (g : Filing) → filing_after schema rs no_records ≡ Ok g → beats_of schema rs ≡ Ok (ended (length schema.streams) g)
+pub all_filed : (schema : Schema) (rs : List (List (List ℕ))) (g : Filing) → filing_after schema rs (no_records schema) ≡ Ok g → beats_of schema rs ≡ Ok (ended (length schema.streams) g)
 unfolding beats_of
 all_filed schema rs g a = ap (λ (x : Result Filing TupleFault). x >>= λ f. Ok (ended (length schema.streams) f)) a

@@ -2,6 +2,7 @@
 use Rattle.std.proofs.Common.{◌≡◌, ℕ, suc, ◌<◌, ◌≤◌, Bool, true, false, List, [], ◌∷◌, length, Option, Some, None, refl, sym, ap, ◌∙◌, arith, inl, inr}
 use Rattle.std.specs.Prelude.{map, option_map, find, ◌==◌}
 use Rattle.std.specs.List.{AllByRecursion}
+use Rattle.std.specs.Option.{option_map_or}
 use Rattle.std.proofs.lemmas.Bool.{cases_Bool, eq-eqb, ne_eqb, eqb-true}
 use Rattle.gl_bits.proofs.Options.{some_same}
 use Rattle.gl_bits.specs.Words.{Word, bits_of}
@@ -11,7 +12,7 @@ use Rattle.gl_schema.specs.Beats.{AreRowsOf, IsBeat, AreInOrder}
 use Rattle.gl_tuples.specs.declared.beats.Beat.{Beat}
 use Rattle.gl_tuple_reader.specs.Entries.{option_bind}
 use Rattle.gl_tuples.specs.Gaps.{plain_beat, plain_beats}
-use Rattle.gl_tuple_reader.specs.FileBeats.{number_at, row_among, row_at}
+use Rattle.gl_tuple_reader.specs.FileBeats.{number_at, row_among, row_at, tick_at}
 
 abbrev at_cycle : List Beat → ℕ → Option Beat
 at_cycle bs c = find (λ b. b.cycle == c) bs
@@ -43,9 +44,10 @@ there_not x h = cc
 pub record Agree (bs ds : List Beat) : Type 0 where
   pub numbers : (c : ℕ) → number_at bs c ≡ number_at ds c
   pub rows : (c k : ℕ) → row_at bs c k ≡ row_at ds c k
+  pub ticks : (c : ℕ) → tick_at bs c ≡ tick_at ds c
 
 agree_back : (bs ds : List Beat) → Agree bs ds → Agree ds bs
-agree_back bs ds a = record { numbers = λ c. sym (a.numbers c); rows = λ c k. sym (a.rows c k) }
+agree_back bs ds a = record { numbers = λ c. sym (a.numbers c); rows = λ c k. sym (a.rows c k); ticks = λ c. sym (a.ticks c) }
 
 missing : (ds : List Beat) (c : ℕ) → at_cycle ds c ≡ None → number_at ds c ≡ None
 missing ds c h = ap (option_map (λ (b : Beat). b.number)) h
@@ -64,6 +66,9 @@ same_cycle b d bs ds a first second = meet b.cycle d.cycle (not_before b d bs ds
 abbrev row_in : Option Beat → ℕ → Option (List Word)
 row_in o k = option_bind o (λ b. row_among b.rows k)
 
+abbrev tick_in : Option Beat → Bool
+tick_in o = option_map_or (λ (b : Beat). b.tick) o false
+
 -- behind beats of one cycle the others agree
 rest_none : (b : Beat) (bs : List Beat) (c : ℕ) → AreInOrder (plain_beats (b ∷ bs)) → (b.cycle == c) ≡ true → at_cycle bs c ≡ None
 rest_none b bs c order t = first_before b bs c order (let e = eqb-true b.cycle c t in omega (arith, e))
@@ -77,6 +82,10 @@ rest_agree b d bs ds a first second same = record {
   rows = λ c k. elim (cases_Bool (b.cycle == c)) [
     | inl t ↦ ap (λ (o : Option Beat). row_in o k) (rest_none b bs c first t) ∙ sym (ap (λ (o : Option Beat). row_in o k) (rest_none d ds c second (ap (λ (x : ℕ). x == c) (sym same) ∙ t)))
     | inr f ↦ ap (λ (o : Option Beat). row_in o k) (sym (rest_at b bs c f)) ∙ a.rows c k ∙ ap (λ (o : Option Beat). row_in o k) (rest_at d ds c (ap (λ (x : ℕ). x == c) (sym same) ∙ f))
+  ];
+  ticks = λ c. elim (cases_Bool (b.cycle == c)) [
+    | inl t ↦ ap tick_in (rest_none b bs c first t) ∙ sym (ap tick_in (rest_none d ds c second (ap (λ (x : ℕ). x == c) (sym same) ∙ t)))
+    | inr f ↦ ap tick_in (sym (rest_at b bs c f)) ∙ a.ticks c ∙ ap tick_in (rest_at d ds c (ap (λ (x : ℕ). x == c) (sym same) ∙ f))
   ];
 }
 
@@ -105,11 +114,14 @@ row_same b d bs ds a same k =
     sym (ap (λ (o : Option Beat). option_bind o (λ x. row_among x.rows k)) (first_here b bs)) ∙ a.rows b.cycle k ∙ ap (λ (c : ℕ). row_at (d ∷ ds) c k) same
     ∙ ap (λ (o : Option Beat). option_bind o (λ x. row_among x.rows k)) (first_here d ds)
 
+tick_same : (b d : Beat) (bs ds : List Beat) → Agree (b ∷ bs) (d ∷ ds) → b.cycle ≡ d.cycle → b.tick ≡ d.tick
+tick_same b d bs ds a same = sym (ap tick_in (first_here b bs)) ∙ a.ticks b.cycle ∙ ap (tick_at (d ∷ ds)) same ∙ ap tick_in (first_here d ds)
+
 beat_same : (schema : Schema) (b d : Beat) (bs ds : List Beat) → Agree (b ∷ bs) (d ∷ ds) → b.cycle ≡ d.cycle → IsBeat schema (plain_beat b) → IsBeat schema (plain_beat d) → b.end ≡ d.end → b ≡ d
 beat_same schema b d bs ds a same x y e =
     let number = number_same b d bs ds a same in
     let rows = rows_same b.rows d.rows (rows_long schema.streams b.rows x.rows ∙ sym (rows_long schema.streams d.rows y.rows)) (row_same b d bs ds a same) in
-    let tick : b.tick ≡ d.tick = x.still ∙ sym y.still in
+    let tick = tick_same b d bs ds a same in
     made b.cycle b.number b.rows b.tick b.end d.cycle d.number d.rows d.tick d.end same number rows tick e
   where
     made : (c n : ℕ) (r : List (Option (List Word))) (t e : Bool) (c' n' : ℕ) (r' : List (Option (List Word))) (t' e' : Bool) → c ≡ c' → n ≡ n' → r ≡ r' → t ≡ t' → e ≡ e' → ◌≡◌ {A = Beat} (record { cycle = c; number = n; rows = r; tick = t; end = e }) (record { cycle = c'; number = n'; rows = r'; tick = t'; end = e' })
@@ -135,5 +147,5 @@ one_list schema (b ∷ c ∷ bs) (d ∷ f ∷ ds) a first second x y =
     let rest : c ∷ bs ≡ f ∷ ds = one_list schema (c ∷ bs) (f ∷ ds) (rest_agree b d (c ∷ bs) (f ∷ ds) a first second same) first.2 second.2 x.1 y.1 in
     cc
 
-pub agreed : (bs ds : List Beat) → ((c : ℕ) → number_at bs c ≡ number_at ds c) → ((c k : ℕ) → row_at bs c k ≡ row_at ds c k) → Agree bs ds
-agreed bs ds n r = record { numbers = n; rows = r }
+pub agreed : (bs ds : List Beat) → ((c : ℕ) → number_at bs c ≡ number_at ds c) → ((c k : ℕ) → row_at bs c k ≡ row_at ds c k) → ((c : ℕ) → tick_at bs c ≡ tick_at ds c) → Agree bs ds
+agreed bs ds n r t = record { numbers = n; rows = r; ticks = t }

@@ -1,25 +1,24 @@
 -- A record can be added exactly where it may stand behind those before it.
-use Rattle.std.proofs.Common.{◌≡◌, ℕ, ◌+◌, ◌≤◌, Bool, true, false, cond, List, [], ◌∷◌, ◌++◌, length, drop, Option, Some, None, Result, Ok, Err, refl, sym, ap, ◌∙◌, subst, arith, append_assoc, inl, inr}
-use Rattle.std.specs.Prelude.{slice_get, slice_set, is_some, IfSome, IsTrue, IsFalse, nat_lt, ◌==◌, bytes_eq, codes}
-use Rattle.std.specs.Option.{option_map_or}
+use Rattle.std.proofs.Common.{◌≡◌, ℕ, ◌+◌, ◌≤◌, Bool, true, false, cond, List, [], ◌∷◌, ◌++◌, length, Option, Some, None, Result, Ok, Err, refl, sym, ap, ◌∙◌, subst, arith, append_assoc}
+use Rattle.std.specs.Prelude.{slice_set, is_some, IfSome, IsTrue, IsFalse, nat_lt, ◌==◌}
 use Rattle.std.specs.List.{AllByRecursion}
-use Rattle.std.proofs.lemmas.Bool.{cases_Bool, ltb-false, le-ltb, eqb-true, eq-eqb, true≢false, false≢true}
+use Rattle.std.proofs.lemmas.Bool.{ltb-false, le-ltb, true≢false}
 use Rattle.std.proofs.lemmas.List.{append-nil}
 use Rattle.gl_bits.proofs.AllLists.{all_append, all_back, all_weaker}
-use Rattle.gl_bits.specs.Words.{Word}
 use Rattle.gl_schema.specs.declared.schema.Schema.{Schema}
 use Rattle.gl_tuples.specs.declared.beats.Beat.{Beat}
 use Rattle.gl_tuple_reader.specs.declared.entry.Entry.{Entry}
-use Rattle.gl_tuple_reader.specs.declared.entry.Entry.TheVariants.{Tuple, End}
+use Rattle.gl_tuple_reader.specs.declared.entry.Entry.TheVariants.{Tuple, Tick, End}
 use Rattle.gl_tuple_reader.specs.declared.filing.Filing.{Filing}
 use Rattle.gl_tuples.specs.declared.fault.TupleFault.{TupleFault}
-use Rattle.gl_tuples.specs.declared.fault.TupleFault.TheVariants.{NotUtf8, StreamTwice, FieldCount, CycleTooLarge, AfterEnd, CycleFalls}
-use Rattle.gl_tuple_reader.specs.Entries.{◌>>=◌, are_utf8, text_checked, words_of, row_of, row_found, columns_at, entry_of, entry_named, tuple_of, stream_named, cycle_of, cycle_below}
-use Rattle.gl_tuple_reader.specs.Filing.{filing_after, next_filing, no_records, ended, beats_of, beat_with, beat_of, whole_before, empty_beat, has_row, open_checked, cycle_checked}
-use Rattle.gl_tuple_reader.specs.FileBeats.{cycle_said, says_end, IsBy, Brings, MayFollow, KeepRules, row_of_records, row_among}
+use Rattle.gl_tuples.specs.declared.fault.TupleFault.TheVariants.{NotUtf8, StreamTwice, TickTwice, CycleTooLarge, AfterEnd, CycleFalls}
+use Rattle.gl_tuple_reader.specs.Entries.{◌>>=◌, are_utf8, text_checked, entry_of, cycle_of, cycle_below}
+use Rattle.gl_tuple_reader.specs.Filing.{filing_after, next_filing, no_records, ended, beats_of, beat_with, beat_of, grown_before, empty_beat, has_row, open_checked, cycle_checked}
+use Rattle.gl_tuple_reader.specs.FileBeats.{cycle_said, says_end, says_tick, tick_of_records, IsBy, Brings, MayFollow, KeepRules, row_of_records, row_among}
 use Rattle.gl_tuple_reader.proofs.Filings.{Next, next_tells, bind_ok, ok_is, guard_ok, filing_after-append}
-use Rattle.gl_tuple_reader.proofs.Beatings.{ok_true, found_row}
-use Rattle.gl_tuple_reader.proofs.FileBeating.{Stands, stands_first, stands_next, turn_is, row_here, at_cycle, filed_beats}
+use Rattle.gl_tuple_reader.proofs.Beatings.{ok_true}
+use Rattle.gl_tuple_reader.proofs.FileBeating.{Stands, stands_first, stands_next, turn_is, row_here, tick_here, at_cycle, filed_beats}
+use Rattle.gl_tuple_reader.proofs.Entering.{Enters, enters, end_entered, tick_entered, row_given, tuple_entered}
 
 -- ---- lists
 
@@ -64,67 +63,6 @@ cycle_given : (number : ℕ) (r : List (List ℕ)) (cycle : ℕ) → cycle_said 
 unfolding cycle_of
 cycle_given number r cycle e le = ap (cycle_below number) e ∙ rw (le-ltb 10000000 cycle le) refl
 
--- ---- what a record brings
-
--- what a record brings, behind these beats
-abbrev Enters : Schema → List (List ℕ) → Entry → Type 0
-Enters schema r End = IsTrue (says_end r) × (length r ≡ 2)
-Enters schema r (Tuple k row) = IsFalse (says_end r) × (name : List ℕ) × (slice_get r 1 ≡ Some name) × (stream_named schema name ≡ Some k) × (words_of (columns_at schema.streams k) (drop 2 r) ≡ Some row) × (length r ≡ 2 + length (columns_at schema.streams k))
-
-row_enters : (number : ℕ) (schema : Schema) (k : ℕ) (r : List (List ℕ)) (row : List Word) → row_of number (columns_at schema.streams k) r ≡ Ok row → (words_of (columns_at schema.streams k) (drop 2 r) ≡ Some row) × (length r ≡ 2 + length (columns_at schema.streams k))
-unfolding row_of
-row_enters number schema k r row h = elim (cases_Bool (length r == 2 + length (columns_at schema.streams k))) [
-  | inl t ↦ (found_row number (words_of (columns_at schema.streams k) (drop 2 r)) row (rw t at h), eqb-true (length r) (2 + length (columns_at schema.streams k)) t)
-  | inr f ↦ absurd (cc (rw f at h))
-]
-
-tuple_enters : (number : ℕ) (schema : Schema) (r : List (List ℕ)) (name : List ℕ) (o : Option ℕ) (entry : Entry) → slice_get r 1 ≡ Some name → IsFalse (says_end r) → stream_named schema name ≡ o → tuple_of number schema r o ≡ Ok entry → Enters schema r entry
-tuple_enters number schema r name None entry s f e h = absurd cc
-tuple_enters number schema r name (Some k) entry s f e h =
-    let a = bind_ok (row_of number (columns_at schema.streams k) r) (λ row. Ok (Tuple k row)) entry h in
-    let p = row_enters number schema k r a.0 a.1 in
-    subst (Enters schema r) (ok_is (Tuple k a.0) entry a.2) (f, name, s, e, p.0, p.1)
-
-end_enters : (number : ℕ) (schema : Schema) (r : List (List ℕ)) (b : Bool) (entry : Entry) → (length r == 2) ≡ b → IsTrue (says_end r) → cond b (Ok End) (Err (FieldCount number)) ≡ Ok entry → Enters schema r entry
-end_enters number schema r true entry e t h = subst (Enters schema r) (ok_is End entry h) (t, eqb-true (length r) 2 e)
-end_enters number schema r false entry e t h = absurd cc
-
-named_enters : (number : ℕ) (schema : Schema) (r : List (List ℕ)) (o : Option (List ℕ)) (entry : Entry) → slice_get r 1 ≡ o → entry_named number schema r o ≡ Ok entry → Enters schema r entry
-unfolding says_end
-named_enters number schema r None entry s h = absurd cc
-named_enters number schema r (Some name) entry s h = elim (cases_Bool (bytes_eq name (codes "end"))) [
-  | inl t ↦ end_enters number schema r (length r == 2) entry refl (ap (λ (o : Option (List ℕ)). option_map_or (λ n. bytes_eq n (codes "end")) o false) s ∙ t) (rw t at h)
-  | inr f ↦ tuple_enters number schema r name (stream_named schema name) entry s (ap (λ (o : Option (List ℕ)). option_map_or (λ n. bytes_eq n (codes "end")) o false) s ∙ f) refl (rw f at h)
-]
-
-enters : (number : ℕ) (schema : Schema) (r : List (List ℕ)) (entry : Entry) → entry_of number schema r ≡ Ok entry → Enters schema r entry
-unfolding entry_of
-enters number schema r entry h = named_enters number schema r (slice_get r 1) entry refl h
-
-end_given : (number : ℕ) (schema : Schema) (r : List (List ℕ)) (o : Option (List ℕ)) → option_map_or (λ n. bytes_eq n (codes "end")) o false ≡ true → length r ≡ 2 → entry_named number schema r o ≡ Ok End
-end_given number schema r None t e = absurd (false≢true t)
-end_given number schema r (Some name) t e = rw (t, eq-eqb (length r) 2 e) refl
-
-end_entered : (number : ℕ) (schema : Schema) (r : List (List ℕ)) → IsTrue (says_end r) → length r ≡ 2 → entry_of number schema r ≡ Ok End
-unfolding entry_of says_end
-end_entered number schema r t e = end_given number schema r (slice_get r 1) t e
-
-row_given : (number : ℕ) (schema : Schema) (k : ℕ) (r : List (List ℕ)) (row : List Word) → words_of (columns_at schema.streams k) (drop 2 r) ≡ Some row → length r ≡ 2 + length (columns_at schema.streams k) → row_of number (columns_at schema.streams k) r ≡ Ok row
-unfolding row_of
-row_given number schema k r row w e = rw (eq-eqb (length r) (2 + length (columns_at schema.streams k)) e) (ap (row_found number) w)
-
-tuple_given : (number : ℕ) (schema : Schema) (r : List (List ℕ)) (k : ℕ) (row : List Word) (o : Option (List ℕ)) (name : List ℕ) → o ≡ Some name → option_map_or (λ n. bytes_eq n (codes "end")) o false ≡ false → stream_named schema name ≡ Some k
-    → row_of number (columns_at schema.streams k) r ≡ Ok row → entry_named number schema r o ≡ Ok (Tuple k row)
-tuple_given number schema r k row None name s f e h = absurd cc
-tuple_given number schema r k row (Some n) name s f e h =
-    let same : n ≡ name = cc in
-    rw f (ap (tuple_of number schema r) (ap (stream_named schema) same ∙ e) ∙ ap (λ (x : Result (List Word) TupleFault). x >>= λ row. Ok (Tuple k row)) h)
-
-tuple_entered : (number : ℕ) (schema : Schema) (r : List (List ℕ)) (name : List ℕ) (k : ℕ) (row : List Word) → slice_get r 1 ≡ Some name → IsFalse (says_end r) → stream_named schema name ≡ Some k
-    → row_of number (columns_at schema.streams k) r ≡ Ok row → entry_of number schema r ≡ Ok (Tuple k row)
-unfolding entry_of says_end
-tuple_entered number schema r name k row s f e h = tuple_given number schema r k row (slice_get r 1) name s f e h
-
 -- ---- a stream's row in the beat of a cycle
 
 none_is : {A : Type 0} (o : Option A) → is_some o ≡ false → o ≡ None
@@ -150,14 +88,17 @@ next_text schema f r g h = let a = bind_ok (text_checked (f.records + 1) r) _ g 
 
 beat_cycle : (number : ℕ) (b : Beat) (entry : Entry) (full : Beat) → beat_with number b entry ≡ Ok full → full.cycle ≡ b.cycle
 beat_cycle number b End full h = ap (λ (x : Beat). x.cycle) (sym (ok_is _ full h))
+beat_cycle number b Tick full h = let p = guard_ok b.tick (TickTwice number) _ full h in ap (λ (x : Beat). x.cycle) (sym p.1)
 beat_cycle number b (Tuple k row) full h = let p = guard_ok (has_row b.rows k) (StreamTwice number) _ full h in ap (λ (x : Beat). x.cycle) (sym p.1)
 
 abbrev ends : Entry → Bool → Bool
 ends End before = true
+ends Tick before = before
 ends (Tuple k row) before = before
 
 beat_end : (number : ℕ) (b : Beat) (entry : Entry) (full : Beat) → beat_with number b entry ≡ Ok full → full.end ≡ ends entry b.end
 beat_end number b End full h = ap (λ (x : Beat). x.end) (sym (ok_is _ full h))
+beat_end number b Tick full h = let p = guard_ok b.tick (TickTwice number) _ full h in ap (λ (x : Beat). x.end) (sym p.1)
 beat_end number b (Tuple k row) full h = let p = guard_ok (has_row b.rows k) (StreamTwice number) _ full h in ap (λ (x : Beat). x.end) (sym p.1)
 
 open_if : (streams cycle number : ℕ) (b : Beat) (same : Bool) → b.end ≡ false → (cond same b (empty_beat streams cycle number)).end ≡ false
@@ -188,10 +129,12 @@ rises_given rs (Some b) number cycle l h = rw (le-ltb cycle b.cycle (l.1 cycle h
 
 still_in : (schema : Schema) (r : List (List ℕ)) (entry : Entry) (e : Bool) → Enters schema r entry → e ≡ ends entry false → IsFalse e → IsFalse (says_end r)
 still_in schema r End e h is f = absurd (true≢false (sym is ∙ f))
+still_in schema r Tick e h is f = h.0
 still_in schema r (Tuple k row) e h is f = h.0
 
 still_out : (schema : Schema) (r : List (List ℕ)) (entry : Entry) (e : Bool) → Enters schema r entry → e ≡ ends entry false → IsFalse (says_end r) → IsFalse e
 still_out schema r End e h is f = absurd (true≢false (sym h.0 ∙ f))
+still_out schema r Tick e h is f = is
 still_out schema r (Tuple k row) e h is f = is
 
 -- ---- the beats so far, and what they tell
@@ -203,7 +146,7 @@ record Keeps (schema : Schema) (rs : List (List (List ℕ))) (f : Filing) : Type
 beat_cycle_is : (schema : Schema) (rs : List (List (List ℕ))) (f : Filing) (r : List (List ℕ)) (g : Filing) → Keeps schema rs f → (n : Next schema f r g) → n.beat.cycle ≡ n.cycle
 beat_cycle_is schema rs f r g k n =
     beat_cycle (f.records + 1) (beat_of (length schema.streams) n.cycle (f.records + 1) f.current) n.entry n.beat n.filled
-    ∙ (turn_is schema (f.records + 1) f.whole f.current n.cycle k.stands.filed.current n.opened n.rises).cycled
+    ∙ (turn_is schema (f.records + 1) f.whole.beats f.current n.cycle k.stands.filed.current n.opened n.rises).cycled
 
 beat_end_is : (schema : Schema) (f : Filing) (r : List (List ℕ)) (g : Filing) (n : Next schema f r g) → n.beat.end ≡ ends n.entry false
 beat_end_is schema f r g n =
@@ -235,32 +178,47 @@ keeps_after schema rs (u ∷ us) f g k e =
     subst (λ (x : List (List (List ℕ))). Keeps schema x g) (append_assoc rs (u ∷ []) us)
     (keeps_after schema (rs ++ u ∷ []) us b.0 g (keeps_next schema rs f u b.0 k (next_tells schema f u b.0 b.1)) b.2)
 
-keeps_first : (schema : Schema) → Keeps schema [] no_records
+keeps_first : (schema : Schema) → Keeps schema [] (no_records schema)
 keeps_first schema = record { stands = stands_first schema; latest = refl }
 
 -- the row of a stream in the beat of a cycle is that of the records before
 row_before : (schema : Schema) (rs : List (List (List ℕ))) (f : Filing) (cycle k : ℕ) → Keeps schema rs f → open_checked (f.records + 1) f.current ≡ Ok tt → cycle_checked (f.records + 1) cycle f.current ≡ Ok tt
     → row_among (beat_of (length schema.streams) cycle (f.records + 1) f.current).rows k ≡ row_of_records schema cycle k rs
 row_before schema rs f cycle k s opened rises =
-    let turn = turn_is schema (f.records + 1) f.whole f.current cycle s.stands.filed.current opened rises in
-    row_here (f.records + 1) (length schema.streams) (at_cycle (filed_beats f.whole f.current) cycle) (beat_of (length schema.streams) cycle (f.records + 1) f.current) k turn.was ∙ s.stands.shows.rows cycle k
+    let turn = turn_is schema (f.records + 1) f.whole.beats f.current cycle s.stands.filed.current opened rises in
+    row_here (f.records + 1) (length schema.streams) (at_cycle (filed_beats f.whole.beats f.current) cycle) (beat_of (length schema.streams) cycle (f.records + 1) f.current) k turn.was ∙ s.stands.shows.rows cycle k
+
+-- and so is its tick
+tick_before : (schema : Schema) (rs : List (List (List ℕ))) (f : Filing) (cycle : ℕ) → Keeps schema rs f → open_checked (f.records + 1) f.current ≡ Ok tt → cycle_checked (f.records + 1) cycle f.current ≡ Ok tt
+    → (beat_of (length schema.streams) cycle (f.records + 1) f.current).tick ≡ tick_of_records cycle rs
+tick_before schema rs f cycle s opened rises =
+    let turn = turn_is schema (f.records + 1) f.whole.beats f.current cycle s.stands.filed.current opened rises in
+    tick_here (f.records + 1) (length schema.streams) (at_cycle (filed_beats f.whole.beats f.current) cycle) (beat_of (length schema.streams) cycle (f.records + 1) f.current) turn.was ∙ s.stands.shows.ticks cycle
 
 -- ---- a record that is added may stand there
 
+-- what a record brings, by what it says
+brings_by : (schema : Schema) (rs : List (List (List ℕ))) (r : List (List ℕ)) (cycle : ℕ) (b c : Bool) → says_end r ≡ b → says_tick r ≡ c → Brings schema rs cycle r b c → Brings schema rs cycle r (says_end r) (says_tick r)
+brings_by schema rs r cycle b c e t h = subst (λ (x : Bool). Brings schema rs cycle r x (says_tick r)) (sym e) (subst (Brings schema rs cycle r b) (sym t) h)
+
 brings_of : (schema : Schema) (rs : List (List (List ℕ))) (f : Filing) (r : List (List ℕ)) (cycle : ℕ) (entry : Entry) (beat : Beat) → Keeps schema rs f → open_checked (f.records + 1) f.current ≡ Ok tt → cycle_checked (f.records + 1) cycle f.current ≡ Ok tt
-    → Enters schema r entry → beat_with (f.records + 1) (beat_of (length schema.streams) cycle (f.records + 1) f.current) entry ≡ Ok beat → Brings schema rs cycle r (says_end r)
-brings_of schema rs f r cycle End beat k opened rises h filled = subst (Brings schema rs cycle r) (sym h.0) h.1
+    → Enters schema r entry → beat_with (f.records + 1) (beat_of (length schema.streams) cycle (f.records + 1) f.current) entry ≡ Ok beat → Brings schema rs cycle r (says_end r) (says_tick r)
+brings_of schema rs f r cycle End beat k opened rises h filled = brings_by schema rs r cycle true (says_tick r) h.0 refl h.1
+brings_of schema rs f r cycle Tick beat k opened rises h filled =
+    let base = beat_of (length schema.streams) cycle (f.records + 1) f.current in
+    let p = guard_ok base.tick (TickTwice (f.records + 1)) _ beat filled in
+    brings_by schema rs r cycle false true h.0 h.1 (record { alone' = h.2; new = sym (tick_before schema rs f cycle k opened rises) ∙ p.0 })
 brings_of schema rs f r cycle (Tuple j row) beat k opened rises h filled =
     let base = beat_of (length schema.streams) cycle (f.records + 1) f.current in
     let p = guard_ok (has_row base.rows j) (StreamTwice (f.records + 1)) _ beat filled in
-    subst (Brings schema rs cycle r) (sym h.0) (record {
-      name = h.1;
-      second = h.2;
+    brings_by schema rs r cycle false false h.0 h.1 (record {
+      name = h.2;
+      second = h.3;
       stream = j;
-      named = h.3;
+      named = h.4;
       row = row;
-      values = h.4;
-      many = h.5;
+      values = h.5;
+      many = h.6;
       new = sym (row_before schema rs f cycle j k opened rises) ∙ none_is (row_among base.rows j) p.0;
     })
 
@@ -279,12 +237,12 @@ may_follow schema rs f r g k h =
     }
 
 -- all records of a file that has beats keep the rules
-pub rules_kept : (schema : Schema) (rs : List (List (List ℕ))) (g : Filing) → filing_after schema rs no_records ≡ Ok g → KeepRules schema rs
+pub rules_kept : (schema : Schema) (rs : List (List (List ℕ))) (g : Filing) → filing_after schema rs (no_records schema) ≡ Ok g → KeepRules schema rs
 rules_kept schema rs g h before r after e =
-    let split : (filing_after schema before no_records >>= filing_after schema (r ∷ after)) ≡ Ok g = sym (filing_after-append schema before (r ∷ after) no_records) ∙ ap (λ (x : List (List (List ℕ))). filing_after schema x no_records) (sym e) ∙ h in
-    let a = bind_ok (filing_after schema before no_records) (filing_after schema (r ∷ after)) g split in
+    let split : (filing_after schema before (no_records schema) >>= filing_after schema (r ∷ after)) ≡ Ok g = sym (filing_after-append schema before (r ∷ after) (no_records schema)) ∙ ap (λ (x : List (List (List ℕ))). filing_after schema x (no_records schema)) (sym e) ∙ h in
+    let a = bind_ok (filing_after schema before (no_records schema)) (filing_after schema (r ∷ after)) g split in
     let b = bind_ok (next_filing schema a.0 r) (filing_after schema after) g a.2 in
-    may_follow schema before a.0 r b.0 (keeps_after schema [] before no_records a.0 (keeps_first schema) a.1) b.1
+    may_follow schema before a.0 r b.0 (keeps_after schema [] before (no_records schema) a.0 (keeps_first schema) a.1) b.1
 
 -- ---- a record that may stand there is added
 
@@ -298,7 +256,7 @@ text_given number r h = rw h refl
 next_given : (schema : Schema) (f : Filing) (r : List (List ℕ)) (cycle : ℕ) (entry : Entry) (beat : Beat)
     → text_checked (f.records + 1) r ≡ Ok tt → open_checked (f.records + 1) f.current ≡ Ok tt → cycle_of (f.records + 1) r ≡ Ok cycle → cycle_checked (f.records + 1) cycle f.current ≡ Ok tt
     → entry_of (f.records + 1) schema r ≡ Ok entry → beat_with (f.records + 1) (beat_of (length schema.streams) cycle (f.records + 1) f.current) entry ≡ Ok beat
-    → next_filing schema f r ≡ Ok (record { whole = whole_before cycle f.whole f.current; current = Some beat; records = f.records + 1 })
+    → next_filing schema f r ≡ Ok (record { whole = grown_before cycle f.whole f.current; current = Some beat; records = f.records + 1 })
 unfolding next_filing
 next_given schema f r cycle entry beat a b c d e k =
     bind_given (text_checked (f.records + 1) r) _ tt a ∙ bind_given (open_checked (f.records + 1) f.current) _ tt b ∙ bind_given (cycle_of (f.records + 1) r) _ cycle c
@@ -311,15 +269,24 @@ record HasEntry (schema : Schema) (f : Filing) (r : List (List ℕ)) (cycle : �
   beat : Beat
   filled : beat_with (f.records + 1) (beat_of (length schema.streams) cycle (f.records + 1) f.current) entry ≡ Ok beat
 
-entry_given : (schema : Schema) (rs : List (List (List ℕ))) (f : Filing) (r : List (List ℕ)) (cycle : ℕ) (b : Bool) → says_end r ≡ b → Keeps schema rs f → open_checked (f.records + 1) f.current ≡ Ok tt → cycle_checked (f.records + 1) cycle f.current ≡ Ok tt
-    → Brings schema rs cycle r b → HasEntry schema f r cycle
-entry_given schema rs f r cycle true s k opened rises h = record { entry = End; entered = end_entered (f.records + 1) schema r s h; beat = _; filled = refl }
-entry_given schema rs f r cycle false s k opened rises h =
+entry_given : (schema : Schema) (rs : List (List (List ℕ))) (f : Filing) (r : List (List ℕ)) (cycle : ℕ) (b c : Bool) → says_end r ≡ b → says_tick r ≡ c → Keeps schema rs f → open_checked (f.records + 1) f.current ≡ Ok tt → cycle_checked (f.records + 1) cycle f.current ≡ Ok tt
+    → Brings schema rs cycle r b c → HasEntry schema f r cycle
+entry_given schema rs f r cycle true c s u k opened rises h = record { entry = End; entered = end_entered (f.records + 1) schema r s h; beat = _; filled = refl }
+entry_given schema rs f r cycle false true s u k opened rises h =
+    let base = beat_of (length schema.streams) cycle (f.records + 1) f.current in
+    let none : base.tick ≡ false = tick_before schema rs f cycle k opened rises ∙ h.new in
+    record {
+      entry = Tick;
+      entered = tick_entered (f.records + 1) schema r s u h.alone';
+      beat = record base { tick = true };
+      filled = rw none refl;
+    }
+entry_given schema rs f r cycle false false s u k opened rises h =
     let base = beat_of (length schema.streams) cycle (f.records + 1) f.current in
     let none : has_row base.rows h.stream ≡ false = ap is_some (row_before schema rs f cycle h.stream k opened rises ∙ h.new) in
     record {
       entry = Tuple h.stream h.row;
-      entered = tuple_entered (f.records + 1) schema r h.name h.stream h.row h.second s h.named (row_given (f.records + 1) schema h.stream r h.row h.values h.many);
+      entered = tuple_entered (f.records + 1) schema r h.name h.stream h.row h.second s u h.named (row_given (f.records + 1) schema h.stream r h.row h.values h.many);
       beat = record base { rows = slice_set base.rows h.stream (Some h.row) };
       filled = rw none refl;
     }
@@ -332,9 +299,9 @@ is_added : (schema : Schema) (rs : List (List (List ℕ))) (f : Filing) (r : Lis
 is_added schema rs f r k m =
     let opened = open_given rs f.current (f.records + 1) k.latest m.still in
     let rises = rises_given rs f.current (f.records + 1) m.cycle k.latest m.rises in
-    let e = entry_given schema rs f r m.cycle (says_end r) refl k opened rises m.brings in
+    let e = entry_given schema rs f r m.cycle (says_end r) (says_tick r) refl refl k opened rises m.brings in
     record {
-      after = record { whole = whole_before m.cycle f.whole f.current; current = Some e.beat; records = f.records + 1 };
+      after = record { whole = grown_before m.cycle f.whole f.current; current = Some e.beat; records = f.records + 1 };
       is = next_given schema f r m.cycle e.entry e.beat (text_given (f.records + 1) r m.text) opened (cycle_given (f.records + 1) r m.cycle m.said m.early) rises e.entered e.filled;
     }
 
@@ -354,5 +321,5 @@ are_added schema before (r ∷ rs) f k rules =
 pub rules_give : (schema : Schema) (rs : List (List (List ℕ))) → KeepRules schema rs → (beats : List Beat) × (beats_of schema rs ≡ Ok beats)
 unfolding beats_of
 rules_give schema rs rules =
-    let all = are_added schema [] rs no_records (keeps_first schema) rules in
-    (ended (length schema.streams) all.after, bind_given (filing_after schema rs no_records) (λ f. Ok (ended (length schema.streams) f)) all.after all.is)
+    let all = are_added schema [] rs (no_records schema) (keeps_first schema) rules in
+    (ended (length schema.streams) all.after, bind_given (filing_after schema rs (no_records schema)) (λ f. Ok (ended (length schema.streams) f)) all.after all.is)

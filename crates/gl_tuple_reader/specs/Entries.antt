@@ -1,5 +1,5 @@
--- What a record of a tuple file says: its cycle, and a row of a stream or the end. The first broken rule comes in this
--- order.
+-- What a record of a tuple file says: its cycle, and a row of a stream, a tick or the end. The first broken rule comes in
+-- this order.
 use Rattle.std.specs.Prelude.{◌≡◌, ℕ, zero, suc, ◌+◌, Bool, not, List, [], ◌∷◌, length, drop, Option, Some, None, Result, Ok, Err, codes, bytes_eq, nat_lt, ◌==◌, slice_get, position, option_map, if◌then◌else◌}
 use Rattle.std.specs.List.{list_all}
 use Rattle.gl_bits.specs.Words.{Word}
@@ -7,9 +7,9 @@ use Rattle.gl_schema.specs.declared.schema.Column.{Column}
 use Rattle.gl_schema.specs.declared.schema.Stream.{Stream}
 use Rattle.gl_schema.specs.declared.schema.Schema.{Schema}
 use Rattle.gl_tuples.specs.declared.fault.TupleFault.{TupleFault}
-use Rattle.gl_tuples.specs.declared.fault.TupleFault.TheVariants.{NotUtf8, BadCycle, CycleFalls, CycleTooLarge, UnknownStream, FieldCount, BadValue, StreamTwice, AfterEnd, TooClose, Memory}
+use Rattle.gl_tuples.specs.declared.fault.TupleFault.TheVariants.{NotUtf8, BadCycle, CycleFalls, CycleTooLarge, UnknownStream, FieldCount, BadValue, StreamTwice, TickTwice, AfterEnd, TooClose, Memory}
 use Rattle.gl_tuple_reader.specs.declared.entry.Entry.{Entry}
-use Rattle.gl_tuple_reader.specs.declared.entry.Entry.TheVariants.{Tuple, End}
+use Rattle.gl_tuple_reader.specs.declared.entry.Entry.TheVariants.{Tuple, Tick, End}
 use Rattle.gl_tuples.specs.Values.{is_utf8, number_of, word_of}
 
 -- a step that may break a rule, and what follows it
@@ -29,6 +29,7 @@ Fails (UnknownStream n) read = read ≡ Err (UnknownStream n)
 Fails (FieldCount n) read = read ≡ Err (FieldCount n)
 Fails (BadValue n) read = read ≡ Err (BadValue n)
 Fails (StreamTwice n) read = read ≡ Err (StreamTwice n)
+Fails (TickTwice n) read = read ≡ Err (TickTwice n)
 Fails (AfterEnd n) read = read ≡ Err (AfterEnd n)
 Fails (TooClose n) read = read ≡ Err (TooClose n)
 
@@ -86,11 +87,16 @@ abbrev pub tuple_of : ℕ → Schema → List (List ℕ) → Option ℕ → Resu
 tuple_of number schema fields None = Err (UnknownStream number)
 tuple_of number schema fields (Some k) = row_of number (columns_at schema.streams k) fields >>= λ row. Ok (Tuple k row)
 
--- what a record brings behind its cycle: the end, or a row of the stream that is named
+-- an entry behind which nothing may stand
+abbrev pub alone : ℕ → List (List ℕ) → Entry → Result Entry TupleFault
+alone number fields entry = if length fields == 2 then Ok entry else Err (FieldCount number)
+
+-- what a record brings behind its cycle: the end, a tick, or a row of the stream that is named
 abbrev pub entry_named : ℕ → Schema → List (List ℕ) → Option (List ℕ) → Result Entry TupleFault
 entry_named number schema fields None = Err (FieldCount number)
 entry_named number schema fields (Some name) =
-    if bytes_eq name (codes "end") then (if length fields == 2 then Ok End else Err (FieldCount number))
+    if bytes_eq name (codes "end") then alone number fields End
+    else if bytes_eq name (codes "tick") then alone number fields Tick
     else tuple_of number schema fields (stream_named schema name)
 
 unfoldable pub entry_of : ℕ → Schema → List (List ℕ) → Result Entry TupleFault

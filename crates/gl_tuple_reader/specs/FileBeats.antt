@@ -1,6 +1,6 @@
 -- The beats of a tuple file, told of its records.
 use Rattle.std.specs.Prelude.{◌≡◌, ℕ, ◌+◌, ◌≤◌, Bool, true, false, not, ◌&&◌, List, [], ◌∷◌, ◌++◌, length, drop, Option, Some, None, IfSome, IsTrue, IsFalse, option_map, unwrap_or, find, slice_get, codes, bytes_eq, ◌==◌, if◌then◌else◌}
-use Rattle.std.specs.List.{AllByRecursion}
+use Rattle.std.specs.List.{AllByRecursion, list_any}
 use Rattle.std.specs.Option.{option_map_or}
 use Rattle.gl_bits.specs.Words.{Word}
 use Rattle.gl_schema.specs.declared.schema.Schema.{Schema}
@@ -24,7 +24,8 @@ in_cycle cycle fields = is_number cycle (cycle_said fields)
 
 -- a field names stream k
 abbrev pub names : Schema → ℕ → List ℕ → Bool
-names schema k name = not (bytes_eq name (codes "end")) && is_number k (stream_named schema name)
+names schema k name =
+    not (bytes_eq name (codes "end")) && (not (bytes_eq name (codes "tick")) && is_number k (stream_named schema name))
 
 abbrev pub row_named : Schema → ℕ → List (List ℕ) → Option (List ℕ) → Option (List Word)
 row_named schema k fields None = None
@@ -54,6 +55,19 @@ IsBy cycle fields = IfSome (cycle_said fields) (λ c. c ≤ cycle)
 unfoldable pub says_end : List (List ℕ) → Bool
 says_end fields = option_map_or (λ name. bytes_eq name (codes "end")) (slice_get fields 1) false
 
+-- a record's second field says a tick
+unfoldable pub says_tick : List (List ℕ) → Bool
+says_tick fields = option_map_or (λ name. bytes_eq name (codes "tick")) (slice_get fields 1) false
+
+-- a tick comes in a cycle: a record of it says so
+abbrev pub tick_of_records : ℕ → List (List (List ℕ)) → Bool
+tick_of_records cycle rs = list_any (λ r. in_cycle cycle r && says_tick r) rs
+
+-- a record brings a tick: nothing stands behind, and no tick came before in its cycle
+pub record BringsTick (before : List (List (List ℕ))) (cycle : ℕ) (fields : List (List ℕ)) : Type 0 where
+  pub alone' : length fields ≡ 2
+  pub new : IsFalse (tick_of_records cycle before)
+
 -- a record brings a row: it names a stream, has a value for each of its columns and nothing behind them, and no row of
 -- the stream came before in its cycle
 pub record BringsRow (schema : Schema) (before : List (List (List ℕ))) (cycle : ℕ) (fields : List (List ℕ))
@@ -67,10 +81,12 @@ pub record BringsRow (schema : Schema) (before : List (List (List ℕ))) (cycle 
   pub many : length fields ≡ 2 + length (columns_at schema.streams stream)
   pub new : row_of_records schema cycle stream before ≡ None
 
--- what a record brings: the end, with nothing behind, or a row
-abbrev pub Brings : Schema → List (List (List ℕ)) → ℕ → List (List ℕ) → Bool → Type 0
-Brings schema before cycle fields true = length fields ≡ 2
-Brings schema before cycle fields false = BringsRow schema before cycle fields
+-- what a record brings, by whether it says the end and whether it says a tick: the end, with nothing behind, a tick, or a
+-- row
+abbrev pub Brings : Schema → List (List (List ℕ)) → ℕ → List (List ℕ) → Bool → Bool → Type 0
+Brings schema before cycle fields true ticks = length fields ≡ 2
+Brings schema before cycle fields false true = BringsTick before cycle fields
+Brings schema before cycle fields false false = BringsRow schema before cycle fields
 
 -- a record may stand behind these: it is text, its cycle is at most 10,000,000 and not below one before, and no end
 -- came before
@@ -81,7 +97,7 @@ pub record MayFollow (schema : Schema) (before : List (List (List ℕ))) (fields
   pub early : cycle ≤ 10000000
   pub rises : AllByRecursion (IsBy cycle) before
   pub still : AllByRecursion (λ r. IsFalse (says_end r)) before
-  pub brings : Brings schema before cycle fields (says_end fields)
+  pub brings : Brings schema before cycle fields (says_end fields) (says_tick fields)
 
 -- the rules of a tuple file: each record may stand behind those before it
 abbrev pub KeepRules : Schema → List (List (List ℕ)) → Type 0
@@ -99,7 +115,7 @@ abbrev pub number_of_records : ℕ → List (List (List ℕ)) → Option ℕ
 number_of_records cycle [] = if 0 == cycle then Some 0 else None
 number_of_records cycle (r ∷ rs) = number_from 1 cycle (r ∷ rs)
 
--- the beat of a cycle: its number, and its row of stream k
+-- the beat of a cycle: its number, its row of stream k, and whether it has a tick
 abbrev pub number_at : List Beat → ℕ → Option ℕ
 number_at beats cycle = option_map (λ b. b.number) (find (λ b. b.cycle == cycle) beats)
 
@@ -109,10 +125,14 @@ row_among rows k = unwrap_or (slice_get rows k) None
 abbrev pub row_at : List Beat → ℕ → ℕ → Option (List Word)
 row_at beats cycle k = option_bind (find (λ b. b.cycle == cycle) beats) (λ b. row_among b.rows k)
 
--- beats of the schema, one for each cycle of a record, with the records' rows; the last alone has the end; and the
--- records keep the rules
+abbrev pub tick_at : List Beat → ℕ → Bool
+tick_at beats cycle = option_map_or (λ b. b.tick) (find (λ b. b.cycle == cycle) beats) false
+
+-- beats of the schema, one for each cycle of a record, with the records' rows and ticks; the last alone has the end; and
+-- the records keep the rules
 pub record AreBeatsOf (schema : Schema) (rs : List (List (List ℕ))) (beats : List Beat) : Type 0 where
   pub fine : AreFileBeats schema beats
   pub numbers : (cycle : ℕ) → number_at beats cycle ≡ number_of_records cycle rs
   pub rows : (cycle k : ℕ) → row_at beats cycle k ≡ row_of_records schema cycle k rs
+  pub ticks : (cycle : ℕ) → tick_at beats cycle ≡ tick_of_records cycle rs
   pub rules : KeepRules schema rs

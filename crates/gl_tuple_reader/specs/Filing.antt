@@ -3,10 +3,11 @@ use Rattle.std.specs.Prelude.{◌≡◌, ℕ, ◌+◌, ◌<◌, Bool, true, fals
 use Rattle.gl_bits.specs.Words.{Word}
 use Rattle.gl_schema.specs.declared.schema.Schema.{Schema}
 use Rattle.gl_tuples.specs.declared.fault.TupleFault.{TupleFault}
-use Rattle.gl_tuples.specs.declared.fault.TupleFault.TheVariants.{CycleFalls, StreamTwice, AfterEnd}
+use Rattle.gl_tuples.specs.declared.fault.TupleFault.TheVariants.{CycleFalls, StreamTwice, TickTwice, AfterEnd}
 use Rattle.gl_tuple_reader.specs.declared.entry.Entry.{Entry}
-use Rattle.gl_tuple_reader.specs.declared.entry.Entry.TheVariants.{Tuple, End}
+use Rattle.gl_tuple_reader.specs.declared.entry.Entry.TheVariants.{Tuple, Tick, End}
 use Rattle.gl_tuples.specs.declared.beats.Beat.{Beat}
+use Rattle.gl_tuples.specs.Growing.{Fit, Grown, no_beats}
 use Rattle.gl_tuple_reader.specs.declared.filing.Filing.{Filing}
 use Rattle.gl_tuple_reader.specs.Entries.{◌>>=◌, text_checked, cycle_of, entry_of}
 use Rattle.csv.specs.Reading.{records, default_config, strip_bom}
@@ -14,13 +15,14 @@ use Rattle.csv.specs.Reading.{records, default_config, strip_bom}
 -- the stream of an entry is one of these many
 abbrev pub IsEntry : ℕ → Entry → Type 0
 IsEntry streams (Tuple k row) = k < streams
+IsEntry streams Tick = Unit {0}
 IsEntry streams End = Unit {0}
 
--- the current beat has one entry for each stream
-abbrev pub HasRows : ℕ → Option Beat → Type 0
-HasRows streams current = IfSome current (λ b. length b.rows ≡ streams)
+-- the rows of the current beat have the columns of their streams
+abbrev pub CurrentFit : List (List ℕ) → Option Beat → Type 0
+CurrentFit columns current = IfSome current (λ b. Fit columns b.rows)
 
--- a beat without rows
+-- a beat without rows and without a tick
 abbrev pub empty_beat : ℕ → ℕ → ℕ → Beat
 empty_beat streams cycle number =
     record { cycle = cycle; number = number; rows = replicate streams None; tick = false; end = false }
@@ -42,6 +44,7 @@ has_row rows k = is_some (unwrap_or (slice_get rows k) None)
 -- a beat with what a record brings
 abbrev pub beat_with : ℕ → Beat → Entry → Result Beat TupleFault
 beat_with number beat End = Ok (record beat { end = true })
+beat_with number beat Tick = if beat.tick then Err (TickTwice number) else Ok (record beat { tick = true })
 beat_with number beat (Tuple k row) =
     if has_row beat.rows k then Err (StreamTwice number)
     else Ok (record beat { rows = slice_set beat.rows k (Some row) })
@@ -51,6 +54,10 @@ abbrev pub whole_before : ℕ → List Beat → Option Beat → List Beat
 whole_before cycle whole None = whole
 whole_before cycle whole (Some beat) = if beat.cycle == cycle then whole else whole ++ beat ∷ []
 
+abbrev pub grown_before : ℕ → Grown → Option Beat → Grown
+grown_before cycle whole current =
+    record { columns = whole.columns; beats = whole_before cycle whole.beats current }
+
 abbrev pub beat_of : ℕ → ℕ → ℕ → Option Beat → Beat
 beat_of streams cycle number None = empty_beat streams cycle number
 beat_of streams cycle number (Some beat) = if beat.cycle == cycle then beat else empty_beat streams cycle number
@@ -58,7 +65,7 @@ beat_of streams cycle number (Some beat) = if beat.cycle == cycle then beat else
 -- an entry of a cycle is added
 abbrev pub added : ℕ → Filing → ℕ → ℕ → Entry → Result Filing TupleFault
 added streams f number cycle entry = beat_with number (beat_of streams cycle number f.current) entry >>= λ beat.
-    Ok (record { whole = whole_before cycle f.whole f.current; current = Some beat; records = number })
+    Ok (record { whole = grown_before cycle f.whole f.current; current = Some beat; records = number })
 
 -- a record is added, or breaks a rule
 unfoldable pub next_filing : Schema → Filing → List (List ℕ) → Result Filing TupleFault
@@ -74,12 +81,12 @@ filing_after schema [] f = Ok f
 filing_after schema (r ∷ rs) f = next_filing schema f r >>= filing_after schema rs
 
 -- before the first record
-abbrev pub no_records : Filing
-no_records = record { whole = []; current = None; records = 0 }
+abbrev pub no_records : Schema → Filing
+no_records schema = record { whole = no_beats schema; current = None; records = 0 }
 
 -- the last beat has the end; without a record it is that of cycle 0
 abbrev pub ended : ℕ → Filing → List Beat
-ended streams f = f.whole ++ record (unwrap_or f.current (empty_beat streams 0 0)) { end = true } ∷ []
+ended streams f = f.whole.beats ++ record (unwrap_or f.current (empty_beat streams 0 0)) { end = true } ∷ []
 
 -- the records of a text
 unfoldable pub records_of : List ℕ → List (List (List ℕ))
@@ -87,7 +94,7 @@ records_of text = records default_config (strip_bom text)
 
 -- the beats of records, or the first rule that one of them breaks
 unfoldable pub beats_of : Schema → List (List (List ℕ)) → Result (List Beat) TupleFault
-beats_of schema rs = filing_after schema rs no_records >>= λ f. Ok (ended (length schema.streams) f)
+beats_of schema rs = filing_after schema rs (no_records schema) >>= λ f. Ok (ended (length schema.streams) f)
 
 -- the first rule that is broken by records that have no beats
 abbrev pub IsFirstFault : Schema → List (List (List ℕ)) → TupleFault → Type 0

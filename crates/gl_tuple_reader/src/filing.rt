@@ -1,7 +1,8 @@
 //! Records, one after another, made into beats.
 
-ghost use Rattle.std.specs.Prelude.{◌≡◌, ◌+◌, ◌<◌, ◌^◌, length, replicate, None, Ok, IfOk};
+ghost use Rattle.std.specs.Prelude.{◌≡◌, ◌+◌, ◌<◌, ◌^◌, length, replicate, unwrap_or, None, Ok, IfOk};
 ghost use Rattle.gl_schema.specs.Schemas.{IsSchema};
+ghost use Rattle.gl_tuples.specs.Growing.{shape_of};
 ghost use Rattle.gl_tuple_reader.specs.Entries.{Gives};
 ghost use Rattle.gl_tuple_reader.specs.Filing as spec;
 ghost use Rattle.csv.specs.Records.{fields_of};
@@ -11,13 +12,13 @@ use crate::record::{check_text, cycle_of, entry_of};
 use csv::ByteRecord;
 use gl_bits::Memory;
 use gl_schema::Schema;
-use gl_tuples::{Beat, Beats, StreamRows, TupleFault};
+use gl_tuples::{Beat, Beats, GrowingBeats, StreamRows, TupleFault};
 use std::alloc::Global;
 
 /// The beats of the records so far: those that are whole, and that of the last record.
 #[derive(Drop, Debug)]
 pub struct Filing {
-    pub whole: Beats,
+    pub whole: GrowingBeats,
     pub current: Option<Beat>,
     pub records: u64,
 }
@@ -25,10 +26,11 @@ pub struct Filing {
 impl Filing {
     /// Before the first record.
     pub fn new(alloc: Global, schema: &Schema) -> Result<Filing, Memory>
-        ensures { IfOk result (λ filing. filing ≡ spec.no_records) }
+        requires { IsSchema schema.now }
+        ensures { IfOk result (λ filing. filing ≡ spec.no_records schema.now) }
     {
         Ok(Filing {
-            whole: Beats::new(alloc, schema)?,
+            whole: GrowingBeats::new(alloc, schema)?,
             current: None,
             records: 0,
         })
@@ -44,7 +46,8 @@ impl Filing {
     ) -> Result<Filing, TupleFault>
         requires schema { IsSchema schema.now }
         requires counted { self.records + 1 < 2 ^ 64 }
-        requires rows { spec.HasRows (length schema.now.streams) self.current }
+        requires columns { self.whole.columns ≡ shape_of schema.now }
+        requires rows { spec.CurrentFit self.whole.columns self.current }
         ensures { Gives result (spec.next_filing schema.now self (fields_of fields.now)) }
     {
         let number = self.records + 1;
@@ -64,7 +67,8 @@ impl Filing {
         number: u64,
         entry: Entry,
     ) -> Result<Filing, TupleFault>
-        requires rows { spec.HasRows streams self.current }
+        requires many { streams ≡ length self.whole.columns }
+        requires rows { spec.CurrentFit self.whole.columns self.current }
         requires stream { spec.IsEntry streams entry }
         ensures { Gives result (spec.added streams self number cycle entry) }
     {
@@ -84,6 +88,8 @@ impl Filing {
 
     /// The beats of all records. The last one has the end.
     pub fn end(self, alloc: Global, streams: usize) -> Result<Beats, TupleFault>
+        requires many { streams ≡ length self.whole.columns }
+        requires rows { spec.CurrentFit self.whole.columns self.current }
         ensures { Gives result (Ok (spec.ended streams self)) }
     {
         let Filing {
@@ -91,13 +97,20 @@ impl Filing {
             current,
             records: _,
         } = self;
-        let mut last = match current {
-            Some(beat) => beat,
-            None => empty_beat(alloc, streams, 0, 0)?,
-        };
+        let mut last = last_beat(alloc, streams, current)?;
         last.end = true;
         whole.push(&last)?;
-        Ok(whole)
+        Ok(whole.done())
+    }
+}
+
+/// The beat of the last record, or that of cycle 0 where there is none.
+fn last_beat(alloc: Global, streams: usize, current: Option<Beat>) -> Result<Beat, TupleFault>
+    ensures { Gives result (Ok (unwrap_or current (spec.empty_beat streams 0 0))) }
+{
+    match current {
+        Some(beat) => Ok(beat),
+        None => empty_beat(alloc, streams, 0, 0),
     }
 }
 
@@ -125,13 +138,14 @@ fn check_cycle(current: &Option<Beat>, cycle: u32, number: u64) -> Result<(), Tu
 fn turned(
     alloc: Global,
     streams: usize,
-    whole: Beats,
+    whole: GrowingBeats,
     current: Option<Beat>,
     cycle: u32,
     number: u64,
-) -> Result<(Beats, Beat), TupleFault>
+) -> Result<(GrowingBeats, Beat), TupleFault>
+    requires { spec.CurrentFit whole.columns current }
     ensures { Gives result (Ok (
-      spec.whole_before cycle whole current,
+      spec.grown_before cycle whole current,
       spec.beat_of streams cycle
           number current,
     )) }
@@ -149,7 +163,7 @@ fn turned(
     Ok((whole, empty_beat(alloc, streams, cycle, number)?))
 }
 
-/// A beat without rows.
+/// A beat without rows and without a tick.
 fn empty_beat(alloc: Global, streams: usize, cycle: u32, number: u64) -> Result<Beat, TupleFault>
     ensures { Gives result (Ok (spec.empty_beat streams cycle number)) }
 {
@@ -180,6 +194,12 @@ fn beat_with(beat: Beat, entry: Entry, number: u64) -> Result<Beat, TupleFault>
     let mut beat = beat;
     match entry {
         Entry::End => beat.end = true,
+        Entry::Tick => {
+            if beat.tick {
+                return Err(TupleFault::TickTwice { number });
+            }
+            beat.tick = true;
+        }
         Entry::Tuple(stream, row) => {
             let mut rows = beat.rows.into_vec();
             if rows[stream].is_some() {

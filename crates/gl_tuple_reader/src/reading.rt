@@ -17,11 +17,11 @@ use gl_tuples::{Beats, TupleFault};
 use std::alloc::Global;
 
 /// The beats of a tuple file: records of comma-separated values without a header, each
-/// `cycle,stream,v1,..` or, as the last, `cycle,end`. Else the first rule that a record breaks.
+/// `cycle,stream,v1,..`, `cycle,tick` or, as the last, `cycle,end`. Else the first rule that a record breaks.
 pub fn read_tuples(alloc: Global, schema: &Schema, text: &[u8]) -> Result<Beats, TupleFault>
     requires { IsSchema schema.now }
     // The records keep the rules, and there is a beat for each cycle of one, with the records'
-    // rows.
+    // rows and ticks.
     ensures found { IfOk result (AreBeatsOf schema.now (records_of text.now)) }
     // A file that has beats is read, unless memory runs out.
     ensures only { (beats : List types.Beat)
@@ -35,7 +35,7 @@ pub fn read_tuples(alloc: Global, schema: &Schema, text: &[u8]) -> Result<Beats,
 
 fn read(alloc: Global, schema: &Schema, filing: Filing, text: &[u8]) -> Result<Beats, TupleFault>
     requires schema { IsSchema schema.now }
-    requires empty { filing ≡ no_records }
+    requires empty { filing ≡ no_records schema.now }
     ensures { Gives result (beats_of schema.now (records_of text.now)) }
 {
     let reader = ReaderBuilder::new()

@@ -95,11 +95,22 @@ pub fn entry_of(
     let Some(name) = field(fields, 1) else {
         return Err(TupleFault::FieldCount { number });
     };
-    if name != b"end".as_slice() {
-        return tuple_of(alloc, schema, fields, name, number);
+    if name == b"end".as_slice() {
+        return alone(fields, Entry::End, number);
     }
+    if name == b"tick".as_slice() {
+        return alone(fields, Entry::Tick, number);
+    }
+    tuple_of(alloc, schema, fields, name, number)
+}
+
+/// An entry behind which nothing may stand.
+fn alone(fields: &ByteRecord, entry: Entry, number: u64) -> Result<Entry, TupleFault>
+    ensures entry { Gives result (spec.alone number (fields_of fields.now) entry) }
+    ensures same { IfOk result (λ e. e ≡ entry) }
+{
     if fields.len() == 2 {
-        Ok(Entry::End)
+        Ok(entry)
     } else {
         Err(TupleFault::FieldCount { number })
     }

@@ -1,11 +1,11 @@
 -- Rows as numbers in one list.
-use Rattle.std.proofs.Common.{◌≡◌, ℕ, zero, suc, ◌+◌, ◌*◌, ◌/◌, ◌%◌, ◌<◌, ◌≤◌, Bool, true, false, List, [], ◌∷◌, ◌++◌, map, length, take, drop, Option, Some, None, refl, sym, ap, ◌∙◌, subst, arith, add-one, append_assoc}
-use Rattle.std.specs.Prelude.{slice_get, slice_index, unwrap_or, option_map}
+use Rattle.std.proofs.Common.{◌≡◌, ℕ, zero, suc, ◌+◌, ◌*◌, ◌/◌, ◌%◌, ◌≤◌, Bool, true, false, List, [], ◌∷◌, ◌++◌, length, take, drop, Option, Some, None, refl, sym, ap, ◌∙◌, subst, arith, append_assoc}
+use Rattle.std.specs.Prelude.{slice_get, unwrap_or, option_map}
 use Rattle.std.specs.Int.{from_bool}
 use Rattle.std.specs.List.{AllByRecursion}
 use Rattle.std.proofs.lemmas.Bool.{eq-eqb, ne_eqb}
-use Rattle.std.proofs.lemmas.List.{append-nil, drop-append-le, map-append, length-append, take_all}
-use Rattle.std.proofs.Math.Seq.{drop-append_seam, take-suc}
+use Rattle.std.proofs.lemmas.List.{append-nil, drop-append-le, map-append, length-append}
+use Rattle.std.proofs.Math.Seq.{drop-append_seam}
 use Rattle.gl_bits.specs.Words.{Word, bit, bits_of, widths_of}
 use Rattle.gl_tuples.specs.declared.beats.Beat.{Beat}
 use Rattle.gl_tuples.specs.declared.beats.Head.{Head}
@@ -18,7 +18,7 @@ pub words_back : (row : List Word) (more : List ℕ) → words_in (widths_of row
 words_back [] more = refl
 words_back (w ∷ row) more = ap (λ (ws : List Word). w ∷ ws) (words_back row more)
 
-bits_long : (row : List Word) → length (bits_of row) ≡ length row
+pub bits_long : (row : List Word) → length (bits_of row) ≡ length row
 bits_long [] = refl
 bits_long (w ∷ row) = ap suc (bits_long row)
 
@@ -26,46 +26,13 @@ widths_long : (row : List Word) → length (widths_of row) ≡ length row
 widths_long [] = refl
 widths_long (w ∷ row) = ap suc (widths_long row)
 
--- one more of its words
-get_bits : (row : List Word) (at n width : ℕ) → slice_get row at ≡ Some (record { bits = n; width = width }) → take (at + 1) (bits_of row) ≡ take at (bits_of row) ++ n ∷ []
-get_bits row at n width e = rw (add-one at) (go row at e)
-  where
-    go : (row : List Word) (at : ℕ) → slice_get row at ≡ Some (record { bits = n; width = width }) → take (suc at) (bits_of row) ≡ take at (bits_of row) ++ n ∷ []
-    go [] at e = absurd cc
-    go (w ∷ row) zero e = let same : w ≡ record { bits = n; width = width } = cc in ap (λ (x : Word). x.bits ∷ []) same
-    go (w ∷ row) (suc at) e = ap (λ (ns : List ℕ). w.bits ∷ ns) (go row at e)
-
-pub get_widths : (row : List Word) (columns : List ℕ) (at n width : ℕ) → slice_get row at ≡ Some (record { bits = n; width = width }) → at < length columns → width ≡ slice_index columns at
-    → take at (widths_of row) ≡ take at columns → take (at + 1) (widths_of row) ≡ take (at + 1) columns
-get_widths row columns at n width e lt is so_far = rw (add-one at) (go row at e ∙ ap (λ (ns : List ℕ). ns ++ width ∷ []) so_far ∙ ap (λ (x : ℕ). take at columns ++ x ∷ []) is ∙ sym (take-suc columns at 0 lt))
-  where
-    go : (row : List Word) (at : ℕ) → slice_get row at ≡ Some (record { bits = n; width = width }) → take (suc at) (widths_of row) ≡ take at (widths_of row) ++ width ∷ []
-    go [] at e = absurd cc
-    go (w ∷ row) zero e = let same : w ≡ record { bits = n; width = width } = cc in ap (λ (x : Word). x.width ∷ []) same
-    go (w ∷ row) (suc at) e = ap (λ (ns : List ℕ). w.width ∷ ns) (go row at e)
-
-pub grown_more : (row : List Word) (old so_far new : List ℕ) (at n width : ℕ) → slice_get row at ≡ Some (record { bits = n; width = width }) → so_far ≡ old ++ take at (bits_of row) → new ≡ so_far ++ n ∷ []
-    → new ≡ old ++ take (at + 1) (bits_of row)
-grown_more row old so_far new at n width e is more =
-    more ∙ ap (λ (ns : List ℕ). ns ++ n ∷ []) is ∙ append_assoc old (take at (bits_of row)) (n ∷ []) ∙ ap (λ (ns : List ℕ). old ++ ns) (sym (get_bits row at n width e))
-
--- all of them
-all_bits : (row : List Word) (columns : List ℕ) (at : ℕ) → length row ≡ length columns → length columns ≤ at → take at (bits_of row) ≡ bits_of row
-all_bits row columns at e le = take_all at (bits_of row) (omega (arith, bits_long row, e, le))
-
-pub grown_whole : (row : List Word) (columns old new : List ℕ) (at : ℕ) → length row ≡ length columns → length columns ≤ at → new ≡ old ++ take at (bits_of row) → new ≡ old ++ bits_of row
-grown_whole row columns old new at e le is = is ∙ ap (λ (ns : List ℕ). old ++ ns) (all_bits row columns at e le)
-
-pub widths_whole : (row : List Word) (columns : List ℕ) (at : ℕ) → length row ≡ length columns → length columns ≤ at → take at (widths_of row) ≡ take at columns → widths_of row ≡ columns
-widths_whole row columns at e le is = sym (take_all at (widths_of row) (omega (arith, widths_long row, e, le))) ∙ is ∙ take_all at columns le
-
 pub words_whole : (row : List Word) (columns more : List ℕ) → widths_of row ≡ columns → words_in columns (bits_of row ++ more) ≡ row
 words_whole row columns more e = ap (λ (ws : List ℕ). words_in ws (bits_of row ++ more)) (sym e) ∙ words_back row more
 
 -- a row that is added, and one that is not there
-pub row_added : (columns : List ℕ) (row : List Word) (old new : List ℕ) → length columns ≡ length row → new ≡ old ++ bits_of row → ((more : List ℕ) → words_in columns (bits_of row ++ more) ≡ row)
-    → RowAdded columns (Some row) old new true
-row_added columns row old new e is back = record { numbers = bits_of row; grown = is; size = e ∙ sym (bits_long row); back = λ more. ap Some (back more) }
+pub row_added : (columns : List ℕ) (row : List Word) (old new : List ℕ) → widths_of row ≡ columns → new ≡ old ++ bits_of row → RowAdded columns (Some row) old new true
+row_added columns row old new e is =
+    record { numbers = bits_of row; grown = is; size = ap length (sym e) ∙ widths_long row ∙ sym (bits_long row); back = λ more. ap Some (words_whole row columns more e) }
 
 pub none_added : (columns old : List ℕ) → RowAdded columns None old old false
 none_added columns old = record { numbers = []; grown = sym (append-nil old); size = refl; back = λ more. refl }

@@ -1,22 +1,24 @@
-//! Beats: the cycles in which tuples come, and the end.
+//! Beats: the cycles in which tuples come, ticks of the clock, and the end.
 
-ghost use Rattle.std.specs.Prelude.{◌≡◌, ◌+◌, ◌↔◌, ◌++◌, ◌∷◌, [], ℕ, List, length, nat_lt, option_map, slice_get, IfOk, IsOk, OnOk};
+ghost use Rattle.std.specs.Prelude.{◌≡◌, ◌+◌, ◌↔◌, ℕ, List, length, map, nat_lt, option_map, slice_get, IfOk, IsOk, OnOk};
+ghost use Rattle.gl_bits.specs.Kinds.{width_of};
 ghost use Rattle.gl_schema.specs.Beats.{KeepsGap, row_in};
+ghost use Rattle.gl_schema.specs.Schemas.{IsSchema};
 ghost use Rattle.gl_tuples.specs.Flat.{beats_in};
 ghost use Rattle.gl_tuples.specs.Gaps.{close_answer, first_close, plain_beat, plain_beats};
+ghost use Rattle.gl_tuples.specs.Growing.{Fit, columns_of, grown_by, no_beats};
 
 use crate::fault::TupleFault;
 use crate::flat::{Columns, push_rows, row_of};
-use gl_bits::limits::MOST_STREAMS;
 use gl_bits::{Listed, Memory, Row};
-use gl_schema::{Schema, Stream};
+use gl_schema::{Column, Schema, Stream};
 use std::alloc::Global;
 use std::marker::Model;
 
 /// The rows of a beat: one entry for each stream.
 pub type StreamRows = Listed<Option<Row>>;
 
-/// A cycle in which a tuple of some stream comes, or the end.
+/// A cycle in which a tuple of some stream comes, a tick, or the end.
 #[derive(Drop, Debug)]
 pub struct Beat {
     /// The cycle of the file.
@@ -25,7 +27,7 @@ pub struct Beat {
     pub number: u64,
     /// The row of each stream that has one.
     pub rows: StreamRows,
-    /// A tick of the clock without a tuple. No file has one yet.
+    /// A tick comes in this cycle, before its tuples.
     pub tick: bool,
     /// The end of all streams comes in this cycle.
     pub end: bool,
@@ -66,30 +68,52 @@ impl Model for Beats {
     ghost invariant = { λ b. AllByRecursion (IsInside b.shape b.numbers.items) b.heads.items };
 }
 
-impl Beats {
-    /// No beats yet, of this schema.
-    pub fn new(alloc: Global, schema: &Schema) -> Result<Beats, Memory>
-        ensures { IfOk result (λ beats. beats ≡ []) }
+/// Beats that more are added to.
+#[derive(Drop, Debug)]
+pub struct GrowingBeats {
+    shape: Listed<Columns>,
+    heads: Vec<Head>,
+    numbers: Vec<u64>,
+}
+
+impl Model for GrowingBeats {
+    ghost use Rattle.std.specs.Prelude.{◌≤◌, length};
+    ghost use Rattle.std.specs.List.{AllByRecursion};
+    ghost use Rattle.gl_tuples.specs.Flat.{IsInside, beats_in};
+    ghost use Rattle.gl_tuples.specs.Growing.{AreNarrow, Grown};
+
+    ghost Value = { Grown };
+
+    ghost view = { λ b.
+        record { columns = b.shape; beats = beats_in b.shape b.numbers.items b.heads.items } };
+
+    ghost invariant = { λ b. (length b.shape ≤ 8) × AreNarrow b.shape
+        × AllByRecursion (IsInside b.shape b.numbers.items) b.heads.items };
+}
+
+impl GrowingBeats {
+    /// No beats yet, with the columns of this schema.
+    #[tactic(auto, using(crate::proofs::Narrow::columns_narrow))]
+    pub fn new(alloc: Global, schema: &Schema) -> Result<GrowingBeats, Memory>
+        requires { IsSchema schema.now }
+        ensures { IfOk result (λ beats. beats ≡ no_beats schema.now) }
     {
-        Ok(Beats {
-            shape: shape_of(alloc, schema)?,
+        Ok(GrowingBeats {
+            shape: shape_of(alloc, schema.streams.as_slice())?,
             heads: Vec::new(alloc),
             numbers: Vec::new(alloc),
         })
     }
 
-    /// Adds a beat at the end, unless memory runs out. That is also the answer where a row is none
-    /// of the schema, or the lists are full: they have room for 2^32 words, and records up to that
-    /// number.
+    /// Adds a beat at the end, unless memory runs out. That is also the answer where the lists are
+    /// full: they have room for 2^32 words, and records up to that number.
     pub fn push(&mut self, beat: &Beat) -> Result<(), Memory>
-        ensures { OnOk result (self.new ≡ self.old ++ beat.now ∷ []) }
+        requires { Fit self.old.columns beat.now.rows }
+        ensures { OnOk result (self.new ≡ grown_by self.old beat.now) }
     {
         let first = short_of(self.numbers.len() as u64)?;
         let number = short_of(beat.number)?;
         let rows = beat.rows.as_slice();
-        if rows.len() > MOST_STREAMS {
-            return Err(Memory);
-        }
         let present = push_rows(self.shape.as_slice(), rows, &mut self.numbers)?;
         self.heads.push(Head {
             cycle: beat.cycle,
@@ -102,6 +126,19 @@ impl Beats {
         Ok(())
     }
 
+    /// The beats, to which no more are added.
+    pub fn done(self) -> Beats
+        ensures { result ≡ self.beats }
+    {
+        Beats {
+            shape: self.shape,
+            heads: self.heads,
+            numbers: self.numbers,
+        }
+    }
+}
+
+impl Beats {
     /// The number of beats.
     pub fn len(&self) -> usize
         ensures { result ≡ length self.now }
@@ -168,6 +205,13 @@ impl<'a> BeatView<'a> {
         self.head.number
     }
 
+    /// Whether a tick comes.
+    pub fn ticks(&self) -> bool
+        ensures { result ≡ self.now.tick }
+    {
+        self.head.tick
+    }
+
     /// Whether the end comes.
     pub fn ends(&self) -> bool
         ensures { result ≡ self.now.end }
@@ -184,18 +228,22 @@ impl<'a> BeatView<'a> {
 }
 
 // The bits of the columns of each stream.
-fn shape_of(alloc: Global, schema: &Schema) -> Result<Listed<Columns>, Memory> {
+fn shape_of(alloc: Global, streams: &[Stream]) -> Result<Listed<Columns>, Memory>
+    ensures { IfOk result (λ shape. shape ≡ map columns_of streams.now) }
+{
     let mut shape = Listed::new(alloc);
-    for stream in schema.streams.as_slice() {
-        shape.push(widths_of(alloc, stream)?)?;
+    for stream in streams {
+        shape.push(widths_of(alloc, stream.columns.as_slice())?)?;
     }
     Ok(shape)
 }
 
 // The bits of the columns of a stream.
-fn widths_of(alloc: Global, stream: &Stream) -> Result<Columns, Memory> {
+fn widths_of(alloc: Global, columns: &[Column]) -> Result<Columns, Memory>
+    ensures { IfOk result (λ widths. widths ≡ map (λ c. width_of c.kind) columns.now) }
+{
     let mut widths = Listed::new(alloc);
-    for column in stream.columns.as_slice() {
+    for column in columns {
         widths.push(column.kind.bits())?;
     }
     Ok(widths)

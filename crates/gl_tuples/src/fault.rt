@@ -33,6 +33,9 @@ pub enum TupleFault {
     /// A second tuple of one stream in one cycle.
     #[error("a second tuple of the stream at record {number}")]
     StreamTwice { number: u64 },
+    /// A second tick in one cycle.
+    #[error("a second tick of the cycle at record {number}")]
+    TickTwice { number: u64 },
     /// A record behind the end.
     #[error("behind the end at record {number}")]
     AfterEnd { number: u64 },

@@ -1,55 +1,55 @@
 //! The rows of beats as numbers in one list: how they are added, and read again.
 
 ghost use Rattle.std.specs.Prelude.{◌≡◌, ◌≤◌, ◌<◌, ◌^◌, ◌++◌, ℕ, List, length, Some, slice_get, unwrap_or, option_map, IfOk, IfSome, OnOk};
-ghost use Rattle.gl_bits.specs.Words.{bits_of};
-ghost use Rattle.gl_tuples.specs.Flat.{RowAdded, RowsAdded, is_odd, row_size, rows_in, rows_size, words_in};
+ghost use Rattle.std.specs.List.{AllByRecursion};
+ghost use Rattle.gl_bits.specs.Words.{bits_of, widths_of};
+ghost use Rattle.gl_tuples.specs.Flat.{RowAdded, RowsAdded, is_odd, row_size, rows_in, rows_size};
+ghost use Rattle.gl_tuples.specs.Growing.{AreNarrow, Fit, IsNarrow};
 
+use crate::line::small;
 use gl_bits::{Listed, Memory, Row};
 
 /// The bits of the columns of a stream.
 pub(crate) type Columns = Listed<u16>;
 
-// The number at a place of a row, where its word has these bits and 64 hold it.
-fn number_at(row: &Row, at: usize, width: u16) -> Option<u64>
-    ensures { IfSome result
-        (λ n. slice_get row.now at ≡ Some (record { bits = n; width = width })) }
+// The number at a place of a row whose words have at most 64 bits.
+#[tactic(auto, using(crate::proofs::Narrow::place_steps))]
+fn number_at(row: &Row, at: usize) -> u64
+    requires place { at < length row.now }
+    requires narrow { AllByRecursion IsNarrow (widths_of row.now) }
+    ensures { slice_get (bits_of row.now) at ≡ Some result }
 {
-    let word = row.get(at)?;
-    if u16::from(word.width()) != width {
-        return None;
+    match row.get(at) {
+        Some(word) => small(word),
+        None => unreachable!(),
     }
-    u64::try_from(word.bits()).ok()
 }
 
-// Adds the numbers of a row, if it is one of these columns.
-fn push_words(columns: &[u16], row: &Row, numbers: &mut Vec<u64>) -> Result<(), Memory>
+// Adds the numbers of a row.
+#[tactic(auto, using(crate::proofs::Narrow::bits_whole))]
+fn push_words(row: &Row, numbers: &mut Vec<u64>) -> Result<(), Memory>
+    requires { AllByRecursion IsNarrow (widths_of row.now) }
     ensures added { OnOk result (numbers.new.items ≡ numbers.old.items ++ bits_of row.now) }
-    ensures fits { OnOk result ((more : List ℕ)
-        → words_in columns.now (bits_of row.now ++ more) ≡ row.now) }
-    ensures many { OnOk result (length columns.now ≡ length row.now) }
     ensures kept { (more : List ℕ) × (numbers.new.items ≡ numbers.old.items ++ more) }
 {
-    if row.len() != columns.len() {
-        return Err(Memory);
-    }
-    for (at, width) in columns.iter().enumerate() {
-        let Some(number) = number_at(row, at, *width) else {
-            return Err(Memory);
-        };
-        numbers.push(number)?;
+    for at in 0..row.len() {
+        numbers.push(number_at(row, at))?;
     }
     Ok(())
 }
 
 // Adds the numbers of the row of a stream, where it has one, and answers whether it has.
+#[tactic(auto, using(crate::proofs::Flats::row_added, crate::proofs::Flats::none_added, crate::proofs::Narrow::narrow_row))]
 fn push_row(columns: &[u16], row: &Option<Row>, numbers: &mut Vec<u64>) -> Result<bool, Memory>
+    requires narrow { AllByRecursion IsNarrow columns.now }
+    requires fits { IfSome row.now (λ words. widths_of words ≡ columns.now) }
     ensures added { IfOk result
         (RowAdded columns.now row.now numbers.old.items numbers.new.items) }
     ensures kept { (more : List ℕ) × (numbers.new.items ≡ numbers.old.items ++ more) }
 {
     match row {
         Some(row) => {
-            push_words(columns, row, numbers)?;
+            push_words(row, numbers)?;
             Ok(true)
         }
         None => Ok(false),
@@ -63,10 +63,12 @@ pub(crate) fn push_rows(
     rows: &[Option<Row>],
     numbers: &mut Vec<u64>,
 ) -> Result<u8, Memory>
-    requires { length rows.now ≤ 8 }
+    requires few { length shape.now ≤ 8 }
+    requires narrow { AreNarrow shape.now }
+    requires fit { Fit shape.now rows.now }
     ensures added { IfOk result
         (RowsAdded shape.now rows.now numbers.old.items numbers.new.items) }
-    ensures small { IfOk result (λ present. present < 2 ^ length rows.now) }
+    ensures small { IfOk result (λ present. present < 2 ^ length shape.now) }
     ensures kept { (more : List ℕ) × (numbers.new.items ≡ numbers.old.items ++ more) }
 {
     match (shape.split_first(), rows.split_first()) {
@@ -76,7 +78,7 @@ pub(crate) fn push_rows(
             let later = push_rows(others, rest, numbers)?;
             Ok(u8::from(comes) + 2 * later)
         }
-        _ => Err(Memory),
+        _ => unreachable!(),
     }
 }
 

@@ -11,6 +11,6 @@ mod flat;
 pub mod line;
 pub mod value;
 
-pub use beats::{Beat, BeatView, Beats, StreamRows};
+pub use beats::{Beat, BeatView, Beats, GrowingBeats, StreamRows};
 pub use fault::TupleFault;
 pub use line::line_into;

@@ -31,11 +31,11 @@ bad_inside schema n columns (d ∷ ds) k e = pick (is_bad schema columns d) e (b
     pick true e later = let same : n ≡ k = cc in omega arith
     pick false e later = let below : k < n + 1 + length ds = later e in omega arith
 
-needs_no_port : (c v e reset input_end group queue : Option ℕ) (n : ℕ) → with_needed c v e reset input_end group queue ≡ Err (Port n) → ⊥
-needs_no_port None v e reset input_end group queue n h = absurd cc
-needs_no_port (Some c) None e reset input_end group queue n h = absurd cc
-needs_no_port (Some c) (Some v) None reset input_end group queue n h = absurd cc
-needs_no_port (Some c) (Some v) (Some e) reset input_end group queue n h = absurd cc
+needs_no_port : (c v e reset input_end ticks group queue : Option ℕ) (n : ℕ) → with_needed c v e reset input_end ticks group queue ≡ Err (Port n) → ⊥
+needs_no_port None v e reset input_end ticks group queue n h = absurd cc
+needs_no_port (Some c) None e reset input_end ticks group queue n h = absurd cc
+needs_no_port (Some c) (Some v) None reset input_end ticks group queue n h = absurd cc
+needs_no_port (Some c) (Some v) (Some e) reset input_end ticks group queue n h = absurd cc
 
 the_bad : (o : Option ℕ) (found : Result Ports Misfit) (n : ℕ) → (found ≡ Err (Port n) → ⊥) → unless_bad o found ≡ Err (Port n) → o ≡ Some n
 the_bad None found n never h = absurd (never h)
@@ -48,7 +48,7 @@ at_most (suc p) (x ∷ xs) = let h : length (take p xs) ≤ p = at_most p xs in 
 
 misfit_inside : (m : Module) (schema : Schema) (n : ℕ) → fit_of m schema ≡ Err (Port n) → n < m.ports
 misfit_inside m schema n e =
-    let bad : first_bad schema 0 0 (ports_of m) ≡ Some n = the_bad (first_bad schema 0 0 (ports_of m)) (found_in (ports_of m)) n (needs_no_port _ _ _ _ _ _ _ n) e in
+    let bad : first_bad schema 0 0 (ports_of m) ≡ Some n = the_bad (first_bad schema 0 0 (ports_of m)) (found_in (ports_of m)) n (needs_no_port _ _ _ _ _ _ _ _ n) e in
     let below : n < 0 + length (ports_of m) = bad_inside schema 0 0 (ports_of m) n bad in
     let most : length (ports_of m) ≤ m.ports = at_most m.ports m.declarations in
     omega arith

@@ -7,10 +7,10 @@ use Rattle.gl_bits.specs.Kinds.{width_of}
 use Rattle.gl_schema.specs.declared.schema.Column.{Column}
 use Rattle.gl_schema.specs.declared.schema.Stream.{Stream}
 use Rattle.gl_schema.specs.declared.schema.Schema.{Schema}
-use Rattle.gl_schema.specs.Ports.{rst, eos, in_valid, in_column}
+use Rattle.gl_schema.specs.Ports.{rst, eos, tick, in_valid, in_column}
 use Rattle.gl_schema.specs.Profile.{ProfilePort, clk, input, column_inputs, stream_inputs, streams_inputs, input_ports}
 use Rattle.gl_verilog_ports.specs.Fit.{inputs, is_among}
-use Rattle.gl_verilog_ports.specs.Steps.{behind, is_valid_name, is_column_name, among_columns, among_stream, among_streams, is_end, is_asked}
+use Rattle.gl_verilog_ports.specs.Steps.{behind, is_valid_name, is_column_name, among_columns, among_stream, among_streams, is_end_or_tick, is_asked}
 
 front_step : (test : List ℕ → Bool) (same : Bool) (o : Option (List ℕ)) (r : Bool) → option_map_or test o false ≡ r → option_map_or test (if same then o else None) false ≡ same && r
 front_step test true o r h = h
@@ -82,18 +82,23 @@ streams_are [] name width = refl
 streams_are (s ∷ ss) name width =
     rw (stream_is s name width, streams_are ss name width) (sym (first_append (stream_inputs s) (streams_inputs ss) name width))
 
-end_is : (name : List ℕ) (width : ℕ) → is_end name width ≡ unwrap_or (first (input eos 1 ∷ []) name width) false
-end_is name width = sym (un_next (input eos 1) [] name width)
+-- what stands behind the streams
+abbrev last : List ProfilePort
+last = input eos 1 ∷ input tick 1 ∷ []
 
-rest_is : (schema : Schema) (name : List ℕ) (width : ℕ) → unwrap_or (among_streams schema.streams name width) (is_end name width) ≡ unwrap_or (first (streams_inputs schema.streams ++ input eos 1 ∷ []) name width) false
+last_is : (name : List ℕ) (width : ℕ) → is_end_or_tick name width ≡ unwrap_or (first last name width) false
+last_is name width =
+    ap (λ (x : Bool). if bytes_eq eos name then nat_eq 1 width else x) (sym (un_next (input tick 1) [] name width)) ∙ sym (un_next (input eos 1) (input tick 1 ∷ []) name width)
+
+rest_is : (schema : Schema) (name : List ℕ) (width : ℕ) → unwrap_or (among_streams schema.streams name width) (is_end_or_tick name width) ≡ unwrap_or (first (streams_inputs schema.streams ++ last) name width) false
 rest_is schema name width =
-    ap (λ (x : Option Bool). unwrap_or x (is_end name width)) (streams_are schema.streams name width)
-    ∙ ap (unwrap_or (first (streams_inputs schema.streams) name width)) (end_is name width)
-    ∙ sym (or_un (first (streams_inputs schema.streams) name width) (first (input eos 1 ∷ []) name width) false)
-    ∙ ap (λ (x : Option Bool). unwrap_or x false) (sym (first_append (streams_inputs schema.streams) (input eos 1 ∷ []) name width))
+    ap (λ (x : Option Bool). unwrap_or x (is_end_or_tick name width)) (streams_are schema.streams name width)
+    ∙ ap (unwrap_or (first (streams_inputs schema.streams) name width)) (last_is name width)
+    ∙ sym (or_un (first (streams_inputs schema.streams) name width) (first last name width) false)
+    ∙ ap (λ (x : Option Bool). unwrap_or x false) (sym (first_append (streams_inputs schema.streams) last name width))
 
 pub asked : (schema : Schema) (name : List ℕ) (width : ℕ) → is_asked schema name width ≡ is_among (inputs schema) name width
 asked schema name width =
     ap (λ (x : Bool). if bytes_eq clk name then nat_eq 1 width else if bytes_eq rst name then nat_eq 1 width else x) (rest_is schema name width)
-    ∙ ap (λ (x : Bool). if bytes_eq clk name then nat_eq 1 width else x) (sym (un_next (input rst 1) (streams_inputs schema.streams ++ input eos 1 ∷ []) name width))
-    ∙ sym (un_next (input clk 1) (input_ports schema) name width)
+    ∙ ap (λ (x : Bool). if bytes_eq clk name then nat_eq 1 width else x) (sym (un_next (input rst 1) (streams_inputs schema.streams ++ last) name width))
+    ∙ sym (un_next (input clk 1) (input_ports true schema) name width)

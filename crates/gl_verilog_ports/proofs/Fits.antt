@@ -5,7 +5,7 @@ use Rattle.std.proofs.lemmas.Bool.{eqb-true}
 use Rattle.gl_bits.proofs.Bools.{and_left, and_right, and_both, or_left, or_right, or_cases, by_cases, bytes_same, bytes_own}
 use Rattle.gl_bits.proofs.Options.{some_same}
 use Rattle.gl_schema.specs.declared.schema.Schema.{Schema}
-use Rattle.gl_schema.specs.Ports.{rst, eos, out_valid, out_eos, fault_group, fault_queue}
+use Rattle.gl_schema.specs.Ports.{rst, eos, tick, out_valid, out_eos, fault_group, fault_queue}
 use Rattle.gl_schema.specs.Profile.{ProfilePort, clk, input, input_ports}
 use Rattle.gl_verilog.specs.Module.{Module, Declaration, Kind, Input, OutputWire, OutputRegister, Wire, Register, Memory, number_of}
 use Rattle.gl_verilog.specs.Run.{is_input}
@@ -25,14 +25,14 @@ use Rattle.gl_verilog_ports.proofs.Named.{eq_flip, inputs_so, outputs_so, found_
 clock_width : (schema : Schema) (name : List ℕ) (width : ℕ) → bytes_eq clk name ≡ true → is_among (inputs schema) name width ≡ true → width ≡ 1
 clock_width schema name width e h = pick (bytes_eq clk name) e h
   where
-    pick : (b : Bool) → b ≡ true → unwrap_or (option_map (λ (p : ProfilePort). nat_eq p.width width) (if b then Some (input clk 1) else find (λ (p : ProfilePort). bytes_eq p.name name) (input_ports schema))) false ≡ true → width ≡ 1
+    pick : (b : Bool) → b ≡ true → unwrap_or (option_map (λ (p : ProfilePort). nat_eq p.width width) (if b then Some (input clk 1) else find (λ (p : ProfilePort). bytes_eq p.name name) (input_ports true schema))) false ≡ true → width ≡ 1
     pick true e h = sym (eqb-true 1 width h)
     pick false e h = absurd cc
 
 clock_asked : (schema : Schema) (name : List ℕ) (width : ℕ) → bytes_eq clk name ≡ true → width ≡ 1 → is_among (inputs schema) name width ≡ true
 clock_asked schema name width e w = pick (bytes_eq clk name) e
   where
-    pick : (b : Bool) → b ≡ true → unwrap_or (option_map (λ (p : ProfilePort). nat_eq p.width width) (if b then Some (input clk 1) else find (λ (p : ProfilePort). bytes_eq p.name name) (input_ports schema))) false ≡ true
+    pick : (b : Bool) → b ≡ true → unwrap_or (option_map (λ (p : ProfilePort). nat_eq p.width width) (if b then Some (input clk 1) else find (λ (p : ProfilePort). bytes_eq p.name name) (input_ports true schema))) false ≡ true
     pick true e = eq-eqb 1 width (sym w)
     pick false e = absurd cc
 
@@ -43,9 +43,9 @@ width_asked schema name width e h = pick (bytes_eq clk name) e h
     there None h = absurd cc
     there (Some p) h = ap (λ (w : ℕ). Some w) (eqb-true p.width width h)
 
-    pick : (b : Bool) → b ≡ false → unwrap_or (option_map (λ (p : ProfilePort). nat_eq p.width width) (if b then Some (input clk 1) else find (λ (p : ProfilePort). bytes_eq p.name name) (input_ports schema))) false ≡ true → input_width schema name ≡ Some width
+    pick : (b : Bool) → b ≡ false → unwrap_or (option_map (λ (p : ProfilePort). nat_eq p.width width) (if b then Some (input clk 1) else find (λ (p : ProfilePort). bytes_eq p.name name) (input_ports true schema))) false ≡ true → input_width schema name ≡ Some width
     pick true e h = absurd cc
-    pick false e h = there (find (λ (p : ProfilePort). bytes_eq p.name name) (input_ports schema)) h
+    pick false e h = there (find (λ (p : ProfilePort). bytes_eq p.name name) (input_ports true schema)) h
 
 asked_width : (schema : Schema) (name : List ℕ) (width : ℕ) → bytes_eq clk name ≡ false → input_width schema name ≡ Some width → is_among (inputs schema) name width ≡ true
 asked_width schema name width e h = pick (bytes_eq clk name) e
@@ -54,9 +54,9 @@ asked_width schema name width e h = pick (bytes_eq clk name) e
     there None h = absurd cc
     there (Some p) h = eq-eqb p.width width (some_same p.width width h)
 
-    pick : (b : Bool) → b ≡ false → unwrap_or (option_map (λ (p : ProfilePort). nat_eq p.width width) (if b then Some (input clk 1) else find (λ (p : ProfilePort). bytes_eq p.name name) (input_ports schema))) false ≡ true
+    pick : (b : Bool) → b ≡ false → unwrap_or (option_map (λ (p : ProfilePort). nat_eq p.width width) (if b then Some (input clk 1) else find (λ (p : ProfilePort). bytes_eq p.name name) (input_ports true schema))) false ≡ true
     pick true e = absurd cc
-    pick false e = there (find (λ (p : ProfilePort). bytes_eq p.name name) (input_ports schema)) h
+    pick false e = there (find (λ (p : ProfilePort). bytes_eq p.name name) (input_ports true schema)) h
 
 -- the clock's name is tested either way round
 clock_so : (d : Declaration) (b : Bool) → is_clock d ≡ b → bytes_eq clk d.name ≡ b
@@ -120,6 +120,7 @@ pub record AreFound (m : Module) (schema : Schema) (ports : Ports) : Type 0 wher
   pub clock : input_at (ports_of m) clk ≡ Some ports.clock
   pub reset : input_at (ports_of m) rst ≡ ports.reset
   pub input_end : input_at (ports_of m) eos ≡ ports.input_end
+  pub tick' : input_at (ports_of m) tick ≡ ports.tick
   pub valid : output_at (ports_of m) out_valid ≡ Some ports.valid
   pub end : output_at (ports_of m) out_eos ≡ Some ports.end
   pub group : output_at (ports_of m) fault_group ≡ ports.group
@@ -130,34 +131,35 @@ without_bad None found ports e = (refl, e)
 without_bad (Some n) found ports e = absurd cc
 
 -- the three that are needed are there
-record AreNeeded (c v e reset input_end group queue : Option ℕ) (ports : Ports) : Type 0 where
+record AreNeeded (c v e reset input_end ticks group queue : Option ℕ) (ports : Ports) : Type 0 where
   clock : c ≡ Some ports.clock
   valid : v ≡ Some ports.valid
   end : e ≡ Some ports.end
   reset' : reset ≡ ports.reset
   input_end' : input_end ≡ ports.input_end
+  tick' : ticks ≡ ports.tick
   group' : group ≡ ports.group
   queue' : queue ≡ ports.queue
 
-needed : (c v e reset input_end group queue : Option ℕ) (ports : Ports) → with_needed c v e reset input_end group queue ≡ Ok ports → AreNeeded c v e reset input_end group queue ports
-needed None v e reset input_end group queue ports h = absurd cc
-needed (Some c) None e reset input_end group queue ports h = absurd cc
-needed (Some c) (Some v) None reset input_end group queue ports h = absurd cc
-needed (Some c) (Some v) (Some e) reset input_end group queue ports h = record { clock = cc; valid = cc; end = cc; reset' = cc; input_end' = cc; group' = cc; queue' = cc }
+needed : (c v e reset input_end ticks group queue : Option ℕ) (ports : Ports) → with_needed c v e reset input_end ticks group queue ≡ Ok ports → AreNeeded c v e reset input_end ticks group queue ports
+needed None v e reset input_end ticks group queue ports h = absurd cc
+needed (Some c) None e reset input_end ticks group queue ports h = absurd cc
+needed (Some c) (Some v) None reset input_end ticks group queue ports h = absurd cc
+needed (Some c) (Some v) (Some e) reset input_end ticks group queue ports h = record { clock = cc; valid = cc; end = cc; reset' = cc; input_end' = cc; tick' = cc; group' = cc; queue' = cc }
 
-are_needed : (c v e reset input_end group queue : Option ℕ) (k l n : ℕ) → c ≡ Some k → v ≡ Some l → e ≡ Some n → (ports : Ports) × (with_needed c v e reset input_end group queue ≡ Ok ports)
-are_needed None v e reset input_end group queue k l n p q r = absurd cc
-are_needed (Some c) None e reset input_end group queue k l n p q r = absurd cc
-are_needed (Some c) (Some v) None reset input_end group queue k l n p q r = absurd cc
-are_needed (Some c) (Some v) (Some e) reset input_end group queue k l n p q r =
-    (record { clock = c; reset = reset; input_end = input_end; valid = v; end = e; group = group; queue = queue }, refl)
+are_needed : (c v e reset input_end ticks group queue : Option ℕ) (k l n : ℕ) → c ≡ Some k → v ≡ Some l → e ≡ Some n → (ports : Ports) × (with_needed c v e reset input_end ticks group queue ≡ Ok ports)
+are_needed None v e reset input_end ticks group queue k l n p q r = absurd cc
+are_needed (Some c) None e reset input_end ticks group queue k l n p q r = absurd cc
+are_needed (Some c) (Some v) None reset input_end ticks group queue k l n p q r = absurd cc
+are_needed (Some c) (Some v) (Some e) reset input_end ticks group queue k l n p q r =
+    (record { clock = c; reset = reset; input_end = input_end; tick = ticks; valid = v; end = e; group = group; queue = queue }, refl)
 
 pub found : (m : Module) (schema : Schema) (ports : Ports) → fit_of m schema ≡ Ok ports → AreFound m schema ports
 found m schema ports e =
     let all = ports_of m in
     let parts = without_bad (first_bad schema 0 0 all) (found_in all) ports e in
-    let there = needed (input_at all clk) (output_at all out_valid) (output_at all out_eos) (input_at all rst) (input_at all eos) (output_at all fault_group) (output_at all fault_queue) ports parts.1 in
-    record { none = parts.0; clock = there.clock; reset = there.reset'; input_end = there.input_end'; valid = there.valid; end = there.end; group = there.group'; queue = there.queue' }
+    let there = needed (input_at all clk) (output_at all out_valid) (output_at all out_eos) (input_at all rst) (input_at all eos) (input_at all tick) (output_at all fault_group) (output_at all fault_queue) ports parts.1 in
+    record { none = parts.0; clock = there.clock; reset = there.reset'; input_end = there.input_end'; tick' = there.tick'; valid = there.valid; end = there.end; group = there.group'; queue = there.queue' }
 
 -- ---- what is found is what the schema asks for
 
@@ -276,7 +278,7 @@ finds text m schema has fit =
     let clock = input_there m fit.clock in
     let valid = output_there m out_valid fit.valid in
     let end = output_there m out_eos fit.end in
-    let there = are_needed (input_at all clk) (output_at all out_valid) (output_at all out_eos) (input_at all rst) (input_at all eos) (output_at all fault_group) (output_at all fault_queue) clock.0 valid.0 end.0 clock.1 valid.1 end.1 in
+    let there = are_needed (input_at all clk) (output_at all out_valid) (output_at all out_eos) (input_at all rst) (input_at all eos) (input_at all tick) (output_at all fault_group) (output_at all fault_queue) clock.0 valid.0 end.0 clock.1 valid.1 end.1 in
     (there.0, ap (λ (o : Option ℕ). unless_bad o (found_in all)) none ∙ there.1)
 
 -- ---- the same, of the answer alone

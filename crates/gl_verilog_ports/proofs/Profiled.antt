@@ -1,8 +1,10 @@
 -- A module whose ports are those of the profile, no two of one name: it fits the schema, and shows the columns of the result.
-use Rattle.std.proofs.Common.{◌≡◌, ℕ, zero, suc, ◌≤◌, true, false, List, [], ◌∷◌, ◌++◌, length, map, take, Some, refl, sym, ap, subst, ◌∙◌, arith, codes}
+use Rattle.std.proofs.Common.{◌≡◌, ℕ, zero, suc, ◌≤◌, true, false, List, [], ◌∷◌, ◌++◌, length, map, take, Some, refl, sym, ap, subst, ◌∙◌, arith, codes, append_assoc, Bool}
 use Rattle.std.specs.Prelude.{bytes_eq, find, filter, option_map, slice_get}
 use Rattle.std.specs.List.{AllByRecursion, IsDistinct}
+use Rattle.std.specs.Option.{option_or}
 use Rattle.std.proofs.lemmas.List.{append-nil, map-append}
+use Rattle.std.proofs.lemmas.List.Folds.{find-append}
 use Rattle.std.proofs.lemmas.Slice.Eq.{bytes_eq-Decides}
 use Rattle.gl_bits.proofs.AllLists.{all_append, all_at, all_back, all_front, get_unmapped, length_map}
 use Rattle.gl_bits.proofs.Bools.{bytes_turned}
@@ -12,8 +14,8 @@ use Rattle.gl_schema.specs.declared.schema.Column.{Column}
 use Rattle.gl_schema.specs.declared.schema.Stream.{Stream}
 use Rattle.gl_schema.specs.declared.schema.Schema.{Schema}
 use Rattle.gl_schema.specs.Schemas.{column_names, kinds_of}
-use Rattle.gl_schema.specs.Ports.{eos, out_valid, out_column, out_eos, fault_group, fault_queue}
-use Rattle.gl_schema.specs.Profile.{In, Out, ProfilePort, clk, column_inputs, column_outputs, input, input_ports, output, output_ports, port_names, profile, stream_inputs, streams_inputs}
+use Rattle.gl_schema.specs.Ports.{rst, eos, tick, out_valid, out_column, out_eos, fault_group, fault_queue}
+use Rattle.gl_schema.specs.Profile.{In, Out, ProfilePort, clk, column_inputs, column_outputs, input, input_ports, output, output_ports, port_names, profile, stream_inputs, streams_inputs, tick_input}
 use Rattle.gl_verilog.specs.Module.{Module, Declaration, Input}
 use Rattle.gl_verilog.specs.Text.{HasModule}
 use Rattle.gl_verilog.specs.Valid.{AreDistinct, Differs}
@@ -95,7 +97,7 @@ streams_in : (ss : List Stream) → AllByRecursion IsIn (streams_inputs ss)
 streams_in [] = tt
 streams_in (s ∷ ss) = all_append IsIn (stream_inputs s) (streams_inputs ss) (refl, columns_in s.name s.columns) (streams_in ss)
 
-pub inputs_in : (schema : Schema) → AllByRecursion (λ (p : ProfilePort). p.direction ≡ In) (input_ports schema)
+pub inputs_in : (schema : Schema) → AllByRecursion (λ (p : ProfilePort). p.direction ≡ In) (input_ports false schema)
 inputs_in schema = (refl, all_append IsIn (streams_inputs schema.streams) (input eos 1 ∷ []) (streams_in schema.streams) (refl, tt))
 
 abbrev tail : List ProfilePort
@@ -113,6 +115,13 @@ in_front : (xs ys : List ProfilePort) (i : ℕ) (p : ProfilePort) → AllByRecur
 in_front [] ys i p all h e = absurd (out_differs p (all_at IsOut ys i p h all) e)
 in_front (x ∷ xs) ys zero p all h e = h
 in_front (x ∷ xs) ys (suc i) p all h e = in_front xs ys i p all h e
+
+-- the tick stands behind all other inputs, and what is found among these is found with it
+with_tick : (schema : Schema) → input_ports true schema ≡ input_ports false schema ++ tick_input true
+with_tick schema = ap (λ (ps : List ProfilePort). input rst 1 ∷ ps) (sym (append_assoc (streams_inputs schema.streams) (input eos 1 ∷ []) (input tick 1 ∷ [])))
+
+find_front : {A : Type 0} (test : A → Bool) (xs ys : List A) (x : A) → find test xs ≡ Some x → find test (xs ++ ys) ≡ Some x
+find_front test xs ys x e = find-append test xs ys ∙ ap (λ o. option_or o (find test ys)) e
 
 -- ---- which ports show columns
 
@@ -168,20 +177,20 @@ kinds_narrow (k ∷ ks) h = (h.0.1, kinds_narrow ks h.1)
 
 module _ (m : Module) (schema : Schema) (columns : List Column) (distinct : AreDistinct m.declarations) (face : HasProfile m schema columns) where
   abbrev behind : List ProfilePort
-  behind = profile schema columns
+  behind = profile false schema columns
 
   all_distinct : IsDistinct bytes_eq (port_names (input clk 1 ∷ behind))
   all_distinct = names_distinct (input clk 1 ∷ behind) (subst AreDistinct face (distinct_take m.ports m.declarations distinct))
 
   -- reset, the streams and the end; the outputs
-  parts_named : IsDistinct bytes_eq (port_names (input_ports schema) ++ port_names (output_ports columns))
+  parts_named : IsDistinct bytes_eq (port_names (input_ports false schema) ++ port_names (output_ports columns))
   unfolding IsDistinct
-  parts_named = subst (λ (x : List (List ℕ)). IsDistinct bytes_eq x) (map-append (λ (p : ProfilePort). p.name) (input_ports schema) (output_ports columns)) all_distinct.1
+  parts_named = subst (λ (x : List (List ℕ)). IsDistinct bytes_eq x) (map-append (λ (p : ProfilePort). p.name) (input_ports false schema) (output_ports columns)) all_distinct.1
 
   outputs_named : IsDistinct bytes_eq (out_valid ∷ (port_names (column_outputs columns) ++ port_names tail))
   outputs_named =
       subst (λ (x : List (List ℕ)). IsDistinct bytes_eq (out_valid ∷ x)) (map-append (λ (p : ProfilePort). p.name) (column_outputs columns) tail)
-      (distinct_back (port_names (input_ports schema)) (port_names (output_ports columns)) parts_named)
+      (distinct_back (port_names (input_ports false schema)) (port_names (output_ports columns)) parts_named)
 
   all_seen : Seen (column_outputs columns)
   unfolding IsDistinct
@@ -193,7 +202,7 @@ module _ (m : Module) (schema : Schema) (columns : List Column) (distinct : AreD
   columns_shown =
       let none : filter shows_column (map declared (tail ++ [])) ≡ [] = filter_hidden tail [] tail_hidden in
       ap (filter shows_column) face
-      ∙ filter_hidden (input_ports schema) (output_ports columns) (in_hidden (input_ports schema) (inputs_in schema))
+      ∙ filter_hidden (input_ports false schema) (output_ports columns) (in_hidden (input_ports false schema) (inputs_in schema))
       ∙ filter_hidden (output out_valid 1 ∷ []) (column_outputs columns ++ tail) (valid_hidden, tt)
       ∙ filter_seen (column_outputs columns) tail all_seen
       ∙ ap (λ (x : List Declaration). map declared (column_outputs columns) ++ x) none ∙ append-nil (map declared (column_outputs columns))
@@ -210,7 +219,7 @@ module _ (m : Module) (schema : Schema) (columns : List Column) (distinct : AreD
   -- a line of the result
   line_there : (name : List ℕ) → Stands (output name 1) (output_ports columns) → port_named m name ≡ Some (declared (output name 1))
   line_there name s =
-      let all = stands_next (output name 1) (input clk 1) behind (stands_behind (output name 1) (input_ports schema) (output_ports columns) s) in
+      let all = stands_next (output name 1) (input clk 1) behind (stands_behind (output name 1) (input_ports false schema) (output_ports columns) s) in
       ap (find (λ (d : Declaration). bytes_eq d.name name)) face
       ∙ found_named {A = Declaration} (λ d. d.name) declared (λ x. refl) (input clk 1 ∷ behind) all.place (output name 1) all_distinct all.there
 
@@ -220,12 +229,14 @@ module _ (m : Module) (schema : Schema) (columns : List Column) (distinct : AreD
   line_is : (name : List ℕ) → IsLine (declared (output name 1))
   line_is name = record { output = refl; bit = refl }
 
-  asked_width : (i : ℕ) (p : ProfilePort) → slice_get (input_ports schema) i ≡ Some p → input_width schema p.name ≡ Some p.width
+  asked_width : (i : ℕ) (p : ProfilePort) → slice_get (input_ports false schema) i ≡ Some p → input_width schema p.name ≡ Some p.width
   asked_width i p h =
-      let own = distinct_front (port_names (input_ports schema)) (port_names (output_ports columns)) parts_named in
-      ap (option_map (λ (q : ProfilePort). q.width))
-      (ap (find (λ (q : ProfilePort). bytes_eq q.name p.name)) (sym (map_same (input_ports schema)))
-      ∙ found_named {A = ProfilePort} (λ q. q.name) (λ q. q) (λ x. refl) (input_ports schema) i p own h)
+      let own = distinct_front (port_names (input_ports false schema)) (port_names (output_ports columns)) parts_named in
+      let is_named : ProfilePort → Bool = λ q. bytes_eq q.name p.name in
+      let here : find is_named (input_ports false schema) ≡ Some p =
+      ap (find is_named) (sym (map_same (input_ports false schema)))
+      ∙ found_named {A = ProfilePort} (λ q. q.name) (λ q. q) (λ x. refl) (input_ports false schema) i p own h in
+      ap (option_map (λ (q : ProfilePort). q.width)) (ap (find is_named) (with_tick schema) ∙ find_front is_named (input_ports false schema) (tick_input true) p here)
     where
       map_same : (ps : List ProfilePort) → map (λ (q : ProfilePort). q) ps ≡ ps
       map_same [] = refl
@@ -240,7 +251,7 @@ module _ (m : Module) (schema : Schema) (columns : List Column) (distinct : AreD
   input_fits (suc i) d h is other =
       let p = get_unmapped declared behind i d h in
       let kind : declared_kind p.0.direction ≡ Input = ap (λ (x : Declaration). x.kind) p.2 ∙ is in
-      let front = in_front (input_ports schema) (output_ports columns) i p.0 (refl, outputs_out columns) p.1 kind in
+      let front = in_front (input_ports false schema) (output_ports columns) i p.0 (refl, outputs_out columns) p.1 kind in
       subst (λ (x : Declaration). input_width schema x.name ≡ Some x.width) p.2 (asked_width i p.0 front)
 
   -- the schema is fitted by the module of a text, where the columns are as few and as narrow as those of a result

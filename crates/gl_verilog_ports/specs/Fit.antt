@@ -1,7 +1,7 @@
 -- When the ports of a module are those of a schema and of a result, and the first that is not.
-use Rattle.std.specs.Prelude.{ℕ, ◌+◌, Bool, false, not, ◌&&◌, ◌||◌, List, [], ◌∷◌, find, Option, None, Some, Result, Ok, Err, option_map, unwrap_or, bytes_eq, nat_eq, nat_le, nat_lt, if◌then◌else◌}
+use Rattle.std.specs.Prelude.{ℕ, ◌+◌, Bool, true, false, not, ◌&&◌, ◌||◌, List, [], ◌∷◌, find, Option, None, Some, Result, Ok, Err, option_map, unwrap_or, bytes_eq, nat_eq, nat_le, nat_lt, if◌then◌else◌}
 use Rattle.gl_schema.specs.declared.schema.Schema.{Schema}
-use Rattle.gl_schema.specs.Ports.{rst, eos, out_valid, out_eos, fault_group, fault_queue}
+use Rattle.gl_schema.specs.Ports.{rst, eos, tick, out_valid, out_eos, fault_group, fault_queue}
 use Rattle.gl_schema.specs.Profile.{ProfilePort, clk, input, input_ports}
 use Rattle.gl_verilog.specs.Module.{Module, Declaration}
 use Rattle.gl_verilog.specs.Run.{is_input}
@@ -10,9 +10,9 @@ use Rattle.gl_verilog_ports.specs.declared.fitting.Ports.{Ports}
 use Rattle.gl_verilog_ports.specs.declared.fitting.Misfit.{Misfit}
 use Rattle.gl_verilog_ports.specs.declared.fitting.Misfit.TheVariants.{Port, Lacks}
 
--- the inputs that a module may have: the clock, and those of the schema
+-- the inputs that a module may have: the clock, and those of the schema, the tick among them
 abbrev pub inputs : Schema → List ProfilePort
-inputs schema = input clk 1 ∷ input_ports schema
+inputs schema = input clk 1 ∷ input_ports true schema
 
 -- an input of this name and of so many bits is among these
 abbrev pub is_among : List ProfilePort → List ℕ → ℕ → Bool
@@ -61,18 +61,26 @@ output_at (d ∷ ds) name =
     if is_output d.kind && bytes_eq d.name name then Some 0 else option_map (λ n. n + 1) (output_at ds name)
 
 -- the ports, where the clock and the lines of the result and of its end are there
-abbrev pub with_needed : Option ℕ → Option ℕ → Option ℕ → Option ℕ → Option ℕ → Option ℕ → Option ℕ
+abbrev pub with_needed : Option ℕ → Option ℕ → Option ℕ → Option ℕ → Option ℕ → Option ℕ → Option ℕ → Option ℕ
     → Result Ports Misfit
-with_needed (Some c) (Some v) (Some e) reset input_end group queue =
-    Ok (record { clock = c; reset = reset; input_end = input_end; valid = v; end = e; group = group; queue = queue })
-with_needed (Some c) (Some v) None reset input_end group queue = Err Lacks
-with_needed (Some c) None e reset input_end group queue = Err Lacks
-with_needed None v e reset input_end group queue = Err Lacks
+with_needed (Some c) (Some v) (Some e) reset input_end ticks group queue = Ok (record {
+  clock = c;
+  reset = reset;
+  input_end = input_end;
+  tick = ticks;
+  valid = v;
+  end = e;
+  group = group;
+  queue = queue;
+})
+with_needed (Some c) (Some v) None reset input_end ticks group queue = Err Lacks
+with_needed (Some c) None e reset input_end ticks group queue = Err Lacks
+with_needed None v e reset input_end ticks group queue = Err Lacks
 
 abbrev pub found_in : List Declaration → Result Ports Misfit
 found_in ports =
     with_needed (input_at ports clk) (output_at ports out_valid) (output_at ports out_eos)
-    (input_at ports rst) (input_at ports eos) (output_at ports fault_group) (output_at ports fault_queue)
+    (input_at ports rst) (input_at ports eos) (input_at ports tick) (output_at ports fault_group) (output_at ports fault_queue)
 
 -- the first bad port; else the ports, or that one is lacking
 abbrev pub unless_bad : Option ℕ → Result Ports Misfit → Result Ports Misfit

@@ -11,7 +11,7 @@ use Rattle.gl_verilog.specs.Widths.{is_clock}
 
 -- the bits of the input port of a name; None where the schema asks for no such port
 abbrev pub input_width : Schema → List ℕ → Option ℕ
-input_width schema name = option_map (λ p. p.width) (find (λ p. bytes_eq p.name name) (input_ports schema))
+input_width schema name = option_map (λ p. p.width) (find (λ p. bytes_eq p.name name) (input_ports true schema))
 
 abbrev pub ports_of : Module → List Declaration
 ports_of m = take m.ports m.declarations
@@ -94,6 +94,6 @@ abbrev pub declared : ProfilePort → Declaration
 declared p = record { name = p.name; width = p.width; is_vector = not (p.width == 1); kind = declared_kind p.direction }
 
 -- the ports of the module are, in this order, the clock and the profile of this schema and of a result with these
--- columns
+-- columns; it asks for no tick
 abbrev pub HasProfile : Module → Schema → List Column → Type 0
-HasProfile m schema columns = ports_of m ≡ map declared (input clk 1 ∷ profile schema columns)
+HasProfile m schema columns = ports_of m ≡ map declared (input clk 1 ∷ profile false schema columns)

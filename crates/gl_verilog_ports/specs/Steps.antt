@@ -6,7 +6,7 @@ use Rattle.gl_bits.specs.Kinds.{width_of}
 use Rattle.gl_schema.specs.declared.schema.Column.{Column}
 use Rattle.gl_schema.specs.declared.schema.Stream.{Stream}
 use Rattle.gl_schema.specs.declared.schema.Schema.{Schema}
-use Rattle.gl_schema.specs.Ports.{rst, eos}
+use Rattle.gl_schema.specs.Ports.{rst, eos, tick}
 use Rattle.gl_schema.specs.Profile.{clk}
 
 -- what stands in a name behind this front
@@ -41,10 +41,12 @@ abbrev pub among_streams : List Stream → List ℕ → ℕ → Option Bool
 among_streams [] name width = None
 among_streams (s ∷ ss) name width = option_or (among_stream s name width) (among_streams ss name width)
 
-abbrev pub is_end : List ℕ → ℕ → Bool
-is_end name width = if bytes_eq eos name then nat_eq 1 width else false
+-- of the end and the tick, which stand behind the streams
+abbrev pub is_end_or_tick : List ℕ → ℕ → Bool
+is_end_or_tick name width =
+    if bytes_eq eos name then nat_eq 1 width else if bytes_eq tick name then nat_eq 1 width else false
 
 abbrev pub is_asked : Schema → List ℕ → ℕ → Bool
 is_asked schema name width =
     if bytes_eq clk name then nat_eq 1 width else if bytes_eq rst name then nat_eq 1 width
-    else unwrap_or (among_streams schema.streams name width) (is_end name width)
+    else unwrap_or (among_streams schema.streams name width) (is_end_or_tick name width)

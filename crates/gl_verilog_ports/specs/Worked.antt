@@ -48,14 +48,15 @@ taking stream = input (codes "clk") 1 ∷ (stream ++ output (codes "out__valid")
 
 -- only what a result needs, the end at this number
 abbrev pub plain : ℕ → Result Ports Misfit
-plain end = Ok (record { clock = 0; reset = None; input_end = None; valid = 1; end = end; group = None; queue = None })
+plain end =
+    Ok (record { clock = 0; reset = None; input_end = None; tick = None; valid = 1; end = end; group = None; queue = None })
 
 -- every port of the profile
 abbrev pub whole : List Declaration
 whole =
     input (codes "rst") 1 ∷ input (codes "clk") 1 ∷ input (codes "in__s__valid") 1 ∷ input (codes "in__s__v") 8 ∷ input
     (codes "eos") 1
-    ∷ output (codes "fault__queue") 1 ∷ output (codes "out__n") 8 ∷ output (codes "out__eos") 1 ∷ port OutputRegister
+    ∷ input (codes "tick") 1 ∷ output (codes "fault__queue") 1 ∷ output (codes "out__n") 8 ∷ output (codes "out__eos") 1 ∷ port OutputRegister
     (codes "out__valid") 1
     ∷ output (codes "fault__group") 1 ∷ output (codes "debug") 100 ∷ []
 
@@ -64,19 +65,23 @@ pub record WorkedPorts : Type 0 where
     clock = 1;
     reset = Some 0;
     input_end = Some 4;
-    valid = 8;
-    end = 7;
-    group = Some 9;
-    queue = Some 5;
+    tick = Some 5;
+    valid = 9;
+    end = 8;
+    group = Some 10;
+    queue = Some 6;
   })
   pub fewest : fit (showing []) ≡ plain 2
   -- inputs
   pub valid_alone : fit (taking (input (codes "in__s__valid") 1 ∷ [])) ≡ Ok
-      (record { clock = 0; reset = None; input_end = None; valid = 2; end = 3; group = None; queue = None })
+      (record { clock = 0; reset = None; input_end = None; tick = None; valid = 2; end = 3; group = None; queue = None })
   pub wider_input : fit (taking (input (codes "in__s__valid") 1 ∷ input (codes "in__s__v") 9 ∷ [])) ≡ Err (Port 2)
   pub unknown_input : fit (taking (input (codes "in__s__w") 8 ∷ [])) ≡ Err (Port 1)
   pub unknown_stream : fit (taking (input (codes "in__r__valid") 1 ∷ [])) ≡ Err (Port 1)
   pub wide_reset : fit (taking (input (codes "rst") 2 ∷ [])) ≡ Err (Port 1)
+  pub tick_alone : fit (taking (input (codes "tick") 1 ∷ [])) ≡ Ok
+      (record { clock = 0; reset = None; input_end = None; tick = Some 1; valid = 2; end = 3; group = None; queue = None })
+  pub wide_tick : fit (taking (input (codes "tick") 2 ∷ [])) ≡ Err (Port 1)
   pub wide_clock : fit (input (codes "clk") 4 ∷ output (codes "out__valid") 1 ∷ output (codes "out__eos") 1 ∷ []) ≡ Err
       (Port 0)
   -- an output that is called as an input is no port of the profile

@@ -19,6 +19,8 @@ pub struct Ports {
     pub reset: Option<usize>,
     /// The end of the input, where there is such an input.
     pub input_end: Option<usize>,
+    /// The tick, where there is such an input.
+    pub tick: Option<usize>,
     /// Whether a row leaves.
     pub valid: usize,
     /// The end of the result.
@@ -149,7 +151,7 @@ pub fn ports_of(design: &Module) -> &[Declaration]
 }
 
 // The ports, where none is bad and none is lacking.
-#[tactic(auto, unfolding(gl_schema::specs::Profile::clk, gl_schema::specs::Ports::rst, gl_schema::specs::Ports::eos, gl_schema::specs::Ports::out_valid, gl_schema::specs::Ports::out_eos, gl_schema::specs::Ports::fault_group, gl_schema::specs::Ports::fault_queue))]
+#[tactic(auto, unfolding(gl_schema::specs::Profile::clk, gl_schema::specs::Ports::rst, gl_schema::specs::Ports::eos, gl_schema::specs::Ports::tick, gl_schema::specs::Ports::out_valid, gl_schema::specs::Ports::out_eos, gl_schema::specs::Ports::fault_group, gl_schema::specs::Ports::fault_queue))]
 fn found_in(ports: &[Declaration]) -> Result<Ports, Misfit>
     ensures { result ≡ spec.found_in (map declaration_of ports.now) }
 {
@@ -166,6 +168,7 @@ fn found_in(ports: &[Declaration]) -> Result<Ports, Misfit>
         clock,
         reset: input_at(ports, b"rst"),
         input_end: input_at(ports, b"eos"),
+        tick: input_at(ports, b"tick"),
         valid,
         end,
         group: output_at(ports, b"fault__group"),

@@ -111,12 +111,15 @@ fn among_streams(streams: &[Stream], name: &[u8], width: u8) -> Option<bool>
     }
 }
 
-// Whether it is the end of the input.
-#[tactic(auto, unfolding(gl_schema::specs::Ports::eos))]
-fn is_end(name: &[u8], width: u8) -> bool
-    ensures { result ≡ steps.is_end name.now width }
+// Whether it is the end of the input, or the tick.
+#[tactic(auto, unfolding(gl_schema::specs::Ports::eos, gl_schema::specs::Ports::tick))]
+fn is_end_or_tick(name: &[u8], width: u8) -> bool
+    ensures { result ≡ steps.is_end_or_tick name.now width }
 {
-    b"eos".as_slice() == name && 1 == width
+    if b"eos".as_slice() == name {
+        return 1 == width;
+    }
+    b"tick".as_slice() == name && 1 == width
 }
 
 // The same, as it is looked for.
@@ -132,7 +135,7 @@ fn is_wanted(schema: &Schema, name: &[u8], width: u8) -> bool
     }
     match among_streams(schema.streams.as_slice(), name, width) {
         Some(fits) => fits,
-        None => is_end(name, width),
+        None => is_end_or_tick(name, width),
     }
 }
 

@@ -8,8 +8,8 @@ use Rattle.gl_bits.specs.Words.{bit}
 use Rattle.gl_net.specs.Net.{Net, Run}
 use Rattle.gl_net.specs.PortValues.{input_values}
 use Rattle.gl_net.specs.declared.node.Bus.{Bus}
-use Rattle.gl_schema.specs.Beats.{Beat, AreBeats, AreRowsOf, IsBeat, beat_at, ends_at, input_of, row_in, rows_at}
-use Rattle.gl_schema.specs.Ports.{Pin, pin, column_pins, stream_pins, streams_pins, IsStimulus, eos, in_valid, in_column}
+use Rattle.gl_schema.specs.Beats.{Beat, AreBeats, AreRowsOf, IsBeat, beat_at, ends_at, input_of, row_in, rows_at, ticks_at}
+use Rattle.gl_schema.specs.Ports.{Pin, pin, column_pins, stream_pins, streams_pins, IsStimulus, eos, tick, in_valid, in_column}
 use Rattle.gl_schema.specs.Schemas.{IsRowOf}
 use Rattle.gl_schema.specs.declared.schema.Column.{Column}
 use Rattle.gl_schema.specs.declared.schema.Schema.{Schema}
@@ -85,7 +85,7 @@ module _ (schema : Schema) (k : ℕ) (s : Stream) (there : slice_get schema.stre
   stream_pins_of n =
       let all = (stimulus.carries (suc n)).1 in
       let P : Pin → Type 0 = Carries (input_values net run) (suc n) in
-      let streams = all_front P (streams_pins schema.streams (rows_at beats n)) (pin eos (bit (ends_at beats n)) ∷ []) all in
+      let streams = all_front P (streams_pins schema.streams (rows_at beats n)) (pin eos (bit (ends_at beats n)) ∷ pin tick (bit (ticks_at beats n)) ∷ []) all in
       subst (λ row. AllByRecursion P (stream_pins s row)) (row_of-beat k beats n) (stream_at P schema.streams (rows_at beats n) k s there streams)
 
   valid_line : (n : ℕ) → line_at run w.valid (suc n) ≡ is_some (row_at k beats n)
@@ -102,7 +102,7 @@ module _ (schema : Schema) (k : ℕ) (s : Stream) (there : slice_get schema.stre
   end_line n =
       let P : Pin → Type 0 = Carries (input_values net run) (suc n) in
       let all = (stimulus.carries (suc n)).1 in
-      let own = (all_back P (streams_pins schema.streams (rows_at beats n)) (pin eos (bit (ends_at beats n)) ∷ []) all).0 in
+      let own = (all_back P (streams_pins schema.streams (rows_at beats n)) (pin eos (bit (ends_at beats n)) ∷ pin tick (bit (ticks_at beats n)) ∷ []) all).0 in
       let here : run.at (suc n) w.eos.node ≡ bit (ends_at beats n) =
       sym (input_is net run (suc n) eos w.eos.node apart h.end_port)
       ∙ ports.carried (input_values net run) (suc n) eos _ (has_input net run eos w.eos.node apart h.end_port) own in

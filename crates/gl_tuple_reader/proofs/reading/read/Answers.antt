@@ -1,4 +1,4 @@
-use Rattle.std.proofs.Common.{Bor, List, ℕ, ◌∙◌, ap, sym, subst, refl, arith, inl, inr, Some, Ok, ◌++◌, ◌∷◌, []}
+use Rattle.std.proofs.Common.{Bor, List, ℕ, ◌∙◌, ap, length, sym, subst, refl, arith, inl, inr, Some, Ok, ◌++◌, ◌∷◌, []}
 use Rattle.std.proofs.lemmas.Result.{err_from_is_err_and}
 use Rattle.std.proofs.lemmas.List.{length-append}
 use Rattle.csv.specs.Reading.{Reached, default_config, strip_bom}
@@ -8,7 +8,8 @@ use Rattle.csv.proofs.ReadFacts.{rows-end, rows-more}
 use Rattle.gl_tuple_reader.specs.Entries.{Fails, Gives}
 use Rattle.gl_tuple_reader.specs.Filing.{no_records, beats_of}
 use Rattle.gl_tuple_reader.proofs.Texts.{begins, are_all, rows_counted}
-use Rattle.gl_tuple_reader.proofs.Filings.{filing_more, filing_fails, filing_rows, filing_counts, all_filed}
+use Rattle.gl_tuple_reader.proofs.Columns.{filing_columns, rows_fit, shape_long}
+use Rattle.gl_tuple_reader.proofs.Filings.{filing_more, filing_fails, filing_counts, all_filed}
 use Rattle.gl_tuple_reader.proofs.reading.read.Goals as goal
 
 pub loop-fields-init : goal.loop-fields-init
@@ -36,10 +37,20 @@ take-requires-clause-counted c =
     let s = rw (c.in-Some.is, c.in-Ok.is) at ((c.next.ensures.steps inv.2 inv.0).0 inv.1) in
     let m = rows-more (λ (s : Bor (List ℕ)). Some s.now) c.loop-fields.fields-iterator.rdr c.next.new.self.rdr (fields_of c.in-Ok.fields) default_config st.StartRecord (strip_bom c.args.text.now) inv.4 inv.6 inv.3 inv.5 inv.7 s.0 in
     let counted = rows_counted c.args.text.now (inv.6 ++ fields_of c.in-Ok.fields ∷ []) c.next.new.self.rdr.state m.0 m.2 in
-    omega (arith, counted, length-append inv.6 (fields_of c.in-Ok.fields ∷ []), filing_counts c.args.schema.now inv.6 no_records c.loop-fields.filing inv.8)
+    omega (arith, counted, length-append inv.6 (fields_of c.in-Ok.fields ∷ []), filing_counts c.args.schema.now inv.6 (no_records c.args.schema.now) c.loop-fields.filing inv.8)
+
+pub take-requires-clause-columns : goal.take-requires-clause-columns
+take-requires-clause-columns c = let inv = c.loop-fields.invariant in filing_columns c.args.schema.now inv.6 (no_records c.args.schema.now) c.loop-fields.filing inv.8
 
 pub take-requires-clause-rows : goal.take-requires-clause-rows
-take-requires-clause-rows c = let inv = c.loop-fields.invariant in filing_rows c.args.schema.now inv.6 no_records c.loop-fields.filing tt inv.8
+take-requires-clause-rows c = rows_fit c.args.schema.now c.loop-fields.invariant.6 c.loop-fields.filing c.loop-fields.invariant.8
+
+pub end-requires-clause-many : goal.end-requires-clause-many
+end-requires-clause-many c = let inv = c.loop-fields.invariant in
+    c.len.ensures ∙ shape_long c.args.schema.now ∙ ap length (sym (filing_columns c.args.schema.now inv.6 (no_records c.args.schema.now) c.loop-fields.filing inv.8))
+
+pub end-requires-clause-rows : goal.end-requires-clause-rows
+end-requires-clause-rows c = rows_fit c.args.schema.now c.loop-fields.invariant.6 c.loop-fields.filing c.loop-fields.invariant.8
 
 pub returns-in_err-filing : goal.returns-in_err-filing
 returns-in_err-filing c =
@@ -55,7 +66,7 @@ loop-fields-preserved c =
     let inv = c.loop-fields.invariant in
     let s = rw (c.in-Some.is, c.in-Ok.is) at ((c.next.ensures.steps inv.2 inv.0).0 inv.1) in
     let m = rows-more (λ (s : Bor (List ℕ)). Some s.now) c.loop-fields.fields-iterator.rdr c.next.new.self.rdr (fields_of c.in-Ok.fields) default_config st.StartRecord (strip_bom c.args.text.now) inv.4 inv.6 inv.3 inv.5 inv.7 s.0 in
-    (s.0.3 ∙ inv.0, inl s.1, s.2, s.0.2 ∙ inv.3, m.0, m.1, inv.6 ++ fields_of c.in-Ok.fields ∷ [], m.2, filing_more c.args.schema.now inv.6 (fields_of c.in-Ok.fields) no_records c.loop-fields.filing c.in_ok-filing.filing inv.8 c.in_ok-filing.ensures)
+    (s.0.3 ∙ inv.0, inl s.1, s.2, s.0.2 ∙ inv.3, m.0, m.1, inv.6 ++ fields_of c.in-Ok.fields ∷ [], m.2, filing_more c.args.schema.now inv.6 (fields_of c.in-Ok.fields) (no_records c.args.schema.now) c.loop-fields.filing c.in_ok-filing.filing inv.8 c.in_ok-filing.ensures)
 
 pub returns : goal.returns
 returns c =

@@ -10,4 +10,4 @@ abbrev pub invariant-loop-fields : goal.invariant-loop-fields
 invariant-loop-fields l = (l.fields-iterator.rdr.trim ≡ trim.None) × Ready l.fields-iterator.rdr × (0 < l.fields-iterator.left) × (l.fields-iterator.rdr.config ≡ default_config)
     × (y : List ℕ) × (source_of (λ s. Some s.now) l.fields-iterator.rdr ≡ Some y)
     × (rows : List (List (List ℕ))) × Reached default_config st.StartRecord (strip_bom l.fn.text) rows l.fields-iterator.rdr.state y
-    × (filing_after l.schema rows no_records ≡ Ok l.filing)
+    × (filing_after l.schema rows (no_records l.schema) ≡ Ok l.filing)

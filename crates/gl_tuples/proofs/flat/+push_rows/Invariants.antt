@@ -2,4 +2,4 @@ use Rattle.std.proofs.Common.{length}
 use Rattle.gl_tuples.proofs.flat.+push_rows.Given as goal
 
 abbrev pub decreases-push_rows : goal.decreases-push_rows
-decreases-push_rows l = length l.rows.now
+decreases-push_rows l = length l.shape.now

@@ -1,11 +1,11 @@
 use Rattle.std.proofs.Common.{refl}
-use Rattle.gl_schema.specs.Ports.{rst, eos, in_valid, in_column, out_valid, out_eos, fault_group, fault_queue}
+use Rattle.gl_schema.specs.Ports.{rst, eos, tick, in_valid, in_column, out_valid, out_eos, fault_group, fault_queue}
 use Rattle.gl_schema.specs.Profile.{clk}
 use Rattle.gl_verilog_ports.specs.Worked.{WorkedPorts}
 use Rattle.gl_verilog_ports.proofs.laws.worked_ports.Goals as goal
 
 worked : WorkedPorts
-unfolding clk rst eos in_valid in_column out_valid out_eos fault_group fault_queue
+unfolding clk rst eos tick in_valid in_column out_valid out_eos fault_group fault_queue
 worked = record {
   all = refl;
   fewest = refl;
@@ -14,6 +14,8 @@ worked = record {
   unknown_input = refl;
   unknown_stream = refl;
   wide_reset = refl;
+  tick_alone = refl;
+  wide_tick = refl;
   wide_clock = refl;
   output_as_input = refl;
   no_such_input = refl;

@@ -1,0 +1,9 @@
+//! Laws about what beats bring in to a query.
+
+ghost use Rattle.std.specs.Prelude.{List};
+ghost use Rattle.gl_schema.specs.Beats.{Beat, HaveTimes, inputs_of};
+
+/// Each row that beats bring has a time, in the rows' order, and none is above the number of ticks.
+pub fn rows_have_times()
+    ensures { (all : List Beat) → HaveTimes (inputs_of all) }
+{}
